@@ -1,4 +1,5 @@
--- The given clauses that an answer rests on, renamed, are those of the exported circuit's negated matrix, under its ids.
+-- The given clauses that an answer rests on, renamed, are those of the exported circuit's negated
+-- matrix, under its ids.
 use Rattle.std.proofs.Common.{◌≡◌, ℕ, zero, suc, ◌+◌, ◌-◌, ◌*◌, ◌≤◌, ◌<◌, ◌==◌, Bool, true, false, cond, not, inl, inr, List, [], ◌∷◌, ◌++◌, map, take, length, get_or, slice_get, slice_index, Option, None, Some, refl, sym, ◌∙◌, ap, subst, arith, append_assoc, length-append}
 use Rattle.std.specs.List.{All, sum_by, Contains, list_any, find, flat_map, cons_option, range_with_len, position_or_len}
 use Rattle.std.specs.Option.{option_map, option_and_then}

@@ -1,4 +1,5 @@
--- What is exported of an answer that decides that a formula is true: its faults' leaves, and the gates that these and the proof rest on.
+-- What is exported of an answer that decides that a formula is true: its faults' leaves, and the
+-- gates that these and the proof rest on.
 use Rattle.std.proofs.Common.{◌≡◌, ◌≢◌, ℕ, zero, suc, ◌+◌, ◌≤◌, ◌<◌, ◌==◌, ◌&&◌, Bool, true, false, cond, List, [], ◌∷◌, ◌++◌, length, get_or, reverse, Option, None, Some, IsSome, is_some, refl, sym, ◌∙◌, ap, subst, arith}
 use Rattle.std.specs.List.{All, AllPairs, Contains}
 use Rattle.std.specs.Prelude.{slice_index_or}

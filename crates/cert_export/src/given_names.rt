@@ -8,7 +8,7 @@ ghost use Rattle.hint_log.specs.declared.origins.Origin.{Origin};
 ghost use Rattle.cert_export.specs.Names.{renaming, IsVariable};
 ghost use Rattle.cert_export.specs.Renaming.{Renaming, IsPartOf, IsNamed, AreNamedIn, IsRenamingOf};
 
-use crate::names::Names;
+use crate::new_names::Names;
 use dq_lits::{Lit, Memory};
 use hint_log::Log;
 use std::alloc::Global;

@@ -9,7 +9,7 @@ ghost use Rattle.cert_export.specs.Written.{place_in, with_given, with_line, no_
 
 use crate::bases::Ground;
 use crate::lines::{needed, numbers_at};
-use crate::names::Names;
+use crate::new_names::Names;
 use cert_text::{Step, StepList};
 use dq_lits::{Lit, Memory};
 use flat_lists::FlatLists;

@@ -13,7 +13,7 @@ use Rattle.aiger_text.specs.declared.files.AagFile.{AagFile}
 use Rattle.skolem_checker.specs.Checks.{candidate_of}
 use Rattle.cert_judge.specs.Judgement.{line_ends, proof_in, BehindProof, IsCircuitRefusal, IsCircuitAnswer}
 use Rattle.cert_judge.specs.Places.{AnswersStop}
-use Rattle.cert_judge.specs.declared.answers.Answer.{Answer}
+use Rattle.cert_judge.specs.declared.answers.Judgement.{Judgement}
 
 by_scan_err : (h : ℕ) (text : List ℕ) (line : ℕ) (name : AagFault) (r : Result AagFile LineFault) → scan text h ≡ r →
     IsAagReading h r (Err (RefusedText line name))
@@ -23,7 +23,7 @@ by_scan_err h text line name (Ok file) is (cyclic, at_line) =
 by_scan_err h text line name (Err fault) is same = inl (is ∙ ap Err same)
 
 pub stop_answers : (f : Dqbf) (h : ℕ) (bytes text : List ℕ) (r : Result AagFile AagStop) (stop : AagStop)
-    (answered : Result Answer Memory) → bytes ≡ text
+    (answered : Result Judgement Memory) → bytes ≡ text
     → r ≡ Err stop → IsAagReading h (scan bytes h) r → IfOk answered (AnswersStop stop)
     → IfOk answered (λ answer. IsCircuitRefusal h text answer ⊎ IsCircuitAnswer f h text answer)
 stop_answers f h bytes text r (RefusedText line name) (Ok answer) same is reading given = inl (record {
@@ -36,7 +36,7 @@ stop_answers f h bytes text r (RefusedText line name) (Ok answer) same is readin
 stop_answers f h bytes text r NoMemory (Ok answer) same is reading given = absurd given
 stop_answers f h bytes text r stop (Err _) same is reading given = tt
 
-pub file_answers : (f : Dqbf) (h ends : ℕ) (bytes text : List ℕ) (file : AagFile) (r : Result Answer Memory) →
+pub file_answers : (f : Dqbf) (h ends : ℕ) (bytes text : List ℕ) (file : AagFile) (r : Result Judgement Memory) →
     bytes ≡ text → SpellsCircuit text file
     → ends ≡ line_ends bytes → IfOk r (BehindProof h file.circuit (proof_in f h ends file.circuit file.comment)
     (candidate_of f file.circuit file.symbols))

@@ -20,8 +20,8 @@ use Rattle.cert_text.specs.declared.faults.CertRefusal.{CertRefusal}
 use Rattle.cert_text.specs.declared.kinds.Kind.{Kind}
 use Rattle.cert_text.specs.declared.kinds.Kind.TheVariants.{Circuit as CircuitText, Refutation}
 use Rattle.cert_judge.specs.Judgement.{line_ends, proof_in, IsTestedByRows, IsTestedBy, HasUndeclaredRead, PassesReads, IsTested, BehindMapping, BehindProof, IsCircuitJudgement, IsCircuitRefusal, IsCircuitAnswer, IsJudgementOf, IsJudgement}
-use Rattle.cert_judge.specs.declared.answers.Answer.{Answer}
-use Rattle.cert_judge.specs.declared.answers.Answer.TheVariants.{Refused, UndeclaredRead, BadRow, Unproved, UnderivedStep, NoEmptyClause, ValidTrue, ValidFalse}
+use Rattle.cert_judge.specs.declared.answers.Judgement.{Judgement}
+use Rattle.cert_judge.specs.declared.answers.Judgement.TheVariants.{Refused, UndeclaredRead, BadRow, Unproved, UnderivedStep, NoEmptyClause, ValidTrue, ValidFalse}
 use Rattle.cert_judge.specs.declared.answers.CertificateFault.TheVariants.{Circuit}
 
 read_is_declared : (Reads : ℕ → ℕ → Type 0) (f : Dqbf) (y : Existential) (x end : ℕ) (r : IsFirstRead Reads f y x)
@@ -74,19 +74,19 @@ one_bad Holds Fails end k j exclude (k_below, k_before, k_fails) (j_below, j_bef
       | inr (inr later) ↦ absurd (exclude j (k_before j later) j_fails)
     ]
 
-read_and_passes : (c : Candidate) (proof : Option Dqp) (a b : Answer) → HasUndeclaredRead c a →
+read_and_passes : (c : Candidate) (proof : Option Dqp) (a b : Judgement) → HasUndeclaredRead c a →
     PassesReads proof c b → ⊥
 read_and_passes c proof a b r s =
     undeclared_is_declared (ReadsUniversal c.circuit) c.formula r.existential r.universal r.first
     (length c.formula.existentials) r.first.in_range s.reads
 
-one_undeclared_read : (c : Candidate) (a b : Answer) → HasUndeclaredRead c a → HasUndeclaredRead c b → a ≡ b
+one_undeclared_read : (c : Candidate) (a b : Judgement) → HasUndeclaredRead c a → HasUndeclaredRead c b → a ≡ b
 one_undeclared_read c a b r s =
     let (same_y, same_x) = one_undeclared (ReadsUniversal c.circuit) c.formula r.existential r.universal s.existential
     s.universal r.first s.first in
     r.is ∙ ap (λ y. UndeclaredRead y r.universal) same_y ∙ ap (UndeclaredRead s.existential) same_x ∙ sym s.is
 
-one_by_rows : (f : Dqbf) (c : MappedCircuit) (a b : Answer) → IsTestedByRows f c a → IsTestedByRows f c b → a ≡ b
+one_by_rows : (f : Dqbf) (c : MappedCircuit) (a b : Judgement) → IsTestedByRows f c a → IsTestedByRows f c b → a ≡ b
 one_by_rows f c (Refused line name) b impossible _ = absurd impossible
 one_by_rows f c (UndeclaredRead y x) b impossible _ = absurd impossible
 one_by_rows f c (UnderivedStep id) b impossible _ = absurd impossible
@@ -94,7 +94,7 @@ one_by_rows f c NoEmptyClause b impossible _ = absurd impossible
 one_by_rows f c ValidFalse b impossible _ = absurd impossible
 one_by_rows f c (BadRow k) b r s = bad_row_is b s
   where
-    bad_row_is : (b : Answer) → IsTestedByRows f c b → BadRow k ≡ b
+    bad_row_is : (b : Judgement) → IsTestedByRows f c b → BadRow k ≡ b
     bad_row_is (Refused line name) impossible = absurd impossible
     bad_row_is (UndeclaredRead y x) impossible = absurd impossible
     bad_row_is (UnderivedStep id) impossible = absurd impossible
@@ -106,7 +106,7 @@ one_by_rows f c (BadRow k) b r s = bad_row_is b s
     bad_row_is ValidTrue (_, s) = absurd (row_is_one f c k (s k r.1.0) r.1.2)
 one_by_rows f c (Unproved n) b r s = unproved_is b s
   where
-    unproved_is : (b : Answer) → IsTestedByRows f c b → Unproved n ≡ b
+    unproved_is : (b : Judgement) → IsTestedByRows f c b → Unproved n ≡ b
     unproved_is (Refused line name) impossible = absurd impossible
     unproved_is (UndeclaredRead y x) impossible = absurd impossible
     unproved_is (UnderivedStep id) impossible = absurd impossible
@@ -117,7 +117,7 @@ one_by_rows f c (Unproved n) b r s = unproved_is b s
     unproved_is ValidTrue (few, _) = let many = r.0 in let same = r.1 in absurd (omega (arith, few, many, same))
 one_by_rows f c ValidTrue b r s = valid_is b s
   where
-    valid_is : (b : Answer) → IsTestedByRows f c b → ValidTrue ≡ b
+    valid_is : (b : Judgement) → IsTestedByRows f c b → ValidTrue ≡ b
     valid_is (Refused line name) impossible = absurd impossible
     valid_is (UndeclaredRead y x) impossible = absurd impossible
     valid_is (UnderivedStep id) impossible = absurd impossible
@@ -127,29 +127,29 @@ one_by_rows f c ValidTrue b r s = valid_is b s
     valid_is (Unproved n) (many, same) = let few = r.0 in absurd (omega (arith, few, many, same))
     valid_is ValidTrue _ = refl
 
-one_tested_by : (proof : Option Dqp) (c : Candidate) (a b : Answer) → IsTestedBy proof c a →
+one_tested_by : (proof : Option Dqp) (c : Candidate) (a b : Judgement) → IsTestedBy proof c a →
     IsTestedBy proof c b → a ≡ b
 one_tested_by (Some d) c a b r s = r ∙ sym s
 one_tested_by None c a b r s = one_by_rows c.formula c.circuit a b r s
 
-one_tested : (proof : Option Dqp) (c : Candidate) (a b : Answer) → IsTested proof c a → IsTested proof c b → a ≡ b
+one_tested : (proof : Option Dqp) (c : Candidate) (a b : Judgement) → IsTested proof c a → IsTested proof c b → a ≡ b
 one_tested proof c a b (inl r) (inl s) = one_undeclared_read c a b r s
 one_tested proof c a b (inl r) (inr s) = absurd (read_and_passes c proof a b r s)
 one_tested proof c a b (inr r) (inl s) = absurd (read_and_passes c proof b a s r)
 one_tested proof c a b (inr r) (inr s) = one_tested_by proof c a b r.tested s.tested
 
-one_behind_mapping : (h : ℕ) (net : Netlist) (proof : Option Dqp) (mapped : Result Candidate MapError) (a b : Answer)
+one_behind_mapping : (h : ℕ) (net : Netlist) (proof : Option Dqp) (mapped : Result Candidate MapError) (a b : Judgement)
     → BehindMapping h net proof mapped a → BehindMapping h net proof mapped b → a ≡ b
 one_behind_mapping h net proof (Err fault) a b r s = r ∙ sym s
 one_behind_mapping h net proof (Ok c) a b r s = one_tested proof c a b r s
 
 one_behind_proof : (h : ℕ) (net : Netlist) (read : Result (Option Dqp) CertRefusal) (mapped : Result Candidate MapError)
-    (a b : Answer)
+    (a b : Judgement)
     → BehindProof h net read mapped a → BehindProof h net read mapped b → a ≡ b
 one_behind_proof h net (Err refusal) mapped a b r s = r ∙ sym s
 one_behind_proof h net (Ok proof) mapped a b r s = one_behind_mapping h net proof mapped a b r s
 
-one_circuit_judgement : (f : Dqbf) (h : ℕ) (text : List ℕ) (file : AagFile) (a b : Answer) →
+one_circuit_judgement : (f : Dqbf) (h : ℕ) (text : List ℕ) (file : AagFile) (a b : Judgement) →
     IsCircuitJudgement f h text file a → IsCircuitJudgement f h text file b → a ≡ b
 one_circuit_judgement f h text file a b =
     one_behind_proof h file.circuit (proof_in f h (line_ends text) file.circuit file.comment)
@@ -163,7 +163,7 @@ pub record CircuitLaw : Type 0 where
   pub one_fault : (text : List ℕ) (first : ℕ) (f g : LineFault) → IsFirstFault text first f →
       IsFirstFault text first g → f ≡ g
 
-by_file_or_fault : CircuitLaw → (f : Dqbf) (h : ℕ) (text : List ℕ) (a b : Answer) →
+by_file_or_fault : CircuitLaw → (f : Dqbf) (h : ℕ) (text : List ℕ) (a b : Judgement) →
     IsCircuitRefusal h text a ⊎ IsCircuitAnswer f h text a →
     IsCircuitRefusal h text b ⊎ IsCircuitAnswer f h text b → a ≡ b
 by_file_or_fault law f h text a b (inl r) (inl s) =
@@ -176,12 +176,12 @@ by_file_or_fault law f h text a b (inr r) (inr s) =
     (subst (λ (file : AagFile). IsCircuitJudgement f h text file a)
     (law.unique text r.file s.file r.spelled s.spelled) r.is) s.is
 
-by_kind : CircuitLaw → (kind : Result Kind CertRefusal) (f : Dqbf) (text : List ℕ) (a b : Answer) →
+by_kind : CircuitLaw → (kind : Result Kind CertRefusal) (f : Dqbf) (text : List ℕ) (a b : Judgement) →
     IsJudgementOf f text kind a → IsJudgementOf f text kind b → a ≡ b
 by_kind law (Ok (CircuitText at h)) f text a b r s = by_file_or_fault law f h (drop at text) a b r s
 by_kind law (Ok (Refutation at h)) f text a b r s = r ∙ sym s
 by_kind law (Err refusal) f text a b r s = r ∙ sym s
 
-pub one_judgement : CircuitLaw → (f : Dqbf) (text : List ℕ) (a b : Answer) → IsJudgement f text a →
+pub one_judgement : CircuitLaw → (f : Dqbf) (text : List ℕ) (a b : Judgement) → IsJudgement f text a →
     IsJudgement f text b → a ≡ b
 one_judgement law f text a b r s = by_kind law (certificate_kind text) f text a b r s

@@ -21,7 +21,7 @@ use Rattle.skolem_checker.specs.Mapping.{Mapping, mapping_of}
 use Rattle.skolem_checker.specs.SkolemCircuit.{IsComplete, IsSkolemCircuit, ReadsUniversal}
 use Rattle.skolem_checker.specs.declared.mapping.MapError.{MapError}
 use Rattle.cert_judge.specs.Judgement.{HoldsSkolemCircuit, IsTested, BehindMapping, BehindProof, IsJudgementOf, IsJudgement, answer_of_derivation, answer_of_refutation, line_ends, mapping_line, proof_in}
-use Rattle.cert_judge.specs.declared.answers.Answer.TheVariants.{Refused, UndeclaredRead, ValidTrue, ValidFalse}
+use Rattle.cert_judge.specs.declared.answers.Judgement.TheVariants.{Refused, UndeclaredRead, ValidTrue, ValidFalse}
 use Rattle.cert_judge.specs.declared.answers.CertificateFault.{CertificateFault}
 use Rattle.cert_judge.specs.declared.answers.CertificateFault.TheVariants.{Text, Circuit, Mapping as BadMapping}
 use Rattle.cert_judge.proofs.Certificates.{spelled_complete}

@@ -28,8 +28,8 @@ use Rattle.skolem_checker.specs.SkolemCircuit.{MappedCircuit, ReadsUniversal, Is
 use Rattle.skolem_checker.specs.declared.mapping.MapError.{MapError}
 use Rattle.skolem_checker.specs.declared.mapping.MapPlace.{MapPlace}
 use Rattle.skolem_checker.specs.declared.mapping.MapPlace.TheVariants.{Whole, Input, Output}
-use Rattle.cert_judge.specs.declared.answers.Answer.{Answer}
-use Rattle.cert_judge.specs.declared.answers.Answer.TheVariants.{Refused, UndeclaredRead, BadRow, Unproved, UnderivedStep, NoEmptyClause, ValidTrue, ValidFalse}
+use Rattle.cert_judge.specs.declared.answers.Judgement.{Judgement}
+use Rattle.cert_judge.specs.declared.answers.Judgement.TheVariants.{Refused, UndeclaredRead, BadRow, Unproved, UnderivedStep, NoEmptyClause, ValidTrue, ValidFalse}
 use Rattle.cert_judge.specs.declared.answers.CertificateFault.TheVariants.{Text, Circuit, Mapping}
 
 abbrev pub begins_with : List ℕ → List (List ℕ) → Bool
@@ -81,13 +81,13 @@ abbrev pub max_row_universals : ℕ
 max_row_universals = 20
 
 -- the verdict where a derivation has no fault, and else the fault
-abbrev pub answer_of_derivation : Answer → Option ProofFault → Answer
+abbrev pub answer_of_derivation : Judgement → Option ProofFault → Judgement
 answer_of_derivation verdict None = verdict
 answer_of_derivation verdict (Some (underived id)) = UnderivedStep id
 answer_of_derivation verdict (Some unfinished) = NoEmptyClause
 
 -- first the number of universals, then the rows
-abbrev pub IsTestedByRows : Dqbf → MappedCircuit → Answer → Type 0
+abbrev pub IsTestedByRows : Dqbf → MappedCircuit → Judgement → Type 0
 IsTestedByRows f c (Unproved n) = (max_row_universals < n) × (n ≡ length f.universals)
 IsTestedByRows f c (BadRow k) =
     (length f.universals ≤ max_row_universals) × IsRowsAnswer f c (Err k)
@@ -95,68 +95,68 @@ IsTestedByRows f c ValidTrue = (length f.universals ≤ max_row_universals) × I
 IsTestedByRows f c _ = ⊥
 
 -- by its proof, or by its rows where it has none
-abbrev pub IsTestedBy : Option Dqp → Candidate → Answer → Type 0
+abbrev pub IsTestedBy : Option Dqp → Candidate → Judgement → Type 0
 IsTestedBy (Some d) c answer =
     answer ≡ answer_of_derivation ValidTrue (circuit_proof_fault c d.items)
 IsTestedBy None c answer = IsTestedByRows c.formula c.circuit answer
 
 -- an output reads a universal that its existential may not see
-pub record HasUndeclaredRead (c : Candidate) (answer : Answer) : Type 0 where
+pub record HasUndeclaredRead (c : Candidate) (answer : Judgement) : Type 0 where
   pub existential : ℕ
   pub universal : ℕ
   pub first : IsReadsAnswer (ReadsUniversal c.circuit) c.formula (Err (existential, universal))
   pub is : answer ≡ UndeclaredRead existential universal
 
-pub record PassesReads (proof : Option Dqp) (c : Candidate) (answer : Answer) : Type 0 where
+pub record PassesReads (proof : Option Dqp) (c : Candidate) (answer : Judgement) : Type 0 where
   pub reads : IsReadsAnswer (ReadsUniversal c.circuit) c.formula (Ok tt)
   pub tested : IsTestedBy proof c answer
 
 -- what the tests of a mapped circuit say: first its reads, then its proof or its rows
-abbrev pub IsTested : Option Dqp → Candidate → Answer → Type 0
+abbrev pub IsTested : Option Dqp → Candidate → Judgement → Type 0
 IsTested proof c answer = HasUndeclaredRead c answer ⊎ PassesReads proof c answer
 
-abbrev pub BehindMapping : ℕ → Netlist → Option Dqp → Result Candidate MapError → Answer → Type 0
+abbrev pub BehindMapping : ℕ → Netlist → Option Dqp → Result Candidate MapError → Judgement → Type 0
 BehindMapping h net proof (Err fault) answer =
     answer ≡ Refused (mapping_line h net fault.at) (Mapping fault.name)
 BehindMapping h net proof (Ok c) answer = IsTested proof c answer
 
 abbrev pub BehindProof : ℕ → Netlist → Result (Option Dqp) CertRefusal → Result Candidate MapError
-    → Answer → Type 0
+    → Judgement → Type 0
 BehindProof h net (Err refusal) mapped answer = answer ≡ Refused refusal.line (Text refusal.name)
 BehindProof h net (Ok proof) mapped answer = BehindMapping h net proof mapped answer
 
 -- the text of a proof in the comment comes first, then the mapping, then the tests
-abbrev pub IsCircuitJudgement : Dqbf → ℕ → List ℕ → AagFile → Answer → Type 0
+abbrev pub IsCircuitJudgement : Dqbf → ℕ → List ℕ → AagFile → Judgement → Type 0
 IsCircuitJudgement f h text file answer =
     BehindProof h file.circuit (proof_in f h (line_ends text) file.circuit file.comment)
     (candidate_of f file.circuit file.symbols) answer
 
 -- the text, whose first line has the number h, isn't a circuit file
-pub record IsCircuitRefusal (h : ℕ) (text : List ℕ) (answer : Answer) : Type 0 where
+pub record IsCircuitRefusal (h : ℕ) (text : List ℕ) (answer : Judgement) : Type 0 where
   pub fault : LineFault
   pub is_first : IsFirstFault text h fault
   pub is : answer ≡ Refused fault.line (Circuit fault.name)
 
 -- the text spells a circuit file
-pub record IsCircuitAnswer (f : Dqbf) (h : ℕ) (text : List ℕ) (answer : Answer) : Type 0 where
+pub record IsCircuitAnswer (f : Dqbf) (h : ℕ) (text : List ℕ) (answer : Judgement) : Type 0 where
   pub file : AagFile
   pub spelled : SpellsCircuit text file
   pub is : IsCircuitJudgement f h text file answer
 
 -- the first fault of a refutation's text, and then of its derivation
-abbrev pub answer_of_refutation : Dqbf → Result Dqr CertRefusal → Answer
+abbrev pub answer_of_refutation : Dqbf → Result Dqr CertRefusal → Judgement
 answer_of_refutation f (Ok d) = answer_of_derivation ValidFalse (refutation_fault f d)
 answer_of_refutation f (Err refusal) = Refused refusal.line (Text refusal.name)
 
 -- by the kind of the certificate, and where its header line begins
-abbrev pub IsJudgementOf : Dqbf → List ℕ → Result Kind CertRefusal → Answer → Type 0
+abbrev pub IsJudgementOf : Dqbf → List ℕ → Result Kind CertRefusal → Judgement → Type 0
 IsJudgementOf f text (Ok (CircuitText at h)) answer =
     IsCircuitRefusal h (drop at text) answer ⊎ IsCircuitAnswer f h (drop at text) answer
 IsJudgementOf f text (Ok (Refutation at h)) answer =
     answer ≡ answer_of_refutation f (refutation_of f (drop at text) h)
 IsJudgementOf f text (Err refusal) answer = answer ≡ Refused refusal.line (Text refusal.name)
 
-abbrev pub IsJudgement : Dqbf → List ℕ → Answer → Type 0
+abbrev pub IsJudgement : Dqbf → List ℕ → Judgement → Type 0
 IsJudgement f text answer = IsJudgementOf f text (certificate_kind text) answer
 
 -- the text is a circuit's by its first lines, and spells behind these one that is made of Skolem

@@ -1,7 +1,7 @@
 //! What the checker says of a certificate.
 
 ghost use Rattle.std.specs.Prelude.{◌≡◌};
-ghost use Rattle.cert_judge.specs.declared.answers.Answer.TheVariants.{Refused};
+ghost use Rattle.cert_judge.specs.declared.answers.Judgement.TheVariants.{Refused};
 
 use aiger_text::AagFault;
 use cert_text::CertFault;
@@ -21,7 +21,7 @@ pub enum CertificateFault {
 
 /// The answer to a formula and a certificate.
 #[derive(Clone, Copy, PartialEq, Eq)]
-pub enum Answer {
+pub enum Judgement {
     /// The certificate's text has a fault at this line.
     Refused { line: u64, name: CertificateFault },
     /// The output for this existential reaches the input for this universal, which it may not see.
@@ -43,8 +43,8 @@ pub enum Answer {
 }
 
 /// The certificate's text has this fault.
-pub(crate) fn refused(line: u64, name: CertificateFault) -> Answer
+pub(crate) fn refused(line: u64, name: CertificateFault) -> Judgement
     ensures { result ≡ Refused line name }
 {
-    Answer::Refused { line, name }
+    Judgement::Refused { line, name }
 }

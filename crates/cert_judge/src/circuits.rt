@@ -13,9 +13,9 @@ ghost use Rattle.skolem_checker.specs.Mapping.{IsAtPlace};
 ghost use Rattle.skolem_checker.specs.SkolemCircuit.{IsComplete};
 ghost use Rattle.cert_judge.specs.Judgement.{begins_with, first_line, begins_proof, line_ends, comment_line, proof_in, mapping_line, answer_of_derivation, IsTestedByRows, IsTestedBy, IsTested, BehindMapping, BehindProof, IsCircuitRefusal, IsCircuitAnswer};
 ghost use Rattle.cert_judge.specs.Places.{HasFewLines, AnswersStop};
-ghost use Rattle.cert_judge.specs.declared.answers.Answer.TheVariants.{ValidTrue};
+ghost use Rattle.cert_judge.specs.declared.answers.Judgement.TheVariants.{ValidTrue};
 
-use crate::answers::{Answer, CertificateFault, refused};
+use crate::answers::{CertificateFault, Judgement, refused};
 use aiger_text::{AagFile, AagStop};
 use cert_text::{CertStop, Dqp, read_dqp};
 use circuit_plain::Circuit;
@@ -41,7 +41,7 @@ pub fn judge_circuit(
     first: u64,
     text: Vec<u8>,
     at: usize,
-) -> Result<Answer, Memory>
+) -> Result<Judgement, Memory>
     requires well_formed { IsWellFormed f.now }
     requires fits { first + length text.items < 2 ^ 62 }
     requires inside { at ≤ length text.items }
@@ -60,7 +60,7 @@ pub fn judge_circuit(
 }
 
 // The answer where the reading of a circuit file stopped.
-fn stopped(stop: AagStop) -> Result<Answer, Memory>
+fn stopped(stop: AagStop) -> Result<Judgement, Memory>
     ensures { IfOk result (AnswersStop stop) }
 {
     match stop {
@@ -191,7 +191,7 @@ fn judge_file(
     first: u64,
     ends: usize,
     mut file: AagFile,
-) -> Result<Answer, Memory>
+) -> Result<Judgement, Memory>
     requires well_formed { IsWellFormed f.now }
     requires fits { first + ends < 2 ^ 62 }
     requires complete { IsComplete file.circuit }
@@ -218,7 +218,7 @@ fn judge_mapped(
     first: u64,
     file: &AagFile,
     proof: &Option<Dqp>,
-) -> Result<Answer, Memory>
+) -> Result<Judgement, Memory>
     requires well_formed { IsWellFormed f.now }
     requires fits { first < 2 ^ 62 }
     requires complete { IsComplete file.now.circuit }
@@ -245,7 +245,7 @@ fn judge_reads(
     f: &Formula,
     bench: &mut Bench,
     proof: &Option<Dqp>,
-) -> Result<Answer, Memory>
+) -> Result<Judgement, Memory>
     requires formula { bench.old.formula ≡ f.now }
     requires few { HasFewLines bench.old.circuit.netlist }
     requires lawful { IfSome proof.now (IsDqpOf bench.old.formula bench.old.circuit.netlist) }
@@ -253,7 +253,7 @@ fn judge_reads(
 {
     match bench.reads_ok() {
         Ok(()) => judge_values(alloc, f, bench, proof),
-        Err((existential, universal)) => Ok(Answer::UndeclaredRead {
+        Err((existential, universal)) => Ok(Judgement::UndeclaredRead {
             existential,
             universal,
         }),
@@ -266,7 +266,7 @@ fn judge_values(
     f: &Formula,
     bench: &mut Bench,
     proof: &Option<Dqp>,
-) -> Result<Answer, Memory>
+) -> Result<Judgement, Memory>
     requires formula { bench.old.formula ≡ f.now }
     requires few { HasFewLines bench.old.circuit.netlist }
     requires lawful { IfSome proof.now (IsDqpOf bench.old.formula bench.old.circuit.netlist) }
@@ -279,7 +279,7 @@ fn judge_values(
 }
 
 // Judges the proof that a circuit has.
-fn judge_proof(alloc: Global, bench: &Bench, proof: &Dqp) -> Result<Answer, Memory>
+fn judge_proof(alloc: Global, bench: &Bench, proof: &Dqp) -> Result<Judgement, Memory>
     requires few { HasFewLines bench.now.circuit.netlist }
     requires lawful { IsDqpOf bench.now.formula bench.now.circuit.netlist proof.now }
     ensures { IfOk result
@@ -287,24 +287,24 @@ fn judge_proof(alloc: Global, bench: &Bench, proof: &Dqp) -> Result<Answer, Memo
         ≡ answer_of_derivation ValidTrue (circuit_proof_fault bench.now proof.now.items)) }
 {
     match by_proof(alloc, bench, proof) {
-        Ok(()) => Ok(Answer::ValidTrue),
-        Err(ProofFault::Step(id)) => Ok(Answer::UnderivedStep { id }),
-        Err(ProofFault::NoEmptyClause) => Ok(Answer::NoEmptyClause),
+        Ok(()) => Ok(Judgement::ValidTrue),
+        Err(ProofFault::Step(id)) => Ok(Judgement::UnderivedStep { id }),
+        Err(ProofFault::NoEmptyClause) => Ok(Judgement::NoEmptyClause),
         Err(ProofFault::Memory) => Err(Memory),
     }
 }
 
 // Tries the rows of a circuit that has no proof.
-fn judge_rows(f: &Formula, bench: &mut Bench) -> Answer
+fn judge_rows(f: &Formula, bench: &mut Bench) -> Judgement
     requires { bench.old.formula ≡ f.now }
     ensures { IsTestedByRows bench.old.formula bench.old.circuit result }
 {
     let universals = f.universals().len();
     if universals > MAX_ROW_UNIVERSALS {
-        return Answer::Unproved { universals };
+        return Judgement::Unproved { universals };
     }
     match bench.by_all_rows() {
-        Ok(()) => Answer::ValidTrue,
-        Err(number) => Answer::BadRow { number },
+        Ok(()) => Judgement::ValidTrue,
+        Err(number) => Judgement::BadRow { number },
     }
 }

@@ -6,9 +6,9 @@ ghost use Rattle.cert_text.specs.Grammar.{IsDqrOf};
 ghost use Rattle.cert_text.specs.Scan.{refutation_of};
 ghost use Rattle.refutation_checker.specs.Refutation.{refutation_fault};
 ghost use Rattle.cert_judge.specs.Judgement.{answer_of_derivation, answer_of_refutation, IsJudgement};
-ghost use Rattle.cert_judge.specs.declared.answers.Answer.TheVariants.{ValidFalse};
+ghost use Rattle.cert_judge.specs.declared.answers.Judgement.TheVariants.{ValidFalse};
 
-use crate::answers::{Answer, CertificateFault, refused};
+use crate::answers::{CertificateFault, Judgement, refused};
 use crate::circuits::judge_circuit;
 use cert_text::{CertStop, Dqr, Kind, kind, read_dqr};
 use dq_formula::Formula;
@@ -18,7 +18,7 @@ use std::alloc::Global;
 
 /// Judges a certificate: the first fault that it has, or that it proves the formula true or false.
 /// Its text is let go as soon as it was read.
-pub fn judge(alloc: Global, f: &Formula, text: Vec<u8>) -> Result<Answer, Memory>
+pub fn judge(alloc: Global, f: &Formula, text: Vec<u8>) -> Result<Judgement, Memory>
     requires well_formed { IsWellFormed f.now }
     requires length { length text.items < 2 ^ 61 }
     ensures { IfOk result (IsJudgement f.now text.items) }
@@ -37,7 +37,7 @@ fn judge_refutation(
     first: u64,
     text: Vec<u8>,
     at: usize,
-) -> Result<Answer, Memory>
+) -> Result<Judgement, Memory>
     requires well_formed { IsWellFormed f.now }
     requires fits { first + length text.items < 2 ^ 62 }
     requires inside { at ≤ length text.items }
@@ -56,16 +56,16 @@ fn judge_refutation(
     }
 }
 
-fn judge_derivation(alloc: Global, f: &Formula, d: &Dqr) -> Result<Answer, Memory>
+fn judge_derivation(alloc: Global, f: &Formula, d: &Dqr) -> Result<Judgement, Memory>
     requires well_formed { IsWellFormed f.now }
     requires allowed { IsDqrOf f.now d.now }
     ensures { IfOk result
         (λ answer. answer ≡ answer_of_derivation ValidFalse (refutation_fault f.now d.now)) }
 {
     match check(alloc, f, d) {
-        Ok(()) => Ok(Answer::ValidFalse),
-        Err(RefFault::Step(id)) => Ok(Answer::UnderivedStep { id }),
-        Err(RefFault::NoEmptyClause) => Ok(Answer::NoEmptyClause),
+        Ok(()) => Ok(Judgement::ValidFalse),
+        Err(RefFault::Step(id)) => Ok(Judgement::UnderivedStep { id }),
+        Err(RefFault::NoEmptyClause) => Ok(Judgement::NoEmptyClause),
         Err(RefFault::Memory) => Err(Memory),
     }
 }

@@ -5,8 +5,8 @@ ghost use Rattle.std.specs.Prelude.{◌≡◌, ℕ, List};
 ghost use Rattle.dq_lits.specs.Formula.{Dqbf, IsWellFormed};
 ghost use Rattle.dq_lits.specs.Henkin.{IsTrueFormula, IsFalseFormula};
 ghost use Rattle.cert_judge.specs.Judgement.{IsJudgement, HoldsSkolemCircuit};
-ghost use Rattle.cert_judge.specs.declared.answers.Answer.{Answer};
-ghost use Rattle.cert_judge.specs.declared.answers.Answer.TheVariants.{ValidTrue, ValidFalse};
+ghost use Rattle.cert_judge.specs.declared.answers.Judgement.{Judgement};
+ghost use Rattle.cert_judge.specs.declared.answers.Judgement.TheVariants.{ValidTrue, ValidFalse};
 
 use aiger_text::laws::circuit_or_first_fault;
 use proof_checker::laws::proved_circuit_is_skolem;
@@ -15,7 +15,7 @@ use skolem_checker::laws::{skolem_circuit_shows_true, tested_circuit_is_skolem};
 
 /// Only one thing is to be said of a certificate.
 pub fn one_judgement()
-    ensures { (f : Dqbf) (text : List ℕ) (a b : Answer) → IsJudgement f text a
+    ensures { (f : Dqbf) (text : List ℕ) (a b : Judgement) → IsJudgement f text a
         → IsJudgement f text b → a ≡ b }
 {
     circuit_or_first_fault();

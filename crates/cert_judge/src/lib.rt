@@ -5,7 +5,7 @@
 //! to be said of a certificate, and that what is accepted is right.
 #![tactic(auto)]
 
-pub use answers::{Answer, CertificateFault};
+pub use answers::{CertificateFault, Judgement};
 pub use judging::judge;
 
 mod answers;

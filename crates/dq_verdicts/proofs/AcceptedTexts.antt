@@ -25,7 +25,7 @@ use Rattle.skolem_checker.specs.Checks.{Candidate, candidate_of, with_mapping, R
 use Rattle.skolem_checker.specs.SkolemCircuit.{MappedCircuit, ReadsUniversal}
 use Rattle.cert_judge.specs.Judgement.{line_ends, comment_line, as_proof, proof_in, answer_of_derivation, answer_of_refutation, BehindProof, BehindMapping, IsTested, IsCircuitAnswer, IsJudgementOf}
 use Rattle.dq_runs.specs.Printed.{line}
-use Rattle.cert_judge.specs.declared.answers.Answer.TheVariants.{ValidTrue, ValidFalse}
+use Rattle.cert_judge.specs.declared.answers.Judgement.TheVariants.{ValidTrue, ValidFalse}
 use Rattle.dq_verdicts.specs.Accepted.{ProvedCircuitsAreAccepted, RefutationsAreAccepted}
 use Rattle.dq_verdicts.specs.Verdicts.{with_proof, verdict_text, is_true, is_false}
 use Rattle.dq_verdicts.proofs.Beginnings.{header_at, header_number, circuit_kind, refutation_kind, proof_begins}
@@ -34,14 +34,17 @@ use Rattle.dq_verdicts.proofs.Beginnings.{header_at, header_number, circuit_kind
 
 -- what the law of the refutations' canonical text gives
 abbrev pub ReadsRefutationBack : Type 0
-ReadsRefutationBack = (f : Dqbf) (d : Dqr) (first : ℕ) → IsLawful f → IsDqrOf f d → refutation_of f (canonical f.universals d) first ≡ Ok d
+ReadsRefutationBack = (f : Dqbf) (d : Dqr) (first : ℕ) → IsLawful f → IsDqrOf f d →
+    refutation_of f (canonical f.universals d) first ≡ Ok d
 
-false_answer : (f : Dqbf) (d : Dqr) (read : Result Dqr CertRefusal) → read ≡ Ok d → refutation_fault f d ≡ None → ValidFalse ≡ answer_of_refutation f read
+false_answer : (f : Dqbf) (d : Dqr) (read : Result Dqr CertRefusal) → read ≡ Ok d → refutation_fault f d ≡ None →
+    ValidFalse ≡ answer_of_refutation f read
 false_answer f d read is none = sym (ap (answer_of_refutation f) is ∙ ap (answer_of_derivation ValidFalse) none)
 
 false_judgement : (bare : Bool) (f : Dqbf) (text : List ℕ)
     → ValidFalse ≡ answer_of_refutation f (refutation_of f text (header_number bare))
-    → IsJudgementOf f (cond bare [] (line (codes "s FALSE")) ++ text) (Ok (Refutation (header_at bare 8) (header_number bare))) ValidFalse
+    → IsJudgementOf f (cond bare [] (line (codes "s FALSE")) ++ text)
+    (Ok (Refutation (header_at bare 8) (header_number bare))) ValidFalse
 false_judgement true f text is = is
 false_judgement false f text is = is
 
@@ -49,7 +52,8 @@ pub refutations_accepted : ReadsRefutationBack → RefutationsAreAccepted
 refutations_accepted back f d bare lawful allowed none =
     subst (λ kind. IsJudgementOf f (verdict_text bare f (is_false d)) kind ValidFalse) (sym (refutation_kind bare _))
     (false_judgement bare f (canonical f.universals d)
-    (false_answer f d (refutation_of f (canonical f.universals d) (header_number bare)) (back f d (header_number bare) lawful allowed) none))
+    (false_answer f d (refutation_of f (canonical f.universals d) (header_number bare))
+    (back f d (header_number bare) lawful allowed) none))
 
 -- ---- circuits
 
@@ -57,22 +61,29 @@ abbrev pub CanonicalSpells : Type 0
 CanonicalSpells = (file : AagFile) → IsSpellable file → SpellsCircuit (canonical_circuit file) file
 
 abbrev pub ReadsProofBack : Type 0
-ReadsProofBack = (f : Dqbf) (net : Netlist) (d : Dqp) (first : ℕ) → IsDqpOf f net d → circuit_proof_of f net (canonical_proof d) first ≡ Ok d
+ReadsProofBack = (f : Dqbf) (net : Netlist) (d : Dqp) (first : ℕ) → IsDqpOf f net d →
+    circuit_proof_of f net (canonical_proof d) first ≡ Ok d
 
-reads_all : (f : Dqbf) (c : MappedCircuit) → All (λ y. (x : ℕ) → ReadsUniversal c y.variable x → Contains y.sees x) f.existentials
+reads_all : (f : Dqbf) (c : MappedCircuit) → All (λ y. (x : ℕ) → ReadsUniversal c y.variable x → Contains y.sees x)
+    f.existentials
     → ReadsDeclared (ReadsUniversal c) f
 reads_all f c declared p below q under reads =
-    All-get_or (λ y. (x : ℕ) → ReadsUniversal c y.variable x → Contains y.sees x) f.existentials p _ below declared (slice_index f.universals q) reads
+    All-get_or (λ y. (x : ℕ) → ReadsUniversal c y.variable x → Contains y.sees x) f.existentials p _ below declared
+    (slice_index f.universals q) reads
 
-proof_found : (f : Dqbf) (h ends : ℕ) (net : Netlist) (d : Dqp) → ((first : ℕ) → circuit_proof_of f net (canonical_proof d) first ≡ Ok d)
+proof_found : (f : Dqbf) (h ends : ℕ) (net : Netlist) (d : Dqp) →
+    ((first : ℕ) → circuit_proof_of f net (canonical_proof d) first ≡ Ok d)
     → proof_in f h ends net (Some (canonical_proof d)) ≡ Ok (Some d)
 proof_found f h ends net d back =
     let comment = canonical_proof d in
-    ap (λ b. cond b (as_proof (circuit_proof_of f net comment (comment_line h ends comment))) (Ok None)) (proof_begins (version_for d.items) (length d.items) (flat_map item_text d.items))
+    ap (λ b. cond b (as_proof (circuit_proof_of f net comment (comment_line h ends comment))) (Ok None))
+    (proof_begins (version_for d.items) (length d.items) (flat_map item_text d.items))
     ∙ ap as_proof (back (comment_line h ends comment))
 
-tested : (f : Dqbf) (h ends : ℕ) (file : AagFile) (d : Dqp) (p : IsProvedCircuit f file d) → ((first : ℕ) → circuit_proof_of f file.circuit (canonical_proof d) first ≡ Ok d)
-    → BehindProof h file.circuit (proof_in f h ends file.circuit (Some (canonical_proof d))) (candidate_of f file.circuit file.symbols) ValidTrue
+tested : (f : Dqbf) (h ends : ℕ) (file : AagFile) (d : Dqp) (p : IsProvedCircuit f file d) →
+    ((first : ℕ) → circuit_proof_of f file.circuit (canonical_proof d) first ≡ Ok d)
+    → BehindProof h file.circuit (proof_in f h ends file.circuit (Some (canonical_proof d)))
+    (candidate_of f file.circuit file.symbols) ValidTrue
 tested f h ends file d p back =
     let circuit : MappedCircuit = record { netlist = file.circuit; mapping = p.skolem.mapping } in
     let c : Candidate = record { formula = f; circuit = circuit } in
@@ -80,11 +91,14 @@ tested f h ends file d p back =
       reads = reads_all f circuit p.skolem.reads_declared;
       tested = sym (ap (answer_of_derivation ValidTrue) p.derives);
     }) in
-    subst (λ read. BehindProof h file.circuit read (candidate_of f file.circuit file.symbols) ValidTrue) (sym (proof_found f h ends file.circuit d back))
-    (subst (λ mapped. BehindMapping h file.circuit (Some d) mapped ValidTrue) (sym (ap (with_mapping f file.circuit) p.skolem.maps)) good)
+    subst (λ read. BehindProof h file.circuit read (candidate_of f file.circuit file.symbols) ValidTrue)
+    (sym (proof_found f h ends file.circuit d back))
+    (subst (λ mapped. BehindMapping h file.circuit (Some d) mapped ValidTrue)
+    (sym (ap (with_mapping f file.circuit) p.skolem.maps)) good)
 
 true_judgement : (bare : Bool) (f : Dqbf) (text : List ℕ) → IsCircuitAnswer f (header_number bare) text ValidTrue
-    → IsJudgementOf f (cond bare [] (line (codes "s TRUE")) ++ text) (Ok (CircuitText (header_at bare 7) (header_number bare))) ValidTrue
+    → IsJudgementOf f (cond bare [] (line (codes "s TRUE")) ++ text)
+    (Ok (CircuitText (header_at bare 7) (header_number bare))) ValidTrue
 true_judgement true f text is = inr is
 true_judgement false f text is = inr is
 
@@ -94,7 +108,8 @@ circuits_accepted spells back f file d bare proved writable allowed within =
     let answer : IsCircuitAnswer f (header_number bare) (canonical_circuit whole) ValidTrue = record {
       file = whole;
       spelled = spells whole (writable (Some (canonical_proof d)) within.variables);
-      is = tested f (header_number bare) (line_ends (canonical_circuit whole)) file d proved (λ first. back f file.circuit d first (allowed within.items));
+      is = tested f (header_number bare) (line_ends (canonical_circuit whole)) file d proved
+          (λ first. back f file.circuit d first (allowed within.items));
     } in
     subst (λ kind. IsJudgementOf f (verdict_text bare f (is_true file d)) kind ValidTrue) (sym (circuit_kind bare _))
     (true_judgement bare f (canonical_circuit whole) answer)

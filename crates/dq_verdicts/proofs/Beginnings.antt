@@ -46,15 +46,21 @@ kind_of_first bytes lines = kind_of_lines bytes lines
 circuit_alone : (bytes : ℕ) (lines : List TextLine) → kind_of_first bytes (circuit_lines 1 lines) ≡ Ok (Circuit 0 1)
 circuit_alone bytes [] = refl
 circuit_alone bytes (l ∷ ls) =
-    ap (kind_behind bytes (record { text = 97 ∷ 97 ∷ 103 ∷ 32 ∷ l.text; number = 1; behind = l.behind }) ls) (circuit_verdict (line_tokens (32 ∷ l.text)))
+    ap (kind_behind bytes (record { text = 97 ∷ 97 ∷ 103 ∷ 32 ∷ l.text; number = 1; behind = l.behind }) ls)
+    (circuit_verdict (line_tokens (32 ∷ l.text)))
 
-circuit_behind : (bytes : ℕ) (text : List ℕ) (lines : List TextLine) → bytes ≡ 7 + length text → agreeing True (kind_at (bytes - length text) (circuit_lines 2 lines)) ≡ Ok (Circuit 7 2)
+circuit_behind : (bytes : ℕ) (text : List ℕ) (lines : List TextLine) → bytes ≡ 7 + length text →
+    agreeing True (kind_at (bytes - length text) (circuit_lines 2 lines)) ≡ Ok (Circuit 7 2)
 circuit_behind bytes text lines whole =
-    ap (λ at. agreeing True (kind_at at (circuit_lines 2 lines))) (less bytes 7 (length text) whole) ∙ ap (agreeing True) (circuit_header 7 2 lines)
+    ap (λ at. agreeing True (kind_at at (circuit_lines 2 lines))) (less bytes 7 (length text) whole) ∙ ap
+    (agreeing True) (circuit_header 7 2 lines)
 
-pub circuit_kind : (bare : Bool) (rest : List ℕ) → certificate_kind ((cond bare [] (line (codes "s TRUE"))) ++ (codes "aag " ++ rest)) ≡ Ok (Circuit (header_at bare 7) (header_number bare))
+pub circuit_kind : (bare : Bool) (rest : List ℕ) → certificate_kind
+    ((cond bare [] (line (codes "s TRUE"))) ++ (codes "aag " ++ rest)) ≡ Ok
+    (Circuit (header_at bare 7) (header_number bare))
 circuit_kind true rest = circuit_alone (length (codes "aag " ++ rest)) (lines_from 1 rest)
-circuit_kind false rest = circuit_behind (length (line (codes "s TRUE") ++ (codes "aag " ++ rest))) (codes "aag " ++ rest) (lines_from 2 rest)
+circuit_kind false rest = circuit_behind (length (line (codes "s TRUE") ++ (codes "aag " ++ rest)))
+    (codes "aag " ++ rest) (lines_from 2 rest)
     (length-append (line (codes "s TRUE")) (codes "aag " ++ rest))
 
 -- ---- refutations
@@ -71,18 +77,25 @@ refutation_header : (at n : ℕ) (lines : List TextLine) → kind_at at (refutat
 refutation_header at n [] = refl
 refutation_header at n (l ∷ ls) = refl
 
-refutation_alone : (bytes : ℕ) (lines : List TextLine) → kind_of_first bytes (refutation_lines 1 lines) ≡ Ok (Refutation 0 1)
+refutation_alone : (bytes : ℕ) (lines : List TextLine) → kind_of_first bytes (refutation_lines 1 lines) ≡ Ok
+    (Refutation 0 1)
 refutation_alone bytes [] = refl
 refutation_alone bytes (l ∷ ls) =
-    ap (kind_behind bytes (record { text = 112 ∷ 32 ∷ l.text; number = 1; behind = l.behind }) ls) (refutation_verdict (line_tokens (32 ∷ l.text)))
+    ap (kind_behind bytes (record { text = 112 ∷ 32 ∷ l.text; number = 1; behind = l.behind }) ls)
+    (refutation_verdict (line_tokens (32 ∷ l.text)))
 
-refutation_behind : (bytes : ℕ) (text : List ℕ) (lines : List TextLine) → bytes ≡ 8 + length text → agreeing False (kind_at (bytes - length text) (refutation_lines 2 lines)) ≡ Ok (Refutation 8 2)
+refutation_behind : (bytes : ℕ) (text : List ℕ) (lines : List TextLine) → bytes ≡ 8 + length text →
+    agreeing False (kind_at (bytes - length text) (refutation_lines 2 lines)) ≡ Ok (Refutation 8 2)
 refutation_behind bytes text lines whole =
-    ap (λ at. agreeing False (kind_at at (refutation_lines 2 lines))) (less bytes 8 (length text) whole) ∙ ap (agreeing False) (refutation_header 8 2 lines)
+    ap (λ at. agreeing False (kind_at at (refutation_lines 2 lines))) (less bytes 8 (length text) whole) ∙ ap
+    (agreeing False) (refutation_header 8 2 lines)
 
-pub refutation_kind : (bare : Bool) (rest : List ℕ) → certificate_kind ((cond bare [] (line (codes "s FALSE"))) ++ (codes "p " ++ rest)) ≡ Ok (Refutation (header_at bare 8) (header_number bare))
+pub refutation_kind : (bare : Bool) (rest : List ℕ) → certificate_kind
+    ((cond bare [] (line (codes "s FALSE"))) ++ (codes "p " ++ rest)) ≡ Ok
+    (Refutation (header_at bare 8) (header_number bare))
 refutation_kind true rest = refutation_alone (length (codes "p " ++ rest)) (lines_from 1 rest)
-refutation_kind false rest = refutation_behind (length (line (codes "s FALSE") ++ (codes "p " ++ rest))) (codes "p " ++ rest) (lines_from 2 rest)
+refutation_kind false rest = refutation_behind (length (line (codes "s FALSE") ++ (codes "p " ++ rest)))
+    (codes "p " ++ rest) (lines_from 2 rest)
     (length-append (line (codes "s FALSE")) (codes "p " ++ rest))
 
 -- ---- proofs in comments
@@ -98,11 +111,15 @@ cut_at (Some end) bytes = take end bytes
 abbrev IsLaterCut : Option ℕ → Type 0
 IsLaterCut o = (o ≡ None) ⊎ ((end : ℕ) × (o ≡ Some (suc (suc (suc (suc end))))))
 
-begins_cut : (rest : List ℕ) (o : Option ℕ) → IsLaterCut o → begins_with (codes "dqp") (line_tokens (cut_at o (codes "dqp " ++ rest))) ≡ true
-begins_cut rest o (inl none) = subst (λ c. begins_with (codes "dqp") (line_tokens (cut_at c (codes "dqp " ++ rest))) ≡ true) (sym none) refl
-begins_cut rest o (inr (end, some)) = subst (λ c. begins_with (codes "dqp") (line_tokens (cut_at c (codes "dqp " ++ rest))) ≡ true) (sym some) refl
+begins_cut : (rest : List ℕ) (o : Option ℕ) → IsLaterCut o →
+    begins_with (codes "dqp") (line_tokens (cut_at o (codes "dqp " ++ rest))) ≡ true
+begins_cut rest o (inl none) = subst (λ c. begins_with (codes "dqp") (line_tokens (cut_at c (codes "dqp " ++ rest)))
+    ≡ true) (sym none) refl
+begins_cut rest o (inr (end, some)) = subst (λ c. begins_with (codes "dqp")
+    (line_tokens (cut_at c (codes "dqp " ++ rest))) ≡ true) (sym some) refl
 
-later_cut : (found : Bool) (place end : ℕ) → place ≡ suc (suc (suc (suc end))) → IsLaterCut (cond found (Some place) None)
+later_cut : (found : Bool) (place end : ℕ) → place ≡ suc (suc (suc (suc end))) →
+    IsLaterCut (cond found (Some place) None)
 later_cut true place end is = inr (end, ap Some is)
 later_cut false place end is = inl refl
 
@@ -111,7 +128,8 @@ four_behind end = omega arith
 
 one_begins : (rest : List ℕ) → begins_with (codes "dqp") (line_tokens (first_line (codes "dqp " ++ rest))) ≡ true
 one_begins rest = begins_cut rest (position is_feed (codes "dqp " ++ rest))
-    (later_cut (nat_lt (position_or_len is_feed (codes "dqp " ++ rest)) (length (codes "dqp " ++ rest))) (position_or_len is_feed (codes "dqp " ++ rest))
+    (later_cut (nat_lt (position_or_len is_feed (codes "dqp " ++ rest)) (length (codes "dqp " ++ rest)))
+    (position_or_len is_feed (codes "dqp " ++ rest))
     (position_or_len is_feed rest) (four_behind (position_or_len is_feed rest)))
 
 -- the same in version 2, behind five bytes
@@ -125,7 +143,8 @@ two_cut : (rest : List ℕ) (o : Option ℕ) → IsLastCut o → begins_either (
 two_cut rest o (inl none) = subst (λ c. begins_either (cut_at c (codes "dqp2 " ++ rest)) ≡ true) (sym none) refl
 two_cut rest o (inr (end, some)) = subst (λ c. begins_either (cut_at c (codes "dqp2 " ++ rest)) ≡ true) (sym some) refl
 
-last_cut : (found : Bool) (place end : ℕ) → place ≡ suc (suc (suc (suc (suc end)))) → IsLastCut (cond found (Some place) None)
+last_cut : (found : Bool) (place end : ℕ) → place ≡ suc (suc (suc (suc (suc end)))) →
+    IsLastCut (cond found (Some place) None)
 last_cut true place end is = inr (end, ap Some is)
 last_cut false place end is = inl refl
 
@@ -134,11 +153,14 @@ five_behind end = omega arith
 
 two_begins : (rest : List ℕ) → begins_either (first_line (codes "dqp2 " ++ rest)) ≡ true
 two_begins rest = two_cut rest (position is_feed (codes "dqp2 " ++ rest))
-    (last_cut (nat_lt (position_or_len is_feed (codes "dqp2 " ++ rest)) (length (codes "dqp2 " ++ rest))) (position_or_len is_feed (codes "dqp2 " ++ rest))
+    (last_cut (nat_lt (position_or_len is_feed (codes "dqp2 " ++ rest)) (length (codes "dqp2 " ++ rest)))
+    (position_or_len is_feed (codes "dqp2 " ++ rest))
     (position_or_len is_feed rest) (five_behind (position_or_len is_feed rest)))
 
 -- a proof's canonical text begins as one
-pub proof_begins : (version : Version) (items : ℕ) (rest : List ℕ) → begins_proof (proof_header_text version items ++ rest) ≡ true
+pub proof_begins : (version : Version) (items : ℕ) (rest : List ℕ) →
+    begins_proof (proof_header_text version items ++ rest) ≡ true
 proof_begins One items rest =
-    ap (λ b. b || begins_with (codes "dqp2") (line_tokens (first_line (codes "dqp " ++ (number_line items ++ rest))))) (one_begins (number_line items ++ rest))
+    ap (λ b. b || begins_with (codes "dqp2") (line_tokens (first_line (codes "dqp " ++ (number_line items ++ rest)))))
+    (one_begins (number_line items ++ rest))
 proof_begins Two items rest = two_begins (number_line items ++ rest)

@@ -26,9 +26,11 @@ count_few test (e ∷ earlier) =
 -- what is declared once and in range is no more than there are numbers
 declared_few : (f : Dqbf) → HasLawfulPrefix f → length (declared f) ≤ f.variables + 1
 declared_few f prefix =
-    length-le_from_distinct_below (declared f) (f.variables + 1) (IsDistinct-from_AllPairs Decides-eqb (declared f) prefix.declared_once)
+    length-le_from_distinct_below (declared f) (f.variables + 1)
+    (IsDistinct-from_AllPairs Decides-eqb (declared f) prefix.declared_once)
     (λ q found.
-    let (from, to) = All-contains (λ v. (1 ≤ v) × (v ≤ f.variables)) (declared f) q prefix.in_range (Contains-from_any (λ x y same. eqb-true x y same) q (declared f) found) in
+    let (from, to) = All-contains (λ v. (1 ≤ v) × (v ≤ f.variables)) (declared f) q prefix.in_range
+    (Contains-from_any (λ x y same. eqb-true x y same) q (declared f) found) in
     omega (arith, to))
 
 universals_few : (f : Dqbf) → HasLawfulPrefix f → length f.universals ≤ f.variables + 1

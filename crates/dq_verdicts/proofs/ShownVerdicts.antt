@@ -50,7 +50,8 @@ pub same_refuted : (id other : ℕ) → ◌≡◌ {A = Result Decision Stop} (Ok
 same_refuted id other same = ap decided_id same
 
 -- the loop's last answer decides that the formula is true
-pub decided : ShownOutputsDecide → (f : Dqbf) (graph : AigGraph) (nodes : List Node) (log : ProofLog) (id : ℕ) → IsFoundTrue f graph nodes log id → IsDecidedTrue f log.entries id
+pub decided : ShownOutputsDecide → (f : Dqbf) (graph : AigGraph) (nodes : List Node) (log : ProofLog) (id : ℕ) →
+    IsFoundTrue f graph nodes log id → IsDecidedTrue f log.entries id
 decided law f graph nodes log id s = record {
   clause = s.shown.clause;
   hints = s.shown.hints;
@@ -70,13 +71,22 @@ pub record IsWrittenCircuit (f : Dqbf) (entries : List Entry) (id : ℕ) (file :
   pub allowed : length proof.items ≤ max_count → IsDqpOf f file.circuit proof
   pub exported : (ids : List ℕ) × IsExportedCircuit f entries id ids file proof
 
-pub shown_true : ProvedCircuitsAreAccepted → SmallLogsAreWithinLimits → (f : Dqbf) (log : ProofLog) (id : ℕ) (bare : Bool) (file : AagFile) (proof : Dqp)
-    → IsLawful f → IsTrueFormula f → IsDecidedTrue f log.entries id → IsWrittenCircuit f log.entries id file proof → IsShownTrue f f log bare file proof
+pub shown_true : ProvedCircuitsAreAccepted → SmallLogsAreWithinLimits →
+    (f : Dqbf) (log : ProofLog) (id : ℕ) (bare : Bool) (file : AagFile) (proof : Dqp)
+    → IsLawful f → IsTrueFormula f → IsDecidedTrue f log.entries id → IsWrittenCircuit f log.entries id file proof →
+    IsShownTrue f f log bare file proof
 shown_true accepted within f log id bare file proof lawful is_so decided e = record {
   true_formula = is_so;
   circuit = e.proved;
   answered = (id, decided);
-  exported = λ _. record { id = id; decided = decided; ids = e.exported.0; exported = e.exported.1; circuit = e.proved; numbers = e.numbers };
+  exported = λ _. record {
+    id = id;
+    decided = decided;
+    ids = e.exported.0;
+    exported = e.exported.1;
+    circuit = e.proved;
+    numbers = e.numbers;
+  };
   accepted = accepted f file proof bare e.proved e.spelled e.allowed;
   within = λ _. within f log.entries file proof lawful e.gates e.numbers.max_var e.few;
 }
@@ -87,18 +97,28 @@ pub record IsWrittenRefutation (f : Dqbf) (entries : List Entry) (id : ℕ) (d :
   pub accepted : refutation_fault f d ≡ None
   pub few : length d.items ≤ count is_lemma entries
   pub spelled : length d.items ≤ max_count → IsDqrOf f d
-  pub lines : (ids : List ℕ) × AreReached entries id ids × AreExportedItems f (range_with_len 1 (length f.matrix)) entries ids d.items
+  pub lines : (ids : List ℕ) × AreReached entries id ids × AreExportedItems f
+      (range_with_len 1 (length f.matrix)) entries ids d.items
 
-few_lines : (entries : List Entry) (steps : ℕ) → steps ≤ count is_lemma entries → length entries ≤ few_entries → steps ≤ max_count
+few_lines : (entries : List Entry) (steps : ℕ) → steps ≤ count is_lemma entries → length entries ≤ few_entries →
+    steps ≤ max_count
 few_lines entries steps few small = let all = count_few is_lemma entries in omega (arith, few, small, all)
 
 pub shown_false : RefutationsAreAccepted → (f : Dqbf) (log : ProofLog) (id : ℕ) (bare : Bool) (d : Dqr)
-    → IsLawful f → IsFalseFormula f → IsFoundFalse f log id → IsWrittenRefutation f log.entries id d → IsShownFalse f f log bare d
+    → IsLawful f → IsFalseFormula f → IsFoundFalse f log id → IsWrittenRefutation f log.entries id d →
+    IsShownFalse f f log bare d
 shown_false accepted f log id bare d lawful is_so found e = record {
   false_formula = is_so;
   unsatisfiable = subst (IsExpansionUnsatisfiable f) (sym e.rows) found.unsatisfiable;
   refutes = e.accepted;
-  exported = λ _. record { id = id; refuted = found.shown; ids = e.lines.0; reached = e.lines.1; items = e.lines.2; rows = e.rows };
+  exported = λ _. record {
+    id = id;
+    refuted = found.shown;
+    ids = e.lines.0;
+    reached = e.lines.1;
+    items = e.lines.2;
+    rows = e.rows;
+  };
   accepted = λ few. accepted f d bare lawful (e.spelled few) e.accepted;
   within = λ _. few_lines log.entries (length d.items) e.few;
 }
@@ -109,18 +129,30 @@ written verdict text = record { status = verdict_status verdict; text = text }
 
 -- an output of a verdict's status with a text
 pub printed_as : (verdict : Verdict) (status : ℕ) (text said : List ℕ) → status ≡ verdict_status verdict → text ≡ said
-    → ◌≡◌ {A = Printed} (record { status = status; text = text }) (record { status = verdict_status verdict; text = said })
-printed_as verdict status text said same is = ap (λ s. record { status = s; text = text }) same ∙ ap (written verdict) is
+    → ◌≡◌ {A = Printed} (record { status = status; text = text })
+    (record { status = verdict_status verdict; text = said })
+printed_as verdict status text said same is = ap (λ s. record { status = s; text = text }) same ∙ ap
+    (written verdict) is
 
 -- where the limit came first
-pub unknown : (f : Dqbf) (log : ProofLog) (bare : Bool) (rounds steps : ℕ) (output : Output) → IsProductiveLog f log.entries → IsUndecided f log.entries
-    → IsStoppedAtLimit f log → rounds_of log.entries ≤ steps_of log.entries → rounds ≡ rounds_of log.entries → steps ≡ steps_of log.entries
-    → output.status ≡ 0 → output.text.items ≡ verdict_text bare f (is_unknown rounds (steps - rounds)) → IsVerdictOutput f log bare output
+pub unknown : (f : Dqbf) (log : ProofLog) (bare : Bool) (rounds steps : ℕ) (output : Output) →
+    IsProductiveLog f log.entries → IsUndecided f log.entries
+    → IsStoppedAtLimit f log → rounds_of log.entries ≤ steps_of log.entries → rounds ≡ rounds_of log.entries →
+    steps ≡ steps_of log.entries
+    → output.status ≡ 0 → output.text.items ≡ verdict_text bare f (is_unknown rounds (steps - rounds)) →
+    IsVerdictOutput f log bare output
 unknown f log bare rounds steps output productive undecided stopped fewer rounds_are steps_are status text = record {
   verdict = is_unknown rounds (steps - rounds);
   is = record {
     productive = productive;
-    shown = record { limit = stopped.reached; next = stopped.next; undecided = undecided; rounds_are = rounds_are; steps_are = omega (arith, fewer, rounds_are, steps_are) };
+    shown = record {
+      limit = stopped.reached;
+      next = stopped.next;
+      undecided = undecided;
+      rounds_are = rounds_are;
+      steps_are = omega (arith, fewer, rounds_are, steps_are);
+    };
   };
-  is_printed = ap (λ s. record { status = s; text = output.text.items }) status ∙ ap (written (is_unknown rounds (steps - rounds))) text;
+  is_printed = ap (λ s. record { status = s; text = output.text.items }) status ∙ ap
+      (written (is_unknown rounds (steps - rounds))) text;
 }

@@ -15,7 +15,7 @@ use Rattle.cert_export.specs.Lines.{is_lemma}
 use Rattle.proof_checker.specs.ProvedCircuit.{IsProvedCircuit}
 use Rattle.refutation_checker.specs.Refutation.{refutation_fault}
 use Rattle.cert_judge.specs.Judgement.{IsJudgement}
-use Rattle.cert_judge.specs.declared.answers.Answer.TheVariants.{ValidTrue, ValidFalse}
+use Rattle.cert_judge.specs.declared.answers.Judgement.TheVariants.{ValidTrue, ValidFalse}
 use Rattle.dq_verdicts.specs.Verdicts.{is_true, is_false, verdict_text}
 use Rattle.dq_verdicts.specs.Shown.{IsWithinLimits, few_entries}
 

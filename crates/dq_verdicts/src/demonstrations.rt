@@ -9,7 +9,7 @@ ghost use Rattle.dq_verdicts.specs.Shown.{IsDemonstrated};
 
 use crate::verdicts::{Decision, search, true_text};
 use cert_judge::laws::one_judgement;
-use cert_judge::{Answer, judge};
+use cert_judge::{Judgement, judge};
 use dq_formula::Formula;
 use dq_lits::Memory;
 use dq_lits::laws::{expansion_lifts, no_formula_is_both};
@@ -64,7 +64,7 @@ fn judged(alloc: Global, log: &Log, id: u64, f: &Formula) -> Result<Demonstratio
         return Err(Memory);
     }
     match judge(alloc, f, text)? {
-        Answer::ValidTrue => Ok(Demonstration::Valid),
+        Judgement::ValidTrue => Ok(Demonstration::Valid),
         _ => Ok(Demonstration::Large),
     }
 }

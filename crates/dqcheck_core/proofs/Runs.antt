@@ -17,8 +17,8 @@ use Rattle.dq_runs.specs.Sinks.{SinkState}
 use Rattle.dq_runs.specs.declared.formulas.NoFormula.{NoFormula}
 use Rattle.dq_runs.specs.declared.formulas.NoFormula.TheVariants.{Unreadable, TooLong, Refused as RefusedFormula}
 use Rattle.dq_runs.specs.declared.outputs.Output.{Output}
-use Rattle.cert_judge.specs.declared.answers.Answer.{Answer}
-use Rattle.cert_judge.specs.declared.answers.Answer.TheVariants.{Refused, UndeclaredRead, BadRow, Unproved, UnderivedStep, NoEmptyClause, ValidTrue, ValidFalse}
+use Rattle.cert_judge.specs.declared.answers.Judgement.{Judgement}
+use Rattle.cert_judge.specs.declared.answers.Judgement.TheVariants.{Refused, UndeclaredRead, BadRow, Unproved, UnderivedStep, NoEmptyClause, ValidTrue, ValidFalse}
 use Rattle.dqcheck_words.specs.Command.{Command}
 use Rattle.dqcheck_core.specs.Outputs.{IsReported, IsDueBehind, IsReportedBehind}
 use Rattle.dqcheck_core.specs.Report.{Report, no_formula, unreadable_certificate, long_certificate, judged, printed_report, answer_status}
@@ -30,7 +30,8 @@ rose_earlier : (before mid now : ℕ) → before ≤ mid → Rose mid now → Ro
 rose_earlier before mid now later rose = omega arith
 
 -- a text that was read is the file's
-pub told_text : (holding : Holding) (text : List ℕ) → ((bytes : List ℕ) → holding ≡ Holds bytes → text ≡ bytes) → (holding ≡ Absent → ⊥) → IsTextOf holding text
+pub told_text : (holding : Holding) (text : List ℕ) → ((bytes : List ℕ) → holding ≡ Holds bytes → text ≡ bytes) →
+    (holding ≡ Absent → ⊥) → IsTextOf holding text
 told_text Untold text is there = tt
 told_text Absent text is there = there refl
 told_text (Holds bytes) text is there = is bytes refl
@@ -38,7 +39,8 @@ told_text (Holds bytes) text is there = is bytes refl
 -- a text that wasn't told to be too long
 pub is_short : (limit given count : ℕ) → given ≡ count → (limit < given → ⊥) → count ≤ limit
 is_short limit given count same not_long =
-    let h : count < limit + 1 = lt_of_not-le {n = limit + 1} {m = count} (λ more. not_long (omega (arith, more, same))) in omega (arith, h)
+    let h : count < limit + 1 = lt_of_not-le {n = limit + 1} {m = count}
+    (λ more. not_long (omega (arith, more, same))) in omega (arith, h)
 
 -- the formula's file was picked, between these states
 pub record Picks (before now : FilesState) : Type 0 where
@@ -48,7 +50,8 @@ pub record Picks (before now : FilesState) : Type 0 where
   pub later : before.faults ≤ now.faults
   pub unfaulted : now.faults ≡ before.faults
 
-unreadable_behind : (before mid now : FilesState) (name : List ℕ) → Picks before mid → IsUnreadable mid now name → IsUnreadable before now name
+unreadable_behind : (before mid now : FilesState) (name : List ℕ) → Picks before mid → IsUnreadable mid now name →
+    IsUnreadable before now name
 unreadable_behind before mid now name picks u = record {
   counted = rose_earlier before.faults mid.faults now.faults picks.later u.counted;
   absent = λ told. subst (λ held. held name ≡ Absent) picks.held (u.absent (picks.reliable ∙ told));
@@ -57,16 +60,45 @@ unreadable_behind before mid now name picks u = record {
 twice : (before mid now : FilesState) → Picks before mid → PickedOnce mid now → PickedTwice before now
 twice before mid now picks once = once ∙ ap next_count picks.picked
 
-due_behind : (before mid now : FilesState) (c : Command) (f : Dqbf) (p : Printed) → Picks before mid → IsFormulaOf (before.held c.formula) f
+due_behind : (before mid now : FilesState) (c : Command) (f : Dqbf) (p : Printed) → Picks before mid →
+    IsFormulaOf (before.held c.formula) f
     → PickedOnce mid now → IsDueBehind mid now c.certificate f p → IsDue before now (Some c) p
-due_behind before mid now c f p picks one once (inl (unreadable, same)) =
-    (unreadable_certificate, (f, one, unreadable_behind before mid now c.certificate picks unreadable, twice before mid now picks once), same)
-due_behind before mid now c f p picks one once (inr (inl (long, same))) =
-    (long_certificate, (f, one, record { long = subst (λ held. IsLong max_certificate (held c.certificate)) picks.held long.long; given = long.given }, twice before mid now picks once), same)
-due_behind before mid now c f p picks one once (inr (inr (answer, told, same))) =
-    (judged f answer, (one, subst (λ held. IsAnswerTo f (held c.certificate) answer) picks.held told, twice before mid now picks once), same)
+due_behind before mid now c f p picks one once (inl (unreadable, same)) = (
+  unreadable_certificate,
+  (
+    f,
+    one,
+    unreadable_behind before mid now c.certificate picks unreadable,
+    twice before mid now picks once,
+  ),
+  same,
+)
+due_behind before mid now c f p picks one once (inr (inl (long, same))) = (
+  long_certificate,
+  (
+    f,
+    one,
+    record {
+      long = subst (λ held. IsLong max_certificate (held c.certificate)) picks.held
+          long.long;
+      given = long.given;
+    },
+    twice before mid now picks once,
+  ),
+  same,
+)
+due_behind before mid now c f p picks one once (inr (inr (answer, told, same))) = (
+  judged f answer,
+  (
+    one,
+    subst (λ held. IsAnswerTo f (held c.certificate) answer) picks.held told,
+    twice before mid now picks once,
+  ),
+  same,
+)
 
-pub reported_behind : (before mid now : FilesState) (c : Command) (f : Dqbf) (r : Result Output Memory) → Picks before mid → IsFormulaOf (before.held c.formula) f
+pub reported_behind : (before mid now : FilesState) (c : Command) (f : Dqbf) (r : Result Output Memory) →
+    Picks before mid → IsFormulaOf (before.held c.formula) f
     → IfOk r (IsReportedBehind mid now c.certificate f) → IfOk r (IsReported before now (Some c))
 reported_behind before mid now c f (Ok output) picks one o = record {
   due = due_behind before mid now c f (printed output) picks one o.picked o.due;
@@ -81,7 +113,8 @@ status_of : (output : Output) (p : Printed) → printed output ≡ p → output.
 status_of output p same = ap (λ (q : Printed). q.status) same
 
 -- the certificate can't be read
-pub unreadable_reported : (before now : FilesState) (name : List ℕ) (f : Dqbf) (r : Result Output Memory) → IsUnreadable before now name → PickedOnce before now
+pub unreadable_reported : (before now : FilesState) (name : List ℕ) (f : Dqbf) (r : Result Output Memory) →
+    IsUnreadable before now name → PickedOnce before now
     → IfOk r (λ output. printed output ≡ unreadable_line) → IfOk r (IsReportedBehind before now name f)
 unreadable_reported before now name f (Ok output) unreadable once same = record {
   due = inl (unreadable, same);
@@ -91,8 +124,10 @@ unreadable_reported before now name f (Ok output) unreadable once same = record 
 }
 unreadable_reported before now name f (Err _) unreadable once same = tt
 
-pub long_reported : (before now : FilesState) (name : List ℕ) (f : Dqbf) (r : Result Output Memory) → IsTooLong max_certificate before now name → PickedOnce before now
-    → now.faults ≡ before.faults → IfOk r (λ output. printed output ≡ long_line (codes "certificate")) → IfOk r (IsReportedBehind before now name f)
+pub long_reported : (before now : FilesState) (name : List ℕ) (f : Dqbf) (r : Result Output Memory) →
+    IsTooLong max_certificate before now name → PickedOnce before now
+    → now.faults ≡ before.faults → IfOk r (λ output. printed output ≡ long_line (codes "certificate")) →
+    IfOk r (IsReportedBehind before now name f)
 long_reported before now name f (Ok output) long once unfaulted same = record {
   due = inr (inl (long, same));
   picked = once;
@@ -102,7 +137,7 @@ long_reported before now name f (Ok output) long once unfaulted same = record {
 long_reported before now name f (Err _) long once unfaulted same = tt
 
 -- an answer's status is 0, or over those that all commands share
-status_apart : (answer : Answer) → (answer_status answer ≡ 0) ⊎ (6 < answer_status answer)
+status_apart : (answer : Judgement) → (answer_status answer ≡ 0) ⊎ (6 < answer_status answer)
 status_apart (Refused l name) = inr (omega arith)
 status_apart (UndeclaredRead y x) = inr (omega arith)
 status_apart (BadRow k) = inr (omega arith)
@@ -112,12 +147,18 @@ status_apart NoEmptyClause = inr (omega arith)
 status_apart ValidTrue = inl refl
 status_apart ValidFalse = inl refl
 
-not_long : (answer : Answer) → answer_status answer ≡ 6 → ⊥
-not_long answer same = elim (status_apart answer) [ inl zero ↦ omega (arith, same, zero) | inr high ↦ omega (arith, same, high) ]
+not_long : (answer : Judgement) → answer_status answer ≡ 6 → ⊥
+not_long answer same = elim (status_apart answer) [
+  | inl zero ↦ omega (arith, same, zero)
+  | inr high ↦
+      omega (arith, same, high)
+]
 
 -- the certificate was judged
-pub judged_reported : (before now : FilesState) (name : List ℕ) (f : Dqbf) (answer : Answer) (r : Result Output Memory) → IsAnswerTo f (before.held name) answer
-    → PickedOnce before now → now.faults ≡ before.faults → IfOk r (λ output. printed output ≡ printed_report (judged f answer)) → IfOk r (IsReportedBehind before now name f)
+pub judged_reported : (before now : FilesState) (name : List ℕ) (f : Dqbf) (answer : Judgement)
+    (r : Result Output Memory) → IsAnswerTo f (before.held name) answer
+    → PickedOnce before now → now.faults ≡ before.faults → IfOk r
+    (λ output. printed output ≡ printed_report (judged f answer)) → IfOk r (IsReportedBehind before now name f)
 judged_reported before now name f answer (Ok output) told once unfaulted same = record {
   due = inr (inr (answer, told, same));
   picked = once;
@@ -127,11 +168,14 @@ judged_reported before now name f answer (Ok output) told once unfaulted same = 
 judged_reported before now name f answer (Err _) told once unfaulted same = tt
 
 -- the formula's file gives none
-pub said_reported : (before now : FilesState) (c : Command) (said : NoFormula) (r : Result Output Memory) → IsNoFormula before now c.formula said → PickedOnce before now
-    → (said ≢ Unreadable → now.faults ≡ before.faults) → IfOk r (λ output. printed output ≡ printed_report (no_formula said)) → IfOk r (IsReported before now (Some c))
+pub said_reported : (before now : FilesState) (c : Command) (said : NoFormula) (r : Result Output Memory) →
+    IsNoFormula before now c.formula said → PickedOnce before now
+    → (said ≢ Unreadable → now.faults ≡ before.faults) → IfOk r
+    (λ output. printed output ≡ printed_report (no_formula said)) → IfOk r (IsReported before now (Some c))
 said_reported before now c Unreadable (Ok output) is once unfaulted same = record {
   due = (no_formula Unreadable, (is, once), same);
-  long = λ six. let three = status_of output (printed_report (no_formula Unreadable)) same in absurd (omega (arith, six, three));
+  long = λ six. let three = status_of output (printed_report (no_formula Unreadable)) same in
+      absurd (omega (arith, six, three));
   unfaulted = λ other. absurd (other (status_of output (printed_report (no_formula Unreadable)) same));
 }
 said_reported before now c TooLong (Ok output) is once unfaulted same = record {
@@ -141,16 +185,20 @@ said_reported before now c TooLong (Ok output) is once unfaulted same = record {
 }
 said_reported before now c (RefusedFormula line name) (Ok output) is once unfaulted same = record {
   due = (no_formula (RefusedFormula line name), (is, once), same);
-  long = λ six. let two = status_of output (printed_report (no_formula (RefusedFormula line name))) same in absurd (omega (arith, six, two));
+  long = λ six. let two = status_of output (printed_report (no_formula (RefusedFormula line name))) same in
+      absurd (omega (arith, six, two));
   unfaulted = λ _. unfaulted (λ other. cc);
 }
 said_reported before now c said (Err _) is once unfaulted same = tt
 
 -- ---- the run
 
-pub ends : (before now : FilesState) (asked : Option Command) (sink sink_now : SinkState) (r : Result Output Memory) (status : ℕ)
-    → IfOk r (IsReported before now asked) → IsEnd r sink sink_now status → Ends (IsDue before now asked) sink sink_now status
-ends before now asked sink sink_now (Ok output) status o end = inr (record { printed = printed output; is_due = o.due; delivered = end })
+pub ends : (before now : FilesState) (asked : Option Command) (sink sink_now : SinkState) (r : Result Output Memory)
+    (status : ℕ)
+    → IfOk r (IsReported before now asked) → IsEnd r sink sink_now status →
+    Ends (IsDue before now asked) sink sink_now status
+ends before now asked sink sink_now (Ok output) status o end =
+    inr (record { printed = printed output; is_due = o.due; delivered = end })
 ends before now asked sink sink_now (Err _) status o end = inl end
 
 -- which statuses a report has
@@ -161,7 +209,8 @@ record Reasons (before now : FilesState) (asked : Option Command) (status : ℕ)
   pub made : status ≢ 5
 
 -- that no cause is due for
-apart_reasons : (before now : FilesState) (c : Command) (status : ℕ) → (status ≡ 0) ⊎ (6 < status) → Reasons before now (Some c) status
+apart_reasons : (before now : FilesState) (c : Command) (status : ℕ) → (status ≡ 0) ⊎ (6 < status) →
+    Reasons before now (Some c) status
 apart_reasons before now c status (inl zero) = record {
   words = λ h. absurd (omega (arith, h, zero));
   source = λ h. absurd (omega (arith, h, zero));
@@ -175,23 +224,65 @@ apart_reasons before now c status (inr high) = record {
   made = λ h. omega (arith, h, high);
 }
 
-report_reasons : (before now : FilesState) (c : Command) (report : Report) → IsDueFor before now c report → Reasons before now (Some c) ((printed_report report).status)
-report_reasons before now c (no_formula Unreadable) due = record { words = λ h. absurd (omega (arith, h)); source = λ _. due.0.counted; delivered = λ h. omega (arith, h); made = λ h. omega (arith, h) }
-report_reasons before now c (no_formula TooLong) due = record { words = λ h. absurd (omega (arith, h)); source = λ h. absurd (omega (arith, h)); delivered = λ h. omega (arith, h); made = λ h. omega (arith, h) }
-report_reasons before now c (no_formula (RefusedFormula l name)) due = record { words = λ h. absurd (omega (arith, h)); source = λ h. absurd (omega (arith, h)); delivered = λ h. omega (arith, h); made = λ h. omega (arith, h) }
-report_reasons before now c unreadable_certificate (f, one, unreadable, picked) = record { words = λ h. absurd (omega (arith, h)); source = λ _. unreadable.counted; delivered = λ h. omega (arith, h); made = λ h. omega (arith, h) }
-report_reasons before now c long_certificate due = record { words = λ h. absurd (omega (arith, h)); source = λ h. absurd (omega (arith, h)); delivered = λ h. omega (arith, h); made = λ h. omega (arith, h) }
-report_reasons before now c (judged f answer) due = apart_reasons before now c (answer_status answer) (status_apart answer)
+report_reasons : (before now : FilesState) (c : Command) (report : Report) → IsDueFor before now c report →
+    Reasons before now (Some c) ((printed_report report).status)
+report_reasons before now c (no_formula Unreadable) due = record {
+  words = λ h. absurd (omega (arith, h));
+  source = λ _. due.0.counted;
+  delivered = λ h. omega (arith, h);
+  made =
+      λ h. omega (arith, h);
+}
+report_reasons before now c (no_formula TooLong) due = record {
+  words = λ h. absurd (omega (arith, h));
+  source = λ h. absurd (omega (arith, h));
+  delivered =
+      λ h. omega (arith, h);
+  made = λ h. omega (arith, h);
+}
+report_reasons before now c (no_formula (RefusedFormula l name)) due =
+    record {
+      words = λ h. absurd (omega (arith, h));
+      source = λ h. absurd (omega (arith, h));
+      delivered =
+          λ h. omega (arith, h);
+      made = λ h. omega (arith, h);
+    }
+report_reasons before now c unreadable_certificate (f, one, unreadable, picked) =
+    record {
+      words = λ h. absurd (omega (arith, h));
+      source = λ _. unreadable.counted;
+      delivered =
+          λ h. omega (arith, h);
+      made = λ h. omega (arith, h);
+    }
+report_reasons before now c long_certificate due = record {
+  words = λ h. absurd (omega (arith, h));
+  source =
+      λ h. absurd (omega (arith, h));
+  delivered = λ h. omega (arith, h);
+  made = λ h. omega (arith, h);
+}
+report_reasons before now c (judged f answer) due = apart_reasons before now c (answer_status answer)
+    (status_apart answer)
 
-reasons : (before now : FilesState) (asked : Option Command) (p : Printed) → IsDue before now asked p → Reasons before now asked p.status
+reasons : (before now : FilesState) (asked : Option Command) (p : Printed) → IsDue before now asked p →
+    Reasons before now asked p.status
 reasons before now None p (same, picks) =
     let one : p.status ≡ 1 = ap (λ (q : Printed). q.status) same in
-    record { words = λ _. refl; source = λ h. absurd (omega (arith, h, one)); delivered = λ h. omega (arith, h, one); made = λ h. omega (arith, h, one) }
+    record {
+      words = λ _. refl;
+      source = λ h. absurd (omega (arith, h, one));
+      delivered = λ h. omega (arith, h, one);
+      made = λ h. omega (arith, h, one);
+    }
 reasons before now (Some c) p (report, due, same) =
     subst (λ (q : Printed). Reasons before now (Some c) q.status) (sym same) (report_reasons before now c report due)
 
-pub causes : (before now : FilesState) (asked : Option Command) (sink sink_now : SinkState) (r : Result Output Memory) (status : ℕ) → now.held ≡ before.held
-    → IfOk r (IsReported before now asked) → IsEnd r sink sink_now status → HasCauses asked before now sink sink_now status
+pub causes : (before now : FilesState) (asked : Option Command) (sink sink_now : SinkState) (r : Result Output Memory)
+    (status : ℕ) → now.held ≡ before.held
+    → IfOk r (IsReported before now asked) → IsEnd r sink sink_now status →
+    HasCauses asked before now sink sink_now status
 causes before now asked sink sink_now (Ok output) status held o (inl w) =
     let why = reasons before now asked (printed output) o.due in
     record {
@@ -227,7 +318,8 @@ causes before now asked sink sink_now (Err _) status held o unwritten =
     }
 
 -- what was read where the formula's file gives none
-pub said_read : (before now : FilesState) (name : List ℕ) (r : Result Dqbf FormulaStop) (stop : FormulaStop) (said : NoFormula) → r ≡ Err stop → stop ≡ Said said
+pub said_read : (before now : FilesState) (name : List ℕ) (r : Result Dqbf FormulaStop) (stop : FormulaStop)
+    (said : NoFormula) → r ≡ Err stop → stop ≡ Said said
     → IsFormulaRead before now name r → IsNoFormula before now name said × PickedOnce before now
 said_read before now name r stop said is kind read = subst (IsFormulaRead before now name) (is ∙ ap Err kind) read
 
@@ -237,6 +329,8 @@ unreadable_said TooLong other is = is
 unreadable_said (RefusedFormula line name) other is = is
 
 -- a file that is said to be other than unreadable counted no fault
-pub not_unreadable : (r : Result Dqbf FormulaStop) (stop : FormulaStop) (said : NoFormula) → r ≡ Err stop → stop ≡ Said said → said ≢ Unreadable
+pub not_unreadable : (r : Result Dqbf FormulaStop) (stop : FormulaStop) (said : NoFormula) → r ≡ Err stop →
+    stop ≡ Said said → said ≢ Unreadable
     → IsUnreadableStop r → ⊥
-not_unreadable r stop said is kind other unreadable = unreadable_said said other (subst IsUnreadableStop (is ∙ ap Err kind) unreadable)
+not_unreadable r stop said is kind other unreadable = unreadable_said said other
+    (subst IsUnreadableStop (is ∙ ap Err kind) unreadable)

@@ -6,7 +6,7 @@ use Rattle.dq_runs.specs.FileTexts.{IsUnreadable, IsTooLong, PickedOnce}
 use Rattle.dq_runs.specs.FormulaFiles.{max_formula}
 use Rattle.dq_runs.specs.Printed.{Printed, printed, unreadable_line, long_line}
 use Rattle.dq_runs.specs.declared.outputs.Output.{Output}
-use Rattle.cert_judge.specs.declared.answers.Answer.{Answer}
+use Rattle.cert_judge.specs.declared.answers.Judgement.{Judgement}
 use Rattle.dqcheck_words.specs.Command.{Command}
 use Rattle.dqcheck_core.specs.Report.{judged, printed_report}
 use Rattle.dqcheck_core.specs.Running.{max_certificate, IsAnswerTo, IsDue}
@@ -23,7 +23,7 @@ abbrev pub IsDueBehind : FilesState → FilesState → List ℕ → Dqbf → Pri
 IsDueBehind before now name f printed =
     (IsUnreadable before now name × (printed ≡ unreadable_line))
     ⊎ ((IsTooLong max_certificate before now name × (printed ≡ long_line (codes "certificate")))
-    ⊎ ((answer : Answer) × IsAnswerTo f (before.held name) answer
+    ⊎ ((answer : Judgement) × IsAnswerTo f (before.held name) answer
     × (printed ≡ printed_report (judged f answer))))
 
 pub record IsReportedBehind (before now : FilesState) (name : List ℕ) (f : Dqbf)

@@ -5,8 +5,8 @@ use Rattle.dq_lits.specs.Formula.{Dqbf}
 use Rattle.dq_runs.specs.FormulaFiles.{formula_line}
 use Rattle.dq_runs.specs.Printed.{Printed, line, usage_line, unreadable_line, long_line}
 use Rattle.dq_runs.specs.declared.formulas.NoFormula.{NoFormula}
-use Rattle.cert_judge.specs.declared.answers.Answer.{Answer}
-use Rattle.cert_judge.specs.declared.answers.Answer.TheVariants.{Refused, UndeclaredRead, BadRow, Unproved, UnderivedStep, NoEmptyClause, ValidTrue, ValidFalse}
+use Rattle.cert_judge.specs.declared.answers.Judgement.{Judgement}
+use Rattle.cert_judge.specs.declared.answers.Judgement.TheVariants.{Refused, UndeclaredRead, BadRow, Unproved, UnderivedStep, NoEmptyClause, ValidTrue, ValidFalse}
 use Rattle.dqcheck_core.specs.CertificateNames.{certificate_fault_name}
 
 pub data Report : Type 0 where
@@ -16,7 +16,7 @@ pub data Report : Type 0 where
   unreadable_certificate : Report
   long_certificate : Report
   -- the certificate was judged
-  judged : Dqbf → Answer → Report
+  judged : Dqbf → Judgement → Report
 
 -- the universals, each behind a space and with the sign that it has under the row of a number,
 -- whose lowest bit is that of the first universal
@@ -25,7 +25,7 @@ row_text k [] = []
 row_text k (x ∷ xs) =
     (if k % 2 == 1 then codes " " else codes " -") ++ (decimal x ++ row_text (k / 2) xs)
 
-abbrev pub answer_text : Dqbf → Answer → List ℕ
+abbrev pub answer_text : Dqbf → Judgement → List ℕ
 answer_text f (Refused number name) =
     codes "certificate" ++ (codes " " ++ (decimal number
     ++ (codes " " ++ certificate_fault_name name)))
@@ -38,7 +38,7 @@ answer_text f NoEmptyClause = codes "INVALID end"
 answer_text f ValidTrue = codes "VALID TRUE"
 answer_text f ValidFalse = codes "VALID FALSE"
 
-abbrev pub answer_status : Answer → ℕ
+abbrev pub answer_status : Judgement → ℕ
 answer_status (Refused _ _) = 7
 answer_status (UndeclaredRead _ _) = 8
 answer_status (BadRow _) = 8

@@ -7,7 +7,7 @@ use Rattle.dq_runs.specs.FileTexts.{IsShortText, IsUnreadable, IsTooLong, Picked
 use Rattle.dq_runs.specs.FormulaFiles.{IsFormulaOf, IsNoFormula}
 use Rattle.dq_runs.specs.Printed.{Printed}
 use Rattle.cert_judge.specs.Judgement.{IsJudgement}
-use Rattle.cert_judge.specs.declared.answers.Answer.{Answer}
+use Rattle.cert_judge.specs.declared.answers.Judgement.{Judgement}
 use Rattle.dqcheck_words.specs.Command.{Command}
 use Rattle.dqcheck_core.specs.Report.{Report, no_formula, unreadable_certificate, long_certificate, judged, usage, printed_report}
 
@@ -16,7 +16,7 @@ abbrev pub max_certificate : ℕ
 max_certificate = 2 ^ 40
 
 -- this is to be said of the file's text as a certificate for the formula
-pub record IsAnswerTo (f : Dqbf) (holding : Holding) (answer : Answer) : Type 0 where
+pub record IsAnswerTo (f : Dqbf) (holding : Holding) (answer : Judgement) : Type 0 where
   pub text : List ℕ
   pub read : IsShortText max_certificate holding text
   pub judged : IsJudgement f text answer

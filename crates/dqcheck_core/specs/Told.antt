@@ -11,8 +11,8 @@ use Rattle.dq_runs.specs.FormulaFiles.{max_formula}
 use Rattle.dq_runs.specs.Printed.{line}
 use Rattle.dq_runs.specs.Sinks.{SinkState}
 use Rattle.cert_judge.specs.Judgement.{IsJudgement, HoldsSkolemCircuit}
-use Rattle.cert_judge.specs.declared.answers.Answer.{Answer}
-use Rattle.cert_judge.specs.declared.answers.Answer.TheVariants.{ValidTrue, ValidFalse}
+use Rattle.cert_judge.specs.declared.answers.Judgement.{Judgement}
+use Rattle.cert_judge.specs.declared.answers.Judgement.TheVariants.{ValidTrue, ValidFalse}
 use Rattle.dqcheck_words.specs.Command.{Command}
 use Rattle.dqcheck_core.specs.Report.{answer_text, answer_status}
 use Rattle.dqcheck_core.specs.Running.{max_certificate}
@@ -49,7 +49,7 @@ pub record IsAcceptance (formula certificate : List ℕ) (before now : Option (L
 -- what is said of a formula and a certificate, and written with that status
 pub record IsAnswered (f : Dqbf) (certificate : List ℕ) (before now : Option (List ℕ))
     (status : ℕ) : Type 0 where
-  pub answer : Answer
+  pub answer : Judgement
   pub is : IsJudgement f certificate answer
   pub ends_with : status ≡ answer_status answer
   pub written : now ≡ append_known before (line (answer_text f answer))

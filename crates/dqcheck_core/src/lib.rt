@@ -7,7 +7,7 @@
 pub use run::dqcheck_run;
 pub use statuses::Status;
 
-mod names;
+mod fault_names;
 mod reports;
 mod run;
 mod statuses;

@@ -5,9 +5,9 @@ ghost use Rattle.dq_runs.specs.Printed.{line, printed};
 ghost use Rattle.dqcheck_core.specs.Report.{judged, row_text, answer_text, answer_status, printed_report};
 ghost use Rattle.dqcheck_core.specs.Statuses.{code};
 
-use crate::names::certificate_fault_name;
+use crate::fault_names::certificate_fault_name;
 use crate::statuses::Status;
-use cert_judge::Answer;
+use cert_judge::Judgement;
 use dq_formula::Formula;
 use dq_lits::Memory;
 use dq_runs::Output;
@@ -15,7 +15,7 @@ use dq_text::push_natural;
 use std::alloc::Global;
 
 /// The line on a certificate that was judged.
-pub fn judged_output(alloc: Global, f: &Formula, answer: Answer) -> Result<Output, Memory>
+pub fn judged_output(alloc: Global, f: &Formula, answer: Judgement) -> Result<Output, Memory>
     ensures { IfOk result (λ output. printed output ≡ printed_report (judged f.now answer)) }
 {
     let text = answer_line(alloc, f, answer)?;
@@ -23,39 +23,39 @@ pub fn judged_output(alloc: Global, f: &Formula, answer: Answer) -> Result<Outpu
     Ok(Output { status, text })
 }
 
-fn answer_status(answer: Answer) -> Status
+fn answer_status(answer: Judgement) -> Status
     ensures { code result ≡ answer_status answer }
 {
     match answer {
-        Answer::Refused { .. } => Status::RefusedCertificate,
-        Answer::UndeclaredRead { .. } => Status::WrongCertificate,
-        Answer::BadRow { .. } => Status::WrongCertificate,
-        Answer::Unproved { .. } => Status::Unproved,
-        Answer::UnderivedStep { .. } => Status::WrongCertificate,
-        Answer::NoEmptyClause => Status::WrongCertificate,
-        Answer::ValidTrue => Status::Accepted,
-        Answer::ValidFalse => Status::Accepted,
+        Judgement::Refused { .. } => Status::RefusedCertificate,
+        Judgement::UndeclaredRead { .. } => Status::WrongCertificate,
+        Judgement::BadRow { .. } => Status::WrongCertificate,
+        Judgement::Unproved { .. } => Status::Unproved,
+        Judgement::UnderivedStep { .. } => Status::WrongCertificate,
+        Judgement::NoEmptyClause => Status::WrongCertificate,
+        Judgement::ValidTrue => Status::Accepted,
+        Judgement::ValidFalse => Status::Accepted,
     }
 }
 
-fn answer_line(alloc: Global, f: &Formula, answer: Answer) -> Result<Vec<u8>, Memory>
+fn answer_line(alloc: Global, f: &Formula, answer: Judgement) -> Result<Vec<u8>, Memory>
     ensures { IfOk result (λ bytes. bytes.items ≡ line (answer_text f.now answer)) }
 {
     let text = match answer {
-        Answer::Refused { line, name } => {
+        Judgement::Refused { line, name } => {
             let name = certificate_fault_name(name);
             format!(in alloc; "certificate {line} {name}\n")?
         }
-        Answer::BadRow { number } => return row_line(alloc, f, number),
-        Answer::UndeclaredRead {
+        Judgement::BadRow { number } => return row_line(alloc, f, number),
+        Judgement::UndeclaredRead {
             existential,
             universal,
         } => format!(in alloc; "INVALID reads {existential} {universal}\n")?,
-        Answer::Unproved { universals } => format!(in alloc; "UNPROVED {universals}\n")?,
-        Answer::UnderivedStep { id } => format!(in alloc; "INVALID step {id}\n")?,
-        Answer::NoEmptyClause => format!(in alloc; "INVALID end\n")?,
-        Answer::ValidTrue => format!(in alloc; "VALID TRUE\n")?,
-        Answer::ValidFalse => format!(in alloc; "VALID FALSE\n")?,
+        Judgement::Unproved { universals } => format!(in alloc; "UNPROVED {universals}\n")?,
+        Judgement::UnderivedStep { id } => format!(in alloc; "INVALID step {id}\n")?,
+        Judgement::NoEmptyClause => format!(in alloc; "INVALID end\n")?,
+        Judgement::ValidTrue => format!(in alloc; "VALID TRUE\n")?,
+        Judgement::ValidFalse => format!(in alloc; "VALID FALSE\n")?,
     };
     Ok(text.into_bytes())
 }

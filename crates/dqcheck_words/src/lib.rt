@@ -5,8 +5,8 @@
 //! in `laws` say it in plain words.
 #![tactic(auto)]
 
-pub use names::{FileNames, file_names};
+pub use files::{FileNames, file_names};
 
 pub mod examples;
+mod files;
 pub mod laws;
-mod names;

@@ -11,7 +11,7 @@ use aig_graph::Graph;
 use anyhow::{Result, anyhow};
 use cert_export::laws::productive_answers_can_be_exported;
 use cert_export::{clause_numbers, export_false};
-use cert_judge::{Answer, judge};
+use cert_judge::{Judgement, judge};
 use cert_text::write_dqr;
 use dq_formula::Formula;
 use hint_log::Log;
@@ -92,7 +92,7 @@ fn judgement(alloc: Global, f: &Formula, text: Vec<u8>) -> Result<&'static str>
         return Err(anyhow!("a long certificate"));
     }
     match judge(alloc, f, text)? {
-        Answer::ValidFalse => Ok(": VALID FALSE"),
+        Judgement::ValidFalse => Ok(": VALID FALSE"),
         _ => Ok(": not accepted"),
     }
 }

@@ -11,7 +11,8 @@ export_false-requires-clause-refuted c =
     let f = c.args.f.now in
     let entries = c.args.log.now.entries in
     subst (λ live. CanExportFalse f live entries c.args.id) (sym (c.deref.ensures.value ∙ c.in_ok-numbers.ensures))
-    ((c.productive_answers_can_be_exported.ensures f entries c.args.id c.every_log_is_lawful.ensures c.requires.productive).1 c.requires.refuted.shown)
+    ((c.productive_answers_can_be_exported.ensures f entries c.args.id c.every_log_is_lawful.ensures
+    c.requires.productive).1 c.requires.refuted.shown)
 
 pub returns : goal.returns
 returns c =
@@ -20,11 +21,27 @@ returns c =
       verdict = is_false c.in_ok-refutation.refutation;
       is = record {
         productive = c.requires.productive;
-        shown = shown_false c.refutations_are_accepted.ensures c.args.f.now c.args.log.now c.args.id c.args.bare c.in_ok-refutation.refutation c.every_formula_is_lawful.ensures
-            (c.refutation_shows_false.ensures c.args.f.now c.in_ok-refutation.refutation c.requires.formula exported.accepted) c.requires.refuted
-            (record { rows = exported.rows; accepted = exported.accepted; few = exported.few; spelled = exported.spelled; lines = (exported.lines.0, exported.lines.1, subst (λ live. AreExportedItems c.args.f.now live c.args.log.now.entries exported.lines.0 c.in_ok-refutation.refutation.items) (c.deref.ensures.value ∙ c.in_ok-numbers.ensures) exported.lines.2) });
+        shown = shown_false c.refutations_are_accepted.ensures c.args.f.now c.args.log.now c.args.id c.args.bare
+            c.in_ok-refutation.refutation c.every_formula_is_lawful.ensures
+            (c.refutation_shows_false.ensures c.args.f.now c.in_ok-refutation.refutation c.requires.formula
+            exported.accepted) c.requires.refuted
+            (record {
+              rows = exported.rows;
+              accepted = exported.accepted;
+              few = exported.few;
+              spelled =
+                  exported.spelled;
+              lines = (
+                exported.lines.0,
+                exported.lines.1,
+                subst (λ live. AreExportedItems c.args.f.now live c.args.log.now.entries exported.lines.0
+                    c.in_ok-refutation.refutation.items)
+                    (c.deref.ensures.value ∙ c.in_ok-numbers.ensures) exported.lines.2,
+              );
+            });
       };
       is_printed = printed_as (is_false c.in_ok-refutation.refutation) c.code.result c.in_ok-text.text.items
           (verdict_text c.args.bare c.args.f.now (is_false c.in_ok-refutation.refutation)) c.code.ensures
-          (c.in_ok-text.ensures ∙ ap (λ evidence. cond c.args.bare [] (line (codes "s FALSE")) ++ evidence) c.in_ok-evidence.ensures.canonical);
+          (c.in_ok-text.ensures ∙ ap (λ evidence. cond c.args.bare [] (line (codes "s FALSE")) ++ evidence)
+          c.in_ok-evidence.ensures.canonical);
     }

@@ -8,7 +8,8 @@ use Rattle.dq_verdicts.proofs.verdicts.search_by.Goals as goal
 pub returns-in-True-clause-shown : goal.returns-in-True-clause-shown
 returns-in-True-clause-shown g c id same =
     subst (IsDecidedTrue c.args.f.now c.decide.new.log.entries) (same_shown c.in-True.id id same)
-    (decided c.shown_outputs_decide.ensures c.args.f.now c.decide.new.graph c.in-True.field-0 c.decide.new.log c.in-True.id
+    (decided c.shown_outputs_decide.ensures c.args.f.now c.decide.new.graph c.in-True.field-0 c.decide.new.log
+    c.in-True.id
     (c.in_ok-id.ensures.shown_true c.in-True.field-0 c.in-True.id (ap Ok c.in-True.is)))
 
 pub returns-clause-refuted : goal.returns-clause-refuted

@@ -5,7 +5,8 @@ use Rattle.dq_verdicts.proofs.verdicts.true_text.Goals as goal
 
 pub export_true-requires-clause-decided : goal.export_true-requires-clause-decided
 export_true-requires-clause-decided c =
-    (c.productive_answers_can_be_exported.ensures c.args.f.now c.args.log.now.entries c.args.id c.every_log_is_lawful.ensures c.requires.productive).0 c.requires.decided
+    (c.productive_answers_can_be_exported.ensures c.args.f.now c.args.log.now.entries c.args.id
+    c.every_log_is_lawful.ensures c.requires.productive).0 c.requires.decided
 
 pub returns : goal.returns
 returns c =
@@ -13,7 +14,8 @@ returns c =
     record {
       file = c.in_ok-file.file;
       proof = c.in_ok-file.proof;
-      shown = shown_true c.proved_circuits_are_accepted.ensures c.small_logs_are_within_limits.ensures c.args.f.now c.args.log.now c.args.id c.args.bare
+      shown = shown_true c.proved_circuits_are_accepted.ensures c.small_logs_are_within_limits.ensures c.args.f.now
+          c.args.log.now c.args.id c.args.bare
           c.in_ok-file.file c.in_ok-file.proof c.every_formula_is_lawful.ensures
           c.requires.is_true c.requires.decided
           (record {
@@ -25,5 +27,6 @@ returns c =
             allowed = exported.allowed;
             exported = exported.exported;
           });
-      is = c.in_ok-text.ensures ∙ ap (λ evidence. cond c.args.bare [] (line (codes "s TRUE")) ++ evidence) c.in_ok-evidence.ensures;
+      is = c.in_ok-text.ensures ∙ ap (λ evidence. cond c.args.bare [] (line (codes "s TRUE")) ++ evidence)
+          c.in_ok-evidence.ensures;
     }

@@ -8,8 +8,10 @@ use Rattle.dqcheck_core.proofs.run.dqcheck_run.Goals as goal
 
 pub returns-clause-ends : goal.returns-clause-ends
 returns-clause-ends g c =
-    ends (state_of g.F.Files c.args.files.now) (state_of g.F.Files c.report-output.new.files) (command_of (map string_bytes c.args.words.now))
-    (sink_of g.K.Sink c.args.out.now) (sink_of g.K.Sink c.deliver.new.out) c.report-output.result c.deliver.result c.report-output.ensures.reported c.deliver.ensures
+    ends (state_of g.F.Files c.args.files.now) (state_of g.F.Files c.report-output.new.files)
+    (command_of (map string_bytes c.args.words.now))
+    (sink_of g.K.Sink c.args.out.now) (sink_of g.K.Sink c.deliver.new.out) c.report-output.result c.deliver.result
+    c.report-output.ensures.reported c.deliver.ensures
 
 pub returns-clause-told : goal.returns-clause-told
 returns-clause-told g c =
@@ -23,10 +25,14 @@ returns-clause-told g c =
       is_true = c.acceptance_is_sound.ensures.is_true;
       is_false = c.acceptance_is_sound.ensures.is_false;
     })
-    (state_of g.F.Files c.args.files.now) (state_of g.F.Files c.report-output.new.files) (command_of (map string_bytes c.args.words.now))
-    (sink_of g.K.Sink c.args.out.now) (sink_of g.K.Sink c.deliver.new.out) c.report-output.result c.deliver.result c.report-output.ensures.reported c.deliver.ensures
+    (state_of g.F.Files c.args.files.now) (state_of g.F.Files c.report-output.new.files)
+    (command_of (map string_bytes c.args.words.now))
+    (sink_of g.K.Sink c.args.out.now) (sink_of g.K.Sink c.deliver.new.out) c.report-output.result c.deliver.result
+    c.report-output.ensures.reported c.deliver.ensures
 
 pub returns-clause-causes : goal.returns-clause-causes
 returns-clause-causes g c =
-    causes (state_of g.F.Files c.args.files.now) (state_of g.F.Files c.report-output.new.files) (command_of (map string_bytes c.args.words.now))
-    (sink_of g.K.Sink c.args.out.now) (sink_of g.K.Sink c.deliver.new.out) c.report-output.result c.deliver.result c.report-output.ensures.held c.report-output.ensures.reported c.deliver.ensures
+    causes (state_of g.F.Files c.args.files.now) (state_of g.F.Files c.report-output.new.files)
+    (command_of (map string_bytes c.args.words.now))
+    (sink_of g.K.Sink c.args.out.now) (sink_of g.K.Sink c.deliver.new.out) c.report-output.result c.deliver.result
+    c.report-output.ensures.held c.report-output.ensures.reported c.deliver.ensures

@@ -4,8 +4,8 @@ use Rattle.std.specs.List.{cons_option}
 use Rattle.cert_export.specs.Names.{renaming}
 use Rattle.cert_export.specs.Renaming.{renamed_clause}
 use Rattle.cert_export.proofs.NewNames.{literal_more}
-use Rattle.cert_export.proofs.names.Names.clause.Goals.{in-Some+in_ok-push, in_default}
-use Rattle.cert_export.proofs.names.Names.clause.Goals as goal
+use Rattle.cert_export.proofs.new_names.Names.clause.Goals.{in-Some+in_ok-push, in_default}
+use Rattle.cert_export.proofs.new_names.Names.clause.Goals as goal
 
 pub loop-l-preserved : goal.loop-l-preserved
 loop-l-preserved c =

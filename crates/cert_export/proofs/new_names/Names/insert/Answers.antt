@@ -3,7 +3,7 @@ use Rattle.std.proofs.lemmas.Bool.{or_right}
 use Rattle.number_tables.specs.Numbers.{has_number}
 use Rattle.cert_export.specs.Names.{NameTable, renaming}
 use Rattle.cert_export.proofs.NewNames.{has_name}
-use Rattle.cert_export.proofs.names.Names.insert.Goals as goal
+use Rattle.cert_export.proofs.new_names.Names.insert.Goals as goal
 
 pub returns-then-contains-clause-there : goal.returns-then-contains-clause-there
 returns-then-contains-clause-there c =

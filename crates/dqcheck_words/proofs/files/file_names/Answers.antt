@@ -3,7 +3,7 @@ use Rattle.clap.specs.Walk.{rows_of}
 use Rattle.clap.specs.Matches.{found_of}
 use Rattle.clap.specs.Simple.{app_of}
 use Rattle.dqcheck_words.proofs.GivenNames.{parse_gives, refusal_gives}
-use Rattle.dqcheck_words.proofs.names.file_names.Goals as goal
+use Rattle.dqcheck_words.proofs.files.file_names.Goals as goal
 
 pub names_in-requires : goal.names_in-requires
 names_in-requires c =

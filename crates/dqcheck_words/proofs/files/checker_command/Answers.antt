@@ -4,7 +4,7 @@ use Rattle.clap.specs.Simple.{Shape, app_of, app_of_fields, on_top, with_rule}
 use Rattle.clap.specs.declared.builder.command.Command.{Command}
 use Rattle.clap.specs.declared.builder.command.Command.TheOpen.{Command-F}
 use Rattle.dqcheck_words.specs.Command.{flagless}
-use Rattle.dqcheck_words.proofs.names.checker_command.Goals as goal
+use Rattle.dqcheck_words.proofs.files.checker_command.Goals as goal
 
 pub returns : goal.returns
 returns c =

@@ -2,8 +2,8 @@ use Rattle.std.proofs.Common.{List, ℕ, ap₂, codes}
 use Rattle.clap.specs.Matches.{found_of}
 use Rattle.dqcheck_words.specs.Command.{Command}
 use Rattle.dqcheck_words.proofs.GivenNames.{name_given, name_there}
-use Rattle.dqcheck_words.proofs.names.names_in.Goals.{in_default-via-in-Some+in_default, in_default-via-in_default}
-use Rattle.dqcheck_words.proofs.names.names_in.Goals as goal
+use Rattle.dqcheck_words.proofs.files.names_in.Goals.{in_default-via-in-Some+in_default, in_default-via-in_default}
+use Rattle.dqcheck_words.proofs.files.names_in.Goals as goal
 
 pub unreachable-requires : goal.unreachable-requires
 unreachable-requires c = elim c.in_default.branch [
