@@ -1,0 +1,4 @@
+mod CommentLines
+mod Complete
+mod Readings
+mod TwoFiles
