@@ -25,10 +25,10 @@ use Rattle.dq_verdicts.specs.declared.demonstrations.Demonstration.{Demonstratio
 use Rattle.dq_verdicts.specs.declared.demonstrations.Demonstration.TheVariants.{Valid, Large, CutOff}
 use Rattle.dqsolve_words.specs.Command.{Search, Planting, Command, solve, demo, default_steps}
 use Rattle.dqsolve_words.specs.Words.{search_of, planting_of, command_said}
-use Rattle.dqsolve_words.specs.declared.names.SolveWords.{SolveWords}
-use Rattle.dqsolve_words.specs.declared.names.DemoWords.{DemoWords}
-use Rattle.dqsolve_words.specs.declared.names.CommandWords.{CommandWords}
-use Rattle.dqsolve_words.specs.declared.names.CommandWords.TheVariants.{Solve, Demo}
+use Rattle.dqsolve_words.specs.declared.requests.SolveWords.{SolveWords}
+use Rattle.dqsolve_words.specs.declared.requests.DemoWords.{DemoWords}
+use Rattle.dqsolve_words.specs.declared.requests.CommandWords.{CommandWords}
+use Rattle.dqsolve_words.specs.declared.requests.CommandWords.TheVariants.{Solve, Demo}
 use Rattle.dqsolve_core.specs.Outputs.{IsReported, IsDemoOutput}
 use Rattle.dqsolve_core.specs.Report.{SearchReport, no_formula, solved, printed_search, printed_demo, demonstration_status}
 use Rattle.dqsolve_core.specs.Running.{IsDueFor, IsDue, IsRunLog, IsOwnLog, IsDemonstration, steps_asked}
@@ -38,11 +38,13 @@ status_of output p same = ap (λ (q : Printed). q.status) same
 
 -- ---- what the words ask for
 
-pub solve_asked : (asked : Option Command) (answer : Option CommandWords) (w : CommandWords) (s : SolveWords) → option_map command_said answer ≡ asked
+pub solve_asked : (asked : Option Command) (answer : Option CommandWords) (w : CommandWords) (s : SolveWords) →
+    option_map command_said answer ≡ asked
     → answer ≡ Some w → w ≡ Solve s → asked ≡ Some (solve (search_of s))
 solve_asked asked answer w s said is kind = sym said ∙ ap (option_map command_said) (is ∙ ap Some kind)
 
-pub demo_asked : (asked : Option Command) (answer : Option CommandWords) (w : CommandWords) (s : DemoWords) → option_map command_said answer ≡ asked
+pub demo_asked : (asked : Option Command) (answer : Option CommandWords) (w : CommandWords) (s : DemoWords) →
+    option_map command_said answer ≡ asked
     → answer ≡ Some w → w ≡ Demo s → asked ≡ Some (demo (planting_of s))
 demo_asked asked answer w s said is kind = sym said ∙ ap (option_map command_said) (is ∙ ap Some kind)
 
@@ -54,21 +56,28 @@ not_long (is_false _) same = omega (arith, same)
 not_long (is_unknown _ _) same = omega (arith, same)
 
 -- a verdict
-pub verdict_reported : (before now : FilesState) (log : ProofLog) (c : Search) (f : Dqbf) (r : Result Output Memory) → IsFormulaOf (before.held c.file) f
-    → PickedOnce before now → now.faults ≡ before.faults → log.limit ≡ c.steps → IfOk r (IsVerdictOutput f log c.bare) → IfOk r (IsReported before now (Some (solve c)) log)
+pub verdict_reported : (before now : FilesState) (log : ProofLog) (c : Search) (f : Dqbf) (r : Result Output Memory) →
+    IsFormulaOf (before.held c.file) f
+    → PickedOnce before now → now.faults ≡ before.faults → log.limit ≡ c.steps → IfOk r (IsVerdictOutput f log c.bare) →
+    IfOk r (IsReported before now (Some (solve c)) log)
 verdict_reported before now log c f (Ok output) one picked unfaulted limit v = record {
   due = (solved f v.verdict, (one, limit, v.is, picked), v.is_printed);
-  long = λ six. absurd (not_long v.verdict (sym (status_of output (printed_verdict c.bare f v.verdict) v.is_printed) ∙ six));
+  long = λ six. absurd (not_long v.verdict (sym (status_of output (printed_verdict c.bare f v.verdict) v.is_printed)
+      ∙ six));
   unfaulted = λ _. unfaulted;
 }
 verdict_reported before now log c f (Err _) one picked unfaulted limit v = tt
 
 -- the formula's file gives none
-pub said_reported : (before now : FilesState) (log : ProofLog) (c : Search) (said : NoFormula) (r : Result Output Memory) → IsNoFormula before now c.file said → PickedOnce before now
-    → (said ≢ Unreadable → now.faults ≡ before.faults) → IfOk r (λ output. printed output ≡ printed_search c (no_formula said)) → IfOk r (IsReported before now (Some (solve c)) log)
+pub said_reported : (before now : FilesState) (log : ProofLog) (c : Search) (said : NoFormula)
+    (r : Result Output Memory) → IsNoFormula before now c.file said → PickedOnce before now
+    → (said ≢ Unreadable → now.faults ≡ before.faults) → IfOk r
+    (λ output. printed output ≡ printed_search c (no_formula said)) →
+    IfOk r (IsReported before now (Some (solve c)) log)
 said_reported before now log c Unreadable (Ok output) is once unfaulted same = record {
   due = (no_formula Unreadable, (is, once), same);
-  long = λ six. let three = status_of output (printed_search c (no_formula Unreadable)) same in absurd (omega (arith, six, three));
+  long = λ six. let three = status_of output (printed_search c (no_formula Unreadable)) same in
+      absurd (omega (arith, six, three));
   unfaulted = λ other. absurd (other (status_of output (printed_search c (no_formula Unreadable)) same));
 }
 said_reported before now log c TooLong (Ok output) is once unfaulted same = record {
@@ -78,7 +87,8 @@ said_reported before now log c TooLong (Ok output) is once unfaulted same = reco
 }
 said_reported before now log c (Refused line name) (Ok output) is once unfaulted same = record {
   due = (no_formula (Refused line name), (is, once), same);
-  long = λ six. let two = status_of output (printed_search c (no_formula (Refused line name))) same in absurd (omega (arith, six, two));
+  long = λ six. let two = status_of output (printed_search c (no_formula (Refused line name))) same in
+      absurd (omega (arith, six, two));
   unfaulted = λ _. unfaulted (λ other. cc);
 }
 said_reported before now log c said (Err _) is once unfaulted same = tt
@@ -89,26 +99,39 @@ demo_not_long Valid same = omega (arith, same)
 demo_not_long Large same = omega (arith, same)
 demo_not_long CutOff same = omega (arith, same)
 
-pub demo_reported : (files : FilesState) (log : ProofLog) (p : Planting) (r : Result Output Memory) → log.limit ≡ default_steps → IfOk r (IsDemoOutput p log)
+pub demo_reported : (files : FilesState) (log : ProofLog) (p : Planting) (r : Result Output Memory) →
+    log.limit ≡ default_steps → IfOk r (IsDemoOutput p log)
     → IfOk r (IsReported files files (Some (demo p)) log)
 demo_reported files log p (Ok output) limit d = record {
   due = (record { clauses = d.clauses; shown = d.shown; limit = limit; is = d.is; is_printed = d.is_printed }, refl);
-  long = λ six. absurd (demo_not_long d.shown (sym (status_of output (printed_demo p d.clauses d.shown) d.is_printed) ∙ six));
+  long = λ six. absurd (demo_not_long d.shown (sym (status_of output (printed_demo p d.clauses d.shown) d.is_printed)
+      ∙ six));
   unfaulted = λ _. refl;
 }
 demo_reported files log p (Err _) limit d = tt
 
 pub demo_log : (files : FilesState) (log : ProofLog) (p : Planting) → log.limit ≡ default_steps
-    → (log.entries ≡ []) ⊎ IsProductiveLog (planted_formula p.seed p.size) log.entries → IsRunLog files (Some (demo p)) log
+    → (log.entries ≡ []) ⊎ IsProductiveLog (planted_formula p.seed p.size) log.entries →
+    IsRunLog files (Some (demo p)) log
 demo_log files log p limit (inl none) = inl none
 demo_log files log p limit (inr productive) =
-    inr (record { command = demo p; is = refl; limit = limit; f = planted_formula p.seed p.size; formula = refl; productive = productive })
+    inr (record {
+      command = demo p;
+      is = refl;
+      limit = limit;
+      f = planted_formula p.seed p.size;
+      formula = refl;
+      productive = productive;
+    })
 
 -- ---- the run
 
-pub ends : (before now : FilesState) (asked : Option Command) (log : ProofLog) (sink sink_now : SinkState) (r : Result Output Memory) (status : ℕ)
-    → IfOk r (IsReported before now asked log) → IsEnd r sink sink_now status → Ends (IsDue before now log asked) sink sink_now status
-ends before now asked log sink sink_now (Ok output) status o end = inr (record { printed = printed output; is_due = o.due; delivered = end })
+pub ends : (before now : FilesState) (asked : Option Command) (log : ProofLog) (sink sink_now : SinkState)
+    (r : Result Output Memory) (status : ℕ)
+    → IfOk r (IsReported before now asked log) → IsEnd r sink sink_now status →
+    Ends (IsDue before now log asked) sink sink_now status
+ends before now asked log sink sink_now (Ok output) status o end =
+    inr (record { printed = printed output; is_due = o.due; delivered = end })
 ends before now asked log sink sink_now (Err _) status o end = inl end
 
 -- which statuses a report has
@@ -117,34 +140,84 @@ record Reasons (before now : FilesState) (asked : Option Command) (status : ℕ)
   pub source : status ≡ 3 → Rose before.faults now.faults
   pub delivered : status ≢ 4
 
-verdict_reasons : (before now : FilesState) (c : Command) (verdict : Verdict) → Reasons before now (Some c) (verdict_status verdict)
-verdict_reasons before now c (is_true _ _) = record { words = λ h. absurd (omega (arith, h)); source = λ h. absurd (omega (arith, h)); delivered = λ h. omega (arith, h) }
-verdict_reasons before now c (is_false _) = record { words = λ h. absurd (omega (arith, h)); source = λ h. absurd (omega (arith, h)); delivered = λ h. omega (arith, h) }
-verdict_reasons before now c (is_unknown _ _) = record { words = λ h. absurd (omega (arith, h)); source = λ h. absurd (omega (arith, h)); delivered = λ h. omega (arith, h) }
+verdict_reasons : (before now : FilesState) (c : Command) (verdict : Verdict) →
+    Reasons before now (Some c) (verdict_status verdict)
+verdict_reasons before now c (is_true _ _) = record {
+  words = λ h. absurd (omega (arith, h));
+  source =
+      λ h. absurd (omega (arith, h));
+  delivered = λ h. omega (arith, h);
+}
+verdict_reasons before now c (is_false _) = record {
+  words = λ h. absurd (omega (arith, h));
+  source =
+      λ h. absurd (omega (arith, h));
+  delivered = λ h. omega (arith, h);
+}
+verdict_reasons before now c (is_unknown _ _) = record {
+  words = λ h. absurd (omega (arith, h));
+  source =
+      λ h. absurd (omega (arith, h));
+  delivered = λ h. omega (arith, h);
+}
 
-demo_reasons : (before now : FilesState) (c : Command) (shown : Demonstration) → Reasons before now (Some c) (demonstration_status shown)
-demo_reasons before now c Valid = record { words = λ h. absurd (omega (arith, h)); source = λ h. absurd (omega (arith, h)); delivered = λ h. omega (arith, h) }
-demo_reasons before now c Large = record { words = λ h. absurd (omega (arith, h)); source = λ h. absurd (omega (arith, h)); delivered = λ h. omega (arith, h) }
-demo_reasons before now c CutOff = record { words = λ h. absurd (omega (arith, h)); source = λ h. absurd (omega (arith, h)); delivered = λ h. omega (arith, h) }
+demo_reasons : (before now : FilesState) (c : Command) (shown : Demonstration) →
+    Reasons before now (Some c) (demonstration_status shown)
+demo_reasons before now c Valid = record {
+  words = λ h. absurd (omega (arith, h));
+  source =
+      λ h. absurd (omega (arith, h));
+  delivered = λ h. omega (arith, h);
+}
+demo_reasons before now c Large = record {
+  words = λ h. absurd (omega (arith, h));
+  source =
+      λ h. absurd (omega (arith, h));
+  delivered = λ h. omega (arith, h);
+}
+demo_reasons before now c CutOff = record {
+  words = λ h. absurd (omega (arith, h));
+  source =
+      λ h. absurd (omega (arith, h));
+  delivered = λ h. omega (arith, h);
+}
 
-search_reasons : (before now : FilesState) (log : ProofLog) (c : Search) (report : SearchReport) → IsDueFor before now log c report
+search_reasons : (before now : FilesState) (log : ProofLog) (c : Search) (report : SearchReport) →
+    IsDueFor before now log c report
     → Reasons before now (Some (solve c)) ((printed_search c report).status)
-search_reasons before now log c (no_formula Unreadable) due = record { words = λ h. absurd (omega (arith, h)); source = λ _. due.0.counted; delivered = λ h. omega (arith, h) }
-search_reasons before now log c (no_formula TooLong) due = record { words = λ h. absurd (omega (arith, h)); source = λ h. absurd (omega (arith, h)); delivered = λ h. omega (arith, h) }
-search_reasons before now log c (no_formula (Refused l name)) due = record { words = λ h. absurd (omega (arith, h)); source = λ h. absurd (omega (arith, h)); delivered = λ h. omega (arith, h) }
+search_reasons before now log c (no_formula Unreadable) due =
+    record { words = λ h. absurd (omega (arith, h)); source = λ _. due.0.counted; delivered = λ h. omega (arith, h) }
+search_reasons before now log c (no_formula TooLong) due = record {
+  words = λ h. absurd (omega (arith, h));
+  source = λ h. absurd (omega (arith, h));
+  delivered =
+      λ h. omega (arith, h);
+}
+search_reasons before now log c (no_formula (Refused l name)) due =
+    record {
+      words = λ h. absurd (omega (arith, h));
+      source = λ h. absurd (omega (arith, h));
+      delivered =
+          λ h. omega (arith, h);
+    }
 search_reasons before now log c (solved f verdict) due = verdict_reasons before now (solve c) verdict
 
-reasons : (before now : FilesState) (asked : Option Command) (log : ProofLog) (p : Printed) → IsDue before now log asked p → Reasons before now asked p.status
+reasons : (before now : FilesState) (asked : Option Command) (log : ProofLog) (p : Printed) →
+    IsDue before now log asked p → Reasons before now asked p.status
 reasons before now None log p (same, picks) =
     let one : p.status ≡ 1 = ap (λ (q : Printed). q.status) same in
     record { words = λ _. refl; source = λ h. absurd (omega (arith, h, one)); delivered = λ h. omega (arith, h, one) }
 reasons before now (Some (solve c)) log p (report, due, same) =
-    subst (λ (q : Printed). Reasons before now (Some (solve c)) q.status) (sym same) (search_reasons before now log c report due)
+    subst (λ (q : Printed). Reasons before now (Some (solve c)) q.status) (sym same)
+    (search_reasons before now log c report due)
 reasons before now (Some (demo d)) log p (due, picks) =
-    subst (λ (q : Printed). Reasons before now (Some (demo d)) q.status) (sym due.is_printed) (demo_reasons before now (demo d) due.shown)
+    subst (λ (q : Printed). Reasons before now (Some (demo d)) q.status) (sym due.is_printed)
+    (demo_reasons before now (demo d) due.shown)
 
-pub causes : (before now : FilesState) (asked : Option Command) (log : ProofLog) (sink sink_now : SinkState) (r : Result Output Memory) (status : ℕ) → now.held ≡ before.held
-    → IfOk r (IsReported before now asked log) → IsEnd r sink sink_now status → HasCauses asked before now sink sink_now status
+pub causes : (before now : FilesState) (asked : Option Command) (log : ProofLog) (sink sink_now : SinkState)
+    (r : Result Output Memory) (status : ℕ) → now.held ≡ before.held
+    → IfOk r (IsReported before now asked log) → IsEnd r sink sink_now status →
+    HasCauses asked before now sink sink_now status
 causes before now asked log sink sink_now (Ok output) status held o (inl w) =
     let why = reasons before now asked log (printed output) o.due in
     record {
@@ -181,34 +254,43 @@ causes before now asked log sink sink_now (Err _) status held o unwritten =
 
 -- ---- where no verdict was found
 
-verdict_steps : (f : Dqbf) (log : ProofLog) (bare : Bool) (verdict : Verdict) → IsVerdict f f log bare verdict → verdict_status verdict ≡ 0 → steps_of log.entries ≡ log.limit
+verdict_steps : (f : Dqbf) (log : ProofLog) (bare : Bool) (verdict : Verdict) → IsVerdict f f log bare verdict →
+    verdict_status verdict ≡ 0 → steps_of log.entries ≡ log.limit
 verdict_steps f log bare (is_true _ _) v zero = absurd (omega (arith, zero))
 verdict_steps f log bare (is_false _) v zero = absurd (omega (arith, zero))
 verdict_steps f log bare (is_unknown _ _) v zero = v.shown.limit
 
-demo_steps : (p : Planting) (log : ProofLog) (clauses : ℕ) (shown : Demonstration) → IsDemonstration p log clauses shown → demonstration_status shown ≡ 0 → steps_of log.entries ≡ log.limit
+demo_steps : (p : Planting) (log : ProofLog) (clauses : ℕ) (shown : Demonstration) →
+    IsDemonstration p log clauses shown → demonstration_status shown ≡ 0 → steps_of log.entries ≡ log.limit
 demo_steps p log clauses Valid d zero = absurd (omega (arith, zero))
 demo_steps p log clauses Large d zero = absurd (omega (arith, zero))
 demo_steps p log clauses CutOff d zero = d.is.limit
 
-search_steps : (before now : FilesState) (log : ProofLog) (c : Search) (report : SearchReport) → IsDueFor before now log c report → (printed_search c report).status ≡ 0
+search_steps : (before now : FilesState) (log : ProofLog) (c : Search) (report : SearchReport) →
+    IsDueFor before now log c report → (printed_search c report).status ≡ 0
     → steps_of log.entries ≡ log.limit
 search_steps before now log c (no_formula Unreadable) due zero = absurd (omega (arith, zero))
 search_steps before now log c (no_formula TooLong) due zero = absurd (omega (arith, zero))
 search_steps before now log c (no_formula (Refused l name)) due zero = absurd (omega (arith, zero))
 search_steps before now log c (solved f verdict) due zero = verdict_steps f log c.bare verdict due.2 zero
 
-all_steps : (before now : FilesState) (c : Command) (log : ProofLog) (p : Printed) → IsDue before now log (Some c) p → p.status ≡ 0 → steps_of log.entries ≡ log.limit
-all_steps before now (solve c) log p (report, due, same) zero = search_steps before now log c report due (sym (ap (λ (q : Printed). q.status) same) ∙ zero)
-all_steps before now (demo d) log p (due, picks) zero = demo_steps d log due.clauses due.shown due.is (sym (ap (λ (q : Printed). q.status) due.is_printed) ∙ zero)
+all_steps : (before now : FilesState) (c : Command) (log : ProofLog) (p : Printed) → IsDue before now log (Some c) p →
+    p.status ≡ 0 → steps_of log.entries ≡ log.limit
+all_steps before now (solve c) log p (report, due, same) zero =
+    search_steps before now log c report due (sym (ap (λ (q : Printed). q.status) same) ∙ zero)
+all_steps before now (demo d) log p (due, picks) zero = demo_steps d log due.clauses due.shown due.is
+    (sym (ap (λ (q : Printed). q.status) due.is_printed) ∙ zero)
 
-pub own_log : (before now : FilesState) (asked : Option Command) (log : ProofLog) (sink sink_now : SinkState) (r : Result Output Memory) (status : ℕ)
-    → IfOk r (IsReported before now asked log) → IfOk r (λ _. (c : Command) → asked ≡ Some c → log.limit ≡ steps_asked c) → IsRunLog before asked log
+pub own_log : (before now : FilesState) (asked : Option Command) (log : ProofLog) (sink sink_now : SinkState)
+    (r : Result Output Memory) (status : ℕ)
+    → IfOk r (IsReported before now asked log) → IfOk r (λ _. (c : Command) → asked ≡ Some c →
+    log.limit ≡ steps_asked c) → IsRunLog before asked log
     → IsEnd r sink sink_now status → IsOwnLog before asked log status
 own_log before now asked log sink sink_now (Ok output) status o limit work (inl w) = record {
   work = work;
   limit = λ c is _. limit c is;
-  unknown = λ c is seeks zero. all_steps before now c log (printed output) (subst (λ command. IsDue before now log command (printed output)) is o.due) (sym w.ends_with ∙ zero);
+  unknown = λ c is seeks zero. all_steps before now c log (printed output)
+      (subst (λ command. IsDue before now log command (printed output)) is o.due) (sym w.ends_with ∙ zero);
 }
 own_log before now asked log sink sink_now (Ok output) status o limit work (inr cut) =
     let four = cut.ends_with in record {
@@ -224,7 +306,8 @@ own_log before now asked log sink sink_now (Err _) status o limit work unwritten
     }
 
 -- what was read where the formula's file gives none
-pub said_read : (before now : FilesState) (name : List ℕ) (r : Result Dqbf FormulaStop) (stop : FormulaStop) (said : NoFormula) → r ≡ Err stop → stop ≡ Said said
+pub said_read : (before now : FilesState) (name : List ℕ) (r : Result Dqbf FormulaStop) (stop : FormulaStop)
+    (said : NoFormula) → r ≡ Err stop → stop ≡ Said said
     → IsFormulaRead before now name r → IsNoFormula before now name said × PickedOnce before now
 said_read before now name r stop said is kind read = subst (IsFormulaRead before now name) (is ∙ ap Err kind) read
 
@@ -234,6 +317,8 @@ unreadable_said TooLong other is = is
 unreadable_said (Refused line name) other is = is
 
 -- a file that is said to be other than unreadable counted no fault
-pub not_unreadable : (r : Result Dqbf FormulaStop) (stop : FormulaStop) (said : NoFormula) → r ≡ Err stop → stop ≡ Said said → said ≢ Unreadable
+pub not_unreadable : (r : Result Dqbf FormulaStop) (stop : FormulaStop) (said : NoFormula) → r ≡ Err stop →
+    stop ≡ Said said → said ≢ Unreadable
     → IsUnreadableStop r → ⊥
-not_unreadable r stop said is kind other unreadable = unreadable_said said other (subst IsUnreadableStop (is ∙ ap Err kind) unreadable)
+not_unreadable r stop said is kind other unreadable = unreadable_said said other
+    (subst IsUnreadableStop (is ∙ ap Err kind) unreadable)

@@ -13,13 +13,17 @@ use Rattle.clap.proofs.WalkLemmas.{first_value-rows}
 use Rattle.dqsolve_words.specs.Command.{Search, Command, command_of, command_in, solve_in, steps_in, number_in, has_flag, without_fault, solver_app, least_steps, most_steps, default_steps}
 
 -- what a getter finds is the first value in the rows
-pub value_found : (f : Found) (id : Text) (value : Option Text) → value ≡ first_value f id → value ≡ first_of id (rows_of f)
+pub value_found : (f : Found) (id : Text) (value : Option Text) → value ≡ first_value f id →
+    value ≡ first_of id (rows_of f)
 value_found f id value is = is ∙ first_value-rows f id
 
-pub steps_found : (f : Found) (value : Option Text) → value ≡ first_value f (codes "steps") → option_map_or (number_in least_steps most_steps) value (Some default_steps) ≡ steps_in (rows_of f)
-steps_found f value is = ap (λ o. option_map_or (number_in least_steps most_steps) o (Some default_steps)) (value_found f (codes "steps") value is)
+pub steps_found : (f : Found) (value : Option Text) → value ≡ first_value f (codes "steps") →
+    option_map_or (number_in least_steps most_steps) value (Some default_steps) ≡ steps_in (rows_of f)
+steps_found f value is = ap (λ o. option_map_or (number_in least_steps most_steps) o (Some default_steps))
+    (value_found f (codes "steps") value is)
 
-pub flag_found : (f : Found) (id : Text) (value : Option Text) → value ≡ first_value f id → option_map_or (λ v. bytes_eq v (codes "true")) value false ≡ has_flag id (rows_of f)
+pub flag_found : (f : Found) (id : Text) (value : Option Text) → value ≡ first_value f id →
+    option_map_or (λ v. bytes_eq v (codes "true")) value false ≡ has_flag id (rows_of f)
 flag_found f id value is = ap (λ o. option_map_or (λ v. bytes_eq v (codes "true")) o false) (value_found f id value is)
 
 abbrev search : ℕ → Bool → Text → Search
@@ -29,33 +33,43 @@ pub number_found : (f : Found) (id : Text) (least most : ℕ) (value : Option Te
     → option_and_then (number_in least most) value ≡ option_and_then (number_in least most) (first_of id (rows_of f))
 number_found f id least most value is = ap (option_and_then (number_in least most)) (value_found f id value is)
 
-pub solve_found : (f : Found) (file : Option Text) (steps : Option ℕ) (bare : Bool) → file ≡ first_value f (codes "FILE") → steps ≡ steps_in (rows_of f)
+pub solve_found : (f : Found) (file : Option Text) (steps : Option ℕ) (bare : Bool) →
+    file ≡ first_value f (codes "FILE") → steps ≡ steps_in (rows_of f)
     → bare ≡ has_flag (codes "bare") (rows_of f)
     → option_and_then (λ (name : Text). option_map (λ (n : ℕ). search n bare name) steps) file ≡ solve_in (rows_of f)
 solve_found f file steps bare is_file is_steps is_bare =
-    ap (λ (a : Option Text). option_and_then (λ (name : Text). option_map (λ (n : ℕ). search n bare name) steps) a) (value_found f (codes "FILE") file is_file)
-    ∙ ap (λ (b : Option ℕ). option_and_then (λ (name : Text). option_map (λ (n : ℕ). search n bare name) b) (first_of (codes "FILE") (rows_of f))) is_steps
-    ∙ ap (λ (c : Bool). option_and_then (λ (name : Text). option_map (λ (n : ℕ). search n c name) (steps_in (rows_of f))) (first_of (codes "FILE") (rows_of f))) is_bare
+    ap (λ (a : Option Text). option_and_then (λ (name : Text). option_map (λ (n : ℕ). search n bare name) steps) a)
+    (value_found f (codes "FILE") file is_file)
+    ∙ ap (λ (b : Option ℕ). option_and_then (λ (name : Text). option_map (λ (n : ℕ). search n bare name) b)
+    (first_of (codes "FILE") (rows_of f))) is_steps
+    ∙ ap (λ (c : Bool). option_and_then (λ (name : Text). option_map (λ (n : ℕ). search n c name)
+    (steps_in (rows_of f))) (first_of (codes "FILE") (rows_of f))) is_bare
 
 -- what a parse without fault gives
-pub parse_gives : (a : App) (words : List Text) (sub : Option (Text × List Row)) → a ≡ solver_app → (is_simple_and_free a ≡ true → fault_of a words ≡ [])
+pub parse_gives : (a : App) (words : List Text) (sub : Option (Text × List Row)) → a ≡ solver_app →
+    (is_simple_and_free a ≡ true → fault_of a words ≡ [])
     → {X : Type 0} → (is_simple a ≡ true → X × (sub ≡ subcommand_of a words)) → command_in sub ≡ command_of words
 unfolding command_of
 parse_gives a words sub is fault matches =
-    let none : fault_of solver_app words ≡ [] = ap (λ b. fault_of b words) (sym is) ∙ fault (ap is_simple_and_free is) in
-    let same : sub ≡ subcommand_of solver_app words = (matches (ap is_simple is)).1 ∙ ap (λ b. subcommand_of b words) is in
+    let none : fault_of solver_app words ≡ [] = ap (λ b. fault_of b words) (sym is) ∙ fault
+    (ap is_simple_and_free is) in
+    let same : sub ≡ subcommand_of solver_app words = (matches (ap is_simple is)).1 ∙ ap
+    (λ b. subcommand_of b words) is in
     ap command_in same ∙ sym (ap (λ k. without_fault k (command_in (subcommand_of solver_app words))) none)
 
-refused_by : (kinds : Kinds) (k : ErrorKind) (given : Option Command) → IsAmong k kinds → without_fault kinds given ≡ None
+refused_by : (kinds : Kinds) (k : ErrorKind) (given : Option Command) → IsAmong k kinds →
+    without_fault kinds given ≡ None
 refused_by [] k given among = absurd among
 refused_by (x ∷ xs) k given among = refl
 
 -- what a refusal says
-pub refusal_gives : (a : App) (words : List Text) (k other : ErrorKind) → a ≡ solver_app → (is_simple_and_free a ≡ true → (k ≡ other) ⊎ IsAmong k (fault_of a words))
+pub refusal_gives : (a : App) (words : List Text) (k other : ErrorKind) → a ≡ solver_app →
+    (is_simple_and_free a ≡ true → (k ≡ other) ⊎ IsAmong k (fault_of a words))
     → (k ≡ other → ⊥) → None ≡ command_of words
 unfolding command_of
 refusal_gives a words k other is fails not_other = go (fails (ap is_simple_and_free is))
   where
     go : (k ≡ other) ⊎ IsAmong k (fault_of a words) → None ≡ command_of words
     go (inl same) = absurd (not_other same)
-    go (inr among) = sym (ap (λ b. without_fault (fault_of b words) (command_in (subcommand_of solver_app words))) (sym is) ∙ refused_by (fault_of a words) k (command_in (subcommand_of solver_app words)) among)
+    go (inr among) = sym (ap (λ b. without_fault (fault_of b words) (command_in (subcommand_of solver_app words)))
+        (sym is) ∙ refused_by (fault_of a words) k (command_in (subcommand_of solver_app words)) among)

@@ -23,11 +23,13 @@ abbrev value : Text → ℕ
 value text = digits_value 10 (without_leading_plus text)
 
 module _ (least most : ℕ) (text : Text) where
-  by_test : (b : Bool) → is_unsigned_in least most text ≡ b → number_in least most text ≡ cond b (Some (value text)) None
+  by_test : (b : Bool) → is_unsigned_in least most text ≡ b →
+      number_in least most text ≡ cond b (Some (value text)) None
   by_test b is = ap (λ x. cond x (Some (value text)) None) is
 
   -- a number in the range is taken
-  pub number_taken : {E : Type 0} (r : Result ℕ E) (n : ℕ) → ParsesUnsigned 64 10 text r → r ≡ Ok n → least ≤ n → n ≤ most → Some n ≡ number_in least most text
+  pub number_taken : {E : Type 0} (r : Result ℕ E) (n : ℕ) → ParsesUnsigned 64 10 text r → r ≡ Ok n → least ≤ n →
+      n ≤ most → Some n ≡ number_in least most text
   number_taken r n parsed is low_n high_n =
       let ((numeral, fits), same) = OkIff-at_ok r _ (value text) n parsed is in
       let low : least ≤ value text = omega (arith, low_n, same) in
@@ -39,7 +41,8 @@ module _ (least most : ℕ) (text : Text) where
   go_refused false is none = sym (by_test false is)
 
   -- another number isn't
-  pub number_outside : {E : Type 0} (r : Result ℕ E) (n : ℕ) → ParsesUnsigned 64 10 text r → r ≡ Ok n → (least ≤ n → n ≤ most → ⊥) → None ≡ number_in least most text
+  pub number_outside : {E : Type 0} (r : Result ℕ E) (n : ℕ) → ParsesUnsigned 64 10 text r → r ≡ Ok n →
+      (least ≤ n → n ≤ most → ⊥) → None ≡ number_in least most text
   number_outside r n parsed is outside =
       go_refused (is_unsigned_in least most text) refl (λ yes.
       let (parts, same) = OkIff-at_ok r _ (value text) n parsed is in
@@ -47,14 +50,16 @@ module _ (least most : ℕ) (text : Text) where
       outside (omega (arith, low, same)) (omega (arith, high, same)))
 
   -- and nothing else
-  pub no_number : {E : Type 0} (r : Result ℕ E) (e : E) → ParsesUnsigned 64 10 text r → r ≡ Err e → None ≡ number_in least most text
+  pub no_number : {E : Type 0} (r : Result ℕ E) (e : E) → ParsesUnsigned 64 10 text r → r ≡ Err e →
+      None ≡ number_in least most text
   no_number (Ok n) e parsed is = cc
   no_number (Err other) e parsed is =
       go_refused (is_unsigned_in least most text) refl (λ yes.
       let (numeral, fits, low, high) = accepts-Accepts false (vp.Unsigned least most) text yes in
       parsed (numeral, fits))
 
-  in_range_by : (b : Bool) → is_unsigned_in least most text ≡ b → (n : ℕ) → cond b (Some (value text)) None ≡ Some n → (least ≤ n) × (n ≤ most)
+  in_range_by : (b : Bool) → is_unsigned_in least most text ≡ b → (n : ℕ) → cond b (Some (value text)) None ≡ Some n →
+      (least ≤ n) × (n ≤ most)
   in_range_by true is n same =
       let (numeral, fits, low, high) = accepts-Accepts false (vp.Unsigned least most) text is in
       let one : value text ≡ n = ap (λ (o : Option ℕ). option_map_or (λ x. x) o 0) same in
@@ -63,45 +68,61 @@ module _ (least most : ℕ) (text : Text) where
 
 -- ---- the ranges
 
-found_range : (least most : ℕ) (o : Option Text) (n : ℕ) → option_and_then (number_in least most) o ≡ Some n → (least ≤ n) × (n ≤ most)
+found_range : (least most : ℕ) (o : Option Text) (n : ℕ) → option_and_then (number_in least most) o ≡ Some n →
+    (least ≤ n) × (n ≤ most)
 found_range least most None n same = cc
 found_range least most (Some text) n same = in_range_by least most text (is_unsigned_in least most text) refl n same
 
-steps_range : (o : Option Text) (n : ℕ) → option_map_or (number_in least_steps most_steps) o (Some default_steps) ≡ Some n → (least_steps ≤ n) × (n ≤ most_steps)
+steps_range : (o : Option Text) (n : ℕ) → option_map_or (number_in least_steps most_steps) o (Some default_steps)
+    ≡ Some n → (least_steps ≤ n) × (n ≤ most_steps)
 steps_range None n same =
-    let one : default_steps ≡ n = ap (λ (o : Option ℕ). option_map_or (λ x. x) o 0) same in (omega (arith, one), omega (arith, one))
-steps_range (Some text) n same = in_range_by least_steps most_steps text (is_unsigned_in least_steps most_steps text) refl n same
+    let one : default_steps ≡ n = ap (λ (o : Option ℕ). option_map_or (λ x. x) o 0) same in
+    (omega (arith, one), omega (arith, one))
+steps_range (Some text) n same = in_range_by least_steps most_steps text
+    (is_unsigned_in least_steps most_steps text) refl n same
 
 same_command : (a c : Command) → Some a ≡ Some c → a ≡ c
 same_command a c is = ap (λ (o : Option Command). option_map_or (λ x. x) o a) is
 
-solve_by : (file : Option Text) (steps : Option ℕ) (bare : Bool) → ((n : ℕ) → steps ≡ Some n → (least_steps ≤ n) × (n ≤ most_steps)) → (c : Command)
-    → option_map solve (option_and_then (λ (name : Text). option_map (λ (n : ℕ). search n bare name) steps) file) ≡ Some c → IsInRange c
+solve_by : (file : Option Text) (steps : Option ℕ) (bare : Bool) →
+    ((n : ℕ) → steps ≡ Some n → (least_steps ≤ n) × (n ≤ most_steps)) → (c : Command)
+    → option_map solve (option_and_then (λ (name : Text). option_map (λ (n : ℕ). search n bare name) steps) file)
+    ≡ Some c → IsInRange c
 solve_by None steps bare range c is = cc
 solve_by (Some name) None bare range c is = cc
-solve_by (Some name) (Some n) bare range c is = subst IsInRange (same_command (solve (search n bare name)) c is) (range n refl)
+solve_by (Some name) (Some n) bare range c is = subst IsInRange (same_command (solve (search n bare name)) c is)
+    (range n refl)
 
-demo_by : (seed size : Option ℕ) → ((n : ℕ) → seed ≡ Some n → (0 ≤ n) × (n ≤ most_seed)) → ((n : ℕ) → size ≡ Some n → (least_size ≤ n) × (n ≤ most_size)) → (c : Command)
-    → option_map demo (option_and_then (λ (s : ℕ). option_map (λ (z : ℕ). planting s z) size) seed) ≡ Some c → IsInRange c
+demo_by : (seed size : Option ℕ) → ((n : ℕ) → seed ≡ Some n → (0 ≤ n) × (n ≤ most_seed)) →
+    ((n : ℕ) → size ≡ Some n → (least_size ≤ n) × (n ≤ most_size)) → (c : Command)
+    → option_map demo (option_and_then (λ (s : ℕ). option_map (λ (z : ℕ). planting s z) size) seed) ≡ Some c →
+    IsInRange c
 demo_by None size seeds sizes c is = cc
 demo_by (Some s) None seeds sizes c is = cc
-demo_by (Some s) (Some z) seeds sizes c is = subst IsInRange (same_command (demo (planting s z)) c is) (let (low, high) = sizes z refl in ((seeds s refl).1, low, high))
+demo_by (Some s) (Some z) seeds sizes c is = subst IsInRange (same_command (demo (planting s z)) c is)
+    (let (low, high) = sizes z refl in ((seeds s refl).1, low, high))
 
-asked_by : (rows : List Row) (b : Bool) (c : Command) → cond b (option_map demo (demo_in rows)) (option_map solve (solve_in rows)) ≡ Some c → IsInRange c
+asked_by : (rows : List Row) (b : Bool) (c : Command) → cond b (option_map demo (demo_in rows))
+    (option_map solve (solve_in rows)) ≡ Some c → IsInRange c
 asked_by rows true c is =
-    demo_by (option_and_then (number_in 0 most_seed) (first_of (codes "SEED") rows)) (option_and_then (number_in least_size most_size) (first_of (codes "SIZE") rows))
-    (found_range 0 most_seed (first_of (codes "SEED") rows)) (found_range least_size most_size (first_of (codes "SIZE") rows)) c is
+    demo_by (option_and_then (number_in 0 most_seed) (first_of (codes "SEED") rows))
+    (option_and_then (number_in least_size most_size) (first_of (codes "SIZE") rows))
+    (found_range 0 most_seed (first_of (codes "SEED") rows))
+    (found_range least_size most_size (first_of (codes "SIZE") rows)) c is
 asked_by rows false c is =
-    solve_by (first_of (codes "FILE") rows) (steps_in rows) (has_flag (codes "bare") rows) (steps_range (first_of (codes "steps") rows)) c is
+    solve_by (first_of (codes "FILE") rows) (steps_in rows) (has_flag (codes "bare") rows)
+    (steps_range (first_of (codes "steps") rows)) c is
 
 command_range : (sub : Option (Text × List Row)) (c : Command) → command_in sub ≡ Some c → IsInRange c
 command_range None c is = cc
 command_range (Some p) c is = asked_by p.1 (bytes_eq p.0 (codes "demo")) c is
 
-by_fault : (kinds : Kinds) (given : Option Command) → ((c : Command) → given ≡ Some c → IsInRange c) → (c : Command) → without_fault kinds given ≡ Some c → IsInRange c
+by_fault : (kinds : Kinds) (given : Option Command) → ((c : Command) → given ≡ Some c → IsInRange c) → (c : Command) →
+    without_fault kinds given ≡ Some c → IsInRange c
 by_fault [] given range c is = range c is
 by_fault (_ ∷ _) given range c is = cc
 
 pub asked_range : (words : List Text) (c : Command) → command_of words ≡ Some c → IsInRange c
 unfolding command_of
-asked_range words c is = by_fault (fault_of solver_app words) (command_in (subcommand_of solver_app words)) (command_range (subcommand_of solver_app words)) c is
+asked_range words c is = by_fault (fault_of solver_app words) (command_in (subcommand_of solver_app words))
+    (command_range (subcommand_of solver_app words)) c is

@@ -1,9 +1,9 @@
 -- The command of words that were read.
 use Rattle.dqsolve_words.specs.Command.{Search, Planting, Command, solve, demo}
-use Rattle.dqsolve_words.specs.declared.names.SolveWords.{SolveWords}
-use Rattle.dqsolve_words.specs.declared.names.DemoWords.{DemoWords}
-use Rattle.dqsolve_words.specs.declared.names.CommandWords.{CommandWords}
-use Rattle.dqsolve_words.specs.declared.names.CommandWords.TheVariants.{Solve, Demo}
+use Rattle.dqsolve_words.specs.declared.requests.SolveWords.{SolveWords}
+use Rattle.dqsolve_words.specs.declared.requests.DemoWords.{DemoWords}
+use Rattle.dqsolve_words.specs.declared.requests.CommandWords.{CommandWords}
+use Rattle.dqsolve_words.specs.declared.requests.CommandWords.TheVariants.{Solve, Demo}
 
 abbrev pub search_of : SolveWords → Search
 search_of w = record { steps = w.steps; bare = w.bare; file = w.file.now }

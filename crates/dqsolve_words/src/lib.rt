@@ -5,8 +5,8 @@
 //! says it of command lines that are written out.
 #![tactic(auto)]
 
-pub use names::{CommandWords, DemoWords, SolveWords, command_words};
+pub use requests::{CommandWords, DemoWords, SolveWords, command_words};
 
 pub mod examples;
 pub mod laws;
-mod names;
+mod requests;

@@ -11,9 +11,11 @@ use Rattle.skolem_checker.specs.SkolemCircuit.{IsComplete}
 
 gate_grounded : (net : Netlist) (v : ℕ) → AllGrounded net → Contains (gate_variables net) v → IsGrounded net v
 gate_grounded net v grounded is_gate =
-    All-contains (IsGrounded net) (gate_variables net) v (All-map (IsGrounded net) variable_of_gate net.gates grounded) is_gate
+    All-contains (IsGrounded net) (gate_variables net) v (All-map
+    (IsGrounded net) variable_of_gate net.gates grounded) is_gate
 
-pub meaning_grounded : (net : Netlist) (l : ℕ) → AllGrounded net → HasMeaning net l → IsGrounded net (literal_variable l)
+pub meaning_grounded : (net : Netlist) (l : ℕ) → AllGrounded net → HasMeaning net l →
+    IsGrounded net (literal_variable l)
 meaning_grounded net l grounded (inl is_constant) = subst (IsGrounded net) (sym is_constant) constant
 meaning_grounded net l grounded (inr (inl is_input)) = input is_input
 meaning_grounded net l grounded (inr (inr is_gate)) = gate_grounded net (literal_variable l) grounded is_gate

@@ -6,7 +6,7 @@ ghost use Rattle.dq_runs.specs.Printed.{printed};
 ghost use Rattle.pec_runs.specs.DesignFiles.{max_circuit, IsDesignRead, IsUnreadableStop, design_line};
 ghost use Rattle.pec_runs.specs.TextFiles.{IsTextRead, IsUnreadableText, IsReadBehind};
 
-use crate::names::{circuit_fault_name, imp_fault_name};
+use crate::refusal_names::{circuit_fault_name, imp_fault_name};
 use crate::texts::formula_of_texts;
 use aiger_text::AagFault;
 use dq_formula::Formula;

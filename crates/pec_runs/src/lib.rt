@@ -7,5 +7,5 @@ pub use encoding::encode;
 
 mod designs;
 mod encoding;
-mod names;
+mod refusal_names;
 mod texts;

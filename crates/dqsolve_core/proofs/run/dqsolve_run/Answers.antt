@@ -8,13 +8,17 @@ use Rattle.dqsolve_core.proofs.run.dqsolve_run.Goals as goal
 
 pub returns-clause-ends : goal.returns-clause-ends
 returns-clause-ends g c =
-    ends (state_of g.F.Files c.args.files.now) (state_of g.F.Files c.report-output.new.files) (command_of (map string_bytes c.args.words.now)) c.report-output.new.log
-    (sink_of g.K.Sink c.args.out.now) (sink_of g.K.Sink c.deliver.new.out) c.report-output.result c.deliver.result c.report-output.ensures.reported c.deliver.ensures
+    ends (state_of g.F.Files c.args.files.now) (state_of g.F.Files c.report-output.new.files)
+    (command_of (map string_bytes c.args.words.now)) c.report-output.new.log
+    (sink_of g.K.Sink c.args.out.now) (sink_of g.K.Sink c.deliver.new.out) c.report-output.result c.deliver.result
+    c.report-output.ensures.reported c.deliver.ensures
 
 pub returns-clause-log : goal.returns-clause-log
 returns-clause-log g c =
-    own_log (state_of g.F.Files c.args.files.now) (state_of g.F.Files c.report-output.new.files) (command_of (map string_bytes c.args.words.now)) c.report-output.new.log
-    (sink_of g.K.Sink c.args.out.now) (sink_of g.K.Sink c.deliver.new.out) c.report-output.result c.deliver.result c.report-output.ensures.reported c.report-output.ensures.limit c.report-output.ensures.log c.deliver.ensures
+    own_log (state_of g.F.Files c.args.files.now) (state_of g.F.Files c.report-output.new.files)
+    (command_of (map string_bytes c.args.words.now)) c.report-output.new.log
+    (sink_of g.K.Sink c.args.out.now) (sink_of g.K.Sink c.deliver.new.out) c.report-output.result c.deliver.result
+    c.report-output.ensures.reported c.report-output.ensures.limit c.report-output.ensures.log c.deliver.ensures
 
 pub returns-clause-told : goal.returns-clause-told
 returns-clause-told g c =
@@ -23,10 +27,14 @@ returns-clause-told g c =
       exact = λ text f. (c.formula_or_first_fault.ensures.exact text f).0;
       unique = c.formula_or_first_fault.ensures.unique;
     })
-    (state_of g.F.Files c.args.files.now) (state_of g.F.Files c.report-output.new.files) (command_of (map string_bytes c.args.words.now)) c.report-output.new.log
-    (sink_of g.K.Sink c.args.out.now) (sink_of g.K.Sink c.deliver.new.out) c.report-output.result c.deliver.result c.report-output.ensures.reported c.deliver.ensures
+    (state_of g.F.Files c.args.files.now) (state_of g.F.Files c.report-output.new.files)
+    (command_of (map string_bytes c.args.words.now)) c.report-output.new.log
+    (sink_of g.K.Sink c.args.out.now) (sink_of g.K.Sink c.deliver.new.out) c.report-output.result c.deliver.result
+    c.report-output.ensures.reported c.deliver.ensures
 
 pub returns-clause-causes : goal.returns-clause-causes
 returns-clause-causes g c =
-    causes (state_of g.F.Files c.args.files.now) (state_of g.F.Files c.report-output.new.files) (command_of (map string_bytes c.args.words.now)) c.report-output.new.log
-    (sink_of g.K.Sink c.args.out.now) (sink_of g.K.Sink c.deliver.new.out) c.report-output.result c.deliver.result c.report-output.ensures.held c.report-output.ensures.reported c.deliver.ensures
+    causes (state_of g.F.Files c.args.files.now) (state_of g.F.Files c.report-output.new.files)
+    (command_of (map string_bytes c.args.words.now)) c.report-output.new.log
+    (sink_of g.K.Sink c.args.out.now) (sink_of g.K.Sink c.deliver.new.out) c.report-output.result c.deliver.result
+    c.report-output.ensures.held c.report-output.ensures.reported c.deliver.ensures

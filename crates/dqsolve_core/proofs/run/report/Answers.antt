@@ -9,33 +9,46 @@ use Rattle.dqsolve_core.proofs.run.report.Goals as goal
 
 pub report_file-requires : goal.report_file-requires
 report_file-requires g c =
-    let asked = solve_asked (command_of (map string_bytes c.args.words.now)) c.in_ok-command_words.field-0 c.in-Some-Solve.field-0 c.in-Some-Solve.asked
+    let asked = solve_asked (command_of (map string_bytes c.args.words.now)) c.in_ok-command_words.field-0
+    c.in-Some-Solve.field-0 c.in-Some-Solve.asked
     c.in_ok-command_words.ensures c.in-Some-Solve.is c.in-Some-Solve.field-0-is in
-    record { steps = (c.numbers_are_in_range.ensures (map string_bytes c.args.words.now) (solve (search_of c.in-Some-Solve.asked)) asked).1 }
+    record {
+      steps = (c.numbers_are_in_range.ensures (map string_bytes c.args.words.now)
+          (solve (search_of c.in-Some-Solve.asked)) asked).1;
+    }
 
 pub report_demo-requires-clause-seed : goal.report_demo-requires-clause-seed
 report_demo-requires-clause-seed g c =
-    let asked = demo_asked (command_of (map string_bytes c.args.words.now)) c.in_ok-command_words.field-0 c.in-Some-Demo.field-0 c.in-Some-Demo.asked
+    let asked = demo_asked (command_of (map string_bytes c.args.words.now)) c.in_ok-command_words.field-0
+    c.in-Some-Demo.field-0 c.in-Some-Demo.asked
     c.in_ok-command_words.ensures c.in-Some-Demo.is c.in-Some-Demo.field-0-is in
-    (c.numbers_are_in_range.ensures (map string_bytes c.args.words.now) (demo (planting_of c.in-Some-Demo.asked)) asked).0
+    (c.numbers_are_in_range.ensures (map string_bytes c.args.words.now)
+    (demo (planting_of c.in-Some-Demo.asked)) asked).0
 
 pub report_demo-requires-clause-least : goal.report_demo-requires-clause-least
 report_demo-requires-clause-least g c =
-    let asked = demo_asked (command_of (map string_bytes c.args.words.now)) c.in_ok-command_words.field-0 c.in-Some-Demo.field-0 c.in-Some-Demo.asked
+    let asked = demo_asked (command_of (map string_bytes c.args.words.now)) c.in_ok-command_words.field-0
+    c.in-Some-Demo.field-0 c.in-Some-Demo.asked
     c.in_ok-command_words.ensures c.in-Some-Demo.is c.in-Some-Demo.field-0-is in
-    (c.numbers_are_in_range.ensures (map string_bytes c.args.words.now) (demo (planting_of c.in-Some-Demo.asked)) asked).1
+    (c.numbers_are_in_range.ensures (map string_bytes c.args.words.now)
+    (demo (planting_of c.in-Some-Demo.asked)) asked).1
 
 pub report_demo-requires-clause-most : goal.report_demo-requires-clause-most
 report_demo-requires-clause-most g c =
-    let asked = demo_asked (command_of (map string_bytes c.args.words.now)) c.in_ok-command_words.field-0 c.in-Some-Demo.field-0 c.in-Some-Demo.asked
+    let asked = demo_asked (command_of (map string_bytes c.args.words.now)) c.in_ok-command_words.field-0
+    c.in-Some-Demo.field-0 c.in-Some-Demo.asked
     c.in_ok-command_words.ensures c.in-Some-Demo.is c.in-Some-Demo.field-0-is in
-    (c.numbers_are_in_range.ensures (map string_bytes c.args.words.now) (demo (planting_of c.in-Some-Demo.asked)) asked).2
+    (c.numbers_are_in_range.ensures (map string_bytes c.args.words.now)
+    (demo (planting_of c.in-Some-Demo.asked)) asked).2
 
 pub returns-in-Some-Demo-clause-reported : goal.returns-in-Some-Demo-clause-reported
 returns-in-Some-Demo-clause-reported g c =
-    let asked = demo_asked (command_of (map string_bytes c.args.words.now)) c.in_ok-command_words.field-0 c.in-Some-Demo.field-0 c.in-Some-Demo.asked
+    let asked = demo_asked (command_of (map string_bytes c.args.words.now)) c.in_ok-command_words.field-0
+    c.in-Some-Demo.field-0 c.in-Some-Demo.asked
     c.in_ok-command_words.ensures c.in-Some-Demo.is c.in-Some-Demo.field-0-is in
-    subst (λ command. IfOk c.report_demo.result (IsReported (state_of g.F.Files c.args.files.now) (state_of g.F.Files c.args.files.now) command c.report_demo.new.log))
+    subst (λ command. IfOk c.report_demo.result (IsReported (state_of g.F.Files c.args.files.now)
+    (state_of g.F.Files c.args.files.now) command c.report_demo.new.log))
     (sym asked)
-    (demo_reported (state_of g.F.Files c.args.files.now) c.report_demo.new.log (planting_of c.in-Some-Demo.asked) c.report_demo.result c.report_demo.ensures.limit
+    (demo_reported (state_of g.F.Files c.args.files.now) c.report_demo.new.log
+    (planting_of c.in-Some-Demo.asked) c.report_demo.result c.report_demo.ensures.limit
     c.report_demo.ensures.demonstrated)

@@ -8,7 +8,8 @@ use Rattle.dqsolve_core.proofs.run.report_file.Goals as goal
 pub returns-in-Ok-clause-reported : goal.returns-in-Ok-clause-reported
 returns-in-Ok-clause-reported g c =
     verdict_reported (state_of g.F.Files c.args.files.now) (state_of g.F.Files c.read_formula.new.files) c.solve.new.log
-    (record { steps = c.args.asked.steps; bare = c.args.asked.bare; file = c.args.asked.file.now }) c.in-Ok.formula c.solve.result
+    (record { steps = c.args.asked.steps; bare = c.args.asked.bare; file = c.args.asked.file.now }) c.in-Ok.formula
+    c.solve.result
     c.in-Ok.ensures.read.0
     c.in-Ok.ensures.read.1
     (c.in-Ok.ensures.unfaulted (λ none. none))
@@ -32,8 +33,11 @@ returns-in-Err-Said-clause-reported g c =
     let now = state_of g.F.Files c.read_formula.new.files in
     let stop = c.in-Err-Said.field-0 in
     let said = c.in-Err-Said.said in
-    let read = said_read before now c.args.asked.file.now c.read_formula.result stop said c.in-Err-Said.is c.in-Err-Said.field-0-is c.read_formula.ensures.read in
+    let read = said_read before now c.args.asked.file.now c.read_formula.result stop said c.in-Err-Said.is
+    c.in-Err-Said.field-0-is c.read_formula.ensures.read in
     said_reported before now c.rewind.new.self
-    (record { steps = c.args.asked.steps; bare = c.args.asked.bare; file = c.args.asked.file.now }) said c.output.result read.0 read.1
-    (λ other. c.read_formula.ensures.unfaulted (not_unreadable c.read_formula.result stop said c.in-Err-Said.is c.in-Err-Said.field-0-is other))
+    (record { steps = c.args.asked.steps; bare = c.args.asked.bare; file = c.args.asked.file.now }) said c.output.result
+    read.0 read.1
+    (λ other. c.read_formula.ensures.unfaulted (not_unreadable c.read_formula.result stop said c.in-Err-Said.is
+    c.in-Err-Said.field-0-is other))
     c.output.ensures

@@ -1,10 +1,11 @@
 use Rattle.std.proofs.Common.{◌∙◌, Some, None, codes}
 use Rattle.clap.specs.Matches.{found_of}
 use Rattle.dqsolve_words.proofs.Matches.{flag_found}
-use Rattle.dqsolve_words.proofs.names.bare_in.Goals as goal
+use Rattle.dqsolve_words.proofs.requests.bare_in.Goals as goal
 
 pub returns-in-Some : goal.returns-in-Some
-returns-in-Some c = c.eq.ensures ∙ flag_found (found_of c.args.matches.now) (codes "bare") (Some c.in-Some.value.now) c.in-Some.ensures
+returns-in-Some c = c.eq.ensures ∙ flag_found (found_of c.args.matches.now) (codes "bare")
+    (Some c.in-Some.value.now) c.in-Some.ensures
 
 pub returns-in-None : goal.returns-in-None
 returns-in-None c = flag_found (found_of c.args.matches.now) (codes "bare") None c.in-None.ensures
