@@ -8,7 +8,7 @@ use Rattle.dq_lits.specs.Literal.{Literal}
 use Rattle.dq_lits.specs.Derivation.{holds}
 use Rattle.oracle.specs.Fit.{live_in}
 use Rattle.cdcl_core.specs.Passes.{AreTrueWithin}
-use Rattle.cdcl_core.specs.Pieces.{pieces, AreEnds}
+use Rattle.learning_trail.specs.Pieces.{pieces, AreEnds}
 use Rattle.cdcl_core.specs.Runs.{head_of, BeginsAlike, BeginsTrue, BeginAlike, IsNextStart, AreStarts}
 use Rattle.truth_values.proofs.HeldLiterals.{holds_first, any_one}
 

@@ -1,7 +1,7 @@
 -- How clauses are kept, flat.
 use Rattle.std.specs.Prelude.{◌≡◌, ℕ, ◌+◌, ◌≤◌, List, length, vec_capacity}
 use Rattle.dq_lits.specs.Literal.{Literal}
-use Rattle.cdcl_core.specs.Pieces.{pieces, AreEnds}
+use Rattle.learning_trail.specs.Pieces.{pieces, AreEnds}
 use Rattle.cdcl_core.specs.Runs.{AreStarts}
 use Rattle.cdcl_core.specs.declared.arenas.Arena.TheInside.{Inside}
 

@@ -1,7 +1,6 @@
 pub mod ArenaInside
 pub mod Chains
 pub mod Passes
-pub mod Pieces
 pub mod Runs
 pub mod Searching
 pub mod Solver

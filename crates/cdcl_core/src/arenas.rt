@@ -3,7 +3,7 @@
 ghost use Rattle.std.specs.Prelude.{◌≡◌, ◌≤◌, ◌<◌, ◌+◌, ◌++◌, ◌∷◌, [], List, true, length, OnOk, Some, slice_get, vec_capacity};
 ghost use Rattle.dq_lits.specs.Literal.{Literal};
 ghost use Rattle.oracle.specs.Fit.{live_in};
-ghost use Rattle.cdcl_core.specs.Pieces.{pieces, AreEnds, start_of};
+ghost use Rattle.learning_trail.specs.Pieces.{pieces, AreEnds, start_of};
 ghost use Rattle.cdcl_core.specs.Runs.{BeginAlike, BeginsAlike, IsNextStart};
 
 use dq_lits::{Lit, Memory};

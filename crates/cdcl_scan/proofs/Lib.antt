@@ -1,2 +1,2 @@
 pub mod ClausePasses
-pub mod ClausePieces
+pub mod ClauseRuns

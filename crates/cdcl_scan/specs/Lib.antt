@@ -1,5 +1,4 @@
 pub mod Passes
-pub mod Pieces
 pub mod Runs
 pub mod Scanning
 pub mod Searching

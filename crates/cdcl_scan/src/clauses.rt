@@ -5,7 +5,7 @@ ghost use Rattle.dq_lits.specs.Literal.{Literal};
 ghost use Rattle.dq_lits.specs.Derivation.{holds};
 ghost use Rattle.oracle.specs.Fit.{live_in};
 ghost use Rattle.cdcl_scan.specs.Runs.{Shares, AreRuns};
-ghost use Rattle.cdcl_scan.specs.Pieces.{pieces, AreEnds, start_of};
+ghost use Rattle.learning_trail.specs.Pieces.{pieces, AreEnds, start_of};
 
 use dq_lits::{Lit, Memory};
 use learning_trail::{Clauses, holds};

@@ -1,6 +1,7 @@
 pub mod AnswerClauses
 pub mod AssignedLiterals
 pub mod BacktrackSteps
+pub mod ClausePieces
 pub mod ClauseStatus
 pub mod ConflictAnalysis
 pub mod FitLogs

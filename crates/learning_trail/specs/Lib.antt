@@ -8,6 +8,7 @@ pub mod Lessons
 pub mod Marks
 pub mod Noting
 pub mod Passes
+pub mod Pieces
 pub mod Searching
 pub mod Sound
 pub mod Steps

@@ -1,5 +1,5 @@
 use Rattle.std.proofs.Common.{rules, ◌≤◌, ◌-◌, sym, ◌∙◌, ap, arith, length, take, drop, get_or, Some}
-use Rattle.cdcl_core.proofs.ClausePieces.{piece_at}
+use Rattle.learning_trail.proofs.ClausePieces.{piece_at}
 use Rattle.cdcl_core.proofs.arenas.piece.Goals as goal
 
 pub offset_bounds-literals-start : goal.offset_bounds-literals-start

@@ -1,6 +1,6 @@
 use Rattle.std.proofs.Common.{◌≡◌, ◌-◌, ◌<◌, suc, sym, ◌∙◌, ap, arith, length}
-use Rattle.cdcl_core.specs.Pieces.{start_of}
-use Rattle.cdcl_core.proofs.ClausePieces.{start_before}
+use Rattle.learning_trail.specs.Pieces.{start_of}
+use Rattle.learning_trail.proofs.ClausePieces.{start_before}
 use Rattle.cdcl_core.proofs.arenas.start_of.Goals as goal
 
 pub returns-else-at-eq0 : goal.returns-else-at-eq0

@@ -1,7 +1,7 @@
 use Rattle.std.proofs.Common.{◌≡◌, ◌∷◌, ◌++◌, [], sym, ◌∙◌, subst, List, length}
 use Rattle.cdcl_scan.specs.declared.clauses.Run.{Run}
 use Rattle.cdcl_scan.specs.Runs.{AreRuns}
-use Rattle.cdcl_scan.proofs.ClausePieces.{runs_extended, runs_begun}
+use Rattle.cdcl_scan.proofs.ClauseRuns.{runs_extended, runs_begun}
 use Rattle.cdcl_scan.proofs.clauses.extend_runs.Goals as goal
 
 pub returns-then-is_shared : goal.returns-then-is_shared

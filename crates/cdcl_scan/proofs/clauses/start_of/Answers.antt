@@ -1,6 +1,6 @@
 use Rattle.std.proofs.Common.{◌≡◌, ◌-◌, ◌<◌, suc, sym, ◌∙◌, ap, arith, length}
-use Rattle.cdcl_scan.specs.Pieces.{start_of}
-use Rattle.cdcl_scan.proofs.ClausePieces.{start_before}
+use Rattle.learning_trail.specs.Pieces.{start_of}
+use Rattle.learning_trail.proofs.ClausePieces.{start_before}
 use Rattle.cdcl_scan.proofs.clauses.start_of.Goals as goal
 
 pub returns-else-at-eq0 : goal.returns-else-at-eq0

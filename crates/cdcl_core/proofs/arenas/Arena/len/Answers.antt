@@ -1,6 +1,6 @@
 use Rattle.std.proofs.Common.{length, sym, ◌∙◌, ap}
 use Rattle.cdcl_core.specs.ArenaInside.{Arranged}
-use Rattle.cdcl_core.proofs.ClausePieces.{pieces-length}
+use Rattle.learning_trail.proofs.ClausePieces.{pieces-length}
 use Rattle.cdcl_core.proofs.arenas.Arena.len.Goals as goal
 
 pub returns : goal.returns

@@ -1,6 +1,6 @@
 use Rattle.std.proofs.Common.{length, ap, arith}
 use Rattle.cdcl_core.specs.ArenaInside.{Arranged}
-use Rattle.cdcl_core.proofs.ClausePieces.{pieces-length}
+use Rattle.learning_trail.proofs.ClausePieces.{pieces-length}
 use Rattle.cdcl_core.proofs.arenas.Arena.lits.Goals as goal
 
 pub piece-requires-clause-at : goal.piece-requires-clause-at

@@ -1,10 +1,10 @@
 use Rattle.std.proofs.Common.{◌≡◌, ◌∷◌, ◌++◌, [], sym, ◌∙◌, ap, subst, List, length, length-append, arith, ℕ}
 use Rattle.dq_lits.specs.Literal.{Literal}
-use Rattle.cdcl_core.specs.Pieces.{AreEnds, pieces}
+use Rattle.learning_trail.specs.Pieces.{AreEnds, pieces}
 use Rattle.cdcl_core.specs.ArenaInside.{Arranged}
 use Rattle.cdcl_core.specs.Runs.{IsNextStart, AreStarts}
 use Rattle.cdcl_core.proofs.EqualHeads.{starts_more}
-use Rattle.cdcl_core.proofs.ClausePieces.{pieces-length, pieces_more, ends_more}
+use Rattle.learning_trail.proofs.ClausePieces.{pieces-length, pieces_more, ends_more}
 use Rattle.cdcl_core.proofs.arenas.Arena.push.Goals as goal
 
 pub invariant_of-self : goal.invariant_of-self

@@ -3,7 +3,7 @@ use Rattle.cdcl_core.specs.ArenaInside.{Arranged}
 use Rattle.cdcl_core.specs.Runs.{BeginAlike}
 use Rattle.cdcl_core.proofs.EqualHeads.{start_at}
 use Rattle.cdcl_core.proofs.LinkedLists.{read_zero}
-use Rattle.cdcl_core.proofs.ClausePieces.{pieces-length}
+use Rattle.learning_trail.proofs.ClausePieces.{pieces-length}
 use Rattle.cdcl_core.proofs.arenas.Arena.start.Goals as goal
 
 pub index-requires : goal.index-requires

@@ -1,6 +1,6 @@
 use Rattle.std.proofs.Common.{length, sym, ◌∙◌, ap}
 use Rattle.cdcl_scan.specs.Storage.{Stored}
-use Rattle.cdcl_scan.proofs.ClausePieces.{pieces-length}
+use Rattle.learning_trail.proofs.ClausePieces.{pieces-length}
 use Rattle.cdcl_scan.proofs.clauses.ClauseStore.len.Goals as goal
 
 pub returns : goal.returns

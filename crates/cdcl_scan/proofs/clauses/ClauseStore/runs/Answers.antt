@@ -1,9 +1,9 @@
 use Rattle.std.proofs.Common.{length, sym, subst, List, ℕ}
 use Rattle.cdcl_scan.specs.declared.clauses.Run.{Run}
 use Rattle.cdcl_scan.specs.Runs.{AreRuns}
-use Rattle.cdcl_scan.specs.Pieces.{pieces}
+use Rattle.learning_trail.specs.Pieces.{pieces}
 use Rattle.cdcl_scan.specs.Storage.{Stored}
-use Rattle.cdcl_scan.proofs.ClausePieces.{pieces-length}
+use Rattle.learning_trail.proofs.ClausePieces.{pieces-length}
 use Rattle.cdcl_scan.proofs.clauses.ClauseStore.runs.Goals as goal
 
 pub returns : goal.returns

@@ -1,9 +1,9 @@
 use Rattle.std.proofs.Common.{◌≡◌, ◌+◌, ◌∷◌, ◌++◌, [], sym, ◌∙◌, ap, subst, List, length, arith, ℕ, length-append}
 use Rattle.dq_lits.specs.Literal.{Literal}
 use Rattle.cdcl_scan.specs.Runs.{AreRuns}
-use Rattle.cdcl_scan.specs.Pieces.{AreEnds, pieces}
+use Rattle.learning_trail.specs.Pieces.{AreEnds, pieces}
 use Rattle.cdcl_scan.specs.Storage.{Stored}
-use Rattle.cdcl_scan.proofs.ClausePieces.{pieces_more, ends_more, pieces-length}
+use Rattle.learning_trail.proofs.ClausePieces.{pieces_more, ends_more, pieces-length}
 use Rattle.cdcl_scan.proofs.clauses.ClauseStoreClauses.add.Goals as goal
 
 pub invariant_of-self : goal.invariant_of-self

@@ -2,7 +2,7 @@
 use Rattle.std.proofs.Common.{◌≡◌, ℕ, zero, suc, ◌+◌, ◌-◌, ◌<◌, ◌≤◌, List, [], ◌∷◌, ◌++◌, length, take, drop, get_or, slice_get, Some, refl, ◌∙◌, ap, arith, length-append}
 use Rattle.std.proofs.lemmas.List.{take-append-le}
 use Rattle.dq_lits.specs.Literal.{Literal}
-use Rattle.cdcl_core.specs.Pieces.{pieces, AreEnds, start_of}
+use Rattle.learning_trail.specs.Pieces.{pieces, AreEnds, start_of}
 
 pub pieces-length : (xs : List Literal) (start : ℕ) (ends : List ℕ) → length (pieces xs start ends) ≡ length ends
 pieces-length xs start [] = refl
