@@ -26,7 +26,8 @@ abbrev pub ended : TokenSummary → ℕ → List SummarizedToken → List Summar
 ended token line rest = if is_begun token.head then record { summary = token; line = line } ∷ rest else rest
 
 -- behind an unfinished token a byte of this kind, and then what the bytes behind it give
-abbrev pub tokens_by : ByteKind → TokenSummary → LinePlace → ℕ → ℕ → (TokenSummary → LinePlace → ℕ → List SummarizedToken) → List SummarizedToken
+abbrev pub tokens_by : ByteKind → TokenSummary → LinePlace → ℕ → ℕ →
+    (TokenSummary → LinePlace → ℕ → List SummarizedToken) → List SummarizedToken
 tokens_by kind token place line byte next =
     if is_in_token kind place
     then next (grown token byte) (place_after kind place) (line_after kind line)

@@ -1,5 +1,6 @@
 mod Keys
 mod ReadIsSpelled
+mod CompletedReadings
 mod PiecesAnswer
 mod Runs
 mod SpelledClauses

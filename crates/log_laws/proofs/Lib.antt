@@ -10,6 +10,7 @@ mod Checks
 mod FalseLog
 mod MissedPoints
 mod TrueLog
+mod ProductiveTrueLog
 mod MissedTurns
 mod TrueDecided
 pub mod LargerLogs

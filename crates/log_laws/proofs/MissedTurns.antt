@@ -13,7 +13,8 @@ use Rattle.log_laws.specs.Examples.{Point, matching_origins, derived_lemmas, new
 use Rattle.log_laws.proofs.Checks.{named_by}
 use Rattle.log_laws.proofs.FalseLog.{new_name}
 use Rattle.log_laws.proofs.TrueDecided.{faults_selectors}
-use Rattle.log_laws.proofs.TrueLog.{Fits, fault_of, fault_first, faults_fit, faults_logged, faults_matches, faults_derived, faults_new, faults_rows, faults_models, faults_single}
+use Rattle.log_laws.proofs.TrueLog.{Fits, fault_of, faults_fit, faults_logged, faults_matches, faults_derived}
+use Rattle.log_laws.proofs.ProductiveTrueLog.{fault_first, faults_new, faults_rows, faults_models, faults_single}
 
 output_others : (other : Point) → other ≢ matching_origins → Meets seen_conjunction second_output other
 output_others matching_origins differs = absurd (differs refl)

@@ -1,7 +1,8 @@
 use Rattle.log_laws.specs.Examples.{seen_conjunction, shown}
 use Rattle.log_laws.specs.Meaning.{IsSoundLog}
 use Rattle.log_laws.proofs.TrueDecided.{shown_selectors, shown_decides}
-use Rattle.log_laws.proofs.TrueLog.{shown_logged, shown_productive, seen_conjunction_well_formed}
+use Rattle.log_laws.proofs.TrueLog.{shown_logged}
+use Rattle.log_laws.proofs.ProductiveTrueLog.{shown_productive, seen_conjunction_well_formed}
 use Rattle.log_laws.proofs.examples.true_formula_is_shown.Goals as goal
 
 sound : IsSoundLog seen_conjunction shown
