@@ -16,6 +16,19 @@ pub nothing_asked : (f : Dqbf) (graph : AigGraph) (p : Padoa) (log : ProofLog) �
     HasAsked f graph graph p log log
 nothing_asked f graph p log may = record { may = may; limit_same = refl; extends = extends-refl graph }
 
+pub grown_asked : (f : Dqbf) (graph grown : AigGraph) (p : Padoa) (log : ProofLog) → MayAsk f graph p log.entries →
+    Extends graph grown → HasAsked f graph grown p log log
+grown_asked f graph grown p log may extends = record {
+  may = record {
+    formula = may.formula;
+    fresh = may.fresh;
+    padoa = may.padoa;
+    inputs = extends.inputs ∙ may.inputs;
+  };
+  limit_same = refl;
+  extends = extends;
+}
+
 pub asked_then : (f : Dqbf) (graph middle grown : AigGraph) (p q : Padoa) (old log new : ProofLog) →
     HasAsked f graph middle p old log →
     HasAsked f middle grown q log new → HasAsked f graph grown q old new

@@ -2,6 +2,7 @@ mod Rows
 mod UniversalClauses
 mod Extends
 mod Stages
+mod Turned
 mod Defined
 mod Asked
 mod ConsistentConditions

@@ -1,4 +1,5 @@
 pub mod Searching
+pub mod Turning
 pub mod Stopping
 pub mod Refuting
 pub mod Stating

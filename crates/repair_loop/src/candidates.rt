@@ -1,10 +1,9 @@
 //! Candidates from a model of the expansion.
 
-ghost use Rattle.std.specs.Prelude.{◌≡◌, ℕ, OnErr, IsErrOf, Ok};
+ghost use Rattle.std.specs.Prelude.{◌≡◌, ℕ, Ok};
 ghost use Rattle.aig_graph.specs.Made.{Extends};
-ghost use Rattle.hint_log.specs.Deciding.{IsUndecided};
-ghost use Rattle.repair_loop.specs.Searching.{IsKept, AreKnown, IsSearch, AreBuilt, LogGrew, IsShownFalse};
-ghost use Rattle.oracle.specs.Limits.{IsAtSomeLimit};
+ghost use Rattle.repair_loop.specs.Searching.{IsShownFalse};
+ghost use Rattle.repair_loop.specs.Turning.{AreKnownIn, AreProposed, HasGoneOn, IsSearchOf, IsStoppedAs};
 
 use crate::decisions::Engines;
 use crate::forcing::TableModel;
@@ -38,29 +37,16 @@ impl Engines {
         log: &mut Log,
     ) -> Result<Proposal, Stop>
         requires fit { O.Fits oracle.old log.old }
-        requires search { IsSearch f.now graph.old self.old.table self.old.checker
-            self.old.definitions.padoa log.old.entries }
-        requires known { AreKnown f.now self.old.definitions.ranks.items graph.old
-            self.old.definitions.nodes.items self.old.definitions.rules.items
-            self.old.definitions.guesses.items }
+        requires search { IsSearchOf f.now graph.old self.old log.old.entries }
+        requires known { AreKnownIn f.now graph.old self.old.definitions }
         ensures fit { O.Fits oracle.new log.new }
         ensures extends { Extends graph.old graph.new }
-        ensures padoa { self.new.definitions.padoa ≡ self.old.definitions.padoa }
-        ensures kept { IsKept f.now log.new.entries }
-        ensures grew { LogGrew log.old log.new }
+        ensures went { HasGoneOn f.now log.old log.new }
         ensures refuted { (id : ℕ) → result ≡ Ok (Proposal.Refuted id)
             → IsShownFalse f.now log.new id }
-        ensures search { (outputs : _) → result ≡ Ok (Proposal.Candidates outputs)
-            → IsSearch f.now graph.new self.new.table self.new.checker self.new.definitions.padoa
-            log.new.entries }
-        ensures known { (outputs : _) → result ≡ Ok (Proposal.Candidates outputs)
-            → AreKnown f.now self.new.definitions.ranks.items graph.new
-            self.new.definitions.nodes.items self.new.definitions.rules.items
-            self.new.definitions.guesses.items }
-        ensures candidates { (outputs : _) → result ≡ Ok (Proposal.Candidates outputs)
-            → AreBuilt f.now graph.new self.new.table.rows outputs }
-        ensures undecided { OnErr result (IsUndecided f.now log.new.entries) }
-        ensures limit { IsErrOf result Stop.Limit → IsAtSomeLimit log.new }
+        ensures proposed { (outputs : _) → result ≡ Ok (Proposal.Candidates outputs)
+            → AreProposed f.now graph.new self.new outputs log.new.entries }
+        ensures stopped { IsStoppedAs f.now log.new result }
     {
         engines_leave_the_rest();
         checkers_stay();

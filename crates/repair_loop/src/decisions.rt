@@ -4,7 +4,8 @@ ghost use Rattle.std.specs.Prelude.{◌≡◌, [], ℕ, length, OnErr, IsErrOf, 
 ghost use Rattle.dq_lits.specs.Formula.{IsWellFormed};
 ghost use Rattle.hint_log.specs.Deciding.{IsUndecided, KeepsSelectors};
 ghost use Rattle.hint_log.specs.ProductiveLog.{IsProductiveLog};
-ghost use Rattle.repair_loop.specs.Searching.{IsKept, HasInputs, AreKnown, IsSearch, IsShownTrue, IsShownFalse};
+ghost use Rattle.repair_loop.specs.Searching.{IsKept, HasInputs, IsShownTrue, IsShownFalse};
+ghost use Rattle.repair_loop.specs.Turning.{AreKnownIn, IsSearchOf, IsStoppedAs};
 ghost use Rattle.repair_loop.specs.Stopping.{IsStoppedAtLimit};
 
 use crate::candidates::Proposal;
@@ -100,11 +101,8 @@ impl Engines {
         log: &mut Log,
     ) -> Result<Verdict, Stop>
         requires fit { O.Fits oracle.old log.old }
-        requires search { IsSearch f.now graph.old self.old.table self.old.checker
-            self.old.definitions.padoa log.old.entries }
-        requires known { AreKnown f.now self.old.definitions.ranks.items graph.old
-            self.old.definitions.nodes.items self.old.definitions.rules.items
-            self.old.definitions.guesses.items }
+        requires search { IsSearchOf f.now graph.old self.old log.old.entries }
+        requires known { AreKnownIn f.now graph.old self.old.definitions }
         ensures fit { O.Fits oracle.new log.new }
         ensures inputs { graph.new.inputs ≡ graph.old.inputs }
         ensures kept { IsKept f.now log.new.entries }
@@ -113,8 +111,7 @@ impl Engines {
             → IsShownTrue f.now graph.new nodes log.new id }
         ensures shown_false { (id : ℕ) → result ≡ Ok (Verdict.False id)
             → IsShownFalse f.now log.new id }
-        ensures undecided { OnErr result (IsUndecided f.now log.new.entries) }
-        ensures limit { IsErrOf result Stop.Limit → IsStoppedAtLimit f.now log.new }
+        ensures stopped { IsStoppedAs f.now log.new result }
     {
         engines_leave_the_rest();
         checkers_stay();

@@ -8,7 +8,8 @@ ghost use Rattle.log_laws.specs.Engines.{copies, HasNone, IsAddedBy};
 ghost use Rattle.padoa_definitions.specs.Copies.{IsPadoa};
 ghost use Rattle.padoa_definitions.specs.Defining.{IsFound};
 ghost use Rattle.repair_loop.specs.Guessing.{HasAsked, MayAsk};
-ghost use Rattle.repair_loop.specs.Searching.{IsFresh, HasInputs, AreKnown, definition_in};
+ghost use Rattle.repair_loop.specs.Searching.{IsFresh, HasInputs, definition_in};
+ghost use Rattle.repair_loop.specs.Turning.{AreKnownIn};
 ghost use Rattle.oracle.specs.Limits.{IsAtSomeLimit};
 
 use crate::questions::Questions;
@@ -57,9 +58,7 @@ impl Definitions {
     // Nothing is known yet.
     fn none(alloc: Global, padoa: Padoa, gates: Gates, f: &Formula) -> Result<Definitions, Memory>
         ensures padoa { IfOk result (λ d. d.padoa ≡ padoa) }
-        ensures known { (graph : _)
-            → IfOk result (λ d. AreKnown f.now d.ranks.items graph d.nodes.items d.rules.items
-            d.guesses.items) }
+        ensures known { (graph : _) → IfOk result (AreKnownIn f.now graph) }
     {
         let ranks = gates.ranks(f)?;
         Ok(Definitions {
@@ -99,13 +98,11 @@ impl Definitions {
     ) -> Result<(), Stop>
         requires fit { O.Fits oracle.old log.old }
         requires may { MayAsk order.now.f.now graph.old self.old.padoa log.old.entries }
-        requires known { AreKnown order.now.f.now self.old.ranks.items graph.old
-            self.old.nodes.items self.old.rules.items self.old.guesses.items }
+        requires known { AreKnownIn order.now.f.now graph.old self.old }
         requires places { All (λ p. p < length order.now.f.now.existentials) order.now.places.now }
         ensures fit { O.Fits oracle.new log.new }
         ensures asked { HasAsked order.now.f.now graph.old graph.new self.new.padoa log.old log.new }
-        ensures known { OnOk result (AreKnown order.now.f.now self.new.ranks.items graph.new
-            self.new.nodes.items self.new.rules.items self.new.guesses.items) }
+        ensures known { OnOk result (AreKnownIn order.now.f.now graph.new self.new) }
         ensures limit { IsErrOf result Stop.Limit → IsAtSomeLimit log.new }
     {
         let f = order.f;
@@ -125,16 +122,13 @@ impl Definitions {
     ) -> Result<(), Stop>
         requires fit { O.Fits oracle.old log.old }
         requires may { MayAsk existential.now.f.now graph.old self.old.padoa log.old.entries }
-        requires known { AreKnown existential.now.f.now self.old.ranks.items graph.old
-            self.old.nodes.items self.old.rules.items self.old.guesses.items }
+        requires known { AreKnownIn existential.now.f.now graph.old self.old }
         requires place { existential.now.place < length existential.now.f.now.existentials }
         ensures fit { O.Fits oracle.new log.new }
         ensures asked { HasAsked existential.now.f.now graph.old graph.new self.new.padoa log.old log.new }
-        ensures known { OnOk result (AreKnown existential.now.f.now self.new.ranks.items graph.new
-            self.new.nodes.items self.new.rules.items self.new.guesses.items) }
+        ensures known { OnOk result (AreKnownIn existential.now.f.now graph.new self.new) }
         ensures limit { IsErrOf result Stop.Limit → IsAtSomeLimit log.new }
     {
-        engines_leave_the_rest();
         if !self.questions.is_open(existential.place) {
             return Ok(());
         }
@@ -157,23 +151,19 @@ impl Definitions {
         log: &mut Log,
     ) -> Result<Option<Found>, Stop>
         requires fit { O.Fits oracle.old log.old }
-        requires formula { IsWellFormed existential.now.f.now }
-        requires padoa { IsPadoa existential.now.f.now self.old.padoa log.old.entries }
+        requires may { MayAsk existential.now.f.now graph.old self.old.padoa log.old.entries }
         requires place { existential.now.place < length existential.now.f.now.existentials }
-        requires inputs { HasInputs existential.now.f.now graph.old }
         ensures fit { O.Fits oracle.new log.new }
         ensures same { self.new ≡ self.old }
-        ensures padoa { IsPadoa existential.now.f.now self.new.padoa log.new.entries }
-        ensures grew { (group : ℕ)
-            → Grew (IsAddedBy existential.now.f.now copies group true log.old.entries)
-            log.old log.new }
-        ensures extends { Extends graph.old graph.new }
+        ensures asked { HasAsked existential.now.f.now graph.old graph.new self.new.padoa log.old
+            log.new }
         ensures found { (e : Existential)
             → slice_get existential.now.f.now.existentials existential.now.place ≡ Some e
             → IfOk result (λ found. IfSome found (IsFound existential.now.f.now
             self.old.ranks.items graph.new e)) }
         ensures limit { IsErrOf result Stop.Limit → IsAtSomeLimit log.new }
     {
+        engines_leave_the_rest();
         let f = existential.f;
         f.every_formula_is_lawful();
         let y = f.existentials()[existential.place];
@@ -213,8 +203,7 @@ pub(crate) fn find_definitions<O: Oracle>(
     ensures limit_same { log.new.limit ≡ log.old.limit }
     ensures extends { Extends graph.old graph.new }
     ensures padoa { IfOk result (λ d. IsPadoa f.now d.padoa log.new.entries) }
-    ensures known { IfOk result (λ d. AreKnown f.now d.ranks.items graph.new d.nodes.items
-        d.rules.items d.guesses.items) }
+    ensures known { IfOk result (AreKnownIn f.now graph.new) }
     ensures limit { IsErrOf result Stop.Limit → IsAtSomeLimit log.new }
 {
     engines_leave_the_rest();

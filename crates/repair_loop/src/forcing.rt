@@ -5,8 +5,7 @@ ghost use Rattle.dq_lits.specs.Formula.{Dqbf, IsWellFormed};
 ghost use Rattle.dq_formula.specs.Prefix.{existential_variables};
 ghost use Rattle.dq_formula.specs.Rules.{IsRule};
 ghost use Rattle.dq_formula.specs.declared.rules.Rule.{Rule as RuleState};
-ghost use Rattle.padoa_definitions.specs.Copies.{IsPadoa};
-ghost use Rattle.repair_loop.specs.Searching.{GoesOn, LogGrew};
+ghost use Rattle.repair_loop.specs.Turning.{HasForced, IsModelOf, MayForce};
 ghost use Rattle.oracle.specs.Limits.{IsAtSomeLimit};
 
 use crate::definitions::{Definitions, ExistentialAt};
@@ -40,23 +39,10 @@ impl Definitions {
         log: &mut Log,
     ) -> Result<(), Stop>
         requires fit { O.Fits oracle.old log.old }
-        requires formula { IsWellFormed f.now }
-        requires padoa { IsPadoa f.now self.old.padoa log.old.entries }
-        requires as_many { length self.old.nodes.items ≡ length f.now.existentials }
-        requires rules { All (IsRule f.now) self.old.rules.items }
-        requires whole { All (λ row. length row ≡ length f.now.universals)
-            model.now.table.now.rows }
-        requires variables { model.now.points.now.variables ≡ existential_variables f.now }
-        requires point_rows { length model.now.points.now.rows ≡ length model.now.table.now.rows }
+        requires may { MayForce f.now self.old log.old.entries }
+        requires model { IsModelOf f.now model.now }
         ensures fit { O.Fits oracle.new log.new }
-        ensures same { self.new.padoa ≡ self.old.padoa }
-        ensures nodes { self.new.nodes.items ≡ self.old.nodes.items }
-        ensures ranks { self.new.ranks.items ≡ self.old.ranks.items }
-        ensures guesses { self.new.guesses.items ≡ self.old.guesses.items }
-        ensures rules { All (IsRule f.now) self.new.rules.items }
-        ensures goes_on { GoesOn f.now model.now.table.now self.old.padoa log.old.entries
-            log.new.entries }
-        ensures grew { LogGrew log.old log.new }
+        ensures forced { HasForced f.now model.now.table.now self.old self.new log.old log.new }
         ensures limit { IsErrOf result Stop.Limit → IsAtSomeLimit log.new }
     {
         if model.table.rows() == 0 {
@@ -79,29 +65,14 @@ impl Definitions {
         sample: &mut Sample,
         log: &mut Log,
     ) -> Result<(), Stop>
-        requires as_many { length self.old.nodes.items
-            ≡ length existential.now.f.now.existentials }
         requires fit { O.Fits oracle.old log.old }
-        requires formula { IsWellFormed existential.now.f.now }
-        requires padoa { IsPadoa existential.now.f.now self.old.padoa log.old.entries }
+        requires may { MayForce existential.now.f.now self.old log.old.entries }
         requires place { existential.now.place < length existential.now.f.now.existentials }
-        requires rules { All (IsRule existential.now.f.now) self.old.rules.items }
         requires some { 1 ≤ length model.now.table.now.rows }
-        requires whole { All (λ row. length row ≡ length existential.now.f.now.universals)
-            model.now.table.now.rows }
-        requires variables { model.now.points.now.variables
-            ≡ existential_variables existential.now.f.now }
-        requires point_rows { length model.now.points.now.rows ≡ length model.now.table.now.rows }
-        ensures nodes { self.new.nodes.items ≡ self.old.nodes.items }
-        ensures ranks { self.new.ranks.items ≡ self.old.ranks.items }
-        ensures guesses { self.new.guesses.items ≡ self.old.guesses.items }
+        requires model { IsModelOf existential.now.f.now model.now }
         ensures fit { O.Fits oracle.new log.new }
-        ensures padoa { IsPadoa existential.now.f.now self.new.padoa log.new.entries }
-        ensures same { self.new.padoa ≡ self.old.padoa }
-        ensures rules { All (IsRule existential.now.f.now) self.new.rules.items }
-        ensures goes_on { GoesOn existential.now.f.now model.now.table.now self.old.padoa
-            log.old.entries log.new.entries }
-        ensures grew { LogGrew log.old log.new }
+        ensures forced { HasForced existential.now.f.now model.now.table.now self.old self.new
+            log.old log.new }
         ensures limit { IsErrOf result Stop.Limit → IsAtSomeLimit log.new }
     {
         if let Some(_) = self.nodes[existential.place] {
@@ -153,26 +124,13 @@ impl Definitions {
         log: &mut Log,
     ) -> Result<(), Stop>
         requires fit { O.Fits oracle.old log.old }
-        requires formula { IsWellFormed existential.now.f.now }
-        requires padoa { IsPadoa existential.now.f.now self.old.padoa log.old.entries }
+        requires may { MayForce existential.now.f.now self.old log.old.entries }
         requires place { existential.now.place < length existential.now.f.now.existentials }
-        requires rules { All (IsRule existential.now.f.now) self.old.rules.items }
         requires some { 1 ≤ length model.now.table.now.rows }
-        requires whole { All (λ row. length row ≡ length existential.now.f.now.universals)
-            model.now.table.now.rows }
-        requires variables { model.now.points.now.variables
-            ≡ existential_variables existential.now.f.now }
-        requires point_rows { length model.now.points.now.rows ≡ length model.now.table.now.rows }
-        ensures nodes { self.new.nodes.items ≡ self.old.nodes.items }
-        ensures ranks { self.new.ranks.items ≡ self.old.ranks.items }
-        ensures guesses { self.new.guesses.items ≡ self.old.guesses.items }
+        requires model { IsModelOf existential.now.f.now model.now }
         ensures fit { O.Fits oracle.new log.new }
-        ensures padoa { IsPadoa existential.now.f.now self.new.padoa log.new.entries }
-        ensures same { self.new.padoa ≡ self.old.padoa }
-        ensures rules { All (IsRule existential.now.f.now) self.new.rules.items }
-        ensures goes_on { GoesOn existential.now.f.now model.now.table.now self.old.padoa
-            log.old.entries log.new.entries }
-        ensures grew { LogGrew log.old log.new }
+        ensures forced { HasForced existential.now.f.now model.now.table.now self.old self.new
+            log.old log.new }
         ensures limit { IsErrOf result Stop.Limit → IsAtSomeLimit log.new }
     {
         engines_leave_the_rest();
@@ -213,8 +171,7 @@ impl Definitions {
 // The newest row, and the points' bits there.
 fn newest_sample(alloc: Global, f: &Formula, model: &TableModel) -> Result<Sample, Memory>
     requires some { 1 ≤ length model.now.table.now.rows }
-    requires variables { model.now.points.now.variables ≡ existential_variables f.now }
-    requires point_rows { length model.now.points.now.rows ≡ length model.now.table.now.rows }
+    requires model { IsModelOf f.now model.now }
 {
     f.every_formula_is_lawful();
     let newest = model.table.rows();

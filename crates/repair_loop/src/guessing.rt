@@ -8,7 +8,8 @@ ghost use Rattle.hint_log.specs.Entries.{steps_of};
 ghost use Rattle.oracle.specs.Limits.{IsAtSomeLimit};
 ghost use Rattle.padoa_definitions.specs.Copies.{IsPadoa};
 ghost use Rattle.candidate_functions.specs.Candidates.{IsGuess};
-ghost use Rattle.repair_loop.specs.Searching.{IsFresh, HasInputs, AreKnown};
+ghost use Rattle.repair_loop.specs.Searching.{IsFresh, HasInputs};
+ghost use Rattle.repair_loop.specs.Turning.{AreKnownIn};
 ghost use Rattle.repair_loop.specs.Guessing.{AreConditions, HasAsked, LeavesKnown, MayAsk};
 
 use crate::conditions::MOST_SETS;
@@ -35,12 +36,10 @@ impl Definitions {
     ) -> Result<(), Stop>
         requires fit { O.Fits oracle.old log.old }
         requires may { MayAsk f.now graph.old self.old.padoa log.old.entries }
-        requires known { AreKnown f.now self.old.ranks.items graph.old self.old.nodes.items
-            self.old.rules.items self.old.guesses.items }
+        requires known { AreKnownIn f.now graph.old self.old }
         ensures fit { O.Fits oracle.new log.new }
         ensures asked { HasAsked f.now graph.old graph.new self.new.padoa log.old log.new }
-        ensures known { OnOk result (AreKnown f.now self.new.ranks.items graph.new
-            self.new.nodes.items self.new.rules.items self.new.guesses.items) }
+        ensures known { OnOk result (AreKnownIn f.now graph.new self.new) }
         ensures limit { IsErrOf result Stop.Limit → IsAtSomeLimit log.new }
     {
         self.guesses = no_nodes(self.questions.alloc, f.existentials().len())?;
@@ -71,13 +70,11 @@ impl Definitions {
     ) -> Result<(), Stop>
         requires fit { O.Fits oracle.old log.old }
         requires may { MayAsk f.now graph.old self.old.padoa log.old.entries }
-        requires known { AreKnown f.now self.old.ranks.items graph.old self.old.nodes.items
-            self.old.rules.items self.old.guesses.items }
+        requires known { AreKnownIn f.now graph.old self.old }
         requires many { length self.old.guesses.items ≡ length f.now.existentials }
         ensures fit { O.Fits oracle.new log.new }
         ensures asked { HasAsked f.now graph.old graph.new self.new.padoa log.old log.new }
-        ensures known { OnOk result (AreKnown f.now self.new.ranks.items graph.new
-            self.new.nodes.items self.new.rules.items self.new.guesses.items) }
+        ensures known { OnOk result (AreKnownIn f.now graph.new self.new) }
         ensures limit { IsErrOf result Stop.Limit → IsAtSomeLimit log.new }
     {
         f.every_formula_is_lawful();

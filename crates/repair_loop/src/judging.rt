@@ -1,13 +1,11 @@
 //! The check of candidates, and the round where they fail.
 
-ghost use Rattle.std.specs.Prelude.{◌≡◌, ◌<◌, ℕ, List, Bool, IfOk, IfSome, OnErr, OnOk, IsErrOf, Ok};
+ghost use Rattle.std.specs.Prelude.{◌≡◌, ℕ, List, Bool, IfOk, IfSome, OnOk, Ok};
 ghost use Rattle.dq_lits.specs.Formula.{IsWellFormed};
 ghost use Rattle.aig_graph.specs.Outputs.{outputs_of};
 ghost use Rattle.circuit_cnf.specs.Failing.{IsFailure};
-ghost use Rattle.hint_log.specs.Deciding.{IsUndecided};
-ghost use Rattle.hint_log.specs.Entries.{steps_of};
-ghost use Rattle.repair_loop.specs.Searching.{IsKept, HasInputs, IsSearch, AreBuilt, LogGrew, IsRoundLogged, IsShownTrue};
-ghost use Rattle.repair_loop.specs.Stopping.{IsStoppedAtLimit};
+ghost use Rattle.repair_loop.specs.Searching.{HasInputs, AreBuilt, AreRefuted, IsShownTrue};
+ghost use Rattle.repair_loop.specs.Turning.{IsSearchOf, HasGoneOn, IsNewRound, IsStoppedAs};
 
 use crate::decisions::Engines;
 use aig_graph::Graph;
@@ -50,25 +48,17 @@ impl Engines {
         log: &mut Log,
     ) -> Result<Judged, Stop>
         requires fit { O.Fits oracle.old log.old }
-        requires search { IsSearch f.now candidates.now.graph.now self.old.table self.old.checker
-            self.old.definitions.padoa log.old.entries }
+        requires search { IsSearchOf f.now candidates.now.graph.now self.old log.old.entries }
         requires candidates { AreBuilt f.now candidates.now.graph.now self.old.table.rows
             candidates.now.outputs.now }
         ensures fit { O.Fits oracle.new log.new }
         ensures definitions { self.new.definitions ≡ self.old.definitions }
-        ensures kept { IsKept f.now log.new.entries }
-        ensures grew { LogGrew log.old log.new }
+        ensures went { HasGoneOn f.now log.old log.new }
         ensures hold { (id : ℕ) → result ≡ Ok (Judged.Hold id)
             → IsShownTrue f.now candidates.now.graph.now candidates.now.outputs.now log.new id }
         ensures fail { (row : List Bool) → result ≡ Ok (Judged.Fail row)
-            → IsRoundLogged f.now self.new.table self.new.checker self.new.definitions.padoa row
-            log.new.entries }
-        ensures step { (row : List Bool) → result ≡ Ok (Judged.Fail row)
-            → steps_of log.old.entries < steps_of log.new.entries }
-        ensures within { (row : List Bool) → result ≡ Ok (Judged.Fail row)
-            → steps_of log.old.entries < log.old.limit }
-        ensures undecided { OnErr result (IsUndecided f.now log.new.entries) }
-        ensures limit { IsErrOf result Stop.Limit → IsStoppedAtLimit f.now log.new }
+            → IsNewRound f.now self.new row log.old log.new }
+        ensures stopped { IsStoppedAs f.now log.new result }
     {
         if let Some(failure) = self.known_failure(f, candidates)? {
             self.log_failure(oracle, f, candidates, &failure, log)?;
@@ -109,7 +99,7 @@ impl Engines {
         log: &mut Log,
     ) -> Result<(), Stop>
         requires fit { O.Fits oracle.now log.old }
-        requires search { IsSearch f.now candidates.now.graph.now self.now.table self.now.checker
+        requires refuted { AreRefuted f.now self.now.table self.now.checker
             self.now.definitions.padoa log.old.entries }
         requires candidates { AreBuilt f.now candidates.now.graph.now self.now.table.rows
             candidates.now.outputs.now }
@@ -117,14 +107,9 @@ impl Engines {
             (outputs_of f.now candidates.now.graph.now candidates.now.outputs.now)
             failure.now.row failure.now.values failure.now.j }
         ensures fit { O.Fits oracle.now log.new }
-        ensures kept { IsKept f.now log.new.entries }
-        ensures grew { LogGrew log.old log.new }
-        ensures logged { OnOk result (IsRoundLogged f.now self.now.table self.now.checker
-            self.now.definitions.padoa failure.now.row log.new.entries) }
-        ensures step { OnOk result (steps_of log.old.entries < steps_of log.new.entries) }
-        ensures within { OnOk result (steps_of log.old.entries < log.old.limit) }
-        ensures undecided { OnErr result (IsUndecided f.now log.new.entries) }
-        ensures limit { IsErrOf result Stop.Limit → IsStoppedAtLimit f.now log.new }
+        ensures went { HasGoneOn f.now log.old log.new }
+        ensures round { OnOk result (IsNewRound f.now self.now failure.now.row log.old log.new) }
+        ensures stopped { IsStoppedAs f.now log.new result }
     {
         rounds_leave_tables();
         checkers_stay_with_rounds();
@@ -144,41 +129,29 @@ impl Engines {
         log: &mut Log,
     ) -> Result<Judged, Stop>
         requires fit { O.Fits oracle.old log.old }
-        requires search { IsSearch f.now candidates.now.graph.now self.old.table self.old.checker
-            self.old.definitions.padoa log.old.entries }
+        requires search { IsSearchOf f.now candidates.now.graph.now self.old log.old.entries }
         requires candidates { AreBuilt f.now candidates.now.graph.now self.old.table.rows
             candidates.now.outputs.now }
         ensures fit { O.Fits oracle.new log.new }
         ensures definitions { self.new.definitions ≡ self.old.definitions }
-        ensures kept { IsKept f.now log.new.entries }
-        ensures grew { LogGrew log.old log.new }
+        ensures went { HasGoneOn f.now log.old log.new }
         ensures hold { (id : ℕ) → result ≡ Ok (Judged.Hold id)
             → IsShownTrue f.now candidates.now.graph.now candidates.now.outputs.now log.new id }
         ensures fail { (row : List Bool) → result ≡ Ok (Judged.Fail row)
-            → IsRoundLogged f.now self.new.table self.new.checker self.new.definitions.padoa row
-            log.new.entries }
-        ensures step { (row : List Bool) → result ≡ Ok (Judged.Fail row)
-            → steps_of log.old.entries < steps_of log.new.entries }
-        ensures within { (row : List Bool) → result ≡ Ok (Judged.Fail row)
-            → steps_of log.old.entries < log.old.limit }
-        ensures undecided { OnErr result (IsUndecided f.now log.new.entries) }
-        ensures limit { IsErrOf result Stop.Limit → IsStoppedAtLimit f.now log.new }
+            → IsNewRound f.now self.new row log.old log.new }
+        ensures stopped { IsStoppedAs f.now log.new result }
     {
         engines_leave_the_rest();
         engines_leave_tables();
-        rounds_leave_tables();
-        checkers_stay_with_rounds();
-        failures_refute_rows();
         engines_leave_copies();
-        rounds_leave_copies();
         outputs_are_supported();
         let nodes = candidates.outputs.items();
         match self.checker.turn(oracle, candidates.graph, f, nodes, log)? {
             Turn::Holds(id) => Ok(Judged::Hold(id)),
             Turn::Fails { row, values, j } => {
-                let _ = log.steps();
-                log.round(&row, &values, j)?;
-                Ok(Judged::Fail(row))
+                let failure = Failure { row, values, j };
+                self.log_failure(oracle, f, candidates, &failure, log)?;
+                Ok(Judged::Fail(failure.row))
             }
         }
     }

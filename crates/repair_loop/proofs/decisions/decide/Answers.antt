@@ -101,3 +101,9 @@ returns-clause-productive g c =
 pub returns-clause-selectors : goal.returns-clause-selectors
 returns-clause-selectors g c = (g.met.O.Oracle.searched c.all_rounds.new.oracle c.all_rounds.new.log
     c.all_rounds.ensures.fit).kept
+
+pub returns-clause-undecided : goal.returns-clause-undecided
+returns-clause-undecided g c = c.all_rounds.ensures.stopped.undecided
+
+pub returns-clause-limit : goal.returns-clause-limit
+returns-clause-limit g c = c.all_rounds.ensures.stopped.limit

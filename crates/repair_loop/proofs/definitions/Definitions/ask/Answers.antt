@@ -3,6 +3,7 @@ use Rattle.candidate_functions.proofs.LargerGraphs.{extends-trans}
 use Rattle.definition_order.proofs.Declared.{known_at}
 use Rattle.definition_order.specs.Definitions.{IsDefinition}
 use Rattle.padoa_definitions.specs.Defining.{IsFound}
+use Rattle.repair_loop.proofs.Asked.{asked_by, grown_asked}
 use Rattle.repair_loop.proofs.Defined.{existential_there}
 use Rattle.repair_loop.proofs.definitions.Definitions.ask.Goals as goal
 
@@ -32,10 +33,22 @@ returns-clause-found g c e at =
     subst (λ ranks. IsFound c.args.existential.now.f.now ranks c.define.new.graph e c.in_ok-found.found)
     c.deref-2.ensures.value (c.in_ok-found.ensures.found e known)
 
-pub returns-in_err-found-clause-extends : goal.returns-in_err-found-clause-extends
-returns-in_err-found-clause-extends g c = extends-trans c.args.graph.now c.read.new.graph c.define.new.graph
-    c.read.ensures.extends c.define.ensures.extends
+pub returns-in_err-node-clause-asked : goal.returns-in_err-node-clause-asked
+returns-in_err-node-clause-asked g c = grown_asked _ _ _ _ _ c.requires.may c.read.ensures.extends
 
-pub returns-clause-extends : goal.returns-clause-extends
-returns-clause-extends g c = extends-trans c.args.graph.now c.read.new.graph c.define.new.graph c.read.ensures.extends
-    c.define.ensures.extends
+pub returns-in-Some-clause-asked : goal.returns-in-Some-clause-asked
+returns-in-Some-clause-asked g c = grown_asked _ _ _ _ _ c.requires.may c.read.ensures.extends
+
+pub returns-in_err-found-clause-asked : goal.returns-in_err-found-clause-asked
+returns-in_err-found-clause-asked g c =
+    asked_by c.engines_leave_the_rest.ensures c.args.existential.now.f.now c.args.graph.now c.define.new.graph
+    c.args.self.now.padoa c.define.new.self c.args.log.now c.define.new.log c.requires.may
+    c.define.ensures.grew c.define.ensures.padoa
+    (extends-trans c.args.graph.now c.read.new.graph c.define.new.graph c.read.ensures.extends c.define.ensures.extends)
+
+pub returns-clause-asked : goal.returns-clause-asked
+returns-clause-asked g c =
+    asked_by c.engines_leave_the_rest.ensures c.args.existential.now.f.now c.args.graph.now c.define.new.graph
+    c.args.self.now.padoa c.define.new.self c.args.log.now c.define.new.log c.requires.may
+    c.define.ensures.grew c.define.ensures.padoa
+    (extends-trans c.args.graph.now c.read.new.graph c.define.new.graph c.read.ensures.extends c.define.ensures.extends)

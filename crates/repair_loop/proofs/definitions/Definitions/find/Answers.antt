@@ -1,37 +1,16 @@
 use Rattle.std.proofs.Common.{set, refl, sym, subst, IfSome}
-use Rattle.padoa_definitions.specs.Copies.{IsPadoa}
 use Rattle.padoa_definitions.specs.Defining.{IsFound}
 use Rattle.dq_formula.specs.Prefix.{existential_variables}
 use Rattle.repair_loop.specs.declared.definitions.Definitions.{Definitions}
 use Rattle.repair_loop.specs.Searching.{AreKnown, definition_in}
-use Rattle.repair_loop.proofs.Asked.{nothing_asked, asked_by}
+use Rattle.repair_loop.specs.Guessing.{HasAsked}
 use Rattle.repair_loop.proofs.Defined.{known_at, known_stays, existential_there, found_defines}
 use Rattle.repair_loop.proofs.definitions.Definitions.find.Goals as goal
 
-pub returns-in_err-found-clause-asked : goal.returns-in_err-found-clause-asked
-returns-in_err-found-clause-asked g c =
-    asked_by c.engines_leave_the_rest.ensures c.args.existential.now.f.now c.args.graph.now c.ask.new.graph
-    c.args.self.now.padoa c.ask.new.self.padoa c.args.log.now c.ask.new.log c.requires.may
-    c.ask.ensures.grew c.ask.ensures.padoa c.ask.ensures.extends
-
-pub returns-in_err-learn-clause-asked : goal.returns-in_err-learn-clause-asked
-returns-in_err-learn-clause-asked g c =
-    asked_by c.engines_leave_the_rest.ensures c.args.existential.now.f.now c.args.graph.now c.ask.new.graph
-    c.args.self.now.padoa c.ask.new.self.padoa c.args.log.now c.ask.new.log c.requires.may
-    c.ask.ensures.grew c.ask.ensures.padoa c.ask.ensures.extends
-
-pub returns-in_default-clause-asked : goal.returns-in_default-clause-asked
-returns-in_default-clause-asked g c =
-    asked_by c.engines_leave_the_rest.ensures c.args.existential.now.f.now c.args.graph.now c.ask.new.graph
-    c.args.self.now.padoa c.ask.new.self.padoa c.args.log.now c.ask.new.log c.requires.may
-    c.ask.ensures.grew c.ask.ensures.padoa c.ask.ensures.extends
-
 pub returns-clause-asked : goal.returns-clause-asked
 returns-clause-asked g c =
-    asked_by c.engines_leave_the_rest.ensures c.args.existential.now.f.now c.args.graph.now c.ask.new.graph
-    c.args.self.now.padoa c.note.new.self.padoa c.args.log.now c.ask.new.log c.requires.may
-    c.ask.ensures.grew (subst (λ p. IsPadoa c.args.existential.now.f.now p c.ask.new.log.entries)
-    (sym c.note.ensures.padoa) c.ask.ensures.padoa) c.ask.ensures.extends
+    subst (λ p. HasAsked c.args.existential.now.f.now c.args.graph.now c.ask.new.graph p c.args.log.now c.ask.new.log)
+    (sym c.note.ensures.padoa) c.ask.ensures.asked
 
 pub returns-in_default-clause-known : goal.returns-in_default-clause-known
 returns-in_default-clause-known g c =
@@ -39,7 +18,7 @@ returns-in_default-clause-known g c =
     subst (λ (d : Definitions). AreKnown f d.ranks.items c.ask.new.graph d.nodes.items d.rules.items d.guesses.items)
     (sym c.ask.ensures.same)
     (known_stays f c.args.self.now.ranks.items c.args.graph.now c.ask.new.graph c.args.self.now.nodes.items
-    c.args.self.now.rules.items c.args.self.now.guesses.items c.ask.ensures.extends c.requires.known)
+    c.args.self.now.rules.items c.args.self.now.guesses.items c.ask.ensures.asked.extends c.requires.known)
 
 pub returns-clause-known : goal.returns-clause-known
 returns-clause-known g c =
@@ -53,7 +32,7 @@ returns-clause-known g c =
     let lawful = c.every_formula_is_lawful.ensures in
     let here = existential_there f lawful (existential_variables f) refl c.args.existential.now.place
     c.requires.place in
-    let still = known_stays f ranks c.args.graph.now graph before rules guesses c.ask.ensures.extends
+    let still = known_stays f ranks c.args.graph.now graph before rules guesses c.ask.ensures.asked.extends
     c.requires.known in
     let known = known_at f ranks lawful.prefix graph c.args.existential.now.place here.0 before
     (definition_in found) rules guesses here.1

@@ -2,7 +2,7 @@ use Rattle.std.proofs.Common.{refl, sym, subst, Contains}
 use Rattle.std.specs.List.{All}
 use Rattle.dq_lits.specs.Formula.{declared}
 use Rattle.dq_lits.specs.Literal.{variable_of}
-use Rattle.repair_loop.proofs.Asked.{nothing_asked, asked_by}
+use Rattle.repair_loop.proofs.Asked.{asked_by}
 use Rattle.repair_loop.proofs.definitions.Definitions.is_fixed.Goals as goal
 
 pub guess-requires-clause-declared : goal.guess-requires-clause-declared
