@@ -24,7 +24,7 @@ use Rattle.log_laws.proofs.LargerLogs.{leaves_rest, grown_by, grown_by_none, gro
 use Rattle.log_laws.proofs.Kept.{NamesStay, named_stay}
 use Rattle.oracle.specs.Calls.{IsPlain, IsMade}
 use Rattle.padoa_definitions.specs.Copies.{is_copy_of, group_variable, IsGroupGiven, IsGivenIn, AreCopiesOf, copy_names, IsMatrixCopy}
-use Rattle.padoa_definitions.specs.Growing.{GrewAnew, GrewIn, HasFewFaults, is_side_name, Adds, AreUncopied, NamesCopies, AreUngiven, AreGivenSoFar}
+use Rattle.padoa_definitions.specs.Growing.{GrewAnew, GrewIn, HasFewFaults, is_side_name, Adds, AreUncopied, NamesCopies, AreUngiven, IsCopyNamed, Gives, AreGivenSoFar}
 use Rattle.padoa_definitions.specs.declared.copies.MatrixCopy.{MatrixCopy}
 use Rattle.padoa_definitions.proofs.KeptCopies.{contains_first, contains_later, contains_cases, keeps_anew, given_stays, made_stays, Keeps}
 
@@ -157,26 +157,41 @@ adds_group f side test old new g unnamed is = subst (λ (l : ProofLog). Adds f s
 
 -- clauses of a group that was made on the way
 pub adds_in : (f : Dqbf) (side : ℕ) (test : Origin → Bool) (a b c : ProofLog) (g : ℕ) → Adds f side test a b →
-    name_of a.entries g ≡ None → GrewIn f g b c →
-    ((v : ℕ) → name_of c.entries v ≡ name_of b.entries v) →
-    ((o : Origin) (d : List Literal) → Contains c.entries (Given o d) →
-    Contains b.entries (Given o d) ⊎ (test o ≡ true)) → Adds f side test a c
-adds_in f side test a b c g first unnamed second same givens = record {
-  grew = anew_then_in f a b c g first.grew unnamed second;
-  names = λ v n h. first.names v n (sym (same v) ∙ h);
-  givens = λ o d inside. elim (givens o d inside) [ inl before ↦ first.givens o d before | inr new ↦ inr new ];
+    name_of a.entries g ≡ None → Gives f test g b c → Adds f side test a c
+adds_in f side test a b c g first unnamed second = record {
+  grew = anew_then_in f a b c g first.grew unnamed second.grew;
+  names = λ v n h. first.names v n (sym (second.names v) ∙ h);
+  givens = λ o d inside. elim (second.givens o d inside) [ inl before ↦ first.givens o d before | inr new ↦ inr new ];
 }
 
--- the clauses of a side, one by one
+-- clauses that are given to a group, one by one
+pub gives_none : (f : Dqbf) (test : Origin → Bool) (g : ℕ) (log : ProofLog) → Gives f test g log log
+gives_none f test g log = record {
+  grew = in_same f g log log refl;
+  names = λ v. refl;
+  givens = λ o c inside. inl inside;
+}
+
+pub gives_more : (f : Dqbf) (test : Origin → Bool) (g : ℕ) (old log : ProofLog) (origin : Origin)
+    (clause : List Literal) → test origin ≡ true → GrewIn f g log (with_entry log (Given origin clause)) →
+    Gives f test g old log → Gives f test g old (with_entry log (Given origin clause))
+gives_more f test g old log origin clause passes grew before = record {
+  grew = in_then f g old log (with_entry log (Given origin clause)) before.grew grew;
+  names = before.names;
+  givens = λ o c inside. elim (contains_cases (Given origin clause) (Given o c) log.entries inside) [
+    | inl same ↦ (let o_is : origin ≡ o = cc in inr (ap test (sym o_is) ∙ passes))
+    | inr behind ↦ before.givens o c behind
+  ];
+}
+
+-- the clauses of a side
 pub none_given : (f : Dqbf) (side g : ℕ) (log : ProofLog) → HasFewFaults log.entries →
     Each (IsGroupGiven f (is_copy_of side) g) log.entries → AreUngiven side log.entries →
     AreGivenSoFar f side g 0 log log
 none_given f side g log few own ungiven = record {
-  grew = in_same f g log log refl;
-  names = λ v. refl;
+  gives = gives_none f (is_copy_of side) g log;
   few = few;
   own = own;
-  givens = λ o c inside. inl inside;
   later = λ k c less inside. ungiven k c inside;
   given = λ k clause less is. absurd (omega (arith, less));
 }
@@ -188,17 +203,13 @@ pub given_more : (f : Dqbf) (side g j : ℕ) (old log new : ProofLog) (clause re
     new ≡ with_entry log (Given (Copy side (j + 1)) (negative g ∷ rest)) → AreGivenSoFar f side g (j + 1) old new
 given_more f side g j old log new clause rest sides is_group before clause_is named is =
     subst (λ (l : ProofLog). AreGivenSoFar f side g (j + 1) old l) (sym is) (record {
-      grew = in_then f g old log more before.grew (in_by f log g origin rest refl is_group rest_is first before.few);
-      names = before.names;
+      gives = gives_more f (is_copy_of side) g old log origin (negative g ∷ rest) (eq-eqb side side refl)
+          (in_by f log g origin rest refl is_group rest_is first before.few) before.gives;
       few = few_more f log g origin rest refl is_group rest_is first before.few;
       own = (
         λ inside. (eq-eqb side side refl, right_clause f log g origin rest refl is_group rest_is first before.few),
         before.own,
       );
-      givens = λ o c inside. elim (contains_cases e (Given o c) log.entries inside) [
-        | inl same ↦ (let o_is : origin ≡ o = cc in inr (ap (is_copy_of side) (sym o_is) ∙ eq-eqb side side refl))
-        | inr behind ↦ before.givens o c behind
-      ];
       later = λ k c less inside. elim (contains_cases e (Given (Copy side k) c) log.entries inside) [
         | inl same ↦ (let number : j + 1 ≡ k = cc in omega (arith, less, number))
         | inr behind ↦ before.later k c (omega (arith, less)) behind
@@ -318,85 +329,95 @@ universals_distinct f lawful i j d before within =
     (get_or_append_left f.universals ys d j within))
 
 -- a side: names of the universals, of the existentials, then its group
-module _ (f : Dqbf) (side : ℕ) (old first second : ProofLog) (lawful : HasLawfulPrefix f)
-    (uncopied : AreUncopied side (declared f) old.entries)
-    (first_grew : (h : Dqbf) → GrewAnew h old first) (first_only : NamesCopies side f.universals old.entries
-    first.entries) where
-  abbrev ys : List ℕ
-  ys = existential_variables f
+pub existentials_distinct : (f : Dqbf) → HasLawfulPrefix f → AllPairs (λ v w. v ≢ w) (existential_variables f)
+existentials_distinct f lawful i j d before within =
+    let ys = existential_variables f in
+    let whole = length-append f.universals ys in
+    λ same.
+    lawful.declared_once (length f.universals + i) (length f.universals + j) d (omega (arith, before))
+    (omega (arith, within, whole))
+    (get_or-append-add f.universals ys i d ∙ same ∙ sym (get_or-append-add f.universals ys j d))
 
-  pub existentials_distinct : AllPairs (λ v w. v ≢ w) ys
-  existentials_distinct i j d before within =
-      let whole = length-append f.universals ys in
-      λ same.
-      lawful.declared_once (length f.universals + i) (length f.universals + j) d (omega (arith, before))
-      (omega (arith, within, whole))
-      (get_or-append-add f.universals ys i d ∙ same ∙ sym (get_or-append-add f.universals ys j d))
+both_declared : (f : Dqbf) → HasLawfulPrefix f → (x : ℕ) → Contains f.universals x →
+    Contains (existential_variables f) x → ⊥
+both_declared f lawful x (i, i_lt, i_at) (j, j_lt, j_at) =
+    let ys = existential_variables f in
+    let whole = length-append f.universals ys in
+    lawful.declared_once i (length f.universals + j) x (omega (arith, i_lt)) (omega (arith, j_lt, whole))
+    (get_or_append_left f.universals ys x i i_lt ∙ i_at ∙ sym (get_or-append-add f.universals ys j x ∙ j_at))
 
-  both_declared : (x : ℕ) → Contains f.universals x → Contains ys x → ⊥
-  both_declared x (i, i_lt, i_at) (j, j_lt, j_at) =
-      let whole = length-append f.universals ys in
-      lawful.declared_once i (length f.universals + j) x (omega (arith, i_lt)) (omega (arith, j_lt, whole))
-      (get_or_append_left f.universals ys x i i_lt ∙ i_at ∙ sym (get_or-append-add f.universals ys j x ∙ j_at))
+pub existentials_fresh : (f : Dqbf) (side : ℕ) (old first : ProofLog) (us : List ℕ) → us ≡ f.universals →
+    HasLawfulPrefix f → AreUncopied side (declared f) old.entries → NamesCopies side us old.entries first.entries →
+    AreUncopied side (existential_variables f) first.entries
+existentials_fresh f side old first us us_are lawful uncopied only v x among is =
+    elim (only.names v (CopyOf side x) is) [
+      | inl before ↦
+          uncopied v x (Contains-append_right f.universals (existential_variables f) x among) before
+      | inr copy ↦ (let e : CopyOf side x ≡ CopyOf side copy.0 = copy.1 in let same : x ≡ copy.0 = cc in
+          both_declared f lawful x (subst (λ xs. Contains xs x) us_are (subst (Contains us) (sym same) copy.2)) among)
+    ]
 
-  pub existentials_fresh : AreUncopied side ys first.entries
-  existentials_fresh v x among is = elim (first_only.names v (CopyOf side x) is) [
-    | inl before ↦ uncopied v x (Contains-append_right f.universals ys x among) before
-    | inr copy ↦ (let e : CopyOf side x ≡ CopyOf side copy.0 = copy.1 in let same : x ≡ copy.0 = cc in
-        both_declared x (subst (Contains f.universals) (sym same) copy.2) among)
-  ]
+-- these variables were named, and then those
+pub record AreNamed (f : Dqbf) (side : ℕ) (us ys : List ℕ) (old first second : ProofLog) : Type 0 where
+  pub first_grew : (h : Dqbf) → GrewAnew h old first
+  pub first_only : NamesCopies side us old.entries first.entries
+  pub second_grew : (h : Dqbf) → GrewAnew h first second
+  pub second_only : NamesCopies side ys first.entries second.entries
 
-  pub first_adds : Adds f side (is_copy_of side) old first
-  first_adds = adds_names f side (is_copy_of side) f.universals old first (first_grew f) first_only
+module _ (f : Dqbf) (side : ℕ) (us ys : List ℕ) (old first second : ProofLog)
+    (named : AreNamed f side us ys old first second) where
+  pub second_adds : Adds f side (is_copy_of side) old second
+  second_adds = adds_then f side (is_copy_of side) old first second
+      (adds_names f side (is_copy_of side) us old first (named.first_grew f) named.first_only)
+      (adds_names f side (is_copy_of side) ys first second (named.second_grew f) named.second_only)
 
-  module _ (second_grew : (h : Dqbf) → GrewAnew h first second)
-      (second_only : NamesCopies side ys first.entries second.entries) where
-    pub second_adds : Adds f side (is_copy_of side) old second
-    second_adds = adds_then f side (is_copy_of side) old first second first_adds
-        (adds_names f side (is_copy_of side) ys first second (second_grew f) second_only)
+  second_ungiven : AreUngiven side old.entries → AreUngiven side second.entries
+  second_ungiven ungiven j c inside = ungiven j c (named.first_only.givens (Copy side j) c
+      (named.second_only.givens (Copy side j) c inside))
 
-    pub second_stay : NamesStay first.entries second.entries
-    second_stay = (keeps_anew f first second (second_grew f)).names
+  module _ (third : ProofLog) (g : ℕ) (unnamed : name_of second.entries g ≡ None)
+      (is : third ≡ with_entry second (Named g (Selector g))) where
+    pub third_adds : Adds f side (is_copy_of side) old third
+    third_adds = adds_then f side (is_copy_of side) old second third second_adds
+        (adds_group f side (is_copy_of side) second third g unnamed is)
 
-    second_ungiven : AreUngiven side old.entries → AreUngiven side second.entries
-    second_ungiven ungiven j c inside = ungiven j c (first_only.givens (Copy side j) c
-        (second_only.givens (Copy side j) c inside))
+    pub third_unnamed : name_of old.entries g ≡ None
+    third_unnamed = unnamed_back old.entries second.entries (keeps_anew f old second second_adds.grew).names g unnamed
 
-    module _ (third : ProofLog) (g : ℕ) (unnamed : name_of second.entries g ≡ None)
-        (is : third ≡ with_entry second (Named g (Selector g))) where
-      pub third_adds : Adds f side (is_copy_of side) old third
-      third_adds = adds_then f side (is_copy_of side) old second third second_adds
-          (adds_group f side (is_copy_of side) second third g unnamed is)
+    third_stay : NamesStay second.entries third.entries
+    third_stay = (keeps_anew f second third (group_anew f second third g unnamed is)).names
 
-      pub third_ungiven : AreUngiven side old.entries → AreUngiven side third.entries
-      third_ungiven ungiven = subst (λ (l : ProofLog). AreUngiven side l.entries) (sym is) (λ j c inside.
+    pub copy_named : (copy : MatrixCopy) → us ≡ f.universals → ys ≡ existential_variables f →
+        group_variable copy.group ≡ g → IsMade third.entries copy.group →
+        AreCopiesOf first.entries side us copy.universals.items →
+        AreCopiesOf second.entries side ys copy.existentials.items → AreLogged second.entries →
+        AreUngiven side old.entries → HasFewFaults old.entries → IsCopyNamed f side copy third.entries
+    copy_named copy us_are ys_are g_is made universals existentials logged ungiven few = record {
+      made = made;
+      universals = subst (λ xs. AreCopiesOf third.entries side xs copy.universals.items) us_are
+          (named_stay second.entries third.entries third_stay copy.universals.items _
+          (named_stay first.entries second.entries (keeps_anew f first second (named.second_grew f)).names
+          copy.universals.items _ universals));
+      existentials = subst (λ xs. AreCopiesOf third.entries side xs copy.existentials.items) ys_are
+          (named_stay second.entries third.entries third_stay copy.existentials.items _ existentials);
+      own = subst (λ h. Each (IsGroupGiven f (is_copy_of side) h) third.entries) (sym g_is)
+          (subst (λ (l : ProofLog). Each (IsGroupGiven f (is_copy_of side) g) l.entries) (sym is)
+          (tt, fresh_group f (is_copy_of side) g second.entries logged unnamed));
+      ungiven = subst (λ (l : ProofLog). AreUngiven side l.entries) (sym is) (λ j c inside.
           elim (contains_cases (Named g (Selector g)) (Given (Copy side j) c) second.entries inside)
-          [ inl same ↦ cc | inr behind ↦ second_ungiven ungiven j c behind ])
+          [ inl same ↦ cc | inr behind ↦ second_ungiven ungiven j c behind ]);
+      few = few_anew f old third third_adds.grew few;
+    }
 
-      pub third_stay : NamesStay second.entries third.entries
-      third_stay = (keeps_anew f second third (group_anew f second third g unnamed is)).names
-
-      pub third_unnamed : name_of old.entries g ≡ None
-      third_unnamed = unnamed_back old.entries second.entries (keeps_anew f old second second_adds.grew).names g unnamed
-
-      pub third_own : AreLogged second.entries → Each (IsGroupGiven f (is_copy_of side) g) third.entries
-      third_own logged = subst (λ (l : ProofLog). Each (IsGroupGiven f (is_copy_of side) g) l.entries) (sym is)
-          (tt, fresh_group f (is_copy_of side) g second.entries logged unnamed)
-
-      pub third_few : HasFewFaults old.entries → HasFewFaults third.entries
-      third_few few = few_anew f old third third_adds.grew few
-
-pub matrix_given : (f : Dqbf) (side : ℕ) (copy : MatrixCopy) (old new : ProofLog) → IsMade old.entries copy.group →
-    AreCopiesOf old.entries side f.universals copy.universals.items →
-    AreCopiesOf old.entries side (existential_variables f) copy.existentials.items →
-    AreGivenSoFar f side (group_variable copy.group) (length f.matrix) old new →
-    IsMatrixCopy f side copy new.entries
-matrix_given f side copy old new made us es given =
-    let stay : NamesStay old.entries new.entries = λ v n is. given.names v ∙ is in
+pub matrix_given : (f : Dqbf) (side : ℕ) (copy : MatrixCopy) (old new : ProofLog) →
+    IsCopyNamed f side copy old.entries →
+    AreGivenSoFar f side (group_variable copy.group) (length f.matrix) old new → IsMatrixCopy f side copy new.entries
+matrix_given f side copy old new named given =
+    let stay : NamesStay old.entries new.entries = λ v n is. given.gives.names v ∙ is in
     record {
-      made = made_stays old.entries new.entries stay copy.group made;
-      universals = named_stay old.entries new.entries stay copy.universals.items _ us;
-      existentials = named_stay old.entries new.entries stay copy.existentials.items _ es;
+      made = made_stays old.entries new.entries stay copy.group named.made;
+      universals = named_stay old.entries new.entries stay copy.universals.items _ named.universals;
+      existentials = named_stay old.entries new.entries stay copy.existentials.items _ named.existentials;
       own = given.own;
       whole = λ j clause is. given.given j clause (slice_get_within f.matrix j clause is) is;
     }

@@ -22,16 +22,14 @@ use Rattle.padoa_definitions.specs.Copies.{is_link_of, IsGroupGiven, IsGivenIn, 
 use Rattle.padoa_definitions.specs.Growing.{HasFewFaults, Adds, is_any_link, IsUnlinked, AreEquated, AreLinkedSoFar}
 use Rattle.padoa_definitions.proofs.KeptCopies.{Keeps, IsNamed, contains_first, contains_later, contains_cases, given_stays, keeps_anew, link_stays, made_stays}
 use Rattle.padoa_definitions.proofs.CopiedVariables.{opposite_name, copy_at}
-use Rattle.padoa_definitions.proofs.GivenClauses.{in_same, in_then, in_by, few_more, right_clause, switch_off, unnamed_back, adds_same, adds_then}
+use Rattle.padoa_definitions.proofs.GivenClauses.{in_by, few_more, right_clause, switch_off, unnamed_back, adds_same, adds_then, gives_none, gives_more}
 
 pub none_equated : (f : Dqbf) (x g : ℕ) (log : ProofLog) → HasFewFaults log.entries →
     Each (IsGroupGiven f (is_link_of x) g) log.entries → IsUnlinked x log.entries → AreEquated f x g 0 log log
 none_equated f x g log few own unlinked = record {
-  grew = in_same f g log log refl;
-  names = λ v. refl;
+  gives = gives_none f (is_link_of x) g log;
   few = few;
   own = own;
-  givens = λ o c inside. inl inside;
   later = λ i c less inside. unlinked i c inside;
   given = λ i low high. absurd (omega (arith, low, high));
 }
@@ -43,17 +41,13 @@ pub part_more : (f : Dqbf) (x g parts : ℕ) (old log new : ProofLog) (rest : Li
     AreEquated f x g (parts + 1) old new
 part_more f x g parts old log new rest which is_group before named is =
     subst (λ (l : ProofLog). AreEquated f x g (parts + 1) old l) (sym is) (record {
-      grew = in_then f g old log more before.grew (in_by f log g origin rest refl is_group rest_is first before.few);
-      names = before.names;
+      gives = gives_more f (is_link_of x) g old log origin (negative g ∷ rest) (eq-eqb x x refl)
+          (in_by f log g origin rest refl is_group rest_is first before.few) before.gives;
       few = few_more f log g origin rest refl is_group rest_is first before.few;
       own = (
         λ inside. (eq-eqb x x refl, right_clause f log g origin rest refl is_group rest_is first before.few),
         before.own,
       );
-      givens = λ o c inside. elim (contains_cases e (Given o c) log.entries inside) [
-        | inl same ↦ (let o_is : origin ≡ o = cc in inr (ap (is_link_of x) (sym o_is) ∙ eq-eqb x x refl))
-        | inr behind ↦ before.givens o c behind
-      ];
       later = λ i c less inside. elim (contains_cases e (Given (Link x i) c) log.entries inside) [
         | inl same ↦ (let number : parts + 1 ≡ i = cc in omega (arith, less, number))
         | inr behind ↦ before.later i c (omega (arith, less)) behind
@@ -94,7 +88,7 @@ part_more f x g parts old log new rest which is_group before named is =
 pub both_equated : (f : Dqbf) (x : ℕ) (group : Group) (old new : ProofLog) → IsMade old.entries group →
     AreEquated f x (group_variable group) 2 old new → IsLink f x group new.entries
 both_equated f x group old new made both = record {
-  made = made_stays old.entries new.entries (λ v n is. both.names v ∙ is) group made;
+  made = made_stays old.entries new.entries (λ v n is. both.gives.names v ∙ is) group made;
   own = both.own;
   whole = λ i is. elim is [
     | inl one ↦ both.given i (omega (arith, one)) (omega (arith, one))
@@ -205,7 +199,7 @@ module _ (f : Dqbf) (x : ℕ) (group : Group) (one other : Literal) (old : Proof
       AreEquated f x (group_variable group) 2 old new
   second_part k log new before k_is is =
       part_more f x (group_variable group) 1 old log new (one ∷ k ∷ []) (inr refl)
-      (before.names (group_variable group) ∙ made.named) before
+      (before.gives.names (group_variable group) ∙ made.named) before
       (pair_named log.entries one k (named_literal (CopyOf 1 x) false) (named_literal (CopyOf 2 x) true)
       (there one false (CopyOf 1 x) one_is)
       (ap (name_literal log.entries) k_is ∙ opposite_name log.entries other (CopyOf 2 x)
@@ -214,7 +208,7 @@ module _ (f : Dqbf) (x : ℕ) (group : Group) (one other : Literal) (old : Proof
     where
       there : (l : Literal) (b : Bool) (n : Name) → name_literal old.entries l ≡ Some (named_literal n b) →
           name_literal log.entries l ≡ Some (named_literal n b)
-      there l b n h = ap (option_map (λ m. named_literal m (is_negative l))) (before.names (variable_of l)) ∙ h
+      there l b n h = ap (option_map (λ m. named_literal m (is_negative l))) (before.gives.names (variable_of l)) ∙ h
 
 pub unlinked_still : (x g : ℕ) (old new : ProofLog) → new ≡ with_entry old (Named g (Selector g)) →
     IsUnlinked x old.entries → IsUnlinked x new.entries

@@ -13,8 +13,12 @@ use Rattle.hint_log.specs.declared.names.Name.TheVariants.{Selector, Copy as Cop
 use Rattle.hint_log.specs.declared.origins.Origin.{Origin}
 use Rattle.hint_log.specs.declared.origins.Origin.TheVariants.{Copy, Link}
 use Rattle.log_laws.specs.Engines.{copies, IsAddedBy}
+use Rattle.dq_formula.specs.Prefix.{existential_variables}
+use Rattle.oracle.specs.Calls.{IsMade}
 use Rattle.oracle.specs.declared.groups.Group.{Group}
-use Rattle.padoa_definitions.specs.Copies.{is_copy_of, is_link_of, IsGroupGiven, IsGivenIn, AreCopiesOf, copy_names, group_variable, IsLink}
+use Rattle.padoa_definitions.specs.declared.copies.MatrixCopy.{MatrixCopy}
+use Rattle.padoa_definitions.specs.declared.padoa.Padoa.{Padoa}
+use Rattle.padoa_definitions.specs.Copies.{is_copy_of, is_link_of, IsGroupGiven, IsGivenIn, AreCopiesOf, copy_names, group_variable, IsLink, IsPadoa}
 
 -- names, and clauses in groups that were made since, wherever one begins to look
 abbrev pub GrewAnew : Dqbf → ProofLog → ProofLog → Type 0
@@ -28,6 +32,11 @@ abbrev pub GrewIn : Dqbf → ℕ → ProofLog → ProofLog → Type 0
 GrewIn f group old new =
     (standing : ℕ) (start : List Entry) → (group ≡ standing) ⊎ (name_of start group ≡ None)
     → Grew (IsAddedBy f copies standing true start) old new
+
+-- whatever came of a search: the copies stand, and what is new in the log is theirs, in any group
+pub record HasSearched (f : Dqbf) (p : Padoa) (old new : ProofLog) : Type 0 where
+  pub copied : IsPadoa f p new.entries
+  pub grew : (group : ℕ) → Grew (IsAddedBy f copies group true old.entries) old new
 
 -- there is room for a given clause more
 abbrev pub HasFewFaults : List Entry → Type 0
@@ -72,14 +81,27 @@ pub record AreNamedSoFar (side : ℕ) (variables : List ℕ) (i : ℕ) (old new 
 abbrev pub AreUngiven : ℕ → List Entry → Type 0
 AreUngiven side entries = (j : ℕ) (c : List Literal) → Contains entries (Given (Copy side j) c) → ⊥
 
--- the first clauses were given, and the others weren't
-pub record AreGivenSoFar (f : Dqbf) (side group j : ℕ) (old new : ProofLog) : Type 0 where
+-- a copy's variables are named and its group is made, and no clause of it was given yet
+pub record IsCopyNamed (f : Dqbf) (side : ℕ) (copy : MatrixCopy) (entries : List Entry) : Type 0 where
+  pub made : IsMade entries copy.group
+  pub universals : AreCopiesOf entries side f.universals copy.universals.items
+  pub existentials : AreCopiesOf entries side (existential_variables f) copy.existentials.items
+  pub own : Each (IsGroupGiven f (is_copy_of side) (group_variable copy.group)) entries
+  pub ungiven : AreUngiven side entries
+  pub few : HasFewFaults entries
+
+-- what is new are given clauses of origins that pass the test, in this group
+pub record Gives (f : Dqbf) (test : Origin → Bool) (group : ℕ) (old new : ProofLog) : Type 0 where
   pub grew : GrewIn f group old new
   pub names : (v : ℕ) → name_of new.entries v ≡ name_of old.entries v
+  pub givens : (origin : Origin) (c : List Literal) → Contains new.entries (Given origin c)
+      → Contains old.entries (Given origin c) ⊎ (test origin ≡ true)
+
+-- the first clauses were given, and the others weren't
+pub record AreGivenSoFar (f : Dqbf) (side group j : ℕ) (old new : ProofLog) : Type 0 where
+  pub gives : Gives f (is_copy_of side) group old new
   pub few : HasFewFaults new.entries
   pub own : Each (IsGroupGiven f (is_copy_of side) group) new.entries
-  pub givens : (origin : Origin) (c : List Literal) → Contains new.entries (Given origin c)
-      → Contains old.entries (Given origin c) ⊎ (is_copy_of side origin ≡ true)
   pub later : (k : ℕ) (c : List Literal) → j < k → Contains new.entries (Given (Copy side k) c) → ⊥
   pub given : (k : ℕ) (clause : List Literal) → k < j → slice_get f.matrix k ≡ Some clause
       → IsGivenIn new.entries group (Copy side (k + 1)) (copy_names side clause)
@@ -112,11 +134,8 @@ pub record IsClauseGiven (f : Dqbf) (side group j : ℕ) (old new : ProofLog) : 
 
 -- the first so many parts of an equation were given, and the others weren't
 pub record AreEquated (f : Dqbf) (x group parts : ℕ) (old new : ProofLog) : Type 0 where
-  pub grew : GrewIn f group old new
-  pub names : (v : ℕ) → name_of new.entries v ≡ name_of old.entries v
+  pub gives : Gives f (is_link_of x) group old new
   pub few : HasFewFaults new.entries
   pub own : Each (IsGroupGiven f (is_link_of x) group) new.entries
-  pub givens : (origin : Origin) (c : List Literal) → Contains new.entries (Given origin c)
-      → Contains old.entries (Given origin c) ⊎ (is_link_of x origin ≡ true)
   pub later : (i : ℕ) (c : List Literal) → parts < i → Contains new.entries (Given (Link x i) c) → ⊥
   pub given : (i : ℕ) → 1 ≤ i → i ≤ parts → IsGivenIn new.entries group (Link x i) (link_names x i)

@@ -5,12 +5,11 @@ ghost use Rattle.dq_lits.specs.Formula.{IsWellFormed, declared};
 ghost use Rattle.dq_lits.specs.Literal.{variable_of};
 ghost use Rattle.dq_formula.specs.Prefix.{existential_variables};
 ghost use Rattle.hint_log.specs.Entries.{Entry};
-ghost use Rattle.hint_log.specs.Growth.{Grew};
 ghost use Rattle.hint_log.specs.Naming.{NamedLiteral, name_literal, AreNamedAs};
 ghost use Rattle.aig_graph.specs.Made.{Extends};
-ghost use Rattle.log_laws.specs.Engines.{copies, IsAddedBy};
 ghost use Rattle.oracle.specs.Limits.{IsAtSomeLimit};
 ghost use Rattle.padoa_definitions.specs.Copies.{IsPadoa, AreCopiesOf, copy_names};
+ghost use Rattle.padoa_definitions.specs.Growing.{HasSearched};
 ghost use Rattle.padoa_definitions.specs.Dividing.{IsQuestion, IsAsked, IsAnswerAt};
 
 use crate::copies::{MatrixCopy, copied_clause, copied_variable};
@@ -60,10 +59,7 @@ impl Padoa {
         requires inputs { graph.old.inputs ≡ length question.now.f.now.universals
             + length question.now.f.now.existentials }
         ensures fit { O.Fits oracle.new log.new }
-        ensures padoa { IsPadoa question.now.f.now self.now log.new.entries }
-        ensures grew { (group : ℕ)
-            → Grew (IsAddedBy question.now.f.now copies group true log.old.entries) log.old
-            log.new }
+        ensures searched { HasSearched question.now.f.now self.now log.old log.new }
         ensures extends { Extends graph.old graph.new }
         ensures answer { IfOk result (IsAnswerAt question.now.f.now question.now.places.now
             question.now.y question.now.conditions.now graph.new) }

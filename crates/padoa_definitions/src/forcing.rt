@@ -12,6 +12,7 @@ ghost use Rattle.oracle.specs.Calls.{IsModelUnder, assumed};
 ghost use Rattle.oracle.specs.Limits.{IsAtSomeLimit};
 ghost use Rattle.padoa_definitions.specs.Copies.{IsPadoa};
 ghost use Rattle.padoa_definitions.specs.Forcing.{IsForced};
+ghost use Rattle.padoa_definitions.specs.Growing.{HasSearched};
 ghost use Rattle.padoa_definitions.specs.Ruling.{AreFirstCopies, ShowsClause, IsLiteralName, signed_literal, row_copies, cube_literal, cube_of};
 
 use crate::copies::copied_variable;
@@ -109,9 +110,7 @@ impl Padoa {
         requires copies { AreFirstCopies log.old.entries asked.now }
         requires apart { is_tautology asked.now ≡ false }
         ensures fit { O.Fits oracle.new log.new }
-        ensures padoa { IsPadoa f.now self.now log.new.entries }
-        ensures grew { (group : ℕ)
-            → Grew (IsAddedBy f.now copies group true log.old.entries) log.old log.new }
+        ensures searched { HasSearched f.now self.now log.old log.new }
         ensures told { result ≡ Ok Answer.Sat → O.is_told oracle.new ≡ true }
         ensures sat { result ≡ Ok Answer.Sat
             → IsModelUnder (O.values oracle.new) (clause_at log.new.entries)

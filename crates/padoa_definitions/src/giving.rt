@@ -8,8 +8,8 @@ ghost use Rattle.hint_log.specs.Entries.{Given, name_of};
 ghost use Rattle.hint_log.specs.Growth.{Each};
 ghost use Rattle.hint_log.specs.declared.origins.Origin.{Origin as OriginValue};
 ghost use Rattle.oracle.specs.Calls.{IsMade};
-ghost use Rattle.padoa_definitions.specs.Copies.{is_copy_of, group_variable, IsGroupGiven, AreCopiesOf, IsMatrixCopy};
-ghost use Rattle.padoa_definitions.specs.Growing.{GrewIn, HasFewFaults, Adds, AreUncopied, AreUngiven, IsClauseGiven, AreGivenSoFar};
+ghost use Rattle.padoa_definitions.specs.Copies.{is_copy_of, group_variable, AreCopiesOf, IsMatrixCopy};
+ghost use Rattle.padoa_definitions.specs.Growing.{HasFewFaults, Adds, AreUncopied, AreUngiven, IsClauseGiven, IsCopyNamed, Gives, AreGivenSoFar};
 
 use crate::copies::{MatrixCopy, copied_clause, name_copies};
 use dq_formula::Formula;
@@ -47,23 +47,45 @@ impl<'t, 'f> Setup<'t, 'f> {
         ensures fresh { IfOk result (λ copy.
             name_of log.old.entries (group_variable copy.group) ≡ None) }
     {
+        let copy = self.name_copy(oracle, side, log)?;
+        let matrix = CopiedMatrix {
+            side,
+            copy: &copy,
+            f: self.f,
+        };
+        matrix.give_clauses(self.alloc, oracle, log)?;
+        Ok(copy)
+    }
+
+    // Names a copy of each variable, and makes the group of what is said of them.
+    fn name_copy<O: Oracle>(
+        &self,
+        oracle: &mut O,
+        side: u64,
+        log: &mut Log,
+    ) -> Result<MatrixCopy, Memory>
+        requires fit { O.Fits oracle.old log.old }
+        requires formula { IsWellFormed self.now.f.now }
+        requires few { HasFewFaults log.old.entries }
+        requires uncopied { AreUncopied side (declared self.now.f.now) log.old.entries }
+        requires ungiven { AreUngiven side log.old.entries }
+        ensures fit { O.Fits oracle.new log.new }
+        ensures adds { Adds self.now.f.now side (is_copy_of side) log.old log.new }
+        ensures named { IfOk result (λ copy.
+            IsCopyNamed self.now.f.now side copy log.new.entries) }
+        ensures fresh { IfOk result (λ copy.
+            name_of log.old.entries (group_variable copy.group) ≡ None) }
+    {
         let f = self.f;
         f.every_formula_is_lawful();
         let universals = name_copies(self.alloc, oracle, side, f.universals(), log)?;
         let existentials = name_copies(self.alloc, oracle, side, f.existentials(), log)?;
         let group = oracle.group(self.who, log)?;
-        let copy = MatrixCopy {
+        Ok(MatrixCopy {
             group,
             universals,
             existentials,
-        };
-        let matrix = CopiedMatrix {
-            side,
-            copy: &copy,
-            f,
-        };
-        matrix.give_clauses(self.alloc, oracle, log)?;
-        Ok(copy)
+        })
     }
 }
 
@@ -86,22 +108,10 @@ impl<'c, 'f> CopiedMatrix<'c, 'f> {
         requires fit { O.Fits oracle.old log.old }
         requires formula { IsWellFormed self.now.f.now }
         requires side { (self.now.side ≡ 1) ⊎ (self.now.side ≡ 2) }
-        requires few { HasFewFaults log.old.entries }
-        requires made { IsMade log.old.entries self.now.copy.now.group }
-        requires universals { AreCopiesOf log.old.entries self.now.side
-            self.now.f.now.universals
-            self.now.copy.now.universals.items }
-        requires existentials { AreCopiesOf log.old.entries self.now.side
-            (existential_variables self.now.f.now) self.now.copy.now.existentials.items }
-        requires own { Each (IsGroupGiven self.now.f.now (is_copy_of self.now.side)
-            (group_variable self.now.copy.now.group)) log.old.entries }
-        requires ungiven { AreUngiven self.now.side log.old.entries }
+        requires named { IsCopyNamed self.now.f.now self.now.side self.now.copy.now log.old.entries }
         ensures fit { O.Fits oracle.new log.new }
-        ensures grew { GrewIn self.now.f.now (group_variable self.now.copy.now.group) log.old
-            log.new }
-        ensures names { (v : ℕ) → name_of log.new.entries v ≡ name_of log.old.entries v }
-        ensures givens { (o : OriginValue) (c : List Literal) → Contains log.new.entries (Given o c)
-            → Contains log.old.entries (Given o c) ⊎ (is_copy_of self.now.side o ≡ true) }
+        ensures gives { Gives self.now.f.now (is_copy_of self.now.side)
+            (group_variable self.now.copy.now.group) log.old log.new }
         ensures given { OnOk result (AreGivenSoFar self.now.f.now self.now.side
             (group_variable self.now.copy.now.group) (length self.now.f.now.matrix) log.old
             log.new) }

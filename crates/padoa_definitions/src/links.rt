@@ -1,14 +1,12 @@
 //! Equations between the copies of the variables.
 
-ghost use Rattle.std.specs.Prelude.{◌≡◌, ◌⊎◌, ℕ, List, true, Contains, IfOk, OnOk, None, length};
-ghost use Rattle.dq_lits.specs.Literal.{Literal};
+ghost use Rattle.std.specs.Prelude.{◌≡◌, ℕ, IfOk, OnOk, None, length};
 ghost use Rattle.dq_lits.specs.Formula.{Dqbf, declared};
-ghost use Rattle.hint_log.specs.Entries.{Given, name_of};
+ghost use Rattle.hint_log.specs.Entries.{name_of};
 ghost use Rattle.hint_log.specs.Growth.{Each};
-ghost use Rattle.hint_log.specs.declared.origins.Origin.{Origin as OriginValue};
 ghost use Rattle.oracle.specs.Calls.{IsMade};
 ghost use Rattle.padoa_definitions.specs.Copies.{is_link_of, group_variable, IsGroupGiven, AreCopiesOf, AreTwins, copies_of, IsLink};
-ghost use Rattle.padoa_definitions.specs.Growing.{GrewIn, HasFewFaults, Adds, is_any_link, IsUnlinked, AreLinkedSoFar};
+ghost use Rattle.padoa_definitions.specs.Growing.{Gives, HasFewFaults, Adds, is_any_link, IsUnlinked, AreLinkedSoFar};
 
 use crate::copies::{MatrixCopy, Twins};
 use crate::giving::Setup;
@@ -93,10 +91,8 @@ fn give_equation<O: Oracle>(
     requires own { (f : Dqbf) → Each (IsGroupGiven f (is_link_of twins.variable)
         (group_variable group.now)) log.old.entries }
     ensures fit { O.Fits oracle.new log.new }
-    ensures grew { (f : Dqbf) → GrewIn f (group_variable group.now) log.old log.new }
-    ensures names { (v : ℕ) → name_of log.new.entries v ≡ name_of log.old.entries v }
-    ensures givens { (o : OriginValue) (c : List Literal) → Contains log.new.entries (Given o c)
-        → Contains log.old.entries (Given o c) ⊎ (is_link_of twins.variable o ≡ true) }
+    ensures gives { (f : Dqbf) → Gives f (is_link_of twins.variable) (group_variable group.now)
+        log.old log.new }
     ensures link { OnOk result ((f : Dqbf) → IsLink f twins.variable group.now log.new.entries) }
 {
     let downwards = Origin::Link {

@@ -1,10 +1,9 @@
 //! The search for values of both copies that a question asks for.
 
 ghost use Rattle.std.specs.Prelude.{◌≡◌, ◌<◌, ◌++◌, ℕ, true, All, length, IfOk, IsErrOf, Ok};
-ghost use Rattle.hint_log.specs.Growth.{Grew};
-ghost use Rattle.log_laws.specs.Engines.{copies, IsAddedBy};
 ghost use Rattle.oracle.specs.Limits.{IsAtSomeLimit};
 ghost use Rattle.padoa_definitions.specs.Copies.{IsPadoa};
+ghost use Rattle.padoa_definitions.specs.Growing.{HasSearched};
 ghost use Rattle.padoa_definitions.specs.Dividing.{AreActive, IsAsked, IsQuestion, ShowsDefinition, ModelsCopies};
 
 use crate::asking::{Asked, Question};
@@ -33,10 +32,7 @@ impl Padoa {
         requires copied { IsAsked log.old.entries question.now.y question.now.conditions.now
             asked.now }
         ensures fit { O.Fits oracle.new log.new }
-        ensures padoa { IsPadoa question.now.f.now self.now log.new.entries }
-        ensures grew { (group : ℕ)
-            → Grew (IsAddedBy question.now.f.now copies group true log.old.entries) log.old
-            log.new }
+        ensures searched { HasSearched question.now.f.now self.now log.old log.new }
         ensures told { result ≡ Ok Answer.Sat → O.is_told oracle.new ≡ true }
         ensures sat { result ≡ Ok Answer.Sat → ModelsCopies self.now question.now.places.now
             (asked.now.first.items ++ asked.now.second.items) (O.values oracle.new)

@@ -27,8 +27,7 @@ returns-in_err-give_equation-clause-adds g c = λ f.
     (group_variable c.in_ok-group.group)
     (adds_group f 0 (is_link_of c.args.twins.variable) c.args.log.now c.group.new.log
     (group_variable c.in_ok-group.group) c.in_ok-group.ensures.unnamed c.in_ok-group.ensures.ok)
-    c.in_ok-group.ensures.unnamed (c.give_equation.ensures.grew f) c.give_equation.ensures.names
-    c.give_equation.ensures.givens
+    c.in_ok-group.ensures.unnamed (c.give_equation.ensures.gives f)
 
 pub returns-clause-adds : goal.returns-clause-adds
 returns-clause-adds g c = λ f.
@@ -36,5 +35,4 @@ returns-clause-adds g c = λ f.
     (group_variable c.in_ok-group.group)
     (adds_group f 0 (is_link_of c.args.twins.variable) c.args.log.now c.group.new.log
     (group_variable c.in_ok-group.group) c.in_ok-group.ensures.unnamed c.in_ok-group.ensures.ok)
-    c.in_ok-group.ensures.unnamed (c.give_equation.ensures.grew f) c.give_equation.ensures.names
-    c.give_equation.ensures.givens
+    c.in_ok-group.ensures.unnamed (c.give_equation.ensures.gives f)

@@ -7,35 +7,35 @@ use Rattle.padoa_definitions.proofs.padoa.Padoa.ask.Goals as goal
 pub pair-requires-clause-first_universals : goal.pair-requires-clause-first_universals
 pair-requires-clause-first_universals g c =
     copies_told c.search.new.log.entries 1 c.args.question.now.f.now.universals c.args.self.now.first.universals.items
-    (g.O.Oracle.HasVariable c.search.new.oracle) c.search.ensures.padoa.first.universals
+    (g.O.Oracle.HasVariable c.search.new.oracle) c.search.ensures.searched.copied.first.universals
     (λ v named. g.met.O.Oracle.made c.search.new.oracle c.search.new.log v c.search.ensures.fit named)
 
 pub pair-requires-clause-first_existentials : goal.pair-requires-clause-first_existentials
 pair-requires-clause-first_existentials g c =
     copies_told c.search.new.log.entries 1 (existential_variables c.args.question.now.f.now)
     c.args.self.now.first.existentials.items (g.O.Oracle.HasVariable c.search.new.oracle)
-    c.search.ensures.padoa.first.existentials (λ v named. g.met.O.Oracle.made c.search.new.oracle c.search.new.log v
+    c.search.ensures.searched.copied.first.existentials (λ v named. g.met.O.Oracle.made c.search.new.oracle c.search.new.log v
     c.search.ensures.fit named)
 
 pub pair-requires-clause-second_universals : goal.pair-requires-clause-second_universals
 pair-requires-clause-second_universals g c =
     copies_told c.search.new.log.entries 2 c.args.question.now.f.now.universals c.args.self.now.second.universals.items
     (g.O.Oracle.HasVariable c.search.new.oracle)
-    c.search.ensures.padoa.second.universals (λ v named. g.met.O.Oracle.made c.search.new.oracle c.search.new.log v
+    c.search.ensures.searched.copied.second.universals (λ v named. g.met.O.Oracle.made c.search.new.oracle c.search.new.log v
     c.search.ensures.fit named)
 
 pub pair-requires-clause-second_existentials : goal.pair-requires-clause-second_existentials
 pair-requires-clause-second_existentials g c =
     copies_told c.search.new.log.entries 2 (existential_variables c.args.question.now.f.now)
     c.args.self.now.second.existentials.items (g.O.Oracle.HasVariable c.search.new.oracle)
-    c.search.ensures.padoa.second.existentials (λ v named. g.met.O.Oracle.made c.search.new.oracle c.search.new.log v
+    c.search.ensures.searched.copied.second.existentials (λ v named. g.met.O.Oracle.made c.search.new.oracle c.search.new.log v
     c.search.ensures.fit named)
 
 pub returns-clause-answer : goal.returns-clause-answer
 returns-clause-answer g c =
     let question = c.args.question.now in
     let es = c.search.new.log.entries in
-    let padoa = c.search.ensures.padoa in
+    let padoa = c.search.ensures.searched.copied in
     let logged = (g.met.O.Oracle.searched c.search.new.oracle c.search.new.log c.search.ensures.fit).logged in
     apart_pair question.f.now question.places.now question.y question.conditions.now c.args.self.now c.in_ok-asked.asked
     es (g.O.Oracle.values c.search.new.oracle) c.in_ok-pair-in-Sat.pair

@@ -64,7 +64,7 @@ cube-requires-clause-names g c = λ clause is.
     let f = c.args.f.now in
     let p = c.args.self.now in
     let es = c.search_first.new.log.entries in
-    let padoa = c.search_first.ensures.padoa in
+    let padoa = c.search_first.ensures.searched.copied in
     some_existential f c.args.y (All (λ l. IsLiteralName (name_of es (variable_of l))) clause) c.requires.existential
     (λ e found.
     names_shown f c.every_formula_is_lawful.ensures c.args.y e found p c.args.row.now c.args.bit
@@ -79,7 +79,7 @@ returns-in-Unsat-clause-forced g c = λ e found.
     let f = c.args.f.now in
     let p = c.args.self.now in
     let es = c.search_first.new.log.entries in
-    let padoa = c.search_first.ensures.padoa in
+    let padoa = c.search_first.ensures.searched.copied in
     rule_shown f c.every_formula_is_lawful.ensures c.args.y e found p c.args.row.now c.args.bit
     c.in_ok-places.places.items c.deref.result.now c.copied_variable.result c.signed-own.result
     c.deref-2.result.now (c.in_ok-places.ensures e found) c.deref.ensures.value c.signed-own.ensures
@@ -94,7 +94,7 @@ row_of_values-requires-clause-made g c =
     let has = g.O.Oracle.HasVariable c.search_first.new.oracle in
     subst (All (λ l. has (variable_of l))) (sym c.deref-in-Sat.ensures.value)
     (copies_told c.search_first.new.log.entries 1 c.args.f.now.universals lits has
-    c.search_first.ensures.padoa.first.universals
+    c.search_first.ensures.searched.copied.first.universals
     (λ v named. g.met.O.Oracle.made c.search_first.new.oracle c.search_first.new.log v
     c.search_first.ensures.fit named))
 
@@ -104,7 +104,7 @@ row_of_values-requires-in-Sat-clause-made g c =
     let has = g.O.Oracle.HasVariable c.search_first.new.oracle in
     subst (All (λ l. has (variable_of l))) (sym c.deref-in-Sat-2.ensures.value)
     (copies_told c.search_first.new.log.entries 1 (existential_variables c.args.f.now) lits has
-    c.search_first.ensures.padoa.first.existentials
+    c.search_first.ensures.searched.copied.first.existentials
     (λ v named. g.met.O.Oracle.made c.search_first.new.oracle c.search_first.new.log v
     c.search_first.ensures.fit named))
 
@@ -113,7 +113,7 @@ returns-clause-forced g c = λ e found.
     let f = c.args.f.now in
     let p = c.args.self.now in
     let es = c.search_first.new.log.entries in
-    let padoa = c.search_first.ensures.padoa in
+    let padoa = c.search_first.ensures.searched.copied in
     let values = g.O.Oracle.values c.search_first.new.oracle in
     let logged = (g.met.O.Oracle.searched c.search_first.new.oracle c.search_first.new.log
     c.search_first.ensures.fit).logged in

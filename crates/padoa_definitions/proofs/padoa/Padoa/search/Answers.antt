@@ -39,45 +39,43 @@ solve-requires-clause-apart g c =
     ap is_tautology both ∙ both_apart c.args.log.now.entries question.y question.conditions.now asked c.requires.copied
     c.requires.posed.consistent c.requires.posed.others
 
-pub returns-in_err-answer-clause-padoa : goal.returns-in_err-answer-clause-padoa
-returns-in_err-answer-clause-padoa g c = padoa_learned c.args.question.now.f.now c.args.self.now c.args.log.now
-    c.solve.new.log c.in_err-answer.ensures.stop c.requires.padoa
+pub returns-in_err-answer-clause-searched : goal.returns-in_err-answer-clause-searched
+returns-in_err-answer-clause-searched g c = record {
+  copied = padoa_learned c.args.question.now.f.now c.args.self.now c.args.log.now
+      c.solve.new.log c.in_err-answer.ensures.stop c.requires.padoa;
+  grew = learned_grew c.args.question.now.f.now c.args.log.now c.solve.new.log
+      c.in_err-answer.ensures.stop;
+}
 
-pub returns-in_err-answer-clause-grew : goal.returns-in_err-answer-clause-grew
-returns-in_err-answer-clause-grew g c = learned_grew c.args.question.now.f.now c.args.log.now c.solve.new.log
-    c.in_err-answer.ensures.stop
-
-pub returns-clause-padoa : goal.returns-clause-padoa
-returns-clause-padoa g c =
-    let f = c.args.question.now.f.now in
-    let p = c.args.self.now in
-    let old = c.args.log.now in
-    let new = c.solve.new.log in
-    on_answer c.in_ok-answer.answer
-    (λ e. padoa_learned f p old new (c.solve.ensures.sat (c.in_ok-answer.was ∙ ap Ok e)).0 c.requires.padoa)
-    (λ id e. padoa_refuted f p (assumed c.deref-3.result.now c.deref-4.result.now) old new id c.requires.padoa
-    (c.solve.ensures.unsat id (c.in_ok-answer.was ∙ ap Ok e)))
-
-pub returns-clause-grew : goal.returns-clause-grew
-returns-clause-grew g c group =
-    let question = c.args.question.now in
-    let asked = c.args.asked.now in
-    let p = c.args.self.now in
-    let old = c.args.log.now in
-    let new = c.solve.new.log in
-    let active = c.in_ok-active.active.items in
-    let both = two_joined c.deref.result.now c.deref-2.result.now asked.first.items asked.second.items
-    c.in_ok-assume.assume.items c.deref-4.result.now c.deref.ensures.value c.deref-2.ensures.value
-    c.in_ok-assume.ensures c.deref-4.ensures.value in
-    on_answer c.in_ok-answer.answer
-    (λ e. learned_grew question.f.now old new (c.solve.ensures.sat (c.in_ok-answer.was ∙ ap Ok e)).0 group)
-    (λ id e. refuted_grew c.derived_line_is_implied.ensures c.ids_stay.ensures c.reached_are_ids.ensures question.f.now
-    question.places.now question.y question.conditions.now p active asked old new id
-    c.requires.padoa c.requires.posed.places_within c.in_ok-active.ensures c.requires.copied
-    (g.met.O.Oracle.searched c.solve.new.self new c.solve.ensures.fit)
-    (refuted_under old new c.deref-3.result.now active c.deref-4.result.now
-    (asked.first.items ++ asked.second.items) id c.deref-3.ensures.value both
-    (c.solve.ensures.unsat id (c.in_ok-answer.was ∙ ap Ok e))) group)
+pub returns-clause-searched : goal.returns-clause-searched
+returns-clause-searched g c = record {
+  copied = let f = c.args.question.now.f.now in
+      let p = c.args.self.now in
+      let old = c.args.log.now in
+      let new = c.solve.new.log in
+      on_answer c.in_ok-answer.answer
+      (λ e. padoa_learned f p old new (c.solve.ensures.sat (c.in_ok-answer.was ∙ ap Ok e)).0 c.requires.padoa)
+      (λ id e. padoa_refuted f p (assumed c.deref-3.result.now c.deref-4.result.now) old new id c.requires.padoa
+      (c.solve.ensures.unsat id (c.in_ok-answer.was ∙ ap Ok e)));
+  grew = λ group. let question = c.args.question.now in
+      let asked = c.args.asked.now in
+      let p = c.args.self.now in
+      let old = c.args.log.now in
+      let new = c.solve.new.log in
+      let active = c.in_ok-active.active.items in
+      let both = two_joined c.deref.result.now c.deref-2.result.now asked.first.items asked.second.items
+      c.in_ok-assume.assume.items c.deref-4.result.now c.deref.ensures.value c.deref-2.ensures.value
+      c.in_ok-assume.ensures c.deref-4.ensures.value in
+      on_answer c.in_ok-answer.answer
+      (λ e. learned_grew question.f.now old new (c.solve.ensures.sat (c.in_ok-answer.was ∙ ap Ok e)).0 group)
+      (λ id e. refuted_grew c.derived_line_is_implied.ensures c.ids_stay.ensures c.reached_are_ids.ensures question.f.now
+      question.places.now question.y question.conditions.now p active asked old new id
+      c.requires.padoa c.requires.posed.places_within c.in_ok-active.ensures c.requires.copied
+      (g.met.O.Oracle.searched c.solve.new.self new c.solve.ensures.fit)
+      (refuted_under old new c.deref-3.result.now active c.deref-4.result.now
+      (asked.first.items ++ asked.second.items) id c.deref-3.ensures.value both
+      (c.solve.ensures.unsat id (c.in_ok-answer.was ∙ ap Ok e))) group);
+}
 
 pub returns-clause-unsat : goal.returns-clause-unsat
 returns-clause-unsat g c = λ id is.

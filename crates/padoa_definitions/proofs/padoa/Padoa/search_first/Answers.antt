@@ -10,32 +10,30 @@ use Rattle.padoa_definitions.proofs.padoa.Padoa.search_first.Goals as goal
 pub solve-requires-clause-plain : goal.solve-requires-clause-plain
 solve-requires-clause-plain g c = first_plain c.args.log.now.entries c.args.asked.now c.requires.copies
 
-pub returns-in_err-answer-clause-padoa : goal.returns-in_err-answer-clause-padoa
-returns-in_err-answer-clause-padoa g c = padoa_learned c.args.f.now c.args.self.now c.args.log.now c.solve.new.log
-    c.in_err-answer.ensures.stop c.requires.padoa
+pub returns-in_err-answer-clause-searched : goal.returns-in_err-answer-clause-searched
+returns-in_err-answer-clause-searched g c = record {
+  copied = padoa_learned c.args.f.now c.args.self.now c.args.log.now c.solve.new.log
+      c.in_err-answer.ensures.stop c.requires.padoa;
+  grew = learned_grew c.args.f.now c.args.log.now c.solve.new.log
+      c.in_err-answer.ensures.stop;
+}
 
-pub returns-in_err-answer-clause-grew : goal.returns-in_err-answer-clause-grew
-returns-in_err-answer-clause-grew g c = learned_grew c.args.f.now c.args.log.now c.solve.new.log
-    c.in_err-answer.ensures.stop
-
-pub returns-clause-padoa : goal.returns-clause-padoa
-returns-clause-padoa g c =
-    on_answer c.in_ok-answer.answer
-    (λ e. padoa_learned c.args.f.now c.args.self.now c.args.log.now c.solve.new.log
-    (c.solve.ensures.sat (c.in_ok-answer.was ∙ ap Ok e)).0 c.requires.padoa)
-    (λ id e. padoa_refuted c.args.f.now c.args.self.now (assumed (c.args.self.now.first.group ∷ []) c.args.asked.now)
-    c.args.log.now c.solve.new.log id c.requires.padoa
-    (c.solve.ensures.unsat id (c.in_ok-answer.was ∙ ap Ok e)))
-
-pub returns-clause-grew : goal.returns-clause-grew
-returns-clause-grew g c group =
-    on_answer c.in_ok-answer.answer
-    (λ e. learned_grew c.args.f.now c.args.log.now c.solve.new.log
-    (c.solve.ensures.sat (c.in_ok-answer.was ∙ ap Ok e)).0 group)
-    (λ id e. first_grew c.derived_line_is_implied.ensures c.ids_stay.ensures c.reached_are_ids.ensures c.args.f.now
-    c.args.self.now c.args.asked.now c.args.log.now c.solve.new.log id
-    c.requires.padoa c.requires.copies (g.met.O.Oracle.searched c.solve.new.self c.solve.new.log c.solve.ensures.fit)
-    (c.solve.ensures.unsat id (c.in_ok-answer.was ∙ ap Ok e)) group)
+pub returns-clause-searched : goal.returns-clause-searched
+returns-clause-searched g c = record {
+  copied = on_answer c.in_ok-answer.answer
+      (λ e. padoa_learned c.args.f.now c.args.self.now c.args.log.now c.solve.new.log
+      (c.solve.ensures.sat (c.in_ok-answer.was ∙ ap Ok e)).0 c.requires.padoa)
+      (λ id e. padoa_refuted c.args.f.now c.args.self.now (assumed (c.args.self.now.first.group ∷ []) c.args.asked.now)
+      c.args.log.now c.solve.new.log id c.requires.padoa
+      (c.solve.ensures.unsat id (c.in_ok-answer.was ∙ ap Ok e)));
+  grew = λ group. on_answer c.in_ok-answer.answer
+      (λ e. learned_grew c.args.f.now c.args.log.now c.solve.new.log
+      (c.solve.ensures.sat (c.in_ok-answer.was ∙ ap Ok e)).0 group)
+      (λ id e. first_grew c.derived_line_is_implied.ensures c.ids_stay.ensures c.reached_are_ids.ensures c.args.f.now
+      c.args.self.now c.args.asked.now c.args.log.now c.solve.new.log id
+      c.requires.padoa c.requires.copies (g.met.O.Oracle.searched c.solve.new.self c.solve.new.log c.solve.ensures.fit)
+      (c.solve.ensures.unsat id (c.in_ok-answer.was ∙ ap Ok e)) group);
+}
 
 pub returns-clause-unsat : goal.returns-clause-unsat
 returns-clause-unsat g c = λ id is.
