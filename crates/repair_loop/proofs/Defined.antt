@@ -1,4 +1,5 @@
--- What is kept while definitions are asked for: the log has nothing of the other engines, and the list of definitions grows.
+-- What is kept while definitions are asked for: the log has nothing of the other engines, and the
+-- list of definitions grows.
 use Rattle.std.proofs.Common.{◌≡◌, ◌≢◌, ℕ, zero, suc, ◌<◌, ◌==◌, true, List, [], ◌++◌, length, get_or, slice_get, replicate, set, Bool, Option, None, Some, IsSome, refl, sym, ◌∙◌, ap, subst, inl, inr, arith, Result, Ok, Err, get_or-set_same, get_or-set_other, length-set}
 use Rattle.std.specs.List.{All, Contains}
 use Rattle.std.specs.Option.{IfSome}

@@ -1,4 +1,5 @@
--- A clause of universals alone that is false under a row: it may be logged as a round, and the instances under its row have no model.
+-- A clause of universals alone that is false under a row: it may be logged as a round, and the
+-- instances under its row have no model.
 use Rattle.std.proofs.Common.{◌≡◌, ℕ, ◌≤◌, ◌&&◌, ◌++◌, Bool, true, false, not, List, [], ◌∷◌, map, length, replicate, refl, sym, ◌∙◌, ap, subst, arith, inr}
 use Rattle.std.specs.List.{All, Contains, list_all, list_any}
 use Rattle.std.proofs.lemmas.Bool.{false≢true, and_parts, or_parts}

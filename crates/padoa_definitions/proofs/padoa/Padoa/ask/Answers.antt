@@ -14,21 +14,24 @@ pub pair-requires-clause-first_existentials : goal.pair-requires-clause-first_ex
 pair-requires-clause-first_existentials g c =
     copies_told c.search.new.log.entries 1 (existential_variables c.args.question.now.f.now)
     c.args.self.now.first.existentials.items (g.O.Oracle.HasVariable c.search.new.oracle)
-    c.search.ensures.searched.copied.first.existentials (λ v named. g.met.O.Oracle.made c.search.new.oracle c.search.new.log v
+    c.search.ensures.searched.copied.first.existentials (λ v named. g.met.O.Oracle.made c.search.new.oracle
+    c.search.new.log v
     c.search.ensures.fit named)
 
 pub pair-requires-clause-second_universals : goal.pair-requires-clause-second_universals
 pair-requires-clause-second_universals g c =
     copies_told c.search.new.log.entries 2 c.args.question.now.f.now.universals c.args.self.now.second.universals.items
     (g.O.Oracle.HasVariable c.search.new.oracle)
-    c.search.ensures.searched.copied.second.universals (λ v named. g.met.O.Oracle.made c.search.new.oracle c.search.new.log v
+    c.search.ensures.searched.copied.second.universals (λ v named. g.met.O.Oracle.made c.search.new.oracle
+    c.search.new.log v
     c.search.ensures.fit named)
 
 pub pair-requires-clause-second_existentials : goal.pair-requires-clause-second_existentials
 pair-requires-clause-second_existentials g c =
     copies_told c.search.new.log.entries 2 (existential_variables c.args.question.now.f.now)
     c.args.self.now.second.existentials.items (g.O.Oracle.HasVariable c.search.new.oracle)
-    c.search.ensures.searched.copied.second.existentials (λ v named. g.met.O.Oracle.made c.search.new.oracle c.search.new.log v
+    c.search.ensures.searched.copied.second.existentials (λ v named. g.met.O.Oracle.made c.search.new.oracle
+    c.search.new.log v
     c.search.ensures.fit named)
 
 pub returns-clause-answer : goal.returns-clause-answer

@@ -68,7 +68,8 @@ returns-clause-searched g c = record {
       c.in_ok-assume.ensures c.deref-4.ensures.value in
       on_answer c.in_ok-answer.answer
       (λ e. learned_grew question.f.now old new (c.solve.ensures.sat (c.in_ok-answer.was ∙ ap Ok e)).0 group)
-      (λ id e. refuted_grew c.derived_line_is_implied.ensures c.ids_stay.ensures c.reached_are_ids.ensures question.f.now
+      (λ id e. refuted_grew c.derived_line_is_implied.ensures c.ids_stay.ensures
+      c.reached_are_ids.ensures question.f.now
       question.places.now question.y question.conditions.now p active asked old new id
       c.requires.padoa c.requires.posed.places_within c.in_ok-active.ensures c.requires.copied
       (g.met.O.Oracle.searched c.solve.new.self new c.solve.ensures.fit)

@@ -48,7 +48,8 @@ loop-outputs-smaller g c =
     let was = c.in_ok-id.was ∙ ap Ok c.in-Fail.is in
     fewer_left c.loop-outputs.log c.find_candidates.new.log c.judge.new.log c.add_row.new.log
     c.find_candidates.ensures.went.grew
-    (log_grew _ c.judge.new.log c.add_row.new.log (c.add_row.ensures.grew c.judge.new.log.entries)) c.judge.ensures.went.grew
+    (log_grew _ c.judge.new.log c.add_row.new.log (c.add_row.ensures.grew c.judge.new.log.entries))
+    c.judge.ensures.went.grew
     (c.judge.ensures.fail c.in-Fail.row was).step (c.judge.ensures.fail c.in-Fail.row was).within
 
 pub loop-outputs-preserved : goal.loop-outputs-preserved
@@ -76,7 +77,8 @@ pub returns-in_err-outputs-clause-kept : goal.returns-in_err-outputs-clause-kept
 returns-in_err-outputs-clause-kept g c = c.find_candidates.ensures.went.kept
 
 pub returns-in_err-outputs-clause-limit_same : goal.returns-in_err-outputs-clause-limit_same
-returns-in_err-outputs-clause-limit_same g c = c.find_candidates.ensures.went.grew.limit ∙ c.loop-outputs.invariant.limit
+returns-in_err-outputs-clause-limit_same g c = c.find_candidates.ensures.went.grew.limit ∙
+    c.loop-outputs.invariant.limit
 
 pub returns-in_err-add_row-in-Fail-clause-stopped : goal.returns-in_err-add_row-in-Fail-clause-stopped
 returns-in_err-add_row-in-Fail-clause-stopped g c = record {

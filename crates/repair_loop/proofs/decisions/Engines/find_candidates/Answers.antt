@@ -199,7 +199,8 @@ returns-in_err-force_all-in-Model-clause-stopped g c =
     c.args.self.now.definitions.padoa (is_silent c.solve.result) c.args.log.now c.solve.new.log (ap is_silent was) s
     (c.solve.ensures.grew f s.table) c.solve.ensures.same (c.solve.ensures.table f s.table) in
     record {
-      undecided = on_err _ _ (c.force_all.ensures.forced.goes_on c.args.graph.now c.args.self.now.checker found).undecided;
+      undecided = on_err _ _ (c.force_all.ensures.forced.goes_on c.args.graph.now
+          c.args.self.now.checker found).undecided;
       limit = λ is.
           let stop : c.in_err-force_all-in-Model.field-0.0 ≡ Limit = search rules in
           by_lemma f c.force_all.new.log (c.in_err-force_all-in-Model.ensures.limit (ap (λ e. Err e) stop));
@@ -215,6 +216,7 @@ returns-in_err-outputs-in-Model-clause-stopped g c =
     c.args.self.now.definitions.padoa (is_silent c.solve.result) c.args.log.now c.solve.new.log (ap is_silent was) s
     (c.solve.ensures.grew f s.table) c.solve.ensures.same (c.solve.ensures.table f s.table) in
     record {
-      undecided = on_err _ _ (c.force_all.ensures.forced.goes_on c.args.graph.now c.args.self.now.checker found).undecided;
+      undecided = on_err _ _ (c.force_all.ensures.forced.goes_on c.args.graph.now
+          c.args.self.now.checker found).undecided;
       limit = search rules;
     }
