@@ -36,7 +36,7 @@ def answer_of(variable, name, words):
 
 def shown(line):
     """A line of a text as one can print it."""
-    text = line.decode("ascii", errors="backslashreplace").replace("\t", "\\t").replace("\r", "\\r")
+    text = "".join(chr(byte) if 32 <= byte < 127 else f"\\x{byte:02x}" for byte in line[: 4 * LONGEST_SHOWN])
     return text if len(text) <= LONGEST_SHOWN else text[:LONGEST_SHOWN] + " .."
 
 
