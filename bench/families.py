@@ -1,9 +1,15 @@
-"""Formulas of families that people have: gates with their definitions, circuits with black boxes against their specifications, controllers
+#!/usr/bin/env python3
+"""families.py FAMILY SIZE [SEED [FORM]]: prints a formula of a family in DQDIMACS, and its verdict as a comment where that is known; families.py
+alone prints the families, each with its least size. FORM is how its declarations stand: forward, shuffled or reversed.
+
+Formulas of families that people have: gates with their definitions, circuits with black boxes against their specifications, controllers
 that see a part of their plant, random clauses. A family makes a formula of a size from a seeded source of choices, and says its verdict where
 that is known."""
 
 import functools
 import itertools
+import random
+import sys
 
 
 # Signals
@@ -578,3 +584,33 @@ FAMILIES |= {"injection": (injection, 1), "injection-short": (lambda rng, size: 
 FAMILIES |= {"lookups": (lookups, 5), "triple-parities": (triple_parities, 5)}
 FAMILIES |= {"implications": (implications, 100), "unseen": (unseen, 100), "long-clauses": (long_clauses, 50)}
 FAMILIES |= {"half-free": (half_free, 100), "one-set": (one_set, 50)}
+
+
+def formula_of(family, size, seed, form):
+    """A formula of a family, and whether it is true, or None where that isn't known."""
+    formula, verdict = FAMILIES[family][0](random.Random(f"{family} {size} {seed}"), size)
+    formula.declare(form, random.Random(f"{family} {size} {form} {seed}"))
+    return formula, verdict
+
+
+def main(words):
+    if not words:
+        for family, (_, least) in FAMILIES.items():
+            print(family, least)
+        return 0
+    if words == ["--help"] or not 2 <= len(words) <= 4 or words[0] not in FAMILIES or not words[1].isdigit():
+        print(__doc__.strip())
+        return 0 if words == ["--help"] else 1
+    family, size, seed, form = [*words, *("1", "forward")[len(words) - 2 :]]
+    if int(size) < FAMILIES[family][1] or form not in FORMS:
+        print(f"families.py: {family} begins with size {FAMILIES[family][1]}; forms are {', '.join(FORMS)}", file=sys.stderr)
+        return 1
+    formula, verdict = formula_of(family, int(size), seed, form)
+    if verdict is not None:
+        print(f"c {family} {size}: {verdict}")
+    sys.stdout.write(formula.text())
+    return 0
+
+
+if __name__ == "__main__":
+    sys.exit(main(sys.argv[1:]))

@@ -14,7 +14,6 @@ import argparse
 import csv
 import itertools
 import os
-import random
 import resource
 import shutil
 import subprocess
@@ -24,7 +23,7 @@ import time
 
 from bench import CHECKER
 from decisions import SOLVER, UNKNOWN
-from families import FAMILIES, FORMS
+from families import FAMILIES, FORMS, formula_of
 
 MOST_VARIABLES, MOST_CLAUSES = 1_000_000, 10_000_000
 GIGABYTE = 1_000_000_000
@@ -109,8 +108,7 @@ class Bench:
 
     def measure(self, family, size):
         """The solver's row, or None where the formula is too large; a fault raises."""
-        formula, expected = FAMILIES[family][0](random.Random(f"{family} {size} {self.words.seed}"), size)
-        formula.declare(self.words.form, random.Random(f"{family} {size} {self.words.form} {self.words.seed}"))
+        formula, expected = formula_of(family, size, self.words.seed, self.words.form)
         if formula.variables > MOST_VARIABLES or len(formula.clauses) > MOST_CLAUSES:
             return None
         path = self.write("formula", formula.text())

@@ -32,11 +32,11 @@ def program(variable, name):
 
 
 class OutOfTime(Exception):
-    """The time limit, or Ctrl-C."""
+    """The time limit was reached."""
 
 
 def run(command, output, seconds):
-    """Runs a program whose output goes to a file; answers its status, or ends it and raises OutOfTime."""
+    """Runs a program whose output goes to a file; answers its status. Whatever ends the wait ends the program."""
     if seconds is not None and seconds <= 0:
         raise OutOfTime
     try:
@@ -45,10 +45,12 @@ def run(command, output, seconds):
         raise Failure(UNREADABLE, f"{command[0]}: {error.strerror}") from error
     try:
         return process.wait(timeout=seconds)
-    except (subprocess.TimeoutExpired, KeyboardInterrupt) as stop:
-        os.killpg(process.pid, signal.SIGKILL)
-        process.wait()
-        raise OutOfTime from stop
+    except subprocess.TimeoutExpired as limit:
+        raise OutOfTime from limit
+    finally:
+        if process.returncode is None:
+            os.killpg(process.pid, signal.SIGKILL)
+            process.wait()
 
 
 class Search:
@@ -59,6 +61,7 @@ class Search:
         self.output = os.path.join(folder, "output")
         self.began = time.monotonic()
         self.seconds = seconds
+        self.counts = ("", "")  # rounds and learned clauses of the last run that gave no verdict
 
     def left(self):
         return None if self.seconds is None else self.seconds - (time.monotonic() - self.began)
@@ -75,7 +78,8 @@ class Search:
 
     def tell(self, steps, verdict):
         counts = re.search(r"rounds (\d+) learned (\d+)", self.text())
-        found = f"rounds {counts[1]} learned {counts[2]}" if counts else verdict
+        self.counts = counts.groups() if counts else self.counts
+        found = counts[0] if counts else verdict
         print(f"{steps} steps: {found}, {time.monotonic() - self.began:.1f} s", file=sys.stderr, flush=True)
 
     def check(self):
