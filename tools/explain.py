@@ -15,7 +15,7 @@ import subprocess
 import sys
 
 from failure import UNREADABLE, USAGE, Failure
-from refusals import CERTIFICATE, FORMULA, at_start
+from refusals import at_start, sentences
 from skolem import gates_in_order, mapping
 from steps import explain_step
 from texts import bytes_of, lines_of, read_circuit, read_formula
@@ -40,7 +40,7 @@ def shown(line):
     return text if len(text) <= LONGEST_SHOWN else text[:LONGEST_SHOWN] + " .."
 
 
-def explain_refusal(path, words, sentences):
+def explain_refusal(path, words, kind):
     """The line that a refusal names, and what its name stands for."""
     number, name = int(words[1]), words[2]
     lines = lines_of(bytes_of(path))
@@ -48,7 +48,7 @@ def explain_refusal(path, words, sentences):
         print(f"{path}, line {number}: {shown(lines[number - 1])}")
     else:
         print(f"{path} has {len(lines)} lines; line {number} is due")
-    print(sentences.get(name, "docs/FORMATS.md has the name."))
+    print(sentences(kind).get(name, "docs/FORMATS.md has the name."))
     hint = at_start(bytes_of(path), name)
     if hint:
         print(hint)
@@ -98,9 +98,9 @@ def explain_reads(formula_path, certificate_path, words):
 def explain(formula, certificate, words):
     """Prints why the checker answered with these words."""
     if words[:1] == ["refused"]:
-        explain_refusal(formula, words, FORMULA)
+        explain_refusal(formula, words, "formula")
     elif words[:1] == ["certificate"]:
-        explain_refusal(certificate, words, CERTIFICATE)
+        explain_refusal(certificate, words, "certificate")
     elif words[:2] == ["INVALID", "row"]:
         explain_row(formula, certificate, words)
     elif words[:2] == ["INVALID", "reads"]:
