@@ -1,0 +1,83 @@
+#!/usr/bin/env python3
+"""pages.py: runs the commands that README and the pages show, as written, in a folder of their own, and compares statuses and first lines with
+what stands here. Commands of the pages that aren't listed here, and the other way round, are differences too. DQCHECK and DQSOLVE may name
+built programs.
+"""
+
+import os
+import re
+import subprocess
+import sys
+import tempfile
+
+TOP = os.path.dirname(os.path.dirname(os.path.abspath(__file__)))
+PAGES = ("README.md", "docs/SOLVING.md", "docs/BLACK_BOX.md", "docs/FORMATS.md")
+
+# What each command ends with, and the first line that it prints, or None where nothing is printed or the line says little.
+COMMANDS = {
+    "./dqsolve solve examples/copies.dqdimacs > certificate": (10, None),
+    "./dqcheck examples/copies.dqdimacs certificate": (0, "VALID TRUE"),
+    "sed '/^c$/,$d' examples/small-boxes.aag > boxes.aag": (0, None),
+    "./dqcheck examples/small-boxes.dqdimacs boxes.aag": (0, "VALID TRUE"),
+    "./dqcheck examples/small-boxes.dqdimacs examples/small-boxes.aag": (0, "VALID TRUE"),
+    "./dqsolve solve examples/small-boxes.dqdimacs > certificate": (10, None),
+    "./dqcheck examples/small-boxes.dqdimacs certificate": (0, "VALID TRUE"),
+    "./dqcheck examples/small-blind-boxes.dqdimacs examples/small-boxes.aag": (8, "INVALID reads 5 2"),
+    "./dqcheck examples/small-blind-boxes.dqdimacs examples/small-blind-boxes.dqr": (0, "VALID FALSE"),
+    "./dqcheck examples/small-boxes.dqdimacs examples/small-blind-boxes.dqr": (8, "INVALID step 13"),
+    "./dqcheck examples/two-boxes.dqdimacs examples/two-boxes-unproved.aag": (9, "UNPROVED 24"),
+    "./dqcheck examples/two-boxes.dqdimacs examples/two-boxes.aag": (0, "VALID TRUE"),
+    "./dqcheck examples/blind-boxes.dqdimacs examples/blind-boxes.dqr": (0, "VALID FALSE"),
+}
+
+# Patterns for the reader's own files, commands that take long, and what needs a solver that may not be there.
+NOT_RUN = re.compile(r"[A-Z]{4}|^rt ci$|^tools/prove_circuit\.py examples/|^parallel ")
+
+
+def commands(page):
+    """The commands of a page: indented lines that begin with a program's name."""
+    with open(os.path.join(TOP, page), encoding="utf-8") as file:
+        lines = re.findall(r"^    ((?:\./|tools/|bench/|sed |rt |parallel ).*)$", file.read(), re.MULTILINE)
+    return [line for line in lines if not NOT_RUN.search(line)]
+
+
+def prepare(folder):
+    """The repository's files by links, and built programs in their places."""
+    for name in os.listdir(TOP):
+        if not name.startswith("."):
+            os.symlink(os.path.join(TOP, name), os.path.join(folder, name))
+    for variable, name in (("DQCHECK", "dqcheck"), ("DQSOLVE", "dqsolve")):
+        if variable in os.environ:
+            os.unlink(os.path.join(folder, name))
+            os.symlink(os.environ[variable], os.path.join(folder, name))
+
+
+def run(command, folder):
+    done = subprocess.run(command, shell=True, cwd=folder, stdout=subprocess.PIPE, check=False)
+    return done.returncode, done.stdout.decode(errors="replace").split("\n")[0]
+
+
+def main(words):
+    if words:
+        print(__doc__.strip())
+        return 0 if words == ["--help"] else 1
+    differences, seen = 0, set()
+    for page in PAGES:
+        with tempfile.TemporaryDirectory() as folder:
+            prepare(folder)
+            for command in commands(page):
+                seen.add(command)
+                due = COMMANDS.get(command)
+                found = run(command, folder)
+                if due is None or found[0] != due[0] or due[1] not in (None, found[1]):
+                    print(f"{page}: {command}: {found} in place of {due}")
+                    differences += 1
+    for command in COMMANDS.keys() - seen:
+        print(f"no page has {command}")
+        differences += 1
+    print(f"{len(seen)} commands, {differences} differences")
+    return 1 if differences else 0
+
+
+if __name__ == "__main__":
+    sys.exit(main(sys.argv[1:]))
