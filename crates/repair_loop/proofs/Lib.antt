@@ -3,9 +3,5 @@ mod UniversalClauses
 mod Extends
 mod Stages
 mod Turned
-mod Defined
-mod Asked
-mod ConsistentConditions
 mod UniversalInputs
 mod Stops
-mod StatedRules

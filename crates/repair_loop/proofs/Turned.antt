@@ -1,24 +1,17 @@
 -- What a turn's calls leave, one behind the other.
-use Rattle.std.proofs.Common.{◌≡◌, ◌∙◌, arith, refl, sym, ap, subst, length, true, ℕ, Bool, List, Result, Err, OnErr}
+use Rattle.std.proofs.Common.{◌≡◌, ◌∙◌, arith, ap, subst, ℕ, Bool, List, Result, Err, OnErr}
 use Rattle.dq_lits.specs.Formula.{Dqbf}
 use Rattle.hint_log.specs.Entries.{ProofLog}
 use Rattle.hint_log.specs.Growth.{Grew}
-use Rattle.log_laws.specs.Engines.{Engine, copies, EnginesLeaveRest, IsAddedBy}
-use Rattle.std.specs.List.{All}
-use Rattle.dq_formula.specs.Rules.{IsRule}
-use Rattle.circuit_cnf.specs.Checking.{CheckersStay}
-use Rattle.expansion.specs.Standing.{EnginesLeaveTables}
-use Rattle.padoa_definitions.specs.Copies.{IsPadoa}
+use Rattle.log_laws.specs.Engines.{Engine, EnginesLeaveRest, IsAddedBy}
 use Rattle.repair_loop.specs.declared.decisions.Engines.{Engines}
-use Rattle.repair_loop.specs.Searching.{IsKept, LogGrew}
-use Rattle.expansion.specs.Table.{TableState}
+use Rattle.known_functions.specs.Searching.{IsKept, LogGrew}
 use Rattle.hint_log.specs.Deciding.{IsUndecided}
 use Rattle.hint_log.specs.declared.stops.Stop.{Stop}
 use Rattle.hint_log.specs.declared.stops.Stop.TheVariants.{Limit}
-use Rattle.repair_loop.specs.declared.definitions.Definitions.{Definitions}
-use Rattle.repair_loop.specs.Searching.{GoesOn, IsRoundLogged}
-use Rattle.repair_loop.specs.Turning.{HasGoneOn, IsNewRound, IsStoppedAs, MayForce, HasForced}
-use Rattle.repair_loop.proofs.Stages.{after_copies, log_grew, log_same, log_then, still_kept}
+use Rattle.repair_loop.specs.Searching.{IsRoundLogged}
+use Rattle.repair_loop.specs.Turning.{HasGoneOn, IsNewRound, IsStoppedAs}
+use Rattle.known_functions.proofs.Standing.{log_grew, log_then, still_kept}
 
 pub went_by : EnginesLeaveRest → (f : Dqbf) (engine : Engine) (group : ℕ) (silent : Bool) (old new : ProofLog) →
     Grew (IsAddedBy f engine group silent old.entries) old new → IsKept f old.entries → HasGoneOn f old new
@@ -49,72 +42,4 @@ pub stopped_on : {T U : Type 0} (f : Dqbf) (log : ProofLog) (r : Result T Stop) 
 stopped_on f log r e was s = record {
   undecided = subst (λ (x : Result _ Stop). OnErr x (IsUndecided f log.entries)) was s.undecided;
   limit = λ is. let same : e ≡ Limit = cc in s.limit (was ∙ ap (λ x. Err x) same);
-}
-
-pub nothing_forced : (f : Dqbf) (t : TableState) (d : Definitions) (log : ProofLog) → MayForce f d log.entries →
-    HasForced f t d d log log
-nothing_forced f t d log may = record {
-  padoa = refl;
-  ranks = refl;
-  nodes = refl;
-  guesses = refl;
-  forced = may.forced;
-  copied = may.copied;
-  goes_on = λ graph c s. s;
-  grew = log_same log log refl;
-}
-
-pub forced_then : (f : Dqbf) (t : TableState) (d e h : Definitions) (a b c : ProofLog) → HasForced f t d e a b →
-    HasForced f t e h b c → HasForced f t d h a c
-forced_then f t d e h a b c one two = record {
-  padoa = two.padoa ∙ one.padoa;
-  ranks = two.ranks ∙ one.ranks;
-  nodes = two.nodes ∙ one.nodes;
-  guesses = two.guesses ∙ one.guesses;
-  forced = two.forced;
-  copied = two.copied;
-  goes_on = λ graph checker s.
-      (subst (λ p. GoesOn f t p b.entries c.entries) one.padoa two.goes_on) graph checker (one.goes_on graph checker s);
-  grew = log_then a b c one.grew two.grew;
-}
-
-pub may_force_on : (f : Dqbf) (t : TableState) (d e : Definitions) (a b : ProofLog) → MayForce f d a.entries →
-    HasForced f t d e a b → MayForce f e b.entries
-may_force_on f t d e a b may forced = record {
-  formula = may.formula;
-  copied = forced.copied;
-  one_each = ap length forced.nodes ∙ may.one_each;
-  forced = forced.forced;
-}
-
--- a rule was asked of the copies
-pub forced_by : EnginesLeaveRest → EnginesLeaveTables → CheckersStay → (f : Dqbf) (t : TableState) (d e : Definitions)
-    (old new : ProofLog) → e.padoa ≡ d.padoa → e.ranks.items ≡ d.ranks.items → e.nodes.items ≡ d.nodes.items →
-    e.guesses.items ≡ d.guesses.items → All (IsRule f) e.rules.items →
-    ((group : ℕ) → Grew (IsAddedBy f copies group true old.entries) old new) → IsPadoa f e.padoa new.entries →
-    HasForced f t d e old new
-forced_by law tables stay f t d e old new padoa ranks nodes guesses rules grew copied = record {
-  padoa = padoa;
-  ranks = ranks;
-  nodes = nodes;
-  guesses = guesses;
-  forced = rules;
-  copied = copied;
-  goes_on = after_copies law tables stay f t d.padoa e.padoa old new padoa grew copied;
-  grew = log_grew _ old new (grew 0);
-}
-
--- a rule was kept that no step was needed for
-pub rule_kept : (f : Dqbf) (t : TableState) (d e : Definitions) (log : ProofLog) → MayForce f d log.entries →
-    e.padoa ≡ d.padoa → e.ranks.items ≡ d.ranks.items → e.nodes.items ≡ d.nodes.items →
-    e.guesses.items ≡ d.guesses.items → All (IsRule f) e.rules.items → HasForced f t d e log log
-rule_kept f t d e log may padoa ranks nodes guesses rules = record {
-  padoa = padoa;
-  ranks = ranks;
-  nodes = nodes;
-  guesses = guesses;
-  forced = rules;
-  copied = subst (λ p. IsPadoa f p log.entries) (sym padoa) may.copied;
-  goes_on = λ graph c s. s;
-  grew = log_same log log refl;
 }

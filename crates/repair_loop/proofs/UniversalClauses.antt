@@ -19,10 +19,10 @@ use Rattle.hint_log.specs.ProductiveLog.{IsNewFailure, HasModelWith, fault_group
 use Rattle.log_laws.specs.Engines.{instances, IsAddedBy, EnginesLeaveRest}
 use Rattle.log_laws.proofs.Found.{variable, numbered_among}
 use Rattle.repair_loop.specs.Refuting.{IsFalseAt}
-use Rattle.repair_loop.specs.Searching.{IsKept}
+use Rattle.known_functions.specs.Searching.{IsKept}
 use Rattle.repair_loop.specs.Stopping.{IsStoppedAtLimit}
 use Rattle.repair_loop.proofs.Rows.{holds_at_old_row}
-use Rattle.repair_loop.proofs.Stages.{still_kept, still_undecided, no_entries_kept, no_entries_undecided}
+use Rattle.known_functions.proofs.Standing.{still_kept, still_undecided, no_entries_kept, no_entries_undecided}
 
 -- at a universal the existentials' values don't count
 at_universal : (f : Dqbf) (row values : List Bool) (v : ℕ) → is_universal f v ≡ true →

@@ -2,5 +2,3 @@ pub mod Searching
 pub mod Turning
 pub mod Stopping
 pub mod Refuting
-pub mod Stating
-pub mod Guessing

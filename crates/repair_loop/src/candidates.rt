@@ -3,10 +3,10 @@
 ghost use Rattle.std.specs.Prelude.{◌≡◌, ℕ, Ok};
 ghost use Rattle.aig_graph.specs.Made.{Extends};
 ghost use Rattle.repair_loop.specs.Searching.{IsShownFalse};
-ghost use Rattle.repair_loop.specs.Turning.{AreKnownIn, AreProposed, HasGoneOn, IsSearchOf, IsStoppedAs};
+ghost use Rattle.known_functions.specs.Forcing.{AreKnownIn};
+ghost use Rattle.repair_loop.specs.Turning.{AreProposed, HasGoneOn, IsSearchOf, IsStoppedAs};
 
 use crate::decisions::Engines;
-use crate::forcing::TableModel;
 use aig_graph::Graph;
 use candidate_functions::{Outputs, build};
 use circuit_cnf::Checker;
@@ -14,6 +14,7 @@ use circuit_cnf::laws::checkers_stay;
 use dq_formula::Formula;
 use expansion::{Exp, Table};
 use hint_log::{Log, Stop};
+use known_functions::TableModel;
 use log_laws::laws::engines_leave_the_rest;
 use oracle::Oracle;
 use padoa_definitions::laws::engines_leave_copies;

@@ -4,12 +4,13 @@ ghost use Rattle.std.specs.Prelude.{◌≡◌, [], ℕ, length, OnErr, IsErrOf, 
 ghost use Rattle.dq_lits.specs.Formula.{IsWellFormed};
 ghost use Rattle.hint_log.specs.Deciding.{IsUndecided, KeepsSelectors};
 ghost use Rattle.hint_log.specs.ProductiveLog.{IsProductiveLog};
-ghost use Rattle.repair_loop.specs.Searching.{IsKept, HasInputs, IsShownTrue, IsShownFalse};
-ghost use Rattle.repair_loop.specs.Turning.{AreKnownIn, IsSearchOf, IsStoppedAs};
+ghost use Rattle.known_functions.specs.Searching.{IsKept, HasInputs};
+ghost use Rattle.repair_loop.specs.Searching.{IsShownTrue, IsShownFalse};
+ghost use Rattle.known_functions.specs.Forcing.{AreKnownIn};
+ghost use Rattle.repair_loop.specs.Turning.{IsSearchOf, IsStoppedAs};
 ghost use Rattle.repair_loop.specs.Stopping.{IsStoppedAtLimit};
 
 use crate::candidates::Proposal;
-use crate::definitions::{Definitions, find_definitions};
 use crate::judging::{Candidates, Judged};
 use crate::universal_clauses::{find_false_clause, refute};
 use aig_graph::Graph;
@@ -20,6 +21,7 @@ use dq_formula::Formula;
 use expansion::Table;
 use expansion::laws::engines_leave_tables;
 use hint_log::{Log, Stop};
+use known_functions::{Definitions, find_definitions};
 use log_laws::laws::engines_leave_the_rest;
 use oracle::Oracle;
 use padoa_definitions::laws::engines_leave_copies;

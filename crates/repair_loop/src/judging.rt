@@ -4,7 +4,8 @@ ghost use Rattle.std.specs.Prelude.{◌≡◌, ℕ, List, Bool, IfOk, IfSome, On
 ghost use Rattle.dq_lits.specs.Formula.{IsWellFormed};
 ghost use Rattle.aig_graph.specs.Outputs.{outputs_of};
 ghost use Rattle.circuit_cnf.specs.Failing.{IsFailure};
-ghost use Rattle.repair_loop.specs.Searching.{HasInputs, AreBuilt, AreRefuted, IsShownTrue};
+ghost use Rattle.known_functions.specs.Searching.{HasInputs};
+ghost use Rattle.repair_loop.specs.Searching.{AreBuilt, AreRefuted, IsShownTrue};
 ghost use Rattle.repair_loop.specs.Turning.{IsSearchOf, HasGoneOn, IsNewRound, IsStoppedAs};
 
 use crate::decisions::Engines;
@@ -78,7 +79,7 @@ impl Engines {
             failure.values failure.j)) }
     {
         let nodes = candidates.outputs.items();
-        for row in self.definitions.questions.conditions.rows() {
+        for row in self.definitions.refuting_rows() {
             if row.len() == f.universals().len() {
                 let found = failure_at(self.alloc, candidates.graph, f, nodes, row)?;
                 if found.is_some() {

@@ -6,19 +6,6 @@
 pub use decisions::{Verdict, decide};
 
 mod candidates;
-mod clashes;
-mod conditions;
 mod decisions;
-mod definitions;
-mod forcing;
-mod guessing;
 mod judging;
-mod known_inputs;
-mod lawful_conditions;
-mod occurrences;
-mod questions;
-mod samples;
-mod stated_rules;
-mod suspects;
 mod universal_clauses;
-mod walks;

@@ -6,7 +6,8 @@ ghost use Rattle.dq_lits.specs.Formula.{IsWellFormed, is_universal};
 ghost use Rattle.dq_lits.specs.Literal.{variable_of};
 ghost use Rattle.hint_log.specs.Deciding.{IsUndecided};
 ghost use Rattle.std.specs.List.{list_all};
-ghost use Rattle.repair_loop.specs.Searching.{IsKept, IsShownFalse};
+ghost use Rattle.known_functions.specs.Searching.{IsKept};
+ghost use Rattle.repair_loop.specs.Searching.{IsShownFalse};
 ghost use Rattle.repair_loop.specs.Refuting.{IsFalseAt};
 ghost use Rattle.repair_loop.specs.Stopping.{IsStoppedAtLimit};
 

@@ -1,8 +1,9 @@
 use Rattle.std.proofs.Common.{rules, ◌≡◌, ◌∙◌, refl, ap, Err, true}
 use Rattle.hint_log.specs.declared.stops.Stop.TheVariants.{Limit}
 use Rattle.log_laws.specs.Engines.{circuits, instances, copies}
-use Rattle.repair_loop.proofs.Stages.{on_err, still_kept, still_undecided, none_stays, begun, productive}
-use Rattle.repair_loop.proofs.Defined.{empty_is_fresh, empty_has_none}
+use Rattle.known_functions.proofs.Standing.{on_err, still_kept, still_undecided, none_stays}
+use Rattle.repair_loop.proofs.Stages.{begun, productive}
+use Rattle.known_functions.proofs.Defined.{empty_is_fresh, empty_has_none}
 use Rattle.repair_loop.proofs.Stops.{by_lemma}
 use Rattle.repair_loop.proofs.decisions.decide.Goals as goal
 

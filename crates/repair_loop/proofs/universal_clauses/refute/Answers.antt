@@ -6,9 +6,9 @@ use Rattle.expansion.specs.Silence.{is_silent}
 use Rattle.expansion.specs.Table.{point_bits}
 use Rattle.hint_log.specs.Deciding.{IsUndecided}
 use Rattle.hint_log.specs.Entries.{ProofLog}
-use Rattle.repair_loop.specs.Searching.{IsKept}
+use Rattle.known_functions.specs.Searching.{IsKept}
 use Rattle.repair_loop.specs.Stopping.{IsStoppedAtLimit}
-use Rattle.repair_loop.proofs.Stages.{on_err, still_kept, still_undecided}
+use Rattle.known_functions.proofs.Standing.{on_err, still_kept, still_undecided}
 use Rattle.repair_loop.proofs.UniversalClauses.{table_kept, table_begun, stopped_there, row_logged, only_row, no_points}
 use Rattle.repair_loop.proofs.universal_clauses.refute.Goals as goal
 

@@ -1,8 +1,9 @@
 use Rattle.std.proofs.Common.{rules, ◌≡◌, ◌∙◌, refl, sym, ap, subst, Ok, arith, true}
 use Rattle.log_laws.specs.Engines.{instances}
 use Rattle.repair_loop.specs.Searching.{IsShownTrue, IsShownFalse}
-use Rattle.repair_loop.specs.Turning.{AreKnownIn}
-use Rattle.repair_loop.proofs.Stages.{on_err, after_row, still_kept, still_undecided, log_grew, fewer_left}
+use Rattle.known_functions.specs.Forcing.{AreKnownIn}
+use Rattle.known_functions.proofs.Standing.{on_err, still_kept, still_undecided, log_grew}
+use Rattle.repair_loop.proofs.Stages.{after_row, fewer_left}
 use Rattle.repair_loop.proofs.decisions.Engines.all_rounds.Goals as goal
 
 pub returns-in-Refuted-clause-shown_false : goal.returns-in-Refuted-clause-shown_false

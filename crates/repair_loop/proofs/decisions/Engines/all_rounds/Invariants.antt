@@ -1,6 +1,7 @@
 use Rattle.std.proofs.Common.{◌≡◌, ◌-◌}
 use Rattle.hint_log.specs.Entries.{steps_of}
-use Rattle.repair_loop.specs.Turning.{AreKnownIn, IsSearchOf}
+use Rattle.known_functions.specs.Forcing.{AreKnownIn}
+use Rattle.repair_loop.specs.Turning.{IsSearchOf}
 use Rattle.repair_loop.proofs.decisions.Engines.all_rounds.Given as goal
 
 abbrev pub invariant-loop-outputs : goal.invariant-loop-outputs

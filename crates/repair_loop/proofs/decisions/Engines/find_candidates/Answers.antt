@@ -6,13 +6,15 @@ use Rattle.candidate_functions.specs.Candidates.{AreDefinitions, AreGuesses}
 use Rattle.log_laws.specs.Engines.{instances}
 use Rattle.expansion.specs.Silence.{is_silent}
 use Rattle.expansion.specs.Table.{TableState, point_bits, ArePoints}
-use Rattle.repair_loop.specs.Searching.{IsSearch, AreBuilt, IsShownFalse}
-use Rattle.repair_loop.proofs.Stages.{on_err, still_undecided, after_solve, after_build, log_grew, log_then}
+use Rattle.known_functions.specs.Searching.{IsSearch}
+use Rattle.repair_loop.specs.Searching.{AreBuilt, IsShownFalse}
+use Rattle.known_functions.proofs.Standing.{on_err, still_undecided, log_grew, log_then}
+use Rattle.repair_loop.proofs.Stages.{after_solve, after_build}
 use Rattle.std.specs.List.{All}
 use Rattle.dq_formula.specs.Rules.{IsRule}
 use Rattle.repair_loop.proofs.Stops.{by_lemma}
 use Rattle.repair_loop.proofs.Turned.{went_by}
-use Rattle.repair_loop.proofs.Defined.{known_stays}
+use Rattle.known_functions.proofs.Defined.{known_stays}
 use Rattle.repair_loop.proofs.decisions.Engines.find_candidates.Goals as goal
 
 pub returns-in_err-id-clause-went : goal.returns-in_err-id-clause-went

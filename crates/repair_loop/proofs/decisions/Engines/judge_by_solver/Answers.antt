@@ -9,7 +9,8 @@ use Rattle.circuit_cnf.specs.Shown.{HoldEverywhere, IsShownBy}
 use Rattle.aig_graph.specs.Outputs.{ReadsUniversals, outputs_of}
 use Rattle.repair_loop.specs.Searching.{IsShownTrue}
 use Rattle.repair_loop.proofs.Stops.{by_lemma}
-use Rattle.repair_loop.proofs.Stages.{log_grew, on_err, outputs_supported, still_undecided, after_turn}
+use Rattle.known_functions.proofs.Standing.{log_grew, on_err, still_undecided}
+use Rattle.repair_loop.proofs.Stages.{outputs_supported, after_turn}
 use Rattle.repair_loop.proofs.Turned.{went_by, went_on, round_after}
 use Rattle.repair_loop.proofs.UniversalInputs.{outputs_read_universals}
 use Rattle.repair_loop.proofs.decisions.Engines.judge_by_solver.Goals as goal

@@ -3,10 +3,11 @@ use Rattle.hint_log.specs.Deciding.{IsUndecided}
 use Rattle.hint_log.specs.Entries.{ProofLog, steps_of}
 use Rattle.hint_log.specs.declared.stops.Stop.TheVariants.{Limit}
 use Rattle.aig_graph.specs.Outputs.{outputs_of}
-use Rattle.repair_loop.specs.Searching.{IsKept}
+use Rattle.known_functions.specs.Searching.{IsKept}
 use Rattle.repair_loop.specs.Stopping.{IsStoppedAtLimit}
 use Rattle.repair_loop.proofs.Stops.{by_round}
-use Rattle.repair_loop.proofs.Stages.{on_err, after_round, log_same, round_grew, round_counts, steps_left}
+use Rattle.known_functions.proofs.Standing.{on_err, log_same}
+use Rattle.repair_loop.proofs.Stages.{after_round, round_grew, round_counts, steps_left}
 use Rattle.repair_loop.proofs.decisions.Engines.log_failure.Goals as goal
 
 pub returns-clause-round : goal.returns-clause-round

@@ -1,0 +1,83 @@
+use Rattle.std.proofs.Common.{◌∙◌, refl, subst}
+use Rattle.padoa_definitions.specs.Guessing.{IsGuess}
+use Rattle.known_functions.proofs.Asked.{asked_by, asked_then}
+use Rattle.known_functions.proofs.Defined.{found_guess}
+use Rattle.known_functions.proofs.definitions.Definitions.guess_or_learn.Goals as goal
+
+pub learn_clash-requires-clause-may : goal.learn_clash-requires-clause-may
+learn_clash-requires-clause-may g c =
+    (asked_by c.engines_leave_the_rest.ensures c.args.f.now c.args.graph.now c.guess.new.graph c.args.self.now.padoa
+    c.guess.new.self c.args.log.now c.guess.new.log c.requires.may
+    c.guess.ensures.grew c.guess.ensures.padoa c.guess.ensures.extends).may
+
+pub returns-in-Node-clause-guess : goal.returns-in-Node-clause-guess
+returns-in-Node-clause-guess g c e known =
+    found_guess c.args.f.now c.guess.new.graph e c.args.conditions.now c.in-Node.node
+    (subst (IsGuess c.args.f.now c.guess.new.graph e c.args.conditions.now) c.in-Node.is
+    (c.in_ok-node.ensures.guess e known))
+
+pub returns-in-Node-clause-asked : goal.returns-in-Node-clause-asked
+returns-in-Node-clause-asked g c =
+    asked_by c.engines_leave_the_rest.ensures c.args.f.now c.args.graph.now c.guess.new.graph c.args.self.now.padoa
+    c.guess.new.self c.args.log.now c.guess.new.log c.requires.may
+    c.guess.ensures.grew c.guess.ensures.padoa c.guess.ensures.extends
+
+pub returns-in_err-node-clause-asked : goal.returns-in_err-node-clause-asked
+returns-in_err-node-clause-asked g c =
+    asked_by c.engines_leave_the_rest.ensures c.args.f.now c.args.graph.now c.guess.new.graph c.args.self.now.padoa
+    c.guess.new.self c.args.log.now c.guess.new.log c.requires.may
+    c.guess.ensures.grew c.guess.ensures.padoa c.guess.ensures.extends
+
+pub returns-in_ok-learn_clash-in-Pair-clause-asked : goal.returns-in_ok-learn_clash-in-Pair-clause-asked
+returns-in_ok-learn_clash-in-Pair-clause-asked g c =
+    asked_then c.args.f.now c.args.graph.now c.guess.new.graph c.learn_clash.new.graph c.guess.new.self
+    c.learn_clash.new.self.padoa c.args.log.now c.guess.new.log c.learn_clash.new.log
+    (asked_by c.engines_leave_the_rest.ensures c.args.f.now c.args.graph.now c.guess.new.graph c.args.self.now.padoa
+    c.guess.new.self c.args.log.now c.guess.new.log c.requires.may
+    c.guess.ensures.grew c.guess.ensures.padoa c.guess.ensures.extends) c.learn_clash.ensures.asked
+
+pub returns-in_err-learn_clash-in-Pair-clause-asked : goal.returns-in_err-learn_clash-in-Pair-clause-asked
+returns-in_err-learn_clash-in-Pair-clause-asked g c =
+    asked_then c.args.f.now c.args.graph.now c.guess.new.graph c.learn_clash.new.graph c.guess.new.self
+    c.learn_clash.new.self.padoa c.args.log.now c.guess.new.log c.learn_clash.new.log
+    (asked_by c.engines_leave_the_rest.ensures c.args.f.now c.args.graph.now c.guess.new.graph c.args.self.now.padoa
+    c.guess.new.self c.args.log.now c.guess.new.log c.requires.may
+    c.guess.ensures.grew c.guess.ensures.padoa c.guess.ensures.extends) c.learn_clash.ensures.asked
+
+pub returns-in-Node-clause-left : goal.returns-in-Node-clause-left
+returns-in-Node-clause-left g c = record {
+  padoa = c.guess.ensures.same;
+  ranks = refl;
+  nodes = refl;
+  rules = refl;
+  guesses = refl;
+}
+
+pub returns-in_err-node-clause-left : goal.returns-in_err-node-clause-left
+returns-in_err-node-clause-left g c = record {
+  padoa = c.guess.ensures.same;
+  ranks = refl;
+  nodes = refl;
+  rules = refl;
+  guesses = refl;
+}
+
+pub returns-in_ok-learn_clash-in-Pair-clause-left : goal.returns-in_ok-learn_clash-in-Pair-clause-left
+returns-in_ok-learn_clash-in-Pair-clause-left g c = let left = c.learn_clash.ensures.left in
+    record {
+      padoa = left.padoa ∙ c.guess.ensures.same;
+      ranks = left.ranks;
+      nodes = left.nodes;
+      rules = left.rules;
+      guesses = left.guesses;
+    }
+
+pub returns-in_err-learn_clash-in-Pair-clause-left : goal.returns-in_err-learn_clash-in-Pair-clause-left
+returns-in_err-learn_clash-in-Pair-clause-left g c = let left = c.learn_clash.ensures.left in
+    record {
+      padoa = left.padoa ∙ c.guess.ensures.same;
+      ranks = left.ranks;
+      nodes = left.nodes;
+      rules = left.rules;
+      guesses = left.guesses;
+    }

@@ -1,0 +1,22 @@
+use Rattle.std.proofs.Common.{get_or, refl, sym, subst}
+use Rattle.definition_order.proofs.Declared.{known_at}
+use Rattle.known_functions.specs.Guessing.{AreConditions}
+use Rattle.known_functions.proofs.Defined.{existential_there}
+use Rattle.known_functions.proofs.definitions.Definitions.guess_under.Goals as goal
+
+pub guess_within-requires-clause-existential : goal.guess_within-requires-clause-existential
+guess_within-requires-clause-existential g c =
+    let here = existential_there c.args.existential.now.f.now c.every_formula_is_lawful.ensures
+    c.existentials.result.now c.existentials.ensures c.args.existential.now.place c.requires.place in
+    rw here.2 refl
+
+pub guess_within-requires-clause-conditions : goal.guess_within-requires-clause-conditions
+guess_within-requires-clause-conditions g c =
+    subst (AreConditions c.args.existential.now.f.now (get_or c.existentials.result.now c.args.existential.now.place 0))
+    (sym c.deref.ensures.value) c.in_ok-conditions.ensures
+
+pub returns-clause-guess : goal.returns-clause-guess
+returns-clause-guess g c e at =
+    let known = known_at c.args.existential.now.f.now c.every_formula_is_lawful.ensures c.existentials.result.now
+    c.args.existential.now.place e c.existentials.ensures at in
+    c.guess_within.ensures.guess e known

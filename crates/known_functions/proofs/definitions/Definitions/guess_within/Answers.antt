@@ -1,0 +1,46 @@
+use Rattle.std.proofs.Common.{◌≡◌, ◌∙◌, sym, subst, ap, arith}
+use Rattle.std.proofs.lemmas.Bool.{eqb-true}
+use Rattle.oracle.specs.Limits.{IsAtSomeLimit}
+use Rattle.hint_log.specs.Entries.{ProofLog}
+use Rattle.known_functions.specs.Guessing.{MayAsk}
+use Rattle.known_functions.proofs.Defined.{found_within}
+use Rattle.known_functions.proofs.definitions.Definitions.guess_within.Goals as goal
+
+pub set_limit-requires-2 : goal.set_limit-requires-2
+set_limit-requires-2 g c =
+    let limit = c.guess_or_learn-found.ensures.asked.limit_same ∙ ap (λ (l : ProofLog). l.limit) c.set_limit.ensures in
+    omega (
+      arith,
+      limit,
+      c.steps.ensures.value,
+      c.steps.ensures.within,
+      c.most_steps-most.ensures.limit,
+      c.limit-whole.ensures,
+    )
+
+pub returns-clause-guess : goal.returns-clause-guess
+returns-clause-guess g c e known =
+    found_within c.args.f.now c.guess_or_learn-found.new.graph e c.guess_or_learn-found.result c.within.result
+    c.within.ensures.node (c.guess_or_learn-found.ensures.guess e known)
+
+pub returns-clause-limit : goal.returns-clause-limit
+returns-clause-limit g c is =
+    let cut = c.within.ensures.limit is in
+    let whole : c.most_steps-most.result ≡ c.limit-whole.result =
+    eqb-true c.most_steps-most.result c.limit-whole.result cut.0 in
+    let limit = c.guess_or_learn-found.ensures.asked.limit_same ∙ ap (λ (l : ProofLog). l.limit) c.set_limit.ensures
+    ∙ whole in
+    let same : c.guess_or_learn-found.new.log ≡ c.set_limit-2.new.self =
+    ap (λ n. record { limit = n; entries = c.guess_or_learn-found.new.log.entries }) limit
+    ∙ sym c.set_limit-2.ensures in
+    subst IsAtSomeLimit same (c.guess_or_learn-found.ensures.limit cut.1)
+
+pub returns-clause-asked : goal.returns-clause-asked
+returns-clause-asked g c =
+    let asked = c.guess_or_learn-found.ensures.asked in
+    record {
+      may = subst (λ (l : ProofLog). MayAsk c.args.f.now c.guess_or_learn-found.new.graph
+          c.guess_or_learn-found.new.self.padoa l.entries) (sym c.set_limit-2.ensures) asked.may;
+      limit_same = ap (λ (l : ProofLog). l.limit) c.set_limit-2.ensures ∙ c.limit-whole.ensures;
+      extends = asked.extends;
+    }

@@ -1,0 +1,41 @@
+use Rattle.std.proofs.Common.{refl, sym, subst, Contains}
+use Rattle.std.specs.List.{All}
+use Rattle.dq_lits.specs.Formula.{declared}
+use Rattle.dq_lits.specs.Literal.{variable_of}
+use Rattle.known_functions.proofs.Asked.{asked_by}
+use Rattle.known_functions.proofs.definitions.Definitions.is_fixed.Goals as goal
+
+pub guess-requires-clause-declared : goal.guess-requires-clause-declared
+guess-requires-clause-declared g c =
+    subst (All (λ l. Contains (declared c.args.f.now) (variable_of l)))
+    (sym c.deref.ensures.value) c.in_ok-conditions.ensures.declared
+
+pub returns-clause-asked : goal.returns-clause-asked
+returns-clause-asked g c =
+    asked_by c.engines_leave_the_rest.ensures c.args.f.now c.args.graph.now c.guess.new.graph c.args.self.now.padoa
+    c.guess.new.self c.args.log.now c.guess.new.log c.requires.may
+    c.guess.ensures.grew c.guess.ensures.padoa c.guess.ensures.extends
+
+pub returns-clause-left : goal.returns-clause-left
+returns-clause-left g c = record {
+  padoa = c.guess.ensures.same;
+  ranks = refl;
+  nodes = refl;
+  rules = refl;
+  guesses = refl;
+}
+
+pub returns-in_err-found-clause-asked : goal.returns-in_err-found-clause-asked
+returns-in_err-found-clause-asked g c =
+    asked_by c.engines_leave_the_rest.ensures c.args.f.now c.args.graph.now c.guess.new.graph c.args.self.now.padoa
+    c.guess.new.self c.args.log.now c.guess.new.log c.requires.may
+    c.guess.ensures.grew c.guess.ensures.padoa c.guess.ensures.extends
+
+pub returns-in_err-found-clause-left : goal.returns-in_err-found-clause-left
+returns-in_err-found-clause-left g c = record {
+  padoa = c.guess.ensures.same;
+  ranks = refl;
+  nodes = refl;
+  rules = refl;
+  guesses = refl;
+}

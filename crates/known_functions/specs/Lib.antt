@@ -1,0 +1,4 @@
+pub mod Searching
+pub mod Guessing
+pub mod Stating
+pub mod Forcing

@@ -1,0 +1,225 @@
+//! The definitions that the clauses force, which are asked for before the first candidates.
+
+ghost use Rattle.std.specs.Prelude.{◌≡◌, ◌<◌, ℕ, true, length, replicate, None, Some, All, OnOk, IfOk, IfSome, IsErrOf, slice_get, slice_set};
+ghost use Rattle.dq_lits.specs.Formula.{Existential, IsWellFormed};
+ghost use Rattle.aig_graph.specs.Made.{Extends};
+ghost use Rattle.hint_log.specs.Growth.{Grew};
+ghost use Rattle.log_laws.specs.Engines.{copies, HasNone, IsAddedBy};
+ghost use Rattle.padoa_definitions.specs.Copies.{IsPadoa};
+ghost use Rattle.padoa_definitions.specs.Defining.{IsFound};
+ghost use Rattle.known_functions.specs.Guessing.{HasAsked, MayAsk};
+ghost use Rattle.known_functions.specs.Searching.{IsFresh, HasInputs, definition_in};
+ghost use Rattle.known_functions.specs.Forcing.{AreKnownIn};
+ghost use Rattle.oracle.specs.Limits.{IsAtSomeLimit};
+
+use crate::questions::Questions;
+use aig_graph::{Graph, Node};
+use definition_order::existentials_in_order;
+use dq_formula::{Formula, Rule};
+use dq_lits::{Memory, Row};
+use gate_definitions::Gates;
+use hint_log::{Log, Stop};
+use log_laws::laws::engines_leave_the_rest;
+use oracle::Oracle;
+use padoa_definitions::{Found, Padoa};
+use std::alloc::Global;
+
+/// What is known of the existentials, and the copies of the matrix that it is asked of.
+#[derive(Drop)]
+pub struct Definitions {
+    /// The copies of the matrix.
+    pub padoa: Padoa,
+    gates: Gates,
+    /// By which ranks a definition may read others.
+    pub ranks: Vec<usize>,
+    pub(crate) questions: Questions,
+    /// The node of each existential that has a definition, in order of declaration.
+    pub nodes: Vec<Option<Node>>,
+    /// Bits that those without a definition are forced to have.
+    pub rules: Vec<Rule>,
+    /// Nodes that those without a definition equal under conditions, in order of declaration.
+    pub guesses: Vec<Option<Node>>,
+}
+
+// An existential of a formula, by its place in order of declaration.
+#[derive(Drop)]
+pub(crate) struct ExistentialAt<'f> {
+    pub f: &'f Formula,
+    pub place: usize,
+}
+
+// A formula's existentials in the order in which they are asked for, by their places.
+#[derive(Drop)]
+struct Order<'f, 'p> {
+    f: &'f Formula,
+    places: &'p [usize],
+}
+
+impl Definitions {
+    // Nothing is known yet.
+    fn none(alloc: Global, padoa: Padoa, gates: Gates, f: &Formula) -> Result<Definitions, Memory>
+        ensures padoa { IfOk result (λ d. d.padoa ≡ padoa) }
+        ensures known { (graph : _) → IfOk result (AreKnownIn f.now graph) }
+    {
+        let ranks = gates.ranks(f)?;
+        Ok(Definitions {
+            padoa,
+            gates,
+            ranks,
+            questions: Questions::none(alloc, f)?,
+            nodes: no_nodes(alloc, f.existentials().len())?,
+            rules: Vec::new(alloc),
+            guesses: Vec::new(alloc),
+        })
+    }
+
+    /// Rows at which no function of some existential makes all clauses true, if the questions found
+    /// such. No contract speaks of them: who uses one tests it.
+    pub fn refuting_rows(&self) -> &[Row] {
+        self.questions.conditions.rows()
+    }
+
+    // Notes what was found of the existential at a place.
+    fn note(&mut self, place: usize, found: Found)
+        requires place { place < length self.old.nodes.items }
+        ensures padoa { self.new.padoa ≡ self.old.padoa }
+        ensures rules { self.new.rules.items ≡ self.old.rules.items }
+        ensures ranks { self.new.ranks.items ≡ self.old.ranks.items }
+        ensures guesses { self.new.guesses.items ≡ self.old.guesses.items }
+        ensures nodes { self.new.nodes.items
+            ≡ slice_set self.old.nodes.items place (definition_in found) }
+    {
+        self.nodes[place] = match found {
+            Found::Defined(node) => Some(node),
+            Found::Free(_) => None,
+        };
+    }
+
+    // Asks for definitions of the existentials in this order.
+    fn find_all<O: Oracle>(
+        &mut self,
+        oracle: &mut O,
+        graph: &mut Graph,
+        order: &Order,
+        log: &mut Log,
+    ) -> Result<(), Stop>
+        requires fit { O.Fits oracle.old log.old }
+        requires may { MayAsk order.now.f.now graph.old self.old.padoa log.old.entries }
+        requires known { AreKnownIn order.now.f.now graph.old self.old }
+        requires places { All (λ p. p < length order.now.f.now.existentials) order.now.places.now }
+        ensures fit { O.Fits oracle.new log.new }
+        ensures asked { HasAsked order.now.f.now graph.old graph.new self.new.padoa log.old log.new }
+        ensures known { OnOk result (AreKnownIn order.now.f.now graph.new self.new) }
+        ensures limit { IsErrOf result Stop.Limit → IsAtSomeLimit log.new }
+    {
+        let f = order.f;
+        for place in order.places {
+            self.find(oracle, graph, &ExistentialAt { f, place: *place }, log)?;
+        }
+        Ok(())
+    }
+
+    // Asks for a definition of an existential, unless it is known to have none.
+    fn find<O: Oracle>(
+        &mut self,
+        oracle: &mut O,
+        graph: &mut Graph,
+        existential: &ExistentialAt,
+        log: &mut Log,
+    ) -> Result<(), Stop>
+        requires fit { O.Fits oracle.old log.old }
+        requires may { MayAsk existential.now.f.now graph.old self.old.padoa log.old.entries }
+        requires known { AreKnownIn existential.now.f.now graph.old self.old }
+        requires place { existential.now.place < length existential.now.f.now.existentials }
+        ensures fit { O.Fits oracle.new log.new }
+        ensures asked { HasAsked existential.now.f.now graph.old graph.new self.new.padoa log.old log.new }
+        ensures known { OnOk result (AreKnownIn existential.now.f.now graph.new self.new) }
+        ensures limit { IsErrOf result Stop.Limit → IsAtSomeLimit log.new }
+    {
+        if !self.questions.is_open(existential.place) {
+            return Ok(());
+        }
+        existential.f.every_formula_is_lawful();
+        let Some(found) = self.ask(oracle, graph, existential, log)? else {
+            return Ok(());
+        };
+        self.questions.learn(existential.f, &found)?;
+        self.note(existential.place, found);
+        Ok(())
+    }
+
+    // The gate that the clauses state of an existential, else what the solver says of its
+    // definition; nothing where it isn't worth asking.
+    fn ask<O: Oracle>(
+        &mut self,
+        oracle: &mut O,
+        graph: &mut Graph,
+        existential: &ExistentialAt,
+        log: &mut Log,
+    ) -> Result<Option<Found>, Stop>
+        requires fit { O.Fits oracle.old log.old }
+        requires may { MayAsk existential.now.f.now graph.old self.old.padoa log.old.entries }
+        requires place { existential.now.place < length existential.now.f.now.existentials }
+        ensures fit { O.Fits oracle.new log.new }
+        ensures same { self.new ≡ self.old }
+        ensures asked { HasAsked existential.now.f.now graph.old graph.new self.new.padoa log.old
+            log.new }
+        ensures found { (e : Existential)
+            → slice_get existential.now.f.now.existentials existential.now.place ≡ Some e
+            → IfOk result (λ found. IfSome found (IsFound existential.now.f.now
+            self.old.ranks.items graph.new e)) }
+        ensures limit { IsErrOf result Stop.Limit → IsAtSomeLimit log.new }
+    {
+        engines_leave_the_rest();
+        let f = existential.f;
+        f.every_formula_is_lawful();
+        let y = f.existentials()[existential.place];
+        if let Some(node) = self.gates.read(f, &self.ranks, y, graph)? {
+            return Ok(Some(Found::Defined(node)));
+        }
+        if self.questions.are_in_vain() {
+            return Ok(None);
+        }
+        let found = self.padoa.define(oracle, graph, f, &self.ranks, y, log)?;
+        Ok(Some(found))
+    }
+}
+
+pub(crate) fn no_nodes(alloc: Global, n: usize) -> Result<Vec<Option<Node>>, Memory>
+    ensures { IfOk result (λ nodes. nodes.items ≡ replicate n None) }
+{
+    Ok(vec![in alloc; None; n]?)
+}
+
+/// Asks for a definition of each existential that may have one, those that see less first, and then
+/// for guesses of the others. It stops for want of memory or at the log's limit.
+pub fn find_definitions<O: Oracle>(
+    alloc: Global,
+    oracle: &mut O,
+    graph: &mut Graph,
+    f: &Formula,
+    log: &mut Log,
+) -> Result<Definitions, Stop>
+    requires fit { O.Fits oracle.old log.old }
+    requires formula { IsWellFormed f.now }
+    requires fresh { IsFresh f.now log.old.entries }
+    requires none { HasNone copies log.old.entries }
+    requires inputs { HasInputs f.now graph.old }
+    ensures fit { O.Fits oracle.new log.new }
+    ensures fresh { IsFresh f.now log.new.entries }
+    ensures limit_same { log.new.limit ≡ log.old.limit }
+    ensures extends { Extends graph.old graph.new }
+    ensures padoa { IfOk result (λ d. IsPadoa f.now d.padoa log.new.entries) }
+    ensures known { IfOk result (AreKnownIn f.now graph.new) }
+    ensures limit { IsErrOf result Stop.Limit → IsAtSomeLimit log.new }
+{
+    engines_leave_the_rest();
+    let padoa = Padoa::new(alloc, oracle, f, log)?;
+    let gates = Gates::new(alloc, f)?;
+    let mut definitions = Definitions::none(alloc, padoa, gates, f)?;
+    let order = existentials_in_order(alloc, f, &definitions.ranks)?;
+    definitions.questions.set_order(&order)?;
+    definitions.find_all(oracle, graph, &Order { f, places: &order }, log)?;
+    definitions.guess_all(oracle, graph, f, log)?;
+    Ok(definitions)
+}

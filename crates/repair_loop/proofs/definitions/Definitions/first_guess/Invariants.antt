@@ -1,9 +1,0 @@
-use Rattle.repair_loop.specs.Guessing.{HasAsked, LeavesKnown}
-use Rattle.repair_loop.proofs.definitions.Definitions.first_guess.Given as goal
-
-abbrev pub invariant-loop-number : goal.invariant-loop-number
-invariant-loop-number g l = record {
-  fit : g.O.Oracle.Fits l.oracle l.log;
-  asked : HasAsked l.existential.f.now l.fn.graph l.graph l.self.padoa l.fn.log l.log;
-  left : LeavesKnown l.fn.self l.self;
-}

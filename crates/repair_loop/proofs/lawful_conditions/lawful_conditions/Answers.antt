@@ -1,5 +1,0 @@
-use Rattle.repair_loop.proofs.ConsistentConditions.{no_conditions}
-use Rattle.repair_loop.proofs.lawful_conditions.lawful_conditions.Goals as goal
-
-pub loop-l-init : goal.loop-l-init
-loop-l-init c = rw c.new-lawful.ensures.items (no_conditions c.args.f.now c.args.y)
