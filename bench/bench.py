@@ -453,6 +453,57 @@ def shared_chain(count):
     return formula, circuit
 
 
+def own_universals(count):
+    """Existentials that see one universal each, each with a gate of its own over this one."""
+    formula = lines(
+        f"p cnf {2 * count} 0", f"a {numbers(1, count)} 0", *(f"d {count + i} {i} 0" for i in range(1, count + 1))
+    )
+    gates = (f"{2 * (count + i)} {2 * i} {2 * i}" for i in range(1, count + 1))
+    outputs = (2 * (count + i) for i in range(1, count + 1))
+    circuit = lines(f"aag {2 * count} {count} 0 {count} {count}", *range(2, 2 * count + 1, 2), *outputs, *gates)
+    return formula, circuit
+
+
+def own_prefixes(count):
+    """Existentials each of which sees the universals before it, and reads the last one of these."""
+    formula = lines(
+        f"p cnf {2 * count} 0", *(f"a {2 * i + 1} 0\ne {2 * i + 2} 0" for i in range(count))
+    )
+    gates = (f"{2 * (count + i)} {2 * i} {2 * (count + i - 1) if i > 1 else 2}" for i in range(1, count + 1))
+    outputs = (2 * (count + i) for i in range(1, count + 1))
+    circuit = lines(f"aag {2 * count} {count} 0 {count} {count}", *range(2, 2 * count + 1, 2), *outputs, *gates)
+    return formula, circuit
+
+
+def one_seen_set(count):
+    """Existentials that see the last five universals of many, and all read a chain of gates over these."""
+    universals = count // 4
+    seen = range(universals - 4, universals + 1)
+    formula = lines(
+        f"p cnf {universals + count} 0",
+        f"a {numbers(1, universals)} 0",
+        *(f"d {universals + i} {' '.join(map(str, seen))} 0" for i in range(1, count + 1)),
+    )
+    first, length = universals + 1, count // 20
+    gates = [f"{2 * (first + i)} {2 * (first + i - 1)} {2 * seen[i % 5]}" for i in range(length)]
+    others = [f"{2 * (first + length + i)} 2 4" for i in range(count)]
+    circuit = lines(
+        f"aag {universals + length + count} {universals} 0 {count} {length + count}",
+        *range(2, 2 * universals + 1, 2),
+        *[2 * (first + length - 1)] * count,
+        *gates,
+        *others,
+    )
+    return formula, circuit
+
+
+def last_undeclared(count):
+    """As `own_universals`, but the last one reads the first universal as well."""
+    formula, circuit = own_universals(count)
+    last = 2 * (2 * count)
+    return formula, circuit.replace(f"\n{last} {2 * count} {2 * count}\n", f"\n{last} {2 * count} 2\n")
+
+
 def row_text(k, universals):
     return "u " + " ".join(str(x + 1 if k >> x & 1 else -x - 1) for x in range(universals)) + " 0"
 
@@ -547,6 +598,9 @@ MEASUREMENTS = [
     wide_last_clause,
     *(at(colliding_gates, size) for size in (50_000, 100_000)),
     *(at(many_constants, size) for size in (20_000, 40_000)),
+    *(at(make, size) for make in (many_constants, own_universals, own_prefixes) for size in (80_000, 160_000)),
+    *(at(one_seen_set, size) for size in (20_000, 40_000)),
+    *(at(last_undeclared, size) for size in (80_000, 160_000)),
     *(at(planted_functions, size) for size in (10_000, 20_000)),
     *(at(shared_chain, size) for size in (10_000, 20_000)),
     *(at(long_instances, size) for size in (10_000, 20_000)),
