@@ -547,6 +547,103 @@ def one_dependency_set(count):
     return formula, lines(f"p dqr {count} {count + 1}", *(row_text(k, universals) for k in range(count)), *steps)
 
 
+def deleting(lines_and_deletions):
+    """A refutation in version 2 of a formula of two unit clauses, with these items before the empty clause: a line for
+    each `None`, which repeats the first clause, and a `d` line for each list of places of lines."""
+    formula = lines("p cnf 2 2", "a 1 0", "d 2 0", "2 0", "-2 0")
+    items, id = [], 3
+    for places in lines_and_deletions:
+        if places is None:
+            items.append(f"{id} 2 0 1 0")
+            id += 1
+        else:
+            items.append(f"d {' '.join(str(3 + place) for place in places)} 0")
+    items.append(f"{id} 0 1 2 0")
+    return formula, lines(f"p dqr2 1 {len(items)}", "u 1 0", *items)
+
+
+def deleted_at_once(count):
+    """So many lines, deleted by one line."""
+    return deleting([*[None] * count, range(count)])
+
+
+def deleted_one_by_one(count):
+    """So many lines, and then as many that each delete one, the last line first."""
+    return deleting([*[None] * count, *([place] for place in range(count - 1, -1, -1))])
+
+
+def deleted_by_turns(count):
+    """So many lines, each deleted behind the next one."""
+    return deleting([item for place in range(count) for item in (None, *([[place - 1]] if place else []))])
+
+
+def deleted_twice(count):
+    """So many lines, and one that deletes them, the first one twice: not live at the second place."""
+    return deleting([*[None] * count, [*range(count), 0]])
+
+
+def deleted_visits(count):
+    """Lines that each hint an instance of their own, as many rows as existentials with one dependency set each, and a
+    deletion behind each line."""
+    universals, side = 16, int(count**0.5)
+    variables = universals + side
+    formula = lines(
+        f"p cnf {variables} {side + 1}",
+        f"a {numbers(1, universals)} 0",
+        *(f"d {universals + 1 + i} {' '.join(map(str, set_of(i)))} 0" for i in range(side)),
+        *(f"{universals + 1 + i} 0" for i in range(side)),
+        f"-{universals + 1} 0",
+    )
+    clauses, id, items = side + 1, side * (side + 1) + 1, []
+    for k in range(side):
+        for i in range(side):
+            items.append(f"{id} {k * variables + universals + 1 + i} 0 {k * clauses + i + 1} 0")
+            items.append(f"d {id} 0")
+            id += 1
+    items.append(f"{id} 0 1 {side + 1} 0")
+    return formula, lines(f"p dqr2 {side} {len(items)}", *(row_text(k, universals) for k in range(side)), *items)
+
+
+def set_of(i):
+    """A dependency set of up to 16 universals for each number."""
+    return [x + 1 for x in range(16) if (i + 1) >> x & 1]
+
+
+def deleted_long_instances(count):
+    """As `long_instances`, with a deletion of the line before each."""
+    formula, certificate = long_instances(count)
+    rows = count // 10
+    kept, steps = certificate.splitlines()[1 : 1 + rows], certificate.splitlines()[1 + rows :]
+    items = [steps[0]]
+    for k, step in enumerate(steps[1:]):
+        items += [f"d {rows + 1 + k} 0", step]
+    return formula, lines(f"p dqr2 {rows} {len(items)}", *kept, *items)
+
+
+def deleted_long_last_clause(count):
+    """As `long_last_clause`, with a deletion of the line before each."""
+    formula, circuit = long_last_clause(count)
+    head, steps = circuit.splitlines()[:5], circuit.splitlines()[6:]
+    first = int(steps[0].split()[0])
+    items = [steps[0]]
+    for k, step in enumerate(steps[1:]):
+        items += [f"d {first + k} 0", step]
+    return formula, lines(*head, f"dqp2 {len(items)}", *items)
+
+
+def underived_first(count):
+    """A first line that isn't derived, and so many lines and deletions behind it."""
+    formula, certificate = deleted_by_turns(count)
+    return formula, certificate.replace("3 2 0 1 0", "3 -2 0 1 0", 1)
+
+
+def unended_last_line(count):
+    """So many lines, the empty clause, and a last line that deletes all the others, without an end."""
+    formula, certificate = deleted_at_once(count)
+    *others, gone, last = certificate.splitlines()
+    return formula, lines(*others, last) + gone
+
+
 def one_long_clause(count):
     """One clause of so many literals, each variable with both signs, in falling order."""
     literals = " ".join(f"{v} -{v}" for v in range(count // 2, 0, -1))
@@ -606,6 +703,14 @@ MEASUREMENTS = [
     *(at(long_instances, size) for size in (10_000, 20_000)),
     *(at(long_last_clause, size) for size in (20_000, 40_000)),
     *(at(one_dependency_set, size) for size in (10_000, 20_000)),
+    *(
+        at(make, size)
+        for make in (deleted_at_once, deleted_one_by_one, deleted_by_turns, deleted_twice, deleted_visits)
+        for size in (200_000, 400_000)
+    ),
+    *(at(make, size) for make in (underived_first, unended_last_line) for size in (200_000, 400_000)),
+    *(at(deleted_long_instances, size) for size in (10_000, 20_000)),
+    *(at(deleted_long_last_clause, size) for size in (20_000, 40_000)),
     *(at(one_long_clause, size) for size in (500_000, 1_000_000)),
     *(at(many_xor_lines, size) for size in (100_000, 200_000)),
     *(at(one_long_token, size) for size in (10_000_000, 20_000_000)),

@@ -28,7 +28,8 @@ word_first (byte ∷ next ∷ word) rest is =
     ∙ ap (extend_token byte) (word_first (next ∷ word) rest (is.1.0, is.1.1))
 
 signed_first : (b : Bool) (x : ℕ) (rest : List ℕ) → IsSpelled x →
-    map number_of (line_tokens (behind_sign b (number_text x ++ rest))) ≡ Int (signed b x) ∷ map number_of (line_tokens rest)
+    map number_of (line_tokens (behind_sign b (number_text x ++ rest)))
+    ≡ Int (signed b x) ∷ map number_of (line_tokens rest)
 signed_first b x rest is =
     ap (λ bytes. map number_of (line_tokens bytes)) (moved b)
     ∙ ap (map number_of) (word_first (signed_word b x) rest (signed_is_word b x is))
@@ -80,8 +81,8 @@ word_and_rest word bytes fits same =
     ∙ ap (λ xs. word ++ xs) (sym whole)
 
 -- the sign at a place of the universals
-pub sign_at : (universals : List ℕ) (words : List (List ℕ)) (start : Tokens) (word bytes behind : List ℕ) (row : List Bool)
-    (i : ℕ) (b : Bool)
+pub sign_at : (universals : List ℕ) (words : List (List ℕ)) (start : Tokens) (word bytes behind : List ℕ)
+    (row : List Bool) (i : ℕ) (b : Bool)
     → words ≡ map number_text universals → word ≡ get_or words i [] → i < length words → All IsSpelled universals
     → SignsTaken universals start (line_tokens bytes) row i → bytes ≡ behind_sign b (word ++ behind)
     → SignsTaken universals start (line_tokens behind) (set row i b) (i + 1)

@@ -108,7 +108,8 @@ module _ (net : Netlist) (kept : IsNetlist net) (literals universals by_input se
     sides = λ h h_in h_is.
         let same : g ≡ h = same_gate net kept g h g_in h_in (is ∙ sym h_is) in (
           subst (λ k. IsMember slots cone (left_variable k)) same (subst (IsMember slots cone) (sym is_left) l_member),
-          subst (λ k. IsMember slots cone (right_variable k)) same (subst (IsMember slots cone) (sym is_right) r_member),
+          subst (λ k. IsMember slots cone (right_variable k)) same
+              (subst (IsMember slots cone) (sym is_right) r_member),
         );
     seen = λ x x_in x_is.
         let at = inputs x x_in in

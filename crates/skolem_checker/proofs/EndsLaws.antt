@@ -14,8 +14,8 @@ use Rattle.skolem_checker.specs.Cones.{AreEnds, AreClosed, ReachesAlone, AreSett
 use Rattle.skolem_checker.specs.Reads.{root_of}
 
 -- what holds of the gate at each place holds of each gate
-pub each_gate : (net : Netlist) (P : Gate → Type 0) → ((p : ℕ) → p < length net.gates → P (gate_at net p)) → (g : Gate) →
-    Contains net.gates g → P g
+pub each_gate : (net : Netlist) (P : Gate → Type 0) → ((p : ℕ) → p < length net.gates → P (gate_at net p)) →
+    (g : Gate) → Contains net.gates g → P g
 each_gate net P at g (p, p_in, is) = subst P (get_or_default net.gates p _ g p_in ∙ is) (at p p_in)
 
 raised : (net : Netlist) (ends : List ℕ) → AreClosed net ends → {v w : ℕ} → Reaches net v w →
