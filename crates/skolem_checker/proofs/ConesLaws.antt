@@ -3,15 +3,16 @@ use Rattle.std.proofs.Common.{◌≡◌, ℕ, ◌+◌, ◌++◌, ◌<◌, ◌≤
 use Rattle.std.specs.Prelude.{slice_index, IsSome}
 use Rattle.std.specs.List.{Contains, All}
 use Rattle.std.proofs.lemmas.Bool.{cases_eq, cases_Bool, false≢true}
-use Rattle.std.proofs.lemmas.List.{get_or_default, get_or-take, get_or-drop, length-take, length-drop}
+use Rattle.std.proofs.lemmas.List.{get_or_default, get_or-take, get_or-drop, length-map, length-take, length-drop}
 use Rattle.std.proofs.lemmas.List.Elements.{Contains-get_or}
 use Rattle.dq_lits.specs.Formula.{Existential, Dqbf, existential_of}
 use Rattle.circuit_plain.specs.declared.circuits.Gate.{Gate}
 use Rattle.circuit_plain.specs.Netlist.{Netlist, IsNetlist, left_variable, right_variable}
 use Rattle.circuit_plain.specs.Reach.{Reaches, itself, left, right}
 use Rattle.circuit_plain.proofs.NetlistLaws.{same_place, same_gate, input_apart, input_fits, gate_fits}
+use Rattle.skolem_checker.specs.Checks.{existential_at, ReadsDeclared}
 use Rattle.skolem_checker.specs.Cones.{AreInputs, IsSeen, IsMember, Passes, IsClean, IsCone, Grows, ReachesAlone, AreAlone, AreKnown, AreSettled, circuit_variable}
-use Rattle.skolem_checker.specs.Reads.{has_bit, root_of, IsBatchAnswer}
+use Rattle.skolem_checker.specs.Reads.{has_bit, root_of, IsAt, IsBatchAnswer}
 use Rattle.skolem_checker.specs.Tables.{ReadsByTables, AreTables}
 use Rattle.skolem_checker.specs.Mapping.{Mapping}
 use Rattle.dq_formula.specs.Prefix.{existential_variables}
@@ -254,3 +255,17 @@ are_inputs f net mapping literals places tables x x_in =
       omega (arith, literal),
       here,
     )
+
+-- existentials that see all universals read declared ones alone, whatever they read
+pub all_seen : (f : Dqbf) (ys : List ℕ) (Reads : ℕ → ℕ → Type 0) → ys ≡ existential_variables f
+    → All (λ y. existential_of f y.variable ≡ Some y) f.existentials
+    → ((i : ℕ) (e : Existential) → IsAt f ys i e → (q : ℕ) → q < length f.universals
+    → Contains e.sees (slice_index f.universals q))
+    → ReadsDeclared Reads f
+all_seen f ys Reads same named see p below q within _ =
+    let lengths : length ys ≡ length f.existentials = ap length same ∙ length-map f.existentials
+    (λ (y : Existential). y.variable) in
+    let at : p < length ys = omega (arith, below, lengths) in
+    see p (existential_at f p)
+    (at, ap (existential_of f) (get_or_default ys p 0 0 at ∙ variable_at f ys p same at) ∙ named_at f p named below)
+    q within

@@ -77,6 +77,14 @@ bits_without word other i fits small =
     by : (a b : ℕ) → a < 2 → b < 2 → (min a (1 - b) == 1) ≡ ((a == 1) && not (b == 1))
     by a b a_bit b_bit = grind (arith, nat_tests)
 
+-- a dependency set of all universals
+pub sees_whole : (universals sees : List ℕ) (n q : ℕ) → take n universals ≡ sees → length universals ≤ n →
+    q < length universals
+    → Contains sees (slice_index universals q)
+sees_whole universals sees n q is whole below =
+    subst (λ xs. Contains xs (slice_index universals q)) (sym (take_all n universals whole) ∙ is)
+    (Contains-get_or universals q 0 below)
+
 -- an existential that may read what it is allowed to reads declared universals alone
 pub allowed_is_declared : (f : Dqbf) (listed stops : List ℕ) (i q : ℕ) (e : Existential) → IsNoted f listed stops i e →
     IsAllowed listed stops i q → q < length f.universals

@@ -16,7 +16,7 @@ ghost use Rattle.skolem_checker.specs.Tables.{ReadsByTables, ReadsByMarks, HasLi
 
 use crate::cones::{Cone, are_walked, forget};
 use crate::ends::settle_by_ends;
-use crate::sights::are_declared;
+use crate::sights::{all_see_all, are_declared};
 use crate::tables::zeros;
 use crate::tested::Tested;
 use crate::words::{bit, clear, set_bit};
@@ -323,6 +323,9 @@ pub(crate) fn undeclared_read(
 {
     tested.formula.every_formula_is_lawful();
     let ys = tested.formula.existentials();
+    if all_see_all(tested.formula, ys) {
+        return Ok(());
+    }
     settle_by_ends(tested, places, ys, &mut words.reached, &mut words.settled);
     forget(&mut words.cone);
     undeclared_by_batches(tested, places, words)

@@ -11,6 +11,32 @@ use crate::tested::Tested;
 use crate::words::{clear, set_bit, without};
 use dq_formula::{Deps, Formula};
 
+/// Whether each of these existentials sees all universals.
+pub(crate) fn all_see_all(f: &Formula, ys: &[u64]) -> bool
+    requires { All (λ y. IsSome (existential_of f.now y)) ys.now }
+    ensures { result ≡ true → (i : ℕ) (e : Existential) → IsAt f.now ys.now i e
+        → (q : ℕ) → q < length f.now.universals → Contains e.sees (slice_index f.now.universals q) }
+{
+    for y in ys {
+        if !sees_all(f, *y) {
+            return false;
+        }
+    }
+    true
+}
+
+// Whether an existential sees all universals; a list of all of them counts for no.
+fn sees_all(f: &Formula, y: u64) -> bool
+    requires { IsSome (existential_of f.now y) }
+    ensures { result ≡ true → (e : Existential) → existential_of f.now y ≡ Some e
+        → (q : ℕ) → q < length f.now.universals → Contains e.sees (slice_index f.now.universals q) }
+{
+    match f.deps_of(y) {
+        Deps::FirstOf(n) => *n >= f.universals().len(),
+        Deps::Listed(_) => false,
+    }
+}
+
 /// Whether, by the marks, each of these existentials reads declared universals alone. It may say no
 /// where they do.
 pub(crate) fn are_declared(

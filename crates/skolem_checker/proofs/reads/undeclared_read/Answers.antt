@@ -1,5 +1,6 @@
 use Rattle.std.proofs.Common.{ap, ◌∙◌, length}
-use Rattle.skolem_checker.proofs.ConesLaws.{settled_written, all_declared}
+use Rattle.skolem_checker.specs.Tables.{ReadsByTables}
+use Rattle.skolem_checker.proofs.ConesLaws.{settled_written, all_declared, all_seen}
 use Rattle.skolem_checker.proofs.reads.undeclared_read.Goals as goal
 use Rattle.dq_formula.specs.Prefix.{existential_variables}
 
@@ -17,5 +18,16 @@ undeclared_by_batches-requires-clause-cone c =
 
 pub settle_by_ends-requires-clause-declared : goal.settle_by_ends-requires-clause-declared
 settle_by_ends-requires-clause-declared c =
+    all_declared c.args.tested.now.formula.now c.existentials-ys.result.now c.existentials-ys.ensures
+    c.every_formula_is_lawful.ensures.named
+
+pub returns-then-all_see_all-clause-answer : goal.returns-then-all_see_all-clause-answer
+returns-then-all_see_all-clause-answer c =
+    all_seen c.args.tested.now.formula.now c.existentials-ys.result.now
+    (ReadsByTables c.args.tested.now.circuit.now c.args.tested.now.literals.now c.args.places.now)
+    c.existentials-ys.ensures c.every_formula_is_lawful.ensures.named (c.all_see_all.ensures c.if-all_see_all.true)
+
+pub all_see_all-requires : goal.all_see_all-requires
+all_see_all-requires c =
     all_declared c.args.tested.now.formula.now c.existentials-ys.result.now c.existentials-ys.ensures
     c.every_formula_is_lawful.ensures.named
