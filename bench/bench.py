@@ -453,6 +453,57 @@ def shared_chain(count):
     return formula, circuit
 
 
+def own_universals(count):
+    """Existentials that see one universal each, each with a gate of its own over this one."""
+    formula = lines(
+        f"p cnf {2 * count} 0", f"a {numbers(1, count)} 0", *(f"d {count + i} {i} 0" for i in range(1, count + 1))
+    )
+    gates = (f"{2 * (count + i)} {2 * i} {2 * i}" for i in range(1, count + 1))
+    outputs = (2 * (count + i) for i in range(1, count + 1))
+    circuit = lines(f"aag {2 * count} {count} 0 {count} {count}", *range(2, 2 * count + 1, 2), *outputs, *gates)
+    return formula, circuit
+
+
+def own_prefixes(count):
+    """Existentials each of which sees the universals before it, and reads the last one of these."""
+    formula = lines(
+        f"p cnf {2 * count} 0", *(f"a {2 * i + 1} 0\ne {2 * i + 2} 0" for i in range(count))
+    )
+    gates = (f"{2 * (count + i)} {2 * i} {2 * (count + i - 1) if i > 1 else 2}" for i in range(1, count + 1))
+    outputs = (2 * (count + i) for i in range(1, count + 1))
+    circuit = lines(f"aag {2 * count} {count} 0 {count} {count}", *range(2, 2 * count + 1, 2), *outputs, *gates)
+    return formula, circuit
+
+
+def one_seen_set(count):
+    """Existentials that see the last five universals of many, and all read a chain of gates over these."""
+    universals = count // 4
+    seen = range(universals - 4, universals + 1)
+    formula = lines(
+        f"p cnf {universals + count} 0",
+        f"a {numbers(1, universals)} 0",
+        *(f"d {universals + i} {' '.join(map(str, seen))} 0" for i in range(1, count + 1)),
+    )
+    first, length = universals + 1, count // 20
+    gates = [f"{2 * (first + i)} {2 * (first + i - 1)} {2 * seen[i % 5]}" for i in range(length)]
+    others = [f"{2 * (first + length + i)} 2 4" for i in range(count)]
+    circuit = lines(
+        f"aag {universals + length + count} {universals} 0 {count} {length + count}",
+        *range(2, 2 * universals + 1, 2),
+        *[2 * (first + length - 1)] * count,
+        *gates,
+        *others,
+    )
+    return formula, circuit
+
+
+def last_undeclared(count):
+    """As `own_universals`, but the last one reads the first universal as well."""
+    formula, circuit = own_universals(count)
+    last = 2 * (2 * count)
+    return formula, circuit.replace(f"\n{last} {2 * count} {2 * count}\n", f"\n{last} {2 * count} 2\n")
+
+
 def row_text(k, universals):
     return "u " + " ".join(str(x + 1 if k >> x & 1 else -x - 1) for x in range(universals)) + " 0"
 
@@ -494,6 +545,103 @@ def one_dependency_set(count):
     steps = [f"{first + k} {k * variables + universals + 1 + k} 0 {k * clauses + k + 1} 0" for k in range(count)]
     steps.append(f"{first + count} 0 1 {count + 1} 0")
     return formula, lines(f"p dqr {count} {count + 1}", *(row_text(k, universals) for k in range(count)), *steps)
+
+
+def deleting(lines_and_deletions):
+    """A refutation in version 2 of a formula of two unit clauses, with these items before the empty clause: a line for
+    each `None`, which repeats the first clause, and a `d` line for each list of places of lines."""
+    formula = lines("p cnf 2 2", "a 1 0", "d 2 0", "2 0", "-2 0")
+    items, id = [], 3
+    for places in lines_and_deletions:
+        if places is None:
+            items.append(f"{id} 2 0 1 0")
+            id += 1
+        else:
+            items.append(f"d {' '.join(str(3 + place) for place in places)} 0")
+    items.append(f"{id} 0 1 2 0")
+    return formula, lines(f"p dqr2 1 {len(items)}", "u 1 0", *items)
+
+
+def deleted_at_once(count):
+    """So many lines, deleted by one line."""
+    return deleting([*[None] * count, range(count)])
+
+
+def deleted_one_by_one(count):
+    """So many lines, and then as many that each delete one, the last line first."""
+    return deleting([*[None] * count, *([place] for place in range(count - 1, -1, -1))])
+
+
+def deleted_by_turns(count):
+    """So many lines, each deleted behind the next one."""
+    return deleting([item for place in range(count) for item in (None, *([[place - 1]] if place else []))])
+
+
+def deleted_twice(count):
+    """So many lines, and one that deletes them, the first one twice: not live at the second place."""
+    return deleting([*[None] * count, [*range(count), 0]])
+
+
+def deleted_visits(count):
+    """Lines that each hint an instance of their own, as many rows as existentials with one dependency set each, and a
+    deletion behind each line."""
+    universals, side = 16, int(count**0.5)
+    variables = universals + side
+    formula = lines(
+        f"p cnf {variables} {side + 1}",
+        f"a {numbers(1, universals)} 0",
+        *(f"d {universals + 1 + i} {' '.join(map(str, set_of(i)))} 0" for i in range(side)),
+        *(f"{universals + 1 + i} 0" for i in range(side)),
+        f"-{universals + 1} 0",
+    )
+    clauses, id, items = side + 1, side * (side + 1) + 1, []
+    for k in range(side):
+        for i in range(side):
+            items.append(f"{id} {k * variables + universals + 1 + i} 0 {k * clauses + i + 1} 0")
+            items.append(f"d {id} 0")
+            id += 1
+    items.append(f"{id} 0 1 {side + 1} 0")
+    return formula, lines(f"p dqr2 {side} {len(items)}", *(row_text(k, universals) for k in range(side)), *items)
+
+
+def set_of(i):
+    """A dependency set of up to 16 universals for each number."""
+    return [x + 1 for x in range(16) if (i + 1) >> x & 1]
+
+
+def deleted_long_instances(count):
+    """As `long_instances`, with a deletion of the line before each."""
+    formula, certificate = long_instances(count)
+    rows = count // 10
+    kept, steps = certificate.splitlines()[1 : 1 + rows], certificate.splitlines()[1 + rows :]
+    items = [steps[0]]
+    for k, step in enumerate(steps[1:]):
+        items += [f"d {rows + 1 + k} 0", step]
+    return formula, lines(f"p dqr2 {rows} {len(items)}", *kept, *items)
+
+
+def deleted_long_last_clause(count):
+    """As `long_last_clause`, with a deletion of the line before each."""
+    formula, circuit = long_last_clause(count)
+    head, steps = circuit.splitlines()[:5], circuit.splitlines()[6:]
+    first = int(steps[0].split()[0])
+    items = [steps[0]]
+    for k, step in enumerate(steps[1:]):
+        items += [f"d {first + k} 0", step]
+    return formula, lines(*head, f"dqp2 {len(items)}", *items)
+
+
+def underived_first(count):
+    """A first line that isn't derived, and so many lines and deletions behind it."""
+    formula, certificate = deleted_by_turns(count)
+    return formula, certificate.replace("3 2 0 1 0", "3 -2 0 1 0", 1)
+
+
+def unended_last_line(count):
+    """So many lines, the empty clause, and a last line that deletes all the others, without an end."""
+    formula, certificate = deleted_at_once(count)
+    *others, gone, last = certificate.splitlines()
+    return formula, lines(*others, last) + gone
 
 
 def one_long_clause(count):
@@ -547,11 +695,22 @@ MEASUREMENTS = [
     wide_last_clause,
     *(at(colliding_gates, size) for size in (50_000, 100_000)),
     *(at(many_constants, size) for size in (20_000, 40_000)),
+    *(at(make, size) for make in (many_constants, own_universals, own_prefixes) for size in (80_000, 160_000)),
+    *(at(one_seen_set, size) for size in (20_000, 40_000)),
+    *(at(last_undeclared, size) for size in (80_000, 160_000)),
     *(at(planted_functions, size) for size in (10_000, 20_000)),
     *(at(shared_chain, size) for size in (10_000, 20_000)),
     *(at(long_instances, size) for size in (10_000, 20_000)),
     *(at(long_last_clause, size) for size in (20_000, 40_000)),
     *(at(one_dependency_set, size) for size in (10_000, 20_000)),
+    *(
+        at(make, size)
+        for make in (deleted_at_once, deleted_one_by_one, deleted_by_turns, deleted_twice, deleted_visits)
+        for size in (200_000, 400_000)
+    ),
+    *(at(make, size) for make in (underived_first, unended_last_line) for size in (200_000, 400_000)),
+    *(at(deleted_long_instances, size) for size in (10_000, 20_000)),
+    *(at(deleted_long_last_clause, size) for size in (20_000, 40_000)),
     *(at(one_long_clause, size) for size in (500_000, 1_000_000)),
     *(at(many_xor_lines, size) for size in (100_000, 200_000)),
     *(at(one_long_token, size) for size in (10_000_000, 20_000_000)),

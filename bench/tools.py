@@ -1,8 +1,8 @@
 #!/usr/bin/env python3
-"""Runs tools/prove_circuit.py and tools/refute.py on the examples, on a circuit of 64 inputs, on random formulas and circuits,
-some of them spoiled, and where something is amiss. What they write is judged by the checker where one is named, and else by
-the second judge, reference.py; where they refuse, the second judge says whether they may. Prints each difference and how
-many there were; where there is one, the exit status is 1. Needs cadical on the path.
+"""Runs tools/prove_circuit.py and tools/refute.py, each with and without --v2, on the examples, on a circuit of 64 inputs,
+on random formulas and circuits, some of them spoiled, and where something is amiss. What they write is judged by the checker
+where one is named, and else by the second judge, reference.py; where they refuse, the second judge says whether they may.
+Prints each difference and how many there were; where there is one, the exit status is 1. Needs cadical on the path.
 
 Usage: bench/tools.py [CHECKER]     such as crates/dqcheck/out/dqcheck
 """
@@ -25,13 +25,20 @@ RANDOM_CASES = 100
 WRITTEN, USAGE, UNREADABLE, NO_SOLVER, SOLVER_FAILED, WRONG_CIRCUIT, FOREIGN_READ, TOO_FEW_ROWS, NOT_FALSE = range(9)
 
 
+def without_deletions(certificate):
+    """The lines that aren't deletions, and what they are but for the header's version and count."""
+    header = re.compile(rb"(p dqr|dqp)2?( .*)? [0-9]+")
+    kept = [line for line in certificate.splitlines() if not line.startswith(b"d ")]
+    return [header.sub(rb"\1\2", line) if header.fullmatch(line) else line for line in kept]
+
+
 class Bench:
     """Runs cases in a folder and counts differences."""
 
     def __init__(self, folder, checker):
         self.folder = folder
         self.checker = checker
-        self.cases, self.differences = 0, 0
+        self.cases, self.differences, self.deletions = 0, 0, 0
 
     def file(self, name, text):
         path = os.path.join(self.folder, name)
@@ -66,10 +73,19 @@ class Bench:
         self.check(shows, (written, said.count("\n"), status) == (b"", 1, due), (written, said, status))
 
     def check_verdict(self, shows, script, words, due):
-        """A case in which a certificate is to be written that earns this verdict."""
+        """A case in which a certificate is to be written that earns this verdict, with deletions too. Answers the one
+        without."""
+        written = self.check_written(shows, script, words, words[0], due)
+        deleting = self.check_written(f"{shows}, with deletions", script, ["--v2", *words], words[0], due)
+        same = without_deletions(deleting) == without_deletions(written)
+        self.check(f"{shows}: deletions aside both are one", same, (written, deleting))
+        return written
+
+    def check_written(self, shows, script, words, formula, due):
         written, said, status = self.run(script, words)
-        found = self.verdict(words[0], written) if status == WRITTEN else None
+        found = self.verdict(formula, written) if status == WRITTEN else None
         self.check(shows, (said, found) == ("", due), (said, status, found, written))
+        self.deletions += written.count(b"\nd ")
         return written
 
 
@@ -406,7 +422,7 @@ def main():
         bench = Bench(folder, checker)
         for part in (examples, forms, odd_clauses, given_rows, amiss, bad_solvers, larger, random_cases):
             part(bench)
-    print(f"{bench.cases} cases, {bench.differences} differences")
+    print(f"{bench.cases} cases with {bench.deletions} deletions, {bench.differences} differences")
     return 1 if bench.differences else 0
 
 

@@ -1,3 +1,4 @@
+pub mod SignWords
 pub mod ReadBodies
 pub mod CanonicalLines
 pub mod CanonicalProof

@@ -32,6 +32,7 @@ mod reader;
 mod refutations;
 mod row_lines;
 mod row_lists;
+mod sign_words;
 mod step_lines;
 mod steps;
 mod variables;

@@ -44,6 +44,7 @@ fn read_body(alloc: Global, f: &Formula, counts: Counts, lines: &mut Lines) -> R
         (read_body f.now counts (lines_from lines.old.number lines.old.rest) lines.old.number)
         result }
 {
+    f.every_formula_is_lawful();
     let rows = read_rows(alloc, f.universals(), counts.rows, lines)?;
     let variables = Variables::Pairs(Pairs {
         formula: f,

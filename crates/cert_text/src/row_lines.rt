@@ -1,6 +1,6 @@
 //! The row lines of a refutation.
 
-ghost use Rattle.std.specs.Prelude.{◌≡◌, ◌++◌, ◌∷◌, [], pos, nat_abs, length, map, Ok, IfOk, IfSome, IsTrue};
+ghost use Rattle.std.specs.Prelude.{◌≡◌, ◌++◌, ◌∷◌, [], pos, nat_abs, length, map, All, Ok, IfOk, IfSome, IsTrue};
 ghost use Rattle.std.specs.Int.{is_positive};
 ghost use Rattle.std.specs.Str.{bytes_eq as same_numbers};
 ghost use Rattle.dq_text.specs.Line.{line_tokens};
@@ -8,65 +8,98 @@ ghost use Rattle.dq_text.specs.Number.{number_of};
 ghost use Rattle.dq_text.specs.declared.numbers.Number.TheVariants.{Int};
 ghost use Rattle.cert_text.specs.LineStop.{IsLineOf, and_then};
 ghost use Rattle.cert_text.specs.Numbers.{line_integers};
+ghost use Rattle.cert_text.specs.SignsTaken.{IsSpelled};
+ghost use Rattle.dq_text.specs.Written.{number_text};
 ghost use Rattle.cert_text.specs.RowLine.{row_of, row_line};
 
 use crate::faults::{CertFault, LineStop};
 use crate::numbers::take_integers;
+use crate::sign_words::take_sign;
 use dq_lits::{Memory, Row};
 use dq_text::{LineTokens, Number, is_word};
+use flat_lists::FlatLists;
 use std::alloc::Global;
+
+/// The universals of rows, with the texts by which a line is compared with them.
+#[derive(Clone, Copy)]
+pub struct RowUniversals<'a> {
+    pub variables: &'a [u64],
+    /// Each of them with a space behind it.
+    pub words: &'a FlatLists<u8>,
+}
 
 /// Reads the line of a row over these universals.
 pub fn read_row(
     alloc: Global,
-    universals: &[u64],
+    universals: RowUniversals,
     line: &[u8],
     integers: &mut Vec<i64>,
 ) -> Result<Row, LineStop>
-    ensures { IsLineOf (row_line universals.now (line_tokens line.now)) result }
+    requires spelled { All IsSpelled universals.variables.now }
+    requires words { universals.words.now ≡ map number_text universals.variables.now }
+    ensures { IsLineOf (row_line universals.entry.variables.now (line_tokens line.now)) result }
 {
     match plain_row(alloc, universals, line)? {
         Some(row) => Ok(row),
-        None => take_row(alloc, universals, line, integers),
+        None => take_row(alloc, universals.variables, line, integers),
     }
 }
 
 // The row of a line that is as it should be, read in one pass. It answers none where the line isn't
 // such a one, and maybe where it is.
-fn plain_row(alloc: Global, universals: &[u64], line: &[u8]) -> Result<Option<Row>, Memory>
+fn plain_row(alloc: Global, universals: RowUniversals, line: &[u8]) -> Result<Option<Row>, Memory>
+    requires spelled { All IsSpelled universals.variables.now }
+    requires words { universals.words.now ≡ map number_text universals.variables.now }
     ensures { IfOk result
-        (λ found. IfSome found (λ row. row_line universals.now (line_tokens line.now) ≡ Ok row)) }
+        (λ found.
+        IfSome found
+        (λ row. row_line universals.entry.variables.now (line_tokens line.now) ≡ Ok row)) }
 {
-    let mut tokens = LineTokens::new(line);
-    match tokens.next() {
-        Some(letter) if is_word(letter, b"u") => {}
-        _ => return Ok(None),
-    }
-    let mut row = Row::new(alloc, universals.len())?;
-    Ok(if take_signs(universals, &mut tokens, &mut row) {
+    let Some(signs) = behind_letter(line) else {
+        return Ok(None);
+    };
+    let mut row = Row::new(alloc, universals.variables.len())?;
+    Ok(if take_signs(universals, signs, &mut row) {
         Some(row)
     } else {
         None
     })
 }
 
+// The bytes behind the letter of a row and a space.
+fn behind_letter(line: &[u8]) -> Option<&[u8]>
+    ensures { IfSome result (λ signs. line.now ≡ 117 ∷ 32 ∷ signs.now) }
+{
+    let (letter, rest) = line.split_first()?;
+    if *letter != b'u' {
+        return None;
+    }
+    let (space, signs) = rest.split_first()?;
+    if *space != b' ' {
+        return None;
+    }
+    Some(signs)
+}
+
 // Takes the universals in order, with signs, and then 0 and the end of the line; the signs are
 // written into the row.
-fn take_signs(universals: &[u64], tokens: &mut LineTokens, row: &mut Row) -> bool
-    requires { length row.old ≡ length universals.now }
+fn take_signs(universals: RowUniversals, signs: &[u8], row: &mut Row) -> bool
+    requires spelled { All IsSpelled universals.variables.now }
+    requires words { universals.words.now ≡ map number_text universals.variables.now }
+    requires whole { length row.old ≡ length universals.variables.now }
     ensures { IsTrue result
-        → and_then (row_of universals.now) (line_integers tokens.old) ≡ Ok row.new }
+        → and_then (row_of universals.entry.variables.now) (line_integers (line_tokens signs.now))
+        ≡ Ok row.new }
 {
-    for i in 0..universals.len() {
-        let Some(Number::Int(n)) = tokens.next_number() else {
+    let mut rest = signs;
+    for i in 0..universals.words.len() {
+        let Some((positive, behind)) = take_sign(universals.words.get(i), rest) else {
             return false;
         };
-        if n.unsigned_abs() != universals[i] {
-            return false;
-        }
-        row.set(i, n > 0);
+        row.set(i, positive);
+        rest = behind;
     }
-    ends_row(tokens)
+    ends_row(&mut LineTokens::new(rest))
 }
 
 // Takes 0 and the end of the line.

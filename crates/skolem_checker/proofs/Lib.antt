@@ -10,5 +10,7 @@ pub mod RenamedNetlists
 pub mod LeastNumbers
 pub mod CopySteps
 pub mod OriginalLaws
+pub mod EndsLaws
+pub mod ConesLaws
 pub mod SkolemLaws
 pub mod PlacesLaws

@@ -5,5 +5,6 @@ pub mod Checks
 pub mod SkolemCircuit
 pub mod Tables
 pub mod Reads
+pub mod Cones
 pub mod Renaming
 pub mod BenchInside

@@ -1,5 +1,5 @@
 -- Words of private contracts: up to 64 existentials at a time, with a bit for each in every word.
-use Rattle.std.specs.Prelude.{◌≡◌, ℕ, ◌<◌, ◌≤◌, ◌+◌, ◌==◌, ◌⊎◌, nat_lt, Bool, true, false, ◌&&◌, List, length, slice_index, Option, None, Some, IsTrue, ◌↔◌, Contains}
+use Rattle.std.specs.Prelude.{◌≡◌, ℕ, ◌<◌, ◌≤◌, ◌+◌, ◌*◌, ◌==◌, ◌⊎◌, nat_lt, Bool, true, false, ◌&&◌, List, length, slice_index, Option, None, Some, IsTrue, ◌↔◌, Contains}
 use Rattle.std.specs.Int.{bit_at}
 use Rattle.dq_lits.specs.Formula.{Existential, Dqbf, existential_of}
 use Rattle.circuit_plain.specs.Netlist.{Netlist, literal_variable}
@@ -14,6 +14,7 @@ has_bit word i = bit_at word i == 1
 
 -- words for the variables of a circuit and for the universals
 pub record HasWords (net : Netlist) (f : Dqbf) (w : ReadWords) : Type 0 where
+  pub settled : length f.existentials ≤ 64 * length w.settled.items
   pub reached : length w.reached.items ≡ net.max_var + 1
   pub listed : length w.listed.items ≡ length f.universals
   pub stops : length w.stops.items ≡ length f.universals + 1

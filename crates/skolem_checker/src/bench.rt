@@ -160,6 +160,7 @@ impl<'a> Bench<'a> {
             circuit: &self.copy,
             order: &self.order,
             literals: &self.literals,
+            by_input: &self.mapped.inputs,
         };
         undeclared_read(&tested, &self.places, &mut self.words)
     }
@@ -177,6 +178,7 @@ impl<'a> Bench<'a> {
             circuit: &self.copy,
             order: &self.order,
             literals: &self.literals,
+            by_input: &self.mapped.inputs,
         };
         first_bad_row(&tested, &self.universal_places, &mut self.values)
     }

@@ -10,6 +10,8 @@ pub use bench::Bench;
 pub use mapping::{BenchStop, MapError, MapName, MapPlace};
 
 mod bench;
+mod cones;
+mod ends;
 pub mod laws;
 mod mapping;
 mod reads;

@@ -40,3 +40,11 @@ pub(crate) fn without(word: u64, other: u64) -> u64
 {
     word & !other
 }
+
+/// Bit `k` of one word.
+pub(crate) fn has_bit(word: u64, k: usize) -> bool
+    requires { k < 64 }
+    ensures { result ≡ has_bit word k }
+{
+    (word >> k) % 2 == 1
+}

@@ -12,7 +12,7 @@ returns-in_default c =
     (c.number.ensures ∙ ap (λ lines. lines.number) c.in_default.ensures.end) in
     refused_at _ _ c.refused.result c.loop-k.rows c.next.new.self c.refused.ensures
     (c.loop-k.invariant
-    ∙ line_missing (row_lines c.args.universals.now) tt c.loop-k.k c.args.count c.loop-k.rows c.loop-k.lines
+    ∙ line_missing (row_lines c.args.universals.variables.now) tt c.loop-k.k c.args.count c.loop-k.rows c.loop-k.lines
     c.number.result more c.in_default.ensures.line number)
 
 pub returns-in-Err : goal.returns-in-Err
@@ -22,7 +22,8 @@ returns-in-Err c =
     let more : c.loop-k.k < c.args.count = omega (arith, c.loop-k-test.true) in
     stopped _ line.number _ c.in-Err.stop c.at_line.result c.loop-k.rows behind c.in-Err.ensures c.at_line.ensures
     (λ name fault. c.loop-k.invariant
-    ∙ line_at_fault (row_lines c.args.universals.now) tt c.loop-k.k c.args.count c.loop-k.rows c.loop-k.lines line
+    ∙ line_at_fault (row_lines c.args.universals.variables.now) tt c.loop-k.k c.args.count c.loop-k.rows
+    c.loop-k.lines line
     (lines_from behind.number behind.rest) name more
     c.in-Some.ensures.line fault)
 
@@ -34,6 +35,7 @@ loop-k-preserved c =
     let next : behind.number ≡ line.number + 1 = c.in-Some.ensures.next_number ∙ ap (λ n. n + 1)
     (sym c.in-Some.ensures.number) in
     c.loop-k.invariant
-    ∙ line_read (row_lines c.args.universals.now) tt c.loop-k.k c.args.count c.loop-k.rows c.loop-k.lines behind line
+    ∙ line_read (row_lines c.args.universals.variables.now) tt c.loop-k.k c.args.count c.loop-k.rows
+    c.loop-k.lines behind line
     c.in-Ok.row c.push.new.self more
     c.in-Some.ensures.line next c.in-Ok.ensures c.in_ok-push-in-Ok.ensures.ok

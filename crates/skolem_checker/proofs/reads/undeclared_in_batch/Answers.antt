@@ -1,13 +1,21 @@
-use Rattle.std.proofs.Common.{◌≡◌, length, ap, ◌∙◌}
-use Rattle.skolem_checker.proofs.SightsLaws.{batch_answer, whole_written}
+use Rattle.std.proofs.Common.{ap, ◌∙◌, length}
+use Rattle.skolem_checker.proofs.ConesLaws.{batch_alone, cone_written}
 use Rattle.skolem_checker.proofs.reads.undeclared_in_batch.Goals as goal
 
-pub returns-clause-answer : goal.returns-clause-answer
-returns-clause-answer c =
-    let same : length c.mark_reached.new.words ≡ length c.args.words.now.reached.items =
-    c.mark_reached.ensures.same_length ∙ ap length c.deref_mut.ensures.value in
-    batch_answer c.args.tested.now.formula.now c.args.tested.now.circuit.now c.args.tested.now.literals.now
-    c.args.places.now c.args.ys.now c.mark_reached.new.words c.first_read.result
-    c.mark_reached.ensures.reached
-    (rw (whole_written c.mark_reached.new.words c.args.words.now.reached.items c.args.words.now.reached.len
-    c.args.words.now.reached.ok.0 same) at c.first_read.ensures.answer)
+pub returns-then-are_walked-clause-cone : goal.returns-then-are_walked-clause-cone
+returns-then-are_walked-clause-cone c =
+    cone_written c.args.tested.now.formula.now c.args.tested.now.circuit.now c.args.tested.now.literals.now
+    c.are_walked.new.slots c.args.words.now.reached.items c.args.words.now.reached.len c.are_walked.new.cone
+    c.args.words.now.reached.ok.0 (c.are_walked.ensures.same_length ∙ ap length c.deref_mut.ensures.value)
+    (c.are_walked.ensures.cone c.if-are_walked.true)
+
+pub returns-then-are_walked-clause-answer : goal.returns-then-are_walked-clause-answer
+returns-then-are_walked-clause-answer c =
+    batch_alone c.args.tested.now.circuit.now c.args.tested.now.literals.now c.args.places.now
+    c.args.tested.now.formula.now c.args.ys.now c.args.settled c.requires.settled
+    (c.are_walked.ensures.alone c.if-are_walked.true)
+
+pub returns-clause-cone : goal.returns-clause-cone
+returns-clause-cone c =
+    c.forget.ensures c.args.tested.now.formula.now c.args.tested.now.circuit.now c.args.tested.now.literals.now
+    c.undeclared_by_words-read.new.words.reached.items

@@ -1,34 +1,33 @@
-use Rattle.std.proofs.Common.{◌≡◌, ◌*◌, ◌+◌, ◌-◌, length, ap, ◌∙◌, arith}
-use Rattle.std.proofs.lemmas.List.{length-map}
-use Rattle.dq_lits.specs.Formula.{Existential}
+use Rattle.std.proofs.Common.{ap, ◌∙◌, length}
 use Rattle.skolem_checker.specs.Tables.{ReadsByTables}
-use Rattle.skolem_checker.proofs.SightsLaws.{batch_declared, batch_passes, batch_fails}
+use Rattle.skolem_checker.proofs.ConesLaws.{settled_written, all_declared, all_seen}
 use Rattle.skolem_checker.proofs.reads.undeclared_read.Goals as goal
+use Rattle.dq_formula.specs.Prefix.{existential_variables}
 
-pub undeclared_in_batch-read-requires-clause-declared : goal.undeclared_in_batch-read-requires-clause-declared
-undeclared_in_batch-read-requires-clause-declared c =
-    batch_declared c.args.tested.now.formula.now c.existentials-ys.result.now (c.loop-batch.batch * 64)
-    (c.loop-batch.batch * 64 + c.min.result - c.loop-batch.batch * 64)
-    c.existentials-ys.ensures c.every_formula_is_lawful.ensures.named
+pub undeclared_by_batches-requires-clause-settled : goal.undeclared_by_batches-requires-clause-settled
+undeclared_by_batches-requires-clause-settled c =
+    settled_written c.args.tested.now.circuit.now c.args.tested.now.literals.now c.args.places.now
+    c.args.tested.now.formula.now c.existentials-ys.result.now (existential_variables c.args.tested.now.formula.now)
+    c.settle_by_ends.new.settled c.args.words.now.settled.items c.args.words.now.settled.len
+    c.args.words.now.settled.ok.0 (c.settle_by_ends.ensures.settled_length ∙ ap length c.deref_mut-2.ensures.value)
+    c.existentials-ys.ensures c.settle_by_ends.ensures.settled
 
-pub returns-in-Some-clause-answer : goal.returns-in-Some-clause-answer
-returns-in-Some-clause-answer c =
-    batch_fails c.args.tested.now.formula.now c.existentials-ys.result.now (c.loop-batch.batch * 64)
-    (c.loop-batch.batch * 64 + c.min.result - c.loop-batch.batch * 64)
-    c.existentials-ys.ensures c.every_formula_is_lawful.ensures.named
+pub undeclared_by_batches-requires-clause-cone : goal.undeclared_by_batches-requires-clause-cone
+undeclared_by_batches-requires-clause-cone c =
+    c.forget.ensures c.args.tested.now.formula.now c.args.tested.now.circuit.now c.args.tested.now.literals.now _
+
+pub settle_by_ends-requires-clause-declared : goal.settle_by_ends-requires-clause-declared
+settle_by_ends-requires-clause-declared c =
+    all_declared c.args.tested.now.formula.now c.existentials-ys.result.now c.existentials-ys.ensures
+    c.every_formula_is_lawful.ensures.named
+
+pub returns-then-all_see_all-clause-answer : goal.returns-then-all_see_all-clause-answer
+returns-then-all_see_all-clause-answer c =
+    all_seen c.args.tested.now.formula.now c.existentials-ys.result.now
     (ReadsByTables c.args.tested.now.circuit.now c.args.tested.now.literals.now c.args.places.now)
-    c.loop-batch.invariant.first c.in-Some.i c.in-Some.x c.in-Some.ensures.answer
+    c.existentials-ys.ensures c.every_formula_is_lawful.ensures.named (c.all_see_all.ensures c.if-all_see_all.true)
 
-pub loop-batch-preserved : goal.loop-batch-preserved
-loop-batch-preserved c =
-    let lengths : length c.existentials-ys.result.now ≡ length c.args.tested.now.formula.now.existentials =
-    ap length c.existentials-ys.ensures ∙ length-map c.args.tested.now.formula.now.existentials
-    (λ (y : Existential). y.variable) in record {
-      words = c.undeclared_in_batch-read.ensures.words;
-      first = batch_passes c.args.tested.now.formula.now c.existentials-ys.result.now (c.loop-batch.batch * 64)
-          (c.loop-batch.batch * 64 + c.min.result - c.loop-batch.batch * 64)
-          c.existentials-ys.ensures c.every_formula_is_lawful.ensures.named
-          (ReadsByTables c.args.tested.now.circuit.now c.args.tested.now.literals.now c.args.places.now)
-          c.loop-batch.invariant.first ((c.loop-batch.batch + 1) * 64) c.in_default.ensures.answer
-          (λ p lt below. omega (arith, lt, below, lengths, c.min.ensures));
-    }
+pub all_see_all-requires : goal.all_see_all-requires
+all_see_all-requires c =
+    all_declared c.args.tested.now.formula.now c.existentials-ys.result.now c.existentials-ys.ensures
+    c.every_formula_is_lawful.ensures.named

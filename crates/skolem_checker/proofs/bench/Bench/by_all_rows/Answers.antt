@@ -9,7 +9,7 @@ pub first_bad_row-requires-clause-places_fit : goal.first_bad_row-requires-claus
 first_bad_row-requires-clause-places_fit c =
     let b = c.self.inside in
     let same = ap (λ (v : Candidate). length v.formula.universals) c.self.view_is in
-    rw c.deref-2.ensures.value
+    rw c.deref-3.ensures.value
     (universal_places_fit b.formula.now b.copy (mapping_in b.mapped) b.literals.items b.places.items
     c.self.invariant.formed c.self.invariant.tables
     b.universal_places.items 20 c.self.invariant.by_input_is (omega (arith, same, c.requires)))
@@ -30,4 +30,4 @@ returns-clause-answer c =
     c.self.invariant.kept c.self.invariant.complete c.self.invariant.mapped c.self.invariant.copied
     c.self.invariant.copy_kept
     c.self.invariant.tables b.universal_places.items c.self.invariant.by_input_is c.first_bad_row.result
-    (rw c.deref.ensures.value at (rw c.deref-2.ensures.value at c.first_bad_row.ensures.first)))
+    (rw c.deref.ensures.value at (rw c.deref-3.ensures.value at c.first_bad_row.ensures.first)))
