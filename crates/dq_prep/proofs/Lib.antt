@@ -1,0 +1,4 @@
+mod Kept
+mod Reduction
+mod Units
+mod WellFormed

@@ -1,0 +1,4 @@
+pub mod Laws
+pub mod Reduction
+pub mod Simplified
+pub mod Units
