@@ -65,7 +65,7 @@ kept-follows s units are solves m follows place (clause ∷ clauses) bound truth
     rest
 
 -- a clause that is kept stands among those that are left
-kept-stands : (f : Dqbf) (units : List Taken) (place : ℕ) (clauses : List (List Literal)) (k : ℕ)
+pub kept-stands : (f : Dqbf) (units : List Taken) (place : ℕ) (clauses : List (List Literal)) (k : ℕ)
     (d kept : List Literal) → k < length clauses →
     kept_clause f units (place + k) (get_or clauses k d) ≡ Some kept
     → Contains (kept_clauses f units place clauses) kept

@@ -40,7 +40,7 @@ pub holds-at : (clause : List Literal) (k : ℕ) (d : Literal) → k < length cl
 holds-at clause k d below =
     list_any_at (same_literal (get_or clause k d)) clause k d below (same_literal-refl (get_or clause k d))
 
-universal-contained : (xs : List ℕ) (v : ℕ) → list_any (λ x. x == v) xs ≡ true → Contains xs v
+pub universal-contained : (xs : List ℕ) (v : ℕ) → list_any (λ x. x == v) xs ≡ true → Contains xs v
 universal-contained [] v h = absurd (true≢false (sym h))
 universal-contained (x ∷ xs) v h =
     elim (or_cases (x == v) (list_any (λ z. z == v) xs) h) [

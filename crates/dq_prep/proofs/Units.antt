@@ -20,7 +20,7 @@ abbrev pub AllTrue : Assignment → List Literal → Type 0
 AllTrue m [] = Unit {0}
 AllTrue m (l ∷ ls) = (literal_true m l ≡ true) × AllTrue m ls
 
-same_literal-sound : (k l : Literal) → same_literal k l ≡ true → k ≡ l
+pub same_literal-sound : (k l : Literal) → same_literal k l ≡ true → k ≡ l
 same_literal-sound (positive v) (positive w) h = ap positive (eqb-true v w h)
 same_literal-sound (positive v) (negative w) h = cc
 same_literal-sound (negative v) (positive w) h = cc
@@ -134,7 +134,7 @@ units-true s (u ∷ earlier) are solves m follows =
     (elim (or_cases (literal_true m u.literal) false one) [ inl here ↦ here | inr none ↦ cc ], all m follows)
 
 -- a literal of a part is one of the clause
-part-holds : (l : Literal) (g : Literal → Bool) (clause : List Literal) → holds (filter g clause) l ≡ true
+pub part-holds : (l : Literal) (g : Literal → Bool) (clause : List Literal) → holds (filter g clause) l ≡ true
     → holds clause l ≡ true
 part-holds l g [] h = h
 part-holds l g (k ∷ ks) h = by (g k) (part-holds l g ks) h
@@ -147,7 +147,7 @@ part-holds l g (k ∷ ks) h = by (g k) (part-holds l g ks) h
     ]
     by false step h = or_right (same_literal l k) (holds ks l) (step h)
 
-left-holds : (f : Dqbf) (l : Literal) (trues clause : List Literal) → holds (left_of f trues clause) l ≡ true
+pub left-holds : (f : Dqbf) (l : Literal) (trues clause : List Literal) → holds (left_of f trues clause) l ≡ true
     → holds clause l ≡ true
 left-holds f l trues clause h =
     part-holds l (λ k. not (holds trues (opposite k))) clause (by (is_tautology (without_false trues clause)) h)
@@ -170,7 +170,7 @@ satisfied-by trues (k ∷ ks) l here taken =
       | inr later ↦ or_right (holds trues k) (is_satisfied trues ks) (satisfied-by trues ks l later taken)
     ]
 
-same_literal-refl : (l : Literal) → same_literal l l ≡ true
+pub same_literal-refl : (l : Literal) → same_literal l l ≡ true
 same_literal-refl (positive v) = eq-eqb v v refl
 same_literal-refl (negative v) = eq-eqb v v refl
 
@@ -195,22 +195,28 @@ unit-clause f (u ∷ us) zero d are below =
     (are.0.clause, are.0.at, left-holds f l (taken_literals us) are.0.clause (ap (λ c. holds c l) left ∙ inside))
 unit-clause f (u ∷ us) (suc k) d are below = unit-clause f us k d are.1 (omega arith)
 
-some-same : (a b : List Literal) → Some a ≡ Some b → a ≡ b
+pub some-same : (a b : List Literal) → Some a ≡ Some b → a ≡ b
 some-same a b e = cc
 
--- no two units have one place
-pub unit-taken : (f : Dqbf) (units : List Taken) (k : ℕ) (d : Taken) → AreUnits f units → k < length units →
-    taken_at (get_or units k d).place units ≡ Some ((get_or units k d).literal ∷ [])
+-- an earlier unit has another place
+pub unit-apart : (f : Dqbf) (u : Taken) (us : List Taken) (k : ℕ) (d : Taken) → AreUnits f (u ∷ us) → k < length us
+    → u.place ≢ (get_or us k d).place
+unit-apart f u us k d are inside e =
+    let v = get_or us k d in
+    let c = unit-clause f us k d are.1 inside in
+    let same : are.0.clause ≡ c.0 = some-same are.0.clause c.0 (sym are.0.at ∙ ap (slice_get f.matrix) e ∙ c.1) in
+    let held : holds are.0.clause v.literal ≡ true = ap (λ x. holds x v.literal) same ∙ c.2 in
+    true≢false (sym (satisfied-by (taken_literals us) are.0.clause v.literal held (taken-holds us k d inside))
+    ∙ are.0.unsatisfied)
+
+-- so a unit is found by its place
+pub unit-taken : (f : Dqbf) (units : List Taken) (k : ℕ) (d : Taken) → AreUnits f units → k < length units
+    → taken_at (get_or units k d).place units ≡ Some ((get_or units k d).literal ∷ [])
 unit-taken f [] k d are below = absurd (omega arith)
 unit-taken f (u ∷ us) zero d are below =
     cond-true (u.place == u.place) (Some (u.literal ∷ [])) (taken_at u.place us) (eq-eqb u.place u.place refl)
 unit-taken f (u ∷ us) (suc k) d are below =
     let inside : k < length us = omega arith in
     let v = get_or us k d in
-    let other : u.place ≢ v.place = λ e.
-    let c = unit-clause f us k d are.1 inside in
-    let same : are.0.clause ≡ c.0 = some-same are.0.clause c.0 (sym are.0.at ∙ ap (slice_get f.matrix) e ∙ c.1) in
-    true≢false (sym (satisfied-by (taken_literals us) are.0.clause v.literal
-    (ap (λ x. holds x v.literal) same ∙ c.2) (taken-holds us k d inside)) ∙ are.0.unsatisfied) in
-    cond-false (u.place == v.place) (Some (u.literal ∷ [])) (taken_at v.place us) (ne_eqb u.place v.place other)
-    ∙ unit-taken f us k d are.1 inside
+    cond-false (u.place == v.place) (Some (u.literal ∷ [])) (taken_at v.place us)
+    (ne_eqb u.place v.place (unit-apart f u us k d are inside)) ∙ unit-taken f us k d are.1 inside

@@ -1,7 +1,7 @@
 -- What is left of a well-formed formula is well formed.
-use Rattle.std.proofs.Common.{ℕ, suc, ◌==◌, Bool, true, false, cond, not, List, [], ◌∷◌, sym, subst}
+use Rattle.std.proofs.Common.{◌≡◌, ◌<◌, ◌≤◌, ◌==◌, ℕ, suc, Bool, true, false, cond, not, List, [], ◌∷◌, length, get_or, Option, Some, None, sym, subst, arith}
 use Rattle.std.specs.List.{All, AllByRecursion, Contains, filter}
-use Rattle.std.proofs.lemmas.List.Elements.{All-head, All-tail, All-filter, All-from_recursion}
+use Rattle.std.proofs.lemmas.List.Elements.{All-head, All-tail, All-filter, All-contains, All-from_recursion}
 use Rattle.dq_lits.specs.Literal.{Literal, variable_of, opposite}
 use Rattle.dq_lits.specs.Formula.{Dqbf, declared, IsWellFormed}
 use Rattle.dq_lits.specs.Derivation.{holds, is_tautology}
@@ -31,7 +31,7 @@ all-left f P trues clause all = by (is_tautology rest)
 abbrev pub IsBound : Dqbf → Literal → Type 0
 IsBound f l = Contains (declared f) (variable_of l)
 
-unit-bound : (f : Dqbf) (units : List Taken) → IsWellFormed f → AreUnits f units → (place : ℕ)
+pub unit-bound : (f : Dqbf) (units : List Taken) → IsWellFormed f → AreUnits f units → (place : ℕ)
     → IfKept (All (IsBound f)) (taken_at place units)
 unit-bound f [] well are place = tt
 unit-bound f (u ∷ us) well are place =
@@ -65,3 +65,14 @@ well-formed f units well are = record {
   bound = All-from_recursion (All (IsBound f)) (kept_clauses f units 0 f.matrix)
       (kept-bound f units well are 0 f.matrix well.bound);
 }
+
+-- a literal of a clause of the matrix
+pub bound-at : (f : Dqbf) (place i : ℕ) (clause : List Literal) (l : Literal) → IsWellFormed f
+    → place < length f.matrix → clause ≡ get_or f.matrix place [] → i < length clause → l ≡ get_or clause i l
+    → IsBound f l
+bound-at f place i clause l well within is below at =
+    let all = subst (All (IsBound f)) (sym is) (well.bound place [] within) in
+    subst (IsBound f) (sym at) (all i l below)
+
+pub bound-small : (f : Dqbf) (l : Literal) → IsWellFormed f → IsBound f l → variable_of l ≤ f.variables
+bound-small f l well bound = (All-contains (λ v. (1 ≤ v) × (v ≤ f.variables)) (declared f) (variable_of l) well.prefix.in_range bound).1

@@ -2,7 +2,16 @@
 //! that the same choices solve.
 #![tactic(auto)]
 
+pub use preparation::prep;
 pub use traces::{Taken, Trace};
 
+mod kept_clauses;
 pub mod laws;
+mod prefixes;
+mod preparation;
+mod roles;
+mod sights;
+mod takings;
+mod tautologies;
 mod traces;
+mod waiting;
