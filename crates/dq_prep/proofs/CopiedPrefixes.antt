@@ -1,8 +1,8 @@
 -- A prefix that is copied, variable by variable.
-use Rattle.std.proofs.Common.{◌≡◌, ◌≢◌, ℕ, zero, suc, ◌+◌, ◌-◌, ◌<◌, ◌≤◌, ◌==◌, max, Bool, true, false, cond, ◌&&◌, ◌||◌, ◌⊎◌, inl, inr, List, [], ◌∷◌, ◌++◌, map, take, length, get_or, slice_get, Option, Some, None, IsSome, IfSome, is_some, refl, sym, ◌∙◌, ap, subst, arith}
+use Rattle.std.proofs.Common.{◌≡◌, ◌≢◌, ℕ, zero, suc, ◌+◌, ◌-◌, ◌<◌, ◌≤◌, ◌==◌, max, Bool, true, false, inl, inr, List, [], ◌∷◌, ◌++◌, take, length, get_or, slice_get, Option, Some, None, IfSome, is_some, refl, sym, ◌∙◌, ap, subst, arith}
 use Rattle.std.specs.List.{All, AllPairs, Contains, list_any, filter}
-use Rattle.std.proofs.lemmas.Bool.{true≢false, ne_eqb, eqb-true, cases_lt, cases_Bool}
-use Rattle.std.proofs.lemmas.List.{get_or_default, take_more, take_all, take-map, length-take, length-take-le, get_or-take, length-map, length-append, get_or-map, get_or-append_right, get_or_append_left}
+use Rattle.std.proofs.lemmas.Bool.{cases_lt, cases_Bool}
+use Rattle.std.proofs.lemmas.List.{get_or_default, take_more, take-map, length-take-le, get_or-take, length-map, length-append, get_or-map, get_or-append_right, get_or_append_left}
 use Rattle.std.proofs.lemmas.List.Elements.{All-push, All-contains, Contains-append_cases}
 use Rattle.dq_lits.specs.Formula.{Existential, Dqbf, declared, is_universal, existential_of}
 use Rattle.dq_formula.specs.Dependencies.{listed_universals}
@@ -43,7 +43,8 @@ pub reach-more : (us xs : List ℕ) (end i x p : ℕ) → All (Contains (take en
     → All (Contains (take (max end (p + 1)) us)) (take (i + 1) xs)
 reach-more us xs end i x p all below is at =
     let wider = max end (p + 1) in
-    let before : All (Contains (take wider us)) (take i xs) = λ k d l. more-among us end wider (get_or (take i xs) k d) (omega arith) (all k d l) in
+    let before : All (Contains (take wider us)) (take i xs) =
+    λ k d l. more-among us end wider (get_or (take i xs) k d) (omega arith) (all k d l) in
     let here : Contains (take wider us) x = among us p wider x at (omega arith) in
     subst (All (Contains (take wider us))) (sym (take_more xs i x below ∙ ap (λ y. take i xs ++ y ∷ []) (sym is)))
     (All-push (Contains (take wider us)) (take i xs) x before here)
@@ -55,9 +56,9 @@ place-small (u ∷ us) (suc p) x at = omega (arith, place-small us p x at)
 
 not-in : (xs : List ℕ) (v : ℕ) → (Contains xs v → ⊥) → list_any (λ x. x == v) xs ≡ false
 not-in xs v absent = elim (cases_Bool (list_any (λ x. x == v) xs)) [
-    | inl here ↦ absurd (absent (universal-contained xs v here))
-    | inr none ↦ none
-  ]
+  | inl here ↦ absurd (absent (universal-contained xs v here))
+  | inr none ↦ none
+]
 
 -- a variable at a place behind those that were declared isn't one of them
 fresh : (us vs : List ℕ) (n i m v : ℕ) → AllPairs (λ x y. x ≢ y) (us ++ vs) → n ≤ length us → i ≤ length vs
@@ -65,20 +66,24 @@ fresh : (us vs : List ℕ) (n i m v : ℕ) → AllPairs (λ x y. x ≢ y) (us ++
     → list_any (λ x. x == v) (take n us ++ take i vs) ≡ false
 fresh us vs n i m v once few some behind apart within is =
     not-in (take n us ++ take i vs) v
-    (λ inside. elim (Contains-append_cases (take n us) (take i vs) v inside) [ inl early ↦ first early | inr late ↦ second late ])
+    (λ inside. elim (Contains-append_cases (take n us)
+    (take i vs) v inside) [ inl early ↦ first early | inr late ↦ second late ])
   where
     whole : length (us ++ vs) ≡ length us + length vs
     whole = length-append us vs
+
     differ : (k : ℕ) → k < length us + length vs → k ≢ m → get_or (us ++ vs) k v ≡ v → ⊥
     differ k inside other e = elim (cases_lt k m) [
-        | inl before ↦ once k m v before (omega (arith, whole)) (e ∙ sym is)
-        | inr after ↦ once m k v (omega (arith, other)) (omega (arith, whole)) (is ∙ sym e)
-      ]
+      | inl before ↦ once k m v before (omega (arith, whole)) (e ∙ sym is)
+      | inr after ↦ once m k v (omega (arith, other)) (omega (arith, whole)) (is ∙ sym e)
+    ]
+
     first : Contains (take n us) v → ⊥
     first (k, below, e) =
         let small : k < n = omega (arith, length-take-le n us few, below) in
         differ k (omega arith) (omega arith)
         (get_or_append_left us vs v k (omega arith) ∙ sym (get_or-take n us k v small) ∙ e)
+
     second : Contains (take i vs) v → ⊥
     second (j, below, e) =
         let small : j < i = omega (arith, length-take-le i vs some, below) in
@@ -102,10 +107,12 @@ universal-fresh f g at lawful is here below =
     let us = f.universals in
     let vs = existential_variables f in
     let v = get_or us at 0 in
-    let some : length g.existentials ≤ length vs = omega (arith, is.existentials, length-map f.existentials (λ y. y.variable)) in
+    let some : length g.existentials ≤ length vs =
+    omega (arith, is.existentials, length-map f.existentials (λ y. y.variable)) in
     ap (list_any (λ x. x == v)) (begun-declared f g is)
     ∙ fresh us vs (length g.universals) (length g.existentials) at v lawful.prefix.declared_once is.universals some
-    (omega arith) (λ j small. λ e. omega arith) (omega arith) (get_or_append_left us vs v at below ∙ get_or_default us at v 0 below)
+    (omega arith) (λ j small. λ e. omega arith) (omega arith)
+    (get_or_append_left us vs v at below ∙ get_or_default us at v 0 below)
 
 -- nor is the next existential
 pub existential-fresh : (f g : Dqbf) (place y : ℕ) → IsLawful f → IsBegun f g → length g.existentials ≡ place
@@ -119,7 +126,8 @@ existential-fresh f g place y lawful is here below at =
     ∙ fresh us vs (length g.universals) (length g.existentials) (length us + place) y lawful.prefix.declared_once
     is.universals (omega (arith, is.existentials, long)) (omega (arith, is.universals)) (λ j small. λ e. omega arith)
     (omega (arith, long))
-    (get_or-append_right us vs (length us) (length us + place) y refl (omega arith) ∙ ap (λ k. get_or vs k y) back ∙ sym at)
+    (get_or-append_right us vs (length us) (length us + place) y refl (omega arith) ∙ ap (λ k. get_or vs k y) back
+    ∙ sym at)
 
 pub sees-among : (f : Dqbf) (o : Option Existential) (end : ℕ) (xs : List ℕ) → IfSome o (λ e. xs ≡ e.sees)
     → All (Contains (take end f.universals)) xs → IfSome o (SeesAmong f end)
@@ -133,8 +141,13 @@ pub found-at : (f : Dqbf) (place y : ℕ) → IsLawful f → place < length f.ex
 found-at f place y lawful below at =
     let nobody : Existential = record { variable = 0; sees = [] } in
     let e = get_or f.existentials place nobody in
-    let names : e.variable ≡ y = sym (get_or-map (λ z. z.variable) f.existentials place nobody y below) ∙ sym at in
-    (e, ap (existential_of f) (sym names) ∙ lawful.named place nobody below, names, get_or_default f.existentials place e nobody below)
+    let names : e.variable ≡ y = sym (get_or-map (λ z. z.variable) f.existentials place nobody y below) ∙ sym at in (
+      e,
+      ap (existential_of f) (sym names)
+          ∙ lawful.named place nobody below,
+      names,
+      get_or_default f.existentials place e nobody below,
+    )
 
 pub in-range : (f : Dqbf) (place y : ℕ) → IsLawful f → place < length f.existentials
     → y ≡ get_or (existential_variables f) place y → (1 ≤ y) × (y ≤ f.variables)
@@ -144,7 +157,8 @@ in-range f place y lawful below at =
     let long : length vs ≡ length f.existentials = length-map f.existentials (λ z. z.variable) in
     let back : length us + place - length us ≡ place = omega arith in
     let there : get_or (us ++ vs) (length us + place) y ≡ y =
-        get_or-append_right us vs (length us) (length us + place) y refl (omega arith) ∙ ap (λ k. get_or vs k y) back ∙ sym at in
+    get_or-append_right us vs (length us) (length us + place) y refl (omega arith) ∙ ap (λ k. get_or vs k y) back
+    ∙ sym at in
     subst (λ v. (1 ≤ v) × (v ≤ f.variables)) there
     (lawful.prefix.in_range (length us + place) y (omega (arith, length-append us vs, long)))
 
@@ -155,22 +169,24 @@ pub begun-more : (f g h : Dqbf) (place : ℕ) (e : Existential) → IsBegun f g 
 begun-more f g h place e is here below at made =
     let ys = take (length g.existentials) f.existentials in
     let more : g.existentials ++ e ∷ [] ≡ take (place + 1) f.existentials =
-        ap (λ q. q.existentials ++ e ∷ []) is.same ∙ ap (λ n. take n f.existentials ++ e ∷ []) here
-        ∙ ap (λ x. take place f.existentials ++ x ∷ []) (sym at) ∙ sym (take_more f.existentials place e below) in
+    ap (λ q. q.existentials ++ e ∷ []) is.same ∙ ap (λ n. take n f.existentials ++ e ∷ []) here
+    ∙ ap (λ x. take place f.existentials ++ x ∷ []) (sym at) ∙ sym (take_more f.existentials place e below) in
     let long : length h.existentials ≡ place + 1 =
-        ap (λ q. length q.existentials) made ∙ length-append g.existentials (e ∷ []) ∙ omega (arith, here) in
+    ap (λ q. length q.existentials) made ∙ length-append g.existentials (e ∷ []) ∙ omega (arith, here) in
     let Longer : Dqbf → Dqbf = λ q. record q { existentials = g.existentials ++ e ∷ [] } in
     let Whole : List Existential → Dqbf =
-        λ zs. record (begun f (length g.universals) (length g.existentials)) { existentials = zs } in
-    let wide : length h.universals ≡ length g.universals = ap (λ q. length q.universals) made in
-    (record {
-      universals = omega (arith, wide, is.universals);
-      existentials = omega (arith, long);
-      same =
-          made ∙ ap Longer is.same
-          ∙ ap Whole more
-          ∙ ap (λ n. begun f n (place + 1)) (sym wide) ∙ ap (begun f (length h.universals)) (sym long);
-    }, long)
+    λ zs. record (begun f (length g.universals) (length g.existentials)) { existentials = zs } in
+    let wide : length h.universals ≡ length g.universals = ap (λ q. length q.universals) made in (
+      record {
+        universals = omega (arith, wide, is.universals);
+        existentials = omega (arith, long);
+        same =
+            made ∙ ap Longer is.same
+            ∙ ap Whole more
+            ∙ ap (λ n. begun f n (place + 1)) (sym wide) ∙ ap (begun f (length h.universals)) (sym long);
+      },
+      long,
+    )
 
 -- a set whose members are declared is listed as it is
 pub listed-whole : (f : Dqbf) (n end : ℕ) (e : Existential) → IsLawful f → n ≤ length f.universals → end ≤ n
@@ -242,7 +258,8 @@ pub first-next : (f g h : Dqbf) (y : ℕ) → IsBegun f g → (at : IsAt f (leng
 first-next f g h y is at below first made =
     let e = at.existential in
     let Added : Existential → Dqbf = λ x. record g { existentials = g.existentials ++ x ∷ [] } in
-    let sees = the-one (existential_of f y) e (λ x. x.sees ≡ take (length g.universals) f.universals) at.found first in
+    let sees = the-one (existential_of f y) e
+    (λ x. x.sees ≡ take (length g.universals) f.universals) at.found first in
     let same = same-existential e y g.universals at.named (ap (λ q. q.universals) is.same ∙ sym sees) in
     begun-more f g h (length g.existentials) e is refl below at.stands (made ∙ ap Added same)
 
@@ -262,11 +279,11 @@ listed-next f g h y xs lawful is at below reach seen made =
     let among' = the-one (existential_of f y) e (SeesAmong f n) at.found reach in
     let are = the-one (existential_of f y) e (λ x. xs ≡ x.sees) at.found seen in
     let ordered : e.sees ≡ listed_universals f.universals e.sees =
-        subst (λ x. x.sees ≡ listed_universals f.universals x.sees) at.stands
-        (lawful.ordered (length g.existentials) e below) in
+    subst (λ x. x.sees ≡ listed_universals f.universals x.sees) at.stands
+    (lawful.ordered (length g.existentials) e below) in
     let sees : listed_universals g.universals xs ≡ e.sees =
-        ap (listed_universals g.universals) are ∙ ap (λ q. listed_universals q.universals e.sees) is.same
-        ∙ listed-whole f n n e lawful is.universals (omega arith) ordered among' in
+    ap (listed_universals g.universals) are ∙ ap (λ q. listed_universals q.universals e.sees) is.same
+    ∙ listed-whole f n n e lawful is.universals (omega arith) ordered among' in
     begun-more f g h (length g.existentials) e is refl below at.stands
     (made ∙ ap Added (same-existential e y (listed_universals g.universals xs) at.named sees))
 

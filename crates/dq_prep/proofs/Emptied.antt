@@ -16,8 +16,9 @@ empty-kept f units place it =
     let trues = taken_literals units in
     let at = get-at f.matrix place it.clause it.at in
     let kept : kept_clause f units (0 + place) (get_or f.matrix place []) ≡ Some [] =
-        ap (λ p. kept_clause f units p (get_or f.matrix place [])) (omega arith)
-        ∙ ap (kept_clause f units place) (at.1 [])
-        ∙ cond-false (is_satisfied trues it.clause) (taken_at place units) (Some (left_of f trues it.clause)) it.unsatisfied
-        ∙ ap Some it.left in
+    ap (λ p. kept_clause f units p (get_or f.matrix place [])) (omega arith)
+    ∙ ap (kept_clause f units place) (at.1 [])
+    ∙ cond-false (is_satisfied trues it.clause) (taken_at place units)
+    (Some (left_of f trues it.clause)) it.unsatisfied
+    ∙ ap Some it.left in
     kept-stands f units 0 f.matrix place [] [] at.0 kept

@@ -1,9 +1,9 @@
 -- There are no more units than clauses.
-use Rattle.std.proofs.Common.{◌≡◌, ◌≢◌, ◌⊎◌, inl, inr, ℕ, zero, suc, ◌<◌, ◌≤◌, eqb, Bool, true, List, [], ◌∷◌, map, length, get_or, refl, sym, ◌∙◌, ap, subst, arith}
-use Rattle.std.specs.List.{AllPairs, Contains, list_any}
+use Rattle.std.proofs.Common.{◌≡◌, ◌≢◌, inl, inr, ℕ, zero, suc, ◌<◌, ◌≤◌, eqb, true, List, [], ◌∷◌, map, length, get_or, refl, sym, ◌∙◌, ap, arith}
+use Rattle.std.specs.List.{AllPairs, list_any}
 use Rattle.std.proofs.lemmas.Bool.Decides.{Decides-eqb}
 use Rattle.std.proofs.lemmas.Bool.{or_cases, eqb-true}
-use Rattle.std.proofs.lemmas.List.{get_or-map, length-map}
+use Rattle.std.proofs.lemmas.List.{length-map}
 use Rattle.std.proofs.lemmas.Map.Made.{IsDistinct-from_AllPairs}
 use Rattle.std.proofs.lemmas.Map.Steps.{length-le_from_distinct_below}
 use Rattle.dq_lits.specs.Formula.{Dqbf}
@@ -32,15 +32,15 @@ place-within : (f : Dqbf) (units : List Taken) (q : ℕ) → AreUnits f units
     → list_any (eqb q) (map (λ u. u.place) units) ≡ true → q < length f.matrix
 place-within f [] q are h = cc
 place-within f (u ∷ us) q are h = elim (or_cases (eqb q u.place) (list_any (eqb q) (map (λ w. w.place) us)) h) [
-    | inl here ↦
-        let at = get-at f.matrix u.place are.0.clause are.0.at in
-        omega (arith, at.0, eqb-true q u.place here)
-    | inr later ↦ place-within f us q are.1 later
-  ]
+  | inl here ↦
+      let at = get-at f.matrix u.place are.0.clause are.0.at in
+      omega (arith, at.0, eqb-true q u.place here)
+  | inr later ↦ place-within f us q are.1 later
+]
 
 pub few-units : (f : Dqbf) (units : List Taken) → AreUnits f units → length units ≤ length f.matrix
 few-units f units are =
     let few = length-le_from_distinct_below (map (λ u. u.place) units) (length f.matrix)
-        (IsDistinct-from_AllPairs Decides-eqb (map (λ u. u.place) units) (places-apart f units are))
-        (λ q h. place-within f units q are h) in
+    (IsDistinct-from_AllPairs Decides-eqb (map (λ u. u.place) units) (places-apart f units are))
+    (λ q h. place-within f units q are h) in
     omega (arith, few, length-map units (λ u. u.place))

@@ -1,7 +1,7 @@
 -- What is left is written down, clause by clause.
-use Rattle.std.proofs.Common.{◌≡◌, ℕ, zero, suc, ◌+◌, ◌<◌, ◌≤◌, Bool, true, false, cond, List, [], ◌∷◌, ◌++◌, take, length, get_or, Option, Some, None, refl, sym, ◌∙◌, ap, subst, arith}
+use Rattle.std.proofs.Common.{◌≡◌, ℕ, suc, ◌+◌, ◌<◌, ◌≤◌, true, false, List, [], ◌∷◌, ◌++◌, take, length, get_or, Option, Some, None, refl, sym, ◌∙◌, ap, subst, arith}
 use Rattle.std.specs.Prelude.{slice_index_or}
-use Rattle.std.specs.List.{All, Contains, cons_option, filter}
+use Rattle.std.specs.List.{All, cons_option, filter}
 use Rattle.std.proofs.lemmas.Bool.{cond-true, cond-false}
 use Rattle.std.proofs.lemmas.List.{get_or_default, append-nil, take_more, length-take}
 use Rattle.dq_lits.specs.Literal.{Literal, variable_of}
@@ -23,7 +23,8 @@ use Rattle.dq_prep.proofs.WellFormed.{IsBound, unit-bound, all-left, bound-small
 abbrev as_list : Option (List Literal) → List (List Literal)
 as_list o = cons_option o []
 
-cons-joined : (o : Option (List Literal)) (xs ys : List (List Literal)) → cons_option o (xs ++ ys) ≡ cons_option o xs ++ ys
+cons-joined : (o : Option (List Literal)) (xs ys : List (List Literal))
+    → cons_option o (xs ++ ys) ≡ cons_option o xs ++ ys
 cons-joined None xs ys = refl
 cons-joined (Some c) xs ys = refl
 
@@ -35,7 +36,8 @@ kept-append f units place (c ∷ cs) clause =
     let last : Option (List Literal) = kept_clause f units (suc place + length cs) clause in
     ap (cons_option (kept_clause f units place c)) (kept-append f units (suc place) cs clause)
     ∙ cons-joined (kept_clause f units place c) (kept_clauses f units (suc place) cs) (as_list last)
-    ∙ ap (λ p. cons_option (kept_clause f units place c) (kept_clauses f units (suc place) cs) ++ as_list (kept_clause f units p clause))
+    ∙ ap (λ p. cons_option (kept_clause f units place c) (kept_clauses f units (suc place) cs) ++ as_list
+    (kept_clause f units p clause))
     (omega arith)
 
 kept-few : (f : Dqbf) (units : List Taken) (place : ℕ) (clauses : List (List Literal))
@@ -45,6 +47,7 @@ kept-few f units place (c ∷ cs) = by (kept_clause f units place c) (kept-few f
   where
     rest : List (List Literal)
     rest = kept_clauses f units (suc place) cs
+
     by : (o : Option (List Literal)) → length rest ≤ length cs → length (cons_option o rest) ≤ suc (length cs)
     by None few = omega (arith, few)
     by (Some x) few = omega (arith, few)
@@ -72,18 +75,21 @@ kept-next t g place o before within is =
     let size : length front ≡ place = length-take place f.matrix ∙ omega (arith, within) in
     ap More before
     ∙ ap (λ x. With (kept_clauses f t.trace 0 front ++ as_list x)) (sym is)
-    ∙ ap (λ p. With (kept_clauses f t.trace 0 front ++ as_list (kept_clause f t.trace p clause))) (omega (arith, size))
+    ∙ ap (λ p. With (kept_clauses f t.trace 0 front ++ as_list (kept_clause f t.trace p clause)))
+    (omega (arith, size))
     ∙ ap With (sym (kept-append f t.trace 0 front clause))
     ∙ ap (λ cs. With (kept_clauses f t.trace 0 cs)) (sym (take_more f.matrix place [] within))
 
 satisfied-kept : (f : Dqbf) (units : List Taken) (place : ℕ) (clause : List Literal)
     → is_satisfied (taken_literals units) clause ≡ true → kept_clause f units place clause ≡ taken_at place units
 satisfied-kept f units place clause h =
-    cond-true (is_satisfied (taken_literals units) clause) (taken_at place units) (Some (left_of f (taken_literals units) clause)) h
+    cond-true (is_satisfied (taken_literals units) clause) (taken_at place units)
+    (Some (left_of f (taken_literals units) clause)) h
 
 -- the entry of a table
 table-entry : (units : List Taken) (n : ℕ) (table : List (Option Literal)) (place : ℕ) (entry d : Option Literal)
-    → IsTableOf units n table → place < n → slice_index_or table place d ≡ entry → taken_at place units ≡ unit_clause entry
+    → IsTableOf units n table → place < n → slice_index_or table place d ≡ entry
+    → taken_at place units ≡ unit_clause entry
 table-entry units n table place entry d are below is =
     sym (are.each place below)
     ∙ ap unit_clause (get_or_default table place None d (omega (arith, are.many, below)) ∙ is)
@@ -121,10 +127,12 @@ left-next t g place left before within unsatisfied is =
     let clause = slice_index_or f.matrix place [] in
     let trues = taken_literals t.trace in
     kept-next t g place (Some left) before within
-    (cond-false (is_satisfied trues clause) (taken_at place t.trace) (Some (left_of f trues clause)) unsatisfied ∙ ap Some (sym is))
+    (cond-false (is_satisfied trues clause) (taken_at place t.trace) (Some (left_of f trues clause)) unsatisfied
+    ∙ ap Some (sym is))
 
 -- variables of what is added are in range
-pub unit-small : (t : Taking) (g : Dqbf) (table : List (Option Literal)) (place : ℕ) (l : Literal) (d : Option Literal)
+pub unit-small : (t : Taking) (g : Dqbf) (table : List (Option Literal)) (place : ℕ) (l : Literal)
+    (d : Option Literal)
     → IsWellFormed t.formula.now → AreUnits t.formula.now t.trace
     → IsTableOf t.trace (length t.formula.now.matrix) table → AreKeptBefore t g place
     → place < length t.formula.now.matrix → slice_index_or table place d ≡ Some l
@@ -133,7 +141,8 @@ unit-small t g table place l d well units are before within is =
     let f = t.formula.now in
     let same = ap (λ q. q.variables) before in
     let entry = table-entry t.trace (length f.matrix) table place (Some l) d are within is in
-    let bound : All (IsBound f) (l ∷ []) = subst (IfKept (All (IsBound f))) entry (unit-bound f t.trace well units place) in
+    let bound : All (IsBound f) (l ∷ []) =
+    subst (IfKept (All (IsBound f))) entry (unit-bound f t.trace well units place) in
     subst (λ n. All (λ k. variable_of k ≤ n) (l ∷ [])) (sym same)
     (λ k d below. bound-small f (get_or (l ∷ []) k d) well (bound k d below))
 
@@ -144,7 +153,8 @@ pub left-small : (t : Taking) (g : Dqbf) (place : ℕ) (left : List Literal) →
 left-small t g place left well before within is =
     let f = t.formula.now in
     let same = ap (λ q. q.variables) before in
-    let all = all-left f (IsBound f) (taken_literals t.trace) (slice_index_or f.matrix place []) (well.bound place [] within) in
+    let all = all-left f (IsBound f) (taken_literals t.trace) (slice_index_or f.matrix place [])
+    (well.bound place [] within) in
     subst (λ n. All (λ k. variable_of k ≤ n) left) (sym same)
     (λ k d below. bound-small f (get_or left k d) well (subst (All (IsBound f)) (sym is) all k d below))
 
@@ -153,11 +163,13 @@ pub left-tautology : (f : Dqbf) (trues clause : List Literal) → is_satisfied t
     → is_tautology clause ≡ true → without_false trues clause ≡ left_of f trues clause
 left-tautology f trues clause unsatisfied both =
     let rest = without_false trues clause in
-    sym (cond-true (is_tautology rest) rest (filter (stays f rest) rest) (tautology-stays trues clause unsatisfied ∙ both))
+    sym (cond-true (is_tautology rest) rest (filter (stays f rest) rest)
+    (tautology-stays trues clause unsatisfied ∙ both))
 
 pub left-reduced : (f : Dqbf) (trues clause : List Literal) → is_satisfied trues clause ≡ false
     → is_tautology clause ≡ false
     → filter (stays f (without_false trues clause)) (without_false trues clause) ≡ left_of f trues clause
 left-reduced f trues clause unsatisfied plain =
     let rest = without_false trues clause in
-    sym (cond-false (is_tautology rest) rest (filter (stays f rest) rest) (tautology-stays trues clause unsatisfied ∙ plain))
+    sym (cond-false (is_tautology rest) rest (filter (stays f rest) rest)
+    (tautology-stays trues clause unsatisfied ∙ plain))

@@ -1,14 +1,14 @@
 -- What is left of a clause, by its open literals.
-use Rattle.std.proofs.Common.{◌≡◌, ℕ, zero, suc, ◌+◌, ◌<◌, ◌≤◌, Bool, true, false, not, cond, ◌||◌, ◌&&◌, ◌⊎◌, inl, inr, List, [], ◌∷◌, ◌++◌, length, get_or, Option, Some, None, refl, sym, ◌∙◌, ap, subst, arith}
-use Rattle.std.specs.List.{All, Contains, list_any, filter}
-use Rattle.std.proofs.lemmas.Bool.{true≢false, or_cases, or_left, or_right, or_parts, and_parts, and_from, cases_Bool, cond-true, cond-false}
-use Rattle.std.proofs.lemmas.List.Elements.{All-head, All-tail, All-filter, filter_passes}
+use Rattle.std.proofs.Common.{◌≡◌, ℕ, Bool, true, false, not, cond, ◌||◌, ◌&&◌, inl, inr, List, [], ◌∷◌, get_or, None, refl, sym, ◌∙◌, ap}
+use Rattle.std.specs.List.{All, list_any, filter}
+use Rattle.std.proofs.lemmas.Bool.{true≢false, or_cases, or_left, or_right, cases_Bool, cond-false}
+use Rattle.std.proofs.lemmas.List.Elements.{All-filter}
 use Rattle.dq_lits.specs.Literal.{Literal, positive, negative, variable_of, opposite, same_literal}
-use Rattle.dq_lits.specs.Formula.{Existential, Dqbf, is_universal, existential_of}
+use Rattle.dq_lits.specs.Formula.{Dqbf, is_universal, existential_of}
 use Rattle.dq_lits.specs.Derivation.{holds, is_tautology}
 use Rattle.dq_prep.specs.Reduction.{sees_in, is_seen, stays}
 use Rattle.dq_prep.specs.Units.{is_satisfied, without_false, left_of}
-use Rattle.dq_prep.specs.Roles.{is_open, open_literals}
+use Rattle.dq_prep.specs.Roles.{open_literals}
 use Rattle.dq_prep.proofs.Units.{same_literal-sound, same_literal-refl, satisfied-by, part-holds}
 use Rattle.dq_prep.proofs.SeenUniversals.{same-test, filters-agree}
 
@@ -28,7 +28,8 @@ filter-twice p q (x ∷ xs) = by (q x) (p x) (filter-twice p q xs) refl
 pub filter-wider : {X : Type 0} (p q : X → Bool) (xs : List X) → ((l : X) → p l ≡ true → q l ≡ true)
     → filter p (filter q xs) ≡ filter p xs
 filter-wider p q xs wider =
-    filter-twice p q xs ∙ filters-agree (λ l. p l && q l) p xs (λ k d below. narrow (p (get_or xs k d)) (q (get_or xs k d)) (wider (get_or xs k d)))
+    filter-twice p q xs ∙ filters-agree (λ l. p l && q l) p xs
+    (λ k d below. narrow (p (get_or xs k d)) (q (get_or xs k d)) (wider (get_or xs k d)))
   where
     narrow : (a b : Bool) → (a ≡ true → b ≡ true) → (a && b) ≡ a
     narrow true b h = h refl
@@ -49,11 +50,12 @@ pub passing-holds : (g : Literal → Bool) (xs : List Literal) (l : Literal) →
     → holds (filter g xs) l ≡ true
 passing-holds g [] l here passes = here
 passing-holds g (x ∷ xs) l here passes = elim (or_cases (same_literal l x) (holds xs l) here) [
-    | inl same ↦
-        let it : g x ≡ true = ap g (sym (same_literal-sound l x same)) ∙ passes in
-        ap (λ b. holds (cond b (x ∷ filter g xs) (filter g xs)) l) it ∙ or_left (same_literal l x) (holds (filter g xs) l) same
-    | inr later ↦ behind (g x) (passing-holds g xs l later passes)
-  ]
+  | inl same ↦
+      let it : g x ≡ true = ap g (sym (same_literal-sound l x same)) ∙ passes in
+      ap (λ b. holds (cond b (x ∷ filter g xs) (filter g xs)) l) it
+      ∙ or_left (same_literal l x) (holds (filter g xs) l) same
+  | inr later ↦ behind (g x) (passing-holds g xs l later passes)
+]
   where
     behind : (b : Bool) → holds (filter g xs) l ≡ true → holds (cond b (x ∷ filter g xs) (filter g xs)) l ≡ true
     behind true h = or_right (same_literal l x) (holds (filter g xs) l) h
@@ -67,27 +69,28 @@ pair-in : (xs ys : List Literal) → list_any (λ l. holds ys (opposite l)) xs �
     → (l : Literal) × (holds xs l ≡ true) × (holds ys (opposite l) ≡ true)
 pair-in [] ys h = cc
 pair-in (x ∷ xs) ys h = elim (or_cases (holds ys (opposite x)) (list_any (λ l. holds ys (opposite l)) xs) h) [
-    | inl here ↦ (x, or_left (same_literal x x) (holds xs x) (same_literal-refl x), here)
-    | inr later ↦ let r = pair-in xs ys later in (r.0, or_right (same_literal r.0 x) (holds xs r.0) r.1, r.2)
-  ]
+  | inl here ↦ (x, or_left (same_literal x x) (holds xs x) (same_literal-refl x), here)
+  | inr later ↦ let r = pair-in xs ys later in (r.0, or_right (same_literal r.0 x) (holds xs r.0) r.1, r.2)
+]
 
 pair-any : (xs ys : List Literal) (l : Literal) → holds xs l ≡ true → holds ys (opposite l) ≡ true
     → list_any (λ k. holds ys (opposite k)) xs ≡ true
 pair-any [] ys l h there = h
 pair-any (x ∷ xs) ys l h there = elim (or_cases (same_literal l x) (holds xs l) h) [
-    | inl same ↦
-        or_left (holds ys (opposite x)) (list_any (λ k. holds ys (opposite k)) xs)
-        (ap (λ q. holds ys (opposite q)) (sym (same_literal-sound l x same)) ∙ there)
-    | inr later ↦ or_right (holds ys (opposite x)) (list_any (λ k. holds ys (opposite k)) xs) (pair-any xs ys l later there)
-  ]
+  | inl same ↦
+      or_left (holds ys (opposite x)) (list_any (λ k. holds ys (opposite k)) xs)
+      (ap (λ q. holds ys (opposite q)) (sym (same_literal-sound l x same)) ∙ there)
+  | inr later ↦ or_right (holds ys (opposite x)) (list_any (λ k. holds ys (opposite k)) xs)
+      (pair-any xs ys l later there)
+]
 
 -- a literal of a clause that isn't satisfied was not taken
 unsatisfied-false : (trues clause : List Literal) (l : Literal) → is_satisfied trues clause ≡ false
     → holds clause l ≡ true → holds trues l ≡ false
 unsatisfied-false trues clause l unsatisfied inside = elim (cases_Bool (holds trues l)) [
-    | inl taken ↦ absurd (true≢false (sym (satisfied-by trues clause l inside taken) ∙ unsatisfied))
-    | inr none ↦ none
-  ]
+  | inl taken ↦ absurd (true≢false (sym (satisfied-by trues clause l inside taken) ∙ unsatisfied))
+  | inr none ↦ none
+]
 
 -- a literal with its negation stays until one of them is taken
 pub tautology-stays : (trues clause : List Literal) → is_satisfied trues clause ≡ false
@@ -96,20 +99,26 @@ tautology-stays trues clause unsatisfied = same-test (is_tautology rest) (is_tau
   where
     open-test : Literal → Bool
     open-test l = not (holds trues (opposite l))
+
     rest : List Literal
     rest = without_false trues clause
+
     there : is_tautology rest ≡ true → is_tautology clause ≡ true
     there h =
         let r = pair-in rest rest h in
-        pair-any clause clause r.0 (part-holds r.0 open-test clause r.1) (part-holds (opposite r.0) open-test clause r.2)
+        pair-any clause clause r.0 (part-holds r.0 open-test clause r.1)
+        (part-holds (opposite r.0) open-test clause r.2)
+
     back : is_tautology clause ≡ true → is_tautology rest ≡ true
     back h =
         let r = pair-in clause clause h in
         let l = r.0 in
         let first : open-test l ≡ true = ap not (unsatisfied-false trues clause (opposite l) unsatisfied r.2) in
         let second : open-test (opposite l) ≡ true =
-            ap (λ k. not (holds trues k)) (opposite-opposite l) ∙ ap not (unsatisfied-false trues clause l unsatisfied r.1) in
-        pair-any rest rest l (passing-holds open-test clause l r.1 first) (passing-holds open-test clause (opposite l) r.2 second)
+        ap (λ k. not (holds trues k)) (opposite-opposite l)
+        ∙ ap not (unsatisfied-false trues clause l unsatisfied r.1) in
+        pair-any rest rest l (passing-holds open-test clause l r.1 first)
+        (passing-holds open-test clause (opposite l) r.2 second)
 
 -- a literal alone is no tautology
 pub alone-plain : (l : Literal) → is_tautology (l ∷ []) ≡ false
@@ -122,11 +131,14 @@ is_existential f l = not (is_universal f (variable_of l))
 -- what is left has the open literals of the clause, and maybe universals
 pub left-opens : (f : Dqbf) (trues clause : List Literal)
     → filter (is_existential f) (left_of f trues clause) ≡ open_literals f trues clause
-left-opens f trues clause = by (is_tautology rest) ∙ filter-twice (is_existential f) (λ l. not (holds trues (opposite l))) clause
+left-opens f trues clause = by (is_tautology rest)
+    ∙ filter-twice (is_existential f) (λ l. not (holds trues (opposite l))) clause
   where
     rest : List Literal
     rest = without_false trues clause
-    by : (b : Bool) → filter (is_existential f) (cond b rest (filter (stays f rest) rest)) ≡ filter (is_existential f) rest
+
+    by : (b : Bool) → filter (is_existential f) (cond b rest (filter (stays f rest) rest)) ≡ filter
+        (is_existential f) rest
     by true = refl
     by false =
         filter-wider (is_existential f) (stays f rest) rest
@@ -146,14 +158,16 @@ seen-by-open f trues clause x nothing =
   where
     sees : Literal → Bool
     sees l = sees_in x (existential_of f (variable_of l))
+
     wider : (l : Literal) → sees l ≡ true → is_existential f l ≡ true
     wider l h = elim (cases_Bool (is_universal f (variable_of l))) [
-        | inl universal ↦ absurd (true≢false (sym h ∙ ap (sees_in x) (nothing l universal)))
-        | inr other ↦ ap not other
-      ]
+      | inl universal ↦ absurd (true≢false (sym h ∙ ap (sees_in x) (nothing l universal)))
+      | inr other ↦ ap not other
+    ]
 
 -- where the open literals see no variable of the clause, just they are left
-pub left-is-open : (f : Dqbf) (trues clause : List Literal) → UniversalsSeeNothing f → is_satisfied trues clause ≡ false
+pub left-is-open : (f : Dqbf) (trues clause : List Literal) → UniversalsSeeNothing f
+    → is_satisfied trues clause ≡ false
     → is_tautology clause ≡ false
     → All (λ l. is_seen f (open_literals f trues clause) (variable_of l) ≡ false) clause
     → left_of f trues clause ≡ open_literals f trues clause
@@ -182,10 +196,13 @@ seen-left f trues clause l nothing inside none seen = by (is_tautology rest)
   where
     rest : List Literal
     rest = without_false trues clause
+
     in-rest : holds rest l ≡ true
     in-rest = passing-holds (λ k. not (holds trues (opposite k))) clause l inside (ap not none)
+
     by : (b : Bool) → holds (cond b rest (filter (stays f rest) rest)) l ≡ true
     by true = in-rest
     by false =
         passing-holds (stays f rest) rest l in-rest
-        (or_right (is_existential f l) (is_seen f rest (variable_of l)) (seen-by-open f trues clause (variable_of l) nothing ∙ seen))
+        (or_right (is_existential f l) (is_seen f rest (variable_of l))
+        (seen-by-open f trues clause (variable_of l) nothing ∙ seen))

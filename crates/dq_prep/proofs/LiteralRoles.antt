@@ -1,12 +1,12 @@
 -- The role of a literal, by its existential's place.
-use Rattle.std.proofs.Common.{◌≡◌, IsSome, subst, ◌≢◌, ℕ, suc, ◌+◌, ◌-◌, ◌<◌, ◌==◌, Bool, true, false, not, cond, ◌||◌, ◌&&◌, ◌⊎◌, inl, inr, List, [], ◌∷◌, ◌++◌, map, length, get_or, Option, Some, None, refl, sym, ◌∙◌, ap, arith}
+use Rattle.std.proofs.Common.{◌≡◌, IsSome, subst, ◌≢◌, ℕ, suc, ◌+◌, ◌-◌, ◌<◌, ◌==◌, Bool, true, false, not, cond, inl, inr, List, [], ◌∷◌, ◌++◌, map, length, get_or, Option, Some, None, refl, sym, ◌∙◌, ap, arith}
 use Rattle.std.specs.Prelude.{slice_index_or}
-use Rattle.std.specs.List.{All, AllPairs, Contains, list_any, filter, find, position}
-use Rattle.std.proofs.lemmas.Bool.{true≢false, eqb-true, or_cases, or_left, or_right, cases_Bool, and_parts, cond-false, cond-true}
+use Rattle.std.specs.List.{All, AllPairs, Contains, find, position}
+use Rattle.std.proofs.lemmas.Bool.{true≢false, eqb-true, cases_Bool, and_parts, cond-false, cond-true}
 use Rattle.std.proofs.lemmas.List.{get_or-append_right, get_or_append_left, length-append, length-map, get_or-map}
 use Rattle.std.proofs.lemmas.List.Elements.{Contains-append_cases, All-contains, All-filter, filter_passes}
 use Rattle.std.proofs.lemmas.List.Quantifiers.{position-Some}
-use Rattle.dq_lits.specs.Literal.{Literal, variable_of, opposite, is_negative, same_literal}
+use Rattle.dq_lits.specs.Literal.{Literal, variable_of, opposite, is_negative}
 use Rattle.dq_lits.specs.Formula.{Existential, Dqbf, declared, is_universal, existential_of, IsWellFormed}
 use Rattle.dq_lits.specs.Derivation.{holds}
 use Rattle.dq_formula.specs.Prefix.{existential_variables}
@@ -28,7 +28,7 @@ apart : (us vs : List ℕ) (v : ℕ) → AllPairs (λ x y. x ≢ y) (us ++ vs) �
 apart us vs v once (i, i-in, i-is) (j, j-in, j-is) =
     let left : get_or (us ++ vs) i v ≡ v = get_or_append_left us vs v i i-in ∙ i-is in
     let moved : get_or (us ++ vs) (length us + j) v ≡ get_or vs (length us + j - length us) v =
-        get_or-append_right us vs (length us) (length us + j) v refl (omega arith) in
+    get_or-append_right us vs (length us) (length us + j) v refl (omega arith) in
     let right : get_or (us ++ vs) (length us + j) v ≡ v = moved ∙ ap (λ n. get_or vs n v) (omega arith) ∙ j-is in
     once i (length us + j) v (omega arith) (omega (arith, length-append us vs)) (left ∙ sym right)
 
@@ -36,11 +36,11 @@ apart us vs v once (i, i-in, i-is) (j, j-in, j-is) =
 pub existential-apart : (f : Dqbf) (v : ℕ) → IsWellFormed f → Contains (existential_variables f) v
     → is_universal f v ≡ false
 existential-apart f v well inside = elim (cases_Bool (is_universal f v)) [
-    | inl universal ↦
-        absurd (apart f.universals (existential_variables f) v well.prefix.declared_once
-        (universal-contained f.universals v universal) inside)
-    | inr other ↦ other
-  ]
+  | inl universal ↦
+      absurd (apart f.universals (existential_variables f) v well.prefix.declared_once
+      (universal-contained f.universals v universal) inside)
+  | inr other ↦ other
+]
 
 pub placed : (xs : List ℕ) (v place : ℕ) → position (λ x. x == v) xs ≡ Some place → Contains xs v
 placed xs v place found =
@@ -62,7 +62,8 @@ pub role-of-unplaced : (f : Dqbf) (trues : List Literal) (l : Literal) → Conta
 role-of-unplaced f trues l bound none =
     let v = variable_of l in
     elim (Contains-append_cases f.universals (existential_variables f) v bound) [
-      | inl universal ↦ sym (cond-true (is_universal f v) Universal (truth_role trues l) (contained-any f.universals v universal))
+      | inl universal ↦ sym
+          (cond-true (is_universal f v) Universal (truth_role trues l) (contained-any f.universals v universal))
       | inr existential ↦ absurd (none_contained (existential_variables f) v none existential)
     ]
 
@@ -74,6 +75,7 @@ find-Some p (x ∷ xs) y h = by (p x) refl h (find-Some p xs y)
   where
     some-is : (a b : Existential) → Some a ≡ Some b → a ≡ b
     some-is a b e = cc
+
     by : (b : Bool) → p x ≡ b → cond b (Some x) (find p xs) ≡ Some y
         → (find p xs ≡ Some y → Contains xs y × (p y ≡ true)) → Contains (x ∷ xs) y × (p y ≡ true)
     by true e h later = let is = some-is x y h in ((0, omega arith, is), ap p (sym is) ∙ e)
@@ -85,14 +87,19 @@ universals-see-nothing f well l universal = by (existential_of f (variable_of l)
   where
     named : (ys : List Existential) (y : Existential) → Contains ys y → (y.variable == variable_of l) ≡ true
         → Contains (map (λ z. z.variable) ys) (variable_of l)
-    named ys y (k, below, is) same =
-        (k, omega (arith, below, length-map ys (λ z. z.variable)),
-        get_or-map (λ z. z.variable) ys k y (variable_of l) below ∙ ap (λ z. z.variable) is ∙ eqb-true y.variable (variable_of l) same)
+    named ys y (k, below, is) same = (
+      k,
+      omega (arith, below, length-map ys (λ z. z.variable)),
+      get_or-map (λ z. z.variable) ys k y (variable_of l) below ∙ ap (λ z. z.variable) is
+          ∙ eqb-true y.variable (variable_of l) same,
+    )
+
     by : (o : Option Existential) → existential_of f (variable_of l) ≡ o → o ≡ None
     by None e = refl
     by (Some y) e =
         let found = find-Some (λ z. z.variable == variable_of l) f.existentials y e in
-        absurd (true≢false (sym universal ∙ existential-apart f (variable_of l) well (named f.existentials y found.0 found.1)))
+        absurd (true≢false (sym universal
+        ∙ existential-apart f (variable_of l) well (named f.existentials y found.0 found.1)))
 
 -- an existential sees universals
 pub universals-are-seen : (f : Dqbf) → IsWellFormed f → UniversalsAreSeen f
@@ -115,7 +122,8 @@ open-existential f trues clause l well bound open' =
     let v = variable_of l in
     let inside : 0 < length (open_literals f trues clause) = subst (λ ls. 0 < length ls) (sym open') (omega arith) in
     let at : get_or (open_literals f trues clause) 0 l ≡ l = ap (λ ls. get_or ls 0 l) open' in
-    let passes : is_open f trues l ≡ true = ap (is_open f trues) (sym at) ∙ filter_passes (is_open f trues) clause 0 l inside in
+    let passes : is_open f trues l ≡ true = ap (is_open f trues) (sym at)
+    ∙ filter_passes (is_open f trues) clause 0 l inside in
     let Bound : Literal → Type 0 = λ k. Contains (declared f) (variable_of k) in
     let there = subst Bound at (All-filter (is_open f trues) Bound clause bound 0 l inside) in
     let not-universal = (and_parts (not (is_universal f v)) (not (holds trues (opposite l))) passes).0 in

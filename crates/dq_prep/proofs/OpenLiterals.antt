@@ -1,7 +1,6 @@
 -- The open literals of a clause, read one by one.
-use Rattle.std.proofs.Common.{inl, inr, ◌⊎◌, ◌≡◌, ℕ, ◌+◌, ◌<◌, ◌≤◌, Bool, true, false, not, cond, ◌||◌, ◌&&◌, List, [], ◌∷◌, ◌++◌, take, length, get_or, refl, sym, ◌∙◌, ap, subst, arith}
-use Rattle.std.specs.List.{list_any, filter}
-use Rattle.std.proofs.lemmas.Bool.{true≢false, eqb-true, or_cases, or_left, or_right, cases_Bool}
+use Rattle.std.proofs.Common.{inl, inr, ◌≡◌, ℕ, ◌+◌, ◌<◌, Bool, true, false, not, cond, ◌||◌, ◌&&◌, List, [], ◌∷◌, ◌++◌, take, length, get_or, refl, sym, ◌∙◌, ap, subst, arith}
+use Rattle.std.proofs.lemmas.Bool.{true≢false, or_left, or_right, cases_Bool}
 use Rattle.std.proofs.lemmas.List.{take_more, append-nil, length-append}
 use Rattle.std.proofs.lemmas.List.Elements.{filter-append}
 use Rattle.std.proofs.lemmas.List.Folds.{list_any-append}
@@ -22,11 +21,11 @@ pub none-universal : (f : Dqbf) (units : List Taken) (l : Literal) → AreUnits 
     → is_universal f (variable_of l) ≡ true → holds (taken_literals units) l ≡ false
 none-universal f [] l are universal = refl
 none-universal f (u ∷ us) l are universal = elim (cases_Bool (same_literal l u.literal)) [
-    | inl same ↦
-        let is : l ≡ u.literal = same_literal-sound l u.literal same in
-        absurd (true≢false (sym universal ∙ ap (λ k. is_universal f (variable_of k)) is ∙ are.0.existential))
-    | inr other ↦ ap (λ b. b || holds (taken_literals us) l) other ∙ none-universal f us l are.1 universal
-  ]
+  | inl same ↦
+      let is : l ≡ u.literal = same_literal-sound l u.literal same in
+      absurd (true≢false (sym universal ∙ ap (λ k. is_universal f (variable_of k)) is ∙ are.0.existential))
+  | inr other ↦ ap (λ b. b || holds (taken_literals us) l) other ∙ none-universal f us l are.1 universal
+]
 
 -- by what the literal is
 pushed : (opens : Opens) (universal here there satisfied : Bool) (open_ones : List Literal) (l : Literal)
@@ -71,15 +70,18 @@ pub open-more : (f : Dqbf) (units : List Taken) (clause : List Literal) (i : ℕ
 open-more f units clause i l opens role are below at is before =
     let trues = taken_literals units in
     let more : take (i + 1) clause ≡ take i clause ++ l ∷ [] =
-        take_more clause i l below ∙ ap (λ k. take i clause ++ k ∷ []) (sym at) in
+    take_more clause i l below ∙ ap (λ k. take i clause ++ k ∷ []) (sym at) in
     let sat = list_any-append (holds trues) (take i clause) (l ∷ []) in
     let opened = filter-append (is_open f trues) (take i clause) (l ∷ []) in
     let step = pushed opens (is_universal f (variable_of l)) (holds trues l) (holds trues (opposite l))
-        (is_satisfied trues (take i clause)) (open_literals f trues (take i clause)) l (none-universal f units l are) before in
+    (is_satisfied trues (take i clause)) (open_literals f trues (take i clause)) l
+    (none-universal f units l are) before in
     subst (λ ls. AreOpen f trues ls (with_role opens role l)) (sym more)
     (subst (λ r. AreOpen f trues (take i clause ++ l ∷ []) (with_role opens r l)) (sym is)
-    (subst (λ b. IsOpening b (open_literals f trues (take i clause ++ l ∷ [])) (with_role opens (role_of f trues l) l)) (sym sat)
-    (subst (λ ls. IsOpening (is_satisfied trues (take i clause) || is_satisfied trues (l ∷ [])) ls (with_role opens (role_of f trues l) l))
+    (subst (λ b. IsOpening b (open_literals f trues (take i clause ++ l ∷ []))
+    (with_role opens (role_of f trues l) l)) (sym sat)
+    (subst (λ ls. IsOpening (is_satisfied trues (take i clause) || is_satisfied trues (l ∷ [])) ls
+    (with_role opens (role_of f trues l) l))
     (sym opened) step)))
 
 -- a literal is true by its role where it was taken
@@ -101,12 +103,14 @@ pub false-role : (f : Dqbf) (units : List Taken) (l : Literal) → AreUnits f un
     → holds (taken_literals units) l ≡ false
     → is_false_role (role_of f (taken_literals units) l) ≡ holds (taken_literals units) (opposite l)
 false-role f units l are untaken =
-    by (is_universal f (variable_of l)) (holds (taken_literals units) l) (holds (taken_literals units) (opposite l)) untaken
+    by (is_universal f (variable_of l)) (holds (taken_literals units) l)
+    (holds (taken_literals units) (opposite l)) untaken
     (λ universal. none-universal f units (opposite l) are (turned l universal))
   where
     turned : (k : Literal) → is_universal f (variable_of k) ≡ true → is_universal f (variable_of (opposite k)) ≡ true
     turned (positive v) h = h
     turned (negative v) h = h
+
     by : (universal here there : Bool) → here ≡ false → (universal ≡ true → there ≡ false)
         → is_false_role (cond universal Universal (cond here True (cond there False Open))) ≡ there
     by true here there h none = sym (none refl)

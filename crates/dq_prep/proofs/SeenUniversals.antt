@@ -1,13 +1,13 @@
 -- What existentials depend on, by tests.
-use Rattle.std.proofs.Common.{Result, Ok, Err, OnOk, ◌≡◌, ℕ, zero, suc, ◌+◌, ◌<◌, ◌≤◌, ◌==◌, ◌↔◌, nat_lt, max, Bool, true, false, not, cond, ◌||◌, List, [], ◌∷◌, map, take, length, get_or, Option, Some, None, IsSome, IfSome, inl, inr, ◌⊎◌, refl, sym, ◌∙◌, ap, arith}
+use Rattle.std.proofs.Common.{Result, Ok, Err, OnOk, ◌≡◌, ℕ, zero, suc, ◌+◌, ◌<◌, ◌≤◌, ◌==◌, ◌↔◌, nat_lt, max, Bool, true, false, not, cond, ◌||◌, List, [], ◌∷◌, map, take, length, get_or, Option, Some, None, IsSome, IfSome, inl, inr, refl, sym, ◌∙◌, ap, arith}
 use Rattle.std.specs.Prelude.{IsTrue}
 use Rattle.std.specs.List.{All, Contains, list_any, filter, position_or_len}
-use Rattle.std.proofs.lemmas.Bool.{true≢false, lt-ltb, ltb-true, or_left, or_right, or_cases, eqb-true, cases_Bool, cases_lt}
+use Rattle.std.proofs.lemmas.Bool.{lt-ltb, ltb-true, or_left, or_right, or_cases, cases_Bool, cases_lt}
 use Rattle.std.proofs.lemmas.List.Elements.{All-head, All-tail}
 use Rattle.std.proofs.lemmas.List.Folds.{list_any_at}
 use Rattle.number_tables.specs.Numbers.{has_number}
 use Rattle.dq_lits.specs.Literal.{Literal, variable_of}
-use Rattle.dq_lits.specs.Formula.{Existential, Dqbf, is_universal, existential_of}
+use Rattle.dq_lits.specs.Formula.{Existential, Dqbf, is_universal}
 use Rattle.dq_prep.specs.declared.sights.Sight.{Sight}
 use Rattle.dq_prep.specs.Reduction.{sees_in, stays, is_seen}
 use Rattle.dq_prep.specs.Sights.{is_within, keeps, AreWithin}
@@ -47,7 +47,8 @@ taken-within [] (suc n) x few = absurd (omega arith)
 taken-within (u ∷ us) (suc n) x few = by (u == x) (taken-within us n x (omega arith))
   where
     by : (b : Bool) → list_any (λ z. z == x) (take n us) ≡ nat_lt (position_or_len (λ z. z == x) us) n
-        → (b || list_any (λ z. z == x) (take n us)) ≡ nat_lt (cond (not b) (1 + position_or_len (λ z. z == x) us) 0) (suc n)
+        → (b || list_any (λ z. z == x) (take n us)) ≡ nat_lt (cond (not b) (1 + position_or_len (λ z. z == x) us) 0)
+        (suc n)
     by true h = sym (lt-ltb 0 (suc n) (omega arith))
     by false h = h ∙ later-both (position_or_len (λ z. z == x) us) n
 
@@ -56,14 +57,15 @@ before-either p a n = same-test (nat_lt p (max a n)) (nat_lt p a || nat_lt p n) 
   where
     there : nat_lt p (max a n) ≡ true → (nat_lt p a || nat_lt p n) ≡ true
     there h = elim (cases_lt p a) [
-        | inl before ↦ or_left (nat_lt p a) (nat_lt p n) (lt-ltb p a before)
-        | inr behind ↦ or_right (nat_lt p a) (nat_lt p n) (lt-ltb p n (omega (arith, ltb-true p (max a n) h)))
-      ]
+      | inl before ↦ or_left (nat_lt p a) (nat_lt p n) (lt-ltb p a before)
+      | inr behind ↦ or_right (nat_lt p a) (nat_lt p n) (lt-ltb p n (omega (arith, ltb-true p (max a n) h)))
+    ]
+
     back : (nat_lt p a || nat_lt p n) ≡ true → nat_lt p (max a n) ≡ true
     back h = elim (or_cases (nat_lt p a) (nat_lt p n) h) [
-        | inl before ↦ lt-ltb p (max a n) (omega (arith, ltb-true p a before))
-        | inr before ↦ lt-ltb p (max a n) (omega (arith, ltb-true p n before))
-      ]
+      | inl before ↦ lt-ltb p (max a n) (omega (arith, ltb-true p a before))
+      | inr before ↦ lt-ltb p (max a n) (omega (arith, ltb-true p n before))
+    ]
 
 -- the first universals are added
 pub firsts-added : (us : List ℕ) (a n : ℕ) (other : Bool) (x : ℕ) (o : Option Existential) → n ≤ length us
@@ -91,7 +93,8 @@ listed-universal : (p : Literal → Bool) (clause : List Literal) (k : ℕ) (d :
 listed-universal p [] k d below is = absurd (omega arith)
 listed-universal p (l ∷ ls) zero d below is =
     ap (λ b. has_number (map variable_of (cond b (l ∷ filter p ls) (filter p ls))) (variable_of l)) is
-    ∙ or_left (variable_of l == variable_of l) (has_number (map variable_of (filter p ls)) (variable_of l)) (eq-self (variable_of l))
+    ∙ or_left (variable_of l == variable_of l) (has_number (map variable_of (filter p ls)) (variable_of l))
+    (eq-self (variable_of l))
   where
     eq-self : (n : ℕ) → (n == n) ≡ true
     eq-self n = grind arith
@@ -99,6 +102,7 @@ listed-universal p (l ∷ ls) (suc k) d below is = more (p l) (listed-universal 
   where
     v : ℕ
     v = variable_of (get_or ls k d)
+
     more : (b : Bool) → has_number (map variable_of (filter p ls)) v ≡ true
         → has_number (map variable_of (cond b (l ∷ filter p ls) (filter p ls))) v ≡ true
     more true h = or_right (variable_of l == v) (has_number (map variable_of (filter p ls)) v) h

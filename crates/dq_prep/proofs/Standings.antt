@@ -1,20 +1,19 @@
 -- How a clause stands, by its open literals.
-use Rattle.std.proofs.Common.{◌≡◌, ℕ, zero, suc, ◌+◌, ◌<◌, ◌≤◌, Bool, true, false, not, cond, ◌||◌, ◌&&◌, ◌⊎◌, inl, inr, List, [], ◌∷◌, map, length, get_or, slice_get, Option, Some, None, refl, sym, ◌∙◌, ap, subst, arith}
+use Rattle.std.proofs.Common.{◌≡◌, ℕ, zero, suc, ◌<◌, ◌≤◌, Bool, true, false, not, cond, ◌||◌, inl, inr, List, [], ◌∷◌, map, length, get_or, slice_get, Some, refl, sym, ◌∙◌, ap, subst, arith}
 use Rattle.std.specs.Prelude.{slice_index_or}
-use Rattle.std.specs.List.{All, Contains, list_any, filter}
-use Rattle.std.proofs.lemmas.Bool.{true≢false, or_cases, or_left, or_right, or_parts, and_parts, cases_Bool}
+use Rattle.std.specs.List.{All, list_any, filter}
+use Rattle.std.proofs.lemmas.Bool.{true≢false, or_cases, or_left, or_right, or_parts, and_parts}
 use Rattle.std.proofs.lemmas.List.{get_or-map}
 use Rattle.std.proofs.lemmas.List.Elements.{filter_passes}
-use Rattle.std.proofs.lemmas.List.Folds.{list_any_none}
 use Rattle.dq_lits.specs.Literal.{Literal, positive, negative, variable_of, opposite, same_literal}
-use Rattle.dq_lits.specs.Formula.{Existential, Dqbf, is_universal, existential_of, IsWellFormed}
+use Rattle.dq_lits.specs.Formula.{Dqbf, is_universal, existential_of}
 use Rattle.dq_lits.specs.Derivation.{holds, is_tautology}
 use Rattle.dq_prep.specs.declared.traces.Taken.{Taken}
-use Rattle.dq_prep.specs.declared.roles.Opens.TheVariants.{Satisfied, Nothing, One, More}
+use Rattle.dq_prep.specs.declared.roles.Opens.TheVariants.{Nothing, One}
 use Rattle.dq_prep.specs.Reduction.{sees_in, is_seen, stays, reduced}
 use Rattle.dq_prep.specs.Units.{taken_literals, is_satisfied, left_of, IsUnit, AreUnits}
 use Rattle.dq_prep.specs.Roles.{is_open, open_literals, AreOpen}
-use Rattle.dq_prep.specs.Takings.{IsNoUnit, IsEmptied, IsStanding, unit_at, standing_of_none, standing_of_one}
+use Rattle.dq_prep.specs.Takings.{IsNoUnit, IsStanding, standing_of_none, standing_of_one}
 use Rattle.dq_prep.proofs.Units.{some-same, same_literal-sound, same_literal-refl}
 use Rattle.dq_prep.proofs.OpenLiterals.{none-universal}
 use Rattle.dq_prep.proofs.LeftLiterals.{UniversalsSeeNothing, left-opens, left-is-open, seen-left, tautology-stays, alone-plain}
@@ -38,7 +37,8 @@ unit-of f units place clause u looked same it =
 pub satisfied-other : (f : Dqbf) (units : List Taken) (place : ℕ) (clause : List Literal)
     → Looked f units place clause → is_satisfied (taken_literals units) clause ≡ true → IsNoUnit f units place
 satisfied-other f units place clause looked satisfied u same it =
-    true≢false (sym satisfied ∙ ap (is_satisfied (taken_literals units)) (sym (unit-of f units place clause u looked same it))
+    true≢false (sym satisfied
+    ∙ ap (is_satisfied (taken_literals units)) (sym (unit-of f units place clause u looked same it))
     ∙ it.unsatisfied)
 
 few-pass : (p : Literal → Bool) (l : Literal) → 2 ≤ length (filter p (l ∷ [])) → ⊥
@@ -54,9 +54,10 @@ pub more-other : (f : Dqbf) (units : List Taken) (place : ℕ) (clause : List Li
 more-other f units place clause looked many u same it =
     let trues = taken_literals units in
     let left : left_of f trues clause ≡ u.literal ∷ [] =
-        ap (left_of f trues) (sym (unit-of f units place clause u looked same it)) ∙ it.left in
+    ap (left_of f trues) (sym (unit-of f units place clause u looked same it)) ∙ it.left in
     let E : Literal → Bool = λ l. not (is_universal f (variable_of l)) in
-    let opens : filter E (u.literal ∷ []) ≡ open_literals f trues clause = ap (filter E) (sym left) ∙ left-opens f trues clause in
+    let opens : filter E (u.literal ∷ []) ≡ open_literals f trues clause = ap (filter E) (sym left)
+    ∙ left-opens f trues clause in
     few-pass E u.literal (subst (λ ls. 2 ≤ length ls) (sym opens) many)
 
 tautology-other : (f : Dqbf) (units : List Taken) (place : ℕ) (clause : List Literal)
@@ -67,7 +68,7 @@ tautology-other f units place clause looked unsatisfied both u same it =
     let rest = filter (λ l. not (holds trues (opposite l))) clause in
     let still : is_tautology rest ≡ true = tautology-stays trues clause unsatisfied ∙ both in
     let left : left_of f trues clause ≡ u.literal ∷ [] =
-        ap (left_of f trues) (sym (unit-of f units place clause u looked same it)) ∙ it.left in
+    ap (left_of f trues) (sym (unit-of f units place clause u looked same it)) ∙ it.left in
     let whole : rest ≡ u.literal ∷ [] = sym (by rest still) ∙ left in
     true≢false (sym still ∙ ap is_tautology whole ∙ alone-plain u.literal)
   where
@@ -82,7 +83,7 @@ none-stands f units place clause true looked is open' = tautology-other f units 
 none-stands f units place clause false looked is open' =
     let trues = taken_literals units in
     let unseen : All (λ l. is_seen f (open_literals f trues clause) (variable_of l) ≡ false) clause =
-        λ k d below. ap (λ ls. is_seen f ls (variable_of (get_or clause k d))) open'.1 in
+    λ k d below. ap (λ ls. is_seen f ls (variable_of (get_or clause k d))) open'.1 in
     record {
       clause = clause;
       at = looked.at;
@@ -101,27 +102,31 @@ seen-other f units place clause l looked seen unsatisfied open' sees u same it =
     let r = one-of (λ k. sees_in (variable_of k) (existential_of f (variable_of l))) clause sees in
     let k = r.0 in
     let universal = seen (variable_of l) (variable_of k) r.2 in
-    let none : holds trues (opposite k) ≡ false = none-universal f units (opposite k) looked.are (on-opposite k universal) in
+    let none : holds trues (opposite k) ≡ false =
+    none-universal f units (opposite k) looked.are (on-opposite k universal) in
     let there : is_seen f (open_literals f trues clause) (variable_of k) ≡ true =
-        ap (λ ls. is_seen f ls (variable_of k)) open' ∙ or_left (sees_in (variable_of k) (existential_of f (variable_of l))) false r.2 in
+    ap (λ ls. is_seen f ls (variable_of k)) open'
+    ∙ or_left (sees_in (variable_of k) (existential_of f (variable_of l))) false r.2 in
     let left : left_of f trues clause ≡ u.literal ∷ [] =
-        ap (left_of f trues) (sym (unit-of f units place clause u looked same it)) ∙ it.left in
+    ap (left_of f trues) (sym (unit-of f units place clause u looked same it)) ∙ it.left in
     let in-left : holds (u.literal ∷ []) k ≡ true =
-        ap (λ ls. holds ls k) (sym left) ∙ seen-left f trues clause k looked.nothing r.1 none there in
+    ap (λ ls. holds ls k) (sym left) ∙ seen-left f trues clause k looked.nothing r.1 none there in
     let equal : k ≡ u.literal = elim (or_cases (same_literal k u.literal) false in-left) [
-        | inl here ↦ same_literal-sound k u.literal here
-        | inr none' ↦ cc
-      ] in
+      | inl here ↦ same_literal-sound k u.literal here
+      | inr none' ↦ cc
+    ] in
     true≢false (sym universal ∙ ap (λ q. is_universal f (variable_of q)) equal ∙ it.existential)
   where
     one-of : (p : Literal → Bool) (xs : List Literal) → list_any p xs ≡ true
         → (k : Literal) × (holds xs k ≡ true) × (p k ≡ true)
     one-of p [] h = cc
     one-of p (x ∷ xs) h = elim (or_cases (p x) (list_any p xs) h) [
-        | inl here ↦ (x, or_left (same_literal x x) (holds xs x) (same_literal-refl x), here)
-        | inr later ↦ let r = one-of p xs later in (r.0, or_right (same_literal r.0 x) (holds xs r.0) r.1, r.2)
-      ]
-    on-opposite : (k : Literal) → is_universal f (variable_of k) ≡ true → is_universal f (variable_of (opposite k)) ≡ true
+      | inl here ↦ (x, or_left (same_literal x x) (holds xs x) (same_literal-refl x), here)
+      | inr later ↦ let r = one-of p xs later in (r.0, or_right (same_literal r.0 x) (holds xs r.0) r.1, r.2)
+    ]
+
+    on-opposite : (k : Literal) → is_universal f (variable_of k) ≡ true
+        → is_universal f (variable_of (opposite k)) ≡ true
     on-opposite (positive v) h = h
     on-opposite (negative v) h = h
 
@@ -139,12 +144,13 @@ one-stands f units place clause l false false looked seen is says open' =
     let trues = taken_literals units in
     let p : Literal → Bool = λ k. sees_in (variable_of k) (existential_of f (variable_of l)) in
     let unseen : All (λ k. is_seen f (open_literals f trues clause) (variable_of k) ≡ false) clause =
-        λ k d below.
-        let q = get_or clause k d in
-        ap (λ ls. is_seen f ls (variable_of q)) open'.1 ∙ ap (λ b. b || false) (none-passes p clause (sym says) k d below) in
+    λ k d below.
+    let q = get_or clause k d in
+    ap (λ ls. is_seen f ls (variable_of q)) open'.1
+    ∙ ap (λ b. b || false) (none-passes p clause (sym says) k d below) in
     let passes : is_open f trues l ≡ true =
-        ap (λ ls. is_open f trues (get_or ls 0 l)) (sym open'.1)
-        ∙ filter_passes (is_open f trues) clause 0 l (subst (λ ls. 0 < length ls) (sym open'.1) (omega arith)) in
+    ap (λ ls. is_open f trues (get_or ls 0 l)) (sym open'.1)
+    ∙ filter_passes (is_open f trues) clause 0 l (subst (λ ls. 0 < length ls) (sym open'.1) (omega arith)) in
     record {
       clause = clause;
       at = looked.at;
@@ -159,6 +165,7 @@ one-stands f units place clause l false false looked seen is says open' =
     none-passes p [] h k d below = absurd (omega arith)
     none-passes p (x ∷ xs) h zero d below = (or_parts (p x) (list_any p xs) h).0
     none-passes p (x ∷ xs) h (suc k) d below = none-passes p xs (or_parts (p x) (list_any p xs) h).1 k d (omega arith)
+
     not-true : (b : Bool) → not b ≡ true → b ≡ false
     not-true true h = sym h
     not-true false h = refl

@@ -1,13 +1,13 @@
 -- What a unit's taking changes.
-use Rattle.std.proofs.Common.{◌≡◌, ◌≢◌, ℕ, suc, ◌+◌, ◌<◌, ◌==◌, Bool, true, false, not, cond, ◌||◌, ◌⊎◌, inl, inr, List, [], ◌∷◌, map, length, get_or, set, slice_get, Option, Some, None, refl, sym, ◌∙◌, ap, subst, arith}
-use Rattle.std.specs.Prelude.{slice_index_or, slice_set}
-use Rattle.std.specs.List.{All, Contains, list_any, filter, position}
-use Rattle.std.proofs.lemmas.Bool.{true≢false, eqb-true, eq-eqb, ne_eqb, or_cases, or_left, or_right, cases_Bool, cases_eq, cond-true, cond-false}
+use Rattle.std.proofs.Common.{◌≡◌, ◌≢◌, ℕ, ◌<◌, ◌==◌, Bool, true, false, not, cond, ◌||◌, ◌⊎◌, inl, inr, List, [], ◌∷◌, length, get_or, set, Some, refl, sym, ◌∙◌, ap, subst, arith}
+use Rattle.std.specs.Prelude.{slice_set}
+use Rattle.std.specs.List.{All, Contains, filter, position}
+use Rattle.std.proofs.lemmas.Bool.{true≢false, eqb-true, ne_eqb, or_left, cases_eq, cond-true, cond-false}
 use Rattle.std.proofs.lemmas.List.{get_or-set_same, get_or-set_other}
 use Rattle.std.proofs.lemmas.List.Elements.{All-filter, filter_passes, Contains-append_cases}
 use Rattle.std.proofs.lemmas.List.Quantifiers.{position-Some}
 use Rattle.dq_lits.specs.Literal.{Literal, positive, negative, variable_of, opposite, is_negative, same_literal}
-use Rattle.dq_lits.specs.Formula.{Dqbf, is_universal, IsWellFormed}
+use Rattle.dq_lits.specs.Formula.{Dqbf, IsWellFormed}
 use Rattle.dq_lits.specs.Derivation.{holds, is_tautology}
 use Rattle.dq_formula.specs.Prefix.{existential_variables}
 use Rattle.truth_values.specs.declared.values.TruthValue.{TruthValue}
@@ -31,8 +31,10 @@ left-passes f trues clause = by (is_tautology rest)
   where
     rest : List Literal
     rest = without_false trues clause
+
     all-rest : All (IsKept trues) rest
     all-rest = filter_passes (λ l. not (holds trues (opposite l))) clause
+
     by : (b : Bool) → All (IsKept trues) (cond b rest (filter (stays f rest) rest))
     by true = all-rest
     by false = All-filter (stays f rest) (IsKept trues) rest all-rest
@@ -42,7 +44,8 @@ pub unit-fresh : (f : Dqbf) (earlier : List Taken) (u : Taken) → IsUnit f earl
     → holds (taken_literals earlier) (opposite u.literal) ≡ false
 unit-fresh f earlier u it =
     let trues = taken_literals earlier in
-    let all : All (IsKept trues) (u.literal ∷ []) = subst (All (IsKept trues)) it.left (left-passes f trues it.clause) in
+    let all : All (IsKept trues) (u.literal ∷ []) =
+    subst (All (IsKept trues)) it.left (left-passes f trues it.clause) in
     not-true (holds trues (opposite u.literal)) (all 0 u.literal (omega arith))
   where
     not-true : (b : Bool) → not b ≡ true → b ≡ false
@@ -57,7 +60,8 @@ unit-existential f earlier u well it =
     let trues = taken_literals earlier in
     let at = get-at f.matrix u.place it.clause it.at in
     let bound : All (IsBound f) it.clause = rw (sym (at.1 [])) (well.bound u.place [] at.0) in
-    let all : All (IsBound f) (u.literal ∷ []) = subst (All (IsBound f)) it.left (all-left f (IsBound f) trues it.clause bound) in
+    let all : All (IsBound f) (u.literal ∷ []) =
+    subst (All (IsBound f)) it.left (all-left f (IsBound f) trues it.clause bound) in
     elim (Contains-append_cases f.universals (existential_variables f) v (all 0 u.literal (omega arith))) [
       | inl universal ↦ absurd (true≢false (sym (contained-any f.universals v universal) ∙ it.existential))
       | inr existential ↦ existential
@@ -89,7 +93,8 @@ opposite-opposite (positive v) = refl
 opposite-opposite (negative v) = refl
 
 -- the value that a literal gives its variable
-on-variable : (trues : List Literal) (k l : Literal) → variable_of k ≡ variable_of l → holds trues (opposite l) ≡ false
+on-variable : (trues : List Literal) (k l : Literal) → variable_of k ≡ variable_of l
+    → holds trues (opposite l) ≡ false
     → role_by (value_of l) (is_negative k) ≡ truth_role (l ∷ trues) k
 on-variable trues k l same fresh =
     let Told : Literal → Type 0 = λ q. role_by (value_of l) (is_negative q) ≡ truth_role (l ∷ trues) q in
@@ -100,12 +105,16 @@ on-variable trues k l same fresh =
   where
     rest : Literal → Role
     rest q = cond (holds (l ∷ trues) (opposite q)) False Open
+
     itself : holds (l ∷ trues) l ≡ true
     itself = or_left (same_literal l l) (holds trues l) (same_literal-refl l)
+
     own : role_by (value_of l) (is_negative l) ≡ truth_role (l ∷ trues) l
     own = own-role l ∙ sym (cond-true (holds (l ∷ trues) l) True (rest l) itself)
+
     absent : holds (l ∷ trues) (opposite l) ≡ false
     absent = ap (λ b. b || holds trues (opposite l)) (not-same l) ∙ fresh
+
     other : role_by (value_of l) (is_negative (opposite l)) ≡ truth_role (l ∷ trues) (opposite l)
     other =
         other-role l
@@ -117,14 +126,17 @@ on-variable trues k l same fresh =
 off-variable : (trues : List Literal) (k l : Literal) → variable_of k ≢ variable_of l
     → truth_role (l ∷ trues) k ≡ truth_role trues k
 off-variable trues k l apart =
-    let One : Bool → Bool → Role = λ a b. cond (a || holds trues k) True (cond (b || holds trues (opposite k)) False Open) in
-    ap (λ a. One a (same_literal (opposite k) l)) (other k l apart) ∙ ap (One false) (other (opposite k) l (turned k apart))
+    let One : Bool → Bool → Role =
+    λ a b. cond (a || holds trues k) True (cond (b || holds trues (opposite k)) False Open) in
+    ap (λ a. One a (same_literal (opposite k) l)) (other k l apart)
+    ∙ ap (One false) (other (opposite k) l (turned k apart))
   where
     other : (q l : Literal) → variable_of q ≢ variable_of l → same_literal q l ≡ false
     other (positive v) (positive w) h = ne_eqb v w h
     other (positive v) (negative w) h = refl
     other (negative v) (positive w) h = refl
     other (negative v) (negative w) h = ne_eqb v w h
+
     turned : (q : Literal) → variable_of q ≢ variable_of l → variable_of (opposite q) ≢ variable_of l
     turned (positive v) h = h
     turned (negative v) h = h
@@ -135,22 +147,22 @@ pub values-told : (f : Dqbf) (trues : List Literal) (values : List TruthValue) (
     → place < length values → holds trues (opposite l) ≡ false
     → ValuesTell f (l ∷ trues) (slice_set values place (value_of l))
 values-told f trues values l place tell at below fresh k p d found = elim (cases_eq p place) [
-    | inl same ↦
-        let first = position-Some (λ v. v == variable_of k) (existential_variables f) p 0 found in
-        let second = position-Some (λ v. v == variable_of l) (existential_variables f) place 0 at in
-        let variables = existential_variables f in
-        let one : variable_of k ≡ variable_of l =
-            sym (eqb-true (get_or variables p 0) (variable_of k) first.1) ∙ ap (λ n. get_or variables n 0) same
-            ∙ eqb-true (get_or variables place 0) (variable_of l) second.1 in
-        ap (λ x. role_by x (is_negative k)) (ap (λ n. get_or (set values place (value_of l)) n d) same
-        ∙ get_or-set_same values place (value_of l) d below)
-        ∙ on-variable trues k l one fresh
-    | inr other ↦
-        let apart : variable_of k ≢ variable_of l = λ e.
-            other (some-is (sym found ∙ ap (λ n. position (λ v. v == n) (existential_variables f)) e ∙ at)) in
-        ap (λ x. role_by x (is_negative k)) (get_or-set_other values place p (value_of l) d other)
-        ∙ tell k p d found ∙ sym (off-variable trues k l apart)
-  ]
+  | inl same ↦
+      let first = position-Some (λ v. v == variable_of k) (existential_variables f) p 0 found in
+      let second = position-Some (λ v. v == variable_of l) (existential_variables f) place 0 at in
+      let variables = existential_variables f in
+      let one : variable_of k ≡ variable_of l =
+      sym (eqb-true (get_or variables p 0) (variable_of k) first.1) ∙ ap (λ n. get_or variables n 0) same
+      ∙ eqb-true (get_or variables place 0) (variable_of l) second.1 in
+      ap (λ x. role_by x (is_negative k)) (ap (λ n. get_or (set values place (value_of l)) n d) same
+      ∙ get_or-set_same values place (value_of l) d below)
+      ∙ on-variable trues k l one fresh
+  | inr other ↦
+      let apart : variable_of k ≢ variable_of l = λ e.
+      other (some-is (sym found ∙ ap (λ n. position (λ v. v == n) (existential_variables f)) e ∙ at)) in
+      ap (λ x. role_by x (is_negative k)) (get_or-set_other values place p (value_of l) d other)
+      ∙ tell k p d found ∙ sym (off-variable trues k l apart)
+]
   where
     some-is : {a b : ℕ} → Some a ≡ Some b → a ≡ b
     some-is e = cc

@@ -1,5 +1,5 @@
 -- What is left of a well-formed formula is well formed.
-use Rattle.std.proofs.Common.{◌≡◌, ◌<◌, ◌≤◌, ◌==◌, ℕ, suc, Bool, true, false, cond, not, List, [], ◌∷◌, length, get_or, Option, Some, None, sym, subst, arith}
+use Rattle.std.proofs.Common.{◌≡◌, ◌<◌, ◌≤◌, ◌==◌, ℕ, suc, Bool, true, false, cond, not, List, [], ◌∷◌, length, get_or, sym, subst}
 use Rattle.std.specs.List.{All, AllByRecursion, Contains, filter}
 use Rattle.std.proofs.lemmas.List.Elements.{All-head, All-tail, All-filter, All-contains, All-from_recursion}
 use Rattle.dq_lits.specs.Literal.{Literal, variable_of, opposite}
@@ -75,4 +75,5 @@ bound-at f place i clause l well within is below at =
     subst (IsBound f) (sym at) (all i l below)
 
 pub bound-small : (f : Dqbf) (l : Literal) → IsWellFormed f → IsBound f l → variable_of l ≤ f.variables
-bound-small f l well bound = (All-contains (λ v. (1 ≤ v) × (v ≤ f.variables)) (declared f) (variable_of l) well.prefix.in_range bound).1
+bound-small f l well bound =
+    (All-contains (λ v. (1 ≤ v) × (v ≤ f.variables)) (declared f) (variable_of l) well.prefix.in_range bound).1

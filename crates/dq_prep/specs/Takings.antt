@@ -1,5 +1,5 @@
 -- Words of private contracts: how units are taken.
-use Rattle.std.specs.Prelude.{◌≡◌, ℕ, ◌==◌, ◌||◌, Bool, false, List, [], ◌∷◌, length, map, Option, None, Some, slice_get, slice_index_or, if◌then◌else◌}
+use Rattle.std.specs.Prelude.{◌≡◌, ℕ, ◌==◌, ◌||◌, Bool, false, List, [], ◌∷◌, length, map, Some, slice_get, slice_index_or, if◌then◌else◌}
 use Rattle.std.specs.List.{Contains, list_any, position}
 use Rattle.dq_lits.specs.Literal.{Literal, variable_of, is_negative}
 use Rattle.dq_lits.specs.Formula.{Dqbf, existential_of, IsWellFormed}

@@ -48,11 +48,7 @@ fn no_literals(alloc: Global, n: usize) -> Result<Vec<Option<Lit>>, Memory>
 }
 
 // For each clause, of so many, the literal that was taken of it.
-fn literals_taken(
-    alloc: Global,
-    trace: &Trace,
-    clauses: usize,
-) -> Result<Vec<Option<Lit>>, Memory>
+fn literals_taken(alloc: Global, trace: &Trace, clauses: usize) -> Result<Vec<Option<Lit>>, Memory>
     ensures { IfOk result (λ table. IsTableOf trace.now clauses table.items) }
 {
     let mut table = no_literals(alloc, clauses)?;

@@ -114,7 +114,11 @@ impl Waiting {
 // A number for each literal on an existential.
 fn slot_of(f: &Formula, l: Lit) -> Option<usize> {
     let place = f.existential_place(l.var())?;
-    Some(place.saturating_mul(2).saturating_add(usize::from(l.is_neg())))
+    Some(
+        place
+            .saturating_mul(2)
+            .saturating_add(usize::from(l.is_neg())),
+    )
 }
 
 fn zeros(alloc: Global, n: usize) -> Result<Vec<usize>, Memory> {

@@ -1,11 +1,10 @@
-use Rattle.std.proofs.Common.{get_or, ◌≡◌, IfSome, take, sym, subst, ap, ◌∙◌}
+use Rattle.std.proofs.Common.{get_or, ◌≡◌, IfSome, take, sym, subst}
 use Rattle.std.specs.List.{All, Contains}
 use Rattle.std.proofs.lemmas.List.{get_or_default}
 use Rattle.dq_lits.specs.Formula.{existential_of}
 use Rattle.dq_formula.specs.Dependencies.{dependencies, IsDependencySet}
-use Rattle.dq_formula.specs.declared.dependencies.Deps.TheVariants.{FirstOf, Listed}
-use Rattle.dq_formula.proofs.Distinct.{All-take_contains, All-dependencies}
-use Rattle.dq_prep.specs.Prefixes.{SeesAmong}
+use Rattle.dq_formula.specs.declared.dependencies.Deps.TheVariants.{Listed}
+use Rattle.dq_formula.proofs.Distinct.{All-dependencies}
 use Rattle.dq_prep.proofs.CopiedPrefixes.{sees-among}
 use Rattle.dq_prep.proofs.prefixes.end_of.Goals as goal
 

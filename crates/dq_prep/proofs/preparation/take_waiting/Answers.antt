@@ -1,4 +1,4 @@
-use Rattle.std.proofs.Common.{◌∙◌, subst}
+use Rattle.std.proofs.Common.{subst}
 use Rattle.std.proofs.lemmas.Bool.{OnTrue_at}
 use Rattle.dq_prep.specs.Simplified.{IsExhausted}
 use Rattle.dq_prep.proofs.preparation.take_waiting.Goals as goal

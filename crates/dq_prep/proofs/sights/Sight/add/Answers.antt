@@ -13,4 +13,5 @@ returns-in-FirstOf c x listed =
     let form = subst (IsDependencySet us) c.in-FirstOf.is c.deps_of.ensures.form in
     let set = subst (λ s. IfSome e (λ q. dependencies us s ≡ q.sees)) c.in-FirstOf.is c.deps_of.ensures.set in
     ap (λ n. nat_lt (position_or_len (λ u. u == x) us) n || has_number c.args.self.now.others x) c.max-self.ensures
-    ∙ firsts-added us c.args.self.now.first c.in-FirstOf.n (has_number c.args.self.now.others x) x e form c.requires set
+    ∙ firsts-added us c.args.self.now.first c.in-FirstOf.n
+    (has_number c.args.self.now.others x) x e form c.requires set

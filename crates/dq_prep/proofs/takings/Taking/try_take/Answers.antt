@@ -1,4 +1,4 @@
-use Rattle.std.proofs.Common.{◌≡◌, refl}
+use Rattle.std.proofs.Common.{refl}
 use Rattle.dq_prep.proofs.Emptied.{empty-kept}
 use Rattle.dq_prep.proofs.takings.Taking.try_take.Goals as goal
 
