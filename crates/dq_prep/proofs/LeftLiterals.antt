@@ -1,0 +1,208 @@
+-- What is left of a clause, by its open literals.
+use Rattle.std.proofs.Common.{◌≡◌, ℕ, Bool, true, false, not, cond, ◌||◌, ◌&&◌, inl, inr, List, [], ◌∷◌, get_or, None, refl, sym, ◌∙◌, ap}
+use Rattle.std.specs.List.{All, list_any, filter}
+use Rattle.std.proofs.lemmas.Bool.{true≢false, or_cases, or_left, or_right, cases_Bool, cond-false}
+use Rattle.std.proofs.lemmas.List.Elements.{All-filter}
+use Rattle.dq_lits.specs.Literal.{Literal, positive, negative, variable_of, opposite, same_literal}
+use Rattle.dq_lits.specs.Formula.{Dqbf, is_universal, existential_of}
+use Rattle.dq_lits.specs.Derivation.{holds, is_tautology}
+use Rattle.dq_prep.specs.Reduction.{sees_in, is_seen, stays}
+use Rattle.dq_prep.specs.Units.{is_satisfied, without_false, left_of}
+use Rattle.dq_prep.specs.Roles.{open_literals}
+use Rattle.dq_prep.proofs.Units.{same_literal-sound, same_literal-refl, satisfied-by, part-holds}
+use Rattle.dq_prep.proofs.SeenUniversals.{same-test, filters-agree}
+
+-- a test on what another test lets through
+filter-twice : {X : Type 0} (p q : X → Bool) (xs : List X) → filter p (filter q xs) ≡ filter (λ l. p l && q l) xs
+filter-twice p q [] = refl
+filter-twice p q (x ∷ xs) = by (q x) (p x) (filter-twice p q xs) refl
+  where
+    by : (b a : Bool) → filter p (filter q xs) ≡ filter (λ l. p l && q l) xs
+        → p x ≡ a → filter p (cond b (x ∷ filter q xs) (filter q xs))
+        ≡ cond (a && b) (x ∷ filter (λ l. p l && q l) xs) (filter (λ l. p l && q l) xs)
+    by true true h e = ap (λ b. cond b (x ∷ filter p (filter q xs)) (filter p (filter q xs))) e ∙ ap (λ ls. x ∷ ls) h
+    by true false h e = ap (λ b. cond b (x ∷ filter p (filter q xs)) (filter p (filter q xs))) e ∙ h
+    by false true h e = h
+    by false false h e = h
+
+pub filter-wider : {X : Type 0} (p q : X → Bool) (xs : List X) → ((l : X) → p l ≡ true → q l ≡ true)
+    → filter p (filter q xs) ≡ filter p xs
+filter-wider p q xs wider =
+    filter-twice p q xs ∙ filters-agree (λ l. p l && q l) p xs
+    (λ k d below. narrow (p (get_or xs k d)) (q (get_or xs k d)) (wider (get_or xs k d)))
+  where
+    narrow : (a b : Bool) → (a ≡ true → b ≡ true) → (a && b) ≡ a
+    narrow true b h = h refl
+    narrow false b h = refl
+
+any-wider : (p q : Literal → Bool) (xs : List Literal) → ((l : Literal) → p l ≡ true → q l ≡ true)
+    → list_any p (filter q xs) ≡ list_any p xs
+any-wider p q [] wider = refl
+any-wider p q (x ∷ xs) wider = by (q x) (p x) (wider x) (any-wider p q xs wider) refl
+  where
+    by : (b a : Bool) → (a ≡ true → b ≡ true) → list_any p (filter q xs) ≡ list_any p xs
+        → p x ≡ a → list_any p (cond b (x ∷ filter q xs) (filter q xs)) ≡ (a || list_any p xs)
+    by true a w h e = ap (λ c. c || list_any p (filter q xs)) e ∙ ap (λ c. a || c) h
+    by false true w h e = absurd (true≢false (sym (w refl)))
+    by false false w h e = h
+
+pub passing-holds : (g : Literal → Bool) (xs : List Literal) (l : Literal) → holds xs l ≡ true → g l ≡ true
+    → holds (filter g xs) l ≡ true
+passing-holds g [] l here passes = here
+passing-holds g (x ∷ xs) l here passes = elim (or_cases (same_literal l x) (holds xs l) here) [
+  | inl same ↦
+      let it : g x ≡ true = ap g (sym (same_literal-sound l x same)) ∙ passes in
+      ap (λ b. holds (cond b (x ∷ filter g xs) (filter g xs)) l) it
+      ∙ or_left (same_literal l x) (holds (filter g xs) l) same
+  | inr later ↦ behind (g x) (passing-holds g xs l later passes)
+]
+  where
+    behind : (b : Bool) → holds (filter g xs) l ≡ true → holds (cond b (x ∷ filter g xs) (filter g xs)) l ≡ true
+    behind true h = or_right (same_literal l x) (holds (filter g xs) l) h
+    behind false h = h
+
+opposite-opposite : (l : Literal) → opposite (opposite l) ≡ l
+opposite-opposite (positive v) = refl
+opposite-opposite (negative v) = refl
+
+pair-in : (xs ys : List Literal) → list_any (λ l. holds ys (opposite l)) xs ≡ true
+    → (l : Literal) × (holds xs l ≡ true) × (holds ys (opposite l) ≡ true)
+pair-in [] ys h = cc
+pair-in (x ∷ xs) ys h = elim (or_cases (holds ys (opposite x)) (list_any (λ l. holds ys (opposite l)) xs) h) [
+  | inl here ↦ (x, or_left (same_literal x x) (holds xs x) (same_literal-refl x), here)
+  | inr later ↦ let r = pair-in xs ys later in (r.0, or_right (same_literal r.0 x) (holds xs r.0) r.1, r.2)
+]
+
+pair-any : (xs ys : List Literal) (l : Literal) → holds xs l ≡ true → holds ys (opposite l) ≡ true
+    → list_any (λ k. holds ys (opposite k)) xs ≡ true
+pair-any [] ys l h there = h
+pair-any (x ∷ xs) ys l h there = elim (or_cases (same_literal l x) (holds xs l) h) [
+  | inl same ↦
+      or_left (holds ys (opposite x)) (list_any (λ k. holds ys (opposite k)) xs)
+      (ap (λ q. holds ys (opposite q)) (sym (same_literal-sound l x same)) ∙ there)
+  | inr later ↦ or_right (holds ys (opposite x)) (list_any (λ k. holds ys (opposite k)) xs)
+      (pair-any xs ys l later there)
+]
+
+-- a literal of a clause that isn't satisfied was not taken
+unsatisfied-false : (trues clause : List Literal) (l : Literal) → is_satisfied trues clause ≡ false
+    → holds clause l ≡ true → holds trues l ≡ false
+unsatisfied-false trues clause l unsatisfied inside = elim (cases_Bool (holds trues l)) [
+  | inl taken ↦ absurd (true≢false (sym (satisfied-by trues clause l inside taken) ∙ unsatisfied))
+  | inr none ↦ none
+]
+
+-- a literal with its negation stays until one of them is taken
+pub tautology-stays : (trues clause : List Literal) → is_satisfied trues clause ≡ false
+    → is_tautology (without_false trues clause) ≡ is_tautology clause
+tautology-stays trues clause unsatisfied = same-test (is_tautology rest) (is_tautology clause) there back
+  where
+    open-test : Literal → Bool
+    open-test l = not (holds trues (opposite l))
+
+    rest : List Literal
+    rest = without_false trues clause
+
+    there : is_tautology rest ≡ true → is_tautology clause ≡ true
+    there h =
+        let r = pair-in rest rest h in
+        pair-any clause clause r.0 (part-holds r.0 open-test clause r.1)
+        (part-holds (opposite r.0) open-test clause r.2)
+
+    back : is_tautology clause ≡ true → is_tautology rest ≡ true
+    back h =
+        let r = pair-in clause clause h in
+        let l = r.0 in
+        let first : open-test l ≡ true = ap not (unsatisfied-false trues clause (opposite l) unsatisfied r.2) in
+        let second : open-test (opposite l) ≡ true =
+        ap (λ k. not (holds trues k)) (opposite-opposite l)
+        ∙ ap not (unsatisfied-false trues clause l unsatisfied r.1) in
+        pair-any rest rest l (passing-holds open-test clause l r.1 first)
+        (passing-holds open-test clause (opposite l) r.2 second)
+
+-- a literal alone is no tautology
+pub alone-plain : (l : Literal) → is_tautology (l ∷ []) ≡ false
+alone-plain (positive v) = refl
+alone-plain (negative v) = refl
+
+abbrev is_existential : Dqbf → Literal → Bool
+is_existential f l = not (is_universal f (variable_of l))
+
+-- what is left has the open literals of the clause, and maybe universals
+pub left-opens : (f : Dqbf) (trues clause : List Literal)
+    → filter (is_existential f) (left_of f trues clause) ≡ open_literals f trues clause
+left-opens f trues clause = by (is_tautology rest)
+    ∙ filter-twice (is_existential f) (λ l. not (holds trues (opposite l))) clause
+  where
+    rest : List Literal
+    rest = without_false trues clause
+
+    by : (b : Bool) → filter (is_existential f) (cond b rest (filter (stays f rest) rest)) ≡ filter
+        (is_existential f) rest
+    by true = refl
+    by false =
+        filter-wider (is_existential f) (stays f rest) rest
+        (λ l existential. or_left (is_existential f l) (is_seen f rest (variable_of l)) existential)
+
+-- no existential has a universal's variable
+abbrev pub UniversalsSeeNothing : Dqbf → Type 0
+UniversalsSeeNothing f =
+    (l : Literal) → is_universal f (variable_of l) ≡ true → existential_of f (variable_of l) ≡ None
+
+-- what a clause sees is what its open literals see
+seen-by-open : (f : Dqbf) (trues clause : List Literal) (x : ℕ) → UniversalsSeeNothing f
+    → is_seen f (without_false trues clause) x ≡ is_seen f (open_literals f trues clause) x
+seen-by-open f trues clause x nothing =
+    sym (any-wider sees (is_existential f) (without_false trues clause) wider)
+    ∙ ap (list_any sees) (filter-twice (is_existential f) (λ l. not (holds trues (opposite l))) clause)
+  where
+    sees : Literal → Bool
+    sees l = sees_in x (existential_of f (variable_of l))
+
+    wider : (l : Literal) → sees l ≡ true → is_existential f l ≡ true
+    wider l h = elim (cases_Bool (is_universal f (variable_of l))) [
+      | inl universal ↦ absurd (true≢false (sym h ∙ ap (sees_in x) (nothing l universal)))
+      | inr other ↦ ap not other
+    ]
+
+-- where the open literals see no variable of the clause, just they are left
+pub left-is-open : (f : Dqbf) (trues clause : List Literal) → UniversalsSeeNothing f
+    → is_satisfied trues clause ≡ false
+    → is_tautology clause ≡ false
+    → All (λ l. is_seen f (open_literals f trues clause) (variable_of l) ≡ false) clause
+    → left_of f trues clause ≡ open_literals f trues clause
+left-is-open f trues clause nothing unsatisfied plain unseen =
+    let rest = without_false trues clause in
+    let kept = filter (stays f rest) rest in
+    let open-test : Literal → Bool = λ l. not (holds trues (opposite l)) in
+    let Unseen : Literal → Type 0 = λ l. is_seen f (open_literals f trues clause) (variable_of l) ≡ false in
+    let all = All-filter open-test Unseen clause unseen in
+    cond-false (is_tautology rest) rest kept (tautology-stays trues clause unsatisfied ∙ plain)
+    ∙ filters-agree (stays f rest) (is_existential f) rest (λ k d below.
+    let l = get_or rest k d in
+    ap (λ b. is_existential f l || b) (seen-by-open f trues clause (variable_of l) nothing ∙ all k d below)
+    ∙ or-nothing (is_existential f l))
+    ∙ filter-twice (is_existential f) open-test clause
+  where
+    or-nothing : (b : Bool) → (b || false) ≡ b
+    or-nothing true = refl
+    or-nothing false = refl
+
+-- a literal that isn't false, on a variable that an open literal sees, is left
+pub seen-left : (f : Dqbf) (trues clause : List Literal) (l : Literal) → UniversalsSeeNothing f
+    → holds clause l ≡ true → holds trues (opposite l) ≡ false
+    → is_seen f (open_literals f trues clause) (variable_of l) ≡ true → holds (left_of f trues clause) l ≡ true
+seen-left f trues clause l nothing inside none seen = by (is_tautology rest)
+  where
+    rest : List Literal
+    rest = without_false trues clause
+
+    in-rest : holds rest l ≡ true
+    in-rest = passing-holds (λ k. not (holds trues (opposite k))) clause l inside (ap not none)
+
+    by : (b : Bool) → holds (cond b rest (filter (stays f rest) rest)) l ≡ true
+    by true = in-rest
+    by false =
+        passing-holds (stays f rest) rest l in-rest
+        (or_right (is_existential f l) (is_seen f rest (variable_of l))
+        (seen-by-open f trues clause (variable_of l) nothing ∙ seen))

@@ -1,0 +1,14 @@
+mod Kept
+mod Reduction
+mod Units
+mod WellFormed
+mod SeenUniversals
+mod LiteralRoles
+mod OpenLiterals
+mod LeftLiterals
+mod Standings
+mod ToldValues
+mod Emptied
+mod CopiedPrefixes
+mod KeptSoFar
+mod FewUnits

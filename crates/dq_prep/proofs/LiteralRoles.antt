@@ -1,0 +1,136 @@
+-- The role of a literal, by its existential's place.
+use Rattle.std.proofs.Common.{◌≡◌, IsSome, subst, ◌≢◌, ℕ, suc, ◌+◌, ◌-◌, ◌<◌, ◌==◌, Bool, true, false, not, cond, inl, inr, List, [], ◌∷◌, ◌++◌, map, length, get_or, Option, Some, None, refl, sym, ◌∙◌, ap, arith}
+use Rattle.std.specs.Prelude.{slice_index_or}
+use Rattle.std.specs.List.{All, AllPairs, Contains, find, position}
+use Rattle.std.proofs.lemmas.Bool.{true≢false, eqb-true, cases_Bool, and_parts, cond-false, cond-true}
+use Rattle.std.proofs.lemmas.List.{get_or-append_right, get_or_append_left, length-append, length-map, get_or-map}
+use Rattle.std.proofs.lemmas.List.Elements.{Contains-append_cases, All-contains, All-filter, filter_passes}
+use Rattle.std.proofs.lemmas.List.Quantifiers.{position-Some}
+use Rattle.dq_lits.specs.Literal.{Literal, variable_of, opposite, is_negative}
+use Rattle.dq_lits.specs.Formula.{Existential, Dqbf, declared, is_universal, existential_of, IsWellFormed}
+use Rattle.dq_lits.specs.Derivation.{holds}
+use Rattle.dq_formula.specs.Prefix.{existential_variables}
+use Rattle.dq_formula.proofs.Subsets.{none_contained}
+use Rattle.dq_formula.proofs.Entries.{is_some-find, list_any-map}
+use Rattle.truth_values.specs.declared.values.TruthValue.{TruthValue}
+use Rattle.dq_prep.specs.declared.roles.Role.{Role}
+use Rattle.dq_prep.specs.declared.roles.Role.TheVariants.{Universal}
+use Rattle.dq_prep.specs.Roles.{role_by, role_of, truth_role, is_open, open_literals}
+use Rattle.dq_prep.specs.Takings.{ValuesTell}
+use Rattle.dq_prep.proofs.Reduction.{universal-contained}
+use Rattle.dq_prep.specs.Reduction.{sees_in}
+use Rattle.dq_prep.proofs.SeenUniversals.{contained-any}
+use Rattle.dq_prep.proofs.LeftLiterals.{UniversalsSeeNothing}
+use Rattle.dq_prep.proofs.Standings.{UniversalsAreSeen}
+
+-- what is declared once isn't in both parts
+apart : (us vs : List ℕ) (v : ℕ) → AllPairs (λ x y. x ≢ y) (us ++ vs) → Contains us v → Contains vs v → ⊥
+apart us vs v once (i, i-in, i-is) (j, j-in, j-is) =
+    let left : get_or (us ++ vs) i v ≡ v = get_or_append_left us vs v i i-in ∙ i-is in
+    let moved : get_or (us ++ vs) (length us + j) v ≡ get_or vs (length us + j - length us) v =
+    get_or-append_right us vs (length us) (length us + j) v refl (omega arith) in
+    let right : get_or (us ++ vs) (length us + j) v ≡ v = moved ∙ ap (λ n. get_or vs n v) (omega arith) ∙ j-is in
+    once i (length us + j) v (omega arith) (omega (arith, length-append us vs)) (left ∙ sym right)
+
+-- an existential is no universal
+pub existential-apart : (f : Dqbf) (v : ℕ) → IsWellFormed f → Contains (existential_variables f) v
+    → is_universal f v ≡ false
+existential-apart f v well inside = elim (cases_Bool (is_universal f v)) [
+  | inl universal ↦
+      absurd (apart f.universals (existential_variables f) v well.prefix.declared_once
+      (universal-contained f.universals v universal) inside)
+  | inr other ↦ other
+]
+
+pub placed : (xs : List ℕ) (v place : ℕ) → position (λ x. x == v) xs ≡ Some place → Contains xs v
+placed xs v place found =
+    let at = position-Some (λ x. x == v) xs place v found in
+    (place, at.0, eqb-true (get_or xs place v) v at.1)
+
+pub role-by-place : (f : Dqbf) (trues : List Literal) (values : List TruthValue) (l : Literal) (place : ℕ)
+    (value : TruthValue) (sign : Bool) (role : Role) → IsWellFormed f → ValuesTell f trues values
+    → position (λ v. v == variable_of l) (existential_variables f) ≡ Some place
+    → value ≡ slice_index_or values place value → sign ≡ is_negative l → role ≡ role_by value sign
+    → role ≡ role_of f trues l
+role-by-place f trues values l place value sign role well tell found at signed is =
+    is ∙ ap (role_by value) signed ∙ ap (λ x. role_by x (is_negative l)) at ∙ tell l place value found
+    ∙ sym (cond-false (is_universal f (variable_of l)) Universal (truth_role trues l)
+    (existential-apart f (variable_of l) well (placed (existential_variables f) (variable_of l) place found)))
+
+pub role-of-unplaced : (f : Dqbf) (trues : List Literal) (l : Literal) → Contains (declared f) (variable_of l)
+    → position (λ v. v == variable_of l) (existential_variables f) ≡ None → Universal ≡ role_of f trues l
+role-of-unplaced f trues l bound none =
+    let v = variable_of l in
+    elim (Contains-append_cases f.universals (existential_variables f) v bound) [
+      | inl universal ↦ sym
+          (cond-true (is_universal f v) Universal (truth_role trues l) (contained-any f.universals v universal))
+      | inr existential ↦ absurd (none_contained (existential_variables f) v none existential)
+    ]
+
+-- what a search finds is in the list, and passes
+find-Some : (p : Existential → Bool) (ys : List Existential) (y : Existential) → find p ys ≡ Some y
+    → Contains ys y × (p y ≡ true)
+find-Some p [] y h = cc
+find-Some p (x ∷ xs) y h = by (p x) refl h (find-Some p xs y)
+  where
+    some-is : (a b : Existential) → Some a ≡ Some b → a ≡ b
+    some-is a b e = cc
+
+    by : (b : Bool) → p x ≡ b → cond b (Some x) (find p xs) ≡ Some y
+        → (find p xs ≡ Some y → Contains xs y × (p y ≡ true)) → Contains (x ∷ xs) y × (p y ≡ true)
+    by true e h later = let is = some-is x y h in ((0, omega arith, is), ap p (sym is) ∙ e)
+    by false e h later = let r = later h in ((suc r.0.0, omega (arith, r.0.1), r.0.2), r.1)
+
+-- no existential has a universal's variable
+pub universals-see-nothing : (f : Dqbf) → IsWellFormed f → UniversalsSeeNothing f
+universals-see-nothing f well l universal = by (existential_of f (variable_of l)) refl
+  where
+    named : (ys : List Existential) (y : Existential) → Contains ys y → (y.variable == variable_of l) ≡ true
+        → Contains (map (λ z. z.variable) ys) (variable_of l)
+    named ys y (k, below, is) same = (
+      k,
+      omega (arith, below, length-map ys (λ z. z.variable)),
+      get_or-map (λ z. z.variable) ys k y (variable_of l) below ∙ ap (λ z. z.variable) is
+          ∙ eqb-true y.variable (variable_of l) same,
+    )
+
+    by : (o : Option Existential) → existential_of f (variable_of l) ≡ o → o ≡ None
+    by None e = refl
+    by (Some y) e =
+        let found = find-Some (λ z. z.variable == variable_of l) f.existentials y e in
+        absurd (true≢false (sym universal
+        ∙ existential-apart f (variable_of l) well (named f.existentials y found.0 found.1)))
+
+-- an existential sees universals
+pub universals-are-seen : (f : Dqbf) → IsWellFormed f → UniversalsAreSeen f
+universals-are-seen f well y x sees = by (existential_of f y) refl sees
+  where
+    by : (o : Option Existential) → existential_of f y ≡ o → sees_in x o ≡ true → is_universal f x ≡ true
+    by None e h = cc
+    by (Some z) e h =
+        let found = find-Some (λ q. q.variable == y) f.existentials z e in
+        contained-any f.universals x
+        (All-contains (Contains f.universals) z.sees x
+        (All-contains (λ q. All (Contains f.universals) q.sees) f.existentials z well.prefix.sees_universals found.0)
+        (universal-contained z.sees x h))
+
+-- an open literal of a clause is on an existential
+pub open-existential : (f : Dqbf) (trues clause : List Literal) (l : Literal) → IsWellFormed f
+    → All (λ k. Contains (declared f) (variable_of k)) clause → open_literals f trues clause ≡ l ∷ []
+    → IsSome (existential_of f (variable_of l))
+open-existential f trues clause l well bound open' =
+    let v = variable_of l in
+    let inside : 0 < length (open_literals f trues clause) = subst (λ ls. 0 < length ls) (sym open') (omega arith) in
+    let at : get_or (open_literals f trues clause) 0 l ≡ l = ap (λ ls. get_or ls 0 l) open' in
+    let passes : is_open f trues l ≡ true = ap (is_open f trues) (sym at)
+    ∙ filter_passes (is_open f trues) clause 0 l inside in
+    let Bound : Literal → Type 0 = λ k. Contains (declared f) (variable_of k) in
+    let there = subst Bound at (All-filter (is_open f trues) Bound clause bound 0 l inside) in
+    let not-universal = (and_parts (not (is_universal f v)) (not (holds trues (opposite l))) passes).0 in
+    elim (Contains-append_cases f.universals (existential_variables f) v there) [
+      | inl universal ↦ absurd (true≢false (sym not-universal ∙ ap not (contained-any f.universals v universal)))
+      | inr existential ↦
+          is_some-find (λ y. y.variable == v) f.existentials
+          ∙ sym (list_any-map (λ x. x == v) (λ y. y.variable) f.existentials)
+          ∙ contained-any (existential_variables f) v existential
+    ]

@@ -1,0 +1,222 @@
+-- Units that are taken are true wherever a solving choice is followed, and what is left of a
+-- formula is true where it is.
+use Rattle.std.proofs.Common.{◌≡◌, ◌≢◌, ℕ, zero, suc, ◌<◌, ◌==◌, Bool, true, false, not, cond, inl, inr, List, [], ◌∷◌, length, get_or, slice_get, Some, refl, sym, ◌∙◌, ap, arith}
+use Rattle.std.specs.List.{All, Contains, filter}
+use Rattle.std.proofs.lemmas.Bool.{true≢false, eq-eqb, eqb-true, ne_eqb, cond-true, cond-false, or_cases, or_left, or_right}
+use Rattle.std.proofs.lemmas.List.Elements.{All-filter}
+use Rattle.dq_lits.specs.Literal.{Assignment, Literal, positive, negative, variable_of, opposite, same_literal, literal_true, clause_true}
+use Rattle.dq_lits.specs.Formula.{Dqbf, declared, IsWellFormed}
+use Rattle.dq_lits.specs.Henkin.{HenkinChoice, Follows, Solves}
+use Rattle.dq_lits.specs.Derivation.{holds, is_tautology}
+use Rattle.dq_formula.specs.Prefix.{IsLawful}
+use Rattle.dq_prep.specs.declared.traces.Taken.{Taken}
+use Rattle.dq_prep.specs.Reduction.{stays}
+use Rattle.dq_prep.specs.Units.{taken_literals, AreUnits, is_satisfied, without_false, left_of}
+use Rattle.dq_prep.specs.Simplified.{taken_at}
+use Rattle.dq_prep.proofs.Reduction.{Extending, reduced-true, any-kept, true-or-false}
+
+-- each literal that was taken is true
+abbrev pub AllTrue : Assignment → List Literal → Type 0
+AllTrue m [] = Unit {0}
+AllTrue m (l ∷ ls) = (literal_true m l ≡ true) × AllTrue m ls
+
+pub same_literal-sound : (k l : Literal) → same_literal k l ≡ true → k ≡ l
+same_literal-sound (positive v) (positive w) h = ap positive (eqb-true v w h)
+same_literal-sound (positive v) (negative w) h = cc
+same_literal-sound (negative v) (positive w) h = cc
+same_literal-sound (negative v) (negative w) h = ap negative (eqb-true v w h)
+
+opposite-false : (m : Assignment) (l : Literal) → literal_true m (opposite l) ≡ true → literal_true m l ≡ false
+opposite-false m (positive v) h = by (m v) h
+  where
+    by : (b : Bool) → not b ≡ true → b ≡ false
+    by true h = absurd (true≢false (sym h))
+    by false h = refl
+opposite-false m (negative v) h = ap not h
+
+holds-true : (m : Assignment) (trues : List Literal) (l : Literal) → AllTrue m trues → holds trues l ≡ true
+    → literal_true m l ≡ true
+holds-true m [] l all h = cc
+holds-true m (t ∷ ts) l all h =
+    elim (or_cases (same_literal l t) (holds ts l) h) [
+      | inl same ↦ ap (literal_true m) (same_literal-sound l t same) ∙ all.0
+      | inr later ↦ holds-true m ts l all.1 later
+    ]
+
+-- false literals may go
+without_false-true : (m : Assignment) (trues clause : List Literal) → AllTrue m trues → clause_true m clause ≡ true
+    → clause_true m (without_false trues clause) ≡ true
+without_false-true m trues clause all truth =
+    any-kept (literal_true m) (literal_true m) (λ l. not (holds trues (opposite l))) clause (λ k d below here.
+    let l = get_or clause k d in
+    elim (true-or-false (holds trues (opposite l))) [
+      | inl gone ↦ absurd (true≢false (sym here ∙ opposite-false m l (holds-true m trues (opposite l) all gone)))
+      | inr stays' ↦ (ap not stays', here)
+    ]) truth
+
+pub satisfied-true : (m : Assignment) (trues clause : List Literal) → AllTrue m trues
+    → is_satisfied trues clause ≡ true → clause_true m clause ≡ true
+satisfied-true m trues [] all h = h
+satisfied-true m trues (l ∷ ls) all h =
+    elim (or_cases (holds trues l) (is_satisfied trues ls) h) [
+      | inl here ↦ or_left (literal_true m l) (clause_true m ls) (holds-true m trues l all here)
+      | inr later ↦ or_right (literal_true m l) (clause_true m ls) (satisfied-true m trues ls all later)
+    ]
+
+one-true : (m : Assignment) (b : Bool) (l : Literal) (part whole : List Literal)
+    → (clause_true m part ≡ true → clause_true m whole ≡ true) →
+    clause_true m (cond b (l ∷ part) part) ≡ true → clause_true m (l ∷ whole) ≡ true
+one-true m true l part whole step h = elim (or_cases (literal_true m l) (clause_true m part) h) [
+  | inl here ↦ or_left (literal_true m l) (clause_true m whole) here
+  | inr later ↦ or_right (literal_true m l) (clause_true m whole) (step later)
+]
+one-true m false l part whole step h = or_right (literal_true m l) (clause_true m whole) (step h)
+
+-- a part of a clause is true only where the clause is
+part-true : (m : Assignment) (g : Literal → Bool) (clause : List Literal) → clause_true m (filter g clause) ≡ true
+    → clause_true m clause ≡ true
+part-true m g [] h = h
+part-true m g (l ∷ ls) h = one-true m (g l) l (filter g ls) ls (part-true m g ls) h
+
+pub left-true : (f : Dqbf) (m : Assignment) (trues clause : List Literal)
+    → clause_true m (left_of f trues clause) ≡ true → clause_true m clause ≡ true
+left-true f m trues clause h =
+    part-true m (λ l. not (holds trues (opposite l))) clause (by (is_tautology (without_false trues clause)) h)
+  where
+    rest : List Literal
+    rest = without_false trues clause
+
+    by : (b : Bool) → clause_true m (cond b rest (filter (stays f rest) rest)) ≡ true → clause_true m rest ≡ true
+    by true h = h
+    by false h = part-true m (stays f rest) rest h
+
+-- what is fixed
+pub record Setting : Type 0 where
+  pub extends : Extending
+  pub f : Dqbf
+  pub well : IsWellFormed f
+  pub lawful : IsLawful f
+  pub choice : HenkinChoice
+
+-- what is left of a clause is true wherever a solving choice is followed, if the taken literals are
+pub left-follows : (s : Setting) (trues clause : List Literal)
+    → All (λ l. Contains (declared s.f) (variable_of l)) clause →
+    ((m : Assignment) → Follows s.f s.choice m → AllTrue m trues) →
+    ((m : Assignment) → Follows s.f s.choice m → clause_true m clause ≡ true) →
+    (m : Assignment) → Follows s.f s.choice m → clause_true m (left_of s.f trues clause) ≡ true
+left-follows s trues clause bound all truth m follows =
+    reduced-true s.extends s.f s.lawful s.choice (without_false trues clause)
+    (All-filter (λ l. not (holds trues (opposite l))) (λ l. Contains (declared s.f) (variable_of l)) clause bound)
+    (λ n too. without_false-true n trues clause (all n too) (truth n too))
+    m follows
+
+pub get-at : (xs : List (List Literal)) (place : ℕ) (clause : List Literal) → slice_get xs place ≡ Some clause
+    → (place < length xs) × ((d : List Literal) → get_or xs place d ≡ clause)
+get-at [] place clause h = cc
+get-at (x ∷ xs) zero clause h = (omega arith, λ d. by h)
+  where
+    by : Some x ≡ Some clause → x ≡ clause
+    by e = cc
+get-at (x ∷ xs) (suc place) clause h = let at = get-at xs place clause h in (omega (arith, at.0), at.1)
+
+pub units-true : (s : Setting) (units : List Taken) → AreUnits s.f units → Solves s.choice s.f →
+    (m : Assignment) → Follows s.f s.choice m → AllTrue m (taken_literals units)
+units-true s [] are solves m follows = tt
+units-true s (u ∷ earlier) are solves m follows =
+    let all = units-true s earlier are.1 solves in
+    let at = get-at s.f.matrix u.place are.0.clause are.0.at in
+    let bound : All (λ l. Contains (declared s.f) (variable_of l)) are.0.clause =
+    rw (sym (at.1 [])) (s.well.bound u.place [] at.0) in
+    let truth : (n : Assignment) → Follows s.f s.choice n → clause_true n are.0.clause ≡ true =
+    λ n too. rw (sym (at.1 [])) (solves n too u.place [] at.0) in
+    let left = left-follows s (taken_literals earlier) are.0.clause bound all truth m follows in
+    let one : clause_true m (u.literal ∷ []) ≡ true = ap (clause_true m) (sym are.0.left) ∙ left in
+    (elim (or_cases (literal_true m u.literal) false one) [ inl here ↦ here | inr none ↦ cc ], all m follows)
+
+-- a literal of a part is one of the clause
+pub part-holds : (l : Literal) (g : Literal → Bool) (clause : List Literal) → holds (filter g clause) l ≡ true
+    → holds clause l ≡ true
+part-holds l g [] h = h
+part-holds l g (k ∷ ks) h = by (g k) (part-holds l g ks) h
+  where
+    by : (b : Bool) → (holds (filter g ks) l ≡ true → holds ks l ≡ true)
+        → holds (cond b (k ∷ filter g ks) (filter g ks)) l ≡ true → holds (k ∷ ks) l ≡ true
+    by true step h = elim (or_cases (same_literal l k) (holds (filter g ks) l) h) [
+      | inl here ↦ or_left (same_literal l k) (holds ks l) here
+      | inr later ↦ or_right (same_literal l k) (holds ks l) (step later)
+    ]
+    by false step h = or_right (same_literal l k) (holds ks l) (step h)
+
+pub left-holds : (f : Dqbf) (l : Literal) (trues clause : List Literal) → holds (left_of f trues clause) l ≡ true
+    → holds clause l ≡ true
+left-holds f l trues clause h =
+    part-holds l (λ k. not (holds trues (opposite k))) clause (by (is_tautology (without_false trues clause)) h)
+  where
+    rest : List Literal
+    rest = without_false trues clause
+
+    by : (b : Bool) → holds (cond b rest (filter (stays f rest) rest)) l ≡ true → holds rest l ≡ true
+    by true h = h
+    by false h = part-holds l (stays f rest) rest h
+
+-- a clause with a literal that was taken is satisfied
+pub satisfied-by : (trues clause : List Literal) (l : Literal) → holds clause l ≡ true → holds trues l ≡ true
+    → is_satisfied trues clause ≡ true
+satisfied-by trues [] l here taken = here
+satisfied-by trues (k ∷ ks) l here taken =
+    elim (or_cases (same_literal l k) (holds ks l) here) [
+      | inl same ↦ or_left (holds trues k) (is_satisfied trues ks)
+          (ap (holds trues) (sym (same_literal-sound l k same)) ∙ taken)
+      | inr later ↦ or_right (holds trues k) (is_satisfied trues ks) (satisfied-by trues ks l later taken)
+    ]
+
+pub same_literal-refl : (l : Literal) → same_literal l l ≡ true
+same_literal-refl (positive v) = eq-eqb v v refl
+same_literal-refl (negative v) = eq-eqb v v refl
+
+pub taken-holds : (units : List Taken) (k : ℕ) (d : Taken) → k < length units
+    → holds (taken_literals units) (get_or units k d).literal ≡ true
+taken-holds [] k d below = absurd (omega arith)
+taken-holds (u ∷ us) zero d below =
+    or_left (same_literal u.literal u.literal) (holds (taken_literals us) u.literal) (same_literal-refl u.literal)
+taken-holds (u ∷ us) (suc k) d below =
+    let l = (get_or us k d).literal in
+    or_right (same_literal l u.literal) (holds (taken_literals us) l) (taken-holds us k d (omega arith))
+
+-- the clause of a unit
+pub unit-clause : (f : Dqbf) (units : List Taken) (k : ℕ) (d : Taken) → AreUnits f units → k < length units →
+    (clause : List Literal) × (slice_get f.matrix (get_or units k d).place ≡ Some clause) ×
+    (holds clause (get_or units k d).literal ≡ true)
+unit-clause f [] k d are below = absurd (omega arith)
+unit-clause f (u ∷ us) zero d are below =
+    let l = u.literal in
+    let left = are.0.left in
+    let inside : holds (l ∷ []) l ≡ true = or_left (same_literal l l) false (same_literal-refl l) in
+    (are.0.clause, are.0.at, left-holds f l (taken_literals us) are.0.clause (ap (λ c. holds c l) left ∙ inside))
+unit-clause f (u ∷ us) (suc k) d are below = unit-clause f us k d are.1 (omega arith)
+
+pub some-same : (a b : List Literal) → Some a ≡ Some b → a ≡ b
+some-same a b e = cc
+
+-- an earlier unit has another place
+pub unit-apart : (f : Dqbf) (u : Taken) (us : List Taken) (k : ℕ) (d : Taken) → AreUnits f (u ∷ us) → k < length us
+    → u.place ≢ (get_or us k d).place
+unit-apart f u us k d are inside e =
+    let v = get_or us k d in
+    let c = unit-clause f us k d are.1 inside in
+    let same : are.0.clause ≡ c.0 = some-same are.0.clause c.0 (sym are.0.at ∙ ap (slice_get f.matrix) e ∙ c.1) in
+    let held : holds are.0.clause v.literal ≡ true = ap (λ x. holds x v.literal) same ∙ c.2 in
+    true≢false (sym (satisfied-by (taken_literals us) are.0.clause v.literal held (taken-holds us k d inside))
+    ∙ are.0.unsatisfied)
+
+-- so a unit is found by its place
+pub unit-taken : (f : Dqbf) (units : List Taken) (k : ℕ) (d : Taken) → AreUnits f units → k < length units
+    → taken_at (get_or units k d).place units ≡ Some ((get_or units k d).literal ∷ [])
+unit-taken f [] k d are below = absurd (omega arith)
+unit-taken f (u ∷ us) zero d are below =
+    cond-true (u.place == u.place) (Some (u.literal ∷ [])) (taken_at u.place us) (eq-eqb u.place u.place refl)
+unit-taken f (u ∷ us) (suc k) d are below =
+    let inside : k < length us = omega arith in
+    let v = get_or us k d in
+    cond-false (u.place == v.place) (Some (u.literal ∷ [])) (taken_at v.place us)
+    (ne_eqb u.place v.place (unit-apart f u us k d are inside)) ∙ unit-taken f us k d are.1 inside

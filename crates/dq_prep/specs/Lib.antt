@@ -1,0 +1,10 @@
+pub mod Codes
+pub mod KeptClauses
+pub mod Laws
+pub mod Prefixes
+pub mod Reduction
+pub mod Roles
+pub mod Sights
+pub mod Simplified
+pub mod Takings
+pub mod Units

@@ -1,0 +1,17 @@
+//! Preparation: universal reduction and unit propagation, to the end, which leave a simpler formula
+//! that the same choices solve.
+#![tactic(auto)]
+
+pub use preparation::prep;
+pub use traces::{Taken, Trace};
+
+mod kept_clauses;
+pub mod laws;
+mod prefixes;
+mod preparation;
+mod roles;
+mod sights;
+mod takings;
+mod tautologies;
+mod traces;
+mod waiting;
