@@ -1,7 +1,6 @@
 -- From what a run's parts answer to what is due, and why.
-use Rattle.std.proofs.Common.{◌≡◌, ◌≢◌, ◌⊎◌, inl, inr, ℕ, Bool, List, [], Option, None, Some, Result, Ok, Err, refl, sym, ap, ◌∙◌, subst, arith}
+use Rattle.std.proofs.Common.{◌≡◌, ◌≢◌, ◌⊎◌, inl, inr, ℕ, List, [], Option, None, Some, Result, Ok, Err, refl, sym, ap, ◌∙◌, subst, arith}
 use Rattle.std.specs.Prelude.{IfOk, option_map}
-use Rattle.dq_io.specs.Causes.{Rose}
 use Rattle.dq_io.specs.State.{FilesState}
 use Rattle.dq_lits.specs.Formula.{Dqbf}
 use Rattle.dq_lits.specs.declared.memory.Memory.{Memory}
@@ -19,22 +18,21 @@ use Rattle.dq_runs.specs.declared.formulas.NoFormula.{NoFormula}
 use Rattle.dq_runs.specs.declared.formulas.NoFormula.TheVariants.{Unreadable, TooLong, Refused}
 use Rattle.dq_runs.specs.declared.outputs.Output.{Output}
 use Rattle.dq_verdicts.specs.Outputs.{IsVerdictOutput}
-use Rattle.dq_verdicts.specs.Shown.{IsVerdict}
-use Rattle.dq_verdicts.specs.Verdicts.{Verdict, is_true, is_false, is_unknown, verdict_status, printed_verdict}
+use Rattle.dq_verdicts.specs.Verdicts.{printed_verdict}
 use Rattle.dq_verdicts.specs.declared.demonstrations.Demonstration.{Demonstration}
 use Rattle.dq_verdicts.specs.declared.demonstrations.Demonstration.TheVariants.{Valid, Large, CutOff}
-use Rattle.dqsolve_words.specs.Command.{Search, Planting, Command, solve, demo, default_steps}
-use Rattle.dqsolve_words.specs.Words.{search_of, planting_of, command_said}
+use Rattle.dqsolve_words.specs.Command.{Search, Planting, Command, solve, demo, pec, encode, default_steps}
+use Rattle.dqsolve_words.specs.Words.{search_of, planting_of, comparison_of, command_said}
 use Rattle.dqsolve_words.specs.declared.requests.SolveWords.{SolveWords}
 use Rattle.dqsolve_words.specs.declared.requests.DemoWords.{DemoWords}
+use Rattle.dqsolve_words.specs.declared.requests.PecWords.{PecWords}
 use Rattle.dqsolve_words.specs.declared.requests.CommandWords.{CommandWords}
-use Rattle.dqsolve_words.specs.declared.requests.CommandWords.TheVariants.{Solve, Demo}
+use Rattle.dqsolve_words.specs.declared.requests.CommandWords.TheVariants.{Solve, Demo, Pec}
 use Rattle.dqsolve_core.specs.Outputs.{IsReported, IsDemoOutput}
 use Rattle.dqsolve_core.specs.Report.{SearchReport, no_formula, solved, printed_search, printed_demo, demonstration_status}
-use Rattle.dqsolve_core.specs.Running.{IsDueFor, IsDue, IsRunLog, IsOwnLog, IsDemonstration, steps_asked}
-
-status_of : (output : Output) (p : Printed) → printed output ≡ p → output.status ≡ p.status
-status_of output p same = ap (λ (q : Printed). q.status) same
+use Rattle.dqsolve_core.specs.Running.{IsDueFor, IsDue, IsRunLog, IsOwnLog, IsDemonstration, SeeksVerdict, steps_asked}
+use Rattle.dqsolve_core.proofs.CircuitRuns.{comparison_reasons, encode_reasons, comparison_steps}
+use Rattle.dqsolve_core.proofs.Statuses.{status_of, not_long, Reasons, verdict_reasons, verdict_steps}
 
 -- ---- what the words ask for
 
@@ -48,12 +46,12 @@ pub demo_asked : (asked : Option Command) (answer : Option CommandWords) (w : Co
     → answer ≡ Some w → w ≡ Demo s → asked ≡ Some (demo (planting_of s))
 demo_asked asked answer w s said is kind = sym said ∙ ap (option_map command_said) (is ∙ ap Some kind)
 
--- ---- the parts
+pub pec_asked : (asked : Option Command) (answer : Option CommandWords) (w : CommandWords) (s : PecWords) →
+    option_map command_said answer ≡ asked
+    → answer ≡ Some w → w ≡ Pec s → asked ≡ Some (pec (comparison_of s))
+pec_asked asked answer w s said is kind = sym said ∙ ap (option_map command_said) (is ∙ ap Some kind)
 
-not_long : (verdict : Verdict) → verdict_status verdict ≡ 6 → ⊥
-not_long (is_true _ _) same = omega (arith, same)
-not_long (is_false _) same = omega (arith, same)
-not_long (is_unknown _ _) same = omega (arith, same)
+-- ---- the parts
 
 -- a verdict
 pub verdict_reported : (before now : FilesState) (log : ProofLog) (c : Search) (f : Dqbf) (r : Result Output Memory) →
@@ -134,33 +132,6 @@ ends before now asked log sink sink_now (Ok output) status o end =
     inr (record { printed = printed output; is_due = o.due; delivered = end })
 ends before now asked log sink sink_now (Err _) status o end = inl end
 
--- which statuses a report has
-record Reasons (before now : FilesState) (asked : Option Command) (status : ℕ) : Type 0 where
-  pub words : status ≡ 1 → asked ≡ None
-  pub source : status ≡ 3 → Rose before.faults now.faults
-  pub delivered : status ≢ 4
-
-verdict_reasons : (before now : FilesState) (c : Command) (verdict : Verdict) →
-    Reasons before now (Some c) (verdict_status verdict)
-verdict_reasons before now c (is_true _ _) = record {
-  words = λ h. absurd (omega (arith, h));
-  source =
-      λ h. absurd (omega (arith, h));
-  delivered = λ h. omega (arith, h);
-}
-verdict_reasons before now c (is_false _) = record {
-  words = λ h. absurd (omega (arith, h));
-  source =
-      λ h. absurd (omega (arith, h));
-  delivered = λ h. omega (arith, h);
-}
-verdict_reasons before now c (is_unknown _ _) = record {
-  words = λ h. absurd (omega (arith, h));
-  source =
-      λ h. absurd (omega (arith, h));
-  delivered = λ h. omega (arith, h);
-}
-
 demo_reasons : (before now : FilesState) (c : Command) (shown : Demonstration) →
     Reasons before now (Some c) (demonstration_status shown)
 demo_reasons before now c Valid = record {
@@ -213,6 +184,10 @@ reasons before now (Some (solve c)) log p (report, due, same) =
 reasons before now (Some (demo d)) log p (due, picks) =
     subst (λ (q : Printed). Reasons before now (Some (demo d)) q.status) (sym due.is_printed)
     (demo_reasons before now (demo d) due.shown)
+reasons before now (Some (pec c)) log p (report, due, same) =
+    subst (λ (q : Printed). Reasons before now (Some (pec c)) q.status) (sym same)
+    (comparison_reasons before now log c report due)
+reasons before now (Some (encode c)) log p due = encode_reasons before now c p due
 
 pub causes : (before now : FilesState) (asked : Option Command) (log : ProofLog) (sink sink_now : SinkState)
     (r : Result Output Memory) (status : ℕ) → now.held ≡ before.held
@@ -254,12 +229,6 @@ causes before now asked log sink sink_now (Err _) status held o unwritten =
 
 -- ---- where no verdict was found
 
-verdict_steps : (f : Dqbf) (log : ProofLog) (bare : Bool) (verdict : Verdict) → IsVerdict f f log bare verdict →
-    verdict_status verdict ≡ 0 → steps_of log.entries ≡ log.limit
-verdict_steps f log bare (is_true _ _) v zero = absurd (omega (arith, zero))
-verdict_steps f log bare (is_false _) v zero = absurd (omega (arith, zero))
-verdict_steps f log bare (is_unknown _ _) v zero = v.shown.limit
-
 demo_steps : (p : Planting) (log : ProofLog) (clauses : ℕ) (shown : Demonstration) →
     IsDemonstration p log clauses shown → demonstration_status shown ≡ 0 → steps_of log.entries ≡ log.limit
 demo_steps p log clauses Valid d zero = absurd (omega (arith, zero))
@@ -274,12 +243,15 @@ search_steps before now log c (no_formula TooLong) due zero = absurd (omega (ari
 search_steps before now log c (no_formula (Refused l name)) due zero = absurd (omega (arith, zero))
 search_steps before now log c (solved f verdict) due zero = verdict_steps f log c.bare verdict due.2 zero
 
-all_steps : (before now : FilesState) (c : Command) (log : ProofLog) (p : Printed) → IsDue before now log (Some c) p →
-    p.status ≡ 0 → steps_of log.entries ≡ log.limit
-all_steps before now (solve c) log p (report, due, same) zero =
+all_steps : (before now : FilesState) (c : Command) (log : ProofLog) (p : Printed) → SeeksVerdict c →
+    IsDue before now log (Some c) p → p.status ≡ 0 → steps_of log.entries ≡ log.limit
+all_steps before now (solve c) log p seeks (report, due, same) zero =
     search_steps before now log c report due (sym (ap (λ (q : Printed). q.status) same) ∙ zero)
-all_steps before now (demo d) log p (due, picks) zero = demo_steps d log due.clauses due.shown due.is
+all_steps before now (demo d) log p seeks (due, picks) zero = demo_steps d log due.clauses due.shown due.is
     (sym (ap (λ (q : Printed). q.status) due.is_printed) ∙ zero)
+all_steps before now (pec c) log p seeks (report, due, same) zero =
+    comparison_steps before now log c report due (sym (ap (λ (q : Printed). q.status) same) ∙ zero)
+all_steps before now (encode c) log p seeks due zero = absurd seeks
 
 pub own_log : (before now : FilesState) (asked : Option Command) (log : ProofLog) (sink sink_now : SinkState)
     (r : Result Output Memory) (status : ℕ)
@@ -289,7 +261,7 @@ pub own_log : (before now : FilesState) (asked : Option Command) (log : ProofLog
 own_log before now asked log sink sink_now (Ok output) status o limit work (inl w) = record {
   work = work;
   limit = λ c is _. limit c is;
-  unknown = λ c is seeks zero. all_steps before now c log (printed output)
+  unknown = λ c is seeks zero. all_steps before now c log (printed output) seeks
       (subst (λ command. IsDue before now log command (printed output)) is o.due) (sym w.ends_with ∙ zero);
 }
 own_log before now asked log sink sink_now (Ok output) status o limit work (inr cut) =

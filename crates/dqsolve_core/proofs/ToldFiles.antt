@@ -28,10 +28,10 @@ pub record FormulaLaw : Type 0 where
   pub exact : (text : List ℕ) (f : Dqbf) → SpellsFormula text f → reading text ≡ Ok f
   pub unique : (text : List ℕ) (f g : Dqbf) → SpellsFormula text f → SpellsFormula text g → f ≡ g
 
-held_text : (holding : Holding) (bytes text : List ℕ) → holding ≡ Holds bytes → IsTextOf holding text → text ≡ bytes
+pub held_text : (holding : Holding) (bytes text : List ℕ) → holding ≡ Holds bytes → IsTextOf holding text → text ≡ bytes
 held_text holding bytes text is has = subst (λ h. IsTextOf h text) is has
 
-held_long : (limit : ℕ) (holding : Holding) (bytes : List ℕ) → holding ≡ Holds bytes → IsLong limit holding →
+pub held_long : (limit : ℕ) (holding : Holding) (bytes : List ℕ) → holding ≡ Holds bytes → IsLong limit holding →
     limit < length bytes
 held_long limit holding bytes is long = subst (λ h. IsLong limit h) is long
 

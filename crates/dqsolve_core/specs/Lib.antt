@@ -1,4 +1,6 @@
+pub mod OneAnswer
 pub mod Outputs
 pub mod Report
 pub mod Running
 pub mod Told
+pub mod ToldCircuits

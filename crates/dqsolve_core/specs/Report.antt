@@ -1,5 +1,5 @@
 -- What a run of the solver says.
-use Rattle.std.specs.Prelude.{ℕ, List, ◌++◌, codes}
+use Rattle.std.specs.Prelude.{ℕ, false, List, ◌++◌, codes}
 use Rattle.std.specs.Fmt.{decimal}
 use Rattle.dq_lits.specs.Formula.{Dqbf}
 use Rattle.dq_runs.specs.FormulaFiles.{formula_line}
@@ -9,10 +9,25 @@ use Rattle.dq_verdicts.specs.Verdicts.{Verdict, printed_verdict}
 use Rattle.dq_verdicts.specs.declared.demonstrations.Demonstration.{Demonstration}
 use Rattle.dq_verdicts.specs.declared.demonstrations.Demonstration.TheVariants.{Valid, Large, CutOff}
 use Rattle.dqsolve_words.specs.Command.{Search, Planting}
+use Rattle.pec_runs.specs.DesignFiles.{design_line}
+use Rattle.pec_runs.specs.declared.designs.NoDesign.{NoDesign}
 
 abbrev pub usage : Printed
 usage =
-    usage_line (codes "dqsolve solve [--steps N] [--bare] FILE / dqsolve demo SEED SIZE")
+    usage_line
+    (codes "dqsolve solve [--steps N] [--bare] FILE / dqsolve demo SEED SIZE"
+    ++ codes " / dqsolve pec [--steps N] SPEC IMPL / dqsolve encode SPEC IMPL")
+
+-- what is said of the files of two circuits that are to be compared
+pub data ComparisonReport : Type 0 where
+  -- the files give no design
+  no_design : NoDesign → ComparisonReport
+  -- what was found for the design's formula
+  compared : Dqbf → Verdict → ComparisonReport
+
+abbrev pub printed_comparison : ComparisonReport → Printed
+printed_comparison (no_design said) = design_line said
+printed_comparison (compared f verdict) = printed_verdict false f verdict
 
 -- what is said of a formula's file that is to be searched
 pub data SearchReport : Type 0 where

@@ -1,17 +1,19 @@
 -- Which report of the solver is due, and whose the log is.
-use Rattle.std.specs.Prelude.{◌≡◌, ◌≢◌, ℕ, ◌⊎◌, [], length, Option, None, Some}
+use Rattle.std.specs.Prelude.{◌≡◌, ◌≢◌, false, ℕ, ◌⊎◌, [], length, Option, None, Some}
 use Rattle.dq_io.specs.State.{FilesState}
 use Rattle.dq_lits.specs.Formula.{Dqbf}
 use Rattle.hint_log.specs.Entries.{ProofLog, steps_of}
 use Rattle.hint_log.specs.ProductiveLog.{IsProductiveLog}
 use Rattle.planted_formulas.specs.Planted.{planted_formula}
-use Rattle.dq_runs.specs.FileTexts.{PickedOnce}
+use Rattle.dq_runs.specs.FileTexts.{PickedOnce, PickedTwice}
 use Rattle.dq_runs.specs.FormulaFiles.{IsFormulaOf, IsNoFormula}
 use Rattle.dq_runs.specs.Printed.{Printed}
 use Rattle.dq_verdicts.specs.Shown.{IsVerdict, IsDemonstrated}
 use Rattle.dq_verdicts.specs.declared.demonstrations.Demonstration.{Demonstration}
-use Rattle.dqsolve_words.specs.Command.{Search, Planting, Command, solve, demo, default_steps}
-use Rattle.dqsolve_core.specs.Report.{SearchReport, no_formula, solved, usage, printed_search, printed_demo}
+use Rattle.pec_runs.specs.DesignFiles.{IsNoDesign, IsDesignFormula}
+use Rattle.pec_runs.specs.Encoded.{IsEncodeDue}
+use Rattle.dqsolve_words.specs.Command.{Search, Planting, Comparison, Command, solve, demo, pec, encode, default_steps}
+use Rattle.dqsolve_core.specs.Report.{SearchReport, no_formula, solved, ComparisonReport, no_design, compared, usage, printed_search, printed_comparison, printed_demo}
 
 -- Which report is due for a search, by what the files told before the run and tell behind it, and
 -- by the search's log: the formula's file comes first, then its text, then the search. No other
@@ -38,6 +40,16 @@ pub record IsDemoDue (log : ProofLog) (p : Planting) (printed : Printed) : Type 
   pub is : IsDemonstration p log clauses shown
   pub is_printed : printed ≡ printed_demo p clauses shown
 
+-- which report is due for a comparison: the files come first, then their texts, then the search
+abbrev pub IsDueForCircuits : FilesState → FilesState → ProofLog → Comparison → ComparisonReport
+    → Type 0
+IsDueForCircuits before now log c (no_design said) =
+    IsNoDesign before now c.circuits.specification c.circuits.implementation said
+IsDueForCircuits before now log c (compared f verdict) =
+    IsDesignFormula (before.held c.circuits.specification)
+    (before.held c.circuits.implementation) f
+    × (log.limit ≡ c.steps) × IsVerdict f f log false verdict × PickedTwice before now
+
 -- the words come before all; for a planted formula no file is picked
 abbrev pub IsDue : FilesState → FilesState → ProofLog → Option Command → Printed → Type 0
 IsDue before now log None printed = (printed ≡ usage) × (now.picks ≡ before.picks)
@@ -46,15 +58,25 @@ IsDue before now log (Some (solve c)) printed =
     × (printed ≡ printed_search c report)
 IsDue before now log (Some (demo p)) printed =
     IsDemoDue log p printed × (now.picks ≡ before.picks)
+IsDue before now log (Some (pec c)) printed =
+    (report : ComparisonReport) × IsDueForCircuits before now log c report
+    × (printed ≡ printed_comparison report)
+IsDue before now log (Some (encode c)) printed =
+    IsEncodeDue before now c.specification c.implementation printed
 
 -- the formula that is asked for: the one that is read, or the planted one
 abbrev pub IsAskedFormula : FilesState → Command → Dqbf → Type 0
 IsAskedFormula files (solve c) f = IsFormulaOf (files.held c.file) f
 IsAskedFormula files (demo p) f = f ≡ planted_formula p.seed p.size
+IsAskedFormula files (pec c) f =
+    IsDesignFormula (files.held c.circuits.specification) (files.held c.circuits.implementation) f
+IsAskedFormula files (encode c) f = ⊥
 
 abbrev pub steps_asked : Command → ℕ
 steps_asked (solve c) = c.steps
 steps_asked (demo p) = default_steps
+steps_asked (pec c) = c.steps
+steps_asked (encode c) = 0
 
 -- the log's work was for the formula that was asked for, and all of it productive
 pub record IsWorkOn (files : FilesState) (asked : Option Command) (log : ProofLog) : Type 0 where
@@ -73,6 +95,8 @@ IsRunLog files asked log = (log.entries ≡ []) ⊎ IsWorkOn files asked log
 abbrev pub SeeksVerdict : Command → Type 0
 SeeksVerdict (solve c) = Unit {0}
 SeeksVerdict (demo p) = Unit {0}
+SeeksVerdict (pec c) = Unit {0}
+SeeksVerdict (encode c) = ⊥
 
 -- The log is the run's own: of productive work, in as many steps as are asked for, all of which are
 -- done where no verdict was found.

@@ -16,6 +16,7 @@ use Rattle.dq_verdicts.specs.declared.demonstrations.Demonstration.{Demonstratio
 use Rattle.dqsolve_words.specs.Command.{Search, Planting, Command, solve, demo, default_steps}
 use Rattle.dqsolve_core.specs.Report.{demo_text, demonstration_status}
 use Rattle.dqsolve_core.specs.Running.{IsDemonstration}
+use Rattle.dqsolve_core.specs.ToldCircuits.{ComparesTold}
 
 -- the command names a file with this text
 pub record IsTold (held : List ℕ → Holding) (asked : Option Command)
@@ -66,3 +67,9 @@ pub record SolvesTold (files now : FilesState) (asked : Option Command) (log : P
   pub demonstrated : (p : Planting) → asked ≡ Some (demo p)
       → ¬ Rose sink.faults sink_now.faults → status ≢ 5
       → IsDemonstratedRun p log sink.taken sink_now.taken status
+
+-- over files that are told: a formula's, two circuits'
+pub record ShowsTold (files now : FilesState) (asked : Option Command) (log : ProofLog)
+    (sink sink_now : SinkState) (status : ℕ) : Type 0 where
+  pub formula : SolvesTold files now asked log sink sink_now status
+  pub circuits : ComparesTold files asked log sink sink_now status

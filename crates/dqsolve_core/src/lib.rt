@@ -1,4 +1,5 @@
-//! The solver: whether a formula is true or false, with a certificate.
+//! The solver: whether a formula is true or false, or whether black boxes can be filled, with a
+//! certificate.
 //!
 //! `dqsolve_run` is a whole run of the program `dqsolve`: its contract says what is written and
 //! with which status it ends. What is written with a verdict the checker accepts, by the laws of
@@ -8,4 +9,5 @@
 pub use run::dqsolve_run;
 
 mod demos;
+pub mod laws;
 mod run;

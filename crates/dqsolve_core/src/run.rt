@@ -1,4 +1,4 @@
-//! A whole run: the words, the file, the search, and what is written.
+//! A whole run: the words, the files, the search, and what is written.
 
 ghost use Rattle.std.specs.Prelude.{◌≡◌, ◌≤◌, ◌⊎◌, [], map, string_bytes, Some, IfOk};
 ghost use Rattle.dq_io.specs.State.{state_of};
@@ -7,11 +7,11 @@ ghost use Rattle.hint_log.specs.ProductiveLog.{IsProductiveLog};
 ghost use Rattle.planted_formulas.specs.Planted.{planted_formula};
 ghost use Rattle.dq_runs.specs.Ending.{Ends, HasCauses};
 ghost use Rattle.dq_runs.specs.Sinks.{sink_of};
-ghost use Rattle.dqsolve_words.specs.Command.{Command, solve, command_of, most_seed, least_size, most_size, default_steps};
-ghost use Rattle.dqsolve_words.specs.Words.{search_of, planting_of};
+ghost use Rattle.dqsolve_words.specs.Command.{Command, solve, pec, command_of, most_seed, least_size, most_size, default_steps};
+ghost use Rattle.dqsolve_words.specs.Words.{search_of, planting_of, comparison_of};
 ghost use Rattle.dqsolve_core.specs.Outputs.{IsReported, IsDemoOutput};
 ghost use Rattle.dqsolve_core.specs.Running.{IsDue, IsRunLog, IsOwnLog, steps_asked};
-ghost use Rattle.dqsolve_core.specs.Told.{SolvesTold};
+ghost use Rattle.dqsolve_core.specs.Told.{ShowsTold};
 
 use crate::demos::demo_output;
 use dq_io::{Files, Sink};
@@ -20,8 +20,10 @@ use dq_runs::{FormulaStop, Output, deliver, outputs, read_formula};
 use dq_verdicts::solve;
 use dqdimacs_reader::laws::formula_or_first_fault;
 use dqsolve_words::laws::numbers_are_in_range;
-use dqsolve_words::{CommandWords, DemoWords, SolveWords, command_words};
+use dqsolve_words::{CommandWords, DemoWords, PecWords, SolveWords, command_words};
 use hint_log::Log;
+use pec_front::laws::{certified_boxes_fit, design_formulas_are_well_formed, fitting_boxes_choose};
+use pec_runs::{DesignStop, encode, read_design_formula};
 use planted_formulas::planted_formula;
 use std::alloc::Global;
 
@@ -29,16 +31,21 @@ use std::alloc::Global;
 const DEFAULT_STEPS: u64 = 1_000_000;
 
 /// The commands, as the usage line has them.
-const COMMANDS: &str = "dqsolve solve [--steps N] [--bare] FILE / dqsolve demo SEED SIZE";
+const COMMANDS: &str = concat!(
+    "dqsolve solve [--steps N] [--bare] FILE / dqsolve demo SEED SIZE",
+    " / dqsolve pec [--steps N] SPEC IMPL / dqsolve encode SPEC IMPL",
+);
 
 /// Decides the formula in a file, and writes the verdict with a certificate; or decides a planted
-/// formula, judges the certificate, and writes a line on it.
+/// formula, judges the certificate, and writes a line on it; or decides whether the black boxes of a
+/// circuit can be filled as its specification asks, or writes the formula of that question.
 ///
-/// The words are the program's name and those of `solve [--steps N] [--bare] FILE` or of `demo SEED
-/// SIZE`, as clap reads them. The log is emptied first, and then has the search's entries. The
-/// status is 10 where the formula is true, 20 where it is false, 0 where the steps didn't suffice,
-/// 1 where the words are others, 2 where the formula's text has a fault, 3 where the file can't be
-/// read, 4 where the text can't be written, 5 for want of memory, and 6 where the file is too long.
+/// The words are the program's name and those of one command, as clap reads them (`COMMANDS`). The
+/// log is emptied first, and then has the search's entries. The status is 10 where the formula is
+/// true, 20 where it is false, 0 where the steps didn't suffice or the formula was written, 1 where
+/// the words are others, 2 where the formula's text has a fault, 3 where a file can't be read, 4
+/// where the text can't be written, 5 for want of memory, 6 where a file is too long, and 7 where a
+/// circuit or its boxes are refused.
 pub fn dqsolve_run<F: Files, K: Sink>(
     alloc: Global,
     words: &[String],
@@ -56,9 +63,10 @@ pub fn dqsolve_run<F: Files, K: Sink>(
     ensures log { IsOwnLog (state_of F.Files files.old) (command_of (map string_bytes words.now))
         log.new result }
 
-    // Over a file that is told, a verdict is right, and where nothing failed, there is one. A
-    // planted formula is searched, and its certificate judged.
-    ensures told { SolvesTold (state_of F.Files files.old) (state_of F.Files files.new)
+    // Over files that are told, what is written is right, and where nothing failed, there is an
+    // answer: a verdict on a formula, a line on a planted one, a verdict on the boxes of a design or
+    // its formula, or the first refusal of two circuits.
+    ensures told { ShowsTold (state_of F.Files files.old) (state_of F.Files files.new)
         (command_of (map string_bytes words.now)) log.new
         (sink_of K.Sink out.old) (sink_of K.Sink out.new) result }
 
@@ -68,6 +76,8 @@ pub fn dqsolve_run<F: Files, K: Sink>(
         (sink_of K.Sink out.old) (sink_of K.Sink out.new) result }
 {
     formula_or_first_fault();
+    certified_boxes_fit();
+    fitting_boxes_choose();
     let output = report(alloc, words, files, log);
     deliver(out, output)
 }
@@ -94,6 +104,8 @@ fn report<F: Files>(
         None => outputs::usage(alloc, COMMANDS),
         Some(CommandWords::Solve(asked)) => report_file(alloc, asked, files, log),
         Some(CommandWords::Demo(asked)) => report_demo(alloc, asked, log),
+        Some(CommandWords::Pec(asked)) => report_circuits(alloc, asked, files, log),
+        Some(CommandWords::Encode(asked)) => encode(alloc, files, asked.spec, asked.imp),
     }
 }
 
@@ -110,6 +122,36 @@ fn report_demo(alloc: Global, asked: DemoWords, log: &mut Log) -> Result<Output,
     log.rewind(DEFAULT_STEPS);
     let f = planted_formula(alloc, asked.seed, asked.size)?;
     demo_output(alloc, asked, &f, log)
+}
+
+// What is to be written of two circuits that are compared.
+fn report_circuits<F: Files>(
+    alloc: Global,
+    comparison: PecWords,
+    files: &mut F,
+    log: &mut Log,
+) -> Result<Output, Memory>
+    requires steps { comparison.steps ≤ max_count }
+    ensures reported { IfOk result
+        (IsReported (state_of F.Files files.old) (state_of F.Files files.new)
+        (Some (pec (comparison_of comparison.entry))) log.new) }
+    ensures log { IsRunLog (state_of F.Files files.old)
+        (Some (pec (comparison_of comparison.entry))) log.new }
+    ensures limit { log.new.limit ≡ comparison.entry.steps }
+    ensures held { F.held files.new ≡ F.held files.old }
+{
+    design_formulas_are_well_formed();
+    log.rewind(comparison.steps);
+    match read_design_formula(
+        alloc,
+        files,
+        comparison.circuits.spec,
+        comparison.circuits.imp,
+    ) {
+        Ok(formula) => solve(alloc, &formula, false, log),
+        Err(DesignStop::Memory) => Err(Memory),
+        Err(DesignStop::Said(said)) => said.output(alloc),
+    }
 }
 
 // What is to be written where the words name a file.

@@ -11,13 +11,16 @@ use Rattle.clap.specs.Walk.{Row, Text, first_of}
 use Rattle.clap.specs.declared.builder.value_parser.ValueParser.TheVariants as vp
 use Rattle.clap.proofs.ValueTestLemmas.{accepts-Accepts, Accepts-accepts}
 use Rattle.std.specs.Str.{bytes_eq}
-use Rattle.dqsolve_words.specs.Command.{Search, Planting, Command, solve, demo, IsInRange, number_in, steps_in, solve_in, demo_in, command_in, has_flag, without_fault, command_of, solver_app, least_steps, most_steps, default_steps, most_seed, least_size, most_size}
+use Rattle.dqsolve_words.specs.Command.{Search, Planting, Circuits, Comparison, Command, solve, demo, pec, encode, IsInRange, number_in, steps_in, solve_in, demo_in, circuits_in, pec_in, command_in, has_flag, without_fault, command_of, solver_app, least_steps, most_steps, default_steps, most_seed, least_size, most_size}
 
 abbrev search : ℕ → Bool → Text → Search
 search steps bare file = record { steps = steps; bare = bare; file = file }
 
 abbrev planting : ℕ → ℕ → Planting
 planting seed size = record { seed = seed; size = size }
+
+abbrev comparison : ℕ → Circuits → Comparison
+comparison steps circuits = record { steps = steps; circuits = circuits }
 
 abbrev value : Text → ℕ
 value text = digits_value 10 (without_leading_plus text)
@@ -102,20 +105,38 @@ demo_by (Some s) None seeds sizes c is = cc
 demo_by (Some s) (Some z) seeds sizes c is = subst IsInRange (same_command (demo (planting s z)) c is)
     (let (low, high) = sizes z refl in ((seeds s refl).1, low, high))
 
-asked_by : (rows : List Row) (b : Bool) (c : Command) → cond b (option_map demo (demo_in rows))
-    (option_map solve (solve_in rows)) ≡ Some c → IsInRange c
-asked_by rows true c is =
+pec_by : (circuits : Option Circuits) (steps : Option ℕ) → ((n : ℕ) → steps ≡ Some n →
+    (least_steps ≤ n) × (n ≤ most_steps)) → (c : Command)
+    → option_map pec (option_and_then (λ (two : Circuits). option_map (λ (n : ℕ). comparison n two) steps) circuits)
+    ≡ Some c → IsInRange c
+pec_by None steps range c is = cc
+pec_by (Some two) None range c is = cc
+pec_by (Some two) (Some n) range c is = subst IsInRange (same_command (pec (comparison n two)) c is) (range n refl)
+
+encode_by : (circuits : Option Circuits) (c : Command) → option_map encode circuits ≡ Some c → IsInRange c
+encode_by None c is = cc
+encode_by (Some two) c is = subst IsInRange (same_command (encode two) c is) tt
+
+asked_by : (rows : List Row) (b p e : Bool) (c : Command)
+    → cond b (option_map demo (demo_in rows)) (cond p (option_map pec (pec_in rows))
+    (cond e (option_map encode (circuits_in rows)) (option_map solve (solve_in rows)))) ≡ Some c
+    → IsInRange c
+asked_by rows true p e c is =
     demo_by (option_and_then (number_in 0 most_seed) (first_of (codes "SEED") rows))
     (option_and_then (number_in least_size most_size) (first_of (codes "SIZE") rows))
     (found_range 0 most_seed (first_of (codes "SEED") rows))
     (found_range least_size most_size (first_of (codes "SIZE") rows)) c is
-asked_by rows false c is =
+asked_by rows false true e c is =
+    pec_by (circuits_in rows) (steps_in rows) (steps_range (first_of (codes "steps") rows)) c is
+asked_by rows false false true c is = encode_by (circuits_in rows) c is
+asked_by rows false false false c is =
     solve_by (first_of (codes "FILE") rows) (steps_in rows) (has_flag (codes "bare") rows)
     (steps_range (first_of (codes "steps") rows)) c is
 
 command_range : (sub : Option (Text × List Row)) (c : Command) → command_in sub ≡ Some c → IsInRange c
 command_range None c is = cc
-command_range (Some p) c is = asked_by p.1 (bytes_eq p.0 (codes "demo")) c is
+command_range (Some p) c is =
+    asked_by p.1 (bytes_eq p.0 (codes "demo")) (bytes_eq p.0 (codes "pec")) (bytes_eq p.0 (codes "encode")) c is
 
 by_fault : (kinds : Kinds) (given : Option Command) → ((c : Command) → given ≡ Some c → IsInRange c) → (c : Command) →
     without_fault kinds given ≡ Some c → IsInRange c

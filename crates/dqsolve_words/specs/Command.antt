@@ -23,11 +23,25 @@ pub record Planting : Type 0 where
   pub seed : ℕ
   pub size : ℕ
 
+-- the names of the files of a specification, and of an implementation with black boxes
+pub record Circuits : Type 0 where
+  pub specification : List ℕ
+  pub implementation : List ℕ
+
+-- a search for functions that fill the boxes, with so many steps at most
+pub record Comparison : Type 0 where
+  pub steps : ℕ
+  pub circuits : Circuits
+
 pub data Command : Type 0 where
   -- a search on the formula in a file
   solve : Search → Command
   -- a search on a planted formula
   demo : Planting → Command
+  -- a search for functions of black boxes
+  pec : Comparison → Command
+  -- the formula of such a search
+  encode : Circuits → Command
 
 -- an argument that is known by its place, has to be there, and is given once
 abbrev pub required_word : List ℕ → Rule
@@ -57,11 +71,32 @@ demo_shape = record (without_flags (new_shape (codes "demo"))) {
   rules = required_word (codes "SEED") ∷ required_word (codes "SIZE") ∷ [];
 }
 
--- dqsolve, with its subcommands and without `help`
+-- pec [--steps N] SPEC IMPL
+abbrev pub pec_shape : Shape
+pec_shape = record (without_flags (new_shape (codes "pec"))) {
+  rules =
+      value_option (codes "steps") ∷ required_word (codes "SPEC") ∷ required_word (codes "IMPL")
+      ∷ [];
+}
+
+-- encode SPEC IMPL
+abbrev pub encode_shape : Shape
+encode_shape = record (without_flags (new_shape (codes "encode"))) {
+  rules = required_word (codes "SPEC") ∷ required_word (codes "IMPL") ∷ [];
+}
+
+-- dqsolve without subcommands, not even `help`
+abbrev pub bare_app : App
+bare_app = on_top (λ top. record (without_flags top) { disable_help_subcommand = true })
+    (new_app (codes "dqsolve"))
+
+-- with the subcommands on formulas
+abbrev pub formula_app : App
+formula_app = with_subcommand (with_subcommand bare_app solve_shape) demo_shape
+
+-- dqsolve, with its subcommands
 abbrev pub solver_app : App
-solver_app = with_subcommand (with_subcommand
-    (on_top (λ top. record (without_flags top) { disable_help_subcommand = true })
-    (new_app (codes "dqsolve"))) solve_shape) demo_shape
+solver_app = with_subcommand (with_subcommand formula_app pec_shape) encode_shape
 
 abbrev pub least_steps : ℕ
 least_steps = 1
@@ -84,6 +119,8 @@ most_size = 10000
 abbrev pub IsInRange : Command → Type 0
 IsInRange (solve s) = (least_steps ≤ s.steps) × (s.steps ≤ most_steps)
 IsInRange (demo p) = (p.seed ≤ most_seed) × (least_size ≤ p.size) × (p.size ≤ most_size)
+IsInRange (pec c) = (least_steps ≤ c.steps) × (c.steps ≤ most_steps)
+IsInRange (encode c) = Unit {0}
 
 -- a number in a range, in decimal digits, perhaps behind a plus
 abbrev pub number_in : ℕ → ℕ → List ℕ → Option ℕ
@@ -118,10 +155,26 @@ demo_in rows = option_and_then
     (option_and_then (number_in least_size most_size) (first_of (codes "SIZE") rows)))
     (option_and_then (number_in 0 most_seed) (first_of (codes "SEED") rows))
 
+-- the files that are named
+abbrev pub circuits_in : List Row → Option Circuits
+circuits_in rows = option_and_then
+    (λ spec.
+    option_map (λ imp. record { specification = spec; implementation = imp })
+    (first_of (codes "IMPL") rows))
+    (first_of (codes "SPEC") rows)
+
+-- what is asked of `pec`
+abbrev pub pec_in : List Row → Option Comparison
+pec_in rows = option_and_then
+    (λ circuits. option_map (λ steps. record { steps = steps; circuits = circuits }) (steps_in rows))
+    (circuits_in rows)
+
 -- what is asked of the subcommand of a name
 abbrev pub asked_of : List ℕ → List Row → Option Command
 asked_of name rows =
-    if bytes_eq name (codes "demo") then option_map demo (demo_in rows)
+    if bytes_eq name (codes "demo") then option_map demo (demo_in rows) else
+    if bytes_eq name (codes "pec") then option_map pec (pec_in rows) else
+    if bytes_eq name (codes "encode") then option_map encode (circuits_in rows)
     else option_map solve (solve_in rows)
 
 -- what is asked of the subcommand that was named

@@ -1,12 +1,19 @@
 -- Short words for command lines that are written out.
 use Rattle.std.specs.Prelude.{ℕ, Bool, List, ◌∷◌, Option, codes}
-use Rattle.dqsolve_words.specs.Command.{Command, solve, demo, command_of}
+use Rattle.dqsolve_words.specs.Command.{Command, solve, demo, pec, encode, command_of}
 
 abbrev pub solving : ℕ → Bool → List ℕ → Command
 solving steps bare file = solve (record { steps = steps; bare = bare; file = file })
 
 abbrev pub planting : ℕ → ℕ → Command
 planting seed size = demo (record { seed = seed; size = size })
+
+abbrev pub comparing : ℕ → List ℕ → List ℕ → Command
+comparing steps spec imp =
+    pec (record { steps = steps; circuits = record { specification = spec; implementation = imp } })
+
+abbrev pub encoding : List ℕ → List ℕ → Command
+encoding spec imp = encode (record { specification = spec; implementation = imp })
 
 -- what is asked for by `dqsolve` with these words
 abbrev pub dqsolve : List (List ℕ) → Option Command

@@ -1,9 +1,11 @@
 -- The command of words that were read.
-use Rattle.dqsolve_words.specs.Command.{Search, Planting, Command, solve, demo}
+use Rattle.dqsolve_words.specs.Command.{Search, Planting, Circuits, Comparison, Command, solve, demo, pec, encode}
 use Rattle.dqsolve_words.specs.declared.requests.SolveWords.{SolveWords}
 use Rattle.dqsolve_words.specs.declared.requests.DemoWords.{DemoWords}
+use Rattle.dqsolve_words.specs.declared.requests.CircuitWords.{CircuitWords}
+use Rattle.dqsolve_words.specs.declared.requests.PecWords.{PecWords}
 use Rattle.dqsolve_words.specs.declared.requests.CommandWords.{CommandWords}
-use Rattle.dqsolve_words.specs.declared.requests.CommandWords.TheVariants.{Solve, Demo}
+use Rattle.dqsolve_words.specs.declared.requests.CommandWords.TheVariants.{Solve, Demo, Pec, Encode}
 
 abbrev pub search_of : SolveWords → Search
 search_of w = record { steps = w.steps; bare = w.bare; file = w.file.now }
@@ -11,6 +13,14 @@ search_of w = record { steps = w.steps; bare = w.bare; file = w.file.now }
 abbrev pub planting_of : DemoWords → Planting
 planting_of w = record { seed = w.seed; size = w.size }
 
+abbrev pub circuits_of : CircuitWords → Circuits
+circuits_of w = record { specification = w.spec.now; implementation = w.imp.now }
+
+abbrev pub comparison_of : PecWords → Comparison
+comparison_of w = record { steps = w.steps; circuits = circuits_of w.circuits }
+
 abbrev pub command_said : CommandWords → Command
 command_said (Solve w) = solve (search_of w)
 command_said (Demo w) = demo (planting_of w)
+command_said (Pec w) = pec (comparison_of w)
+command_said (Encode w) = encode (circuits_of w)

@@ -2,7 +2,7 @@
 
 ghost use Rattle.std.specs.Prelude.{◌≡◌, true, false, [], ◌∷◌, Some, None, codes};
 ghost use Rattle.dqsolve_words.specs.Command.{command_of, default_steps};
-ghost use Rattle.dqsolve_words.specs.Examples.{solving, planting, dqsolve};
+ghost use Rattle.dqsolve_words.specs.Examples.{solving, planting, comparing, encoding, dqsolve};
 
 /// Options stand before or behind the name, the number of steps also behind `=`.
 pub fn options_are_taken()
@@ -44,6 +44,21 @@ pub fn plantings_are_taken()
     ensures sign { dqsolve (codes "demo" ∷ codes "-1" ∷ codes "3" ∷ []) ≡ None }
     ensures missing { dqsolve (codes "demo" ∷ codes "1" ∷ []) ≡ None }
     ensures option { dqsolve (codes "demo" ∷ codes "--bare" ∷ codes "1" ∷ codes "3" ∷ []) ≡ None }
+{}
+
+/// Two circuits are compared, or their formula is asked for.
+pub fn circuits_are_taken()
+    ensures pec { dqsolve (codes "pec" ∷ codes "s" ∷ codes "i" ∷ [])
+        ≡ Some (comparing default_steps (codes "s") (codes "i")) }
+    ensures steps { dqsolve (codes "pec" ∷ codes "s" ∷ codes "--steps" ∷ codes "7" ∷ codes "i" ∷ [])
+        ≡ Some (comparing 7 (codes "s") (codes "i")) }
+    ensures encode { dqsolve (codes "encode" ∷ codes "s" ∷ codes "i" ∷ [])
+        ≡ Some (encoding (codes "s") (codes "i")) }
+    ensures missing { dqsolve (codes "encode" ∷ codes "s" ∷ []) ≡ None }
+    ensures more { dqsolve (codes "pec" ∷ codes "s" ∷ codes "i" ∷ codes "j" ∷ []) ≡ None }
+    ensures bare { dqsolve (codes "pec" ∷ codes "--bare" ∷ codes "s" ∷ codes "i" ∷ []) ≡ None }
+    ensures encode_steps { dqsolve
+        (codes "encode" ∷ codes "--steps" ∷ codes "7" ∷ codes "s" ∷ codes "i" ∷ []) ≡ None }
 {}
 
 /// Other words are refused, not even those of most programs are taken.

@@ -5,8 +5,8 @@ ghost use Rattle.clap.specs.Simple.{app_of, shape_of, subcommand_rows_of};
 ghost use Rattle.clap.specs.Walk.{rows_of, rule_of, first_of};
 ghost use Rattle.clap.specs.Matches.{found_of};
 ghost use Rattle.clap.specs.declared.builder.command.Command.TheViews.{out-Command};
-ghost use Rattle.dqsolve_words.specs.Command.{command_of, command_in, asked_of, solver_app, solve_shape, demo_shape, required_word, value_option, flag, solve_in, demo_in, steps_in, number_in, has_flag, most_seed, least_size, most_size};
-ghost use Rattle.dqsolve_words.specs.Words.{search_of, planting_of, command_said};
+ghost use Rattle.dqsolve_words.specs.Command.{solve, demo, pec, encode, command_of, command_in, asked_of, formula_app, solver_app, solve_shape, demo_shape, pec_shape, encode_shape, required_word, value_option, flag, solve_in, demo_in, circuits_in, pec_in, steps_in, number_in, has_flag, most_seed, least_size, most_size};
+ghost use Rattle.dqsolve_words.specs.Words.{search_of, planting_of, circuits_of, comparison_of, command_said};
 
 use clap::error::ErrorKind;
 use clap::{Arg, ArgAction, ArgMatches, Command};
@@ -47,11 +47,27 @@ pub struct DemoWords {
     pub size: u64,
 }
 
+/// The names of the files of a specification, and of an implementation with black boxes.
+#[derive(Clone, Copy)]
+pub struct CircuitWords<'a> {
+    pub spec: &'a str,
+    pub imp: &'a str,
+}
+
+/// A search for functions that fill the boxes, with so many steps at most.
+#[derive(Clone, Copy)]
+pub struct PecWords<'a> {
+    pub steps: u64,
+    pub circuits: CircuitWords<'a>,
+}
+
 /// What the words ask for.
 #[derive(Clone, Copy)]
 pub enum CommandWords<'a> {
     Solve(SolveWords<'a>),
     Demo(DemoWords),
+    Pec(PecWords<'a>),
+    Encode(CircuitWords<'a>),
 }
 
 // An argument that is known by its place, has to be there, and is given once.
@@ -108,9 +124,39 @@ fn demo_command<'a>(alloc: Global) -> Result<Command<'a>, AllocError>
         .arg(size)
 }
 
-// `dqsolve`, with its subcommands.
-fn solver_command<'a>(alloc: Global) -> Result<Command<'a>, AllocError>
-    ensures { IfOk result (λ command. app_of command ≡ solver_app) }
+// `pec [--steps N] SPEC IMPL`.
+fn pec_command<'a>(alloc: Global) -> Result<Command<'a>, AllocError>
+    ensures shape { IfOk result (λ command. shape_of command ≡ pec_shape) }
+    ensures local { IfOk result (λ command. (out-Command command).has_globals ≡ false) }
+{
+    let steps = option_argument(alloc, "steps");
+    let spec = word_argument(alloc, "SPEC");
+    let imp = word_argument(alloc, "IMPL");
+    Command::new(alloc, "pec")
+        .disable_help_flag(true)
+        .disable_version_flag(true)
+        .arg(steps)?
+        .arg(spec)?
+        .arg(imp)
+}
+
+// `encode SPEC IMPL`.
+fn encode_command<'a>(alloc: Global) -> Result<Command<'a>, AllocError>
+    ensures shape { IfOk result (λ command. shape_of command ≡ encode_shape) }
+    ensures local { IfOk result (λ command. (out-Command command).has_globals ≡ false) }
+{
+    let spec = word_argument(alloc, "SPEC");
+    let imp = word_argument(alloc, "IMPL");
+    Command::new(alloc, "encode")
+        .disable_help_flag(true)
+        .disable_version_flag(true)
+        .arg(spec)?
+        .arg(imp)
+}
+
+// `dqsolve`, with the subcommands on formulas.
+fn formula_command<'a>(alloc: Global) -> Result<Command<'a>, AllocError>
+    ensures { IfOk result (λ command. app_of command ≡ formula_app) }
 {
     let solve = solve_command(alloc)?;
     let demo = demo_command(alloc)?;
@@ -120,6 +166,15 @@ fn solver_command<'a>(alloc: Global) -> Result<Command<'a>, AllocError>
         .disable_help_subcommand(true)
         .subcommand(solve)?
         .subcommand(demo)
+}
+
+// `dqsolve`, with its subcommands.
+fn solver_command<'a>(alloc: Global) -> Result<Command<'a>, AllocError>
+    ensures { IfOk result (λ command. app_of command ≡ solver_app) }
+{
+    let pec = pec_command(alloc)?;
+    let encode = encode_command(alloc)?;
+    formula_command(alloc)?.subcommand(pec)?.subcommand(encode)
 }
 
 // A number in a range.
@@ -195,20 +250,90 @@ fn demo_in<'a>(matches: &ArgMatches<'a>) -> Option<DemoWords>
     Some(DemoWords { seed, size })
 }
 
+// The files that the matches name.
+fn circuits_in<'a>(matches: &ArgMatches<'a>) -> Option<CircuitWords<'a>>
+    ensures { option_map circuits_of result ≡ circuits_in (rows_of (found_of matches.now)) }
+{
+    let Some(spec) = matches.get_str("SPEC") else {
+        return None;
+    };
+    let Some(imp) = matches.get_str("IMPL") else {
+        return None;
+    };
+    Some(CircuitWords { spec, imp })
+}
+
+// What the matches of `pec` ask for.
+fn pec_in<'a>(matches: &ArgMatches<'a>) -> Option<PecWords<'a>>
+    ensures { option_map comparison_of result ≡ pec_in (rows_of (found_of matches.now)) }
+{
+    let Some(circuits) = circuits_in(matches) else {
+        return None;
+    };
+    let Some(steps) = steps_in(matches) else {
+        return None;
+    };
+    Some(PecWords { steps, circuits })
+}
+
+// What the matches of `solve` ask for, as a command.
+fn solve_asked<'a>(matches: &ArgMatches<'a>) -> Option<CommandWords<'a>>
+    ensures { option_map command_said result
+        ≡ option_map solve (solve_in (rows_of (found_of matches.now))) }
+{
+    match solve_in(matches) {
+        Some(search) => Some(CommandWords::Solve(search)),
+        None => None,
+    }
+}
+
+// What the matches of `demo` ask for, as a command.
+fn demo_asked<'a>(matches: &ArgMatches<'a>) -> Option<CommandWords<'a>>
+    ensures { option_map command_said result
+        ≡ option_map demo (demo_in (rows_of (found_of matches.now))) }
+{
+    match demo_in(matches) {
+        Some(planting) => Some(CommandWords::Demo(planting)),
+        None => None,
+    }
+}
+
+// What the matches of `pec` ask for, as a command.
+fn pec_asked<'a>(matches: &ArgMatches<'a>) -> Option<CommandWords<'a>>
+    ensures { option_map command_said result
+        ≡ option_map pec (pec_in (rows_of (found_of matches.now))) }
+{
+    match pec_in(matches) {
+        Some(comparison) => Some(CommandWords::Pec(comparison)),
+        None => None,
+    }
+}
+
+// What the matches of `encode` ask for, as a command.
+fn encode_asked<'a>(matches: &ArgMatches<'a>) -> Option<CommandWords<'a>>
+    ensures { option_map command_said result
+        ≡ option_map encode (circuits_in (rows_of (found_of matches.now))) }
+{
+    match circuits_in(matches) {
+        Some(circuits) => Some(CommandWords::Encode(circuits)),
+        None => None,
+    }
+}
+
 // What the matches ask of the subcommand of a name.
 fn asked_of<'a>(name: &str, matches: &ArgMatches<'a>) -> Option<CommandWords<'a>>
     ensures { option_map command_said result ≡ asked_of name.now (rows_of (found_of matches.now)) }
 {
     if name == "demo" {
-        let Some(planting) = demo_in(matches) else {
-            return None;
-        };
-        return Some(CommandWords::Demo(planting));
+        return demo_asked(matches);
     }
-    match solve_in(matches) {
-        Some(search) => Some(CommandWords::Solve(search)),
-        None => None,
+    if name == "pec" {
+        return pec_asked(matches);
     }
+    if name == "encode" {
+        return encode_asked(matches);
+    }
+    solve_asked(matches)
 }
 
 // What the matches ask for.

@@ -31,6 +31,8 @@ pub struct Settings {
     pub program: Program,
     pub formula: Option<Vec<u8>>,
     pub certificate: Option<Vec<u8>>,
+    pub specification: Option<Vec<u8>>,
+    pub implementation: Option<Vec<u8>>,
     pub words: Vec<String>,
     pub reads: Calls,
     pub writes: Calls,
@@ -49,6 +51,8 @@ impl Settings {
             program,
             formula: None,
             certificate: None,
+            specification: None,
+            implementation: None,
             words: words_of(alloc, program, program.usual_words())?,
             reads: Calls::new(alloc),
             writes: Calls::new(alloc),
@@ -94,6 +98,17 @@ impl Settings {
         judge_over(alloc, &words, &mut files, log)
     }
 
+    /// What `encode` writes of the two circuits.
+    pub fn encode(&self, alloc: Global, log: &mut Log) -> Result<Ran> {
+        let words = words_of(
+            alloc,
+            Program::Solver,
+            "encode specification implementation",
+        )?;
+        let files = self.files(alloc)?;
+        encode_over(alloc, &words, files, log)
+    }
+
     fn hold_certificate(&self, files: &mut MemFiles, certificate: &[u8]) -> Result<()> {
         if let Some(formula) = &self.formula {
             files.hold("formula", formula)?;
@@ -116,8 +131,24 @@ impl Settings {
         if let Some(certificate) = &self.certificate {
             files.hold("certificate", certificate)?;
         }
+        self.hold_circuits(&mut files)?;
         Ok(files)
     }
+
+    fn hold_circuits(&self, files: &mut MemFiles) -> Result<()> {
+        if let Some(specification) = &self.specification {
+            files.hold("specification", specification)?;
+        }
+        if let Some(implementation) = &self.implementation {
+            files.hold("implementation", implementation)?;
+        }
+        Ok(())
+    }
+}
+
+fn encode_over(alloc: Global, words: &[String], mut files: MemFiles, log: &mut Log) -> Result<Ran> {
+    let sink = MemSink::new(alloc, usize::MAX, &[])?;
+    run_into(alloc, Program::Solver, words, &mut files, sink, log)
 }
 
 fn judge_over(alloc: Global, words: &[String], files: &mut MemFiles, log: &mut Log) -> Result<Ran> {

@@ -1,14 +1,16 @@
 //! The lines of a table.
 //!
-//! `formula` and `certificate` give the files' texts, whose lines are parted by ` / ` and each end
-//! with LF, but that a `\` at the end takes the last LF away; `\r` is a CR. `absent` takes both
-//! files away. `words` gives the words behind the program's name, `reads` the most bytes of a read
-//! and the numbers of the calls that fail, `writes` the same of the sink. `run` runs the program
-//! under a name, and then words, reads and writes are as at the start; behind a verdict of the
-//! solver it prints what the checker says of the text that was written, and how many rounds and
-//! learned clauses the log has. `alone` does the same without that. `unfailing` runs the program
-//! over files and a sink that never fail, and prints the status alone; `read` reads the formula's
-//! file, of at most so many bytes. `canonical` prints the canonical text of the formula,
+//! `formula`, `certificate`, `specification` and `implementation` give the files' texts, whose
+//! lines are parted by ` / ` and each end with LF, but that a `\` at the end takes the last LF
+//! away; `\r` is a CR. `absent` takes the files away. `words` gives the words behind the program's
+//! name, `reads` the most bytes of a read and the numbers of the calls that fail, `writes` the same
+//! of the sink. `run` runs the program under a name, and then words, reads and writes are as at the
+//! start; behind a verdict of the solver it prints what the checker says of the text that was
+//! written, and how many rounds and learned clauses the log has. `alone` does the same without
+//! that. `compare` does it with a verdict on two circuits: the formula is the one that `encode`
+//! writes, and of the text the status alone is printed, and what the checker says. `unfailing` runs
+//! the program over files and a sink that never fail, and prints the status alone; `read` reads the
+//! formula's file, of at most so many bytes. `canonical` prints the canonical text of the formula,
 //! `refutation` that of the certificate as a refutation of it, `proof` that of the proof in the
 //! certificate, a circuit, and `circuit` that of the circuit. Lines that begin with `#` are
 //! comments.
@@ -33,11 +35,14 @@ pub fn take_line(
         "" | "#" => Ok(None),
         "formula" => set_formula(alloc, settings, rest),
         "certificate" => set_certificate(alloc, settings, rest),
+        "specification" => set_specification(alloc, settings, rest),
+        "implementation" => set_implementation(alloc, settings, rest),
         "absent" => take_files_away(settings),
         "words" => set_words(alloc, settings, rest),
         "reads" => set_reads(alloc, settings, rest),
         "writes" => set_writes(alloc, settings, rest),
         "run" => run(alloc, settings, log, rest),
+        "compare" => compare(alloc, settings, log, rest),
         "alone" => run_alone(alloc, settings, log, rest),
         "unfailing" => run_unfailing(alloc, settings, log, rest),
         "read" => read(alloc, settings, rest),
@@ -59,9 +64,25 @@ fn set_certificate(alloc: Global, settings: &mut Settings, rest: &str) -> Result
     Ok(None)
 }
 
+fn set_specification(alloc: Global, settings: &mut Settings, rest: &str) -> Result<Option<String>> {
+    settings.specification = Some(texts::text_of(alloc, rest)?);
+    Ok(None)
+}
+
+fn set_implementation(
+    alloc: Global,
+    settings: &mut Settings,
+    rest: &str,
+) -> Result<Option<String>> {
+    settings.implementation = Some(texts::text_of(alloc, rest)?);
+    Ok(None)
+}
+
 fn take_files_away(settings: &mut Settings) -> Result<Option<String>> {
     settings.formula = None;
     settings.certificate = None;
+    settings.specification = None;
+    settings.implementation = None;
     Ok(None)
 }
 
@@ -102,6 +123,37 @@ fn evidence(alloc: Global, settings: &Settings, log: &mut Log, ran: &Ran) -> Res
     let counts = counts_of(alloc, log)?;
     let judged = shown_run(alloc, &settings.judge(alloc, &ran.text, log)?)?;
     Ok(format!(in alloc; "{judged} {counts}")?)
+}
+
+// A case of two circuits: its status and text, or, behind a verdict, its status and what the checker
+// says of the text.
+fn compare(
+    alloc: Global,
+    settings: &mut Settings,
+    log: &mut Log,
+    name: &str,
+) -> Result<Option<String>> {
+    let ran = settings.run(alloc, log)?;
+    settings.reset(alloc)?;
+    if ran.status != 10 && ran.status != 20 {
+        let shown = shown_run(alloc, &ran)?;
+        return Ok(Some(format!(in alloc; "{name}: {shown}")?));
+    }
+    let status = ran.status;
+    let judged = judged_boxes(alloc, settings, log, &ran)?;
+    Ok(Some(format!(in alloc; "{name}: {status} judged {judged}")?))
+}
+
+// What the checker says of the text as a certificate of the two circuits' formula.
+fn judged_boxes(
+    alloc: Global,
+    settings: &mut Settings,
+    log: &mut Log,
+    ran: &Ran,
+) -> Result<String> {
+    settings.formula = Some(settings.encode(alloc, log)?.text);
+    let judged = settings.judge(alloc, &ran.text, log)?;
+    shown_run(alloc, &judged)
 }
 
 fn run_alone(

@@ -3,6 +3,7 @@ use Rattle.dq_io.specs.State.{state_of}
 use Rattle.dq_runs.specs.Sinks.{sink_of}
 use Rattle.dqsolve_words.specs.Command.{command_of}
 use Rattle.dqsolve_core.proofs.Runs.{ends, causes, own_log}
+use Rattle.dqsolve_core.proofs.ToldDesigns.{compares_told}
 use Rattle.dqsolve_core.proofs.ToldFiles.{solves_told}
 use Rattle.dqsolve_core.proofs.run.dqsolve_run.Goals as goal
 
@@ -22,15 +23,27 @@ returns-clause-log g c =
 
 pub returns-clause-told : goal.returns-clause-told
 returns-clause-told g c =
-    solves_told
-    (record {
-      exact = λ text f. (c.formula_or_first_fault.ensures.exact text f).0;
-      unique = c.formula_or_first_fault.ensures.unique;
-    })
-    (state_of g.F.Files c.args.files.now) (state_of g.F.Files c.report-output.new.files)
-    (command_of (map string_bytes c.args.words.now)) c.report-output.new.log
-    (sink_of g.K.Sink c.args.out.now) (sink_of g.K.Sink c.deliver.new.out) c.report-output.result c.deliver.result
-    c.report-output.ensures.reported c.deliver.ensures
+    let before = state_of g.F.Files c.args.files.now in
+    let now = state_of g.F.Files c.report-output.new.files in
+    let asked = command_of (map string_bytes c.args.words.now) in
+    let sink = sink_of g.K.Sink c.args.out.now in
+    let sink_now = sink_of g.K.Sink c.deliver.new.out in
+    record {
+      formula = solves_told
+          (record {
+            exact = λ text f. (c.formula_or_first_fault.ensures.exact text f).0;
+            unique = c.formula_or_first_fault.ensures.unique;
+          })
+          before now asked c.report-output.new.log sink sink_now c.report-output.result c.deliver.result
+          c.report-output.ensures.reported c.deliver.ensures;
+      circuits = compares_told
+          (record {
+            certified = c.certified_boxes_fit.ensures;
+            fitting = c.fitting_boxes_choose.ensures;
+          })
+          before now asked c.report-output.new.log sink sink_now c.report-output.result c.deliver.result
+          c.report-output.ensures.reported c.deliver.ensures;
+    }
 
 pub returns-clause-causes : goal.returns-clause-causes
 returns-clause-causes g c =

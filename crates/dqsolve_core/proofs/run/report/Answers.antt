@@ -1,10 +1,10 @@
 use Rattle.std.proofs.Common.{sym, subst, map, string_bytes}
 use Rattle.std.specs.Prelude.{IfOk}
 use Rattle.dq_io.specs.State.{state_of}
-use Rattle.dqsolve_words.specs.Command.{command_of, solve, demo}
-use Rattle.dqsolve_words.specs.Words.{search_of, planting_of}
+use Rattle.dqsolve_words.specs.Command.{command_of, solve, demo, pec}
+use Rattle.dqsolve_words.specs.Words.{search_of, planting_of, comparison_of}
 use Rattle.dqsolve_core.specs.Outputs.{IsReported}
-use Rattle.dqsolve_core.proofs.Runs.{solve_asked, demo_asked, demo_reported}
+use Rattle.dqsolve_core.proofs.Runs.{solve_asked, demo_asked, pec_asked, demo_reported}
 use Rattle.dqsolve_core.proofs.run.report.Goals as goal
 
 pub report_file-requires : goal.report_file-requires
@@ -15,6 +15,16 @@ report_file-requires g c =
     record {
       steps = (c.numbers_are_in_range.ensures (map string_bytes c.args.words.now)
           (solve (search_of c.in-Some-Solve.asked)) asked).1;
+    }
+
+pub report_circuits-requires : goal.report_circuits-requires
+report_circuits-requires g c =
+    let asked = pec_asked (command_of (map string_bytes c.args.words.now)) c.in_ok-command_words.field-0
+    c.in-Some-Pec.field-0 c.in-Some-Pec.asked
+    c.in_ok-command_words.ensures c.in-Some-Pec.is c.in-Some-Pec.field-0-is in
+    record {
+      steps = (c.numbers_are_in_range.ensures (map string_bytes c.args.words.now)
+          (pec (comparison_of c.in-Some-Pec.asked)) asked).1;
     }
 
 pub report_demo-requires-clause-seed : goal.report_demo-requires-clause-seed

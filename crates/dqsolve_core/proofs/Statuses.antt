@@ -1,0 +1,53 @@
+-- Which statuses a report has, and why.
+use Rattle.std.proofs.Common.{◌≡◌, ◌≢◌, ℕ, Bool, Option, None, Some, ap, arith}
+use Rattle.dq_io.specs.Causes.{Rose}
+use Rattle.dq_io.specs.State.{FilesState}
+use Rattle.dq_lits.specs.Formula.{Dqbf}
+use Rattle.hint_log.specs.Entries.{ProofLog, steps_of}
+use Rattle.dq_runs.specs.Printed.{Printed, printed}
+use Rattle.dq_runs.specs.declared.outputs.Output.{Output}
+use Rattle.dq_verdicts.specs.Shown.{IsVerdict}
+use Rattle.dq_verdicts.specs.Verdicts.{Verdict, is_true, is_false, is_unknown, verdict_status}
+use Rattle.dqsolve_words.specs.Command.{Command}
+
+pub status_of : (output : Output) (p : Printed) → printed output ≡ p → output.status ≡ p.status
+status_of output p same = ap (λ (q : Printed). q.status) same
+
+pub not_long : (verdict : Verdict) → verdict_status verdict ≡ 6 → ⊥
+not_long (is_true _ _) same = omega (arith, same)
+not_long (is_false _) same = omega (arith, same)
+not_long (is_unknown _ _) same = omega (arith, same)
+
+-- which statuses a report has
+pub record Reasons (before now : FilesState) (asked : Option Command) (status : ℕ) : Type 0 where
+  pub words : status ≡ 1 → asked ≡ None
+  pub source : status ≡ 3 → Rose before.faults now.faults
+  pub delivered : status ≢ 4
+
+pub verdict_reasons : (before now : FilesState) (c : Command) (verdict : Verdict) →
+    Reasons before now (Some c) (verdict_status verdict)
+verdict_reasons before now c (is_true _ _) = record {
+  words = λ h. absurd (omega (arith, h));
+  source =
+      λ h. absurd (omega (arith, h));
+  delivered = λ h. omega (arith, h);
+}
+verdict_reasons before now c (is_false _) = record {
+  words = λ h. absurd (omega (arith, h));
+  source =
+      λ h. absurd (omega (arith, h));
+  delivered = λ h. omega (arith, h);
+}
+verdict_reasons before now c (is_unknown _ _) = record {
+  words = λ h. absurd (omega (arith, h));
+  source =
+      λ h. absurd (omega (arith, h));
+  delivered = λ h. omega (arith, h);
+}
+
+-- no verdict, so all steps were done
+pub verdict_steps : (f : Dqbf) (log : ProofLog) (bare : Bool) (verdict : Verdict) → IsVerdict f f log bare verdict →
+    verdict_status verdict ≡ 0 → steps_of log.entries ≡ log.limit
+verdict_steps f log bare (is_true _ _) v zero = absurd (omega (arith, zero))
+verdict_steps f log bare (is_false _) v zero = absurd (omega (arith, zero))
+verdict_steps f log bare (is_unknown _ _) v zero = v.shown.limit
