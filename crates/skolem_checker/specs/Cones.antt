@@ -1,13 +1,17 @@
 -- Words of private contracts: how far the universals reach that a variable reads, and walks through
 -- cones of influence one by one.
-use Rattle.std.specs.Prelude.{◌≡◌, ℕ, ◌<◌, ◌≤◌, ◌⊎◌, ◌/◌, ◌%◌, true, false, List, length, slice_index, Some, IsSome, Contains}
+use Rattle.std.specs.Prelude.{◌≡◌, ℕ, ◌+◌, ◌<◌, ◌≤◌, ◌⊎◌, ◌/◌, ◌%◌, true, false, List, length, slice_index, Some, IsSome, Contains}
 use Rattle.dq_lits.specs.Formula.{Existential, Dqbf, existential_of}
 use Rattle.circuit_plain.specs.declared.circuits.Gate.{Gate}
 use Rattle.circuit_plain.specs.Netlist.{Netlist, literal_variable, left_variable, right_variable}
 use Rattle.circuit_plain.specs.Reach.{Reaches}
 use Rattle.circuit_plain.specs.Words.{marked}
 use Rattle.skolem_checker.specs.Reads.{has_bit, root_of, IsAt}
+use Rattle.std.specs.List.{All}
+use Rattle.circuit_plain.specs.Order.{IsOrder}
+use Rattle.skolem_checker.specs.Tables.{HasLiteral}
 use Rattle.skolem_checker.specs.declared.cones.Cone.{Cone}
+use Rattle.skolem_checker.specs.declared.tested.Tested.{Tested}
 
 -- the variable of a universal's circuit literal
 abbrev pub circuit_variable : List ℕ → ℕ → ℕ
@@ -44,6 +48,18 @@ abbrev pub IsSeen : Netlist → List ℕ → List ℕ → ℕ → Type 0
 IsSeen net by_input sees v =
     (v ≡ 0) ⊎ ((i : ℕ) × (i < length net.inputs) × (slice_index net.inputs i ≡ v)
     × Contains sees (slice_index by_input i))
+
+-- what stands by mapping and order: gates in an order, an input for each universal
+pub record IsTested (t : Tested) : Type 0 where
+  pub ordered : IsOrder t.circuit.now t.order.now
+  pub universals_fit : All (HasLiteral t.literals.now (t.circuit.now.max_var + 1)) t.formula.now.universals
+  pub a_universal_an_input : length t.by_input.now ≡ length t.circuit.now.inputs
+  pub inputs : AreInputs t.circuit.now t.literals.now t.formula.now.universals t.by_input.now
+
+-- a walk's members lie within its room
+pub record IsBegun (cone : Cone) : Type 0 where
+  pub ordered : cone.start ≤ cone.end
+  pub room : cone.end ≤ length cone.members.items
 
 -- a walk came to the variable: the variable's slot holds its place among the walk's members
 pub record IsMember (slots : List ℕ) (cone : Cone) (v : ℕ) : Type 0 where

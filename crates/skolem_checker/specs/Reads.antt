@@ -1,6 +1,7 @@
 -- Words of private contracts: up to 64 existentials at a time, with a bit for each in every word.
 use Rattle.std.specs.Prelude.{◌≡◌, ℕ, ◌<◌, ◌≤◌, ◌+◌, ◌*◌, ◌==◌, ◌⊎◌, nat_lt, Bool, true, false, ◌&&◌, List, length, slice_index, Option, None, Some, IsTrue, ◌↔◌, Contains}
 use Rattle.std.specs.Int.{bit_at}
+use Rattle.std.specs.List.{All}
 use Rattle.dq_lits.specs.Formula.{Existential, Dqbf, existential_of}
 use Rattle.circuit_plain.specs.Netlist.{Netlist, literal_variable}
 use Rattle.circuit_plain.specs.Reach.{Reaches}
@@ -18,6 +19,11 @@ pub record HasWords (net : Netlist) (f : Dqbf) (w : ReadWords) : Type 0 where
   pub reached : length w.reached.items ≡ net.max_var + 1
   pub listed : length w.listed.items ≡ length f.universals
   pub stops : length w.stops.items ≡ length f.universals + 1
+
+-- each of these existentials has an output
+pub record HaveOutputs (net : Netlist) (places ys : List ℕ) : Type 0 where
+  pub placed : All (λ y. y < length places) ys
+  pub outputs : All (λ y. slice_index places y < length net.outputs) ys
 
 -- the variable of an existential's output
 abbrev pub root_of : Netlist → List ℕ → ℕ → ℕ

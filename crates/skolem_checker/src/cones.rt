@@ -6,8 +6,8 @@ ghost use Rattle.std.specs.Prelude.{◌≡◌, ◌<◌, ◌≤◌, ◌⊎◌, �
 ghost use Rattle.dq_lits.specs.Formula.{Existential, Dqbf, existential_of};
 ghost use Rattle.circuit_plain.specs.declared.circuits.Gate.{Gate};
 ghost use Rattle.circuit_plain.specs.Netlist.{Netlist, left_variable, right_variable};
-ghost use Rattle.skolem_checker.specs.Reads.{root_of};
-ghost use Rattle.skolem_checker.specs.Cones.{AreInputs, IsSeen, IsMember, Passes, IsClean, IsCone, Grows, ReachesAlone, AreAlone};
+ghost use Rattle.skolem_checker.specs.Reads.{HaveOutputs, root_of};
+ghost use Rattle.skolem_checker.specs.Cones.{IsBegun, IsSeen, IsTested, IsMember, Passes, IsClean, IsCone, Grows, ReachesAlone, AreAlone};
 
 use crate::tables::zeros;
 use crate::tested::Tested;
@@ -64,8 +64,7 @@ fn has(slots: &[u64], cone: &Cone, v: u64) -> bool
 // Comes to a variable; there may be no room.
 fn add(v: u64, slots: &mut [u64], cone: &mut Cone) -> bool
     requires in_range { v < length slots.old }
-    requires ordered { cone.old.start ≤ cone.old.end }
-    requires room { cone.old.end ≤ length cone.old.members.items }
+    requires begun { IsBegun cone.old }
     ensures grows { Grows slots.old slots.new cone.old cone.new }
     ensures member { result ≡ true → IsMember slots.new cone.new v }
 {
@@ -127,8 +126,7 @@ fn universal_of(circuit: &Circuit, by_input: &[u64], v: u64) -> Option<u64>
 fn add_sides(left: u64, right: u64, slots: &mut [u64], cone: &mut Cone) -> bool
     requires left_in_range { left < length slots.old }
     requires right_in_range { right < length slots.old }
-    requires ordered { cone.old.start ≤ cone.old.end }
-    requires room { cone.old.end ≤ length cone.old.members.items }
+    requires begun { IsBegun cone.old }
     ensures grows { Grows slots.old slots.new cone.old cone.new }
     ensures left { result ≡ true → IsMember slots.new cone.new left }
     ensures right { result ≡ true → IsMember slots.new cone.new right }
@@ -158,12 +156,8 @@ fn is_seen(tested: &Tested, y: u64, v: u64) -> bool
 fn visit(tested: &Tested, y: u64, v: u64, slots: &mut [u64], cone: &mut Cone) -> bool
     requires declared { IsSome (existential_of tested.now.formula.now y) }
     requires a_slot_a_variable { length slots.old ≡ tested.now.circuit.now.max_var + 1 }
-    requires a_universal_an_input { length tested.now.by_input.now
-        ≡ length tested.now.circuit.now.inputs }
-    requires inputs { AreInputs tested.now.circuit.now tested.now.literals.now
-        tested.now.formula.now.universals tested.now.by_input.now }
-    requires ordered { cone.old.start ≤ cone.old.end }
-    requires room { cone.old.end ≤ length cone.old.members.items }
+    requires tested { IsTested tested.now }
+    requires begun { IsBegun cone.old }
     ensures grows { Grows slots.old slots.new cone.old cone.new }
     ensures passes { result ≡ true → (e : Existential)
         → existential_of tested.now.formula.now y ≡ Some e
@@ -181,12 +175,8 @@ fn visit(tested: &Tested, y: u64, v: u64, slots: &mut [u64], cone: &mut Cone) ->
 fn walk(tested: &Tested, y: u64, from: usize, slots: &mut [u64], cone: &mut Cone) -> bool
     requires declared { IsSome (existential_of tested.now.formula.now y) }
     requires a_slot_a_variable { length slots.old ≡ tested.now.circuit.now.max_var + 1 }
-    requires a_universal_an_input { length tested.now.by_input.now
-        ≡ length tested.now.circuit.now.inputs }
-    requires inputs { AreInputs tested.now.circuit.now tested.now.literals.now
-        tested.now.formula.now.universals tested.now.by_input.now }
-    requires ordered { cone.old.start ≤ cone.old.end }
-    requires room { cone.old.end ≤ length cone.old.members.items }
+    requires tested { IsTested tested.now }
+    requires begun { IsBegun cone.old }
     requires from { from ≤ cone.old.end }
     requires clean { (e : Existential) → existential_of tested.now.formula.now y ≡ Some e
         → IsClean tested.now.circuit.now tested.now.literals.now
@@ -254,10 +244,7 @@ fn is_walked(tested: &Tested, root: u64, y: u64, slots: &mut [u64], cone: &mut C
     requires declared { IsSome (existential_of tested.now.formula.now y) }
     requires in_range { root < length slots.old }
     requires a_slot_a_variable { length slots.old ≡ tested.now.circuit.now.max_var + 1 }
-    requires a_universal_an_input { length tested.now.by_input.now
-        ≡ length tested.now.circuit.now.inputs }
-    requires inputs { AreInputs tested.now.circuit.now tested.now.literals.now
-        tested.now.formula.now.universals tested.now.by_input.now }
+    requires tested { IsTested tested.now }
     requires cone { IsCone tested.now.formula.now tested.now.circuit.now tested.now.literals.now
         slots.old cone.old }
     ensures same_length { length slots.new ≡ length slots.old }
@@ -287,10 +274,7 @@ fn is_alone(
 ) -> bool
     requires declared { IsSome (existential_of tested.now.formula.now y) }
     requires a_slot_a_variable { length slots.old ≡ tested.now.circuit.now.max_var + 1 }
-    requires a_universal_an_input { length tested.now.by_input.now
-        ≡ length tested.now.circuit.now.inputs }
-    requires inputs { AreInputs tested.now.circuit.now tested.now.literals.now
-        tested.now.formula.now.universals tested.now.by_input.now }
+    requires tested { IsTested tested.now }
     requires place_fits { y < length places.now }
     requires output_fits { slice_index places.now y < length tested.now.circuit.now.outputs }
     requires cone { IsCone tested.now.formula.now tested.now.circuit.now tested.now.literals.now
@@ -326,14 +310,8 @@ pub(crate) fn are_walked(
     requires declared { All (λ y. IsSome (existential_of tested.now.formula.now y)) ys.now }
     requires few { length ys.now ≤ 64 }
     requires a_slot_a_variable { length slots.old ≡ tested.now.circuit.now.max_var + 1 }
-    requires a_universal_an_input { length tested.now.by_input.now
-        ≡ length tested.now.circuit.now.inputs }
-    requires inputs { AreInputs tested.now.circuit.now tested.now.literals.now
-        tested.now.formula.now.universals tested.now.by_input.now }
-    requires places_fit { All (λ y. y < length places.now) ys.now }
-    requires outputs_fit { All
-        (λ y. slice_index places.now y < length tested.now.circuit.now.outputs)
-        ys.now }
+    requires tested { IsTested tested.now }
+    requires outputs { HaveOutputs tested.now.circuit.now places.now ys.now }
     requires cone { IsCone tested.now.formula.now tested.now.circuit.now tested.now.literals.now
         slots.old cone.old }
     ensures same_length { length slots.new ≡ length slots.old }

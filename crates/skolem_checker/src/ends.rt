@@ -5,7 +5,8 @@
 ghost use Rattle.std.specs.Prelude.{◌≡◌, ◌<◌, ◌≤◌, ◌+◌, ◌*◌, ℕ, true, length, slice_index, All, IsSome, Some};
 ghost use Rattle.dq_lits.specs.Formula.{Existential, existential_of};
 ghost use Rattle.circuit_plain.specs.Order.{IsOrder};
-ghost use Rattle.skolem_checker.specs.Cones.{AreEnds, AreClosed, ReachesAlone, AreSettled, circuit_variable};
+ghost use Rattle.skolem_checker.specs.Cones.{AreEnds, AreClosed, IsTested, ReachesAlone, AreSettled, circuit_variable};
+ghost use Rattle.skolem_checker.specs.Reads.{HaveOutputs};
 ghost use Rattle.skolem_checker.specs.Tables.{HasLiteral};
 
 use crate::tested::Tested;
@@ -111,10 +112,7 @@ fn settle(tested: &Tested, places: &[u64], ys: &[u64], ends: &[u64], settled: &m
     requires ends { AreEnds tested.now.circuit.now tested.now.literals.now
         tested.now.formula.now.universals ends.now }
     requires a_number_a_variable { length ends.now ≡ tested.now.circuit.now.max_var + 1 }
-    requires places_fit { All (λ y. y < length places.now) ys.now }
-    requires outputs_fit { All
-        (λ y. slice_index places.now y < length tested.now.circuit.now.outputs)
-        ys.now }
+    requires outputs { HaveOutputs tested.now.circuit.now places.now ys.now }
     requires words { length ys.now ≤ 64 * length settled.old }
     requires before { AreSettled tested.now.circuit.now tested.now.literals.now places.now
         tested.now.formula.now ys.now settled.old (length ys.now) }
@@ -141,15 +139,10 @@ pub(crate) fn settle_by_ends(
     ends: &mut [u64],
     settled: &mut [u64],
 )
-    requires ordered { IsOrder tested.now.circuit.now tested.now.order.now }
+    requires tested { IsTested tested.now }
     requires declared { All (λ y. IsSome (existential_of tested.now.formula.now y)) ys.now }
     requires a_number_a_variable { length ends.old ≡ tested.now.circuit.now.max_var + 1 }
-    requires universals_fit { All (HasLiteral tested.now.literals.now (length ends.old))
-        tested.now.formula.now.universals }
-    requires places_fit { All (λ y. y < length places.now) ys.now }
-    requires outputs_fit { All
-        (λ y. slice_index places.now y < length tested.now.circuit.now.outputs)
-        ys.now }
+    requires outputs { HaveOutputs tested.now.circuit.now places.now ys.now }
     requires words { length ys.now ≤ 64 * length settled.old }
     ensures ends_length { length ends.new ≡ length ends.old }
     ensures settled_length { length settled.new ≡ length settled.old }

@@ -10,8 +10,8 @@ ghost use Rattle.dq_formula.specs.Prefix.{existential_variables};
 ghost use Rattle.circuit_plain.specs.Order.{IsOrder};
 ghost use Rattle.circuit_plain.specs.Words.{marked};
 ghost use Rattle.skolem_checker.specs.Checks.{IsFirstRead, IsReadsAnswer};
-ghost use Rattle.skolem_checker.specs.Cones.{AreInputs, AreKnown, AreSettled, IsCone};
-ghost use Rattle.skolem_checker.specs.Reads.{HasWords, AreRoots, AreReached, IsDeclared, AreDeclared, IsFirstIn, IsBatchAnswer};
+ghost use Rattle.skolem_checker.specs.Cones.{AreKnown, AreSettled, IsCone, IsTested};
+ghost use Rattle.skolem_checker.specs.Reads.{HasWords, HaveOutputs, AreRoots, AreReached, IsDeclared, AreDeclared, IsFirstIn, IsBatchAnswer};
 ghost use Rattle.skolem_checker.specs.Tables.{ReadsByTables, ReadsByMarks, HasLiteral};
 
 use crate::cones::{Cone, are_walked, forget};
@@ -178,17 +178,11 @@ fn undeclared_by_words(
     ys: &[u64],
     words: &mut ReadWords,
 ) -> Option<(usize, u64)>
-    requires ordered { IsOrder tested.now.circuit.now tested.now.order.now }
+    requires tested { IsTested tested.now }
     requires declared { All (λ y. IsSome (existential_of tested.now.formula.now y)) ys.now }
     requires few { length ys.now ≤ 64 }
     requires words { HasWords tested.now.circuit.now tested.now.formula.now words.old }
-    requires universals_fit { All
-        (HasLiteral tested.now.literals.now (tested.now.circuit.now.max_var + 1))
-        tested.now.formula.now.universals }
-    requires places_fit { All (λ y. y < length places.now) ys.now }
-    requires outputs_fit { All
-        (λ y. slice_index places.now y < length tested.now.circuit.now.outputs)
-        ys.now }
+    requires outputs { HaveOutputs tested.now.circuit.now places.now ys.now }
     ensures words { HasWords tested.now.circuit.now tested.now.formula.now words.new }
     ensures settled { words.new.settled.items ≡ words.old.settled.items }
     ensures answer { IsBatchAnswer
@@ -207,21 +201,11 @@ fn undeclared_in_batch(
     settled: u64,
     words: &mut ReadWords,
 ) -> Option<(usize, u64)>
-    requires ordered { IsOrder tested.now.circuit.now tested.now.order.now }
+    requires tested { IsTested tested.now }
     requires declared { All (λ y. IsSome (existential_of tested.now.formula.now y)) ys.now }
     requires few { length ys.now ≤ 64 }
     requires words { HasWords tested.now.circuit.now tested.now.formula.now words.old }
-    requires universals_fit { All
-        (HasLiteral tested.now.literals.now (tested.now.circuit.now.max_var + 1))
-        tested.now.formula.now.universals }
-    requires places_fit { All (λ y. y < length places.now) ys.now }
-    requires outputs_fit { All
-        (λ y. slice_index places.now y < length tested.now.circuit.now.outputs)
-        ys.now }
-    requires a_universal_an_input { length tested.now.by_input.now
-        ≡ length tested.now.circuit.now.inputs }
-    requires inputs { AreInputs tested.now.circuit.now tested.now.literals.now
-        tested.now.formula.now.universals tested.now.by_input.now }
+    requires outputs { HaveOutputs tested.now.circuit.now places.now ys.now }
     requires settled { AreKnown tested.now.circuit.now tested.now.literals.now places.now
         tested.now.formula.now ys.now settled }
     requires cone { IsCone tested.now.formula.now tested.now.circuit.now tested.now.literals.now
@@ -256,20 +240,10 @@ fn undeclared_by_batches(
     places: &[u64],
     words: &mut ReadWords,
 ) -> Result<(), (u64, u64)>
-    requires ordered { IsOrder tested.now.circuit.now tested.now.order.now }
+    requires tested { IsTested tested.now }
     requires words { HasWords tested.now.circuit.now tested.now.formula.now words.old }
-    requires universals_fit { All
-        (HasLiteral tested.now.literals.now (tested.now.circuit.now.max_var + 1))
-        tested.now.formula.now.universals }
-    requires places_fit { All (λ y. y < length places.now)
+    requires outputs { HaveOutputs tested.now.circuit.now places.now
         (existential_variables tested.now.formula.now) }
-    requires outputs_fit { All
-        (λ y. slice_index places.now y < length tested.now.circuit.now.outputs)
-        (existential_variables tested.now.formula.now) }
-    requires a_universal_an_input { length tested.now.by_input.now
-        ≡ length tested.now.circuit.now.inputs }
-    requires inputs { AreInputs tested.now.circuit.now tested.now.literals.now
-        tested.now.formula.now.universals tested.now.by_input.now }
     requires settled { AreSettled tested.now.circuit.now tested.now.literals.now places.now
         tested.now.formula.now (existential_variables tested.now.formula.now)
         words.old.settled.items
@@ -302,20 +276,10 @@ pub(crate) fn undeclared_read(
     places: &[u64],
     words: &mut ReadWords,
 ) -> Result<(), (u64, u64)>
-    requires ordered { IsOrder tested.now.circuit.now tested.now.order.now }
+    requires tested { IsTested tested.now }
     requires words { HasWords tested.now.circuit.now tested.now.formula.now words.old }
-    requires universals_fit { All
-        (HasLiteral tested.now.literals.now (tested.now.circuit.now.max_var + 1))
-        tested.now.formula.now.universals }
-    requires places_fit { All (λ y. y < length places.now)
+    requires outputs { HaveOutputs tested.now.circuit.now places.now
         (existential_variables tested.now.formula.now) }
-    requires outputs_fit { All
-        (λ y. slice_index places.now y < length tested.now.circuit.now.outputs)
-        (existential_variables tested.now.formula.now) }
-    requires a_universal_an_input { length tested.now.by_input.now
-        ≡ length tested.now.circuit.now.inputs }
-    requires inputs { AreInputs tested.now.circuit.now tested.now.literals.now
-        tested.now.formula.now.universals tested.now.by_input.now }
     ensures words { HasWords tested.now.circuit.now tested.now.formula.now words.new }
     ensures answer { IsReadsAnswer
         (ReadsByTables tested.now.circuit.now tested.now.literals.now places.now)

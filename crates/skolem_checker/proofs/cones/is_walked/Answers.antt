@@ -3,15 +3,11 @@ use Rattle.dq_lits.specs.Formula.{existential_of}
 use Rattle.skolem_checker.proofs.ConesLaws.{clean_on, walked_alone}
 use Rattle.skolem_checker.proofs.cones.is_walked.Goals as goal
 
-pub add-requires-clause-ordered : goal.add-requires-clause-ordered
-add-requires-clause-ordered c =
-    (c.turn_to.ensures.cone c.args.tested.now.circuit.now c.args.tested.now.literals.now c.args.slots.now
-    c.requires.cone).ordered
-
-pub add-requires-clause-room : goal.add-requires-clause-room
-add-requires-clause-room c =
-    (c.turn_to.ensures.cone c.args.tested.now.circuit.now c.args.tested.now.literals.now c.args.slots.now
-    c.requires.cone).room
+pub add-requires-clause-begun : goal.add-requires-clause-begun
+add-requires-clause-begun c =
+    let turned = c.turn_to.ensures.cone c.args.tested.now.circuit.now c.args.tested.now.literals.now c.args.slots.now
+    c.requires.cone in
+    record { ordered = turned.ordered; room = turned.room }
 
 pub walk-requires-clause-clean : goal.walk-requires-clause-clean
 walk-requires-clause-clean c e is =

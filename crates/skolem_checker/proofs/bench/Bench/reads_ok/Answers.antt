@@ -7,38 +7,33 @@ use Rattle.skolem_checker.proofs.ConesLaws.{are_inputs}
 use Rattle.skolem_checker.proofs.OriginalLaws.{reads_answer_copied}
 use Rattle.skolem_checker.proofs.bench.Bench.reads_ok.Goals as goal
 
-pub undeclared_read-requires-clause-universals_fit : goal.undeclared_read-requires-clause-universals_fit
-undeclared_read-requires-clause-universals_fit c =
+pub undeclared_read-requires-clause-tested : goal.undeclared_read-requires-clause-tested
+undeclared_read-requires-clause-tested c =
     let b = c.self.inside in
-    rw c.deref.ensures.value
-    (universals_fit b.formula.now b.copy (mapping_in b.mapped) b.literals.items b.places.items c.self.invariant.formed
-    c.self.invariant.tables c.self.invariant.copy_kept)
-
-pub undeclared_read-requires-clause-places_fit : goal.undeclared_read-requires-clause-places_fit
-undeclared_read-requires-clause-places_fit c =
-    let b = c.self.inside in
-    rw c.deref-3.ensures.value
-    (places_fit b.formula.now b.copy (mapping_in b.mapped) b.literals.items b.places.items c.self.invariant.formed
-    c.self.invariant.tables)
-
-pub undeclared_read-requires-clause-outputs_fit : goal.undeclared_read-requires-clause-outputs_fit
-undeclared_read-requires-clause-outputs_fit c =
-    let b = c.self.inside in
-    rw c.deref-3.ensures.value
-    (outputs_fit b.formula.now b.copy (mapping_in b.mapped) b.literals.items b.places.items c.self.invariant.formed
-    c.self.invariant.tables)
-
-pub undeclared_read-requires-clause-a_universal_an_input : goal.undeclared_read-requires-clause-a_universal_an_input
-undeclared_read-requires-clause-a_universal_an_input c =
     let mapped = c.self.invariant.tables.mapped in
-    rw c.deref-2.ensures.value (mapped.inputs.same_length ∙ sym mapped.inputs_length)
+    record {
+      ordered = c.self.invariant.ordered;
+      universals_fit = rw c.deref.ensures.value
+          (universals_fit b.formula.now b.copy (mapping_in b.mapped) b.literals.items b.places.items
+          c.self.invariant.formed c.self.invariant.tables c.self.invariant.copy_kept);
+      a_universal_an_input = rw c.deref-2.ensures.value (mapped.inputs.same_length ∙ sym mapped.inputs_length);
+      inputs = rw c.deref.ensures.value
+          (rw c.deref-2.ensures.value
+          (are_inputs b.formula.now b.copy (mapping_in b.mapped) b.literals.items b.places.items
+          c.self.invariant.tables));
+    }
 
-pub undeclared_read-requires-clause-inputs : goal.undeclared_read-requires-clause-inputs
-undeclared_read-requires-clause-inputs c =
+pub undeclared_read-requires-clause-outputs : goal.undeclared_read-requires-clause-outputs
+undeclared_read-requires-clause-outputs c =
     let b = c.self.inside in
-    rw c.deref.ensures.value
-    (rw c.deref-2.ensures.value
-    (are_inputs b.formula.now b.copy (mapping_in b.mapped) b.literals.items b.places.items c.self.invariant.tables))
+    record {
+      placed = rw c.deref-3.ensures.value
+          (places_fit b.formula.now b.copy (mapping_in b.mapped) b.literals.items b.places.items
+          c.self.invariant.formed c.self.invariant.tables);
+      outputs = rw c.deref-3.ensures.value
+          (outputs_fit b.formula.now b.copy (mapping_in b.mapped) b.literals.items b.places.items
+          c.self.invariant.formed c.self.invariant.tables);
+    }
 
 pub returns-clause-answer : goal.returns-clause-answer
 returns-clause-answer c =
