@@ -1,4 +1,5 @@
 pub mod Codes
+pub mod Examples
 pub mod KeptClauses
 pub mod Laws
 pub mod Prefixes

@@ -5,6 +5,7 @@
 pub use preparation::prep;
 pub use traces::{Taken, Trace};
 
+pub mod examples;
 mod kept_clauses;
 pub mod laws;
 mod prefixes;

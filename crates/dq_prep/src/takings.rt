@@ -125,18 +125,18 @@ impl<'f> Taking<'f> {
 
     /// Writes the literals of the clause at a place that aren't false, in place of what the buffer
     /// holds. None of them was taken.
-    pub(crate) fn write_open(&self, place: usize, open: &mut Vec<Lit>) -> Result<(), Memory>
+    pub(crate) fn write_open(&self, place: usize, rest: &mut Vec<Lit>) -> Result<(), Memory>
         requires right { IsTaking self.now }
         requires within { place < length self.now.formula.now.matrix }
         requires unsatisfied { is_satisfied (taken_literals self.now.trace)
             (slice_index_or self.now.formula.now.matrix place []) ≡ false }
-        ensures { OnOk result (open.new.items ≡ without_false (taken_literals self.now.trace)
+        ensures { OnOk result (rest.new.items ≡ without_false (taken_literals self.now.trace)
             (slice_index_or self.now.formula.now.matrix place [])) }
     {
-        open.clear();
+        rest.clear();
         for l in self.formula.clause(place) {
             if !self.is_false(*l) {
-                open.push(*l)?;
+                rest.push(*l)?;
             }
         }
         Ok(())

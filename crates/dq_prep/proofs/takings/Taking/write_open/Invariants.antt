@@ -5,6 +5,6 @@ use Rattle.dq_prep.proofs.takings.Taking.write_open.Given as goal
 
 abbrev pub invariant-loop-l : goal.invariant-loop-l
 invariant-loop-l l =
-    l.open.items
+    l.rest.items
     ≡ without_false (taken_literals l.self.trace)
     (take l.l-index (slice_index_or l.self.formula.now.matrix l.place []))
