@@ -62,10 +62,11 @@ one_formula_refusal specification imp k l a b (inr (d, one, rest)) (inl two) =
     let comment = comment_of imp.file.comment imp.comment_line in
     absurd (read_or_refused specification imp.file.circuit comment
     (boxes_of specification imp.file.circuit comment 1) d l b one two)
-one_formula_refusal specification imp k l a b (inr (d, one, (at, is, over))) (inr (e, two, (at2, is2, over2))) = record {
-  line = at ∙ sym at2;
-  name = is ∙ sym is2;
-}
+one_formula_refusal specification imp k l a b (inr (d, one, (at, is, over))) (inr (e, two, (at2, is2, over2))) =
+    record {
+      line = at ∙ sym at2;
+      name = is ∙ sym is2;
+    }
 
 -- ---- over two texts
 

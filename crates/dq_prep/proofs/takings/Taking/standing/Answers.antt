@@ -24,7 +24,8 @@ keeps_more-requires-clause-existential c =
     (c.requires.right.well.bound c.args.place [] c.requires.within) in
     let open' = subst (AreOpen f
     (taken_literals c.args.self.now.trace) c.clause-clause.result.now) c.in-One.is c.opens.ensures in
-    open-existential f (taken_literals c.args.self.now.trace) c.clause-clause.result.now c.in-One.l c.requires.right.well bound open'.1
+    open-existential f (taken_literals c.args.self.now.trace) c.clause-clause.result.now c.in-One.l
+    c.requires.right.well bound open'.1
 
 pub returns-in-Satisfied : goal.returns-in-Satisfied
 returns-in-Satisfied c =
