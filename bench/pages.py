@@ -17,6 +17,13 @@ PAGES = ("README.md", "docs/SOLVING.md", "docs/BLACK_BOX.md", "docs/FORMATS.md")
 COMMANDS = {
     "./dqsolve solve examples/copies.dqdimacs > certificate": (10, None),
     "./dqcheck examples/copies.dqdimacs certificate": (0, "VALID TRUE"),
+    "./dqsolve pec examples/adder-spec.aag examples/adder-boxes.aag > certificate": (10, None),
+    "./dqsolve pec examples/adder-spec.aag examples/adder-blind.aag": (20, "s FALSE"),
+    "./dqsolve encode examples/adder-spec.aag examples/adder-boxes.aag > formula": (0, None),
+    "./dqcheck formula certificate": (0, "VALID TRUE"),
+    "tools/fill_boxes.py examples/adder-spec.aag examples/adder-boxes.aag certificate > filled.aag": (0, None),
+    "./dqsolve pec examples/adder-spec.aag filled.aag > proof": (10, None),
+    "tools/verilog.py examples/adder-spec.aag examples/adder-boxes.aag certificate": (0, None),
     "sed '/^c$/,$d' examples/small-boxes.aag > boxes.aag": (0, None),
     "./dqcheck examples/small-boxes.dqdimacs boxes.aag": (0, "VALID TRUE"),
     "./dqcheck examples/small-boxes.dqdimacs examples/small-boxes.aag": (0, "VALID TRUE"),
@@ -31,7 +38,7 @@ COMMANDS = {
 }
 
 # Patterns for the reader's own files, commands that take long, and what needs a solver that may not be there.
-NOT_RUN = re.compile(r"[A-Z]{4}|^rt ci$|^tools/prove_circuit\.py examples/|^parallel ")
+NOT_RUN = re.compile(r"[A-Z]{4}|^rt ci$|^tools/(prove_circuit|pec_from_verilog)\.py examples/|^parallel ")
 
 
 def commands(page):
