@@ -47,7 +47,7 @@ pub fn take_plain_step(
     if !take_hints(id, &mut tokens, hints)? {
         return Ok(None);
     }
-    Ok(if tokens.next_number().is_none() {
+    Ok(if tokens.next().is_none() {
         Some(id)
     } else {
         None

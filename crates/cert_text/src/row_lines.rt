@@ -107,7 +107,7 @@ fn ends_row(tokens: &mut LineTokens) -> bool
     ensures { IsTrue result → map number_of tokens.old ≡ Int (pos 0) ∷ [] }
 {
     match tokens.next_number() {
-        Some(Number::Int(0)) => tokens.next_number().is_none(),
+        Some(Number::Int(0)) => tokens.next().is_none(),
         _ => false,
     }
 }
