@@ -27,6 +27,9 @@ const FEW_MARKS: usize = 1 << 16;
 
 const MARKS_A_READ: usize = 32;
 
+// How many pairs a hint is expected to name, so that a long line finds marks for what it names.
+const NAMES_A_HINT: usize = 4;
+
 // A literal of another variable with the same sign.
 fn on(l: Lit, variable: u64) -> Lit
     requires from_one { 1 ≤ variable }
@@ -285,7 +288,7 @@ impl Judging {
     }
 
     // Marks for the names that were given, unless these are many beside what was read.
-    fn widen(&mut self) -> Result<(), Memory>
+    fn widen(&mut self, hints: usize) -> Result<(), Memory>
         ensures names { self.new.names ≡ self.old.names }
         ensures line { self.new.line.items ≡ self.old.line.items }
         ensures rest { self.new.proving ≡ record self.old.proving {
@@ -294,9 +297,10 @@ impl Judging {
         } }
     {
         let names = self.names.count();
-        if names > self.marks {
+        let expected = names.saturating_add(hints.saturating_mul(NAMES_A_HINT));
+        if expected > self.marks {
             let most = FEW_MARKS.saturating_add(self.read.saturating_mul(MARKS_A_READ));
-            let wanted = names.saturating_mul(2).min(most);
+            let wanted = names.saturating_add(expected).min(most);
             if wanted > self.marks {
                 self.proving.widen(wanted)?;
                 self.marks = wanted;
@@ -331,7 +335,7 @@ impl Judging {
             .read
             .saturating_add(lits.len())
             .saturating_add(hints.len());
-        self.widen()?;
+        self.widen(hints.len())?;
         self.proving.begin(&self.line)?;
         self.hint_all(e, hints)?;
         self.proving.end(id, &self.line)?;
