@@ -12,3 +12,4 @@ mod Emptied
 mod CopiedPrefixes
 mod KeptSoFar
 mod FewUnits
+mod Carried
