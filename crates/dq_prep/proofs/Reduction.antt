@@ -11,6 +11,7 @@ use Rattle.dq_lits.specs.Henkin.{same_bits, HenkinChoice, Follows}
 use Rattle.dq_lits.specs.Derivation.{holds, is_tautology}
 use Rattle.dq_formula.specs.Prefix.{IsLawful}
 use Rattle.dq_prep.specs.Reduction.{sees_in, is_seen, stays, reduced}
+use Rattle.dq_prep.proofs.SignedLiterals.{same_literal-refl}
 
 any-cond : (q : Literal → Bool) (b : Bool) (x : Literal) (xs : List Literal) → list_any q xs ≡ true
     → list_any q (cond b (x ∷ xs) xs) ≡ true
@@ -30,10 +31,6 @@ any-kept p q g (x ∷ xs) good h =
           ∙ or_left (q x) (list_any q (filter g xs)) two.1
       | inr later ↦ any-cond q (g x) x (filter g xs) (any-kept p q g xs (All-tail Good x xs good) later)
     ]
-
-same_literal-refl : (l : Literal) → same_literal l l ≡ true
-same_literal-refl (positive v) = eq-eqb v v refl
-same_literal-refl (negative v) = eq-eqb v v refl
 
 pub holds-at : (clause : List Literal) (k : ℕ) (d : Literal) → k < length clause
     → holds clause (get_or clause k d) ≡ true

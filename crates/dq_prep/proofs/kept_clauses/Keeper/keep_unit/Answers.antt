@@ -19,11 +19,13 @@ pub returns-in-Some : goal.returns-in-Some
 returns-in-Some c =
     let t = c.args.self.now.taking.now in
     on_ok c.add_clause.result
-    (λ made. made ∙ unit-next t c.args.g.now c.args.self.now.units.now c.args.place c.in-Some.l c.index-self-place.result
+    (λ made. made ∙ unit-next t c.args.g.now c.args.self.now.units.now c.args.place c.in-Some.l
+    c.index-self-place.result
     c.requires.right.table c.requires.before c.requires.within c.requires.satisfied c.in-Some.is)
     c.add_clause.ensures.ok
 
 pub returns-in-None : goal.returns-in-None
 returns-in-None c =
-    nothing-next c.args.self.now.taking.now c.args.g.now c.args.self.now.units.now c.args.place c.index-self-place.result
+    nothing-next c.args.self.now.taking.now c.args.g.now c.args.self.now.units.now c.args.place
+    c.index-self-place.result
     c.requires.right.table c.requires.before c.requires.within c.requires.satisfied c.in-None.is

@@ -17,4 +17,5 @@ loop-l-preserved c =
     subst (AreOpen c.args.self.now.formula.now (taken_literals c.args.self.now.trace)
     (take (c.loop-l.l-index + 1) c.args.clause.now)) (sym c.with_role-opens.ensures)
     (open-more c.args.self.now.formula.now c.args.self.now.trace c.args.clause.now c.loop-l.l-index c.l-item.result
-    c.loop-l.opens c.role.result c.requires.right.units c.loop-l-test.true c.l-item.is c.role.ensures c.loop-l.invariant)
+    c.loop-l.opens c.role.result c.requires.right.units c.loop-l-test.true c.l-item.is c.role.ensures
+    c.loop-l.invariant)
