@@ -6,6 +6,7 @@ mod Kept
 mod KeptSoFar
 mod LeftLiterals
 mod LiteralRoles
+mod LoweredRows
 mod OpenLiterals
 mod Reduction
 mod SeenUniversals

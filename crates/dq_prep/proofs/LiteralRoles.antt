@@ -70,7 +70,7 @@ role-of-unplaced f trues l bound none =
     ]
 
 -- what a search finds is in the list, and passes
-find-Some : (p : Existential → Bool) (ys : List Existential) (y : Existential) → find p ys ≡ Some y
+pub find-Some : (p : Existential → Bool) (ys : List Existential) (y : Existential) → find p ys ≡ Some y
     → Contains ys y × (p y ≡ true)
 find-Some p [] y h = cc
 find-Some p (x ∷ xs) y h = by (p x) refl h (find-Some p xs y)

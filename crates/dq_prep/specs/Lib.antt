@@ -3,6 +3,7 @@ pub mod Examples
 pub mod KeptClauses
 pub mod Laws
 pub mod Lifted
+pub mod LoweredRows
 pub mod Prefixes
 pub mod Reduction
 pub mod Roles

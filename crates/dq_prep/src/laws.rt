@@ -1,6 +1,7 @@
 //! What simplification keeps, and how derivations are carried over from what is left.
 
 ghost use Rattle.dq_prep.specs.Laws.{SimplificationKeepsChoices, SimplifiedFormulasAreWellFormed};
+ghost use Rattle.dq_prep.specs.LoweredRows.{LoweredRowsServe};
 ghost use Rattle.dq_prep.specs.Lifted.{FalsifyingDerives, LinesAreCarried};
 
 use dq_lits::laws::choices_extend_every_row;
@@ -26,4 +27,10 @@ pub fn lines_are_carried()
 /// A clause without its false literals is derived by the units that made them false.
 pub fn falsifying_derives()
     ensures { FalsifyingDerives }
+{}
+
+/// What is left of a clause under a row is what the clause is under a row with the universal literals
+/// false that reduction took.
+pub fn lowered_rows_serve()
+    ensures { LoweredRowsServe }
 {}
