@@ -9,8 +9,9 @@ use Rattle.dq_lits.specs.Derivation.{holds, is_tautology}
 use Rattle.dq_prep.specs.Reduction.{sees_in, is_seen, stays}
 use Rattle.dq_prep.specs.Units.{is_satisfied, without_false, left_of}
 use Rattle.dq_prep.specs.Roles.{open_literals}
-use Rattle.dq_prep.proofs.Units.{same_literal-sound, same_literal-refl, satisfied-by, part-holds}
+use Rattle.dq_prep.proofs.Units.{satisfied-by, part-holds}
 use Rattle.dq_prep.proofs.SeenUniversals.{same-test, filters-agree}
+use Rattle.dq_prep.proofs.SignedLiterals.{same_literal-sound, opposite-opposite, pair-in, pair-any}
 
 -- a test on what another test lets through
 filter-twice : {X : Type 0} (p q : X → Bool) (xs : List X) → filter p (filter q xs) ≡ filter (λ l. p l && q l) xs
@@ -60,29 +61,6 @@ passing-holds g (x ∷ xs) l here passes = elim (or_cases (same_literal l x) (ho
     behind : (b : Bool) → holds (filter g xs) l ≡ true → holds (cond b (x ∷ filter g xs) (filter g xs)) l ≡ true
     behind true h = or_right (same_literal l x) (holds (filter g xs) l) h
     behind false h = h
-
-opposite-opposite : (l : Literal) → opposite (opposite l) ≡ l
-opposite-opposite (positive v) = refl
-opposite-opposite (negative v) = refl
-
-pair-in : (xs ys : List Literal) → list_any (λ l. holds ys (opposite l)) xs ≡ true
-    → (l : Literal) × (holds xs l ≡ true) × (holds ys (opposite l) ≡ true)
-pair-in [] ys h = cc
-pair-in (x ∷ xs) ys h = elim (or_cases (holds ys (opposite x)) (list_any (λ l. holds ys (opposite l)) xs) h) [
-  | inl here ↦ (x, or_left (same_literal x x) (holds xs x) (same_literal-refl x), here)
-  | inr later ↦ let r = pair-in xs ys later in (r.0, or_right (same_literal r.0 x) (holds xs r.0) r.1, r.2)
-]
-
-pair-any : (xs ys : List Literal) (l : Literal) → holds xs l ≡ true → holds ys (opposite l) ≡ true
-    → list_any (λ k. holds ys (opposite k)) xs ≡ true
-pair-any [] ys l h there = h
-pair-any (x ∷ xs) ys l h there = elim (or_cases (same_literal l x) (holds xs l) h) [
-  | inl same ↦
-      or_left (holds ys (opposite x)) (list_any (λ k. holds ys (opposite k)) xs)
-      (ap (λ q. holds ys (opposite q)) (sym (same_literal-sound l x same)) ∙ there)
-  | inr later ↦ or_right (holds ys (opposite x)) (list_any (λ k. holds ys (opposite k)) xs)
-      (pair-any xs ys l later there)
-]
 
 -- a literal of a clause that isn't satisfied was not taken
 unsatisfied-false : (trues clause : List Literal) (l : Literal) → is_satisfied trues clause ≡ false

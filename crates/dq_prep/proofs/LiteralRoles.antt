@@ -21,7 +21,9 @@ use Rattle.dq_prep.proofs.Reduction.{universal-contained}
 use Rattle.dq_prep.specs.Reduction.{sees_in}
 use Rattle.dq_prep.proofs.SeenUniversals.{contained-any}
 use Rattle.dq_prep.proofs.LeftLiterals.{UniversalsSeeNothing}
-use Rattle.dq_prep.proofs.Standings.{UniversalsAreSeen}
+use Rattle.dq_prep.proofs.Standings.{UniversalsAreSeen, Looked, clause-at}
+use Rattle.dq_prep.specs.declared.traces.Taken.{Taken}
+use Rattle.dq_prep.specs.Units.{AreUnits}
 
 -- what is declared once isn't in both parts
 apart : (us vs : List ℕ) (v : ℕ) → AllPairs (λ x y. x ≢ y) (us ++ vs) → Contains us v → Contains vs v → ⊥
@@ -68,7 +70,7 @@ role-of-unplaced f trues l bound none =
     ]
 
 -- what a search finds is in the list, and passes
-find-Some : (p : Existential → Bool) (ys : List Existential) (y : Existential) → find p ys ≡ Some y
+pub find-Some : (p : Existential → Bool) (ys : List Existential) (y : Existential) → find p ys ≡ Some y
     → Contains ys y × (p y ≡ true)
 find-Some p [] y h = cc
 find-Some p (x ∷ xs) y h = by (p x) refl h (find-Some p xs y)
@@ -134,3 +136,12 @@ open-existential f trues clause l well bound open' =
           ∙ sym (list_any-map (λ x. x == v) (λ y. y.variable) f.existentials)
           ∙ contained-any (existential_variables f) v existential
     ]
+
+-- a clause of the matrix is looked at
+pub look : (f : Dqbf) (units : List Taken) (place : ℕ) (clause : List Literal) → IsWellFormed f → AreUnits f units
+    → place < length f.matrix → clause ≡ slice_index_or f.matrix place [] → Looked f units place clause
+look f units place clause well are within is = record {
+  nothing = universals-see-nothing f well;
+  are = are;
+  at = clause-at f.matrix place clause within is;
+}

@@ -14,7 +14,7 @@ use Rattle.dq_prep.specs.declared.roles.Opens.{Opens}
 use Rattle.dq_prep.specs.declared.roles.Opens.TheVariants.{Satisfied, Nothing, One, More}
 use Rattle.dq_prep.specs.Units.{taken_literals, is_satisfied, AreUnits}
 use Rattle.dq_prep.specs.Roles.{is_true_role, is_false_role, role_of, is_open, open_literals, IsOpening, AreOpen, with_role}
-use Rattle.dq_prep.proofs.Units.{same_literal-sound}
+use Rattle.dq_prep.proofs.SignedLiterals.{same_literal-sound}
 
 -- no literal that was taken is on a universal
 pub none-universal : (f : Dqbf) (units : List Taken) (l : Literal) → AreUnits f units

@@ -11,6 +11,8 @@ use Rattle.dq_lits.specs.Henkin.{same_bits, HenkinChoice, Follows}
 use Rattle.dq_lits.specs.Derivation.{holds, is_tautology}
 use Rattle.dq_formula.specs.Prefix.{IsLawful}
 use Rattle.dq_prep.specs.Reduction.{sees_in, is_seen, stays, reduced}
+use Rattle.dq_prep.specs.LoweredRows.{is_lost, lowered}
+use Rattle.dq_prep.proofs.SignedLiterals.{same_literal-refl}
 
 any-cond : (q : Literal → Bool) (b : Bool) (x : Literal) (xs : List Literal) → list_any q xs ≡ true
     → list_any q (cond b (x ∷ xs) xs) ≡ true
@@ -31,10 +33,6 @@ any-kept p q g (x ∷ xs) good h =
       | inr later ↦ any-cond q (g x) x (filter g xs) (any-kept p q g xs (All-tail Good x xs good) later)
     ]
 
-same_literal-refl : (l : Literal) → same_literal l l ≡ true
-same_literal-refl (positive v) = eq-eqb v v refl
-same_literal-refl (negative v) = eq-eqb v v refl
-
 pub holds-at : (clause : List Literal) (k : ℕ) (d : Literal) → k < length clause
     → holds clause (get_or clause k d) ≡ true
 holds-at clause k d below =
@@ -48,7 +46,7 @@ universal-contained (x ∷ xs) v h =
       | inr later ↦ let at = universal-contained xs v later in (suc at.0, omega (arith, at.1), at.2)
     ]
 
-map-agree : (m n : Assignment) (xs : List ℕ) → All (λ x. m x ≡ n x) xs → map m xs ≡ map n xs
+pub map-agree : (m n : Assignment) (xs : List ℕ) → All (λ x. m x ≡ n x) xs → map m xs ≡ map n xs
 map-agree m n [] h = refl
 map-agree m n (x ∷ xs) h =
     ap (λ b. b ∷ map m xs) (All-head (λ z. m z ≡ n z) x xs h)
@@ -59,16 +57,6 @@ abbrev pub Extending : Type 0
 Extending =
     (f : Dqbf) (choice : HenkinChoice) (m : Assignment) → HasLawfulPrefix f
     → (n : Assignment) × All (λ x. n x ≡ m x) f.universals × Follows f choice n
-
--- universal reduction takes the literals on the variable
-abbrev is_lost : Dqbf → List Literal → ℕ → Bool
-is_lost f clause v = is_universal f v && not (is_seen f clause v)
-
--- the same bits, but that the literals which universal reduction takes are false
-abbrev lowered : Dqbf → List Literal → Assignment → Assignment
-lowered f clause m v =
-    cond (is_lost f clause v && holds clause (negative v)) true
-    (cond (is_lost f clause v && holds clause (positive v)) false (m v))
 
 -- what is fixed while a clause is reduced
 record Setting : Type 0 where
@@ -84,7 +72,7 @@ record Setting : Type 0 where
   universals : All (λ x. n x ≡ lowered f clause m x) f.universals
   follows_too : Follows f choice n
 
-unlost : (f : Dqbf) (clause : List Literal) (m : Assignment) (v : ℕ) → is_seen f clause v ≡ true
+pub unlost : (f : Dqbf) (clause : List Literal) (m : Assignment) (v : ℕ) → is_seen f clause v ≡ true
     → lowered f clause m v ≡ m v
 unlost f clause m v seen =
     let Lost : Bool → Bool =
@@ -110,25 +98,25 @@ no_opposite clause k d below plain =
     ]
 
 -- a lost literal is false there
-lost_false : (s : Setting) (l : Literal) → holds s.clause l ≡ true → holds s.clause (opposite l) ≡ false
-    → is_lost s.f s.clause (variable_of l) ≡ true →
-    literal_true (lowered s.f s.clause s.m) l ≡ false
-lost_false s (positive v) here none lost =
-    let Value : Bool → Bool → Bool → Bool = λ a b c. cond (a && b) true (cond (a && c) false (s.m v)) in
-    ap (λ a. Value a (holds s.clause (negative v)) (holds s.clause (positive v))) lost
-    ∙ ap (λ b. Value true b (holds s.clause (positive v))) none
+pub lost_false : (f : Dqbf) (clause : List Literal) (m : Assignment) (l : Literal) → holds clause l ≡ true
+    → holds clause (opposite l) ≡ false → is_lost f clause (variable_of l) ≡ true
+    → literal_true (lowered f clause m) l ≡ false
+lost_false f clause m (positive v) here none lost =
+    let Value : Bool → Bool → Bool → Bool = λ a b c. cond (a && b) true (cond (a && c) false (m v)) in
+    ap (λ a. Value a (holds clause (negative v)) (holds clause (positive v))) lost
+    ∙ ap (λ b. Value true b (holds clause (positive v))) none
     ∙ ap (λ c. Value true false c) here
-lost_false s (negative v) here none lost =
-    let Value : Bool → Bool → Bool → Bool = λ a b c. not (cond (a && b) true (cond (a && c) false (s.m v))) in
-    ap (λ a. Value a (holds s.clause (negative v)) (holds s.clause (positive v))) lost
-    ∙ ap (λ b. Value true b (holds s.clause (positive v))) here
+lost_false f clause m (negative v) here none lost =
+    let Value : Bool → Bool → Bool → Bool = λ a b c. not (cond (a && b) true (cond (a && c) false (m v))) in
+    ap (λ a. Value a (holds clause (negative v)) (holds clause (positive v))) lost
+    ∙ ap (λ b. Value true b (holds clause (positive v))) here
 
-literal-agree : (m n : Assignment) (l : Literal) → n (variable_of l) ≡ m (variable_of l)
+pub literal-agree : (m n : Assignment) (l : Literal) → n (variable_of l) ≡ m (variable_of l)
     → literal_true n l ≡ literal_true m l
 literal-agree m n (positive v) h = h
 literal-agree m n (negative v) h = ap not h
 
-kept_by : (f : Dqbf) (clause : List Literal) (l : Literal) → is_lost f clause (variable_of l) ≡ false
+pub kept_by : (f : Dqbf) (clause : List Literal) (l : Literal) → is_lost f clause (variable_of l) ≡ false
     → stays f clause l ≡ true
 kept_by f clause l h = closed (is_universal f (variable_of l)) (is_seen f clause (variable_of l)) h
   where
@@ -137,14 +125,14 @@ kept_by f clause l h = closed (is_universal f (variable_of l)) (is_seen f clause
     closed true false h = absurd (true≢false h)
     closed false b h = refl
 
-not_lost : (f : Dqbf) (clause : List Literal) (v : ℕ) → is_seen f clause v ≡ true → is_lost f clause v ≡ false
+pub not_lost : (f : Dqbf) (clause : List Literal) (v : ℕ) → is_seen f clause v ≡ true → is_lost f clause v ≡ false
 not_lost f clause v h = ap (λ b. is_universal f v && not b) h ∙ closed (is_universal f v)
   where
     closed : (a : Bool) → (a && false) ≡ false
     closed true = refl
     closed false = refl
 
-unlost_value : (f : Dqbf) (clause : List Literal) (m : Assignment) (v : ℕ) → is_lost f clause v ≡ false
+pub unlost_value : (f : Dqbf) (clause : List Literal) (m : Assignment) (v : ℕ) → is_lost f clause v ≡ false
     → lowered f clause m v ≡ m v
 unlost_value f clause m v h =
     ap (λ a. cond (a && holds clause (negative v)) true (cond (a && holds clause (positive v)) false (m v))) h
@@ -194,7 +182,8 @@ literal_stays s k d below truth =
       | inl lost ↦
           let universal = (and_parts (is_universal f v) (not (is_seen f s.clause v)) lost).0 in
           let there = universal_same s v (universal-contained f.universals v universal) in
-          let low = lost_false s l (holds-at s.clause k d below) (no_opposite s.clause k d below s.plain) lost in
+          let low = lost_false f s.clause s.m l (holds-at s.clause k d below)
+          (no_opposite s.clause k d below s.plain) lost in
           absurd (true≢false (sym truth ∙ literal-agree (lowered f s.clause s.m) s.n l there ∙ low))
       | inr kept ↦
           let same : s.n v ≡ s.m v =

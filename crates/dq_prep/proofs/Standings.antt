@@ -1,5 +1,5 @@
 -- How a clause stands, by its open literals.
-use Rattle.std.proofs.Common.{◌≡◌, ℕ, zero, suc, ◌<◌, ◌≤◌, Bool, true, false, not, cond, ◌||◌, inl, inr, List, [], ◌∷◌, map, length, get_or, slice_get, Some, refl, sym, ◌∙◌, ap, subst, arith}
+use Rattle.std.proofs.Common.{◌≡◌, ℕ, zero, suc, ◌<◌, ◌≤◌, Bool, true, false, not, cond, ◌||◌, inl, inr, List, [], ◌∷◌, map, length, get_or, slice_get, Some, sym, ◌∙◌, ap, subst, arith}
 use Rattle.std.specs.Prelude.{slice_index_or}
 use Rattle.std.specs.List.{All, list_any, filter}
 use Rattle.std.proofs.lemmas.Bool.{true≢false, or_cases, or_left, or_right, or_parts, and_parts}
@@ -14,9 +14,10 @@ use Rattle.dq_prep.specs.Reduction.{sees_in, is_seen, stays, reduced}
 use Rattle.dq_prep.specs.Units.{taken_literals, is_satisfied, left_of, IsUnit, AreUnits}
 use Rattle.dq_prep.specs.Roles.{is_open, open_literals, AreOpen}
 use Rattle.dq_prep.specs.Takings.{IsNoUnit, IsStanding, standing_of_none, standing_of_one}
-use Rattle.dq_prep.proofs.Units.{some-same, same_literal-sound, same_literal-refl}
+use Rattle.dq_prep.proofs.Units.{some-same}
 use Rattle.dq_prep.proofs.OpenLiterals.{none-universal}
 use Rattle.dq_prep.proofs.LeftLiterals.{UniversalsSeeNothing, left-opens, left-is-open, seen-left, tautology-stays, alone-plain}
+use Rattle.dq_prep.proofs.SignedLiterals.{not-true, same_literal-sound, same_literal-refl}
 
 -- what an existential sees is a universal
 abbrev pub UniversalsAreSeen : Dqbf → Type 0
@@ -165,10 +166,6 @@ one-stands f units place clause l false false looked seen is says open' =
     none-passes p [] h k d below = absurd (omega arith)
     none-passes p (x ∷ xs) h zero d below = (or_parts (p x) (list_any p xs) h).0
     none-passes p (x ∷ xs) h (suc k) d below = none-passes p xs (or_parts (p x) (list_any p xs) h).1 k d (omega arith)
-
-    not-true : (b : Bool) → not b ≡ true → b ≡ false
-    not-true true h = sym h
-    not-true false h = refl
 
 -- the formula's clause at a place
 pub clause-at : (matrix : List (List Literal)) (place : ℕ) (clause : List Literal) → place < length matrix

@@ -20,8 +20,9 @@ use Rattle.dq_prep.specs.Units.{taken_literals, without_false, left_of, IsUnit}
 use Rattle.dq_prep.specs.Roles.{role_by, truth_role}
 use Rattle.dq_prep.specs.Takings.{ValuesTell}
 use Rattle.dq_prep.proofs.SeenUniversals.{contained-any}
-use Rattle.dq_prep.proofs.Units.{get-at, same_literal-refl}
+use Rattle.dq_prep.proofs.Units.{get-at}
 use Rattle.dq_prep.proofs.WellFormed.{IsBound, all-left}
+use Rattle.dq_prep.proofs.SignedLiterals.{not-true, same_literal-refl, not-same, opposite-opposite}
 
 abbrev IsKept : List Literal → Literal → Type 0
 IsKept trues l = not (holds trues (opposite l)) ≡ true
@@ -47,10 +48,6 @@ unit-fresh f earlier u it =
     let all : All (IsKept trues) (u.literal ∷ []) =
     subst (All (IsKept trues)) it.left (left-passes f trues it.clause) in
     not-true (holds trues (opposite u.literal)) (all 0 u.literal (omega arith))
-  where
-    not-true : (b : Bool) → not b ≡ true → b ≡ false
-    not-true true h = sym h
-    not-true false h = refl
 
 -- a unit's literal is on an existential
 pub unit-existential : (f : Dqbf) (earlier : List Taken) (u : Taken) → IsWellFormed f → IsUnit f earlier u
@@ -83,14 +80,6 @@ own-role (negative v) = refl
 other-role : (l : Literal) → role_by (value_of l) (is_negative (opposite l)) ≡ False
 other-role (positive v) = refl
 other-role (negative v) = refl
-
-not-same : (l : Literal) → same_literal (opposite l) l ≡ false
-not-same (positive v) = refl
-not-same (negative v) = refl
-
-opposite-opposite : (l : Literal) → opposite (opposite l) ≡ l
-opposite-opposite (positive v) = refl
-opposite-opposite (negative v) = refl
 
 -- the value that a literal gives its variable
 on-variable : (trues : List Literal) (k l : Literal) → variable_of k ≡ variable_of l

@@ -2,7 +2,7 @@
 -- formula is true where it is.
 use Rattle.std.proofs.Common.{◌≡◌, ◌≢◌, ℕ, zero, suc, ◌<◌, ◌==◌, Bool, true, false, not, cond, inl, inr, List, [], ◌∷◌, length, get_or, slice_get, Some, refl, sym, ◌∙◌, ap, arith}
 use Rattle.std.specs.List.{All, Contains, filter}
-use Rattle.std.proofs.lemmas.Bool.{true≢false, eq-eqb, eqb-true, ne_eqb, cond-true, cond-false, or_cases, or_left, or_right}
+use Rattle.std.proofs.lemmas.Bool.{true≢false, eq-eqb, ne_eqb, cond-true, cond-false, or_cases, or_left, or_right}
 use Rattle.std.proofs.lemmas.List.Elements.{All-filter}
 use Rattle.dq_lits.specs.Literal.{Assignment, Literal, positive, negative, variable_of, opposite, same_literal, literal_true, clause_true}
 use Rattle.dq_lits.specs.Formula.{Dqbf, declared, IsWellFormed}
@@ -14,17 +14,12 @@ use Rattle.dq_prep.specs.Reduction.{stays}
 use Rattle.dq_prep.specs.Units.{taken_literals, AreUnits, is_satisfied, without_false, left_of}
 use Rattle.dq_prep.specs.Simplified.{taken_at}
 use Rattle.dq_prep.proofs.Reduction.{Extending, reduced-true, any-kept, true-or-false}
+use Rattle.dq_prep.proofs.SignedLiterals.{same_literal-sound, same_literal-refl}
 
 -- each literal that was taken is true
 abbrev pub AllTrue : Assignment → List Literal → Type 0
 AllTrue m [] = Unit {0}
 AllTrue m (l ∷ ls) = (literal_true m l ≡ true) × AllTrue m ls
-
-pub same_literal-sound : (k l : Literal) → same_literal k l ≡ true → k ≡ l
-same_literal-sound (positive v) (positive w) h = ap positive (eqb-true v w h)
-same_literal-sound (positive v) (negative w) h = cc
-same_literal-sound (negative v) (positive w) h = cc
-same_literal-sound (negative v) (negative w) h = ap negative (eqb-true v w h)
 
 opposite-false : (m : Assignment) (l : Literal) → literal_true m (opposite l) ≡ true → literal_true m l ≡ false
 opposite-false m (positive v) h = by (m v) h
@@ -169,10 +164,6 @@ satisfied-by trues (k ∷ ks) l here taken =
           (ap (holds trues) (sym (same_literal-sound l k same)) ∙ taken)
       | inr later ↦ or_right (holds trues k) (is_satisfied trues ks) (satisfied-by trues ks l later taken)
     ]
-
-pub same_literal-refl : (l : Literal) → same_literal l l ≡ true
-same_literal-refl (positive v) = eq-eqb v v refl
-same_literal-refl (negative v) = eq-eqb v v refl
 
 pub taken-holds : (units : List Taken) (k : ℕ) (d : Taken) → k < length units
     → holds (taken_literals units) (get_or units k d).literal ≡ true

@@ -2,6 +2,8 @@ pub mod Codes
 pub mod Examples
 pub mod KeptClauses
 pub mod Laws
+pub mod Lifted
+pub mod LoweredRows
 pub mod Prefixes
 pub mod Reduction
 pub mod Roles

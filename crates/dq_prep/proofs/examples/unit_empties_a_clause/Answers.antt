@@ -1,4 +1,4 @@
-use Rattle.std.proofs.Common.{◌⊎◌, inl, inr, zero, suc, [], ◌∷◌, refl, arith}
+use Rattle.std.proofs.Common.{inl, inr, zero, suc, [], ◌∷◌, refl, arith}
 use Rattle.dq_lits.specs.Literal.{positive}
 use Rattle.dq_prep.specs.Units.{IsUnit}
 use Rattle.dq_prep.specs.Examples.{emptied, taken}

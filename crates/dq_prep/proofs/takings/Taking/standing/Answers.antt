@@ -8,8 +8,8 @@ use Rattle.dq_prep.specs.Units.{taken_literals}
 use Rattle.dq_prep.specs.Roles.{AreOpen}
 use Rattle.dq_prep.specs.Reduction.{sees_in}
 use Rattle.dq_prep.specs.Takings.{IsStanding, keeps_more, standing_of_one}
-use Rattle.dq_prep.proofs.LiteralRoles.{universals-see-nothing, universals-are-seen, open-existential}
-use Rattle.dq_prep.proofs.Standings.{Looked, clause-at, tautology-at, satisfied-other, more-other, none-stands, one-stands}
+use Rattle.dq_prep.proofs.LiteralRoles.{look, universals-are-seen, open-existential}
+use Rattle.dq_prep.proofs.Standings.{tautology-at, satisfied-other, more-other, none-stands, one-stands}
 use Rattle.dq_prep.proofs.takings.Taking.standing.Goals as goal
 
 pub opens-requires-clause-bound : goal.opens-requires-clause-bound
@@ -30,21 +30,15 @@ keeps_more-requires-clause-existential c =
 pub returns-in-Satisfied : goal.returns-in-Satisfied
 returns-in-Satisfied c =
     let f = c.args.self.now.formula.now in
-    let looked : Looked f c.args.self.now.trace c.args.place c.clause-clause.result.now = record {
-      nothing = universals-see-nothing f c.requires.right.well;
-      are = c.requires.right.units;
-      at = clause-at f.matrix c.args.place c.clause-clause.result.now c.requires.within c.clause-clause.ensures;
-    } in
+    let looked = look f c.args.self.now.trace c.args.place c.clause-clause.result.now c.requires.right.well
+    c.requires.right.units c.requires.within c.clause-clause.ensures in
     satisfied-other f c.args.self.now.trace c.args.place c.clause-clause.result.now looked (c.in-Satisfied.ensures)
 
 pub returns-in-Nothing : goal.returns-in-Nothing
 returns-in-Nothing c =
     let f = c.args.self.now.formula.now in
-    let looked : Looked f c.args.self.now.trace c.args.place c.clause-clause.result.now = record {
-      nothing = universals-see-nothing f c.requires.right.well;
-      are = c.requires.right.units;
-      at = clause-at f.matrix c.args.place c.clause-clause.result.now c.requires.within c.clause-clause.ensures;
-    } in
+    let looked = look f c.args.self.now.trace c.args.place c.clause-clause.result.now c.requires.right.well
+    c.requires.right.units c.requires.within c.clause-clause.ensures in
     let tautology = tautology-at c.args.self.now.tautologies.now f.matrix c.args.place c.clause-clause.result.now
     c.requires.right.tautologies c.requires.within c.clause-clause.ensures in
     subst (IsStanding f c.args.self.now.trace c.args.place) (sym c.standing_of_none.ensures)
@@ -56,11 +50,8 @@ returns-in-One c =
     let f = c.args.self.now.formula.now in
     let clause = c.clause-clause.result.now in
     let l = c.in-One.l in
-    let looked : Looked f c.args.self.now.trace c.args.place clause = record {
-      nothing = universals-see-nothing f c.requires.right.well;
-      are = c.requires.right.units;
-      at = clause-at f.matrix c.args.place clause c.requires.within c.clause-clause.ensures;
-    } in
+    let looked = look f c.args.self.now.trace c.args.place clause c.requires.right.well
+    c.requires.right.units c.requires.within c.clause-clause.ensures in
     let more : c.keeps_more.result ≡ keeps_more f clause l =
     c.keeps_more.ensures ∙ ap (λ x. keeps_more f x l) (sym c.clause-clause.ensures) in
     subst (IsStanding f c.args.self.now.trace c.args.place)
@@ -72,9 +63,6 @@ returns-in-One c =
 pub returns-in-More : goal.returns-in-More
 returns-in-More c =
     let f = c.args.self.now.formula.now in
-    let looked : Looked f c.args.self.now.trace c.args.place c.clause-clause.result.now = record {
-      nothing = universals-see-nothing f c.requires.right.well;
-      are = c.requires.right.units;
-      at = clause-at f.matrix c.args.place c.clause-clause.result.now c.requires.within c.clause-clause.ensures;
-    } in
+    let looked = look f c.args.self.now.trace c.args.place c.clause-clause.result.now c.requires.right.well
+    c.requires.right.units c.requires.within c.clause-clause.ensures in
     more-other f c.args.self.now.trace c.args.place c.clause-clause.result.now looked (c.in-More.ensures)
