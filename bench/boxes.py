@@ -1,20 +1,24 @@
 #!/usr/bin/env python3
 """Compares `dqsolve encode` and `dqsolve pec` on random pairs of circuits with what is known of them: the formula or the refusal
 with that of a second encoder, the verdict with all contents of the boxes where these are few. Certificates are judged by dqcheck,
-and boxes are filled, which is tried under all rows and judged in turn. Prints each difference and how many there were; where there
+and boxes are filled, which is tried under all rows and judged in turn. The same texts with a token or a line changed are compared
+with a second reader of circuits, and then with the second encoder. Prints each difference and how many there were; where there
 is one, the exit status is 1.
 
 Usage: bench/boxes.py DQSOLVE DQCHECK [COUNT [SEED]]
 """
 import itertools
 import os
+import random
 import subprocess
 import sys
 import tempfile
 
 import encode
+import reference
 
 TOOLS = os.path.join(os.path.dirname(os.path.abspath(__file__)), "..", "tools")
+WORDS = ["0", "1", "2", "3", "7", "24", "100", "-1", "x", "c", "pec", "aag", "", "1000000000000000000", "i0 a", "o0", "2 1 2 4 6"]
 MOST_BITS = 10  # of the boxes' tables, to be tried in all ways
 
 
@@ -70,23 +74,71 @@ def can_be_filled(spec, imp, boxes):
 
 
 def written(path, text):
-    with open(path, "w", encoding="ascii") as file:
+    with open(path, "w", encoding="ascii", newline="") as file:
         file.write(text)
     return path
 
 
-def differences(solver, checker, folder, seed):
-    """What is amiss with the random pair of this seed."""
-    paths = [os.path.join(folder, name) for name in ("spec.aag", "impl.aag")]
-    for path, text in zip(paths, encode.random_pair(seed)):
-        written(path, text)
+def touched(rng, text):
+    """The text with a token or a line changed, left out or said twice."""
+    lines = text.split("\n")
+    at = rng.randrange(len(lines))
+    tokens = lines[at].split(" ")
+    chosen = rng.randrange(len(tokens))
+    changes = [
+        [" ".join([*tokens[:chosen], rng.choice(WORDS), *tokens[chosen + 1 :]])],
+        [" ".join([*tokens[:chosen], rng.choice(WORDS), *tokens[chosen:]])],
+        [lines[at], lines[at]],
+        [lines[at] + rng.choice(["\r", " ", "\t\r"])],
+        [],
+    ]
+    lines[at : at + 1] = rng.choice(changes)
+    return "\n".join(lines)
+
+
+def circuit_fault(path):
+    """The line and the name of the first fault of a text as a circuit, or None."""
+    with open(path, "rb") as file:
+        reader = reference.LineReader(reference.lines_of(file.read()))
+    try:
+        header = reference.tokens_of(reader.take("BadHeader"))
+        reader.check(header, "BadHeader")
+        reference.read_circuit(reader, header)
+    except reference.Fault as it:
+        return str(it)
+    return None
+
+
+def due_of(paths):
+    """What `encode` has to write for these files, with its status, and the boxes where there is a design."""
+    for path, word in zip(paths, ("spec", "impl")):
+        fault = circuit_fault(path)
+        if fault:
+            return (f"{word} {fault}\n", 7), None
     spec, imp = (encode.Circuit(it) for it in paths)
-    found = run(solver, "encode", *paths)
     try:
         boxes = encode.boxes_of(spec, imp, 1)
-        due = encode.text_of(*encode.formula_of(spec, imp, boxes, 1)), 0
+        return (encode.text_of(*encode.formula_of(spec, imp, boxes, 1)), 0), boxes
     except encode.Refusal as it:
-        due = " ".join(["impl", *map(str, it.args)]) + "\n", 7
+        return (" ".join(["impl", *map(str, it.args)]) + "\n", 7), None
+
+
+def refusal_differences(solver, folder, seed):
+    """What is amiss where a token or a line of the random pair is changed."""
+    rng = random.Random(seed)
+    texts = list(encode.random_pair(seed))
+    chosen = rng.choice((0, 1, 1))
+    texts[chosen] = touched(rng, texts[chosen])
+    paths = [written(os.path.join(folder, name), text) for name, text in zip(("spec.aag", "impl.aag"), texts)]
+    found, (due, _) = run(solver, "encode", *paths), due_of(paths)
+    if found != due:
+        yield f"touched: {found} in place of {due}"
+
+
+def differences(solver, checker, folder, seed):
+    """What is amiss with the random pair of this seed."""
+    paths = [written(os.path.join(folder, name), text) for name, text in zip(("spec.aag", "impl.aag"), encode.random_pair(seed))]
+    found, (due, boxes) = run(solver, "encode", *paths), due_of(paths)
     if found != due:
         yield f"encode: {found} in place of {due}"
     certificate, status = run(solver, "pec", *paths)
@@ -94,6 +146,7 @@ def differences(solver, checker, folder, seed):
         if (certificate, status) != due:
             yield f"pec: {certificate} {status} in place of {due}"
         return
+    spec, imp = (encode.Circuit(it) for it in paths)
     is_filled = can_be_filled(spec, imp, boxes)
     if status not in (10, 20) or is_filled is not None and is_filled != (status == 10):
         yield f"pec: {status}, and that it can be filled is {is_filled}"
@@ -116,7 +169,7 @@ def main():
     amiss = 0
     with tempfile.TemporaryDirectory() as folder:
         for seed in range(first, first + count):
-            for it in differences(solver, checker, folder, seed):
+            for it in (*refusal_differences(solver, folder, seed), *differences(solver, checker, folder, seed)):
                 print(f"{seed}: {it}")
                 amiss += 1
     print(f"{amiss} differences")
