@@ -1,7 +1,7 @@
 //! What is left of a formula.
 
 ghost use Rattle.std.specs.Prelude.{◌≡◌, ◌<◌, ◌+◌, [], None, false, length, replicate, slice_index_or, true, IfOk, OnOk};
-ghost use Rattle.dq_prep.specs.Units.{taken_literals, is_satisfied, without_false, left_of};
+ghost use Rattle.dq_prep.specs.Units.{taken_literals, is_satisfied, left_of};
 ghost use Rattle.dq_prep.specs.Simplified.{simplified_formula};
 ghost use Rattle.dq_prep.specs.Takings.{IsTaking};
 ghost use Rattle.dq_prep.specs.KeptClauses.{IsTableOf, IsKeeper, AreKeptBefore};

@@ -1,7 +1,7 @@
 //! A formula's prefix in another formula.
 
 ghost use Rattle.std.specs.Prelude.{◌≡◌, ◌<◌, ◌≤◌, ◌+◌, [], true, All, IsSome, IfSome, IfOk, OnOk, length, take, max, Contains};
-ghost use Rattle.dq_lits.specs.Formula.{existential_of, IsWellFormed};
+ghost use Rattle.dq_lits.specs.Formula.{existential_of};
 ghost use Rattle.dq_formula.specs.Prefix.{IsLawful};
 ghost use Rattle.dq_prep.specs.Prefixes.{IsBegun, IsAt, SeesAmong};
 

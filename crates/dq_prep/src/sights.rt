@@ -5,7 +5,7 @@ ghost use Rattle.std.specs.List.{list_any, filter};
 ghost use Rattle.number_tables.specs.Numbers.{has_number};
 ghost use Rattle.dq_lits.specs.Literal.{variable_of};
 ghost use Rattle.dq_lits.specs.Formula.{existential_of, is_universal};
-ghost use Rattle.dq_prep.specs.Reduction.{sees_in, stays, is_seen};
+ghost use Rattle.dq_prep.specs.Reduction.{sees_in, stays};
 ghost use Rattle.dq_prep.specs.Sights.{is_within, keeps, AreWithin, Adds};
 
 use dq_formula::{Deps, Formula};

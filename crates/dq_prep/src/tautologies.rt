@@ -1,9 +1,8 @@
 //! Which clauses hold a literal beside its negation.
 
-ghost use Rattle.std.specs.Prelude.{◌≡◌, ◌==◌, ◌<◌, ◌^◌, ℕ, [], length, map, take, IfOk, OnOk};
+ghost use Rattle.std.specs.Prelude.{◌≡◌, ◌==◌, ℕ, [], map, IfOk, OnOk};
 ghost use Rattle.std.specs.List.{list_any};
 ghost use Rattle.number_tables.specs.Numbers.{has_number};
-ghost use Rattle.dq_lits.specs.Literal.{same_literal, variable_of};
 ghost use Rattle.dq_lits.specs.Derivation.{is_tautology, holds};
 ghost use Rattle.dq_prep.specs.Codes.{literal_code};
 
