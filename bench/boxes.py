@@ -163,6 +163,9 @@ def differences(solver, checker, folder, seed):
 
 
 def main():
+    if len(sys.argv) < 3:
+        print(__doc__.strip())
+        return 0 if sys.argv[1:] == ["--help"] else 1
     solver, checker = sys.argv[1:3]
     count = int(sys.argv[3]) if len(sys.argv) > 3 else 1000
     first = int(sys.argv[4]) if len(sys.argv) > 4 else 1

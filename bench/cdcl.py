@@ -215,6 +215,9 @@ def mean(numbers):
 
 
 def main():
+    if sys.argv[1:] == ["--help"]:
+        print(__doc__.strip())
+        return 0
     names = [word for word in sys.argv[1:] if not word.startswith("--")]
     counted = "--callgrind" in sys.argv
     ratios, kinds, wrong = [], {}, 0

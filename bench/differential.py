@@ -566,6 +566,9 @@ def compare(count, seed):
 
 
 def main():
+    if sys.argv[1:] == ["--help"]:
+        print(__doc__.strip())
+        return 0
     if not os.path.exists(CHECKER):
         sys.exit(f"{CHECKER} isn't built: run `rt run` in crates/dqcheck, or `rt ci` at the top")
     words = sys.argv[1:]

@@ -40,6 +40,9 @@ def cases(folder):
 
 
 def main():
+    if sys.argv[1:] == ["--help"]:
+        print(__doc__.strip())
+        return 0
     differences = 0
     with tempfile.TemporaryDirectory() as folder:
         for shows, words, due in cases(folder):

@@ -234,6 +234,9 @@ def random_pair(seed):
 
 
 def main():
+    if sys.argv[1:] == ["--help"]:
+        print(__doc__.strip())
+        return 0
     if sys.argv[1:2] == ["--random"]:
         for name, text in zip(("spec.aag", "impl.aag"), random_pair(int(sys.argv[2]))):
             with open(name, "w", encoding="ascii") as it:

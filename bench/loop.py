@@ -122,6 +122,9 @@ def main(words):
 
 
 if __name__ == "__main__":
+    if sys.argv[1:] == ["--help"]:
+        print(__doc__.strip())
+        sys.exit(0)
     if not 2 <= len(sys.argv) <= 4:
         sys.exit(__doc__.strip().split("\n")[-1])
     sys.exit(main(sys.argv[1:]))

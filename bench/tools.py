@@ -417,6 +417,9 @@ def random_cases(bench):
 
 
 def main():
+    if sys.argv[1:] == ["--help"]:
+        print(__doc__.strip())
+        return 0
     checker = sys.argv[1] if len(sys.argv) > 1 else None
     with tempfile.TemporaryDirectory() as folder:
         bench = Bench(folder, checker)

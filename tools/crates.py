@@ -76,6 +76,9 @@ def architecture():
 
 
 def main():
+    if sys.argv[1:] == ["--help"]:
+        print(__doc__.strip())
+        return 0
     check, differ = sys.argv[1:] == ["--check"], False
     if sys.argv[1:] not in ([], ["--check"]):
         sys.exit(__doc__)

@@ -22,6 +22,9 @@ def run(script, usage, least_words, most_words, work, option=None):
     """Calls `work` with the command's words, of which there must be so many; answers the exit status. With the option as first
     word, `work` is called with one argument more."""
     words = sys.argv[1:]
+    if words == ["--help"]:
+        print(sys.modules["__main__"].__doc__.strip())
+        return 0
     is_given = option is not None and words[:1] == [option]
     words = words[is_given:]
     if not least_words <= len(words) <= most_words or any(word.startswith("-") for word in words):

@@ -76,6 +76,9 @@ class Filling:
 
 
 def main():
+    if sys.argv[1:] == ["--help"]:
+        print(__doc__.strip())
+        return 0
     spec, imp, cert = (Circuit(it) for it in sys.argv[1:4])
     shared, boxes = len(spec.inputs), list(boxes_of(imp))
     further = imp.inputs[shared:]

@@ -113,6 +113,9 @@ def filled_boxes(spec, imp, cert):
 
 
 def main():
+    if sys.argv[1:] == ["--help"]:
+        print(__doc__.strip())
+        return 0
     words = sys.argv[1:]
     is_graph = words[:1] == ["--dot"]
     if len(words) - is_graph != 3:
