@@ -16,7 +16,7 @@ const FEWEST: u32 = 2;
 // How many sets of conditions are tried, and how many conditions one of them has at most.
 pub(crate) const MOST_SETS: usize = 4;
 
-const MOST_CONDITIONS: usize = 32;
+const MOST_CONDITIONS: usize = 1024;
 
 // After so many existentials in a row for which no guess was found none is asked for.
 const MOST_IN_VAIN: usize = 32;
@@ -75,9 +75,8 @@ impl Conditions {
         };
     }
 
-    /// Puts some sets, each the negations of the literals on defined existentials that a clause which
-    /// no definition makes true shares with another one; those of the last clauses first. Time follows
-    /// the literals.
+    /// Puts some sets, each the conditions that a clause gives which no definition makes true; those
+    /// of the last clauses first. Time follows the literals.
     pub(crate) fn put_all(&mut self, alloc: Global, defined: &Defined) -> Result<(), Memory> {
         let suspects = defined.suspects(alloc)?;
         self.put_of(alloc, defined, &suspects)
@@ -105,7 +104,7 @@ impl Conditions {
                 return Ok(());
             }
             if *number < defined.f.clauses() {
-                self.put(shared_literals(alloc, defined, counts, defined.f.clause(*number))?)?;
+                self.put(conditions_of(alloc, defined, counts, defined.f.clause(*number))?)?;
             }
         }
         Ok(())
@@ -177,6 +176,52 @@ fn slot(defined: &Defined, l: Lit) -> Option<usize> {
         }
         None => None,
     }
+}
+
+// The conditions that a clause gives: that the literals on defined existentials are false which it
+// shares with others. Where it shares none, as that of a circuit with one output does, they are
+// those on defined existentials but for the one that is declared last, which tells whether the
+// outputs agree.
+fn conditions_of(
+    alloc: Global,
+    defined: &Defined,
+    counts: &Counts,
+    clause: &[Lit],
+) -> Result<Vec<Lit>, Memory> {
+    let shared = shared_literals(alloc, defined, counts, clause)?;
+    if shared.is_empty() {
+        return earlier_literals(alloc, defined, clause);
+    }
+    Ok(shared)
+}
+
+// The negations of a clause's literals on defined existentials that aren't declared last of its own;
+// none where they are too many.
+fn earlier_literals(alloc: Global, defined: &Defined, clause: &[Lit]) -> Result<Vec<Lit>, Memory> {
+    let last = last_place(defined, clause);
+    let mut set = Vec::new(alloc);
+    if clause.len() > MOST_CONDITIONS {
+        return Ok(set);
+    }
+    for l in clause {
+        if let Some(place) = defined.f.existential_place(l.var()) {
+            if place < last && defined.node_of(l.var()).is_some() {
+                set.push(l.not())?;
+            }
+        }
+    }
+    Ok(set)
+}
+
+// The largest place of an existential of a clause, in order of declaration; 0 where it has none.
+fn last_place(defined: &Defined, clause: &[Lit]) -> usize {
+    let mut last = 0;
+    for l in clause {
+        if let Some(place) = defined.f.existential_place(l.var()) {
+            last = last.max(place);
+        }
+    }
+    last
 }
 
 // The negations of the shared literals of a clause; none where they are too many.
