@@ -1,5 +1,6 @@
 #!/usr/bin/env python3
-"""explain.py FORMULA [CERT]: what dqcheck says of a certificate, or dqsolve of a formula alone, and then why.
+"""explain.py FORMULA [CERT], explain.py --pec SPEC IMPL: what dqcheck says of a certificate, or dqsolve of a formula alone or of two
+circuits, and then why.
 
 The first line is the program's own. Behind it: at a refusal the text's line and what its name stands for; where a clause is
 false under a row, that clause and the outputs' bits; at a step that isn't derived, what each of its hints comes to; where an
@@ -40,15 +41,16 @@ def shown(line):
     return text if len(text) <= LONGEST_SHOWN else text[:LONGEST_SHOWN] + " .."
 
 
-def explain_refusal(path, words, kind):
-    """The line that a refusal names, and what its name stands for."""
+def explain_refusal(path, words, *kinds):
+    """The line that a refusal names, and what its name stands for in a text of the first of these kinds that has it."""
     number, name = int(words[1]), words[2]
     lines = lines_of(bytes_of(path))
     if number <= len(lines):
         print(f"{path}, line {number}: {shown(lines[number - 1])}")
     else:
         print(f"{path} has {len(lines)} lines; line {number} is due")
-    print(sentences(kind).get(name, "docs/FORMATS.md has the name."))
+    found = [sentences(kind)[name] for kind in kinds if name in sentences(kind)]
+    print(found[0] if found else "docs/FORMATS.md has the name.")
     hint = at_start(bytes_of(path), name)
     if hint:
         print(hint)
@@ -122,7 +124,25 @@ def explain(formula, certificate, words):
         print("A file can't be read: look at its name and its rights; a name that begins with - stands behind --.")
 
 
+def main_of_circuits(words):
+    """The same of the two circuits of a comparison."""
+    status, line = answer_of("DQSOLVE", "dqsolve", ["encode", *words])
+    if status == 0:
+        print("The two circuits make a design with black boxes.")
+        return status
+    print(line)
+    said = line.split()
+    if said[:1] in (["spec"], ["impl"]):
+        path = words[said[0] == "impl"]
+        explain_refusal(path, said, "design", "certificate")
+    else:
+        explain(words[0], words[-1], said)
+    return status
+
+
 def main(words):
+    if words[:1] == ["--pec"] and len(words) == 3:
+        return main_of_circuits(words[1:])
     if words == ["--help"]:
         print(__doc__.strip())
         return 0
