@@ -6,7 +6,10 @@ few lines, which gcc makes, stands before it.
 
 Usage: bench/refused_memory.py
 
-The variables DQCHECK and DQSOLVE name the programs.
+The last run is that of the program of cases for the solver that engines share, on two groups that contradict each other: it makes
+each call again that was refused memory, so that all searches answer as without a refusal, or it ends at an allocation of its own.
+
+The variables DQCHECK, DQSOLVE and CDCL_CASES name the programs.
 """
 
 import os
@@ -14,7 +17,7 @@ import subprocess
 import sys
 import tempfile
 
-from bench import CHECKER
+from bench import CHECKER, TOP
 from decisions import SOLVER
 
 BEFORE_THE_LIBRARY = """
@@ -78,6 +81,7 @@ FILES = {
     "no-clause": "p cnf 2 0\na 1 0\nd 2 1 0\n",
     "split-conjunction": "p cnf 4 6\na 1 2 0\nd 3 1 0\nd 4 2 0\n-1 -2 3 4 0\n-1 -2 -3 -4 0\n1 -3 4 0\n1 3 -4 0\n2 -3 4 0\n2 3 -4 0\n",
     "spec": "aag 3 2 0 1 1\n2\n4\n6\n6 4 2\n",
+    "cases": "new 100\ngroup\ngroup\nvar\nadd 1 3\nadd 2 -3\nsolve one | 1 |\nsolve the other | 2 |\nsolve both | 1 2 |\nsolve one again | 1 |\n",
     "imp": "aag 3 3 0 1 0\n2\n4\n6\n6\nc\npec 1\n2 1 2 4 6\n",
 }
 
@@ -88,6 +92,7 @@ RUNS = (
     ("DQSOLVE", ["solve", "split-conjunction"], 20),
     ("DQSOLVE", ["pec", "spec", "imp"], 10),
     ("DQSOLVE", ["encode", "spec", "imp"], 0),
+    ("CDCL_CASES", [], 0),
 )
 
 
@@ -96,7 +101,8 @@ class Runs:
 
     def __init__(self, folder):
         self.folder = folder
-        self.programs = {"DQCHECK": os.environ.get("DQCHECK", CHECKER), "DQSOLVE": os.environ.get("DQSOLVE", SOLVER)}
+        cases = os.path.join(TOP, "crates", "cdcl_cases", "out", "cdcl_cases")
+        self.programs = {"DQCHECK": CHECKER, "DQSOLVE": SOLVER, "CDCL_CASES": os.environ.get("CDCL_CASES", cases)}
         for name, text in FILES.items():
             with open(os.path.join(folder, name), "w", encoding="ascii") as file:
                 file.write(text)
@@ -108,7 +114,7 @@ class Runs:
     def run(self, program, words, refused):
         """The status and the text, where this allocation is refused, none if it is 0."""
         told = {"LD_PRELOAD": self.library, "REFUSED_ALLOCATION": str(refused), "ALLOCATIONS": os.path.join(self.folder, "count")}
-        done = subprocess.run([self.programs[program], *words], cwd=self.folder, env=os.environ | told, stdout=subprocess.PIPE, check=False)
+        done = subprocess.run([self.programs[program], *words], cwd=self.folder, env=os.environ | told, stdout=subprocess.PIPE, stderr=subprocess.DEVNULL, check=False)
         return done.returncode, done.stdout
 
     def count(self):
@@ -124,8 +130,9 @@ class Runs:
             return 1
         for refused in range(1, allocations + 1):
             found = self.run(program, words, refused)
-            ended += found == (5, b"")
-            if found not in (due, (5, b"")):
+            is_end = found == (5, b"") or program == "CDCL_CASES" and found[0] != 0 and due[1].startswith(found[1])
+            ended += is_end
+            if found != due and not is_end:
                 print(f"{' '.join(words)}, allocation {refused} refused: {found}")
                 differences += 1
         print(f"{program.lower()} {' '.join(words)}: {allocations} allocations, {ended} refusals ended the run")

@@ -1,15 +1,15 @@
 -- Which variables were made, as the log grows.
-use Rattle.std.proofs.Common.{◌≡◌, ℕ, ◌+◌, ◌≤◌, ◌<◌, cond, List, [], ◌∷◌, ◌++◌, length, Some, None, Option, IsSome, is_some, refl, sym, ◌∙◌, ap, subst, arith, inl, inr}
+use Rattle.std.proofs.Common.{◌≡◌, ℕ, ◌+◌, List, ◌∷◌, IsSome, is_some, refl, sym, ◌∙◌, ap, subst, arith, Result, Ok, Err, OnErr}
 use Rattle.std.specs.List.{All}
 use Rattle.std.proofs.lemmas.List.Elements.{All-weaker}
-use Rattle.dq_lits.specs.Literal.{Literal}
+use Rattle.dq_lits.specs.Literal.{Literal, variable_of}
 use Rattle.hint_log.specs.Entries.{Entry}
-use Rattle.hint_log.specs.Entries.{Named, Answer}
-use Rattle.hint_log.specs.declared.names.Name.{Name}
-use Rattle.hint_log.specs.declared.names.Name.TheVariants.{Input}
+use Rattle.hint_log.specs.Entries.{Answer}
 use Rattle.hint_log.specs.Conditions.{IsId}
 use Rattle.hint_log.specs.Entries.{ProofLog, name_of, last_id}
-use Rattle.oracle.specs.Calls.{IsRefutedUnder}
+use Rattle.hint_log.specs.Naming.{is_selector_name}
+use Rattle.oracle.specs.declared.groups.Group.{Group}
+use Rattle.oracle.specs.Calls.{IsMade, IsPlain, IsRefutedUnder}
 use Rattle.oracle.specs.declared.oracles.Answer.{Answer as SearchAnswer}
 use Rattle.oracle.specs.declared.oracles.Answer.TheVariants.{Sat, Unsat}
 use Rattle.learning_trail.specs.Growing.{HasLearned}
@@ -52,3 +52,23 @@ pub made_answered : (m : Made) (old new : ProofLog) (assumptions : List Literal)
 made_answered m old new assumptions Sat made sat unsat = made_learned m old new (sat refl) made
 made_answered m old new assumptions (Unsat id) made sat unsat =
     made_refuted m old new assumptions id (unsat id refl) made
+
+-- groups and plain literals stay what they are where a search stopped
+pub groups_stay : (old new : ProofLog) (groups : List Group) → HasLearned old new → All (IsMade old.entries) groups →
+    All (IsMade new.entries) groups
+groups_stay old new groups learned made = All-weaker (IsMade old.entries) (IsMade new.entries)
+    (λ g h. record { positive = h.positive; named = names_same old new learned (variable_of g.selector) ∙ h.named })
+    groups made
+
+pub plain_stays : (old new : ProofLog) (lits : List Literal) → HasLearned old new → All (IsPlain old.entries) lits →
+    All (IsPlain new.entries) lits
+plain_stays old new lits learned plain = All-weaker (IsPlain old.entries) (IsPlain new.entries)
+    (λ l h. record {
+      named = ap is_some (names_same old new learned (variable_of l)) ∙ h.named;
+      no_selector = ap is_selector_name (names_same old new learned (variable_of l)) ∙ h.no_selector;
+    })
+    lits plain
+
+pub on_err : {T E : Type 0} (r : Result T E) (P : Type 0) → P → OnErr r P
+on_err (Ok x) P p = tt
+on_err (Err e) P p = p

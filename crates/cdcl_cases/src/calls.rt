@@ -45,7 +45,8 @@ fn note(made: &mut Made, variable: u64) -> Result<(), Memory>
     Ok(())
 }
 
-/// A group, whose selector is the next variable.
+/// A group, whose selector is the next variable. Here and below a call that was refused memory is made
+/// once again.
 pub fn make_group<O: Oracle>(
     oracle: &mut O,
     log: &mut Log,
@@ -57,7 +58,10 @@ pub fn make_group<O: Oracle>(
     ensures fit { O.Fits oracle.new log.new }
     ensures made { OnOk result (AreMade made.new log.new.entries) }
 {
-    let group = oracle.group(who, log)?;
+    let group = match oracle.group(who, log) {
+        Ok(group) => group,
+        Err(Memory) => oracle.group(who, log)?,
+    };
     note(made, group.selector().var())?;
     Ok(())
 }
@@ -70,7 +74,10 @@ pub fn make_var<O: Oracle>(oracle: &mut O, log: &mut Log, made: &mut Made) -> Re
     ensures made { OnOk result (AreMade made.new log.new.entries) }
 {
     let universal = made.variables.len() as u64;
-    let variable = oracle.new_var(Name::Input { universal }, log)?;
+    let variable = match oracle.new_var(Name::Input { universal }, log) {
+        Ok(variable) => variable,
+        Err(Memory) => oracle.new_var(Name::Input { universal }, log)?,
+    };
     note(made, variable)?;
     Ok(())
 }
@@ -90,6 +97,28 @@ pub fn add_clause<O: Oracle>(
     ensures fit { O.Fits oracle.new log.new }
     ensures made { AreMade made.now log.new.entries }
     ensures last { IfOk result (λ id. id ≡ last_id log.new.entries) }
+{
+    match add_once(oracle, log, made, group, lits) {
+        Ok(id) => Ok(id),
+        Err(Memory) => add_once(oracle, log, made, group, lits),
+    }
+}
+
+fn add_once<O: Oracle>(
+    oracle: &mut O,
+    log: &mut Log,
+    made: &Made,
+    group: &Group,
+    lits: &[Lit],
+) -> Result<u64, Memory>
+    requires fit { O.Fits oracle.old log.old }
+    requires made { AreMade made.now log.old.entries }
+    requires group { IsMade log.old.entries group.now }
+    requires plain { All (IsPlain log.old.entries) lits.now }
+    ensures fit { O.Fits oracle.new log.new }
+    ensures made { AreMade made.now log.new.entries }
+    ensures last { IfOk result (λ id. id ≡ last_id log.new.entries) }
+    ensures err { OnErr result (log.new ≡ log.old) }
 {
     let origin = Origin::Gate {
         variable: made.largest,
@@ -116,6 +145,31 @@ pub fn search<O: Oracle>(
     ensures made { AreMade made.now log.new.entries }
     ensures told { result ≡ Ok Answer.Sat → O.is_told oracle.new ≡ true }
     ensures id { (id : ℕ) → result ≡ Ok (Answer.Unsat id) → IsId log.new.entries id }
+{
+    match search_once(oracle, log, made, active, assume) {
+        Err(Stop::Memory) => search_once(oracle, log, made, active, assume),
+        answer => answer,
+    }
+}
+
+fn search_once<O: Oracle>(
+    oracle: &mut O,
+    log: &mut Log,
+    made: &Made,
+    active: &[Group],
+    assume: &[Lit],
+) -> Result<Answer, Stop>
+    requires fit { O.Fits oracle.old log.old }
+    requires made { AreMade made.now log.old.entries }
+    requires groups { All (IsMade log.old.entries) active.now }
+    requires plain { All (IsPlain log.old.entries) assume.now }
+    requires apart { is_tautology assume.now ≡ false }
+    ensures fit { O.Fits oracle.new log.new }
+    ensures made { AreMade made.now log.new.entries }
+    ensures told { result ≡ Ok Answer.Sat → O.is_told oracle.new ≡ true }
+    ensures id { (id : ℕ) → result ≡ Ok (Answer.Unsat id) → IsId log.new.entries id }
+    ensures groups { OnErr result (All (IsMade log.new.entries) active.now) }
+    ensures plain { OnErr result (All (IsPlain log.new.entries) assume.now) }
 {
     let _ = made;
     let answer = oracle.solve(active, assume, log)?;
