@@ -1,6 +1,7 @@
 #!/usr/bin/env python3
 """pages.py: runs the commands that README and the pages show, as written, in a folder of their own, and compares statuses and first lines with
-what stands here. Commands of the pages that aren't listed here, and the other way round, are differences too. DQCHECK and DQSOLVE may name
+what stands here. Commands of the pages that aren't listed here, and the other way round, are differences too,
+and so is a launcher's usage line that isn't its program's. DQCHECK and DQSOLVE may name
 built programs.
 """
 
@@ -79,6 +80,12 @@ def main(words):
                 if due is None or found[0] != due[0] or due[1] not in (None, found[1]):
                     print(f"{page}: {command}: {found} in place of {due}")
                     differences += 1
+    for name in ("dqcheck", "dqsolve"):
+        program = os.environ.get(name.upper(), os.path.join(TOP, "crates", name, "out", name))
+        said = [subprocess.run([path], stdout=subprocess.PIPE, check=False).stdout for path in (os.path.join(TOP, name), program)]
+        if said[0] != said[1]:
+            print(f"{name}: the launcher says {said[0]}, the program {said[1]}")
+            differences += 1
     for command in COMMANDS.keys() - seen:
         print(f"no page has {command}")
         differences += 1
