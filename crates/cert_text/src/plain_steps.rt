@@ -1,6 +1,6 @@
 //! Steps that are as they should be, read in one pass.
 
-ghost use Rattle.std.specs.Prelude.{◌≡◌, ◌≤◌, ◌<◌, ◌^◌, ◌∷◌, [], ◌++◌, IsTrue, nat_abs, pos, map, IfSome, IfOk, OnOk};
+ghost use Rattle.std.specs.Prelude.{◌≡◌, ◌≤◌, ◌<◌, ◌^◌, ◌∷◌, [], ◌++◌, nat_abs, pos, map, IfSome, IfOk, OnOk};
 ghost use Rattle.std.specs.List.{All};
 ghost use Rattle.dq_lits.specs.Literal.{dimacs_literal, dimacs_number, variable_of};
 ghost use Rattle.dq_text.specs.Line.{line_tokens};
@@ -13,7 +13,7 @@ ghost use Rattle.cert_text.specs.Variables.{is_variable};
 
 use crate::variables::Variables;
 use dq_lits::{Lit, Memory};
-use dq_text::{LineTokens, Number};
+use dq_text::{LineTokens, short_number};
 
 /// Reads a step with the next id, over these variables, and answers its id; its literals and hints
 /// stand in the buffers then. It answers nothing where the line isn't such a one, and maybe where
@@ -37,61 +37,61 @@ pub fn take_plain_step(
         (read_step id literals.new.items hints.new.items))) }
     ensures some { IfOk result (λ found. IfSome found (λ id. 1 ≤ id)) }
 {
-    let mut tokens = LineTokens::new(line);
-    let Some(id) = take_id(next, &mut tokens) else {
+    let Some((id, line)) = take_id(next, line) else {
         return Ok(None);
     };
-    if !take_literals(variables, &mut tokens, literals)? {
+    let Some(line) = take_literals(variables, line, literals)? else {
         return Ok(None);
-    }
-    if !take_hints(id, &mut tokens, hints)? {
+    };
+    let Some(line) = take_hints(id, line, hints)? else {
         return Ok(None);
-    }
-    Ok(if tokens.next().is_none() {
+    };
+    Ok(if LineTokens::new(line).next().is_none() {
         Some(id)
     } else {
         None
     })
 }
 
-// Takes the next id.
-fn take_id(next: u128, tokens: &mut LineTokens) -> Option<u64>
+// Takes the next id; behind it stands what is left of the line.
+fn take_id(next: u128, line: &[u8]) -> Option<(u64, &[u8])>
     ensures taken { IfSome result
-        (λ id. map number_of tokens.old ≡ Int (pos id) ∷ map number_of tokens.new) }
-    ensures next { IfSome result (λ id. id ≡ next) }
-    ensures some { IfSome result (λ id. 1 ≤ id) }
+        (λ taken. map number_of (line_tokens line.now)
+        ≡ Int (pos taken.0) ∷ map number_of (line_tokens taken.1.now)) }
+    ensures next { IfSome result (λ taken. taken.0 ≡ next) }
+    ensures some { IfSome result (λ taken. 1 ≤ taken.0) }
 {
-    match tokens.next_number() {
-        Some(Number::Int(n)) if n > 0 && n as u128 == next => Some(n as u64),
+    match short_number(line) {
+        Some((n, rest)) if n > 0 && n as u128 == next => Some((n as u64, rest)),
         _ => None,
     }
 }
 
 // Takes literals on these variables, and the 0 behind them.
-fn take_literals(
+fn take_literals<'a>(
     variables: Variables,
-    tokens: &mut LineTokens,
+    line: &'a [u8],
     literals: &mut Vec<Lit>,
-) -> Result<bool, Memory>
+) -> Result<Option<&'a [u8]>, Memory>
     ensures { IfOk result
-        (λ taken. IsTrue taken
-        → LiteralsTaken (is_variable variables.entry) tokens.old tokens.new
-        literals.new.items) }
+        (λ left.
+        IfSome left
+        (λ rest. LiteralsTaken (is_variable variables.entry) (line_tokens line.now)
+        (line_tokens rest.now) literals.new.items)) }
 {
     literals.clear();
-    while let Some(number) = tokens.next_number() {
-        let Number::Int(n) = number else {
-            return Ok(false);
-        };
+    let mut rest = line;
+    while let Some((n, behind)) = short_number(rest) {
         if n == 0 {
-            return Ok(true);
+            return Ok(Some(behind));
         }
         if !variables.has_literal(n) {
-            return Ok(false);
+            return Ok(None);
         }
         push_literal(literals, n)?;
+        rest = behind;
     }
-    Ok(false)
+    Ok(None)
 }
 
 fn push_literal(literals: &mut Vec<Lit>, number: i64) -> Result<(), Memory>
@@ -115,24 +115,25 @@ pub fn literal(number: i64) -> Lit
 }
 
 // Takes ids below this one, and the 0 behind them.
-fn take_hints(id: u64, tokens: &mut LineTokens, hints: &mut Vec<u64>) -> Result<bool, Memory>
+fn take_hints<'a>(id: u64, line: &'a [u8], hints: &mut Vec<u64>) -> Result<Option<&'a [u8]>, Memory>
     ensures { IfOk result
-        (λ taken. IsTrue taken → HintsTaken id tokens.old tokens.new hints.new.items) }
+        (λ left.
+        IfSome left
+        (λ rest. HintsTaken id (line_tokens line.now) (line_tokens rest.now) hints.new.items)) }
 {
     hints.clear();
-    while let Some(number) = tokens.next_number() {
-        let Number::Int(n) = number else {
-            return Ok(false);
-        };
+    let mut rest = line;
+    while let Some((n, behind)) = short_number(rest) {
         if n == 0 {
-            return Ok(true);
+            return Ok(Some(behind));
         }
         if n < 0 || n as u64 >= id {
-            return Ok(false);
+            return Ok(None);
         }
         push_hint(hints, n as u64)?;
+        rest = behind;
     }
-    Ok(false)
+    Ok(None)
 }
 
 fn push_hint(hints: &mut Vec<u64>, hint: u64) -> Result<(), Memory>

@@ -12,8 +12,9 @@ use crate::cursors::separates;
 // Numbers of so many digits are below 10^18.
 const MOST_DIGITS: usize = 18;
 
-/// The number that is the first token, and the bytes behind it. There may be one where it finds
-/// none: one of 19 digits or more.
+/// The number that is the first token, where that begins with the first byte, and the bytes behind
+/// it and a separator. There may be one where it finds none: one of 19 digits or more.
+#[inline(always)]
 pub fn short_number(bytes: &[u8]) -> Option<(i64, &[u8])>
     ensures { IfSome result
         (λ found. map number_of (line_tokens bytes.now)
@@ -43,6 +44,7 @@ pub fn few_digits(digits: &[u8]) -> Option<u64>
     }
 }
 
+#[inline(always)]
 fn behind_minus(digits: &[u8]) -> Option<(i64, &[u8])>
     ensures { IfSome result
         (λ found. map number_of (line_tokens (45 ∷ digits.now))
@@ -55,6 +57,7 @@ fn behind_minus(digits: &[u8]) -> Option<(i64, &[u8])>
     Some((negated(value), behind))
 }
 
+#[inline(always)]
 fn without_minus(bytes: &[u8]) -> Option<(i64, &[u8])>
     ensures { IfSome result
         (λ found. map number_of (line_tokens bytes.now)
@@ -79,6 +82,7 @@ fn as_signed(value: u64) -> i64
 }
 
 // The value of the digits that are the first token, at most 18, and the bytes behind them.
+#[inline(always)]
 fn short_natural(bytes: &[u8]) -> Option<(u64, &[u8])>
     ensures { IfSome result (λ found. BeginsWithNatural bytes.now found.0 found.1.now) }
 {
@@ -90,6 +94,7 @@ fn short_natural(bytes: &[u8]) -> Option<(u64, &[u8])>
     Some((value, behind))
 }
 
+#[inline(always)]
 fn first_bytes(bytes: &[u8]) -> &[u8]
     ensures { result.now ≡ take 18 bytes.now }
 {
@@ -101,6 +106,7 @@ fn first_bytes(bytes: &[u8]) -> &[u8]
 }
 
 // The value of the digits before the first other byte, and how many there are.
+#[inline(always)]
 fn leading_value(bytes: &[u8]) -> (u64, usize)
     requires { length bytes.now ≤ 18 }
     ensures { IsLeadingValue bytes.now result.0 result.1 }
@@ -116,6 +122,7 @@ fn leading_value(bytes: &[u8]) -> (u64, usize)
 }
 
 // The bytes behind the separator that ends a token here, if one does.
+#[inline(always)]
 fn behind_token(bytes: &[u8]) -> Option<&[u8]>
     ensures ends { IfSome result (λ _. goes_on bytes.now ≡ false) }
     ensures same { IfSome result (λ rest. line_tokens rest.now ≡ line_tokens bytes.now) }

@@ -31,6 +31,7 @@ const MARKS_A_READ: usize = 32;
 const NAMES_A_HINT: usize = 4;
 
 // A literal of another variable with the same sign.
+#[inline(always)]
 fn on(l: Lit, variable: u64) -> Lit
     requires from_one { 1 ≤ variable }
     requires in_range { variable < 2 ^ 62 }
@@ -43,7 +44,9 @@ fn on(l: Lit, variable: u64) -> Lit
     }
 }
 
-// A literal on the name of the pair of an existential and the row at `k`.
+// A literal on the name of the pair of an existential and the row at `k`. It is what a hint costs,
+// so that it stands where it is called.
+#[inline(always)]
 fn name(e: &Expansion, names: &mut PairNames, l: Lit, y: u64, k: usize) -> Result<Lit, Memory>
     requires frame { IsFrame (frame e.now) }
     requires names { AreNames (frame e.now) names.old }
@@ -65,6 +68,7 @@ fn name(e: &Expansion, names: &mut PairNames, l: Lit, y: u64, k: usize) -> Resul
 
 // Reads one more literal of a clause under the row at `k`: whether it is a universal literal that
 // is true. An existential literal is put on the name of its pair.
+#[inline(always)]
 fn read_literal(
     e: &Expansion,
     names: &mut PairNames,

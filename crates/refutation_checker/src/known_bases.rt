@@ -33,6 +33,7 @@ impl KnownBases {
     }
 
     /// What is kept for a place of a block; 0 where nothing is.
+    #[inline(always)]
     pub(crate) fn get(&self, number: u64, place: usize) -> u64
         requires place { place < 16 }
         requires as_many { length self.now.bases.items ≡ length self.now.numbers * 16 }

@@ -60,6 +60,7 @@ impl PairNames {
 
     /// The name of the pair of a set's first existential and the row at `k`; others with the set
     /// follow. Where it has none it gets one.
+    #[inline(always)]
     pub(crate) fn base(&mut self, e: &Expansion, set: usize, k: usize) -> Result<u64, Memory>
         requires frame { IsFrame (frame e.now) }
         requires names { AreNames (frame e.now) self.old }
