@@ -156,3 +156,10 @@ IsAagReading first (Err fault) (Err (Refused line name)) =
     fault ≡ record { line = line; name = name }
 IsAagReading first (Ok file) (Err Memory) = Unit {0}
 IsAagReading first (Err fault) (Err Memory) = Unit {0}
+
+-- the file of a body that was checked
+abbrev pub checked_file : Body → Option (List ℕ) → Result (Unit {0}) AagStop
+    → Result AagFile AagStop
+checked_file b comment (Ok _) =
+    Ok (record { circuit = b.netlist; symbols = b.symbols; comment = comment })
+checked_file b comment (Err stop) = Err stop

@@ -5,7 +5,7 @@ pub use body::{CircuitReader, Part, part_of, start_reader, take_gate, take_input
 pub use faults::{AagFault, AagStop, LineStop};
 pub use files::{AagFile, ReadCircuit, Text};
 pub use headers::{Header, read_header};
-pub use reader::{Taken, at_end, finish_file, read, take_line};
+pub use reader::{Taken, at_end, at_line, check_file, finish_file, read, take_line};
 pub use symbol_steps::take_symbol;
 pub use symbols::Symbols;
 pub use writer::write;

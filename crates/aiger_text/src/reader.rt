@@ -1,9 +1,9 @@
 //! Reading a circuit file.
 
-ghost use Rattle.std.specs.Prelude.{◌≡◌, ◌+◌, ◌<◌, ◌^◌, length, Some, None, OnOk, IfOk, MatchOption};
+ghost use Rattle.std.specs.Prelude.{◌≡◌, ℕ, ◌+◌, ◌<◌, ◌^◌, List, Option, length, Some, None, OnOk, IfOk, MatchOption};
 ghost use Rattle.std.specs.Option.{option_copied};
 ghost use Rattle.aiger_text.specs.Grammar.{SpellsCircuit};
-ghost use Rattle.aiger_text.specs.Scan.{scan, finish, next_part, at_end, AllGrounded, IsAagReading};
+ghost use Rattle.aiger_text.specs.Scan.{scan, finish, checked_file, next_part, at_end, AllGrounded, IsAagReading};
 ghost use Rattle.circuit_plain.specs.Ground.{IsFirstUngrounded};
 ghost use Rattle.aiger_text.specs.Steps.{TakesLine, TakesAnyLine, StopsAt, IsSymbolIfLast};
 ghost use Rattle.aiger_text.specs.CommentLine.{IsCommentLine, file_of};
@@ -128,7 +128,8 @@ fn refused(line: u64, name: AagFault) -> AagStop
     AagStop::Refused { line, name }
 }
 
-fn at_line(line: u64, stop: LineStop) -> AagStop
+/// A line's stop as one of the text.
+pub fn at_line(line: u64, stop: LineStop) -> AagStop
     ensures { StopsAt line stop result }
 {
     match stop {
@@ -176,6 +177,22 @@ fn take_part(
     }
 }
 
+/// Whether a file names only what it defines and has no cycle, as it stands, whatever its comment is.
+pub fn check_file(reader: &CircuitReader) -> Result<(), AagStop>
+    requires { IsReady reader.now }
+    ensures { (comment : Option (List ℕ)) → IsAagReading reader.now.header_line
+        (finish (body_of reader.now) comment)
+        (checked_file (body_of reader.now) comment result) }
+{
+    if let Some(line) = first_undefined_line(reader) {
+        return Err(refused(line, AagFault::Undefined));
+    }
+    if let Some(place) = cyclic_gate(&reader.circuit)? {
+        return Err(refused(gate_line(reader, place), AagFault::Cyclic));
+    }
+    Ok(())
+}
+
 /// The file as it stands, unless it names what it doesn't define or has a cycle.
 pub fn finish_file(
     alloc: Global,
@@ -187,12 +204,7 @@ pub fn finish_file(
     ensures exact { IsAagReading reader.header_line
         (finish (body_of reader) (option_copied comment.entry)) result }
 {
-    if let Some(line) = first_undefined_line(&reader) {
-        return Err(refused(line, AagFault::Undefined));
-    }
-    if let Some(place) = cyclic_gate(&reader.circuit)? {
-        return Err(refused(gate_line(&reader, place), AagFault::Cyclic));
-    }
+    check_file(&reader)?;
     let comment = copy_comment(alloc, comment)?;
     let CircuitReader {
         circuit,

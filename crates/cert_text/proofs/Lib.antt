@@ -22,7 +22,7 @@ pub mod SpelledRows
 pub mod SignsTaken
 pub mod SmallNumbers
 pub mod SpelledSteps
-pub mod RowUniversals
+pub mod RowBits
 pub mod Numberings
 pub mod ReadItems
 pub mod SpelledItems

@@ -1,29 +1,32 @@
 //! What joins the grammars, the first faults and the canonical text. A law is the contract of a
 //! function without parameters and with an empty body.
 
-ghost use Rattle.std.specs.Prelude.{◌≡◌, ℕ, Bool, map, ◌⊎◌, length, ◌↔◌, true, List, Ok, Err};
+ghost use Rattle.std.specs.Prelude.{◌≡◌, ℕ, Bool, All, map, ◌⊎◌, length, ◌↔◌, true, List, Ok, Err};
 ghost use Rattle.dq_lits.specs.Derivation.{ProofStep};
 ghost use Rattle.dq_lits.specs.Formula.{Dqbf};
 ghost use Rattle.dq_text.specs.Line.{TextLine};
 ghost use Rattle.dq_formula.specs.Prefix.{IsLawful};
 ghost use Rattle.circuit_plain.specs.Netlist.{Netlist};
-ghost use Rattle.rup_core.specs.Items.{derived};
+ghost use Rattle.rup_core.specs.Items.{ProofItem, derived};
 ghost use Rattle.cert_text.specs.Beginning.{Begins};
 ghost use Rattle.cert_text.specs.Canonical.{canonical, canonical_proof, version_for};
 ghost use Rattle.cert_text.specs.CircuitProof.{circuit_proof_of};
-ghost use Rattle.cert_text.specs.Grammar.{AreItems, AreSteps, IsDqrOf, IsPairNumber, SpellsRefutation};
-ghost use Rattle.cert_text.specs.ItemLine.{as_items, item_lines, step_lines};
+ghost use Rattle.cert_text.specs.Grammar.{AreItems, AreSteps, IsDqrOf, IsItem, IsPairNumber, SpellsRefutation};
+ghost use Rattle.cert_text.specs.ItemLine.{as_items, item_line, item_lines, step_lines};
 ghost use Rattle.cert_text.specs.Kind.{certificate_kind};
 ghost use Rattle.cert_text.specs.Lines.{read_some};
 ghost use Rattle.cert_text.specs.NegatedMatrix.{negated_clauses, negated_clause_count};
-ghost use Rattle.cert_text.specs.Numbering.{numbered_from};
+ghost use Rattle.cert_text.specs.Numbering.{Numbering, numbered_from};
 ghost use Rattle.cert_text.specs.Pairs.{is_pair_number};
 ghost use Rattle.cert_text.specs.ProofGrammar.{IsDqpOf, SpellsProof};
+ghost use Rattle.cert_text.specs.RowLine.{row_line};
 ghost use Rattle.cert_text.specs.Scan.{refutation_of};
+ghost use Rattle.cert_text.specs.SignsTaken.{IsSpelled};
 ghost use Rattle.cert_text.specs.declared.circuit_proofs.Dqp.{Dqp};
 ghost use Rattle.cert_text.specs.declared.faults.CertRefusal.{CertRefusal};
 ghost use Rattle.cert_text.specs.declared.kinds.Kind.{Kind};
 ghost use Rattle.cert_text.specs.declared.refutations.Dqr.{Dqr};
+ghost use Rattle.cert_text.specs.declared.versions.Version.{Version};
 ghost use Rattle.cert_text.specs.declared.versions.Version.TheVariants.{One};
 
 /// How a text begins tells its kind, and where its header line stands.
@@ -86,6 +89,17 @@ pub fn canonical_proof_spells()
 pub fn negated_clauses_are_counted()
     ensures { (f : Dqbf) (net : Netlist) (circuit_literal : ℕ → ℕ)
         → length (negated_clauses f net circuit_literal) ≡ negated_clause_count f net }
+{}
+
+/// What a line is read as may stand there: an item of a proof behind those before it, and a row of
+/// all universals.
+pub fn lines_are_lawful()
+    ensures item { (version : Version) (is_variable : ℕ → Bool) (n : Numbering)
+        (tokens : List (List ℕ)) (item : ProofItem)
+        → item_line version is_variable n tokens ≡ Ok item → IsItem is_variable n item }
+    ensures row { (universals : List ℕ) (tokens : List (List ℕ)) (row : List Bool)
+        → row_line universals tokens ≡ Ok row → length row ≡ length universals }
+    ensures universals { (f : Dqbf) → IsLawful f → All IsSpelled f.universals }
 {}
 
 /// Version 1 has steps alone: its lines are read as they are where nothing can be deleted. Proofs

@@ -3,14 +3,23 @@
 #![tactic(auto)]
 
 pub use circuit_proofs::Dqp;
-pub use faults::{CertFault, CertRefusal, CertStop};
+pub use faults::{CertFault, CertRefusal, CertStop, LineStop, at_line, refused};
 pub use first_lines::kind;
+pub use headers::{Counts, ItemCount, read_header, read_proof_header};
+pub use item_lines::{ItemRead, ProofLines, read_item};
 pub use items::{Item, ItemList};
 pub use kinds::Kind;
-pub use proof_reader::read_dqp;
-pub use reader::read_dqr;
+pub use line_ids::LineIds;
+pub use pairs::Pairs;
+pub use proof_reader::{first_proof_id, last_variable, read_dqp};
+pub use reader::{first_id, read_dqr};
 pub use refutations::Dqr;
+pub use row_lines::{RowUniversals, read_row};
+pub use sign_words::universal_words;
+pub use step_lines::StepBuffers;
 pub use steps::{Step, StepList};
+pub use variables::Variables;
+pub use versions::Version;
 pub use writer::{write_dqp, write_dqr};
 
 mod circuit_proofs;

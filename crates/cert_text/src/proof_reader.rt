@@ -63,24 +63,24 @@ fn read_proof_lines(
             version: count.version,
             variables: Variables::UpTo(last_variable(f, c)),
         },
-        first_id: first_id(f, c),
+        first_id: first_proof_id(f, c),
         count: count.items,
     };
     let items = read_items(alloc, &announced, lines)?;
     Ok(Dqp { items })
 }
 
-// The variable of the last clause.
-fn last_variable(f: &Formula, c: &Circuit) -> u64
+/// The last variable of a circuit's proof, that of the formula's last clause.
+pub fn last_variable(f: &Formula, c: &Circuit) -> u64
     ensures { result ≡ c.now.max_var + length f.now.matrix }
 {
     c.every_circuit_is_a_netlist();
     c.max_var() + f.clauses() as u64
 }
 
-// The id of the first line. No contract says how long the clauses are in all, but 128 bits hold any
-// such sum.
-fn first_id(f: &Formula, c: &Circuit) -> u128
+/// The id of the first line of a circuit's proof, behind the negated matrix.
+// No contract says how long the clauses are in all, but 128 bits hold any such sum.
+pub fn first_proof_id(f: &Formula, c: &Circuit) -> u128
     ensures id { result ≡ first_proof_id f.now c.now }
     ensures from_one { 1 ≤ result }
     ensures small { result < 2 ^ 127 }

@@ -64,8 +64,9 @@ fn read_body(alloc: Global, f: &Formula, counts: Counts, lines: &mut Lines) -> R
     Ok(Dqr { rows, items })
 }
 
-// The id of the first line behind the instances of the clauses under so many rows.
-fn first_id(f: &Formula, rows: u64) -> u128
+/// The id of the first line of a refutation's proof, behind the instances of the clauses under so many
+/// rows.
+pub fn first_id(f: &Formula, rows: u64) -> u128
     requires { rows ≤ MAX_COUNT }
     ensures id { result ≡ first_id f.now rows }
     ensures from_one { 1 ≤ result }

@@ -1,32 +1,30 @@
 -- Items that are judged one after another.
-use Rattle.std.proofs.Common.{◌≡◌, ℕ, zero, suc, ◌+◌, ◌<◌, ◌≤◌, Bool, true, false, not, cond, List, [], ◌∷◌, ◌++◌, drop, length, get_or, slice_get, Option, None, Some, is_none, is_some, refl, sym, ◌∙◌, ap, subst, arith, add-one}
+use Rattle.std.proofs.Common.{◌≡◌, ℕ, zero, suc, ◌+◌, ◌<◌, ◌≤◌, Bool, true, false, not, cond, List, [], ◌∷◌, ◌++◌, drop, length, get_or, slice_get, Option, None, Some, Result, Ok, Err, is_some, refl, sym, ◌∙◌, ap, subst, arith, add-one}
 use Rattle.std.specs.List.{All, AllByRecursion, filter}
+use Rattle.std.specs.Prelude.{OnOk}
 use Rattle.std.proofs.Math.Seq.{drop-cons}
-use Rattle.std.proofs.lemmas.List.Elements.{All-from_recursion}
+use Rattle.std.proofs.lemmas.List.Elements.{All-from_recursion, recursion_from_All}
 use Rattle.std.proofs.lemmas.Option.{slice_get_within, get_or_from_slice_get}
-use Rattle.dq_lits.specs.Derivation.{LiveClauses, ProofStep, underived}
+use Rattle.dq_lits.specs.Derivation.{ProofStep}
+use Rattle.dq_lits.specs.Formula.{Dqbf}
 use Rattle.dq_lits.specs.Literal.{Literal}
-use Rattle.rup_core.specs.Items.{ProofItem, derived, gone, items_fault, is_among}
-use Rattle.rup_core.specs.Proving.{ProofState, run_over, with_lines, with_derived, without_lines, ended}
-use Rattle.rup_core.specs.Runs.{fault_so_far, run_fault, with_item, with_items}
+use Rattle.circuit_plain.specs.Netlist.{Netlist}
+use Rattle.rup_core.specs.Items.{ProofItem, derived, gone, is_among}
+use Rattle.rup_core.specs.Proving.{ProofState, run_over, with_derived, without_lines, ended}
+use Rattle.rup_core.specs.Runs.{Run, advanced, run_fault, start, unless_faulty, with_item, with_items}
 use Rattle.rup_core.proofs.DeletedClauses.{going_is_fault}
-use Rattle.cert_text.specs.Grammar.{AreItems}
-use Rattle.cert_text.specs.Numbering.{Numbering, behind_item, numbered_from}
-use Rattle.cert_text.proofs.Numberings.{Live, live_line, live_gone, live_ids, next_kept, none_live}
-use Rattle.proof_checker.specs.Lines.{AreBehind}
-
--- the first k items are judged, and what is left has the fault of all
-pub record AreJudged (live : LiveClauses) (p : ProofState) (items : List ProofItem) (k : ℕ) : Type 0 where
-  pub is_variable : ℕ → Bool
-  pub first : ℕ
-  pub from_one : 1 ≤ first
-  pub none : (id : ℕ) → first ≤ id → live id ≡ None
-  pub at : Numbering
-  pub behind : first ≤ at.next
-  pub ids : Live (λ id. first ≤ id) at
-  pub numbered : AreItems is_variable at (drop k items)
-  pub above : AllByRecursion (λ line. line.0 < at.next) p.lines
-  pub left : run_fault (with_items (run_over live p) (drop k items)) ≡ items_fault false live items
+use Rattle.cert_text.specs.CircuitProof.{first_proof_id, is_proof_variable}
+use Rattle.cert_text.specs.Grammar.{AreItems, IsItem}
+use Rattle.cert_text.specs.Numbering.{Numbering, behind_item}
+use Rattle.cert_text.proofs.Numberings.{live_line, live_gone, live_ids, next_kept}
+use Rattle.skolem_checker.specs.Checks.{Candidate}
+use Rattle.proof_checker.specs.CircuitProof.{circuit_proof_fault, negated_candidate}
+use Rattle.proof_checker.specs.ClauseLiterals.{AreClauseLiterals}
+use Rattle.proof_checker.specs.Judging.{IsJudging, MayJudge, judged_candidate, run_of}
+use Rattle.proof_checker.specs.Tables.{candidate_by}
+use Rattle.proof_checker.specs.declared.judging.CircuitProving.{CircuitProving}
+use Rattle.proof_checker.specs.declared.tables.NegatedTables.{NegatedTables}
+use Rattle.proof_checker.proofs.JudgedProofs.{none_behind}
 
 item_there : (items : List ProofItem) (k : ℕ) (item : ProofItem) → slice_get items k ≡ Some item →
     drop k items ≡ item ∷ drop (k + 1) items
@@ -80,129 +78,150 @@ without_above (Some _) ids p next above = above
 without_above None ids p next above = some_left (λ line. line.0 < next)
     (λ line. not (is_among ids line.0)) p.lines above
 
-module _ (live : LiveClauses) (p q : ProofState) (items : List ProofItem) (k : ℕ) where
-  pub line_id : (step : ProofStep) → slice_get items k ≡ Some (derived step) → (before : AreJudged live p items k) →
-      step.id ≡ before.at.next
-  line_id step at before = (subst (AreItems before.is_variable before.at)
-      (item_there items k (derived step) at) before.numbered).0.numbered
+pub on_ok : {E A B : Type 0} (r : Result (Unit {0}) E) → OnOk r A → (A → B) → OnOk r B
+on_ok (Ok _) holds next = next holds
+on_ok (Err stop) holds next = tt
 
-  -- a line more
-  pub line_judged : (step : ProofStep) (d : Bool) → slice_get items k ≡ Some (derived step) →
-      q ≡ ended d step.id step.literals p →
-      run_over live q ≡ with_item (run_over live p) (derived step) → AreJudged live p items k →
-      AreJudged live q items (k + 1)
-  line_judged step d at q_is run before =
-      let there = item_there items k (derived step) at in
-      let numbered = subst (AreItems before.is_variable before.at) there before.numbered in
-      let id = numbered.0.numbered in
+module _ (f : Dqbf) (net : Netlist) where
+  abbrev is_variable : ℕ → Bool
+  is_variable = is_proof_variable f net
+
+  -- a line's id lies behind those of the lines that are held
+  pub line_above : (p : CircuitProving) (step : ProofStep) (lines : List (ℕ × List Literal)) →
+      MayJudge f net p (derived step) → lines ≡ p.proving.lines → All (λ line. line.0 < step.id) lines
+  line_above p step lines may same =
+      subst (λ ls. All (λ line. line.0 < step.id) ls) (sym same)
+      (subst (λ id. All (λ line. line.0 < id) p.proving.lines) (sym may.lawful.numbered) may.judging.above)
+
+  pub line_from_one : (p : CircuitProving) (step : ProofStep) → MayJudge f net p (derived step) → 1 ≤ step.id
+  line_from_one p step may =
+      let id = may.lawful.numbered in
+      let first = may.judging.first in
+      omega (arith, id, first)
+
+  -- a line more, where there are marks enough
+  pub line_run : (p w : CircuitProving) (m : Candidate) (new : ProofState) (item : ProofItem) →
+      m ≡ candidate_by f net w.tables → w.tables ≡ p.tables →
+      w.proving ≡ record p.proving { marks = w.proving.marks; line = w.proving.line } →
+      run_over (negated_candidate m) new ≡ with_item (run_over (negated_candidate m) w.proving) item →
+      run_over (negated_candidate (candidate_by f net w.tables)) new ≡ with_item (run_of f net p) item
+  line_run p w m new item is tables rest run =
+      subst (λ (k : Candidate). run_over (negated_candidate k) new
+      ≡ with_item (run_over (negated_candidate k) w.proving) item) is run
+      ∙ ap (λ (t : NegatedTables). with_item (run_over (negated_candidate (candidate_by f net t)) w.proving) item) tables
+      ∙ ap (λ (q : ProofState). with_item (run_over (negated_candidate (judged_candidate f net p)) q) item) rest
+
+  pub line_judging : (p w : CircuitProving) (new : CircuitProving) (step : ProofStep) (d : Bool) →
+      new.tables ≡ p.tables → w.proving ≡ record p.proving { marks = w.proving.marks; line = w.proving.line } →
+      new.proving ≡ ended d step.id step.literals w.proving → (at : Numbering) → IsJudging f net p at →
+      IsItem is_variable at (derived step) → IsJudging f net new (behind_item at (derived step))
+  line_judging p w new step d tables rest q_is at judging lawful =
+      let id = lawful.numbered in
+      let same : w.proving.lines ≡ p.proving.lines = ap (λ (q : ProofState). q.lines) rest in
+      let above : AllByRecursion (λ line. line.0 < step.id) w.proving.lines =
+      subst (AllByRecursion (λ line. line.0 < step.id)) (sym same)
+      (subst (λ i. AllByRecursion (λ line. line.0 < i) p.proving.lines) (sym id)
+      (recursion_from_All (λ line. line.0 < at.next) p.proving.lines judging.above)) in
       record {
-        is_variable = before.is_variable;
-        first = before.first;
-        from_one = before.from_one;
-        none = before.none;
-        at = behind_item before.at (derived step);
-        behind = (let le = before.behind in omega (arith, le));
-        ids = live_line (λ i. before.first ≤ i) before.at before.behind before.ids;
-        numbered = numbered.1;
-        above = subst (λ (s : ProofState). AllByRecursion (λ line. line.0 < before.at.next + 1) s.lines) (sym q_is)
+        literals = subst (λ (t : NegatedTables). AreClauseLiterals f net t.literals.items) (sym tables) judging.literals;
+        first = (let le = judging.first in omega (arith, le));
+        ids = live_line (λ i. first_proof_id f net ≤ i) at judging.first judging.ids;
+        above = All-from_recursion (λ line. line.0 < at.next + 1) new.proving.lines
+            (subst (λ (s : ProofState). AllByRecursion (λ line. line.0 < at.next + 1) s.lines) (sym q_is)
             (subst (λ i. AllByRecursion (λ line. line.0 < i + 1)
-            (with_derived p.fault d step.id step.literals p).lines) id
-            (by_fault p.fault d step.id step.literals p (subst (λ i. AllByRecursion (λ line. line.0 < i) p.lines)
-            (sym id) before.above)));
-        left = ap (λ r. run_fault (with_items r (drop (k + 1) items))) run
-            ∙ sym (ap (λ rest. run_fault (with_items (run_over live p) rest)) there) ∙ before.left;
+            (with_derived w.proving.fault d step.id step.literals w.proving).lines) id
+            (by_fault w.proving.fault d step.id step.literals w.proving above)));
       }
 
   -- ids that are deleted
-  pub ids_free : (ids : List ℕ) → slice_get items k ≡ Some (gone ids) → AreJudged live p items k →
-      All (λ id. live id ≡ None) ids
-  ids_free ids at before =
-      let is = (subst (AreItems before.is_variable before.at) (item_there items k (gone ids) at) before.numbered).0 in
-      All-from_recursion (λ id. live id ≡ None) ids
-      (live_ids (λ id. live id ≡ None) before.at ids (λ id h. before.none id (before.ids id h)) is.live)
+  pub ids_free : (p : CircuitProving) (ids : List ℕ) → MayJudge f net p (gone ids) →
+      All (λ id. negated_candidate (judged_candidate f net p) id ≡ None) ids
+  ids_free p ids may =
+      let c = judged_candidate f net p in
+      All-from_recursion (λ id. negated_candidate c id ≡ None) ids
+      (live_ids (λ id. negated_candidate c id ≡ None) may.at ids (λ id h. none_behind c id (may.judging.ids id h))
+      may.lawful.live)
 
-  pub ids_judged : (ids : List ℕ) → slice_get items k ≡ Some (gone ids) → q ≡ without_lines p.fault ids p →
-      run_over live q ≡ with_item (run_over live p) (gone ids) → AreJudged live p items k →
-      AreJudged live q items (k + 1)
-  ids_judged ids at q_is run before =
-      let there = item_there items k (gone ids) at in
-      let numbered = subst (AreItems before.is_variable before.at) there before.numbered in
+  pub ids_judging : (p new : CircuitProving) (ids : List ℕ) → new.tables ≡ p.tables →
+      new.proving ≡ without_lines p.proving.fault ids p.proving → (at : Numbering) → IsJudging f net p at →
+      IsItem is_variable at (gone ids) → IsJudging f net new (behind_item at (gone ids))
+  ids_judging p new ids tables q_is at judging lawful =
       record {
-        is_variable = before.is_variable;
-        first = before.first;
-        from_one = before.from_one;
-        none = before.none;
-        at = behind_item before.at (gone ids);
-        behind = (let le = before.behind in let same = next_kept before.at ids in omega (arith, le, same));
-        ids = live_gone (λ i. before.first ≤ i) before.at ids before.ids;
-        numbered = numbered.1;
-        above = subst (λ next. AllByRecursion (λ line. line.0 < next) q.lines) (sym (next_kept before.at ids))
-            (subst (λ (s : ProofState). AllByRecursion (λ line. line.0 < before.at.next) s.lines) (sym q_is)
-            (without_above p.fault ids p before.at.next before.above));
-        left = ap (λ r. run_fault (with_items r (drop (k + 1) items))) run
-            ∙ sym (ap (λ rest. run_fault (with_items (run_over live p) rest)) there) ∙ before.left;
+        literals = subst (λ (t : NegatedTables). AreClauseLiterals f net t.literals.items) (sym tables) judging.literals;
+        first = (let le = judging.first in let same = next_kept at ids in omega (arith, le, same));
+        ids = live_gone (λ i. first_proof_id f net ≤ i) at ids judging.ids;
+        above = All-from_recursion (λ line. line.0 < (behind_item at (gone ids)).next) new.proving.lines
+            (subst (λ next. AllByRecursion (λ line. line.0 < next) new.proving.lines) (sym (next_kept at ids))
+            (subst (λ (s : ProofState). AllByRecursion (λ line. line.0 < at.next) s.lines) (sym q_is)
+            (without_above p.proving.fault ids p.proving at.next
+            (recursion_from_All (λ line. line.0 < at.next) p.proving.lines judging.above))));
       }
 
--- nothing is judged yet
-pub none_judged : (live : LiveClauses) (p : ProofState) (items : List ProofItem) → AreBehind live items → p.lines ≡ [] →
-    p.fault ≡ None → p.finished ≡ false
-    → AreJudged live p items 0
-none_judged live p items b none going open_end = record {
-  is_variable = b.is_variable;
-  first = b.first;
-  from_one = b.from_one;
-  none = b.none;
-  at = numbered_from b.first;
-  behind = omega arith;
-  ids = none_live (λ id. b.first ≤ id) b.first;
-  numbered = b.are;
-  above = subst (AllByRecursion (λ line. line.0 < b.first)) (sym none) tt;
-  left =
-      ap (λ lines. run_fault (with_items (record {
-        finished = p.finished;
-        live = with_lines live lines;
-        fault =
-            p.fault;
-      }) items)) none
-      ∙ ap (λ fault. run_fault (with_items (record { finished = p.finished; live = live; fault = fault }) items)) going
-      ∙ ap (λ b. run_fault (with_items (record { finished = b; live = live; fault = None }) items)) open_end
-      ∙ going_is_fault false live items;
-}
+  -- the first k items are judged, and with the others the run is that of all
+  pub record AreJudged (first p : CircuitProving) (items : List ProofItem) (k : ℕ) : Type 0 where
+    pub at : Numbering
+    pub judging : IsJudging f net p at
+    pub numbered : AreItems is_variable at (drop k items)
+    pub left : run_fault (with_items (run_of f net p) (drop k items)) ≡ run_fault (with_items (run_of f net first) items)
 
-pub all_judged : (live : LiveClauses) (p : ProofState) (items : List ProofItem) (k : ℕ) → length items ≤ k →
-    AreJudged live p items k
-    → fault_so_far p.fault p.finished ≡ items_fault false live items
-all_judged live p items k end are =
-    sym (ap (λ rest. run_fault (with_items (run_over live p) rest)) (drop_end items k end)) ∙ are.left
+  module _ (first p : CircuitProving) (items : List ProofItem) (k : ℕ) (item : ProofItem)
+      (at : slice_get items k ≡ Some item) (before : AreJudged first p items k) where
+    numbered : AreItems is_variable before.at (item ∷ drop (k + 1) items)
+    numbered = subst (AreItems is_variable before.at) (item_there items k item at) before.numbered
 
--- behind a line that isn't derived nothing changes
-stays : (finished : Bool) (live : LiveClauses) (id : ℕ) (items : List ProofItem) →
-    run_fault (with_items (record { finished = finished; live = live; fault = Some id }) items) ≡ Some (underived id)
-stays finished live id [] = refl
-stays finished live id (item ∷ items) = stays finished live id items
+    pub may_come : MayJudge f net p item
+    may_come = record { at = before.at; judging = before.judging; lawful = numbered.0 }
 
-fault_stays : (o : Option ℕ) (finished : Bool) (live : LiveClauses) (items : List ProofItem) → is_none o ≡ false →
-    fault_so_far o finished ≡ run_fault (with_items (record { finished = finished; live = live; fault = o }) items)
-fault_stays None finished live items h = cc
-fault_stays (Some id) finished live items h = sym (stays finished live id items)
+    pub one_judged : (q : CircuitProving) → run_of f net q ≡ with_item (run_of f net p) item →
+        ((at : Numbering) → IsJudging f net p at → IsItem is_variable at item
+        → IsJudging f net q (behind_item at item)) → AreJudged first q items (k + 1)
+    one_judged q run goes_on = record {
+      at = behind_item before.at item;
+      judging = goes_on before.at before.judging numbered.0;
+      numbered = numbered.1;
+      left = ap (λ r. run_fault (with_items r (drop (k + 1) items))) run
+          ∙ sym (ap (λ rest. run_fault (with_items (run_of f net p) rest)) (item_there items k item at)) ∙ before.left;
+    }
 
-pub faulty_judged : (live : LiveClauses) (p : ProofState) (items : List ProofItem) (k : ℕ) → is_none p.fault ≡ false →
-    AreJudged live p items k
-    → fault_so_far p.fault p.finished ≡ items_fault false live items
-faulty_judged live p items k faulty are = fault_stays p.fault p.finished (with_lines live p.lines) (drop k items) faulty
-    ∙ are.left
+  pub all_judged : (first p : CircuitProving) (items : List ProofItem) (k : ℕ) → length items ≤ k →
+      AreJudged first p items k → run_fault (run_of f net p) ≡ run_fault (with_items (run_of f net first) items)
+  all_judged first p items k end are =
+      sym (ap (λ rest. run_fault (with_items (run_of f net p) rest)) (drop_end items k end)) ∙ are.left
 
-pub ids_above : (live : LiveClauses) (p : ProofState) (items : List ProofItem) (k id : ℕ) →
-    (are : AreJudged live p items k) → id ≡ are.at.next
-    → All (λ line. line.0 < id) p.lines
-ids_above live p items k id are id_is =
-    All-from_recursion (λ line. line.0 < id) p.lines (subst (λ i. AllByRecursion (λ line. line.0 < i) p.lines)
-    (sym id_is) are.above)
+  -- behind a line that isn't derived nothing changes
+  stays : (run : Run) (items : List ProofItem) → is_some run.fault ≡ true →
+      run_fault (with_items run items) ≡ run_fault run
+  stays run [] faulty = refl
+  stays run (item ∷ items) faulty =
+      ap (λ r. run_fault (with_items r items)) (kept run item run.fault refl faulty) ∙ stays run items faulty
+    where
+      kept : (run : Run) (item : ProofItem) (o : Option ℕ) → run.fault ≡ o → is_some run.fault ≡ true →
+          with_item run item ≡ run
+      kept run item None is some = absurd (apart (sym (ap is_some is) ∙ some))
+        where
+          apart : false ≡ true → ⊥
+          apart h = cc
+      kept run item (Some id) is some = ap (λ o. unless_faulty o run (advanced run item)) is
 
--- whether there is a fault
-pub fault_some : (o p : Option ℕ) → o ≡ p → is_some o ≡ true → is_none p ≡ false
-fault_some o None is some = absurd (apart (sym (ap is_some is) ∙ some))
-  where
-    apart : false ≡ true → ⊥
-    apart h = cc
-fault_some o (Some id) is some = refl
+  pub settled : (first p : CircuitProving) (items : List ProofItem) (k : ℕ) → is_some p.proving.fault ≡ true →
+      AreJudged first p items k → run_fault (run_of f net p) ≡ run_fault (with_items (run_of f net first) items)
+  settled first p items k faulty are = sym (stays (run_of f net p) (drop k items) faulty) ∙ are.left
+
+-- a proof's fault is that of its run
+pub fault_is : (b : Candidate) (f : Dqbf) (net : Netlist) (p q : CircuitProving) (items : List ProofItem) →
+    f ≡ b.formula → net ≡ b.circuit.netlist →
+    run_of b.formula b.circuit.netlist p ≡ start (negated_candidate b) →
+    run_fault (run_of f net q) ≡ run_fault (with_items (run_of f net p) items) →
+    run_fault (run_of f net q) ≡ circuit_proof_fault b items
+fault_is b f net p q items f_is net_is begun run =
+    run
+    ∙ ap (λ (g : Dqbf). run_fault (with_items (run_of g net p) items)) f_is
+    ∙ ap (λ (n : Netlist). run_fault (with_items (run_of b.formula n p) items)) net_is
+    ∙ ap (λ r. run_fault (with_items r items)) begun
+    ∙ going_is_fault false (negated_candidate b) items
+
+-- what is said of a mapped circuit is said of its formula and netlist
+pub said_of : (P : Dqbf → Netlist → Type 0) (b : Candidate) (f : Dqbf) (net : Netlist) → f ≡ b.formula →
+    net ≡ b.circuit.netlist → P b.formula b.circuit.netlist → P f net
+said_of P b f net f_is net_is holds =
+    subst (λ (g : Dqbf). P g net) (sym f_is) (subst (λ (n : Netlist). P b.formula n) (sym net_is) holds)

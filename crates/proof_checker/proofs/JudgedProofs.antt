@@ -14,25 +14,15 @@ use Rattle.cert_text.specs.Numbering.{numbered_from, are_live}
 use Rattle.cert_text.proofs.NegatedClauses.{clauses_counted}
 use Rattle.skolem_checker.specs.Checks.{Candidate}
 use Rattle.proof_checker.specs.CircuitProof.{circuit_literal, negated_candidate}
-use Rattle.proof_checker.specs.Lines.{AreBehind, AreProofLines}
+use Rattle.proof_checker.specs.Lines.{AreProofLines}
 
 -- no clause of the negated matrix has the id of a line or a later one
-none_behind : (c : Candidate) (id : ℕ) → first_proof_id c.formula c.circuit.netlist ≤ id → negated_candidate c id ≡ None
+pub none_behind : (c : Candidate) (id : ℕ) → first_proof_id c.formula c.circuit.netlist ≤ id → negated_candidate c id ≡ None
 none_behind c zero le = absurd (omega (arith, le))
 none_behind c (suc i) le =
     let counted = clauses_counted c.formula c.circuit.netlist (circuit_literal c.circuit) in
     ap (option_and_then without_constants) (slice_get_past (negated_clauses c.formula c.circuit.netlist
     (circuit_literal c.circuit)) i (omega (arith, counted, le)))
-
-pub proof_is_behind : (c : Candidate) (items : List ProofItem) → AreProofLines c items →
-    AreBehind (negated_candidate c) items
-proof_is_behind c items lines = record {
-  is_variable = is_proof_variable c.formula c.circuit.netlist;
-  first = first_proof_id c.formula c.circuit.netlist;
-  from_one = omega arith;
-  none = none_behind c;
-  are = lines.are;
-}
 
 -- nothing can be deleted at first, so that the first item is a line
 first_small : (p : ℕ → Bool) (first : ℕ) (items : List ProofItem) → 1 ≤ length items →

@@ -1,6 +1,5 @@
 -- Words of private contracts: the items of a circuit's proof.
-use Rattle.std.specs.Prelude.{◌≡◌, ℕ, ◌<◌, ◌≤◌, ◌^◌, Bool, List, length, None}
-use Rattle.dq_lits.specs.Derivation.{LiveClauses}
+use Rattle.std.specs.Prelude.{◌<◌, ◌≤◌, ◌^◌, List, length}
 use Rattle.aiger_text.specs.Lines.{max_count}
 use Rattle.rup_core.specs.Items.{ProofItem}
 use Rattle.cert_text.specs.CircuitProof.{is_proof_variable, first_proof_id}
@@ -16,11 +15,3 @@ pub record AreProofLines (c : Candidate) (items : List ProofItem) : Type 0 where
   pub small_id : first_proof_id c.formula c.circuit.netlist < 10 ^ 18
   pub are : AreItems (is_proof_variable c.formula c.circuit.netlist)
       (numbered_from (first_proof_id c.formula c.circuit.netlist)) items
-
--- items whose ids no clause has yet
-pub record AreBehind (live : LiveClauses) (items : List ProofItem) : Type 0 where
-  pub is_variable : ℕ → Bool
-  pub first : ℕ
-  pub from_one : 1 ≤ first
-  pub none : (id : ℕ) → first ≤ id → live id ≡ None
-  pub are : AreItems is_variable (numbered_from first) items

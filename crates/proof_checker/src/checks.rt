@@ -1,20 +1,25 @@
 //! Judging a circuit's proof.
 
-ghost use Rattle.std.specs.Prelude.{◌≡◌, ◌≤◌, [], None, false, IfOk, OnOk};
+ghost use Rattle.std.specs.Prelude.{◌≡◌, ◌≤◌, IfOk, OnOk};
 ghost use Rattle.aiger_text.specs.Lines.{max_count};
+ghost use Rattle.cert_text.specs.CircuitProof.{first_proof_id, is_proof_variable};
+ghost use Rattle.cert_text.specs.Grammar.{AreItems};
+ghost use Rattle.cert_text.specs.Numbering.{numbered_from};
 ghost use Rattle.cert_text.specs.ProofGrammar.{IsDqpOf};
-ghost use Rattle.rup_core.specs.Items.{items_fault};
 ghost use Rattle.rup_core.specs.ProofVerdict.{proof_fault_in};
-ghost use Rattle.rup_core.specs.Runs.{fault_so_far};
+ghost use Rattle.rup_core.specs.Runs.{run_fault, with_items};
 ghost use Rattle.proof_checker.specs.Answer.{IsAnswer};
 ghost use Rattle.proof_checker.specs.CircuitProof.{circuit_proof_fault};
-ghost use Rattle.proof_checker.specs.Lines.{AreBehind, AreProofLines};
+ghost use Rattle.proof_checker.specs.Judging.{run_of, IsJudging};
+ghost use Rattle.proof_checker.specs.Lines.{AreProofLines};
 
 use crate::faults::ProofFault;
-use crate::negated::NegatedMatrix;
-use cert_text::{Dqp, Item, ItemList};
+use crate::judging::CircuitProving;
+use cert_text::{Dqp, ItemList};
+use circuit_plain::Circuit;
+use dq_formula::Formula;
 use dq_lits::Memory;
-use rup_core::{Base, ProofFault as LineFault, Proving};
+use rup_core::ProofFault as LineFault;
 use skolem_checker::Bench;
 use std::alloc::Global;
 
@@ -47,38 +52,34 @@ fn answer(fault: Option<LineFault>) -> Result<(), ProofFault>
     }
 }
 
-// The first fault of a proof. There is a mark for a variable an item; the variables beyond take
-// memory while a line assigns them.
+// The first fault of a proof.
 fn lines_fault(alloc: Global, bench: &Bench, items: &ItemList) -> Result<Option<LineFault>, Memory>
     requires { AreProofLines bench.now items.now }
     ensures { IfOk result
         (λ fault. proof_fault_in fault ≡ circuit_proof_fault bench.now items.now) }
 {
-    bench.circuit().every_circuit_is_a_netlist();
-    let _ = bench.formula().clauses();
-    let matrix = NegatedMatrix::new(alloc, bench)?;
-    let mut proving = Proving::new(alloc, items.len())?;
-    judge_all(&matrix, items, &mut proving)?;
+    let mut proving = CircuitProving::new(alloc, bench)?;
+    judge_all(bench.formula(), bench.circuit(), items, &mut proving)?;
     Ok(proving.fault())
 }
 
 // Judges items up to the first line that isn't derived.
-fn judge_all<B: Base>(base: &B, items: &ItemList, proving: &mut Proving) -> Result<(), Memory>
-    requires behind { AreBehind (B.clauses base.now) items.now }
-    requires none { (proving.old.lines ≡ []) × (proving.old.fault ≡ None)
-        × (proving.old.finished ≡ false) }
-    ensures { OnOk result (fault_so_far proving.new.fault proving.new.finished
-        ≡ items_fault false (B.clauses base.now) items.now) }
+fn judge_all(
+    f: &Formula,
+    c: &Circuit,
+    items: &ItemList,
+    proving: &mut CircuitProving,
+) -> Result<(), Memory>
+    requires first { IsJudging f.now c.now proving.old (numbered_from (first_proof_id f.now c.now)) }
+    requires items { AreItems (is_proof_variable f.now c.now)
+        (numbered_from (first_proof_id f.now c.now)) items.now }
+    ensures { OnOk result (run_fault (run_of f.now c.now proving.new)
+        ≡ run_fault (with_items (run_of f.now c.now proving.old) items.now)) }
 {
     for k in 0..items.len() {
-        match items.get(k) {
-            Item::Gone(ids) => proving.gone(ids),
-            Item::Line(step) => {
-                proving.line(base, step.id, step.lits, step.hints)?;
-                if proving.underived().is_some() {
-                    return Ok(());
-                }
-            }
+        proving.item(f, c, items.get(k))?;
+        if proving.is_settled() {
+            return Ok(());
         }
     }
     Ok(())

@@ -1,26 +1,24 @@
 //! The literals of a circuit that stand for a formula's variables.
 
-ghost use Rattle.std.specs.Prelude.{◌≡◌, ◌≢◌, ◌≤◌, slice_index, AllPairs, IfOk};
+ghost use Rattle.std.specs.Prelude.{◌≡◌, ◌≤◌, slice_index};
 ghost use Rattle.cert_text.specs.NegatedMatrix.{opposite_of, literal_under};
 ghost use Rattle.proof_checker.specs.CircuitProof.{circuit_literal};
 
 use circuit_plain::Circuit;
-use dq_lits::{Lit, Memory};
+use dq_lits::Lit;
 use number_tables::NumberSet;
-use skolem_checker::Bench;
-use std::alloc::Global;
 use std::marker::Model;
 
 /// A circuit, with what its inputs and outputs stand for.
 #[derive(Drop)]
-pub(crate) struct CircuitLiterals<'c> {
+pub(crate) struct CircuitLiterals<'c, 't> {
     circuit: &'c Circuit,
     // By place, the universal of each input and the existential of each output.
-    inputs: NumberSet,
-    outputs: NumberSet,
+    inputs: &'t NumberSet,
+    outputs: &'t NumberSet,
 }
 
-impl<'c> Model for CircuitLiterals<'c> {
+impl<'c, 't> Model for CircuitLiterals<'c, 't> {
     ghost use Rattle.skolem_checker.specs.SkolemCircuit.{MappedCircuit};
 
     ghost Value = { MappedCircuit };
@@ -28,20 +26,8 @@ impl<'c> Model for CircuitLiterals<'c> {
     ghost view = { λ c.
         record {
           netlist = c.circuit.now;
-          mapping = record { inputs = c.inputs; outputs = c.outputs };
+          mapping = record { inputs = c.inputs.now; outputs = c.outputs.now };
         } };
-}
-
-// The variables by place.
-fn places(alloc: Global, variables: &[u64]) -> Result<NumberSet, Memory>
-    requires { AllPairs (λ v w. v ≢ w) variables.now }
-    ensures { IfOk result (λ known. known ≡ variables.now) }
-{
-    let mut known = NumberSet::new(alloc);
-    for variable in variables {
-        known.push(*variable)?;
-    }
-    Ok(known)
 }
 
 /// The opposite of a circuit's literal.
@@ -57,17 +43,22 @@ pub(crate) fn opposite_of(literal: u64) -> u64
     }
 }
 
-impl<'c> CircuitLiterals<'c> {
-    pub(crate) fn new(alloc: Global, bench: &'c Bench) -> Result<CircuitLiterals<'c>, Memory>
-        ensures { IfOk result (λ c. c ≡ bench.now.circuit) }
+impl<'c, 't> CircuitLiterals<'c, 't> {
+    pub(crate) fn new(
+        circuit: &'c Circuit,
+        inputs: &'t NumberSet,
+        outputs: &'t NumberSet,
+    ) -> CircuitLiterals<'c, 't>
+        ensures { result ≡ record {
+          netlist = circuit.now;
+          mapping = record { inputs = inputs.now; outputs = outputs.now };
+        } }
     {
-        let inputs = places(alloc, bench.inputs())?;
-        let outputs = places(alloc, bench.outputs())?;
-        Ok(CircuitLiterals {
-            circuit: bench.circuit(),
+        CircuitLiterals {
+            circuit,
             inputs,
             outputs,
-        })
+        }
     }
 
     pub(crate) fn circuit(&self) -> &Circuit

@@ -9,10 +9,13 @@
 
 pub use checks::by_proof;
 pub use faults::ProofFault;
+pub use judging::CircuitProving;
 
 mod checks;
 mod circuit_literals;
 mod faults;
+mod judging;
 pub mod laws;
 mod negated;
 mod short_clauses;
+mod tables;

@@ -1,36 +1,34 @@
 //! The clauses of the negated matrix, one at a time.
 
-ghost use Rattle.std.specs.Prelude.{◌≡◌, ◌+◌, ◌-◌, ◌*◌, ◌/◌, ◌<◌, ◌≤◌, ◌++◌, length, map, Some, IfOk, OnOk};
+ghost use Rattle.std.specs.Prelude.{◌≡◌, ◌+◌, ◌-◌, ◌*◌, ◌/◌, ◌<◌, length, Some};
 ghost use Rattle.std.specs.List.{flat_map, slice_get};
 ghost use Rattle.std.specs.Option.{option_map, option_and_then};
-ghost use Rattle.aiger_text.specs.Lines.{max_count};
 ghost use Rattle.cert_text.specs.NegatedMatrix.{gate_clauses, without_constants};
 ghost use Rattle.skolem_checker.specs.Checks.{Candidate};
 ghost use Rattle.proof_checker.specs.CircuitProof.{negated_candidate};
-ghost use Rattle.proof_checker.specs.ClauseLiterals.{clause_literals, formula_clauses};
+ghost use Rattle.proof_checker.specs.ClauseLiterals.{AreClauseLiterals, formula_clauses};
+ghost use Rattle.proof_checker.specs.Tables.{candidate_by};
 ghost use Rattle.proof_checker.specs.ShortClause.{short_literals, last_literals, literals_of};
 
 use crate::circuit_literals::{CircuitLiterals, opposite_of};
 use crate::short_clauses::{ShortClause, short_of_three, short_of_two};
+use crate::tables::NegatedTables;
 use circuit_plain::Circuit;
 use dq_formula::Formula;
-use dq_lits::{Lit, Memory};
+use dq_lits::Lit;
 use rup_core::{Base, FewLiterals};
-use skolem_checker::Bench;
-use std::alloc::Global;
 use std::marker::Model;
 
-/// The negated matrix of a formula under a circuit. It takes memory as the formula does; a clause
-/// takes none.
+/// The negated matrix of a formula under a circuit. It takes no memory, nor does a clause.
 #[derive(Drop)]
-pub(crate) struct NegatedMatrix<'b> {
-    formula: &'b Formula,
-    circuit: CircuitLiterals<'b>,
+pub(crate) struct NegatedMatrix<'f, 'c, 't> {
+    formula: &'f Formula,
+    circuit: CircuitLiterals<'c, 't>,
     // Each literal of the formula, with the variable that tells that its clause is false.
-    literals: Vec<(u64, Lit)>,
+    literals: &'t Vec<(u64, Lit)>,
 }
 
-impl<'b> Model for NegatedMatrix<'b> {
+impl<'f, 'c, 't> Model for NegatedMatrix<'f, 'c, 't> {
     ghost use Rattle.skolem_checker.specs.Checks.{Candidate};
     ghost use Rattle.proof_checker.specs.ClauseLiterals.{AreClauseLiterals};
 
@@ -38,7 +36,7 @@ impl<'b> Model for NegatedMatrix<'b> {
 
     ghost view = { λ n. record { formula = n.formula.now; circuit = n.circuit } };
 
-    ghost invariant = { λ n. AreClauseLiterals n.formula.now n.circuit.netlist n.literals.items };
+    ghost invariant = { λ n. AreClauseLiterals n.formula.now n.circuit.netlist n.literals.now.items };
 }
 
 /// A clause of the negated matrix.
@@ -50,27 +48,6 @@ pub(crate) enum NegatedClause {
     Short(ShortClause),
     /// It says that some clause of the formula is false.
     Last,
-}
-
-// The literals of a formula's clauses, with the numbers from `first` on for the clauses.
-fn clause_literals(alloc: Global, f: &Formula, first: u64) -> Result<Vec<(u64, Lit)>, Memory>
-    requires { first ≤ 2 * max_count }
-    ensures { IfOk result (λ all. all.items ≡ clause_literals first f.now.matrix) }
-{
-    let mut all = Vec::new(alloc);
-    for j in 0..f.clauses() {
-        push_literals(&mut all, first + j as u64, f.clause(j))?;
-    }
-    Ok(all)
-}
-
-fn push_literals(all: &mut Vec<(u64, Lit)>, bad: u64, clause: &[Lit]) -> Result<(), Memory>
-    ensures { OnOk result (all.new.items ≡ all.old.items ++ map (λ l. (bad, l)) clause.now) }
-{
-    for l in clause {
-        all.push((bad, *l))?;
-    }
-    Ok(())
 }
 
 // One of the clauses of the gates, of which each has three; none where a constant makes it true.
@@ -99,19 +76,20 @@ fn short(clause: Option<ShortClause>) -> NegatedClause
     }
 }
 
-impl<'b> NegatedMatrix<'b> {
-    pub(crate) fn new(alloc: Global, bench: &'b Bench) -> Result<NegatedMatrix<'b>, Memory>
-        requires { bench.now.circuit.netlist.max_var ≤ max_count }
-        ensures { IfOk result (λ n. n ≡ bench.now) }
+impl<'f, 'c, 't> NegatedMatrix<'f, 'c, 't> {
+    pub(crate) fn new(
+        formula: &'f Formula,
+        circuit: &'c Circuit,
+        tables: &'t NegatedTables,
+    ) -> NegatedMatrix<'f, 'c, 't>
+        requires { AreClauseLiterals formula.now circuit.now tables.now.literals.items }
+        ensures { result ≡ candidate_by formula.now circuit.now tables.now }
     {
-        let formula = bench.formula();
-        let circuit = CircuitLiterals::new(alloc, bench)?;
-        let literals = clause_literals(alloc, formula, bench.circuit().max_var() + 1)?;
-        Ok(NegatedMatrix {
+        NegatedMatrix {
             formula,
-            circuit,
-            literals,
-        })
+            circuit: CircuitLiterals::new(circuit, &tables.inputs, &tables.outputs),
+            literals: &tables.literals,
+        }
     }
 
     // The clause at a place behind those of the gates.
@@ -119,7 +97,7 @@ impl<'b> NegatedMatrix<'b> {
         ensures { literals_of self.now result
             ≡ option_and_then without_constants (slice_get (formula_clauses self.now) i) }
     {
-        let literals: &[(u64, Lit)] = &self.literals;
+        let literals: &[(u64, Lit)] = self.literals;
         let _ = self.formula.clauses();
         if i < literals.len() as u64 {
             let entry = literals[i as usize];
@@ -158,7 +136,7 @@ impl<'b> NegatedMatrix<'b> {
     }
 }
 
-impl<'b> Base for NegatedMatrix<'b> {
+impl<'f, 'c, 't> Base for NegatedMatrix<'f, 'c, 't> {
     ghost clauses = { λ n. negated_candidate n };
 
     fn size(&self, id: u64) -> Option<usize> {

@@ -1,45 +1,36 @@
 -- Items that are judged one after another.
-use Rattle.std.proofs.Common.{◌≡◌, ℕ, ◌+◌, ◌<◌, ◌≤◌, Bool, true, false, not, cond, List, [], ◌∷◌, ◌++◌, map, drop, length, slice_get, Option, None, Some, is_none, is_some, refl, sym, ◌∙◌, ap, subst, arith}
+use Rattle.std.proofs.Common.{◌≡◌, ℕ, ◌+◌, ◌<◌, ◌≤◌, Bool, true, false, not, cond, List, [], ◌∷◌, ◌++◌, map, drop, length, slice_get, Option, None, Some, Result, Ok, Err, is_none, is_some, inl, inr, ◌⊎◌, refl, sym, ◌∙◌, ap, ap₂, subst, arith}
 use Rattle.std.specs.List.{All, AllByRecursion, filter}
+use Rattle.std.specs.Prelude.{OnOk}
 use Rattle.std.proofs.lemmas.List.Elements.{All-from_recursion}
 use Rattle.std.proofs.lemmas.Option.{slice_get_within, get_or_from_slice_get}
-use Rattle.cert_text.specs.Grammar.{IsStep, AreItems}
-use Rattle.cert_text.specs.Numbering.{Numbering, numbered_from, with_next, without_all}
+use Rattle.cert_text.specs.Grammar.{IsItem, AreItems}
+use Rattle.cert_text.specs.Numbering.{Numbering, behind_item, numbered_from}
 use Rattle.cert_text.specs.Pairs.{is_pair_number}
 use Rattle.cert_text.specs.Scan.{first_id}
-use Rattle.cert_text.proofs.Numberings.{Live, live_line, live_gone, live_ids, next_kept, none_live}
-use Rattle.dq_lits.specs.Derivation.{LiveClauses, ProofStep, ProofFault, underived, line_fault, fault_of_step, is_empty, with_clause}
+use Rattle.cert_text.proofs.Numberings.{live_line, live_gone, live_ids, next_kept, none_live}
+use Rattle.dq_lits.specs.Derivation.{LiveClauses, ProofFault, ProofStep, line_fault, is_empty}
 use Rattle.dq_lits.specs.Expansion.{instance_at}
+use Rattle.dq_lits.specs.Formula.{Dqbf}
 use Rattle.dq_lits.specs.Literal.{Literal}
 use Rattle.rup_core.specs.Items.{ProofItem, derived, gone, items_fault, is_among, without_clauses}
 use Rattle.rup_core.specs.Proving.{ProofState, with_lines, without_lines}
-use Rattle.rup_core.specs.Runs.{Run, fault_so_far}
+use Rattle.rup_core.specs.Runs.{Run, advanced, fault_so_far, run_fault, start, unless_faulty, with_item, with_items, with_line}
 use Rattle.rup_core.specs.Judging.{no_line}
+use Rattle.rup_core.proofs.DeletedClauses.{going_is_fault}
 use Rattle.rup_core.proofs.JudgedLines.{line_derives, live_put, gone_is_item}
 use Rattle.refutation_checker.specs.Judging.{AreLines, AreNamed, AreBehind, IsHeld, IsJudged, normal_literals, is_line}
 use Rattle.refutation_checker.specs.Namings.{Frame, Names}
-use Rattle.refutation_checker.specs.Refutation.{normal_item}
+use Rattle.refutation_checker.specs.PairNames.{AreNames, IsFrame, names_in}
+use Rattle.refutation_checker.specs.Proving.{HasFaultOf, IsGoing, IsJudging, IsSettled, MayJudge, frame_of}
+use Rattle.refutation_checker.specs.Refutation.{normal_item, normal_step}
+use Rattle.refutation_checker.specs.declared.judging.Judging.{Judging}
+use Rattle.refutation_checker.specs.declared.proving.RefutationProving.{RefutationProving}
 use Rattle.refutation_checker.proofs.JudgedRefutations.{none_behind}
 use Rattle.refutation_checker.proofs.ReadClauses.{drop_at}
 
-abbrev pub normal_items : Frame → List ProofItem → List ProofItem
-normal_items x items = map (normal_item x.formula x.rows) items
-
 abbrev instances : Frame → LiveClauses
 instances x = instance_at x.formula x.rows
-
--- the first k items are judged and their lines derived, and what is left has the fault of all
-pub record AreDerived (x : Frame) (n : Names) (p : ProofState) (items : List ProofItem) (k : ℕ) : Type 0 where
-  pub lines : List (ℕ × List Literal)
-  pub held : IsHeld x n lines p
-  pub behind : AreBehind x lines
-  pub at : Numbering
-  pub first : first_id x.formula (length x.rows) ≤ at.next
-  pub ids : Live (λ id. first_id x.formula (length x.rows) ≤ id) at
-  pub numbered : AreItems (is_pair_number x.formula (length x.rows)) at (drop k items)
-  pub above : AllByRecursion (λ line. line.0 < at.next) lines
-  pub left : items_fault p.finished (with_lines (instances x) lines) (normal_items x (drop k items)) ≡ items_fault false
-      (instances x) (normal_items x items)
 
 -- ids are those of the lines
 pub ids_above : (x : Frame) (n : Names) (lines others : List (ℕ × List Literal)) (id : ℕ) → AreLines x n lines others
@@ -70,11 +61,6 @@ fault_is : (o : Option ℕ) (b : Bool) → is_none o ≡ b → b ≡ true → o 
 fault_is None b h e = refl
 fault_is (Some p) b h e = cc
 
-fault_there : (o : Option ℕ) (id : ℕ) (rest : Option ProofFault) → is_none o ≡ false →
-    fault_of_step o id rest ≡ Some (underived id)
-fault_there None id rest h = cc
-fault_there (Some p) id rest h = refl
-
 -- what an item is, at its place
 pub item_there : (items : List ProofItem) (k : ℕ) (item : ProofItem) → slice_get items k ≡ Some item →
     drop k items ≡ item ∷ drop (k + 1) items
@@ -85,90 +71,6 @@ item_there items k item at =
 empty_same : (x : Frame) (literals : List Literal) → is_empty (normal_literals x literals) ≡ is_empty literals
 empty_same x [] = refl
 empty_same x (l ∷ literals) = refl
-
-module _ (x : Frame) (n : Names) (p : ProofState) (items : List ProofItem) (k : ℕ) (step : ProofStep)
-    (at : slice_get items k ≡ Some (derived step))
-    (before : AreDerived x n p items k) where
-  abbrev is_pair : ℕ → Bool
-  is_pair = is_pair_number x.formula (length x.rows)
-
-  there : drop k items ≡ derived step ∷ drop (k + 1) items
-  there = item_there items k (derived step) at
-
-  numbered : AreItems is_pair before.at (derived step ∷ drop (k + 1) items)
-  numbered = subst (AreItems is_pair before.at) there before.numbered
-
-  pub is_step : IsStep is_pair before.at.next step
-  is_step = numbered.0
-
-  pub id_behind : first_id x.formula (length x.rows) ≤ step.id
-  id_behind = let id = is_step.numbered in let le = before.first in omega (arith, id, le)
-
-  pub above_held : All (λ line. line.0 < step.id) p.lines
-  above_held =
-      All-from_recursion (λ line. line.0 < step.id) p.lines
-      (subst (λ i. AllByRecursion (λ line. line.0 < i) p.lines) (sym is_step.numbered)
-      (ids_above x n before.lines p.lines before.at.next before.held.lines_are before.above))
-
-  abbrev nl : List Literal
-  nl = normal_literals x step.literals
-
-  abbrev live : LiveClauses
-  live = with_lines (instances x) before.lines
-
-  says : is_none (line_fault live nl step.hints) ≡ is_line x before.lines step.literals step.hints
-  says = line_derives live nl step.hints
-
-  pub one_derived : (m : Names) (q : ProofState) → (b : Bool) → is_line x before.lines step.literals step.hints ≡ b
-      → IsJudged x m before.lines step.id step.literals q b → q.fault ≡ None → AreDerived x m q items (k + 1)
-  one_derived m q false says_no judged going = absurd (apart (sym judged ∙ going))
-    where
-      apart : Some step.id ≡ None → ⊥
-      apart h = cc
-  one_derived m q true is_derived judged going =
-      let fault : line_fault live nl step.hints ≡ None =
-      fault_is (line_fault live nl step.hints) (is_line x before.lines step.literals step.hints) says is_derived in
-      let above : AllByRecursion (λ line. line.0 < step.id) before.lines =
-      subst (λ i. AllByRecursion (λ line. line.0 < i) before.lines) (sym is_step.numbered) before.above in
-      let rest = normal_items x (drop (k + 1) items) in
-      record {
-        lines = before.lines ++ (step.id, nl) ∷ [];
-        held = judged.0;
-        behind = behind_more x before.lines step.id nl before.behind (none_behind x step.id id_behind);
-        at = with_next before.at;
-        first = (let le = before.first in omega (arith, le));
-        ids = live_line (λ id. first_id x.formula (length x.rows) ≤ id) before.at before.first before.ids;
-        numbered = numbered.1;
-        above = subst (λ i. AllByRecursion (λ line. line.0 < i + 1) (before.lines ++ (step.id, nl) ∷ []))
-            is_step.numbered (all_later before.lines step.id nl above);
-        left =
-            ap (λ b. items_fault b (with_lines (instances x) (before.lines ++ (step.id, nl) ∷ [])) rest)
-            (judged.1 ∙ sym (empty_same x step.literals))
-            ∙ ap (λ l. items_fault (is_empty nl) l rest) (live_put (instances x) before.lines step.id nl
-            (All-from_recursion (λ line. line.0 < step.id) before.lines above))
-            ∙ sym (ap (λ o. fault_of_step o step.id (items_fault (is_empty nl)
-            (with_clause live step.id nl) rest)) fault)
-            ∙ ap (λ ss. items_fault p.finished live (normal_items x ss)) (sym there)
-            ∙ before.left;
-      }
-
-  -- the first that isn't derived
-  pub one_faulty : (m : Names) (q : ProofState) → (b : Bool)
-      → is_line x before.lines step.literals step.hints ≡ b → IsJudged x m before.lines step.id step.literals q b →
-      is_none q.fault ≡ false
-      → fault_so_far q.fault q.finished ≡ items_fault false (instances x) (normal_items x items)
-  one_faulty m q true says_yes judged faulty = absurd (apart (sym (ap is_none judged.0.going) ∙ faulty))
-    where
-      apart : true ≡ false → ⊥
-      apart h = cc
-  one_faulty m q false underived_is judged faulty =
-      let rest = normal_items x (drop (k + 1) items) in
-      ap (λ o. fault_so_far o q.finished) judged
-      ∙ sym (fault_there (line_fault live nl step.hints) step.id
-      (items_fault (is_empty nl) (with_clause live step.id nl) rest)
-      (says ∙ underived_is))
-      ∙ ap (λ ss. items_fault p.finished live (normal_items x ss)) (sym there)
-      ∙ before.left
 
 -- lines that stay
 abbrev stays_at : List ℕ → ℕ × List Literal → Bool
@@ -220,74 +122,305 @@ going_without : (fault : Option ℕ) (ids : List ℕ) (p : ProofState) → fault
 going_without None ids p going = refl
 going_without (Some _) ids p going = cc
 
--- ids that are deleted
-pub ids_deleted : (x : Frame) (n : Names) (p q : ProofState) (items : List ProofItem) (k : ℕ) (ids : List ℕ) →
-    slice_get items k ≡ Some (gone ids)
-    → AreDerived x n p items k → q ≡ without_lines p.fault ids p → AreDerived x n q items (k + 1)
-ids_deleted x n p q items k ids at before q_is =
-    let there = item_there items k (gone ids) at in
-    let numbered = subst (AreItems (is_pair_number x.formula (length x.rows)) before.at) there before.numbered in
-    let free : All (λ id. instances x id ≡ None) ids =
-    All-from_recursion (λ id. instances x id ≡ None) ids
-    (live_ids (λ id. instances x id ≡ None) before.at ids (λ id h. none_behind x id (before.ids id h))
-    numbered.0.live) in
-    subst (λ (s : ProofState). AreDerived x n s items (k + 1))
-    (sym (q_is ∙ going_without p.fault ids p before.held.going)) (record {
-      lines = filter (stays_at ids) before.lines;
-      held = record {
-        lines_are = lines_left x n ids before.lines p.lines before.held.lines_are;
-        going =
-            before.held.going;
-      };
-      behind = some_left (λ line. instances x line.0 ≡ None) (stays_at ids) before.lines before.behind;
-      at = without_all before.at ids;
-      first = (let le = before.first in let same = next_kept before.at ids in omega (arith, le, same));
-      ids = live_gone (λ id. first_id x.formula (length x.rows) ≤ id) before.at ids before.ids;
-      numbered = numbered.1;
-      above = subst (λ next. AllByRecursion (λ line. line.0 < next) (filter (stays_at ids) before.lines))
-          (sym (next_kept before.at ids))
-          (some_left (λ line. line.0 < before.at.next) (stays_at ids) before.lines before.above);
-      left =
-          ap (λ live. items_fault p.finished live (normal_items x (drop (k + 1) items)))
-          (live_left (instances x) before.lines ids free)
-          ∙ ap (λ ss. items_fault p.finished (with_lines (instances x) before.lines) (normal_items x ss)) (sym there)
-          ∙ before.left;
-    })
+-- the ids behind an item
+next_behind : (first : ℕ) (at : Numbering) (item : ProofItem) → first ≤ at.next → first ≤ (behind_item at item).next
+next_behind first at (derived step) le = omega (arith, le)
+next_behind first at (gone ids) le = let same = next_kept at ids in omega (arith, le, same)
 
-pub none_derived : (x : Frame) (n : Names) (p : ProofState) (items : List ProofItem) →
-    AreItems (is_pair_number x.formula (length x.rows)) (numbered_from (first_id x.formula (length x.rows))) items
-    → p.lines ≡ [] → p.fault ≡ None → p.finished ≡ false → AreDerived x n p items 0
-none_derived x n p items numbered none going open_end = record {
-  lines = [];
-  held = record { lines_are = subst (AreLines x n []) (sym none) tt; going = going };
-  behind = tt;
-  at = numbered_from (first_id x.formula (length x.rows));
-  first = omega arith;
-  ids = none_live (λ id. first_id x.formula (length x.rows) ≤ id) (first_id x.formula (length x.rows));
-  numbered = numbered;
-  above = tt;
-  left = ap (λ b. items_fault b (instances x) (normal_items x items)) open_end;
-}
+ids_behind : (first : ℕ) (at : Numbering) (item : ProofItem) → first ≤ at.next →
+    ((id : ℕ) → at.live id ≡ true → first ≤ id) → (id : ℕ) → (behind_item at item).live id ≡ true → first ≤ id
+ids_behind first at (derived step) le ids = live_line (λ id. first ≤ id) at le ids
+ids_behind first at (gone deleted) le ids = live_gone (λ id. first ≤ id) at deleted ids
 
-pub all_derived : (x : Frame) (n : Names) (p : ProofState) (items : List ProofItem) (k : ℕ) → drop k items ≡ [] →
-    AreDerived x n p items k
-    → fault_so_far p.fault p.finished ≡ items_fault false (instances x) (normal_items x items)
-all_derived x n p items k none are =
-    ap (λ o. fault_so_far o p.finished) are.held.going
-    ∙ sym (ap (λ ss. items_fault p.finished (with_lines (instances x) are.lines) (normal_items x ss)) none)
-    ∙ are.left
-
--- whether there is a fault
-pub fault_some : (o p : Option ℕ) → o ≡ p → is_some o ≡ true → is_none p ≡ false
-fault_some o None is some = absurd (apart (sym (ap is_some is) ∙ some))
+none_some : {A : Type 0} (id : ℕ) (o : Option ℕ) → o ≡ None → o ≡ Some id → A
+none_some id o none some = absurd (apart (sym none ∙ some))
   where
-    apart : false ≡ true → ⊥
+    apart : None ≡ Some id → ⊥
     apart h = cc
-fault_some o (Some id) is some = refl
 
-pub fault_none : (o p : Option ℕ) → o ≡ p → is_some o ≡ false → p ≡ None
-fault_none o None is none = refl
-fault_none o (Some id) is none = absurd (apart (sym (ap is_some is) ∙ none))
+settled_by : (o : Option ℕ) (run : Run) (step : ProofStep) → is_none o ≡ false →
+    (with_line o run step).fault ≡ Some step.id
+settled_by None run step h = cc
+settled_by (Some place) run step h = refl
+
+-- a line that was judged
+module _ (x : Frame) (m : Names) (p q : ProofState) (step : ProofStep) (at : Numbering)
+    (lines : List (ℕ × List Literal)) (run : Run) where
+  abbrev nl : List Literal
+  nl = normal_literals x step.literals
+
+  abbrev nstep : ProofStep
+  nstep = normal_step x.formula x.rows step
+
+  abbrev live : LiveClauses
+  live = with_lines (instances x) lines
+
+  abbrev so_far : Run
+  so_far = record { finished = p.finished; live = live; fault = None }
+
+  line_runs : (b : Bool) → is_line x lines step.literals step.hints ≡ b → run ≡ so_far → AreBehind x lines →
+      first_id x.formula (length x.rows) ≤ step.id → step.id ≡ at.next →
+      AllByRecursion (λ line. line.0 < at.next) lines → IsJudged x m lines step.id step.literals q b →
+      IsGoing x m q (at.next + 1) (with_item run (derived nstep)) ⊎ IsSettled q (with_item run (derived nstep))
+  line_runs true is_derived is behind first id above judged =
+      let fault : line_fault live nl step.hints ≡ None =
+      fault_is (line_fault live nl step.hints) (is_line x lines step.literals step.hints)
+      (line_derives live nl step.hints) is_derived in
+      let below : AllByRecursion (λ line. line.0 < step.id) lines =
+      subst (λ i. AllByRecursion (λ line. line.0 < i) lines) (sym id) above in
+      inl (record {
+        lines = lines ++ (step.id, nl) ∷ [];
+        held = judged.0;
+        behind = behind_more x lines step.id nl behind (none_behind x step.id first);
+        above = subst (λ i. AllByRecursion (λ line. line.0 < i + 1) (lines ++ (step.id, nl) ∷ [])) id
+            (all_later lines step.id nl below);
+        run_is =
+            ap (λ r. with_item r (derived nstep)) is
+            ∙ ap (λ o. with_line o so_far nstep) fault
+            ∙ ap₂ (λ f l. record { finished = f; live = l; fault = None })
+            (empty_same x step.literals ∙ sym judged.1)
+            (sym (live_put (instances x) lines step.id nl
+            (All-from_recursion (λ line. line.0 < step.id) lines below)));
+      })
+  line_runs false underived_is is behind first id above judged =
+      inr (record {
+        id = step.id;
+        fault = judged;
+        run_fault =
+            ap (λ r. (with_item r (derived nstep)).fault) is
+            ∙ settled_by (line_fault live nl step.hints) so_far nstep
+            (line_derives live nl step.hints ∙ underived_is);
+      })
+
+module _ (f : Dqbf) (rows : List (List Bool)) where
+  abbrev is_pair : ℕ → Bool
+  is_pair = is_pair_number f (length rows)
+
+  abbrev first : ℕ
+  first = first_id f (length rows)
+
+  -- a line's id lies behind those of the instances and of the lines that are held
+  pub line_from_one : (p : RefutationProving) (step : ProofStep) → MayJudge f rows p (derived step) → 1 ≤ step.id
+  line_from_one p step may =
+      let id = may.lawful.numbered in
+      let le = may.judging.first in
+      omega (arith, id, le)
+
+  pub line_above : (p : RefutationProving) (step : ProofStep) → MayJudge f rows p (derived step) →
+      p.judging.proving.fault ≡ None → All (λ line. line.0 < step.id) p.judging.proving.lines
+  line_above p step may going =
+      elim may.judging.runs [
+        | inl run ↦
+            All-from_recursion (λ line. line.0 < step.id) p.judging.proving.lines
+            (subst (λ i. AllByRecursion (λ line. line.0 < i) p.judging.proving.lines) (sym may.lawful.numbered)
+            (ids_above (frame_of f rows p) (names_in p.judging.names) run.lines p.judging.proving.lines may.at.next
+            run.held.lines_are run.above))
+        | inr settled ↦ none_some settled.id p.judging.proving.fault going settled.fault
+      ]
+
+  pub line_judging : (p : RefutationProving) (j : Judging) (step : ProofStep) → p.judging.proving.fault ≡ None →
+      AreNames (frame_of f rows p) j.names →
+      ((lines : List (ℕ × List Literal)) → IsHeld (frame_of f rows p) (names_in p.judging.names) lines p.judging.proving →
+      AreBehind (frame_of f rows p) lines → IsJudged (frame_of f rows p) (names_in j.names) lines step.id step.literals
+      j.proving (is_line (frame_of f rows p) lines step.literals step.hints)) →
+      (at : Numbering) (run : Run) → IsJudging f rows p at run → IsItem is_pair at (derived step) →
+      IsJudging f rows (record p { judging = j }) (behind_item at (derived step))
+      (with_item run (normal_item f rows (derived step)))
+  line_judging p j step going names judged at run judging lawful =
+      let x = frame_of f rows p in
+      let id = lawful.numbered in
+      let le = judging.first in
+      record {
+        frame = judging.frame;
+        names = names;
+        first = next_behind first at (derived step) judging.first;
+        ids = ids_behind first at (derived step) judging.first judging.ids;
+        runs = elim judging.runs [
+          | inl r ↦ line_runs x (names_in j.names) p.judging.proving j.proving step at r.lines run
+              (is_line x r.lines step.literals step.hints) refl r.run_is r.behind (omega (arith, id, le)) id r.above
+              (judged r.lines r.held r.behind)
+          | inr settled ↦ none_some settled.id p.judging.proving.fault going settled.fault
+        ];
+      }
+
+  -- ids that are deleted
+  pub gone_judging : (p : RefutationProving) (q : ProofState) (ids : List ℕ) → p.judging.proving.fault ≡ None →
+      q ≡ without_lines p.judging.proving.fault ids p.judging.proving →
+      (at : Numbering) (run : Run) → IsJudging f rows p at run → IsItem is_pair at (gone ids) →
+      IsJudging f rows (record p { judging = record p.judging { proving = q } }) (behind_item at (gone ids))
+      (with_item run (normal_item f rows (gone ids)))
+  gone_judging p q ids going q_is at run judging lawful =
+      let x = frame_of f rows p in
+      let n = names_in p.judging.names in
+      let state = p.judging.proving in
+      let free : All (λ id. instances x id ≡ None) ids =
+      All-from_recursion (λ id. instances x id ≡ None) ids
+      (live_ids (λ id. instances x id ≡ None) at ids (λ id h. none_behind x id (judging.ids id h)) lawful.live) in
+      let left : q ≡ record state { lines = filter (stays_at ids) state.lines } =
+      q_is ∙ going_without state.fault ids state going in
+      record {
+        frame = judging.frame;
+        names = judging.names;
+        first = next_behind first at (gone ids) judging.first;
+        ids = ids_behind first at (gone ids) judging.first judging.ids;
+        runs = elim judging.runs [
+          | inl r ↦ subst (λ (s : ProofState). IsGoing x n s (behind_item at (gone ids)).next
+              (with_item run (gone ids)) ⊎ IsSettled s (with_item run (gone ids))) (sym left) (inl (record {
+                lines = filter (stays_at ids) r.lines;
+                held = record {
+                  lines_are = lines_left x n ids r.lines state.lines r.held.lines_are;
+                  going = r.held.going;
+                };
+                behind = some_left (λ line. instances x line.0 ≡ None) (stays_at ids) r.lines r.behind;
+                above = subst (λ next. AllByRecursion (λ line. line.0 < next) (filter (stays_at ids) r.lines))
+                    (sym (next_kept at ids)) (some_left (λ line. line.0 < at.next) (stays_at ids) r.lines r.above);
+                run_is = ap (λ r. with_item r (gone ids)) r.run_is
+                    ∙ ap (λ l. record { finished = state.finished; live = l; fault = None })
+                    (sym (live_left (instances x) r.lines ids free));
+              }))
+          | inr settled ↦ none_some settled.id state.fault going settled.fault
+        ];
+      }
+
+  -- behind a line that isn't derived
+  pub settled_judging : (p : RefutationProving) (item : ProofItem) → is_some p.judging.proving.fault ≡ true →
+      (at : Numbering) (run : Run) → IsJudging f rows p at run →
+      IsJudging f rows p (behind_item at item) (with_item run (normal_item f rows item))
+  settled_judging p item faulty at run judging = record {
+    frame = judging.frame;
+    names = judging.names;
+    first = next_behind first at item judging.first;
+    ids = ids_behind first at item judging.first judging.ids;
+    runs = elim judging.runs [
+      | inl r ↦ absurd (apart (sym (ap is_some r.held.going) ∙ faulty))
+      | inr settled ↦ inr (record {
+        id = settled.id;
+        fault = settled.fault;
+        run_fault = ap (λ o. (unless_faulty o run (advanced run (normal_item f rows item))).fault) settled.run_fault
+            ∙ settled.run_fault;
+      })
+    ];
+  }
+    where
+      apart : false ≡ true → ⊥
+      apart h = cc
+
+  -- what is wrong so far
+  pub fault_says : (p : RefutationProving) (at : Numbering) (run : Run) → IsJudging f rows p at run →
+      fault_so_far p.judging.proving.fault p.judging.proving.finished ≡ run_fault run
+  fault_says p at run judging =
+      let state = p.judging.proving in
+      elim judging.runs [
+        | inl r ↦ ap (λ o. fault_so_far o state.finished) r.held.going ∙ sym (ap run_fault r.run_is)
+        | inr settled ↦ ap (λ o. fault_so_far o state.finished) settled.fault
+            ∙ sym (ap (λ o. fault_so_far o run.finished) settled.run_fault)
+      ]
+
+  -- the first k items are judged, and with the others the fault is that of all
+  pub record AreJudged (p : RefutationProving) (items : List ProofItem) (k : ℕ) : Type 0 where
+    pub at : Numbering
+    pub run : Run
+    pub judging : IsJudging f rows p at run
+    pub numbered : AreItems is_pair at (drop k items)
+    pub left : run_fault (with_items run (map (normal_item f rows) (drop k items)))
+        ≡ items_fault false (instance_at f rows) (map (normal_item f rows) items)
+
+  pub none_judged : (p : RefutationProving) (items : List ProofItem) →
+      IsJudging f rows p (numbered_from first) (start (instance_at f rows)) →
+      AreItems is_pair (numbered_from first) items → AreJudged p items 0
+  none_judged p items judging numbered = record {
+    at = numbered_from first;
+    run = start (instance_at f rows);
+    judging = judging;
+    numbered = numbered;
+    left = going_is_fault false (instance_at f rows) (map (normal_item f rows) items);
+  }
+
+  module _ (p : RefutationProving) (items : List ProofItem) (k : ℕ) (item : ProofItem)
+      (there : slice_get items k ≡ Some item) (before : AreJudged p items k) where
+    numbered : AreItems is_pair before.at (item ∷ drop (k + 1) items)
+    numbered = subst (AreItems is_pair before.at) (item_there items k item there) before.numbered
+
+    pub may_come : MayJudge f rows p item
+    may_come = record { at = before.at; run = before.run; judging = before.judging; lawful = numbered.0 }
+
+    pub one_judged : (q : RefutationProving) → ((at : Numbering) (run : Run) → IsJudging f rows p at run →
+        IsItem is_pair at item → IsJudging f rows q (behind_item at item) (with_item run (normal_item f rows item))) →
+        AreJudged q items (k + 1)
+    one_judged q goes_on = record {
+      at = behind_item before.at item;
+      run = with_item before.run (normal_item f rows item);
+      judging = goes_on before.at before.run before.judging numbered.0;
+      numbered = numbered.1;
+      left = sym (ap (λ rest. run_fault (with_items before.run (map (normal_item f rows) rest)))
+          (item_there items k item there)) ∙ before.left;
+    }
+
+  pub all_judged : (p : RefutationProving) (items : List ProofItem) (k : ℕ) → drop k items ≡ [] →
+      AreJudged p items k → HasFaultOf f rows items p
+  all_judged p items k none are = record {
+    at = are.at;
+    run = are.run;
+    judging = are.judging;
+    same = sym (ap (λ rest. run_fault (with_items are.run (map (normal_item f rows) rest))) none) ∙ are.left;
+  }
+
+  stays : (id : ℕ) (run : Run) (items : List ProofItem) → run.fault ≡ Some id →
+      run_fault (with_items run items) ≡ run_fault run
+  stays id run [] faulty = refl
+  stays id run (item ∷ items) faulty =
+      ap (λ o. run_fault (with_items (unless_faulty o run (advanced run item)) items)) faulty
+      ∙ stays id run items faulty
+
+  pub settled : (p : RefutationProving) (items : List ProofItem) (k : ℕ) → is_some p.judging.proving.fault ≡ true →
+      AreJudged p items k → HasFaultOf f rows items p
+  settled p items k faulty are = record {
+    at = are.at;
+    run = are.run;
+    judging = are.judging;
+    same = elim are.judging.runs [
+      | inl r ↦ absurd (apart (sym (ap is_some r.held.going) ∙ faulty))
+      | inr s ↦ sym (stays s.id are.run (map (normal_item f rows) (drop k items)) s.run_fault) ∙ are.left
+    ];
+  }
+    where
+      apart : false ≡ true → ⊥
+      apart h = cc
+
+  -- the fault of all items
+  pub has_fault : (p : RefutationProving) (items : List ProofItem) (fault : Option ProofFault) → HasFaultOf f rows items p →
+      ((at : Numbering) (run : Run) → IsJudging f rows p at run → fault ≡ run_fault run) →
+      fault ≡ items_fault false (instance_at f rows) (map (normal_item f rows) items)
+  has_fault p items fault has says = says has.at has.run has.judging ∙ has.same
+
+  -- nothing is judged yet
+  pub none_yet : (p : RefutationProving) → IsFrame (frame_of f rows p) →
+      AreNames (frame_of f rows p) p.judging.names → p.judging.proving.lines ≡ [] → p.judging.proving.fault ≡ None →
+      p.judging.proving.finished ≡ false → IsJudging f rows p (numbered_from first) (start (instance_at f rows))
+  none_yet p frame names none going open_end = record {
+    frame = frame;
+    names = names;
+    first = omega arith;
+    ids = none_live (λ id. first ≤ id) first;
+    runs = inl (record {
+      lines = [];
+      held = record {
+        lines_are = subst (AreLines (frame_of f rows p) (names_in p.judging.names) []) (sym none) tt;
+        going = going;
+      };
+      behind = tt;
+      above = tt;
+      run_is = ap (λ b. record { finished = b; live = instance_at f rows; fault = None }) (sym open_end);
+    });
+  }
+
+pub on_ok : {E A B : Type 0} (r : Result (Unit {0}) E) → OnOk r A → (A → B) → OnOk r B
+on_ok (Ok _) holds next = next holds
+on_ok (Err stop) holds next = tt
+
+pub not_settled : (o : Option ℕ) → is_some o ≡ false → o ≡ None
+not_settled None none = refl
+not_settled (Some id) none = absurd (apart none)
   where
     apart : true ≡ false → ⊥
     apart h = cc

@@ -8,3 +8,4 @@ pub mod Namings
 pub mod KnownBases
 pub mod PairNames
 pub mod Judging
+pub mod Proving

@@ -1,6 +1,6 @@
 //! The check of a refutation.
 
-ghost use Rattle.std.specs.Prelude.{◌≡◌, ◌≤◌, length, map, IfOk, OnOk, [], None, false};
+ghost use Rattle.std.specs.Prelude.{length, map, IfOk, OnOk, false, ◌≡◌};
 ghost use Rattle.dq_lits.specs.Expansion.{instance_at};
 ghost use Rattle.dq_lits.specs.Formula.{IsWellFormed};
 ghost use Rattle.cert_text.specs.Grammar.{AreItems, IsDqrOf};
@@ -9,19 +9,16 @@ ghost use Rattle.cert_text.specs.Pairs.{is_pair_number};
 ghost use Rattle.cert_text.specs.Scan.{first_id};
 ghost use Rattle.rup_core.specs.Items.{items_fault};
 ghost use Rattle.rup_core.specs.ProofVerdict.{proof_fault_in};
-ghost use Rattle.rup_core.specs.Judging.{no_line};
-ghost use Rattle.rup_core.specs.Runs.{fault_so_far};
+ghost use Rattle.rup_core.specs.Runs.{start};
 ghost use Rattle.refutation_checker.specs.Answer.{IsAnswer};
-ghost use Rattle.refutation_checker.specs.PairNames.{frame, names_in, IsFrame, AreNames};
+ghost use Rattle.refutation_checker.specs.Proving.{AreRows, HasFaultOf, IsJudging};
 ghost use Rattle.refutation_checker.specs.Refutation.{normal_item, refutation_fault};
 
-use crate::bindings::Bindings;
 use crate::faults::RefFault;
-use crate::judging::Judging;
-use crate::pair_names::Expansion;
-use cert_text::{Dqr, Item, ItemList};
+use crate::proving::RefutationProving;
+use cert_text::{Dqr, ItemList};
 use dq_formula::Formula;
-use dq_lits::Memory;
+use dq_lits::{Memory, Row};
 use rup_core::ProofFault;
 use std::alloc::Global;
 
@@ -35,14 +32,7 @@ pub fn check(alloc: Global, f: &Formula, d: &Dqr) -> Result<(), RefFault>
     requires lawful { IsDqrOf f.now d.now }
     ensures { IsAnswer (refutation_fault f.now d.now) result }
 {
-    f.every_formula_is_lawful();
-    let bindings = Bindings::new(alloc, f)?;
-    let e = Expansion {
-        formula: f,
-        rows: d.rows.items(),
-        bindings: &bindings,
-    };
-    let fault = items_fault(alloc, &e, &d.items)?;
+    let fault = items_fault(alloc, f, d.rows.items(), &d.items)?;
     answer(fault)
 }
 
@@ -56,41 +46,43 @@ fn answer(fault: Option<ProofFault>) -> Result<(), RefFault>
     }
 }
 
-// The first fault of some items.
-fn items_fault(alloc: Global, e: &Expansion, items: &ItemList) -> Result<Option<ProofFault>, Memory>
-    requires frame { IsFrame (frame e.now) }
-    requires numbered { AreItems (is_pair_number (frame e.now).formula (length (frame e.now).rows))
-        (numbered_from (first_id (frame e.now).formula (length (frame e.now).rows))) items.now }
+// The first fault of a refutation's items.
+fn items_fault(
+    alloc: Global,
+    f: &Formula,
+    rows: &[Row],
+    items: &ItemList,
+) -> Result<Option<ProofFault>, Memory>
+    requires rows { AreRows f.now rows.now }
+    requires numbered { AreItems (is_pair_number f.now (length rows.now))
+        (numbered_from (first_id f.now (length rows.now))) items.now }
     ensures { IfOk result (λ fault. proof_fault_in fault
-        ≡ items_fault false (instance_at (frame e.now).formula (frame e.now).rows)
-        (map (normal_item (frame e.now).formula (frame e.now).rows) items.now)) }
+        ≡ items_fault false (instance_at f.now rows.now)
+        (map (normal_item f.now rows.now) items.now)) }
 {
-    let mut judging = Judging::new(alloc, e)?;
-    judge_all(e, items, &mut judging)?;
-    Ok(judging.proving.fault())
+    let mut proving = RefutationProving::new(alloc, f, rows)?;
+    judge_all(f, rows, items, &mut proving)?;
+    Ok(proving.fault())
 }
 
 // Judges items up to the first line that isn't derived.
-fn judge_all(e: &Expansion, items: &ItemList, judging: &mut Judging) -> Result<(), Memory>
-    requires frame { IsFrame (frame e.now) }
-    requires numbered { AreItems (is_pair_number (frame e.now).formula (length (frame e.now).rows))
-        (numbered_from (first_id (frame e.now).formula (length (frame e.now).rows))) items.now }
-    requires names { AreNames (frame e.now) judging.old.names }
-    requires none { (judging.old.proving.lines ≡ []) × (judging.old.proving.fault ≡ None)
-        × (judging.old.proving.finished ≡ false) }
-    ensures { OnOk result (fault_so_far judging.new.proving.fault judging.new.proving.finished
-        ≡ items_fault false (instance_at (frame e.now).formula (frame e.now).rows)
-        (map (normal_item (frame e.now).formula (frame e.now).rows) items.now)) }
+fn judge_all(
+    f: &Formula,
+    rows: &[Row],
+    items: &ItemList,
+    proving: &mut RefutationProving,
+) -> Result<(), Memory>
+    requires first { IsJudging f.now rows.now proving.old
+        (numbered_from (first_id f.now (length rows.now)))
+        (start (instance_at f.now rows.now)) }
+    requires numbered { AreItems (is_pair_number f.now (length rows.now))
+        (numbered_from (first_id f.now (length rows.now))) items.now }
+    ensures { OnOk result (HasFaultOf f.now rows.now items.now proving.new) }
 {
     for k in 0..items.len() {
-        match items.get(k) {
-            Item::Gone(ids) => judging.proving.gone(ids),
-            Item::Line(step) => {
-                judging.judge(e, step.id, step.lits, step.hints)?;
-                if judging.proving.underived().is_some() {
-                    return Ok(());
-                }
-            }
+        proving.item(f, rows, items.get(k))?;
+        if proving.is_settled() {
+            return Ok(());
         }
     }
     Ok(())

@@ -9,6 +9,7 @@
 
 pub use checks::check;
 pub use faults::RefFault;
+pub use proving::RefutationProving;
 
 mod bindings;
 mod checks;
@@ -17,4 +18,5 @@ mod judging;
 mod known_bases;
 pub mod laws;
 mod pair_names;
+mod proving;
 mod row_trees;

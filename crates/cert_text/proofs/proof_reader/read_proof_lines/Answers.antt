@@ -8,11 +8,11 @@ returns-in_err-items c =
     let same : c.from_residual.result ≡ Err stop = search rules in
     handed_on _ stop c.from_residual.result
     (proof_stop c.args.f.now c.args.c.now c.args.count c.args.lines.now c.last_variable.result c.last_variable.ensures
-    c.first_id.result c.first_id.ensures.id stop
+    c.first_proof_id.result c.first_proof_id.ensures.id stop
     c.read_items.new.lines c.in_err-items.ensures) same
 
 pub returns : goal.returns
 returns c =
     whole_proof c.args.f.now c.args.c.now c.args.count c.args.lines.now c.last_variable.result c.last_variable.ensures
-    c.first_id.result c.first_id.ensures.id c.in_ok-items.items
+    c.first_proof_id.result c.first_proof_id.ensures.id c.in_ok-items.items
     c.read_items.new.lines c.in_ok-items.ensures

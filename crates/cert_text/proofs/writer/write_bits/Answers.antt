@@ -1,6 +1,6 @@
 use Rattle.std.proofs.Common.{◌++◌, get_or, ◌∙◌, ap, arith}
 use Rattle.cert_text.specs.Canonical.{signed_text}
-use Rattle.cert_text.proofs.RowUniversals.{one_bit_more, no_bit_more}
+use Rattle.cert_text.proofs.RowBits.{one_bit_more, no_bit_more}
 use Rattle.cert_text.proofs.writer.write_bits.Goals as goal
 
 pub loop-i-preserved : goal.loop-i-preserved

@@ -1,61 +1,41 @@
-use Rattle.std.proofs.Common.{◌+◌, map, subst, sym, ◌∙◌, arith}
-use Rattle.cert_text.specs.Steps.{step_seen}
-use Rattle.rup_core.specs.Judging.{derive_line}
-use Rattle.rup_core.specs.Proving.{ProofState, with_lines}
-use Rattle.proof_checker.proofs.DerivedLines.{AreJudged, none_judged, line_judged, line_id, ids_free, ids_judged, faulty_judged, ids_above, fault_some}
+use Rattle.std.proofs.Common.{◌+◌, sym, ◌∙◌, refl, arith}
+use Rattle.cert_text.specs.CircuitProof.{first_proof_id}
+use Rattle.cert_text.specs.Items.{item_seen}
+use Rattle.cert_text.specs.Numbering.{numbered_from}
+use Rattle.proof_checker.proofs.DerivedLines.{all_judged, may_come, one_judged, settled}
 use Rattle.proof_checker.proofs.checks.judge_all.Goals as goal
-use Rattle.proof_checker.proofs.checks.judge_all.Goals.{in-Gone, in-Line+in_ok-line-in-Line+else-is_some}
 
 pub loop-k-init : goal.loop-k-init
-loop-k-init g c =
-    none_judged (g.B.Base.clauses c.args.base.now) c.args.proving.now c.args.items.now c.requires.behind
-    c.requires.none.0 c.requires.none.1 c.requires.none.2
+loop-k-init c = record {
+  at = numbered_from (first_proof_id c.args.f.now c.args.c.now);
+  judging = c.requires.first;
+  numbered = c.requires.items;
+  left = refl;
+}
 
-pub line-requires-clause-from_one : goal.line-requires-clause-from_one
-line-requires-clause-from_one g c =
-    let live = g.B.Base.clauses c.args.base.now in
-    let before = c.loop-k.invariant in
-    let id = line_id live c.loop-k.proving c.loop-k.proving c.args.items.now c.loop-k.k
-    (step_seen c.in-Line.step) c.in-Line.ensures before in
-    let one = before.from_one in
-    let behind = before.behind in
-    omega (arith, id, one, behind)
+pub item-requires : goal.item-requires
+item-requires c =
+    may_come c.args.f.now c.args.c.now c.args.proving.now c.loop-k.proving c.args.items.now c.loop-k.k
+    (item_seen c.get.result) c.get.ensures c.loop-k.invariant
 
-pub line-requires-clause-above : goal.line-requires-clause-above
-line-requires-clause-above g c =
-    let live = g.B.Base.clauses c.args.base.now in
-    let before = c.loop-k.invariant in
-    ids_above live c.loop-k.proving c.args.items.now c.loop-k.k c.in-Line.step.id before
-    (line_id live c.loop-k.proving c.loop-k.proving c.args.items.now c.loop-k.k
-    (step_seen c.in-Line.step) c.in-Line.ensures before)
-
-pub returns-then-is_some : goal.returns-then-is_some
-returns-then-is_some g c =
-    let live = g.B.Base.clauses c.args.base.now in
-    let step = step_seen c.in-Line.step in
-    faulty_judged live c.line.new.self c.args.items.now (c.loop-k.k + 1)
-    (fault_some c.underived.result c.line.new.self.fault c.underived.ensures
-    (sym c.is_some.ensures ∙ c.if-is_some.true))
-    (line_judged live c.loop-k.proving c.line.new.self c.args.items.now c.loop-k.k step
-    (derive_line step.literals (map (with_lines live c.loop-k.proving.lines) step.hints))
-    c.in-Line.ensures c.in_ok-line-in-Line.ensures.value c.in_ok-line-in-Line.ensures.run c.loop-k.invariant)
+pub returns-then-is_settled : goal.returns-then-is_settled
+returns-then-is_settled c =
+    let f = c.args.f.now in
+    let net = c.args.c.now in
+    let items = c.args.items.now in
+    settled f net c.args.proving.now c.item.new.self items (c.loop-k.k + 1)
+    (sym c.is_settled.ensures ∙ c.if-is_settled.true)
+    (one_judged f net c.args.proving.now c.loop-k.proving items c.loop-k.k (item_seen c.get.result) c.get.ensures
+    c.loop-k.invariant c.item.new.self c.in_ok-item.ensures.run c.in_ok-item.ensures.judging)
 
 pub loop-k-preserved : goal.loop-k-preserved
-loop-k-preserved g c =
-    let live = g.B.Base.clauses c.args.base.now in
-    let items = c.args.items.now in
-    let k = c.loop-k.k in
-    let p = c.loop-k.proving in
-    let before = c.loop-k.invariant in
-    elim c.match-get.branch [
-      | in-Gone w ↦
-          subst (λ (s : ProofState). AreJudged live s items (k + 1)) (sym w.proving-is)
-          (ids_judged live p w.gone.new.self items k w.in-Gone.ids.now w.in-Gone.ensures w.gone.ensures.value
-          (w.gone.ensures.run live (ids_free live p p items k w.in-Gone.ids.now w.in-Gone.ensures before)) before)
-      | in-Line+in_ok-line-in-Line+else-is_some w ↦
-          let step = step_seen w.in-Line.step in
-          subst (λ (s : ProofState). AreJudged live s items (k + 1)) (sym w.proving-is)
-          (line_judged live p w.line.new.self items k step (derive_line step.literals
-          (map (with_lines live p.lines) step.hints))
-          w.in-Line.ensures w.in_ok-line-in-Line.ensures.value w.in_ok-line-in-Line.ensures.run before)
-    ]
+loop-k-preserved c =
+    one_judged c.args.f.now c.args.c.now c.args.proving.now c.loop-k.proving c.args.items.now c.loop-k.k
+    (item_seen c.get.result) c.get.ensures c.loop-k.invariant c.item.new.self c.in_ok-item.ensures.run
+    c.in_ok-item.ensures.judging
+
+pub returns : goal.returns
+returns c =
+    all_judged c.args.f.now c.args.c.now c.args.proving.now c.loop-k.proving c.args.items.now c.loop-k.k
+    (let end = c.loop-k-test.false in let long = c.len-k-end.ensures.value in omega (arith, end, long))
+    c.loop-k.invariant

@@ -2,4 +2,4 @@ use Rattle.proof_checker.proofs.DerivedLines.{AreJudged}
 use Rattle.proof_checker.proofs.checks.judge_all.Given as goal
 
 abbrev pub invariant-loop-k : goal.invariant-loop-k
-invariant-loop-k g l = AreJudged (g.B.Base.clauses l.base) l.proving l.items l.k
+invariant-loop-k l = AreJudged l.f l.c l.fn.proving l.proving l.items l.k

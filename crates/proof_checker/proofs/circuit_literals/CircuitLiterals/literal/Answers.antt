@@ -10,7 +10,7 @@ returns-in-None-place c =
     no_literal
     (record {
       netlist = c.self.inside.circuit.now;
-      mapping = record { inputs = c.self.inside.inputs; outputs = c.self.inside.outputs };
+      mapping = record { inputs = c.self.inside.inputs.now; outputs = c.self.inside.outputs.now };
     })
     c.args.v c.len.result c.element_at-in-None-place.result c.in-None.ensures.place c.in-None-place.ensures.place
     c.len.ensures.value

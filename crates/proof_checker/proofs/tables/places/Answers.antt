@@ -1,7 +1,7 @@
 use Rattle.std.proofs.Common.{get_or}
 use Rattle.std.proofs.lemmas.List.{get_or_default}
 use Rattle.proof_checker.proofs.StandingLiterals.{new_here}
-use Rattle.proof_checker.proofs.circuit_literals.places.Goals as goal
+use Rattle.proof_checker.proofs.tables.places.Goals as goal
 
 pub push-requires : goal.push-requires
 push-requires c =

@@ -1,7 +1,7 @@
 use Rattle.proof_checker.specs.ClauseLiterals.{clause_literals}
 use Rattle.std.proofs.Common.{arith}
 use Rattle.proof_checker.proofs.MatrixPlaces.{next_clause}
-use Rattle.proof_checker.proofs.negated.clause_literals.Goals as goal
+use Rattle.proof_checker.proofs.tables.clause_literals.Goals as goal
 
 pub loop-j-preserved : goal.loop-j-preserved
 loop-j-preserved c =

@@ -1,0 +1,2 @@
+pub mod AagLinesInside
+pub mod CircuitLines

@@ -1,0 +1,4 @@
+pub mod ItemsInPlace
+pub mod KeptBodies
+pub mod ProofSteps
+pub mod RefutationSteps
