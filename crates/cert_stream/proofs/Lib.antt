@@ -1,0 +1,4 @@
+pub mod JudgedItems
+pub mod JudgedLines
+pub mod LineSteps
+pub mod StreamAnswers

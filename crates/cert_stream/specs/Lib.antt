@@ -1,0 +1,2 @@
+pub mod RefutationInside
+pub mod RefutationState
