@@ -2,3 +2,5 @@ pub mod JudgedItems
 pub mod JudgedLines
 pub mod LineSteps
 pub mod StreamAnswers
+pub mod ProofLineSteps
+pub mod ProofAnswers

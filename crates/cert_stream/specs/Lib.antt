@@ -1,2 +1,4 @@
+pub mod ProofInside
+pub mod ProofState
 pub mod RefutationInside
 pub mod RefutationState
