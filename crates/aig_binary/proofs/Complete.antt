@@ -1,10 +1,10 @@
 -- What the binary form spells is a netlist that can be evaluated: gates read earlier variables alone.
-use Rattle.std.proofs.Common.{◌≡◌, ◌≢◌, ℕ, zero, suc, ◌+◌, ◌-◌, ◌*◌, ◌/◌, ◌^◌, ◌<◌, ◌≤◌, ◌⊎◌, inl, inr, get_or, List, [], ◌∷◌, ◌++◌, length, All, Contains, refl, sym, ◌∙◌, ap, arith, subst, one-add}
+use Rattle.std.proofs.Common.{◌≡◌, ℕ, zero, suc, ◌+◌, ◌-◌, ◌*◌, ◌<◌, ◌≤◌, ◌⊎◌, inl, inr, get_or, List, [], ◌∷◌, length, All, Contains, refl, ◌∙◌, ap, arith, subst, one-add}
 use Rattle.std.proofs.lemmas.Bool.{cases_order}
 use Rattle.std.proofs.lemmas.List.FromFn.{get_or-range_with_len}
 use Rattle.std.proofs.lemmas.List.Elements.{Contains-get_or}
 use Rattle.circuit_plain.specs.Ground.{IsGrounded, constant, input, gate}
-use Rattle.circuit_plain.specs.Netlist.{Netlist, IsNetlist, IsVariable, IsLiteral, IsGate, literal_variable, variable_of_gate, left_variable, right_variable, gate_variables}
+use Rattle.circuit_plain.specs.Netlist.{Netlist, IsNetlist, IsLiteral, literal_variable, left_variable, right_variable, gate_variables}
 use Rattle.circuit_plain.specs.declared.circuits.Gate.{Gate}
 use Rattle.circuit_plain.proofs.NetlistLaws.{gate_defined}
 use Rattle.aiger_text.specs.Grammar.{HasMeaning}
@@ -13,7 +13,6 @@ use Rattle.aiger_text.specs.declared.files.ReadCircuit.{ReadCircuit}
 use Rattle.aig_binary.specs.Gates.{SpellsGates}
 use Rattle.aig_binary.specs.Grammar.{SpellsBinary}
 use Rattle.aig_binary.specs.Scan.{first_variables}
-use Rattle.aig_binary.proofs.Exactness.{variables_count}
 
 pub variables_at : (n k d : ℕ) → k < n → get_or (first_variables n) k d ≡ suc k
 variables_at n k d below = get_or-range_with_len 1 n k d below ∙ one-add k

@@ -1,5 +1,5 @@
 -- What the grammar spells is what is scanned.
-use Rattle.std.proofs.Common.{◌≡◌, ℕ, zero, suc, ◌+◌, ◌≤◌, ◌==◌, cond, Bool, true, false, List, [], ◌∷◌, ◌++◌, length, Result, Ok, Err, codes, refl, sym, ◌∙◌, ap, ap₂, arith, subst, length-append}
+use Rattle.std.proofs.Common.{◌≡◌, ℕ, ◌+◌, ◌≤◌, ◌==◌, cond, Bool, true, false, List, [], ◌∷◌, ◌++◌, length, Ok, Err, codes, refl, sym, ◌∙◌, ap, arith, subst}
 use Rattle.std.proofs.lemmas.Bool.{cond-true, eq-eqb, eqb-true}
 use Rattle.std.proofs.lemmas.List.FromFn.{length-range_with_len}
 use Rattle.std.proofs.lemmas.List.Elements.{recursion_from_All, All-from_recursion}
@@ -7,15 +7,13 @@ use Rattle.circuit_plain.specs.Netlist.{Netlist, IsLiteral}
 use Rattle.dq_text.specs.Line.{TextLine, line_tokens, lines_from}
 use Rattle.aiger_text.specs.Grammar.{SpellsHeader, counts_in, AreNames}
 use Rattle.aiger_text.specs.Lines.{max_count, header_behind}
-use Rattle.aiger_text.specs.Scan.{LineFault}
-use Rattle.aiger_text.specs.declared.faults.AagFault.{AagFault}
 use Rattle.aiger_text.specs.declared.faults.AagFault.TheVariants.{BadHeader}
 use Rattle.aiger_text.specs.declared.files.ReadCircuit.{ReadCircuit}
 use Rattle.aiger_text.specs.declared.headers.Header.{Header}
 use Rattle.aiger_text.proofs.SpelledHeaders.{header_from, header_is}
 use Rattle.aig_binary.specs.Deltas.{and_then}
 use Rattle.aig_binary.specs.Gates.{read_gates, SpellsGates}
-use Rattle.aig_binary.specs.Grammar.{SpellsOutputs, SpellsBinary}
+use Rattle.aig_binary.specs.Grammar.{SpellsBinary}
 use Rattle.aig_binary.specs.Scan.{Ending, all_defined, binary_header, on_line, read_outputs, read_symbols, first_variables, no_gates, no_symbols, file_with, binary_line, behind_gates, behind_outputs, behind_header, scan_lines, scan_binary}
 use Rattle.aig_binary.proofs.SpelledDeltas.{goes_on}
 use Rattle.aig_binary.proofs.SpelledGates.{gates_from, gates_are}

@@ -1,5 +1,5 @@
 -- Gates, as their reader takes them and as the grammar spells them.
-use Rattle.std.proofs.Common.{◌≡◌, ℕ, zero, suc, ◌+◌, ◌-◌, ◌*◌, ◌<◌, ◌≤◌, ◌==◌, true, false, cond, Bool, List, [], ◌∷◌, ◌++◌, length, refl, sym, ◌∙◌, ap, ap₂, arith, append_assoc, append-nil, subst}
+use Rattle.std.proofs.Common.{◌≡◌, ℕ, zero, suc, ◌+◌, ◌-◌, ◌*◌, ◌<◌, ◌≤◌, ◌==◌, true, false, cond, Bool, List, [], ◌∷◌, ◌++◌, length, refl, sym, ◌∙◌, ap, arith, append_assoc, append-nil, subst}
 use Rattle.std.specs.Prelude.{nat_lt, Result, Ok, Err}
 use Rattle.std.proofs.lemmas.Bool.{cond-false, ltb-false, le-ltb, ne_eqb, eqb-false}
 use Rattle.circuit_plain.specs.Netlist.{Netlist}
@@ -8,7 +8,7 @@ use Rattle.aiger_text.specs.Lines.{with_gate}
 use Rattle.aiger_text.specs.declared.faults.AagFault.{AagFault}
 use Rattle.aiger_text.specs.declared.faults.AagFault.TheVariants.{BadDelta}
 use Rattle.aig_binary.specs.Deltas.{most_groups, and_then, read_delta, AreGroups}
-use Rattle.aig_binary.specs.Gates.{lowered, first_side, read_gate, read_gates, SpellsDelta, SpellsGate, SpellsGates}
+use Rattle.aig_binary.specs.Gates.{lowered, first_side, read_gate, read_gates, SpellsGate, SpellsGates}
 use Rattle.aig_binary.proofs.SpelledDeltas.{goes_on, ok_is, delta_from, delta_is}
 
 unless_error : {A : Type 0} (b : Bool) (name : AagFault) (r : Result A AagFault) (v : A) → cond b (Err name) r ≡ Ok v →

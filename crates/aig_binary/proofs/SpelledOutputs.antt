@@ -1,11 +1,10 @@
 -- The outputs' lines, as their reader takes them and as the grammar spells them.
-use Rattle.std.proofs.Common.{◌≡◌, ℕ, zero, suc, ◌+◌, ◌*◌, ◌<◌, ◌≤◌, List, [], ◌∷◌, ◌++◌, length, map, All, Option, refl, sym, ◌∙◌, ap, arith, append_assoc, append-nil}
+use Rattle.std.proofs.Common.{◌≡◌, ℕ, zero, suc, ◌+◌, ◌*◌, ◌≤◌, List, [], ◌∷◌, ◌++◌, length, refl, sym, ◌∙◌, ap, append_assoc, append-nil}
 use Rattle.std.specs.Prelude.{Result, Ok, Err}
 use Rattle.std.specs.List.{AllByRecursion}
 use Rattle.std.proofs.lemmas.Bool.{le-leb}
 use Rattle.circuit_plain.specs.Netlist.{Netlist, IsLiteral}
 use Rattle.dq_text.specs.Line.{TextLine, line_tokens, lines_from}
-use Rattle.aiger_text.specs.Grammar.{line_numbers, output_numbers}
 use Rattle.aiger_text.specs.Lines.{max_count, numbers_of, with_output, output_line}
 use Rattle.aiger_text.specs.Scan.{LineFault}
 use Rattle.aiger_text.specs.declared.faults.AagFault.{AagFault}

@@ -1,5 +1,5 @@
 -- The lines behind the gates, as their reader takes them and as the grammar spells them.
-use Rattle.std.proofs.Common.{◌≡◌, ℕ, ◌+◌, ◌≤◌, ◌^◌, true, false, not, cond, Bool, inl, inr, List, [], ◌∷◌, ◌++◌, filter, Option, Some, None, Result, Ok, Err, refl, sym, ◌∙◌, ap, subst}
+use Rattle.std.proofs.Common.{◌≡◌, ℕ, ◌+◌, ◌≤◌, true, false, not, cond, Bool, inl, inr, List, [], ◌∷◌, ◌++◌, filter, Option, Some, None, Result, Ok, refl, sym, ◌∙◌, ap, subst}
 use Rattle.std.specs.List.{AllZip}
 use Rattle.std.proofs.lemmas.Bool.{cases_Bool, cond-true, cond-false}
 use Rattle.dq_text.specs.BlankLine.{is_blank_line}
@@ -8,7 +8,6 @@ use Rattle.aiger_text.specs.Grammar.{AreNames, SpellsSymbol, SpellSymbols}
 use Rattle.aiger_text.specs.Lines.{SymbolLine, max_count, symbol_of, add_symbol, symbol_line, begins_comment}
 use Rattle.aiger_text.specs.Scan.{LineFault}
 use Rattle.aiger_text.specs.Symbol.{SymbolTable}
-use Rattle.aiger_text.specs.declared.faults.AagFault.{AagFault}
 use Rattle.aiger_text.specs.declared.headers.Header.{Header}
 use Rattle.aiger_text.proofs.ReadSymbols.{added_parts, comment_is}
 use Rattle.aiger_text.proofs.SpelledSymbolLines.{symbol_is, symbol_from}

@@ -1,5 +1,5 @@
 -- One item of a reading.
-use Rattle.std.proofs.Common.{◌≡◌, ℕ, suc, ◌+◌, ◌-◌, ◌*◌, ◌/◌, ◌<◌, ◌≤◌, List, [], ◌∷◌, ◌++◌, length, Option, refl, sym, ◌∙◌, ap, arith, subst, length-append}
+use Rattle.std.proofs.Common.{◌≡◌, ℕ, suc, ◌+◌, ◌-◌, ◌*◌, ◌/◌, ◌<◌, List, [], ◌∷◌, ◌++◌, length, Option, sym, ◌∙◌, ap, arith, subst, length-append}
 use Rattle.std.specs.Prelude.{Result, Ok, Err}
 use Rattle.circuit_plain.specs.Netlist.{Netlist}
 use Rattle.circuit_plain.specs.declared.circuits.Gate.{Gate}

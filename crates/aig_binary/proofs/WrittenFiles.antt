@@ -1,5 +1,5 @@
 -- What is written in the binary form is spelled.
-use Rattle.std.proofs.Common.{◌≡◌, ℕ, ◌+◌, ◌<◌, ◌≤◌, ◌^◌, true, false, List, [], ◌∷◌, ◌++◌, length, map, Option, None, Some, codes, refl, sym, ◌∙◌, ap, arith, subst, append_assoc}
+use Rattle.std.proofs.Common.{◌≡◌, ℕ, ◌+◌, ◌<◌, ◌≤◌, ◌^◌, List, [], ◌∷◌, ◌++◌, length, map, Option, None, Some, codes, refl, ◌∙◌, ap, arith, append_assoc}
 use Rattle.std.specs.Fmt.{decimal}
 use Rattle.std.specs.List.{AllByRecursion, flat_map}
 use Rattle.std.proofs.lemmas.List.Elements.{recursion_from_All}
@@ -7,15 +7,12 @@ use Rattle.circuit_plain.specs.Netlist.{IsLiteral}
 use Rattle.dq_text.specs.Line.{TextLine, lines_from}
 use Rattle.dq_text.specs.Written.{number_text, number_line}
 use Rattle.dq_text.proofs.LineWords.{AreWords, word_no_feed, natural_is_word}
-use Rattle.aiger_text.specs.Canonical.{counts_text, comment_text, ending_text}
-use Rattle.aiger_text.specs.Grammar.{output_numbers}
+use Rattle.aiger_text.specs.Canonical.{comment_text, ending_text}
 use Rattle.aiger_text.specs.Lines.{max_count}
 use Rattle.aiger_text.specs.declared.files.AagFile.{AagFile}
-use Rattle.aiger_text.specs.declared.files.ReadCircuit.{ReadCircuit}
 use Rattle.aiger_text.proofs.WrittenLines.{lines_before, number_after, one_line, joined_are, line_is_read}
 use Rattle.aiger_text.proofs.WrittenNetlist.{front_counts, header_of_form, counts_are_words, form_no_feed, form_spells}
 use Rattle.aiger_text.proofs.WrittenSymbols.{symbols_at, symbol_line_text, symbols_joined, symbols_spell, symbols_no_feed, symbols_writable, table_is}
-use Rattle.aig_binary.specs.Gates.{SpellsGates}
 use Rattle.aig_binary.specs.Grammar.{SpellsOutputs, EndsOn, SpellsBinary}
 use Rattle.aig_binary.specs.Written.{gate_code, binary_text, IsBinaryFile}
 use Rattle.aig_binary.proofs.WrittenDeltas.{gates_spelled}

@@ -1,5 +1,5 @@
 -- What the reading of the lines behind the gates answers, words of private contracts.
-use Rattle.std.specs.Prelude.{◌≡◌, ℕ, List, Option, None, Some, Result, Ok, Err}
+use Rattle.std.specs.Prelude.{◌≡◌, Option, None, Some, Result, Ok, Err}
 use Rattle.aiger_text.specs.Scan.{LineFault}
 use Rattle.aiger_text.specs.Symbol.{SymbolTable}
 use Rattle.aiger_text.specs.declared.faults.AagStop.{AagStop}

@@ -1,6 +1,6 @@
 //! The lines of the outputs.
 
-ghost use Rattle.std.specs.Prelude.{◌≡◌, ◌+◌, ◌<◌, ◌≤◌, ◌^◌, [], length, OnOk};
+ghost use Rattle.std.specs.Prelude.{◌≡◌, ◌+◌, ◌<◌, ◌≤◌, [], length, OnOk};
 ghost use Rattle.aiger_text.specs.ReaderState.{IsReady};
 ghost use Rattle.aig_binary.specs.Scan.{read_outputs};
 ghost use Rattle.aig_binary.specs.Steps.{IsFresh, AreOutputsOf};

@@ -1,7 +1,7 @@
 //! Reading a circuit file.
 
 ghost use Rattle.std.specs.Prelude.{◌≡◌, ◌+◌, ◌<◌, ◌^◌, [], length, IfOk, IfErr, IfSome};
-ghost use Rattle.aiger_text.specs.ReaderState.{IsReady, IsSmall};
+ghost use Rattle.aiger_text.specs.ReaderState.{IsReady};
 ghost use Rattle.aig_binary.specs.BareReading.{listed, IsReadingBy};
 ghost use Rattle.aiger_text.specs.declared.faults.AagStop.TheVariants.{Memory as NoMemory};
 ghost use Rattle.aig_binary.specs.BareFile.{IsBare, IsBareOf, bare_with};

@@ -1,6 +1,5 @@
-use Rattle.std.proofs.Common.{◌≡◌, ◌+◌, ◌<◌, [], ◌∷◌, ◌++◌, ℕ, sym, ◌∙◌, ap, subst, arith}
+use Rattle.std.proofs.Common.{◌+◌, [], ◌∷◌, ◌++◌, sym, ◌∙◌, ap, subst, arith}
 use Rattle.circuit_plain.specs.Netlist.{Netlist}
-use Rattle.aig_binary.specs.Scan.{first_variables}
 use Rattle.aig_binary.specs.BareReading.{AreNumbered}
 use Rattle.aig_binary.proofs.Numbered.{fresh_input, one_more_input}
 use Rattle.aig_binary.proofs.bare.add_inputs.Goals as goal

@@ -1,4 +1,4 @@
-use Rattle.std.proofs.Common.{rules, ◌≡◌, ◌<◌, ◌≤◌, ◌+◌, ◌-◌, ◌*◌, ◌∷◌, sym, subst, Err, arith}
+use Rattle.std.proofs.Common.{rules, ◌≡◌, ◌<◌, ◌≤◌, ◌-◌, ◌∷◌, sym, subst, Err, arith}
 use Rattle.aig_binary.specs.Deltas.{read_delta}
 use Rattle.aig_binary.proofs.Bounds.{one_group, more_groups, at_most, delta_stops}
 use Rattle.aig_binary.proofs.deltas.Deltas.+groups.Goals as goal
