@@ -133,6 +133,29 @@ def reverse_gates():
     return many_gates(lambda gates: gates[::-1])
 
 
+def delta(value):
+    """A difference of binary AIGER: groups of seven bits, the lowest first."""
+    return chr(value) if value < 128 else chr(128 | value % 128) + delta(value >> 7)
+
+
+def binary_gates():
+    """The circuit of `forward_gates` in the binary form."""
+    formula, circuit = forward_gates()
+    header, *rest = circuit.splitlines()
+    counts = header.split()[1:]
+    inputs, outputs = int(counts[1]), int(counts[3])
+    code = []
+    for gate in rest[inputs + outputs :]:
+        literal, *sides = map(int, gate.split())
+        code += [delta(literal - max(sides)), delta(max(sides) - min(sides))]
+    return formula, lines(" ".join(["aig", *counts]), *rest[inputs : inputs + outputs]) + "".join(code)
+
+
+def binary_header():
+    """A binary circuit whose header states a thousand million inputs."""
+    return lines("p cnf 2 0", "a 1 0", "d 2 1 0"), lines("aig 1000000000 1000000000 0 1 0", "2000000000")
+
+
 def wide_gates():
     """A million gates, each over inputs alone."""
     universals = 21
@@ -685,6 +708,8 @@ MEASUREMENTS = [
     long_prefix,
     forward_gates,
     reverse_gates,
+    binary_gates,
+    binary_header,
     wide_gates,
     large_header,
     *(at(refuted_rows, rows) for rows in (4_096, 131_072)),
@@ -724,7 +749,7 @@ def write(make, paths):
     if writer == 0:
         for path, text in zip(paths, make()):
             if text is not None:
-                with open(path, "w", encoding="ascii") as file:
+                with open(path, "w", encoding="latin-1", newline="") as file:
                     file.write(text)
         os._exit(0)
     os.waitpid(writer, 0)

@@ -99,10 +99,10 @@ def touched(rng, text):
 def circuit_fault(path):
     """The line and the name of the first fault of a text as a circuit, or None."""
     with open(path, "rb") as file:
-        reader = reference.LineReader(reference.lines_of(file.read()))
+        reader = reference.LineReader(file.read())
     try:
         header = reference.tokens_of(reader.take("BadHeader"))
-        reader.check(header, "BadHeader")
+        reader.check(header[:1] == [b"aag"], "BadHeader")
         reference.read_circuit(reader, header)
     except reference.Fault as it:
         return str(it)

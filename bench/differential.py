@@ -336,7 +336,7 @@ def stated_count(choose, lines):
 
 def with_proof(choose, formula, text, spoiled_part):
     """The circuit's text with a proof by cases in its comment, if it can be read."""
-    reader = reference.LineReader(reference.lines_of(text))
+    reader = reference.LineReader(text)
     try:
         circuit = reference.read_circuit(reader, reference.tokens_of(reader.take()))
         inputs, outputs = reference.mapping(formula, circuit)

@@ -56,8 +56,9 @@ def natural(token):
 class LineReader:
     """Takes a text's lines in order; a fault is one of the line taken last."""
 
-    def __init__(self, lines):
-        self.lines = lines
+    def __init__(self, text):
+        self.text = text
+        self.lines = lines_of(text)
         self.number = 0
 
     def is_done(self):
@@ -71,6 +72,14 @@ class LineReader:
     def check(self, holds, name):
         if not holds:
             raise Fault(self.number, name)
+
+    def behind(self):
+        """The bytes behind the lines that were taken."""
+        return b"".join(self.text.split(b"\n", self.number)[self.number :])
+
+    def go_on(self, text):
+        """What stands behind the line taken last is this text, whatever lines it was."""
+        self.lines = (self.lines + [b""] * self.number)[: self.number] + lines_of(text)
 
 
 # DQDIMACS
@@ -264,12 +273,13 @@ class Circuit:
     input_names: dict = field(default_factory=dict)
     output_names: dict = field(default_factory=dict)
     has_comment: bool = False
+    is_binary: bool = False
 
     def input_line(self, place):
-        return self.header_line + 1 + place
+        return self.header_line if self.is_binary else self.header_line + 1 + place
 
     def output_line(self, place):
-        return self.input_line(self.input_count) + place
+        return self.header_line + 1 + (0 if self.is_binary else self.input_count) + place
 
     def gate_line(self, place):
         return self.output_line(self.output_count) + place
@@ -281,10 +291,16 @@ class Circuit:
 def read_circuit(reader, header):
     """The circuit file whose header line, with these tokens, was taken. Where it has a comment, the line `c` is the one
     taken last."""
-    circuit = Circuit(reader.number, *circuit_counts(reader, header))
-    read_inputs(reader, circuit)
-    read_outputs(reader, circuit)
-    read_gates(reader, circuit)
+    circuit = Circuit(reader.number, *circuit_counts(reader, header), is_binary=header[0] == b"aig")
+    if circuit.is_binary:
+        reader.check(circuit.variables == circuit.input_count + circuit.gate_count, "BadHeader")
+        circuit.inputs = range(1, circuit.input_count + 1)
+        read_outputs(reader, circuit)
+        read_binary_gates(reader, circuit)
+    else:
+        read_inputs(reader, circuit)
+        read_outputs(reader, circuit)
+        read_gates(reader, circuit)
     read_symbols(reader, circuit)
     check_defined(circuit)
     check_acyclic(circuit)
@@ -294,7 +310,7 @@ def read_circuit(reader, header):
 def circuit_counts(reader, header):
     """The numbers M, I, O and A."""
     counts = [natural(token) for token in header[1:]]
-    reader.check(header[0] == b"aag" and 5 <= len(counts) <= 9 and None not in counts, "BadHeader")
+    reader.check(header[0] in (b"aag", b"aig") and 5 <= len(counts) <= 9 and None not in counts, "BadHeader")
     reader.check(max(counts) <= LARGEST_COUNT, "TooBig")
     variables, inputs, latches, outputs, gates, *further = counts
     reader.check(latches == 0 and not any(further), "NotCombinational")
@@ -341,6 +357,37 @@ def read_gates(reader, circuit):
         circuit.gates.append(Gate(literal // 2, tuple(sides)))
 
 
+class DeltaReader:
+    """Takes the differences of the binary part, which counts as the line taken last."""
+
+    def __init__(self, reader):
+        self.reader, self.bytes = reader, reader.behind()
+        reader.number += 1
+
+    def take(self):
+        delta = 0
+        for group in range(5):
+            self.reader.check(self.bytes, "Truncated")
+            byte, self.bytes = self.bytes[0], self.bytes[1:]
+            delta += byte % 128 << 7 * group
+            if byte < 128:
+                return delta
+        self.reader.check(False, "BadDelta")
+
+
+def read_binary_gates(reader, circuit):
+    """The gates of the variables behind the inputs, each by two differences."""
+    deltas = DeltaReader(reader)
+    for variable in range(circuit.input_count + 1, circuit.variables + 1):
+        first = deltas.take()
+        reader.check(0 < first <= 2 * variable, "BadDelta")
+        left = 2 * variable - first
+        second = deltas.take()
+        reader.check(second <= left, "BadDelta")
+        circuit.gates.append(Gate(variable, (left, left - second)))
+    reader.go_on(deltas.bytes)
+
+
 def read_symbols(reader, circuit):
     """Symbols and lines of blanks, up to the line `c` or the end of the text."""
     tables = {b"i": (circuit.input_names, circuit.input_count), b"o": (circuit.output_names, circuit.output_count)}
@@ -369,10 +416,14 @@ def check_defined(circuit):
 
 def check_acyclic(circuit):
     """Every gate is in the least set that holds a gate as soon as each right side is a constant, an input or in it."""
-    held, size = {0, *circuit.inputs}, None
+    held, size = {0}, None
     while size != len(held):
         size = len(held)
-        held.update(gate.variable for gate in circuit.gates if all(side // 2 in held for side in gate.sides))
+        held.update(
+            gate.variable
+            for gate in circuit.gates
+            if all(side // 2 in held or side // 2 in circuit.inputs for side in gate.sides)
+        )
     for place, gate in enumerate(circuit.gates):
         if gate.variable not in held:
             raise Fault(circuit.gate_line(place), "Cyclic")
@@ -694,15 +745,15 @@ def judge_refutation(reader, header, formula):
 
 def judge(formula, text):
     """The line that a certificate's text earns; a fault of the text is raised."""
-    reader = LineReader(lines_of(text))
+    reader = LineReader(text)
     tokens = tokens_of(reader.take("BadHeader"))
     verdict = None
     if tokens[:1] == [b"s"]:
         reader.check(tokens[1:] in ([b"TRUE"], [b"FALSE"]), "BadHeader")
         verdict = tokens[1]
         tokens = tokens_of(reader.take("BadHeader"))
-    reader.check(tokens[:1] in ([b"aag"], [b"p"]), "BadHeader")
-    is_circuit = tokens[0] == b"aag"
+    reader.check(tokens[:1] in ([b"aag"], [b"aig"], [b"p"]), "BadHeader")
+    is_circuit = tokens[0] != b"p"
     if verdict is not None and is_circuit != (verdict == b"TRUE"):
         raise Fault(1, "WrongVerdict")
     return (judge_circuit if is_circuit else judge_refutation)(reader, tokens, formula)

@@ -341,7 +341,7 @@ def is_formula_true(formula):
 
 def read_circuit(formula, text):
     """A circuit with its inputs and outputs; a fault of the text is raised."""
-    reader = reference.LineReader(reference.lines_of(text))
+    reader = reference.LineReader(text)
     header = reference.tokens_of(reader.take())
     reader.check(header[:1] == [b"aag"], "BadHeader")
     circuit = reference.read_circuit(reader, header)

@@ -19,7 +19,7 @@ from failure import UNREADABLE, USAGE, Failure
 from refusals import at_start, sentences
 from skolem import gates_in_order, mapping
 from steps import explain_step
-from texts import bytes_of, lines_of, read_circuit, read_formula
+from texts import bytes_of, file_lines, read_circuit, read_formula
 
 TOP = os.path.dirname(os.path.dirname(os.path.abspath(__file__)))
 LONGEST_SHOWN = 160
@@ -44,7 +44,7 @@ def shown(line):
 def explain_refusal(path, words, *kinds):
     """The line that a refusal names, and what its name stands for in a text of the first of these kinds that has it."""
     number, name = int(words[1]), words[2]
-    lines = lines_of(bytes_of(path))
+    lines = file_lines(bytes_of(path))
     if number <= len(lines):
         print(f"{path}, line {number}: {shown(lines[number - 1])}")
     else:

@@ -25,7 +25,7 @@ def at_start(text, name):
     if tokens[:2] == [b"p", b"qcnf"] or tokens[:2] == [b"p", b"dqcnf"]:
         return "The header's second word is `cnf`."
     if tokens[:1] == [b"aig"]:
-        return "The circuit is binary: `aigtoaig -a` writes it as ASCII."
+        return "A binary circuit has M = I + A; `pec` and `encode` take ASCII alone, which `aigtoaig -a` writes."
     if tokens[:2] == [b"s", b"SATISFIABLE"] or tokens[:2] == [b"s", b"UNSATISFIABLE"]:
         return "The line `s` says TRUE or FALSE here."
     if tokens[:2] == [b"s", b"cnf"]:

@@ -1,7 +1,7 @@
 """What the hints of one step of a proof come to, for people: the clauses by their ids, and unit propagation along them."""
 
 from skolem import first_id, mapping, negated_matrix
-from texts import Place, bytes_of, lines_of, number, read_circuit, tokens_of
+from texts import Place, bytes_of, file_lines, number, read_circuit, tokens_of
 
 
 class Proof:
@@ -15,7 +15,7 @@ class Proof:
     def read_to(self, last):
         """The clauses of the lines up to the id `last`, of which none was deleted, and the hints of the last one."""
         clauses, hints, next_id = {}, [], self.first_id
-        lines = lines_of(bytes_of(self.place.path))
+        lines = file_lines(bytes_of(self.place.path))
         for self.place.line in range(self.first_line, len(lines) + 1):
             values = [number(token) for token in tokens_of(lines[self.place.line - 1])]
             if values[:1] == [None]:  # the letter d
@@ -35,7 +35,7 @@ class Proof:
 
 def refutation(formula, path, header, tokens):
     """The proof of a refutation, and what its numbers are read as."""
-    lines, rows = lines_of(bytes_of(path)), int(tokens[2])
+    lines, rows = file_lines(bytes_of(path)), int(tokens[2])
     row_sets = [{number(token) for token in tokens_of(lines[header + 1 + k])[1:-1]} for k in range(rows)]
     firsts = {}
     variables, clauses = formula.variables, len(formula.clauses)
@@ -63,13 +63,13 @@ def circuit_proof(formula, path):
     """The proof in a circuit's comment, whose numbers are read as they stand."""
     circuit = read_circuit(path)
     own = negated_matrix(formula, circuit, *mapping(formula, circuit))
-    comment = next(at for at, line in enumerate(lines_of(bytes_of(path)), 1) if tokens_of(line) == [b"c"])
+    comment = next(at for at, line in enumerate(file_lines(bytes_of(path)), 1) if tokens_of(line) == [b"c"])
     return Proof(path, comment + 2, first_id(formula, circuit), own.get), lambda literal: literal
 
 
 def explain_step(formula, path, last):
     """Prints what each hint of a step comes to."""
-    lines = lines_of(bytes_of(path))
+    lines = file_lines(bytes_of(path))
     header = 1 if tokens_of(lines[0])[:1] == [b"s"] else 0
     tokens = tokens_of(lines[header])
     is_refutation = tokens[:1] == [b"p"]

@@ -196,6 +196,39 @@ def read_formula(path):
 # Circuits
 
 
+def binary_place(lines):
+    """How many lines stand before the binary part of a circuit, and its number of gates, or None for another file's lines."""
+    tokens = [tokens_of(line) for line in lines[:2]]
+    header = 1 if tokens[:1] == [[b"s", b"TRUE"]] else 0
+    counts = [number(token) for token in tokens[header][1:6]] if header < len(tokens) and tokens[header][:1] == [b"aig"] else []
+    return None if len(counts) < 5 or None in counts else (header + 1 + counts[3], counts[4])
+
+
+def file_lines(data):
+    """The lines of a file, of which the binary part of a circuit is one, with all its bytes."""
+    lines = lines_of(data)
+    place = binary_place(lines)
+    if place is None or place[0] > len(lines):
+        return lines
+    rest = b"".join(data.split(b"\n", place[0])[place[0] :])
+    end, left = 0, 2 * place[1]
+    while left and end < len(rest):
+        left -= rest[end] < 128
+        end += 1
+    return lines[: place[0]] + [rest[:end]] + lines_of(rest[end:])
+
+
+def deltas_of(code):
+    """The differences that the bytes of a binary part are."""
+    delta, shift = 0, 0
+    for byte in code:
+        delta += byte % 128 << shift
+        shift += 7
+        if byte < 128:
+            yield delta
+            delta, shift = 0, 0
+
+
 class Gate(NamedTuple):
     """An and-gate: its variable and the literals of its right sides."""
 
@@ -205,7 +238,7 @@ class Gate(NamedTuple):
 
 @dataclass
 class Circuit:
-    """A combinational circuit in ASCII AIGER. Inputs are variables and outputs are literals; `text` is the file's
+    """A combinational circuit in AIGER. Inputs are variables and outputs are literals; `text` is the file's
     text before its comment, and `place` its header line."""
 
     place: Place
@@ -219,31 +252,33 @@ class Circuit:
 
 
 class CircuitReader:
-    """Reads the circuit that an ASCII AIGER text spells, behind a line `s TRUE` where it has one."""
+    """Reads the circuit that an AIGER text spells, ASCII or binary, behind a line `s TRUE` where it has one."""
 
     def __init__(self, path):
         self.place = Place(path)
-        self.lines = lines_of(bytes_of(path))
+        self.lines = file_lines(bytes_of(path))
         self.place.line = 0
 
     def read(self):
         header = self.header()
-        self.place.check(not header[:1] == [b"aig"], "binary AIGER; `aigtoaig -a` writes it as ASCII")
         counts = [number(token) for token in header[1:]]
-        fits = header[:1] == [b"aag"] and 5 <= len(counts) <= 9 and all(count is not None and count >= 0 for count in counts)
+        is_binary = header[:1] == [b"aig"]
+        fits = header[:1] in ([b"aag"], [b"aig"]) and 5 <= len(counts) <= 9 and all(count is not None and count >= 0 for count in counts)
         self.place.check(fits, "no header `aag M I L O A` stands here")
         self.variables, input_count, latch_count, output_count, gate_count, *further = counts
         self.place.check(max(counts) <= LARGEST_COUNT, f"a number over the limit {LARGEST_COUNT}")
         self.place.check(latch_count == 0 and not any(further), "only combinational circuits, without latches and properties")
         self.place.check(self.variables >= input_count + gate_count, "fewer variables than inputs and gates")
-        self.defined = set()
-        inputs = [self.new_variable(self.numbers(1)[0]) for _ in range(input_count)]
+        self.place.check(not is_binary or self.variables == input_count + gate_count, "other variables than inputs and gates")
+        self.defined = set() if not is_binary else range(1, self.variables + 1)
+        inputs = range(1, input_count + 1) if is_binary else [self.new_variable(self.numbers(1)[0]) for _ in range(input_count)]
         outputs = [self.literal(self.numbers(1)[0]) for _ in range(output_count)]
-        gates = [self.gate() for _ in range(gate_count)]
+        gates = self.binary_gates(input_count, gate_count) if is_binary else [self.gate() for _ in range(gate_count)]
         names = {b"i": {}, b"o": {}}
         self.take_symbols(names, {b"i": input_count, b"o": output_count})
-        text = b"".join(line + b"\n" for line in self.lines[: self.place.line])
-        self.place.line = self.header_line + input_count
+        code_line = self.header_line + output_count + 1 if is_binary else 0
+        text = b"".join(line + b"\n" * (at != code_line) for at, line in enumerate(self.lines[: self.place.line], 1))
+        self.place.line = self.header_line + (0 if is_binary else input_count)
         self.check_defined([*([output] for output in outputs), *(gate.sides for gate in gates)])
         self.place.line = self.header_line
         return Circuit(self.place, self.variables, inputs, outputs, gates, names[b"i"], names[b"o"], text)
@@ -280,6 +315,18 @@ class CircuitReader:
     def gate(self):
         left, *sides = self.numbers(3)
         return Gate(self.new_variable(left), tuple(self.literal(side) for side in sides))
+
+    def binary_gates(self, input_count, gate_count):
+        """The gates of the binary part, which is the line behind the outputs; where the text ends there, it may be none."""
+        code = self.take() if gate_count or self.place.line < len(self.lines) else b""
+        deltas, gates = list(deltas_of(code)), []
+        self.place.check(len(deltas) == 2 * gate_count, "the binary part ends here, too early")
+        for place, variable in enumerate(range(input_count + 1, self.variables + 1)):
+            left = 2 * variable - deltas[2 * place]
+            sides = left, left - deltas[2 * place + 1]
+            self.place.check(0 <= sides[1] and left < 2 * variable, f"no right sides of the gate of variable {variable}")
+            gates.append(Gate(variable, sides))
+        return gates
 
     def take_symbols(self, names, counts):
         """The symbols; the line that is looked at is then the last one before the comment."""

@@ -1,24 +1,24 @@
 mod CanonicalCircuit
 mod Cuts
-mod FinishedFiles
+pub mod FinishedFiles
 mod FirstFaults
 mod GroundedGates
-mod SpelledHeaders
+pub mod SpelledHeaders
 mod LineNumbers
 mod Names
-mod NaturalTokens
+pub mod NaturalTokens
 mod NumberNames
 mod ReadIsSpelled
-mod ReadNetlist
-mod ReadSymbols
-mod RemainingLines
+pub mod ReadNetlist
+pub mod ReadSymbols
+pub mod RemainingLines
 mod SpelledIsRead
 mod SpelledNames
-mod SpelledNetlist
-mod SpelledSymbols
+pub mod SpelledNetlist
+pub mod SpelledSymbols
 mod Stages
-mod SpelledSymbolLines
-mod Variables
-mod WrittenLines
-mod WrittenNetlist
-mod WrittenSymbols
+pub mod SpelledSymbolLines
+pub mod Variables
+pub mod WrittenLines
+pub mod WrittenNetlist
+pub mod WrittenSymbols

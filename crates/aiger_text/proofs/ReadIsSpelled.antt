@@ -1,5 +1,5 @@
 -- What the walk over the lines reads, the grammar spells.
-use Rattle.std.proofs.Common.{◌≡◌, ℕ, ◌+◌, ◌≤◌, List, [], ◌∷◌, ◌++◌, length, map, Result, Ok, Err, refl, sym, ◌∙◌, ap, ap₂, arith, subst, append_assoc}
+use Rattle.std.proofs.Common.{◌≡◌, ℕ, ◌+◌, ◌≤◌, List, [], ◌∷◌, ◌++◌, length, map, Result, Ok, Err, refl, sym, ◌∙◌, ap, ap₂, arith, subst, append_assoc, codes}
 use Rattle.std.proofs.lemmas.List.{map-append}
 use Rattle.circuit_plain.specs.Netlist.{Netlist, IsNetlist}
 use Rattle.dq_text.specs.Line.{TextLine, line_tokens, lines_from}
@@ -41,7 +41,7 @@ header_goes_on line (Ok h) next file read = (h, refl, read)
 header_goes_on line (Err name) next file read = cc
 
 body_is_spelled : (text : List ℕ) (line : TextLine) (lines : List TextLine) (h : Header) (number : ℕ) (file : AagFile) →
-    lines_from 1 text ≡ line ∷ lines → SpellsHeader line.text h →
+    lines_from 1 text ≡ line ∷ lines → SpellsHeader (codes "aag") line.text h →
     read_body (start line.number h) lines number ≡ Ok file → AllGrounded file.circuit → SpellsCircuit text file
 body_is_spelled text line lines h number file are header read acyclic =
     let inputs = inputs_spelled line.number h file lines number (no_netlist h header.few_variables) read in
@@ -72,7 +72,7 @@ body_is_spelled text line lines h number file are header read acyclic =
       lines = are ∙ ap (λ ls. line ∷ ls) (parted inputs.own outputs.own gates.own
           (symbols.own ++ symbols.rest) lines inputs.rest outputs.rest gates.rest inputs.parted outputs.parted
           gates.parted symbols.parted);
-      header = subst (SpellsHeader line.text) counts header;
+      header = subst (SpellsHeader (codes "aag") line.text) counts header;
       netlist = map-append line_numbers inputs.own (outputs.own ++ gates.own)
           ∙ ap₂ (λ xs ys. xs ++ ys) (inputs.spelled ∙ ap (map input_numbers) inputs.whole)
           (map-append line_numbers outputs.own gates.own
@@ -102,7 +102,7 @@ lines_are_spelled text [] file are read acyclic = cc
 lines_are_spelled text (line ∷ lines) file are read acyclic =
     let on = header_goes_on line.number (header_of (line_tokens line.text))
     (λ b. read_body b lines (line.number + 1)) file read in
-    body_is_spelled text line lines on.0 (line.number + 1) file are (header_is line.text on.0 on.1) on.2 acyclic
+    body_is_spelled text line lines on.0 (line.number + 1) file are (header_is (codes "aag") line.text on.0 on.1) on.2 acyclic
 
 pub read_is_spelled : (text : List ℕ) (file : AagFile) → scan text 1 ≡ Ok file → AllGrounded file.circuit →
     SpellsCircuit text file

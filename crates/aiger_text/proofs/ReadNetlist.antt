@@ -49,7 +49,7 @@ input_number net made (Some []) h = cc
 input_number net made (Some (l ∷ [])) h = (l, refl, h)
 input_number net made (Some (l ∷ m ∷ ns)) h = cc
 
-output_number : (net made : Netlist) (found : Option (List ℕ)) → output_line net found ≡ Ok made →
+pub output_number : (net made : Netlist) (found : Option (List ℕ)) → output_line net found ≡ Ok made →
     (l : ℕ) × (found ≡ Some (l ∷ [])) × (output_of net l ≡ Ok made)
 output_number net made None h = cc
 output_number net made (Some []) h = cc
@@ -85,12 +85,12 @@ reads_input net made l h =
       made_is = same;
     }
 
-record ReadsOutput (net made : Netlist) (l : ℕ) : Type 0 where
-  small : l < 10 ^ 18
-  range : IsLiteral net.max_var l
-  made_is : with_output net l ≡ made
+pub record ReadsOutput (net made : Netlist) (l : ℕ) : Type 0 where
+  pub small : l < 10 ^ 18
+  pub range : IsLiteral net.max_var l
+  pub made_is : with_output net l ≡ made
 
-reads_output : (net made : Netlist) (l : ℕ) → output_of net l ≡ Ok made → ReadsOutput net made l
+pub reads_output : (net made : Netlist) (l : ℕ) → output_of net l ≡ Ok made → ReadsOutput net made l
 reads_output net made l h =
     let small = unless_error (is_too_big l) TooBig _ made h in
     let range = unless_error (not (is_literal net.max_var l)) Range (Ok (with_output net l)) made small.1 in

@@ -44,13 +44,13 @@ one_more count symbols place name are below free =
     }
 
 -- a symbol that passes, and the table behind it
-record AddsSymbol (h : Header) (t made : SymbolTable) (s : SymbolLine) : Type 0 where
-  made_is : with_name t s ≡ made
-  small : s.place < 10 ^ 18
-  inputs : AreNames h.inputs made.inputs
-  outputs : AreNames h.outputs made.outputs
+pub record AddsSymbol (h : Header) (t made : SymbolTable) (s : SymbolLine) : Type 0 where
+  pub made_is : with_name t s ≡ made
+  pub small : s.place < 10 ^ 18
+  pub inputs : AreNames h.inputs made.inputs
+  pub outputs : AreNames h.outputs made.outputs
 
-added_parts : (h : Header) (t made : SymbolTable) (b : Bool) (place : ℕ) (name : List ℕ) → h.inputs ≤ max_count →
+pub added_parts : (h : Header) (t made : SymbolTable) (b : Bool) (place : ℕ) (name : List ℕ) → h.inputs ≤ max_count →
     h.outputs ≤ max_count →
     AreNames h.inputs t.inputs → AreNames h.outputs t.outputs →
     let s : SymbolLine = record { of_input = b; place = place; name = name } in add_symbol h t s ≡ Ok made →
@@ -103,7 +103,7 @@ goes_on line h t (Some s) b next file read =
     let parts = table_goes_on line b (add_symbol h t s) next file read in
     record { symbol = s; made = parts.0; found_is = refl; added = parts.1; goes = parts.2 }
 
-comment_is : (line : TextLine) (text : List ℕ) → line.text ≡ text → begins_comment text ≡ true →
+pub comment_is : (line : TextLine) (text : List ℕ) → line.text ≡ text → begins_comment text ≡ true →
     IsComment line line.behind
 comment_is line [] same mark = cc
 comment_is line (byte ∷ bytes) same mark =

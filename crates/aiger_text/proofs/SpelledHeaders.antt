@@ -1,14 +1,14 @@
 -- Header lines, as their reader takes them and as the grammar spells them.
-use Rattle.std.proofs.Common.{◌≡◌, ℕ, zero, suc, ◌+◌, ◌≤◌, ◌==◌, nat_lt, Bool, true, false, not, cond, ◌||◌, List, [], ◌∷◌, length, replicate, map, Option, Some, None, Result, Ok, Err, codes, refl, ◌∙◌, ap, ap₂, arith, subst}
+use Rattle.std.proofs.Common.{◌≡◌, ℕ, zero, suc, ◌+◌, ◌≤◌, ◌==◌, nat_lt, Bool, true, false, not, cond, ◌||◌, List, [], ◌∷◌, length, replicate, map, Option, Some, None, Result, Ok, Err, refl, ◌∙◌, ap, ap₂, arith, subst}
 use Rattle.std.specs.List.{list_any, AllByRecursion}
 use Rattle.std.specs.Str.{bytes_eq}
-use Rattle.std.proofs.lemmas.Bool.{or_from, or_parts, le-ltb, ltb-false, eqb-true, not-false, cond-false}
+use Rattle.std.proofs.lemmas.Bool.{or_from, or_parts, le-ltb, ltb-false, eqb-true, not-false, cond-true, cond-false}
 use Rattle.std.proofs.lemmas.List.{length-replicate}
 use Rattle.std.proofs.lemmas.Slice.Eq.{bytes_eq-Decides}
 use Rattle.dq_text.specs.Line.{line_tokens}
 use Rattle.dq_text.specs.Number.{number_of}
 use Rattle.aiger_text.specs.Grammar.{naturals, SpellsHeader}
-use Rattle.aiger_text.specs.Lines.{numbers_of, max_count, counts_of, limited_counts_of, header_numbers, header_of}
+use Rattle.aiger_text.specs.Lines.{numbers_of, max_count, counts_of, limited_counts_of, header_numbers, header_behind}
 use Rattle.aiger_text.specs.declared.headers.Header.{Header}
 use Rattle.aiger_text.specs.declared.faults.AagFault.{AagFault}
 use Rattle.aiger_text.specs.declared.faults.AagFault.TheVariants.{BadHeader, NotCombinational, TooBig}
@@ -29,8 +29,9 @@ zeros_are (n ∷ ns) h =
     let parts = or_parts (not (n == 0)) (list_any (λ k. not (k == 0)) ns) h in
     ap₂ (λ k ks. k ∷ ks) (eqb-true n 0 (not-false (n == 0) parts.0)) (zeros_are ns parts.1)
 
-pub header_from : (text : List ℕ) (h : Header) → SpellsHeader text h → header_of (line_tokens text) ≡ Ok h
-header_from text h spells =
+pub header_from : (form text : List ℕ) (h : Header) → SpellsHeader form text h →
+    header_behind form (line_tokens text) ≡ Ok h
+header_from form text h spells =
     let zs : List ℕ = replicate spells.zeros 0 in
     let ns : List ℕ = h.max_var ∷ h.inputs ∷ 0 ∷ h.outputs ∷ h.gates ∷ zs in
     let Large : ℕ → Bool = λ n. nat_lt max_count n in
@@ -45,7 +46,9 @@ header_from text h spells =
     (or_from (Large h.outputs) (list_any Large (h.gates ∷ zs)) (le-ltb max_count h.outputs (omega arith))
     (or_from (Large h.gates) (list_any Large zs) (le-ltb max_count h.gates (omega arith))
     (zeros_small spells.zeros))))) in
-    ap header_of spells.word
+    ap (header_behind form) spells.word
+    ∙ cond-true (bytes_eq form form) (header_numbers (numbers_of spells.tokens)) (Err BadHeader)
+    ((bytes_eq-Decides form form).1 refl)
     ∙ ap header_numbers (numbers_from spells.tokens ns spells.numbers)
     ∙ cond-false (nat_lt (length ns) 5 || nat_lt 9 (length ns)) (Err BadHeader) (limited_counts_of ns) shaped
     ∙ cond-false (list_any Large ns) (Err TooBig) (counts_of ns) small
@@ -70,16 +73,16 @@ small_are (n ∷ ns) h =
     let within = ltb-false max_count n parts.0 in
     (omega arith, small_are ns parts.1)
 
-counts_are : (text : List ℕ) (tokens : List (List ℕ)) (ns : List ℕ) (h : Header) →
-    line_tokens text ≡ codes "aag" ∷ tokens → map number_of tokens ≡ naturals ns →
+counts_are : (form text : List ℕ) (tokens : List (List ℕ)) (ns : List ℕ) (h : Header) →
+    line_tokens text ≡ form ∷ tokens → map number_of tokens ≡ naturals ns →
     5 ≤ length ns → length ns ≤ 9 → list_any (λ n. nat_lt max_count n) ns ≡ false → counts_of ns ≡ Ok h →
-    SpellsHeader text h
-counts_are text tokens [] h word numbers enough few small counts = absurd (omega arith)
-counts_are text tokens (m ∷ []) h word numbers enough few small counts = absurd (omega arith)
-counts_are text tokens (m ∷ i ∷ []) h word numbers enough few small counts = absurd (omega arith)
-counts_are text tokens (m ∷ i ∷ l ∷ []) h word numbers enough few small counts = absurd (omega arith)
-counts_are text tokens (m ∷ i ∷ l ∷ o ∷ []) h word numbers enough few small counts = absurd (omega arith)
-counts_are text tokens (m ∷ i ∷ l ∷ o ∷ a ∷ zs) h word numbers enough few small counts =
+    SpellsHeader form text h
+counts_are form text tokens [] h word numbers enough few small counts = absurd (omega arith)
+counts_are form text tokens (m ∷ []) h word numbers enough few small counts = absurd (omega arith)
+counts_are form text tokens (m ∷ i ∷ []) h word numbers enough few small counts = absurd (omega arith)
+counts_are form text tokens (m ∷ i ∷ l ∷ []) h word numbers enough few small counts = absurd (omega arith)
+counts_are form text tokens (m ∷ i ∷ l ∷ o ∷ []) h word numbers enough few small counts = absurd (omega arith)
+counts_are form text tokens (m ∷ i ∷ l ∷ o ∷ a ∷ zs) h word numbers enough few small counts =
     let Large : ℕ → Bool = λ n. nat_lt max_count n in
     let first = or_parts (Large m) (list_any Large (i ∷ l ∷ o ∷ a ∷ zs)) small in
     let second = or_parts (Large i) (list_any Large (l ∷ o ∷ a ∷ zs)) first.1 in
@@ -93,7 +96,7 @@ counts_are text tokens (m ∷ i ∷ l ∷ o ∷ a ∷ zs) h word numbers enough 
     let same : made ≡ h = cc in
     let none : l ≡ 0 = eqb-true l 0 (not-false (l == 0) zero.0) in
     let few_left : length zs ≤ 4 = omega arith in
-    subst (SpellsHeader text) same (record {
+    subst (SpellsHeader form text) same (record {
       zeros = length zs;
       tokens = tokens;
       word = word;
@@ -104,24 +107,25 @@ counts_are text tokens (m ∷ i ∷ l ∷ o ∷ a ∷ zs) h word numbers enough 
       few_outputs = ltb-false max_count o fourth.0;
     })
 
-numbers_spell : (text : List ℕ) (tokens : List (List ℕ)) (found : Option (List ℕ)) (h : Header) →
-    line_tokens text ≡ codes "aag" ∷ tokens → numbers_of tokens ≡ found →
-    header_numbers found ≡ Ok h → SpellsHeader text h
-numbers_spell text tokens None h word are read = cc
-numbers_spell text tokens (Some ns) h word are read =
+numbers_spell : (form text : List ℕ) (tokens : List (List ℕ)) (found : Option (List ℕ)) (h : Header) →
+    line_tokens text ≡ form ∷ tokens → numbers_of tokens ≡ found →
+    header_numbers found ≡ Ok h → SpellsHeader form text h
+numbers_spell form text tokens None h word are read = cc
+numbers_spell form text tokens (Some ns) h word are read =
     let shaped = unless_error (nat_lt (length ns) 5 || nat_lt 9 (length ns)) BadHeader (limited_counts_of ns) h read in
     let bounds = or_parts (nat_lt (length ns) 5) (nat_lt 9 (length ns)) shaped.0 in
     let small = unless_error (list_any (λ n. nat_lt max_count n) ns) TooBig (counts_of ns) h shaped.1 in
-    counts_are text tokens ns h word (numbers_are tokens ns are (small_are ns small.0))
+    counts_are form text tokens ns h word (numbers_are tokens ns are (small_are ns small.0))
     (ltb-false (length ns) 5 bounds.0) (ltb-false 9 (length ns) bounds.1) small.0 small.1
 
-tokens_spell : (text : List ℕ) (tokens : List (List ℕ)) (h : Header) → line_tokens text ≡ tokens →
-    header_of tokens ≡ Ok h → SpellsHeader text h
-tokens_spell text [] h are read = cc
-tokens_spell text (word ∷ tokens) h are read =
-    let parts = if_error (bytes_eq word (codes "aag")) BadHeader (header_numbers (numbers_of tokens)) h read in
-    numbers_spell text tokens (numbers_of tokens) h (are ∙ ap (λ w. w ∷ tokens)
-    ((bytes_eq-Decides word (codes "aag")).0 parts.0)) refl parts.1
+tokens_spell : (form text : List ℕ) (tokens : List (List ℕ)) (h : Header) → line_tokens text ≡ tokens →
+    header_behind form tokens ≡ Ok h → SpellsHeader form text h
+tokens_spell form text [] h are read = cc
+tokens_spell form text (word ∷ tokens) h are read =
+    let parts = if_error (bytes_eq word form) BadHeader (header_numbers (numbers_of tokens)) h read in
+    numbers_spell form text tokens (numbers_of tokens) h (are ∙ ap (λ w. w ∷ tokens)
+    ((bytes_eq-Decides word form).0 parts.0)) refl parts.1
 
-pub header_is : (text : List ℕ) (h : Header) → header_of (line_tokens text) ≡ Ok h → SpellsHeader text h
-header_is text h read = tokens_spell text (line_tokens text) h refl read
+pub header_is : (form text : List ℕ) (h : Header) → header_behind form (line_tokens text) ≡ Ok h →
+    SpellsHeader form text h
+header_is form text h read = tokens_spell form text (line_tokens text) h refl read

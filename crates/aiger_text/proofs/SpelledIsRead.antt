@@ -1,5 +1,5 @@
 -- What the grammar spells, the walk over the lines reads.
-use Rattle.std.proofs.Common.{◌≡◌, ℕ, ◌+◌, List, ◌++◌, Result, Ok, refl, sym, ◌∙◌, ap}
+use Rattle.std.proofs.Common.{◌≡◌, ℕ, ◌+◌, List, ◌++◌, Result, Ok, codes, refl, sym, ◌∙◌, ap}
 use Rattle.aiger_text.specs.Grammar.{SpellsCircuit, counts_in}
 use Rattle.aiger_text.specs.Scan.{Body, LineFault, behind_header, read_lines, read_body, scan}
 use Rattle.aiger_text.specs.declared.files.AagFile.{AagFile}
@@ -18,7 +18,7 @@ spelled_is_read text file spells =
     let finished = finish_from (body_with line.number h file.symbols net.inputs net.outputs net.gates) file.comment
     spells.outputs_mean spells.gates_mean in
     ap (λ ls. read_lines ls 1) spells.lines
-    ∙ ap (λ r. behind_header line.number r next) (header_from line.text h spells.header)
+    ∙ ap (λ r. behind_header line.number r next) (header_from (codes "aag") line.text h spells.header)
     ∙ netlist_read net spells.lawful spells.header.few_variables line.number file spells.netlist_lines
     (spells.symbol_lines ++ spells.comment_lines) spells.netlist
     (λ number. symbols_read line.number h net.inputs net.outputs net.gates refl refl refl file file.symbols

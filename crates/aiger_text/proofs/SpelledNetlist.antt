@@ -68,7 +68,7 @@ pub on_part : (part : Part) (b : Body) (line : TextLine) (lines : List TextLine)
     read_body b (line ∷ lines) number ≡ read_line part b line (λ c. read_body c lines (line.number + 1))
 on_part part b line lines number h = ap (λ p. read_line p b line (λ c. read_body c lines (line.number + 1))) h
 
-small_literal : (max_var l : ℕ) → max_var ≤ max_count → IsLiteral max_var l → is_too_big l ≡ false
+pub small_literal : (max_var l : ℕ) → max_var ≤ max_count → IsLiteral max_var l → is_too_big l ≡ false
 small_literal max_var l few range = lt-leb (10 ^ 18) l (omega arith)
 
 positive_variable : (max_var v : ℕ) → IsVariable max_var v → is_positive max_var (2 * v) ≡ true
@@ -106,7 +106,7 @@ not_before key all done todo x whole once =
     (ap (λ xs. key (get_or xs k d)) (sym whole) ∙ ap key (get_or_append_left done (x ∷ todo) d k below)
     ∙ same ∙ ap key (sym (stands_behind all done todo x whole d)))))
 
-output_passes : (net : Netlist) (l : ℕ) → is_too_big l ≡ false → is_literal net.max_var l ≡ true →
+pub output_passes : (net : Netlist) (l : ℕ) → is_too_big l ≡ false → is_literal net.max_var l ≡ true →
     output_of net l ≡ Ok (with_output net l)
 output_passes net l small range =
     cond-false (is_too_big l) (Err TooBig) _ small

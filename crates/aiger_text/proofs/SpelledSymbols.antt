@@ -69,7 +69,7 @@ name_passes count all done todo place name are whole =
     (is_member all done todo (place, name) whole)))
     (ap is_none (absent_from done place (not_before (λ symbol. symbol.0) all done todo (place, name) whole are.once)))
 
-symbol_passes : (h : Header) (table t : SymbolTable) (b : Bool) (place : ℕ) (name : List ℕ) (todo : List SymbolLine) →
+pub symbol_passes : (h : Header) (table t : SymbolTable) (b : Bool) (place : ℕ) (name : List ℕ) (todo : List SymbolLine) →
     AreNames h.inputs table.inputs → AreNames h.outputs table.outputs →
     let s : SymbolLine = record { of_input = b; place = place; name = name } in joined t (s ∷ todo) ≡ table →
     add_symbol h t s ≡ Ok (with_name t s)
@@ -104,7 +104,7 @@ no_mark_parts : (b : Bool) (bytes : List ℕ) → begins_comment (letter_of b �
 no_mark_parts true bytes = refl
 no_mark_parts false bytes = refl
 
-no_mark : (text : List ℕ) (s : SymbolLine) → SpellsSymbol text s → begins_comment text ≡ false
+pub no_mark : (text : List ℕ) (s : SymbolLine) → SpellsSymbol text s → begins_comment text ≡ false
 no_mark text s spells = ap begins_comment spells.spelling ∙ no_mark_parts s.of_input
     (spells.digits ++ (spells.separator ∷ spells.rest))
 

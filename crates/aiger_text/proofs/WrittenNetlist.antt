@@ -10,7 +10,7 @@ use Rattle.circuit_plain.specs.Netlist.{Netlist, IsNetlist, IsVariable, IsLitera
 use Rattle.circuit_plain.specs.declared.circuits.Gate.{Gate}
 use Rattle.dq_text.specs.Written.{number_text, number_line}
 use Rattle.dq_text.proofs.LineWords.{AreWords, AreNoFeed}
-use Rattle.aiger_text.specs.Canonical.{header_text, input_text, gate_text, netlist_text}
+use Rattle.aiger_text.specs.Canonical.{counts_text, header_text, input_text, gate_text, netlist_text}
 use Rattle.aiger_text.specs.Grammar.{input_numbers, output_numbers, gate_numbers, netlist_numbers, SpellsHeader, counts_in}
 use Rattle.aiger_text.specs.Lines.{max_count}
 use Rattle.aiger_text.specs.Spellable.{IsSpellable}
@@ -18,23 +18,27 @@ use Rattle.aiger_text.specs.declared.files.AagFile.{AagFile}
 use Rattle.aiger_text.proofs.WrittenLines.{AreSmall, joined_lines, line_numbers_of, both_lines, numbers_line, numbers_tokens, numbers_no_feed, numbers_are_read, line_is_read}
 
 -- the header
-abbrev front_counts : Netlist → List ℕ
+abbrev pub front_counts : Netlist → List ℕ
 front_counts net = net.max_var ∷ length net.inputs ∷ 0 ∷ length net.outputs ∷ []
 
+abbrev pub header_of_form : List ℕ → Netlist → List ℕ
+header_of_form form net = numbers_line (form ∷ []) (front_counts net) (length net.gates)
+
 abbrev pub header_words : Netlist → List ℕ
-header_words net = numbers_line (codes "aag" ∷ []) (front_counts net) (length net.gates)
+header_words net = header_of_form (codes "aag") net
 
 zero_text : codes "0 " ≡ number_text 0
 zero_text = ap (λ digits. digits ++ 32 ∷ []) (sym (decimal_digit 0 (omega arith)))
 
-pub header_is_line : (net : Netlist) → header_text net ≡ header_words net ++ 10 ∷ []
-header_is_line net =
+pub counts_are_words : (net : Netlist) → counts_text net
+    ≡ (flat_map number_text (front_counts net) ++ decimal (length net.gates)) ++ 10 ∷ []
+counts_are_words net =
     let m = number_text net.max_var in
     let i = number_text (length net.inputs) in
     let o = number_text (length net.outputs) in
     let a = decimal (length net.gates) in
-    ap (λ zero. codes "aag " ++ (m ++ (i ++ (zero ++ (o ++ (a ++ 10 ∷ [])))))) zero_text
-    ∙ ap (λ bytes. codes "aag " ++ bytes) (parted m i (number_text 0) o a (10 ∷ []))
+    ap (λ zero. m ++ (i ++ (zero ++ (o ++ (a ++ 10 ∷ []))))) zero_text
+    ∙ parted m i (number_text 0) o a (10 ∷ [])
   where
     parted : (m i z o a end : List ℕ) → m ++ (i ++ (z ++ (o ++ (a ++ end)))) ≡
         ((m ++ (i ++ (z ++ (o ++ [])))) ++ a) ++ end
@@ -44,6 +48,9 @@ header_is_line net =
         ∙ ap (λ bytes. m ++ bytes) (append_assoc i (z ++ (o ++ [])) (a ++ end)
         ∙ ap (λ bytes. i ++ bytes) (append_assoc z (o ++ []) (a ++ end) ∙ ap (λ bytes. z ++ bytes)
         (append_assoc o [] (a ++ end)))))
+
+pub header_is_line : (net : Netlist) → header_text net ≡ header_words net ++ 10 ∷ []
+header_is_line net = ap (λ bytes. codes "aag " ++ bytes) (counts_are_words net)
 
 counts_small : (file : AagFile) → IsSpellable file → AreSmall (front_counts file.circuit)
 counts_small file is = (
@@ -60,15 +67,19 @@ gates_small file is = omega (arith, is.enough, is.few_variables)
 aag_is_word : AreWords (codes "aag" ∷ [])
 aag_is_word = ((refl, (refl, (refl, tt))), tt)
 
-pub header_no_feed : (file : AagFile) → IsSpellable file → AreNoFeed (header_words file.circuit)
-header_no_feed file is =
+pub form_no_feed : (form : List ℕ) → AreWords (form ∷ []) → (file : AagFile) → IsSpellable file →
+    AreNoFeed (header_of_form form file.circuit)
+form_no_feed form are file is =
     let net = file.circuit in
-    numbers_no_feed (codes "aag" ∷ []) (front_counts net) (length net.gates) aag_is_word (counts_small file is)
+    numbers_no_feed (form ∷ []) (front_counts net) (length net.gates) are (counts_small file is)
     (gates_small file is)
 
-pub header_spells : (file : AagFile) → IsSpellable file → SpellsHeader (header_words file.circuit)
-    (counts_in file.circuit)
-header_spells file is =
+pub header_no_feed : (file : AagFile) → IsSpellable file → AreNoFeed (header_words file.circuit)
+header_no_feed file is = form_no_feed (codes "aag") aag_is_word file is
+
+pub form_spells : (form : List ℕ) → AreWords (form ∷ []) → (file : AagFile) → IsSpellable file →
+    SpellsHeader form (header_of_form form file.circuit) (counts_in file.circuit)
+form_spells form are file is =
     let net = file.circuit in
     let all = net.max_var ∷ length net.inputs ∷ 0 ∷ length net.outputs ∷ length net.gates ∷ [] in
     let small = counts_small file is in
@@ -76,13 +87,17 @@ header_spells file is =
     record {
       zeros = 0;
       tokens = map decimal all;
-      word = numbers_tokens (codes "aag" ∷ []) (front_counts net) (length net.gates) aag_is_word small few;
+      word = numbers_tokens (form ∷ []) (front_counts net) (length net.gates) are small few;
       numbers = numbers_are_read all (small.0, (small.1.0, (small.1.1.0, (small.1.1.1.0, (few, tt)))));
       few_sections = omega arith;
       enough = is.enough;
       few_variables = is.few_variables;
       few_outputs = is.few_outputs;
     }
+
+pub header_spells : (file : AagFile) → IsSpellable file →
+    SpellsHeader (codes "aag") (header_words file.circuit) (counts_in file.circuit)
+header_spells file is = form_spells (codes "aag") aag_is_word file is
 
 -- the netlist's lines
 abbrev input_line : ℕ → List ℕ

@@ -40,12 +40,13 @@ abbrev pub netlist_numbers : Netlist → List (List Number)
 netlist_numbers net =
     map input_numbers net.inputs ++ (map output_numbers net.outputs ++ map gate_numbers net.gates)
 
--- `aag M I L O A` with no latch, and at most four zeros for the sections B C J F of AIGER 1.9. No
--- count passes the limit: the inputs and the gates are variables, of which there are M.
-pub record SpellsHeader (text : List ℕ) (h : Header) : Type 0 where
+-- `aag M I L O A` with no latch, and at most four zeros for the sections B C J F of AIGER 1.9, where
+-- `aag` is the word of the form. No count passes the limit: the inputs and the gates are variables,
+-- of which there are M.
+pub record SpellsHeader (form text : List ℕ) (h : Header) : Type 0 where
   pub zeros : ℕ
   pub tokens : List (List ℕ)
-  pub word : line_tokens text ≡ codes "aag" ∷ tokens
+  pub word : line_tokens text ≡ form ∷ tokens
   pub numbers : map number_of tokens
       ≡ naturals (h.max_var ∷ h.inputs ∷ 0 ∷ h.outputs ∷ h.gates ∷ replicate zeros 0)
   pub few_sections : zeros ≤ 4
@@ -129,7 +130,7 @@ pub record SpellsCircuit (text : List ℕ) (file : AagFile) : Type 0 where
   pub comment_lines : List TextLine
   pub symbols : List SymbolLine
   pub lines : lines_from 1 text ≡ header_line ∷ (netlist_lines ++ (symbol_lines ++ comment_lines))
-  pub header : SpellsHeader header_line.text (counts_in file.circuit)
+  pub header : SpellsHeader (codes "aag") header_line.text (counts_in file.circuit)
   pub netlist : map line_numbers netlist_lines ≡ netlist_numbers file.circuit
   pub symbols_spelled : SpellSymbols symbol_lines symbols
   pub comment : EndsWith comment_lines file.comment

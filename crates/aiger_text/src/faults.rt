@@ -10,8 +10,8 @@ use thiserror::Error;
 /// Why a text isn't a circuit.
 #[derive(Clone, Copy, Debug, PartialEq, Eq)]
 pub enum AagFault {
-    /// The first line isn't `aag` and five to nine natural numbers, or has fewer variables than
-    /// inputs and gates.
+    /// The first line isn't `aag` (in the binary form `aig`) and five to nine natural numbers, or has
+    /// fewer variables than inputs and gates; in the binary form, another number of them.
     BadHeader,
     /// There are latches, or a section of another kind than inputs, outputs and gates.
     NotCombinational,
@@ -30,8 +30,11 @@ pub enum AagFault {
     Cyclic,
     /// A line behind the gates that isn't a symbol, or a symbol of nothing or a second one.
     BadSymbol,
-    /// The text ends before its last gate line.
+    /// The text ends before its last gate.
     Truncated,
+    /// In the binary form alone: a difference of literals in more than five bytes, a first one of 0, or
+    /// one that makes a right side negative.
+    BadDelta,
 }
 
 /// Why a reading stopped.

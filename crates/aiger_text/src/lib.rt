@@ -6,9 +6,10 @@ pub use faults::{AagFault, AagStop, LineStop};
 pub use files::{AagFile, ReadCircuit, Text};
 pub use headers::{Header, read_header};
 pub use reader::{Taken, at_end, at_line, check_file, finish_file, read, take_line};
+pub use symbol_lines::is_comment_mark;
 pub use symbol_steps::take_symbol;
 pub use symbols::Symbols;
-pub use writer::write;
+pub use writer::{write, write_counts, write_ending, write_outputs};
 
 mod body;
 mod faults;

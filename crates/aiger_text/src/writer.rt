@@ -3,7 +3,7 @@
 ghost use Rattle.std.specs.Prelude.{◌≡◌, ◌++◌, ℕ, Ok, IfOk, OnOk};
 ghost use Rattle.std.specs.List.{flat_map};
 ghost use Rattle.dq_text.specs.Written.{number_line};
-ghost use Rattle.aiger_text.specs.Canonical.{header_text, input_text, gate_text, symbol_text, comment_text, netlist_text, canonical_circuit};
+ghost use Rattle.aiger_text.specs.Canonical.{counts_text, header_text, input_text, gate_text, symbol_text, comment_text, netlist_text, ending_text, canonical_circuit};
 ghost use Rattle.aiger_text.specs.Scan.{scan};
 ghost use Rattle.aiger_text.specs.Spellable.{IsSpellable};
 
@@ -28,16 +28,31 @@ pub fn write(alloc: Global, file: &AagFile) -> Result<Vec<u8>, Memory>
     let mut text = Vec::new(alloc);
     write_header(&file.circuit, &mut text)?;
     write_netlist(&file.circuit, &mut text)?;
-    write_symbols(b'i', file.symbols.input_names(), &mut text)?;
-    write_symbols(b'o', file.symbols.output_names(), &mut text)?;
-    write_comment(&file.comment, &mut text)?;
+    write_ending(file, &mut text)?;
     Ok(text)
+}
+
+/// Appends what stands behind the gates in either form: the symbols of the inputs and then of the
+/// outputs, and the comment.
+pub fn write_ending(file: &AagFile, text: &mut Vec<u8>) -> Result<(), Memory>
+    ensures { OnOk result (text.new.items ≡ text.old.items ++ ending_text file.now) }
+{
+    write_symbols(b'i', file.symbols.input_names(), text)?;
+    write_symbols(b'o', file.symbols.output_names(), text)?;
+    write_comment(&file.comment, text)
 }
 
 fn write_header(circuit: &Circuit, text: &mut Vec<u8>) -> Result<(), Memory>
     ensures { OnOk result (text.new.items ≡ text.old.items ++ header_text circuit.now) }
 {
     push_word(text, b"aag ")?;
+    write_counts(circuit, text)
+}
+
+/// Appends the header's numbers `M I 0 O A` and a LF.
+pub fn write_counts(circuit: &Circuit, text: &mut Vec<u8>) -> Result<(), Memory>
+    ensures { OnOk result (text.new.items ≡ text.old.items ++ counts_text circuit.now) }
+{
     push_spaced(text, circuit.max_var())?;
     push_spaced(text, circuit.inputs().len() as u64)?;
     push_word(text, b"0 ")?;
@@ -66,7 +81,8 @@ fn write_inputs(circuit: &Circuit, text: &mut Vec<u8>) -> Result<(), Memory>
     Ok(())
 }
 
-fn write_outputs(outputs: &[u64], text: &mut Vec<u8>) -> Result<(), Memory>
+/// Appends a line for each output.
+pub fn write_outputs(outputs: &[u64], text: &mut Vec<u8>) -> Result<(), Memory>
     ensures { OnOk result (text.new.items ≡ text.old.items ++ flat_map number_line outputs.now) }
 {
     let mut rest = outputs;

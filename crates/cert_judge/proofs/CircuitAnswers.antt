@@ -11,7 +11,7 @@ use Rattle.aiger_text.specs.declared.faults.AagStop.{AagStop}
 use Rattle.aiger_text.specs.declared.faults.AagStop.TheVariants.{Refused as RefusedText, Memory as NoMemory}
 use Rattle.aiger_text.specs.declared.files.AagFile.{AagFile}
 use Rattle.skolem_checker.specs.Checks.{candidate_of}
-use Rattle.cert_judge.specs.Judgement.{line_ends, proof_in, BehindProof, IsCircuitRefusal, IsCircuitAnswer}
+use Rattle.cert_judge.specs.Judgement.{line_ends, proof_in, mapping_line, BehindProof, IsCircuitRefusal, IsCircuitAnswer}
 use Rattle.cert_judge.specs.Places.{AnswersStop}
 use Rattle.cert_judge.specs.declared.answers.Judgement.{Judgement}
 
@@ -38,13 +38,13 @@ stop_answers f h bytes text r stop (Err _) same is reading given = tt
 
 pub file_answers : (f : Dqbf) (h ends : ℕ) (bytes text : List ℕ) (file : AagFile) (r : Result Judgement Memory) →
     bytes ≡ text → SpellsCircuit text file
-    → ends ≡ line_ends bytes → IfOk r (BehindProof h file.circuit (proof_in f h ends file.circuit file.comment)
+    → ends ≡ line_ends bytes → IfOk r (BehindProof (mapping_line h file.circuit) (proof_in f h ends file.circuit file.comment)
     (candidate_of f file.circuit file.symbols))
     → IfOk r (λ answer. IsCircuitRefusal h text answer ⊎ IsCircuitAnswer f h text answer)
 file_answers f h ends bytes text file (Ok answer) same spelled is judged = inr (record {
   file = file;
   spelled = spelled;
-  is = subst (λ n. BehindProof h file.circuit (proof_in f h n file.circuit file.comment)
+  is = subst (λ n. BehindProof (mapping_line h file.circuit) (proof_in f h n file.circuit file.comment)
       (candidate_of f file.circuit file.symbols) answer)
       (is ∙ ap line_ends same) judged;
 })

@@ -14,12 +14,15 @@ use Rattle.aiger_text.specs.declared.files.AagFile.{AagFile}
 use Rattle.skolem_checker.specs.Checks.{Candidate, candidate_of, existential_at, ReadsDeclaredBefore, IsFirstRead, IsFirstUndeclared, IsFirstBad, RowHolds, RowFails}
 use Rattle.skolem_checker.specs.SkolemCircuit.{MappedCircuit, ReadsUniversal}
 use Rattle.skolem_checker.specs.declared.mapping.MapError.{MapError}
+use Rattle.skolem_checker.specs.declared.mapping.MapPlace.{MapPlace}
+use Rattle.aiger_text.specs.declared.files.ReadCircuit.{ReadCircuit}
+use Rattle.aig_binary.specs.Scan.{scan_binary}
 use Rattle.cert_text.specs.Kind.{certificate_kind}
 use Rattle.cert_text.specs.declared.circuit_proofs.Dqp.{Dqp}
 use Rattle.cert_text.specs.declared.faults.CertRefusal.{CertRefusal}
 use Rattle.cert_text.specs.declared.kinds.Kind.{Kind}
-use Rattle.cert_text.specs.declared.kinds.Kind.TheVariants.{Circuit as CircuitText, Refutation}
-use Rattle.cert_judge.specs.Judgement.{line_ends, proof_in, IsTestedByRows, IsTestedBy, HasUndeclaredRead, PassesReads, IsTested, BehindMapping, BehindProof, IsCircuitJudgement, IsCircuitRefusal, IsCircuitAnswer, IsJudgementOf, IsJudgement}
+use Rattle.cert_text.specs.declared.kinds.Kind.TheVariants.{Circuit as CircuitText, BinaryCircuit as BinaryText, Refutation}
+use Rattle.cert_judge.specs.Judgement.{line_ends, proof_in, proof_on, mapping_line, binary_mapping_line, IsTestedByRows, IsTestedBy, HasUndeclaredRead, PassesReads, IsTested, BehindMapping, BehindProof, IsCircuitJudgement, IsBinaryJudgement, IsCircuitRefusal, IsCircuitAnswer, IsJudgementOf, IsJudgement}
 use Rattle.cert_judge.specs.declared.answers.Judgement.{Judgement}
 use Rattle.cert_judge.specs.declared.answers.Judgement.TheVariants.{Refused, UndeclaredRead, BadRow, Unproved, UnderivedStep, NoEmptyClause, ValidTrue, ValidFalse}
 use Rattle.cert_judge.specs.declared.answers.CertificateFault.TheVariants.{Circuit}
@@ -138,22 +141,29 @@ one_tested proof c a b (inl r) (inr s) = absurd (read_and_passes c proof a b r s
 one_tested proof c a b (inr r) (inl s) = absurd (read_and_passes c proof b a s r)
 one_tested proof c a b (inr r) (inr s) = one_tested_by proof c a b r.tested s.tested
 
-one_behind_mapping : (h : ℕ) (net : Netlist) (proof : Option Dqp) (mapped : Result Candidate MapError) (a b : Judgement)
-    → BehindMapping h net proof mapped a → BehindMapping h net proof mapped b → a ≡ b
-one_behind_mapping h net proof (Err fault) a b r s = r ∙ sym s
-one_behind_mapping h net proof (Ok c) a b r s = one_tested proof c a b r s
+one_behind_mapping : (line_of : MapPlace → ℕ) (proof : Option Dqp) (mapped : Result Candidate MapError)
+    (a b : Judgement) → BehindMapping line_of proof mapped a → BehindMapping line_of proof mapped b → a ≡ b
+one_behind_mapping line_of proof (Err fault) a b r s = r ∙ sym s
+one_behind_mapping line_of proof (Ok c) a b r s = one_tested proof c a b r s
 
-one_behind_proof : (h : ℕ) (net : Netlist) (read : Result (Option Dqp) CertRefusal) (mapped : Result Candidate MapError)
-    (a b : Judgement)
-    → BehindProof h net read mapped a → BehindProof h net read mapped b → a ≡ b
-one_behind_proof h net (Err refusal) mapped a b r s = r ∙ sym s
-one_behind_proof h net (Ok proof) mapped a b r s = one_behind_mapping h net proof mapped a b r s
+one_behind_proof : (line_of : MapPlace → ℕ) (read : Result (Option Dqp) CertRefusal)
+    (mapped : Result Candidate MapError) (a b : Judgement) → BehindProof line_of read mapped a →
+    BehindProof line_of read mapped b → a ≡ b
+one_behind_proof line_of (Err refusal) mapped a b r s = r ∙ sym s
+one_behind_proof line_of (Ok proof) mapped a b r s = one_behind_mapping line_of proof mapped a b r s
 
 one_circuit_judgement : (f : Dqbf) (h : ℕ) (text : List ℕ) (file : AagFile) (a b : Judgement) →
     IsCircuitJudgement f h text file a → IsCircuitJudgement f h text file b → a ≡ b
 one_circuit_judgement f h text file a b =
-    one_behind_proof h file.circuit (proof_in f h (line_ends text) file.circuit file.comment)
+    one_behind_proof (mapping_line h file.circuit) (proof_in f h (line_ends text) file.circuit file.comment)
     (candidate_of f file.circuit file.symbols) a b
+
+one_binary_judgement : (f : Dqbf) (h : ℕ) (scanned : Result ReadCircuit LineFault) (a b : Judgement) →
+    IsBinaryJudgement f h scanned a → IsBinaryJudgement f h scanned b → a ≡ b
+one_binary_judgement f h (Err fault) a b r s = r ∙ sym s
+one_binary_judgement f h (Ok read) a b r s =
+    one_behind_proof (binary_mapping_line h) (proof_on f read.file.circuit read.file.comment read.comment_line)
+    (candidate_of f read.file.circuit read.file.symbols) a b r s
 
 -- what the law of the circuits' grammar gives
 pub record CircuitLaw : Type 0 where
@@ -179,6 +189,7 @@ by_file_or_fault law f h text a b (inr r) (inr s) =
 by_kind : CircuitLaw → (kind : Result Kind CertRefusal) (f : Dqbf) (text : List ℕ) (a b : Judgement) →
     IsJudgementOf f text kind a → IsJudgementOf f text kind b → a ≡ b
 by_kind law (Ok (CircuitText at h)) f text a b r s = by_file_or_fault law f h (drop at text) a b r s
+by_kind law (Ok (BinaryText at h)) f text a b r s = one_binary_judgement f h (scan_binary (drop at text) h) a b r s
 by_kind law (Ok (Refutation at h)) f text a b r s = r ∙ sym s
 by_kind law (Err refusal) f text a b r s = r ∙ sym s
 

@@ -1,3 +1,4 @@
+pub mod BinaryAnswers
 pub mod Certificates
 pub mod CircuitAnswers
 pub mod Judgements

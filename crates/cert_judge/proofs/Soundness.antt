@@ -1,18 +1,25 @@
 -- What is accepted is right.
-use Rattle.std.proofs.Common.{◌≡◌, ℕ, inl, inr, List, Option, None, Some, Result, Ok, Err, refl, ap}
-use Rattle.std.specs.Prelude.{drop}
+use Rattle.std.proofs.Common.{◌≡◌, ℕ, inl, inr, List, Option, None, Some, Result, Ok, Err, refl, sym, ap, subst}
+use Rattle.std.specs.Prelude.{drop, ◌↔◌}
+use Rattle.std.specs.List.{All}
 use Rattle.dq_lits.specs.Formula.{Dqbf, HasLawfulPrefix, IsWellFormed}
 use Rattle.dq_lits.specs.Derivation.{ProofFault, underived, unfinished}
 use Rattle.rup_core.specs.Items.{ProofItem}
 use Rattle.dq_lits.specs.Henkin.{IsTrueFormula, IsFalseFormula}
 use Rattle.circuit_plain.specs.Netlist.{Netlist, IsNetlist}
+use Rattle.aiger_text.specs.Grammar.{HasMeaning}
+use Rattle.aiger_text.specs.Scan.{LineFault, AllGrounded}
 use Rattle.aiger_text.specs.Symbol.{SymbolTable}
+use Rattle.aiger_text.specs.declared.files.AagFile.{AagFile}
+use Rattle.aiger_text.specs.declared.files.ReadCircuit.{ReadCircuit}
+use Rattle.aig_binary.specs.Grammar.{SpellsBinary}
+use Rattle.aig_binary.specs.Scan.{scan_binary}
 use Rattle.cert_text.specs.Kind.{certificate_kind}
 use Rattle.cert_text.specs.Scan.{refutation_of}
 use Rattle.cert_text.specs.declared.circuit_proofs.Dqp.{Dqp}
 use Rattle.cert_text.specs.declared.faults.CertRefusal.{CertRefusal}
 use Rattle.cert_text.specs.declared.kinds.Kind.{Kind}
-use Rattle.cert_text.specs.declared.kinds.Kind.TheVariants.{Circuit as CircuitText, Refutation}
+use Rattle.cert_text.specs.declared.kinds.Kind.TheVariants.{Circuit as CircuitText, BinaryCircuit as BinaryText, Refutation}
 use Rattle.cert_text.specs.declared.refutations.Dqr.{Dqr}
 use Rattle.proof_checker.specs.CircuitProof.{circuit_proof_fault}
 use Rattle.refutation_checker.specs.Refutation.{refutation_fault}
@@ -20,11 +27,12 @@ use Rattle.skolem_checker.specs.Checks.{Candidate, candidate_of, with_mapping, I
 use Rattle.skolem_checker.specs.Mapping.{Mapping, mapping_of}
 use Rattle.skolem_checker.specs.SkolemCircuit.{IsComplete, IsSkolemCircuit, ReadsUniversal}
 use Rattle.skolem_checker.specs.declared.mapping.MapError.{MapError}
-use Rattle.cert_judge.specs.Judgement.{HoldsSkolemCircuit, IsTested, BehindMapping, BehindProof, IsJudgementOf, IsJudgement, answer_of_derivation, answer_of_refutation, line_ends, mapping_line, proof_in}
+use Rattle.skolem_checker.specs.declared.mapping.MapPlace.{MapPlace}
+use Rattle.cert_judge.specs.Judgement.{HoldsSkolemCircuit, IsTested, BehindMapping, BehindProof, IsJudgementOf, IsJudgement, answer_of_derivation, answer_of_refutation, line_ends, mapping_line, binary_mapping_line, proof_in, proof_on, IsBinaryJudgement, SpellsFile}
 use Rattle.cert_judge.specs.declared.answers.Judgement.TheVariants.{Refused, UndeclaredRead, ValidTrue, ValidFalse}
 use Rattle.cert_judge.specs.declared.answers.CertificateFault.{CertificateFault}
 use Rattle.cert_judge.specs.declared.answers.CertificateFault.TheVariants.{Text, Circuit, Mapping as BadMapping}
-use Rattle.cert_judge.proofs.Certificates.{spelled_complete}
+use Rattle.cert_judge.proofs.Certificates.{meaning_grounded, spelled_complete}
 
 -- what the laws of the circuits' tests and proofs give
 pub record TestsLaw : Type 0 where
@@ -72,16 +80,16 @@ module _ (law : TestsLaw) (f : Dqbf) (net : Netlist) (symbols : SymbolTable) (fo
       law.proved (mapped_by mapping) symbols d.items formed kept complete (ap (with_mapping f net) is) r.reads
       (no_fault (circuit_proof_fault (mapped_by mapping) d.items) r.tested)
 
-  true_by_mapping : (h : ℕ) (proof : Option Dqp) (mapped : Result Mapping MapError) → mapping_of f net symbols ≡ mapped
-      → BehindMapping h net proof (with_mapping f net mapped) ValidTrue → IsSkolemCircuit f net symbols
-  true_by_mapping h proof (Err fault) is r = absurd (true_is_no_refusal (mapping_line h net fault.at)
+  true_by_mapping : (line_of : MapPlace → ℕ) (proof : Option Dqp) (mapped : Result Mapping MapError) → mapping_of f net symbols ≡ mapped
+      → BehindMapping line_of proof (with_mapping f net mapped) ValidTrue → IsSkolemCircuit f net symbols
+  true_by_mapping line_of proof (Err fault) is r = absurd (true_is_no_refusal (line_of fault.at)
       (BadMapping fault.name) r)
-  true_by_mapping h proof (Ok mapping) is r = true_by_tests proof mapping is r
+  true_by_mapping line_of proof (Ok mapping) is r = true_by_tests proof mapping is r
 
-  true_by_proof : (h : ℕ) (read : Result (Option Dqp) CertRefusal) →
-      BehindProof h net read (candidate_of f net symbols) ValidTrue → IsSkolemCircuit f net symbols
-  true_by_proof h (Err refusal) r = absurd (true_is_no_refusal refusal.line (Text refusal.name) r)
-  true_by_proof h (Ok proof) r = true_by_mapping h proof (mapping_of f net symbols) refl r
+  true_by_proof : (line_of : MapPlace → ℕ) (read : Result (Option Dqp) CertRefusal) →
+      BehindProof line_of read (candidate_of f net symbols) ValidTrue → IsSkolemCircuit f net symbols
+  true_by_proof line_of (Err refusal) r = absurd (true_is_no_refusal refusal.line (Text refusal.name) r)
+  true_by_proof line_of (Ok proof) r = true_by_mapping line_of proof (mapping_of f net symbols) refl r
 
 true_is_no_derivation : (fault : Option ProofFault) → ValidTrue ≡ answer_of_derivation ValidFalse fault → ⊥
 true_is_no_derivation None same = cc
@@ -92,34 +100,82 @@ true_is_no_refutation : (f : Dqbf) (read : Result Dqr CertRefusal) → ValidTrue
 true_is_no_refutation f (Ok d) same = true_is_no_derivation (refutation_fault f d) same
 true_is_no_refutation f (Err refusal) same = true_is_no_refusal refusal.line (Text refusal.name) same
 
-circuit_by_kind : TestsLaw → (kind : Result Kind CertRefusal) (f : Dqbf) (text : List ℕ) →
+-- what the laws of the binary form give
+pub record BinaryLaw : Type 0 where
+  pub exact : (text : List ℕ) (first : ℕ) (read : ReadCircuit) → SpellsBinary text first read ↔
+      (scan_binary text first ≡ Ok read)
+  pub lawful : (text : List ℕ) (first : ℕ) (read : ReadCircuit) → SpellsBinary text first read →
+      IsNetlist read.file.circuit
+  pub acyclic : (text : List ℕ) (first : ℕ) (read : ReadCircuit) → SpellsBinary text first read →
+      AllGrounded read.file.circuit
+  pub outputs_mean : (text : List ℕ) (first : ℕ) (read : ReadCircuit) → SpellsBinary text first read →
+      All (HasMeaning read.file.circuit) read.file.circuit.outputs
+
+pub binary_complete : BinaryLaw → (text : List ℕ) (first : ℕ) (read : ReadCircuit) → SpellsBinary text first read →
+    IsComplete read.file.circuit
+binary_complete law text first read spelled =
+    let grounded = law.acyclic text first read spelled in
+    record {
+      gates = grounded;
+      outputs = λ k d below. meaning_grounded read.file.circuit _ grounded
+          (law.outputs_mean text first read spelled k d below);
+    }
+
+spelled_netlist : BinaryLaw → (text : List ℕ) (kind : Result Kind CertRefusal) (file : AagFile) →
+    SpellsFile text kind file → IsNetlist file.circuit × IsComplete file.circuit
+spelled_netlist law text (Ok (CircuitText at h)) file spelled = (
+  spelled.lawful,
+  spelled_complete (drop at text) file spelled,
+)
+spelled_netlist law text (Ok (BinaryText at h)) file (line, spelled) =
+    let read : ReadCircuit = record { file = file; comment_line = line } in
+    (law.lawful (drop at text) h read spelled, binary_complete law (drop at text) h read spelled)
+spelled_netlist law text (Ok (Refutation at h)) file impossible = absurd impossible
+spelled_netlist law text (Err refusal) file impossible = absurd impossible
+
+circuit_by_scan : TestsLaw → BinaryLaw → (f : Dqbf) (text : List ℕ) (at h : ℕ) →
+    certificate_kind text ≡ Ok (BinaryText at h) → IsWellFormed f → (scanned : Result ReadCircuit LineFault) →
+    scan_binary (drop at text) h ≡ scanned → IsBinaryJudgement f h scanned ValidTrue → HoldsSkolemCircuit f text
+circuit_by_scan law binary f text at h is formed (Err fault) scan r =
+    absurd (true_is_no_refusal fault.line (Circuit fault.name) r)
+circuit_by_scan law binary f text at h is formed (Ok read) scan r =
+    let spelled = (binary.exact (drop at text) h read).1 scan in
+    record {
+      file = read.file;
+      spelled = subst (λ kind. SpellsFile text kind read.file) (sym is) (read.comment_line, spelled);
+      skolem = true_by_proof law f read.file.circuit read.file.symbols formed
+          (binary.lawful (drop at text) h read spelled) (binary_complete binary (drop at text) h read spelled)
+          (binary_mapping_line h) (proof_on f read.file.circuit read.file.comment read.comment_line) r;
+    }
+
+circuit_by_kind : TestsLaw → BinaryLaw → (kind : Result Kind CertRefusal) (f : Dqbf) (text : List ℕ) →
     certificate_kind text ≡ kind → IsWellFormed f → IsJudgementOf f text kind ValidTrue → HoldsSkolemCircuit f text
-circuit_by_kind law (Ok (CircuitText at h)) f text is formed (inl r) =
+circuit_by_kind law binary (Ok (CircuitText at h)) f text is formed (inl r) =
     absurd (true_is_no_refusal r.fault.line (Circuit r.fault.name) r.is)
-circuit_by_kind law (Ok (CircuitText at h)) f text is formed (inr r) = record {
-  at = at;
-  header_line = h;
-  kind = is;
+circuit_by_kind law binary (Ok (CircuitText at h)) f text is formed (inr r) = record {
   file = r.file;
-  spelled = r.spelled;
+  spelled = subst (λ kind. SpellsFile text kind r.file) (sym is) r.spelled;
   skolem = true_by_proof law f r.file.circuit r.file.symbols formed r.spelled.lawful
-      (spelled_complete (drop at text) r.file r.spelled) h
+      (spelled_complete (drop at text) r.file r.spelled) (mapping_line h r.file.circuit)
       (proof_in f h (line_ends (drop at text)) r.file.circuit r.file.comment) r.is;
 }
-circuit_by_kind law (Ok (Refutation at h)) f text is formed r =
+circuit_by_kind law binary (Ok (BinaryText at h)) f text is formed r =
+    circuit_by_scan law binary f text at h is formed (scan_binary (drop at text) h) refl r
+circuit_by_kind law binary (Ok (Refutation at h)) f text is formed r =
     absurd (true_is_no_refutation f (refutation_of f (drop at text) h) r)
-circuit_by_kind law (Err refusal) f text is formed r = absurd (true_is_no_refusal refusal.line (Text refusal.name) r)
+circuit_by_kind law binary (Err refusal) f text is formed r =
+    absurd (true_is_no_refusal refusal.line (Text refusal.name) r)
 
-pub accepted_circuit : TestsLaw → (f : Dqbf) (text : List ℕ) → IsWellFormed f → IsJudgement f text ValidTrue →
-    HoldsSkolemCircuit f text
-accepted_circuit law f text formed r = circuit_by_kind law (certificate_kind text) f text refl formed r
+pub accepted_circuit : TestsLaw → BinaryLaw → (f : Dqbf) (text : List ℕ) → IsWellFormed f →
+    IsJudgement f text ValidTrue → HoldsSkolemCircuit f text
+accepted_circuit law binary f text formed r = circuit_by_kind law binary (certificate_kind text) f text refl formed r
 
-pub accepted_is_true : TestsLaw → (f : Dqbf) (text : List ℕ) → IsWellFormed f → IsJudgement f text ValidTrue →
-    IsTrueFormula f
-accepted_is_true law f text formed r =
-    let h = accepted_circuit law f text formed r in
-    law.is_true f h.file.circuit h.file.symbols formed.prefix h.spelled.lawful
-    (spelled_complete (drop h.at text) h.file h.spelled) h.skolem
+pub accepted_is_true : TestsLaw → BinaryLaw → (f : Dqbf) (text : List ℕ) → IsWellFormed f →
+    IsJudgement f text ValidTrue → IsTrueFormula f
+accepted_is_true law binary f text formed r =
+    let h = accepted_circuit law binary f text formed r in
+    let net = spelled_netlist binary text (certificate_kind text) h.file h.spelled in
+    law.is_true f h.file.circuit h.file.symbols formed.prefix net.0 net.1 h.skolem
 
 false_is_no_read : (y x : ℕ) → ValidFalse ≡ UndeclaredRead y x → ⊥
 false_is_no_read y x same = cc
@@ -134,15 +190,21 @@ false_by_tests proof c (inl r) = false_is_no_read r.existential r.universal r.is
 false_by_tests None c (inr r) = r.tested
 false_by_tests (Some d) c (inr r) = false_is_no_proof (circuit_proof_fault c d.items) r.tested
 
-false_by_mapping : (h : ℕ) (net : Netlist) (proof : Option Dqp) (mapped : Result Candidate MapError) →
-    BehindMapping h net proof mapped ValidFalse → ⊥
-false_by_mapping h net proof (Err fault) r = false_is_no_refusal (mapping_line h net fault.at) (BadMapping fault.name) r
-false_by_mapping h net proof (Ok c) r = false_by_tests proof c r
+false_by_mapping : (line_of : MapPlace → ℕ) (proof : Option Dqp) (mapped : Result Candidate MapError) →
+    BehindMapping line_of proof mapped ValidFalse → ⊥
+false_by_mapping line_of proof (Err fault) r = false_is_no_refusal (line_of fault.at) (BadMapping fault.name) r
+false_by_mapping line_of proof (Ok c) r = false_by_tests proof c r
 
-false_by_proof : (h : ℕ) (net : Netlist) (read : Result (Option Dqp) CertRefusal) (mapped : Result Candidate MapError) →
-    BehindProof h net read mapped ValidFalse → ⊥
-false_by_proof h net (Err refusal) mapped r = false_is_no_refusal refusal.line (Text refusal.name) r
-false_by_proof h net (Ok proof) mapped r = false_by_mapping h net proof mapped r
+false_by_proof : (line_of : MapPlace → ℕ) (read : Result (Option Dqp) CertRefusal) (mapped : Result Candidate MapError) →
+    BehindProof line_of read mapped ValidFalse → ⊥
+false_by_proof line_of (Err refusal) mapped r = false_is_no_refusal refusal.line (Text refusal.name) r
+false_by_proof line_of (Ok proof) mapped r = false_by_mapping line_of proof mapped r
+
+false_by_scan : (f : Dqbf) (h : ℕ) (scanned : Result ReadCircuit LineFault) → IsBinaryJudgement f h scanned ValidFalse → ⊥
+false_by_scan f h (Err fault) r = false_is_no_refusal fault.line (Circuit fault.name) r
+false_by_scan f h (Ok read) r =
+    false_by_proof (binary_mapping_line h) (proof_on f read.file.circuit read.file.comment read.comment_line)
+    (candidate_of f read.file.circuit read.file.symbols) r
 
 false_by_derivation : RefutationLaw → (f : Dqbf) (d : Dqr) → IsWellFormed f → (fault : Option ProofFault) →
     refutation_fault f d ≡ fault
@@ -161,8 +223,10 @@ false_by_kind : RefutationLaw → (kind : Result Kind CertRefusal) (f : Dqbf) (t
 false_by_kind law (Ok (CircuitText at h)) f text formed (inl r) =
     absurd (false_is_no_refusal r.fault.line (Circuit r.fault.name) r.is)
 false_by_kind law (Ok (CircuitText at h)) f text formed (inr r) =
-    absurd (false_by_proof h r.file.circuit (proof_in f h (line_ends (drop at text)) r.file.circuit r.file.comment)
+    absurd (false_by_proof (mapping_line h r.file.circuit) (proof_in f h (line_ends (drop at text)) r.file.circuit r.file.comment)
     (candidate_of f r.file.circuit r.file.symbols) r.is)
+false_by_kind law (Ok (BinaryText at h)) f text formed r =
+    absurd (false_by_scan f h (scan_binary (drop at text) h) r)
 false_by_kind law (Ok (Refutation at h)) f text formed r = false_by_refutation law f formed
     (refutation_of f (drop at text) h) r
 false_by_kind law (Err refusal) f text formed r = absurd (false_is_no_refusal refusal.line (Text refusal.name) r)

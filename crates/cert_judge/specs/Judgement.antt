@@ -11,6 +11,9 @@ use Rattle.aiger_text.specs.FirstFault.{IsFirstFault}
 use Rattle.aiger_text.specs.Grammar.{SpellsCircuit}
 use Rattle.aiger_text.specs.Scan.{LineFault}
 use Rattle.aiger_text.specs.declared.files.AagFile.{AagFile}
+use Rattle.aiger_text.specs.declared.files.ReadCircuit.{ReadCircuit}
+use Rattle.aig_binary.specs.Grammar.{SpellsBinary}
+use Rattle.aig_binary.specs.Scan.{scan_binary}
 use Rattle.cert_text.specs.CircuitProof.{circuit_proof_of}
 use Rattle.cert_text.specs.Header.{proof_word}
 use Rattle.cert_text.specs.Kind.{certificate_kind}
@@ -18,7 +21,7 @@ use Rattle.cert_text.specs.Scan.{refutation_of}
 use Rattle.cert_text.specs.declared.circuit_proofs.Dqp.{Dqp}
 use Rattle.cert_text.specs.declared.faults.CertRefusal.{CertRefusal}
 use Rattle.cert_text.specs.declared.kinds.Kind.{Kind}
-use Rattle.cert_text.specs.declared.kinds.Kind.TheVariants.{Circuit as CircuitText, Refutation}
+use Rattle.cert_text.specs.declared.kinds.Kind.TheVariants.{Circuit as CircuitText, BinaryCircuit as BinaryText, Refutation}
 use Rattle.cert_text.specs.declared.refutations.Dqr.{Dqr}
 use Rattle.cert_text.specs.declared.versions.Version.TheVariants.{One, Two}
 use Rattle.proof_checker.specs.CircuitProof.{circuit_proof_fault}
@@ -69,12 +72,26 @@ proof_in f h ends net (Some comment) =
     if begins_proof comment
     then as_proof (circuit_proof_of f net comment (comment_line h ends comment)) else Ok None
 
+-- the same of a comment that begins on this line
+abbrev pub proof_on : Dqbf → Netlist → Option (List ℕ) → Option ℕ
+    → Result (Option Dqp) CertRefusal
+proof_on f net (Some comment) (Some line) =
+    if begins_proof comment then as_proof (circuit_proof_of f net comment line) else Ok None
+proof_on f net (Some comment) None = Ok None
+proof_on f net None line = Ok None
+
 -- the line of a fault of the mapping: the header is line h, then follow the inputs' lines and then
 -- the outputs'
 abbrev pub mapping_line : ℕ → Netlist → MapPlace → ℕ
 mapping_line h net Whole = h
 mapping_line h net (Input place) = h + 1 + place
 mapping_line h net (Output place) = h + 1 + length net.inputs + place
+
+-- in the binary form, where inputs have no lines: an input's own line is the header's
+abbrev pub binary_mapping_line : ℕ → MapPlace → ℕ
+binary_mapping_line h Whole = h
+binary_mapping_line h (Input place) = h
+binary_mapping_line h (Output place) = h + 1 + place
 
 -- rows are tried one by one for at most so many universals
 abbrev pub max_row_universals : ℕ
@@ -115,20 +132,24 @@ pub record PassesReads (proof : Option Dqp) (c : Candidate) (answer : Judgement)
 abbrev pub IsTested : Option Dqp → Candidate → Judgement → Type 0
 IsTested proof c answer = HasUndeclaredRead c answer ⊎ PassesReads proof c answer
 
-abbrev pub BehindMapping : ℕ → Netlist → Option Dqp → Result Candidate MapError → Judgement → Type 0
-BehindMapping h net proof (Err fault) answer =
-    answer ≡ Refused (mapping_line h net fault.at) (Mapping fault.name)
-BehindMapping h net proof (Ok c) answer = IsTested proof c answer
+-- by the line of each fault of the mapping
+abbrev pub BehindMapping : (MapPlace → ℕ) → Option Dqp → Result Candidate MapError → Judgement
+    → Type 0
+BehindMapping line_of proof (Err fault) answer =
+    answer ≡ Refused (line_of fault.at) (Mapping fault.name)
+BehindMapping line_of proof (Ok c) answer = IsTested proof c answer
 
-abbrev pub BehindProof : ℕ → Netlist → Result (Option Dqp) CertRefusal → Result Candidate MapError
-    → Judgement → Type 0
-BehindProof h net (Err refusal) mapped answer = answer ≡ Refused refusal.line (Text refusal.name)
-BehindProof h net (Ok proof) mapped answer = BehindMapping h net proof mapped answer
+abbrev pub BehindProof : (MapPlace → ℕ) → Result (Option Dqp) CertRefusal
+    → Result Candidate MapError → Judgement → Type 0
+BehindProof line_of (Err refusal) mapped answer =
+    answer ≡ Refused refusal.line (Text refusal.name)
+BehindProof line_of (Ok proof) mapped answer = BehindMapping line_of proof mapped answer
 
 -- the text of a proof in the comment comes first, then the mapping, then the tests
 abbrev pub IsCircuitJudgement : Dqbf → ℕ → List ℕ → AagFile → Judgement → Type 0
 IsCircuitJudgement f h text file answer =
-    BehindProof h file.circuit (proof_in f h (line_ends text) file.circuit file.comment)
+    BehindProof (mapping_line h file.circuit)
+    (proof_in f h (line_ends text) file.circuit file.comment)
     (candidate_of f file.circuit file.symbols) answer
 
 -- the text, whose first line has the number h, isn't a circuit file
@@ -143,6 +164,14 @@ pub record IsCircuitAnswer (f : Dqbf) (h : ℕ) (text : List ℕ) (answer : Judg
   pub spelled : SpellsCircuit text file
   pub is : IsCircuitJudgement f h text file answer
 
+-- the same in the binary form, whose reading tells the comment's line
+abbrev pub IsBinaryJudgement : Dqbf → ℕ → Result ReadCircuit LineFault → Judgement → Type 0
+IsBinaryJudgement f h (Err fault) answer = answer ≡ Refused fault.line (Circuit fault.name)
+IsBinaryJudgement f h (Ok read) answer =
+    BehindProof (binary_mapping_line h)
+    (proof_on f read.file.circuit read.file.comment read.comment_line)
+    (candidate_of f read.file.circuit read.file.symbols) answer
+
 -- the first fault of a refutation's text, and then of its derivation
 abbrev pub answer_of_refutation : Dqbf → Result Dqr CertRefusal → Judgement
 answer_of_refutation f (Ok d) = answer_of_derivation ValidFalse (refutation_fault f d)
@@ -152,6 +181,8 @@ answer_of_refutation f (Err refusal) = Refused refusal.line (Text refusal.name)
 abbrev pub IsJudgementOf : Dqbf → List ℕ → Result Kind CertRefusal → Judgement → Type 0
 IsJudgementOf f text (Ok (CircuitText at h)) answer =
     IsCircuitRefusal h (drop at text) answer ⊎ IsCircuitAnswer f h (drop at text) answer
+IsJudgementOf f text (Ok (BinaryText at h)) answer =
+    IsBinaryJudgement f h (scan_binary (drop at text) h) answer
 IsJudgementOf f text (Ok (Refutation at h)) answer =
     answer ≡ answer_of_refutation f (refutation_of f (drop at text) h)
 IsJudgementOf f text (Err refusal) answer = answer ≡ Refused refusal.line (Text refusal.name)
@@ -159,12 +190,18 @@ IsJudgementOf f text (Err refusal) answer = answer ≡ Refused refusal.line (Tex
 abbrev pub IsJudgement : Dqbf → List ℕ → Judgement → Type 0
 IsJudgement f text answer = IsJudgementOf f text (certificate_kind text) answer
 
+-- the file that a text of this kind spells behind its first lines
+abbrev pub SpellsFile : List ℕ → Result Kind CertRefusal → AagFile → Type 0
+SpellsFile text (Ok (CircuitText at h)) file = SpellsCircuit (drop at text) file
+SpellsFile text (Ok (BinaryText at h)) file =
+    (line : Option ℕ)
+    × SpellsBinary (drop at text) h (record { file = file; comment_line = line })
+SpellsFile text (Ok (Refutation at h)) file = ⊥
+SpellsFile text (Err refusal) file = ⊥
+
 -- the text is a circuit's by its first lines, and spells behind these one that is made of Skolem
 -- functions
 pub record HoldsSkolemCircuit (f : Dqbf) (text : List ℕ) : Type 0 where
-  pub at : ℕ
-  pub header_line : ℕ
-  pub kind : certificate_kind text ≡ Ok (CircuitText at header_line)
   pub file : AagFile
-  pub spelled : SpellsCircuit (drop at text) file
+  pub spelled : SpellsFile text (certificate_kind text) file
   pub skolem : IsSkolemCircuit f file.circuit file.symbols

@@ -12,7 +12,7 @@ ghost use Rattle.skolem_checker.specs.Checks.{candidate_of};
 ghost use Rattle.skolem_checker.specs.Mapping.{IsAtPlace};
 ghost use Rattle.skolem_checker.specs.SkolemCircuit.{IsComplete};
 ghost use Rattle.cert_judge.specs.Judgement.{begins_with, first_line, begins_proof, line_ends, comment_line, proof_in, mapping_line, answer_of_derivation, IsTestedByRows, IsTestedBy, IsTested, BehindMapping, BehindProof, IsCircuitRefusal, IsCircuitAnswer};
-ghost use Rattle.cert_judge.specs.Places.{HasFewLines, AnswersStop};
+ghost use Rattle.cert_judge.specs.Places.{HasFewLines, AnswersStop, mapping_line_in};
 ghost use Rattle.cert_judge.specs.declared.answers.Judgement.TheVariants.{ValidTrue};
 
 use crate::answers::{CertificateFault, Judgement, refused};
@@ -60,7 +60,7 @@ pub fn judge_circuit(
 }
 
 // The answer where the reading of a circuit file stopped.
-fn stopped(stop: AagStop) -> Result<Judgement, Memory>
+pub(crate) fn stopped(stop: AagStop) -> Result<Judgement, Memory>
     ensures { IfOk result (AnswersStop stop) }
 {
     match stop {
@@ -69,7 +69,7 @@ fn stopped(stop: AagStop) -> Result<Judgement, Memory>
     }
 }
 
-fn bytes_from(text: &[u8], at: usize) -> &[u8]
+pub(crate) fn bytes_from(text: &[u8], at: usize) -> &[u8]
     requires { at ≤ length text.now }
     ensures { result.now ≡ drop at text.now }
 {
@@ -101,7 +101,7 @@ fn first_line(bytes: &[u8]) -> &[u8]
     }
 }
 
-fn begins_proof(comment: &[u8]) -> bool
+pub(crate) fn begins_proof(comment: &[u8]) -> bool
     ensures { result ≡ begins_proof comment.now }
 {
     let line = first_line(comment);
@@ -169,17 +169,27 @@ fn read_proof(
     Ok(Some(read_dqp(alloc, comment, line, f, &file.circuit)?))
 }
 
+/// Whether a circuit's inputs have lines.
+#[derive(Clone, Copy, PartialEq, Eq)]
+pub(crate) enum Form {
+    Ascii,
+    Binary,
+}
+
 // The line of an input or an output, or of the header.
-fn mapping_line(header: u64, circuit: &Circuit, at: MapPlace) -> u64
+fn mapping_line(form: Form, header: u64, circuit: &Circuit, at: MapPlace) -> u64
     requires fits { header < 2 ^ 62 }
     requires there { IsAtPlace circuit.now at }
     requires few { HasFewLines circuit.now }
-    ensures { result ≡ mapping_line header circuit.now at }
+    ensures { result ≡ mapping_line_in form header circuit.now at }
 {
-    match at {
-        MapPlace::Whole => header,
-        MapPlace::Input(place) => header + 1 + place as u64,
-        MapPlace::Output(place) => header + 1 + circuit.inputs().len() as u64 + place as u64,
+    match (form, at) {
+        (_, MapPlace::Whole) | (Form::Binary, MapPlace::Input(_)) => header,
+        (Form::Ascii, MapPlace::Input(place)) => header + 1 + place as u64,
+        (Form::Ascii, MapPlace::Output(place)) => {
+            header + 1 + circuit.inputs().len() as u64 + place as u64
+        }
+        (Form::Binary, MapPlace::Output(place)) => header + 1 + place as u64,
     }
 }
 
@@ -197,13 +207,13 @@ fn judge_file(
     requires complete { IsComplete file.circuit }
     requires few { HasFewLines file.circuit }
     ensures { IfOk result
-        (BehindProof first file.circuit (proof_in f.now first ends file.circuit file.comment)
+        (BehindProof (mapping_line first file.circuit) (proof_in f.now first ends file.circuit file.comment)
         (candidate_of f.now file.circuit file.symbols)) }
 {
     let read = read_proof(alloc, f, first, ends, &file);
     file.comment = None;
     match read {
-        Ok(proof) => judge_mapped(alloc, f, first, &file, &proof),
+        Ok(proof) => judge_mapped(alloc, f, Form::Ascii, first, &file, &proof),
         Err(CertStop::Refused(refusal)) => {
             Ok(refused(refusal.line, CertificateFault::Text(refusal.name)))
         }
@@ -211,10 +221,11 @@ fn judge_file(
     }
 }
 
-// Judges a circuit file whose proof, if it has one, was read.
-fn judge_mapped(
+/// Judges a circuit file whose proof, if it has one, was read.
+pub(crate) fn judge_mapped(
     alloc: Global,
     f: &Formula,
+    form: Form,
     first: u64,
     file: &AagFile,
     proof: &Option<Dqp>,
@@ -225,14 +236,14 @@ fn judge_mapped(
     requires few { HasFewLines file.now.circuit }
     requires lawful { IfSome proof.now (IsDqpOf f.now file.now.circuit) }
     ensures { IfOk result
-        (BehindMapping first file.now.circuit proof.now
+        (BehindMapping (mapping_line_in form first file.now.circuit) proof.now
         (candidate_of f.now file.now.circuit file.now.symbols)) }
 {
     match Bench::new(alloc, f, file) {
         Ok(mut bench) => judge_reads(alloc, f, &mut bench, proof),
         Err(BenchStop::Map(fault)) => {
             mapping_faults_have_places();
-            let line = mapping_line(first, &file.circuit, fault.at);
+            let line = mapping_line(form, first, &file.circuit, fault.at);
             Ok(refused(line, CertificateFault::Mapping(fault.name)))
         }
         Err(BenchStop::Memory) => Err(Memory),

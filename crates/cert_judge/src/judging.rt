@@ -9,6 +9,7 @@ ghost use Rattle.cert_judge.specs.Judgement.{answer_of_derivation, answer_of_ref
 ghost use Rattle.cert_judge.specs.declared.answers.Judgement.TheVariants.{ValidFalse};
 
 use crate::answers::{CertificateFault, Judgement, refused};
+use crate::binary::judge_binary;
 use crate::circuits::judge_circuit;
 use cert_text::{CertStop, Dqr, Kind, kind, read_dqr};
 use dq_formula::Formula;
@@ -25,6 +26,7 @@ pub fn judge(alloc: Global, f: &Formula, text: Vec<u8>) -> Result<Judgement, Mem
 {
     match kind(&text) {
         Ok(Kind::Circuit { at, line }) => judge_circuit(alloc, f, line, text, at),
+        Ok(Kind::BinaryCircuit { at, line }) => judge_binary(alloc, f, line, text, at),
         Ok(Kind::Refutation { at, line }) => judge_refutation(alloc, f, line, text, at),
         Err(refusal) => Ok(refused(refusal.line, CertificateFault::Text(refusal.name))),
     }

@@ -8,6 +8,7 @@ ghost use Rattle.cert_judge.specs.Judgement.{IsJudgement, HoldsSkolemCircuit};
 ghost use Rattle.cert_judge.specs.declared.answers.Judgement.{Judgement};
 ghost use Rattle.cert_judge.specs.declared.answers.Judgement.TheVariants.{ValidTrue, ValidFalse};
 
+use aig_binary::laws::{binary_circuit_or_first_fault, binary_circuits_are_lawful};
 use aiger_text::laws::circuit_or_first_fault;
 use proof_checker::laws::proved_circuit_is_skolem;
 use refutation_checker::laws::refutation_shows_false;
@@ -30,6 +31,8 @@ pub fn acceptance_is_sound()
     ensures is_false { (f : Dqbf) (text : List ℕ) → IsWellFormed f → IsJudgement f text ValidFalse
         → IsFalseFormula f }
 {
+    binary_circuit_or_first_fault();
+    binary_circuits_are_lawful();
     refutation_shows_false();
     proved_circuit_is_skolem();
     tested_circuit_is_skolem();

@@ -9,6 +9,7 @@ pub use answers::{CertificateFault, Judgement};
 pub use judging::judge;
 
 mod answers;
+mod binary;
 mod circuits;
 mod judging;
 pub mod laws;

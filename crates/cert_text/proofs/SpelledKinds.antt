@@ -8,7 +8,7 @@ use Rattle.cert_text.specs.Kind.{refusal, verdict_of_word, stated_verdict, shown
 use Rattle.cert_text.specs.declared.faults.CertFault.TheVariants.{BadHeader, WrongVerdict}
 use Rattle.cert_text.specs.declared.faults.CertRefusal.{CertRefusal}
 use Rattle.cert_text.specs.declared.kinds.Kind.{Kind}
-use Rattle.cert_text.specs.declared.kinds.Kind.TheVariants.{Circuit, Refutation}
+use Rattle.cert_text.specs.declared.kinds.Kind.TheVariants.{Circuit, BinaryCircuit, Refutation}
 use Rattle.cert_text.specs.declared.kinds.Verdict.{Verdict}
 use Rattle.cert_text.specs.declared.kinds.Verdict.TheVariants.{True, False}
 
@@ -74,27 +74,31 @@ record IsHeaderOf (place number : ℕ) (tokens : List (List ℕ)) (kind : Kind) 
   place_is : header_place kind ≡ place
   number_is : header_number kind ≡ number
 
-by_words : (circuit refutation : Bool) (place number : ℕ) (word : List ℕ) (tokens : List (List ℕ)) (kind : Kind) →
-    (circuit ≡ true → word ≡ codes "aag") → (refutation ≡ true → word ≡ codes "p") →
-    cond circuit (Ok (Circuit place number)) (cond refutation (Ok (Refutation place number))
-    (Err (refusal number BadHeader))) ≡ Ok kind →
+by_words : (circuit binary refutation : Bool) (place number : ℕ) (word : List ℕ) (tokens : List (List ℕ)) (kind : Kind) →
+    (circuit ≡ true → word ≡ codes "aag") → (binary ≡ true → word ≡ codes "aig") → (refutation ≡ true → word ≡ codes "p") →
+    cond circuit (Ok (Circuit place number)) (cond binary (Ok (BinaryCircuit place number))
+    (cond refutation (Ok (Refutation place number)) (Err (refusal number BadHeader)))) ≡ Ok kind →
     IsHeaderOf place number (word ∷ tokens) kind
-by_words true refutation place number word tokens kind aag p h =
+by_words true binary refutation place number word tokens kind aag aig p h =
     let is : Circuit place number ≡ kind = cc in
     subst (IsHeaderOf place number (word ∷ tokens)) is (record
     { rest = tokens; word = ap (λ w. w ∷ tokens) (aag refl); place_is = refl; number_is = refl })
-by_words false true place number word tokens kind aag p h =
+by_words false true refutation place number word tokens kind aag aig p h =
+    let is : BinaryCircuit place number ≡ kind = cc in
+    subst (IsHeaderOf place number (word ∷ tokens)) is (record
+    { rest = tokens; word = ap (λ w. w ∷ tokens) (aig refl); place_is = refl; number_is = refl })
+by_words false false true place number word tokens kind aag aig p h =
     let is : Refutation place number ≡ kind = cc in
     subst (IsHeaderOf place number (word ∷ tokens)) is (record
     { rest = tokens; word = ap (λ w. w ∷ tokens) (p refl); place_is = refl; number_is = refl })
-by_words false false place number word tokens kind aag p h = cc
+by_words false false false place number word tokens kind aag aig p h = cc
 
 header_is : (place number : ℕ) (tokens : List (List ℕ)) (kind : Kind) → header_kind place number tokens ≡ Ok kind →
     IsHeaderOf place number tokens kind
 header_is place number [] kind h = cc
 header_is place number (word ∷ tokens) kind h =
-    by_words (bytes_eq word (codes "aag")) (bytes_eq word (codes "p")) place number word tokens kind
-    (bytes_eq-Decides word (codes "aag")).0 (bytes_eq-Decides word (codes "p")).0 h
+    by_words (bytes_eq word (codes "aag")) (bytes_eq word (codes "aig")) (bytes_eq word (codes "p")) place number word
+    tokens kind (bytes_eq-Decides word (codes "aag")).0 (bytes_eq-Decides word (codes "aig")).0 (bytes_eq-Decides word (codes "p")).0 h
 
 abbrev word_of : Verdict → List ℕ
 word_of True = codes "TRUE"
@@ -130,6 +134,8 @@ same_word : (verdict : Verdict) (kind : Kind) → same_verdict (shown_verdict ki
     word_of verdict ≡ verdict_word kind
 same_word True (Circuit place number) h = refl
 same_word False (Circuit place number) h = cc
+same_word True (BinaryCircuit place number) h = refl
+same_word False (BinaryCircuit place number) h = cc
 same_word True (Refutation place number) h = cc
 same_word False (Refutation place number) h = refl
 
@@ -199,6 +205,9 @@ unstated : (kind : Kind) (rest : List (List ℕ)) → stated_verdict (header_wor
 unstated (Circuit place number) [] = refl
 unstated (Circuit place number) (word ∷ []) = refl
 unstated (Circuit place number) (word ∷ more ∷ rest) = refl
+unstated (BinaryCircuit place number) [] = refl
+unstated (BinaryCircuit place number) (word ∷ []) = refl
+unstated (BinaryCircuit place number) (word ∷ more ∷ rest) = refl
 unstated (Refutation place number) [] = refl
 unstated (Refutation place number) (word ∷ []) = refl
 unstated (Refutation place number) (word ∷ more ∷ rest) = refl
@@ -208,6 +217,8 @@ told : (kind : Kind) (place number : ℕ) (rest : List (List ℕ)) → header_pl
     header_kind place number (header_word kind ∷ rest) ≡ Ok kind
 told (Circuit at line) place number rest place_is number_is =
     ap₂ (λ p n. Ok (Circuit p n)) (sym place_is) (sym number_is)
+told (BinaryCircuit at line) place number rest place_is number_is =
+    ap₂ (λ p n. Ok (BinaryCircuit p n)) (sym place_is) (sym number_is)
 told (Refutation at line) place number rest place_is number_is =
     ap₂ (λ p n. Ok (Refutation p n)) (sym place_is) (sym number_is)
 
@@ -222,10 +233,12 @@ plain_told text kind b =
 
 stated_told : (kind : Kind) → stated_verdict (codes "s" ∷ verdict_word kind ∷ []) ≡ Some (shown_verdict kind)
 stated_told (Circuit place number) = refl
+stated_told (BinaryCircuit place number) = refl
 stated_told (Refutation place number) = refl
 
 agreeing_told : (kind : Kind) → agreeing (shown_verdict kind) (Ok kind) ≡ Ok kind
 agreeing_told (Circuit place number) = refl
+agreeing_told (BinaryCircuit place number) = refl
 agreeing_told (Refutation place number) = refl
 
 verdict_told : (text : List ℕ) (kind : Kind) → BeginsWithVerdict text kind → certificate_kind text ≡ Ok kind

@@ -3,25 +3,29 @@
 use Rattle.std.specs.Prelude.{◌≡◌, ℕ, ◌+◌, ◌⊎◌, List, [], ◌∷◌, length, codes}
 use Rattle.dq_text.specs.Line.{TextLine, line_tokens, lines_from}
 use Rattle.cert_text.specs.declared.kinds.Kind.{Kind}
-use Rattle.cert_text.specs.declared.kinds.Kind.TheVariants.{Circuit, Refutation}
+use Rattle.cert_text.specs.declared.kinds.Kind.TheVariants.{Circuit, BinaryCircuit, Refutation}
 
 -- the first token of the header line
 abbrev pub header_word : Kind → List ℕ
 header_word (Circuit _ _) = codes "aag"
+header_word (BinaryCircuit _ _) = codes "aig"
 header_word (Refutation _ _) = codes "p"
 
 -- the verdict that the kind shows
 abbrev pub verdict_word : Kind → List ℕ
 verdict_word (Circuit _ _) = codes "TRUE"
+verdict_word (BinaryCircuit _ _) = codes "TRUE"
 verdict_word (Refutation _ _) = codes "FALSE"
 
 -- where the header line begins, in bytes from 0, and its number
 abbrev pub header_place : Kind → ℕ
 header_place (Circuit place _) = place
+header_place (BinaryCircuit place _) = place
 header_place (Refutation place _) = place
 
 abbrev pub header_number : Kind → ℕ
 header_number (Circuit _ number) = number
+header_number (BinaryCircuit _ number) = number
 header_number (Refutation _ number) = number
 
 -- the first line is the header line

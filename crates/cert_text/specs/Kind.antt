@@ -1,5 +1,5 @@
--- Which kind a certificate is: a circuit (ASCII AIGER) or a refutation, behind an optional line
--- with the verdict, as in the output of SAT solvers.
+-- Which kind a certificate is: a circuit, in one of AIGER's two forms, or a refutation, behind an
+-- optional line with the verdict, as in the output of SAT solvers.
 use Rattle.std.specs.Prelude.{ℕ, ◌-◌, Bool, true, false, List, [], ◌∷◌, length, Option, Some, None, Result, Ok, Err, codes, if◌then◌else◌}
 use Rattle.std.specs.Str.{bytes_eq}
 use Rattle.dq_text.specs.Line.{TextLine, line_tokens, lines_from}
@@ -7,7 +7,7 @@ use Rattle.cert_text.specs.declared.faults.CertFault.{CertFault}
 use Rattle.cert_text.specs.declared.faults.CertFault.TheVariants.{BadHeader, WrongVerdict}
 use Rattle.cert_text.specs.declared.faults.CertRefusal.{CertRefusal}
 use Rattle.cert_text.specs.declared.kinds.Kind.{Kind}
-use Rattle.cert_text.specs.declared.kinds.Kind.TheVariants.{Circuit, Refutation}
+use Rattle.cert_text.specs.declared.kinds.Kind.TheVariants.{Circuit, BinaryCircuit, Refutation}
 use Rattle.cert_text.specs.declared.kinds.Verdict.{Verdict}
 use Rattle.cert_text.specs.declared.kinds.Verdict.TheVariants.{True, False}
 
@@ -27,6 +27,7 @@ stated_verdict _ = None
 
 abbrev pub shown_verdict : Kind → Verdict
 shown_verdict (Circuit _ _) = True
+shown_verdict (BinaryCircuit _ _) = True
 shown_verdict (Refutation _ _) = False
 
 -- the first token of the header line decides
@@ -34,6 +35,7 @@ abbrev pub header_kind : ℕ → ℕ → List (List ℕ) → Result Kind CertRef
 header_kind at line [] = Err (refusal line BadHeader)
 header_kind at line (word ∷ _) =
     if bytes_eq word (codes "aag") then Ok (Circuit at line) else
+    if bytes_eq word (codes "aig") then Ok (BinaryCircuit at line) else
     if bytes_eq word (codes "p") then Ok (Refutation at line) else
     Err (refusal line BadHeader)
 

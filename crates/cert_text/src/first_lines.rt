@@ -13,7 +13,7 @@ use dq_text::{LineTokens, Lines, is_word};
 ///
 /// A first line of the two tokens `s` and `TRUE`, or `s` and `FALSE`, states the verdict, and the
 /// header line follows; else the first line is the header line. The first token of the header line
-/// decides: `aag` begins a circuit and `p` a refutation. Anything else, or a missing line, is
+/// decides: `aag` begins a circuit, `aig` one in the binary form, and `p` a refutation. Anything else, or a missing line, is
 /// `BadHeader` at that line. A verdict that the kind doesn't show is `WrongVerdict` at line 1.
 pub fn kind(bytes: &[u8]) -> Result<Kind, CertRefusal>
     ensures kind { result ≡ certificate_kind bytes.now }
@@ -76,6 +76,7 @@ fn header_kind(text: &[u8], at: usize, line: u64) -> Result<Kind, CertRefusal>
 {
     match LineTokens::new(text).next() {
         Some(word) if is_word(word, b"aag") => Ok(Kind::Circuit { at, line }),
+        Some(word) if is_word(word, b"aig") => Ok(Kind::BinaryCircuit { at, line }),
         Some(word) if is_word(word, b"p") => Ok(Kind::Refutation { at, line }),
         _ => Err(bad_header(line)),
     }
@@ -101,7 +102,7 @@ fn shown(kind: Kind) -> Verdict
     ensures { result ≡ shown_verdict kind }
 {
     match kind {
-        Kind::Circuit { .. } => Verdict::True,
+        Kind::Circuit { .. } | Kind::BinaryCircuit { .. } => Verdict::True,
         Kind::Refutation { .. } => Verdict::False,
     }
 }

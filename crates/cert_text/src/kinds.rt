@@ -3,9 +3,11 @@
 /// What a certificate shows, and where its header line begins.
 #[derive(Clone, Copy, PartialEq, Eq)]
 pub enum Kind {
-    /// A circuit, which shows that a formula is true. Its header line begins at the byte `at`,
+    /// A circuit in ASCII AIGER, which shows that a formula is true. Its header line begins at the byte `at`,
     /// counted from 0, and has the number `line`.
     Circuit { at: usize, line: u64 },
+    /// The same in AIGER's binary form.
+    BinaryCircuit { at: usize, line: u64 },
     /// A refutation, which shows that a formula is false.
     Refutation { at: usize, line: u64 },
 }

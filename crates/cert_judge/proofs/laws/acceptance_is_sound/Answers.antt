@@ -8,6 +8,12 @@ returns-clause-is_true c =
       is_true = c.skolem_circuit_shows_true.ensures;
       proved = c.proved_circuit_is_skolem.ensures;
     })
+    (record {
+      exact = c.binary_circuit_or_first_fault.ensures;
+      lawful = c.binary_circuits_are_lawful.ensures.lawful;
+      acyclic = c.binary_circuits_are_lawful.ensures.acyclic;
+      outputs_mean = c.binary_circuits_are_lawful.ensures.outputs_mean;
+    })
 
 pub returns-clause-is_false : goal.returns-clause-is_false
 returns-clause-is_false c = accepted_is_false c.refutation_shows_false.ensures
@@ -18,4 +24,10 @@ returns-clause-circuit c =
       skolem = c.tested_circuit_is_skolem.ensures;
       is_true = c.skolem_circuit_shows_true.ensures;
       proved = c.proved_circuit_is_skolem.ensures;
+    })
+    (record {
+      exact = c.binary_circuit_or_first_fault.ensures;
+      lawful = c.binary_circuits_are_lawful.ensures.lawful;
+      acyclic = c.binary_circuits_are_lawful.ensures.acyclic;
+      outputs_mean = c.binary_circuits_are_lawful.ensures.outputs_mean;
     })

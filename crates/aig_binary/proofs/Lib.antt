@@ -1,0 +1,11 @@
+pub mod Complete
+pub mod SpelledDeltas
+pub mod Exactness
+pub mod SpelledGates
+pub mod Numbered
+pub mod SpelledOutputs
+pub mod Steps
+pub mod SpelledSymbols
+pub mod WrittenFiles
+pub mod WrittenDeltas
+pub mod Bounds

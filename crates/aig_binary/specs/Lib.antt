@@ -1,0 +1,9 @@
+pub mod BareFile
+pub mod BareReading
+pub mod Deltas
+pub mod Endings
+pub mod Gates
+pub mod Grammar
+pub mod Scan
+pub mod Steps
+pub mod Written
