@@ -110,7 +110,9 @@ reason-grows f units rows more goals more-goals g r keeps keeps-goals it = recor
   };
   places = it.places;
   false_units = it.false_units;
-  asked = all-asked-grow f units rows more goals more-goals r.lowered it.places r.hints.items keeps keeps-goals it.asked;
+  asked =
+      all-asked-grow f units rows more goals more-goals r.lowered it.places r.hints.items keeps keeps-goals
+      it.asked;
 }
 
 -- the goal of a unit
@@ -213,7 +215,8 @@ plan-grows f units p q plan rows goals reasons whole each room fewer = record {
       let old : slice_get p.reasons.items k ≡ Some r = ap (λ xs. slice_get xs k) (sym reasons) ∙ why in
       elim (each k g at) [
         | inl before ↦
-            reason-grows f units p.rows q.rows p.goals.items q.goals.items g r rows goals (plan.reasons k g r before old)
+            reason-grows f units p.rows q.rows p.goals.items q.goals.items g r rows goals
+            (plan.reasons k g r before old)
         | inr new ↦ absurd (omega (arith, new.0, plan.few_reasons, slice_get_within p.reasons.items k r old))
       ];
   few_rows = room;

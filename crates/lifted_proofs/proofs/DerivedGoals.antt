@@ -197,8 +197,10 @@ collect f units rows goals live ids lowered low well are low-at trues [] [] aske
   ready = tt;
   has = λ j u inside at. absurd (omega (arith, inside.1));
 }
-collect f units rows goals live ids lowered low well are low-at trues [] (h ∷ hs) asked distinct free named = absurd asked
-collect f units rows goals live ids lowered low well are low-at trues (j ∷ js) [] asked distinct free named = absurd asked
+collect f units rows goals live ids lowered low well are low-at trues [] (h ∷ hs) asked distinct free named =
+    absurd asked
+collect f units rows goals live ids lowered low well are low-at trues (j ∷ js) [] asked distinct free named =
+    absurd asked
 collect f units rows goals live ids lowered low well are low-at trues (j ∷ js) (h ∷ hs) asked distinct free named =
     let a = asked.0 in
     let u = a.unit in
@@ -430,7 +432,8 @@ module _ (f : Dqbf) (units : List Taken) (rows : List (List Bool)) (goals : List
                 sym (existential-or-universal f l s.well (bound-in l part))
                 ∙ filter-passes (λ k. is_some (existential_of f (variable_of k))) (clause_at f g.source.place) l
                 inside in
-                let is-open' : is_open f trues l ≡ true = both-and (not (is_universal f (variable_of l))) (not (holds trues (opposite l))) existential
+                let is-open' : is_open f trues l ≡ true =
+                both-and (not (is_universal f (variable_of l))) (not (holds trues (opposite l))) existential
                 (ap not free) in
                 inl (negated-holds (map (paired f rows s.reason.lowered.low) (open_of f units g))
                 (paired f rows s.reason.lowered.low l)
@@ -450,7 +453,8 @@ module _ (f : Dqbf) (units : List Taken) (rows : List (List Bool)) (goals : List
             let has = s.reason.false_units.all l inside false' in
             absurd (no-place s.reason.places r.hints.items s.reason.asked none has.place has.among)
         | inr free ↦
-            ap (λ b. not (is_universal f (variable_of l)) && not b) free ∙ and-true (not (is_universal f (variable_of l)))
+            ap (λ b. not (is_universal f (variable_of l)) && not b) free
+            ∙ and-true (not (is_universal f (variable_of l)))
             ∙ sym (existential-or-universal f l s.well (bound k d below))
       ]))
     where

@@ -80,7 +80,8 @@ hint-skipped last hints i start old new within high was same =
       ];
     }))
 
-lines-append : (xs : List ProofItem) (item : ProofItem) → lines_of (xs ++ item ∷ []) ≡ lines_of xs ++ lines_of (item ∷ [])
+lines-append : (xs : List ProofItem) (item : ProofItem)
+    → lines_of (xs ++ item ∷ []) ≡ lines_of xs ++ lines_of (item ∷ [])
 lines-append [] item = refl
 lines-append (derived s ∷ xs) item = ap (λ ys. s ∷ ys) (lines-append xs item)
 lines-append (gone ids ∷ xs) item = lines-append xs item
@@ -165,7 +166,8 @@ carried-item to items k item start old new at was more =
     more ∙ ap (λ xs. xs ++ map to (lines_of (item ∷ []))) was
     ∙ append_assoc start (map to (lines_of (take k items))) (map to (lines_of (item ∷ [])))
     ∙ ap (λ xs. start ++ xs)
-    (sym (map-append to (lines_of (take k items)) (lines_of (item ∷ []))) ∙ ap (map to) (sym (next-line items k item at)))
+    (sym (map-append to (lines_of (take k items)) (lines_of (item ∷ [])))
+    ∙ ap (map to) (sym (next-line items k item at)))
 
 -- what holds of all lines holds of an item's
 pub item-all : (P : ProofStep → Type 0) (items : List ProofItem) (k : ℕ) (item : ProofItem)

@@ -281,7 +281,8 @@ named-set t p w new q id line written within same last steps ids =
           (subst (λ ss. HasLine t.formula.now t.units.now p.rows ss g id) (sym steps) (line.has g at))),
       λ h was g at. elim (cases_eq h q) [
         | inl is ↦
-            subst (λ k. HasLine t.formula.now t.units.now p.rows last.steps g (slice_index_or last.ids.items k 0)) (sym is)
+            subst (λ k. HasLine t.formula.now t.units.now p.rows last.steps g (slice_index_or last.ids.items k 0))
+            (sym is)
             (subst (HasLine t.formula.now t.units.now p.rows last.steps g) (sym here)
             (subst (λ ss. HasLine t.formula.now t.units.now p.rows ss g id) (sym steps)
             (line.has g (ap (slice_get p.goals.items) (sym is) ∙ at))))
@@ -371,7 +372,8 @@ pub hints-first : (t : UnitTable) (p : Plan) (w : Written) (order : List Turn) (
 hints-first t p w order i turn right plan are within at named h hint g there =
     let it = subst (IsTurn p.goals.items) (sym at) (are.all.each i turn within) in
     let reason = plan.plan.reasons turn.goal it.goal hint.reason it.at hint.at in
-    let fewer = asked-fewer hint.reason.lowered it.goal.source.taken reason.places hint.reason.hints.items reason.asked (λ j inside.
+    let fewer = asked-fewer hint.reason.lowered it.goal.source.taken reason.places hint.reason.hints.items
+    reason.asked (λ j inside.
     (All-contains (MakesFalse t.units.now it.goal.source.taken (clause_at t.formula.now it.goal.source.place))
     reason.places j reason.false_units.each inside).before) hint.among in
     let less : g.source.taken < turn.taken = omega (arith, fewer, it.taken) in

@@ -71,7 +71,8 @@ lowered-itself f units rows g row b at is none = record {
 -- a row is added that serves
 pub row-added : (f : Dqbf) (units : List Taken) (p q : Plan) (g : Goal) (row low : List Bool) (clause : List Literal)
     → IsWellFormed f → AreUnits f (reverse units) → IsPlan f units p → IsGoal f units p.rows g
-    → slice_get p.rows g.row ≡ Some row → clause ≡ clause_at f g.source.place → IsFalsified f row clause low → length low ≡ length f.universals
+    → slice_get p.rows g.row ≡ Some row → clause ≡ clause_at f g.source.place → IsFalsified f row clause low
+    → length low ≡ length f.universals
     → q.rows ≡ p.rows ++ low ∷ [] → q.goals ≡ p.goals → q.reasons ≡ p.reasons → q.room + 1 ≡ p.room
     → IsPlan f units q × GrowsGoals p q × IsLowered f units q.rows g (length p.rows)
 row-added f units p q g row low clause well are plan goal at clause-is falsified' whole rows goals reasons room =
@@ -91,7 +92,8 @@ row-added f units p q g row low clause well are plan goal at clause-is falsified
           (λ k w here. inl (ap (λ xs. slice_get xs k) (sym same-goals) ∙ here))
           (omega (arith, longer, room, plan.few_rows))
           (subst (λ n. n ≤ length q.goals.items) (ap (λ (xs : List Reason). length xs) (sym same-reasons))
-          (subst (λ n. length p.reasons.items ≤ n) (ap (λ (xs : List Goal). length xs) (sym same-goals)) plan.few_reasons)),
+          (subst (λ n. length p.reasons.items ≤ n)
+          (ap (λ (xs : List Goal). length xs) (sym same-goals)) plan.few_reasons)),
       record { grows = record { rows = kept-rows; goals = kept-goals }; reasons = same-reasons },
       record {
         row = row;
@@ -100,7 +102,8 @@ row-added f units p q g row low clause well are plan goal at clause-is falsified
         low_at = ap (λ xs. slice_get xs (length p.rows)) rows ∙ last-at p.rows low;
         serves = serves-falsified f units g.source row low well (first-are-units f units g.source.taken are)
             goal.source.unsatisfied goal.plain
-            (subst (λ r. list_any (universal_literal_true f r) (left_by f units g.source) ≡ false) same-row goal.none_true)
+            (subst (λ r. list_any (universal_literal_true f r)
+            (left_by f units g.source) ≡ false) same-row goal.none_true)
             falsified;
       },
     )
@@ -224,7 +227,8 @@ places-more units count j done l places (before, (u, (at, is))) was =
           (sym (cond-false (has_number places j) places (places ++ j ∷ []) new))
           (record {
             distinct = all_pairs_push (λ a b. a ≢ b) places j was.distinct (λ k d below same.
-                true≢false (sym (list_any_at (λ n. n == j) places k d below (eq-eqb (get_or places k d) j same)) ∙ new));
+                true≢false (sym (list_any_at (λ n. n == j) places k d below (eq-eqb (get_or places k d) j same))
+                ∙ new));
             each = All-push (MakesFalse units count (done ++ l ∷ [])) places j
                 (makes-more units count done l places was.each)
                 (record {
@@ -328,7 +332,8 @@ step-asked f units start p q lowered i j h places hints more was plan grows aske
     )
 
 -- the next goal has its reason now
-pub settled-next : (f : Dqbf) (units : List Taken) (p q r s : Plan) (g : Goal) (lowered : ℕ) (hints places seen : List ℕ)
+pub settled-next : (f : Dqbf) (units : List Taken) (p q r s : Plan) (g : Goal) (lowered : ℕ)
+    (hints places seen : List ℕ)
     (reason : Reason) → IsPlan f units p → length p.reasons.items < length p.goals.items
     → slice_get p.goals.items (length p.reasons.items) ≡ Some g → GrowsGoals p q
     → IsLowered f units q.rows g lowered → AreFalseUnits units g.source.taken (clause_at f g.source.place) places

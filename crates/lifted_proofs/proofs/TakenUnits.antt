@@ -92,7 +92,8 @@ held-first units count l h =
     let r = holds-unit (first_units units count) l h in
     let u = r.0 in
     let c = Contains-permutation (reverse (take count units)) (take count units) u
-    (IsPermutation-sym (take count units) (reverse (take count units)) (IsPermutation-reverse (take count units))) r.1 in
+    (IsPermutation-sym (take count units) (reverse (take count units))
+    (IsPermutation-reverse (take count units))) r.1 in
     let before : c.0 < count = omega (arith, c.1, length-take count units) in
     let within : c.0 < length units = omega (arith, c.1, length-take count units) in
     let at : get_or units c.0 u ≡ u = sym (get_or-take count units c.0 u before) ∙ c.2 in

@@ -10,7 +10,8 @@ loop-place-preserved c =
     let f = t.formula.now in
     let units = t.units.now in
     let place = c.loop-place.place in
-    let within : place < length f.matrix = subst (λ n. place < n) c.clauses-place-end.ensures.value c.loop-place-test.true in
+    let within : place < length f.matrix =
+    subst (λ n. place < n) c.clauses-place-end.ensures.value c.loop-place-test.true in
     elim c.match-source_at.branch [
       | in-Some+in_ok-push w ↦
           sources-more f units place w.in-Some.source c.loop-place.sources.items c.match-source_at.sources.items within

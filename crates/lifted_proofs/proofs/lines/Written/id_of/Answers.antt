@@ -68,8 +68,9 @@ pub open_pairs-requires-clause-within : goal.open_pairs-requires-clause-within
 open_pairs-requires-clause-within c =
     let p = c.args.plan.now in
     let g = c.index-goal.result.now in
-    (c.requires.plan.plan.goals c.args.q g
-    (slice_get_read p.goals.items (length p.goals.items) c.args.q g refl c.requires.within c.index-goal.ensures)).source.place
+    let it = c.requires.plan.plan.goals c.args.q g
+    (slice_get_read p.goals.items (length p.goals.items) c.args.q g refl c.requires.within c.index-goal.ensures) in
+    it.source.place
 
 pub open_pairs-requires-clause-few : goal.open_pairs-requires-clause-few
 open_pairs-requires-clause-few c =
@@ -105,7 +106,8 @@ returns-clause-line c =
     let instance = r.lowered * n + g.source.place + 1 in
     let count = ap (λ m. length p.rows * m) c.clauses-clauses.ensures.value in
     let rows = ap (λ xs. length xs * n) c.items.ensures in
-    line-added t p w (record w { steps = c.push-2.new.self }) c.args.q (length c.items.result.now * n + c.len.result + 1)
+    line-added t p w (record w { steps = c.push-2.new.self }) c.args.q
+    (length c.items.result.now * n + c.len.result + 1)
     instance g r c.deref-3.result.now c.deref-4.result.now c.requires.right c.requires.plan c.requires.written
     c.requires.hints
     (slice_get_read p.goals.items (length p.goals.items) c.args.q g refl c.requires.within c.index-goal.ensures)
