@@ -1,17 +1,17 @@
-mod Carried
+pub mod Carried
 mod CopiedPrefixes
 mod Emptied
 mod FewUnits
 mod Kept
 mod KeptSoFar
-mod LeftLiterals
-mod LiteralRoles
-mod LoweredRows
-mod OpenLiterals
-mod Reduction
-mod SeenUniversals
-mod SignedLiterals
+pub mod LeftLiterals
+pub mod LiteralRoles
+pub mod LoweredRows
+pub mod OpenLiterals
+pub mod Reduction
+pub mod SeenUniversals
+pub mod SignedLiterals
 mod Standings
-mod ToldValues
-mod Units
-mod WellFormed
+pub mod ToldValues
+pub mod Units
+pub mod WellFormed

@@ -20,7 +20,7 @@ use Rattle.dq_prep.proofs.OpenLiterals.{none-universal}
 use Rattle.dq_prep.proofs.LeftLiterals.{passing-holds, tautology-stays}
 use Rattle.dq_prep.proofs.LiteralRoles.{find-Some}
 
-same_bits-refl : (bits : List Bool) → same_bits bits bits ≡ true
+pub same_bits-refl : (bits : List Bool) → same_bits bits bits ≡ true
 same_bits-refl [] = refl
 same_bits-refl (true ∷ bits) = same_bits-refl bits
 same_bits-refl (false ∷ bits) = same_bits-refl bits
@@ -44,7 +44,7 @@ low-bit f clause row x inside =
     made-bit f.universals (lowered f clause (row_assignment f row)) x (contained-any f.universals x inside)
 
 -- a literal that is held and passes
-any-held : (p : Literal → Bool) (xs : List Literal) (l : Literal) → holds xs l ≡ true → p l ≡ true
+pub any-held : (p : Literal → Bool) (xs : List Literal) (l : Literal) → holds xs l ≡ true → p l ≡ true
     → list_any p xs ≡ true
 any-held p [] l here passes = here
 any-held p (x ∷ xs) l here passes = elim (or_cases (same_literal l x) (holds xs l) here) [
@@ -53,7 +53,7 @@ any-held p (x ∷ xs) l here passes = elim (or_cases (same_literal l x) (holds x
 ]
 
 -- none that is held passes
-none-held : (p : Literal → Bool) (xs : List Literal) (l : Literal) → list_any p xs ≡ false → holds xs l ≡ true
+pub none-held : (p : Literal → Bool) (xs : List Literal) (l : Literal) → list_any p xs ≡ false → holds xs l ≡ true
     → p l ≡ false
 none-held p xs l none here = elim (cases_Bool (p l)) [
   | inl passes ↦ absurd (true≢false (sym (any-held p xs l here passes) ∙ none))

@@ -67,7 +67,7 @@ unit-existential f earlier u well it =
 abbrev pub value_of : Literal → TruthValue
 value_of l = cond (not (is_negative l)) TrueValue FalseValue
 
-two-literals : (k l : Literal) → variable_of k ≡ variable_of l → (k ≡ l) ⊎ (k ≡ opposite l)
+pub two-literals : (k l : Literal) → variable_of k ≡ variable_of l → (k ≡ l) ⊎ (k ≡ opposite l)
 two-literals (positive v) (positive w) same = inl (ap positive same)
 two-literals (positive v) (negative w) same = inr (ap positive same)
 two-literals (negative v) (positive w) same = inr (ap negative same)

@@ -1,0 +1,14 @@
+mod TakenUnits
+mod LowRows
+mod AskedGoals
+mod SettledGoals
+mod PairedLiterals
+mod DerivedGoals
+mod WrittenLines
+mod NamedGoals
+mod CarriedLines
+mod KeptSources
+mod HintedInstances
+mod GatheredHints
+mod LiftedLines
+mod LiftedRefutations

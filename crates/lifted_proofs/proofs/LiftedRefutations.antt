@@ -1,0 +1,156 @@
+-- A refutation, lifted as a whole.
+use Rattle.std.proofs.Common.{◌≡◌, ℕ, suc, ◌+◌, ◌*◌, ◌^◌, ◌<◌, ◌≤◌, ◌==◌, Bool, true, false, List, [], ◌∷◌, map, length, get_or, reverse, Option, Some, None, refl, sym, ◌∙◌, ap, subst, arith}
+use Rattle.std.specs.List.{All, cons_option}
+use Rattle.std.proofs.lemmas.Bool.{eq-eqb}
+use Rattle.std.proofs.lemmas.Nat.{mul-le}
+use Rattle.std.proofs.lemmas.Option.{slice_get_within, get_or_from_slice_get}
+use Rattle.std.proofs.lemmas.List.{length-map}
+use Rattle.std.proofs.lemmas.List.Elements.{All-cons}
+use Rattle.std.proofs.lemmas.List.Folds.{list_any_at}
+use Rattle.number_tables.specs.Numbers.{has_number}
+use Rattle.dq_lits.specs.Literal.{Literal}
+use Rattle.dq_lits.specs.Formula.{Dqbf}
+use Rattle.dq_lits.specs.Derivation.{ProofStep}
+use Rattle.dq_lits.specs.Expansion.{instance_at}
+use Rattle.dq_prep.specs.declared.traces.Taken.{Taken}
+use Rattle.dq_prep.specs.Simplified.{kept_clause, kept_clauses}
+use Rattle.rup_core.specs.Items.{ProofItem, derived, gone, items_fault}
+use Rattle.cert_text.specs.Grammar.{AreSteps, AreItems, IsDqrOf}
+use Rattle.cert_text.specs.Header.{max_count}
+use Rattle.cert_text.specs.Numbering.{Numbering, with_next, without_all, numbered_from}
+use Rattle.cert_text.specs.Pairs.{is_pair_number}
+use Rattle.cert_text.specs.Scan.{first_id}
+use Rattle.cert_text.specs.declared.refutations.Dqr.{Dqr}
+use Rattle.cert_text.proofs.StepsAlone.{steps_are_items}
+use Rattle.refutation_checker.specs.Refutation.{refutation_fault, normal_item}
+use Rattle.lifted_proofs.specs.UnitTables.{IsUnitTable}
+use Rattle.lifted_proofs.specs.Goals.{IsGoal, IsPlan, Keeps}
+use Rattle.lifted_proofs.specs.Carried.{lines_of, AreSources, AreWanted}
+use Rattle.lifted_proofs.specs.Planned.{IsInstanceId, AreFirstGoals}
+use Rattle.lifted_proofs.specs.Renumbered.{IsSmallStep}
+use Rattle.lifted_proofs.specs.LiftedRefutations.{kept_matrix, Refutes, AreLifted}
+use Rattle.lifted_proofs.specs.declared.goals.Source.{Source}
+use Rattle.lifted_proofs.specs.declared.goals.Goal.{Goal}
+use Rattle.lifted_proofs.specs.declared.goals.Plan.{Plan}
+use Rattle.lifted_proofs.specs.declared.units.UnitTable.{UnitTable}
+use Rattle.lifted_proofs.proofs.GatheredHints.{first-back}
+use Rattle.lifted_proofs.proofs.LiftedLines.{left_formula, wanted-plain, wanted-from-one, first-goal-right, count-is, without-next, keeps-length}
+
+kept-few : (f : Dqbf) (units : List Taken) (place : ℕ) (clauses : List (List Literal))
+    → length (kept_clauses f units place clauses) ≤ length clauses
+kept-few f units place [] = omega arith
+kept-few f units place (c ∷ cs) = by (kept_clause f units place c) (kept-few f units (suc place) cs)
+  where
+    by : (o : Option (List Literal)) → length (kept_clauses f units (suc place) cs) ≤ length cs
+        → length (cons_option o (kept_clauses f units (suc place) cs)) ≤ suc (length cs)
+    by None few = omega (arith, few)
+    by (Some x) few = omega (arith, few)
+
+-- there are few instances
+pub few-instances : (t : UnitTable) (d : Dqr) (sources : List Source) → IsUnitTable t → Refutes t d
+    → AreSources t.formula.now t.units.now (kept_matrix t) sources
+    → length d.rows * length sources ≤ 10000000000000000
+few-instances t d sources right refutes are =
+    let few = kept-few t.formula.now (reverse t.units.now) 0 t.formula.now.matrix in
+    mul-le (length d.rows) (length sources) 1000000000 10000000 (omega (arith, refutes.allowed.few_rows))
+    (omega (arith, few, are.many, right.lawful.few_clauses))
+
+pub few-rows : (k c : ℕ) → k ≤ 1000000000 → c ≤ 10000000 → k * c ≤ 10000000000000000
+few-rows k c low low-c = mul-le k c 1000000000 10000000 low low-c
+
+pub few-wanted : (sources : List Source) (wanted : List ℕ) (first goals : List Goal)
+    → AreFirstGoals sources wanted first → Keeps first goals → length wanted ≤ length goals
+few-wanted sources wanted first goals are keeps =
+    omega (arith, as-many wanted first are, keeps-length first goals keeps)
+  where
+    as-many : (hs : List ℕ) (gs : List Goal) → AreFirstGoals sources hs gs → length hs ≡ length gs
+    as-many [] [] are = refl
+    as-many [] (g ∷ gs) are = absurd are
+    as-many (h ∷ hs) [] are = absurd are
+    as-many (h ∷ hs) (g ∷ gs) are = omega (arith, as-many hs gs are.1)
+
+small-items : (v : ℕ → Bool) (n : Numbering) (items : List ProofItem) → AreItems v n items
+    → n.next + length items ≤ 2 ^ 62 → All IsSmallStep (lines_of items)
+small-items v n [] are small = λ k d below. absurd (omega (arith, below))
+small-items v n (gone ids ∷ items) are small =
+    small-items v (without_all n ids) items are.1 (omega (arith, small, without-next n ids))
+small-items v n (derived s ∷ items) are small =
+    All-cons IsSmallStep s (lines_of items) (
+      omega (arith, are.0.numbered, small),
+      λ k d below.
+          omega (arith, (are.0.hints_before k d below).1, small),
+    )
+    (small-items v (with_next n) items are.1 (omega (arith, small)))
+
+pub small-lines : (t : UnitTable) (d : Dqr) (sources : List Source) → IsUnitTable t → Refutes t d
+    → AreSources t.formula.now t.units.now (kept_matrix t) sources → All IsSmallStep (lines_of d.items)
+small-lines t d sources right refutes are =
+    let few = few-instances t d sources right refutes are in
+    let count = count-is t sources (length d.rows) are in
+    small-items (is_pair_number (left_formula t) (length d.rows))
+    (numbered_from (first_id (left_formula t) (length d.rows))) d.items refutes.allowed.items
+    (omega (arith, few, count, refutes.allowed.few_items))
+
+contained-number : (xs : List ℕ) (k d : ℕ) → k < length xs → has_number xs (get_or xs k d) ≡ true
+contained-number xs k d below =
+    list_any_at (λ n. n == get_or xs k d) xs k d below (eq-eqb (get_or xs k d) (get_or xs k d) refl)
+
+pub wanted-ids : (t : UnitTable) (d : Dqr) (last : ℕ) (sources : List Source) (wanted seen : List ℕ) → Refutes t d
+    → AreWanted (lines_of d.items) last wanted → last ≡ length d.rows * length sources → seen ≡ wanted
+    → All (IsInstanceId (length d.rows) (length sources)) seen
+wanted-ids t d last sources wanted seen refutes are last-is same =
+    subst (All (IsInstanceId (length d.rows) (length sources))) (sym same) (λ k e below.
+    let it = are.each (get_or wanted k e) (contained-number wanted k e below) in
+    record {
+      from_one = wanted-from-one t d (get_or wanted k e) refutes it.0;
+      up_to = omega (arith, it.1, last-is);
+    })
+
+pub wanted-goals : (t : UnitTable) (d : Dqr) (last : ℕ) (sources : List Source) (wanted seen : List ℕ) → IsUnitTable t
+    → Refutes t d → AreSources t.formula.now t.units.now (kept_matrix t) sources
+    → AreWanted (lines_of d.items) last wanted → last ≡ length d.rows * length sources → seen ≡ wanted
+    → (goals : List Goal) → AreFirstGoals sources seen goals
+    → All (IsGoal t.formula.now t.units.now d.rows) goals
+wanted-goals t d last sources wanted seen right refutes are wanted-are last-is same goals first = λ k e below.
+    let back = first-back sources seen goals k e first below in
+    let h = back.0 in
+    let there : has_number wanted h ≡ true =
+    subst (λ xs. has_number xs h ≡ true) same
+    (subst (λ n. has_number seen n ≡ true) (get_or_from_slice_get seen k h 0 back.1.0)
+    (contained-number seen k 0 (slice_get_within seen k h back.1.0))) in
+    let it = wanted-are.each h there in
+    let plain = wanted-plain t d h refutes it.0
+    (omega (arith, it.1, last-is, count-is t sources (length d.rows) are)) in
+    (first-goal-right t d.rows sources h plain.0 (get_or goals k e) right are (wanted-from-one t d h refutes it.0)
+    plain.1.0 plain.1.1 back.1.1).goal
+
+pub steps-from-one : (v : ℕ → Bool) (n : ℕ) (ss : List ProofStep) → 1 ≤ n → AreSteps v n ss → All (λ s. 1 ≤ s.id) ss
+steps-from-one v n [] low are = λ k d below. absurd (omega (arith, below))
+steps-from-one v n (s ∷ ss) low are =
+    All-cons (λ s. 1 ≤ s.id) s ss (omega (arith, are.0.numbered, low))
+    (steps-from-one v (n + 1) ss (omega (arith, low)) are.1)
+
+pub lifted-allowed : (t : UnitTable) (p : Plan) (steps : List ProofStep) (d : Dqr) → IsPlan t.formula.now t.units.now p
+    → AreLifted t p.rows steps → length steps ≤ max_count → d.rows ≡ p.rows → d.items ≡ map derived steps
+    → IsDqrOf t.formula.now d
+lifted-allowed t p steps d plan lifted few rows items =
+    let f = t.formula.now in
+    record {
+      few_rows = subst (λ rs. length rs ≤ max_count) (sym rows) (omega (arith, plan.few_rows));
+      few_items = subst (λ xs. length xs ≤ max_count) (sym items)
+          (omega (arith, few, length-map steps (λ s. derived s)));
+      whole = subst (All (λ row. length row ≡ length f.universals)) (sym rows) plan.whole;
+      items = subst (λ rs. AreItems (is_pair_number f (length rs)) (numbered_from (first_id f (length rs))) d.items)
+          (sym rows)
+          (subst (AreItems (is_pair_number f (length p.rows)) (numbered_from (first_id f (length p.rows)))) (sym items)
+          (steps_are_items (is_pair_number f (length p.rows)) (numbered_from (first_id f (length p.rows))) steps
+          lifted.allowed));
+    }
+
+pub lifted-refutes : (t : UnitTable) (p : Plan) (steps : List ProofStep) (d : Dqr) → AreLifted t p.rows steps
+    → d.rows ≡ p.rows → d.items ≡ map derived steps → refutation_fault t.formula.now d ≡ None
+lifted-refutes t p steps d lifted rows items =
+    let f = t.formula.now in
+    ap (λ xs. items_fault false (instance_at f d.rows) (map (normal_item f d.rows) xs)) items
+    ∙ ap (λ rs. items_fault false (instance_at f rs) (map (normal_item f rs) (map derived steps))) rows
+    ∙ lifted.refutes

@@ -1,0 +1,63 @@
+use Rattle.std.proofs.Common.{◌≡◌, ◌+◌, ◌*◌, ℕ, List, ◌++◌, map, length, ◌∙◌, ap, arith}
+use Rattle.lifted_proofs.specs.Carried.{Renumbering, carried_step, lines_of}
+use Rattle.lifted_proofs.proofs.LiftedLines.{all-lifted, renumber}
+use Rattle.lifted_proofs.proofs.LiftedRefutations.{few-instances, few-rows, few-wanted, small-lines}
+use Rattle.lifted_proofs.proofs.refutations.lifted_lines.Goals as goal
+
+pub overflow_mul-renumbered : goal.overflow_mul-renumbered
+overflow_mul-renumbered c =
+    let few = few-instances c.args.table.now c.args.d.now c.args.sources.now c.requires.right c.requires.refutes
+    c.requires.sources in
+    let rows = ap (λ xs. length xs * length c.args.sources.now) c.items-2.ensures in
+    omega (arith, few, rows)
+
+pub carry-requires-clause-can : goal.carry-requires-clause-can
+carry-requires-clause-can c =
+    let p = c.args.plan.now in
+    let wanted = few-wanted c.args.sources.now c.args.wanted.now c.requires.plan.first p.goals.items
+    c.requires.plan.goals c.requires.plan.goals_kept in
+    let same = ap (λ (xs : List ℕ). length xs) c.deref.ensures.value in
+    let few = few-rows (length p.rows) c.clauses.result (omega (arith, c.requires.whole.plan.few_rows))
+    (omega (arith, c.clauses.ensures.few)) in
+    let rows = ap (λ xs. length xs * c.clauses.result) c.items.ensures in
+    record {
+      ids = omega (arith, wanted, same, c.in_ok-written.ensures.written.many);
+      small = omega (arith, few, rows, c.len.ensures.small);
+    }
+
+pub carry-requires-clause-small : goal.carry-requires-clause-small
+carry-requires-clause-small c =
+    small-lines c.args.table.now c.args.d.now c.args.sources.now c.requires.right c.requires.refutes c.requires.sources
+
+pub returns-clause-lifted : goal.returns-clause-lifted
+returns-clause-lifted c =
+    let t = c.args.table.now in
+    let d = c.args.d.now in
+    let p = c.args.plan.now in
+    let w = c.in_ok-written.written in
+    let sources = c.args.sources.now in
+    let wanted = c.args.wanted.now in
+    let Made : List ℕ → ℕ → ℕ → Renumbering =
+    λ ids o n. record { wanted = wanted; ids = ids; old_last = o; new_last = n } in
+    let old = length c.items-2.result.now * length sources in
+    let new = length c.items.result.now * c.clauses.result + c.len.result in
+    let same : Made c.deref.result.now old new ≡ renumber t d sources wanted p w =
+    ap (λ ids. Made ids old new) c.deref.ensures.value
+    ∙ ap (λ rs. Made w.ids.items (length rs * length sources) new) c.items-2.ensures
+    ∙ ap (λ rs. Made w.ids.items (length d.rows * length sources) (length rs * c.clauses.result + c.len.result))
+    c.items.ensures
+    ∙ ap (λ n. Made w.ids.items (length d.rows * length sources) (length p.rows * n + c.len.result))
+    c.clauses.ensures.value
+    ∙ ap (λ n. Made w.ids.items (length d.rows * length sources) (length p.rows * length t.formula.now.matrix + n))
+    c.len.ensures.value in
+    all-lifted t d sources wanted p w c.carry.new.steps
+    (record {
+      right = c.requires.right;
+      refutes = c.requires.refutes;
+      sources_are = c.requires.sources;
+      wanted_are = c.requires.wanted;
+      plan = c.requires.plan;
+      written = c.in_ok-written.ensures.written;
+      named = c.in_ok-written.ensures.named;
+    })
+    (c.in_ok-carry.ensures ∙ ap (λ r. w.steps ++ map (carried_step r) (lines_of d.items)) same)

@@ -1,0 +1,12 @@
+pub mod UnitTables
+pub mod FalsifiedRows
+pub mod Goals
+pub mod Lines
+pub mod Turns
+pub mod Written
+pub mod Carried
+pub mod Sources
+pub mod Hinted
+pub mod Planned
+pub mod Renumbered
+pub mod LiftedRefutations

@@ -1,0 +1,168 @@
+//! Goals for units: one for each unit and the bits that its existential sees.
+
+ghost use Rattle.std.specs.Prelude.{◌≡◌, ◌<◌, true, [], length, All, IfOk, OnOk};
+ghost use Rattle.std.specs.List.{AllZip};
+ghost use Rattle.lifted_proofs.specs.UnitTables.{IsUnitTable};
+ghost use Rattle.lifted_proofs.specs.Goals.{SeeSame, IsPlanOf, IsAskedIn, GrowsGoals};
+
+use crate::goals::{Goal, Known, Plan, Source};
+use crate::units::UnitTable;
+use dq_formula::{Deps, Formula};
+use dq_lits::{Memory, Row};
+use std::alloc::Global;
+
+impl Plan {
+    /// The goals of the units at these places, under rows that show the same bits as this one.
+    pub(crate) fn ask_all(
+        &mut self,
+        known: &mut Known,
+        table: &UnitTable,
+        places: &[u64],
+        lowered: usize,
+    ) -> Result<Vec<usize>, Memory>
+        requires right { IsUnitTable table.now }
+        requires plan { IsPlanOf table.now self.old }
+        requires within { All (λ j. j < length table.now.units.now) places.now }
+        requires row { lowered < length self.old.rows }
+        ensures plan { OnOk result (IsPlanOf table.now self.new) }
+        ensures grows { OnOk result (GrowsGoals self.old self.new) }
+        ensures asked { IfOk result (λ hints.
+            AllZip (IsAskedIn table.now self.new lowered) places.now hints.items) }
+    {
+        let mut hints = Vec::new(table.alloc);
+        for j in places {
+            hints.push(self.ask(known, table, *j as usize, lowered)?)?;
+        }
+        Ok(hints)
+    }
+
+    // The goal of the unit at a place, under a row that shows the same bits as this one.
+    fn ask(
+        &mut self,
+        known: &mut Known,
+        table: &UnitTable,
+        j: usize,
+        lowered: usize,
+    ) -> Result<usize, Memory>
+        requires right { IsUnitTable table.now }
+        requires plan { IsPlanOf table.now self.old }
+        requires within { j < length table.now.units.now }
+        requires row { lowered < length self.old.rows }
+        ensures plan { OnOk result (IsPlanOf table.now self.new) }
+        ensures grows { OnOk result (GrowsGoals self.old self.new) }
+        ensures asked { IfOk result (IsAskedIn table.now self.new lowered j) }
+    {
+        let next = self.goals.len();
+        let key = key(table, j, &self.rows.items()[lowered])?;
+        let first = first_with(known, key, next)?;
+        if self.is_asked(table, first, j, lowered) {
+            return Ok(first);
+        }
+        let added = self.add_unit(table, j, lowered)?;
+        Ok(added)
+    }
+
+    // Whether the goal at a place is that of this unit, under a row with the same bits.
+    fn is_asked(&self, table: &UnitTable, first: usize, j: usize, lowered: usize) -> bool
+        requires right { IsUnitTable table.now }
+        requires plan { IsPlanOf table.now self.now }
+        requires within { j < length table.now.units.now }
+        requires row { lowered < length self.now.rows }
+        ensures { result ≡ true → IsAskedIn table.now self.now lowered j first }
+    {
+        if first >= self.goals.len() {
+            return false;
+        }
+        let goal = self.goals[first];
+        if goal.source.taken != j || goal.source.place != table.units[j].place {
+            return false;
+        }
+        let rows = self.rows.items();
+        see_same(table, j, &rows[lowered], &rows[goal.row])
+    }
+
+    // Adds the goal of a unit under a row.
+    fn add_unit(&mut self, table: &UnitTable, j: usize, row: usize) -> Result<usize, Memory>
+        requires right { IsUnitTable table.now }
+        requires plan { IsPlanOf table.now self.old }
+        requires within { j < length table.now.units.now }
+        requires row { row < length self.old.rows }
+        ensures plan { OnOk result (IsPlanOf table.now self.new) }
+        ensures grows { OnOk result (GrowsGoals self.old self.new) }
+        ensures asked { IfOk result (IsAskedIn table.now self.new row j) }
+    {
+        let place = self.goals.len();
+        let source = Source {
+            taken: j,
+            place: table.units[j].place,
+        };
+        self.goals.push(Goal { source, row })?;
+        Ok(place)
+    }
+}
+
+// Whether the existential of a unit sees the same bits in two rows.
+fn see_same(table: &UnitTable, j: usize, a: &Row, b: &Row) -> bool
+    requires right { IsUnitTable table.now }
+    requires within { j < length table.now.units.now }
+    requires first { length a.now ≡ length table.now.formula.now.universals }
+    requires second { length b.now ≡ length table.now.formula.now.universals }
+    ensures { result ≡ true → SeeSame table.now j a.now b.now }
+{
+    table.formula.same_on(table.units[j].literal.var(), a, b)
+}
+
+// The place that is known of a key; else the key is known from now on as that of the next one.
+fn first_with(known: &mut Known, key: Vec<u64>, next: usize) -> Result<usize, Memory> {
+    if let Some(first) = known.get(&key) {
+        return Ok(*first);
+    }
+    known.insert(key, next)?;
+    Ok(next)
+}
+
+// The unit's place, and the bits of a row that its existential sees, 64 a word.
+fn key(table: &UnitTable, j: usize, row: &Row) -> Result<Vec<u64>, Memory>
+    requires right { IsUnitTable table.now }
+    requires within { j < length table.now.units.now }
+{
+    let mut words = Vec::new(table.alloc);
+    words.push(j as u64)?;
+    let y = table.units[j].literal.var();
+    if !table.formula.is_existential(y) {
+        return Ok(words);
+    }
+    match table.formula.deps_of(y) {
+        Deps::FirstOf(n) => append_first(&mut words, row, *n)?,
+        Deps::Listed(vars) => append_listed(&mut words, table.formula, row, vars.items())?,
+    }
+    Ok(words)
+}
+
+fn append_first(words: &mut Vec<u64>, row: &Row, count: usize) -> Result<(), Memory> {
+    for i in 0..count {
+        append_bit(words, i, bit_at(row, i))?;
+    }
+    Ok(())
+}
+
+fn append_listed(words: &mut Vec<u64>, f: &Formula, row: &Row, vars: &[u64]) -> Result<(), Memory> {
+    for i in 0..vars.len() {
+        append_bit(words, i, bit_at(row, f.place_of(vars[i])))?;
+    }
+    Ok(())
+}
+
+fn bit_at(row: &Row, place: usize) -> bool {
+    place < row.len() && row.get(place)
+}
+
+fn append_bit(words: &mut Vec<u64>, i: usize, bit: bool) -> Result<(), Memory> {
+    if i % 64 == 0 {
+        words.push(0)?;
+    }
+    if let Some(last) = words.last_mut() {
+        *last = (*last << 1) | u64::from(bit);
+    }
+    Ok(())
+}
