@@ -27,7 +27,10 @@ use Rattle.cert_judge.specs.Judgement.{line_ends, comment_line, as_proof, proof_
 use Rattle.dq_runs.specs.Printed.{line}
 use Rattle.cert_judge.specs.declared.answers.Judgement.TheVariants.{ValidTrue, ValidFalse}
 use Rattle.dq_verdicts.specs.Accepted.{ProvedCircuitsAreAccepted, RefutationsAreAccepted}
+use Rattle.proof_deletions.specs.Laws.{DeletionsChangeNoFault, DeletionsAreAllowed, ChangedLinesDeleteAlike}
+use Rattle.dq_verdicts.specs.Forms.{written_proof, written_refutation}
 use Rattle.dq_verdicts.specs.Verdicts.{with_proof, verdict_text, is_true, is_false}
+use Rattle.dq_verdicts.proofs.WrittenForms.{written_circuit, written_refutes, written_proof_allowed, written_refutation_allowed}
 use Rattle.dq_verdicts.proofs.Beginnings.{header_at, header_number, circuit_kind, refutation_kind, proof_begins}
 
 -- ---- refutations
@@ -48,12 +51,16 @@ false_judgement : (bare : Bool) (f : Dqbf) (text : List ℕ)
 false_judgement true f text is = is
 false_judgement false f text is = is
 
-pub refutations_accepted : ReadsRefutationBack → RefutationsAreAccepted
-refutations_accepted back f d bare lawful allowed none =
-    subst (λ kind. IsJudgementOf f (verdict_text bare f (is_false d)) kind ValidFalse) (sym (refutation_kind bare _))
-    (false_judgement bare f (canonical f.universals d)
-    (false_answer f d (refutation_of f (canonical f.universals d) (header_number bare))
-    (back f d (header_number bare) lawful allowed) none))
+pub refutations_accepted : ReadsRefutationBack → DeletionsChangeNoFault → DeletionsAreAllowed → ChangedLinesDeleteAlike →
+    RefutationsAreAccepted
+refutations_accepted back same laws alike f d form lawful none are allowed few =
+    let bare = form.bare in
+    let e = written_refutation form d in
+    subst (λ kind. IsJudgementOf f (verdict_text form f (is_false d)) kind ValidFalse) (sym (refutation_kind bare _))
+    (false_judgement bare f (canonical f.universals e)
+    (false_answer f e (refutation_of f (canonical f.universals e) (header_number bare))
+    (back f e (header_number bare) lawful (written_refutation_allowed laws f d form are few allowed))
+    (written_refutes same alike f d form are none)))
 
 -- ---- circuits
 
@@ -102,14 +109,19 @@ true_judgement : (bare : Bool) (f : Dqbf) (text : List ℕ) → IsCircuitAnswer 
 true_judgement true f text is = inr is
 true_judgement false f text is = inr is
 
-pub circuits_accepted : CanonicalSpells → ReadsProofBack → ProvedCircuitsAreAccepted
-circuits_accepted spells back f file d bare proved writable allowed within =
+pub circuits_accepted : CanonicalSpells → ReadsProofBack → DeletionsChangeNoFault → DeletionsAreAllowed →
+    ProvedCircuitsAreAccepted
+circuits_accepted spells back same laws f file proof form proved are writable allowed within =
+    let bare = form.bare in
+    let d = written_proof form proof in
     let whole = with_proof file d in
     let answer : IsCircuitAnswer f (header_number bare) (canonical_circuit whole) ValidTrue = record {
       file = whole;
       spelled = spells whole (writable (Some (canonical_proof d)) within.variables);
-      is = tested f (header_number bare) (line_ends (canonical_circuit whole)) file d proved
-          (λ first. back f file.circuit d first (allowed within.items));
+      is = tested f (header_number bare) (line_ends (canonical_circuit whole)) file d
+          (written_circuit same f file proof form proved are)
+          (λ first. back f file.circuit d first
+          (written_proof_allowed laws f file.circuit proof form are within.items allowed));
     } in
-    subst (λ kind. IsJudgementOf f (verdict_text bare f (is_true file d)) kind ValidTrue) (sym (circuit_kind bare _))
+    subst (λ kind. IsJudgementOf f (verdict_text form f (is_true file proof)) kind ValidTrue) (sym (circuit_kind bare _))
     (true_judgement bare f (canonical_circuit whole) answer)

@@ -10,6 +10,8 @@ use Rattle.dq_lits.specs.Formula.{Dqbf, Existential, HasLawfulPrefix, declared}
 use Rattle.hint_log.specs.Entries.{Entry, count}
 use Rattle.cert_export.specs.ExportedCircuit.{is_gate_name}
 use Rattle.cert_export.specs.Lines.{is_lemma}
+use Rattle.proof_deletions.specs.Laws.{DeletionsAreAllowed}
+use Rattle.dq_verdicts.proofs.WrittenForms.{written_few}
 use Rattle.dq_verdicts.specs.Accepted.{SmallLogsAreWithinLimits}
 
 one_more : (few all : ℕ) (b : Bool) → few ≤ all → cond b (few + 1) few ≤ all + 1
@@ -39,13 +41,14 @@ universals_few f prefix =
     let both = length-append f.universals (map (λ (y : Existential). y.variable) f.existentials) in
     omega (arith, all, both)
 
-pub small_within : SmallLogsAreWithinLimits
-small_within f entries file proof lawful gates numbers lines small =
+pub small_within : DeletionsAreAllowed → SmallLogsAreWithinLimits
+small_within laws f entries file proof form lawful gates numbers lines small =
     let few_gates = count_few is_gate_name entries in
     let few_lines = count_few is_lemma entries in
+    let written = written_few laws form proof.items in
     let few = universals_few f lawful.prefix in
     let variables = lawful.few_variables in
     record {
       variables = omega (arith, gates, numbers, few_gates, few, variables, small);
-      items = omega (arith, lines, few_lines, small);
+      items = omega (arith, lines, few_lines, small, written);
     }

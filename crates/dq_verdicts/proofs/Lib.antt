@@ -1,4 +1,5 @@
 pub mod AcceptedTexts
-pub mod Beginnings
+pub mod WrittenForms
+mod Beginnings
 pub mod Counts
 pub mod ShownVerdicts

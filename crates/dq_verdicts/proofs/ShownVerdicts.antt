@@ -1,13 +1,15 @@
 -- From what the search and the exports answer to a verdict's output.
-use Rattle.std.proofs.Common.{◌≡◌, ◌∙◌, ◌-◌, ◌≤◌, ℕ, Bool, sym, ap, subst, arith, List, length, None, Result, Ok, Err}
+use Rattle.std.proofs.Common.{◌≡◌, ◌∙◌, ◌-◌, ◌*◌, ◌≤◌, ℕ, sym, ap, subst, arith, List, length, map, None, Result, Ok, Err}
 use Rattle.std.specs.List.{range_with_len}
 use Rattle.dq_lits.specs.Expansion.{IsExpansionUnsatisfiable}
-use Rattle.dq_lits.specs.Formula.{Dqbf}
+use Rattle.dq_lits.specs.Formula.{Dqbf, IsWellFormed}
 use Rattle.dq_lits.specs.Henkin.{IsTrueFormula, IsFalseFormula}
 use Rattle.dq_formula.specs.Prefix.{IsLawful}
 use Rattle.aig_graph.specs.declared.nodes.Node.{Node}
 use Rattle.aig_graph.specs.Graph.{AigGraph}
 use Rattle.circuit_cnf.specs.Shown.{ShownOutputsDecide}
+use Rattle.rup_core.specs.Items.{ProofItem, derived}
+use Rattle.hint_log.specs.Conditions.{AreLogged}
 use Rattle.hint_log.specs.Deciding.{IsUndecided}
 use Rattle.hint_log.specs.Entries.{Entry, ProofLog, count, rounds_of, steps_of}
 use Rattle.hint_log.specs.Naming.{rows_of}
@@ -15,20 +17,28 @@ use Rattle.hint_log.specs.ProductiveLog.{IsProductiveLog}
 use Rattle.hint_log.specs.Reached.{AreReached}
 use Rattle.hint_log.specs.declared.stops.Stop.{Stop}
 use Rattle.aiger_text.specs.declared.files.AagFile.{AagFile}
+use Rattle.cert_text.specs.CircuitProof.{first_proof_id}
 use Rattle.cert_text.specs.Grammar.{IsDqrOf}
 use Rattle.cert_text.specs.Header.{max_count}
+use Rattle.cert_text.specs.Scan.{first_id}
 use Rattle.cert_text.specs.ProofGrammar.{IsDqpOf}
 use Rattle.cert_text.specs.declared.circuit_proofs.Dqp.{Dqp}
 use Rattle.cert_text.specs.declared.refutations.Dqr.{Dqr}
+use Rattle.cert_export.specs.CircuitPart.{exported_netlist}
 use Rattle.cert_export.specs.Exportable.{AreExportedItems}
-use Rattle.cert_export.specs.ExportedCircuit.{IsDecidedTrue, IsNumberedFile, IsWritable, is_gate_name}
+use Rattle.cert_export.specs.Exported.{ExportedLinesAreAllowed, CanExportFalse, exported_steps}
+use Rattle.cert_export.specs.ExportedCircuit.{IsDecidedTrue, IsNumberedFile, IsWritable, ExportedProofIsAllowed, proof_steps, is_gate_name}
 use Rattle.cert_export.specs.Lines.{is_lemma}
 use Rattle.cert_export.specs.Parts.{IsExportedCircuit}
 use Rattle.proof_checker.specs.ProvedCircuit.{IsProvedCircuit}
 use Rattle.refutation_checker.specs.Refutation.{refutation_fault}
 use Rattle.repair_loop.specs.Searching.{IsShownTrue as IsFoundTrue, IsShownFalse as IsFoundFalse}
 use Rattle.repair_loop.specs.Stopping.{IsStoppedAtLimit}
+use Rattle.proof_deletions.specs.Deletions.{AreNumberedLines}
+use Rattle.proof_deletions.specs.Laws.{AllowedLinesAreNumbered, DeletionsAreAllowed}
 use Rattle.dq_verdicts.specs.Accepted.{ProvedCircuitsAreAccepted, RefutationsAreAccepted, SmallLogsAreWithinLimits}
+use Rattle.dq_verdicts.specs.Forms.{written_items}
+use Rattle.dq_verdicts.specs.declared.forms.Form.{Form}
 use Rattle.dq_verdicts.specs.Outputs.{IsVerdictOutput}
 use Rattle.dq_verdicts.specs.Verdicts.{Verdict, is_unknown, verdict_text, verdict_status}
 use Rattle.dq_verdicts.specs.Shown.{IsShownTrue, IsShownFalse, few_entries}
@@ -36,6 +46,7 @@ use Rattle.dq_verdicts.specs.declared.verdicts.Decision.{Decision}
 use Rattle.dq_verdicts.specs.declared.verdicts.Decision.TheVariants.{Shown, Refuted}
 use Rattle.dq_runs.specs.Printed.{Printed}
 use Rattle.dq_runs.specs.declared.outputs.Output.{Output}
+use Rattle.dq_verdicts.proofs.WrittenForms.{written_few}
 use Rattle.dq_verdicts.proofs.Counts.{count_few}
 
 abbrev decided_id : Result Decision Stop → ℕ
@@ -70,12 +81,34 @@ pub record IsWrittenCircuit (f : Dqbf) (entries : List Entry) (id : ℕ) (file :
   pub spelled : IsWritable file
   pub allowed : length proof.items ≤ max_count → IsDqpOf f file.circuit proof
   pub exported : (ids : List ℕ) × IsExportedCircuit f entries id ids file proof
+  pub lines : AreNumberedLines proof.items
+
+-- the lines of what is exported are numbered
+pub proof_numbered : ExportedProofIsAllowed → AllowedLinesAreNumbered → (f : Dqbf) (entries : List Entry) (id : ℕ)
+    (ids : List ℕ) (file : AagFile) (proof : Dqp)
+    → IsExportedCircuit f entries id ids file proof → AreNumberedLines proof.items
+proof_numbered allowed numbered f entries id ids file proof e =
+    let d = e.from.decided in
+    let (steps, (r, renaming, are), items) = e.lines in
+    subst AreNumberedLines (sym (items ∙ ap (map derived) are))
+    (numbered _ (first_proof_id f (exported_netlist f entries e.part)) (proof_steps f entries e.part ids r) (omega arith)
+    (allowed f entries id e.part ids r d.well_formed d.logged d.inputs d.givens e.from.part d.reached renaming))
+
+pub refutation_numbered : ExportedLinesAreAllowed → AllowedLinesAreNumbered → (f : Dqbf) (live : List ℕ)
+    (entries : List Entry) (id : ℕ) (ids : List ℕ) (items : List ProofItem)
+    → IsWellFormed f → AreLogged entries → CanExportFalse f live entries id → AreReached entries id ids
+    → AreExportedItems f live entries ids items → AreNumberedLines items
+refutation_numbered allowed numbered f live entries id ids items well logged can reached e =
+    let (steps, (r, renaming, are), same) = e in
+    subst AreNumberedLines (sym (same ∙ ap (map derived) are))
+    (numbered _ (first_id f (length (rows_of entries))) (exported_steps f live entries ids r) (omega arith)
+    (allowed f live entries id ids r well logged can.instances can.refuted reached renaming))
 
 pub shown_true : ProvedCircuitsAreAccepted → SmallLogsAreWithinLimits →
-    (f : Dqbf) (log : ProofLog) (id : ℕ) (bare : Bool) (file : AagFile) (proof : Dqp)
+    (f : Dqbf) (log : ProofLog) (id : ℕ) (form : Form) (file : AagFile) (proof : Dqp)
     → IsLawful f → IsTrueFormula f → IsDecidedTrue f log.entries id → IsWrittenCircuit f log.entries id file proof →
-    IsShownTrue f f log bare file proof
-shown_true accepted within f log id bare file proof lawful is_so decided e = record {
+    IsShownTrue f f log form file proof
+shown_true accepted within f log id form file proof lawful is_so decided e = record {
   true_formula = is_so;
   circuit = e.proved;
   answered = (id, decided);
@@ -87,8 +120,8 @@ shown_true accepted within f log id bare file proof lawful is_so decided e = rec
     circuit = e.proved;
     numbers = e.numbers;
   };
-  accepted = accepted f file proof bare e.proved e.spelled e.allowed;
-  within = λ _. within f log.entries file proof lawful e.gates e.numbers.max_var e.few;
+  accepted = accepted f file proof form e.proved e.lines e.spelled e.allowed;
+  within = λ _. within f log.entries file proof form lawful e.gates e.numbers.max_var e.few;
 }
 
 -- what the export of a refutation gives
@@ -99,15 +132,18 @@ pub record IsWrittenRefutation (f : Dqbf) (entries : List Entry) (id : ℕ) (d :
   pub spelled : length d.items ≤ max_count → IsDqrOf f d
   pub lines : (ids : List ℕ) × AreReached entries id ids × AreExportedItems f
       (range_with_len 1 (length f.matrix)) entries ids d.items
+  pub numbered : AreNumberedLines d.items
 
-few_lines : (entries : List Entry) (steps : ℕ) → steps ≤ count is_lemma entries → length entries ≤ few_entries →
-    steps ≤ max_count
-few_lines entries steps few small = let all = count_few is_lemma entries in omega (arith, few, small, all)
+few_lines : (entries : List Entry) (steps written : ℕ) → steps ≤ count is_lemma entries → written ≤ 2 * steps →
+    length entries ≤ few_entries → written ≤ max_count
+few_lines entries steps written few twice small =
+    let all = count_few is_lemma entries in omega (arith, few, twice, small, all)
 
-pub shown_false : RefutationsAreAccepted → (f : Dqbf) (log : ProofLog) (id : ℕ) (bare : Bool) (d : Dqr)
+pub shown_false : RefutationsAreAccepted → DeletionsAreAllowed → (f : Dqbf) (log : ProofLog) (id : ℕ) (form : Form)
+    (d : Dqr)
     → IsLawful f → IsFalseFormula f → IsFoundFalse f log id → IsWrittenRefutation f log.entries id d →
-    IsShownFalse f f log bare d
-shown_false accepted f log id bare d lawful is_so found e = record {
+    IsShownFalse f f log form d
+shown_false accepted laws f log id form d lawful is_so found e = record {
   false_formula = is_so;
   unsatisfiable = subst (IsExpansionUnsatisfiable f) (sym e.rows) found.unsatisfiable;
   refutes = e.accepted;
@@ -119,8 +155,9 @@ shown_false accepted f log id bare d lawful is_so found e = record {
     items = e.lines.2;
     rows = e.rows;
   };
-  accepted = λ few. accepted f d bare lawful (e.spelled few) e.accepted;
-  within = λ _. few_lines log.entries (length d.items) e.few;
+  accepted = accepted f d form lawful e.accepted e.numbered e.spelled;
+  within = λ _. few_lines log.entries (length d.items) (length (written_items form d.items)) e.few
+      (written_few laws form d.items);
 }
 
 -- a verdict's status with a text
@@ -135,13 +172,13 @@ printed_as verdict status text said same is = ap (λ s. record { status = s; tex
     (written verdict) is
 
 -- where the limit came first
-pub unknown : (f : Dqbf) (log : ProofLog) (bare : Bool) (rounds steps : ℕ) (output : Output) →
+pub unknown : (f : Dqbf) (log : ProofLog) (form : Form) (rounds steps : ℕ) (output : Output) →
     IsProductiveLog f log.entries → IsUndecided f log.entries
     → IsStoppedAtLimit f log → rounds_of log.entries ≤ steps_of log.entries → rounds ≡ rounds_of log.entries →
     steps ≡ steps_of log.entries
-    → output.status ≡ 0 → output.text.items ≡ verdict_text bare f (is_unknown rounds (steps - rounds)) →
-    IsVerdictOutput f log bare output
-unknown f log bare rounds steps output productive undecided stopped fewer rounds_are steps_are status text = record {
+    → output.status ≡ 0 → output.text.items ≡ verdict_text form f (is_unknown rounds (steps - rounds)) →
+    IsVerdictOutput f log form output
+unknown f log form rounds steps output productive undecided stopped fewer rounds_are steps_are status text = record {
   verdict = is_unknown rounds (steps - rounds);
   is = record {
     productive = productive;

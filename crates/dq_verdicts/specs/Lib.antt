@@ -1,4 +1,5 @@
 pub mod Accepted
+pub mod Forms
 pub mod Outputs
 pub mod Shown
 pub mod Statuses

@@ -1,5 +1,5 @@
 -- What is shown by what is written with a verdict, and by the search's log.
-use Rattle.std.specs.Prelude.{◌≡◌, ℕ, ◌+◌, ◌<◌, ◌≤◌, Bool, false, List, length, None}
+use Rattle.std.specs.Prelude.{◌≡◌, ℕ, ◌+◌, ◌<◌, ◌≤◌, List, length, None}
 use Rattle.std.specs.List.{range_with_len}
 use Rattle.dq_lits.specs.Expansion.{IsExpansionUnsatisfiable}
 use Rattle.dq_lits.specs.Formula.{Dqbf}
@@ -22,19 +22,21 @@ use Rattle.refutation_checker.specs.Refutation.{refutation_fault}
 use Rattle.repair_loop.specs.Stopping.{HasNextStep}
 use Rattle.cert_judge.specs.Judgement.{IsJudgement}
 use Rattle.cert_judge.specs.declared.answers.Judgement.TheVariants.{ValidTrue, ValidFalse}
+use Rattle.dq_verdicts.specs.Forms.{plain, written_items}
 use Rattle.dq_verdicts.specs.declared.demonstrations.Demonstration.{Demonstration}
 use Rattle.dq_verdicts.specs.declared.demonstrations.Demonstration.TheVariants.{Valid, Large, CutOff}
+use Rattle.dq_verdicts.specs.declared.forms.Form.{Form}
 use Rattle.dq_verdicts.specs.Verdicts.{Verdict, is_true, is_false, is_unknown, verdict_text}
 
 -- with at most so many entries in the log, what is written is within the formats' limits
 abbrev pub few_entries : ℕ
 few_entries = 400000000
 
--- the numbers of a circuit and its proof are within the formats' limits; the others are no greater
--- than these
-pub record IsWithinLimits (file : AagFile) (proof : Dqp) : Type 0 where
+-- the numbers of a circuit and its proof, as it is written, are within the formats' limits; the
+-- others are no greater than these
+pub record IsWithinLimits (form : Form) (file : AagFile) (proof : Dqp) : Type 0 where
   pub variables : file.circuit.max_var ≤ max_count
-  pub items : length proof.items ≤ max_count
+  pub items : length (written_items form proof.items) ≤ max_count
 
 -- An answer of the log decides that the formula which was searched is true, and the circuit with its
 -- proof is what is exported of it.
@@ -50,15 +52,16 @@ pub record IsExportedOf (searched : Dqbf) (log : ProofLog) (file : AagFile)
 -- The circuit has Skolem functions, its proof shows it, and the checker accepts what is written
 -- where it is within the formats' limits. The formula that is decided may be another than the one
 -- that was searched; where it is the same, what is written is exported of the log.
-pub record IsShownTrue (decided searched : Dqbf) (log : ProofLog) (bare : Bool) (file : AagFile)
+pub record IsShownTrue (decided searched : Dqbf) (log : ProofLog) (form : Form) (file : AagFile)
     (proof : Dqp) : Type 0 where
   pub true_formula : IsTrueFormula decided
   pub circuit : IsProvedCircuit decided file proof
   pub answered : (id : ℕ) × IsDecidedTrue searched log.entries id
   pub exported : decided ≡ searched → IsExportedOf searched log file proof
-  pub accepted : IsWithinLimits file proof
-      → IsJudgement decided (verdict_text bare decided (is_true file proof)) ValidTrue
-  pub within : decided ≡ searched → length log.entries ≤ few_entries → IsWithinLimits file proof
+  pub accepted : IsWithinLimits form file proof
+      → IsJudgement decided (verdict_text form decided (is_true file proof)) ValidTrue
+  pub within : decided ≡ searched → length log.entries ≤ few_entries
+      → IsWithinLimits form file proof
 
 -- An answer of the log rests on instances of the searched formula alone, and the refutation is what
 -- is exported of it, under the rounds' rows.
@@ -73,15 +76,16 @@ pub record IsRefutationOf (searched : Dqbf) (log : ProofLog) (d : Dqr) : Type 0 
 
 -- The instances under the refutation's rows have no model, the refutation shows it, and the checker
 -- accepts what is written where it is within the formats' limits.
-pub record IsShownFalse (decided searched : Dqbf) (log : ProofLog) (bare : Bool)
+pub record IsShownFalse (decided searched : Dqbf) (log : ProofLog) (form : Form)
     (d : Dqr) : Type 0 where
   pub false_formula : IsFalseFormula decided
   pub unsatisfiable : IsExpansionUnsatisfiable decided d.rows
   pub refutes : refutation_fault decided d ≡ None
   pub exported : decided ≡ searched → IsRefutationOf searched log d
-  pub accepted : length d.items ≤ max_count
-      → IsJudgement decided (verdict_text bare decided (is_false d)) ValidFalse
-  pub within : decided ≡ searched → length log.entries ≤ few_entries → length d.items ≤ max_count
+  pub accepted : length (written_items form d.items) ≤ max_count
+      → IsJudgement decided (verdict_text form decided (is_false d)) ValidFalse
+  pub within : decided ≡ searched → length log.entries ≤ few_entries
+      → length (written_items form d.items) ≤ max_count
 
 -- all steps were done, each productive, the next one is in hand, and no answer decides the formula
 pub record IsLimitReached (f : Dqbf) (log : ProofLog) (rounds learned : ℕ) : Type 0 where
@@ -91,25 +95,25 @@ pub record IsLimitReached (f : Dqbf) (log : ProofLog) (rounds learned : ℕ) : T
   pub rounds_are : rounds ≡ rounds_of log.entries
   pub steps_are : rounds + learned ≡ steps_of log.entries
 
-abbrev pub IsShown : Dqbf → Dqbf → ProofLog → Bool → Verdict → Type 0
-IsShown decided searched log bare (is_true file proof) =
-    IsShownTrue decided searched log bare file proof
-IsShown decided searched log bare (is_false d) = IsShownFalse decided searched log bare d
-IsShown decided searched log bare (is_unknown rounds learned) =
+abbrev pub IsShown : Dqbf → Dqbf → ProofLog → Form → Verdict → Type 0
+IsShown decided searched log form (is_true file proof) =
+    IsShownTrue decided searched log form file proof
+IsShown decided searched log form (is_false d) = IsShownFalse decided searched log form d
+IsShown decided searched log form (is_unknown rounds learned) =
     IsLimitReached searched log rounds learned
 
 -- a verdict on a formula, which a log of productive work on the formula that was searched shows
-pub record IsVerdict (decided searched : Dqbf) (log : ProofLog) (bare : Bool)
+pub record IsVerdict (decided searched : Dqbf) (log : ProofLog) (form : Form)
     (verdict : Verdict) : Type 0 where
   pub productive : IsProductiveLog searched log.entries
-  pub shown : IsShown decided searched log bare verdict
+  pub shown : IsShown decided searched log form verdict
 
 -- the checker accepts the text
 pub record IsDemonstratedValid (f : Dqbf) (log : ProofLog) : Type 0 where
   pub file : AagFile
   pub proof : Dqp
   pub exported : IsExportedOf f log file proof
-  pub accepted : IsJudgement f (verdict_text false f (is_true file proof)) ValidTrue
+  pub accepted : IsJudgement f (verdict_text plain f (is_true file proof)) ValidTrue
 
 -- the log is long, and circuit and proof are beyond the formats' limits
 pub record IsDemonstratedLarge (f : Dqbf) (log : ProofLog) : Type 0 where
@@ -117,7 +121,7 @@ pub record IsDemonstratedLarge (f : Dqbf) (log : ProofLog) : Type 0 where
   pub proof : Dqp
   pub exported : IsExportedOf f log file proof
   pub many : few_entries < length log.entries
-  pub beyond : IsWithinLimits file proof → ⊥
+  pub beyond : IsWithinLimits plain file proof → ⊥
 
 pub record IsCutOff (f : Dqbf) (log : ProofLog) : Type 0 where
   pub limit : steps_of log.entries ≡ log.limit

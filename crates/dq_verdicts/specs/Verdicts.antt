@@ -8,6 +8,8 @@ use Rattle.cert_text.specs.Canonical.{canonical, canonical_proof}
 use Rattle.cert_text.specs.declared.circuit_proofs.Dqp.{Dqp}
 use Rattle.cert_text.specs.declared.refutations.Dqr.{Dqr}
 use Rattle.dq_runs.specs.Printed.{Printed, line}
+use Rattle.dq_verdicts.specs.Forms.{written_proof, written_refutation}
+use Rattle.dq_verdicts.specs.declared.forms.Form.{Form}
 
 pub data Verdict : Type 0 where
   -- the formula is true: a circuit and its proof
@@ -32,20 +34,21 @@ counts_text rounds learned =
     codes "c rounds " ++ (decimal rounds ++ (codes " learned " ++ decimal learned))
 
 -- what stands behind the line with the verdict
-abbrev pub evidence_text : Dqbf → Verdict → List ℕ
-evidence_text f (is_true file proof) = canonical_circuit (with_proof file proof)
-evidence_text f (is_false refutation) = canonical f.universals refutation
-evidence_text f (is_unknown rounds learned) = line (counts_text rounds learned)
+abbrev pub evidence_text : Form → Dqbf → Verdict → List ℕ
+evidence_text form f (is_true file proof) =
+    canonical_circuit (with_proof file (written_proof form proof))
+evidence_text form f (is_false refutation) =
+    canonical f.universals (written_refutation form refutation)
+evidence_text form f (is_unknown rounds learned) = line (counts_text rounds learned)
 
 abbrev pub verdict_word : Verdict → List ℕ
 verdict_word (is_true _ _) = codes "s TRUE"
 verdict_word (is_false _) = codes "s FALSE"
 verdict_word (is_unknown _ _) = codes "s UNKNOWN"
 
--- with the flag the line with the verdict is left out
-abbrev pub verdict_text : Bool → Dqbf → Verdict → List ℕ
-verdict_text bare f verdict =
-    (if bare then [] else line (verdict_word verdict)) ++ evidence_text f verdict
+abbrev pub verdict_text : Form → Dqbf → Verdict → List ℕ
+verdict_text form f verdict =
+    (if form.bare then [] else line (verdict_word verdict)) ++ evidence_text form f verdict
 
 abbrev pub verdict_status : Verdict → ℕ
 verdict_status (is_true _ _) = 10
@@ -56,6 +59,6 @@ verdict_status (is_unknown _ _) = 0
 abbrev pub is_verdict_status : ℕ → Bool
 is_verdict_status status = status == 10 || status == 20 || status == 0
 
-abbrev pub printed_verdict : Bool → Dqbf → Verdict → Printed
-printed_verdict bare f verdict =
-    record { status = verdict_status verdict; text = verdict_text bare f verdict }
+abbrev pub printed_verdict : Form → Dqbf → Verdict → Printed
+printed_verdict form f verdict =
+    record { status = verdict_status verdict; text = verdict_text form f verdict }

@@ -7,6 +7,7 @@ ghost use Rattle.hint_log.specs.ProductiveLog.{IsProductiveLog};
 ghost use Rattle.cert_export.specs.ExportedCircuit.{IsDecidedTrue};
 ghost use Rattle.dq_verdicts.specs.Shown.{IsDemonstrated};
 
+use crate::forms::Form;
 use crate::verdicts::{Decision, search, true_text};
 use cert_judge::laws::one_judgement;
 use cert_judge::{Judgement, judge};
@@ -59,7 +60,11 @@ fn judged(alloc: Global, log: &Log, id: u64, f: &Formula) -> Result<Demonstratio
     ensures { IfOk result (IsDemonstrated f.now log.now) }
 {
     one_judgement();
-    let text = true_text(alloc, log, id, f, false)?;
+    let form = Form {
+        bare: false,
+        deletes: false,
+    };
+    let text = true_text(alloc, log, id, f, form)?;
     if text.len() >= MAX_TEXT {
         return Err(Memory);
     }

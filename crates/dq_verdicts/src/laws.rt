@@ -3,23 +3,34 @@
 
 ghost use Rattle.dq_verdicts.specs.Accepted.{ProvedCircuitsAreAccepted, RefutationsAreAccepted, SmallLogsAreWithinLimits};
 
-/// The checker accepts a circuit with its proof, behind a line with the verdict or without one.
+use proof_deletions::laws::{
+    changed_lines_delete_alike, deletions_are_allowed, deletions_change_no_fault,
+};
+
+/// The checker accepts a circuit with its proof, in any form.
 pub fn proved_circuits_are_accepted()
     ensures { ProvedCircuitsAreAccepted }
 {
     aiger_text::laws::canonical_text_spells();
     cert_text::laws::canonical_proof_spells();
+    deletions_change_no_fault();
+    deletions_are_allowed();
 }
 
-/// The checker accepts a refutation, behind a line with the verdict or without one.
+/// The checker accepts a refutation, in any form.
 pub fn refutations_are_accepted()
     ensures { RefutationsAreAccepted }
 {
     cert_text::laws::canonical_text_spells();
+    deletions_change_no_fault();
+    deletions_are_allowed();
+    changed_lines_delete_alike();
 }
 
 /// Where the log has at most 400,000,000 entries, a circuit and its proof are within the formats'
-/// limits.
+/// limits, also with deletions.
 pub fn small_logs_are_within_limits()
     ensures { SmallLogsAreWithinLimits }
-{}
+{
+    deletions_are_allowed();
+}

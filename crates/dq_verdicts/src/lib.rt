@@ -6,10 +6,12 @@
 #![tactic(auto)]
 
 pub use demonstrations::{Demonstration, demonstrate};
+pub use forms::Form;
 pub use statuses::Status;
 pub use verdicts::solve;
 
 mod demonstrations;
+mod forms;
 pub mod laws;
 mod statuses;
 mod verdicts;

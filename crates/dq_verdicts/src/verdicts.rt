@@ -8,13 +8,16 @@ ghost use Rattle.hint_log.specs.ProductiveLog.{IsProductiveLog};
 ghost use Rattle.aiger_text.specs.Canonical.{canonical_circuit};
 ghost use Rattle.cert_text.specs.Header.{max_count};
 ghost use Rattle.cert_export.specs.ExportedCircuit.{IsDecidedTrue};
-ghost use Rattle.cert_text.specs.Canonical.{canonical_proof};
+ghost use Rattle.cert_text.specs.Canonical.{canonical, canonical_proof};
 ghost use Rattle.dq_runs.specs.Printed.{line};
 ghost use Rattle.repair_loop.specs.Searching.{IsShownFalse};
 ghost use Rattle.repair_loop.specs.Stopping.{IsStoppedAtLimit};
+ghost use Rattle.proof_deletions.specs.Deletions.{AreNumberedLines};
+ghost use Rattle.dq_verdicts.specs.Forms.{written_proof, written_refutation};
 ghost use Rattle.dq_verdicts.specs.Outputs.{IsVerdictOutput, IsTrueText};
 ghost use Rattle.dq_verdicts.specs.Verdicts.{with_proof, counts_text};
 
+use crate::forms::{Form, written_items};
 use crate::laws::{
     proved_circuits_are_accepted, refutations_are_accepted, small_logs_are_within_limits,
 };
@@ -22,9 +25,11 @@ use crate::statuses::Status;
 use aig_graph::Graph;
 use aiger_text::{AagFile, Text};
 use cdcl_core::Cdcl;
-use cert_export::laws::productive_answers_can_be_exported;
+use cert_export::laws::{
+    exported_lines_are_allowed, exported_proof_is_allowed, productive_answers_can_be_exported,
+};
 use cert_export::{clause_numbers, export_false, export_true};
-use cert_text::{Dqp, write_dqp, write_dqr};
+use cert_text::{Dqp, Dqr, write_dqp, write_dqr};
 use circuit_cnf::laws::shown_outputs_decide;
 use dq_formula::Formula;
 use dq_lits::Memory;
@@ -33,6 +38,7 @@ use dq_runs::Output;
 use hint_log::laws::rounds_are_steps;
 use hint_log::{Log, Stop};
 use oracle::Oracle;
+use proof_deletions::laws::{allowed_lines_are_numbered, deletions_are_allowed};
 use refutation_checker::laws::refutation_shows_false;
 use repair_loop::{Verdict, decide};
 use std::alloc::Global;
@@ -45,20 +51,20 @@ pub(crate) enum Decision {
 }
 
 /// Searches for a verdict on a formula, in as many steps as the log allows, and writes it with its
-/// evidence; with the flag the line with the verdict is left out. The status is 10 where the
-/// formula is true, 20 where it is false, and 0 where the steps didn't suffice.
-pub fn solve(alloc: Global, f: &Formula, bare: bool, log: &mut Log) -> Result<Output, Memory>
+/// evidence in this form. The status is 10 where the formula is true, 20 where it is false, and 0
+/// where the steps didn't suffice.
+pub fn solve(alloc: Global, f: &Formula, form: Form, log: &mut Log) -> Result<Output, Memory>
     requires formula { IsWellFormed f.now }
     requires empty { log.old.entries ≡ [] }
     requires limit { log.old.limit ≤ max_count }
-    ensures verdict { IfOk result (IsVerdictOutput f.now log.new bare) }
+    ensures verdict { IfOk result (IsVerdictOutput f.now log.new form) }
     ensures productive { IsProductiveLog f.now log.new.entries }
     ensures limit { log.new.limit ≡ log.old.limit }
 {
     match search(alloc, f, log) {
-        Ok(Decision::Shown(id)) => true_output(alloc, log, id, f, bare),
-        Ok(Decision::Refuted(id)) => false_output(alloc, log, id, f, bare),
-        Err(Stop::Limit) => unknown_output(alloc, log, f, bare),
+        Ok(Decision::Shown(id)) => true_output(alloc, log, id, f, form),
+        Ok(Decision::Refuted(id)) => false_output(alloc, log, id, f, form),
+        Err(Stop::Limit) => unknown_output(alloc, log, f, form),
         Err(Stop::Memory) => Err(Memory),
     }
 }
@@ -108,14 +114,14 @@ fn search_by<O: Oracle>(
 }
 
 // What is written of a true formula.
-fn true_output(alloc: Global, log: &Log, id: u64, f: &Formula, bare: bool) -> Result<Output, Memory>
+fn true_output(alloc: Global, log: &Log, id: u64, f: &Formula, form: Form) -> Result<Output, Memory>
     requires formula { IsWellFormed f.now }
     requires productive { IsProductiveLog f.now log.now.entries }
     requires is_true { IsTrueFormula f.now }
     requires decided { IsDecidedTrue f.now log.now.entries id }
-    ensures { IfOk result (IsVerdictOutput f.now log.now bare) }
+    ensures { IfOk result (IsVerdictOutput f.now log.now form) }
 {
-    let text = true_text(alloc, log, id, f, bare)?;
+    let text = true_text(alloc, log, id, f, form)?;
     Ok(Output {
         status: Status::True.code(),
         text,
@@ -128,38 +134,44 @@ pub(crate) fn true_text(
     log: &Log,
     id: u64,
     f: &Formula,
-    bare: bool,
+    form: Form,
 ) -> Result<Vec<u8>, Memory>
     requires formula { IsWellFormed f.now }
     requires productive { IsProductiveLog f.now log.now.entries }
     requires is_true { IsTrueFormula f.now }
     requires decided { IsDecidedTrue f.now log.now.entries id }
-    ensures { IfOk result (λ text. IsTrueText f.now log.now bare text.items) }
+    ensures { IfOk result (λ text. IsTrueText f.now log.now form text.items) }
 {
     f.every_formula_is_lawful();
     log.every_log_is_lawful();
     productive_answers_can_be_exported();
+    exported_proof_is_allowed();
+    allowed_lines_are_numbered();
     proved_circuits_are_accepted();
     small_logs_are_within_limits();
     let (file, proof) = export_true(alloc, log, id, f)?;
-    let evidence = circuit_text(alloc, file, &proof)?;
-    let text = with_verdict(alloc, "s TRUE\n", bare, evidence)?;
+    let evidence = circuit_text(alloc, file, proof, form)?;
+    let text = with_verdict(alloc, "s TRUE\n", form, evidence)?;
     Ok(text)
 }
 
 // A circuit with its proof in its comment.
-fn circuit_text(alloc: Global, mut file: AagFile, proof: &Dqp) -> Result<Vec<u8>, Memory>
-    ensures { IfOk result (λ text. text.items ≡ canonical_circuit (with_proof file proof.now)) }
+fn circuit_text(alloc: Global, mut file: AagFile, proof: Dqp, form: Form) -> Result<Vec<u8>, Memory>
+    requires { AreNumberedLines proof.items }
+    ensures { IfOk result
+        (λ text. text.items ≡ canonical_circuit (with_proof file (written_proof form proof))) }
 {
-    file.comment = Some(proof_text(alloc, proof)?);
+    file.comment = Some(proof_text(alloc, proof, form)?);
     aiger_text::write(alloc, &file)
 }
 
-fn proof_text(alloc: Global, proof: &Dqp) -> Result<Text, Memory>
-    ensures { IfOk result (λ text. text ≡ canonical_proof proof.now) }
+fn proof_text(alloc: Global, proof: Dqp, form: Form) -> Result<Text, Memory>
+    requires { AreNumberedLines proof.items }
+    ensures { IfOk result (λ text. text ≡ canonical_proof (written_proof form proof)) }
 {
-    let written = write_dqp(alloc, proof)?;
-    Ok(Text::from_bytes(alloc, &written)?)
+    let items = written_items(alloc, proof.items, form)?;
+    let text = write_dqp(alloc, &Dqp { items })?;
+    Ok(Text::from_bytes(alloc, &text)?)
 }
 
 // What is written of a false formula.
@@ -168,41 +180,61 @@ fn false_output(
     log: &Log,
     id: u64,
     f: &Formula,
-    bare: bool,
+    form: Form,
 ) -> Result<Output, Memory>
     requires formula { IsWellFormed f.now }
     requires productive { IsProductiveLog f.now log.now.entries }
     requires refuted { IsShownFalse f.now log.now id }
     requires limit { log.now.limit ≤ max_count }
-    ensures { IfOk result (IsVerdictOutput f.now log.now bare) }
+    ensures { IfOk result (IsVerdictOutput f.now log.now form) }
 {
     f.every_formula_is_lawful();
     log.every_log_is_lawful();
     productive_answers_can_be_exported();
+    exported_lines_are_allowed();
+    allowed_lines_are_numbered();
+    deletions_are_allowed();
     refutations_are_accepted();
     refutation_shows_false();
     let numbers = clause_numbers(alloc, f)?;
     let refutation = export_false(alloc, log, id, f, &numbers)?;
-    let evidence = write_dqr(alloc, &refutation, f)?;
-    let text = with_verdict(alloc, "s FALSE\n", bare, evidence)?;
+    let evidence = refutation_text(alloc, refutation, f, form)?;
+    let text = with_verdict(alloc, "s FALSE\n", form, evidence)?;
     Ok(Output {
         status: Status::False.code(),
         text,
     })
 }
 
+// A refutation as it is written.
+fn refutation_text(
+    alloc: Global,
+    refutation: Dqr,
+    f: &Formula,
+    form: Form,
+) -> Result<Vec<u8>, Memory>
+    requires { AreNumberedLines refutation.items }
+    ensures { IfOk result
+        (λ text. text.items
+        ≡ canonical f.now.universals (written_refutation form refutation)) }
+{
+    let Dqr { rows, items } = refutation;
+    let items = written_items(alloc, items, form)?;
+    write_dqr(alloc, &Dqr { rows, items }, f)
+}
+
 // What is written where the limit came first.
-fn unknown_output(alloc: Global, log: &Log, f: &Formula, bare: bool) -> Result<Output, Memory>
+fn unknown_output(alloc: Global, log: &Log, f: &Formula, form: Form) -> Result<Output, Memory>
     requires productive { IsProductiveLog f.now log.now.entries }
     requires undecided { IsUndecided f.now log.now.entries }
     requires limit { IsStoppedAtLimit f.now log.now }
-    ensures { IfOk result (IsVerdictOutput f.now log.now bare) }
+    ensures { IfOk result (IsVerdictOutput f.now log.now form) }
 {
     rounds_are_steps();
     let rounds = log.rounds();
     let learned = log.steps() - rounds;
     let evidence = counts_line(alloc, rounds, learned)?;
-    let text = with_verdict(alloc, "s UNKNOWN\n", bare, evidence)?;
+    let text = with_verdict(alloc, "s UNKNOWN\n", form, evidence)?;
     Ok(Output {
         status: Status::Unknown.code(),
         text,
@@ -220,13 +252,13 @@ fn counts_line(alloc: Global, rounds: u64, learned: u64) -> Result<Vec<u8>, Memo
 fn with_verdict(
     alloc: Global,
     verdict: &str,
-    bare: bool,
+    form: Form,
     evidence: Vec<u8>,
 ) -> Result<Vec<u8>, Memory>
     ensures { IfOk result
-        (λ text. text.items ≡ (if bare then [] else verdict.now) ++ evidence.items) }
+        (λ text. text.items ≡ (if form.bare then [] else verdict.now) ++ evidence.items) }
 {
-    if bare {
+    if form.bare {
         return Ok(evidence);
     }
     let mut text = Vec::new(alloc);

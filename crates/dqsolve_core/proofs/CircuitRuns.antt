@@ -1,5 +1,5 @@
 -- From what the reading of two circuits answers to what is due, and why.
-use Rattle.std.proofs.Common.{◌≡◌, ◌≢◌, inl, inr, ℕ, ◌<◌, false, List, Some, Result, Ok, Err, refl, sym, ap, ◌∙◌, subst, arith}
+use Rattle.std.proofs.Common.{◌≡◌, ◌≢◌, inl, inr, ℕ, ◌<◌, List, Some, Result, Ok, Err, refl, sym, ap, ◌∙◌, subst, arith}
 use Rattle.std.specs.Prelude.{IfOk}
 use Rattle.dq_io.specs.State.{FilesState}
 use Rattle.dq_lits.specs.Formula.{Dqbf}
@@ -9,6 +9,7 @@ use Rattle.dq_runs.specs.FileTexts.{PickedTwice}
 use Rattle.dq_runs.specs.Printed.{Printed, printed}
 use Rattle.dq_runs.specs.declared.outputs.Output.{Output}
 use Rattle.dq_verdicts.specs.Outputs.{IsVerdictOutput}
+use Rattle.dq_verdicts.specs.Forms.{plain}
 use Rattle.dq_verdicts.specs.Verdicts.{printed_verdict}
 use Rattle.pec_runs.specs.DesignFiles.{max_circuit, IsNoDesign, IsDesignFormula, IsDesignRead, IsUnreadableStop, design_line}
 use Rattle.pec_runs.specs.Encoded.{IsEncodeDue}
@@ -27,11 +28,11 @@ pub comparison_reported : (before now : FilesState) (log : ProofLog) (c : Compar
     (r : Result Output OutOfMemory)
     → IsDesignFormula (before.held c.circuits.specification) (before.held c.circuits.implementation) f
     → PickedTwice before now → now.faults ≡ before.faults → log.limit ≡ c.steps
-    → IfOk r (IsVerdictOutput f log false) → IfOk r (IsReported before now (Some (pec c)) log)
+    → IfOk r (IsVerdictOutput f log plain) → IfOk r (IsReported before now (Some (pec c)) log)
 comparison_reported before now log c f (Ok output) is picked unfaulted limit v = record {
   due = (compared f v.verdict, (is, limit, v.is, picked), v.is_printed);
   long = λ six. absurd (not_long v.verdict
-      (sym (status_of output (printed_verdict false f v.verdict) v.is_printed) ∙ six));
+      (sym (status_of output (printed_verdict plain f v.verdict) v.is_printed) ∙ six));
   unfaulted = λ _. unfaulted;
 }
 comparison_reported before now log c f (Err _) is picked unfaulted limit v = tt
@@ -128,7 +129,7 @@ pub comparison_steps : (before now : FilesState) (log : ProofLog) (c : Compariso
     → IsDueForCircuits before now log c report → (printed_comparison report).status ≡ 0
     → steps_of log.entries ≡ log.limit
 comparison_steps before now log c (no_design said) due zero = absurd (some_status said zero)
-comparison_steps before now log c (compared f verdict) due zero = verdict_steps f log false verdict due.2 zero
+comparison_steps before now log c (compared f verdict) due zero = verdict_steps f log plain verdict due.2 zero
 
 -- ---- what was read where the files give none
 

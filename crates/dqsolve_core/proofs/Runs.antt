@@ -29,7 +29,7 @@ use Rattle.dqsolve_words.specs.declared.requests.PecWords.{PecWords}
 use Rattle.dqsolve_words.specs.declared.requests.CommandWords.{CommandWords}
 use Rattle.dqsolve_words.specs.declared.requests.CommandWords.TheVariants.{Solve, Demo, Pec}
 use Rattle.dqsolve_core.specs.Outputs.{IsReported, IsDemoOutput}
-use Rattle.dqsolve_core.specs.Report.{SearchReport, no_formula, solved, printed_search, printed_demo, demonstration_status}
+use Rattle.dqsolve_core.specs.Report.{form_of, SearchReport, no_formula, solved, printed_search, printed_demo, demonstration_status}
 use Rattle.dqsolve_core.specs.Running.{IsDueFor, IsDue, IsRunLog, IsOwnLog, IsDemonstration, SeeksVerdict, steps_asked}
 use Rattle.dqsolve_core.proofs.CircuitRuns.{comparison_reasons, encode_reasons, comparison_steps}
 use Rattle.dqsolve_core.proofs.Statuses.{status_of, not_long, Reasons, verdict_reasons, verdict_steps}
@@ -56,11 +56,11 @@ pec_asked asked answer w s said is kind = sym said ∙ ap (option_map command_sa
 -- a verdict
 pub verdict_reported : (before now : FilesState) (log : ProofLog) (c : Search) (f : Dqbf) (r : Result Output Memory) →
     IsFormulaOf (before.held c.file) f
-    → PickedOnce before now → now.faults ≡ before.faults → log.limit ≡ c.steps → IfOk r (IsVerdictOutput f log c.bare) →
+    → PickedOnce before now → now.faults ≡ before.faults → log.limit ≡ c.steps → IfOk r (IsVerdictOutput f log (form_of c.options)) →
     IfOk r (IsReported before now (Some (solve c)) log)
 verdict_reported before now log c f (Ok output) one picked unfaulted limit v = record {
   due = (solved f v.verdict, (one, limit, v.is, picked), v.is_printed);
-  long = λ six. absurd (not_long v.verdict (sym (status_of output (printed_verdict c.bare f v.verdict) v.is_printed)
+  long = λ six. absurd (not_long v.verdict (sym (status_of output (printed_verdict (form_of c.options) f v.verdict) v.is_printed)
       ∙ six));
   unfaulted = λ _. unfaulted;
 }
@@ -241,7 +241,7 @@ search_steps : (before now : FilesState) (log : ProofLog) (c : Search) (report :
 search_steps before now log c (no_formula Unreadable) due zero = absurd (omega (arith, zero))
 search_steps before now log c (no_formula TooLong) due zero = absurd (omega (arith, zero))
 search_steps before now log c (no_formula (Refused l name)) due zero = absurd (omega (arith, zero))
-search_steps before now log c (solved f verdict) due zero = verdict_steps f log c.bare verdict due.2 zero
+search_steps before now log c (solved f verdict) due zero = verdict_steps f log (form_of c.options) verdict due.2 zero
 
 all_steps : (before now : FilesState) (c : Command) (log : ProofLog) (p : Printed) → SeeksVerdict c →
     IsDue before now log (Some c) p → p.status ≡ 0 → steps_of log.entries ≡ log.limit

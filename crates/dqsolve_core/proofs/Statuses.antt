@@ -6,6 +6,7 @@ use Rattle.dq_lits.specs.Formula.{Dqbf}
 use Rattle.hint_log.specs.Entries.{ProofLog, steps_of}
 use Rattle.dq_runs.specs.Printed.{Printed, printed}
 use Rattle.dq_runs.specs.declared.outputs.Output.{Output}
+use Rattle.dq_verdicts.specs.declared.forms.Form.{Form}
 use Rattle.dq_verdicts.specs.Shown.{IsVerdict}
 use Rattle.dq_verdicts.specs.Verdicts.{Verdict, is_true, is_false, is_unknown, verdict_status}
 use Rattle.dqsolve_words.specs.Command.{Command}
@@ -46,8 +47,8 @@ verdict_reasons before now c (is_unknown _ _) = record {
 }
 
 -- no verdict, so all steps were done
-pub verdict_steps : (f : Dqbf) (log : ProofLog) (bare : Bool) (verdict : Verdict) → IsVerdict f f log bare verdict →
+pub verdict_steps : (f : Dqbf) (log : ProofLog) (form : Form) (verdict : Verdict) → IsVerdict f f log form verdict →
     verdict_status verdict ≡ 0 → steps_of log.entries ≡ log.limit
-verdict_steps f log bare (is_true _ _) v zero = absurd (omega (arith, zero))
-verdict_steps f log bare (is_false _) v zero = absurd (omega (arith, zero))
-verdict_steps f log bare (is_unknown _ _) v zero = v.shown.limit
+verdict_steps f log form (is_true _ _) v zero = absurd (omega (arith, zero))
+verdict_steps f log form (is_false _) v zero = absurd (omega (arith, zero))
+verdict_steps f log form (is_unknown _ _) v zero = v.shown.limit

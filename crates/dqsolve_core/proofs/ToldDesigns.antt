@@ -1,5 +1,5 @@
 -- From what is due to what is shown over two circuits that are told.
-use Rattle.std.proofs.Common.{◌≡◌, ◌≢◌, ◌⊎◌, inl, inr, ℕ, ◌≤◌, false, List, length, Option, Some, Result, Ok, Err, refl, sym, ap, ◌∙◌, subst}
+use Rattle.std.proofs.Common.{◌≡◌, ◌≢◌, ◌⊎◌, inl, inr, ℕ, ◌≤◌, List, length, Option, Some, Result, Ok, Err, refl, sym, ap, ◌∙◌, subst}
 use Rattle.std.specs.Prelude.{IfOk}
 use Rattle.aiger_text.specs.CommentLine.{IsCommentLine}
 use Rattle.aiger_text.specs.FirstFault.{IsFirstFault}
@@ -17,6 +17,7 @@ use Rattle.dq_runs.specs.FileTexts.{IsShortText}
 use Rattle.dq_runs.specs.Printed.{Printed, printed}
 use Rattle.dq_runs.specs.Sinks.{SinkState}
 use Rattle.dq_runs.specs.declared.outputs.Output.{Output}
+use Rattle.dq_verdicts.specs.Forms.{plain}
 use Rattle.dq_verdicts.specs.Shown.{IsVerdict, IsShown}
 use Rattle.dq_verdicts.specs.Verdicts.{Verdict, is_true, is_false, is_unknown, printed_verdict}
 use Rattle.pec_front.specs.Boxes.{PartialDesign, IsLawfulDesign}
@@ -159,7 +160,7 @@ module _ (files now : FilesState) (c : Circuits) (spec imp : List ℕ)
 
 -- what a verdict says of the boxes
 says : DesignLaws → (d : PartialDesign) → IsLawfulDesign d → (log : ProofLog) (verdict : Verdict)
-    → IsShown (design_formula d) (design_formula d) log false verdict → SaysOfBoxes d verdict
+    → IsShown (design_formula d) (design_formula d) log plain verdict → SaysOfBoxes d verdict
 says laws d lawful log (is_true file proof) shown =
     let proved = shown.circuit in
     let (output, outputs, fit) = laws.certified d file.circuit file.symbols lawful.is_design lawful.acyclic
@@ -172,8 +173,8 @@ says laws d lawful log (is_unknown rounds learned) shown = tt
 
 compared_told : DesignLaws → (d : PartialDesign) → IsLawfulDesign d → (log : ProofLog) (c : Comparison)
     (verdict : Verdict) (sink sink_now : SinkState) (status : ℕ) → log.limit ≡ c.steps
-    → IsVerdict (design_formula d) (design_formula d) log false verdict
-    → IsWritten (printed_verdict false (design_formula d) verdict) sink sink_now status
+    → IsVerdict (design_formula d) (design_formula d) log plain verdict
+    → IsWritten (printed_verdict plain (design_formula d) verdict) sink sink_now status
     → IsCompared d log c sink.taken sink_now.taken status
 compared_told laws d lawful log c verdict sink sink_now status limit is w = record {
   verdict = verdict;
@@ -207,8 +208,8 @@ comparison_told laws files now log c spec imp told sink sink_now status (compare
       design.d,
       design.texts,
       compared_told laws design.d design.texts.lawful log c verdict sink sink_now status limit
-          (subst (λ g. IsVerdict g g log false verdict) design.same shown)
-          (subst (λ g. IsWritten (printed_verdict false g verdict) sink sink_now status) design.same w),
+          (subst (λ g. IsVerdict g g log plain verdict) design.same shown)
+          (subst (λ g. IsWritten (printed_verdict plain g verdict) sink sink_now status) design.same w),
     )
 
 encode_told : (files now : FilesState) (log : ProofLog) (c : Circuits) (spec imp : List ℕ)

@@ -1,21 +1,23 @@
 -- What a run of the solver says.
-use Rattle.std.specs.Prelude.{ℕ, false, List, ◌++◌, codes}
+use Rattle.std.specs.Prelude.{ℕ, List, ◌++◌, codes}
 use Rattle.std.specs.Fmt.{decimal}
 use Rattle.dq_lits.specs.Formula.{Dqbf}
 use Rattle.dq_runs.specs.FormulaFiles.{formula_line}
 use Rattle.dq_runs.specs.Printed.{Printed, line, usage_line}
 use Rattle.dq_runs.specs.declared.formulas.NoFormula.{NoFormula}
+use Rattle.dq_verdicts.specs.Forms.{plain}
+use Rattle.dq_verdicts.specs.declared.forms.Form.{Form}
 use Rattle.dq_verdicts.specs.Verdicts.{Verdict, printed_verdict}
 use Rattle.dq_verdicts.specs.declared.demonstrations.Demonstration.{Demonstration}
 use Rattle.dq_verdicts.specs.declared.demonstrations.Demonstration.TheVariants.{Valid, Large, CutOff}
-use Rattle.dqsolve_words.specs.Command.{Search, Planting}
+use Rattle.dqsolve_words.specs.Command.{Options, Search, Planting}
 use Rattle.pec_runs.specs.DesignFiles.{design_line}
 use Rattle.pec_runs.specs.declared.designs.NoDesign.{NoDesign}
 
 abbrev pub usage : Printed
 usage =
     usage_line
-    (codes "dqsolve solve [--steps N] [--bare] FILE / dqsolve demo SEED SIZE"
+    (codes "dqsolve solve [--steps N] [--bare] [--v2] FILE / dqsolve demo SEED SIZE"
     ++ codes " / dqsolve pec [--steps N] SPEC IMPL / dqsolve encode SPEC IMPL")
 
 -- what is said of the files of two circuits that are to be compared
@@ -27,7 +29,11 @@ pub data ComparisonReport : Type 0 where
 
 abbrev pub printed_comparison : ComparisonReport → Printed
 printed_comparison (no_design said) = design_line said
-printed_comparison (compared f verdict) = printed_verdict false f verdict
+printed_comparison (compared f verdict) = printed_verdict plain f verdict
+
+-- how a verdict is written with these options
+abbrev pub form_of : Options → Form
+form_of o = record { bare = o.bare; deletes = o.deletes }
 
 -- what is said of a formula's file that is to be searched
 pub data SearchReport : Type 0 where
@@ -38,7 +44,7 @@ pub data SearchReport : Type 0 where
 
 abbrev pub printed_search : Search → SearchReport → Printed
 printed_search c (no_formula said) = formula_line said
-printed_search c (solved f verdict) = printed_verdict c.bare f verdict
+printed_search c (solved f verdict) = printed_verdict (form_of c.options) f verdict
 
 abbrev pub demonstration_text : Demonstration → List ℕ
 demonstration_text Valid = codes " TRUE VALID"

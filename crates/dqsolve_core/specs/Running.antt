@@ -1,5 +1,5 @@
 -- Which report of the solver is due, and whose the log is.
-use Rattle.std.specs.Prelude.{◌≡◌, ◌≢◌, false, ℕ, ◌⊎◌, [], length, Option, None, Some}
+use Rattle.std.specs.Prelude.{◌≡◌, ◌≢◌, ℕ, ◌⊎◌, [], length, Option, None, Some}
 use Rattle.dq_io.specs.State.{FilesState}
 use Rattle.dq_lits.specs.Formula.{Dqbf}
 use Rattle.hint_log.specs.Entries.{ProofLog, steps_of}
@@ -8,12 +8,13 @@ use Rattle.planted_formulas.specs.Planted.{planted_formula}
 use Rattle.dq_runs.specs.FileTexts.{PickedOnce, PickedTwice}
 use Rattle.dq_runs.specs.FormulaFiles.{IsFormulaOf, IsNoFormula}
 use Rattle.dq_runs.specs.Printed.{Printed}
+use Rattle.dq_verdicts.specs.Forms.{plain}
 use Rattle.dq_verdicts.specs.Shown.{IsVerdict, IsDemonstrated}
 use Rattle.dq_verdicts.specs.declared.demonstrations.Demonstration.{Demonstration}
 use Rattle.pec_runs.specs.DesignFiles.{IsNoDesign, IsDesignFormula}
 use Rattle.pec_runs.specs.Encoded.{IsEncodeDue}
 use Rattle.dqsolve_words.specs.Command.{Search, Planting, Comparison, Command, solve, demo, pec, encode, default_steps}
-use Rattle.dqsolve_core.specs.Report.{SearchReport, no_formula, solved, ComparisonReport, no_design, compared, usage, printed_search, printed_comparison, printed_demo}
+use Rattle.dqsolve_core.specs.Report.{SearchReport, no_formula, solved, ComparisonReport, no_design, compared, usage, form_of, printed_search, printed_comparison, printed_demo}
 
 -- Which report is due for a search, by what the files told before the run and tell behind it, and
 -- by the search's log: the formula's file comes first, then its text, then the search. No other
@@ -22,8 +23,8 @@ abbrev pub IsDueFor : FilesState → FilesState → ProofLog → Search → Sear
 IsDueFor before now log c (no_formula said) =
     IsNoFormula before now c.file said × PickedOnce before now
 IsDueFor before now log c (solved f verdict) =
-    IsFormulaOf (before.held c.file) f × (log.limit ≡ c.steps) × IsVerdict f f log c.bare verdict
-    × PickedOnce before now
+    IsFormulaOf (before.held c.file) f × (log.limit ≡ c.steps)
+    × IsVerdict f f log (form_of c.options) verdict × PickedOnce before now
 
 -- the search's log of productive work on the planted formula, of so many clauses, shows that much
 pub record IsDemonstration (p : Planting) (log : ProofLog) (clauses : ℕ)
@@ -48,7 +49,7 @@ IsDueForCircuits before now log c (no_design said) =
 IsDueForCircuits before now log c (compared f verdict) =
     IsDesignFormula (before.held c.circuits.specification)
     (before.held c.circuits.implementation) f
-    × (log.limit ≡ c.steps) × IsVerdict f f log false verdict × PickedTwice before now
+    × (log.limit ≡ c.steps) × IsVerdict f f log plain verdict × PickedTwice before now
 
 -- the words come before all; for a planted formula no file is picked
 abbrev pub IsDue : FilesState → FilesState → ProofLog → Option Command → Printed → Type 0

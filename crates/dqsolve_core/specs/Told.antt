@@ -14,7 +14,7 @@ use Rattle.dq_verdicts.specs.Shown.{IsVerdict}
 use Rattle.dq_verdicts.specs.Verdicts.{Verdict, verdict_text, verdict_status, is_verdict_status}
 use Rattle.dq_verdicts.specs.declared.demonstrations.Demonstration.{Demonstration}
 use Rattle.dqsolve_words.specs.Command.{Search, Planting, Command, solve, demo, default_steps}
-use Rattle.dqsolve_core.specs.Report.{demo_text, demonstration_status}
+use Rattle.dqsolve_core.specs.Report.{form_of, demo_text, demonstration_status}
 use Rattle.dqsolve_core.specs.Running.{IsDemonstration}
 use Rattle.dqsolve_core.specs.ToldCircuits.{ComparesTold}
 
@@ -30,9 +30,9 @@ pub record IsSolved (f : Dqbf) (log : ProofLog) (c : Search) (before now : Optio
     (status : ℕ) : Type 0 where
   pub verdict : Verdict
   pub limit : log.limit ≡ c.steps
-  pub is : IsVerdict f f log c.bare verdict
+  pub is : IsVerdict f f log (form_of c.options) verdict
   pub ends_with : status ≡ verdict_status verdict
-  pub written : now ≡ append_known before (verdict_text c.bare f verdict)
+  pub written : now ≡ append_known before (verdict_text (form_of c.options) f verdict)
 
 -- the text is a formula's, and what is written is a verdict on it
 pub record IsSolution (formula : List ℕ) (log : ProofLog) (c : Search)

@@ -1,5 +1,5 @@
 -- What a run of the solver shows over two circuits that are told.
-use Rattle.std.specs.Prelude.{◌≡◌, ◌≢◌, ◌⊎◌, false, ℕ, ◌<◌, ◌≤◌, List, length, Option, None, Some, Ok, Err}
+use Rattle.std.specs.Prelude.{◌≡◌, ◌≢◌, ◌⊎◌, ℕ, ◌<◌, ◌≤◌, List, length, Option, None, Some, Ok, Err}
 use Rattle.std.specs.Io.KnownBytes.{append_known}
 use Rattle.aiger_text.specs.CommentLine.{IsCommentLine}
 use Rattle.aiger_text.specs.FirstFault.{IsFirstFault}
@@ -12,6 +12,7 @@ use Rattle.dq_lits.specs.Formula.{Existential}
 use Rattle.dq_lits.specs.Skolem.{OutputFunction}
 use Rattle.dqdimacs_reader.specs.Canonical.{canonical}
 use Rattle.dq_runs.specs.Sinks.{SinkState}
+use Rattle.dq_verdicts.specs.Forms.{plain}
 use Rattle.dq_verdicts.specs.Shown.{IsVerdict}
 use Rattle.dq_verdicts.specs.Verdicts.{Verdict, is_true, is_false, is_unknown, verdict_text, verdict_status}
 use Rattle.hint_log.specs.Entries.{ProofLog}
@@ -99,10 +100,10 @@ pub record IsCompared (d : PartialDesign) (log : ProofLog) (c : Comparison)
     (before now : Option (List ℕ)) (status : ℕ) : Type 0 where
   pub verdict : Verdict
   pub limit : log.limit ≡ c.steps
-  pub is : IsVerdict (design_formula d) (design_formula d) log false verdict
+  pub is : IsVerdict (design_formula d) (design_formula d) log plain verdict
   pub boxes : SaysOfBoxes d verdict
   pub ends_with : status ≡ verdict_status verdict
-  pub written : now ≡ append_known before (verdict_text false (design_formula d) verdict)
+  pub written : now ≡ append_known before (verdict_text plain (design_formula d) verdict)
 
 -- the design's formula, written with status 0
 pub record IsEncoded (d : PartialDesign) (before now : Option (List ℕ)) (status : ℕ) : Type 0 where

@@ -8,8 +8,9 @@ ghost use Rattle.planted_formulas.specs.Planted.{planted_formula};
 ghost use Rattle.dq_runs.specs.Ending.{Ends, HasCauses};
 ghost use Rattle.dq_runs.specs.Sinks.{sink_of};
 ghost use Rattle.dqsolve_words.specs.Command.{Command, solve, pec, command_of, most_seed, least_size, most_size, default_steps};
-ghost use Rattle.dqsolve_words.specs.Words.{search_of, planting_of, comparison_of};
+ghost use Rattle.dqsolve_words.specs.Words.{options_of, search_of, planting_of, comparison_of};
 ghost use Rattle.dqsolve_core.specs.Outputs.{IsReported, IsDemoOutput};
+ghost use Rattle.dqsolve_core.specs.Report.{form_of};
 ghost use Rattle.dqsolve_core.specs.Running.{IsDue, IsRunLog, IsOwnLog, steps_asked};
 ghost use Rattle.dqsolve_core.specs.Told.{ShowsTold};
 
@@ -17,10 +18,10 @@ use crate::demos::demo_output;
 use dq_io::{Files, Sink};
 use dq_lits::Memory;
 use dq_runs::{FormulaStop, Output, deliver, outputs, read_formula};
-use dq_verdicts::solve;
+use dq_verdicts::{Form, solve};
 use dqdimacs_reader::laws::formula_or_first_fault;
 use dqsolve_words::laws::numbers_are_in_range;
-use dqsolve_words::{CommandWords, DemoWords, PecWords, SolveWords, command_words};
+use dqsolve_words::{CommandWords, DemoWords, PecWords, SolveOptions, SolveWords, command_words};
 use hint_log::Log;
 use pec_front::laws::{certified_boxes_fit, design_formulas_are_well_formed, fitting_boxes_choose};
 use pec_runs::{DesignStop, encode, read_design_formula};
@@ -32,7 +33,7 @@ const DEFAULT_STEPS: u64 = 1_000_000;
 
 /// The commands, as the usage line has them.
 const COMMANDS: &str = concat!(
-    "dqsolve solve [--steps N] [--bare] FILE / dqsolve demo SEED SIZE",
+    "dqsolve solve [--steps N] [--bare] [--v2] FILE / dqsolve demo SEED SIZE",
     " / dqsolve pec [--steps N] SPEC IMPL / dqsolve encode SPEC IMPL",
 );
 
@@ -141,6 +142,10 @@ fn report_circuits<F: Files>(
     ensures held { F.held files.new ≡ F.held files.old }
 {
     design_formulas_are_well_formed();
+    let form = Form {
+        bare: false,
+        deletes: false,
+    };
     log.rewind(comparison.steps);
     match read_design_formula(
         alloc,
@@ -148,7 +153,7 @@ fn report_circuits<F: Files>(
         comparison.circuits.spec,
         comparison.circuits.imp,
     ) {
-        Ok(formula) => solve(alloc, &formula, false, log),
+        Ok(formula) => solve(alloc, &formula, form, log),
         Err(DesignStop::Memory) => Err(Memory),
         Err(DesignStop::Said(said)) => said.output(alloc),
     }
@@ -172,8 +177,18 @@ fn report_file<F: Files>(
 {
     log.rewind(asked.steps);
     match read_formula(alloc, files, asked.file) {
-        Ok(formula) => solve(alloc, &formula, asked.bare, log),
+        Ok(formula) => solve(alloc, &formula, form_of(asked.options), log),
         Err(FormulaStop::Memory) => Err(Memory),
         Err(FormulaStop::Said(said)) => said.output(alloc),
+    }
+}
+
+// How a verdict is written with these options.
+fn form_of(options: SolveOptions) -> Form
+    ensures { result ≡ form_of (options_of options) }
+{
+    Form {
+        bare: options.bare,
+        deletes: options.deletes,
     }
 }

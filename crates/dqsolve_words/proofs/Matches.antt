@@ -10,7 +10,7 @@ use Rattle.clap.specs.Walk.{Row, Text, first_of, rows_of}
 use Rattle.clap.specs.declared.parser.matches.Found.{Found}
 use Rattle.clap.specs.declared.error.kind.ErrorKind.{ErrorKind}
 use Rattle.clap.proofs.WalkLemmas.{first_value-rows}
-use Rattle.dqsolve_words.specs.Command.{Search, Circuits, Comparison, Command, command_of, command_in, solve_in, circuits_in, pec_in, steps_in, number_in, has_flag, without_fault, solver_app, least_steps, most_steps, default_steps}
+use Rattle.dqsolve_words.specs.Command.{Options, Search, Circuits, Comparison, Command, command_of, command_in, solve_in, circuits_in, pec_in, steps_in, number_in, has_flag, options_in, without_fault, solver_app, least_steps, most_steps, default_steps}
 
 -- what a getter finds is the first value in the rows
 pub value_found : (f : Found) (id : Text) (value : Option Text) → value ≡ first_value f id →
@@ -29,24 +29,24 @@ flag_found f id value is = ap (λ o. option_map_or (λ v. bytes_eq v (codes "tru
 abbrev comparison : ℕ → Circuits → Comparison
 comparison steps circuits = record { steps = steps; circuits = circuits }
 
-abbrev search : ℕ → Bool → Text → Search
-search steps bare file = record { steps = steps; bare = bare; file = file }
+abbrev search : ℕ → Options → Text → Search
+search steps options file = record { steps = steps; options = options; file = file }
 
 pub number_found : (f : Found) (id : Text) (least most : ℕ) (value : Option Text) → value ≡ first_value f id
     → option_and_then (number_in least most) value ≡ option_and_then (number_in least most) (first_of id (rows_of f))
 number_found f id least most value is = ap (option_and_then (number_in least most)) (value_found f id value is)
 
-pub solve_found : (f : Found) (file : Option Text) (steps : Option ℕ) (bare : Bool) →
+pub solve_found : (f : Found) (file : Option Text) (steps : Option ℕ) (options : Options) →
     file ≡ first_value f (codes "FILE") → steps ≡ steps_in (rows_of f)
-    → bare ≡ has_flag (codes "bare") (rows_of f)
-    → option_and_then (λ (name : Text). option_map (λ (n : ℕ). search n bare name) steps) file ≡ solve_in (rows_of f)
-solve_found f file steps bare is_file is_steps is_bare =
-    ap (λ (a : Option Text). option_and_then (λ (name : Text). option_map (λ (n : ℕ). search n bare name) steps) a)
+    → options ≡ options_in (rows_of f)
+    → option_and_then (λ (name : Text). option_map (λ (n : ℕ). search n options name) steps) file ≡ solve_in (rows_of f)
+solve_found f file steps options is_file is_steps is_options =
+    ap (λ (a : Option Text). option_and_then (λ (name : Text). option_map (λ (n : ℕ). search n options name) steps) a)
     (value_found f (codes "FILE") file is_file)
-    ∙ ap (λ (b : Option ℕ). option_and_then (λ (name : Text). option_map (λ (n : ℕ). search n bare name) b)
+    ∙ ap (λ (b : Option ℕ). option_and_then (λ (name : Text). option_map (λ (n : ℕ). search n options name) b)
     (first_of (codes "FILE") (rows_of f))) is_steps
-    ∙ ap (λ (c : Bool). option_and_then (λ (name : Text). option_map (λ (n : ℕ). search n c name)
-    (steps_in (rows_of f))) (first_of (codes "FILE") (rows_of f))) is_bare
+    ∙ ap (λ (c : Options). option_and_then (λ (name : Text). option_map (λ (n : ℕ). search n c name)
+    (steps_in (rows_of f))) (first_of (codes "FILE") (rows_of f))) is_options
 
 abbrev pair : Text → Text → Circuits
 pair spec imp = record { specification = spec; implementation = imp }

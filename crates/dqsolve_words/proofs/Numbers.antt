@@ -11,10 +11,10 @@ use Rattle.clap.specs.Walk.{Row, Text, first_of}
 use Rattle.clap.specs.declared.builder.value_parser.ValueParser.TheVariants as vp
 use Rattle.clap.proofs.ValueTestLemmas.{accepts-Accepts, Accepts-accepts}
 use Rattle.std.specs.Str.{bytes_eq}
-use Rattle.dqsolve_words.specs.Command.{Search, Planting, Circuits, Comparison, Command, solve, demo, pec, encode, IsInRange, number_in, steps_in, solve_in, demo_in, circuits_in, pec_in, command_in, has_flag, without_fault, command_of, solver_app, least_steps, most_steps, default_steps, most_seed, least_size, most_size}
+use Rattle.dqsolve_words.specs.Command.{Options, Search, Planting, Circuits, Comparison, Command, solve, demo, pec, encode, IsInRange, number_in, steps_in, solve_in, demo_in, circuits_in, pec_in, command_in, options_in, without_fault, command_of, solver_app, least_steps, most_steps, default_steps, most_seed, least_size, most_size}
 
-abbrev search : ℕ → Bool → Text → Search
-search steps bare file = record { steps = steps; bare = bare; file = file }
+abbrev search : ℕ → Options → Text → Search
+search steps options file = record { steps = steps; options = options; file = file }
 
 abbrev planting : ℕ → ℕ → Planting
 planting seed size = record { seed = seed; size = size }
@@ -87,13 +87,13 @@ steps_range (Some text) n same = in_range_by least_steps most_steps text
 same_command : (a c : Command) → Some a ≡ Some c → a ≡ c
 same_command a c is = ap (λ (o : Option Command). option_map_or (λ x. x) o a) is
 
-solve_by : (file : Option Text) (steps : Option ℕ) (bare : Bool) →
+solve_by : (file : Option Text) (steps : Option ℕ) (options : Options) →
     ((n : ℕ) → steps ≡ Some n → (least_steps ≤ n) × (n ≤ most_steps)) → (c : Command)
-    → option_map solve (option_and_then (λ (name : Text). option_map (λ (n : ℕ). search n bare name) steps) file)
+    → option_map solve (option_and_then (λ (name : Text). option_map (λ (n : ℕ). search n options name) steps) file)
     ≡ Some c → IsInRange c
-solve_by None steps bare range c is = cc
-solve_by (Some name) None bare range c is = cc
-solve_by (Some name) (Some n) bare range c is = subst IsInRange (same_command (solve (search n bare name)) c is)
+solve_by None steps options range c is = cc
+solve_by (Some name) None options range c is = cc
+solve_by (Some name) (Some n) options range c is = subst IsInRange (same_command (solve (search n options name)) c is)
     (range n refl)
 
 demo_by : (seed size : Option ℕ) → ((n : ℕ) → seed ≡ Some n → (0 ≤ n) × (n ≤ most_seed)) →
@@ -130,7 +130,7 @@ asked_by rows false true e c is =
     pec_by (circuits_in rows) (steps_in rows) (steps_range (first_of (codes "steps") rows)) c is
 asked_by rows false false true c is = encode_by (circuits_in rows) c is
 asked_by rows false false false c is =
-    solve_by (first_of (codes "FILE") rows) (steps_in rows) (has_flag (codes "bare") rows)
+    solve_by (first_of (codes "FILE") rows) (steps_in rows) (options_in rows)
     (steps_range (first_of (codes "steps") rows)) c is
 
 command_range : (sub : Option (Text × List Row)) (c : Command) → command_in sub ≡ Some c → IsInRange c

@@ -1,6 +1,6 @@
 -- What the words of a command line ask for, by clap's own meaning of a command with subcommands.
 -- The first word is the program's own name.
-use Rattle.std.specs.Prelude.{ℕ, ◌≤◌, Bool, true, false, List, [], ◌∷◌, Option, None, Some, codes, option_map, option_and_then, if◌then◌else◌}
+use Rattle.std.specs.Prelude.{ℕ, ◌≤◌, Bool, true, false, List, [], ◌∷◌, ◌++◌, Option, None, Some, codes, option_map, option_and_then, if◌then◌else◌}
 use Rattle.std.specs.Option.{option_map_or}
 use Rattle.std.specs.Str.{bytes_eq}
 use Rattle.std.specs.Str.Parse.{digits_value, without_leading_plus}
@@ -11,11 +11,18 @@ use Rattle.clap.specs.ValueTests.{is_unsigned_in}
 use Rattle.clap.specs.Walk.{Row, Rule, first_of}
 use Rattle.clap.specs.declared.builder.action.ArgAction.TheVariants.{Set, SetTrue}
 
--- a search with so many steps at most, whether the line with the verdict is left out, and the name
--- of the formula's file
+-- how a verdict is written
+pub record Options : Type 0 where
+  -- without the line that names it
+  pub bare : Bool
+  -- with a deletion behind the last line that hints a derived clause
+  pub deletes : Bool
+
+-- a search with so many steps at most, how its verdict is written, and the name of the formula's
+-- file
 pub record Search : Type 0 where
   pub steps : ℕ
-  pub bare : Bool
+  pub options : Options
   pub file : List ℕ
 
 -- the formula that is planted by a seed, in a size
@@ -59,10 +66,14 @@ flag id = record (new_rule id) { long = Some id; action = Some SetTrue }
 abbrev pub without_flags : Shape → Shape
 without_flags s = record s { disable_help_flag = true; disable_version_flag = true }
 
--- solve [--steps N] [--bare] FILE
+-- the options of solve
+abbrev pub solve_options : List Rule
+solve_options = value_option (codes "steps") ∷ flag (codes "bare") ∷ flag (codes "v2") ∷ []
+
+-- solve [--steps N] [--bare] [--v2] FILE
 abbrev pub solve_shape : Shape
 solve_shape = record (without_flags (new_shape (codes "solve"))) {
-  rules = value_option (codes "steps") ∷ flag (codes "bare") ∷ required_word (codes "FILE") ∷ [];
+  rules = solve_options ++ required_word (codes "FILE") ∷ [];
 }
 
 -- demo SEED SIZE
@@ -138,12 +149,17 @@ steps_in rows =
 abbrev pub has_flag : List ℕ → List Row → Bool
 has_flag id rows = option_map_or (λ value. bytes_eq value (codes "true")) (first_of id rows) false
 
+-- the flags that are given
+abbrev pub options_in : List Row → Options
+options_in rows =
+    record { bare = has_flag (codes "bare") rows; deletes = has_flag (codes "v2") rows }
+
 -- what is asked of `solve`
 abbrev pub solve_in : List Row → Option Search
 solve_in rows = option_and_then
     (λ file.
     option_map
-    (λ steps. record { steps = steps; bare = has_flag (codes "bare") rows; file = file })
+    (λ steps. record { steps = steps; options = options_in rows; file = file })
     (steps_in rows))
     (first_of (codes "FILE") rows)
 

@@ -1,9 +1,13 @@
 -- Short words for command lines that are written out.
-use Rattle.std.specs.Prelude.{ℕ, Bool, List, ◌∷◌, Option, codes}
-use Rattle.dqsolve_words.specs.Command.{Command, solve, demo, pec, encode, command_of}
+use Rattle.std.specs.Prelude.{ℕ, Bool, false, List, ◌∷◌, Option, codes}
+use Rattle.dqsolve_words.specs.Command.{Options, Command, solve, demo, pec, encode, command_of}
+
+abbrev pub solving_with : ℕ → Options → List ℕ → Command
+solving_with steps options file =
+    solve (record { steps = steps; options = options; file = file })
 
 abbrev pub solving : ℕ → Bool → List ℕ → Command
-solving steps bare file = solve (record { steps = steps; bare = bare; file = file })
+solving steps bare file = solving_with steps (record { bare = bare; deletes = false }) file
 
 abbrev pub planting : ℕ → ℕ → Command
 planting seed size = demo (record { seed = seed; size = size })

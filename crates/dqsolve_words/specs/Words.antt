@@ -1,5 +1,6 @@
 -- The command of words that were read.
-use Rattle.dqsolve_words.specs.Command.{Search, Planting, Circuits, Comparison, Command, solve, demo, pec, encode}
+use Rattle.dqsolve_words.specs.Command.{Options, Search, Planting, Circuits, Comparison, Command, solve, demo, pec, encode}
+use Rattle.dqsolve_words.specs.declared.requests.SolveOptions.{SolveOptions}
 use Rattle.dqsolve_words.specs.declared.requests.SolveWords.{SolveWords}
 use Rattle.dqsolve_words.specs.declared.requests.DemoWords.{DemoWords}
 use Rattle.dqsolve_words.specs.declared.requests.CircuitWords.{CircuitWords}
@@ -7,8 +8,11 @@ use Rattle.dqsolve_words.specs.declared.requests.PecWords.{PecWords}
 use Rattle.dqsolve_words.specs.declared.requests.CommandWords.{CommandWords}
 use Rattle.dqsolve_words.specs.declared.requests.CommandWords.TheVariants.{Solve, Demo, Pec, Encode}
 
+abbrev pub options_of : SolveOptions → Options
+options_of o = record { bare = o.bare; deletes = o.deletes }
+
 abbrev pub search_of : SolveWords → Search
-search_of w = record { steps = w.steps; bare = w.bare; file = w.file.now }
+search_of w = record { steps = w.steps; options = options_of w.options; file = w.file.now }
 
 abbrev pub planting_of : DemoWords → Planting
 planting_of w = record { seed = w.seed; size = w.size }

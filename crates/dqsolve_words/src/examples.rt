@@ -2,7 +2,7 @@
 
 ghost use Rattle.std.specs.Prelude.{◌≡◌, true, false, [], ◌∷◌, Some, None, codes};
 ghost use Rattle.dqsolve_words.specs.Command.{command_of, default_steps};
-ghost use Rattle.dqsolve_words.specs.Examples.{solving, planting, comparing, encoding, dqsolve};
+ghost use Rattle.dqsolve_words.specs.Examples.{solving, solving_with, planting, comparing, encoding, dqsolve};
 
 /// Options stand before or behind the name, the number of steps also behind `=`.
 pub fn options_are_taken()
@@ -16,6 +16,11 @@ pub fn options_are_taken()
         ≡ Some (solving 7 false (codes "f")) }
     ensures separator { dqsolve (codes "solve" ∷ codes "--bare" ∷ codes "--" ∷ codes "--steps" ∷ [])
         ≡ Some (solving default_steps true (codes "--steps")) }
+    ensures deletions { dqsolve (codes "solve" ∷ codes "--v2" ∷ codes "f" ∷ [])
+        ≡ Some
+        (solving_with default_steps (record { bare = false; deletes = true }) (codes "f")) }
+    ensures both { dqsolve (codes "solve" ∷ codes "f" ∷ codes "--v2" ∷ codes "--bare" ∷ [])
+        ≡ Some (solving_with default_steps (record { bare = true; deletes = true }) (codes "f")) }
 {}
 
 /// Numbers of steps outside the range are refused, and what isn't a number.
@@ -57,6 +62,7 @@ pub fn circuits_are_taken()
     ensures missing { dqsolve (codes "encode" ∷ codes "s" ∷ []) ≡ None }
     ensures more { dqsolve (codes "pec" ∷ codes "s" ∷ codes "i" ∷ codes "j" ∷ []) ≡ None }
     ensures bare { dqsolve (codes "pec" ∷ codes "--bare" ∷ codes "s" ∷ codes "i" ∷ []) ≡ None }
+    ensures deletions { dqsolve (codes "pec" ∷ codes "--v2" ∷ codes "s" ∷ codes "i" ∷ []) ≡ None }
     ensures encode_steps { dqsolve
         (codes "encode" ∷ codes "--steps" ∷ codes "7" ∷ codes "s" ∷ codes "i" ∷ []) ≡ None }
 {}

@@ -5,8 +5,8 @@ ghost use Rattle.clap.specs.Simple.{app_of, shape_of, subcommand_rows_of};
 ghost use Rattle.clap.specs.Walk.{rows_of, rule_of, first_of};
 ghost use Rattle.clap.specs.Matches.{found_of};
 ghost use Rattle.clap.specs.declared.builder.command.Command.TheViews.{out-Command};
-ghost use Rattle.dqsolve_words.specs.Command.{solve, demo, pec, encode, command_of, command_in, asked_of, formula_app, solver_app, solve_shape, demo_shape, pec_shape, encode_shape, required_word, value_option, flag, solve_in, demo_in, circuits_in, pec_in, steps_in, number_in, has_flag, most_seed, least_size, most_size};
-ghost use Rattle.dqsolve_words.specs.Words.{search_of, planting_of, circuits_of, comparison_of, command_said};
+ghost use Rattle.dqsolve_words.specs.Command.{solve, demo, pec, encode, command_of, command_in, asked_of, formula_app, solver_app, solve_options, solve_shape, demo_shape, pec_shape, encode_shape, required_word, value_option, flag, solve_in, demo_in, circuits_in, pec_in, steps_in, number_in, has_flag, options_in, most_seed, least_size, most_size};
+ghost use Rattle.dqsolve_words.specs.Words.{options_of, search_of, planting_of, circuits_of, comparison_of, command_said};
 
 use clap::error::ErrorKind;
 use clap::{Arg, ArgAction, ArgMatches, Command};
@@ -31,12 +31,20 @@ const LEAST_SIZE: u64 = 1;
 /// The greatest size.
 const MOST_SIZE: u64 = 10_000;
 
-/// A search with so many steps at most, whether the line with the verdict is left out, and the name
-/// of the formula's file.
+/// How a verdict is written: without the line that names it, and with a deletion behind the last
+/// line of the proof that hints a derived clause.
+#[derive(Clone, Copy)]
+pub struct SolveOptions {
+    pub bare: bool,
+    pub deletes: bool,
+}
+
+/// A search with so many steps at most, how its verdict is written, and the name of the formula's
+/// file.
 #[derive(Clone, Copy)]
 pub struct SolveWords<'a> {
     pub steps: u64,
-    pub bare: bool,
+    pub options: SolveOptions,
     pub file: &'a str,
 }
 
@@ -94,20 +102,30 @@ fn flag_argument<'a>(alloc: Global, id: &'a str) -> Arg<'a>
     Arg::new(alloc, id).long(id).action(ArgAction::SetTrue)
 }
 
-// `solve [--steps N] [--bare] FILE`.
-fn solve_command<'a>(alloc: Global) -> Result<Command<'a>, AllocError>
-    ensures shape { IfOk result (λ command. shape_of command ≡ solve_shape) }
+// `solve [--steps N] [--bare] [--v2]`.
+fn solve_options<'a>(alloc: Global) -> Result<Command<'a>, AllocError>
+    ensures shape { IfOk result
+        (λ command. shape_of command ≡ record solve_shape { rules = solve_options }) }
     ensures local { IfOk result (λ command. (out-Command command).has_globals ≡ false) }
 {
     let steps = option_argument(alloc, "steps");
     let bare = flag_argument(alloc, "bare");
-    let file = word_argument(alloc, "FILE");
+    let deletes = flag_argument(alloc, "v2");
     Command::new(alloc, "solve")
         .disable_help_flag(true)
         .disable_version_flag(true)
         .arg(steps)?
         .arg(bare)?
-        .arg(file)
+        .arg(deletes)
+}
+
+// `solve [--steps N] [--bare] [--v2] FILE`.
+fn solve_command<'a>(alloc: Global) -> Result<Command<'a>, AllocError>
+    ensures shape { IfOk result (λ command. shape_of command ≡ solve_shape) }
+    ensures local { IfOk result (λ command. (out-Command command).has_globals ≡ false) }
+{
+    let file = word_argument(alloc, "FILE");
+    solve_options(alloc)?.arg(file)
 }
 
 // `demo SEED SIZE`.
@@ -201,13 +219,23 @@ fn steps_in<'a>(matches: &ArgMatches<'a>) -> Option<u64>
     }
 }
 
-// Whether the matches leave the line with the verdict out.
-fn bare_in<'a>(matches: &ArgMatches<'a>) -> bool
-    ensures { result ≡ has_flag (codes "bare") (rows_of (found_of matches.now)) }
+// Whether the matches have a flag.
+fn has_flag<'a>(matches: &ArgMatches<'a>, id: &str) -> bool
+    ensures { result ≡ has_flag id.now (rows_of (found_of matches.now)) }
 {
-    match matches.get_str("bare") {
+    match matches.get_str(id) {
         Some(value) => value == "true",
         None => false,
+    }
+}
+
+// The flags that the matches have.
+fn options_in<'a>(matches: &ArgMatches<'a>) -> SolveOptions
+    ensures { options_of result ≡ options_in (rows_of (found_of matches.now)) }
+{
+    SolveOptions {
+        bare: has_flag(matches, "bare"),
+        deletes: has_flag(matches, "v2"),
     }
 }
 
@@ -221,8 +249,12 @@ fn solve_in<'a>(matches: &ArgMatches<'a>) -> Option<SolveWords<'a>>
     let Some(steps) = steps_in(matches) else {
         return None;
     };
-    let bare = bare_in(matches);
-    Some(SolveWords { steps, bare, file })
+    let options = options_in(matches);
+    Some(SolveWords {
+        steps,
+        options,
+        file,
+    })
 }
 
 // The number in a range that the matches give a name.

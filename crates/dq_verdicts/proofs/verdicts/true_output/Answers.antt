@@ -9,5 +9,5 @@ returns c =
       verdict = is_true shown.file shown.proof;
       is = record { productive = c.requires.productive; shown = shown.shown };
       is_printed = printed_as (is_true shown.file shown.proof) c.code.result c.in_ok-text.text.items
-          (verdict_text c.args.bare c.args.f.now (is_true shown.file shown.proof)) c.code.ensures shown.is;
+          (verdict_text c.args.form c.args.f.now (is_true shown.file shown.proof)) c.code.ensures shown.is;
     }

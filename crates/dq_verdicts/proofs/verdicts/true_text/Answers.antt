@@ -1,12 +1,18 @@
 use Rattle.std.proofs.Common.{◌∙◌, ◌++◌, ap, cond, [], codes}
 use Rattle.dq_runs.specs.Printed.{line}
-use Rattle.dq_verdicts.proofs.ShownVerdicts.{shown_true}
+use Rattle.dq_verdicts.proofs.ShownVerdicts.{shown_true, proof_numbered}
 use Rattle.dq_verdicts.proofs.verdicts.true_text.Goals as goal
 
 pub export_true-requires-clause-decided : goal.export_true-requires-clause-decided
 export_true-requires-clause-decided c =
     (c.productive_answers_can_be_exported.ensures c.args.f.now c.args.log.now.entries c.args.id
     c.every_log_is_lawful.ensures c.requires.productive).0 c.requires.decided
+
+pub circuit_text-requires : goal.circuit_text-requires
+circuit_text-requires c =
+    let exported = c.in_ok-file.ensures in
+    proof_numbered c.exported_proof_is_allowed.ensures c.allowed_lines_are_numbered.ensures c.args.f.now
+    c.args.log.now.entries c.args.id exported.exported.0 c.in_ok-file.file c.in_ok-file.proof exported.exported.1
 
 pub returns : goal.returns
 returns c =
@@ -15,7 +21,7 @@ returns c =
       file = c.in_ok-file.file;
       proof = c.in_ok-file.proof;
       shown = shown_true c.proved_circuits_are_accepted.ensures c.small_logs_are_within_limits.ensures c.args.f.now
-          c.args.log.now c.args.id c.args.bare
+          c.args.log.now c.args.id c.args.form
           c.in_ok-file.file c.in_ok-file.proof c.every_formula_is_lawful.ensures
           c.requires.is_true c.requires.decided
           (record {
@@ -26,7 +32,10 @@ returns c =
             spelled = exported.spelled;
             allowed = exported.allowed;
             exported = exported.exported;
+            lines = proof_numbered c.exported_proof_is_allowed.ensures c.allowed_lines_are_numbered.ensures
+                c.args.f.now c.args.log.now.entries c.args.id exported.exported.0 c.in_ok-file.file
+                c.in_ok-file.proof exported.exported.1;
           });
-      is = c.in_ok-text.ensures ∙ ap (λ evidence. cond c.args.bare [] (line (codes "s TRUE")) ++ evidence)
+      is = c.in_ok-text.ensures ∙ ap (λ evidence. cond c.args.form.bare [] (line (codes "s TRUE")) ++ evidence)
           c.in_ok-evidence.ensures;
     }

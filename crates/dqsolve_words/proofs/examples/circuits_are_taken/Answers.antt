@@ -30,3 +30,7 @@ returns-clause-bare c = refl
 pub returns-clause-encode_steps : goal.returns-clause-encode_steps
 unfolding clap_on_literals command_of
 returns-clause-encode_steps c = refl
+
+pub returns-clause-deletions : goal.returns-clause-deletions
+unfolding clap_on_literals command_of
+returns-clause-deletions c = refl

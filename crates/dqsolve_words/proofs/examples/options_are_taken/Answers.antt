@@ -22,3 +22,11 @@ returns-clause-plus c = refl
 pub returns-clause-separator : goal.returns-clause-separator
 unfolding clap_on_literals command_of
 returns-clause-separator c = refl
+
+pub returns-clause-deletions : goal.returns-clause-deletions
+unfolding clap_on_literals command_of
+returns-clause-deletions c = refl
+
+pub returns-clause-both : goal.returns-clause-both
+unfolding clap_on_literals command_of
+returns-clause-both c = refl

@@ -1,0 +1,225 @@
+-- What a text can hold, it can hold with deletions.
+use Rattle.std.proofs.Common.{◌≡◌, ℕ, zero, suc, ◌+◌, ◌-◌, ◌*◌, ◌≤◌, ◌<◌, Bool, true, false, true≢false, not, ◌&&◌, ◌||◌, ◌⊎◌, inl, inr, cond, List, [], ◌∷◌, ◌++◌, map, length, refl, sym, ◌∙◌, ap, subst, arith, eqb, filter}
+use Rattle.std.specs.List.{All, range_with_len}
+use Rattle.std.proofs.lemmas.Bool.{cases_eq, eqb-true, eq-eqb, or_left, or_right}
+use Rattle.std.proofs.lemmas.List.{length-map}
+use Rattle.std.proofs.lemmas.List.Elements.{All-nil, All-cons, All-head, All-tail}
+use Rattle.dq_lits.specs.Derivation.{ProofStep}
+use Rattle.rup_core.specs.Items.{ProofItem, derived, gone, is_among}
+use Rattle.cert_text.specs.Grammar.{AreItems, AreSteps, IsSmallItem}
+use Rattle.cert_text.specs.Numbering.{Numbering, numbered_from, with_next, without, without_all, are_live}
+use Rattle.proof_deletions.specs.Deletions.{is_hinted, spent_ids, deletion, deleting_from, AreNumberedLines, lines_of, first_number, with_deletions}
+use Rattle.proof_deletions.proofs.RangeFilters.{among_filter}
+use Rattle.proof_deletions.proofs.SameFaults.{spent_isn't_hinted}
+
+isn't : (b : Bool) → (b ≡ true → ⊥) → b ≡ false
+isn't true h = absurd (h refl)
+isn't false h = refl
+
+flip : (a b : ℕ) → eqb a b ≡ eqb b a
+flip a b = by (cases_eq a b)
+  where
+    by : (a ≡ b) ⊎ (a ≡ b → ⊥) → eqb a b ≡ eqb b a
+    by (inl same) = eq-eqb a b same ∙ sym (eq-eqb b a (sym same))
+    by (inr differ) = isn't (eqb a b) (λ h. differ (eqb-true a b h))
+        ∙ sym (isn't (eqb b a) (λ h. differ (sym (eqb-true b a h))))
+
+-- none stands twice
+abbrev AreOnce : List ℕ → Type 0
+AreOnce [] = Unit {0}
+AreOnce (id ∷ ids) = (is_among ids id ≡ false) × AreOnce ids
+
+once_by : (a : ℕ) (rest : List ℕ) → is_among rest a ≡ false → AreOnce rest → (b : Bool) → AreOnce (cond b (a ∷ rest) rest)
+once_by a rest first others true = (first, others)
+once_by a rest first others false = others
+
+once : (p : ℕ → Bool) (a n : ℕ) → AreOnce (filter p (range_with_len a n))
+once p a zero = tt
+once p a (suc n) =
+    let rest = filter p (range_with_len (a + 1) n) in
+    once_by a rest
+    (isn't (is_among rest a) (λ h. let q = (among_filter p (a + 1) n a h).from in absurd (omega (arith, q))))
+    (once p (a + 1) n) (p a)
+
+-- deletions leave which id is next
+next_same : (n : Numbering) (ids : List ℕ) → (without_all n ids).next ≡ n.next
+next_same n [] = refl
+next_same n (id ∷ ids) = next_same (without n id) ids
+
+kept_live : (b c d : Bool) → c ≡ true → (b || d) ≡ false → (not b && c) ≡ true
+kept_live true c d live h = absurd (true≢false h)
+kept_live false c d live h = live
+
+later_false : (b c : Bool) → (b || c) ≡ false → c ≡ false
+later_false true c h = absurd (true≢false h)
+later_false false c h = h
+
+-- and others live
+live_same : (n : Numbering) (ids : List ℕ) (id : ℕ) → n.live id ≡ true → is_among ids id ≡ false →
+    (without_all n ids).live id ≡ true
+live_same n [] id live h = live
+live_same n (other ∷ ids) id live h =
+    live_same (without n other) ids id
+    (kept_live (eqb id other) (n.live id) (is_among ids id) live (flipped h))
+    (later_false (eqb other id) (is_among ids id) h)
+  where
+    flipped : (eqb other id || is_among ids id) ≡ false → (eqb id other || is_among ids id) ≡ false
+    flipped g = subst (λ (b : Bool). (b || is_among ids id) ≡ false) (flip other id) g
+
+both : (b c : Bool) → b ≡ true → c ≡ true → (b && c) ≡ true
+both true true h g = refl
+both true false h g = g
+both false c h g = h
+
+all_live : (n : Numbering) (ids : List ℕ) → AreOnce ids → ((id : ℕ) → is_among ids id ≡ true → n.live id ≡ true) →
+    are_live n ids ≡ true
+all_live n [] apart live = refl
+all_live n (id ∷ ids) apart live =
+    both (n.live id) (are_live (without n id) ids) (live id (or_left (eqb id id) (is_among ids id) (eq-eqb id id refl)))
+    (all_live (without n id) ids apart.1 others)
+  where
+    others : (other : ℕ) → is_among ids other ≡ true → (not (eqb other id) && n.live other) ≡ true
+    others other among = by (cases_eq other id)
+      where
+        by : (other ≡ id) ⊎ (other ≡ id → ⊥) → (not (eqb other id) && n.live other) ≡ true
+        by (inl same) = absurd (true≢false (sym among ∙ (ap (is_among ids) same ∙ apart.0)))
+        by (inr differ) = both (not (eqb other id)) (n.live other)
+            (ap not (isn't (eqb other id) (λ h. differ (eqb-true other id h))))
+            (live other (or_right (eqb id other) (is_among ids other) among))
+
+-- what a later line hints is live
+abbrev IsKept : ℕ → Numbering → List ProofStep → Type 0
+IsKept first n steps = (id : ℕ) → first ≤ id → id < n.next → is_hinted steps id ≡ true → n.live id ≡ true
+
+kept_behind : (first : ℕ) (n : Numbering) (step : ProofStep) (later : List ProofStep) → IsKept first n (step ∷ later) →
+    IsKept first (with_next n) later
+kept_behind first n step later kept id low below hinted = by (cases_eq id n.next)
+  where
+    less : (a b : ℕ) → a < b + 1 → (a ≡ b → ⊥) → a < b
+    less a b h differ = omega (arith, h, differ)
+
+    by : (id ≡ n.next) ⊎ (id ≡ n.next → ⊥) → (eqb id n.next || n.live id) ≡ true
+    by (inl same) = or_left (eqb id n.next) (n.live id) (eq-eqb id n.next same)
+    by (inr differ) = or_right (eqb id n.next) (n.live id)
+        (kept id low (less id n.next below differ) (or_right (is_among step.hints id) (is_hinted later id) hinted))
+
+spent_are_live : (first : ℕ) (n : Numbering) (step : ProofStep) (later : List ProofStep) → first ≤ n.next → step.id ≡ n.next →
+    IsKept first n (step ∷ later) → (id : ℕ) → is_among (spent_ids first step later) id ≡ true →
+    (with_next n).live id ≡ true
+spent_are_live first n step later le numbered kept id among =
+    let q = among_filter (λ i. is_among step.hints i && not (is_hinted later i)) first (step.id - first) id among in
+    or_right (eqb id n.next) (n.live id)
+    (kept id q.from (omega (arith, q.below, le, numbered))
+    (or_left (is_among step.hints id) (is_hinted later id) (first_of (is_among step.hints id) (not (is_hinted later id)) q.passes)))
+  where
+    first_of : (b c : Bool) → (b && c) ≡ true → b ≡ true
+    first_of true c h = refl
+    first_of false c h = h
+
+-- ids that live, each once, and no later line hints, may stand in a deletion
+behind : (V : ℕ → Bool) (first : ℕ) (n : Numbering) (later : List ProofStep) (items : List ProofItem) (ids : List ℕ) →
+    AreOnce ids → ((id : ℕ) → is_among ids id ≡ true → n.live id ≡ true) →
+    ((id : ℕ) → is_among ids id ≡ true → is_hinted later id ≡ false) → IsKept first n later →
+    ((m : Numbering) → m.next ≡ n.next → IsKept first m later → AreItems V m items) →
+    AreItems V n (deletion ids ++ items)
+behind V first n later items [] apart live free kept rest = rest n refl kept
+behind V first n later items (id ∷ ids) apart live free kept rest = (
+  record { some = omega arith; live = all_live n (id ∷ ids) apart live },
+  rest (without_all n (id ∷ ids)) (next_same n (id ∷ ids)) kept_then,
+)
+  where
+    kept_then : IsKept first (without_all n (id ∷ ids)) later
+    kept_then i low below hinted =
+        live_same n (id ∷ ids) i (kept i low (subst (λ k. i < k) (next_same n (id ∷ ids)) below) hinted)
+        (isn't (is_among (id ∷ ids) i) (λ among. true≢false (sym hinted ∙ free i among)))
+
+allowed : (V : ℕ → Bool) (first : ℕ) (n : Numbering) (steps : List ProofStep) → first ≤ n.next → AreSteps V n.next steps →
+    IsKept first n steps → AreItems V n (deleting_from first steps)
+allowed V first n [] le are kept = tt
+allowed V first n (step ∷ []) le are kept = (are.0, tt)
+allowed V first n (step ∷ next ∷ later) le are kept = (
+  are.0,
+  behind V first (with_next n) (next ∷ later) (deleting_from first (next ∷ later)) (spent_ids first step (next ∷ later))
+      (once (λ i. is_among step.hints i && not (is_hinted (next ∷ later) i)) first (step.id - first))
+      (spent_are_live first n step (next ∷ later) le are.0.numbered kept)
+      (spent_isn't_hinted first step (next ∷ later))
+      (kept_behind first n step (next ∷ later) kept)
+      (λ m same kept_then. allowed V first m (next ∷ later) (omega (arith, le, same))
+      (subst (λ id. AreSteps V id (next ∷ later)) (sym same) are.1) kept_then),
+)
+
+steps_in : (V : ℕ → Bool) (n : Numbering) (steps : List ProofStep) → AreItems V n (map derived steps) → AreSteps V n.next steps
+steps_in V n [] are = tt
+steps_in V n (step ∷ steps) are = (are.0, steps_in V (with_next n) steps are.1)
+
+lines_allowed : (V : ℕ → Bool) (first : ℕ) (steps : List ProofStep) → AreSteps V first steps →
+    AreItems V (numbered_from first) (deleting_from (first_number steps) steps)
+lines_allowed V first [] are = tt
+lines_allowed V first (step ∷ steps) are =
+    subst (λ id. AreItems V (numbered_from first) (deleting_from id (step ∷ steps))) (sym are.0.numbered)
+    (allowed V first (numbered_from first) (step ∷ steps) (omega arith) are (λ id low below hinted. absurd (omega (arith, low, below))))
+
+pub items_allowed : (V : ℕ → Bool) (first : ℕ) (items : List ProofItem) → AreNumberedLines items →
+    AreItems V (numbered_from first) items → AreItems V (numbered_from first) (with_deletions items)
+items_allowed V first items lines are =
+    lines_allowed V first (lines_of items)
+    (steps_in V (numbered_from first) (lines_of items) (subst (AreItems V (numbered_from first)) lines.lines are))
+
+small_behind : (ids : List ℕ) (items : List ProofItem) → All IsSmallItem items → All IsSmallItem (deletion ids ++ items)
+small_behind [] items small = small
+small_behind (id ∷ ids) items small = All-cons IsSmallItem (gone (id ∷ ids)) items tt small
+
+small_lines : (first : ℕ) (steps : List ProofStep) → All IsSmallItem (map derived steps) → All IsSmallItem (deleting_from first steps)
+small_lines first [] small = All-nil IsSmallItem
+small_lines first (step ∷ []) small = small
+small_lines first (step ∷ next ∷ later) small =
+    All-cons IsSmallItem (derived step) (deletion (spent_ids first step (next ∷ later)) ++ deleting_from first (next ∷ later))
+    (All-head IsSmallItem (derived step) (map derived (next ∷ later)) small)
+    (small_behind (spent_ids first step (next ∷ later)) (deleting_from first (next ∷ later))
+    (small_lines first (next ∷ later) (All-tail IsSmallItem (derived step) (map derived (next ∷ later)) small)))
+
+pub items_small : (items : List ProofItem) → AreNumberedLines items → All IsSmallItem items → All IsSmallItem (with_deletions items)
+items_small items lines small =
+    small_lines (first_number (lines_of items)) (lines_of items) (subst (All IsSmallItem) lines.lines small)
+
+few_behind : (ids : List ℕ) (items : List ProofItem) → length (deletion ids ++ items) ≤ length items + 1
+few_behind [] items = omega arith
+few_behind (id ∷ ids) items = omega arith
+
+few_lines : (first : ℕ) (steps : List ProofStep) → length (deleting_from first steps) ≤ 2 * length steps
+few_lines first [] = omega arith
+few_lines first (step ∷ []) = omega arith
+few_lines first (step ∷ next ∷ later) =
+    let rest = few_lines first (next ∷ later) in
+    let here = few_behind (spent_ids first step (next ∷ later)) (deleting_from first (next ∷ later)) in
+    omega (arith, rest, here)
+
+lines_fewer : (items : List ProofItem) → length (lines_of items) ≤ length items
+lines_fewer [] = omega arith
+lines_fewer (derived step ∷ items) = let rest = lines_fewer items in omega (arith, rest)
+lines_fewer (gone ids ∷ items) = let rest = lines_fewer items in omega (arith, rest)
+
+pub items_few : (items : List ProofItem) → length (with_deletions items) ≤ 2 * length items
+items_few items =
+    let a = few_lines (first_number (lines_of items)) (lines_of items) in
+    let b = lines_fewer items in
+    omega (arith, a, b)
+
+more_behind : (ids : List ℕ) (items : List ProofItem) → length items ≤ length (deletion ids ++ items)
+more_behind [] items = omega arith
+more_behind (id ∷ ids) items = omega arith
+
+no_fewer_lines : (first : ℕ) (steps : List ProofStep) → length steps ≤ length (deleting_from first steps)
+no_fewer_lines first [] = omega arith
+no_fewer_lines first (step ∷ []) = omega arith
+no_fewer_lines first (step ∷ next ∷ later) =
+    let rest = no_fewer_lines first (next ∷ later) in
+    let here = more_behind (spent_ids first step (next ∷ later)) (deleting_from first (next ∷ later)) in
+    omega (arith, rest, here)
+
+pub items_no_fewer : (items : List ProofItem) → AreNumberedLines items → length items ≤ length (with_deletions items)
+items_no_fewer items lines =
+    let here = no_fewer_lines (first_number (lines_of items)) (lines_of items) in
+    let same = ap length lines.lines in
+    let mapped = length-map (lines_of items) derived in
+    omega (arith, here, same, mapped)

@@ -1,0 +1,6 @@
+mod RangeFilters
+mod NumberedLines
+mod SameFaults
+mod AllowedItems
+mod SpentIds
+mod Links

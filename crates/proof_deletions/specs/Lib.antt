@@ -1,0 +1,4 @@
+pub mod Chains
+pub mod Deletions
+pub mod Laws
+pub mod LastUses
