@@ -23,7 +23,7 @@ use Rattle.proof_checker.specs.ProvedCircuit.{IsProvedCircuit}
 use Rattle.refutation_checker.specs.Refutation.{refutation_fault}
 use Rattle.skolem_checker.specs.Checks.{Candidate, candidate_of, with_mapping, ReadsDeclared}
 use Rattle.skolem_checker.specs.SkolemCircuit.{MappedCircuit, ReadsUniversal}
-use Rattle.cert_judge.specs.Judgement.{line_ends, comment_line, as_proof, proof_in, answer_of_derivation, answer_of_refutation, BehindProof, BehindMapping, IsTested, IsCircuitAnswer, IsJudgementOf}
+use Rattle.cert_judge.specs.Judgement.{line_ends, comment_line, mapping_line, as_proof, proof_in, answer_of_derivation, answer_of_refutation, BehindProof, BehindMapping, IsTested, IsCircuitAnswer, IsJudgementOf}
 use Rattle.dq_runs.specs.Printed.{line}
 use Rattle.cert_judge.specs.declared.answers.Judgement.TheVariants.{ValidTrue, ValidFalse}
 use Rattle.dq_verdicts.specs.Accepted.{ProvedCircuitsAreAccepted, RefutationsAreAccepted}
@@ -89,7 +89,7 @@ proof_found f h ends net d back =
 
 tested : (f : Dqbf) (h ends : ℕ) (file : AagFile) (d : Dqp) (p : IsProvedCircuit f file d) →
     ((first : ℕ) → circuit_proof_of f file.circuit (canonical_proof d) first ≡ Ok d)
-    → BehindProof h file.circuit (proof_in f h ends file.circuit (Some (canonical_proof d)))
+    → BehindProof (mapping_line h file.circuit) (proof_in f h ends file.circuit (Some (canonical_proof d)))
     (candidate_of f file.circuit file.symbols) ValidTrue
 tested f h ends file d p back =
     let circuit : MappedCircuit = record { netlist = file.circuit; mapping = p.skolem.mapping } in
@@ -98,9 +98,9 @@ tested f h ends file d p back =
       reads = reads_all f circuit p.skolem.reads_declared;
       tested = sym (ap (answer_of_derivation ValidTrue) p.derives);
     }) in
-    subst (λ read. BehindProof h file.circuit read (candidate_of f file.circuit file.symbols) ValidTrue)
+    subst (λ read. BehindProof (mapping_line h file.circuit) read (candidate_of f file.circuit file.symbols) ValidTrue)
     (sym (proof_found f h ends file.circuit d back))
-    (subst (λ mapped. BehindMapping h file.circuit (Some d) mapped ValidTrue)
+    (subst (λ mapped. BehindMapping (mapping_line h file.circuit) (Some d) mapped ValidTrue)
     (sym (ap (with_mapping f file.circuit) p.skolem.maps)) good)
 
 true_judgement : (bare : Bool) (f : Dqbf) (text : List ℕ) → IsCircuitAnswer f (header_number bare) text ValidTrue

@@ -1,7 +1,7 @@
 -- The names of a certificate's faults, as the checker writes them.
 use Rattle.std.specs.Prelude.{ℕ, List, codes}
 use Rattle.aiger_text.specs.declared.faults.AagFault.{AagFault}
-use Rattle.aiger_text.specs.declared.faults.AagFault.TheVariants.{BadHeader, NotCombinational, BadLine, TooBig, Range, DefinedTwice, Undefined, Cyclic, BadSymbol, Truncated}
+use Rattle.aiger_text.specs.declared.faults.AagFault.TheVariants.{BadHeader, NotCombinational, BadLine, TooBig, Range, DefinedTwice, Undefined, Cyclic, BadSymbol, Truncated, BadDelta}
 use Rattle.cert_text.specs.declared.faults.CertFault.{CertFault}
 use Rattle.cert_text.specs.declared.faults.CertFault.TheVariants.{BadHeader as NoHeader, BadLine as NoLine, RowIncomplete, IdOrder, UnknownHint, TooBig as TooLarge, Truncated as TooShort, BadVariable, WrongVerdict, NotLive}
 use Rattle.skolem_checker.specs.declared.mapping.MapName.{MapName}
@@ -20,6 +20,7 @@ circuit_fault_name Undefined = codes "Undefined"
 circuit_fault_name Cyclic = codes "Cyclic"
 circuit_fault_name BadSymbol = codes "BadSymbol"
 circuit_fault_name Truncated = codes "Truncated"
+circuit_fault_name BadDelta = codes "BadDelta"
 
 abbrev pub mapping_fault_name : MapName → List ℕ
 mapping_fault_name InputCount = codes "InputCount"

@@ -22,6 +22,7 @@ fn circuit_fault_name(fault: AagFault) -> &'static str
         AagFault::Cyclic => "Cyclic",
         AagFault::BadSymbol => "BadSymbol",
         AagFault::Truncated => "Truncated",
+        AagFault::BadDelta => "BadDelta",
     }
 }
 

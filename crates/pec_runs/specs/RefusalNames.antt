@@ -1,7 +1,7 @@
 -- The names of the refusals of circuits and designs, as they are written.
 use Rattle.std.specs.Prelude.{ℕ, List, codes}
 use Rattle.aiger_text.specs.declared.faults.AagFault.{AagFault}
-use Rattle.aiger_text.specs.declared.faults.AagFault.TheVariants.{BadHeader, NotCombinational, BadLine, TooBig, Range, DefinedTwice, Undefined, Cyclic, BadSymbol, Truncated}
+use Rattle.aiger_text.specs.declared.faults.AagFault.TheVariants.{BadHeader, NotCombinational, BadLine, TooBig, Range, DefinedTwice, Undefined, Cyclic, BadSymbol, Truncated, BadDelta}
 use Rattle.pec_front.specs.declared.faults.PecFault.{PecFault}
 use Rattle.pec_front.specs.declared.faults.PecFault.TheVariants.{InputShort, OutputCount, NoPec, Limit, Truncated as BoxesTruncated, BadBox, BoxTwice, BoxMissing, BoxOrder}
 use Rattle.pec_runs.specs.declared.designs.ImpFault.{ImpFault}
@@ -18,6 +18,7 @@ circuit_fault_name Undefined = codes "Undefined"
 circuit_fault_name Cyclic = codes "Cyclic"
 circuit_fault_name BadSymbol = codes "BadSymbol"
 circuit_fault_name Truncated = codes "Truncated"
+circuit_fault_name BadDelta = codes "BadDelta"
 
 abbrev pub pec_fault_name : PecFault → List ℕ
 pec_fault_name InputShort = codes "InputShort"

@@ -21,6 +21,7 @@ pub(crate) fn circuit_fault_name(fault: AagFault) -> &'static str
         AagFault::Cyclic => "Cyclic",
         AagFault::BadSymbol => "BadSymbol",
         AagFault::Truncated => "Truncated",
+        AagFault::BadDelta => "BadDelta",
     }
 }
 

@@ -1,19 +1,19 @@
 //! The lines of a table.
 //!
-//! `formula`, `certificate`, `specification` and `implementation` give the files' texts, whose
-//! lines are parted by ` / ` and each end with LF, but that a `\` at the end takes the last LF
-//! away; `\r` is a CR. `absent` takes the files away. `words` gives the words behind the program's
-//! name, `reads` the most bytes of a read and the numbers of the calls that fail, `writes` the same
-//! of the sink. `run` runs the program under a name, and then words, reads and writes are as at the
-//! start; behind a verdict of the solver it prints what the checker says of the text that was
-//! written, and how many rounds and learned clauses the log has. `alone` does the same without
-//! that. `compare` does it with a verdict on two circuits: the formula is the one that `encode`
-//! writes, and of the text the status alone is printed, and what the checker says. `unfailing` runs
-//! the program over files and a sink that never fail, and prints the status alone; `read` reads the
-//! formula's file, of at most so many bytes. `canonical` prints the canonical text of the formula,
-//! `refutation` that of the certificate as a refutation of it, `proof` that of the proof in the
-//! certificate, a circuit, and `circuit` that of the circuit. Lines that begin with `#` are
-//! comments.
+//! `formula`, `certificate`, `specification` and `implementation` give the files' texts, whose lines
+//! are parted by ` / ` and each end with LF, but that a `\` at the end takes the last LF away; `\r`
+//! is a CR, and `\x0a` the byte with these two digits. `absent` takes the files away. `words` gives
+//! the words behind the program's name, `reads` the most bytes of a read and the numbers of the
+//! calls that fail, `writes` the same of the sink. `run` runs the program under a name, and then
+//! words, reads and writes are as at the start; behind a verdict of the solver it prints what the
+//! checker says of the text that was written, and how many rounds and learned clauses the log has.
+//! `alone` does the same without that. `compare` does it with a verdict on two circuits: the formula
+//! is the one that `encode` writes, and of the text the status alone is printed, and what the
+//! checker says. `unfailing` runs the program over files and a sink that never fail, and prints the
+//! status alone; `read` reads the formula's file, of at most so many bytes. `canonical` prints the
+//! canonical text of the formula, `refutation` that of the certificate as a refutation of it,
+//! `proof` that of the proof in the certificate, a circuit, and `circuit` that of the circuit. Lines
+//! that begin with `#` are comments.
 
 use crate::settings::{Calls, Ran, Settings, words_of};
 use crate::texts;

@@ -1,5 +1,7 @@
 //! The texts of a table, and the canonical texts of what they spell.
 
+ghost use Rattle.std.specs.Prelude.{◌<◌, IfOk};
+
 use crate::settings::Settings;
 use aiger_text::AagFile;
 use anyhow::{Result, anyhow};
@@ -93,10 +95,42 @@ fn push_line(text: &mut Vec<u8>, line: &str) -> Result<()> {
         if i > 0 {
             text.push(b'\r')?;
         }
-        text.extend_from_slice(piece.as_bytes())?;
+        push_piece(text, piece)?;
     }
     text.push(b'\n')?;
     Ok(())
+}
+
+fn push_piece(text: &mut Vec<u8>, piece: &str) -> Result<()> {
+    for (i, part) in piece.split("\\x").enumerate() {
+        if i > 0 {
+            push_byte(text, part)?;
+        } else {
+            text.extend_from_slice(part.as_bytes())?;
+        }
+    }
+    Ok(())
+}
+
+// A byte by its two digits, and what stands behind them.
+fn push_byte(text: &mut Vec<u8>, part: &str) -> Result<()> {
+    let bytes = part.as_bytes();
+    if bytes.len() < 2 {
+        return Err(anyhow!("no byte: {part}"));
+    }
+    text.push(16 * digit(bytes[0])? + digit(bytes[1])?)?;
+    text.extend_from_slice(&bytes[2..])?;
+    Ok(())
+}
+
+fn digit(byte: u8) -> Result<u8>
+    ensures { IfOk result (λ value. value < 16) }
+{
+    match byte {
+        b'0'..=b'9' => Ok(byte - b'0'),
+        b'a'..=b'f' => Ok(byte - b'a' + 10),
+        _ => Err(anyhow!("no digit: {byte}")),
+    }
 }
 
 /// Bytes on one line.
