@@ -1,18 +1,18 @@
 -- What may be answered behind a line of a circuit's proof may be answered before it, and what is answered
 -- at the end.
-use Rattle.std.proofs.Common.{◌≡◌, ℕ, zero, suc, ◌+◌, Bool, false, List, [], ◌∷◌, length, Option, None, Some, Result, Ok, Err, refl, sym, ◌∙◌, ap, subst}
-use Rattle.std.specs.Prelude.{IfNone, IfSome, OnOk}
+use Rattle.std.proofs.Common.{◌≡◌, ℕ, zero, suc, Bool, false, List, [], ◌∷◌, Option, None, Some, Result, Ok, Err, refl, sym, ◌∙◌, ap, subst}
+use Rattle.std.specs.Prelude.{IfNone, IfSome}
 use Rattle.std.specs.Option.{option_map}
 use Rattle.dq_lits.specs.Derivation.{ProofFault}
 use Rattle.dq_lits.specs.Formula.{Dqbf}
 use Rattle.dq_text.specs.Line.{TextLine}
 use Rattle.circuit_plain.specs.Netlist.{Netlist}
 use Rattle.rup_core.specs.Items.{ProofItem}
-use Rattle.rup_core.specs.Runs.{Run, run_fault, with_item}
+use Rattle.rup_core.specs.Runs.{Run, run_fault}
 use Rattle.cert_text.specs.CircuitProof.{is_proof_variable, read_proof}
 use Rattle.cert_text.specs.Grammar.{IsItem}
 use Rattle.cert_text.specs.Lines.{IsReading, and_read, at_line}
-use Rattle.cert_text.specs.Numbering.{Numbering, behind_item}
+use Rattle.cert_text.specs.Numbering.{Numbering}
 use Rattle.cert_text.specs.Variables.{is_up_to}
 use Rattle.cert_text.specs.declared.circuit_proofs.Dqp.{Dqp}
 use Rattle.cert_text.specs.declared.faults.CertRefusal.{CertRefusal}
@@ -22,10 +22,10 @@ use Rattle.cert_text.specs.declared.versions.Version.{Version}
 use Rattle.cert_lines.specs.KeptLines.{KeptProofLines, proof_seen}
 use Rattle.cert_lines.specs.LineAnswer.{IsLineAnswer}
 use Rattle.cert_lines.specs.ProofLines.{MayCome, ProofBody, ProofLines, body_gives, gives, in_front, lines_give, no_lines, whole_of, with_line}
-use Rattle.proof_checker.specs.Judging.{IsJudging, MayJudge, run_of}
+use Rattle.proof_checker.specs.Judging.{MayJudge, run_of}
 use Rattle.proof_checker.specs.declared.judging.CircuitProving.{CircuitProving}
 use Rattle.cert_stream.specs.ProofInside.{HasNext, runs_behind}
-use Rattle.cert_stream.specs.ProofState.{AnswersLines, ProofState, answers_by, fault_behind, judged, judged_whole, numbering_in, numbering_of, run_behind, run_in}
+use Rattle.cert_stream.specs.ProofState.{AnswersLines, ProofState, answers_by, fault_behind, judged, judged_whole, numbering_in, numbering_of, run_in}
 use Rattle.cert_stream.proofs.ProofLineSteps.{ReadsByLine, going, judged_step, numbering_behind, numbering_step, same_variables, step_of}
 
 abbrev Answer : Type 0

@@ -1,26 +1,19 @@
 -- What a line of a circuit's proof does, and what is judged of lines, line by line.
-use Rattle.std.proofs.Common.{◌≡◌, ℕ, ◌+◌, nat_lt, Bool, true, false, cond, List, [], ◌∷◌, length, Option, None, Some, Result, Ok, Err, refl, sym, ◌∙◌, ap, subst}
-use Rattle.std.specs.Prelude.{IfNone, IfSome}
-use Rattle.std.specs.Option.{option_map}
-use Rattle.dq_lits.specs.Derivation.{ProofFault}
-use Rattle.dq_lits.specs.Formula.{Dqbf}
+use Rattle.std.proofs.Common.{◌≡◌, ℕ, nat_lt, Bool, true, false, cond, List, ◌∷◌, Option, None, Some, Result, Ok, Err, refl, sym, ◌∙◌, ap, subst}
 use Rattle.dq_text.specs.Line.{TextLine, line_tokens}
-use Rattle.circuit_plain.specs.Netlist.{Netlist}
 use Rattle.rup_core.specs.Items.{ProofItem}
 use Rattle.rup_core.specs.Runs.{Run}
-use Rattle.cert_text.specs.CircuitProof.{is_proof_variable}
-use Rattle.cert_text.specs.Grammar.{IsItem}
 use Rattle.cert_text.specs.Header.{proof_header}
 use Rattle.cert_text.specs.ItemLine.{item_line}
 use Rattle.cert_text.specs.LineStop.{and_then}
-use Rattle.cert_text.specs.Lines.{IsReading, and_read, at_line}
+use Rattle.cert_text.specs.Lines.{and_read, at_line}
 use Rattle.cert_text.specs.Numbering.{Numbering, behind_item}
 use Rattle.cert_text.specs.Variables.{is_up_to}
 use Rattle.cert_text.specs.declared.circuit_proofs.Dqp.{Dqp}
 use Rattle.cert_text.specs.declared.faults.CertFault.{CertFault}
 use Rattle.cert_text.specs.declared.faults.CertRefusal.{CertRefusal}
 use Rattle.cert_text.specs.declared.headers.ItemCount.{ItemCount}
-use Rattle.cert_lines.specs.ProofLines.{BodyRead, MayCome, ProofBody, ProofLines, behind_line, body_behind, in_front, line_read, lines_give, with_item_read, with_line, without_item}
+use Rattle.cert_lines.specs.ProofLines.{BodyRead, ProofBody, ProofLines, behind_line, body_behind, in_front, line_read, lines_give, with_item_read, with_line, without_item}
 use Rattle.cert_stream.specs.ProofInside.{runs_behind}
 use Rattle.cert_stream.specs.ProofState.{fault_behind, judged, numbering_in, numbering_of}
 
