@@ -90,7 +90,8 @@ body_is_spelled text first line others h read lines header all goes =
     (behind_gates first h) read outputs_on.2 in
     let gs = gates_are h.gates (h.inputs + 1) outputs_on.0.0 gates_on.0.0 bytes gates_on.0.1 gates_on.1 in
     let behind = lines_from (binary_line first h + 1) gates_on.0.1 in
-    let symbols_on = goes_on (read_symbols h no_symbols behind) (λ e. Ok (file_with h gates_on.0.0 e)) read gates_on.2 in
+    let symbols_on = goes_on (read_symbols h no_symbols behind)
+    (λ e. Ok (file_with h gates_on.0.0 e)) read gates_on.2 in
     let ending = symbols_on.0 in
     let few_inputs : h.inputs ≤ max_count = omega (arith, header.enough, header.few_variables) in
     let ss = symbols_are h few_inputs header.few_outputs ending behind no_symbols (no_names h.inputs)
@@ -145,7 +146,8 @@ lines_are_spelled : (text : List ℕ) (first : ℕ) (lines : List TextLine) (rea
     lines_from first text ≡ lines → scan_lines first lines ≡ Ok read → SpellsBinary text first read
 lines_are_spelled text first [] read are scanned = cc
 lines_are_spelled text first (line ∷ others) read are scanned =
-    let on = on_line_goes first (binary_header (line_tokens line.text)) (behind_header first line.behind) read scanned in
+    let on = on_line_goes first (binary_header (line_tokens line.text))
+    (behind_header first line.behind) read scanned in
     let header = header_read_is line.text on.0 on.1 in
     body_is_spelled text first line others on.0 read are header.0 header.1 on.2
 

@@ -17,7 +17,8 @@ pub numbered_at : (gs : List Gate) (v k : ℕ) (d : Gate) → AreNumbered v gs �
     (get_or gs k d).variable ≡ v + k
 numbered_at [] v k d are below = absurd (omega arith)
 numbered_at (g ∷ gs) v zero d (here, more) below = let last : v ≡ v + 0 = omega arith in here ∙ last
-numbered_at (g ∷ gs) v (suc k) d (here, more) below = let later = numbered_at gs (v + 1) k d more (omega arith) in omega arith
+numbered_at (g ∷ gs) v (suc k) d (here, more) below = let later = numbered_at gs (v + 1) k d more (omega arith) in
+    omega arith
 
 no_gate : Gate
 no_gate = record { variable = 0; left = 0; right = 0 }

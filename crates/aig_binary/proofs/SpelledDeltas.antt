@@ -22,12 +22,14 @@ pub delta_from : (groups : ℕ) (code : List ℕ) (n : ℕ) (rest : List ℕ) �
 delta_from groups [] n rest are few = absurd are
 delta_from zero (byte ∷ bytes) n rest are few = absurd (omega arith)
 delta_from (suc groups) (byte ∷ bytes) n rest (inl (low, last, is)) few =
-    cond-true (nat_lt byte 128) (Ok (byte, bytes ++ rest)) (and_then (read_delta groups (bytes ++ rest)) (with_low byte))
+    cond-true (nat_lt byte 128) (Ok (byte, bytes ++ rest))
+    (and_then (read_delta groups (bytes ++ rest)) (with_low byte))
     (lt-ltb byte 128 low)
     ∙ ap (λ bs. Ok (byte, bs ++ rest)) last
     ∙ ap (λ k. Ok (k, rest)) (sym is)
 delta_from (suc groups) (byte ∷ bytes) n rest (inr (large, (high, are, is))) few =
-    cond-false (nat_lt byte 128) (Ok (byte, bytes ++ rest)) (and_then (read_delta groups (bytes ++ rest)) (with_low byte))
+    cond-false (nat_lt byte 128) (Ok (byte, bytes ++ rest))
+    (and_then (read_delta groups (bytes ++ rest)) (with_low byte))
     (le-ltb byte 128 large)
     ∙ ap (λ r. and_then r (with_low byte)) (delta_from groups bytes high rest are (omega arith))
     ∙ ap (λ k. Ok (k, rest)) (sym is)

@@ -56,7 +56,8 @@ behind_left v bytes left = and_then (read_delta most_groups bytes) (behind_secon
 abbrev behind_first : ℕ → ℕ × List ℕ → Result (Gate × List ℕ) AagFault
 behind_first v first = and_then (first_side (2 * v) first.0) (behind_left v first.1)
 
-pub gate_from : (v : ℕ) (code rest : List ℕ) (g : Gate) → SpellsGate v code g → read_gate v (code ++ rest) ≡ Ok (g, rest)
+pub gate_from : (v : ℕ) (code rest : List ℕ) (g : Gate) → SpellsGate v code g → read_gate v (code ++ rest) ≡ Ok
+    (g, rest)
 gate_from v code rest g s =
     let bytes = s.second ++ rest in
     let parted : code ++ rest ≡ s.first ++ bytes =

@@ -97,7 +97,8 @@ module _ (h : Header) where
   ending_from t (line ∷ lines) None (Some n) ends = absurd ends
   ending_from t (line ∷ lines) (Some c) None ends = absurd ends
   ending_from t (line ∷ lines) (Some c) (Some n) (is, number_is) =
-      on_mark t line lines (ap is_blank_line is.mark ∙ not_blank 99 is.blanks refl) (ap begins_comment is.mark ∙ is.blank)
+      on_mark t line lines (ap is_blank_line is.mark ∙ not_blank 99 is.blanks refl)
+      (ap begins_comment is.mark ∙ is.blank)
       ∙ ap (λ x. Ok (record { symbols = t; comment = Some x; comment_line = Some (line.number + 1) })) (sym is.behind)
       ∙ ap (λ k. Ok (record { symbols = t; comment = Some c; comment_line = Some k })) (sym number_is)
 
@@ -113,7 +114,8 @@ module _ (h : Header) where
     pub inputs : AreNames h.inputs ending.symbols.inputs
     pub outputs : AreNames h.outputs ending.symbols.outputs
 
-  at_last : (t : SymbolTable) (rest : List TextLine) (ending : Ending) → EndsOn rest ending.comment ending.comment_line →
+  at_last : (t : SymbolTable) (rest : List TextLine) (ending : Ending) →
+      EndsOn rest ending.comment ending.comment_line →
       t ≡ ending.symbols → AreNames h.inputs t.inputs → AreNames h.outputs t.outputs → AreSymbolsRead t rest ending
   at_last t rest ending ends same inputs outputs = record {
     symbols = [];

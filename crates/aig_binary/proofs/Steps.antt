@@ -74,7 +74,14 @@ pub gates_go_on : (gates first i : ℕ) (start net made : Netlist) (g : Gate) (b
 gates_go_on gates first i start net made g bytes rest behind below max_var none numbered counted same read variable is =
     let half : (2 * g.variable) / 2 ≡ g.variable = omega arith in
     let made_is : made ≡ with_gate net g =
-    is ∙ ap (λ v. record net { gates = net.gates ++ record { variable = v; left = g.left; right = g.right } ∷ [] }) half in
+    is ∙ ap (λ v. record net {
+      gates = net.gates ++ record {
+        variable = v;
+        left = g.left;
+        right =
+            g.right;
+      } ∷ [];
+    }) half in
     let left : gates - i ≡ suc (gates - (i + 1)) = omega arith in
     let next : first + i + 1 ≡ first + (i + 1) = omega arith in
     let number : g.variable ≡ first + length net.gates = omega (arith, variable, counted) in
@@ -113,7 +120,8 @@ pub outputs_go_on : (outputs i first number next : ℕ) (start net made : Netlis
     lines_from number rest ≡ line ∷ others → next ≡ number + 1 →
     output_line net (numbers_of (line_tokens line.text)) ≡ Ok made →
     OutputsGoOn outputs i first next start made bytes line.behind
-outputs_go_on outputs i first number next start net made bytes rest line others below none no_gates counted same lines following read =
+outputs_go_on outputs i first number next start net made bytes rest line others below none no_gates counted same lines
+    following read =
     let added = output_added net made (numbers_of (line_tokens line.text)) read in
     let left : outputs - i ≡ suc (outputs - (i + 1)) = omega arith in
     record {

@@ -63,7 +63,8 @@ written_spells file first is =
     let writable = symbols_writable file spellable in
     let header_is : binary_text file ≡ header ++ 10 ∷ bytes =
     ap (λ counts. codes "aig " ++ (counts ++ bytes)) (counts_are_words net)
-    ∙ ap (λ bs. codes "aig " ++ bs) (append_assoc (flat_map number_text (front_counts net) ++ decimal (length net.gates))
+    ∙ ap (λ bs. codes "aig " ++ bs) (append_assoc (flat_map number_text (front_counts net) ++ decimal
+    (length net.gates))
     (10 ∷ []) bytes) in (
       comment_line after file.comment,
       record {

@@ -102,7 +102,8 @@ lines_are_spelled text [] file are read acyclic = cc
 lines_are_spelled text (line ∷ lines) file are read acyclic =
     let on = header_goes_on line.number (header_of (line_tokens line.text))
     (λ b. read_body b lines (line.number + 1)) file read in
-    body_is_spelled text line lines on.0 (line.number + 1) file are (header_is (codes "aag") line.text on.0 on.1) on.2 acyclic
+    body_is_spelled text line lines on.0 (line.number + 1) file are
+    (header_is (codes "aag") line.text on.0 on.1) on.2 acyclic
 
 pub read_is_spelled : (text : List ℕ) (file : AagFile) → scan text 1 ≡ Ok file → AllGrounded file.circuit →
     SpellsCircuit text file

@@ -69,7 +69,8 @@ name_passes count all done todo place name are whole =
     (is_member all done todo (place, name) whole)))
     (ap is_none (absent_from done place (not_before (λ symbol. symbol.0) all done todo (place, name) whole are.once)))
 
-pub symbol_passes : (h : Header) (table t : SymbolTable) (b : Bool) (place : ℕ) (name : List ℕ) (todo : List SymbolLine) →
+pub symbol_passes : (h : Header) (table t : SymbolTable) (b : Bool) (place : ℕ) (name : List ℕ)
+    (todo : List SymbolLine) →
     AreNames h.inputs table.inputs → AreNames h.outputs table.outputs →
     let s : SymbolLine = record { of_input = b; place = place; name = name } in joined t (s ∷ todo) ≡ table →
     add_symbol h t s ≡ Ok (with_name t s)

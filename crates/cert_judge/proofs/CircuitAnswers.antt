@@ -38,7 +38,8 @@ stop_answers f h bytes text r stop (Err _) same is reading given = tt
 
 pub file_answers : (f : Dqbf) (h ends : ℕ) (bytes text : List ℕ) (file : AagFile) (r : Result Judgement Memory) →
     bytes ≡ text → SpellsCircuit text file
-    → ends ≡ line_ends bytes → IfOk r (BehindProof (mapping_line h file.circuit) (proof_in f h ends file.circuit file.comment)
+    → ends ≡ line_ends bytes → IfOk r (BehindProof (mapping_line h file.circuit)
+    (proof_in f h ends file.circuit file.comment)
     (candidate_of f file.circuit file.symbols))
     → IfOk r (λ answer. IsCircuitRefusal h text answer ⊎ IsCircuitAnswer f h text answer)
 file_answers f h ends bytes text file (Ok answer) same spelled is judged = inr (record {

@@ -80,7 +80,8 @@ module _ (law : TestsLaw) (f : Dqbf) (net : Netlist) (symbols : SymbolTable) (fo
       law.proved (mapped_by mapping) symbols d.items formed kept complete (ap (with_mapping f net) is) r.reads
       (no_fault (circuit_proof_fault (mapped_by mapping) d.items) r.tested)
 
-  true_by_mapping : (line_of : MapPlace → ℕ) (proof : Option Dqp) (mapped : Result Mapping MapError) → mapping_of f net symbols ≡ mapped
+  true_by_mapping : (line_of : MapPlace → ℕ) (proof : Option Dqp) (mapped : Result Mapping MapError) →
+      mapping_of f net symbols ≡ mapped
       → BehindMapping line_of proof (with_mapping f net mapped) ValidTrue → IsSkolemCircuit f net symbols
   true_by_mapping line_of proof (Err fault) is r = absurd (true_is_no_refusal (line_of fault.at)
       (BadMapping fault.name) r)
@@ -195,12 +196,14 @@ false_by_mapping : (line_of : MapPlace → ℕ) (proof : Option Dqp) (mapped : R
 false_by_mapping line_of proof (Err fault) r = false_is_no_refusal (line_of fault.at) (BadMapping fault.name) r
 false_by_mapping line_of proof (Ok c) r = false_by_tests proof c r
 
-false_by_proof : (line_of : MapPlace → ℕ) (read : Result (Option Dqp) CertRefusal) (mapped : Result Candidate MapError) →
+false_by_proof : (line_of : MapPlace → ℕ) (read : Result (Option Dqp) CertRefusal)
+    (mapped : Result Candidate MapError) →
     BehindProof line_of read mapped ValidFalse → ⊥
 false_by_proof line_of (Err refusal) mapped r = false_is_no_refusal refusal.line (Text refusal.name) r
 false_by_proof line_of (Ok proof) mapped r = false_by_mapping line_of proof mapped r
 
-false_by_scan : (f : Dqbf) (h : ℕ) (scanned : Result ReadCircuit LineFault) → IsBinaryJudgement f h scanned ValidFalse → ⊥
+false_by_scan : (f : Dqbf) (h : ℕ) (scanned : Result ReadCircuit LineFault) →
+    IsBinaryJudgement f h scanned ValidFalse → ⊥
 false_by_scan f h (Err fault) r = false_is_no_refusal fault.line (Circuit fault.name) r
 false_by_scan f h (Ok read) r =
     false_by_proof (binary_mapping_line h) (proof_on f read.file.circuit read.file.comment read.comment_line)
@@ -223,7 +226,8 @@ false_by_kind : RefutationLaw → (kind : Result Kind CertRefusal) (f : Dqbf) (t
 false_by_kind law (Ok (CircuitText at h)) f text formed (inl r) =
     absurd (false_is_no_refusal r.fault.line (Circuit r.fault.name) r.is)
 false_by_kind law (Ok (CircuitText at h)) f text formed (inr r) =
-    absurd (false_by_proof (mapping_line h r.file.circuit) (proof_in f h (line_ends (drop at text)) r.file.circuit r.file.comment)
+    absurd (false_by_proof (mapping_line h r.file.circuit)
+    (proof_in f h (line_ends (drop at text)) r.file.circuit r.file.comment)
     (candidate_of f r.file.circuit r.file.symbols) r.is)
 false_by_kind law (Ok (BinaryText at h)) f text formed r =
     absurd (false_by_scan f h (scan_binary (drop at text) h) r)

@@ -45,7 +45,8 @@ behind_rows f body rows =
     rows.rest rows.number) (λ items. and_read (blank_lines items.rest)
     (λ _. Ok (record { rows = body.rows ++ rows.items; items = items.items })))
 
-row_in_front : (f : Dqbf) (body : RefutationBody) (row : List Bool) (k : ℕ) (r : Result (LinesRead (List Bool)) CertRefusal) →
+row_in_front : (f : Dqbf) (body : RefutationBody) (row : List Bool) (k : ℕ)
+    (r : Result (LinesRead (List Bool)) CertRefusal) →
     and_read (and_read r (with_item row)) (behind_rows f body)
     ≡ and_read r (behind_rows f (record body { rows = body.rows ++ row ∷ []; rows_left = k }))
 row_in_front f body row k (Ok r) =
@@ -67,7 +68,8 @@ row_read f body k (Err name) lines number left = refl
 abbrev at_end : List (List Bool) → LinesRead ProofItem → Reading
 at_end rows items = and_read (blank_lines items.rest) (λ _. Ok (record { rows = rows; items = items.items }))
 
-end_in_front : (rows : List (List Bool)) (item : ProofItem) (items : List ProofItem) (b : Result (Unit {0}) CertRefusal) →
+end_in_front : (rows : List (List Bool)) (item : ProofItem) (items : List ProofItem)
+    (b : Result (Unit {0}) CertRefusal) →
     and_read b (λ _. Ok (record { rows = rows; items = item ∷ items }))
     ≡ in_front (Some item) (and_read b (λ _. Ok (record { rows = rows; items = items })))
 end_in_front rows item items (Ok _) = refl
@@ -124,7 +126,8 @@ some : (k : ℕ) → nat_lt 0 (suc k) ≡ true
 some k = lt-ltb 0 (suc k) (omega arith)
 
 -- a line behind the header
-behind_header : (f : Dqbf) (version : Version) (count : ℕ) (rows : List (List Bool)) (n : Numbering) (rows_left items_left : ℕ)
+behind_header : (f : Dqbf) (version : Version) (count : ℕ) (rows : List (List Bool)) (n : Numbering)
+    (rows_left items_left : ℕ)
     (line : TextLine) (lines : List TextLine) (number : ℕ) →
     body_gives f (body_with version count rows n rows_left items_left) (line ∷ lines) number
     ≡ after f line.number (body_line f (body_with version count rows n rows_left items_left) line.text) lines
@@ -150,7 +153,8 @@ any_line : (f : Dqbf) (body : Option RefutationBody) (line : TextLine) (lines : 
     gives f body (line ∷ lines) number ≡ after f line.number (line_read f body line.text) lines
 any_line f None line lines number = header_read f (header_of (line_tokens line.text)) lines line.number
 any_line f (Some body) line lines number =
-    behind_header f body.version body.row_count body.rows body.numbering body.rows_left body.items_left line lines number
+    behind_header f body.version body.row_count body.rows body.numbering body.rows_left body.items_left line lines
+    number
 
 read_on : (r : RefutationLines) (line : TextLine) (lines : List TextLine) (read : Result BodyRead CertFault) →
     line.number ≡ r.number →

@@ -35,7 +35,8 @@ rows_kept : (f : Dqbf) (body : RefutationBody) (lines : List TextLine) (number :
     body_gives f body lines number ≡ Ok d → d.rows ≡ body.rows
 rows_kept f body lines number d none is =
     items_rows (body.rows ++ []) (read_some (item_lines body.version (is_pair_number f body.row_count)) body.numbering
-    body.items_left lines number) d (sym (ap (λ n. body_gives f (record body { rows_left = n }) lines number) none) ∙ is)
+    body.items_left lines number) d (sym (ap (λ n. body_gives f (record body { rows_left = n }) lines number) none)
+    ∙ is)
     ∙ append-nil body.rows
 
 -- an item in front

@@ -52,7 +52,8 @@ read_on law old new before after text none read runs behind lines answer says =
 
 refused_lines : ReadsByLine → (old : KeptProofLines) (text : List ℕ) (new : ProofLines) (stop : CertStop) →
     IsLineAnswer (with_line (proof_seen old) text) old.number (Err stop) new → (run : Option Run) (behind : List ℕ)
-    (lines : List TextLine) → IsReading (judged (proof_seen old) run (line_of text old.number behind ∷ lines)) (Err stop)
+    (lines : List TextLine) → IsReading (judged (proof_seen old) run (line_of text old.number behind ∷ lines))
+    (Err stop)
 refused_lines law old text new (Refused fault) is run behind lines =
     let r = proof_seen old in
     let line = line_of text old.number behind in

@@ -74,8 +74,10 @@ record IsHeaderOf (place number : ℕ) (tokens : List (List ℕ)) (kind : Kind) 
   place_is : header_place kind ≡ place
   number_is : header_number kind ≡ number
 
-by_words : (circuit binary refutation : Bool) (place number : ℕ) (word : List ℕ) (tokens : List (List ℕ)) (kind : Kind) →
-    (circuit ≡ true → word ≡ codes "aag") → (binary ≡ true → word ≡ codes "aig") → (refutation ≡ true → word ≡ codes "p") →
+by_words : (circuit binary refutation : Bool) (place number : ℕ) (word : List ℕ) (tokens : List (List ℕ))
+    (kind : Kind) →
+    (circuit ≡ true → word ≡ codes "aag") → (binary ≡ true → word ≡ codes "aig") →
+    (refutation ≡ true → word ≡ codes "p") →
     cond circuit (Ok (Circuit place number)) (cond binary (Ok (BinaryCircuit place number))
     (cond refutation (Ok (Refutation place number)) (Err (refusal number BadHeader)))) ≡ Ok kind →
     IsHeaderOf place number (word ∷ tokens) kind
@@ -98,7 +100,8 @@ header_is : (place number : ℕ) (tokens : List (List ℕ)) (kind : Kind) → he
 header_is place number [] kind h = cc
 header_is place number (word ∷ tokens) kind h =
     by_words (bytes_eq word (codes "aag")) (bytes_eq word (codes "aig")) (bytes_eq word (codes "p")) place number word
-    tokens kind (bytes_eq-Decides word (codes "aag")).0 (bytes_eq-Decides word (codes "aig")).0 (bytes_eq-Decides word (codes "p")).0 h
+    tokens kind (bytes_eq-Decides word (codes "aag")).0 (bytes_eq-Decides word (codes "aig")).0
+    (bytes_eq-Decides word (codes "p")).0 h
 
 abbrev word_of : Verdict → List ℕ
 word_of True = codes "TRUE"

@@ -13,8 +13,8 @@ use dq_text::{LineTokens, Lines, is_word};
 ///
 /// A first line of the two tokens `s` and `TRUE`, or `s` and `FALSE`, states the verdict, and the
 /// header line follows; else the first line is the header line. The first token of the header line
-/// decides: `aag` begins a circuit, `aig` one in the binary form, and `p` a refutation. Anything else, or a missing line, is
-/// `BadHeader` at that line. A verdict that the kind doesn't show is `WrongVerdict` at line 1.
+/// decides: `aag` begins a circuit, `aig` one in the binary form, and `p` a refutation. Anything
+/// else, or a missing line, is `BadHeader` at that line. A verdict that the kind doesn't show is `WrongVerdict` at line 1.
 pub fn kind(bytes: &[u8]) -> Result<Kind, CertRefusal>
     ensures kind { result ≡ certificate_kind bytes.now }
     ensures within { IfOk result (λ kind. header_place kind ≤ length bytes.now) }

@@ -51,7 +51,8 @@ false_judgement : (bare : Bool) (f : Dqbf) (text : List ℕ)
 false_judgement true f text is = is
 false_judgement false f text is = is
 
-pub refutations_accepted : ReadsRefutationBack → DeletionsChangeNoFault → DeletionsAreAllowed → ChangedLinesDeleteAlike →
+pub refutations_accepted : ReadsRefutationBack → DeletionsChangeNoFault → DeletionsAreAllowed →
+    ChangedLinesDeleteAlike →
     RefutationsAreAccepted
 refutations_accepted back same laws alike f d form lawful none are allowed few =
     let bare = form.bare in
@@ -123,5 +124,6 @@ circuits_accepted spells back same laws f file proof form proved are writable al
           (λ first. back f file.circuit d first
           (written_proof_allowed laws f file.circuit proof form are within.items allowed));
     } in
-    subst (λ kind. IsJudgementOf f (verdict_text form f (is_true file proof)) kind ValidTrue) (sym (circuit_kind bare _))
+    subst (λ kind. IsJudgementOf f (verdict_text form f (is_true file proof)) kind ValidTrue)
+    (sym (circuit_kind bare _))
     (true_judgement bare f (canonical_circuit whole) answer)

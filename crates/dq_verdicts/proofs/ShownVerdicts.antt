@@ -91,7 +91,8 @@ proof_numbered allowed numbered f entries id ids file proof e =
     let d = e.from.decided in
     let (steps, (r, renaming, are), items) = e.lines in
     subst AreNumberedLines (sym (items ∙ ap (map derived) are))
-    (numbered _ (first_proof_id f (exported_netlist f entries e.part)) (proof_steps f entries e.part ids r) (omega arith)
+    (numbered _ (first_proof_id f (exported_netlist f entries e.part)) (proof_steps f entries e.part ids r)
+    (omega arith)
     (allowed f entries id e.part ids r d.well_formed d.logged d.inputs d.givens e.from.part d.reached renaming))
 
 pub refutation_numbered : ExportedLinesAreAllowed → AllowedLinesAreNumbered → (f : Dqbf) (live : List ℕ)

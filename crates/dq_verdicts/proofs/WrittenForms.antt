@@ -26,7 +26,8 @@ deleting_same : DeletionsChangeNoFault → (live : LiveClauses) (items : List Pr
 deleting_same same live items are =
     same false live (first_number (lines_of items)) (lines_of items) ∙ ap (items_fault false live) (sym are.lines)
 
-written_fault : DeletionsChangeNoFault → (b : Bool) (live : LiveClauses) (items : List ProofItem) → AreNumberedLines items →
+written_fault : DeletionsChangeNoFault → (b : Bool) (live : LiveClauses) (items : List ProofItem) →
+    AreNumberedLines items →
     items_fault false live (cond b (with_deletions items) items) ≡ items_fault false live items
 written_fault same true live items are = deleting_same same live items are
 written_fault same false live items are = refl
@@ -85,7 +86,8 @@ no_fewer_by : DeletionsAreAllowed → (b : Bool) (items : List ProofItem) → Ar
 no_fewer_by laws true items are = laws.no_fewer items are
 no_fewer_by laws false items are = omega arith
 
-few_by : DeletionsAreAllowed → (b : Bool) (items : List ProofItem) → length (cond b (with_deletions items) items) ≤ 2 * length items
+few_by : DeletionsAreAllowed → (b : Bool) (items : List ProofItem) → length
+    (cond b (with_deletions items) items) ≤ 2 * length items
 few_by laws true items = laws.few items
 few_by laws false items = omega arith
 
@@ -99,7 +101,8 @@ few_before laws form items are few =
     let more = no_fewer_by laws form.deletes items are in
     omega (arith, more, few)
 
-proof_by : DeletionsAreAllowed → (b : Bool) (f : Dqbf) (net : Netlist) (items : List ProofItem) → AreNumberedLines items →
+proof_by : DeletionsAreAllowed → (b : Bool) (f : Dqbf) (net : Netlist) (items : List ProofItem) →
+    AreNumberedLines items →
     length (cond b (with_deletions items) items) ≤ max_count → IsDqpOf f net (record { items = items }) →
     IsDqpOf f net (record { items = cond b (with_deletions items) items })
 proof_by laws true f net items are few allowed = record {

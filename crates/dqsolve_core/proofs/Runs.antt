@@ -56,11 +56,13 @@ pec_asked asked answer w s said is kind = sym said ∙ ap (option_map command_sa
 -- a verdict
 pub verdict_reported : (before now : FilesState) (log : ProofLog) (c : Search) (f : Dqbf) (r : Result Output Memory) →
     IsFormulaOf (before.held c.file) f
-    → PickedOnce before now → now.faults ≡ before.faults → log.limit ≡ c.steps → IfOk r (IsVerdictOutput f log (form_of c.options)) →
+    → PickedOnce before now → now.faults ≡ before.faults → log.limit ≡ c.steps → IfOk r
+    (IsVerdictOutput f log (form_of c.options)) →
     IfOk r (IsReported before now (Some (solve c)) log)
 verdict_reported before now log c f (Ok output) one picked unfaulted limit v = record {
   due = (solved f v.verdict, (one, limit, v.is, picked), v.is_printed);
-  long = λ six. absurd (not_long v.verdict (sym (status_of output (printed_verdict (form_of c.options) f v.verdict) v.is_printed)
+  long = λ six. absurd (not_long v.verdict (sym (status_of output
+      (printed_verdict (form_of c.options) f v.verdict) v.is_printed)
       ∙ six));
   unfaulted = λ _. unfaulted;
 }

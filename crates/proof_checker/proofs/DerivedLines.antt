@@ -108,7 +108,8 @@ module _ (f : Dqbf) (net : Netlist) where
   line_run p w m new item is tables rest run =
       subst (λ (k : Candidate). run_over (negated_candidate k) new
       ≡ with_item (run_over (negated_candidate k) w.proving) item) is run
-      ∙ ap (λ (t : NegatedTables). with_item (run_over (negated_candidate (candidate_by f net t)) w.proving) item) tables
+      ∙ ap (λ (t : NegatedTables). with_item (run_over
+      (negated_candidate (candidate_by f net t)) w.proving) item) tables
       ∙ ap (λ (q : ProofState). with_item (run_over (negated_candidate (judged_candidate f net p)) q) item) rest
 
   pub line_judging : (p w : CircuitProving) (new : CircuitProving) (step : ProofStep) (d : Bool) →
@@ -123,7 +124,8 @@ module _ (f : Dqbf) (net : Netlist) where
       (subst (λ i. AllByRecursion (λ line. line.0 < i) p.proving.lines) (sym id)
       (recursion_from_All (λ line. line.0 < at.next) p.proving.lines judging.above)) in
       record {
-        literals = subst (λ (t : NegatedTables). AreClauseLiterals f net t.literals.items) (sym tables) judging.literals;
+        literals = subst (λ (t : NegatedTables). AreClauseLiterals f net t.literals.items)
+            (sym tables) judging.literals;
         first = (let le = judging.first in omega (arith, le));
         ids = live_line (λ i. first_proof_id f net ≤ i) at judging.first judging.ids;
         above = All-from_recursion (λ line. line.0 < at.next + 1) new.proving.lines
@@ -147,7 +149,8 @@ module _ (f : Dqbf) (net : Netlist) where
       IsItem is_variable at (gone ids) → IsJudging f net new (behind_item at (gone ids))
   ids_judging p new ids tables q_is at judging lawful =
       record {
-        literals = subst (λ (t : NegatedTables). AreClauseLiterals f net t.literals.items) (sym tables) judging.literals;
+        literals = subst (λ (t : NegatedTables). AreClauseLiterals f net t.literals.items)
+            (sym tables) judging.literals;
         first = (let le = judging.first in let same = next_kept at ids in omega (arith, le, same));
         ids = live_gone (λ i. first_proof_id f net ≤ i) at ids judging.ids;
         above = All-from_recursion (λ line. line.0 < (behind_item at (gone ids)).next) new.proving.lines
@@ -162,7 +165,8 @@ module _ (f : Dqbf) (net : Netlist) where
     pub at : Numbering
     pub judging : IsJudging f net p at
     pub numbered : AreItems is_variable at (drop k items)
-    pub left : run_fault (with_items (run_of f net p) (drop k items)) ≡ run_fault (with_items (run_of f net first) items)
+    pub left : run_fault (with_items (run_of f net p) (drop k items)) ≡ run_fault
+        (with_items (run_of f net first) items)
 
   module _ (first p : CircuitProving) (items : List ProofItem) (k : ℕ) (item : ProofItem)
       (at : slice_get items k ≡ Some item) (before : AreJudged first p items k) where

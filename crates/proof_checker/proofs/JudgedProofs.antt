@@ -17,7 +17,8 @@ use Rattle.proof_checker.specs.CircuitProof.{circuit_literal, negated_candidate}
 use Rattle.proof_checker.specs.Lines.{AreProofLines}
 
 -- no clause of the negated matrix has the id of a line or a later one
-pub none_behind : (c : Candidate) (id : ℕ) → first_proof_id c.formula c.circuit.netlist ≤ id → negated_candidate c id ≡ None
+pub none_behind : (c : Candidate) (id : ℕ) → first_proof_id c.formula c.circuit.netlist ≤ id →
+    negated_candidate c id ≡ None
 none_behind c zero le = absurd (omega (arith, le))
 none_behind c (suc i) le =
     let counted = clauses_counted c.formula c.circuit.netlist (circuit_literal c.circuit) in

@@ -29,7 +29,8 @@ abbrev AreOnce : List ℕ → Type 0
 AreOnce [] = Unit {0}
 AreOnce (id ∷ ids) = (is_among ids id ≡ false) × AreOnce ids
 
-once_by : (a : ℕ) (rest : List ℕ) → is_among rest a ≡ false → AreOnce rest → (b : Bool) → AreOnce (cond b (a ∷ rest) rest)
+once_by : (a : ℕ) (rest : List ℕ) → is_among rest a ≡ false → AreOnce rest → (b : Bool) → AreOnce
+    (cond b (a ∷ rest) rest)
 once_by a rest first others true = (first, others)
 once_by a rest first others false = others
 
@@ -103,14 +104,16 @@ kept_behind first n step later kept id low below hinted = by (cases_eq id n.next
     by (inr differ) = or_right (eqb id n.next) (n.live id)
         (kept id low (less id n.next below differ) (or_right (is_among step.hints id) (is_hinted later id) hinted))
 
-spent_are_live : (first : ℕ) (n : Numbering) (step : ProofStep) (later : List ProofStep) → first ≤ n.next → step.id ≡ n.next →
+spent_are_live : (first : ℕ) (n : Numbering) (step : ProofStep) (later : List ProofStep) → first ≤ n.next →
+    step.id ≡ n.next →
     IsKept first n (step ∷ later) → (id : ℕ) → is_among (spent_ids first step later) id ≡ true →
     (with_next n).live id ≡ true
 spent_are_live first n step later le numbered kept id among =
     let q = among_filter (λ i. is_among step.hints i && not (is_hinted later i)) first (step.id - first) id among in
     or_right (eqb id n.next) (n.live id)
     (kept id q.from (omega (arith, q.below, le, numbered))
-    (or_left (is_among step.hints id) (is_hinted later id) (first_of (is_among step.hints id) (not (is_hinted later id)) q.passes)))
+    (or_left (is_among step.hints id) (is_hinted later id)
+    (first_of (is_among step.hints id) (not (is_hinted later id)) q.passes)))
   where
     first_of : (b c : Bool) → (b && c) ≡ true → b ≡ true
     first_of true c h = refl
@@ -133,7 +136,8 @@ behind V first n later items (id ∷ ids) apart live free kept rest = (
         live_same n (id ∷ ids) i (kept i low (subst (λ k. i < k) (next_same n (id ∷ ids)) below) hinted)
         (isn't (is_among (id ∷ ids) i) (λ among. true≢false (sym hinted ∙ free i among)))
 
-allowed : (V : ℕ → Bool) (first : ℕ) (n : Numbering) (steps : List ProofStep) → first ≤ n.next → AreSteps V n.next steps →
+allowed : (V : ℕ → Bool) (first : ℕ) (n : Numbering) (steps : List ProofStep) → first ≤ n.next →
+    AreSteps V n.next steps →
     IsKept first n steps → AreItems V n (deleting_from first steps)
 allowed V first n [] le are kept = tt
 allowed V first n (step ∷ []) le are kept = (are.0, tt)
@@ -148,7 +152,8 @@ allowed V first n (step ∷ next ∷ later) le are kept = (
       (subst (λ id. AreSteps V id (next ∷ later)) (sym same) are.1) kept_then),
 )
 
-steps_in : (V : ℕ → Bool) (n : Numbering) (steps : List ProofStep) → AreItems V n (map derived steps) → AreSteps V n.next steps
+steps_in : (V : ℕ → Bool) (n : Numbering) (steps : List ProofStep) → AreItems V n (map derived steps) →
+    AreSteps V n.next steps
 steps_in V n [] are = tt
 steps_in V n (step ∷ steps) are = (are.0, steps_in V (with_next n) steps are.1)
 
@@ -157,7 +162,8 @@ lines_allowed : (V : ℕ → Bool) (first : ℕ) (steps : List ProofStep) → Ar
 lines_allowed V first [] are = tt
 lines_allowed V first (step ∷ steps) are =
     subst (λ id. AreItems V (numbered_from first) (deleting_from id (step ∷ steps))) (sym are.0.numbered)
-    (allowed V first (numbered_from first) (step ∷ steps) (omega arith) are (λ id low below hinted. absurd (omega (arith, low, below))))
+    (allowed V first (numbered_from first) (step ∷ steps) (omega arith) are
+    (λ id low below hinted. absurd (omega (arith, low, below))))
 
 pub items_allowed : (V : ℕ → Bool) (first : ℕ) (items : List ProofItem) → AreNumberedLines items →
     AreItems V (numbered_from first) items → AreItems V (numbered_from first) (with_deletions items)
@@ -169,16 +175,19 @@ small_behind : (ids : List ℕ) (items : List ProofItem) → All IsSmallItem ite
 small_behind [] items small = small
 small_behind (id ∷ ids) items small = All-cons IsSmallItem (gone (id ∷ ids)) items tt small
 
-small_lines : (first : ℕ) (steps : List ProofStep) → All IsSmallItem (map derived steps) → All IsSmallItem (deleting_from first steps)
+small_lines : (first : ℕ) (steps : List ProofStep) → All IsSmallItem (map derived steps) → All IsSmallItem
+    (deleting_from first steps)
 small_lines first [] small = All-nil IsSmallItem
 small_lines first (step ∷ []) small = small
 small_lines first (step ∷ next ∷ later) small =
-    All-cons IsSmallItem (derived step) (deletion (spent_ids first step (next ∷ later)) ++ deleting_from first (next ∷ later))
+    All-cons IsSmallItem (derived step) (deletion (spent_ids first step (next ∷ later)) ++ deleting_from first
+    (next ∷ later))
     (All-head IsSmallItem (derived step) (map derived (next ∷ later)) small)
     (small_behind (spent_ids first step (next ∷ later)) (deleting_from first (next ∷ later))
     (small_lines first (next ∷ later) (All-tail IsSmallItem (derived step) (map derived (next ∷ later)) small)))
 
-pub items_small : (items : List ProofItem) → AreNumberedLines items → All IsSmallItem items → All IsSmallItem (with_deletions items)
+pub items_small : (items : List ProofItem) → AreNumberedLines items → All IsSmallItem items → All IsSmallItem
+    (with_deletions items)
 items_small items lines small =
     small_lines (first_number (lines_of items)) (lines_of items) (subst (All IsSmallItem) lines.lines small)
 

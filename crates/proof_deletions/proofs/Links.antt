@@ -9,7 +9,8 @@ isn't true h = absurd (h refl)
 isn't false h = refl
 
 -- what stands in front of a list that begins behind it leaves it as it is
-chain_stays : (nexts : List ℕ) (k v head : ℕ) (ks : List ℕ) → k < head → IsChain nexts head ks → IsChain (set nexts k v) head ks
+chain_stays : (nexts : List ℕ) (k v head : ℕ) (ks : List ℕ) → k < head → IsChain nexts head ks → IsChain
+    (set nexts k v) head ks
 chain_stays nexts k v head [] h is = is ∙ sym (length-set nexts k v)
 chain_stays nexts k v head (j ∷ js) h (at, there, behind, rest) =
     let apart : j ≢ k = λ e. absurd (omega (arith, h, at, e)) in
@@ -48,12 +49,14 @@ not_linked table heads nexts k h none are = record {
   heads_are_many = are.heads_are_many;
   nexts_are_many = are.nexts_are_many;
   behind = λ p below. let b = are.behind p below in omega (arith, b);
-  chains = λ p below. subst (IsChain nexts (get_or heads p 0)) (sym (used_kept table k p h (λ e. absurd (omega (arith, none, e)))))
+  chains = λ p below. subst (IsChain nexts (get_or heads p 0))
+      (sym (used_kept table k p h (λ e. absurd (omega (arith, none, e)))))
       (are.chains p below);
 }
 
 -- a place that is used last at the line at a place
-pub linked : (table heads nexts : List ℕ) (k last : ℕ) → k < length table → last < length table → get_or table k 0 ≡ last + 1 →
+pub linked : (table heads nexts : List ℕ) (k last : ℕ) → k < length table → last < length table →
+    get_or table k 0 ≡ last + 1 →
     AreChained table (k + 1) heads nexts →
     AreChained table k (set heads last k) (set nexts k (get_or heads last 0))
 linked table heads nexts k last h below_all this are = record {
@@ -75,7 +78,8 @@ linked table heads nexts k last h below_all this are = record {
     from : (p : ℕ) → p < length table → (p ≡ last) ⊎ (p ≡ last → ⊥) → k ≤ get_or (set heads last k) p 0
     from p below (inl e) =
         let here = get_or-set_same heads last k 0 in_heads in
-        let at : get_or (set heads last k) p 0 ≡ get_or (set heads last k) last 0 = ap (λ i. get_or (set heads last k) i 0) e in
+        let at : get_or (set heads last k) p 0 ≡ get_or (set heads last k) last 0 = ap
+        (λ i. get_or (set heads last k) i 0) e in
         omega (arith, here, at)
     from p below (inr n) =
         let other = get_or-set_other heads last p k 0 n in
@@ -90,12 +94,14 @@ linked table heads nexts k last h below_all this are = record {
         IsChain (set nexts k next) (get_or (set heads last k) p 0) (used_at table k p)
     chain p below (inl e) =
         subst (λ q. IsChain (set nexts k next) (get_or (set heads last k) q 0) (used_at table k q)) (sym e)
-        (subst (λ n. IsChain (set nexts k next) n (used_at table k last)) (sym (get_or-set_same heads last k 0 in_heads))
+        (subst (λ n. IsChain (set nexts k next) n (used_at table k last))
+        (sym (get_or-set_same heads last k 0 in_heads))
         (subst (IsChain (set nexts k next) k) (sym (used_more table k last h this)) (
           refl,
           (let l = length-set nexts k next in omega (arith, l, in_nexts)),
           (let s = get_or-set_same nexts k next 0 in_nexts in let b = are.behind last below_all in omega (arith, s, b)),
-          subst (λ n. IsChain (set nexts k next) n (used_at table (k + 1) last)) (sym (get_or-set_same nexts k next 0 in_nexts))
+          subst (λ n. IsChain (set nexts k next) n (used_at table (k + 1) last))
+              (sym (get_or-set_same nexts k next 0 in_nexts))
               (after last below_all),
         )))
     chain p below (inr n) =
@@ -111,7 +117,8 @@ pub record GoesOn (nexts : List ℕ) (at : ℕ) (left : List ℕ) : Type 0 where
   pub further : at < get_or nexts at 0
   pub chain : IsChain nexts (get_or nexts at 0) rest
 
-pub goes_on : (nexts : List ℕ) (at : ℕ) (left : List ℕ) → IsChain nexts at left → at < length nexts → GoesOn nexts at left
+pub goes_on : (nexts : List ℕ) (at : ℕ) (left : List ℕ) → IsChain nexts at left → at < length nexts →
+    GoesOn nexts at left
 goes_on nexts at [] is h = absurd (omega (arith, is, h))
 goes_on nexts at (k ∷ ks) (is, there, behind, rest) h = record {
   rest = ks;

@@ -38,7 +38,8 @@ pub allowed_are_numbered : (V : ℕ → Bool) (first : ℕ) (steps : List ProofS
     AreNumberedLines (map derived steps)
 allowed_are_numbered V first steps one are = record {
   lines = ap (map derived) (sym (lines_back steps));
-  numbered = subst (λ ss. map (λ step. step.id) ss ≡ range_with_len (first_number ss) (length ss)) (sym (lines_back steps))
+  numbered = subst (λ ss. map (λ step. step.id) ss ≡ range_with_len (first_number ss) (length ss))
+      (sym (lines_back steps))
       (first_same V first steps are);
   from_one = subst (All (λ step. 1 ≤ step.id)) (sym (lines_back steps)) (from_one V first steps one are);
 }
@@ -61,7 +62,8 @@ spent_alike g keeps first step later =
     (λ id. ap (λ hints. is_among hints id && not (is_hinted (map g later) id)) (keeps step).1
     ∙ ap (λ (b : Bool). is_among step.hints id && not b) (hinted_alike g keeps later id))
     (range_with_len first ((g step).id - first))
-    ∙ ap (λ id. filter (λ i. is_among step.hints i && not (is_hinted later i)) (range_with_len first (id - first))) (keeps step).0
+    ∙ ap (λ id. filter (λ i. is_among step.hints i && not (is_hinted later i)) (range_with_len first (id - first)))
+    (keeps step).0
 
 deletion_alike : (g : ProofStep → ProofStep) (ids : List ℕ) (items : List ProofItem) →
     deletion ids ++ map (on_line g) items ≡ map (on_line g) (deletion ids ++ items)
@@ -73,7 +75,8 @@ changed_alike g keeps first [] = refl
 changed_alike g keeps first (step ∷ []) = refl
 changed_alike g keeps first (step ∷ next ∷ later) =
     ap (λ items. derived (g step) ∷ items)
-    (ap (λ ids. deletion ids ++ deleting_from first (map g (next ∷ later))) (spent_alike g keeps first step (next ∷ later))
+    (ap (λ ids. deletion ids ++ deleting_from first (map g (next ∷ later)))
+    (spent_alike g keeps first step (next ∷ later))
     ∙ ap (λ items. deletion (spent_ids first step (next ∷ later)) ++ items) (changed_alike g keeps first (next ∷ later))
     ∙ deletion_alike g (spent_ids first step (next ∷ later)) (deleting_from first (next ∷ later)))
 
@@ -107,11 +110,13 @@ pub first_lines : (steps : List ProofStep) (place : ℕ) (step : ProofStep) → 
 first_lines steps place step at =
     let within = slice_get_within steps place step at in (
       length-take-le place steps (omega (arith, within)),
-      take_more steps place step within ∙ ap (λ s. take place steps ++ s ∷ []) (get_or_from_slice_get steps place step step at),
+      take_more steps place step within ∙ ap (λ s. take place steps ++ s ∷ [])
+          (get_or_from_slice_get steps place step step at),
     )
 
 -- the number of the line at a place
-ids_at : (steps : List ProofStep) (first place : ℕ) (step : ProofStep) → map (λ s. s.id) steps ≡ range_with_len first (length steps) →
+ids_at : (steps : List ProofStep) (first place : ℕ) (step : ProofStep) → map (λ s. s.id) steps ≡ range_with_len first
+    (length steps) →
     slice_get steps place ≡ Some step → step.id ≡ first + place
 ids_at steps first place step ids at =
     let within = slice_get_within steps place step at in
@@ -129,7 +134,8 @@ pub id_at : (items : List ProofItem) (place : ℕ) (step : ProofStep) → AreNum
 id_at items place step are at =
     let steps = lines_of items in
     let within = slice_get_within steps place step at in
-    subst (λ (s : ProofStep). 1 ≤ s.id) (get_or_from_slice_get steps place step step at) (are.from_one place step within)
+    subst (λ (s : ProofStep). 1 ≤ s.id) (get_or_from_slice_get steps place step step at)
+    (are.from_one place step within)
 
 -- the lines in two parts, at a line
 pub in_two : (steps : List ProofStep) (place : ℕ) (step : ProofStep) → slice_get steps place ≡ Some step →
@@ -137,5 +143,6 @@ pub in_two : (steps : List ProofStep) (place : ℕ) (step : ProofStep) → slice
 in_two steps place step at =
     let within = slice_get_within steps place step at in
     let front : drop place steps ≡ step ∷ drop (place + 1) steps =
-    drop_more steps place step within ∙ ap (λ s. s ∷ drop (place + 1) steps) (get_or_from_slice_get steps place step step at) in
+    drop_more steps place step within ∙ ap (λ s. s ∷ drop (place + 1) steps)
+    (get_or_from_slice_get steps place step step at) in
     (front, sym (take-append-drop place steps) ∙ ap (λ ss. take place steps ++ ss) front)

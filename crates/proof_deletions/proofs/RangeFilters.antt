@@ -11,7 +11,12 @@ pub record IsPicked (p : ℕ → Bool) (a n id : ℕ) : Type 0 where
   pub passes : p id ≡ true
 
 picked_later : (p : ℕ → Bool) (a n id : ℕ) → IsPicked p (a + 1) n id → IsPicked p a (suc n) id
-picked_later p a n id q = record { from = (let f = q.from in omega (arith, f)); below = (let b = q.below in omega (arith, b)); passes = q.passes }
+picked_later p a n id q = record {
+  from = (let f = q.from in omega (arith, f));
+  below =
+      (let b = q.below in omega (arith, b));
+  passes = q.passes;
+}
 
 picked_here : (p : ℕ → Bool) (a n id : ℕ) → p a ≡ true → (rest : Bool) → (rest ≡ true → IsPicked p a (suc n) id) →
     (b : Bool) → eqb a id ≡ b → (b || rest) ≡ true → IsPicked p a (suc n) id

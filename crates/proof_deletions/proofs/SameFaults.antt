@@ -50,7 +50,8 @@ unhinted ids (hint ∷ hints) free = (
   where
     here : (b : Bool) → is_among ids hint ≡ b → is_among ids hint ≡ false
     here false e = e
-    here true e = absurd (true≢false (sym (eqb-same hint) ∙ (or_false (eqb hint hint) (is_among hints hint) (free hint e)).0))
+    here true e = absurd (true≢false (sym (eqb-same hint)
+        ∙ (or_false (eqb hint hint) (is_among hints hint) (free hint e)).0))
 
 behind_deletion : (ids others : List ℕ) (items : List ProofItem) → AreUnused ids items →
     AreUnused ids (deletion others ++ items)
@@ -58,7 +59,8 @@ behind_deletion ids [] items h = h
 behind_deletion ids (other ∷ others) items h = h
 
 -- ids that no line hints are unused with deletions
-unused : (ids : List ℕ) (first : ℕ) (steps : List ProofStep) → NotHinted ids steps → AreUnused ids (deleting_from first steps)
+unused : (ids : List ℕ) (first : ℕ) (steps : List ProofStep) → NotHinted ids steps → AreUnused ids
+    (deleting_from first steps)
 unused ids first [] free = tt
 unused ids first (step ∷ []) free = (unhinted ids step.hints (not_hinted_by ids step [] free), tt)
 unused ids first (step ∷ next ∷ later) free = (
@@ -71,7 +73,8 @@ abbrev UnusedMayGo : Type 0
 UnusedMayGo = (finished : Bool) (live : LiveClauses) (ids : List ℕ) (items : List ProofItem) → AreUnused ids items →
     items_fault finished live (gone ids ∷ items) ≡ items_fault finished live items
 
-may_go : UnusedMayGo → (finished : Bool) (live : LiveClauses) (ids : List ℕ) (items : List ProofItem) → AreUnused ids items →
+may_go : UnusedMayGo → (finished : Bool) (live : LiveClauses) (ids : List ℕ) (items : List ProofItem) →
+    AreUnused ids items →
     items_fault finished live (deletion ids ++ items) ≡ items_fault finished live items
 may_go go finished live [] items free = refl
 may_go go finished live (id ∷ ids) items free = go finished live (id ∷ ids) items free

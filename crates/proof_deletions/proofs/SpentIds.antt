@@ -40,13 +40,16 @@ later_is a zero h = absurd (omega (arith, h))
 later_is a (suc n) h = refl
 
 use_in : (first place : ℕ) (steps : List ProofStep) (k : ℕ) →
-    (last_use first place steps k ≡ 0) ⊎ ((place < last_use first place steps k) × (last_use first place steps k ≤ place + length steps))
+    (last_use first place steps k ≡ 0) ⊎ ((place < last_use first place steps k) ×
+    (last_use first place steps k ≤ place + length steps))
 use_in first place [] k = inl refl
-use_in first place (step ∷ steps) k = by (last_use first (place + 1) steps k) (uses first place step.hints k) (use_in first (place + 1) steps k)
+use_in first place (step ∷ steps) k = by (last_use first (place + 1) steps k) (uses first place step.hints k)
+    (use_in first (place + 1) steps k)
   where
     by : (later : ℕ) (b : Bool) → (later ≡ 0) ⊎ ((place + 1 < later) × (later ≤ place + 1 + length steps)) →
         (later_of (if b then place + 1 else 0) later ≡ 0)
-        ⊎ ((place < later_of (if b then place + 1 else 0) later) × (later_of (if b then place + 1 else 0) later ≤ place + length (step ∷ steps)))
+        ⊎ ((place < later_of (if b then place + 1 else 0) later) ×
+        (later_of (if b then place + 1 else 0) later ≤ place + length (step ∷ steps)))
     by zero true h = inr (omega arith, omega arith)
     by zero false h = inl refl
     by (suc later) b (inl h) = absurd (omega (arith, h))
@@ -55,7 +58,8 @@ use_in first place (step ∷ steps) k = by (last_use first (place + 1) steps k) 
 pub use_at_most : (first : ℕ) (steps : List ProofStep) (k : ℕ) → last_use first 0 steps k ≤ length steps
 use_at_most first steps k = by (use_in first 0 steps k)
   where
-    by : (last_use first 0 steps k ≡ 0) ⊎ ((0 < last_use first 0 steps k) × (last_use first 0 steps k ≤ 0 + length steps)) →
+    by : (last_use first 0 steps k ≡ 0) ⊎ ((0 < last_use first 0 steps k) ×
+        (last_use first 0 steps k ≤ 0 + length steps)) →
         last_use first 0 steps k ≤ length steps
     by (inl h) = omega (arith, h)
     by (inr h) = let g = h.1 in omega (arith, g)
@@ -77,7 +81,8 @@ none_by : (first place : ℕ) (steps : List ProofStep) (k : ℕ) → k < place �
     eqb (last_use first place steps k) 0 ≡ not (is_hinted steps (first + k))
 none_by first place [] k h = refl
 none_by first place (step ∷ steps) k h =
-    by (last_use first (place + 1) steps k) (is_hinted steps (first + k)) (is_among step.hints (first + k)) (nat_lt k place)
+    by (last_use first (place + 1) steps k) (is_hinted steps (first + k)) (is_among step.hints (first + k))
+    (nat_lt k place)
     (lt-true k place h) (none_by first (place + 1) steps k (omega (arith, h)))
   where
     by : (later : ℕ) (hinted b lt : Bool) → lt ≡ true → eqb later 0 ≡ not hinted →
@@ -91,14 +96,16 @@ none_by first place (step ∷ steps) k h =
     by (suc later) false b true e same = absurd (true≢false (sym same ∙ suc-not-zero later))
 
 -- the last use is at a line of the middle
-here_by : (first : ℕ) (before : List ProofStep) (step : ProofStep) (later : List ProofStep) (k : ℕ) → k < length before →
+here_by : (first : ℕ) (before : List ProofStep) (step : ProofStep) (later : List ProofStep) (k : ℕ) →
+    k < length before →
     eqb (last_use first 0 (before ++ step ∷ later) k) (length before + 1)
     ≡ (is_among step.hints (first + k) && not (is_hinted later (first + k)))
 here_by first before step later k h =
     ap (λ u. eqb u (p + 1)) (last_use-append first 0 before (step ∷ later) k)
     ∙ by (last_use first 0 before k) (last_use first (0 + p + 1) later k) (is_among step.hints (first + k))
     (nat_lt k (0 + p)) (not (is_hinted later (first + k))) (use_at_most first before k)
-    (use_in first (0 + p + 1) later k) (lt-true k (0 + p) (omega (arith, h))) (none_by first (0 + p + 1) later k (omega (arith, h)))
+    (use_in first (0 + p + 1) later k) (lt-true k (0 + p) (omega (arith, h)))
+    (none_by first (0 + p + 1) later k (omega (arith, h)))
   where
     p : ℕ
     p = length before
@@ -108,11 +115,14 @@ here_by first before step later k h =
         eqb later_use 0 ≡ free →
         eqb (later_of u (later_of (if lt && b then 0 + p + 1 else 0) later_use)) (p + 1) ≡ (b && free)
     by u later_use b false free few within e none = absurd (true≢false (sym e))
-    by u zero true true free few within e none = eq-eqb (later_of u (0 + p + 1)) (p + 1) (later_is u (0 + p + 1) (omega arith) ∙ omega arith) ∙ none
-    by u zero false true free few within e none = isn't (eqb u (p + 1)) (λ g. let q = eqb-true u (p + 1) g in absurd (omega (arith, q, few)))
+    by u zero true true free few within e none = eq-eqb (later_of u (0 + p + 1)) (p + 1)
+        (later_is u (0 + p + 1) (omega arith) ∙ omega arith) ∙ none
+    by u zero false true free few within e none = isn't (eqb u (p + 1))
+        (λ g. let q = eqb-true u (p + 1) g in absurd (omega (arith, q, few)))
     by u (suc later_use) b true free few (inl none') e none = absurd (omega (arith, none'))
     by u (suc later_use) b true free few (inr within) e none =
-        isn't (eqb (suc later_use) (p + 1)) (λ g. let q = eqb-true (suc later_use) (p + 1) g in let w = within.0 in absurd (omega (arith, q, w)))
+        isn't (eqb (suc later_use) (p + 1)) (λ g. let q = eqb-true (suc later_use) (p + 1) g in let w = within.0 in
+        absurd (omega (arith, q, w)))
         ∙ sym (and-no b free (sym none ∙ suc-not-zero later_use))
       where
         and-no : (b c : Bool) → c ≡ false → (b && c) ≡ false
@@ -120,7 +130,8 @@ here_by first before step later k h =
         and-no false c h = refl
 
 -- and of no line from the middle on
-not_here : (first : ℕ) (before : List ProofStep) (step : ProofStep) (later : List ProofStep) (k : ℕ) → length before ≤ k →
+not_here : (first : ℕ) (before : List ProofStep) (step : ProofStep) (later : List ProofStep) (k : ℕ) →
+    length before ≤ k →
     eqb (last_use first 0 (before ++ step ∷ later) k) (length before + 1) ≡ false
 not_here first before step later k h =
     ap (λ u. eqb u (p + 1)) (last_use-append first 0 before (step ∷ later) k)
@@ -135,10 +146,12 @@ not_here first before step later k h =
         (later_use ≡ 0) ⊎ ((0 + p + 1 < later_use) × (later_use ≤ 0 + p + 1 + length later)) → lt ≡ false →
         eqb (later_of u (later_of (if lt && b then 0 + p + 1 else 0) later_use)) (p + 1) ≡ false
     by u later_use b true few within e = absurd (true≢false e)
-    by u zero b false few within e = isn't (eqb u (p + 1)) (λ g. let q = eqb-true u (p + 1) g in absurd (omega (arith, q, few)))
+    by u zero b false few within e = isn't (eqb u (p + 1))
+        (λ g. let q = eqb-true u (p + 1) g in absurd (omega (arith, q, few)))
     by u (suc later_use) b false few (inl none) e = absurd (omega (arith, none))
     by u (suc later_use) b false few (inr within) e =
-        isn't (eqb (suc later_use) (p + 1)) (λ g. let q = eqb-true (suc later_use) (p + 1) g in let w = within.0 in absurd (omega (arith, q, w)))
+        isn't (eqb (suc later_use) (p + 1)) (λ g. let q = eqb-true (suc later_use) (p + 1) g in let w = within.0 in
+        absurd (omega (arith, q, w)))
 
 -- tests that agree in a range
 filter_in : (t u : ℕ → Bool) (a n : ℕ) → ((k : ℕ) → a ≤ k → k < a + n → t k ≡ u k) →
@@ -164,10 +177,12 @@ range_in_two a zero m = rw (omega_zero m, omega_plus a) refl
     omega_plus a = omega arith
 range_in_two a (suc n) m =
     ap (range_with_len a) (let e : suc n + m ≡ suc (n + m) = omega arith in e)
-    ∙ ap (λ ks. a ∷ ks) (range_in_two (a + 1) n m ∙ ap (λ b. range_with_len (a + 1) n ++ range_with_len b m) (omega arith))
+    ∙ ap (λ ks. a ∷ ks) (range_in_two (a + 1) n m ∙ ap (λ b. range_with_len (a + 1) n ++ range_with_len b m)
+    (omega arith))
 
 mapped_by : (first a : ℕ) (rest : List ℕ) (b : Bool) →
-    map (λ k. first + k) (cond b (a ∷ rest) rest) ≡ cond b ((first + a) ∷ map (λ k. first + k) rest) (map (λ k. first + k) rest)
+    map (λ k. first + k) (cond b (a ∷ rest) rest) ≡ cond b ((first + a) ∷ map (λ k. first + k) rest)
+    (map (λ k. first + k) rest)
 mapped_by first a rest true = refl
 mapped_by first a rest false = refl
 
@@ -177,7 +192,8 @@ shifted first t a zero = refl
 shifted first t a (suc n) =
     mapped_by first a (filter (λ k. t (first + k)) (range_with_len (a + 1) n)) (t (first + a))
     ∙ ap (λ (ks : List ℕ). cond (t (first + a)) ((first + a) ∷ ks) ks)
-    (shifted first t (a + 1) n ∙ ap (λ b. filter t (range_with_len b n)) (let e : first + (a + 1) ≡ first + a + 1 = omega arith in e))
+    (shifted first t (a + 1) n ∙ ap (λ b. filter t (range_with_len b n))
+    (let e : first + (a + 1) ≡ first + a + 1 = omega arith in e))
 
 length_more : (before : List ProofStep) (step : ProofStep) (later : List ProofStep) →
     length before < length (before ++ step ∷ later)
@@ -215,18 +231,24 @@ spent_by first before step later table are numbered =
 
     front : filter test (range_with_len 0 p) ≡ filter (λ k. passes (first + k)) (range_with_len 0 p)
     front = filter_in test (λ k. passes (first + k)) 0 p (λ k low below.
-        ap (λ u. eqb u (p + 1)) (are.each k (omega (arith, below, longer))) ∙ here_by first before step later k (omega (arith, below)))
+        ap (λ u. eqb u (p + 1)) (are.each k (omega (arith, below, longer))) ∙ here_by first before step later k
+        (omega (arith, below)))
 
     back : filter test (range_with_len (0 + p) (n - p)) ≡ []
     back = filter_in test (λ k. false) (0 + p) (n - p) (λ k low below.
-        ap (λ u. eqb u (p + 1)) (are.each k (omega (arith, below, longer))) ∙ not_here first before step later k (omega (arith, low)))
+        ap (λ u. eqb u (p + 1)) (are.each k (omega (arith, below, longer))) ∙ not_here first before step later k
+        (omega (arith, low)))
         ∙ none_pass (0 + p) (n - p)
 
-    split : filter test (range_with_len 0 (p + (n - p))) ≡ filter test (range_with_len 0 p) ++ filter test (range_with_len (0 + p) (n - p))
-    split = ap (filter test) (range_in_two 0 p (n - p)) ∙ filter-append test (range_with_len 0 p) (range_with_len (0 + p) (n - p))
+    split : filter test (range_with_len 0 (p + (n - p))) ≡ filter test (range_with_len 0 p) ++ filter test
+        (range_with_len (0 + p) (n - p))
+    split = ap (filter test) (range_in_two 0 p (n - p)) ∙ filter-append test (range_with_len 0 p)
+        (range_with_len (0 + p) (n - p))
 
-    kept : filter test (range_with_len 0 p) ++ filter test (range_with_len (0 + p) (n - p)) ≡ filter (λ k. passes (first + k)) (range_with_len 0 p)
-    kept = ap (λ ks. filter test (range_with_len 0 p) ++ ks) back ∙ append-nil (filter test (range_with_len 0 p)) ∙ front
+    kept : filter test (range_with_len 0 p) ++ filter test (range_with_len (0 + p) (n - p)) ≡ filter
+        (λ k. passes (first + k)) (range_with_len 0 p)
+    kept = ap (λ ks. filter test (range_with_len 0 p) ++ ks) back ∙ append-nil (filter test (range_with_len 0 p))
+        ∙ front
 
 -- of lines in two parts
 pub spent_at : (first n place : ℕ) (steps before later : List ProofStep) (step : ProofStep) (table : List ℕ) →
@@ -240,11 +262,13 @@ spent_at first n place steps before later step table are cut here many id =
     (id ∙ ap (λ p. first + p) (sym here)))
 
 -- one line more
-keeps_later : (a b : ℕ) (used : Bool) → later_of a (later_of (if used then b + 1 else 0) 0) ≡ (if used then b + 1 else a)
+keeps_later : (a b : ℕ) (used : Bool) → later_of a (later_of (if used then b + 1 else 0) 0) ≡
+    (if used then b + 1 else a)
 keeps_later a b true = later_is a (b + 1) (omega arith)
 keeps_later a b false = refl
 
-pub noted_next : (first n : ℕ) (steps : List ProofStep) (step : ProofStep) (old new : List ℕ) → AreLastUses first steps n old →
+pub noted_next : (first n : ℕ) (steps : List ProofStep) (step : ProofStep) (old new : List ℕ) →
+    AreLastUses first steps n old →
     AreNoted first (length steps) step.hints old new → AreLastUses first (steps ++ step ∷ []) n new
 noted_next first n steps step old new are noted = record {
   many = noted.many ∙ are.many;
@@ -253,20 +277,24 @@ noted_next first n steps step old new are noted = record {
       ∙ ap (λ a. if uses first (length steps) step.hints k then length steps + 1 else a) (are.each k below)
       ∙ sym (last_use-append first 0 steps (step ∷ []) k
       ∙ keeps_later (last_use first 0 steps k) (0 + length steps) (uses first (0 + length steps) step.hints k)
-      ∙ ap (λ p. if uses first p step.hints k then p + 1 else last_use first 0 steps k) (let e : 0 + length steps ≡ length steps = omega arith in e));
+      ∙ ap (λ p. if uses first p step.hints k then p + 1 else last_use first 0 steps k)
+      (let e : 0 + length steps ≡ length steps = omega arith in e));
 }
 
 -- the lines behind a line, one more, and none
-pub deleting_next : (first : ℕ) (items : List ProofItem) (step : ProofStep) (later : List ProofStep) (ids : List ℕ) → 0 < length later →
+pub deleting_next : (first : ℕ) (items : List ProofItem) (step : ProofStep) (later : List ProofStep) (ids : List ℕ) →
+    0 < length later →
     ids ≡ spent_ids first step later →
-    ((items ++ derived step ∷ []) ++ deletion ids) ++ deleting_from first later ≡ items ++ deleting_from first (step ∷ later)
+    ((items ++ derived step ∷ []) ++ deletion ids) ++ deleting_from first later ≡ items ++ deleting_from first
+    (step ∷ later)
 deleting_next first items step [] ids more are = absurd (omega (arith, more))
 deleting_next first items step (next ∷ later) ids more are =
     append_assoc (items ++ derived step ∷ []) (deletion ids) (deleting_from first (next ∷ later))
     ∙ append_assoc items (derived step ∷ []) (deletion ids ++ deleting_from first (next ∷ later))
     ∙ ap (λ is. items ++ derived step ∷ (deletion is ++ deleting_from first (next ∷ later))) are
 
-pub deleting_last : (first : ℕ) (items : List ProofItem) (step : ProofStep) (later : List ProofStep) → length later ≤ 0 →
+pub deleting_last : (first : ℕ) (items : List ProofItem) (step : ProofStep) (later : List ProofStep) →
+    length later ≤ 0 →
     (items ++ derived step ∷ []) ++ deleting_from first later ≡ items ++ deleting_from first (step ∷ later)
 deleting_last first items step [] none = append-nil (items ++ derived step ∷ [])
 deleting_last first items step (next ∷ later) none = absurd (omega (arith, none))

@@ -220,7 +220,8 @@ module _ (f : Dqbf) (rows : List (List Bool)) where
 
   pub line_judging : (p : RefutationProving) (j : Judging) (step : ProofStep) → p.judging.proving.fault ≡ None →
       AreNames (frame_of f rows p) j.names →
-      ((lines : List (ℕ × List Literal)) → IsHeld (frame_of f rows p) (names_in p.judging.names) lines p.judging.proving →
+      ((lines : List (ℕ × List Literal)) → IsHeld (frame_of f rows p)
+      (names_in p.judging.names) lines p.judging.proving →
       AreBehind (frame_of f rows p) lines → IsJudged (frame_of f rows p) (names_in j.names) lines step.id step.literals
       j.proving (is_line (frame_of f rows p) lines step.literals step.hints)) →
       (at : Numbering) (run : Run) → IsJudging f rows p at run → IsItem is_pair at (derived step) →
@@ -388,7 +389,8 @@ module _ (f : Dqbf) (rows : List (List Bool)) where
       apart h = cc
 
   -- the fault of all items
-  pub has_fault : (p : RefutationProving) (items : List ProofItem) (fault : Option ProofFault) → HasFaultOf f rows items p →
+  pub has_fault : (p : RefutationProving) (items : List ProofItem) (fault : Option ProofFault) →
+      HasFaultOf f rows items p →
       ((at : Numbering) (run : Run) → IsJudging f rows p at run → fault ≡ run_fault run) →
       fault ≡ items_fault false (instance_at f rows) (map (normal_item f rows) items)
   has_fault p items fault has says = says has.at has.run has.judging ∙ has.same

@@ -22,7 +22,8 @@ loop-n-preserved c =
     = c.in-Some.ensures in
     let holds : is_variable c.args.variables (variable_of (dimacs_literal (to_z w64 (of_z w64 n)))) ≡ true =
     search rules in
-    let both = literal_taken (is_variable c.args.variables) (line_tokens c.args.line.now) (line_tokens c.loop-n.rest.now)
+    let both = literal_taken (is_variable c.args.variables) (line_tokens c.args.line.now)
+    (line_tokens c.loop-n.rest.now)
     (line_tokens c.in-Some.behind.now)
     c.loop-n.literals.items c.push_literal.new.literals.items n first c.in_ok-push_literal.ensures holds
     c.loop-n.invariant.numbers c.loop-n.invariant.on_variables in

@@ -38,8 +38,8 @@ returns c =
       verdict = is_false c.in_ok-refutation.refutation;
       is = record {
         productive = c.requires.productive;
-        shown = shown_false c.refutations_are_accepted.ensures c.deletions_are_allowed.ensures c.args.f.now c.args.log.now
-            c.args.id c.args.form
+        shown = shown_false c.refutations_are_accepted.ensures c.deletions_are_allowed.ensures c.args.f.now
+            c.args.log.now c.args.id c.args.form
             c.in_ok-refutation.refutation c.every_formula_is_lawful.ensures
             (c.refutation_shows_false.ensures c.args.f.now c.in_ok-refutation.refutation c.requires.formula
             exported.accepted) c.requires.refuted
@@ -57,7 +57,8 @@ returns c =
                     (c.deref.ensures.value ∙ c.in_ok-numbers.ensures) exported.lines.2,
               );
               numbered = refutation_numbered c.exported_lines_are_allowed.ensures c.allowed_lines_are_numbered.ensures f
-                  (range_with_len 1 (length f.matrix)) entries c.args.id exported.lines.0 c.in_ok-refutation.refutation.items
+                  (range_with_len 1
+                  (length f.matrix)) entries c.args.id exported.lines.0 c.in_ok-refutation.refutation.items
                   c.requires.formula c.every_log_is_lawful.ensures
                   ((c.productive_answers_can_be_exported.ensures f entries c.args.id c.every_log_is_lawful.ensures
                   c.requires.productive).1 c.requires.refuted.shown)

@@ -9,7 +9,12 @@ use Rattle.dqsolve_core.proofs.run.report_file.Goals as goal
 pub returns-in-Ok-clause-reported : goal.returns-in-Ok-clause-reported
 returns-in-Ok-clause-reported g c =
     verdict_reported (state_of g.F.Files c.args.files.now) (state_of g.F.Files c.read_formula.new.files) c.solve.new.log
-    (record { steps = c.args.asked.steps; options = options_of c.args.asked.options; file = c.args.asked.file.now }) c.in-Ok.formula
+    (record {
+      steps = c.args.asked.steps;
+      options = options_of c.args.asked.options;
+      file =
+          c.args.asked.file.now;
+    }) c.in-Ok.formula
     c.solve.result
     c.in-Ok.ensures.read.0
     c.in-Ok.ensures.read.1
@@ -20,7 +25,12 @@ returns-in-Ok-clause-reported g c =
 pub returns-in-Ok-clause-log : goal.returns-in-Ok-clause-log
 returns-in-Ok-clause-log g c =
     inr (record {
-      command = solve (record { steps = c.args.asked.steps; options = options_of c.args.asked.options; file = c.args.asked.file.now });
+      command = solve (record {
+        steps = c.args.asked.steps;
+        options = options_of c.args.asked.options;
+        file =
+            c.args.asked.file.now;
+      });
       is = refl;
       limit = c.solve.ensures.limit ∙ ap (λ (log : ProofLog). log.limit) c.rewind.ensures;
       f = c.in-Ok.formula;
@@ -37,7 +47,12 @@ returns-in-Err-Said-clause-reported g c =
     let read = said_read before now c.args.asked.file.now c.read_formula.result stop said c.in-Err-Said.is
     c.in-Err-Said.field-0-is c.read_formula.ensures.read in
     said_reported before now c.rewind.new.self
-    (record { steps = c.args.asked.steps; options = options_of c.args.asked.options; file = c.args.asked.file.now }) said c.output.result
+    (record {
+      steps = c.args.asked.steps;
+      options = options_of c.args.asked.options;
+      file =
+          c.args.asked.file.now;
+    }) said c.output.result
     read.0 read.1
     (λ other. c.read_formula.ensures.unfaulted (not_unreadable c.read_formula.result stop said c.in-Err-Said.is
     c.in-Err-Said.field-0-is other))

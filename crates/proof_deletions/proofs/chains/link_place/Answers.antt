@@ -11,7 +11,8 @@ returns-then-table-place-gt0 c =
     let used = c.if-table-place-gt0.true in
     let few = c.requires.uses place 0 c.requires.there in
     let last = slice_index_or table place 0 - 1 in
-    subst (λ next. AreChained table place (slice_set c.args.heads.now.items last place) (slice_set c.args.nexts.now.items place next))
+    subst (λ next. AreChained table place (slice_set c.args.heads.now.items last place)
+    (slice_set c.args.nexts.now.items place next))
     (sym (c.index.ensures ∙ get_or_default_zero c.args.heads.now.items last c.index.result.now
     (let many = c.requires.behind.heads_are_many in omega (arith, used, few, many))))
     (linked table c.args.heads.now.items c.args.nexts.now.items place last c.requires.there

@@ -8,7 +8,8 @@ use Rattle.proof_deletions.proofs.deletions.write_items.Goals.{then-place-len+in
 use Rattle.proof_deletions.proofs.deletions.write_items.Goals as goal
 
 pub push-requires : goal.push-requires
-push-requires c = id_at c.args.lines.now c.loop-place.place (step_seen c.line_at.result) c.requires.lines c.line_at.ensures
+push-requires c = id_at c.args.lines.now c.loop-place.place
+    (step_seen c.line_at.result) c.requires.lines c.line_at.ensures
 
 pub loop-place-preserved : goal.loop-place-preserved
 loop-place-preserved c =

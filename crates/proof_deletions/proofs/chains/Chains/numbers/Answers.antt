@@ -31,7 +31,8 @@ loop-at-preserved c =
       left = on.rest;
       chain = subst (λ n. IsChain nexts n on.rest) (sym (c.index-at-in-loop-at.ensures
           ∙ get_or_default_zero nexts at c.index-at-in-loop-at.result.now there)) on.chain;
-      whole = ap (λ is. is ++ map (λ k. first + k) on.rest) (c.in_ok-push.ensures.items ∙ ap (λ (i : ℕ). c.loop-at.numbers.items ++ i ∷ []) id)
+      whole = ap (λ is. is ++ map (λ k. first + k) on.rest)
+          (c.in_ok-push.ensures.items ∙ ap (λ (i : ℕ). c.loop-at.numbers.items ++ i ∷ []) id)
           ∙ append_assoc c.loop-at.numbers.items ((first + at) ∷ []) (map (λ k. first + k) on.rest)
           ∙ ap (λ ks. c.loop-at.numbers.items ++ map (λ k. first + k) ks) (sym on.is)
           ∙ c.loop-at.invariant.whole;
