@@ -1,5 +1,6 @@
 """Runs the built solver on random small formulas, declared in any order. Each verdict is compared with all choices of bits at the pairs of
-existentials and what they see, tried one by one; each certificate is judged by the built checker and by the second judge, reference.py.
+existentials and what they see, tried one by one; each certificate is judged by the built checker and by the second judge, reference.py,
+also with deletions, which deletions.py writes as well.
 Then the solver runs with each number of steps from 1 on: below what the verdict takes the answer is UNKNOWN with as many steps in its
 counts, and from there on the verdict, with the same bytes."""
 
@@ -14,6 +15,7 @@ import tempfile
 import loop
 import reference
 from bench import CHECKER, TOP
+from deletions import with_deletions
 
 SOLVER = os.environ.get("DQSOLVE", os.path.join(TOP, "crates", "dqsolve", "out", "dqsolve"))
 MOST_DIFFERENCES = 10
@@ -55,7 +57,19 @@ def faults_of_verdict(folder, path, text, formula, answer):
     bare, found = solve(path, "--bare")
     if found != status or b"s %s\n" % word.encode() + bare != certificate:
         faults.append("without the line with the verdict the text is another")
-    return faults
+    return faults + faults_of_deletions(folder, path, text, answer)
+
+
+def faults_of_deletions(folder, path, text, answer):
+    """What is wrong with the same proof where clauses are deleted behind their last use."""
+    deleting = with_deletions(answer[0].decode()).encode()
+    if solve(path, "--v2") != (deleting, answer[1]):
+        return ["with deletions the text is another"]
+    bare, _ = solve(path, "--v2", "--bare")
+    if deleting[deleting.index(b"\n") + 1 :] != bare:
+        return ["with deletions and without the line with the verdict the text is another"]
+    said = {check(folder, path, deleting), reference.answer(text, deleting)}
+    return [] if len(said) == 1 and said.pop().startswith("VALID ") else ["with deletions a judge says otherwise"]
 
 
 def faults_of_steps(path, answer):
