@@ -142,10 +142,6 @@ fn report_circuits<F: Files>(
     ensures held { F.held files.new ≡ F.held files.old }
 {
     design_formulas_are_well_formed();
-    let form = Form {
-        bare: false,
-        deletes: false,
-    };
     log.rewind(comparison.steps);
     match read_design_formula(
         alloc,
@@ -153,7 +149,13 @@ fn report_circuits<F: Files>(
         comparison.circuits.spec,
         comparison.circuits.imp,
     ) {
-        Ok(formula) => solve(alloc, &formula, form, log),
+        Ok(formula) => {
+            let form = Form {
+                bare: false,
+                deletes: false,
+            };
+            solve(alloc, &formula, form, log)
+        }
         Err(DesignStop::Memory) => Err(Memory),
         Err(DesignStop::Said(said)) => said.output(alloc),
     }

@@ -1,4 +1,5 @@
-use Rattle.std.proofs.Common.{◌∙◌, ap, inr, refl}
+use Rattle.std.proofs.Common.{◌∙◌, ap, inr, refl, subst, IfOk}
+use Rattle.dq_verdicts.specs.Outputs.{IsVerdictOutput}
 use Rattle.hint_log.specs.Entries.{ProofLog}
 use Rattle.dq_io.specs.State.{state_of}
 use Rattle.dqsolve_words.specs.Command.{solve}
@@ -20,7 +21,8 @@ returns-in-Ok-clause-reported g c =
     c.in-Ok.ensures.read.1
     (c.in-Ok.ensures.unfaulted (λ none. none))
     (c.solve.ensures.limit ∙ ap (λ (log : ProofLog). log.limit) c.rewind.ensures)
-    c.solve.ensures.verdict
+    (subst (λ form. IfOk c.solve.result (IsVerdictOutput c.in-Ok.formula c.solve.new.log form)) c.form_of.ensures
+    c.solve.ensures.verdict)
 
 pub returns-in-Ok-clause-log : goal.returns-in-Ok-clause-log
 returns-in-Ok-clause-log g c =
