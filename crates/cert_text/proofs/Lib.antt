@@ -28,3 +28,6 @@ pub mod ReadItems
 pub mod SpelledItems
 pub mod KeptItems
 pub mod StepsAlone
+pub mod DefinitionParts
+pub mod AllowedDefinitions
+pub mod DefinitionBodies

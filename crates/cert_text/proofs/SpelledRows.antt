@@ -96,7 +96,7 @@ named : (b : Bool) (row made : List Bool) → cond b (Ok made) (Err RowIncomplet
 named true row made h = let is : made ≡ row = cc in (refl, is)
 named false row made h = cc
 
-row_read : (us : List ℕ) (ns : List ℤ) (row : List Bool) → row_of us ns ≡ Ok row → IsRow us ns row
+pub row_read : (us : List ℕ) (ns : List ℤ) (row : List Bool) → row_of us ns ≡ Ok row → IsRow us ns row
 row_read us ns row h =
     let parts = named (bytes_eq (map nat_abs ns) (us ++ 0 ∷ [])) row (map is_positive (take (length us) ns)) h in
     subst (IsRow us ns) parts.1 (row_named us ns ((bytes_eq-Decides (map nat_abs ns) (us ++ 0 ∷ [])).0 parts.0))
@@ -121,7 +121,7 @@ behind_letter us tokens (Ok ns) row is h =
       whole = r.whole;
     }
 
-lettered : (b : Bool) (r : Result (List Bool) CertFault) (row : List Bool) → cond b r (Err BadLine) ≡ Ok row →
+pub lettered : (b : Bool) (r : Result (List Bool) CertFault) (row : List Bool) → cond b r (Err BadLine) ≡ Ok row →
     (b ≡ true) × (r ≡ Ok row)
 lettered true r row h = (refl, h)
 lettered false r row h = cc

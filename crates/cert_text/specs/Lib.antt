@@ -1,6 +1,11 @@
+pub mod AllowedDefinitions
 pub mod Beginning
 pub mod Canonical
 pub mod CircuitProof
+pub mod DefinitionBlocks
+pub mod DefinitionLine
+pub mod DefinitionText
+pub mod DefinitionsRead
 pub mod Examples
 pub mod Grammar
 pub mod Header

@@ -31,6 +31,10 @@ pub enum CertFault {
     WrongVerdict,
     /// A deleted id that isn't that of a line before, or was deleted already.
     NotLive,
+    /// A block of definitions that isn't that of the next existential.
+    BlockOrder,
+    /// A gate of a definition that isn't the next one, or reads what it can't.
+    BadGate,
 }
 
 /// The first fault of a certificate's text, by line and name.

@@ -5,12 +5,15 @@ ghost use Rattle.std.specs.Prelude.{◌≡◌, ℕ, Bool, All, map, ◌⊎◌, l
 ghost use Rattle.dq_lits.specs.Derivation.{ProofStep};
 ghost use Rattle.dq_lits.specs.Formula.{Dqbf};
 ghost use Rattle.dq_text.specs.Line.{TextLine};
-ghost use Rattle.dq_formula.specs.Prefix.{IsLawful};
+ghost use Rattle.dq_formula.specs.Prefix.{IsLawful, existential_variables};
 ghost use Rattle.circuit_plain.specs.Netlist.{Netlist};
 ghost use Rattle.rup_core.specs.Items.{ProofItem, derived};
+ghost use Rattle.cert_text.specs.AllowedDefinitions.{AreBlocksOf, IsBlockOf};
 ghost use Rattle.cert_text.specs.Beginning.{Begins};
 ghost use Rattle.cert_text.specs.Canonical.{canonical, canonical_proof, version_for};
 ghost use Rattle.cert_text.specs.CircuitProof.{circuit_proof_of};
+ghost use Rattle.cert_text.specs.DefinitionBlocks.{DefinitionBlock};
+ghost use Rattle.cert_text.specs.DefinitionText.{PartRead, definitions_of, read_block};
 ghost use Rattle.cert_text.specs.Grammar.{AreItems, AreSteps, IsDqrOf, IsItem, IsPairNumber, SpellsRefutation};
 ghost use Rattle.cert_text.specs.ItemLine.{as_items, item_line, item_lines, step_lines};
 ghost use Rattle.cert_text.specs.Kind.{certificate_kind};
@@ -112,4 +115,14 @@ pub fn version_one_has_steps_alone()
         → AreSteps is_variable first steps
         → AreItems is_variable (numbered_from first) (map derived steps) }
     ensures written { (steps : List ProofStep) → version_for (map derived steps) ≡ One }
+{}
+
+/// What is read as a text of definitions may stand there: a block for each existential, in order.
+pub fn definitions_are_lawful()
+    ensures block { (f : Dqbf) (y : ℕ) (lines : List TextLine) (number : ℕ)
+        (read : PartRead DefinitionBlock) → read_block f y lines number ≡ Ok read
+        → IsBlockOf f y read.part }
+    ensures text { (f : Dqbf) (text : List ℕ) (first : ℕ) (blocks : List DefinitionBlock)
+        → definitions_of f text first ≡ Ok blocks
+        → AreBlocksOf f (existential_variables f) blocks }
 {}

@@ -1,8 +1,11 @@
-//! The texts of certificates: which kind one is, and expansion refutations (`dqr`) and circuits'
-//! proofs (`dqp`), read exactly.
+//! The texts of certificates: which kind one is, and expansion refutations (`dqr`), circuits' proofs
+//! (`dqp`) and definitions (`dqd`), read exactly.
 #![tactic(auto)]
 
 pub use circuit_proofs::Dqp;
+pub use definition_blocks::{Definition, DefinitionBlock, FreePair, Valuation};
+pub use definition_lines::read_definitions_header;
+pub use definition_reader::{first_definition_id, read_block};
 pub use faults::{CertFault, CertRefusal, CertStop, LineStop, at_line, refused};
 pub use first_lines::kind;
 pub use headers::{Counts, ItemCount, read_header, read_proof_header};
@@ -12,9 +15,9 @@ pub use kinds::Kind;
 pub use line_ids::LineIds;
 pub use pairs::Pairs;
 pub use proof_reader::{first_proof_id, last_variable, read_dqp};
-pub use reader::{first_id, read_dqr};
+pub use reader::{first_id, read_blank_lines, read_dqr};
 pub use refutations::Dqr;
-pub use row_lines::{RowUniversals, read_row};
+pub use row_lines::{RowUniversals, read_row, read_signs};
 pub use sign_words::universal_words;
 pub use step_lines::StepBuffers;
 pub use steps::{Step, StepList};
@@ -23,6 +26,9 @@ pub use versions::Version;
 pub use writer::{write_dqp, write_dqr};
 
 mod circuit_proofs;
+mod definition_blocks;
+mod definition_lines;
+mod definition_reader;
 pub mod examples;
 mod faults;
 mod first_lines;

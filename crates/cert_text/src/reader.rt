@@ -60,7 +60,7 @@ fn read_body(alloc: Global, f: &Formula, counts: Counts, lines: &mut Lines) -> R
         count: counts.items,
     };
     let items = read_items(alloc, &announced, lines)?;
-    check_blank(lines)?;
+    read_blank_lines(lines)?;
     Ok(Dqr { rows, items })
 }
 
@@ -75,8 +75,8 @@ pub fn first_id(f: &Formula, rows: u64) -> u128
     rows as u128 * f.clauses() as u128 + 1
 }
 
-// Refuses the first line that isn't blank.
-fn check_blank(lines: &mut Lines) -> Result<(), CertRefusal>
+/// Reads the lines that are left, which have to be blank, and refuses the first that isn't.
+pub fn read_blank_lines(lines: &mut Lines) -> Result<(), CertRefusal>
     ensures { result ≡ blank_lines (lines_from lines.old.number lines.old.rest) }
 {
     while let Some(line) = lines.next() {

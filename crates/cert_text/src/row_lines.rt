@@ -126,8 +126,21 @@ fn take_row(
         Some(letter) if is_word(letter, b"u") => {}
         _ => return Err(LineStop::Fault(CertFault::BadLine)),
     }
-    take_integers(&mut tokens, integers)?;
-    row_from(alloc, universals, integers)
+    read_signs(alloc, universals, &mut tokens, integers)
+}
+
+/// Reads what stands behind the letter of a row over these variables: each of them with its sign,
+/// and 0.
+pub fn read_signs(
+    alloc: Global,
+    variables: &[u64],
+    tokens: &mut LineTokens,
+    integers: &mut Vec<i64>,
+) -> Result<Row, LineStop>
+    ensures { IsLineOf (and_then (row_of variables.now) (line_integers tokens.old)) result }
+{
+    take_integers(tokens, integers)?;
+    row_from(alloc, variables, integers)
 }
 
 // The row of these numbers.

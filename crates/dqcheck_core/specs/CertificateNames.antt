@@ -3,7 +3,7 @@ use Rattle.std.specs.Prelude.{ℕ, List, codes}
 use Rattle.aiger_text.specs.declared.faults.AagFault.{AagFault}
 use Rattle.aiger_text.specs.declared.faults.AagFault.TheVariants.{BadHeader, NotCombinational, BadLine, TooBig, Range, DefinedTwice, Undefined, Cyclic, BadSymbol, Truncated, BadDelta}
 use Rattle.cert_text.specs.declared.faults.CertFault.{CertFault}
-use Rattle.cert_text.specs.declared.faults.CertFault.TheVariants.{BadHeader as NoHeader, BadLine as NoLine, RowIncomplete, IdOrder, UnknownHint, TooBig as TooLarge, Truncated as TooShort, BadVariable, WrongVerdict, NotLive}
+use Rattle.cert_text.specs.declared.faults.CertFault.TheVariants.{BadHeader as NoHeader, BadLine as NoLine, RowIncomplete, IdOrder, UnknownHint, TooBig as TooLarge, Truncated as TooShort, BadVariable, WrongVerdict, NotLive, BlockOrder, BadGate}
 use Rattle.skolem_checker.specs.declared.mapping.MapName.{MapName}
 use Rattle.skolem_checker.specs.declared.mapping.MapName.TheVariants.{InputCount, OutputCount, SymbolMissing, SymbolNumber, SymbolTwice}
 use Rattle.cert_judge.specs.declared.answers.CertificateFault.{CertificateFault}
@@ -40,6 +40,8 @@ text_fault_name TooShort = codes "Truncated"
 text_fault_name BadVariable = codes "BadVariable"
 text_fault_name WrongVerdict = codes "WrongVerdict"
 text_fault_name NotLive = codes "NotLive"
+text_fault_name BlockOrder = codes "BlockOrder"
+text_fault_name BadGate = codes "BadGate"
 
 abbrev pub certificate_fault_name : CertificateFault → List ℕ
 certificate_fault_name (Text name) = text_fault_name name

@@ -52,6 +52,8 @@ fn text_fault_name(fault: CertFault) -> &'static str
         CertFault::BadVariable => "BadVariable",
         CertFault::WrongVerdict => "WrongVerdict",
         CertFault::NotLive => "NotLive",
+        CertFault::BlockOrder => "BlockOrder",
+        CertFault::BadGate => "BadGate",
     }
 }
 

@@ -24,4 +24,4 @@ returns c =
     whole c.args.f.now c.args.counts c.args.lines.now c.universals.result.now c.universals.ensures c.in_ok-rows.rows
     c.read_rows.new.lines c.in_ok-rows.ensures
     c.first_id-id.result c.first_id-id.ensures.id c.in_ok-items.items c.read_items.new.lines c.in_ok-items.ensures
-    c.in_ok-check_blank.ensures
+    c.in_ok-read_blank_lines.ensures

@@ -1,7 +1,7 @@
 use Rattle.std.proofs.Common.{◌≡◌, length}
 use Rattle.dq_text.specs.Line.{lines_from}
 use Rattle.cert_text.specs.Scan.{blank_lines}
-use Rattle.cert_text.proofs.reader.check_blank.Given as goal
+use Rattle.cert_text.proofs.reader.read_blank_lines.Given as goal
 
 -- whether the lines from here on are blank is whether all are
 abbrev pub invariant-loop-line : goal.invariant-loop-line
