@@ -1,5 +1,5 @@
 -- What was read as a block of definitions may stand there.
-use Rattle.std.proofs.Common.{◌≡◌, ℕ, zero, suc, ◌+◌, ◌*◌, ◌/◌, ◌<◌, ◌≤◌, ◌==◌, nat_lt, ℤ, Bool, true, false, not, ◌&&◌, ◌||◌, List, [], ◌∷◌, length, Option, None, Some, Result, Ok, Err, codes, cond, refl, sym, ◌∙◌, ap, subst, arith}
+use Rattle.std.proofs.Common.{◌≡◌, ℕ, ◌+◌, ◌*◌, ◌/◌, ◌<◌, ◌≤◌, ◌==◌, nat_lt, ℤ, Bool, true, false, not, ◌&&◌, ◌||◌, List, [], ◌∷◌, length, Option, None, Some, Result, Ok, Err, codes, cond, refl, sym, ◌∙◌, ap, subst, arith}
 use Rattle.std.specs.Str.{bytes_eq}
 use Rattle.std.proofs.lemmas.Bool.{and_parts, eqb-true, ltb-true, ltb-false}
 use Rattle.std.proofs.lemmas.List.{length-map}
@@ -7,18 +7,17 @@ use Rattle.dq_lits.specs.Formula.{Dqbf}
 use Rattle.dq_text.specs.Line.{TextLine, line_tokens}
 use Rattle.dq_text.specs.Number.{natural_of}
 use Rattle.dq_formula.specs.Prefix.{existential_variables}
-use Rattle.circuit_plain.specs.Netlist.{left_variable, right_variable}
 use Rattle.circuit_plain.specs.declared.circuits.Gate.{Gate}
 use Rattle.dq_lits.specs.Derivation.{ProofStep}
 use Rattle.cert_text.specs.AllowedDefinitions.{IsGateAt, AreGatesFrom, IsDefinitionOf, IsValuationOf, IsBlockOf, AreBlocksOf}
 use Rattle.cert_text.specs.DefinitionBlocks.{Definition, Valuation, FreePair, DefinitionBlock, defined, free}
-use Rattle.cert_text.specs.DefinitionLine.{checked_gate, checked_head, defined_head, definition_gate, definition_gates, definitions_header, free_head, free_of, gate_of, head_line, head_of, is_large, is_output, is_readable, signs_line}
-use Rattle.cert_text.specs.DefinitionText.{PartRead, as_block, definitions_of, first_definition_id, next_line, read_behind_head, read_block, read_blocks, read_definition, read_definitions, read_pair, read_valuation}
+use Rattle.cert_text.specs.DefinitionLine.{checked_gate, defined_head, definition_gate, definition_gates, definitions_header, free_head, free_of, gate_of, head_line, head_of, is_large, is_output, is_readable, signs_line}
+use Rattle.cert_text.specs.DefinitionText.{PartRead, as_block, first_definition_id, next_line, read_behind_head, read_block, read_blocks, read_definition, read_definitions, read_pair, read_valuation}
 use Rattle.cert_text.specs.Grammar.{Tokens, AreSteps}
 use Rattle.cert_text.specs.Header.{max_count}
 use Rattle.cert_text.specs.ItemLine.{step_lines}
 use Rattle.cert_text.specs.LineStop.{and_then}
-use Rattle.cert_text.specs.Lines.{LinesRead, and_read, at_line, read_some}
+use Rattle.cert_text.specs.Lines.{and_read, at_line, read_some}
 use Rattle.cert_text.specs.Numbers.{line_integers}
 use Rattle.cert_text.specs.RowLine.{row_of}
 use Rattle.cert_text.specs.Scan.{blank_lines}
@@ -309,8 +308,13 @@ pair_allowed f y lines number r h =
     let second = c.part in
     let made : FreePair = record { existential = y; first = first.part; second = second.part } in
     let same : made ≡ r.part = ap (pair_in made) c.next_is in
-    subst (λ p. IsBlockOf f y (free p)) same (refl, (valuation_allowed f lines number first b.first_is,
-    valuation_allowed f first.rest first.number second c.first_is))
+    subst (λ p. IsBlockOf f y (free p)) same (
+      refl,
+      (
+        valuation_allowed f lines number first b.first_is,
+        valuation_allowed f first.rest first.number second c.first_is,
+      ),
+    )
   where
     pair_in : FreePair → Result (PartRead FreePair) CertRefusal → FreePair
     pair_in other (Ok x) = x.part
@@ -352,8 +356,10 @@ blocks_allowed f (y ∷ ys) lines number blocks h =
     let block = b.part in
     let c = both (read_blocks f ys block.rest block.number) (λ others. Ok (block.part ∷ others)) blocks b.next_is in
     let same : block.part ∷ c.part ≡ blocks = cc in
-    subst (AreBlocksOf f (y ∷ ys)) same (block_allowed f y lines number block b.first_is,
-    blocks_allowed f ys block.rest block.number c.part c.first_is)
+    subst (AreBlocksOf f (y ∷ ys)) same (
+      block_allowed f y lines number block b.first_is,
+      blocks_allowed f ys block.rest block.number c.part c.first_is,
+    )
 
 pub definitions_allowed : (f : Dqbf) (lines : List TextLine) (number : ℕ) (blocks : List DefinitionBlock) →
     read_definitions f lines number ≡ Ok blocks → AreBlocksOf f (existential_variables f) blocks

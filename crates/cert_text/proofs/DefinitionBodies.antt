@@ -1,14 +1,13 @@
 -- Reading a definition: its gates, and then its steps.
-use Rattle.std.proofs.Common.{◌≡◌, ℕ, ◌+◌, List, Result, Ok, Err, sym, ◌∙◌, ap, ap₂, subst}
+use Rattle.std.proofs.Common.{◌≡◌, ℕ, ◌+◌, List, Result, Ok, Err, subst}
 use Rattle.dq_lits.specs.Formula.{Dqbf}
 use Rattle.dq_text.specs.Line.{LineCursor, lines_from}
 use Rattle.circuit_plain.specs.declared.circuits.Gate.{Gate}
-use Rattle.cert_text.specs.DefinitionBlocks.{Definition}
 use Rattle.cert_text.specs.DefinitionLine.{definition_gates}
 use Rattle.cert_text.specs.DefinitionsRead.{IsStop}
-use Rattle.cert_text.specs.DefinitionText.{PartRead, first_definition_id, read_definition}
+use Rattle.cert_text.specs.DefinitionText.{first_definition_id, read_definition}
 use Rattle.cert_text.specs.ItemLine.{step_lines}
-use Rattle.cert_text.specs.Lines.{IsReadingUpTo, LinesRead, and_read, read_from, read_up_to}
+use Rattle.cert_text.specs.Lines.{IsReadingUpTo, LinesRead, read_from, read_up_to}
 use Rattle.cert_text.specs.Variables.{is_up_to}
 use Rattle.cert_text.specs.declared.definition_lines.DefinedHead.{DefinedHead}
 use Rattle.cert_text.specs.declared.faults.CertRefusal.{CertRefusal}

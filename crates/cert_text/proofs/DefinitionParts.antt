@@ -1,9 +1,9 @@
 -- Reading a part of a text, and what stands behind it.
-use Rattle.std.proofs.Common.{◌≡◌, ℕ, ◌+◌, List, [], ◌∷◌, Result, Ok, Err, refl, sym, ◌∙◌, ap, subst}
+use Rattle.std.proofs.Common.{◌≡◌, ℕ, ◌+◌, List, [], ◌∷◌, Result, Ok, Err, sym, ◌∙◌, ap, subst}
 use Rattle.dq_lits.specs.Derivation.{ProofStep}
 use Rattle.dq_lits.specs.Literal.{Literal}
 use Rattle.dq_text.specs.Line.{TextLine, LineCursor, line_tokens, lines_from}
-use Rattle.cert_text.specs.DefinitionsRead.{IsStop, IsPartRead, itself}
+use Rattle.cert_text.specs.DefinitionsRead.{IsStop}
 use Rattle.cert_text.specs.DefinitionText.{PartRead, next_line, part_up_to}
 use Rattle.cert_text.specs.Kind.{refusal}
 use Rattle.cert_text.specs.LineStop.{IsLineOf, StopsAt}

@@ -3,7 +3,7 @@ use Rattle.std.specs.Prelude.{◌≡◌, ℕ, ◌+◌, ◌<◌, ◌≤◌, true,
 use Rattle.dq_lits.specs.Formula.{Dqbf}
 use Rattle.circuit_plain.specs.Netlist.{left_variable, right_variable}
 use Rattle.circuit_plain.specs.declared.circuits.Gate.{Gate}
-use Rattle.cert_text.specs.DefinitionBlocks.{Definition, Valuation, FreePair, DefinitionBlock, defined, free}
+use Rattle.cert_text.specs.DefinitionBlocks.{Definition, Valuation, DefinitionBlock, defined, free}
 use Rattle.cert_text.specs.DefinitionLine.{is_output, is_readable}
 use Rattle.cert_text.specs.DefinitionText.{first_definition_id}
 use Rattle.cert_text.specs.Grammar.{AreSteps}

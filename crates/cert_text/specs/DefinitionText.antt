@@ -1,6 +1,6 @@
 -- The first fault of a text of definitions, line by line, or its blocks: this project's own format.
-use Rattle.std.specs.Prelude.{◌≡◌, ℕ, ◌+◌, ◌*◌, Bool, List, [], ◌∷◌, length, Result, Ok, Err, codes}
-use Rattle.dq_lits.specs.Formula.{Existential, Dqbf}
+use Rattle.std.specs.Prelude.{ℕ, ◌+◌, ◌*◌, List, [], ◌∷◌, length, Result, Ok, Err, codes}
+use Rattle.dq_lits.specs.Formula.{Dqbf}
 use Rattle.dq_text.specs.Line.{TextLine, LineCursor, line_tokens, lines_from}
 use Rattle.dq_formula.specs.Prefix.{existential_variables}
 use Rattle.cert_text.specs.DefinitionBlocks.{Definition, Valuation, FreePair, DefinitionBlock, defined, free}

@@ -1,5 +1,5 @@
 -- What the reader of definitions answers.
-use Rattle.std.specs.Prelude.{◌≡◌, ◌≤◌, List, Vec, Result, Ok, Err}
+use Rattle.std.specs.Prelude.{◌≡◌, ◌≤◌, Vec, Result, Ok, Err}
 use Rattle.std.specs.declared.alloc.Global.{Global}
 use Rattle.dq_text.specs.Line.{LineCursor}
 use Rattle.circuit_plain.specs.declared.circuits.Gate.{Gate}

@@ -81,7 +81,7 @@ module _ (e : ℕ → Bool) where
   both_hold true false = refl
   both_hold false b = refl
 
-  gate_true : (g : Gate) → MeetsGate g → AreTrue (gate_clauses g)
+  pub gate_true : (g : Gate) → MeetsGate g → AreTrue (gate_clauses g)
   gate_true g meets =
       let a = literal_bit e g.left in
       let b = literal_bit e g.right in
@@ -207,7 +207,7 @@ module _ (e : ℕ → Bool) where
               ∙ ap (λ b. literal_bit e l || b) (kept_same clause)
         ]
 
-    without_true : (literals : List ℕ) (clause : List Literal) → without_constants literals ≡ Some clause →
+    pub without_true : (literals : List ℕ) (clause : List Literal) → without_constants literals ≡ Some clause →
         IsTrueClause literals
         → clause_true e clause ≡ true
     without_true literals clause is holds = by (list_any (λ l. l == 1) literals) is

@@ -31,7 +31,7 @@ impl<'c, 't> Model for CircuitLiterals<'c, 't> {
 }
 
 /// The opposite of a circuit's literal.
-pub(crate) fn opposite_of(literal: u64) -> u64
+pub fn opposite_of(literal: u64) -> u64
     requires { literal ≤ 9223372036854775807 }
     ensures value { result ≡ opposite_of literal }
     ensures in_range { result ≤ 9223372036854775807 }

@@ -1,11 +1,14 @@
 //! What a circuit's proof without a fault shows. Each law is the contract of a function that does
 //! nothing: who calls it may use what it ensures.
 
-ghost use Rattle.std.specs.Prelude.{◌≡◌, List, Ok, None};
+ghost use Rattle.std.specs.Prelude.{◌≡◌, ℕ, ◌*◌, Bool, true, false, not, ◌&&◌, List, Ok, None, Some};
+ghost use Rattle.std.specs.List.{AllByRecursion, list_any};
 ghost use Rattle.dq_lits.specs.Formula.{IsWellFormed};
 ghost use Rattle.dq_lits.specs.Henkin.{MatrixHolds, IsTrueFormula};
-ghost use Rattle.dq_lits.specs.Literal.{Assignment};
-ghost use Rattle.circuit_plain.specs.Netlist.{IsNetlist};
+ghost use Rattle.dq_lits.specs.Literal.{Assignment, Literal, clause_true};
+ghost use Rattle.circuit_plain.specs.Netlist.{IsNetlist, literal_bit};
+ghost use Rattle.circuit_plain.specs.declared.circuits.Gate.{Gate};
+ghost use Rattle.cert_text.specs.NegatedMatrix.{gate_clauses, opposite_of, without_constants};
 ghost use Rattle.aiger_text.specs.Symbol.{SymbolTable};
 ghost use Rattle.rup_core.specs.Items.{ProofItem};
 ghost use Rattle.skolem_checker.specs.Checks.{Candidate, candidate_of, IsReadsAnswer};
@@ -55,3 +58,17 @@ pub fn proved_circuit_shows_true()
     proved_circuit_is_skolem();
     skolem_circuit_shows_true();
 }
+
+/// Clauses over a circuit's literals: opposite literals have opposite bits, a gate's clauses hold where
+/// its variable has its value, and what is left of a clause that holds, without its constants, is true.
+pub fn circuit_clauses_hold()
+    ensures variable { (e : ℕ → Bool) (v : ℕ) → literal_bit e (2 * v) ≡ e v }
+    ensures opposite { (e : ℕ → Bool) (l : ℕ)
+        → literal_bit e (opposite_of l) ≡ not (literal_bit e l) }
+    ensures gate { (e : ℕ → Bool) (g : Gate)
+        → e g.variable ≡ (literal_bit e g.left && literal_bit e g.right)
+        → AllByRecursion (λ clause. list_any (literal_bit e) clause ≡ true) (gate_clauses g) }
+    ensures kept { (e : ℕ → Bool) (literals : List ℕ) (clause : List Literal) → e 0 ≡ false
+        → without_constants literals ≡ Some clause → list_any (literal_bit e) literals ≡ true
+        → clause_true e clause ≡ true }
+{}

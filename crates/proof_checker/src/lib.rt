@@ -8,8 +8,10 @@
 #![tactic(auto)]
 
 pub use checks::by_proof;
+pub use circuit_literals::opposite_of;
 pub use faults::ProofFault;
 pub use judging::CircuitProving;
+pub use short_clauses::{ShortClause, short_of_three, short_of_two};
 
 mod checks;
 mod circuit_literals;

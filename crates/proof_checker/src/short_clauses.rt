@@ -12,14 +12,14 @@ use rup_core::FewLiterals;
 
 /// The literals of a clause that aren't constant.
 #[derive(Clone, Copy)]
-pub(crate) struct ShortClause {
+pub struct ShortClause {
     pub first: Option<Lit>,
     pub second: Option<Lit>,
     pub third: Option<Lit>,
 }
 
 /// The clause of two literals, where a false one is dropped; none where one is true.
-pub(crate) fn short_of_two(k: u64, l: u64) -> Option<ShortClause>
+pub fn short_of_two(k: u64, l: u64) -> Option<ShortClause>
     requires k_in_range { k ≤ 9223372036854775807 }
     requires l_in_range { l ≤ 9223372036854775807 }
     ensures { option_map short_literals result ≡ without_constants (k ∷ l ∷ []) }
@@ -38,7 +38,7 @@ pub(crate) fn short_of_two(k: u64, l: u64) -> Option<ShortClause>
 }
 
 /// The same of three literals.
-pub(crate) fn short_of_three(j: u64, k: u64, l: u64) -> Option<ShortClause>
+pub fn short_of_three(j: u64, k: u64, l: u64) -> Option<ShortClause>
     requires j_in_range { j ≤ 9223372036854775807 }
     requires k_in_range { k ≤ 9223372036854775807 }
     requires l_in_range { l ≤ 9223372036854775807 }
@@ -86,7 +86,7 @@ fn as_literal(literal: u64) -> Lit
 
 impl ShortClause {
     /// Its literals, made at once.
-    pub(crate) fn few(&self) -> FewLiterals
+    pub fn few(&self) -> FewLiterals
         ensures clause { take result.count result.literals ≡ short_literals self.now }
         ensures within { result.count ≤ 3 }
     {
@@ -103,14 +103,14 @@ impl ShortClause {
     }
 
     /// How many literals it has.
-    pub(crate) fn len(&self) -> usize
+    pub fn len(&self) -> usize
         ensures { result ≡ length (short_literals self.now) }
     {
         count(&self.first) + count(&self.second) + count(&self.third)
     }
 
     /// The literal at a place; places are counted from 0.
-    pub(crate) fn literal(&self, i: usize) -> Lit
+    pub fn literal(&self, i: usize) -> Lit
         requires { i < length (short_literals self.now) }
         ensures { slice_get (short_literals self.now) i ≡ Some result }
     {

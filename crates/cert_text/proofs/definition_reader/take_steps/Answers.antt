@@ -1,6 +1,6 @@
 use Rattle.std.proofs.Common.{◌≡◌, ℕ, ◌+◌, ◌-◌, ◌<◌, sym, ◌∙◌, ap, arith}
 use Rattle.dq_lits.specs.Derivation.{ProofStep}
-use Rattle.dq_text.specs.Line.{TextLine, line_tokens, lines_from}
+use Rattle.dq_text.specs.Line.{TextLine, lines_from}
 use Rattle.dq_text.specs.TextLine.{text_line}
 use Rattle.cert_text.specs.ItemLine.{step_lines}
 use Rattle.cert_text.specs.Lines.{Format, put_behind, read_from}

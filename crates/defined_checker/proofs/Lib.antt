@@ -1,0 +1,13 @@
+pub mod AcceptedBlocks
+pub mod AlikeVariables
+pub mod ForcedDefinitions
+pub mod ForeignAnswers
+pub mod JudgedDefinitions
+pub mod JudgedSteps
+pub mod LeastForeign
+pub mod ReadDefinitions
+pub mod RightTexts
+pub mod SmallGates
+pub mod TakenBlocks
+pub mod ValuationBits
+pub mod WalkedCones

@@ -1,0 +1,147 @@
+-- Blocks that are taken one after the other.
+use Rattle.std.proofs.Common.{◌≡◌, ℕ, zero, suc, ◌+◌, ◌<◌, List, [], ◌∷◌, ◌++◌, drop, map, length, get_or, inl, inr, Option, None, Some, IsSome, is_some, Result, Ok, Err, refl, sym, ap, ◌∙◌, subst, arith, add-one, append_assoc, append-nil}
+use Rattle.std.specs.List.{All, AllByRecursion}
+use Rattle.std.proofs.Math.Seq.{drop-cons}
+use Rattle.std.proofs.lemmas.List.Elements.{recursion_from_All}
+use Rattle.dq_lits.specs.Formula.{Existential, Dqbf, existential_of}
+use Rattle.dq_formula.specs.Prefix.{existential_variables}
+use Rattle.dq_text.specs.Line.{LineCursor, lines_from}
+use Rattle.cert_text.specs.DefinitionBlocks.{DefinitionBlock}
+use Rattle.cert_text.specs.DefinitionText.{PartRead, part_up_to, read_block, read_blocks}
+use Rattle.cert_text.specs.Lines.{and_read}
+use Rattle.cert_text.specs.Scan.{blank_lines}
+use Rattle.cert_text.specs.declared.faults.CertRefusal.{CertRefusal}
+use Rattle.defined_checker.specs.Judging.{AreJudged, IsJudged, counted, counts_of, no_counts}
+use Rattle.defined_checker.specs.Answers.{IsFaultWith}
+use Rattle.defined_checker.specs.Tallies.{AreTaken, IsTaken, IsTallied, IsTalliedWith}
+use Rattle.defined_checker.specs.declared.checks.Counts.{Counts}
+use Rattle.defined_checker.specs.declared.checks.Tally.{Tally}
+use Rattle.defined_checker.specs.declared.faults.DefStop.{DefStop}
+use Rattle.defined_checker.specs.declared.faults.DefStop.TheVariants.{Refused, Invalid, Memory}
+use Rattle.defined_checker.specs.declared.faults.DefinitionFault.{DefinitionFault}
+
+abbrev pub Read : Type 0
+Read = Result (List DefinitionBlock) CertRefusal
+
+-- behind blocks that were read
+abbrev pub put_behind : List DefinitionBlock → Read → Read
+put_behind before read = and_read read (λ rest. Ok (before ++ rest))
+
+module _ (f : Dqbf) (left : LineCursor) where
+  abbrev pub to_read : List ℕ → Read
+  to_read ys = read_blocks f ys (lines_from left.number left.rest) left.number
+
+  abbrev pub block_to_read : ℕ → Result (PartRead DefinitionBlock) CertRefusal
+  block_to_read y = read_block f y (lines_from left.number left.rest) left.number
+
+  pub block_refused : (before : List DefinitionBlock) (y : ℕ) (ys : List ℕ) (refusal : CertRefusal) →
+      block_to_read y ≡ Err refusal → put_behind before (to_read (y ∷ ys)) ≡ Err refusal
+  block_refused before y ys refusal is =
+      ap (λ r. put_behind before (and_read r (λ block.
+      and_read (read_blocks f ys block.rest block.number) (λ blocks. Ok (block.part ∷ blocks))))) is
+
+  one_more : (before : List DefinitionBlock) (block : DefinitionBlock) (read : Read) →
+      put_behind before (and_read read (λ blocks. Ok (block ∷ blocks))) ≡ put_behind (before ++ block ∷ []) read
+  one_more before block (Ok blocks) = ap Ok (sym (append_assoc before (block ∷ []) blocks))
+  one_more before block (Err refusal) = refl
+
+  pub block_taken : (before : List DefinitionBlock) (y : ℕ) (ys : List ℕ) (block : DefinitionBlock)
+      (behind : LineCursor) → block_to_read y ≡ Ok (part_up_to block behind) →
+      put_behind before (to_read (y ∷ ys))
+      ≡ put_behind (before ++ block ∷ []) (read_blocks f ys (lines_from behind.number behind.rest) behind.number)
+  block_taken before y ys block behind is =
+      ap (λ r. put_behind before (and_read r (λ b.
+      and_read (read_blocks f ys b.rest b.number) (λ blocks. Ok (b.part ∷ blocks))))) is
+      ∙ one_more before block (read_blocks f ys (lines_from behind.number behind.rest) behind.number)
+
+  pub all_taken : (before : List DefinitionBlock) →
+      put_behind before (to_read []) ≡ and_read (blank_lines (lines_from left.number left.rest)) (λ _. Ok before)
+  all_taken before = by (blank_lines (lines_from left.number left.rest))
+    where
+      by : (r : Result (Unit {0}) CertRefusal) →
+          put_behind before (and_read r (λ _. Ok [])) ≡ and_read r (λ _. Ok before)
+      by (Ok _) = ap Ok (append-nil before)
+      by (Err refusal) = refl
+
+-- the blocks so far, with one more
+counts_behind : (counts : Counts) (blocks : List DefinitionBlock) (block : DefinitionBlock) →
+    counts_of counts (blocks ++ block ∷ []) ≡ counted block (counts_of counts blocks)
+counts_behind counts [] block = refl
+counts_behind counts (b ∷ blocks) block = counts_behind (counted b counts) blocks block
+
+judged_behind : (f : Dqbf) (blocks : List DefinitionBlock) (block : DefinitionBlock) (fault : Option DefinitionFault) →
+    AreJudged f blocks None → IsJudged f block fault → AreJudged f (blocks ++ block ∷ []) fault
+judged_behind f [] block None before is = inl (is, refl)
+judged_behind f [] block (Some name) before is = inr (name, (is, refl))
+judged_behind f (b ∷ blocks) block fault before is =
+    elim before [
+      | inl h ↦ inl (h.0, judged_behind f blocks block fault h.1 is)
+      | inr h ↦ absurd (apart h.0 h.1.1)
+    ]
+  where
+    apart : (name : DefinitionFault) → None ≡ Some name → ⊥
+    apart name h = cc
+
+fault_stays : (f : Dqbf) (blocks : List DefinitionBlock) (block : DefinitionBlock) (name : DefinitionFault) →
+    AreJudged f blocks (Some name) → AreJudged f (blocks ++ block ∷ []) (Some name)
+fault_stays f [] block name before = absurd (apart before)
+  where
+    apart : Some name ≡ None → ⊥
+    apart h = cc
+fault_stays f (b ∷ blocks) block name before =
+    elim before [
+      | inl h ↦ inl (h.0, fault_stays f blocks block name h.1)
+      | inr h ↦ inr h
+    ]
+
+pub tallied_first : (f : Dqbf) (block : DefinitionBlock) (counts others : Counts) (fault : Option DefinitionFault) →
+    others ≡ counted block counts → IsJudged f block fault →
+    IsTalliedWith f block (record { counts = counts; fault = None }) (record { counts = others; fault = fault })
+tallied_first f block counts others fault is judged blocks before = record {
+  judged = judged_behind f blocks block fault before.judged judged;
+  counts = is ∙ ap (counted block) before.counts ∙ sym (counts_behind no_counts blocks block);
+}
+
+pub tallied_later : (f : Dqbf) (block : DefinitionBlock) (counts others : Counts) (name : DefinitionFault) →
+    others ≡ counted block counts →
+    IsTalliedWith f block (record { counts = counts; fault = Some name })
+    (record { counts = others; fault = Some name })
+tallied_later f block counts others name is blocks before = record {
+  judged = fault_stays f blocks block name before.judged;
+  counts = is ∙ ap (counted block) before.counts ∙ sym (counts_behind no_counts blocks block);
+}
+
+pub nothing_tallied : (f : Dqbf) → IsTallied f [] (record { counts = no_counts; fault = None })
+nothing_tallied f = record { judged = refl; counts = refl }
+
+pub tallied_by : (f : Dqbf) (block : DefinitionBlock) (fault : Option DefinitionFault) (counts others : Counts)
+    (new : Option DefinitionFault) → IsFaultWith f block fault new → others ≡ counted block counts →
+    IsTalliedWith f block (record { counts = counts; fault = fault }) (record { counts = others; fault = new })
+tallied_by f block None counts others new with_block is = tallied_first f block counts others new is with_block
+tallied_by f block (Some name) counts others new with_block is =
+    subst (λ o. IsTalliedWith f block (record { counts = counts; fault = Some name })
+    (record { counts = others; fault = o })) (sym with_block) (tallied_later f block counts others name is)
+
+-- each existential's variable names it
+pub is_existential : (f : Dqbf) (k : ℕ) → All (λ y. existential_of f y.variable ≡ Some y) f.existentials →
+    k < length (existential_variables f) → IsSome (existential_of f (get_or (existential_variables f) k 0))
+is_existential f k named below = by f.existentials (recursion_from_All _ f.existentials named) k below
+  where
+    by : (es : List Existential) → AllByRecursion (λ y. existential_of f y.variable ≡ Some y) es → (k : ℕ) →
+        k < length (map (λ y. y.variable) es) → IsSome (existential_of f (get_or (map (λ y. y.variable) es) k 0))
+    by [] all k below = absurd (omega (arith, below))
+    by (y ∷ es) all zero below = ap is_some all.0
+    by (y ∷ es) all (suc k) below = by es all.1 k (omega (arith, below))
+
+pub next_variable : (ys : List ℕ) (k : ℕ) → k < length ys → drop k ys ≡ get_or ys k 0 ∷ drop (k + 1) ys
+next_variable ys k below = rw (add-one) (drop-cons ys k 0 below)
+
+-- the next block stops the reading
+pub stopped : (f : Dqbf) (left : LineCursor) (before : List DefinitionBlock) (y : ℕ) (ys : List ℕ) (whole : Read)
+    (old new tally : Tally) (stop : DefStop) (after : LineCursor) →
+    whole ≡ put_behind before (to_read f left (y ∷ ys)) → IsTaken f (block_to_read f left y) old (Err stop) new after →
+    AreTaken f whole (Err stop) tally after
+stopped f left before y ys whole old new tally (Refused refusal) after is taken =
+    is ∙ block_refused f left before y ys refusal taken
+stopped f left before y ys whole old new tally (Invalid fault) after is taken = taken
+stopped f left before y ys whole old new tally Memory after is taken = tt

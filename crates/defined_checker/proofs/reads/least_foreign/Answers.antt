@@ -1,0 +1,13 @@
+use Rattle.defined_checker.specs.DefinitionReads.{MayDefine}
+use Rattle.defined_checker.proofs.LeastForeign.{answer, with_one}
+use Rattle.defined_checker.proofs.reads.least_foreign.Goals as goal
+
+pub loop-leaf-preserved : goal.loop-leaf-preserved
+loop-leaf-preserved c e is =
+    with_one (MayDefine c.args.f.now e) c.args.leaves.now c.loop-leaf.leaf-index c.loop-leaf.least c.with_leaf-least.result
+    (c.loop-leaf.invariant e is) (c.with_leaf-least.ensures e is)
+
+pub returns : goal.returns
+returns c e is =
+    answer c.args.f.now e c.args.leaves.now c.loop-leaf.leaf-index c.loop-leaf.least c.loop-leaf-test.false
+    c.loop-leaf.auto.leaf-index-end (c.loop-leaf.invariant e is)

@@ -1,0 +1,9 @@
+pub mod Answers
+pub mod Bases
+pub mod DefinitionBase
+pub mod DefinitionReads
+pub mod Forced
+pub mod FreePairs
+pub mod Judging
+pub mod Tallies
+pub mod Walking
