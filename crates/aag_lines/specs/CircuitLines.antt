@@ -70,6 +70,12 @@ abbrev pub ReadsLine : CircuitLines → List ℕ → Result (Unit {0}) AagStop �
 ReadsLine old text result new =
     Reads old.body old.in_comment old.number text result new.body new.in_comment
 
+-- behind a line that was read
+pub record GoesOn (old new : CircuitLines) : Type 0 where
+  pub number : new.number ≡ old.number + 1
+  pub header : header_line new ≡ header_line old
+  pub reads : new.stopped ≡ None
+
 -- all that is kept behind a stop
 abbrev pub with_stop : CircuitLines → AagStop → CircuitLines
 with_stop r stop = record r { body = None; in_comment = false; stopped = Some stop }

@@ -5,7 +5,7 @@ ghost use Rattle.std.specs.Option.{option_map};
 ghost use Rattle.aiger_text.specs.ReaderState.{body_of, IsReady};
 ghost use Rattle.aiger_text.specs.Scan.{IsAagReading, finish, read_body};
 ghost use Rattle.aag_lines.specs.AagLinesInside.{BeginsWith, IsReadSoFar, TakesBehind};
-ghost use Rattle.aag_lines.specs.CircuitLines.{as_file, gives, header_line, header_line_or, lines_give, netlist_so_far, no_lines, with_stop, IsWhole, Reads, ReadsLine};
+ghost use Rattle.aag_lines.specs.CircuitLines.{as_file, gives, header_line, header_line_or, lines_give, netlist_so_far, no_lines, with_stop, GoesOn, IsWhole, Reads, ReadsLine};
 
 use aiger_text::{
     AagFault, AagFile, AagStop, CircuitReader, Symbols, Taken, at_end, at_line, check_file,
@@ -61,7 +61,7 @@ impl AagLines {
     /// Reads the next line, which has no LF at its end.
     pub fn line(&mut self, text: &[u8]) -> Result<(), AagStop>
         ensures line { IfNone self.old.stopped (ReadsLine self.old text.now result self.new) }
-        ensures going { OnOk result (self.new.number ≡ self.old.number + 1) }
+        ensures going { OnOk result (GoesOn self.old self.new) }
         ensures stopped { IfSome self.old.stopped (λ stop. result ≡ Err stop) }
         ensures stops { IfErr result (λ stop. self.new ≡ with_stop self.old stop) }
     {
@@ -95,9 +95,17 @@ impl AagLines {
         }
     }
 
+    /// The number of the next line.
+    pub fn number(&self) -> u64
+        ensures { result ≡ self.now.number }
+    {
+        self.number
+    }
+
     /// Whether the line `c` was read. Then the file has no fault.
     pub fn in_comment(&self) -> bool
         ensures comment { result ≡ self.now.in_comment }
+        ensures header { result ≡ true → IsSome self.now.body }
         ensures whole { result ≡ true → IfSome self.now.body IsWhole }
     {
         self.in_comment
@@ -132,6 +140,8 @@ fn count_line(
     ensures so_far { OnOk result (IfSome reader.new (λ r. IsReadSoFar r in_comment.new)) }
     ensures some { OnOk result (IsSome reader.new) }
     ensures number { OnOk result (number.new ≡ number.old + 1) }
+    ensures header { OnOk result (header_line_or (option_map body_of reader.new) number.new
+        ≡ header_line_or (option_map body_of reader.old) number.old) }
     ensures err { OnErr result (number.new ≡ number.old) }
 {
     let Some(next) = number.checked_add(1) else {
@@ -157,6 +167,8 @@ fn take(
         (option_map body_of reader.new) in_comment.new }
     ensures so_far { OnOk result (IfSome reader.new (λ r. IsReadSoFar r in_comment.new)) }
     ensures some { OnOk result (IsSome reader.new) }
+    ensures header { OnOk result (IfSome reader.new
+        (λ r. r.header_line ≡ header_line_or (option_map body_of reader.old) number)) }
 {
     match reader {
         Some(reader) => take_next(alloc, number, reader, in_comment, text),
@@ -179,6 +191,7 @@ fn take_next(
     ensures line { Reads (Some (body_of reader.old)) in_comment.old number text.now result
         (Some (body_of reader.new)) in_comment.new }
     ensures so_far { OnOk result (IsReadSoFar reader.new in_comment.new) }
+    ensures header { reader.new.header_line ≡ reader.old.header_line }
 {
     if *in_comment {
         return Ok(());

@@ -1,28 +1,21 @@
 -- What a binary circuit that was read is, and another number of inputs than of universals.
 use Rattle.std.proofs.Common.{◌≡◌, ℕ, ◌==◌, not, true, length, List, Option, Result, Ok, Err, refl, sym, ap, ◌∙◌, subst, arith}
-use Rattle.std.specs.Prelude.{IfOk}
 use Rattle.std.proofs.lemmas.Bool.{ne_eqb, cond-true}
 use Rattle.std.proofs.lemmas.List.FromFn.{length-range_with_len}
 use Rattle.dq_lits.specs.Formula.{Dqbf}
-use Rattle.dq_lits.specs.declared.memory.Memory.{Memory}
-use Rattle.circuit_plain.specs.Netlist.{Netlist}
 use Rattle.aiger_text.specs.Scan.{LineFault}
-use Rattle.aiger_text.specs.Symbol.{SymbolTable}
-use Rattle.aiger_text.specs.declared.faults.AagFault.{AagFault}
 use Rattle.aiger_text.specs.declared.faults.AagStop.{AagStop}
-use Rattle.aiger_text.specs.declared.faults.AagStop.TheVariants.{Refused as RefusedText, Memory as NoMemory}
 use Rattle.aiger_text.specs.declared.files.ReadCircuit.{ReadCircuit}
 use Rattle.aig_binary.specs.BareReading.{listed, IsReadingBy}
-use Rattle.aig_binary.specs.Scan.{first_variables, scan_binary}
+use Rattle.aig_binary.specs.Scan.{scan_binary}
 use Rattle.aig_binary.specs.declared.bare.BareCircuit.{BareCircuit}
 use Rattle.cert_text.specs.declared.circuit_proofs.Dqp.{Dqp}
 use Rattle.skolem_checker.specs.Checks.{candidate_of, with_mapping}
 use Rattle.skolem_checker.specs.declared.mapping.MapName.TheVariants.{InputCount}
 use Rattle.skolem_checker.specs.declared.mapping.MapPlace.TheVariants.{Whole}
 use Rattle.skolem_checker.specs.SkolemCircuit.{IsComplete}
-use Rattle.cert_judge.specs.Judgement.{binary_mapping_line, proof_on, BehindMapping, BehindProof, IsBinaryJudgement}
-use Rattle.cert_judge.specs.Places.{HasFewLines, AnswersStop}
-use Rattle.cert_judge.specs.declared.answers.Judgement.{Judgement}
+use Rattle.cert_judge.specs.Judgement.{binary_mapping_line, BehindMapping}
+use Rattle.cert_judge.specs.Places.{HasFewLines}
 use Rattle.cert_judge.specs.declared.answers.Judgement.TheVariants.{Refused}
 use Rattle.cert_judge.specs.declared.answers.CertificateFault.TheVariants.{Mapping}
 use Rattle.cert_judge.proofs.Soundness.{BinaryLaw, binary_complete}

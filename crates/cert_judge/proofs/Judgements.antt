@@ -6,7 +6,6 @@ use Rattle.std.proofs.lemmas.Bool.{cases_order}
 use Rattle.std.proofs.lemmas.List.Sums.{list_all-from_AllPass}
 use Rattle.dq_lits.specs.Formula.{Existential, Dqbf}
 use Rattle.dq_lits.specs.Literal.{clause_true}
-use Rattle.circuit_plain.specs.Netlist.{Netlist}
 use Rattle.aiger_text.specs.FirstFault.{IsFirstFault}
 use Rattle.aiger_text.specs.Grammar.{SpellsCircuit}
 use Rattle.aiger_text.specs.Scan.{LineFault}

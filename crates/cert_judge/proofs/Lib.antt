@@ -1,6 +1,12 @@
 pub mod BinaryAnswers
 pub mod Certificates
-pub mod CircuitAnswers
+pub mod CircuitSteps
+pub mod CommentLines
+pub mod HeaderKinds
 pub mod Judgements
+pub mod LinesToCome
+pub mod Pieces
 pub mod Places
 pub mod Soundness
+pub mod Starts
+pub mod Turns

@@ -1,2 +1,8 @@
+pub mod Beginnings
+pub mod CircuitPhases
 pub mod Judgement
+pub mod Phases
 pub mod Places
+pub mod Standing
+pub mod StreamInside
+pub mod Streams

@@ -1,7 +1,7 @@
 //! Judging a circuit in AIGER's binary form. Its inputs aren't written, and may be many more than its
 //! text has bytes: they are listed only where they are as many as the formula's universals.
 
-ghost use Rattle.std.specs.Prelude.{◌≡◌, ◌+◌, ◌<◌, ◌≤◌, ◌^◌, length, drop, IfOk, IfSome};
+ghost use Rattle.std.specs.Prelude.{◌≡◌, ◌<◌, ◌≤◌, ◌^◌, IfOk, IfSome};
 ghost use Rattle.dq_lits.specs.Formula.{IsWellFormed};
 ghost use Rattle.aig_binary.specs.BareFile.{IsBare};
 ghost use Rattle.aig_binary.specs.BareReading.{listed};
@@ -14,7 +14,7 @@ ghost use Rattle.cert_judge.specs.Judgement.{binary_mapping_line, proof_on, Behi
 ghost use Rattle.cert_judge.specs.Places.{HasFewLines};
 
 use crate::answers::{CertificateFault, Judgement, refused};
-use crate::circuits::{Form, begins_proof, bytes_from, judge_mapped, stopped};
+use crate::circuits::{Form, begins_proof, judge_mapped, stopped};
 use aig_binary::laws::{binary_circuit_or_first_fault, binary_circuits_are_lawful};
 use aig_binary::{BareCircuit, list_inputs, read_bare};
 use cert_text::{CertStop, Dqp, read_dqp};
@@ -23,24 +23,24 @@ use dq_lits::Memory;
 use skolem_checker::MapName;
 use std::alloc::Global;
 
-/// Judges a circuit in the binary form, whose header line begins at a place of the text and has the
-/// number `first`.
-pub fn judge_binary(
+/// Judges a circuit in the binary form, whose header line begins the text and has the number
+/// `first`. A text of 2^61 bytes finds no memory.
+pub(crate) fn judge_binary(
     alloc: Global,
     f: &Formula,
     first: u64,
     text: Vec<u8>,
-    at: usize,
 ) -> Result<Judgement, Memory>
     requires well_formed { IsWellFormed f.now }
-    requires fits { first + length text.items < 2 ^ 62 }
-    requires inside { at ≤ length text.items }
-    ensures { IfOk result
-        (IsBinaryJudgement f.now first (scan_binary (drop at text.items) first)) }
+    requires early { first ≤ 2 }
+    ensures { IfOk result (IsBinaryJudgement f.now first (scan_binary text.items first)) }
 {
+    if text.len() >= 1 << 61 {
+        return Err(Memory);
+    }
     binary_circuit_or_first_fault();
     binary_circuits_are_lawful();
-    let read = read_bare(alloc, bytes_from(&text, at), first);
+    let read = read_bare(alloc, &text, first);
     drop(text);
     match read {
         Ok(bare) => judge_bare(alloc, f, first, bare),

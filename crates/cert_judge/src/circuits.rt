@@ -1,63 +1,33 @@
-//! Judging a circuit: its text, the text of its proof, its mapping, its reads, and then its proof
-//! or its rows.
+//! Judging a circuit that was read: its mapping, its reads, and then its proof or its rows.
 
-ghost use Rattle.std.specs.Prelude.{◌≡◌, ◌==◌, ◌+◌, ◌<◌, ◌≤◌, ◌^◌, ◌⊎◌, length, drop, Option, IfOk, IfSome};
+ghost use Rattle.std.specs.Prelude.{◌≡◌, ◌==◌, ◌<◌, ◌^◌, IfOk, IfSome};
 ghost use Rattle.std.specs.List.{position};
 ghost use Rattle.dq_lits.specs.Formula.{IsWellFormed};
 ghost use Rattle.dq_text.specs.Line.{line_tokens};
-ghost use Rattle.cert_text.specs.Lines.{IsReading};
 ghost use Rattle.cert_text.specs.ProofGrammar.{IsDqpOf};
 ghost use Rattle.proof_checker.specs.CircuitProof.{circuit_proof_fault};
 ghost use Rattle.skolem_checker.specs.Checks.{candidate_of};
 ghost use Rattle.skolem_checker.specs.Mapping.{IsAtPlace};
 ghost use Rattle.skolem_checker.specs.SkolemCircuit.{IsComplete};
-ghost use Rattle.cert_judge.specs.Judgement.{begins_with, first_line, begins_proof, line_ends, comment_line, proof_in, mapping_line, answer_of_derivation, IsTestedByRows, IsTestedBy, IsTested, BehindMapping, BehindProof, IsCircuitRefusal, IsCircuitAnswer};
+ghost use Rattle.cert_judge.specs.Judgement.{begins_with, first_line, begins_proof, answer_of_derivation, IsTestedByRows, IsTestedBy, IsTested, BehindMapping};
 ghost use Rattle.cert_judge.specs.Places.{HasFewLines, AnswersStop, mapping_line_in};
-ghost use Rattle.cert_judge.specs.declared.answers.Judgement.TheVariants.{ValidTrue};
+ghost use Rattle.cert_judge.specs.declared.answers.CertificateFault.TheVariants.{Mapping};
+ghost use Rattle.cert_judge.specs.declared.answers.Judgement.TheVariants.{Refused, ValidTrue};
 
 use crate::answers::{CertificateFault, Judgement, refused};
 use aiger_text::{AagFile, AagStop};
-use cert_text::{CertStop, Dqp, read_dqp};
+use cert_text::Dqp;
 use circuit_plain::Circuit;
 use dq_formula::Formula;
 use dq_lits::Memory;
 use dq_text::LineTokens;
 use proof_checker::{ProofFault, by_proof};
 use skolem_checker::laws::mapping_faults_have_places;
-use skolem_checker::{Bench, BenchStop, MapPlace};
+use skolem_checker::{Bench, BenchStop, MapError, MapPlace};
 use std::alloc::Global;
 
 /// The most universals of which all rows are tried.
 const MAX_ROW_UNIVERSALS: usize = 20;
-
-// How many bytes are counted at a time: their count fits a byte, so that many are counted side by
-// side.
-const BLOCK: usize = 240;
-
-/// Judges a circuit, whose header line begins at a place of the text and has the number `first`.
-pub fn judge_circuit(
-    alloc: Global,
-    f: &Formula,
-    first: u64,
-    text: Vec<u8>,
-    at: usize,
-) -> Result<Judgement, Memory>
-    requires well_formed { IsWellFormed f.now }
-    requires fits { first + length text.items < 2 ^ 62 }
-    requires inside { at ≤ length text.items }
-    ensures { IfOk result
-        (λ answer. IsCircuitRefusal first (drop at text.items) answer
-        ⊎ IsCircuitAnswer f.now first (drop at text.items) answer) }
-{
-    let bytes = bytes_from(&text, at);
-    let ends = line_ends(bytes);
-    let read = aiger_text::read(alloc, bytes, first);
-    drop(text);
-    match read {
-        Ok(read) => judge_file(alloc, f, first, ends, read.file),
-        Err(stop) => stopped(stop),
-    }
-}
 
 // The answer where the reading of a circuit file stopped.
 pub(crate) fn stopped(stop: AagStop) -> Result<Judgement, Memory>
@@ -67,13 +37,6 @@ pub(crate) fn stopped(stop: AagStop) -> Result<Judgement, Memory>
         AagStop::Refused { line, name } => Ok(refused(line, CertificateFault::Circuit(name))),
         AagStop::Memory => Err(Memory),
     }
-}
-
-pub(crate) fn bytes_from(text: &[u8], at: usize) -> &[u8]
-    requires { at ≤ length text.now }
-    ensures { result.now ≡ drop at text.now }
-{
-    &text[at..]
 }
 
 // Whether the text's first token is this word.
@@ -108,67 +71,6 @@ pub(crate) fn begins_proof(comment: &[u8]) -> bool
     begins_with(line, b"dqp") || begins_with(line, b"dqp2")
 }
 
-fn line_ends(bytes: &[u8]) -> usize
-    ensures is { result ≡ line_ends bytes.now }
-    ensures bound { result ≤ length bytes.now }
-{
-    let mut count = 0;
-    let mut rest = bytes;
-    while rest.len() > BLOCK {
-        let (block, behind) = rest.split_at(BLOCK);
-        count += usize::from(block_ends(block));
-        rest = behind;
-    }
-    count + usize::from(block_ends(rest))
-}
-
-// The same of a block.
-fn block_ends(block: &[u8]) -> u8
-    requires { length block.now ≤ 240 }
-    ensures is { result ≡ line_ends block.now }
-    ensures bound { result ≤ length block.now }
-{
-    let mut count = 0;
-    for byte in block {
-        count += u8::from(*byte == b'\n');
-    }
-    count
-}
-
-// The number of the first line of a comment, which ends a text of so many line ends.
-fn comment_line(first: u64, ends: usize, comment: &[u8]) -> u64
-    requires { first + ends < 2 ^ 62 }
-    ensures is { result ≡ comment_line first ends comment.now }
-    ensures small { result < 2 ^ 62 }
-{
-    first + ends.saturating_sub(line_ends(comment)) as u64
-}
-
-// The proof in the circuit's comment, if it begins one. The comment ends a text of so many line
-// ends.
-fn read_proof(
-    alloc: Global,
-    f: &Formula,
-    first: u64,
-    ends: usize,
-    file: &AagFile,
-) -> Result<Option<Dqp>, CertStop>
-    requires { first + ends < 2 ^ 62 }
-    ensures reading { IsReading (proof_in f.now first ends file.now.circuit file.now.comment)
-        result }
-    ensures allowed { IfOk result (λ proof. IfSome proof (IsDqpOf f.now file.now.circuit)) }
-{
-    let Some(comment) = &file.comment else {
-        return Ok(None);
-    };
-    let comment = comment.items();
-    if !begins_proof(comment) {
-        return Ok(None);
-    }
-    let line = comment_line(first, ends, comment);
-    Ok(Some(read_dqp(alloc, comment, line, f, &file.circuit)?))
-}
-
 /// Whether a circuit's inputs have lines.
 #[derive(Clone, Copy, PartialEq, Eq)]
 pub(crate) enum Form {
@@ -193,32 +95,21 @@ fn mapping_line(form: Form, header: u64, circuit: &Circuit, at: MapPlace) -> u64
     }
 }
 
-// Judges a circuit file that was read from a text of so many line ends. Its comment is let go once
-// the proof was read.
-fn judge_file(
-    alloc: Global,
-    f: &Formula,
-    first: u64,
-    ends: usize,
-    mut file: AagFile,
-) -> Result<Judgement, Memory>
-    requires well_formed { IsWellFormed f.now }
-    requires fits { first + ends < 2 ^ 62 }
-    requires complete { IsComplete file.circuit }
-    requires few { HasFewLines file.circuit }
-    ensures { IfOk result
-        (BehindProof (mapping_line first file.circuit) (proof_in f.now first ends file.circuit file.comment)
-        (candidate_of f.now file.circuit file.symbols)) }
+/// What is said of a circuit whose mapping has this fault.
+pub(crate) fn mapping_refusal(
+    form: Form,
+    header: u64,
+    circuit: &Circuit,
+    fault: MapError,
+) -> Judgement
+    requires fits { header < 2 ^ 62 }
+    requires there { IsAtPlace circuit.now fault.at }
+    requires few { HasFewLines circuit.now }
+    ensures { result ≡ Refused (mapping_line_in form header circuit.now fault.at)
+        (Mapping fault.name) }
 {
-    let read = read_proof(alloc, f, first, ends, &file);
-    file.comment = None;
-    match read {
-        Ok(proof) => judge_mapped(alloc, f, Form::Ascii, first, &file, &proof),
-        Err(CertStop::Refused(refusal)) => {
-            Ok(refused(refusal.line, CertificateFault::Text(refusal.name)))
-        }
-        Err(CertStop::Memory) => Err(Memory),
-    }
+    let line = mapping_line(form, header, circuit, fault.at);
+    refused(line, CertificateFault::Mapping(fault.name))
 }
 
 /// Judges a circuit file whose proof, if it has one, was read.
@@ -243,8 +134,7 @@ pub(crate) fn judge_mapped(
         Ok(mut bench) => judge_reads(alloc, f, &mut bench, proof),
         Err(BenchStop::Map(fault)) => {
             mapping_faults_have_places();
-            let line = mapping_line(form, first, &file.circuit, fault.at);
-            Ok(refused(line, CertificateFault::Mapping(fault.name)))
+            Ok(mapping_refusal(form, first, &file.circuit, fault))
         }
         Err(BenchStop::Memory) => Err(Memory),
     }

@@ -7,9 +7,16 @@
 
 pub use answers::{CertificateFault, Judgement};
 pub use judging::judge;
+pub use streams::Stream;
 
 mod answers;
+mod beginnings;
 mod binary;
 mod circuits;
+mod comments;
+mod endings;
 mod judging;
 pub mod laws;
+mod phases;
+mod standings;
+mod streams;

@@ -1,6 +1,6 @@
 //! Circuits' proofs that are judged line by line.
 
-ghost use Rattle.std.specs.Prelude.{◌≡◌, ◌∷◌, ℕ, List, [], Option, Some, Result, OnOk, IfSome};
+ghost use Rattle.std.specs.Prelude.{◌≡◌, ◌∷◌, ◌+◌, ℕ, false, List, [], Option, Some, Result, OnOk, IfNone, IfSome};
 ghost use Rattle.std.specs.Option.{option_map};
 ghost use Rattle.dq_lits.specs.Derivation.{ProofFault as Fault};
 ghost use Rattle.dq_lits.specs.Formula.{Dqbf};
@@ -65,10 +65,11 @@ impl<'f> ProofStream<'f> {
     ) -> ProofStream<'f>
         requires { IfSome proving (λ p. IsJudging f.now circuit p
             (numbered_from (first_proof_id f.now circuit))) }
-        ensures { (lines : List TextLine) (answer : Result (Option (Option Fault)) Stop)
+        ensures answer { (lines : List TextLine) (answer : Result (Option (Option Fault)) Stop)
             → MayAnswer result lines answer
             → IsReading (judged_whole (option_map (run_of f.now circuit) proving)
             (read_proof f.now circuit lines first)) answer }
+        ensures number { result.lines.number ≡ first }
     {
         let lines = DqpLines::new(alloc, f, &circuit, first);
         ProofStream {
@@ -82,13 +83,15 @@ impl<'f> ProofStream<'f> {
 
     /// Takes the next line, which has no LF at its end.
     pub fn line(&mut self, text: &[u8])
-        ensures { (behind : List ℕ) (lines : List TextLine)
+        ensures answer { (behind : List ℕ) (lines : List TextLine)
             (answer : Result (Option (Option Fault)) Stop) → MayAnswer self.new lines answer
             → MayAnswer self.old (record {
               text = text.now;
               number = self.old.lines.number;
               behind = behind;
             } ∷ lines) answer }
+        ensures number { self.new.failed ≡ false
+            → IfNone self.new.lines.stopped (self.new.lines.number ≡ self.old.lines.number + 1) }
     {
         proofs_are_read_by_line();
         if self.failed {

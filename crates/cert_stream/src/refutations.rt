@@ -1,6 +1,6 @@
 //! Refutations that are judged line by line.
 
-ghost use Rattle.std.specs.Prelude.{◌≡◌, ◌∷◌, ℕ, List, [], length, Option, Some, Result, OnOk, IfOk};
+ghost use Rattle.std.specs.Prelude.{◌≡◌, ◌∷◌, ◌+◌, ℕ, false, List, [], length, Option, Some, Result, OnOk, IfNone, IfOk};
 ghost use Rattle.dq_lits.specs.Derivation.{ProofFault as Fault};
 ghost use Rattle.dq_lits.specs.Expansion.{instance_at};
 ghost use Rattle.dq_text.specs.Line.{TextLine};
@@ -57,9 +57,10 @@ impl<'f> Model for RefutationStream<'f> {
 impl<'f> RefutationStream<'f> {
     /// Before the header line, which has the number `first`. It takes no memory.
     pub fn new(alloc: Global, f: &'f Formula, first: u64) -> RefutationStream<'f>
-        ensures { (lines : List TextLine) (answer : Result (Option Fault) Stop)
+        ensures answer { (lines : List TextLine) (answer : Result (Option Fault) Stop)
             → MayAnswer result lines answer
             → IsReading (judged_whole f.now (read_lines f.now lines first)) answer }
+        ensures number { result.lines.number ≡ first }
     {
         RefutationStream {
             alloc,
@@ -72,13 +73,16 @@ impl<'f> RefutationStream<'f> {
 
     /// Takes the next line, which has no LF at its end.
     pub fn line(&mut self, text: &[u8])
-        ensures { (behind : List ℕ) (lines : List TextLine) (answer : Result (Option Fault) Stop)
+        ensures answer { (behind : List ℕ) (lines : List TextLine)
+            (answer : Result (Option Fault) Stop)
             → MayAnswer self.new lines answer
             → MayAnswer self.old (record {
               text = text.now;
               number = self.old.lines.number;
               behind = behind;
             } ∷ lines) answer }
+        ensures number { self.new.failed ≡ false
+            → IfNone self.new.lines.stopped (self.new.lines.number ≡ self.old.lines.number + 1) }
     {
         refutations_are_read_by_line();
         if self.failed {

@@ -11,13 +11,21 @@ use crate::files::Files;
 
 /// What takes a text piece by piece, however it is cut.
 pub trait Feed {
+    /// What the text is about, if anything.
+    type Subject;
+
+    /// The same, which stays as pieces come.
+    ghost subject: { Self → Self.Subject };
+
     /// It stands for these bytes: they are what was fed so far.
     ghost stands: { Self → List ℕ → Type 0 };
 
     /// Takes the next piece. What is wrong with a text, and want of memory, is kept until the text
     /// ends.
     fn feed(&mut self, piece: &[u8])
-        ensures { (text : List ℕ) → stands self.old text → stands self.new (text ++ piece.now) };
+        ensures stands { (text : List ℕ) → stands self.old text
+            → stands self.new (text ++ piece.now) }
+        ensures subject { subject self.new ≡ subject self.old };
 }
 
 /// Feeds the file of that name through a buffer, which isn't empty, up to the first read that gives
@@ -35,6 +43,7 @@ pub fn feed_all<F: Files, T: Feed>(
     // Where the files tell, all bytes held are fed on Ok, and no more are given than are held.
     ensures fed { WasFed (T.stands to.old) (T.stands to.new) (F.held files.old name.now)
         (F.given files.new) result }
+    ensures subject { T.subject to.new ≡ T.subject to.old }
     ensures longer { (bytes : List ℕ) →
         F.held files.old name.now ≡ Holds bytes → F.given files.new ≤ length bytes }
     ensures absent { F.held files.old name.now ≡ Absent → result ≡ Err FeedStop.Fault }

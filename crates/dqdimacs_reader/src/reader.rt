@@ -63,6 +63,10 @@ impl Reader {
 }
 
 impl Feed for Reader {
+    type Subject = ();
+
+    ghost subject = { λ _. tt };
+
     ghost stands = { StandsFor };
 
     fn feed(&mut self, piece: &[u8]) {

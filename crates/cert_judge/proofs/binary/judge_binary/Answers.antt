@@ -3,7 +3,7 @@ use Rattle.cert_judge.proofs.binary.judge_binary.Goals as goal
 
 pub judge_bare-requires-clause-complete : goal.judge_bare-requires-clause-complete
 judge_bare-requires-clause-complete c =
-    let text = c.bytes_from.result.now in
+    let text = c.deref.result.now in
     scanned_complete (record {
       exact = c.binary_circuit_or_first_fault.ensures;
       lawful = c.binary_circuits_are_lawful.ensures.lawful;
@@ -14,7 +14,7 @@ judge_bare-requires-clause-complete c =
 
 pub judge_bare-requires-clause-few : goal.judge_bare-requires-clause-few
 judge_bare-requires-clause-few c =
-    let text = c.bytes_from.result.now in
+    let text = c.deref.result.now in
     scanned_few (record {
       exact = c.binary_circuit_or_first_fault.ensures;
       lawful = c.binary_circuits_are_lawful.ensures.lawful;

@@ -1,4 +1,4 @@
-use Rattle.std.proofs.Common.{rules, ◌≡◌, length, sym, subst, arith}
+use Rattle.std.proofs.Common.{rules, ◌≡◌, length, sym, subst}
 use Rattle.aig_binary.specs.BareReading.{listed}
 use Rattle.skolem_checker.specs.Checks.{candidate_of}
 use Rattle.skolem_checker.specs.declared.mapping.MapName.TheVariants.{InputCount}

@@ -17,7 +17,8 @@ loop-count-preserved g c =
     record {
       fed = k.fed ++ piece;
       stands = λ text h. subst (λ xs. g.T.Feed.stands c.feed.new.self xs) (append_assoc text k.fed piece)
-          (c.feed.ensures (text ++ k.fed) (k.stands text h));
+          (c.feed.ensures.stands (text ++ k.fed) (k.stands text h));
+      subject = c.feed.ensures.subject ∙ k.subject;
       count = length-append k.fed piece ∙ ap (λ m. m + length piece) k.count ∙ ap (λ m. c.loop-count.given + m) size;
       given = c.in-Ok.ensures.given ∙ ap (λ m. m + n) k.given;
       within = search rules;

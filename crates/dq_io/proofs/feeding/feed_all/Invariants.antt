@@ -8,6 +8,7 @@ abbrev pub invariant-loop-count : goal.invariant-loop-count
 invariant-loop-count g l = record {
   fed : List ℕ;
   stands : (text : List ℕ) → g.T.Feed.stands l.fn.to text → g.T.Feed.stands l.to (text ++ fed);
+  subject : g.T.Feed.subject l.to ≡ g.T.Feed.subject l.fn.to;
   count : length fed ≡ l.given;
   given : g.F.Files.given l.files ≡ l.given;
   within : l.given ≤ l.limit;

@@ -27,8 +27,8 @@ judge_proof_item-requires c =
       judging = if_none_holds i.lines.stopped _ none (c.self.invariant.judging c.if-self.false);
     }
 
-pub returns-in-Err : goal.returns-in-Err
-returns-in-Err c behind lines answer says =
+pub returns-in-Err-clause-answer : goal.returns-in-Err-clause-answer
+returns-in-Err-clause-answer c behind lines answer says =
     let i = c.self.inside in
     let text = c.args.text.now in
     let new = c.line.new.self in
@@ -45,8 +45,8 @@ returns-in-Err c behind lines answer says =
     (stopped_back c.proofs_are_read_by_line.ensures.line i.lines (run_in (proof_state_in i)) text (proof_seen new)
     c.in-Err.field-0 i.lines.stopped c.in-Err.ensures.line c.in-Err.ensures.stopped behind lines answer stopped))
 
-pub returns-in-Ok-judge_proof_item : goal.returns-in-Ok-judge_proof_item
-returns-in-Ok-judge_proof_item c behind lines answer says =
+pub returns-in-Ok-judge_proof_item-clause-answer : goal.returns-in-Ok-judge_proof_item-clause-answer
+returns-in-Ok-judge_proof_item-clause-answer c behind lines answer says =
     let i = c.self.inside in
     let text = c.args.text.now in
     let new = c.line.new.self in

@@ -6,8 +6,8 @@ use Rattle.cert_stream.specs.RefutationState.{AnswersLines, MayAnswer, Refutatio
 use Rattle.cert_stream.proofs.StreamAnswers.{answers_going, if_none_holds, none_stopped, read_on, stopped_back, unless_failed}
 use Rattle.cert_stream.proofs.refutations.RefutationStream.line.Goals as goal
 
-pub returns-in-Err : goal.returns-in-Err
-returns-in-Err c behind lines answer says =
+pub returns-in-Err-clause-answer : goal.returns-in-Err-clause-answer
+returns-in-Err-clause-answer c behind lines answer says =
     let i = c.self.inside in
     let text = c.args.text.now in
     let after : RefutationState = record { lines = c.line.new.self; proving = i.proving; failed = i.failed } in
@@ -23,8 +23,8 @@ returns-in-Err c behind lines answer says =
     (stopped_back c.refutations_are_read_by_line.ensures.line i.lines i.proving text (seen c.line.new.self)
     c.in-Err.field-0 i.lines.stopped c.in-Err.ensures.line c.in-Err.ensures.stopped behind lines answer stopped))
 
-pub returns-in-Ok-judge_item : goal.returns-in-Ok-judge_item
-returns-in-Ok-judge_item c behind lines answer says =
+pub returns-in-Ok-judge_item-clause-answer : goal.returns-in-Ok-judge_item-clause-answer
+returns-in-Ok-judge_item-clause-answer c behind lines answer says =
     let i = c.self.inside in
     let text = c.args.text.now in
     let new = c.line.new.self in

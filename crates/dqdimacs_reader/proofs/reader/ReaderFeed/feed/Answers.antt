@@ -5,8 +5,8 @@ use Rattle.dqdimacs_reader.specs.Reading.{IsReading}
 use Rattle.dqdimacs_reader.proofs.PiecesAnswer.{stays}
 use Rattle.dqdimacs_reader.proofs.reader.ReaderFeed.feed.Goals as goal
 
-pub returns-then-is_stopped : goal.returns-then-is_stopped
-returns-then-is_stopped c text stands bytes answer may =
+pub returns-then-is_stopped-clause-stands : goal.returns-then-is_stopped-clause-stands
+returns-then-is_stopped-clause-stands c text stands bytes answer may =
     let reader = c.args.self.now in
     let piece = c.args.piece.now in
     subst (λ t. IsReading (reading t) answer) (sym (append_assoc text piece bytes))

@@ -1,0 +1,85 @@
+-- The first line of the bytes to come, and the line ends in them.
+use Rattle.std.proofs.Common.{◌≡◌, ◌≢◌, ℕ, suc, ◌+◌, ◌==◌, Bool, true, false, cond, List, [], ◌∷◌, ◌++◌, length, refl, sym, ◌∙◌, ap, subst, arith, append_assoc, append-nil, length-append}
+use Rattle.std.specs.List.{filter}
+use Rattle.std.proofs.lemmas.Bool.{ne_eqb}
+use Rattle.std.proofs.lemmas.List.Elements.{All-head, All-tail, filter-append}
+use Rattle.dq_text.specs.Line.{TextLine, extend_line, lines_from}
+use Rattle.cert_judge.specs.Judgement.{line_ends, comment_line}
+use Rattle.cert_judge.specs.Phases.{line_end, HasNoEnd, IsLastUnless}
+
+abbrev NoFeed : ℕ → Type 0
+NoFeed byte = byte ≢ 10
+
+abbrev pub line_of : List ℕ → ℕ → List ℕ → TextLine
+line_of text number behind = record { text = text; number = number; behind = behind }
+
+before_feed : (number : ℕ) (text others : List ℕ) → HasNoEnd text →
+    lines_from number (text ++ (10 ∷ others)) ≡ line_of text number others ∷ lines_from (number + 1) others
+before_feed number [] others free = refl
+before_feed number (byte ∷ text) others free =
+    let bytes = text ++ (10 ∷ others) in
+    ap (λ b. cond b (line_of [] number bytes ∷ lines_from (number + 1) bytes)
+    (extend_line byte number (lines_from number bytes)))
+    (ne_eqb byte 10 (All-head NoFeed byte text free))
+    ∙ ap (extend_line byte number) (before_feed number text others (All-tail NoFeed byte text free))
+
+at_end : (number byte : ℕ) (text : List ℕ) → HasNoEnd (byte ∷ text) →
+    lines_from number (byte ∷ text) ≡ line_of (byte ∷ text) number [] ∷ []
+at_end number byte [] free =
+    ap (λ b. cond b (line_of [] number [] ∷ lines_from (number + 1) []) (extend_line byte number []))
+    (ne_eqb byte 10 (All-head NoFeed byte [] free))
+at_end number byte (next ∷ text) free =
+    let bytes = next ∷ text in
+    ap (λ b. cond b (line_of [] number bytes ∷ lines_from (number + 1) bytes)
+    (extend_line byte number (lines_from number bytes)))
+    (ne_eqb byte 10 (All-head NoFeed byte bytes free))
+    ∙ ap (extend_line byte number) (at_end number next text (All-tail NoFeed byte bytes free))
+
+last_line : (number : ℕ) (text : List ℕ) → HasNoEnd text → text ≢ [] →
+    lines_from number text ≡ line_of text number [] ∷ []
+last_line number [] free some = absurd (some refl)
+last_line number (byte ∷ text) free some = at_end number byte text free
+
+pub first_is : (ended : Bool) (number : ℕ) (text behind : List ℕ) → HasNoEnd text → IsLastUnless ended text behind →
+    lines_from number (text ++ (line_end ended ++ behind))
+    ≡ line_of text number behind ∷ lines_from (number + 1) behind
+first_is true number text behind free last = before_feed number text behind free
+first_is false number text behind free last =
+    subst (λ b. lines_from number (text ++ b) ≡ line_of text number b ∷ lines_from (number + 1) b) (sym last.1)
+    (ap (lines_from number) (append-nil text) ∙ last_line number text free last.0)
+
+-- line ends
+pub ends_both : (before behind : List ℕ) → line_ends (before ++ behind) ≡ line_ends before + line_ends behind
+ends_both before behind =
+    ap length (filter-append (λ byte. byte == 10) before behind)
+    ∙ length-append (filter (λ byte. byte == 10) before) (filter (λ byte. byte == 10) behind)
+
+pub no_ends : (text : List ℕ) → HasNoEnd text → line_ends text ≡ 0
+no_ends [] free = refl
+no_ends (byte ∷ text) free =
+    ap (λ b. length (cond b (byte ∷ filter (λ byte. byte == 10) text) (filter (λ byte. byte == 10) text)))
+    (ne_eqb byte 10 (All-head NoFeed byte text free))
+    ∙ no_ends text (All-tail NoFeed byte text free)
+
+pub ends_with_line : (text behind : List ℕ) → HasNoEnd text →
+    line_ends (text ++ (10 ∷ behind)) ≡ 1 + line_ends behind
+ends_with_line text behind free =
+    let both = ends_both text (10 ∷ behind) in
+    let none = no_ends text free in
+    let feed : line_ends (10 ∷ behind) ≡ suc (line_ends behind) = refl in
+    omega (arith, both, none, feed)
+
+-- a comment's line is counted from any line before it
+pub same_comment_line : (number : ℕ) (text before comment : List ℕ) → HasNoEnd text →
+    comment_line (number + 1) (line_ends (before ++ comment)) comment
+    ≡ comment_line number (line_ends (text ++ (10 ∷ (before ++ comment)))) comment
+same_comment_line number text before comment free =
+    let both = ends_both before comment in
+    let line = ends_with_line text (before ++ comment) free in
+    omega (arith, both, line)
+
+-- one more line behind what came
+pub one_more : (before text behind : List ℕ) → (before ++ (text ++ (10 ∷ []))) ++ behind
+    ≡ before ++ (text ++ (10 ∷ behind))
+one_more before text behind =
+    append_assoc before (text ++ (10 ∷ [])) behind ∙ ap (λ b. before ++ b) (append_assoc text (10 ∷ []) behind)

@@ -1,0 +1,144 @@
+//! A circuit's lines, and the first line of its comment, which begins a proof or doesn't.
+
+ghost use Rattle.std.specs.Prelude.{◌≡◌, ◌<◌, ◌^◌, true, None, Some, Option, IfOk, IfSome};
+ghost use Rattle.std.specs.Option.{option_map};
+ghost use Rattle.dq_lits.specs.Formula.{IsWellFormed};
+ghost use Rattle.cert_text.specs.CircuitProof.{first_proof_id};
+ghost use Rattle.cert_text.specs.Numbering.{numbered_from};
+ghost use Rattle.proof_checker.specs.Judging.{run_of, IsJudging};
+ghost use Rattle.aag_lines.specs.CircuitLines.{CircuitLines};
+ghost use Rattle.cert_judge.specs.CircuitPhases.{BeginsComment, BeginsProof, FollowsLine, IsStoppedPhase, IsWholeCircuit, TakesCircuit};
+ghost use Rattle.cert_judge.specs.Phases.{AreLinesFrom, HasNoEnd, IsJudged, IsLawful};
+
+use crate::answers::{CertificateFault, Judgement, refused};
+use crate::circuits::begins_proof;
+use crate::phases::Phase;
+use crate::standings::{Standing, standing_of};
+use aag_lines::AagLines;
+use aiger_text::laws::circuit_or_first_fault;
+use aiger_text::{AagFile, AagStop};
+use cert_stream::ProofStream;
+use circuit_plain::Circuit;
+use dq_formula::Formula;
+use dq_lits::Memory;
+use proof_checker::CircuitProving;
+use rup_core::laws::run_is_fault;
+use std::alloc::Global;
+use std::mem;
+
+/// Takes a line of a circuit's text: the phase that follows, if another one does.
+pub(crate) fn take_circuit_line<'f>(
+    alloc: Global,
+    f: &'f Formula,
+    first: u64,
+    lines: &mut AagLines,
+    line: &[u8],
+) -> Result<Option<Phase<'f>>, Memory>
+    requires well_formed { IsWellFormed f.now }
+    requires one_line { HasNoEnd line.now }
+    requires lawful { AreLinesFrom first lines.old }
+    ensures { IfOk result (TakesCircuit f.now first lines.old line.now lines.new) }
+{
+    if lines.in_comment() {
+        let read = mem::replace(lines, AagLines::new(alloc, first));
+        let next = end_circuit_text(alloc, f, first, read, line)?;
+        return Ok(Some(next));
+    }
+    match lines.line(line) {
+        Ok(()) => Ok(None),
+        Err(stop) => Ok(Some(stopped_phase(stop)?)),
+    }
+}
+
+/// What follows where the reading of a circuit stopped.
+pub(crate) fn stopped_phase<'f>(stop: AagStop) -> Result<Phase<'f>, Memory>
+    ensures { IfOk result (IsStoppedPhase stop) }
+{
+    match stop {
+        AagStop::Refused { line, name } => {
+            let name = CertificateFault::Circuit(name);
+            Ok(Phase::Decided(refused(line, name)))
+        }
+        AagStop::Memory => Err(Memory),
+    }
+}
+
+// Takes the first line of the comment of a circuit whose lines were read.
+fn end_circuit_text<'f>(
+    alloc: Global,
+    f: &'f Formula,
+    first: u64,
+    lines: AagLines,
+    line: &[u8],
+) -> Result<Phase<'f>, Memory>
+    requires well_formed { IsWellFormed f.now }
+    requires one_line { HasNoEnd line.now }
+    requires lawful { AreLinesFrom first lines }
+    requires comment { IsWholeCircuit lines }
+    ensures lawful { IfOk result IsLawful }
+    ensures follows { IfOk result (FollowsLine f.now lines line.now) }
+{
+    circuit_or_first_fault();
+    let number = lines.number();
+    let (circuit, symbols) = match lines.end() {
+        Ok(parts) => parts,
+        Err(stop) => return stopped_phase(stop),
+    };
+    let file = AagFile {
+        circuit,
+        symbols,
+        comment: None,
+    };
+    begin_comment(alloc, f, first, number, file, line)
+}
+
+// Takes the first line of a comment, which has this number.
+fn begin_comment<'f>(
+    alloc: Global,
+    f: &'f Formula,
+    first: u64,
+    number: u64,
+    file: AagFile,
+    line: &[u8],
+) -> Result<Phase<'f>, Memory>
+    requires well_formed { IsWellFormed f.now }
+    requires one_line { HasNoEnd line.now }
+    requires judged { IsJudged first file }
+    ensures lawful { IfOk result IsLawful }
+    ensures begins { IfOk result (BeginsComment f.now first number file line.now) }
+{
+    if !begins_proof(line) {
+        return Ok(Phase::FreeText { first, file });
+    }
+    run_is_fault();
+    match standing_of(alloc, f, first, &file)? {
+        Standing::Found(finding) => {
+            Ok(begin_proof(alloc, f, number, file.circuit, None, Some(finding), line))
+        }
+        Standing::Proving(proving) => {
+            Ok(begin_proof(alloc, f, number, file.circuit, Some(proving), None, line))
+        }
+    }
+}
+
+// Takes the header line of a proof, which has this number.
+fn begin_proof<'f>(
+    alloc: Global,
+    f: &'f Formula,
+    number: u64,
+    circuit: Circuit,
+    proving: Option<CircuitProving>,
+    finding: Option<Judgement>,
+    header: &[u8],
+) -> Phase<'f>
+    requires one_line { HasNoEnd header.now }
+    requires judging { IfSome proving (λ p. IsJudging f.now circuit p
+        (numbered_from (first_proof_id f.now circuit))) }
+    ensures lawful { IsLawful result }
+    ensures begins { BeginsProof f.now circuit number finding
+        (option_map (run_of f.now circuit) proving) header.now result }
+{
+    let mut proof = ProofStream::new(alloc, f, circuit, proving, number);
+    proof.line(header);
+    Phase::Proof { proof, finding }
+}
