@@ -10,7 +10,7 @@ use Rattle.dq_lits.specs.Literal.{Assignment}
 use Rattle.dq_lits.specs.Formula.{Existential, Dqbf}
 use Rattle.dq_formula.specs.Prefix.{IsLawful}
 use Rattle.dq_formula.specs.declared.rules.Rule.{Rule}
-use Rattle.definition_order.specs.Definitions.{IsDefinition, defining_output}
+use Rattle.defining_nodes.specs.Definitions.{IsDefinition, defining_output}
 use Rattle.aig_graph.specs.Graph.{AigGraph, IsNode}
 use Rattle.aig_graph.specs.Made.{Extends}
 use Rattle.aig_graph.specs.Outputs.{node_output, output_node, outputs_of, ReadDeclared}

@@ -20,7 +20,7 @@ use Rattle.candidate_functions.specs.Candidates.{SeesRow, AgreesAtPairs}
 use Rattle.candidate_functions.proofs.AtRows.{contains_mapped, apart, AtRow, clause_holds}
 use Rattle.candidate_functions.proofs.DeclaredPlaces.{is_found, all_from_contains, all_mapped, one_mapped}
 use Rattle.definition_order.proofs.Declared.{variable, contained_at, find_sound, sees_universals}
-use Rattle.definition_order.specs.Definitions.{input_variable, defining_output, IsDefinition}
+use Rattle.defining_nodes.specs.Definitions.{input_variable, defining_output, IsDefinition}
 use Rattle.definition_order.specs.Order.{IsShared, MayRead}
 use Rattle.aig_graph.proofs.Supported.{node_same}
 use Rattle.aig_graph.specs.Substituting.{first_inputs, values_put_in, IsPutIn}

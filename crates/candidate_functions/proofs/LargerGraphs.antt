@@ -6,7 +6,7 @@ use Rattle.dq_lits.specs.Formula.{Existential, Dqbf}
 use Rattle.dq_formula.specs.declared.rules.Rule.{Rule}
 use Rattle.aig_graph.specs.Graph.{AigGraph, IsNode}
 use Rattle.aig_graph.specs.Made.{Extends}
-use Rattle.definition_order.specs.Definitions.{input_variable, IsDefinition}
+use Rattle.defining_nodes.specs.Definitions.{input_variable, IsDefinition}
 use Rattle.definition_order.specs.Order.{MayRead}
 use Rattle.aig_graph.specs.Outputs.{node_output}
 use Rattle.aig_graph.specs.declared.nodes.Node.{Node}

@@ -15,7 +15,7 @@ use Rattle.aig_graph.specs.Outputs.{node_output}
 use Rattle.aig_graph.specs.declared.nodes.Node.{Node}
 use Rattle.aig_graph.specs.declared.nodes.Node.TheVariants.{Constant}
 use Rattle.definition_order.proofs.Declared.{contained_at, named_at}
-use Rattle.definition_order.specs.Definitions.{input_variable, defining_output, IsDefinition}
+use Rattle.defining_nodes.specs.Definitions.{input_variable, defining_output, IsDefinition}
 use Rattle.definition_order.specs.Order.{ComesBefore, IsShared, AreInOrder}
 use Rattle.expansion.specs.Table.{PointBits, ArePoints}
 use Rattle.candidate_functions.specs.Candidates.{AreDefinitions}

@@ -6,7 +6,7 @@ use Rattle.dq_lits.specs.Formula.{Existential, Dqbf, HasLawfulPrefix, is_univers
 use Rattle.dq_lits.specs.Expansion.{row_assignment, pair_number, instance_clause, InstanceHolds}
 use Rattle.aig_graph.specs.Graph.{AigGraph}
 use Rattle.aig_graph.specs.declared.nodes.Node.{Node}
-use Rattle.definition_order.specs.Definitions.{defining_output, IsDefinition}
+use Rattle.defining_nodes.specs.Definitions.{defining_output, IsDefinition}
 
 -- each universal has the row's bit, and each existential the model's bit at its pair
 pub record IsAtRow (f : Dqbf) (rows : List (List Bool)) (row : List Bool) (model m : Assignment)

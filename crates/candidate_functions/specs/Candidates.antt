@@ -12,7 +12,7 @@ use Rattle.dq_formula.specs.declared.rules.Rule.{Rule}
 use Rattle.aig_graph.specs.declared.nodes.Node.{Node}
 use Rattle.aig_graph.specs.Graph.{AigGraph, IsNode}
 use Rattle.aig_graph.specs.Outputs.{node_output, outputs_of}
-use Rattle.definition_order.specs.Definitions.{IsDefinition, defining_output}
+use Rattle.defining_nodes.specs.Definitions.{IsDefinition, defining_output}
 use Rattle.expansion.specs.Table.{PointBits}
 
 -- the definition that was handed in for an existential: they are in the order of the existentials,

@@ -9,7 +9,7 @@ use Rattle.aig_graph.specs.Outputs.{node_output}
 use Rattle.aig_graph.specs.Substituting.{IsPutIn}
 use Rattle.aig_graph.specs.declared.nodes.Node.{Node}
 use Rattle.aig_graph.specs.declared.nodes.Node.TheVariants.{Constant}
-use Rattle.definition_order.specs.Definitions.{defining_output}
+use Rattle.defining_nodes.specs.Definitions.{defining_output}
 use Rattle.definition_order.specs.Order.{IsShared}
 use Rattle.expansion.specs.Table.{PointBits}
 use Rattle.candidate_functions.specs.Candidates.{AgreesAtPairs, FollowsRules}

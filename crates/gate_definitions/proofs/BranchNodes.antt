@@ -13,7 +13,7 @@ use Rattle.aig_graph.specs.declared.nodes.Node.TheVariants.{Constant}
 use Rattle.aig_graph.specs.Graph.{AigGraph, node_value, node_support}
 use Rattle.aig_graph.specs.Made.{Extends, IsChosen}
 use Rattle.definition_order.specs.Order.{MayRead}
-use Rattle.definition_order.specs.Definitions.{IsDefinition, input_variable}
+use Rattle.defining_nodes.specs.Definitions.{IsDefinition, input_variable}
 use Rattle.definition_order.proofs.Declared.{find_sound}
 use Rattle.gate_definitions.specs.Stating.{Implies, literal_node}
 use Rattle.gate_definitions.specs.Branches.{IsDefinitionUnder}

@@ -14,7 +14,7 @@ use Rattle.aig_graph.specs.declared.nodes.Node.{Node}
 use Rattle.aig_graph.specs.Graph.{AigGraph, IsNode, node_value, node_support, with_sign}
 use Rattle.aig_graph.specs.Made.{IsCube, IsChosen}
 use Rattle.definition_order.specs.Order.{MayRead}
-use Rattle.definition_order.specs.Definitions.{IsDefinition, input_variable}
+use Rattle.defining_nodes.specs.Definitions.{IsDefinition, input_variable}
 use Rattle.definition_order.proofs.Declared.{find_sound, is_variable, sees_universals, some_existential, variable}
 use Rattle.gate_definitions.specs.declared.choices.Choice.{Choice}
 use Rattle.gate_definitions.specs.Stating.{AreReadable, IsConjunction, IsChoice, choice_literals, literal_node}

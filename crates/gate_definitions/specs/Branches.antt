@@ -9,7 +9,7 @@ use Rattle.dq_formula.specs.Rules.{cube_true}
 use Rattle.aig_graph.specs.declared.nodes.Node.{Node}
 use Rattle.aig_graph.specs.Graph.{AigGraph, IsNode}
 use Rattle.definition_order.specs.Order.{MayRead}
-use Rattle.definition_order.specs.Definitions.{defining_output}
+use Rattle.defining_nodes.specs.Definitions.{defining_output}
 
 -- the node reads what a definition of the existential may read alone, and wherever the matrix and
 -- all literals of the path are true, the existential has its value

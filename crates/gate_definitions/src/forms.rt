@@ -5,7 +5,7 @@ ghost use Rattle.dq_lits.specs.Literal.{variable_of};
 ghost use Rattle.dq_lits.specs.Formula.{Existential, existential_of};
 ghost use Rattle.aig_graph.specs.Graph.{AigGraph, IsNode, node_value, node_support, with_sign};
 ghost use Rattle.aig_graph.specs.Made.{Extends};
-ghost use Rattle.definition_order.specs.Definitions.{IsDefinition};
+ghost use Rattle.defining_nodes.specs.Definitions.{IsDefinition};
 ghost use Rattle.gate_definitions.specs.Stating.{IsConjunction, IsChoice};
 ghost use Rattle.gate_definitions.specs.Finding.{IsGate};
 

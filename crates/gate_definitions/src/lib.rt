@@ -10,7 +10,7 @@ ghost use Rattle.std.specs.Prelude.{◌≡◌, ◌<◌, ◌+◌, length, IfOk, I
 ghost use Rattle.dq_lits.specs.Formula.{Existential, existential_of};
 ghost use Rattle.aig_graph.specs.declared.nodes.Node.{Node};
 ghost use Rattle.aig_graph.specs.Made.{Extends};
-ghost use Rattle.definition_order.specs.Definitions.{IsDefinition};
+ghost use Rattle.defining_nodes.specs.Definitions.{IsDefinition};
 
 use aig_graph::{Graph, Node};
 use dq_formula::Formula;

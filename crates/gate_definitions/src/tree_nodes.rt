@@ -5,7 +5,7 @@ ghost use Rattle.dq_lits.specs.Formula.{Existential, existential_of};
 ghost use Rattle.aig_graph.specs.declared.nodes.Node.{Node};
 ghost use Rattle.aig_graph.specs.Graph.{AigGraph};
 ghost use Rattle.aig_graph.specs.Made.{Extends};
-ghost use Rattle.definition_order.specs.Definitions.{IsDefinition};
+ghost use Rattle.defining_nodes.specs.Definitions.{IsDefinition};
 ghost use Rattle.gate_definitions.specs.Branches.{IsDefinitionUnder};
 
 use crate::clauses::implies;

@@ -19,7 +19,7 @@ use Rattle.hint_log.specs.ProductiveLog.{fault_groups}
 use Rattle.log_laws.specs.Engines.{Engine, circuits, instances, copies, HasNone, IsAddedBy, EnginesLeaveRest}
 use Rattle.aig_graph.specs.declared.nodes.Node.{Node}
 use Rattle.aig_graph.specs.Made.{Extends}
-use Rattle.definition_order.specs.Definitions.{IsDefinition}
+use Rattle.defining_nodes.specs.Definitions.{IsDefinition}
 use Rattle.dq_formula.specs.Rules.{IsRule}
 use Rattle.dq_formula.specs.declared.rules.Rule.{Rule}
 use Rattle.aig_graph.specs.Graph.{AigGraph}

@@ -11,7 +11,7 @@ use Rattle.hint_log.specs.Naming.{round_assignment}
 use Rattle.aig_graph.specs.Graph.{AigGraph, node_support}
 use Rattle.aig_graph.specs.declared.nodes.Node.{Node}
 use Rattle.aig_graph.proofs.Supported.{node_same}
-use Rattle.definition_order.specs.Definitions.{IsDefinition, input_variable}
+use Rattle.defining_nodes.specs.Definitions.{IsDefinition, input_variable}
 use Rattle.definition_order.specs.Order.{MayRead}
 use Rattle.definition_order.proofs.Declared.{some_existential}
 use Rattle.padoa_definitions.specs.Defining.{IsFreePair}

@@ -11,7 +11,7 @@ use Rattle.hint_log.specs.Entries.{Entry, name_of}
 use Rattle.hint_log.specs.Naming.{NamedLiteral, named_literal, name_literal, AreNamedAs}
 use Rattle.hint_log.specs.Origins.{link_names}
 use Rattle.hint_log.specs.declared.names.Name.TheVariants.{Copy as CopyOf}
-use Rattle.definition_order.specs.Definitions.{input_variable}
+use Rattle.defining_nodes.specs.Definitions.{input_variable}
 use Rattle.aig_graph.specs.Graph.{AigGraph, node_value}
 use Rattle.aig_graph.specs.declared.nodes.Node.{Node}
 use Rattle.interpolants.specs.Interpolant.{Partition, SideHolds, Agrees, is_on_a, IsInterpolant}

@@ -5,7 +5,7 @@ use Rattle.std.proofs.lemmas.Bool.{eqb-true, eq-eqb}
 use Rattle.std.proofs.lemmas.Option.{slice_get-get_or, slice_get_within, get_or_from_slice_get}
 use Rattle.dq_lits.specs.Literal.{positive, variable_of}
 use Rattle.dq_lits.specs.Formula.{Dqbf, declared}
-use Rattle.definition_order.specs.Definitions.{input_variable}
+use Rattle.defining_nodes.specs.Definitions.{input_variable}
 use Rattle.hint_log.specs.Entries.{Entry, name_of}
 use Rattle.hint_log.specs.declared.names.Name.{Name}
 use Rattle.hint_log.specs.declared.names.Name.TheVariants.{Copy as CopyOf}

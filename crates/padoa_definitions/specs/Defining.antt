@@ -6,7 +6,7 @@ use Rattle.dq_lits.specs.Henkin.{HenkinChoice, Follows, Solves, MatrixHolds}
 use Rattle.hint_log.specs.Naming.{round_assignment}
 use Rattle.aig_graph.specs.declared.nodes.Node.{Node}
 use Rattle.aig_graph.specs.Graph.{AigGraph}
-use Rattle.definition_order.specs.Definitions.{IsDefinition, defining_output}
+use Rattle.defining_nodes.specs.Definitions.{IsDefinition, defining_output}
 use Rattle.definition_order.specs.Order.{MayRead}
 use Rattle.padoa_definitions.specs.declared.defining.Found.{Found}
 use Rattle.padoa_definitions.specs.declared.defining.Found.TheVariants.{Defined, Free}

@@ -7,7 +7,7 @@ use Rattle.dq_lits.specs.Literal.{Assignment, Literal, positive, negative, varia
 use Rattle.dq_lits.specs.Derivation.{holds, is_tautology}
 use Rattle.dq_lits.specs.Formula.{Dqbf, declared}
 use Rattle.dq_lits.specs.Henkin.{MatrixHolds}
-use Rattle.definition_order.specs.Definitions.{input_variable}
+use Rattle.defining_nodes.specs.Definitions.{input_variable}
 use Rattle.hint_log.specs.Conditions.{IsId}
 use Rattle.hint_log.specs.Entries.{Entry, clause_at, name_of}
 use Rattle.hint_log.specs.Growth.{Each}

@@ -2,7 +2,7 @@ use Rattle.std.proofs.Common.{arith, sym, subst}
 use Rattle.std.proofs.lemmas.Result.{IfOk-weaker}
 use Rattle.aig_graph.specs.Graph.{IsNode}
 use Rattle.aig_graph.specs.Made.{IsChosen}
-use Rattle.definition_order.specs.Definitions.{IsDefinition}
+use Rattle.defining_nodes.specs.Definitions.{IsDefinition}
 use Rattle.gate_definitions.proofs.GateNodes.{choice_is_declared, literal_is_node, choice_defines}
 use Rattle.gate_definitions.proofs.forms.choice_node.Goals as goal
 

@@ -1,7 +1,7 @@
 use Rattle.std.proofs.Common.{◌≡◌, [], Some, IfSome, subst}
 use Rattle.std.proofs.lemmas.Result.{IfOk-weaker}
 use Rattle.aig_graph.specs.declared.nodes.Node.{Node}
-use Rattle.definition_order.specs.Definitions.{IsDefinition}
+use Rattle.defining_nodes.specs.Definitions.{IsDefinition}
 use Rattle.gate_definitions.specs.Branches.{IsDefinitionUnder}
 use Rattle.gate_definitions.proofs.BranchNodes.{whole}
 use Rattle.gate_definitions.proofs.tree_nodes.table_node.Goals as goal

@@ -1,7 +1,7 @@
 use Rattle.std.proofs.Common.{refl, subst}
 use Rattle.candidate_functions.proofs.LargerGraphs.{extends-trans}
 use Rattle.definition_order.proofs.Declared.{known_at}
-use Rattle.definition_order.specs.Definitions.{IsDefinition}
+use Rattle.defining_nodes.specs.Definitions.{IsDefinition}
 use Rattle.padoa_definitions.specs.Defining.{IsFound}
 use Rattle.known_functions.proofs.Asked.{asked_by, grown_asked}
 use Rattle.known_functions.proofs.Defined.{existential_there}
