@@ -94,7 +94,9 @@ may_be_added net lawful place g below is =
 
 pub gate_added : (net : Netlist) (place : ℕ) (g : Gate) (old new : Netlist) → place < length net.gates →
     get_or net.gates place g ≡ g → old ≡ with_gates net place →
-    new ≡ record old { gates = old.gates ++ record { variable = 2 * g.variable / 2; left = g.left; right = g.right } ∷ [] }
+    new ≡ record old {
+      gates = old.gates ++ record { variable = 2 * g.variable / 2; left = g.left; right = g.right } ∷ [];
+    }
     → new ≡ with_gates net (place + 1)
 gate_added net place g old new below is old_is new_is =
     new_is

@@ -47,7 +47,8 @@ variables_same (g ∷ gates) =
 -- a literal has a meaning by the variables that are defined, and these stay
 pub spellable : (file : AagFile) → IsSpellable file → IsSpellable (ordered_file file)
 spellable file is = record {
-  enough = (let long = length-map file.circuit.gates ordered_gate in let enough = is.enough in omega (arith, long, enough));
+  enough = (let long = length-map file.circuit.gates ordered_gate in let enough = is.enough in
+      omega (arith, long, enough));
   few_variables = is.few_variables;
   few_outputs = is.few_outputs;
   lawful = ordered_is_netlist file.circuit is.lawful;

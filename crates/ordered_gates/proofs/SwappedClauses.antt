@@ -65,7 +65,8 @@ other_way : (x y : Literal) → same_literal x y ≡ false → same_literal y x 
 other_way x y e = elim (cases_Bool (same_literal y x)) [
   | inl same ↦
       let is = same_sound y x same in
-      absurd (true≢false (sym (subst (λ z. same_literal z y ≡ true) is (subst (λ z. same_literal y z ≡ true) (sym is) same)) ∙ e))
+      absurd (true≢false (sym (subst (λ z. same_literal z y ≡ true) is
+      (subst (λ z. same_literal y z ≡ true) (sym is) same)) ∙ e))
   | inr apart ↦ apart
 ]
 
@@ -96,7 +97,8 @@ short_swapped trues (one a) (one x) (one y) = three trues a x y
 pub swapped : (trues : List Literal) (a x y : ℕ) → status_of trues (without_constants (a ∷ x ∷ y ∷ []))
     ≡ status_of trues (without_constants (a ∷ y ∷ x ∷ []))
 swapped trues a x y =
-    ap (λ (b : Bool). status_of trues (cond b None (Some (map as_literal (filter (λ l. not (l == 0)) (a ∷ x ∷ y ∷ []))))))
+    ap (λ (b : Bool). status_of trues (cond b None
+    (Some (map as_literal (filter (λ l. not (l == 0)) (a ∷ x ∷ y ∷ []))))))
     (or_swapped (a == 1) (x == 1) (y == 1))
     ∙ by_bit (list_any (λ l. l == 1) (a ∷ y ∷ x ∷ []))
   where

@@ -13,7 +13,8 @@ add_gate-requires-clause-undefined c =
     let is = gate_there net i (omega (arith, c.loop-i-test.true, c.gates-i-end.ensures)) in
     let may = subst (λ (r : ℕ × ℕ × ℕ). MayBeAdded (ordered_netlist net) i r.0 r.1 r.2)
     (sym c.ordered_sides-literal.ensures)
-    (may_be_added (ordered_netlist net) (ordered_is_netlist net c.every_circuit_is_a_netlist.ensures) i gate is.0 is.1) in
+    (may_be_added (ordered_netlist net) (ordered_is_netlist net c.every_circuit_is_a_netlist.ensures) i gate is.0
+    is.1) in
     λ defined. may.undefined (subst (λ (n : Netlist). IsDefined n (c.ordered_sides-literal.result.0 / 2))
     c.loop-i.invariant defined)
 
