@@ -1,6 +1,7 @@
 """Runs the built solver on random small formulas, declared in any order. Each verdict is compared with all choices of bits at the pairs of
 existentials and what they see, tried one by one; each certificate is judged by the built checker and by the second judge, reference.py,
-also with deletions, which deletions.py writes as well.
+also with deletions, which deletions.py writes as well, and with circuits in the binary form, which binary_coder.py
+writes as well.
 Then the solver runs with each number of steps from 1 on: below what the verdict takes the answer is UNKNOWN with as many steps in its
 counts, and from there on the verdict, with the same bytes."""
 
@@ -15,6 +16,7 @@ import tempfile
 import loop
 import reference
 from bench import CHECKER, TOP
+from binary_coder import binary_text
 from deletions import with_deletions
 
 SOLVER = os.environ.get("DQSOLVE", os.path.join(TOP, "crates", "dqsolve", "out", "dqsolve"))
@@ -57,7 +59,30 @@ def faults_of_verdict(folder, path, text, formula, answer):
     bare, found = solve(path, "--bare")
     if found != status or b"s %s\n" % word.encode() + bare != certificate:
         faults.append("without the line with the verdict the text is another")
-    return faults + faults_of_deletions(folder, path, text, answer)
+    return faults + faults_of_deletions(folder, path, text, answer) + faults_of_forms(folder, path, text, answer)
+
+
+def in_binary(text, certificate):
+    """A certificate with its circuit in the binary form, if it has one."""
+    if not certificate.startswith(b"s TRUE\n"):
+        return certificate
+    return b"".join(binary_text(reference.FormulaReader(text).read(), certificate))
+
+
+def faults_of_forms(folder, path, text, answer):
+    """What is wrong with the same certificate in the binary form, in all combinations with other forms."""
+    faults = []
+    for deletes, bare in itertools.product((False, True), repeat=2):
+        due = with_deletions(answer[0].decode()).encode() if deletes else answer[0]
+        due = in_binary(text, due)
+        due = due[due.index(b"\n") + 1 :] if bare else due
+        words = ["--binary"] + ["--v2"] * deletes + ["--bare"] * bare
+        if solve(path, *words) != (due, answer[1]):
+            faults.append(f"with {' '.join(words)} the text is another")
+        said = {check(folder, path, due), reference.answer(text, due)}
+        if len(said) > 1 or not said.pop().startswith("VALID "):
+            faults.append(f"with {' '.join(words)} a judge says otherwise")
+    return faults
 
 
 def faults_of_deletions(folder, path, text, answer):

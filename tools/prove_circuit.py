@@ -3,7 +3,7 @@
 `c`, in place of a comment that it has, a `dqp` proof as docs/FORMATS.md describes it. The proof is found by the solver
 cadical. Nothing here is trusted: dqcheck judges what is written.
 
-Usage: tools/prove_circuit.py [--v2] FORMULA CIRCUIT > CERT     DQDIMACS, and ASCII AIGER
+Usage: tools/prove_circuit.py [--v2] FORMULA CIRCUIT > CERT     DQDIMACS, and AIGER, whose form stays: ASCII or binary
 
 With --v2 a line is deleted behind the last one that hints it.
 

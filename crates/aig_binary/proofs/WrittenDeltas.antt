@@ -1,8 +1,9 @@
 -- Differences as they are written: they are spelled, and no other bytes for them are fewer.
 use Rattle.std.proofs.Common.{◌≡◌, ℕ, zero, suc, ◌+◌, ◌-◌, ◌*◌, ◌/◌, ◌%◌, ◌^◌, ◌<◌, ◌≤◌, ◌⊎◌, true, false, inl, inr, List, [], ◌∷◌, length, refl, sym, ap, arith, subst}
-use Rattle.std.specs.Prelude.{nat_lt}
+use Rattle.std.specs.Prelude.{nat_lt, slice_index_or}
 use Rattle.std.specs.List.{AllByRecursion, flat_map}
 use Rattle.std.proofs.lemmas.Bool.{cases_Bool, cond-true, cond-false, ltb-true, ltb-false, lt-ltb}
+use Rattle.circuit_plain.specs.Netlist.{Netlist, gate_at}
 use Rattle.circuit_plain.specs.declared.circuits.Gate.{Gate}
 use Rattle.aig_binary.specs.Deltas.{AreGroups}
 use Rattle.aig_binary.specs.Gates.{SpellsDelta, SpellsGate, SpellsGates}
@@ -15,6 +16,19 @@ last_of groups n low = cond-true (nat_lt n 128) (n ∷ []) ((128 + n % 128) ∷ 
 more_of : (groups n : ℕ) → nat_lt n 128 ≡ false →
     delta_text (suc groups) n ≡ (128 + n % 128) ∷ delta_text groups (n / 128)
 more_of groups n high = cond-false (nat_lt n 128) (n ∷ []) ((128 + n % 128) ∷ delta_text groups (n / 128)) high
+
+pub more_written : (most n : ℕ) → 1 ≤ most → 128 ≤ n →
+    delta_text most n ≡ (128 + n % 128) ∷ delta_text (most - 1) (n / 128)
+more_written zero n some high = absurd (omega (arith, some))
+more_written (suc groups) n some high =
+    elim (cases_Bool (nat_lt n 128)) [
+      | inl low ↦ let less = ltb-true n 128 low in absurd (omega (arith, less, high))
+      | inr more ↦ subst (λ k. delta_text (suc groups) n ≡ (128 + n % 128) ∷ delta_text k (n / 128))
+          (same groups) (more_of groups n more)
+    ]
+  where
+    same : (groups : ℕ) → groups ≡ suc groups - 1
+    same groups = omega arith
 
 -- so many groups suffice
 abbrev FitsIn : ℕ → ℕ → Type 0
@@ -96,3 +110,16 @@ gates_spelled (g ∷ gs) v few (is, more) = (
   gate_spelled v g (omega (arith, few)) is,
   gates_spelled gs (v + 1) (omega (arith, few)) more,
 )
+
+-- the gate at a place is in order
+pub in_order_at : (gs : List Gate) (v place : ℕ) (default : Gate) → AreInOrder v gs → place < length gs →
+    IsGateInOrder (v + place) (slice_index_or gs place default)
+in_order_at [] v place default are below = absurd (omega (arith, below))
+in_order_at (g ∷ gs) v zero default (is, more) below = subst (λ w. IsGateInOrder w g) (omega arith) is
+in_order_at (g ∷ gs) v (suc place) default (is, more) below =
+    subst (λ w. IsGateInOrder w (slice_index_or gs place default)) (omega arith)
+    (in_order_at gs (v + 1) place default more (omega (arith, below)))
+
+pub gate_in_order : (net : Netlist) (v place : ℕ) → AreInOrder v net.gates → place < length net.gates →
+    IsGateInOrder (v + place) (gate_at net place)
+gate_in_order net v place are below = in_order_at net.gates v place _ are below

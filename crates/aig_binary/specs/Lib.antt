@@ -1,6 +1,7 @@
 pub mod BareFile
 pub mod BareReading
 pub mod Deltas
+pub mod Either
 pub mod Endings
 pub mod Gates
 pub mod Grammar

@@ -7,8 +7,8 @@ ghost use Rattle.aig_binary.specs.Steps.{end_of};
 use aiger_text::AagFault;
 use std::marker::Model;
 
-// The most bytes of a difference.
-const MOST_GROUPS: u32 = 5;
+/// The most bytes of a difference.
+pub(crate) const MOST_GROUPS: u32 = 5;
 
 /// Bytes that are read difference by difference.
 #[derive(Drop)]

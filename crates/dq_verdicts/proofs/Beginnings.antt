@@ -9,7 +9,7 @@ use Rattle.cert_text.specs.Canonical.{proof_header_text}
 use Rattle.cert_text.specs.Kind.{certificate_kind, kind_of_lines, kind_at, kind_behind, agreeing, stated_verdict}
 use Rattle.cert_text.specs.declared.faults.CertRefusal.{CertRefusal}
 use Rattle.cert_text.specs.declared.kinds.Kind.{Kind}
-use Rattle.cert_text.specs.declared.kinds.Kind.TheVariants.{Circuit, Refutation}
+use Rattle.cert_text.specs.declared.kinds.Kind.TheVariants.{Circuit, BinaryCircuit, Refutation}
 use Rattle.cert_text.specs.declared.kinds.Verdict.TheVariants.{True, False}
 use Rattle.cert_text.specs.declared.versions.Version.{Version}
 use Rattle.cert_text.specs.declared.versions.Version.TheVariants.{One, Two}
@@ -62,6 +62,41 @@ circuit_kind true rest = circuit_alone (length (codes "aag " ++ rest)) (lines_fr
 circuit_kind false rest = circuit_behind (length (line (codes "s TRUE") ++ (codes "aag " ++ rest)))
     (codes "aag " ++ rest) (lines_from 2 rest)
     (length-append (line (codes "s TRUE")) (codes "aag " ++ rest))
+
+-- ---- circuits in the binary form
+
+binary_verdict : (rest : List (List ℕ)) → stated_verdict (codes "aig" ∷ rest) ≡ None
+binary_verdict [] = refl
+binary_verdict (_ ∷ []) = refl
+binary_verdict (_ ∷ _ ∷ _) = refl
+
+abbrev binary_lines : ℕ → List TextLine → List TextLine
+binary_lines n lines = extend_line 97 n (extend_line 105 n (extend_line 103 n (extend_line 32 n lines)))
+
+binary_header : (at n : ℕ) (lines : List TextLine) → kind_at at (binary_lines n lines) ≡ Ok (BinaryCircuit at n)
+binary_header at n [] = refl
+binary_header at n (l ∷ ls) = refl
+
+binary_alone : (bytes : ℕ) (lines : List TextLine) →
+    kind_of_first bytes (binary_lines 1 lines) ≡ Ok (BinaryCircuit 0 1)
+binary_alone bytes [] = refl
+binary_alone bytes (l ∷ ls) =
+    ap (kind_behind bytes (record { text = 97 ∷ 105 ∷ 103 ∷ 32 ∷ l.text; number = 1; behind = l.behind }) ls)
+    (binary_verdict (line_tokens (32 ∷ l.text)))
+
+binary_behind : (bytes : ℕ) (text : List ℕ) (lines : List TextLine) → bytes ≡ 7 + length text →
+    agreeing True (kind_at (bytes - length text) (binary_lines 2 lines)) ≡ Ok (BinaryCircuit 7 2)
+binary_behind bytes text lines whole =
+    ap (λ at. agreeing True (kind_at at (binary_lines 2 lines))) (less bytes 7 (length text) whole) ∙ ap
+    (agreeing True) (binary_header 7 2 lines)
+
+pub binary_kind : (bare : Bool) (rest : List ℕ) → certificate_kind
+    ((cond bare [] (line (codes "s TRUE"))) ++ (codes "aig " ++ rest)) ≡ Ok
+    (BinaryCircuit (header_at bare 7) (header_number bare))
+binary_kind true rest = binary_alone (length (codes "aig " ++ rest)) (lines_from 1 rest)
+binary_kind false rest = binary_behind (length (line (codes "s TRUE") ++ (codes "aig " ++ rest)))
+    (codes "aig " ++ rest) (lines_from 2 rest)
+    (length-append (line (codes "s TRUE")) (codes "aig " ++ rest))
 
 -- ---- refutations
 

@@ -1,7 +1,7 @@
 -- What small logs give is within the formats' limits.
-use Rattle.std.proofs.Common.{◌+◌, ◌≤◌, ℕ, Bool, cond, true, false, arith, List, [], ◌∷◌, map, length, eqb-true}
+use Rattle.std.proofs.Common.{◌≡◌, ◌+◌, ◌≤◌, ℕ, Bool, cond, true, false, refl, arith, List, [], ◌∷◌, map, length, eqb-true}
 use Rattle.std.proofs.lemmas.Bool.Decides.{Decides-eqb}
-use Rattle.std.proofs.lemmas.List.{length-append}
+use Rattle.std.proofs.lemmas.List.{length-append, length-map}
 use Rattle.std.proofs.lemmas.List.Elements.{All-contains}
 use Rattle.std.proofs.lemmas.Map.Made.{IsDistinct-from_AllPairs}
 use Rattle.std.proofs.lemmas.Map.Steps.{length-le_from_distinct_below}
@@ -11,7 +11,11 @@ use Rattle.hint_log.specs.Entries.{Entry, count}
 use Rattle.cert_export.specs.ExportedCircuit.{is_gate_name}
 use Rattle.cert_export.specs.Lines.{is_lemma}
 use Rattle.proof_deletions.specs.Laws.{DeletionsAreAllowed}
+use Rattle.aiger_text.specs.declared.files.AagFile.{AagFile}
+use Rattle.cert_text.specs.declared.circuit_proofs.Dqp.{Dqp}
+use Rattle.ordered_gates.specs.Circuits.{ordered_item, ordered_proof}
 use Rattle.dq_verdicts.proofs.WrittenForms.{written_few}
+use Rattle.dq_verdicts.specs.Forms.{in_binary, ordered_lines}
 use Rattle.dq_verdicts.specs.Accepted.{SmallLogsAreWithinLimits}
 
 one_more : (few all : ℕ) (b : Bool) → few ≤ all → cond b (few + 1) few ≤ all + 1
@@ -41,14 +45,21 @@ universals_few f prefix =
     let both = length-append f.universals (map (λ (y : Existential). y.variable) f.existentials) in
     omega (arith, all, both)
 
+-- ordered lines are as many
+ordered_many : (b : Bool) (file : AagFile) (proof : Dqp) →
+    length (cond b (ordered_proof file.circuit proof) proof).items ≡ length proof.items
+ordered_many true file proof = length-map proof.items (ordered_item file.circuit.gates)
+ordered_many false file proof = refl
+
 pub small_within : DeletionsAreAllowed → SmallLogsAreWithinLimits
 small_within laws f entries file proof form lawful gates numbers lines small =
     let few_gates = count_few is_gate_name entries in
     let few_lines = count_few is_lemma entries in
-    let written = written_few laws form proof.items in
+    let written = written_few laws form (ordered_lines form file proof).items in
+    let ordered = ordered_many (in_binary form file) file proof in
     let few = universals_few f lawful.prefix in
     let variables = lawful.few_variables in
     record {
       variables = omega (arith, gates, numbers, few_gates, few, variables, small);
-      items = omega (arith, lines, few_lines, small, written);
+      items = omega (arith, lines, few_lines, small, written, ordered);
     }

@@ -1,4 +1,5 @@
-pub mod AcceptedTexts
+pub mod AcceptedRefutations
+pub mod AcceptedCircuits
 pub mod WrittenForms
 mod Beginnings
 pub mod Counts

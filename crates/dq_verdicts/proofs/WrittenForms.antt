@@ -1,6 +1,7 @@
 -- Proofs as they are written are what they were.
 use Rattle.std.proofs.Common.{◌≡◌, ◌∙◌, ◌*◌, ◌≤◌, ℕ, Bool, cond, true, false, refl, sym, ap, subst, arith, List, [], ◌∷◌, map, length, Option, None}
 use Rattle.std.specs.List.{All}
+use Rattle.std.proofs.lemmas.List.Elements.{All-map}
 use Rattle.dq_lits.specs.Derivation.{LiveClauses, ProofStep}
 use Rattle.dq_lits.specs.Expansion.{instance_at}
 use Rattle.dq_lits.specs.Formula.{Dqbf}
@@ -9,6 +10,7 @@ use Rattle.aiger_text.specs.declared.files.AagFile.{AagFile}
 use Rattle.circuit_plain.specs.Netlist.{Netlist}
 use Rattle.cert_text.specs.Grammar.{IsDqrOf}
 use Rattle.cert_text.specs.Header.{max_count}
+use Rattle.cert_text.specs.Items.{HasLineId}
 use Rattle.cert_text.specs.ProofGrammar.{IsDqpOf}
 use Rattle.cert_text.specs.declared.circuit_proofs.Dqp.{Dqp}
 use Rattle.cert_text.specs.declared.refutations.Dqr.{Dqr}
@@ -16,7 +18,7 @@ use Rattle.proof_checker.specs.ProvedCircuit.{IsProvedCircuit}
 use Rattle.refutation_checker.specs.Refutation.{normal_step, normal_item, refutation_fault}
 use Rattle.proof_deletions.specs.Deletions.{deleting_from, with_deletions, lines_of, first_number, AreNumberedLines}
 use Rattle.proof_deletions.specs.Laws.{DeletionsChangeNoFault, DeletionsAreAllowed, ChangedLinesDeleteAlike, on_line}
-use Rattle.dq_verdicts.specs.Forms.{written_items, written_proof, written_refutation}
+use Rattle.dq_verdicts.specs.Forms.{written_items, written_refutation}
 use Rattle.dq_verdicts.specs.declared.forms.Form.{Form}
 
 -- ---- a fault
@@ -32,8 +34,12 @@ written_fault : DeletionsChangeNoFault → (b : Bool) (live : LiveClauses) (item
 written_fault same true live items are = deleting_same same live items are
 written_fault same false live items are = refl
 
+-- a proof with its lines as they are written
+abbrev pub with_items : Form → Dqp → Dqp
+with_items form proof = record { items = written_items form proof.items }
+
 pub written_circuit : DeletionsChangeNoFault → (f : Dqbf) (file : AagFile) (proof : Dqp) (form : Form) →
-    IsProvedCircuit f file proof → AreNumberedLines proof.items → IsProvedCircuit f file (written_proof form proof)
+    IsProvedCircuit f file proof → AreNumberedLines proof.items → IsProvedCircuit f file (with_items form proof)
 written_circuit same f file proof form p are = record {
   netlist = p.netlist;
   complete = p.complete;
@@ -81,6 +87,11 @@ written_refutes same alike f d form are none = refutation_by same alike form.del
 
 -- ---- what a text can hold
 
+-- numbered lines have ids
+pub have_line_ids : (items : List ProofItem) → AreNumberedLines items → All HasLineId items
+have_line_ids items are = subst (All HasLineId) (sym are.lines)
+    (All-map HasLineId derived (lines_of items) are.from_one)
+
 no_fewer_by : DeletionsAreAllowed → (b : Bool) (items : List ProofItem) → AreNumberedLines items →
     length items ≤ length (cond b (with_deletions items) items)
 no_fewer_by laws true items are = laws.no_fewer items are
@@ -95,7 +106,7 @@ pub written_few : DeletionsAreAllowed → (form : Form) (items : List ProofItem)
     length (written_items form items) ≤ 2 * length items
 written_few laws form items = few_by laws form.deletes items
 
-few_before : DeletionsAreAllowed → (form : Form) (items : List ProofItem) → AreNumberedLines items →
+pub few_before : DeletionsAreAllowed → (form : Form) (items : List ProofItem) → AreNumberedLines items →
     length (written_items form items) ≤ max_count → length items ≤ max_count
 few_before laws form items are few =
     let more = no_fewer_by laws form.deletes items are in
@@ -114,7 +125,7 @@ proof_by laws false f net items are few allowed = allowed
 
 pub written_proof_allowed : DeletionsAreAllowed → (f : Dqbf) (net : Netlist) (proof : Dqp) (form : Form) →
     AreNumberedLines proof.items → length (written_items form proof.items) ≤ max_count →
-    (length proof.items ≤ max_count → IsDqpOf f net proof) → IsDqpOf f net (written_proof form proof)
+    (length proof.items ≤ max_count → IsDqpOf f net proof) → IsDqpOf f net (with_items form proof)
 written_proof_allowed laws f net proof form are few allowed =
     proof_by laws form.deletes f net proof.items are few (allowed (few_before laws form proof.items are few))
 

@@ -22,7 +22,7 @@ use Rattle.refutation_checker.specs.Refutation.{refutation_fault}
 use Rattle.repair_loop.specs.Stopping.{HasNextStep}
 use Rattle.cert_judge.specs.Judgement.{IsJudgement}
 use Rattle.cert_judge.specs.declared.answers.Judgement.TheVariants.{ValidTrue, ValidFalse}
-use Rattle.dq_verdicts.specs.Forms.{plain, written_items}
+use Rattle.dq_verdicts.specs.Forms.{plain, written_items, written_proof}
 use Rattle.dq_verdicts.specs.declared.demonstrations.Demonstration.{Demonstration}
 use Rattle.dq_verdicts.specs.declared.demonstrations.Demonstration.TheVariants.{Valid, Large, CutOff}
 use Rattle.dq_verdicts.specs.declared.forms.Form.{Form}
@@ -36,7 +36,7 @@ few_entries = 400000000
 -- others are no greater than these
 pub record IsWithinLimits (form : Form) (file : AagFile) (proof : Dqp) : Type 0 where
   pub variables : file.circuit.max_var ≤ max_count
-  pub items : length (written_items form proof.items) ≤ max_count
+  pub items : length (written_proof form file proof).items ≤ max_count
 
 -- An answer of the log decides that the formula which was searched is true, and the circuit with its
 -- proof is what is exported of it.

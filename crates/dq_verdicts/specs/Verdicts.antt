@@ -4,11 +4,12 @@ use Rattle.std.specs.Fmt.{decimal}
 use Rattle.dq_lits.specs.Formula.{Dqbf}
 use Rattle.aiger_text.specs.Canonical.{canonical_circuit}
 use Rattle.aiger_text.specs.declared.files.AagFile.{AagFile}
+use Rattle.aig_binary.specs.Written.{binary_text}
 use Rattle.cert_text.specs.Canonical.{canonical, canonical_proof}
 use Rattle.cert_text.specs.declared.circuit_proofs.Dqp.{Dqp}
 use Rattle.cert_text.specs.declared.refutations.Dqr.{Dqr}
 use Rattle.dq_runs.specs.Printed.{Printed, line}
-use Rattle.dq_verdicts.specs.Forms.{written_proof, written_refutation}
+use Rattle.dq_verdicts.specs.Forms.{in_binary, written_file, written_proof, written_refutation}
 use Rattle.dq_verdicts.specs.declared.forms.Form.{Form}
 
 pub data Verdict : Type 0 where
@@ -33,10 +34,19 @@ abbrev pub counts_text : ℕ → ℕ → List ℕ
 counts_text rounds learned =
     codes "c rounds " ++ (decimal rounds ++ (codes " learned " ++ decimal learned))
 
+-- the circuit with its proof as they are written
+abbrev pub written_circuit : Form → AagFile → Dqp → AagFile
+written_circuit form file proof =
+    with_proof (written_file form file) (written_proof form file proof)
+
+abbrev pub circuit_text : Form → AagFile → Dqp → List ℕ
+circuit_text form file proof =
+    if in_binary form file then binary_text (written_circuit form file proof)
+    else canonical_circuit (written_circuit form file proof)
+
 -- what stands behind the line with the verdict
 abbrev pub evidence_text : Form → Dqbf → Verdict → List ℕ
-evidence_text form f (is_true file proof) =
-    canonical_circuit (with_proof file (written_proof form proof))
+evidence_text form f (is_true file proof) = circuit_text form file proof
 evidence_text form f (is_false refutation) =
     canonical f.universals (written_refutation form refutation)
 evidence_text form f (is_unknown rounds learned) = line (counts_text rounds learned)

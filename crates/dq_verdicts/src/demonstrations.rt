@@ -63,6 +63,7 @@ fn judged(alloc: Global, log: &Log, id: u64, f: &Formula) -> Result<Demonstratio
     let form = Form {
         bare: false,
         deletes: false,
+        binary: false,
     };
     let text = true_text(alloc, log, id, f, form)?;
     if text.len() >= MAX_TEXT {

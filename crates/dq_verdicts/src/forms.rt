@@ -16,6 +16,8 @@ pub struct Form {
     pub bare: bool,
     /// With a deletion behind the last line of the proof that hints a derived clause.
     pub deletes: bool,
+    /// A circuit in AIGER's binary form, where its gates are sorted.
+    pub binary: bool,
 }
 
 /// A proof's lines as they are written.

@@ -3,6 +3,9 @@
 
 ghost use Rattle.dq_verdicts.specs.Accepted.{ProvedCircuitsAreAccepted, RefutationsAreAccepted, SmallLogsAreWithinLimits};
 
+use ordered_gates::laws::{
+    ordered_files_are_binary, ordered_lines_are_numbered, ordered_proofs_stand,
+};
 use proof_deletions::laws::{
     changed_lines_delete_alike, deletions_are_allowed, deletions_change_no_fault,
 };
@@ -12,7 +15,12 @@ pub fn proved_circuits_are_accepted()
     ensures { ProvedCircuitsAreAccepted }
 {
     aiger_text::laws::canonical_text_spells();
+    aig_binary::laws::binary_text_spells();
+    aig_binary::laws::binary_circuit_or_first_fault();
     cert_text::laws::canonical_proof_spells();
+    ordered_proofs_stand();
+    ordered_lines_are_numbered();
+    ordered_files_are_binary();
     deletions_change_no_fault();
     deletions_are_allowed();
 }

@@ -1,11 +1,12 @@
 //! The search, and what is written with its verdict.
 
-ghost use Rattle.std.specs.Prelude.{◌≡◌, ◌≤◌, ◌++◌, ℕ, [], length, codes, if◌then◌else◌, Ok, IfOk, OnErr, IsErrOf};
+ghost use Rattle.std.specs.Prelude.{◌≡◌, ◌≤◌, ◌++◌, ℕ, true, [], length, codes, if◌then◌else◌, Ok, IfOk, OnErr, IsErrOf};
 ghost use Rattle.dq_lits.specs.Formula.{IsWellFormed};
 ghost use Rattle.dq_lits.specs.Henkin.{IsTrueFormula};
 ghost use Rattle.hint_log.specs.Deciding.{IsUndecided};
 ghost use Rattle.hint_log.specs.ProductiveLog.{IsProductiveLog};
 ghost use Rattle.aiger_text.specs.Canonical.{canonical_circuit};
+ghost use Rattle.aig_binary.specs.Written.{binary_text};
 ghost use Rattle.cert_text.specs.Header.{max_count};
 ghost use Rattle.cert_export.specs.ExportedCircuit.{IsDecidedTrue};
 ghost use Rattle.cert_text.specs.Canonical.{canonical, canonical_proof};
@@ -13,15 +14,17 @@ ghost use Rattle.dq_runs.specs.Printed.{line};
 ghost use Rattle.repair_loop.specs.Searching.{IsShownFalse};
 ghost use Rattle.repair_loop.specs.Stopping.{IsStoppedAtLimit};
 ghost use Rattle.proof_deletions.specs.Deletions.{AreNumberedLines};
-ghost use Rattle.dq_verdicts.specs.Forms.{written_proof, written_refutation};
+ghost use Rattle.ordered_gates.specs.Circuits.{is_sorted, ordered_file, ordered_proof};
+ghost use Rattle.dq_verdicts.specs.Forms.{written_items, written_refutation};
 ghost use Rattle.dq_verdicts.specs.Outputs.{IsVerdictOutput, IsTrueText};
-ghost use Rattle.dq_verdicts.specs.Verdicts.{with_proof, counts_text};
+ghost use Rattle.dq_verdicts.specs.Verdicts.{with_proof, circuit_text, counts_text};
 
 use crate::forms::{Form, written_items};
 use crate::laws::{
     proved_circuits_are_accepted, refutations_are_accepted, small_logs_are_within_limits,
 };
 use crate::statuses::Status;
+use aig_binary::write_binary;
 use aig_graph::Graph;
 use aiger_text::{AagFile, Text};
 use cdcl_core::Cdcl;
@@ -38,6 +41,8 @@ use dq_runs::Output;
 use hint_log::laws::rounds_are_steps;
 use hint_log::{Log, Stop};
 use oracle::Oracle;
+use ordered_gates::laws::{ordered_files_are_binary, ordered_lines_are_numbered};
+use ordered_gates::{is_sorted, ordered_circuit, ordered_items};
 use proof_deletions::laws::{allowed_lines_are_numbered, deletions_are_allowed};
 use refutation_checker::laws::refutation_shows_false;
 use repair_loop::{Verdict, decide};
@@ -155,19 +160,62 @@ pub(crate) fn true_text(
     Ok(text)
 }
 
-// A circuit with its proof in its comment.
-fn circuit_text(alloc: Global, mut file: AagFile, proof: Dqp, form: Form) -> Result<Vec<u8>, Memory>
+/// A circuit with its proof in its comment.
+pub(crate) fn circuit_text(
+    alloc: Global,
+    file: AagFile,
+    proof: Dqp,
+    form: Form,
+) -> Result<Vec<u8>, Memory>
     requires { AreNumberedLines proof.items }
-    ensures { IfOk result
-        (λ text. text.items ≡ canonical_circuit (with_proof file (written_proof form proof))) }
+    ensures { IfOk result (λ text. text.items ≡ circuit_text form file proof) }
+{
+    if form.binary && is_sorted(&file.circuit) {
+        return binary_circuit(alloc, file, proof, form);
+    }
+    ascii_circuit(alloc, file, proof, form)
+}
+
+// The same in ASCII.
+fn ascii_circuit(
+    alloc: Global,
+    mut file: AagFile,
+    proof: Dqp,
+    form: Form,
+) -> Result<Vec<u8>, Memory>
+    requires { AreNumberedLines proof.items }
+    ensures { IfOk result (λ text. text.items
+        ≡ canonical_circuit (with_proof file (record { items = written_items form proof.items }))) }
 {
     file.comment = Some(proof_text(alloc, proof, form)?);
     aiger_text::write(alloc, &file)
 }
 
+// In the binary form, where the gates are sorted: each one's greater side first, and the hints after
+// it.
+fn binary_circuit(
+    alloc: Global,
+    mut file: AagFile,
+    proof: Dqp,
+    form: Form,
+) -> Result<Vec<u8>, Memory>
+    requires numbered { AreNumberedLines proof.items }
+    requires sorted { is_sorted file.circuit ≡ true }
+    ensures { IfOk result (λ text. text.items ≡ binary_text (with_proof (ordered_file file)
+        (record { items = written_items form (ordered_proof file.circuit proof).items }))) }
+{
+    ordered_lines_are_numbered();
+    ordered_files_are_binary();
+    let items = ordered_items(alloc, &file.circuit, &proof.items)?;
+    file.circuit = ordered_circuit(alloc, &file.circuit)?;
+    file.comment = Some(proof_text(alloc, Dqp { items }, form)?);
+    write_binary(alloc, &file)
+}
+
 fn proof_text(alloc: Global, proof: Dqp, form: Form) -> Result<Text, Memory>
     requires { AreNumberedLines proof.items }
-    ensures { IfOk result (λ text. text ≡ canonical_proof (written_proof form proof)) }
+    ensures { IfOk result
+        (λ text. text ≡ canonical_proof (record { items = written_items form proof.items })) }
 {
     let items = written_items(alloc, proof.items, form)?;
     let text = write_dqp(alloc, &Dqp { items })?;

@@ -17,7 +17,7 @@ use Rattle.pec_runs.specs.declared.designs.NoDesign.{NoDesign}
 abbrev pub usage : Printed
 usage =
     usage_line
-    (codes "dqsolve solve [--steps N] [--bare] [--v2] FILE / dqsolve demo SEED SIZE"
+    (codes "dqsolve solve [--steps N] [--bare] [--v2] [--binary] FILE / dqsolve demo SEED SIZE"
     ++ codes " / dqsolve pec [--steps N] SPEC IMPL / dqsolve encode SPEC IMPL")
 
 -- what is said of the files of two circuits that are to be compared
@@ -33,7 +33,7 @@ printed_comparison (compared f verdict) = printed_verdict plain f verdict
 
 -- how a verdict is written with these options
 abbrev pub form_of : Options → Form
-form_of o = record { bare = o.bare; deletes = o.deletes }
+form_of o = record { bare = o.bare; deletes = o.deletes; binary = o.binary }
 
 -- what is said of a formula's file that is to be searched
 pub data SearchReport : Type 0 where

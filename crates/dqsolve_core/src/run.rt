@@ -33,7 +33,7 @@ const DEFAULT_STEPS: u64 = 1_000_000;
 
 /// The commands, as the usage line has them.
 const COMMANDS: &str = concat!(
-    "dqsolve solve [--steps N] [--bare] [--v2] FILE / dqsolve demo SEED SIZE",
+    "dqsolve solve [--steps N] [--bare] [--v2] [--binary] FILE / dqsolve demo SEED SIZE",
     " / dqsolve pec [--steps N] SPEC IMPL / dqsolve encode SPEC IMPL",
 );
 
@@ -153,6 +153,7 @@ fn report_circuits<F: Files>(
             let form = Form {
                 bare: false,
                 deletes: false,
+                binary: false,
             };
             solve(alloc, &formula, form, log)
         }
@@ -192,5 +193,6 @@ fn form_of(options: SolveOptions) -> Form
     Form {
         bare: options.bare,
         deletes: options.deletes,
+        binary: options.binary,
     }
 }

@@ -17,6 +17,8 @@ pub record Options : Type 0 where
   pub bare : Bool
   -- with a deletion behind the last line that hints a derived clause
   pub deletes : Bool
+  -- a circuit in AIGER's binary form
+  pub binary : Bool
 
 -- a search with so many steps at most, how its verdict is written, and the name of the formula's
 -- file
@@ -66,11 +68,15 @@ flag id = record (new_rule id) { long = Some id; action = Some SetTrue }
 abbrev pub without_flags : Shape → Shape
 without_flags s = record s { disable_help_flag = true; disable_version_flag = true }
 
+-- the options of how long is searched, and how a verdict is written
+abbrev pub writing_options : List Rule
+writing_options = value_option (codes "steps") ∷ flag (codes "bare") ∷ flag (codes "v2") ∷ []
+
 -- the options of solve
 abbrev pub solve_options : List Rule
-solve_options = value_option (codes "steps") ∷ flag (codes "bare") ∷ flag (codes "v2") ∷ []
+solve_options = writing_options ++ flag (codes "binary") ∷ []
 
--- solve [--steps N] [--bare] [--v2] FILE
+-- solve [--steps N] [--bare] [--v2] [--binary] FILE
 abbrev pub solve_shape : Shape
 solve_shape = record (without_flags (new_shape (codes "solve"))) {
   rules = solve_options ++ required_word (codes "FILE") ∷ [];
@@ -152,7 +158,11 @@ has_flag id rows = option_map_or (λ value. bytes_eq value (codes "true")) (firs
 -- the flags that are given
 abbrev pub options_in : List Row → Options
 options_in rows =
-    record { bare = has_flag (codes "bare") rows; deletes = has_flag (codes "v2") rows }
+    record {
+      bare = has_flag (codes "bare") rows;
+      deletes = has_flag (codes "v2") rows;
+      binary = has_flag (codes "binary") rows;
+    }
 
 -- what is asked of `solve`
 abbrev pub solve_in : List Row → Option Search

@@ -133,14 +133,32 @@ fn digit(byte: u8) -> Result<u8>
     }
 }
 
-/// Bytes on one line.
+/// Bytes on one line, those that aren't printable by their digits.
 pub fn shown(alloc: Global, bytes: &[u8]) -> Result<String> {
     let mut text = String::new(alloc);
     for byte in bytes {
         match byte {
             b'\n' => text.push_str("\\n")?,
-            _ => text.push(char::from(*byte))?,
+            b' '..=b'~' => text.push(char::from(*byte))?,
+            _ => push_digits(&mut text, *byte)?,
         }
     }
     Ok(text)
+}
+
+fn push_digits(text: &mut String, byte: u8) -> Result<()> {
+    text.push_str("\\x")?;
+    text.push(shown_digit(byte / 16))?;
+    text.push(shown_digit(byte % 16))?;
+    Ok(())
+}
+
+fn shown_digit(digit: u8) -> char
+    requires { digit < 16 }
+{
+    if digit < 10 {
+        char::from(b'0' + digit)
+    } else {
+        char::from(b'a' + (digit - 10))
+    }
 }

@@ -1,4 +1,4 @@
-use Rattle.std.proofs.Common.{rules, ◌≡◌, ◌+◌, ◌-◌, ◌*◌, ◌/◌, ◌<◌, length, subst, arith}
+use Rattle.std.proofs.Common.{rules, ◌≡◌, ◌+◌, ◌*◌, ◌/◌, ◌<◌, length, subst, arith}
 use Rattle.circuit_plain.specs.Netlist.{IsDefined}
 use Rattle.aig_binary.proofs.Numbered.{fresh_gate}
 use Rattle.aig_binary.proofs.Steps.{gates_go_on, gates_stop}

@@ -1,4 +1,4 @@
-use Rattle.std.proofs.Common.{rules, ◌+◌, ◌-◌, ◌<◌, ◌∙◌, ap, arith}
+use Rattle.std.proofs.Common.{rules, ◌+◌, ◌<◌, ◌∙◌, ap, arith}
 use Rattle.dq_text.specs.Line.{lines_from}
 use Rattle.dq_text.specs.TextLine.{text_line}
 use Rattle.aiger_text.proofs.RemainingLines.{shorter}

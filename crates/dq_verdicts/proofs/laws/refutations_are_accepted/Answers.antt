@@ -1,4 +1,4 @@
-use Rattle.dq_verdicts.proofs.AcceptedTexts.{refutations_accepted}
+use Rattle.dq_verdicts.proofs.AcceptedRefutations.{refutations_accepted}
 use Rattle.dq_verdicts.proofs.laws.refutations_are_accepted.Goals as goal
 
 pub returns : goal.returns

@@ -1,0 +1,10 @@
+mod OrderedLists
+mod MovedIds
+mod AddedParts
+mod Twins
+mod SwappedClauses
+mod TurnedIds
+mod TurnedFaults
+mod OrderedNetlists
+mod OrderedItems
+mod OrderedFiles
