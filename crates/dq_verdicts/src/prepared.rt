@@ -20,7 +20,9 @@ ghost use Rattle.dq_verdicts.specs.Prepared.{IsPrep, IsPreparedOutput, IsPrepare
 use crate::forms::Form;
 use crate::laws::{proved_circuits_are_accepted, refutations_are_accepted};
 use crate::statuses::Status;
-use crate::verdicts::{Decision, circuit_text, counts_line, refutation_text, search, solve, with_verdict};
+use crate::verdicts::{
+    Decision, circuit_text, counts_line, refutation_text, search, solve, with_verdict,
+};
 use aiger_text::AagFile;
 use cert_export::laws::{exported_proof_is_allowed, productive_answers_can_be_exported};
 use cert_export::{clause_numbers, export_false, export_true};

@@ -156,7 +156,12 @@ pub(crate) fn true_text(
 }
 
 /// A circuit with its proof in its comment.
-pub(crate) fn circuit_text(alloc: Global, mut file: AagFile, proof: Dqp, form: Form) -> Result<Vec<u8>, Memory>
+pub(crate) fn circuit_text(
+    alloc: Global,
+    mut file: AagFile,
+    proof: Dqp,
+    form: Form,
+) -> Result<Vec<u8>, Memory>
     requires { AreNumberedLines proof.items }
     ensures { IfOk result
         (λ text. text.items ≡ canonical_circuit (with_proof file (written_proof form proof))) }

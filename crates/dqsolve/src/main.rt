@@ -1,4 +1,4 @@
-//! `dqsolve solve [--steps N] [--bare] [--v2] FILE`: decides a formula, writes the verdict with a
+//! `dqsolve solve [--steps N] [--bare] [--v2] [--prep] FILE`: decides a formula, writes the verdict with a
 //! certificate, and ends with its status.
 #![tactic(auto)]
 

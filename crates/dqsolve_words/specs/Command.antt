@@ -11,12 +11,14 @@ use Rattle.clap.specs.ValueTests.{is_unsigned_in}
 use Rattle.clap.specs.Walk.{Row, Rule, first_of}
 use Rattle.clap.specs.declared.builder.action.ArgAction.TheVariants.{Set, SetTrue}
 
--- how a verdict is written
+-- how a verdict is found and written
 pub record Options : Type 0 where
   -- without the line that names it
   pub bare : Bool
   -- with a deletion behind the last line that hints a derived clause
   pub deletes : Bool
+  -- by a search on what is left of the formula where units were taken
+  pub prepares : Bool
 
 -- a search with so many steps at most, how its verdict is written, and the name of the formula's
 -- file
@@ -66,11 +68,15 @@ flag id = record (new_rule id) { long = Some id; action = Some SetTrue }
 abbrev pub without_flags : Shape → Shape
 without_flags s = record s { disable_help_flag = true; disable_version_flag = true }
 
+-- the options of how long is searched, and how a verdict is written
+abbrev pub writing_options : List Rule
+writing_options = value_option (codes "steps") ∷ flag (codes "bare") ∷ flag (codes "v2") ∷ []
+
 -- the options of solve
 abbrev pub solve_options : List Rule
-solve_options = value_option (codes "steps") ∷ flag (codes "bare") ∷ flag (codes "v2") ∷ []
+solve_options = writing_options ++ flag (codes "prep") ∷ []
 
--- solve [--steps N] [--bare] [--v2] FILE
+-- solve [--steps N] [--bare] [--v2] [--prep] FILE
 abbrev pub solve_shape : Shape
 solve_shape = record (without_flags (new_shape (codes "solve"))) {
   rules = solve_options ++ required_word (codes "FILE") ∷ [];
@@ -152,7 +158,11 @@ has_flag id rows = option_map_or (λ value. bytes_eq value (codes "true")) (firs
 -- the flags that are given
 abbrev pub options_in : List Row → Options
 options_in rows =
-    record { bare = has_flag (codes "bare") rows; deletes = has_flag (codes "v2") rows }
+    record {
+      bare = has_flag (codes "bare") rows;
+      deletes = has_flag (codes "v2") rows;
+      prepares = has_flag (codes "prep") rows;
+    }
 
 -- what is asked of `solve`
 abbrev pub solve_in : List Row → Option Search

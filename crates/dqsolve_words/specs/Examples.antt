@@ -6,8 +6,12 @@ abbrev pub solving_with : ℕ → Options → List ℕ → Command
 solving_with steps options file =
     solve (record { steps = steps; options = options; file = file })
 
+-- not bare, and without deletions and preparation
+abbrev pub default_options : Options
+default_options = record { bare = false; deletes = false; prepares = false }
+
 abbrev pub solving : ℕ → Bool → List ℕ → Command
-solving steps bare file = solving_with steps (record { bare = bare; deletes = false }) file
+solving steps bare file = solving_with steps (record default_options { bare = bare }) file
 
 abbrev pub planting : ℕ → ℕ → Command
 planting seed size = demo (record { seed = seed; size = size })

@@ -2,7 +2,7 @@
 
 ghost use Rattle.std.specs.Prelude.{◌≡◌, true, false, [], ◌∷◌, Some, None, codes};
 ghost use Rattle.dqsolve_words.specs.Command.{command_of, default_steps};
-ghost use Rattle.dqsolve_words.specs.Examples.{solving, solving_with, planting, comparing, encoding, dqsolve};
+ghost use Rattle.dqsolve_words.specs.Examples.{default_options, solving, solving_with, planting, comparing, encoding, dqsolve};
 
 /// Options stand before or behind the name, the number of steps also behind `=`.
 pub fn options_are_taken()
@@ -18,9 +18,12 @@ pub fn options_are_taken()
         ≡ Some (solving default_steps true (codes "--steps")) }
     ensures deletions { dqsolve (codes "solve" ∷ codes "--v2" ∷ codes "f" ∷ [])
         ≡ Some
-        (solving_with default_steps (record { bare = false; deletes = true }) (codes "f")) }
+        (solving_with default_steps (record default_options { deletes = true }) (codes "f")) }
     ensures both { dqsolve (codes "solve" ∷ codes "f" ∷ codes "--v2" ∷ codes "--bare" ∷ [])
-        ≡ Some (solving_with default_steps (record { bare = true; deletes = true }) (codes "f")) }
+        ≡ Some (solving_with default_steps
+        (record default_options { bare = true; deletes = true }) (codes "f")) }
+    ensures preparation { dqsolve (codes "solve" ∷ codes "--prep" ∷ codes "f" ∷ [])
+        ≡ Some (solving_with default_steps (record default_options { prepares = true }) (codes "f")) }
 {}
 
 /// Numbers of steps outside the range are refused, and what isn't a number.
@@ -63,6 +66,7 @@ pub fn circuits_are_taken()
     ensures more { dqsolve (codes "pec" ∷ codes "s" ∷ codes "i" ∷ codes "j" ∷ []) ≡ None }
     ensures bare { dqsolve (codes "pec" ∷ codes "--bare" ∷ codes "s" ∷ codes "i" ∷ []) ≡ None }
     ensures deletions { dqsolve (codes "pec" ∷ codes "--v2" ∷ codes "s" ∷ codes "i" ∷ []) ≡ None }
+    ensures preparation { dqsolve (codes "pec" ∷ codes "--prep" ∷ codes "s" ∷ codes "i" ∷ []) ≡ None }
     ensures encode_steps { dqsolve
         (codes "encode" ∷ codes "--steps" ∷ codes "7" ∷ codes "s" ∷ codes "i" ∷ []) ≡ None }
 {}

@@ -5,7 +5,7 @@ ghost use Rattle.clap.specs.Simple.{app_of, shape_of, subcommand_rows_of};
 ghost use Rattle.clap.specs.Walk.{rows_of, rule_of, first_of};
 ghost use Rattle.clap.specs.Matches.{found_of};
 ghost use Rattle.clap.specs.declared.builder.command.Command.TheViews.{out-Command};
-ghost use Rattle.dqsolve_words.specs.Command.{solve, demo, pec, encode, command_of, command_in, asked_of, formula_app, solver_app, solve_options, solve_shape, demo_shape, pec_shape, encode_shape, required_word, value_option, flag, solve_in, demo_in, circuits_in, pec_in, steps_in, number_in, has_flag, options_in, most_seed, least_size, most_size};
+ghost use Rattle.dqsolve_words.specs.Command.{solve, demo, pec, encode, command_of, command_in, asked_of, formula_app, solver_app, writing_options, solve_options, solve_shape, demo_shape, pec_shape, encode_shape, required_word, value_option, flag, solve_in, demo_in, circuits_in, pec_in, steps_in, number_in, has_flag, options_in, most_seed, least_size, most_size};
 ghost use Rattle.dqsolve_words.specs.Words.{options_of, search_of, planting_of, circuits_of, comparison_of, command_said};
 
 use clap::error::ErrorKind;
@@ -31,12 +31,14 @@ const LEAST_SIZE: u64 = 1;
 /// The greatest size.
 const MOST_SIZE: u64 = 10_000;
 
-/// How a verdict is written: without the line that names it, and with a deletion behind the last
-/// line of the proof that hints a derived clause.
+/// How a verdict is found and written: without the line that names it, with a deletion behind the
+/// last line of the proof that hints a derived clause, and by a search on what unit propagation with
+/// universal reduction leaves of the formula.
 #[derive(Clone, Copy)]
 pub struct SolveOptions {
     pub bare: bool,
     pub deletes: bool,
+    pub prepares: bool,
 }
 
 /// A search with so many steps at most, how its verdict is written, and the name of the formula's
@@ -103,9 +105,9 @@ fn flag_argument<'a>(alloc: Global, id: &'a str) -> Arg<'a>
 }
 
 // `solve [--steps N] [--bare] [--v2]`.
-fn solve_options<'a>(alloc: Global) -> Result<Command<'a>, AllocError>
+fn writing_options<'a>(alloc: Global) -> Result<Command<'a>, AllocError>
     ensures shape { IfOk result
-        (λ command. shape_of command ≡ record solve_shape { rules = solve_options }) }
+        (λ command. shape_of command ≡ record solve_shape { rules = writing_options }) }
     ensures local { IfOk result (λ command. (out-Command command).has_globals ≡ false) }
 {
     let steps = option_argument(alloc, "steps");
@@ -119,7 +121,17 @@ fn solve_options<'a>(alloc: Global) -> Result<Command<'a>, AllocError>
         .arg(deletes)
 }
 
-// `solve [--steps N] [--bare] [--v2] FILE`.
+// `solve [--steps N] [--bare] [--v2] [--prep]`.
+fn solve_options<'a>(alloc: Global) -> Result<Command<'a>, AllocError>
+    ensures shape { IfOk result
+        (λ command. shape_of command ≡ record solve_shape { rules = solve_options }) }
+    ensures local { IfOk result (λ command. (out-Command command).has_globals ≡ false) }
+{
+    let prepares = flag_argument(alloc, "prep");
+    writing_options(alloc)?.arg(prepares)
+}
+
+// `solve [--steps N] [--bare] [--v2] [--prep] FILE`.
 fn solve_command<'a>(alloc: Global) -> Result<Command<'a>, AllocError>
     ensures shape { IfOk result (λ command. shape_of command ≡ solve_shape) }
     ensures local { IfOk result (λ command. (out-Command command).has_globals ≡ false) }
@@ -236,6 +248,7 @@ fn options_in<'a>(matches: &ArgMatches<'a>) -> SolveOptions
     SolveOptions {
         bare: has_flag(matches, "bare"),
         deletes: has_flag(matches, "v2"),
+        prepares: has_flag(matches, "prep"),
     }
 }
 

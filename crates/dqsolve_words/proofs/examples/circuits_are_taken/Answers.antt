@@ -34,3 +34,7 @@ returns-clause-encode_steps c = refl
 pub returns-clause-deletions : goal.returns-clause-deletions
 unfolding clap_on_literals command_of
 returns-clause-deletions c = refl
+
+pub returns-clause-preparation : goal.returns-clause-preparation
+unfolding clap_on_literals command_of
+returns-clause-preparation c = refl

@@ -30,3 +30,7 @@ returns-clause-deletions c = refl
 pub returns-clause-both : goal.returns-clause-both
 unfolding clap_on_literals command_of
 returns-clause-both c = refl
+
+pub returns-clause-preparation : goal.returns-clause-preparation
+unfolding clap_on_literals command_of
+returns-clause-preparation c = refl
