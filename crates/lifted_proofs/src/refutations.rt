@@ -37,8 +37,8 @@ const MOST_LINES: usize = 1_000_000_000;
 /// come first, then further ones, under which the clauses say what was left of them; lines in front
 /// derive what was left, where units made literals false.
 ///
-/// A formula may need exponentially more rows than units: past 4,000,000 rows, 2^30 bits of rows or
-/// 4,000,000 clauses under rows that are added, and past the counts that a text can hold, it answers
+/// A formula may need exponentially more rows than units: past 1,000,000 rows, 2^30 bits of rows or
+/// 1,000,000 clauses under rows that are added, and past the counts that a text can hold, it answers
 /// `Memory`.
 pub fn lift_false(alloc: Global, d: &Dqr, trace: &Trace, f: &Formula) -> Result<Dqr, Memory>
     requires well { IsWellFormed f.now }
