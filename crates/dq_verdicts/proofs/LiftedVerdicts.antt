@@ -1,5 +1,5 @@
 -- From what is lifted to a verdict's output.
-use Rattle.std.proofs.Common.{◌≡◌, ◌≢◌, ◌∙◌, ◌+◌, ◌-◌, ◌<◌, ◌≤◌, ℕ, refl, sym, ap, subst, arith, Bool, false, List, [], ◌∷◌, ◌++◌, map, take, length, get_or, None, Ok, Err, Result}
+use Rattle.std.proofs.Common.{◌≡◌, ◌≢◌, ◌∙◌, ◌-◌, ◌≤◌, ℕ, refl, sym, ap, subst, arith, Bool, false, List, [], ◌∷◌, map, length, None, Ok, Err, Result}
 use Rattle.dq_lits.specs.Expansion.{IsExpansionUnsatisfiable, instance_at}
 use Rattle.dq_lits.specs.Formula.{Dqbf, IsWellFormed}
 use Rattle.dq_lits.specs.Henkin.{IsTrueFormula, IsFalseFormula}
