@@ -1,7 +1,7 @@
 -- A formula that is made simpler before the search: units are taken, each after universal reduction,
 -- until none is left or a clause is empty.
-use Rattle.std.specs.Prelude.{◌≡◌, ◌≤◌, ◌⊎◌, [], List, length}
-use Rattle.dq_lits.specs.Formula.{Dqbf}
+use Rattle.std.specs.Prelude.{◌≡◌, ◌≢◌, ◌≤◌, ◌⊎◌, [], List, length}
+use Rattle.dq_lits.specs.Formula.{Dqbf, IsWellFormed}
 use Rattle.dq_prep.specs.Simplified.{simplified_formula, IsExhausted}
 use Rattle.dq_prep.specs.Units.{AreUnits}
 use Rattle.dq_prep.specs.declared.traces.Taken.{Taken}
@@ -19,6 +19,7 @@ use Rattle.proof_deletions.specs.Deletions.{AreNumberedLines}
 use Rattle.dq_verdicts.specs.Shown.{IsVerdict}
 use Rattle.dq_verdicts.specs.Verdicts.{Verdict, printed_verdict}
 use Rattle.dq_verdicts.specs.declared.forms.Form.{Form}
+use Rattle.dq_verdicts.specs.declared.prepared.Prepared.{Prepared}
 
 -- what is left where some units were taken, in any order
 pub record IsPrep (f g : Dqbf) : Type 0 where
@@ -47,3 +48,12 @@ pub record IsCertificate (f : Dqbf) (file : AagFile) (proof : Dqp) : Type 0 wher
   pub lines : AreNumberedLines proof.items
   pub writable : IsWritable file
   pub allowed : length proof.items ≤ max_count → IsDqpOf f file.circuit proof
+
+-- what is left of the formula is another formula
+pub record IsPrepared (p : Prepared) : Type 0 where
+  pub formula : IsWellFormed p.formula.now
+  pub left_formed : IsWellFormed p.left.now
+  pub units : AreUnits p.formula.now p.trace.now
+  pub prep : IsPrep p.formula.now p.left.now
+  pub left_is : p.left.now ≡ simplified_formula p.formula.now p.trace.now
+  pub other : p.formula.now ≢ p.left.now

@@ -15,7 +15,7 @@ ghost use Rattle.proof_deletions.specs.Deletions.{AreNumberedLines};
 ghost use Rattle.refutation_checker.specs.Refutation.{refutation_fault};
 ghost use Rattle.repair_loop.specs.Searching.{IsShownFalse};
 ghost use Rattle.repair_loop.specs.Stopping.{IsStoppedAtLimit};
-ghost use Rattle.dq_verdicts.specs.Prepared.{IsPrep, IsPreparedOutput, IsPreparedLog, IsCertificate};
+ghost use Rattle.dq_verdicts.specs.Prepared.{IsPrep, IsPrepared, IsPreparedOutput, IsPreparedLog, IsCertificate};
 
 use crate::forms::Form;
 use crate::laws::{proved_circuits_are_accepted, refutations_are_accepted};
@@ -43,6 +43,15 @@ use std::alloc::Global;
 /// The most lines of a refutation's text, and the most steps of a search.
 const MOST: u64 = 1_000_000_000;
 
+// A formula, what is left of it where these units were taken, and the units.
+#[derive(Drop)]
+struct Prepared<'a> {
+    alloc: Global,
+    formula: &'a Formula,
+    left: &'a Formula,
+    trace: &'a Trace,
+}
+
 /// Takes the units of a formula, searches for a verdict on what is left of it, in as many steps as
 /// the log allows, and writes the verdict with evidence over the formula itself. The statuses are
 /// those of `solve`.
@@ -64,65 +73,46 @@ pub fn solve_prepared(
     if same_clauses(f, &g) {
         return solve(alloc, f, form, log);
     }
-    solve_left(alloc, f, &g, &trace, form, log)
+    let prepared = Prepared {
+        alloc,
+        formula: f,
+        left: &g,
+        trace: &trace,
+    };
+    solve_left(&prepared, form, log)
 }
 
 // Searches what is left of a formula, where something went.
-fn solve_left(
-    alloc: Global,
-    f: &Formula,
-    g: &Formula,
-    trace: &Trace,
-    form: Form,
-    log: &mut Log,
-) -> Result<Output, Memory>
-    requires formula { IsWellFormed f.now }
-    requires left_formed { IsWellFormed g.now }
-    requires units { AreUnits f.now trace.now }
-    requires prep { IsPrep f.now g.now }
-    requires left { g.now ≡ simplified_formula f.now trace.now }
-    requires other { f.now ≢ g.now }
+fn solve_left(p: &Prepared, form: Form, log: &mut Log) -> Result<Output, Memory>
+    requires prepared { IsPrepared p.now }
     requires empty { log.old.entries ≡ [] }
     requires limit { log.old.limit ≤ max_count }
-    ensures verdict { IfOk result (IsPreparedOutput f.now log.new form) }
-    ensures productive { IsProductiveLog g.now log.new.entries }
+    ensures verdict { IfOk result (IsPreparedOutput p.now.formula.now log.new form) }
+    ensures productive { IsProductiveLog p.now.left.now log.new.entries }
     ensures limit { log.new.limit ≡ log.old.limit }
 {
-    match search(alloc, g, log) {
-        Ok(Decision::Shown(id)) => lifted_true(alloc, f, g, trace, log, id, form),
-        Ok(Decision::Refuted(id)) => lifted_false(alloc, f, g, trace, log, id, form),
-        Err(Stop::Limit) => undecided(alloc, f, g, log, form),
+    match search(p.alloc, p.left, log) {
+        Ok(Decision::Shown(id)) => lifted_true(p, log, id, form),
+        Ok(Decision::Refuted(id)) => lifted_false(p, log, id, form),
+        Err(Stop::Limit) => undecided(p, log, form),
         Err(Stop::Memory) => Err(Memory),
     }
 }
 
 // What is written where what is left is true.
-fn lifted_true(
-    alloc: Global,
-    f: &Formula,
-    g: &Formula,
-    trace: &Trace,
-    log: &Log,
-    id: u64,
-    form: Form,
-) -> Result<Output, Memory>
-    requires formula { IsWellFormed f.now }
-    requires units { AreUnits f.now trace.now }
-    requires prep { IsPrep f.now g.now }
-    requires left { g.now ≡ simplified_formula f.now trace.now }
-    requires other { f.now ≢ g.now }
-    requires left_formed { IsWellFormed g.now }
-    requires productive { IsProductiveLog g.now log.now.entries }
-    requires is_true { IsTrueFormula g.now }
-    requires decided { IsDecidedTrue g.now log.now.entries id }
-    ensures { IfOk result (IsPreparedOutput f.now log.now form) }
+fn lifted_true(p: &Prepared, log: &Log, id: u64, form: Form) -> Result<Output, Memory>
+    requires prepared { IsPrepared p.now }
+    requires productive { IsProductiveLog p.now.left.now log.now.entries }
+    requires is_true { IsTrueFormula p.now.left.now }
+    requires decided { IsDecidedTrue p.now.left.now log.now.entries id }
+    ensures { IfOk result (IsPreparedOutput p.now.formula.now log.now form) }
 {
-    f.every_formula_is_lawful();
+    p.formula.every_formula_is_lawful();
     simplification_keeps_choices();
     proved_circuits_are_accepted();
-    let (file, proof) = certificate(alloc, f, g, trace, log, id)?;
-    let evidence = circuit_text(alloc, file, proof, form)?;
-    let text = with_verdict(alloc, "s TRUE\n", form, evidence)?;
+    let (file, proof) = certificate(p, log, id)?;
+    let evidence = circuit_text(p.alloc, file, proof, form)?;
+    let text = with_verdict(p.alloc, "s TRUE\n", form, evidence)?;
     Ok(Output {
         status: Status::True.code(),
         text,
@@ -131,27 +121,17 @@ fn lifted_true(
 
 // A circuit and its proof over the formula: those of what is left, lifted. Where the checker doesn't
 // accept the lifted proof, the formula itself is searched, in a log of its own.
-fn certificate(
-    alloc: Global,
-    f: &Formula,
-    g: &Formula,
-    trace: &Trace,
-    log: &Log,
-    id: u64,
-) -> Result<(AagFile, Dqp), Memory>
-    requires formula { IsWellFormed f.now }
-    requires units { AreUnits f.now trace.now }
-    requires left { g.now ≡ simplified_formula f.now trace.now }
-    requires left_formed { IsWellFormed g.now }
-    requires productive { IsProductiveLog g.now log.now.entries }
-    requires is_true { IsTrueFormula f.now }
-    requires decided { IsDecidedTrue g.now log.now.entries id }
-    ensures { IfOk result (λ c. IsCertificate f.now c.0 c.1) }
+fn certificate(p: &Prepared, log: &Log, id: u64) -> Result<(AagFile, Dqp), Memory>
+    requires prepared { IsPrepared p.now }
+    requires productive { IsProductiveLog p.now.left.now log.now.entries }
+    requires is_true { IsTrueFormula p.now.formula.now }
+    requires decided { IsDecidedTrue p.now.left.now log.now.entries id }
+    ensures { IfOk result (λ c. IsCertificate p.now.formula.now c.0 c.1) }
 {
-    let (file, proof) = exported(alloc, log, id, g)?;
-    match lift_true(alloc, &file, &proof, trace, f, g)? {
+    let (file, proof) = exported(p.alloc, log, id, p.left)?;
+    match lift_true(p.alloc, &file, &proof, p.trace, p.formula, p.left)? {
         Some(lifted) => Ok((file, lifted)),
-        None => certificate_alone(alloc, f),
+        None => certificate_alone(p.alloc, p.formula),
     }
 }
 
@@ -187,33 +167,20 @@ fn exported(alloc: Global, log: &Log, id: u64, f: &Formula) -> Result<(AagFile, 
 }
 
 // What is written where what is left is false.
-fn lifted_false(
-    alloc: Global,
-    f: &Formula,
-    g: &Formula,
-    trace: &Trace,
-    log: &Log,
-    id: u64,
-    form: Form,
-) -> Result<Output, Memory>
-    requires formula { IsWellFormed f.now }
-    requires units { AreUnits f.now trace.now }
-    requires prep { IsPrep f.now g.now }
-    requires left { g.now ≡ simplified_formula f.now trace.now }
-    requires other { f.now ≢ g.now }
-    requires left_formed { IsWellFormed g.now }
-    requires productive { IsProductiveLog g.now log.now.entries }
-    requires refuted { IsShownFalse g.now log.now id }
+fn lifted_false(p: &Prepared, log: &Log, id: u64, form: Form) -> Result<Output, Memory>
+    requires prepared { IsPrepared p.now }
+    requires productive { IsProductiveLog p.now.left.now log.now.entries }
+    requires refuted { IsShownFalse p.now.left.now log.now id }
     requires limit { log.now.limit ≤ max_count }
-    ensures { IfOk result (IsPreparedOutput f.now log.now form) }
+    ensures { IfOk result (IsPreparedOutput p.now.formula.now log.now form) }
 {
-    f.every_formula_is_lawful();
+    p.formula.every_formula_is_lawful();
     derivation_refutes_expansion();
     refutations_are_accepted();
     refutation_shows_false();
-    let refutation = lifted_refutation(alloc, f, g, trace, log, id)?;
-    let evidence = refutation_text(alloc, refutation, f, form)?;
-    let text = with_verdict(alloc, "s FALSE\n", form, evidence)?;
+    let refutation = lifted_refutation(p, log, id)?;
+    let evidence = refutation_text(p.alloc, refutation, p.formula, form)?;
+    let text = with_verdict(p.alloc, "s FALSE\n", form, evidence)?;
     Ok(Output {
         status: Status::False.code(),
         text,
@@ -221,54 +188,38 @@ fn lifted_false(
 }
 
 // A refutation of the formula: that of what is left, lifted.
-fn lifted_refutation(
-    alloc: Global,
-    f: &Formula,
-    g: &Formula,
-    trace: &Trace,
-    log: &Log,
-    id: u64,
-) -> Result<Dqr, Memory>
-    requires formula { IsWellFormed f.now }
-    requires units { AreUnits f.now trace.now }
-    requires left { g.now ≡ simplified_formula f.now trace.now }
-    requires left_formed { IsWellFormed g.now }
-    requires productive { IsProductiveLog g.now log.now.entries }
-    requires refuted { IsShownFalse g.now log.now id }
+fn lifted_refutation(p: &Prepared, log: &Log, id: u64) -> Result<Dqr, Memory>
+    requires prepared { IsPrepared p.now }
+    requires productive { IsProductiveLog p.now.left.now log.now.entries }
+    requires refuted { IsShownFalse p.now.left.now log.now id }
     requires limit { log.now.limit ≤ max_count }
-    ensures allowed { IfOk result (IsDqrOf f.now) }
-    ensures refutes { IfOk result (λ d. refutation_fault f.now d ≡ None) }
+    ensures allowed { IfOk result (IsDqrOf p.now.formula.now) }
+    ensures refutes { IfOk result (λ d. refutation_fault p.now.formula.now d ≡ None) }
     ensures lines { IfOk result (λ d. AreNumberedLines d.items) }
 {
     log.every_log_is_lawful();
     productive_answers_can_be_exported();
-    let numbers = clause_numbers(alloc, g)?;
-    let refutation = export_false(alloc, log, id, g, &numbers)?;
+    let numbers = clause_numbers(p.alloc, p.left)?;
+    let refutation = export_false(p.alloc, log, id, p.left, &numbers)?;
     if refutation.items.len() as u64 > MOST {
         return Err(Memory);
     }
-    lift_false(alloc, &refutation, trace, f)
+    lift_false(p.alloc, &refutation, p.trace, p.formula)
 }
 
 // What is written where the limit came first.
-fn undecided(
-    alloc: Global,
-    f: &Formula,
-    g: &Formula,
-    log: &Log,
-    form: Form,
-) -> Result<Output, Memory>
-    requires prep { IsPrep f.now g.now }
-    requires productive { IsProductiveLog g.now log.now.entries }
-    requires undecided { IsUndecided g.now log.now.entries }
-    requires limit { IsStoppedAtLimit g.now log.now }
-    ensures { IfOk result (IsPreparedOutput f.now log.now form) }
+fn undecided(p: &Prepared, log: &Log, form: Form) -> Result<Output, Memory>
+    requires prepared { IsPrepared p.now }
+    requires productive { IsProductiveLog p.now.left.now log.now.entries }
+    requires undecided { IsUndecided p.now.left.now log.now.entries }
+    requires limit { IsStoppedAtLimit p.now.left.now log.now }
+    ensures { IfOk result (IsPreparedOutput p.now.formula.now log.now form) }
 {
     rounds_are_steps();
     let rounds = log.rounds();
     let learned = log.steps() - rounds;
-    let evidence = counts_line(alloc, rounds, learned)?;
-    let text = with_verdict(alloc, "s UNKNOWN\n", form, evidence)?;
+    let evidence = counts_line(p.alloc, rounds, learned)?;
+    let text = with_verdict(p.alloc, "s UNKNOWN\n", form, evidence)?;
     Ok(Output {
         status: Status::Unknown.code(),
         text,

@@ -10,6 +10,7 @@ ghost use Rattle.dq_prep.specs.Simplified.{simplified_formula};
 ghost use Rattle.proof_checker.specs.CircuitProof.{circuit_proof_fault};
 ghost use Rattle.proof_checker.specs.ProvedCircuit.{IsProvedCircuit};
 ghost use Rattle.skolem_checker.specs.SkolemCircuit.{IsComplete};
+ghost use Rattle.lifted_proofs.specs.UnitTables.{IsUnitTable};
 ghost use Rattle.lifted_proofs.specs.LiftedCircuits.{IsLiftedProof, IsAllowedProof, IsAccepted};
 
 use crate::allowed::are_allowed;
@@ -54,7 +55,8 @@ pub fn lift_true(
 {
     allowed_lines_are_numbered();
     refuted_negation_solves();
-    let Some(lifted) = proposed(alloc, file, p, trace, f, g)? else {
+    let table = UnitTable::new(alloc, f, trace)?;
+    let Some(lifted) = proposed(&table, file, p, g)? else {
         return Ok(None);
     };
     let accepted = is_accepted(alloc, f, file, &lifted)?;
@@ -66,24 +68,20 @@ pub fn lift_true(
 
 // A proof that a text can hold.
 fn proposed(
-    alloc: Global,
+    table: &UnitTable,
     file: &AagFile,
     p: &Dqp,
-    trace: &Trace,
-    f: &Formula,
     g: &Formula,
 ) -> Result<Option<Dqp>, Memory>
-    requires well { IsWellFormed f.now }
-    requires units { AreUnits f.now trace.now }
-    ensures { IfOk result (λ lifted. IfSome lifted (IsAllowedProof f.now file.now.circuit)) }
+    requires { IsUnitTable table.now }
+    ensures { IfOk result (λ lifted. IfSome lifted
+        (IsAllowedProof table.now.formula.now file.now.circuit)) }
 {
-    f.every_formula_is_lawful();
-    let Some(base) = base_of(f, &file.circuit) else {
+    let Some(base) = base_of(table.formula, &file.circuit) else {
         return Ok(None);
     };
-    let table = UnitTable::new(alloc, f, trace)?;
-    let sources = sources(&table)?;
-    let Some(steps) = carried(&table, g, &sources, base, p)? else {
+    let sources = sources(table)?;
+    let Some(steps) = carried(table, g, &sources, base, p)? else {
         return Ok(None);
     };
     if steps.len() > MOST_LINES || !are_allowed(&steps, base.first, base.variables) {

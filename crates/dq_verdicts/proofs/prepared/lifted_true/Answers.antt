@@ -8,25 +8,25 @@ use Rattle.dq_verdicts.proofs.prepared.lifted_true.Goals as goal
 
 pub certificate-requires-clause-is_true : goal.certificate-requires-clause-is_true
 certificate-requires-clause-is_true c =
-    true-kept c.simplification_keeps_choices.ensures c.args.f.now c.args.g.now c.args.trace.now c.requires.formula
-    c.every_formula_is_lawful.ensures c.requires.units c.requires.left c.requires.is_true
+    true-kept c.simplification_keeps_choices.ensures c.args.p.now.formula.now c.args.p.now.left.now c.args.p.now.trace.now c.requires.prepared.formula
+    c.every_formula_is_lawful.ensures c.requires.prepared.units c.requires.prepared.left_is c.requires.is_true
 
 pub returns : goal.returns
 returns c =
-    let f = c.args.f.now in
+    let f = c.args.p.now.formula.now in
     let file = c.in_ok-file.file in
     let proof = c.in_ok-file.proof in
     let is : IsTrueFormula f =
-    true-kept c.simplification_keeps_choices.ensures f c.args.g.now c.args.trace.now c.requires.formula
-    c.every_formula_is_lawful.ensures c.requires.units c.requires.left c.requires.is_true in
+    true-kept c.simplification_keeps_choices.ensures f c.args.p.now.left.now c.args.p.now.trace.now c.requires.prepared.formula
+    c.every_formula_is_lawful.ensures c.requires.prepared.units c.requires.prepared.left_is c.requires.is_true in
     record {
-      searched = c.args.g.now;
-      prepared = c.requires.prep;
+      searched = c.args.p.now.left.now;
+      prepared = c.requires.prepared.prep;
       verdict = is_true file proof;
       is = record {
         productive = c.requires.productive;
-        shown = shown-true c.proved_circuits_are_accepted.ensures f c.args.g.now c.args.log.now c.args.id c.args.form
-            file proof c.requires.other is c.requires.decided c.in_ok-file.ensures;
+        shown = shown-true c.proved_circuits_are_accepted.ensures f c.args.p.now.left.now c.args.log.now c.args.id c.args.form
+            file proof c.requires.prepared.other is c.requires.decided c.in_ok-file.ensures;
       };
       is_printed = printed_as (is_true file proof) c.code.result c.in_ok-text.text.items
           (verdict_text c.args.form f (is_true file proof)) c.code.ensures

@@ -5,8 +5,8 @@ use Rattle.dq_verdicts.proofs.prepared.undecided.Goals as goal
 
 pub returns : goal.returns
 returns c =
-    left-undecided c.args.f.now c.args.g.now c.args.log.now c.args.form c.rounds-rounds.result c.steps.result _
-    c.requires.prep c.requires.productive c.requires.undecided c.requires.limit
+    left-undecided c.args.p.now.formula.now c.args.p.now.left.now c.args.log.now c.args.form c.rounds-rounds.result c.steps.result _
+    c.requires.prepared.prep c.requires.productive c.requires.undecided c.requires.limit
     (c.rounds_are_steps.ensures c.args.log.now.entries) c.rounds-rounds.ensures c.steps.ensures.value c.code.ensures
     (c.in_ok-text.ensures ∙ ap (λ evidence. cond c.args.form.bare [] (line (codes "s UNKNOWN")) ++ evidence)
     c.in_ok-evidence.ensures)

@@ -10,6 +10,8 @@ returns c =
     lifted-proof f c.args.g.now c.args.trace.now file c.args.p.now c.in-Some.lifted
     c.allowed_lines_are_numbered.ensures c.refuted_negation_solves.ensures c.requires.well c.requires.left
     c.requires.proved
-    (subst (λ o. IfSome o (IsAllowedProof f file.circuit)) c.in-Some.is c.in_ok-lifted.ensures)
+    (subst (λ o. IfSome o (IsAllowedProof f file.circuit)) c.in-Some.is
+    (subst (λ h. IfSome c.in_ok-lifted.field-0 (IsAllowedProof h file.circuit)) c.in_ok-table.ensures.formula
+    c.in_ok-lifted.ensures))
     (when-passed c.in_ok-accepted.accepted (IsAccepted f file c.in-Some.lifted) c.in_ok-accepted.ensures
     c.if-not-accepted.false)

@@ -12,6 +12,6 @@ of_lines-requires c =
 
 pub returns : goal.returns
 returns c =
-    allowed-proof c.args.f.now c.args.file.now.circuit c.in-Some.base c.in-Some-2.steps
-    (record { items = c.of_lines.result }) c.every_formula_is_lawful.ensures c.in-Some.ensures
+    allowed-proof c.args.table.now.formula.now c.args.file.now.circuit c.in-Some.base c.in-Some-2.steps
+    (record { items = c.of_lines.result }) c.requires.lawful c.in-Some.ensures
     (omega (arith, c.if-len-gt-MOST_LINES.false, c.len.ensures.value)) c.if-not-are_allowed.ensures c.of_lines.ensures
