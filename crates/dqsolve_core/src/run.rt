@@ -188,15 +188,7 @@ fn report_file<F: Files>(
 }
 
 // Searches with these options.
-#[tactic(
-    auto,
-    using(
-        crate::proofs::Runs::alone_output,
-        crate::proofs::Runs::left_output,
-        crate::proofs::Runs::alone_log,
-        crate::proofs::Runs::left_log
-    )
-)]
+#[tactic(auto, using(crate::proofs::Runs::alone_output, crate::proofs::Runs::left_output, crate::proofs::Runs::alone_log, crate::proofs::Runs::left_log))]
 fn solve_with(
     alloc: Global,
     f: &Formula,

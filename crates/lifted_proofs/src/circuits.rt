@@ -67,12 +67,7 @@ pub fn lift_true(
 }
 
 // A proof that a text can hold.
-fn proposed(
-    table: &UnitTable,
-    file: &AagFile,
-    p: &Dqp,
-    g: &Formula,
-) -> Result<Option<Dqp>, Memory>
+fn proposed(table: &UnitTable, file: &AagFile, p: &Dqp, g: &Formula) -> Result<Option<Dqp>, Memory>
     requires { IsUnitTable table.now }
     ensures { IfOk result (λ lifted. IfSome lifted
         (IsAllowedProof table.now.formula.now file.now.circuit)) }
