@@ -70,7 +70,8 @@ class Bench:
     def solve(self, path, row):
         """Fills in what the solver and the checker say, and answers the faults."""
         steps = ["--steps", str(self.words.steps)] if self.words.steps else []
-        status, row["seconds"] = self.run([self.words.solver, "solve", *steps, path], self.words.limit)
+        prep = ["--prep"] if self.words.prep else []
+        status, row["seconds"] = self.run([self.words.solver, "solve", *steps, *prep, path], self.words.limit)
         certificate = self.path("certificate")
         os.replace(self.path("output"), certificate)
         row["verdict"] = {**VERDICTS, 0: "UNKNOWN", 5: "memory", 6: "too long", None: "timeout"}.get(status, f"status {status}")
@@ -169,6 +170,7 @@ def words_of(arguments):
     reader.add_argument("--limit", type=float, default=30, metavar="SECONDS", help="of a run (30)")
     reader.add_argument("--memory", type=float, default=8, metavar="GIGABYTES", help="of a run (8)")
     reader.add_argument("--steps", type=int, metavar="N", help="the solver's limit of steps (its own)")
+    reader.add_argument("--prep", action="store_true", help="units are taken before the search")
     reader.add_argument("--seed", type=int, default=1, help="of the formulas (1)")
     reader.add_argument("--form", choices=FORMS, default="forward", help="of the declarations: gates behind their inputs, or any way")
     reader.add_argument("--sizes", type=sizes_of, metavar="N,..", help="these sizes only, as far as a family has them")

@@ -4,3 +4,4 @@ pub mod WrittenForms
 mod Beginnings
 pub mod Counts
 pub mod ShownVerdicts
+mod LiftedVerdicts

@@ -4,3 +4,4 @@ pub mod Outputs
 pub mod Shown
 pub mod Statuses
 pub mod Verdicts
+pub mod Prepared

@@ -254,8 +254,8 @@ fn false_output(
     })
 }
 
-// A refutation as it is written.
-fn refutation_text(
+/// A refutation as it is written.
+pub(crate) fn refutation_text(
     alloc: Global,
     refutation: Dqr,
     f: &Formula,
@@ -289,15 +289,16 @@ fn unknown_output(alloc: Global, log: &Log, f: &Formula, form: Form) -> Result<O
     })
 }
 
-fn counts_line(alloc: Global, rounds: u64, learned: u64) -> Result<Vec<u8>, Memory>
+/// The numbers of rounds and of learned clauses.
+pub(crate) fn counts_line(alloc: Global, rounds: u64, learned: u64) -> Result<Vec<u8>, Memory>
     ensures { IfOk result (λ bytes. bytes.items ≡ line (counts_text rounds learned)) }
 {
     let text = format!(in alloc; "c rounds {rounds} learned {learned}\n")?;
     Ok(text.into_bytes())
 }
 
-// The evidence behind the line with the verdict, or alone.
-fn with_verdict(
+/// The evidence behind the line with the verdict, or alone.
+pub(crate) fn with_verdict(
     alloc: Global,
     verdict: &str,
     form: Form,

@@ -1,5 +1,5 @@
-//! `dqsolve solve [--steps N] [--bare] [--v2] [--binary] FILE`: decides a formula, writes the verdict
-//! with a certificate, and ends with its status.
+//! `dqsolve solve [--steps N] [--bare] [--v2] [--prep] [--binary] FILE`: decides a formula, writes the
+//! verdict with a certificate, and ends with its status.
 #![tactic(auto)]
 
 use std::process::ExitCode;

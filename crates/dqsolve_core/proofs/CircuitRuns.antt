@@ -129,7 +129,7 @@ pub comparison_steps : (before now : FilesState) (log : ProofLog) (c : Compariso
     → IsDueForCircuits before now log c report → (printed_comparison report).status ≡ 0
     → steps_of log.entries ≡ log.limit
 comparison_steps before now log c (no_design said) due zero = absurd (some_status said zero)
-comparison_steps before now log c (compared f verdict) due zero = verdict_steps f log plain verdict due.2 zero
+comparison_steps before now log c (compared f verdict) due zero = verdict_steps f f log plain verdict due.2 zero
 
 -- ---- what was read where the files give none
 

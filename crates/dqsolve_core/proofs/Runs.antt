@@ -1,5 +1,5 @@
 -- From what a run's parts answer to what is due, and why.
-use Rattle.std.proofs.Common.{◌≡◌, ◌≢◌, ◌⊎◌, inl, inr, ℕ, List, [], Option, None, Some, Result, Ok, Err, refl, sym, ap, ◌∙◌, subst, arith}
+use Rattle.std.proofs.Common.{◌≡◌, ◌≢◌, ◌⊎◌, inl, inr, ℕ, Bool, true, false, List, [], Option, None, Some, Result, Ok, Err, refl, sym, ap, ◌∙◌, subst, arith}
 use Rattle.std.specs.Prelude.{IfOk, option_map}
 use Rattle.dq_io.specs.State.{FilesState}
 use Rattle.dq_lits.specs.Formula.{Dqbf}
@@ -18,19 +18,22 @@ use Rattle.dq_runs.specs.declared.formulas.NoFormula.{NoFormula}
 use Rattle.dq_runs.specs.declared.formulas.NoFormula.TheVariants.{Unreadable, TooLong, Refused}
 use Rattle.dq_runs.specs.declared.outputs.Output.{Output}
 use Rattle.dq_verdicts.specs.Outputs.{IsVerdictOutput}
+use Rattle.dq_verdicts.specs.Prepared.{IsPreparedOutput, IsPreparedLog}
 use Rattle.dq_verdicts.specs.Verdicts.{printed_verdict}
+use Rattle.dq_verdicts.specs.declared.forms.Form.{Form}
 use Rattle.dq_verdicts.specs.declared.demonstrations.Demonstration.{Demonstration}
 use Rattle.dq_verdicts.specs.declared.demonstrations.Demonstration.TheVariants.{Valid, Large, CutOff}
-use Rattle.dqsolve_words.specs.Command.{Search, Planting, Command, solve, demo, pec, encode, default_steps}
+use Rattle.dqsolve_words.specs.Command.{Options, Search, Planting, Command, solve, demo, pec, encode, default_steps}
 use Rattle.dqsolve_words.specs.Words.{search_of, planting_of, comparison_of, command_said}
 use Rattle.dqsolve_words.specs.declared.requests.SolveWords.{SolveWords}
 use Rattle.dqsolve_words.specs.declared.requests.DemoWords.{DemoWords}
 use Rattle.dqsolve_words.specs.declared.requests.PecWords.{PecWords}
 use Rattle.dqsolve_words.specs.declared.requests.CommandWords.{CommandWords}
 use Rattle.dqsolve_words.specs.declared.requests.CommandWords.TheVariants.{Solve, Demo, Pec}
-use Rattle.dqsolve_core.specs.Outputs.{IsReported, IsDemoOutput}
+use Rattle.dqsolve_core.specs.Outputs.{IsReported, IsSolveOutput, IsSolveLog, IsDemoOutput}
 use Rattle.dqsolve_core.specs.Report.{form_of, SearchReport, no_formula, solved, printed_search, printed_demo, demonstration_status}
 use Rattle.dqsolve_core.specs.Running.{IsDueFor, IsDue, IsRunLog, IsOwnLog, IsDemonstration, SeeksVerdict, steps_asked}
+use Rattle.dqsolve_core.specs.Searched.{IsSearched}
 use Rattle.dqsolve_core.proofs.CircuitRuns.{comparison_reasons, encode_reasons, comparison_steps}
 use Rattle.dqsolve_core.proofs.Statuses.{status_of, not_long, Reasons, verdict_reasons, verdict_steps}
 
@@ -57,7 +60,7 @@ pec_asked asked answer w s said is kind = sym said ∙ ap (option_map command_sa
 pub verdict_reported : (before now : FilesState) (log : ProofLog) (c : Search) (f : Dqbf) (r : Result Output Memory) →
     IsFormulaOf (before.held c.file) f
     → PickedOnce before now → now.faults ≡ before.faults → log.limit ≡ c.steps → IfOk r
-    (IsVerdictOutput f log (form_of c.options)) →
+    (IsSolveOutput f log c.options) →
     IfOk r (IsReported before now (Some (solve c)) log)
 verdict_reported before now log c f (Ok output) one picked unfaulted limit v = record {
   due = (solved f v.verdict, (one, limit, v.is, picked), v.is_printed);
@@ -121,8 +124,74 @@ demo_log files log p limit (inr productive) =
       limit = limit;
       f = planted_formula p.seed p.size;
       formula = refl;
+      searched = planted_formula p.seed p.size;
+      is_searched = refl;
       productive = productive;
     })
+
+-- the log of a search with these options
+pub search_log : (files : FilesState) (log : ProofLog) (c : Search) (f : Dqbf) → IsFormulaOf (files.held c.file) f
+    → log.limit ≡ c.steps → IsSolveLog f c.options.prepares log → IsRunLog files (Some (solve c)) log
+search_log files log c f one limit (inl none) = inl none
+search_log files log c f one limit (inr (searched, is, productive)) =
+    inr (record {
+      command = solve c;
+      is = refl;
+      limit = limit;
+      f = f;
+      formula = one;
+      searched = searched;
+      is_searched = is;
+      productive = productive;
+    })
+
+-- a search without preparation, and one with it
+searched_alone : (f : Dqbf) (log : ProofLog) (o : Options) (r : Result Output Memory) → o.prepares ≡ false
+    → IfOk r (IsVerdictOutput f log (form_of o)) → IfOk r (IsSolveOutput f log o)
+searched_alone f log o (Ok output) alone v = record {
+  verdict = v.verdict;
+  is = record {
+    searched = f;
+    is_searched = subst (λ b. IsSearched b f f) (sym alone) refl;
+    is = v.is;
+  };
+  is_printed = v.is_printed;
+}
+searched_alone f log o (Err _) alone v = tt
+
+searched_left : (f : Dqbf) (log : ProofLog) (o : Options) (r : Result Output Memory) → o.prepares ≡ true
+    → IfOk r (IsPreparedOutput f log (form_of o)) → IfOk r (IsSolveOutput f log o)
+searched_left f log o (Ok output) prepares v = record {
+  verdict = v.verdict;
+  is = record {
+    searched = v.searched;
+    is_searched = subst (λ b. IsSearched b f v.searched) (sym prepares) v.prepared;
+    is = v.is;
+  };
+  is_printed = v.is_printed;
+}
+searched_left f log o (Err _) prepares v = tt
+
+pub alone_output : (f : Dqbf) (log : ProofLog) (o : Options) (form : Form) (r : Result Output Memory)
+    → o.prepares ≡ false → form ≡ form_of o → IfOk r (IsVerdictOutput f log form) → IfOk r (IsSolveOutput f log o)
+alone_output f log o form r alone is v =
+    searched_alone f log o r alone (subst (λ x. IfOk r (IsVerdictOutput f log x)) is v)
+
+pub left_output : (f : Dqbf) (log : ProofLog) (o : Options) (form : Form) (r : Result Output Memory)
+    → o.prepares ≡ true → form ≡ form_of o → IfOk r (IsPreparedOutput f log form) → IfOk r (IsSolveOutput f log o)
+left_output f log o form r prepares is v =
+    searched_left f log o r prepares (subst (λ x. IfOk r (IsPreparedOutput f log x)) is v)
+
+pub alone_log : (f : Dqbf) (log : ProofLog) (prepares : Bool) → prepares ≡ false → IsProductiveLog f log.entries
+    → IsSolveLog f prepares log
+alone_log f log prepares alone productive =
+    inr (f, subst (λ b. IsSearched b f f) (sym alone) refl, productive)
+
+pub left_log : (f : Dqbf) (log : ProofLog) (prepares : Bool) → prepares ≡ true → IsPreparedLog f log
+    → IsSolveLog f prepares log
+left_log f log prepares is (inl none) = inl none
+left_log f log prepares is (inr (searched, prep, productive)) =
+    inr (searched, subst (λ b. IsSearched b f searched) (sym is) prep, productive)
 
 -- ---- the run
 
@@ -243,7 +312,8 @@ search_steps : (before now : FilesState) (log : ProofLog) (c : Search) (report :
 search_steps before now log c (no_formula Unreadable) due zero = absurd (omega (arith, zero))
 search_steps before now log c (no_formula TooLong) due zero = absurd (omega (arith, zero))
 search_steps before now log c (no_formula (Refused l name)) due zero = absurd (omega (arith, zero))
-search_steps before now log c (solved f verdict) due zero = verdict_steps f log (form_of c.options) verdict due.2 zero
+search_steps before now log c (solved f verdict) due zero = verdict_steps f due.2.searched log (form_of c.options)
+    verdict due.2.is zero
 
 all_steps : (before now : FilesState) (c : Command) (log : ProofLog) (p : Printed) → SeeksVerdict c →
     IsDue before now log (Some c) p → p.status ≡ 0 → steps_of log.entries ≡ log.limit

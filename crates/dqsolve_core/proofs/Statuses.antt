@@ -47,8 +47,8 @@ verdict_reasons before now c (is_unknown _ _) = record {
 }
 
 -- no verdict, so all steps were done
-pub verdict_steps : (f : Dqbf) (log : ProofLog) (form : Form) (verdict : Verdict) → IsVerdict f f log form verdict →
+pub verdict_steps : (f g : Dqbf) (log : ProofLog) (form : Form) (verdict : Verdict) → IsVerdict f g log form verdict →
     verdict_status verdict ≡ 0 → steps_of log.entries ≡ log.limit
-verdict_steps f log form (is_true _ _) v zero = absurd (omega (arith, zero))
-verdict_steps f log form (is_false _) v zero = absurd (omega (arith, zero))
-verdict_steps f log form (is_unknown _ _) v zero = v.shown.limit
+verdict_steps f g log form (is_true _ _) v zero = absurd (omega (arith, zero))
+verdict_steps f g log form (is_false _) v zero = absurd (omega (arith, zero))
+verdict_steps f g log form (is_unknown _ _) v zero = v.shown.limit

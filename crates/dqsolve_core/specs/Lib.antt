@@ -2,5 +2,6 @@ pub mod OneAnswer
 pub mod Outputs
 pub mod Report
 pub mod Running
+pub mod Searched
 pub mod Told
 pub mod ToldCircuits

@@ -17,7 +17,7 @@ use Rattle.pec_runs.specs.declared.designs.NoDesign.{NoDesign}
 abbrev pub usage : Printed
 usage =
     usage_line
-    (codes "dqsolve solve [--steps N] [--bare] [--v2] [--binary] FILE / dqsolve demo SEED SIZE"
+    (codes "dqsolve solve [--steps N] [--bare] [--v2] [--prep] [--binary] FILE / dqsolve demo SEED SIZE"
     ++ codes " / dqsolve pec [--steps N] SPEC IMPL / dqsolve encode SPEC IMPL")
 
 -- what is said of the files of two circuits that are to be compared

@@ -14,7 +14,8 @@ use Rattle.dq_verdicts.specs.declared.demonstrations.Demonstration.{Demonstratio
 use Rattle.pec_runs.specs.DesignFiles.{IsNoDesign, IsDesignFormula}
 use Rattle.pec_runs.specs.Encoded.{IsEncodeDue}
 use Rattle.dqsolve_words.specs.Command.{Search, Planting, Comparison, Command, solve, demo, pec, encode, default_steps}
-use Rattle.dqsolve_core.specs.Report.{SearchReport, no_formula, solved, ComparisonReport, no_design, compared, usage, form_of, printed_search, printed_comparison, printed_demo}
+use Rattle.dqsolve_core.specs.Report.{SearchReport, no_formula, solved, ComparisonReport, no_design, compared, usage, printed_search, printed_comparison, printed_demo}
+use Rattle.dqsolve_core.specs.Searched.{IsSearchedFor, IsVerdictBy}
 
 -- Which report is due for a search, by what the files told before the run and tell behind it, and
 -- by the search's log: the formula's file comes first, then its text, then the search. No other
@@ -24,7 +25,7 @@ IsDueFor before now log c (no_formula said) =
     IsNoFormula before now c.file said × PickedOnce before now
 IsDueFor before now log c (solved f verdict) =
     IsFormulaOf (before.held c.file) f × (log.limit ≡ c.steps)
-    × IsVerdict f f log (form_of c.options) verdict × PickedOnce before now
+    × IsVerdictBy f log c.options verdict × PickedOnce before now
 
 -- the search's log of productive work on the planted formula, of so many clauses, shows that much
 pub record IsDemonstration (p : Planting) (log : ProofLog) (clauses : ℕ)
@@ -79,14 +80,17 @@ steps_asked (demo p) = default_steps
 steps_asked (pec c) = c.steps
 steps_asked (encode c) = 0
 
--- the log's work was for the formula that was asked for, and all of it productive
+-- the log's work was for the formula that was asked for, or for what is left of it where preparation
+-- was, and all of it productive
 pub record IsWorkOn (files : FilesState) (asked : Option Command) (log : ProofLog) : Type 0 where
   pub command : Command
   pub is : asked ≡ Some command
   pub limit : log.limit ≡ steps_asked command
   pub f : Dqbf
   pub formula : IsAskedFormula files command f
-  pub productive : IsProductiveLog f log.entries
+  pub searched : Dqbf
+  pub is_searched : IsSearchedFor command f searched
+  pub productive : IsProductiveLog searched log.entries
 
 -- it is empty or of productive work, however the run ends
 abbrev pub IsRunLog : FilesState → Option Command → ProofLog → Type 0

@@ -10,12 +10,12 @@ use Rattle.dqdimacs_reader.specs.Grammar.{SpellsFormula}
 use Rattle.dq_runs.specs.FormulaFiles.{max_formula}
 use Rattle.dq_runs.specs.Printed.{line}
 use Rattle.dq_runs.specs.Sinks.{SinkState}
-use Rattle.dq_verdicts.specs.Shown.{IsVerdict}
 use Rattle.dq_verdicts.specs.Verdicts.{Verdict, verdict_text, verdict_status, is_verdict_status}
 use Rattle.dq_verdicts.specs.declared.demonstrations.Demonstration.{Demonstration}
 use Rattle.dqsolve_words.specs.Command.{Search, Planting, Command, solve, demo, default_steps}
 use Rattle.dqsolve_core.specs.Report.{form_of, demo_text, demonstration_status}
 use Rattle.dqsolve_core.specs.Running.{IsDemonstration}
+use Rattle.dqsolve_core.specs.Searched.{IsVerdictBy}
 use Rattle.dqsolve_core.specs.ToldCircuits.{ComparesTold}
 
 -- the command names a file with this text
@@ -30,7 +30,7 @@ pub record IsSolved (f : Dqbf) (log : ProofLog) (c : Search) (before now : Optio
     (status : ℕ) : Type 0 where
   pub verdict : Verdict
   pub limit : log.limit ≡ c.steps
-  pub is : IsVerdict f f log (form_of c.options) verdict
+  pub is : IsVerdictBy f log c.options verdict
   pub ends_with : status ≡ verdict_status verdict
   pub written : now ≡ append_known before (verdict_text (form_of c.options) f verdict)
 

@@ -2,6 +2,7 @@
 
 ghost use Rattle.std.specs.Prelude.{◌≡◌, ◌≤◌, ◌⊎◌, [], map, string_bytes, Some, IfOk};
 ghost use Rattle.dq_io.specs.State.{state_of};
+ghost use Rattle.dq_lits.specs.Formula.{IsWellFormed};
 ghost use Rattle.cert_text.specs.Header.{max_count};
 ghost use Rattle.hint_log.specs.ProductiveLog.{IsProductiveLog};
 ghost use Rattle.planted_formulas.specs.Planted.{planted_formula};
@@ -9,16 +10,17 @@ ghost use Rattle.dq_runs.specs.Ending.{Ends, HasCauses};
 ghost use Rattle.dq_runs.specs.Sinks.{sink_of};
 ghost use Rattle.dqsolve_words.specs.Command.{Command, solve, pec, command_of, most_seed, least_size, most_size, default_steps};
 ghost use Rattle.dqsolve_words.specs.Words.{options_of, search_of, planting_of, comparison_of};
-ghost use Rattle.dqsolve_core.specs.Outputs.{IsReported, IsDemoOutput};
+ghost use Rattle.dqsolve_core.specs.Outputs.{IsReported, IsSolveOutput, IsSolveLog, IsDemoOutput};
 ghost use Rattle.dqsolve_core.specs.Report.{form_of};
 ghost use Rattle.dqsolve_core.specs.Running.{IsDue, IsRunLog, IsOwnLog, steps_asked};
 ghost use Rattle.dqsolve_core.specs.Told.{ShowsTold};
 
 use crate::demos::demo_output;
+use dq_formula::Formula;
 use dq_io::{Files, Sink};
 use dq_lits::Memory;
 use dq_runs::{FormulaStop, Output, deliver, outputs, read_formula};
-use dq_verdicts::{Form, solve};
+use dq_verdicts::{Form, solve, solve_prepared};
 use dqdimacs_reader::laws::formula_or_first_fault;
 use dqsolve_words::laws::numbers_are_in_range;
 use dqsolve_words::{CommandWords, DemoWords, PecWords, SolveOptions, SolveWords, command_words};
@@ -33,7 +35,7 @@ const DEFAULT_STEPS: u64 = 1_000_000;
 
 /// The commands, as the usage line has them.
 const COMMANDS: &str = concat!(
-    "dqsolve solve [--steps N] [--bare] [--v2] [--binary] FILE / dqsolve demo SEED SIZE",
+    "dqsolve solve [--steps N] [--bare] [--v2] [--prep] [--binary] FILE / dqsolve demo SEED SIZE",
     " / dqsolve pec [--steps N] SPEC IMPL / dqsolve encode SPEC IMPL",
 );
 
@@ -180,10 +182,32 @@ fn report_file<F: Files>(
 {
     log.rewind(asked.steps);
     match read_formula(alloc, files, asked.file) {
-        Ok(formula) => solve(alloc, &formula, form_of(asked.options), log),
+        Ok(formula) => solve_with(alloc, &formula, asked.options, log),
         Err(FormulaStop::Memory) => Err(Memory),
         Err(FormulaStop::Said(said)) => said.output(alloc),
     }
+}
+
+// Searches with these options.
+#[tactic(auto, using(crate::proofs::Runs::alone_output, crate::proofs::Runs::left_output, crate::proofs::Runs::alone_log, crate::proofs::Runs::left_log))]
+fn solve_with(
+    alloc: Global,
+    f: &Formula,
+    options: SolveOptions,
+    log: &mut Log,
+) -> Result<Output, Memory>
+    requires formula { IsWellFormed f.now }
+    requires empty { log.old.entries ≡ [] }
+    requires limit { log.old.limit ≤ max_count }
+    ensures verdict { IfOk result (IsSolveOutput f.now log.new (options_of options)) }
+    ensures work { IsSolveLog f.now options.prepares log.new }
+    ensures limit { log.new.limit ≡ log.old.limit }
+{
+    let form = form_of(options);
+    if options.prepares {
+        return solve_prepared(alloc, f, form, log);
+    }
+    solve(alloc, f, form, log)
 }
 
 // How a verdict is written with these options.

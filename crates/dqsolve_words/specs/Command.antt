@@ -11,12 +11,14 @@ use Rattle.clap.specs.ValueTests.{is_unsigned_in}
 use Rattle.clap.specs.Walk.{Row, Rule, first_of}
 use Rattle.clap.specs.declared.builder.action.ArgAction.TheVariants.{Set, SetTrue}
 
--- how a verdict is written
+-- how a verdict is found and written
 pub record Options : Type 0 where
   -- without the line that names it
   pub bare : Bool
   -- with a deletion behind the last line that hints a derived clause
   pub deletes : Bool
+  -- by a search on what is left of the formula where units were taken
+  pub prepares : Bool
   -- a circuit in AIGER's binary form
   pub binary : Bool
 
@@ -74,9 +76,9 @@ writing_options = value_option (codes "steps") ∷ flag (codes "bare") ∷ flag 
 
 -- the options of solve
 abbrev pub solve_options : List Rule
-solve_options = writing_options ++ flag (codes "binary") ∷ []
+solve_options = writing_options ++ flag (codes "prep") ∷ flag (codes "binary") ∷ []
 
--- solve [--steps N] [--bare] [--v2] [--binary] FILE
+-- solve [--steps N] [--bare] [--v2] [--prep] [--binary] FILE
 abbrev pub solve_shape : Shape
 solve_shape = record (without_flags (new_shape (codes "solve"))) {
   rules = solve_options ++ required_word (codes "FILE") ∷ [];
@@ -161,6 +163,7 @@ options_in rows =
     record {
       bare = has_flag (codes "bare") rows;
       deletes = has_flag (codes "v2") rows;
+      prepares = has_flag (codes "prep") rows;
       binary = has_flag (codes "binary") rows;
     }
 

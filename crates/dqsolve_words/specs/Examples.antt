@@ -6,9 +6,9 @@ abbrev pub solving_with : ℕ → Options → List ℕ → Command
 solving_with steps options file =
     solve (record { steps = steps; options = options; file = file })
 
--- not bare, without deletions, and in ASCII
+-- not bare, without deletions and preparation, and in ASCII
 abbrev pub default_options : Options
-default_options = record { bare = false; deletes = false; binary = false }
+default_options = record { bare = false; deletes = false; prepares = false; binary = false }
 
 abbrev pub solving : ℕ → Bool → List ℕ → Command
 solving steps bare file = solving_with steps (record default_options { bare = bare }) file

@@ -9,7 +9,12 @@ use Rattle.dqsolve_words.specs.declared.requests.CommandWords.{CommandWords}
 use Rattle.dqsolve_words.specs.declared.requests.CommandWords.TheVariants.{Solve, Demo, Pec, Encode}
 
 abbrev pub options_of : SolveOptions → Options
-options_of o = record { bare = o.bare; deletes = o.deletes; binary = o.binary }
+options_of o = record {
+  bare = o.bare;
+  deletes = o.deletes;
+  prepares = o.prepares;
+  binary = o.binary;
+}
 
 abbrev pub search_of : SolveWords → Search
 search_of w = record { steps = w.steps; options = options_of w.options; file = w.file.now }

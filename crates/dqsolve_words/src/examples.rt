@@ -22,6 +22,8 @@ pub fn options_are_taken()
     ensures both { dqsolve (codes "solve" ∷ codes "f" ∷ codes "--v2" ∷ codes "--bare" ∷ [])
         ≡ Some (solving_with default_steps
         (record default_options { bare = true; deletes = true }) (codes "f")) }
+    ensures preparation { dqsolve (codes "solve" ∷ codes "--prep" ∷ codes "f" ∷ [])
+        ≡ Some (solving_with default_steps (record default_options { prepares = true }) (codes "f")) }
     ensures binary { dqsolve (codes "solve" ∷ codes "--binary" ∷ codes "f" ∷ [])
         ≡ Some (solving_with default_steps (record default_options { binary = true }) (codes "f")) }
 {}
@@ -66,6 +68,7 @@ pub fn circuits_are_taken()
     ensures more { dqsolve (codes "pec" ∷ codes "s" ∷ codes "i" ∷ codes "j" ∷ []) ≡ None }
     ensures bare { dqsolve (codes "pec" ∷ codes "--bare" ∷ codes "s" ∷ codes "i" ∷ []) ≡ None }
     ensures deletions { dqsolve (codes "pec" ∷ codes "--v2" ∷ codes "s" ∷ codes "i" ∷ []) ≡ None }
+    ensures preparation { dqsolve (codes "pec" ∷ codes "--prep" ∷ codes "s" ∷ codes "i" ∷ []) ≡ None }
     ensures binary { dqsolve (codes "pec" ∷ codes "--binary" ∷ codes "s" ∷ codes "i" ∷ []) ≡ None }
     ensures encode_steps { dqsolve
         (codes "encode" ∷ codes "--steps" ∷ codes "7" ∷ codes "s" ∷ codes "i" ∷ []) ≡ None }

@@ -31,12 +31,14 @@ const LEAST_SIZE: u64 = 1;
 /// The greatest size.
 const MOST_SIZE: u64 = 10_000;
 
-/// How a verdict is written: without the line that names it, with a deletion behind the last line of
-/// the proof that hints a derived clause, and with a circuit in AIGER's binary form.
+/// How a verdict is found and written: without the line that names it, with a deletion behind the
+/// last line of the proof that hints a derived clause, by a search on what unit propagation with
+/// universal reduction leaves of the formula, and with a circuit in AIGER's binary form.
 #[derive(Clone, Copy)]
 pub struct SolveOptions {
     pub bare: bool,
     pub deletes: bool,
+    pub prepares: bool,
     pub binary: bool,
 }
 
@@ -120,17 +122,18 @@ fn writing_options<'a>(alloc: Global) -> Result<Command<'a>, AllocError>
         .arg(deletes)
 }
 
-// `solve [--steps N] [--bare] [--v2] [--binary]`.
+// `solve [--steps N] [--bare] [--v2] [--prep] [--binary]`.
 fn solve_options<'a>(alloc: Global) -> Result<Command<'a>, AllocError>
     ensures shape { IfOk result
         (λ command. shape_of command ≡ record solve_shape { rules = solve_options }) }
     ensures local { IfOk result (λ command. (out-Command command).has_globals ≡ false) }
 {
+    let prepares = flag_argument(alloc, "prep");
     let binary = flag_argument(alloc, "binary");
-    writing_options(alloc)?.arg(binary)
+    writing_options(alloc)?.arg(prepares)?.arg(binary)
 }
 
-// `solve [--steps N] [--bare] [--v2] [--binary] FILE`.
+// `solve [--steps N] [--bare] [--v2] [--prep] [--binary] FILE`.
 fn solve_command<'a>(alloc: Global) -> Result<Command<'a>, AllocError>
     ensures shape { IfOk result (λ command. shape_of command ≡ solve_shape) }
     ensures local { IfOk result (λ command. (out-Command command).has_globals ≡ false) }
@@ -247,6 +250,7 @@ fn options_in<'a>(matches: &ArgMatches<'a>) -> SolveOptions
     SolveOptions {
         bare: has_flag(matches, "bare"),
         deletes: has_flag(matches, "v2"),
+        prepares: has_flag(matches, "prep"),
         binary: has_flag(matches, "binary"),
     }
 }

@@ -12,3 +12,5 @@ mod HintedInstances
 mod GatheredHints
 mod LiftedLines
 mod LiftedRefutations
+mod AllowedProofs
+mod LiftedCircuits

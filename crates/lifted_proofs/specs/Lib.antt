@@ -10,3 +10,4 @@ pub mod Hinted
 pub mod Planned
 pub mod Renumbered
 pub mod LiftedRefutations
+pub mod LiftedCircuits

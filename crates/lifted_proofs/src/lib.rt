@@ -1,13 +1,20 @@
-//! Refutations of a formula that was made simpler, lifted to the formula itself.
+//! What shows a verdict on a formula that was made simpler, lifted to the formula itself:
+//! refutations, and the proofs of circuits.
 #![tactic(auto)]
 
+pub use circuits::lift_true;
 pub use refutations::lift_false;
 
+mod allowed;
 mod asking;
 mod carried;
+mod carrying;
+mod circuits;
 mod goals;
 mod hinted;
 mod lines;
+mod matrix_ids;
+mod negated_bases;
 mod planned;
 mod refutations;
 mod rows;

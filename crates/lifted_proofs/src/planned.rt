@@ -16,7 +16,7 @@ use std::alloc::Global;
 use std::collections::BTreeMap;
 
 /// No more rows than these are added.
-const MOST_ROWS: usize = 4_000_000;
+const MOST_ROWS: usize = 1_000_000;
 
 /// Nor more bits of rows.
 const MOST_BITS: usize = 1_073_741_824;

@@ -6,6 +6,7 @@ ghost use Rattle.dq_prep.specs.Units.{AreUnits};
 ghost use Rattle.dq_prep.specs.Simplified.{simplified_formula};
 ghost use Rattle.cert_text.specs.Grammar.{IsDqrOf};
 ghost use Rattle.cert_text.specs.Header.{max_count};
+ghost use Rattle.proof_deletions.specs.Deletions.{AreNumberedLines};
 ghost use Rattle.refutation_checker.specs.Refutation.{refutation_fault};
 ghost use Rattle.lifted_proofs.specs.UnitTables.{IsUnitTable};
 ghost use Rattle.lifted_proofs.specs.Goals.{Keeps};
@@ -26,6 +27,7 @@ use dq_formula::Formula;
 use dq_lits::Memory;
 use dq_prep::Trace;
 use number_tables::NumberSet;
+use proof_deletions::laws::allowed_lines_are_numbered;
 use std::alloc::Global;
 
 /// The most lines of a refutation's text.
@@ -35,8 +37,8 @@ const MOST_LINES: usize = 1_000_000_000;
 /// come first, then further ones, under which the clauses say what was left of them; lines in front
 /// derive what was left, where units made literals false.
 ///
-/// A formula may need exponentially more rows than units: past 4,000,000 rows, 2^30 bits of rows or
-/// 4,000,000 clauses under rows that are added, and past the counts that a text can hold, it answers
+/// A formula may need exponentially more rows than units: past 1,000,000 rows, 2^30 bits of rows or
+/// 1,000,000 clauses under rows that are added, and past the counts that a text can hold, it answers
 /// `Memory`.
 pub fn lift_false(alloc: Global, d: &Dqr, trace: &Trace, f: &Formula) -> Result<Dqr, Memory>
     requires well { IsWellFormed f.now }
@@ -47,6 +49,7 @@ pub fn lift_false(alloc: Global, d: &Dqr, trace: &Trace, f: &Formula) -> Result<
     ensures refutes { IfOk result (λ e. refutation_fault f.now e ≡ None) }
     // The rows are the first ones.
     ensures rows { IfOk result (λ e. Keeps d.now.rows e.rows) }
+    ensures lines { IfOk result (λ e. AreNumberedLines e.items) }
 {
     let table = UnitTable::new(alloc, f, trace)?;
     let sources = sources(&table)?;
@@ -62,7 +65,9 @@ fn lift(table: &UnitTable, d: &Dqr, sources: &[Source]) -> Result<Dqr, Memory>
     ensures allowed { IfOk result (IsDqrOf table.now.formula.now) }
     ensures refutes { IfOk result (λ e. refutation_fault table.now.formula.now e ≡ None) }
     ensures rows { IfOk result (λ e. Keeps d.now.rows e.rows) }
+    ensures lines { IfOk result (λ e. AreNumberedLines e.items) }
 {
+    allowed_lines_are_numbered();
     let last = d.rows.items().len() as u64 * sources.len() as u64;
     let wanted = hinted_instances(table.alloc, &d.items, last)?;
     let plan = planned(table, &d.rows, sources, wanted.items())?;

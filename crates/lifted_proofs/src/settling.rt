@@ -11,7 +11,7 @@ use dq_lits::{Memory, Row};
 use number_tables::NumberSet;
 
 /// No more goals than these are looked at.
-pub(crate) const MOST_GOALS: usize = 4_000_000;
+pub(crate) const MOST_GOALS: usize = 1_000_000;
 
 impl Plan {
     /// Finds the reasons of all goals, and of those that they ask for. Where there are more goals

@@ -95,8 +95,8 @@ fn is_satisfied(table: &UnitTable, place: usize) -> bool
         .any(|l| is_taken(table, *l))
 }
 
-// Whether a literal was taken.
-fn is_taken(table: &UnitTable, l: Lit) -> bool
+/// Whether a literal was taken.
+pub(crate) fn is_taken(table: &UnitTable, l: Lit) -> bool
     requires { IsUnitTable table.now }
     ensures { result ≡ holds (first_literals table.now.units.now (length table.now.units.now)) l }
 {

@@ -7,7 +7,8 @@
 //! calls that fail, `writes` the same of the sink. `run` runs the program under a name, and then
 //! words, reads and writes are as at the start; behind a verdict of the solver it prints what the
 //! checker says of the text that was written, and how many rounds and learned clauses the log has.
-//! `alone` does the same without that. `compare` does it with a verdict on two circuits: the formula
+//! `alone` does the same without that. `verdict` runs the solver, and prints the status and, behind a
+//! verdict, what the checker says, but no text. `compare` does it with a verdict on two circuits: the formula
 //! is the one that `encode` writes, and of the text the status alone is printed, and what the
 //! checker says. `unfailing` runs the program over files and a sink that never fail, and prints the
 //! status alone; `read` reads the formula's file, of at most so many bytes. `canonical` prints the
@@ -44,6 +45,7 @@ pub fn take_line(
         "run" => run(alloc, settings, log, rest),
         "compare" => compare(alloc, settings, log, rest),
         "alone" => run_alone(alloc, settings, log, rest),
+        "verdict" => run_verdict(alloc, settings, log, rest),
         "unfailing" => run_unfailing(alloc, settings, log, rest),
         "read" => read(alloc, settings, rest),
         "canonical" => named(alloc, rest, texts::canonical_formula(alloc, settings)),
@@ -166,6 +168,23 @@ fn run_alone(
     settings.reset(alloc)?;
     let shown = shown_run(alloc, &ran)?;
     Ok(Some(format!(in alloc; "{name}: {shown}")?))
+}
+
+// A case: its status, and, behind a verdict, what the checker says of the text.
+fn run_verdict(
+    alloc: Global,
+    settings: &mut Settings,
+    log: &mut Log,
+    name: &str,
+) -> Result<Option<String>> {
+    let ran = settings.run(alloc, log)?;
+    settings.reset(alloc)?;
+    let status = ran.status;
+    if status != 10 && status != 20 {
+        return Ok(Some(format!(in alloc; "{name}: {status}")?));
+    }
+    let judged = shown_run(alloc, &settings.judge(alloc, &ran.text, log)?)?;
+    Ok(Some(format!(in alloc; "{name}: {status} judged {judged}")?))
 }
 
 fn run_unfailing(

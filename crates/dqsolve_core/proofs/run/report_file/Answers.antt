@@ -1,44 +1,37 @@
-use Rattle.std.proofs.Common.{◌∙◌, ap, inr, refl, subst, IfOk}
-use Rattle.dq_verdicts.specs.Outputs.{IsVerdictOutput}
+use Rattle.std.proofs.Common.{◌∙◌, ap}
 use Rattle.hint_log.specs.Entries.{ProofLog}
 use Rattle.dq_io.specs.State.{state_of}
-use Rattle.dqsolve_words.specs.Command.{solve}
 use Rattle.dqsolve_words.specs.Words.{options_of}
-use Rattle.dqsolve_core.proofs.Runs.{verdict_reported, said_reported, said_read, not_unreadable}
+use Rattle.dqsolve_core.proofs.Runs.{verdict_reported, search_log, said_reported, said_read, not_unreadable}
 use Rattle.dqsolve_core.proofs.run.report_file.Goals as goal
 
 pub returns-in-Ok-clause-reported : goal.returns-in-Ok-clause-reported
 returns-in-Ok-clause-reported g c =
-    verdict_reported (state_of g.F.Files c.args.files.now) (state_of g.F.Files c.read_formula.new.files) c.solve.new.log
+    verdict_reported (state_of g.F.Files c.args.files.now) (state_of g.F.Files c.read_formula.new.files) c.solve_with.new.log
     (record {
       steps = c.args.asked.steps;
       options = options_of c.args.asked.options;
       file =
           c.args.asked.file.now;
     }) c.in-Ok.formula
-    c.solve.result
+    c.solve_with.result
     c.in-Ok.ensures.read.0
     c.in-Ok.ensures.read.1
     (c.in-Ok.ensures.unfaulted (λ none. none))
-    (c.solve.ensures.limit ∙ ap (λ (log : ProofLog). log.limit) c.rewind.ensures)
-    (subst (λ form. IfOk c.solve.result (IsVerdictOutput c.in-Ok.formula c.solve.new.log form)) c.form_of.ensures
-    c.solve.ensures.verdict)
+    (c.solve_with.ensures.limit ∙ ap (λ (log : ProofLog). log.limit) c.rewind.ensures)
+    c.solve_with.ensures.verdict
 
 pub returns-in-Ok-clause-log : goal.returns-in-Ok-clause-log
 returns-in-Ok-clause-log g c =
-    inr (record {
-      command = solve (record {
-        steps = c.args.asked.steps;
-        options = options_of c.args.asked.options;
-        file =
-            c.args.asked.file.now;
-      });
-      is = refl;
-      limit = c.solve.ensures.limit ∙ ap (λ (log : ProofLog). log.limit) c.rewind.ensures;
-      f = c.in-Ok.formula;
-      formula = c.in-Ok.ensures.read.0;
-      productive = c.solve.ensures.productive;
-    })
+    search_log (state_of g.F.Files c.args.files.now) c.solve_with.new.log
+    (record {
+      steps = c.args.asked.steps;
+      options = options_of c.args.asked.options;
+      file =
+          c.args.asked.file.now;
+    }) c.in-Ok.formula c.in-Ok.ensures.read.0
+    (c.solve_with.ensures.limit ∙ ap (λ (log : ProofLog). log.limit) c.rewind.ensures)
+    c.solve_with.ensures.work
 
 pub returns-in-Err-Said-clause-reported : goal.returns-in-Err-Said-clause-reported
 returns-in-Err-Said-clause-reported g c =

@@ -35,6 +35,10 @@ pub returns-clause-deletions : goal.returns-clause-deletions
 unfolding clap_on_literals command_of
 returns-clause-deletions c = refl
 
+pub returns-clause-preparation : goal.returns-clause-preparation
+unfolding clap_on_literals command_of
+returns-clause-preparation c = refl
+
 pub returns-clause-binary : goal.returns-clause-binary
 unfolding clap_on_literals command_of
 returns-clause-binary c = refl

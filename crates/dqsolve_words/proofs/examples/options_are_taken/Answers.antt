@@ -31,6 +31,10 @@ pub returns-clause-both : goal.returns-clause-both
 unfolding clap_on_literals command_of
 returns-clause-both c = refl
 
+pub returns-clause-preparation : goal.returns-clause-preparation
+unfolding clap_on_literals command_of
+returns-clause-preparation c = refl
+
 pub returns-clause-binary : goal.returns-clause-binary
 unfolding clap_on_literals command_of
 returns-clause-binary c = refl

@@ -1,0 +1,135 @@
+-- From what is lifted to a verdict's output.
+use Rattle.std.proofs.Common.{◌≡◌, ◌≢◌, ◌∙◌, ◌-◌, ◌≤◌, ℕ, refl, sym, ap, subst, arith, Bool, false, List, [], ◌∷◌, map, length, None, Ok, Err, Result}
+use Rattle.dq_lits.specs.Expansion.{IsExpansionUnsatisfiable, instance_at}
+use Rattle.dq_lits.specs.Formula.{Dqbf, IsWellFormed}
+use Rattle.dq_lits.specs.Henkin.{IsTrueFormula, IsFalseFormula}
+use Rattle.dq_lits.specs.declared.memory.Memory.{Memory}
+use Rattle.std.specs.Prelude.{IfOk}
+use Rattle.dq_lits.specs.Derivation.{LiveClauses, Derives, ProofStep, fault_of_step, is_empty, line_fault, steps_fault, with_clause}
+use Rattle.dq_formula.specs.Prefix.{IsLawful}
+use Rattle.dq_prep.specs.Laws.{SimplificationKeepsChoices}
+use Rattle.dq_prep.specs.Simplified.{simplified_formula}
+use Rattle.dq_prep.specs.Units.{AreUnits}
+use Rattle.dq_prep.specs.declared.traces.Taken.{Taken}
+use Rattle.rup_core.specs.Items.{derived, items_fault}
+use Rattle.hint_log.specs.Deciding.{IsUndecided}
+use Rattle.hint_log.specs.Entries.{Entry, ProofLog, rounds_of, steps_of}
+use Rattle.hint_log.specs.ProductiveLog.{IsProductiveLog}
+use Rattle.aiger_text.specs.declared.files.AagFile.{AagFile}
+use Rattle.cert_export.specs.ExportedCircuit.{IsDecidedTrue, IsWritable, ExportedProofIsAllowed}
+use Rattle.cert_export.specs.Parts.{IsExportedCircuit}
+use Rattle.cert_text.specs.Grammar.{IsDqrOf}
+use Rattle.cert_text.specs.Header.{max_count}
+use Rattle.cert_text.specs.ProofGrammar.{IsDqpOf}
+use Rattle.cert_text.specs.declared.circuit_proofs.Dqp.{Dqp}
+use Rattle.cert_text.specs.declared.refutations.Dqr.{Dqr}
+use Rattle.proof_deletions.specs.Deletions.{AreNumberedLines, lines_of}
+use Rattle.refutation_checker.specs.Refutation.{refutation_fault, normal_item, normal_step}
+use Rattle.proof_checker.specs.ProvedCircuit.{IsProvedCircuit}
+use Rattle.proof_deletions.specs.Laws.{AllowedLinesAreNumbered}
+use Rattle.repair_loop.specs.Stopping.{IsStoppedAtLimit}
+use Rattle.dq_runs.specs.declared.outputs.Output.{Output}
+use Rattle.dq_verdicts.specs.Accepted.{ProvedCircuitsAreAccepted, RefutationsAreAccepted}
+use Rattle.dq_verdicts.specs.Prepared.{IsPrep, IsPreparedOutput, IsCertificate}
+use Rattle.dq_verdicts.specs.Shown.{IsShownTrue, IsShownFalse}
+use Rattle.dq_verdicts.specs.Verdicts.{is_unknown, verdict_text}
+use Rattle.dq_verdicts.specs.declared.forms.Form.{Form}
+use Rattle.dq_verdicts.proofs.ShownVerdicts.{proof_numbered, printed_as}
+
+pub true-kept : SimplificationKeepsChoices → (f g : Dqbf) (units : List Taken) → IsWellFormed f → IsLawful f
+    → AreUnits f units → g ≡ simplified_formula f units → IsTrueFormula g → IsTrueFormula f
+true-kept law f g units well lawful are left it =
+    let was : IsTrueFormula (simplified_formula f units) = subst IsTrueFormula left it in
+    (was.0, (law f units was.0 well lawful are).1 was.1)
+
+pub shown-true : ProvedCircuitsAreAccepted → (f g : Dqbf) (log : ProofLog) (id : ℕ) (form : Form) (file : AagFile)
+    (proof : Dqp) → f ≢ g → IsTrueFormula f → IsDecidedTrue g log.entries id → IsCertificate f file proof
+    → IsShownTrue f g log form file proof
+shown-true accepted f g log id form file proof other is decided e = record {
+  true_formula = is;
+  circuit = e.circuit;
+  answered = (id, decided);
+  exported = λ same. absurd (other same);
+  accepted = accepted f file proof form e.circuit e.lines e.writable e.allowed;
+  within = λ same. absurd (other same);
+}
+
+-- a derivation from instances shows that they have no model
+abbrev pub DerivationsRefute : Type 0
+DerivationsRefute = (f : Dqbf) (rows : List (List Bool)) (steps : List ProofStep) → Derives (instance_at f rows) steps
+    → IsExpansionUnsatisfiable f rows
+
+-- lines alone have the fault that they have as steps
+lines-fault : (finished : Bool) (live : LiveClauses) (steps : List ProofStep)
+    → items_fault finished live (map derived steps) ≡ steps_fault finished live steps
+lines-fault finished live [] = refl
+lines-fault finished live (s ∷ ss) = ap (fault_of_step (line_fault live s.literals s.hints) s.id)
+    (lines-fault (is_empty s.literals) (with_clause live s.id s.literals) ss)
+
+normal-lines : (f : Dqbf) (rows : List (List Bool)) (steps : List ProofStep)
+    → map (normal_item f rows) (map derived steps) ≡ map derived (map (normal_step f rows) steps)
+normal-lines f rows [] = refl
+normal-lines f rows (s ∷ ss) = ap (λ xs. derived (normal_step f rows s) ∷ xs) (normal-lines f rows ss)
+
+unsatisfiable : DerivationsRefute → (f : Dqbf) (d : Dqr) → refutation_fault f d ≡ None → AreNumberedLines d.items
+    → IsExpansionUnsatisfiable f d.rows
+unsatisfiable refute f d none numbered =
+    let steps = lines_of d.items in
+    let live = instance_at f d.rows in
+    refute f d.rows (map (normal_step f d.rows) steps)
+    (sym (lines-fault false live (map (normal_step f d.rows) steps))
+    ∙ ap (items_fault false live) (sym (normal-lines f d.rows steps))
+    ∙ ap (λ xs. items_fault false live (map (normal_item f d.rows) xs)) (sym numbered.lines) ∙ none)
+
+pub shown-false : RefutationsAreAccepted → DerivationsRefute → (f g : Dqbf) (log : ProofLog) (form : Form) (d : Dqr)
+    → IsLawful f → f ≢ g → IsFalseFormula f → IsDqrOf f d → refutation_fault f d ≡ None → AreNumberedLines d.items
+    → IsShownFalse f g log form d
+shown-false accepted refute f g log form d lawful other is allowed none lines = record {
+  false_formula = is;
+  unsatisfiable = unsatisfiable refute f d none lines;
+  refutes = none;
+  exported = λ same. absurd (other same);
+  accepted = accepted f d form lawful none lines (λ _. allowed);
+  within = λ same. absurd (other same);
+}
+
+-- what is exported can be written
+pub exported-certificate : ExportedProofIsAllowed → AllowedLinesAreNumbered → (f : Dqbf) (entries : List Entry) (id : ℕ)
+    (r : Result (AagFile × Dqp) Memory) → IfOk r (λ c. IsProvedCircuit f c.0 c.1) → IfOk r (λ c. IsWritable c.0)
+    → IfOk r (λ c. length c.1.items ≤ max_count → IsDqpOf f c.0.circuit c.1)
+    → IfOk r (λ c. (ids : List ℕ) × IsExportedCircuit f entries id ids c.0 c.1)
+    → IfOk r (λ c. IsCertificate f c.0 c.1)
+exported-certificate law numbered f entries id (Ok c) proved writable allowed exported =
+    record {
+      circuit = proved;
+      lines = proof_numbered law numbered f entries id exported.0 c.0 c.1 exported.1;
+      writable = writable;
+      allowed = allowed;
+    }
+exported-certificate law numbered f entries id (Err _) proved writable allowed exported = tt
+
+-- where the limit came first
+pub left-undecided : (f g : Dqbf) (log : ProofLog) (form : Form) (rounds steps : ℕ) (output : Output) → IsPrep f g
+    → IsProductiveLog g log.entries → IsUndecided g log.entries → IsStoppedAtLimit g log
+    → rounds_of log.entries ≤ steps_of log.entries → rounds ≡ rounds_of log.entries → steps ≡ steps_of log.entries
+    → output.status ≡ 0 → output.text.items ≡ verdict_text form f (is_unknown rounds (steps - rounds))
+    → IsPreparedOutput f log form output
+left-undecided f g log form rounds steps output prep productive undecided stopped fewer rounds-are steps-are status
+    text =
+    record {
+      searched = g;
+      prepared = prep;
+      verdict = is_unknown rounds (steps - rounds);
+      is = record {
+        productive = productive;
+        shown = record {
+          limit = stopped.reached;
+          next = stopped.next;
+          undecided = undecided;
+          rounds_are = rounds-are;
+          steps_are = omega (arith, fewer, rounds-are, steps-are);
+        };
+      };
+      is_printed = printed_as (is_unknown rounds (steps - rounds)) output.status output.text.items
+          (verdict_text form f (is_unknown rounds (steps - rounds))) status text;
+    }
