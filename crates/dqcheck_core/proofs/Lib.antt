@@ -1,2 +1,3 @@
+pub mod FedCertificates
 pub mod Runs
 pub mod ToldFiles

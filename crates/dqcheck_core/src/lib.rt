@@ -4,6 +4,7 @@
 //! and with which status it ends.
 #![tactic(auto)]
 
+pub use cert_judge::Stream;
 pub use run::dqcheck_run;
 pub use statuses::Status;
 

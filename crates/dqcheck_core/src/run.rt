@@ -1,28 +1,36 @@
 //! A whole run: the words, both files, the judgement, and what is written.
 
-ghost use Rattle.std.specs.Prelude.{◌≡◌, ℕ, map, string_bytes, Some, IfOk};
+ghost use Rattle.std.specs.Prelude.{◌≡◌, ℕ, List, map, string_bytes, vec_len, Some, IfOk};
 ghost use Rattle.dq_io.specs.State.{state_of};
 ghost use Rattle.dq_lits.specs.Formula.{IsWellFormed};
 ghost use Rattle.dq_runs.specs.Ending.{Ends, HasCauses};
+ghost use Rattle.dq_runs.specs.Printed.{printed};
 ghost use Rattle.dq_runs.specs.Sinks.{sink_of};
+ghost use Rattle.cert_judge.specs.Judgement.{IsJudgement};
+ghost use Rattle.cert_judge.specs.Streams.{StandsFor};
+ghost use Rattle.cert_judge.specs.declared.answers.Judgement.{Judgement};
 ghost use Rattle.dqcheck_words.specs.Command.{command_of};
 ghost use Rattle.dqcheck_core.specs.Outputs.{IsReported, IsReportedBehind};
+ghost use Rattle.dqcheck_core.specs.Report.{judged, printed_report};
 ghost use Rattle.dqcheck_core.specs.Running.{IsDue};
 ghost use Rattle.dqcheck_core.specs.Told.{JudgesTold};
 
 use crate::reports::judged_output;
-use cert_judge::judge;
+use cert_judge::Stream;
 use cert_judge::laws::{acceptance_is_sound, one_judgement};
 use dq_formula::Formula;
-use dq_io::{Files, ReadStop, Sink, read_all};
+use dq_io::{FeedStop, Files, Sink, feed_all};
 use dq_lits::Memory;
 use dq_runs::{FormulaStop, Output, deliver, outputs, read_formula};
 use dqcheck_words::{FileNames, file_names};
 use dqdimacs_reader::laws::formula_or_first_fault;
-use std::alloc::Global;
+use std::alloc::{AllocError, Global};
 
 /// The most bytes of a certificate.
 const MAX_CERTIFICATE: u64 = 1 << 40;
+
+/// How many bytes are asked for at once.
+const PIECE: usize = 65536;
 
 /// Judges the certificate in one file for the formula in another, and writes one line.
 ///
@@ -104,12 +112,36 @@ fn report_certificate<F: Files>(
         names.entry.certificate.now formula.now) }
     ensures held { F.held files.new ≡ F.held files.old }
 {
-    let text = match read_all(alloc, files, names.certificate, MAX_CERTIFICATE) {
-        Ok(text) => text,
-        Err(ReadStop::Memory) => return Err(Memory),
-        Err(ReadStop::Fault) => return outputs::unreadable(alloc),
-        Err(ReadStop::TooLong) => return outputs::too_long(alloc, "certificate"),
+    let Ok(mut buffer) = zeros(alloc, PIECE) else {
+        return Err(Memory);
     };
-    let answer = judge(alloc, formula, text)?;
+    let mut stream = Stream::new(alloc, formula);
+    match feed_all(
+        files,
+        names.certificate,
+        MAX_CERTIFICATE,
+        &mut stream,
+        &mut buffer,
+    ) {
+        Ok(()) => judge_fed(alloc, formula, stream),
+        Err(FeedStop::Fault) => outputs::unreadable(alloc),
+        Err(FeedStop::TooLong) => outputs::too_long(alloc, "certificate"),
+    }
+}
+
+fn zeros(alloc: Global, count: usize) -> Result<Vec<u8>, AllocError>
+    ensures { IfOk result (λ v. vec_len v ≡ count) }
+{
+    vec![in alloc; 0u8; count]
+}
+
+// What is to be written of a certificate that was fed.
+fn judge_fed(alloc: Global, formula: &Formula, stream: Stream) -> Result<Output, Memory>
+    requires { stream.formula ≡ formula.now }
+    ensures { IfOk result (λ output. (text : List ℕ) → StandsFor stream.entry text
+        → (answer : Judgement) × IsJudgement formula.now text answer
+        × (printed output ≡ printed_report (judged formula.now answer))) }
+{
+    let answer = stream.end()?;
     judged_output(alloc, formula, answer)
 }
