@@ -1,7 +1,8 @@
 #!/usr/bin/env python3
-"""Runs the built solver with `--prep` on random small formulas, to which units are added, with `--bare` and `--v2` in all combinations. Each
-verdict is compared with all choices of bits at the pairs of existentials and what they see, tried one by one; each certificate is judged by
-the built checker and by the second judge, reference.py. With fewer steps the answer is UNKNOWN with as many steps in its counts.
+"""Runs the built solver with `--prep` on random small formulas, to which units are added, with `--bare`, `--v2` and
+`--binary` in all combinations. Each verdict is compared with all choices of bits at the pairs of existentials and what
+they see, tried one by one; each certificate is judged by the built checker and by the second judge, reference.py. With
+fewer steps the answer is UNKNOWN with as many steps in its counts.
 
 Usage: bench/preparation.py [COUNT [SEED]]     500 formulas from seed 1 where no words are given
 
@@ -18,7 +19,8 @@ import loop
 import reference
 from decisions import check, solve, steps_in
 
-FORMS = [words for n in range(3) for words in itertools.combinations(("--bare", "--v2"), n)]
+OPTIONS = ("--bare", "--v2", "--binary")
+FORMS = [words for n in range(len(OPTIONS) + 1) for words in itertools.combinations(OPTIONS, n)]
 
 
 def prepared_formula(rng):
