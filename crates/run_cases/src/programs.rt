@@ -8,6 +8,13 @@ pub enum Program {
 }
 
 impl Program {
+    pub fn is_checker(self) -> bool {
+        match self {
+            Program::Checker => true,
+            Program::Solver => false,
+        }
+    }
+
     /// The program's own name, the first of its words.
     pub fn name(self) -> &'static str {
         match self {

@@ -8,6 +8,9 @@ use dqsolve_core::dqsolve_run;
 use hint_log::Log;
 use std::alloc::Global;
 
+/// The sizes of reads under which the checker is to say the same.
+const PIECES: [usize; 5] = [1, 2, 3, 7, 64];
+
 /// The most bytes of a call, and the numbers of the calls that fail.
 #[derive(Drop)]
 pub struct Calls {
@@ -73,6 +76,21 @@ impl Settings {
         self.run_over(alloc, files, log)
     }
 
+    /// Whether the program says the same under reads of other sizes, where no read is to fail.
+    pub fn is_same_by_pieces(&self, alloc: Global, ran: &Ran, log: &mut Log) -> Result<bool> {
+        if !self.reads.failing.is_empty() {
+            return Ok(true);
+        }
+        for greatest in PIECES {
+            let files = self.files_by(alloc, greatest)?;
+            let other = self.run_over(alloc, files, log)?;
+            if other.status != ran.status || other.text != ran.text {
+                return Ok(false);
+            }
+        }
+        Ok(true)
+    }
+
     fn run_over(&self, alloc: Global, mut files: MemFiles, log: &mut Log) -> Result<Ran> {
         let sink = MemSink::new(alloc, self.writes.greatest.max(1), &self.writes.failing)?;
         run_into(alloc, self.program, &self.words, &mut files, sink, log)
@@ -124,7 +142,12 @@ impl Settings {
     }
 
     fn files(&self, alloc: Global) -> Result<MemFiles> {
-        let mut files = MemFiles::new(alloc, self.reads.greatest.max(1), &self.reads.failing)?;
+        self.files_by(alloc, self.reads.greatest)
+    }
+
+    // The files, which give at most so many bytes a read.
+    fn files_by(&self, alloc: Global, greatest: usize) -> Result<MemFiles> {
+        let mut files = MemFiles::new(alloc, greatest.max(1), &self.reads.failing)?;
         if let Some(formula) = &self.formula {
             files.hold("formula", formula)?;
         }

@@ -5,7 +5,8 @@
 //! is a CR, and `\x0a` the byte with these two digits. `absent` takes the files away. `words` gives
 //! the words behind the program's name, `reads` the most bytes of a read and the numbers of the
 //! calls that fail, `writes` the same of the sink. `run` runs the program under a name, and then
-//! words, reads and writes are as at the start; behind a verdict of the solver it prints what the
+//! words, reads and writes are as at the start; the checker has to say the same under reads of 1, 2,
+//! 3, 7 and 64 bytes, where none is to fail; behind a verdict of the solver it prints what the
 //! checker says of the text that was written, and how many rounds and learned clauses the log has.
 //! `alone` does the same without that. `verdict` runs the solver, and prints the status and, behind a
 //! verdict, what the checker says, but no text. `compare` does it with a verdict on two circuits: the formula
@@ -111,6 +112,9 @@ fn run(
     name: &str,
 ) -> Result<Option<String>> {
     let ran = settings.run(alloc, log)?;
+    if settings.program.is_checker() && !settings.is_same_by_pieces(alloc, &ran, log)? {
+        return Err(anyhow!("by pieces it isn't the same: {name}"));
+    }
     settings.reset(alloc)?;
     let shown = shown_run(alloc, &ran)?;
     if ran.status != 10 && ran.status != 20 {
