@@ -21,7 +21,7 @@ kept_body b =
       rows = b.rows;
       rows_left = b.rows_left;
       first_id = b.items.ids.first;
-      live = b.items.ids.live.items;
+      live = b.items.ids.live;
       items_left = b.items.left;
     }
 

@@ -17,7 +17,7 @@ kept_body i =
     record {
       version = i.version;
       first_id = i.ids.first;
-      live = i.ids.live.items;
+      live = i.ids.live;
       items_left = i.left;
     }
 

@@ -31,3 +31,4 @@ pub mod StepsAlone
 pub mod DefinitionParts
 pub mod AllowedDefinitions
 pub mod DefinitionBodies
+pub mod Marks

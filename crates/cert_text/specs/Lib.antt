@@ -18,6 +18,8 @@ pub mod Kind
 pub mod LineIds
 pub mod LineStop
 pub mod Lines
+pub mod LiveLinesInside
+pub mod Marks
 pub mod NegatedMatrix
 pub mod Numbering
 pub mod Numbers

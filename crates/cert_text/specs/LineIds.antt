@@ -11,4 +11,4 @@ abbrev pub numbering_by : ℕ → List Bool → Numbering
 numbering_by first marks = record { next = first + length marks; live = is_marked first marks }
 
 abbrev pub numbering : LineIds → Numbering
-numbering l = numbering_by l.first l.live.items
+numbering l = numbering_by l.first l.live

@@ -39,6 +39,7 @@ mod items;
 mod kinds;
 pub mod laws;
 mod line_ids;
+mod live_lines;
 mod numbers;
 mod pairs;
 mod plain_steps;

@@ -4,6 +4,7 @@ ghost use Rattle.std.specs.Prelude.{◌≡◌, ◌+◌, ◌<◌, ◌^◌, length
 ghost use Rattle.cert_text.specs.LineIds.{numbering};
 ghost use Rattle.cert_text.specs.Numbering.{numbered_from, are_live, with_next, without, without_all};
 
+use crate::live_lines::LiveLines;
 use dq_lits::Memory;
 use std::alloc::Global;
 
@@ -12,7 +13,7 @@ use std::alloc::Global;
 #[derive(Drop)]
 pub struct LineIds {
     pub first: u128,
-    pub live: Vec<bool>,
+    pub live: LiveLines,
 }
 
 impl LineIds {
@@ -23,7 +24,7 @@ impl LineIds {
     {
         LineIds {
             first,
-            live: Vec::new(alloc),
+            live: LiveLines::new(alloc),
         }
     }
 
@@ -32,7 +33,7 @@ impl LineIds {
         requires { self.now.first < 2 ^ 127 }
         ensures { result ≡ (numbering self.now).next }
     {
-        self.first + self.live.len() as u128
+        self.first + self.live.len()
     }
 
     /// One line more.
@@ -40,8 +41,7 @@ impl LineIds {
         ensures numbering { OnOk result (numbering self.new ≡ with_next (numbering self.old)) }
         ensures first { self.new.first ≡ self.old.first }
     {
-        self.live.push(true)?;
-        Ok(())
+        self.live.push()
     }
 
     /// Deletes ids one by one, up to the first that isn't live: whether all of them were.
@@ -71,22 +71,22 @@ impl LineIds {
         let Some(place) = self.place(id) else {
             return false;
         };
-        let was_live = self.live[place];
-        self.live[place] = false;
+        let was_live = self.live.get(place);
+        self.live.clear(place);
         was_live
     }
 
     // The place of an id's mark.
-    fn place(&self, id: u64) -> Option<usize>
+    fn place(&self, id: u64) -> Option<u128>
         ensures { MatchOption result ((numbering self.now).live id ≡ false)
-            (λ place. (place < length self.now.live.items) × (id ≡ self.now.first + place)) }
+            (λ place. (place < length self.now.live) × (id ≡ self.now.first + place)) }
     {
         if (id as u128) < self.first {
             return None;
         }
         let place = id as u128 - self.first;
-        if place < self.live.len() as u128 {
-            Some(place as usize)
+        if place < self.live.len() {
+            Some(place)
         } else {
             None
         }

@@ -11,7 +11,7 @@ use std::alloc::Global;
 use std::marker::Model;
 
 /// How many ids there are to a page.
-pub(crate) const PAGE: usize = 2048;
+pub(crate) const PAGE: usize = 256;
 
 /// Lines that are held, by their ids.
 ///
@@ -19,8 +19,8 @@ pub(crate) const PAGE: usize = 2048;
 /// where more than half of its literals belong to clauses that are gone, and these are as many as
 /// its ids, so that the work is paid by what is gone. With its last clause it gives all its memory
 /// back, unless lines are still to come there. So memory follows the literals of the clauses that
-/// there are, two words for each id of their pages, and less than a bit for each id of the other
-/// pages.
+/// there are, three words for each id of their pages, one of them for literals that are gone, and
+/// two bits for each id of the other pages. A list that has just grown takes up to twice its part.
 #[derive(Drop)]
 pub struct Store {
     pages: Vec<Page>,

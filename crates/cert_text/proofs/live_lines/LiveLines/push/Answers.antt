@@ -1,0 +1,18 @@
+use Rattle.std.proofs.Common.{◌≡◌, ◌++◌, ◌∷◌, [], true, ◌∙◌, ap}
+use Rattle.rup_core.proofs.PagedClauses.{on_err}
+use Rattle.cert_text.specs.Marks.{mark_among, marks_below}
+use Rattle.cert_text.proofs.Marks.{marks_pushed, marks_same}
+use Rattle.cert_text.proofs.live_lines.LiveLines.push.Goals as goal
+
+pub returns-in_err-make_room-clause-err : goal.returns-in_err-make_room-clause-err
+returns-in_err-make_room-clause-err c =
+    let count = c.self.inside.count in
+    on_err c.from_residual.result (marks_below count (mark_among c.make_room.new.blocks.items) ≡ c.args.self.now)
+    (marks_same count (mark_among c.self.inside.blocks.items) (mark_among c.make_room.new.blocks.items)
+    c.make_room.ensures.same ∙ c.self.view_is)
+
+pub returns-clause-ok : goal.returns-clause-ok
+returns-clause-ok c =
+    marks_pushed c.self.inside.count (mark_among c.self.inside.blocks.items) (mark_among c.make_room.new.blocks.items)
+    (mark_among c.set_mark.new.blocks.items) true c.make_room.ensures.same c.set_mark.ensures.sets
+    ∙ ap (λ marks. marks ++ true ∷ []) c.self.view_is
