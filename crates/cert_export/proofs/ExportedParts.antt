@@ -23,13 +23,14 @@ use Rattle.log_laws.proofs.Found.{split_at}
 use Rattle.log_laws.proofs.LeafFunctions.{circuit_stays}
 use Rattle.log_laws.proofs.ReachedClauses.{name_stays, numbered_kept}
 use Rattle.number_tables.specs.Numbers.{has_number, place_of}
-use Rattle.cert_export.specs.CircuitPart.{CircuitPart, IsCircuitPart, IsInFile, IsLeafInFile}
+use Rattle.cert_export.specs.CircuitPart.{AreGatesInOrder, CircuitPart, IsCircuitPart, IsInFile, IsLeafInFile}
 use Rattle.cert_export.specs.ExportedCircuit.{IsExportedPart, is_gate_name}
 use Rattle.cert_export.specs.FaultLeaves.{LeafTable, leaf_of, or_false, output_leaf, IsLeafAmong, AreLeavesAmong, HasLeavesAmong, HaveLiterals, AreOfGroup}
 use Rattle.cert_export.specs.Given.{IsGivenRightly}
 use Rattle.cert_export.specs.Needed.{with_all_sides, with_gates, IsLeafNeeded, IsGateNeeded, HasRoots}
 use Rattle.cert_export.specs.Parts.{AreDecided}
 use Rattle.cert_export.proofs.Answers.{answer_there, reached_given}
+use Rattle.cert_export.proofs.GatesInOrder.{gates_in_order}
 use Rattle.cert_export.proofs.ListedGates.{sides_over, sides_are, over_grows, over_closed, gates_over, gates_are, gate_named, gate_there, gates_distinct, gates_few}
 
 -- the given entry of an origin
@@ -374,3 +375,7 @@ module _ (f : Dqbf) (entries : List Entry) (id : ℕ) (ids : List ℕ) (d : AreD
 
     pub few : length gates ≤ count is_gate_name entries
     few = let most = gates_few needed entries in let is = ap length gates_is in omega (arith, most, is)
+
+    pub order : AreGatesInOrder entries gates
+    order = subst (AreGatesInOrder entries) (sym gates_is) (gates_in_order needed entries lawful
+        (λ v a b named need. over_closed entries roots v a b lawful named need))

@@ -1,6 +1,6 @@
 -- The gates of an exported circuit are numbered in the file's order, behind the inputs.
-use Rattle.std.proofs.Common.{◌≡◌, ◌≢◌, ℕ, ◌+◌, ◌<◌, ◌==◌, inl, inr, ◌⊎◌, List, map, length, get_or, Option, sym, ◌∙◌, ap, arith}
-use Rattle.std.specs.List.{AllPairs, range_with_len, position_or_len}
+use Rattle.std.proofs.Common.{◌≡◌, ◌≢◌, ℕ, ◌+◌, ◌<◌, ◌==◌, inl, inr, ◌⊎◌, List, map, length, get_or, Option, sym, ◌∙◌, ap, subst, arith}
+use Rattle.std.specs.List.{All, AllPairs, range_with_len, position_or_len}
 use Rattle.std.specs.Option.{option_map}
 use Rattle.std.proofs.lemmas.Bool.{cases_order}
 use Rattle.std.proofs.lemmas.List.{ext_get_or, get_or-map, length-map}
@@ -14,9 +14,10 @@ use Rattle.cert_text.specs.declared.circuit_proofs.Dqp.{Dqp}
 use Rattle.circuit_plain.specs.Netlist.{Netlist, gate_variables, variable_of_gate}
 use Rattle.circuit_plain.specs.declared.circuits.Gate.{Gate}
 use Rattle.cert_export.specs.CircuitPart.{CircuitPart, IsCircuitPart, circuit_number, circuit_renaming, exported_netlist, gate_of, or_zero}
-use Rattle.cert_export.specs.ExportedCircuit.{IsNumberedFile}
+use Rattle.cert_export.specs.ExportedCircuit.{HasSmallerSides, IsNumberedFile}
 use Rattle.cert_export.specs.Parts.{IsExportedCircuit}
 use Rattle.cert_export.proofs.CircuitNumbers.{IsPlace, among, place_there, position_is}
+use Rattle.cert_export.proofs.SmallerSides.{smaller_sides}
 
 -- of numbers that differ, each stands first at its own place
 own_place : (xs : List ℕ) (i : ℕ) → AllPairs (λ v w. v ≢ w) xs → i < length xs →
@@ -83,5 +84,7 @@ is_numbered f entries id ids file proof x =
       gates = ap gate_variables x.written.circuit ∙ exported_variables f entries x.part x.from.part.part ∙ ap
           (range_with_len (length f.universals + 1)) (sym gates);
       max_var = ap (λ (net : Netlist). net.max_var) x.written.circuit ∙ ap (λ n. length f.universals + n) (sym gates);
+      sides = subst (All HasSmallerSides) (sym (ap (λ (net : Netlist). net.gates) x.written.circuit))
+          (smaller_sides f entries x.part x.from.decided.logged x.from.decided.inputs x.from.part.part x.order);
       symbols = x.written.symbols;
     }

@@ -14,9 +14,11 @@ mod GivenNames
 mod FaultLeaves
 mod NeededGates
 mod ListedGates
+mod GatesInOrder
 mod ExportedParts
 mod SmallNumbers
 mod FileGates
+mod SmallerSides
 mod GateVariables
 mod ExportableCircuits
 mod NeededHints

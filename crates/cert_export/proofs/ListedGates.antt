@@ -206,7 +206,7 @@ module _ (needed : List ℕ) where
     pub named : name_of es v ≡ Some (And left right)
     pub is_needed : has_number needed v ≡ true
 
-  gate_back : (gates : List ℕ) (u v : ℕ) (n : Name) → Contains (with_gate needed gates (u, n)) v →
+  pub gate_back : (gates : List ℕ) (u v : ℕ) (n : Name) → Contains (with_gate needed gates (u, n)) v →
       Contains gates v ⊎ ((u ≡ v) × (a : Literal) × (b : Literal) × (n ≡ And a b) × (has_number needed u ≡ true))
   gate_back gates u v (And a b) inside = by_bit (has_number needed u) refl inside where
     by_bit : (c : Bool) → has_number needed u ≡ c → Contains (cond c (with_number gates u) gates) v →

@@ -1,7 +1,7 @@
 -- The circuit that an answer shows to be right, as a file has it, and the clauses that its proof
 -- starts from: inputs are numbered in the formula's order, gates behind them in the file's order,
 -- and behind these 'clause j is false', of one group.
-use Rattle.std.specs.Prelude.{◌≡◌, ◌≢◌, ℕ, zero, suc, ◌+◌, ◌*◌, ◌==◌, Bool, true, List, ◌∷◌, map, take, length, Option, None, Some, if◌then◌else◌}
+use Rattle.std.specs.Prelude.{◌≡◌, ◌≢◌, ℕ, zero, suc, ◌+◌, ◌*◌, ◌==◌, ◌<◌, Bool, true, List, ◌∷◌, map, take, length, Option, None, Some, if◌then◌else◌}
 use Rattle.std.specs.List.{All, AllPairs, Contains, list_any, range_with_len, position_or_len, sum_by}
 use Rattle.std.specs.Option.{option_map}
 use Rattle.dq_lits.specs.Literal.{Literal, variable_of, is_negative, negative}
@@ -151,3 +151,15 @@ pub record IsCircuitPart (f : Dqbf) (entries : List Entry) (e : CircuitPart) : T
 abbrev pub ReadSeen : Dqbf → List Entry → CircuitPart → Type 0
 ReadSeen f entries e =
     All (λ y. (x : ℕ) → LeafReads entries (e.leaf y) x → Contains y.sees x) f.existentials
+
+-- where the literal stands on a gate, the list has that gate before this one
+abbrev pub IsSideBefore : List Entry → List ℕ → ℕ → Literal → Type 0
+IsSideBefore entries gates v l =
+    (a b : Literal) → name_of entries (variable_of l) ≡ Some (And a b)
+    → position_or_len (λ x. x == variable_of l) gates < position_or_len (λ x. x == v) gates
+
+-- each gate stands behind those that it reads
+abbrev pub AreGatesInOrder : List Entry → List ℕ → Type 0
+AreGatesInOrder entries gates =
+    (v : ℕ) (a b : Literal) → Contains gates v → name_of entries v ≡ Some (And a b)
+    → IsSideBefore entries gates v a × IsSideBefore entries gates v b

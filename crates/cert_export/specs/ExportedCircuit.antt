@@ -1,6 +1,6 @@
 -- What is exported for a true formula, and that the checkers of circuits and of their proofs accept
 -- it.
-use Rattle.std.specs.Prelude.{◌≡◌, ℕ, ◌+◌, ◌<◌, ◌≤◌, ◌^◌, Bool, true, false, List, [], ◌∷◌, map, length, slice_index, Option, None, Some, Ok}
+use Rattle.std.specs.Prelude.{◌≡◌, ℕ, ◌+◌, ◌*◌, ◌<◌, ◌≤◌, ◌^◌, Bool, true, false, List, [], ◌∷◌, map, length, slice_index, Option, None, Some, Ok}
 use Rattle.std.specs.Fmt.{decimal}
 use Rattle.std.specs.List.{All, Contains, range_with_len}
 use Rattle.dq_lits.specs.Derivation.{ProofStep}
@@ -16,12 +16,13 @@ use Rattle.hint_log.specs.ProductiveLog.{IsDerivedByHints}
 use Rattle.hint_log.specs.Reached.{Reaches, AreReached}
 use Rattle.hint_log.specs.declared.names.Name.TheVariants.{And}
 use Rattle.hint_log.specs.declared.origins.Leaf.{Leaf}
-use Rattle.hint_log.specs.declared.origins.Origin.TheVariants.{Gate, Fault}
+use Rattle.hint_log.specs.declared.origins.Origin.TheVariants.{Gate as GateOf, Fault}
 use Rattle.aiger_text.specs.Lines.{max_count}
 use Rattle.aiger_text.specs.Spellable.{IsSpellable}
 use Rattle.aiger_text.specs.Symbol.{SymbolTable, name_at}
 use Rattle.aiger_text.specs.declared.files.AagFile.{AagFile}
 use Rattle.circuit_plain.specs.Netlist.{IsNetlist, gate_variables}
+use Rattle.circuit_plain.specs.declared.circuits.Gate.{Gate}
 use Rattle.cert_text.specs.CircuitProof.{is_proof_variable, first_proof_id}
 use Rattle.cert_text.specs.Grammar.{AreSteps}
 use Rattle.cert_text.specs.declared.circuit_proofs.Dqp.{Dqp}
@@ -134,7 +135,7 @@ pub record IsExportedPart (f : Dqbf) (entries : List Entry) (id : ℕ)
   pub reads : ReadSeen f entries e
   pub part : IsCircuitPart f entries e
   pub used : (h v i : ℕ) (c : List Literal) → Reaches entries id h
-      → numbered has_id entries h ≡ Some (Given (Gate v i) c) → Contains e.gates v
+      → numbered has_id entries h ≡ Some (Given (GateOf v i) c) → Contains e.gates v
 
 -- the numbers of the variables that the given clauses among these ids stand on; perhaps of further
 -- ones
@@ -194,13 +195,19 @@ ExportedFileIsSpellable =
     → file.circuit ≡ exported_netlist f entries e → file.symbols ≡ number_symbols f
     → max_number f e ≤ max_count → length f.existentials ≤ max_count → IsSpellable file
 
--- inputs and then gates are numbered from 1 on, each in its order, and each symbol is its
--- variable's number
+-- a gate reads what has a smaller number
+pub record HasSmallerSides (g : Gate) : Type 0 where
+  pub left : g.left < 2 * g.variable
+  pub right : g.right < 2 * g.variable
+
+-- inputs and then gates are numbered from 1 on, each in its order, each gate reads what comes before
+-- it, and each symbol is its variable's number
 pub record IsNumberedFile (f : Dqbf) (file : AagFile) : Type 0 where
   pub inputs : file.circuit.inputs ≡ range_with_len 1 (length f.universals)
   pub gates : gate_variables file.circuit
       ≡ range_with_len (length f.universals + 1) (length file.circuit.gates)
   pub max_var : file.circuit.max_var ≡ length f.universals + length file.circuit.gates
+  pub sides : All HasSmallerSides file.circuit.gates
   pub symbols : file.symbols ≡ number_symbols f
 
 -- a text can hold the circuit and these symbols with any comment, where the numbers are within the

@@ -11,7 +11,7 @@ use Rattle.hint_log.specs.Reached.{AreReached}
 use Rattle.rup_core.specs.Items.{ProofItem, derived}
 use Rattle.aiger_text.specs.declared.files.AagFile.{AagFile}
 use Rattle.cert_text.specs.declared.circuit_proofs.Dqp.{Dqp}
-use Rattle.cert_export.specs.CircuitPart.{CircuitPart, exported_netlist}
+use Rattle.cert_export.specs.CircuitPart.{CircuitPart, AreGatesInOrder, exported_netlist}
 use Rattle.cert_export.specs.ExportedCircuit.{IsDecidedTrue, IsExportedPart, IsCircuitRenaming, number_symbols, proof_steps, is_gate_name}
 use Rattle.cert_export.specs.FaultLeaves.{output_leaf}
 use Rattle.cert_export.specs.Given.{HasUniversalInputs, IsGivenRightly, EachGivenReached}
@@ -70,5 +70,6 @@ pub record IsExportedCircuit (f : Dqbf) (entries : List Entry) (id : ℕ) (ids :
   pub part : CircuitPart
   pub from : AreCircuitIds f entries id ids part
   pub few_gates : length part.gates ≤ count is_gate_name entries
+  pub order : AreGatesInOrder entries part.gates
   pub written : IsCircuitFile f entries part file
   pub lines : AreProofItems f entries part ids proof.items

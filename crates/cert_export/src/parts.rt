@@ -2,6 +2,7 @@
 
 ghost use Rattle.std.specs.Prelude.{◌≡◌, ◌≤◌, length, IfOk};
 ghost use Rattle.hint_log.specs.Entries.{count};
+ghost use Rattle.cert_export.specs.CircuitPart.{AreGatesInOrder};
 ghost use Rattle.cert_export.specs.ExportedCircuit.{IsExportedPart, is_gate_name};
 ghost use Rattle.cert_export.specs.Parts.{part_of, AreDecided};
 
@@ -32,6 +33,7 @@ pub(crate) fn exported_part(
 ) -> Result<Part, Memory>
     requires { AreDecided f.now log.now.entries id ids.now }
     ensures part { IfOk result (λ part. IsExportedPart f.now log.now.entries id (part_of part)) }
+    ensures order { IfOk result (λ part. AreGatesInOrder log.now.entries part.gates) }
     ensures few { IfOk result (λ part. length part.gates ≤ count is_gate_name log.now.entries) }
 {
     let group = fault_group(log, ids);

@@ -1,8 +1,7 @@
 -- The checker accepts circuits with their proofs as they are written.
-use Rattle.std.proofs.Common.{◌≡◌, ◌∙◌, ◌≤◌, ◌&&◌, inr, ℕ, Bool, cond, true, false, sym, ap, subst, arith, List, [], ◌∷◌, ◌++◌, length, refl, Option, None, Some, Result, Ok, codes}
+use Rattle.std.proofs.Common.{◌≡◌, ◌∙◌, ◌≤◌, inr, ℕ, Bool, cond, true, false, sym, ap, subst, arith, List, [], ◌∷◌, ◌++◌, length, refl, Option, None, Some, Result, Ok, codes}
 use Rattle.std.specs.Prelude.{slice_index}
 use Rattle.std.specs.List.{All, Contains, flat_map}
-use Rattle.std.proofs.lemmas.Bool.{and_parts}
 use Rattle.std.proofs.lemmas.List.{length-map}
 use Rattle.std.proofs.lemmas.List.Elements.{All-get_or}
 use Rattle.dq_lits.specs.Formula.{Dqbf}
@@ -34,12 +33,10 @@ use Rattle.dq_runs.specs.Printed.{line}
 use Rattle.cert_judge.specs.declared.answers.Judgement.TheVariants.{ValidTrue}
 use Rattle.ordered_gates.specs.Circuits.{is_sorted, ordered_file, ordered_item, ordered_proof}
 use Rattle.ordered_gates.specs.Laws.{OrderedProofsStand, OrderedLinesAreNumbered, OrderedFilesAreBinary}
-use Rattle.proof_deletions.specs.Deletions.{AreNumberedLines}
 use Rattle.proof_deletions.specs.Laws.{DeletionsChangeNoFault, DeletionsAreAllowed}
 use Rattle.dq_verdicts.specs.Accepted.{ProvedCircuitsAreAccepted}
-use Rattle.dq_verdicts.specs.Forms.{in_binary, written_items}
+use Rattle.dq_verdicts.specs.Forms.{written_items}
 use Rattle.dq_verdicts.specs.Verdicts.{with_proof}
-use Rattle.dq_verdicts.specs.declared.forms.Form.{Form}
 use Rattle.dq_verdicts.proofs.WrittenForms.{with_items, written_circuit, written_proof_allowed, few_before}
 use Rattle.dq_verdicts.proofs.Beginnings.{header_at, header_number, circuit_kind, binary_kind, proof_begins}
 
@@ -170,7 +167,7 @@ pub circuits_accepted : CanonicalSpells → BinarySpells → SpelledIsScanned �
     DeletionsAreAllowed → OrderedProofsStand → OrderedLinesAreNumbered → OrderedFilesAreBinary →
     ProvedCircuitsAreAccepted
 circuits_accepted spells binary scanned back same laws stand numbered files f file proof form proved are writable
-    allowed within = by_form (in_binary form file) refl within.items
+    sorted allowed within = by_form form.binary refl within.items
   where
     in_ascii : length (written_items form proof.items) ≤ max_count → IsJudgement f
         (cond form.bare [] (line (codes "s TRUE")) ++ canonical_circuit (with_proof file (with_items form proof)))
@@ -184,7 +181,7 @@ circuits_accepted spells binary scanned back same laws stand numbered files f fi
         length (written_items form (ordered_proof file.circuit proof).items) ≤ max_count → IsJudgement f
         (cond form.bare [] (line (codes "s TRUE"))
         ++ binary_text (with_proof (ordered_file file) (with_items form (ordered_proof file.circuit proof)))) ValidTrue
-    in_order sorted few =
+    in_order are_sorted few =
         let ordered = ordered_proof file.circuit proof in
         let lines = numbered file.circuit.gates proof.items are in
         let fewer = few_before laws form ordered.items lines few in
@@ -193,15 +190,15 @@ circuits_accepted spells binary scanned back same laws stand numbered files f fi
         let d = with_items form ordered in
         binary_accepted binary scanned back f (ordered_file file) d form.bare
         (written_circuit same f (ordered_file file) ordered form both.0 lines)
-        (files.binary (with_proof file d) (writable (Some (canonical_proof d)) within.variables) sorted)
+        (files.binary (with_proof file d) (writable (Some (canonical_proof d)) within.variables) are_sorted)
         (written_proof_allowed laws f (ordered_file file).circuit ordered form lines few (λ _. both.1))
 
-    by_form : (b : Bool) → in_binary form file ≡ b →
+    by_form : (b : Bool) → form.binary ≡ b →
         length (written_items form (cond b (ordered_proof file.circuit proof) proof).items) ≤ max_count →
         IsJudgement f (cond form.bare [] (line (codes "s TRUE")) ++ cond b
         (binary_text (with_proof (cond b (ordered_file file) file)
         (with_items form (cond b (ordered_proof file.circuit proof) proof))))
         (canonical_circuit (with_proof (cond b (ordered_file file) file)
         (with_items form (cond b (ordered_proof file.circuit proof) proof))))) ValidTrue
-    by_form true e few = in_order (and_parts form.binary (is_sorted file.circuit) e).1 few
+    by_form true e few = in_order (sorted e) few
     by_form false e few = in_ascii few

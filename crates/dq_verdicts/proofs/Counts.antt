@@ -15,7 +15,7 @@ use Rattle.aiger_text.specs.declared.files.AagFile.{AagFile}
 use Rattle.cert_text.specs.declared.circuit_proofs.Dqp.{Dqp}
 use Rattle.ordered_gates.specs.Circuits.{ordered_item, ordered_proof}
 use Rattle.dq_verdicts.proofs.WrittenForms.{written_few}
-use Rattle.dq_verdicts.specs.Forms.{in_binary, ordered_lines}
+use Rattle.dq_verdicts.specs.Forms.{ordered_lines}
 use Rattle.dq_verdicts.specs.Accepted.{SmallLogsAreWithinLimits}
 
 one_more : (few all : ℕ) (b : Bool) → few ≤ all → cond b (few + 1) few ≤ all + 1
@@ -56,7 +56,7 @@ small_within laws f entries file proof form lawful gates numbers lines small =
     let few_gates = count_few is_gate_name entries in
     let few_lines = count_few is_lemma entries in
     let written = written_few laws form (ordered_lines form file proof).items in
-    let ordered = ordered_many (in_binary form file) file proof in
+    let ordered = ordered_many form.binary file proof in
     let few = universals_few f lawful.prefix in
     let variables = lawful.few_variables in
     record {

@@ -3,5 +3,6 @@ pub mod AcceptedCircuits
 pub mod WrittenForms
 mod Beginnings
 pub mod Counts
+mod NumberedFiles
 pub mod ShownVerdicts
 mod LiftedVerdicts

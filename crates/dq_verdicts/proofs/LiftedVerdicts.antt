@@ -16,7 +16,7 @@ use Rattle.hint_log.specs.Deciding.{IsUndecided}
 use Rattle.hint_log.specs.Entries.{Entry, ProofLog, rounds_of, steps_of}
 use Rattle.hint_log.specs.ProductiveLog.{IsProductiveLog}
 use Rattle.aiger_text.specs.declared.files.AagFile.{AagFile}
-use Rattle.cert_export.specs.ExportedCircuit.{IsDecidedTrue, IsWritable, ExportedProofIsAllowed}
+use Rattle.cert_export.specs.ExportedCircuit.{IsDecidedTrue, IsNumberedFile, IsWritable, ExportedProofIsAllowed}
 use Rattle.cert_export.specs.Parts.{IsExportedCircuit}
 use Rattle.cert_text.specs.Grammar.{IsDqrOf}
 use Rattle.cert_text.specs.Header.{max_count}
@@ -34,6 +34,7 @@ use Rattle.dq_verdicts.specs.Prepared.{IsPrep, IsPreparedOutput, IsCertificate}
 use Rattle.dq_verdicts.specs.Shown.{IsShownTrue, IsShownFalse}
 use Rattle.dq_verdicts.specs.Verdicts.{is_unknown, verdict_text}
 use Rattle.dq_verdicts.specs.declared.forms.Form.{Form}
+use Rattle.dq_verdicts.proofs.NumberedFiles.{are_sorted}
 use Rattle.dq_verdicts.proofs.ShownVerdicts.{proof_numbered, printed_as}
 
 pub true-kept : SimplificationKeepsChoices → (f g : Dqbf) (units : List Taken) → IsWellFormed f → IsLawful f
@@ -50,7 +51,7 @@ shown-true accepted f g log id form file proof other is decided e = record {
   circuit = e.circuit;
   answered = (id, decided);
   exported = λ same. absurd (other same);
-  accepted = accepted f file proof form e.circuit e.lines e.writable e.allowed;
+  accepted = accepted f file proof form e.circuit e.lines e.writable (λ _. e.sorted) e.allowed;
   within = λ same. absurd (other same);
 }
 
@@ -96,17 +97,19 @@ shown-false accepted refute f g log form d lawful other is allowed none lines = 
 -- what is exported can be written
 pub exported-certificate : ExportedProofIsAllowed → AllowedLinesAreNumbered → (f : Dqbf) (entries : List Entry) (id : ℕ)
     (r : Result (AagFile × Dqp) Memory) → IfOk r (λ c. IsProvedCircuit f c.0 c.1) → IfOk r (λ c. IsWritable c.0)
+    → IfOk r (λ c. IsNumberedFile f c.0)
     → IfOk r (λ c. length c.1.items ≤ max_count → IsDqpOf f c.0.circuit c.1)
     → IfOk r (λ c. (ids : List ℕ) × IsExportedCircuit f entries id ids c.0 c.1)
     → IfOk r (λ c. IsCertificate f c.0 c.1)
-exported-certificate law numbered f entries id (Ok c) proved writable allowed exported =
+exported-certificate law numbered f entries id (Ok c) proved writable numbers allowed exported =
     record {
       circuit = proved;
       lines = proof_numbered law numbered f entries id exported.0 c.0 c.1 exported.1;
       writable = writable;
+      sorted = are_sorted f c.0 numbers;
       allowed = allowed;
     }
-exported-certificate law numbered f entries id (Err _) proved writable allowed exported = tt
+exported-certificate law numbered f entries id (Err _) proved writable numbers allowed exported = tt
 
 -- where the limit came first
 pub left-undecided : (f g : Dqbf) (log : ProofLog) (form : Form) (rounds steps : ℕ) (output : Output) → IsPrep f g

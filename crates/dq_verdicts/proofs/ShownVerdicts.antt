@@ -46,6 +46,7 @@ use Rattle.dq_verdicts.specs.declared.verdicts.Decision.{Decision}
 use Rattle.dq_verdicts.specs.declared.verdicts.Decision.TheVariants.{Shown, Refuted}
 use Rattle.dq_runs.specs.Printed.{Printed}
 use Rattle.dq_runs.specs.declared.outputs.Output.{Output}
+use Rattle.dq_verdicts.proofs.NumberedFiles.{are_sorted}
 use Rattle.dq_verdicts.proofs.WrittenForms.{written_few}
 use Rattle.dq_verdicts.proofs.Counts.{count_few}
 
@@ -121,7 +122,8 @@ shown_true accepted within f log id form file proof lawful is_so decided e = rec
     circuit = e.proved;
     numbers = e.numbers;
   };
-  accepted = accepted f file proof form e.proved e.lines e.spelled e.allowed;
+  accepted = accepted f file proof form e.proved e.lines e.spelled
+      (λ _. are_sorted f file e.numbers) e.allowed;
   within = λ _. within f log.entries file proof form lawful e.gates e.numbers.max_var e.few;
 }
 

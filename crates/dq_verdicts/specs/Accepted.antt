@@ -1,6 +1,6 @@
 -- That the checker accepts what is written with a verdict, and that what small logs give is within
 -- the formats' limits.
-use Rattle.std.specs.Prelude.{◌≡◌, ◌+◌, ◌≤◌, List, length, None}
+use Rattle.std.specs.Prelude.{◌≡◌, ◌+◌, ◌≤◌, true, List, length, None}
 use Rattle.dq_lits.specs.Formula.{Dqbf}
 use Rattle.dq_formula.specs.Prefix.{IsLawful}
 use Rattle.hint_log.specs.Entries.{Entry, count}
@@ -14,6 +14,7 @@ use Rattle.cert_export.specs.ExportedCircuit.{IsWritable, is_gate_name}
 use Rattle.cert_export.specs.Lines.{is_lemma}
 use Rattle.proof_checker.specs.ProvedCircuit.{IsProvedCircuit}
 use Rattle.refutation_checker.specs.Refutation.{refutation_fault}
+use Rattle.ordered_gates.specs.Circuits.{is_sorted}
 use Rattle.proof_deletions.specs.Deletions.{AreNumberedLines}
 use Rattle.cert_judge.specs.Judgement.{IsJudgement}
 use Rattle.cert_judge.specs.declared.answers.Judgement.TheVariants.{ValidTrue, ValidFalse}
@@ -27,6 +28,7 @@ abbrev pub ProvedCircuitsAreAccepted : Type 0
 ProvedCircuitsAreAccepted =
     (f : Dqbf) (file : AagFile) (proof : Dqp) (form : Form) → IsProvedCircuit f file proof
     → AreNumberedLines proof.items → IsWritable file
+    → (form.binary ≡ true → is_sorted file.circuit ≡ true)
     → (length proof.items ≤ max_count → IsDqpOf f file.circuit proof)
     → IsWithinLimits form file proof
     → IsJudgement f (verdict_text form f (is_true file proof)) ValidTrue

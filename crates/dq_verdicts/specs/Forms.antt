@@ -1,10 +1,10 @@
 -- How a verdict is written.
-use Rattle.std.specs.Prelude.{◌&&◌, Bool, false, List, if◌then◌else◌}
+use Rattle.std.specs.Prelude.{false, List, if◌then◌else◌}
 use Rattle.rup_core.specs.Items.{ProofItem}
 use Rattle.aiger_text.specs.declared.files.AagFile.{AagFile}
 use Rattle.cert_text.specs.declared.circuit_proofs.Dqp.{Dqp}
 use Rattle.cert_text.specs.declared.refutations.Dqr.{Dqr}
-use Rattle.ordered_gates.specs.Circuits.{is_sorted, ordered_file, ordered_proof}
+use Rattle.ordered_gates.specs.Circuits.{ordered_file, ordered_proof}
 use Rattle.proof_deletions.specs.Deletions.{with_deletions}
 use Rattle.dq_verdicts.specs.declared.forms.Form.{Form}
 
@@ -16,18 +16,14 @@ plain = record { bare = false; deletes = false; binary = false }
 abbrev pub written_items : Form → List ProofItem → List ProofItem
 written_items form items = if form.deletes then with_deletions items else items
 
--- in the binary form stand circuits whose gates are sorted
-abbrev pub in_binary : Form → AagFile → Bool
-in_binary form file = form.binary && is_sorted file.circuit
-
--- there each gate has its greater side first
+-- in the binary form each gate has its greater side first
 abbrev pub written_file : Form → AagFile → AagFile
-written_file form file = if in_binary form file then ordered_file file else file
+written_file form file = if form.binary then ordered_file file else file
 
 -- and the proof hints its clauses there
 abbrev pub ordered_lines : Form → AagFile → Dqp → Dqp
 ordered_lines form file proof =
-    if in_binary form file then ordered_proof file.circuit proof else proof
+    if form.binary then ordered_proof file.circuit proof else proof
 
 abbrev pub written_proof : Form → AagFile → Dqp → Dqp
 written_proof form file proof =

@@ -1,6 +1,6 @@
 -- A formula that is made simpler before the search: units are taken, each after universal reduction,
 -- until none is left or a clause is empty.
-use Rattle.std.specs.Prelude.{◌≡◌, ◌≢◌, ◌≤◌, ◌⊎◌, [], List, length}
+use Rattle.std.specs.Prelude.{◌≡◌, ◌≢◌, ◌≤◌, ◌⊎◌, true, [], List, length}
 use Rattle.dq_lits.specs.Formula.{Dqbf, IsWellFormed}
 use Rattle.dq_prep.specs.Simplified.{simplified_formula, IsExhausted}
 use Rattle.dq_prep.specs.Units.{AreUnits}
@@ -15,6 +15,7 @@ use Rattle.cert_text.specs.Header.{max_count}
 use Rattle.cert_text.specs.ProofGrammar.{IsDqpOf}
 use Rattle.cert_text.specs.declared.circuit_proofs.Dqp.{Dqp}
 use Rattle.proof_checker.specs.ProvedCircuit.{IsProvedCircuit}
+use Rattle.ordered_gates.specs.Circuits.{is_sorted}
 use Rattle.proof_deletions.specs.Deletions.{AreNumberedLines}
 use Rattle.dq_verdicts.specs.Shown.{IsVerdict}
 use Rattle.dq_verdicts.specs.Verdicts.{Verdict, printed_verdict}
@@ -47,6 +48,7 @@ pub record IsCertificate (f : Dqbf) (file : AagFile) (proof : Dqp) : Type 0 wher
   pub circuit : IsProvedCircuit f file proof
   pub lines : AreNumberedLines proof.items
   pub writable : IsWritable file
+  pub sorted : is_sorted file.circuit ≡ true
   pub allowed : length proof.items ≤ max_count → IsDqpOf f file.circuit proof
 
 -- what is left of the formula is another formula

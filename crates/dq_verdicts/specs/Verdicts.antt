@@ -9,7 +9,7 @@ use Rattle.cert_text.specs.Canonical.{canonical, canonical_proof}
 use Rattle.cert_text.specs.declared.circuit_proofs.Dqp.{Dqp}
 use Rattle.cert_text.specs.declared.refutations.Dqr.{Dqr}
 use Rattle.dq_runs.specs.Printed.{Printed, line}
-use Rattle.dq_verdicts.specs.Forms.{in_binary, written_file, written_proof, written_refutation}
+use Rattle.dq_verdicts.specs.Forms.{written_file, written_proof, written_refutation}
 use Rattle.dq_verdicts.specs.declared.forms.Form.{Form}
 
 pub data Verdict : Type 0 where
@@ -41,7 +41,7 @@ written_circuit form file proof =
 
 abbrev pub circuit_text : Form → AagFile → Dqp → List ℕ
 circuit_text form file proof =
-    if in_binary form file then binary_text (written_circuit form file proof)
+    if form.binary then binary_text (written_circuit form file proof)
     else canonical_circuit (written_circuit form file proof)
 
 -- what stands behind the line with the verdict

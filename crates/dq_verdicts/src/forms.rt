@@ -16,7 +16,7 @@ pub struct Form {
     pub bare: bool,
     /// With a deletion behind the last line of the proof that hints a derived clause.
     pub deletes: bool,
-    /// A circuit in AIGER's binary form, where its gates are sorted.
+    /// A circuit in AIGER's binary form.
     pub binary: bool,
 }
 

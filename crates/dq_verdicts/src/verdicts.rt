@@ -42,7 +42,7 @@ use hint_log::laws::rounds_are_steps;
 use hint_log::{Log, Stop};
 use oracle::Oracle;
 use ordered_gates::laws::{ordered_files_are_binary, ordered_lines_are_numbered};
-use ordered_gates::{is_sorted, ordered_circuit, ordered_items};
+use ordered_gates::{ordered_circuit, ordered_items};
 use proof_deletions::laws::{allowed_lines_are_numbered, deletions_are_allowed};
 use refutation_checker::laws::refutation_shows_false;
 use repair_loop::{Verdict, decide};
@@ -160,17 +160,18 @@ pub(crate) fn true_text(
     Ok(text)
 }
 
-/// A circuit with its proof in its comment.
+/// A circuit with its proof in its comment. Its gates are sorted.
 pub(crate) fn circuit_text(
     alloc: Global,
     file: AagFile,
     proof: Dqp,
     form: Form,
 ) -> Result<Vec<u8>, Memory>
-    requires { AreNumberedLines proof.items }
+    requires numbered { AreNumberedLines proof.items }
+    requires sorted { form.binary ≡ true → is_sorted file.circuit ≡ true }
     ensures { IfOk result (λ text. text.items ≡ circuit_text form file proof) }
 {
-    if form.binary && is_sorted(&file.circuit) {
+    if form.binary {
         return binary_circuit(alloc, file, proof, form);
     }
     ascii_circuit(alloc, file, proof, form)

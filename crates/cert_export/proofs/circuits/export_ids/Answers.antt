@@ -41,6 +41,7 @@ returns c = record {
     few_literals = c.in_ok-before.ensures.few;
   };
   few_gates = c.in_ok-part.ensures.few;
+  order = c.in_ok-part.ensures.order;
   written = c.in_ok-file.ensures;
   lines = c.in_ok-items.ensures;
 }

@@ -1,4 +1,4 @@
-use Rattle.cert_export.proofs.ExportedParts.{groups, have_literals, exported, few}
+use Rattle.cert_export.proofs.ExportedParts.{groups, have_literals, exported, few, order}
 use Rattle.cert_export.proofs.parts.exported_part.Goals as goal
 
 pub fault_group-group-requires-clause-one : goal.fault_group-group-requires-clause-one
@@ -18,6 +18,13 @@ returns-clause-part c =
 pub returns-clause-few : goal.returns-clause-few
 returns-clause-few c =
     few c.args.f.now c.args.log.now.entries c.args.id c.args.ids.now c.requires c.fault_group-group.result
+    c.in_ok-leaves.leaves c.in_ok-gates.ensures.0 c.in_ok-gates.gates
+    c.fault_group-group.ensures c.in_ok-leaves.ensures.sound c.in_ok-leaves.ensures.whole c.in_ok-gates.ensures.1
+    c.in_ok-gates.ensures.2
+
+pub returns-clause-order : goal.returns-clause-order
+returns-clause-order c =
+    order c.args.f.now c.args.log.now.entries c.args.id c.args.ids.now c.requires c.fault_group-group.result
     c.in_ok-leaves.leaves c.in_ok-gates.ensures.0 c.in_ok-gates.gates
     c.fault_group-group.ensures c.in_ok-leaves.ensures.sound c.in_ok-leaves.ensures.whole c.in_ok-gates.ensures.1
     c.in_ok-gates.ensures.2

@@ -10,4 +10,5 @@ pub returns : goal.returns
 returns c =
     let e = c.export_true.ensures in
     exported-certificate c.exported_proof_is_allowed.ensures c.allowed_lines_are_numbered.ensures c.args.f.now
-    c.args.log.now.entries c.args.id c.export_true.result e.proved e.spelled e.allowed e.exported
+    c.args.log.now.entries c.args.id c.export_true.result e.proved e.spelled e.numbers e.allowed
+    e.exported

@@ -1,5 +1,6 @@
 use Rattle.std.proofs.Common.{◌∙◌, ◌++◌, ap, cond, [], codes}
 use Rattle.dq_runs.specs.Printed.{line}
+use Rattle.dq_verdicts.proofs.NumberedFiles.{are_sorted}
 use Rattle.dq_verdicts.proofs.ShownVerdicts.{shown_true, proof_numbered}
 use Rattle.dq_verdicts.proofs.verdicts.true_text.Goals as goal
 
@@ -8,8 +9,11 @@ export_true-requires-clause-decided c =
     (c.productive_answers_can_be_exported.ensures c.args.f.now c.args.log.now.entries c.args.id
     c.every_log_is_lawful.ensures c.requires.productive).0 c.requires.decided
 
-pub circuit_text-requires : goal.circuit_text-requires
-circuit_text-requires c =
+pub circuit_text-requires-clause-sorted : goal.circuit_text-requires-clause-sorted
+circuit_text-requires-clause-sorted c = λ _. are_sorted c.args.f.now c.in_ok-file.file c.in_ok-file.ensures.numbers
+
+pub circuit_text-requires-clause-numbered : goal.circuit_text-requires-clause-numbered
+circuit_text-requires-clause-numbered c =
     let exported = c.in_ok-file.ensures in
     proof_numbered c.exported_proof_is_allowed.ensures c.allowed_lines_are_numbered.ensures c.args.f.now
     c.args.log.now.entries c.args.id exported.exported.0 c.in_ok-file.file c.in_ok-file.proof exported.exported.1
