@@ -160,7 +160,7 @@ pub(crate) fn true_text(
     Ok(text)
 }
 
-/// A circuit with its proof in its comment. Its gates are sorted.
+/// A circuit with its proof in its comment. For the binary form its gates are sorted.
 pub(crate) fn circuit_text(
     alloc: Global,
     file: AagFile,

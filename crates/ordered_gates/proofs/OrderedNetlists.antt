@@ -90,7 +90,7 @@ module _ (net : Netlist) where
         let long = length-map net.gates ordered_gate in
         let below : j < length net.gates = omega (arith, high, long) in
         λ e. is.gates_once i j d low below
-            (sym (variable_at i d (omega (arith, low, below))) ∙ e ∙ variable_at j d below);
+        (sym (variable_at i d (omega (arith, low, below))) ∙ e ∙ variable_at j d below);
     apart = All-weaker (λ x. All (λ g. x ≢ g.variable) net.gates)
         (λ x. All (λ g. x ≢ g.variable) (map ordered_gate net.gates))
         (λ x all. All-map (λ g. x ≢ g.variable) ordered_gate net.gates
