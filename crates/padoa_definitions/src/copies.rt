@@ -21,14 +21,14 @@ use std::alloc::Global;
 /// existentials, in order of declaration.
 #[derive(Drop)]
 pub struct MatrixCopy {
-    pub(crate) group: Group,
+    pub group: Group,
     pub(crate) universals: Vec<Lit>,
     pub(crate) existentials: Vec<Lit>,
 }
 
 impl MatrixCopy {
     /// The copy of the variable at a place, universals first.
-    pub(crate) fn copy_at(&self, place: usize) -> Lit
+    pub fn copy_at(&self, place: usize) -> Lit
         requires { place < length (copies_of self.now) }
         ensures { slice_get (copies_of self.now) place ≡ Some result }
     {
@@ -111,8 +111,8 @@ fn copied_literal(copy: &MatrixCopy, f: &Formula, l: Lit) -> Lit
     if l.is_neg() { variable.not() } else { variable }
 }
 
-// The copy of a variable, as a positive literal.
-pub(crate) fn copied_variable(copy: &MatrixCopy, f: &Formula, v: u64) -> Lit
+/// The copy of a variable, as a positive literal.
+pub fn copied_variable(copy: &MatrixCopy, f: &Formula, v: u64) -> Lit
     requires bound { Contains (declared f.now) v }
     requires universals { length copy.now.universals.items ≡ length f.now.universals }
     requires existentials { length copy.now.existentials.items ≡ length f.now.existentials }

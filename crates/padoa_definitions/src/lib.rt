@@ -10,7 +10,7 @@
 //! forced to have a bit where it sees what it sees at a row.
 #![tactic(auto)]
 
-pub use copies::MatrixCopy;
+pub use copies::{MatrixCopy, copied_variable};
 pub use defining::{Found, Pair};
 pub use forcing::Forced;
 pub use guessing::Guess;

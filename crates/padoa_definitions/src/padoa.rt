@@ -21,7 +21,8 @@ use std::alloc::Global;
 #[derive(Drop)]
 pub struct Padoa {
     pub(crate) alloc: Global,
-    pub(crate) first: MatrixCopy,
+    /// The first copy of the matrix.
+    pub first: MatrixCopy,
     pub(crate) second: MatrixCopy,
     pub(crate) links: Vec<Group>,
 }
