@@ -1,0 +1,4 @@
+pub mod GrownProofs
+pub mod TermParts
+pub mod KnownTerms
+pub mod NodeLiterals

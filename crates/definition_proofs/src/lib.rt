@@ -1,3 +1,7 @@
 //! Proofs of definitions: a definition of an existential, proved once more on the first copy of the matrix, by gates
 //! over first copies and two clauses by which the copy of the existential differs from it.
 #![tactic(auto)]
+
+pub use terms::Terms;
+
+mod terms;

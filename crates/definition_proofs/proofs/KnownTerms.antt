@@ -1,0 +1,254 @@
+-- What is known of gates over first copies, with one gate more, and as others add to the log.
+use Rattle.std.proofs.Common.{◌≡◌, ◌≢◌, ◌⊎◌, ℕ, zero, suc, ◌+◌, ◌<◌, ◌==◌, Bool, true, false, cond, inl, inr, List, [], ◌∷◌, Option, Some, None, IsSome, refl, sym, ◌∙◌, ap, subst, arith, nat_lt}
+use Rattle.std.proofs.Common.{BTreeMap}
+use Rattle.std.specs.List.{All, Contains}
+use Rattle.std.specs.BTreeMap.{get}
+use Rattle.std.specs.Ordering.{nat_cmp, ordering_then, is_eq}
+use Rattle.std.specs.declared.cmp.Ordering.{Ordering}
+use Rattle.std.specs.declared.cmp.Ordering.TheVariants.{Less, Equal, Greater}
+use Rattle.std.proofs.lemmas.Bool.{false≢true, eqb-true, eq-eqb, cases_Bool, leb-true}
+use Rattle.dq_lits.specs.Literal.{Literal, positive, negative}
+use Rattle.dq_lits.specs.Formula.{Dqbf}
+use Rattle.hint_log.specs.Conditions.{AreLogged}
+use Rattle.hint_log.specs.Entries.{Entry, Named, Given, ProofLog, with_entry, name_of}
+use Rattle.hint_log.specs.Growth.{Each}
+use Rattle.hint_log.specs.Origins.{gate_rest}
+use Rattle.hint_log.specs.declared.names.Name.{Name}
+use Rattle.hint_log.specs.declared.names.Name.TheVariants.{Selector, Term}
+use Rattle.hint_log.specs.declared.origins.Origin.{Origin}
+use Rattle.hint_log.specs.declared.origins.Origin.TheVariants.{TermGate}
+use Rattle.log_laws.proofs.Kept.{NamesStay, name_stays_by, name_cases}
+use Rattle.oracle.specs.Calls.{IsMade}
+use Rattle.padoa_definitions.specs.Copies.{IsPadoa, IsGroupGiven, group_variable, groups_of}
+use Rattle.padoa_definitions.specs.Growing.{Gives}
+use Rattle.padoa_definitions.specs.declared.padoa.Padoa.{Padoa}
+use Rattle.padoa_definitions.proofs.GivenClauses.{fresh_group}
+use Rattle.padoa_definitions.proofs.KeptCopies.{contains_later, made_stays}
+use Rattle.padoa_definitions.proofs.StandingCopies.{groups_named}
+use Rattle.definition_proofs.specs.Terms.{literal_number, by_both, is_term_gate, is_gate_of, HasTermClauses, HasNoTerms, AreTerms}
+use Rattle.definition_proofs.specs.declared.terms.Terms.{Terms}
+use Rattle.definition_proofs.proofs.GrownProofs.{no_formula, proof_gives, entries_stay, gate_is, given_before}
+
+-- literals have numbers of their own
+same_literals : (a b : Literal) → literal_number a ≡ literal_number b → a ≡ b
+same_literals (positive v) (positive w) h = let e : v ≡ w = omega (arith, h) in ap positive e
+same_literals (positive v) (negative w) h = absurd (omega (arith, h))
+same_literals (negative v) (positive w) h = absurd (omega (arith, h))
+same_literals (negative v) (negative w) h = let e : v ≡ w = omega (arith, h) in ap negative e
+
+equal_by : (x y : ℕ) → is_eq (nat_cmp x y) ≡ true → x ≡ y
+equal_by x y h = by (nat_lt x y) (x == y) refl h where
+  by : (b d : Bool) → (x == y) ≡ d → is_eq (cond b Less (cond d Equal Greater)) ≡ true → x ≡ y
+  by true d e h = cc
+  by false true e h = eqb-true x y e
+  by false false e h = cc
+
+equal_by_both : (p q : ℕ × ℕ) → is_eq (by_both p q) ≡ true → (p.0 ≡ q.0) × (p.1 ≡ q.1)
+equal_by_both p q h = by (nat_cmp p.0 q.0) refl h where
+  by : (o : Ordering) → nat_cmp p.0 q.0 ≡ o → is_eq (ordering_then o (nat_cmp p.1 q.1)) ≡ true →
+      (p.0 ≡ q.0) × (p.1 ≡ q.1)
+  by Less e h = cc
+  by Equal e h = (equal_by p.0 q.0 (ap is_eq e), equal_by p.1 q.1 h)
+  by Greater e h = cc
+
+itself_by : (x : ℕ) → nat_cmp x x ≡ Equal
+itself_by x = by (nat_lt x x) refl where
+  by : (b : Bool) → nat_lt x x ≡ b → cond b Less (cond (x == x) Equal Greater) ≡ Equal
+  by true e = absurd (let below : x < x = leb-true (suc x) x e in omega (arith, below))
+  by false e = ap (λ b. cond b Equal Greater) (eq-eqb x x refl)
+
+itself_by_both : (p : ℕ × ℕ) → is_eq (by_both p p) ≡ true
+itself_by_both p = ap (λ o. is_eq (ordering_then o (nat_cmp p.1 p.1))) (itself_by p.0) ∙ ap is_eq (itself_by p.1)
+
+abbrev pub key_of : Literal → Literal → ℕ × ℕ
+key_of a b = (literal_number a, literal_number b)
+
+pub key_is : (x y : ℕ) (a b : Literal) → x ≡ literal_number a → y ≡ literal_number b → (x, y) ≡ key_of a b
+key_is x y a b x_is y_is = ap (λ z. (z, y)) x_is ∙ ap (λ z. (literal_number a, z)) y_is
+
+some_there : (o : Option Name) → IsSome o → (n : Name) × (o ≡ Some n)
+some_there None some = cc
+some_there (Some n) some = (n, refl)
+
+-- what leaves the gates over first copies as they stand
+pub record LeavesTerms (group : ℕ) (old new : List Entry) : Type 0 where
+  pub names : NamesStay old new
+  pub terms : (v : ℕ) (a b : Literal) → name_of new v ≡ Some (Term a b) → name_of old v ≡ Some (Term a b)
+  pub entries : (e : Entry) → Contains old e → Contains new e
+  pub gates : (v i : ℕ) (c : List Literal) → Contains new (Given (TermGate v i) c) → Contains old (Given (TermGate v i) c)
+  pub in_group : (o : Origin) (rest : List Literal) → Contains new (Given o (negative group ∷ rest)) →
+      Contains old (Given o (negative group ∷ rest))
+
+some_stays : (old new : List Entry) → NamesStay old new → (v : ℕ) → IsSome (name_of old v) → IsSome (name_of new v)
+some_stays old new stay v some = let n = some_there (name_of old v) some in subst IsSome (sym (stay v n.0 n.1)) refl
+
+pub terms_stay : (t : Terms) (old new : List Entry) → LeavesTerms (group_variable t.group) old new → AreTerms t old →
+    AreTerms t new
+terms_stay t old new leaves before = record {
+  made = made_stays old new leaves.names t.group before.made;
+  known = λ v a b is. before.known v a b (leaves.terms v a b is);
+  sound = λ a b l found. (let s = before.sound a b l found in (s.0, s.1, leaves.names s.0 (Term a b) s.2));
+  clauses = λ v a b is i rest rest_is. leaves.entries (Given (TermGate v i) (negative (group_variable t.group) ∷ rest))
+      (before.clauses v a b (leaves.terms v a b is) i rest rest_is);
+  origins = λ v i c inside. some_stays old new leaves.names v (before.origins v i c (leaves.gates v i c inside));
+  own = λ o rest inside. before.own o rest (leaves.in_group o rest inside);
+}
+
+-- no clause of a gate that isn't named yet
+pub none_yet : (t : Terms) (old new : List Entry) (v : ℕ) (a b : Literal) → AreTerms t old → name_of old v ≡ None →
+    new ≡ Named v (Term a b) ∷ old → (i : ℕ) (c : List Literal) → Contains new (Given (TermGate v i) c) → ⊥
+none_yet t old new v a b before unnamed is i c inside =
+    let some = some_there (name_of old v) (before.origins v i c (given_before v (Term a b) old (TermGate v i) c
+    (subst (λ es. Contains es (Given (TermGate v i) c)) is inside))) in
+    let both : None ≡ Some some.0 = sym unnamed ∙ some.1 in
+    cc
+
+-- a fact of each entry is one of this entry
+each_one : (P : List Entry → Entry → Type 0) (es : List Entry) (e : Entry) → Each P es → Contains es e →
+    (earlier : List Entry) × P earlier e
+each_one P [] e each (k, lt, at) = absurd (omega (arith, lt))
+each_one P (x ∷ es) e each (zero, lt, at) = (es, subst (P es) at each.0)
+each_one P (x ∷ es) e each (suc k, lt, at) = each_one P es e each.1 (k, omega (arith, lt), at)
+
+-- no clause was given to a group before it was made
+pub none_in_new : (es : List Entry) (g : ℕ) (o : Origin) (rest : List Literal) → AreLogged es → name_of es g ≡ None →
+    Contains es (Given o (negative g ∷ rest)) → ⊥
+none_in_new es g o rest logged unnamed inside =
+    let one = each_one (IsGroupGiven no_formula (λ o. false) g) es (Given o (negative g ∷ rest))
+    (fresh_group no_formula (λ o. false) g es logged unnamed) inside in
+    false≢true (one.1 (rest, refl)).0
+
+-- no gate yet
+pub no_gates : (t : Terms) (old new : List Entry) → AreLogged old → HasNoTerms old →
+    name_of old (group_variable t.group) ≡ None → IsMade new t.group →
+    new ≡ Named (group_variable t.group) (Selector (group_variable t.group)) ∷ old →
+    ((q : ℕ × ℕ) → get by_both t.literals q ≡ None) → AreTerms t new
+no_gates t old new logged none unnamed made is empty = record {
+  made = made;
+  known = λ v a b named. absurd (not_named v a b named);
+  sound = λ a b l found. (let both : None ≡ Some l = sym (empty (key_of a b)) ∙ found in cc);
+  clauses = λ v a b named. absurd (not_named v a b named);
+  origins = λ v i c inside. absurd (none.ungiven v i c (before (TermGate v i) c inside));
+  own = λ o rest inside. absurd (none_in_new old g o rest logged unnamed (before o (negative g ∷ rest) inside));
+} where
+  g : ℕ
+  g = group_variable t.group
+
+  not_named : (v : ℕ) (a b : Literal) → name_of new v ≡ Some (Term a b) → ⊥
+  not_named v a b named = elim (name_cases old (group_variable t.group) v (Selector (group_variable t.group)) (Term a b)
+      (sym (ap (λ es. name_of es v) is) ∙ named)) [ inl same ↦ cc | inr was ↦ none.unnamed v a b was ]
+
+  before : (o : Origin) (c : List Literal) → Contains new (Given o c) → Contains old (Given o c)
+  before o c inside = given_before (group_variable t.group) (Selector (group_variable t.group)) old o c
+      (subst (λ es. Contains es (Given o c)) is inside)
+
+-- the copies' groups have names
+pub others_apart : (f : Dqbf) (p : Padoa) (es : List Entry) (g : ℕ) → name_of es g ≡ None → IsPadoa f p es →
+    All (λ h. h ≢ g) (groups_of p)
+others_apart f p es g unnamed padoa k d lt same =
+    let named = groups_named f p es padoa k d lt in
+    let both : None ≡ Some named.0 = sym unnamed ∙ ap (name_of es) (sym same) ∙ named.1 in
+    cc
+
+-- a gate that is named, and has its clauses
+module _ (t : Terms) (literals : BTreeMap (ℕ × ℕ) Literal) (old mid new : ProofLog) (v : ℕ) (a b : Literal)
+    (before : AreTerms t old.entries) (unnamed : name_of old.entries v ≡ None)
+    (none : get by_both t.literals (key_of a b) ≡ None) (named : mid ≡ with_entry old (Named v (Term a b)))
+    (gives : (f : Dqbf) → Gives f (is_gate_of v) (group_variable t.group) mid new)
+    (whole : HasTermClauses new.entries (group_variable t.group) v a b)
+    (updates : (q : ℕ × ℕ) → get by_both literals q ≡ cond (is_eq (by_both (key_of a b) q)) (Some (positive v))
+    (get by_both t.literals q)) where
+  abbrev g : ℕ
+  g = group_variable t.group
+
+  mid_is : mid.entries ≡ Named v (Term a b) ∷ old.entries
+  mid_is = ap (λ (l : ProofLog). l.entries) named
+
+  -- a variable is this one, or has its name before
+  cases : (w : ℕ) (n : Name) → name_of new.entries w ≡ Some n →
+      ((w ≡ v) × (Term a b ≡ n)) ⊎ (name_of old.entries w ≡ Some n)
+  cases w n is = name_cases old.entries v w (Term a b) n (sym (ap (λ es. name_of es w) mid_is)
+      ∙ sym ((gives no_formula).names w) ∙ is)
+
+  here : name_of new.entries v ≡ Some (Term a b)
+  here = (gives no_formula).names v ∙ ap (λ es. name_of es v) mid_is
+      ∙ ap (λ x. cond x (Some (Term a b)) (name_of old.entries v)) (eq-eqb v v refl)
+
+  stay : NamesStay old.entries new.entries
+  stay w n is = (gives no_formula).names w ∙ ap (λ es. name_of es w) mid_is
+      ∙ name_stays_by old.entries v (Term a b) unnamed w n is
+
+  entries : (e : Entry) → Contains old.entries e → Contains new.entries e
+  entries e inside = entries_stay no_formula g 0 mid new (proof_gives no_formula g v 0 mid new (gives no_formula)) e
+      (subst (λ es. Contains es e) (sym mid_is) (contains_later (Named v (Term a b)) e old.entries inside))
+
+  -- what is looked up is this gate, or was there before
+  looked : (c d : Literal) → ((a ≡ c) × (b ≡ d) × (get by_both literals (key_of c d) ≡ Some (positive v)))
+      ⊎ (get by_both literals (key_of c d) ≡ get by_both t.literals (key_of c d))
+  looked c d = elim (cases_Bool (is_eq (by_both (key_of a b) (key_of c d)))) [
+    | inl same ↦ (let numbers = equal_by_both (key_of a b) (key_of c d) same in inl (
+        same_literals a c numbers.0,
+        same_literals b d numbers.1,
+        updates (key_of c d) ∙ ap (λ x. cond x (Some (positive v)) (get by_both t.literals (key_of c d))) same,
+      ))
+    | inr other ↦ inr (updates (key_of c d) ∙ ap (λ x. cond x (Some (positive v)) (get by_both t.literals (key_of c d)))
+        other)
+  ]
+
+  there : get by_both literals (key_of a b) ≡ Some (positive v)
+  there = updates (key_of a b) ∙ ap (λ x. cond x (Some (positive v)) (get by_both t.literals (key_of a b)))
+      (itself_by_both (key_of a b))
+
+  known : (w : ℕ) (c d : Literal) → ((w ≡ v) × (Term a b ≡ Term c d)) ⊎ (name_of old.entries w ≡ Some (Term c d)) →
+      get by_both literals (key_of c d) ≡ Some (positive w)
+  known w c d (inl now) =
+      let left : a ≡ c = cc in
+      let right : b ≡ d = cc in
+      ap (λ x. get by_both literals (key_of x d)) (sym left) ∙ ap (λ x. get by_both literals (key_of a x)) (sym right)
+      ∙ there ∙ ap (λ x. Some (positive x)) (sym now.0)
+  known w c d (inr was) = elim (looked c d) [
+    | inl now ↦ (
+        let both : None ≡ Some (positive w) = sym none ∙ ap (λ x. get by_both t.literals (key_of x b)) now.0
+        ∙ ap (λ x. get by_both t.literals (key_of c x)) now.1 ∙ before.known w c d was in
+        cc)
+    | inr same ↦ same ∙ before.known w c d was
+  ]
+
+  sound : (c d l : Literal) → get by_both literals (key_of c d) ≡ Some l →
+      (w : ℕ) × (l ≡ positive w) × (name_of new.entries w ≡ Some (Term c d))
+  sound c d l found = elim (looked c d) [
+    | inl now ↦ (let both : Some (positive v) ≡ Some l = sym now.2 ∙ found in let same : positive v ≡ l = cc in
+        (v, sym same, here ∙ ap (λ x. Some (Term x b)) now.0 ∙ ap (λ x. Some (Term c x)) now.1))
+    | inr same ↦ (let s = before.sound c d l (sym same ∙ found) in (s.0, s.1, stay s.0 (Term c d) s.2))
+  ]
+
+  clauses : (w : ℕ) (c d : Literal) → ((w ≡ v) × (Term a b ≡ Term c d)) ⊎ (name_of old.entries w ≡ Some (Term c d)) →
+      HasTermClauses new.entries g w c d
+  clauses w c d (inl now) =
+      let left : a ≡ c = cc in
+      let right : b ≡ d = cc in
+      subst (λ x. HasTermClauses new.entries g x c d) (sym now.0)
+      (subst (λ x. HasTermClauses new.entries g v x d) left (subst (HasTermClauses new.entries g v a) right whole))
+  clauses w c d (inr was) = λ i rest rest_is.
+      entries (Given (TermGate w i) (negative g ∷ rest)) (before.clauses w c d was i rest rest_is)
+
+  in_old : (o : Origin) (c : List Literal) → Contains mid.entries (Given o c) → Contains old.entries (Given o c)
+  in_old o c inside = given_before v (Term a b) old.entries o c (subst (λ es. Contains es (Given o c)) mid_is inside)
+
+  pub gate_more : AreTerms (record t { literals = literals }) new.entries
+  gate_more = record {
+    made = made_stays old.entries new.entries stay t.group before.made;
+    known = λ w c d is. known w c d (cases w (Term c d) is);
+    sound = sound;
+    clauses = λ w c d is. clauses w c d (cases w (Term c d) is);
+    origins = λ w i c inside. elim ((gives no_formula).givens (TermGate w i) c inside) [
+      | inl was ↦ some_stays old.entries new.entries stay w (before.origins w i c (in_old (TermGate w i) c was))
+      | inr now ↦ (
+          let same = (gate_is v 0 (TermGate w i) now).2 i w refl in
+          subst (λ x. IsSome (name_of new.entries x)) (sym same) (subst IsSome (sym here) refl))
+    ];
+    own = λ o rest inside. elim ((gives no_formula).givens o (negative g ∷ rest) inside) [
+      | inl was ↦ before.own o rest (in_old o (negative g ∷ rest) was)
+      | inr now ↦ (gate_is v 0 o now).1
+    ];
+  }

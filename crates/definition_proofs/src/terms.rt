@@ -1,0 +1,144 @@
+//! Gates over first copies, each given once (Tseitin's encoding).
+
+ghost use Rattle.std.specs.Prelude.{◌≡◌, ◌≢◌, ◌≤◌, ◌<◌, ◌^◌, ℕ, List, All, IfOk, OnOk, OnErr, Some};
+ghost use Rattle.std.specs.List.{Contains};
+ghost use Rattle.dq_lits.specs.Formula.{Dqbf};
+ghost use Rattle.dq_lits.specs.Literal.{Literal, positive};
+ghost use Rattle.hint_log.specs.Conditions.{HasSides};
+ghost use Rattle.hint_log.specs.Entries.{Named, Given, with_entry, name_of};
+ghost use Rattle.hint_log.specs.declared.names.Name.TheVariants.{Selector, Term};
+ghost use Rattle.hint_log.specs.declared.origins.Origin.TheVariants.{TermGate};
+ghost use Rattle.oracle.specs.Calls.{IsMade};
+ghost use Rattle.padoa_definitions.specs.Copies.{IsPadoa, group_variable, groups_of};
+ghost use Rattle.padoa_definitions.specs.Growing.{Gives, HasFewFaults};
+ghost use Rattle.padoa_definitions.specs.declared.padoa.Padoa.{Padoa as PadoaValue};
+ghost use Rattle.definition_proofs.specs.Terms.{literal_number, is_gate_of, HasTermClauses, HasNoTerms, AreTerms, GrewByProof};
+
+use dq_lits::{Lit, Memory};
+use hint_log::{Log, Name, Origin};
+use oracle::{Group, Oracle};
+use std::alloc::Global;
+use std::collections::BTreeMap;
+
+/// The gates over first copies that were given to the oracle, by their sides, in a group of their own. Definitions
+/// share them.
+#[derive(Drop)]
+pub struct Terms {
+    pub(crate) alloc: Global,
+    pub(crate) group: Group,
+    pub(crate) literals: BTreeMap<(u64, u64), Lit>,
+}
+
+/// A gate over first copies that was named.
+#[derive(Clone, Copy)]
+pub(crate) struct NewGate {
+    pub variable: u64,
+    pub left: Lit,
+    pub right: Lit,
+}
+
+impl Terms {
+    /// Makes the group; no gate is given yet.
+    pub fn new<O: Oracle>(alloc: Global, oracle: &mut O, log: &mut Log) -> Result<Terms, Memory>
+        requires fit { O.Fits oracle.old log.old }
+        requires none { HasNoTerms log.old.entries }
+        ensures fit { O.Fits oracle.new log.new }
+        ensures ok { IfOk result (λ terms. log.new ≡ with_entry log.old
+            (Named (group_variable terms.group) (Selector (group_variable terms.group)))) }
+        ensures made { IfOk result (λ terms. AreTerms terms log.new.entries) }
+        ensures apart { (f : Dqbf) (p : PadoaValue) → IsPadoa f p log.old.entries
+            → IfOk result (λ terms. All (λ g. g ≢ group_variable terms.group) (groups_of p)) }
+        ensures err { OnErr result (log.new ≡ log.old) }
+    {
+        let who = oracle.tenant()?;
+        let group = oracle.group(&who, log)?;
+        Ok(Terms {
+            alloc,
+            group,
+            literals: BTreeMap::new(alloc),
+        })
+    }
+
+    // The literal of a gate over these literals: its clauses are given where they weren't yet.
+    pub(crate) fn gate<O: Oracle>(
+        &mut self,
+        oracle: &mut O,
+        a: Lit,
+        b: Lit,
+        log: &mut Log,
+    ) -> Result<Lit, Memory>
+        requires fit { O.Fits oracle.old log.old }
+        requires terms { AreTerms self.old log.old.entries }
+        requires sides { HasSides log.old.entries (Term a b) }
+        requires few { HasFewFaults log.old.entries }
+        ensures fit { O.Fits oracle.new log.new }
+        ensures grew { (f : Dqbf) (y : ℕ)
+            → GrewByProof f (group_variable self.old.group) y log.old log.new }
+        ensures group { self.new.group ≡ self.old.group }
+        ensures terms { OnOk result (AreTerms self.new log.new.entries) }
+        ensures named { IfOk result (λ l. (v : ℕ) × (l ≡ positive v)
+            × (name_of log.new.entries v ≡ Some (Term a b))) }
+    {
+        let key = (number(a), number(b));
+        if let Some(l) = self.literals.get(&key) {
+            return Ok(*l);
+        }
+        let v = oracle.new_var(Name::Term { left: a, right: b }, log)?;
+        let gate = NewGate {
+            variable: v,
+            left: a,
+            right: b,
+        };
+        give_clauses(&self.group, oracle, gate, log)?;
+        let l = Lit::pos(v);
+        self.literals.insert(key, l)?;
+        Ok(l)
+    }
+}
+
+// Gives the three clauses of a gate.
+fn give_clauses<O: Oracle>(
+    group: &Group,
+    oracle: &mut O,
+    gate: NewGate,
+    log: &mut Log,
+) -> Result<(), Memory>
+    requires fit { O.Fits oracle.old log.old }
+    requires made { IsMade log.old.entries group.now }
+    requires from_one { 1 ≤ gate.variable }
+    requires in_range { gate.variable < 2 ^ 62 }
+    requires named { name_of log.old.entries gate.variable ≡ Some (Term gate.left gate.right) }
+    requires sides { HasSides log.old.entries (Term gate.left gate.right) }
+    requires few { HasFewFaults log.old.entries }
+    requires none { (i : ℕ) (c : List Literal)
+        → Contains log.old.entries (Given (TermGate gate.variable i) c) → ⊥ }
+    ensures fit { O.Fits oracle.new log.new }
+    ensures gives { (f : Dqbf)
+        → Gives f (is_gate_of gate.variable) (group_variable group.now) log.old log.new }
+    ensures given { OnOk result (HasTermClauses log.new.entries (group_variable group.now)
+        gate.variable gate.left gate.right) }
+{
+    let v = gate.variable;
+    oracle.add(group, &[Lit::neg(v), gate.left], part_of(v, 1), log)?;
+    oracle.add(group, &[Lit::neg(v), gate.right], part_of(v, 2), log)?;
+    oracle.add(group, &[Lit::pos(v), gate.left.not(), gate.right.not()], part_of(v, 3), log)?;
+    Ok(())
+}
+
+// The origin of a gate's clause.
+fn part_of(variable: u64, part: u64) -> Origin
+    ensures { result ≡ TermGate variable part }
+{
+    Origin::TermGate { variable, part }
+}
+
+// The number of a literal.
+fn number(l: Lit) -> u64
+    ensures { result ≡ literal_number l }
+{
+    if l.is_neg() {
+        2 * l.var() + 1
+    } else {
+        2 * l.var()
+    }
+}
