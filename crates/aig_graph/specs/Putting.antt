@@ -1,4 +1,4 @@
--- Words of private contracts: the gates in a node's cone, and what was made of them.
+-- The gates in a node's cone, and for private contracts what was made of them.
 use Rattle.std.specs.Prelude.{◌≡◌, ◌⊎◌, ◌<◌, ◌↔◌, ℕ, true, false, List, length, Option, None, Some}
 use Rattle.std.specs.List.{All, AllPairs, Contains}
 use Rattle.std.specs.Ordering.{nat_cmp}

@@ -13,9 +13,9 @@ use std::alloc::Global;
 use std::collections::BTreeSet;
 
 impl Graph {
-    // The gates in a node's cone, later ones first. Work and memory follow the cone, however large
-    // the graph is.
-    pub(crate) fn cone_gates(&self, alloc: Global, n: Node) -> Result<Vec<usize>, Memory>
+    /// The gates in a node's cone, later ones first. Work and memory follow the cone, however large
+    /// the graph is.
+    pub fn cone_gates(&self, alloc: Global, n: Node) -> Result<Vec<usize>, Memory>
         requires node { IsNode self.now n }
         ensures { IfOk result (λ gates. AreConeGates self.now n gates.items) }
     {

@@ -2,3 +2,4 @@ pub mod GrownProofs
 pub mod TermParts
 pub mod KnownTerms
 pub mod NodeLiterals
+pub mod ConeLiterals

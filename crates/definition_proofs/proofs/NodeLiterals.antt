@@ -24,7 +24,7 @@ use Rattle.log_laws.proofs.Kept.{NamesStay, literal_stays}
 use Rattle.padoa_definitions.specs.Copies.{AreCopiesOf}
 use Rattle.padoa_definitions.proofs.CopiedVariables.{copy_at}
 use Rattle.definition_proofs.specs.Shown.{ReadsCopy, itself, left, right}
-use Rattle.definition_proofs.specs.Leaves.{StandsFor, input, gate, not_input, not_gate}
+use Rattle.definition_proofs.specs.Leaves.{StandsFor, input, gate, not_input, not_gate, negated_by}
 
 pub stands_still : (f : Dqbf) (graph : AigGraph) (old new : List Entry) → NamesStay old new → (n : Node) (l : Literal) →
     StandsFor f graph old n l → StandsFor f graph new n l
@@ -129,3 +129,27 @@ reads_support f graph es n l stands x reads =
     let r = reads_inputs f graph es n l stands x reads in
     subst (Contains (map (input_variable f) (node_support graph n))) (sym r.1)
     (mapped (input_variable f) (node_support graph n) r.0 r.2)
+
+-- a copy of a declared variable stands for its input
+pub input_stands : (f : Dqbf) (graph : AigGraph) (es : List Entry) (copies : List Literal) (i : ℕ) (l : Literal) →
+    AreCopiesOf es 1 (declared f) copies → i < length (declared f) → slice_get copies i ≡ Some l →
+    StandsFor f graph es (Input i false) l
+input_stands f graph es copies i l are below at =
+    input i l (copy_at es 1 (declared f) copies i (input_variable f i) l are (slice_get-get_or (declared f) i 0 below) at)
+
+-- either sign
+pub input_signed : (f : Dqbf) (graph : AigGraph) (es : List Entry) (i : ℕ) (l : Literal) (negated : Bool) →
+    StandsFor f graph es (Input i false) l → StandsFor f graph es (Input i negated) (negated_by negated l)
+input_signed f graph es i l false stands = stands
+input_signed f graph es i l true stands = not_input i l stands
+
+pub gate_signed : (f : Dqbf) (graph : AigGraph) (es : List Entry) (g : ℕ) (l : Literal) (negated : Bool) →
+    StandsFor f graph es (Gate g false) l → StandsFor f graph es (Gate g negated) (negated_by negated l)
+gate_signed f graph es g l false stands = stands
+gate_signed f graph es g l true stands = not_gate g l stands
+
+-- a side of a gate isn't constant
+pub side_inner : (inputs : ℕ) (n : Node) → place_of inputs n ≢ None → IsInner n
+side_inner inputs (Constant b) inner = absurd (inner refl)
+side_inner inputs (Input i negated) inner = tt
+side_inner inputs (Gate g negated) inner = tt

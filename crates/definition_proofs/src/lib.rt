@@ -4,4 +4,5 @@
 
 pub use terms::Terms;
 
+mod leaves;
 mod terms;
