@@ -26,6 +26,7 @@ use Rattle.padoa_definitions.proofs.GivenClauses.{fresh_group}
 use Rattle.padoa_definitions.proofs.KeptCopies.{contains_later, made_stays}
 use Rattle.padoa_definitions.proofs.StandingCopies.{groups_named}
 use Rattle.definition_proofs.specs.Terms.{literal_number, by_both, is_term_gate, is_gate_of, HasTermClauses, HasNoTerms, AreTerms}
+use Rattle.definition_proofs.specs.Differing.{LeavesTerms}
 use Rattle.definition_proofs.specs.declared.terms.Terms.{Terms}
 use Rattle.definition_proofs.proofs.GrownProofs.{no_formula, proof_gives, entries_stay, gate_is, given_before}
 
@@ -70,14 +71,7 @@ some_there : (o : Option Name) → IsSome o → (n : Name) × (o ≡ Some n)
 some_there None some = cc
 some_there (Some n) some = (n, refl)
 
--- what leaves the gates over first copies as they stand
-pub record LeavesTerms (group : ℕ) (old new : List Entry) : Type 0 where
-  pub names : NamesStay old new
-  pub terms : (v : ℕ) (a b : Literal) → name_of new v ≡ Some (Term a b) → name_of old v ≡ Some (Term a b)
-  pub entries : (e : Entry) → Contains old e → Contains new e
-  pub gates : (v i : ℕ) (c : List Literal) → Contains new (Given (TermGate v i) c) → Contains old (Given (TermGate v i) c)
-  pub in_group : (o : Origin) (rest : List Literal) → Contains new (Given o (negative group ∷ rest)) →
-      Contains old (Given o (negative group ∷ rest))
+
 
 some_stays : (old new : List Entry) → NamesStay old new → (v : ℕ) → IsSome (name_of old v) → IsSome (name_of new v)
 some_stays old new stay v some = let n = some_there (name_of old v) some in subst IsSome (sym (stay v n.0 n.1)) refl

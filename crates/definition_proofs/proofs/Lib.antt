@@ -3,3 +3,4 @@ pub mod TermParts
 pub mod KnownTerms
 pub mod NodeLiterals
 pub mod ConeLiterals
+pub mod GivenDifferences

@@ -1,3 +1,4 @@
 pub mod Shown
 pub mod Terms
 pub mod Leaves
+pub mod Differing

@@ -143,8 +143,8 @@ impl<'g, 'c, 'f> Inputs<'g, 'c, 'f> {
     }
 }
 
-// The literal, or its negation.
-fn signed(l: Lit, negated: bool) -> Lit
+/// The literal, or its negation.
+pub(crate) fn signed(l: Lit, negated: bool) -> Lit
     ensures { result ≡ negated_by negated l }
 {
     if negated { l.not() } else { l }

@@ -4,5 +4,6 @@
 
 pub use terms::Terms;
 
+mod differing;
 mod leaves;
 mod terms;

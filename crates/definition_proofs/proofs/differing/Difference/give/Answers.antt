@@ -1,0 +1,34 @@
+use Rattle.std.proofs.Common.{ap}
+use Rattle.hint_log.specs.Entries.{ProofLog}
+use Rattle.padoa_definitions.specs.Copies.{group_variable}
+use Rattle.definition_proofs.proofs.GivenDifferences.{group_grew, group_alone, group_leaves, undiffered_still}
+use Rattle.definition_proofs.proofs.differing.Difference.give.Goals as goal
+
+pub give_parts-requires-clause-none : goal.give_parts-requires-clause-none
+give_parts-requires-clause-none g c =
+    undiffered_still c.args.self.now.existential (group_variable c.in_ok-group.group) c.args.log.now.entries
+    c.group.new.log.entries (ap (λ (l : ProofLog). l.entries) c.in_ok-group.ensures.ok) c.requires.none
+
+pub returns-in_err-give_parts-clause-grew : goal.returns-in_err-give_parts-clause-grew
+returns-in_err-give_parts-clause-grew g c =
+    group_grew (group_variable c.in_ok-group.group) c.args.self.now c.args.log.now c.group.new.log c.give_parts.new.log
+    (g.met.O.Oracle.searched c.args.oracle.now c.args.log.now c.requires.fit).logged c.in_ok-group.ensures.unnamed
+    c.in_ok-group.ensures.ok c.give_parts.ensures.differing
+
+pub returns-clause-grew : goal.returns-clause-grew
+returns-clause-grew g c =
+    group_grew (group_variable c.in_ok-group.group) c.args.self.now c.args.log.now c.group.new.log c.give_parts.new.log
+    (g.met.O.Oracle.searched c.args.oracle.now c.args.log.now c.requires.fit).logged c.in_ok-group.ensures.unnamed
+    c.in_ok-group.ensures.ok c.give_parts.ensures.differing
+
+pub returns-clause-alone : goal.returns-clause-alone
+returns-clause-alone g c =
+    group_alone (group_variable c.in_ok-group.group) c.args.self.now c.args.log.now c.group.new.log c.give_parts.new.log
+    (g.met.O.Oracle.searched c.args.oracle.now c.args.log.now c.requires.fit).logged c.in_ok-group.ensures.unnamed
+    c.in_ok-group.ensures.ok c.give_parts.ensures.differing
+
+pub returns-clause-leaves : goal.returns-clause-leaves
+returns-clause-leaves g c =
+    group_leaves (group_variable c.in_ok-group.group) c.args.self.now c.args.log.now c.group.new.log c.give_parts.new.log
+    (g.met.O.Oracle.searched c.args.oracle.now c.args.log.now c.requires.fit).logged c.in_ok-group.ensures.unnamed
+    c.in_ok-group.ensures.ok c.give_parts.ensures.differing
