@@ -33,7 +33,7 @@ some_name : (o : Option Name) → is_term_name o ≡ true → (n : Name) × (o �
 some_name None is = cc
 some_name (Some n) is = (n, refl)
 
-term_leaf_stays : (old new : List Entry) → NamesStay old new → (leaf : Leaf) → IsTermLeaf old leaf → IsTermLeaf new leaf
+pub term_leaf_stays : (old new : List Entry) → NamesStay old new → (leaf : Leaf) → IsTermLeaf old leaf → IsTermLeaf new leaf
 term_leaf_stays old new stay (Constant b) is = tt
 term_leaf_stays old new stay (LeafLiteral l) is =
     let n = some_name (name_of old (variable_of l)) is in

@@ -4,3 +4,4 @@ pub mod KnownTerms
 pub mod NodeLiterals
 pub mod ConeLiterals
 pub mod GivenDifferences
+pub mod Refutations

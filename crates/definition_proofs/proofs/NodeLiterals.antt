@@ -28,8 +28,8 @@ use Rattle.definition_proofs.specs.Leaves.{StandsFor, input, gate, not_input, no
 
 pub stands_still : (f : Dqbf) (graph : AigGraph) (old new : List Entry) → NamesStay old new → (n : Node) (l : Literal) →
     StandsFor f graph old n l → StandsFor f graph new n l
-stands_still f graph old new stay _ _ (input i l named) =
-    input i l (literal_stays old new stay l (named_literal (CopyOf 1 (input_variable f i)) false) named)
+stands_still f graph old new stay _ _ (input i l below named) =
+    input i l below (literal_stays old new stay l (named_literal (CopyOf 1 (input_variable f i)) false) named)
 stands_still f graph old new stay _ _ (gate g v sides a b at are on_left on_right named) =
     gate g v sides a b at are (stands_still f graph old new stay sides.left a on_left)
     (stands_still f graph old new stay sides.right b on_right) (stay v (Term a b) named)
@@ -51,7 +51,7 @@ copy_named f es i l named = (named_variable es l (CopyOf 1 (input_variable f i))
 -- it stands on a first copy, or on a gate over first copies
 pub on_term : (f : Dqbf) (graph : AigGraph) (es : List Entry) (n : Node) (l : Literal) → StandsFor f graph es n l →
     is_term_name (name_of es (variable_of l)) ≡ true
-on_term f graph es _ _ (input i l named) = ap is_term_name (copy_named f es i l named)
+on_term f graph es _ _ (input i l below named) = ap is_term_name (copy_named f es i l named)
 on_term f graph es _ _ (gate g v sides a b at are on_left on_right named) = ap is_term_name named
 on_term f graph es _ _ (not_input i l stands) =
     ap (λ v. is_term_name (name_of es v)) (opposite_variable l) ∙ on_term f graph es (Input i false) l stands
@@ -109,7 +109,7 @@ from_either f xs ys zs x is (inr r) =
 -- it reaches what the node reads
 reads_inputs : (f : Dqbf) (graph : AigGraph) (es : List Entry) (n : Node) (l : Literal) → StandsFor f graph es n l →
     (x : ℕ) → ReadsCopy es l x → IsReadFrom f (node_support graph n) x
-reads_inputs f graph es _ _ (input i l named) x reads =
+reads_inputs f graph es _ _ (input i l below named) x reads =
     (i, copy_reads f es i x l (copy_named f es i l named) reads, (0, omega arith, refl))
 reads_inputs f graph es _ _ (gate g v sides a b at are on_left on_right named) x reads =
     from_either f (node_support graph sides.left) (node_support graph sides.right) (gate_support graph.gates g) x
@@ -135,7 +135,7 @@ pub input_stands : (f : Dqbf) (graph : AigGraph) (es : List Entry) (copies : Lis
     AreCopiesOf es 1 (declared f) copies → i < length (declared f) → slice_get copies i ≡ Some l →
     StandsFor f graph es (Input i false) l
 input_stands f graph es copies i l are below at =
-    input i l (copy_at es 1 (declared f) copies i (input_variable f i) l are (slice_get-get_or (declared f) i 0 below) at)
+    input i l below (copy_at es 1 (declared f) copies i (input_variable f i) l are (slice_get-get_or (declared f) i 0 below) at)
 
 -- either sign
 pub input_signed : (f : Dqbf) (graph : AigGraph) (es : List Entry) (i : ℕ) (l : Literal) (negated : Bool) →

@@ -1,9 +1,9 @@
 -- The literals over first copies that stand for nodes of a graph.
-use Rattle.std.specs.Prelude.{◌≡◌, ℕ, Bool, true, false, List, Some, IsSome}
+use Rattle.std.specs.Prelude.{◌≡◌, ◌<◌, ℕ, Bool, true, false, List, length, Some, IsSome}
 use Rattle.std.specs.BTreeMap.{BTreeMap, get}
 use Rattle.std.specs.Ordering.{nat_cmp}
 use Rattle.dq_lits.specs.Literal.{Literal, positive, opposite}
-use Rattle.dq_lits.specs.Formula.{Dqbf}
+use Rattle.dq_lits.specs.Formula.{Dqbf, declared}
 use Rattle.aig_graph.specs.Graph.{AigGraph, AreSides, gate_at}
 use Rattle.aig_graph.specs.Putting.{gate_of}
 use Rattle.aig_graph.specs.declared.nodes.Node.{Node}
@@ -19,7 +19,7 @@ use Rattle.hint_log.specs.declared.origins.Leaf.TheVariants.{Constant as LeafCon
 -- a literal that stands for a node: the first copy of an input's variable, or a gate over the
 -- literals of its sides; or the negation of such a one
 pub data StandsFor (f : Dqbf) (graph : AigGraph) (entries : List Entry) : Node → Literal → Type 0 where
-  input : (i : ℕ) (l : Literal)
+  input : (i : ℕ) (l : Literal) → i < length (declared f)
       → name_literal entries l ≡ Some (named_literal (CopyOf 1 (input_variable f i)) false)
       → StandsFor f graph entries (Input i false) l
   gate : (g v : ℕ) (sides : Sides) (a b : Literal) → gate_at graph.gates g ≡ Some sides

@@ -2,3 +2,4 @@ pub mod Shown
 pub mod Terms
 pub mod Leaves
 pub mod Differing
+pub mod Searching

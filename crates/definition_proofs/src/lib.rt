@@ -6,4 +6,5 @@ pub use terms::Terms;
 
 mod differing;
 mod leaves;
+mod searching;
 mod terms;

@@ -35,7 +35,7 @@ use Rattle.padoa_definitions.proofs.LinkedInterpolants.{signed, literal_signed}
 use Rattle.padoa_definitions.proofs.DeclaredPlaces.{copies_declared, copies_long}
 
 -- a given clause has an id
-given_id : (es : List Entry) (o : Origin) (c : List Literal) → Contains es (Given o c) →
+pub given_id : (es : List Entry) (o : Origin) (c : List Literal) → Contains es (Given o c) →
     (id : ℕ) × (id < last_id es + 1) × (clause_at es id ≡ Some c)
 given_id [] o c (k, lt, at) = absurd (omega (arith, lt))
 given_id (e ∷ es) o c (zero, lt, at) = here e at

@@ -1,0 +1,222 @@
+-- What a search in some groups leaves and shows.
+use Rattle.std.proofs.Common.{◌≡◌, ℕ, zero, suc, ◌+◌, true, inl, inr, List, [], ◌∷◌, ◌++◌, get_or, Some, refl, sym, ◌∙◌, ap, subst, arith}
+use Rattle.std.specs.List.{All, Contains}
+use Rattle.std.proofs.lemmas.Bool.{eq-eqb}
+use Rattle.std.proofs.lemmas.List.Elements.{All-contains, Contains-append_right}
+use Rattle.std.proofs.lemmas.List.Folds.{list_any_at}
+use Rattle.dq_lits.specs.Literal.{Literal, positive, negative, variable_of, opposite, same_literal}
+use Rattle.dq_lits.specs.Derivation.{holds}
+use Rattle.dq_lits.specs.Formula.{Dqbf}
+use Rattle.hint_log.specs.Deciding.{ReachesGiven, AreNegatedSelectors, DecidesNothing}
+use Rattle.hint_log.specs.Entries.{Entry, Named, Given, Learned, Answer, Round, Begun, ProofLog, name_of}
+use Rattle.hint_log.specs.Growth.{EachOf, Grew}
+use Rattle.hint_log.specs.declared.names.Name.TheVariants.{Selector}
+use Rattle.hint_log.specs.declared.origins.Leaf.{Leaf}
+use Rattle.hint_log.specs.declared.origins.Origin.{Origin}
+use Rattle.hint_log.specs.declared.origins.Origin.TheVariants.{Instance, Gate, Fault, Copy, Link, TermGate, Differ}
+use Rattle.log_laws.specs.Engines.{copies, IsAddedBy, origin_engine}
+use Rattle.log_laws.proofs.LargerLogs.{grown_by}
+use Rattle.log_laws.proofs.Kept.{each_of_weaker}
+use Rattle.oracle.specs.Calls.{IsMade, IsLearnedEntry, IsRefutedUnder, assumed}
+use Rattle.oracle.specs.Searched.{IsSearched}
+use Rattle.oracle.specs.declared.groups.Group.{Group}
+use Rattle.padoa_definitions.specs.Copies.{group_variable}
+use Rattle.padoa_definitions.proofs.DividedAnswers.{holds_cases, as_positive, same_variable}
+use Rattle.padoa_definitions.proofs.KeptCopies.{contains_first, contains_later, contains_cases}
+use Rattle.padoa_definitions.proofs.Reached.{LinesAreImplied, of_answer, undecided_answer}
+use Rattle.definition_proofs.specs.Differing.{LeavesTerms}
+use Rattle.definition_proofs.specs.Searching.{ArePremises, HasSameGivens}
+use Rattle.definition_proofs.specs.Shown.{IsDefinitionGiven, IsShownDefinition}
+use Rattle.definition_proofs.specs.Terms.{GrewByProof}
+use Rattle.definition_proofs.proofs.GivenDifferences.{term_leaf_stays}
+use Rattle.definition_proofs.proofs.GrownProofs.{proof_then}
+
+learned_is_added : (f : Dqbf) (group : ℕ) (start earlier : List Entry) (e : Entry) → IsLearnedEntry earlier e →
+    IsAddedBy f copies group true start earlier e
+learned_is_added f group start earlier (Named v n) h = absurd h
+learned_is_added f group start earlier (Given origin c) h = absurd h
+learned_is_added f group start earlier (Learned c hints) h = tt
+learned_is_added f group start earlier (Answer c hints) h = absurd h
+learned_is_added f group start earlier (Round row values j) h = absurd h
+learned_is_added f group start earlier (Begun live) h = absurd h
+
+same_then : (a b c : List Entry) → HasSameGivens a b → HasSameGivens b c → HasSameGivens a c
+same_then a b c first second = record {
+  names = λ v. second.names v ∙ first.names v;
+  entries = λ e inside. second.entries e (first.entries e inside);
+  givens = λ o d inside. first.givens o d (second.givens o d inside);
+}
+
+same_nothing : (es : List Entry) → HasSameGivens es es
+same_nothing es = record { names = λ v. refl; entries = λ e inside. inside; givens = λ o c inside. inside }
+
+same_learned : (clause : List Literal) (hints : List ℕ) (es : List Entry) → HasSameGivens es (Learned clause hints ∷ es)
+same_learned clause hints es = record {
+  names = λ v. refl;
+  entries = λ e inside. contains_later (Learned clause hints) e es inside;
+  givens = λ o c inside. elim (contains_cases (Learned clause hints) (Given o c) es inside)
+      [ inl same ↦ cc | inr behind ↦ behind ];
+}
+
+same_answer : (clause : List Literal) (hints : List ℕ) (es : List Entry) → HasSameGivens es (Answer clause hints ∷ es)
+same_answer clause hints es = record {
+  names = λ v. refl;
+  entries = λ e inside. contains_later (Answer clause hints) e es inside;
+  givens = λ o c inside. elim (contains_cases (Answer clause hints) (Given o c) es inside)
+      [ inl same ↦ cc | inr behind ↦ behind ];
+}
+
+same_more : (more old : List Entry) → EachOf IsLearnedEntry more old → HasSameGivens old (more ++ old)
+same_more [] old each = same_nothing old
+same_more (Named v n ∷ more) old each = absurd each.0
+same_more (Given o c ∷ more) old each = absurd each.0
+same_more (Learned c hints ∷ more) old each =
+    same_then old (more ++ old) (Learned c hints ∷ (more ++ old)) (same_more more old each.1)
+    (same_learned c hints (more ++ old))
+same_more (Answer c hints ∷ more) old each = absurd each.0
+same_more (Round row values j ∷ more) old each = absurd each.0
+same_more (Begun live ∷ more) old each = absurd each.0
+
+pub learned_same : (old new : ProofLog) → Grew IsLearnedEntry old new → HasSameGivens old.entries new.entries
+learned_same old new g = subst (HasSameGivens old.entries) (sym g.grown) (same_more g.more old.entries g.each)
+
+pub learned_proof : (f : Dqbf) (group y : ℕ) (old new : ProofLog) → Grew IsLearnedEntry old new →
+    GrewByProof f group y old new
+learned_proof f group y old new g = record {
+  grew = λ start names. record {
+    more = g.more;
+    grown = g.grown;
+    each = each_of_weaker IsLearnedEntry (IsAddedBy f copies group true start) (learned_is_added f group start) g.more
+        old.entries g.each;
+    limit = g.limit;
+  };
+  givens = λ o c inside. inl ((learned_same old new g).givens o c inside);
+}
+
+pub same_leaves : (group : ℕ) (old new : List Entry) → HasSameGivens old new → LeavesTerms group old new
+same_leaves group old new same = record {
+  names = λ v n is. same.names v ∙ is;
+  terms = λ v a b is. sym (same.names v) ∙ is;
+  entries = same.entries;
+  gates = λ v i c inside. same.givens _ c inside;
+  in_group = λ o rest inside. same.givens o _ inside;
+}
+
+-- an assumed literal is the selector of one of the groups
+selector_among : (gs : List Group) (l : Literal) → holds (assumed gs []) l ≡ true →
+    (g : Group) × Contains gs g × (l ≡ g.selector)
+selector_among [] l h = cc
+selector_among (g ∷ gs) l h = elim (holds_cases g.selector (assumed gs []) l h) [
+  | inl same ↦ (g, (0, omega arith, refl), same)
+  | inr later ↦ (
+      let r = selector_among gs l later in
+      let below = r.1.1 in
+      (r.0, (suc r.1.0, omega (arith, below), r.1.2), r.2))
+]
+
+same_itself : (l : Literal) → same_literal l l ≡ true
+same_itself (positive v) = eq-eqb v v refl
+same_itself (negative v) = eq-eqb v v refl
+
+negated_is : (l : Literal) (v : ℕ) → opposite l ≡ positive v → l ≡ negative v
+negated_is (positive w) v is = cc
+negated_is (negative w) v is = let same : positive w ≡ positive v = is in let number : w ≡ v = cc in ap negative number
+
+given_is_copies : (y : ℕ) (leaf : Leaf) (o : Origin) → IsDefinitionGiven y leaf o → origin_engine o ≡ copies
+given_is_copies y leaf (Instance k j) is = absurd is
+given_is_copies y leaf (Gate v i) is = absurd is
+given_is_copies y leaf (Fault j i out) is = absurd is
+given_is_copies y leaf (Copy side j) is = refl
+given_is_copies y leaf (Link v i) is = absurd is
+given_is_copies y leaf (TermGate v i) is = refl
+given_is_copies y leaf (Differ x out part) is = refl
+
+-- a search that ends with an answer
+module _ (implied : LinesAreImplied) (y : ℕ) (leaf : Leaf) (active : List Group) (old new : ProofLog) (id : ℕ)
+    (premises : ArePremises old.entries y leaf active) (searched : IsSearched new.entries)
+    (r : IsRefutedUnder old new (assumed active []) id) where
+  abbrev before : List Entry
+  before = r.before.entries
+
+  abbrev all : List Entry
+  all = Answer r.clause r.hints ∷ r.before.entries
+
+  all_is : new.entries ≡ Answer r.clause r.hints ∷ r.before.entries
+  all_is = ap (λ (l : ProofLog). l.entries) r.answered
+
+  searched_there : IsSearched all
+  searched_there = subst IsSearched all_is searched
+
+  same : HasSameGivens old.entries r.before.entries
+  same = learned_same old r.before r.learned
+
+  -- the group whose selector is assumed
+  record IsActive (h : ℕ) : Type 0 where
+    group : Group
+    among : Contains active group
+    number : h ≡ group_variable group
+    named : name_of r.before.entries h ≡ Some (Selector h)
+
+  active_group : (h : ℕ) → holds (assumed active []) (positive h) ≡ true → IsActive h
+  active_group h assumed_there =
+      let s = selector_among active (positive h) assumed_there in
+      let made = All-contains (IsMade old.entries) active s.0 premises.made s.1 in
+      let number = same_variable h (group_variable s.0) (s.2 ∙ as_positive s.0.selector made.positive) in
+      record {
+        group = s.0;
+        among = s.1;
+        number = number;
+        named = subst (λ k. name_of r.before.entries k ≡ Some (Selector k)) (sym number)
+            (same.names (group_variable s.0) ∙ made.named);
+      }
+
+  -- a given clause that is reached is of one of the groups
+  given_right : (origin : Origin) (c : List Literal) → ReachesGiven r.before.entries r.hints origin c →
+      IsDefinitionGiven y leaf origin
+  given_right origin c reached =
+      let is = of_answer r.before.entries r.clause r.hints searched_there origin c reached in
+      let h = is.grouped.group in
+      let a = active_group h (r.negated (negative h) is.kept) in
+      let inside = subst (λ es. Contains es (Given origin c)) (sym is.split)
+      (Contains-append_right is.more (Given origin c ∷ is.earlier) (Given origin c)
+      (contains_first (Given origin c) is.earlier)) in
+      premises.own a.group a.among origin is.grouped.rest
+      (subst (λ d. Contains old.entries (Given origin d))
+      (is.grouped.clause_is ∙ ap (λ k. negative k ∷ is.grouped.rest) a.number) (same.givens origin c inside))
+
+  selectors : AreNegatedSelectors r.before.entries r.clause
+  selectors k d lt =
+      let l = get_or r.clause k d in
+      let there = list_any_at (same_literal l) r.clause k d lt (same_itself l) in
+      let s = selector_among active (opposite l) (r.negated l there) in
+      let made = All-contains (IsMade old.entries) active s.0 premises.made s.1 in
+      let v = group_variable s.0 in
+      let l_is = negated_is l v (s.2 ∙ as_positive s.0.selector made.positive) in
+      subst (λ x. (x ≡ negative (variable_of x))
+      × (name_of r.before.entries (variable_of x) ≡ Some (Selector (variable_of x)))) (sym l_is)
+      (refl, same.names v ∙ made.named)
+
+  pub shown : IsShownDefinition new.entries y leaf id
+  shown = record {
+    clause = r.clause;
+    hints = r.hints;
+    earlier = r.before.entries;
+    answered = all_is;
+    last = r.last;
+    selectors = selectors;
+    leaf_is = term_leaf_stays old.entries r.before.entries (λ v n is. same.names v ∙ is) leaf premises.leaf_is;
+    rests = given_right;
+  }
+
+  pub answer_proof : (f : Dqbf) (group x : ℕ) → GrewByProof f group x old new
+  answer_proof f group x = proof_then f group x old r.before new (learned_proof f group x old r.before r.learned) (record {
+    grew = λ start names. grown_by (IsAddedBy f copies group true start) r.before new (Answer r.clause r.hints)
+        r.answered (λ quiet. undecided_answer implied f r.before.entries r.clause r.hints searched_there
+        (λ origin c reached. given_is_copies y leaf origin (given_right origin c reached)));
+    givens = λ o c inside. inl ((same_answer r.clause r.hints r.before.entries).givens o c
+        (subst (λ es. Contains es (Given o c)) all_is inside));
+  })
+
+  pub answer_same : HasSameGivens old.entries new.entries
+  answer_same = subst (HasSameGivens old.entries) (sym all_is)
+      (same_then old.entries r.before.entries all same (same_answer r.clause r.hints r.before.entries))

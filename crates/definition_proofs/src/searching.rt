@@ -1,0 +1,43 @@
+//! The search that proves a definition.
+
+ghost use Rattle.std.specs.Prelude.{◌≡◌, ℕ, IfOk, IsErrOf};
+ghost use Rattle.dq_lits.specs.Formula.{Dqbf};
+ghost use Rattle.oracle.specs.Limits.{IsAtSomeLimit};
+ghost use Rattle.definition_proofs.specs.Searching.{ArePremises, HaveNoModel, HasSameGivens};
+ghost use Rattle.definition_proofs.specs.Shown.{IsShownDefinition};
+ghost use Rattle.definition_proofs.specs.Terms.{GrewByProof};
+
+use crate::differing::Difference;
+use dq_lits::laws::derived_line_is_implied;
+use hint_log::{Log, Stop};
+use oracle::{Answer, Group, Oracle};
+
+impl Difference {
+    /// Shows that the clauses of these groups can't all be true, and answers the id of what shows
+    /// it.
+    pub(crate) fn refute<O: Oracle>(
+        &self,
+        oracle: &mut O,
+        active: &[Group],
+        log: &mut Log,
+    ) -> Result<u64, Stop>
+        requires fit { O.Fits oracle.old log.old }
+        requires premises { ArePremises log.old.entries self.now.existential self.now.output
+            active.now }
+        requires none { HaveNoModel log.old active.now }
+        ensures fit { O.Fits oracle.new log.new }
+        ensures grew { (f : Dqbf) (standing : ℕ)
+            → GrewByProof f standing self.now.existential log.old log.new }
+        ensures same { HasSameGivens log.old.entries log.new.entries }
+        ensures shown { IfOk result (IsShownDefinition log.new.entries self.now.existential
+            self.now.output) }
+        ensures limit { IsErrOf result Stop.Limit → IsAtSomeLimit log.new }
+    {
+        derived_line_is_implied();
+        let _ = self.existential;
+        match oracle.solve(active, &[], log)? {
+            Answer::Unsat(id) => Ok(id),
+            Answer::Sat => unreachable!(),
+        }
+    }
+}
