@@ -27,7 +27,7 @@ pub no_formula : Dqbf
 no_formula = record { variables = 0; universals = []; existentials = []; matrix = [] }
 
 module _ (f : Dqbf) (group y : ℕ) (old new : ProofLog) (grew : GrewByProof f group y old new) where
-  own_growth : Grew (IsAddedBy f copies group true old.entries) old new
+  pub own_growth : Grew (IsAddedBy f copies group true old.entries) old new
   own_growth = grew.grew old.entries (λ v none. none)
 
   keeps : Keeps f (λ mine. (mine ≢ group) × IsNamed old.entries mine) old.entries new.entries

@@ -98,7 +98,7 @@ none_yet t old new v a b before unnamed is i c inside =
     cc
 
 -- a fact of each entry is one of this entry
-each_one : (P : List Entry → Entry → Type 0) (es : List Entry) (e : Entry) → Each P es → Contains es e →
+pub each_one : (P : List Entry → Entry → Type 0) (es : List Entry) (e : Entry) → Each P es → Contains es e →
     (earlier : List Entry) × P earlier e
 each_one P [] e each (k, lt, at) = absurd (omega (arith, lt))
 each_one P (x ∷ es) e each (zero, lt, at) = (es, subst (P es) at each.0)

@@ -5,3 +5,5 @@ pub mod NodeLiterals
 pub mod ConeLiterals
 pub mod GivenDifferences
 pub mod Refutations
+pub mod NoModels
+pub mod ProvedDefinitions

@@ -3,3 +3,4 @@ pub mod Terms
 pub mod Leaves
 pub mod Differing
 pub mod Searching
+pub mod Proving

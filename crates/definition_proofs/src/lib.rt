@@ -2,9 +2,11 @@
 //! over first copies and two clauses by which the copy of the existential differs from it.
 #![tactic(auto)]
 
+pub use searching::Proved;
 pub use terms::Terms;
 
 mod differing;
 mod leaves;
+mod proving;
 mod searching;
 mod terms;

@@ -9,18 +9,25 @@ ghost use Rattle.definition_proofs.specs.Terms.{GrewByProof};
 
 use crate::differing::Difference;
 use dq_lits::laws::derived_line_is_implied;
-use hint_log::{Log, Stop};
+use hint_log::{Leaf, Log, Stop};
 use oracle::{Answer, Group, Oracle};
 
+/// What a definition was proved by: the id of the log's answer, and the output over first copies
+/// that the existential's copy equals.
+#[derive(Clone, Copy)]
+pub struct Proved {
+    pub id: u64,
+    pub leaf: Leaf,
+}
+
 impl Difference {
-    /// Shows that the clauses of these groups can't all be true, and answers the id of what shows
-    /// it.
+    /// Shows that the clauses of these groups can't all be true, and answers what shows it.
     pub(crate) fn refute<O: Oracle>(
         &self,
         oracle: &mut O,
         active: &[Group],
         log: &mut Log,
-    ) -> Result<u64, Stop>
+    ) -> Result<Proved, Stop>
         requires fit { O.Fits oracle.old log.old }
         requires premises { ArePremises log.old.entries self.now.existential self.now.output
             active.now }
@@ -29,14 +36,17 @@ impl Difference {
         ensures grew { (f : Dqbf) (standing : ℕ)
             → GrewByProof f standing self.now.existential log.old log.new }
         ensures same { HasSameGivens log.old.entries log.new.entries }
-        ensures shown { IfOk result (IsShownDefinition log.new.entries self.now.existential
-            self.now.output) }
+        ensures output { IfOk result (λ p. p.leaf ≡ self.now.output) }
+        ensures shown { IfOk result (λ p. IsShownDefinition log.new.entries self.now.existential
+            p.leaf p.id) }
         ensures limit { IsErrOf result Stop.Limit → IsAtSomeLimit log.new }
     {
         derived_line_is_implied();
-        let _ = self.existential;
         match oracle.solve(active, &[], log)? {
-            Answer::Unsat(id) => Ok(id),
+            Answer::Unsat(id) => Ok(Proved {
+                id,
+                leaf: self.output,
+            }),
             Answer::Sat => unreachable!(),
         }
     }

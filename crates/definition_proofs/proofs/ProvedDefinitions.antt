@@ -1,0 +1,249 @@
+-- A definition that is proved: its leaf, then the clauses of the difference, then the search.
+use Rattle.std.proofs.Common.{◌≡◌, ◌≢◌, ◌⊎◌, ◌<◌, ◌==◌, ℕ, zero, suc, true, false, inl, inr, List, [], ◌∷◌, map, length, None, Some, refl, sym, ◌∙◌, ap, subst, arith}
+use Rattle.std.specs.List.{All, Contains}
+use Rattle.std.proofs.lemmas.Bool.{false≢true, eqb-true, ne_eqb}
+use Rattle.std.proofs.lemmas.List.Elements.{All-head, All-tail, All-cons, All-nil}
+use Rattle.dq_lits.specs.Literal.{Assignment, Literal, negative, variable_of, literal_true}
+use Rattle.dq_lits.specs.Formula.{Dqbf, IsWellFormed, declared}
+use Rattle.aig_graph.specs.declared.nodes.Node.{Node}
+use Rattle.aig_graph.specs.declared.nodes.Node.TheVariants.{Constant, Input, Gate}
+use Rattle.aig_graph.specs.Graph.{AigGraph, node_support}
+use Rattle.defining_nodes.specs.Definitions.{input_variable}
+use Rattle.hint_log.specs.Conditions.{AreLogged}
+use Rattle.hint_log.specs.Entries.{Entry, Given, ProofLog, clause_at, name_of}
+use Rattle.hint_log.specs.Naming.{named_literal, name_literal}
+use Rattle.hint_log.specs.Origins.{IsTermLeaf}
+use Rattle.hint_log.specs.declared.names.Name.{Name}
+use Rattle.hint_log.specs.declared.names.Name.TheVariants.{Selector, Copy as CopyOf}
+use Rattle.hint_log.specs.declared.origins.Leaf.{Leaf}
+use Rattle.hint_log.specs.declared.origins.Leaf.TheVariants.{Constant as LeafConstant, Literal as LeafLiteral}
+use Rattle.hint_log.specs.declared.origins.Origin.{Origin}
+use Rattle.hint_log.specs.declared.origins.Origin.TheVariants.{Instance, Gate as GateOrigin, Fault, Copy, Link, TermGate, Differ}
+use Rattle.log_laws.proofs.Found.{named_variable}
+use Rattle.log_laws.proofs.Kept.{NamesStay}
+use Rattle.oracle.specs.Calls.{IsMade}
+use Rattle.oracle.specs.declared.groups.Group.{Group}
+use Rattle.padoa_definitions.specs.Copies.{group_variable, groups_of, is_copy_of, IsGroupGiven, IsPadoa}
+use Rattle.padoa_definitions.specs.Growing.{HasFewFaults}
+use Rattle.padoa_definitions.specs.declared.padoa.Padoa.{Padoa}
+use Rattle.padoa_definitions.proofs.DividedAnswers.{as_positive}
+use Rattle.padoa_definitions.proofs.FreePairs.{positive_true}
+use Rattle.padoa_definitions.proofs.SearchAnswers.{padoa_learned, found_declared, found_variable}
+use Rattle.definition_proofs.specs.Differing.{IsDifferenceOf, IsDifference, IsExistential, AreUndiffered, HasDifference, HasDifferenceAlone, LeavesTerms}
+use Rattle.definition_proofs.specs.Leaves.{StandsFor, IsLeafFor}
+use Rattle.definition_proofs.specs.Proving.{AreBeside, IsDefinedBy}
+use Rattle.definition_proofs.specs.Searching.{ArePremises, HaveNoModel, HasSameGivens}
+use Rattle.definition_proofs.specs.Shown.{ReadsCopy, TermLeafReads, IsDefinitionGiven}
+use Rattle.definition_proofs.specs.Terms.{is_term_gate, is_proof_origin, AreTerms, GrewByProof}
+use Rattle.definition_proofs.specs.declared.differing.Difference.{Difference}
+use Rattle.definition_proofs.specs.declared.terms.Terms.{Terms}
+use Rattle.definition_proofs.proofs.GivenDifferences.{difference_stays, term_leaf_stays}
+use Rattle.definition_proofs.proofs.GrownProofs.{no_formula, names_stay, few_still, padoa_still, proof_then}
+use Rattle.definition_proofs.proofs.KnownTerms.{each_one, terms_stay}
+use Rattle.definition_proofs.proofs.NodeLiterals.{stands_still, on_term, reads_support}
+use Rattle.definition_proofs.proofs.NoModels.{no_values}
+use Rattle.definition_proofs.proofs.Refutations.{learned_same, same_leaves}
+
+pub is_existential : (f : Dqbf) (graph : AigGraph) (y : ℕ) (node : Node) → IsDefinedBy f graph y node → IsExistential f y
+is_existential f graph y node defined none =
+    let both : None ≡ Some defined.existential = sym none ∙ defined.found in
+    cc
+
+pub own_declared : (f : Dqbf) (graph : AigGraph) (y : ℕ) (node : Node) → IsDefinedBy f graph y node →
+    Contains (declared f) y
+own_declared f graph y node defined =
+    subst (Contains (declared f)) (found_variable f y defined.existential defined.found)
+    (found_declared f y defined.existential defined.found)
+
+-- no other existential's difference is given
+pub own_differs : (f : Dqbf) (group y : ℕ) (old new : ProofLog) → GrewByProof f group y old new →
+    (x part : ℕ) (output : Leaf) (c : List Literal) → Contains new.entries (Given (Differ x output part) c) →
+    Contains old.entries (Given (Differ x output part) c) ⊎ (x ≡ y)
+own_differs f group y old new grew x part output c inside = elim (grew.givens (Differ x output part) c inside)
+    [ inl was ↦ inl was | inr now ↦ inr (eqb-true x y now) ]
+
+-- a leaf stays, stands on first copies, and reads what its node reads
+pub leaf_stays : (f : Dqbf) (graph : AigGraph) (old new : List Entry) → NamesStay old new → (n : Node) (output : Leaf) →
+    IsLeafFor f graph old n output → IsLeafFor f graph new n output
+leaf_stays f graph old new stay (Constant b) output is = is
+leaf_stays f graph old new stay (Input i negated) output (l, is, stands) =
+    (l, is, stands_still f graph old new stay (Input i negated) l stands)
+leaf_stays f graph old new stay (Gate g negated) output (l, is, stands) =
+    (l, is, stands_still f graph old new stay (Gate g negated) l stands)
+
+leaf_on_term : (f : Dqbf) (graph : AigGraph) (es : List Entry) (n : Node) (output : Leaf) →
+    IsLeafFor f graph es n output → IsTermLeaf es output
+leaf_on_term f graph es (Constant b) output is = subst (IsTermLeaf es) (sym is) tt
+leaf_on_term f graph es (Input i negated) output (l, is, stands) =
+    subst (IsTermLeaf es) (sym is) (on_term f graph es (Input i negated) l stands)
+leaf_on_term f graph es (Gate g negated) output (l, is, stands) =
+    subst (IsTermLeaf es) (sym is) (on_term f graph es (Gate g negated) l stands)
+
+pub leaf_reads : (f : Dqbf) (graph : AigGraph) (es : List Entry) (n : Node) (output : Leaf) →
+    IsLeafFor f graph es n output → (x : ℕ) → TermLeafReads es output x →
+    Contains (map (input_variable f) (node_support graph n)) x
+leaf_reads f graph es (Constant b) output is x reads =
+    absurd (subst (λ o. TermLeafReads es o x) is reads)
+leaf_reads f graph es (Input i negated) output (l, is, stands) x reads =
+    reads_support f graph es (Input i negated) l stands x (subst (λ o. TermLeafReads es o x) is reads)
+leaf_reads f graph es (Gate g negated) output (l, is, stands) x reads =
+    reads_support f graph es (Gate g negated) l stands x (subst (λ o. TermLeafReads es o x) is reads)
+
+-- clauses of the three groups
+copy_is_right : (y : ℕ) (output : Leaf) (o : Origin) → is_copy_of 1 o ≡ true → IsDefinitionGiven y output o
+copy_is_right y output (Instance k j) h = cc
+copy_is_right y output (GateOrigin v i) h = cc
+copy_is_right y output (Fault j i out) h = cc
+copy_is_right y output (Copy side j) h = eqb-true side 1 h
+copy_is_right y output (Link v i) h = cc
+copy_is_right y output (TermGate v i) h = cc
+copy_is_right y output (Differ x out part) h = cc
+
+gate_is_right : (y : ℕ) (output : Leaf) (o : Origin) → is_term_gate o ≡ true → IsDefinitionGiven y output o
+gate_is_right y output (Instance k j) h = cc
+gate_is_right y output (GateOrigin v i) h = cc
+gate_is_right y output (Fault j i out) h = cc
+gate_is_right y output (Copy side j) h = cc
+gate_is_right y output (Link v i) h = cc
+gate_is_right y output (TermGate v i) h = tt
+gate_is_right y output (Differ x out part) h = cc
+
+difference_is_right : (y : ℕ) (output : Leaf) (o : Origin) → IsDifferenceOf y output o → IsDefinitionGiven y output o
+difference_is_right y output (Instance k j) h = h
+difference_is_right y output (GateOrigin v i) h = h
+difference_is_right y output (Fault j i out) h = h
+difference_is_right y output (Copy side j) h = absurd h
+difference_is_right y output (Link v i) h = h
+difference_is_right y output (TermGate v i) h = absurd h
+difference_is_right y output (Differ x out part) h = h
+
+one_of_three : (a b c g : Group) → Contains (a ∷ b ∷ c ∷ []) g → (a ≡ g) ⊎ ((b ≡ g) ⊎ (c ≡ g))
+one_of_three a b c g (zero, lt, at) = inl at
+one_of_three a b c g (suc zero, lt, at) = inr (inl at)
+one_of_three a b c g (suc (suc zero), lt, at) = inr (inr at)
+one_of_three a b c g (suc (suc (suc k)), lt, at) = absurd (omega (arith, lt))
+
+-- behind the leaf
+module _ (f : Dqbf) (graph : AigGraph) (p : Padoa) (first t : Terms) (y : ℕ) (node : Node) (copy : Literal)
+    (output : Leaf) (old log : ProofLog) (beside : AreBeside f p first old.entries)
+    (defined : IsDefinedBy f graph y node) (none : AreUndiffered y old.entries)
+    (grew : (h : Dqbf) (x : ℕ) → GrewByProof h (group_variable first.group) x old log)
+    (group_is : t.group ≡ first.group) (known : AreTerms t log.entries)
+    (leaf_is : IsLeafFor f graph log.entries node output)
+    (copied : IsPadoa f p log.entries → name_literal log.entries copy ≡ Some (named_literal (CopyOf 1 y) false)) where
+  abbrev d : Difference
+  d = record { existential = y; copy = copy; output = output }
+
+  padoa : IsPadoa f p log.entries
+  padoa = padoa_still f (group_variable first.group) y old log (grew f y) p beside.apart beside.padoa
+
+  pub difference : IsDifference log.entries (record { existential = y; copy = copy; output = output })
+  difference =
+      let named = named_variable log.entries copy (CopyOf 1 y) false (name_of log.entries (variable_of copy)) refl
+      (copied padoa) in
+      record {
+        positive_copy = as_positive copy named.1;
+        copy_is = named.0;
+        leaf_is = leaf_on_term f graph log.entries node output leaf_is;
+      }
+
+  pub few : HasFewFaults log.entries
+  few = few_still f (group_variable first.group) y old log (grew f y) beside.few
+
+  pub undiffered : AreUndiffered y log.entries
+  undiffered out part c inside = elim (own_differs f (group_variable first.group) (suc y) old log (grew f (suc y)) y part
+      out c inside) [ inl was ↦ none out part c was | inr same ↦ omega (arith, same) ]
+
+  module _ (formula : IsWellFormed f)
+      (names_unique : (es : List Entry) (v w : ℕ) (name : Name) → AreLogged es → name_of es v ≡ Some name →
+      name_of es w ≡ Some name → v ≡ w)
+      (given : ProofLog) (group : Group)
+      (more : (h : Dqbf) (standing : ℕ) → IsExistential h y → GrewByProof h standing y log given)
+      (made : IsMade given.entries group)
+      (has : HasDifference given.entries (group_variable group) (record { existential = y; copy = copy; output = output }))
+      (alone : HasDifferenceAlone given.entries (group_variable group)
+      (record { existential = y; copy = copy; output = output }))
+      (leaves : (g : ℕ) (n : Name) → name_of log.entries g ≡ Some n → LeavesTerms g log.entries given.entries) where
+    grew_more : GrewByProof f (group_variable first.group) y log given
+    grew_more = more f (group_variable first.group) (is_existential f graph y node defined)
+
+    stay : NamesStay log.entries given.entries
+    stay = names_stay f (group_variable first.group) y log given grew_more
+
+    padoa_there : IsPadoa f p given.entries
+    padoa_there = padoa_still f (group_variable first.group) y log given grew_more p beside.apart padoa
+
+    known_there : AreTerms t given.entries
+    known_there = terms_stay t log.entries given.entries
+        (leaves (group_variable t.group) (Selector (group_variable t.group)) known.made.named) known
+
+    own : (g : Group) → (p.first.group ≡ g) ⊎ ((t.group ≡ g) ⊎ (group ≡ g)) → (origin : Origin) (rest : List Literal) →
+        Contains given.entries (Given origin (negative (group_variable g) ∷ rest)) → IsDefinitionGiven y output origin
+    own g (inl is) origin rest inside =
+        let e = Given origin (negative (group_variable p.first.group) ∷ rest) in
+        let one = each_one (IsGroupGiven f (is_copy_of 1) (group_variable p.first.group)) given.entries e
+        padoa_there.first.own
+        (subst (λ h. Contains given.entries (Given origin (negative (group_variable h) ∷ rest))) (sym is) inside) in
+        copy_is_right y output origin (one.1 (rest, refl)).0
+    own g (inr (inl is)) origin rest inside = gate_is_right y output origin (known_there.own origin rest
+        (subst (λ h. Contains given.entries (Given origin (negative (group_variable h) ∷ rest))) (sym is) inside))
+    own g (inr (inr is)) origin rest inside = difference_is_right y output origin (alone origin rest
+        (subst (λ h. Contains given.entries (Given origin (negative (group_variable h) ∷ rest))) (sym is) inside))
+
+    pub premises : ArePremises given.entries y output (p.first.group ∷ t.group ∷ group ∷ [])
+    premises = record {
+      made = All-cons (IsMade given.entries) p.first.group (t.group ∷ group ∷ []) padoa_there.first.made
+          (All-cons (IsMade given.entries) t.group (group ∷ []) known_there.made
+          (All-cons (IsMade given.entries) group [] made (All-nil (IsMade given.entries))));
+      leaf_is = term_leaf_stays log.entries given.entries stay output (leaf_on_term f graph log.entries node output
+          leaf_is);
+      own = λ g among. own g (one_of_three p.first.group t.group group g among);
+    }
+
+    pub no_model : HaveNoModel given (p.first.group ∷ t.group ∷ group ∷ [])
+    no_model new values logged learned model =
+        let P : Literal → Type 0 = λ l. literal_true values l ≡ true in
+        let same = learned_same given new learned in
+        let later : NamesStay given.entries new.entries = λ v n is. same.names v ∙ is in
+        let all = model.assumptions_true in
+        let behind = All-tail P p.first.group.selector (t.group.selector ∷ group.selector ∷ []) all in
+        no_values f graph p t new.entries values formula (λ v w name a b. names_unique new.entries v w name logged a b)
+        (padoa_learned f p given new learned padoa_there)
+        (terms_stay t given.entries new.entries (same_leaves (group_variable t.group) given.entries new.entries same)
+        known_there)
+        model.clauses
+        (positive_true values p.first.group.selector padoa_there.first.made.positive
+        (All-head P p.first.group.selector (t.group.selector ∷ group.selector ∷ []) all))
+        (positive_true values t.group.selector known_there.made.positive
+        (All-head P t.group.selector (group.selector ∷ []) behind))
+        d (group_variable group) node
+        (difference_stays log.entries new.entries (λ v n is. later v n (stay v n is)) d difference)
+        (λ second rest is. same.entries _ (has second rest is))
+        (leaf_stays f graph log.entries new.entries (λ v n is. later v n (stay v n is)) node output leaf_is)
+        defined
+        (positive_true values group.selector made.positive (All-head P group.selector []
+        (All-tail P t.group.selector (group.selector ∷ []) behind)))
+
+    -- behind the search
+    module _ (last : ProofLog) (shown : (h : Dqbf) (standing : ℕ) → GrewByProof h standing y given last)
+        (same : HasSameGivens given.entries last.entries) where
+      whole : GrewByProof f (group_variable first.group) y old last
+      whole = proof_then f (group_variable first.group) y old given last
+          (proof_then f (group_variable first.group) y old log given (grew f y) grew_more)
+          (shown f (group_variable first.group))
+
+      pub still_beside : AreBeside f p t last.entries
+      still_beside = record {
+        padoa = padoa_still f (group_variable first.group) y old last whole p beside.apart beside.padoa;
+        terms = terms_stay t given.entries last.entries
+            (same_leaves (group_variable t.group) given.entries last.entries same) known_there;
+        apart = subst (λ h. All (λ g. g ≢ group_variable h) (groups_of p)) (sym group_is) beside.apart;
+        few = few_still f (group_variable first.group) y old last whole beside.few;
+      }
+
+      pub own_reads : (out : Leaf) → out ≡ output → (x : ℕ) → TermLeafReads last.entries out x →
+          Contains (map (input_variable f) (node_support graph node)) x
+      own_reads out is x reads =
+          leaf_reads f graph last.entries node output
+          (leaf_stays f graph log.entries last.entries (λ v n there. same.names v ∙ stay v n there) node output leaf_is) x
+          (subst (λ o. TermLeafReads last.entries o x) is reads)

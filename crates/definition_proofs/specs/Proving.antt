@@ -1,0 +1,28 @@
+-- What a proof of a definition asks for and keeps.
+use Rattle.std.specs.Prelude.{◌≡◌, ◌≢◌, ℕ, List, Some}
+use Rattle.std.specs.List.{All}
+use Rattle.dq_lits.specs.Formula.{Existential, Dqbf, existential_of}
+use Rattle.aig_graph.specs.Graph.{AigGraph}
+use Rattle.aig_graph.specs.declared.nodes.Node.{Node}
+use Rattle.defining_nodes.specs.Definitions.{IsDefinition}
+use Rattle.hint_log.specs.Entries.{Entry}
+use Rattle.padoa_definitions.specs.Copies.{IsPadoa, group_variable, groups_of}
+use Rattle.padoa_definitions.specs.Growing.{HasFewFaults}
+use Rattle.padoa_definitions.specs.declared.padoa.Padoa.{Padoa}
+use Rattle.definition_proofs.specs.Terms.{AreTerms}
+use Rattle.definition_proofs.specs.declared.terms.Terms.{Terms}
+
+-- the copies of the matrix and the gates over the first one stand in the log, in groups of their
+-- own, with room for clauses more
+pub record AreBeside (f : Dqbf) (p : Padoa) (t : Terms) (entries : List Entry) : Type 0 where
+  pub padoa : IsPadoa f p entries
+  pub terms : AreTerms t entries
+  pub apart : All (λ g. g ≢ group_variable t.group) (groups_of p)
+  pub few : HasFewFaults entries
+
+-- the node is a definition of the existential, by some ranks
+pub record IsDefinedBy (f : Dqbf) (graph : AigGraph) (y : ℕ) (node : Node) : Type 0 where
+  pub ranks : List ℕ
+  pub existential : Existential
+  pub found : existential_of f y ≡ Some existential
+  pub definition : IsDefinition f ranks graph existential node
