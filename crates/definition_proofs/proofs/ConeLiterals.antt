@@ -1,6 +1,6 @@
 -- The literals of the gates in a node's cone, from the first one up.
-use Rattle.std.proofs.Common.{◌≡◌, ◌≢◌, ◌⊎◌, ℕ, ◌+◌, ◌<◌, ◌≤◌, ◌==◌, Bool, false, cond, inl, inr, List, length, get_or, slice_get, Some, IsSome, refl, sym, ◌∙◌, ap, subst, arith}
-use Rattle.std.specs.List.{All, Contains}
+use Rattle.std.proofs.Common.{◌≡◌, ◌≢◌, ℕ, ◌+◌, ◌<◌, ◌≤◌, ◌==◌, Bool, false, cond, inl, inr, List, length, get_or, slice_get, Some, IsSome, refl, sym, ◌∙◌, ap, subst, arith}
+use Rattle.std.specs.List.{Contains}
 use Rattle.std.specs.BTreeMap.{BTreeMap, get, is_at, Updates}
 use Rattle.std.specs.Ordering.{nat_cmp, is_eq}
 use Rattle.std.specs.declared.cmp.Ordering.TheVariants.{Less, Equal, Greater}
@@ -11,11 +11,9 @@ use Rattle.dq_lits.specs.Literal.{Literal, positive}
 use Rattle.dq_lits.specs.Formula.{Dqbf}
 use Rattle.aig_graph.specs.declared.nodes.Node.{Node}
 use Rattle.aig_graph.specs.declared.nodes.Node.TheVariants.{Constant, Input, Gate}
-use Rattle.aig_graph.specs.declared.nodes.Sides.{Sides}
 use Rattle.aig_graph.specs.declared.nodes.Look.TheVariants.{Gate as LookGate}
-use Rattle.aig_graph.specs.Graph.{AigGraph, IsEarlierNode, IsNode, IsGraph, IsGateLook, AreSides, gate_at}
-use Rattle.aig_graph.specs.Joining.{IsInner}
-use Rattle.aig_graph.specs.Putting.{gate_of, IsAmongGates, AreConeGates}
+use Rattle.aig_graph.specs.Graph.{AigGraph, IsEarlierNode, IsGraph, IsGateLook, AreSides}
+use Rattle.aig_graph.specs.Putting.{gate_of, AreConeGates}
 use Rattle.aig_graph.proofs.Numbered.{sides_are}
 use Rattle.hint_log.specs.Entries.{Entry, ProofLog, name_of}
 use Rattle.hint_log.specs.declared.names.Name.TheVariants.{Term}
@@ -25,7 +23,7 @@ use Rattle.definition_proofs.specs.Terms.{AreTerms, GrewByProof}
 use Rattle.definition_proofs.specs.Leaves.{StandsFor, gate, HasLiteral, IsKnown, AreSidesKnown, HasGate}
 use Rattle.definition_proofs.specs.declared.terms.Terms.{Terms}
 use Rattle.definition_proofs.proofs.GrownProofs.{no_formula, names_stay, proof_same, proof_then}
-use Rattle.definition_proofs.proofs.NodeLiterals.{stands_still, side_inner}
+use Rattle.definition_proofs.proofs.NodeLiterals.{stands_still}
 
 some_is : {X : Type 0} {x y : X} → Some x ≡ Some y → x ≡ y
 some_is e = cc

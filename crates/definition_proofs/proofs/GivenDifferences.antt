@@ -1,5 +1,5 @@
 -- Clauses by which the first copy of an existential and an output differ, as they are given.
-use Rattle.std.proofs.Common.{◌≡◌, ◌≢◌, ◌⊎◌, ◌≤◌, ℕ, ◌+◌, Bool, true, false, inl, inr, List, ◌∷◌, length, Option, None, Some, refl, sym, ◌∙◌, ap, subst, arith}
+use Rattle.std.proofs.Common.{◌≡◌, ◌≢◌, ◌⊎◌, ℕ, true, false, inl, inr, List, ◌∷◌, Option, None, Some, refl, sym, ◌∙◌, ap, subst, arith}
 use Rattle.std.specs.List.{Contains}
 use Rattle.std.specs.Option.{option_map}
 use Rattle.std.proofs.lemmas.Bool.{eq-eqb}
@@ -22,9 +22,9 @@ use Rattle.oracle.specs.declared.groups.Group.{Group}
 use Rattle.padoa_definitions.specs.Copies.{group_variable}
 use Rattle.padoa_definitions.specs.Growing.{HasFewFaults}
 use Rattle.padoa_definitions.proofs.GivenClauses.{in_by, in_same, in_then}
-use Rattle.padoa_definitions.proofs.KeptCopies.{contains_first, contains_later, contains_cases, made_stays}
+use Rattle.padoa_definitions.proofs.KeptCopies.{contains_later, contains_cases}
 use Rattle.definition_proofs.specs.Terms.{is_proof_origin, GrewByProof}
-use Rattle.definition_proofs.specs.Differing.{part_number, differing, IsPut, IsDifferenceOf, IsDifference, IsExistential, AreUndiffered, HasDifferenceAlone, LeavesTerms, AreDiffering}
+use Rattle.definition_proofs.specs.Differing.{differing, IsPut, IsDifferenceOf, IsDifference, IsExistential, AreUndiffered, HasDifferenceAlone, LeavesTerms, AreDiffering}
 use Rattle.definition_proofs.specs.declared.differing.Difference.{Difference}
 use Rattle.definition_proofs.proofs.GrownProofs.{given_before}
 use Rattle.definition_proofs.proofs.KnownTerms.{none_in_new}
@@ -94,15 +94,18 @@ module _ (group : ℕ) (d : Difference) (old log new : ProofLog) (part : ℕ) (w
     e = Given (Differ d.existential d.output part) (negative group ∷ with_sign (is_second part) copy ∷ tail)
 
     right : (f : Dqbf) → IsExistential f y → IsRestOf f log.entries group (Differ y leaf part) rest
-    right f existential = (which, record {
-      copy = copy;
-      tail = tail;
-      is_existential = existential;
-      copy_is = difference.copy_is;
-      leaf_is = difference.leaf_is;
-      tail_is = tail_is;
-      rest_is = refl;
-    })
+    right f existential = (
+      which,
+      record {
+        copy = copy;
+        tail = tail;
+        is_existential = existential;
+        copy_is = difference.copy_is;
+        leaf_is = difference.leaf_is;
+        tail_is = tail_is;
+        rest_is = refl;
+      },
+    )
 
   pub put_more : IsPut log new (Differ d.existential d.output part) group (differing copy leaf (is_second part)) →
       AreDiffering group d old new

@@ -1,7 +1,7 @@
 -- What is known of gates over first copies, with one gate more, and as others add to the log.
-use Rattle.std.proofs.Common.{◌≡◌, ◌≢◌, ◌⊎◌, ℕ, zero, suc, ◌+◌, ◌<◌, ◌==◌, Bool, true, false, cond, inl, inr, List, [], ◌∷◌, Option, Some, None, IsSome, refl, sym, ◌∙◌, ap, subst, arith, nat_lt}
+use Rattle.std.proofs.Common.{◌≡◌, ◌⊎◌, ℕ, zero, suc, ◌<◌, ◌==◌, Bool, true, false, cond, inl, inr, List, [], ◌∷◌, Option, Some, None, IsSome, refl, sym, ◌∙◌, ap, subst, arith, nat_lt}
 use Rattle.std.proofs.Common.{BTreeMap}
-use Rattle.std.specs.List.{All, Contains}
+use Rattle.std.specs.List.{Contains}
 use Rattle.std.specs.BTreeMap.{get}
 use Rattle.std.specs.Ordering.{nat_cmp, ordering_then, is_eq}
 use Rattle.std.specs.declared.cmp.Ordering.{Ordering}
@@ -12,21 +12,21 @@ use Rattle.dq_lits.specs.Formula.{Dqbf}
 use Rattle.hint_log.specs.Conditions.{AreLogged}
 use Rattle.hint_log.specs.Entries.{Entry, Named, Given, ProofLog, with_entry, name_of}
 use Rattle.hint_log.specs.Growth.{Each}
-use Rattle.hint_log.specs.Origins.{gate_rest}
 use Rattle.hint_log.specs.declared.names.Name.{Name}
 use Rattle.hint_log.specs.declared.names.Name.TheVariants.{Selector, Term}
 use Rattle.hint_log.specs.declared.origins.Origin.{Origin}
 use Rattle.hint_log.specs.declared.origins.Origin.TheVariants.{TermGate}
 use Rattle.log_laws.proofs.Kept.{NamesStay, name_stays_by, name_cases}
 use Rattle.oracle.specs.Calls.{IsMade}
-use Rattle.padoa_definitions.specs.Copies.{IsPadoa, IsGroupGiven, group_variable, groups_of}
-use Rattle.padoa_definitions.specs.Growing.{Gives}
+use Rattle.padoa_definitions.specs.Copies.{IsPadoa, IsGroupGiven, group_variable}
+use Rattle.padoa_definitions.specs.Growing.{Gives, HasFewFaults}
 use Rattle.padoa_definitions.specs.declared.padoa.Padoa.{Padoa}
 use Rattle.padoa_definitions.proofs.GivenClauses.{fresh_group}
-use Rattle.padoa_definitions.proofs.KeptCopies.{contains_later, made_stays}
+use Rattle.padoa_definitions.proofs.KeptCopies.{contains_later, made_stays, keeps_entry, padoa_stays}
 use Rattle.padoa_definitions.proofs.StandingCopies.{groups_named}
-use Rattle.definition_proofs.specs.Terms.{literal_number, by_both, is_term_gate, is_gate_of, HasTermClauses, HasNoTerms, AreTerms}
+use Rattle.definition_proofs.specs.Terms.{literal_number, by_both, is_gate_of, HasTermClauses, HasNoTerms, AreTerms}
 use Rattle.definition_proofs.specs.Differing.{LeavesTerms}
+use Rattle.definition_proofs.specs.Proving.{AreBeside}
 use Rattle.definition_proofs.specs.declared.terms.Terms.{Terms}
 use Rattle.definition_proofs.proofs.GrownProofs.{no_formula, proof_gives, entries_stay, gate_is, given_before}
 
@@ -70,8 +70,6 @@ key_is x y a b x_is y_is = ap (λ z. (z, y)) x_is ∙ ap (λ z. (literal_number 
 some_there : (o : Option Name) → IsSome o → (n : Name) × (o ≡ Some n)
 some_there None some = cc
 some_there (Some n) some = (n, refl)
-
-
 
 some_stays : (old new : List Entry) → NamesStay old new → (v : ℕ) → IsSome (name_of old v) → IsSome (name_of new v)
 some_stays old new stay v some = let n = some_there (name_of old v) some in subst IsSome (sym (stay v n.0 n.1)) refl
@@ -136,13 +134,24 @@ no_gates t old new logged none unnamed made is empty = record {
   before o c inside = given_before (group_variable t.group) (Selector (group_variable t.group)) old o c
       (subst (λ es. Contains es (Given o c)) is inside)
 
--- the copies' groups have names
-pub others_apart : (f : Dqbf) (p : Padoa) (es : List Entry) (g : ℕ) → name_of es g ≡ None → IsPadoa f p es →
-    All (λ h. h ≢ g) (groups_of p)
-others_apart f p es g unnamed padoa k d lt same =
-    let named = groups_named f p es padoa k d lt in
-    let both : None ≡ Some named.0 = sym unnamed ∙ ap (name_of es) (sym same) ∙ named.1 in
-    cc
+-- a group more beside the copies
+pub beside_group : (f : Dqbf) (p : Padoa) (t : Terms) (old new : List Entry) →
+    name_of old (group_variable t.group) ≡ None →
+    new ≡ Named (group_variable t.group) (Selector (group_variable t.group)) ∷ old → AreTerms t new → IsPadoa f p old →
+    HasFewFaults old → AreBeside f p t new
+beside_group f p t old new unnamed is terms padoa few = record {
+  padoa = subst (IsPadoa f p) (sym is) (padoa_stays f (λ mine. Unit {0}) old (Named g (Selector g) ∷ old)
+      (keeps_entry f (Named g (Selector g)) old (name_stays_by old g (Selector g) unnamed) (λ test mine. tt)) p
+      (λ k d lt. tt) padoa);
+  terms = terms;
+  apart = λ k d lt same. (
+      let named = groups_named f p old padoa k d lt in
+      let both : None ≡ Some named.0 = sym unnamed ∙ ap (name_of old) (sym same) ∙ named.1 in
+      cc);
+  few = subst HasFewFaults (sym is) few;
+} where
+  g : ℕ
+  g = group_variable t.group
 
 -- a gate that is named, and has its clauses
 module _ (t : Terms) (literals : BTreeMap (ℕ × ℕ) Literal) (old mid new : ProofLog) (v : ℕ) (a b : Literal)
@@ -181,10 +190,10 @@ module _ (t : Terms) (literals : BTreeMap (ℕ × ℕ) Literal) (old mid new : P
       ⊎ (get by_both literals (key_of c d) ≡ get by_both t.literals (key_of c d))
   looked c d = elim (cases_Bool (is_eq (by_both (key_of a b) (key_of c d)))) [
     | inl same ↦ (let numbers = equal_by_both (key_of a b) (key_of c d) same in inl (
-        same_literals a c numbers.0,
-        same_literals b d numbers.1,
-        updates (key_of c d) ∙ ap (λ x. cond x (Some (positive v)) (get by_both t.literals (key_of c d))) same,
-      ))
+      same_literals a c numbers.0,
+      same_literals b d numbers.1,
+      updates (key_of c d) ∙ ap (λ x. cond x (Some (positive v)) (get by_both t.literals (key_of c d))) same,
+    ))
     | inr other ↦ inr (updates (key_of c d) ∙ ap (λ x. cond x (Some (positive v)) (get by_both t.literals (key_of c d)))
         other)
   ]

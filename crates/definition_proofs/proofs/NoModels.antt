@@ -1,19 +1,17 @@
 -- Values of the first copies under which gates over them have their values: a definition has the existential's.
-use Rattle.std.proofs.Common.{◌≡◌, ℕ, ◌<◌, Bool, true, false, true≢false, not, ◌||◌, ◌&&◌, List, [], ◌∷◌, Option, Some, refl, sym, ◌∙◌, ap, subst}
-use Rattle.std.specs.List.{All, Contains}
-use Rattle.std.proofs.lemmas.List.Elements.{All-head, All-tail, Contains-get_or}
+use Rattle.std.proofs.Common.{◌≡◌, ℕ, Bool, true, false, not, ◌||◌, ◌&&◌, List, [], ◌∷◌, Some, refl, sym, ◌∙◌, ap, subst}
+use Rattle.std.specs.List.{Contains}
+use Rattle.std.proofs.lemmas.List.Elements.{Contains-get_or}
 use Rattle.dq_lits.specs.Literal.{Assignment, Literal, positive, negative, variable_of, opposite, literal_true, clause_true}
 use Rattle.dq_lits.specs.Derivation.{MakesTrue}
 use Rattle.dq_lits.specs.Formula.{Dqbf, IsWellFormed, declared}
 use Rattle.dq_lits.specs.Henkin.{MatrixHolds}
 use Rattle.aig_graph.specs.declared.nodes.Node.{Node}
 use Rattle.aig_graph.specs.declared.nodes.Node.TheVariants.{Constant, Input, Gate}
-use Rattle.aig_graph.specs.Graph.{AigGraph, gate_value, node_value}
+use Rattle.aig_graph.specs.Graph.{AigGraph, node_value}
 use Rattle.aig_graph.proofs.LargerGraphs.{gate_value_in}
 use Rattle.defining_nodes.specs.Definitions.{input_variable}
-use Rattle.hint_log.specs.Conditions.{AreLogged}
-use Rattle.hint_log.specs.Entries.{Entry, Given, ProofLog, clause_at, name_of}
-use Rattle.hint_log.specs.Growth.{Grew}
+use Rattle.hint_log.specs.Entries.{Entry, Given, clause_at, name_of}
 use Rattle.hint_log.specs.Naming.{round_assignment}
 use Rattle.hint_log.specs.declared.names.Name.{Name}
 use Rattle.hint_log.specs.declared.names.Name.TheVariants.{Copy as CopyOf, Term}
@@ -23,7 +21,6 @@ use Rattle.hint_log.specs.declared.origins.Origin.{Origin}
 use Rattle.hint_log.specs.declared.origins.Origin.TheVariants.{TermGate, Differ}
 use Rattle.log_laws.specs.Circuits.{leaf_value}
 use Rattle.log_laws.proofs.Found.{named_variable}
-use Rattle.oracle.specs.declared.groups.Group.{Group}
 use Rattle.padoa_definitions.specs.Copies.{group_variable, IsPadoa}
 use Rattle.padoa_definitions.specs.Dividing.{values_at}
 use Rattle.padoa_definitions.specs.declared.padoa.Padoa.{Padoa}
@@ -33,7 +30,7 @@ use Rattle.padoa_definitions.proofs.SearchAnswers.{found_declared, found_variabl
 use Rattle.definition_proofs.specs.Differing.{part_number, differing, IsDifference, HasDifference}
 use Rattle.definition_proofs.specs.Leaves.{StandsFor, input, gate, not_input, not_gate, IsLeafFor}
 use Rattle.definition_proofs.specs.Proving.{IsDefinedBy}
-use Rattle.definition_proofs.specs.Terms.{HasTermClauses, AreTerms}
+use Rattle.definition_proofs.specs.Terms.{AreTerms}
 use Rattle.definition_proofs.specs.declared.differing.Difference.{Difference}
 use Rattle.definition_proofs.specs.declared.terms.Terms.{Terms}
 

@@ -1,23 +1,20 @@
 -- Literals that stand for nodes: they stay as names do, stand on first copies or gates over them, and reach what the
 -- node reads.
-use Rattle.std.proofs.Common.{◌≡◌, ◌≢◌, ◌≤◌, ◌<◌, ◌+◌, ℕ, zero, suc, Bool, true, false, ◌⊎◌, inl, inr, List, [], ◌∷◌, ◌++◌, map, get_or, length, Option, Some, None, slice_get, refl, sym, ◌∙◌, ap, subst, arith}
+use Rattle.std.proofs.Common.{◌≡◌, ◌≢◌, ◌<◌, ℕ, zero, suc, Bool, true, false, ◌⊎◌, inl, inr, List, [], ◌∷◌, ◌++◌, map, length, Some, None, slice_get, refl, sym, ◌∙◌, ap, subst, arith}
 use Rattle.std.specs.List.{Contains}
-use Rattle.std.specs.Option.{option_map}
 use Rattle.std.proofs.lemmas.List.Elements.{Contains-append_left, Contains-append_right}
 use Rattle.std.proofs.lemmas.Option.{slice_get-get_or}
-use Rattle.dq_lits.specs.Literal.{Literal, positive, negative, variable_of, is_negative, opposite}
+use Rattle.dq_lits.specs.Literal.{Literal, positive, negative, variable_of, opposite}
 use Rattle.dq_lits.specs.Formula.{Dqbf, declared}
 use Rattle.aig_graph.specs.declared.nodes.Node.{Node}
 use Rattle.aig_graph.specs.declared.nodes.Node.TheVariants.{Constant, Input, Gate}
-use Rattle.aig_graph.specs.declared.nodes.Sides.{Sides}
-use Rattle.aig_graph.specs.Graph.{AigGraph, AreSides, IsEarlierNode, gate_at, support_by, gate_support, node_support, place_of}
+use Rattle.aig_graph.specs.Graph.{AigGraph, gate_support, node_support, place_of}
 use Rattle.aig_graph.specs.Joining.{IsInner}
 use Rattle.aig_graph.proofs.LargerGraphs.{gate_support_in}
 use Rattle.defining_nodes.specs.Definitions.{input_variable}
 use Rattle.hint_log.specs.Conditions.{is_term_name}
 use Rattle.hint_log.specs.Entries.{Entry, name_of}
 use Rattle.hint_log.specs.Naming.{named_literal, name_literal}
-use Rattle.hint_log.specs.declared.names.Name.{Name}
 use Rattle.hint_log.specs.declared.names.Name.TheVariants.{Copy as CopyOf, Term}
 use Rattle.log_laws.proofs.Found.{named_variable}
 use Rattle.log_laws.proofs.Kept.{NamesStay, literal_stays}

@@ -1,22 +1,21 @@
 -- A definition that is proved: its leaf, then the clauses of the difference, then the search.
-use Rattle.std.proofs.Common.{◌≡◌, ◌≢◌, ◌⊎◌, ◌<◌, ◌==◌, ℕ, zero, suc, true, false, inl, inr, List, [], ◌∷◌, map, length, None, Some, refl, sym, ◌∙◌, ap, subst, arith}
+use Rattle.std.proofs.Common.{◌≡◌, ◌≢◌, ◌⊎◌, ℕ, zero, suc, true, false, inl, inr, List, [], ◌∷◌, map, None, Some, refl, sym, ◌∙◌, subst, arith}
 use Rattle.std.specs.List.{All, Contains}
-use Rattle.std.proofs.lemmas.Bool.{false≢true, eqb-true, ne_eqb}
+use Rattle.std.proofs.lemmas.Bool.{eqb-true}
 use Rattle.std.proofs.lemmas.List.Elements.{All-head, All-tail, All-cons, All-nil}
-use Rattle.dq_lits.specs.Literal.{Assignment, Literal, negative, variable_of, literal_true}
+use Rattle.dq_lits.specs.Literal.{Literal, negative, variable_of, literal_true}
 use Rattle.dq_lits.specs.Formula.{Dqbf, IsWellFormed, declared}
 use Rattle.aig_graph.specs.declared.nodes.Node.{Node}
 use Rattle.aig_graph.specs.declared.nodes.Node.TheVariants.{Constant, Input, Gate}
 use Rattle.aig_graph.specs.Graph.{AigGraph, node_support}
 use Rattle.defining_nodes.specs.Definitions.{input_variable}
 use Rattle.hint_log.specs.Conditions.{AreLogged}
-use Rattle.hint_log.specs.Entries.{Entry, Given, ProofLog, clause_at, name_of}
+use Rattle.hint_log.specs.Entries.{Entry, Given, ProofLog, name_of}
 use Rattle.hint_log.specs.Naming.{named_literal, name_literal}
 use Rattle.hint_log.specs.Origins.{IsTermLeaf}
 use Rattle.hint_log.specs.declared.names.Name.{Name}
 use Rattle.hint_log.specs.declared.names.Name.TheVariants.{Selector, Copy as CopyOf}
 use Rattle.hint_log.specs.declared.origins.Leaf.{Leaf}
-use Rattle.hint_log.specs.declared.origins.Leaf.TheVariants.{Constant as LeafConstant, Literal as LeafLiteral}
 use Rattle.hint_log.specs.declared.origins.Origin.{Origin}
 use Rattle.hint_log.specs.declared.origins.Origin.TheVariants.{Instance, Gate as GateOrigin, Fault, Copy, Link, TermGate, Differ}
 use Rattle.log_laws.proofs.Found.{named_variable}
@@ -30,15 +29,15 @@ use Rattle.padoa_definitions.proofs.DividedAnswers.{as_positive}
 use Rattle.padoa_definitions.proofs.FreePairs.{positive_true}
 use Rattle.padoa_definitions.proofs.SearchAnswers.{padoa_learned, found_declared, found_variable}
 use Rattle.definition_proofs.specs.Differing.{IsDifferenceOf, IsDifference, IsExistential, AreUndiffered, HasDifference, HasDifferenceAlone, LeavesTerms}
-use Rattle.definition_proofs.specs.Leaves.{StandsFor, IsLeafFor}
+use Rattle.definition_proofs.specs.Leaves.{IsLeafFor}
 use Rattle.definition_proofs.specs.Proving.{AreBeside, IsDefinedBy}
 use Rattle.definition_proofs.specs.Searching.{ArePremises, HaveNoModel, HasSameGivens}
-use Rattle.definition_proofs.specs.Shown.{ReadsCopy, TermLeafReads, IsDefinitionGiven}
-use Rattle.definition_proofs.specs.Terms.{is_term_gate, is_proof_origin, AreTerms, GrewByProof}
+use Rattle.definition_proofs.specs.Shown.{TermLeafReads, IsDefinitionGiven}
+use Rattle.definition_proofs.specs.Terms.{is_term_gate, AreTerms, GrewByProof}
 use Rattle.definition_proofs.specs.declared.differing.Difference.{Difference}
 use Rattle.definition_proofs.specs.declared.terms.Terms.{Terms}
 use Rattle.definition_proofs.proofs.GivenDifferences.{difference_stays, term_leaf_stays}
-use Rattle.definition_proofs.proofs.GrownProofs.{no_formula, names_stay, few_still, padoa_still, proof_then}
+use Rattle.definition_proofs.proofs.GrownProofs.{names_stay, few_still, padoa_still, proof_then}
 use Rattle.definition_proofs.proofs.KnownTerms.{each_one, terms_stay}
 use Rattle.definition_proofs.proofs.NodeLiterals.{stands_still, on_term, reads_support}
 use Rattle.definition_proofs.proofs.NoModels.{no_values}
@@ -241,9 +240,11 @@ module _ (f : Dqbf) (graph : AigGraph) (p : Padoa) (first t : Terms) (y : ℕ) (
         few = few_still f (group_variable first.group) y old last whole beside.few;
       }
 
+      pub own_leaf : (out : Leaf) → out ≡ output → IsLeafFor f graph last.entries node out
+      own_leaf out is = subst (IsLeafFor f graph last.entries node) (sym is)
+          (leaf_stays f graph log.entries last.entries (λ v n there. same.names v ∙ stay v n there) node output leaf_is)
+
       pub own_reads : (out : Leaf) → out ≡ output → (x : ℕ) → TermLeafReads last.entries out x →
           Contains (map (input_variable f) (node_support graph node)) x
       own_reads out is x reads =
-          leaf_reads f graph last.entries node output
-          (leaf_stays f graph log.entries last.entries (λ v n there. same.names v ∙ stay v n there) node output leaf_is) x
-          (subst (λ o. TermLeafReads last.entries o x) is reads)
+          leaf_reads f graph last.entries node out (own_leaf out is) x reads

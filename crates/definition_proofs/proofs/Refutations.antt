@@ -1,13 +1,13 @@
 -- What a search in some groups leaves and shows.
-use Rattle.std.proofs.Common.{◌≡◌, ℕ, zero, suc, ◌+◌, true, inl, inr, List, [], ◌∷◌, ◌++◌, get_or, Some, refl, sym, ◌∙◌, ap, subst, arith}
-use Rattle.std.specs.List.{All, Contains}
+use Rattle.std.proofs.Common.{◌≡◌, ℕ, suc, true, inl, inr, List, [], ◌∷◌, ◌++◌, get_or, Some, refl, sym, ◌∙◌, ap, subst, arith}
+use Rattle.std.specs.List.{Contains}
 use Rattle.std.proofs.lemmas.Bool.{eq-eqb}
 use Rattle.std.proofs.lemmas.List.Elements.{All-contains, Contains-append_right}
 use Rattle.std.proofs.lemmas.List.Folds.{list_any_at}
 use Rattle.dq_lits.specs.Literal.{Literal, positive, negative, variable_of, opposite, same_literal}
 use Rattle.dq_lits.specs.Derivation.{holds}
 use Rattle.dq_lits.specs.Formula.{Dqbf}
-use Rattle.hint_log.specs.Deciding.{ReachesGiven, AreNegatedSelectors, DecidesNothing}
+use Rattle.hint_log.specs.Deciding.{ReachesGiven, AreNegatedSelectors}
 use Rattle.hint_log.specs.Entries.{Entry, Named, Given, Learned, Answer, Round, Begun, ProofLog, name_of}
 use Rattle.hint_log.specs.Growth.{EachOf, Grew}
 use Rattle.hint_log.specs.declared.names.Name.TheVariants.{Selector}

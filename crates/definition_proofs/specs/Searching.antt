@@ -1,5 +1,5 @@
 -- What a search in three groups leaves and shows, for private contracts.
-use Rattle.std.specs.Prelude.{◌≡◌, ◌⊎◌, ℕ, List, ◌∷◌, []}
+use Rattle.std.specs.Prelude.{◌≡◌, ℕ, List, ◌∷◌, []}
 use Rattle.std.specs.List.{All, Contains}
 use Rattle.dq_lits.specs.Literal.{Assignment, Literal, negative}
 use Rattle.hint_log.specs.Conditions.{AreLogged}

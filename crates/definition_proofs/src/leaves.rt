@@ -31,8 +31,8 @@ pub(crate) struct Inputs<'g, 'c, 'f> {
 }
 
 impl Terms {
-    /// The leaf that stands for a node: the gates of its cone are named, and their clauses given, where they weren't
-    /// yet.
+    /// The leaf that stands for a node: the gates of its cone are named, and their clauses given,
+    /// where they weren't yet.
     pub(crate) fn leaf<O: Oracle>(
         &mut self,
         oracle: &mut O,

@@ -1,17 +1,20 @@
 //! Gates over first copies, each given once (Tseitin's encoding).
 
-ghost use Rattle.std.specs.Prelude.{◌≡◌, ◌≢◌, ◌≤◌, ◌<◌, ◌^◌, ℕ, List, All, IfOk, OnOk, OnErr, Some};
+ghost use Rattle.std.specs.Prelude.{◌≡◌, ◌≤◌, ◌<◌, ◌^◌, ℕ, true, List, IfOk, OnOk, OnErr, Some};
 ghost use Rattle.std.specs.List.{Contains};
 ghost use Rattle.dq_lits.specs.Formula.{Dqbf};
 ghost use Rattle.dq_lits.specs.Literal.{Literal, positive};
 ghost use Rattle.hint_log.specs.Conditions.{HasSides};
 ghost use Rattle.hint_log.specs.Entries.{Named, Given, with_entry, name_of};
+ghost use Rattle.hint_log.specs.Growth.{Grew};
 ghost use Rattle.hint_log.specs.declared.names.Name.TheVariants.{Selector, Term};
 ghost use Rattle.hint_log.specs.declared.origins.Origin.TheVariants.{TermGate};
+ghost use Rattle.log_laws.specs.Engines.{copies, IsAddedBy};
 ghost use Rattle.oracle.specs.Calls.{IsMade};
-ghost use Rattle.padoa_definitions.specs.Copies.{IsPadoa, group_variable, groups_of};
+ghost use Rattle.padoa_definitions.specs.Copies.{IsPadoa, group_variable};
 ghost use Rattle.padoa_definitions.specs.Growing.{Gives, HasFewFaults};
 ghost use Rattle.padoa_definitions.specs.declared.padoa.Padoa.{Padoa as PadoaValue};
+ghost use Rattle.definition_proofs.specs.Proving.{AreBeside};
 ghost use Rattle.definition_proofs.specs.Terms.{literal_number, is_gate_of, HasTermClauses, HasNoTerms, AreTerms, GrewByProof};
 
 use dq_lits::{Lit, Memory};
@@ -20,8 +23,8 @@ use oracle::{Group, Oracle};
 use std::alloc::Global;
 use std::collections::BTreeMap;
 
-/// The gates over first copies that were given to the oracle, by their sides, in a group of their own. Definitions
-/// share them.
+/// The gates over first copies that were given to the oracle, by their sides, in a group of their
+/// own. Definitions share them: a call that needs a gate that another one gave finds it here.
 #[derive(Drop)]
 pub struct Terms {
     pub(crate) alloc: Global,
@@ -29,12 +32,12 @@ pub struct Terms {
     pub(crate) literals: BTreeMap<(u64, u64), Lit>,
 }
 
-/// A gate over first copies that was named.
+// A gate over first copies that was named.
 #[derive(Clone, Copy)]
-pub(crate) struct NewGate {
-    pub variable: u64,
-    pub left: Lit,
-    pub right: Lit,
+struct NewGate {
+    variable: u64,
+    left: Lit,
+    right: Lit,
 }
 
 impl Terms {
@@ -45,9 +48,12 @@ impl Terms {
         ensures fit { O.Fits oracle.new log.new }
         ensures ok { IfOk result (λ terms. log.new ≡ with_entry log.old
             (Named (group_variable terms.group) (Selector (group_variable terms.group)))) }
+        ensures grew { (f : Dqbf) (group : ℕ)
+            → Grew (IsAddedBy f copies group true log.old.entries) log.old log.new }
         ensures made { IfOk result (λ terms. AreTerms terms log.new.entries) }
-        ensures apart { (f : Dqbf) (p : PadoaValue) → IsPadoa f p log.old.entries
-            → IfOk result (λ terms. All (λ g. g ≢ group_variable terms.group) (groups_of p)) }
+        ensures beside { (f : Dqbf) (p : PadoaValue) → IsPadoa f p log.old.entries
+            → HasFewFaults log.old.entries
+            → IfOk result (λ terms. AreBeside f p terms log.new.entries) }
         ensures err { OnErr result (log.new ≡ log.old) }
     {
         let who = oracle.tenant()?;
@@ -121,7 +127,12 @@ fn give_clauses<O: Oracle>(
     let v = gate.variable;
     oracle.add(group, &[Lit::neg(v), gate.left], part_of(v, 1), log)?;
     oracle.add(group, &[Lit::neg(v), gate.right], part_of(v, 2), log)?;
-    oracle.add(group, &[Lit::pos(v), gate.left.not(), gate.right.not()], part_of(v, 3), log)?;
+    oracle.add(
+        group,
+        &[Lit::pos(v), gate.left.not(), gate.right.not()],
+        part_of(v, 3),
+        log,
+    )?;
     Ok(())
 }
 

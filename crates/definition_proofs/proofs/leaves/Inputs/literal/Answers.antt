@@ -1,4 +1,4 @@
-use Rattle.std.proofs.Common.{◌<◌, false, sym, ap, subst}
+use Rattle.std.proofs.Common.{◌<◌, sym, ap, subst}
 use Rattle.aig_graph.specs.Graph.{IsNode}
 use Rattle.aig_graph.specs.Putting.{gate_of}
 use Rattle.aig_graph.specs.declared.nodes.Node.TheVariants.{Input, Gate}

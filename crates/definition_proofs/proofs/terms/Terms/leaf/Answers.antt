@@ -1,11 +1,8 @@
-use Rattle.std.proofs.Common.{◌≡◌, ℕ, List, ◌+◌, ◌-◌, ◌<◌, ◌≤◌, length, get_or, slice_get, Some, false, sym, ◌∙◌, ap, subst, arith}
+use Rattle.std.proofs.Common.{◌≡◌, ℕ, List, ◌+◌, ◌-◌, ◌<◌, ◌≤◌, length, get_or, slice_get, Some, sym, ◌∙◌, ap, subst, arith}
 use Rattle.std.proofs.lemmas.Option.{slice_get-get_or}
-use Rattle.dq_lits.specs.Formula.{declared}
-use Rattle.hint_log.specs.Naming.{named_literal}
-use Rattle.hint_log.specs.declared.names.Name.TheVariants.{Copy as CopyOf}
 use Rattle.log_laws.proofs.Kept.{named_stay}
 use Rattle.padoa_definitions.specs.Copies.{copies_of, group_variable}
-use Rattle.definition_proofs.proofs.ConeLiterals.{AreLiteralsFrom, gate_within, sides_known, stopped, literal_more, known_found, node_known}
+use Rattle.definition_proofs.proofs.ConeLiterals.{AreLiteralsFrom, sides_known, stopped, literal_more, known_found, node_known}
 use Rattle.definition_proofs.proofs.GrownProofs.{no_formula, names_stay, few_still}
 use Rattle.definition_proofs.proofs.terms.Terms.leaf.Goals as goal
 
@@ -77,12 +74,11 @@ loop-at-preserved g c =
     let below : at ≡ at - 1 + 1 = let test = c.loop-at-test.true in omega (arith, test) in
     let far = subst (AreLiteralsFrom f graph gates c.args.self.now c.args.log.now c.loop-at.self c.loop-at.log
     c.loop-at.literals) below c.loop-at.invariant.1 in
-    let here = there gates at c.index-g.result.now c.loop-at-test.true c.loop-at.invariant.1.within c.index-g.ensures in
-    (
+    let here = there gates at c.index-g.result.now c.loop-at-test.true c.loop-at.invariant.1.within c.index-g.ensures in (
       c.gate_literal.ensures.fit,
       literal_more f graph c.args.node gates c.args.self.now c.args.log.now c.loop-at.self c.loop-at.log
-    c.loop-at.literals (at - 1) c.index-g.result.now c.every_graph_is_lawful.ensures c.in_ok-gates.ensures
-    far here
+          c.loop-at.literals (at - 1) c.index-g.result.now c.every_graph_is_lawful.ensures c.in_ok-gates.ensures
+          far here
           c.gate_literal.new.self c.gate_literal.new.log c.gate_literal.ensures.grew c.gate_literal.ensures.group
           c.in_ok-l.ensures.terms c.in_ok-l.l c.in_ok-l.ensures.stands c.insert.new.self c.in_ok-insert.ensures.updates,
     )

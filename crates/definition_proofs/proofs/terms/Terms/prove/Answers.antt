@@ -1,7 +1,6 @@
-use Rattle.std.proofs.Common.{◌∙◌, ap}
 use Rattle.padoa_definitions.specs.Copies.{group_variable}
 use Rattle.definition_proofs.proofs.GrownProofs.{own_growth, padoa_still, proof_then}
-use Rattle.definition_proofs.proofs.ProvedDefinitions.{is_existential, own_declared, own_differs, difference, few, undiffered, premises, no_model, still_beside, own_reads}
+use Rattle.definition_proofs.proofs.ProvedDefinitions.{is_existential, own_declared, own_differs, difference, few, undiffered, premises, no_model, still_beside, own_leaf, own_reads}
 use Rattle.definition_proofs.proofs.terms.Terms.prove.Goals as goal
 
 pub returns-in_err-leaf-clause-grew : goal.returns-in_err-leaf-clause-grew
@@ -255,6 +254,23 @@ returns-clause-reads g c =
     let log = c.leaf.new.log in
     let group = group_variable c.args.self.now.group in
     own_reads f c.args.graph.now p c.args.self.now c.leaf.new.self y c.args.node c.copied_variable.result
+    c.in_ok-leaf.leaf old log c.requires.beside c.requires.definition c.requires.none c.leaf.ensures.grew
+    c.leaf.ensures.group c.in_ok-leaf.ensures.terms c.in_ok-leaf.ensures.leaf
+    (λ padoa. c.copied_variable.ensures log.entries 1 padoa.first.universals padoa.first.existentials)
+    c.requires.formula c.names_are_unique.ensures c.give.new.log c.in_ok-group.group c.give.ensures.grew
+    c.in_ok-group.ensures.made c.in_ok-group.ensures.given c.in_ok-group.ensures.alone c.in_ok-group.ensures.leaves
+    c.refute.new.log c.refute.ensures.grew c.refute.ensures.same
+    c.in_ok-proved.proved.leaf c.in_ok-proved.ensures.output
+
+pub returns-clause-leaf : goal.returns-clause-leaf
+returns-clause-leaf g c =
+    let f = c.args.f.now in
+    let y = c.args.y in
+    let p = c.args.padoa.now in
+    let old = c.args.log.now in
+    let log = c.leaf.new.log in
+    let group = group_variable c.args.self.now.group in
+    own_leaf f c.args.graph.now p c.args.self.now c.leaf.new.self y c.args.node c.copied_variable.result
     c.in_ok-leaf.leaf old log c.requires.beside c.requires.definition c.requires.none c.leaf.ensures.grew
     c.leaf.ensures.group c.in_ok-leaf.ensures.terms c.in_ok-leaf.ensures.leaf
     (λ padoa. c.copied_variable.ensures log.entries 1 padoa.first.universals padoa.first.existentials)
