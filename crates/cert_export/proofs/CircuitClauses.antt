@@ -38,22 +38,22 @@ use Rattle.log_laws.proofs.Solved.{split_literal, sides}
 use Rattle.cert_export.proofs.PairNames.{small_place, from_one}
 use Rattle.cert_export.proofs.Instances.{same_on}
 
-front : {X : Type 0} (xs ys : List X) (i : ℕ) (x : X) → slice_get xs i ≡ Some x → slice_get (xs ++ ys) i ≡ Some x
+pub front : {X : Type 0} (xs ys : List X) (i : ℕ) (x : X) → slice_get xs i ≡ Some x → slice_get (xs ++ ys) i ≡ Some x
 front [] ys i x h = cc
 front (y ∷ xs) ys zero x h = h
 front (y ∷ xs) ys (suc i) x h = front xs ys i x h
 
-behind : {X : Type 0} (xs ys : List X) (n k : ℕ) → n ≡ length xs → slice_get (xs ++ ys) (n + k) ≡ slice_get ys k
+pub behind : {X : Type 0} (xs ys : List X) (n k : ℕ) → n ≡ length xs → slice_get (xs ++ ys) (n + k) ≡ slice_get ys k
 behind [] ys n k h = let e : n + k ≡ k = omega (arith, h) in ap (slice_get ys) e
 behind (x ∷ xs) ys n k h = let e : n + k ≡ suc (length xs + k) = omega (arith, h) in
     ap (slice_get (x ∷ (xs ++ ys))) e ∙ behind xs ys (length xs) k refl
 
 -- the clauses of the gates
-gates_length : (gs : List Gate) → length (flat_map gate_clauses gs) ≡ 3 * length gs
+pub gates_length : (gs : List Gate) → length (flat_map gate_clauses gs) ≡ 3 * length gs
 gates_length [] = omega arith
 gates_length (g ∷ gs) = let r = gates_length gs in omega (arith, r)
 
-gate_at : (g : ℕ → Gate) (vs : List ℕ) (rest : List (List ℕ)) (p k : ℕ) (c : List ℕ) → p < length vs →
+pub gate_at : (g : ℕ → Gate) (vs : List ℕ) (rest : List (List ℕ)) (p k : ℕ) (c : List ℕ) → p < length vs →
     slice_get (gate_clauses (g (get_or vs p 0))) k ≡ Some c →
     slice_get (flat_map gate_clauses (map g vs) ++ rest) (3 * p + k) ≡ Some c
 gate_at g [] rest p k c below h = absurd (omega arith)
@@ -157,7 +157,7 @@ output_at g (z ∷ zs) v y h = by_bit (z.variable == v) (output_at g zs v y) h w
       let e : 1 + n ≡ suc n = omega arith in
       ap (slice_index (g z ∷ map g zs)) e ∙ later h
 
-opposite_twice : (l : Literal) → opposite (opposite l) ≡ l
+pub opposite_twice : (l : Literal) → opposite (opposite l) ≡ l
 opposite_twice (positive v) = refl
 opposite_twice (negative v) = refl
 
@@ -212,7 +212,7 @@ module _ (r : Renaming) where
       ∙ literal_behind bad k one h ∙ ap (λ qs. Some (negative bad ∷ renamed_clause r qs)) is
 
   -- a gate's clauses
-  gate_codes : (v i k : ℕ) (a b : Literal) (rest : List Literal) → i ≡ suc k → HasNumber r (positive v) →
+  pub gate_codes : (v i k : ℕ) (a b : Literal) (rest : List Literal) → i ≡ suc k → HasNumber r (positive v) →
       HasNumber r a → HasNumber r b → gate_rest v a b i ≡ Some rest →
       (codes : List ℕ) × (slice_get (gate_clauses (gate_of r v (Some (And a b)))) k ≡ Some codes) ×
       (without_constants codes ≡ Some (renamed_clause r rest))

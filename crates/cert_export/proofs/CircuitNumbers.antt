@@ -128,7 +128,7 @@ module _ (f : Dqbf) (e : CircuitPart) where
     by_case (inr (inl g)) = let n = g.1.number in let is = g.2 in omega (arith, n, is)
     by_case (inr (inr b)) = let one = b.2 in let is = b.3 in omega (arith, one, is)
 
-  same_place : (xs : List ℕ) (u w n : ℕ) → IsPlace xs u n → IsPlace xs w n → u ≡ w
+  pub same_place : (xs : List ℕ) (u w n : ℕ) → IsPlace xs u n → IsPlace xs w n → u ≡ w
   same_place xs u w n p q =
       let a = p.number in
       let b = q.number in

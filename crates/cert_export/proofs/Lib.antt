@@ -1,35 +1,35 @@
 mod Renamings
-mod ReachedLines
+pub mod ReachedLines
 mod CutHints
-mod DerivedLines
-mod Allowed
-mod Answers
-mod Numbers
-mod PairNames
-mod Instances
+pub mod DerivedLines
+pub mod Allowed
+pub mod Answers
+pub mod Numbers
+pub mod PairNames
+pub mod Instances
 mod AcceptedRefutations
 mod NewNames
 mod AscendingPlaces
-mod GivenNames
+pub mod GivenNames
 mod FaultLeaves
 mod NeededGates
-mod ListedGates
+pub mod ListedGates
 mod GatesInOrder
 mod ExportedParts
 mod SmallNumbers
 mod FileGates
 mod SmallerSides
 mod GateVariables
-mod ExportableCircuits
+pub mod ExportableCircuits
 mod NeededHints
 mod WrittenLines
 mod ExportableAnswers
 mod ExportableLogs
 mod RoundRows
-mod LineCounts
-mod Codes
-mod CircuitNumbers
-mod CircuitClauses
+pub mod LineCounts
+pub mod Codes
+pub mod CircuitNumbers
+pub mod CircuitClauses
 mod ExportedCircuits
 mod ExportedAnswers
 mod MappedSymbols

@@ -7,7 +7,7 @@ use hint_log::Origin;
 
 /// The clauses that the lines of a certificate are derived from, by the origins of the log's given
 /// clauses.
-pub(crate) trait Ground {
+pub trait Ground {
     /// The id of the clause of an origin.
     ghost ids: { Self → Origin → ℕ };
 

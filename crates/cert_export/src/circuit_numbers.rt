@@ -8,7 +8,7 @@ ghost use Rattle.hint_log.specs.Naming.{numbered_from_one};
 ghost use Rattle.cert_export.specs.CircuitPart.{circuit_renaming, literal_code, or_zero};
 ghost use Rattle.cert_export.specs.Parts.{part_of, IsSmall};
 
-use crate::given_names::Naming;
+use crate::naming::Naming;
 use crate::parts::Part;
 use dq_formula::Formula;
 use dq_lits::Lit;

@@ -14,8 +14,8 @@ ghost use Rattle.cert_export.specs.Negated.{AreLengthsBefore};
 ghost use Rattle.cert_export.specs.Parts.{part_of, AreDecided, AreCircuitIds, AreProofItems, IsCircuitFile, IsExportedCircuit};
 
 use crate::circuit_numbers::{CircuitNumbers, MOST};
-use crate::given_names::given_names;
 use crate::laws::{exported_answer_is_proved, exported_file_is_spellable};
+use crate::naming::given_names;
 use crate::negated::{Negated, lengths_before};
 use crate::netlists::netlist;
 use crate::parts::exported_part;

@@ -6,17 +6,21 @@
 //! end there.
 #![tactic(auto)]
 
+pub use bases::Ground;
 pub use circuits::export_true;
+pub use naming::{Naming, given_names};
+pub use new_names::Names;
 pub use refutations::{clause_numbers, export_false};
+pub use written::{LineSource, write_lines};
 
 mod bases;
 mod circuit_numbers;
 mod circuits;
 mod gates;
-mod given_names;
 pub mod laws;
 mod leaves;
 mod lines;
+mod naming;
 mod negated;
 mod netlists;
 mod new_names;

@@ -11,7 +11,7 @@ use std::marker::Model;
 
 /// New names for some variables, each found by the variable.
 #[derive(Drop)]
-pub(crate) struct Names {
+pub struct Names {
     variables: NumberSet,
     names: Vec<u64>,
 }
@@ -29,7 +29,7 @@ impl Model for Names {
 
 impl Names {
     /// No variable has a new name. It takes no memory.
-    pub(crate) fn new(alloc: Global) -> Names
+    pub fn new(alloc: Global) -> Names
         ensures { (v : ℕ) → renaming result v ≡ None }
     {
         Names {
@@ -39,7 +39,7 @@ impl Names {
     }
 
     /// The new name of a variable, if it has one.
-    pub(crate) fn get(&self, variable: u64) -> Option<u64>
+    pub fn get(&self, variable: u64) -> Option<u64>
         ensures value { result ≡ renaming self.now variable }
         ensures range { IfSome result IsVariable }
     {
@@ -50,7 +50,7 @@ impl Names {
     }
 
     /// Gives a variable its new name, unless it has one.
-    pub(crate) fn insert(&mut self, variable: u64, name: u64) -> Result<(), Memory>
+    pub fn insert(&mut self, variable: u64, name: u64) -> Result<(), Memory>
         requires from_one { 1 ≤ name }
         requires in_range { name < 2 ^ 62 }
         ensures kept { OnOk result
@@ -70,7 +70,7 @@ impl Names {
     }
 
     /// A literal on its variable's new name, if it has one.
-    pub(crate) fn literal(&self, l: &Lit) -> Option<Lit>
+    pub fn literal(&self, l: &Lit) -> Option<Lit>
         ensures { result ≡ renamed_literal (renaming self.now) l.now }
     {
         match self.get(l.var()) {
@@ -84,7 +84,7 @@ impl Names {
     }
 
     /// The literals on new names.
-    pub(crate) fn clause(&self, alloc: Global, lits: &[Lit]) -> Result<Vec<Lit>, Memory>
+    pub fn clause(&self, alloc: Global, lits: &[Lit]) -> Result<Vec<Lit>, Memory>
         ensures { IfOk result
             (λ clause. clause.items ≡ renamed_clause (renaming self.now) lits.now) }
     {

@@ -3,7 +3,7 @@
 ghost use Rattle.cert_export.specs.Expansion.{pair_renaming};
 ghost use Rattle.cert_export.specs.Pairing.{HasOwnName};
 
-use crate::given_names::Naming;
+use crate::naming::Naming;
 use dq_formula::Formula;
 use hint_log::{Log, Name};
 

@@ -16,8 +16,8 @@ ghost use Rattle.cert_export.specs.Exported.{CanExportFalse};
 ghost use Rattle.cert_export.specs.Exportable.{IsKnownInstance, AreExportable, AreExportedItems};
 
 use crate::bases::Ground;
-use crate::given_names::given_names;
 use crate::lines::place;
+use crate::naming::given_names;
 use crate::pairs::PairNumbers;
 use crate::written::{LineSource, write_lines};
 use cert_text::{Dqr, ItemList};

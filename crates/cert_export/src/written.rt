@@ -38,21 +38,18 @@ impl Model for Written {
 /// What lines are written from: some ids of a log, names for the variables of their clauses, and
 /// the base behind whose last id the lines are numbered.
 #[derive(Drop)]
-pub(crate) struct LineSource<'l, 'i, 'n, 'b, B> {
-    pub(crate) log: &'l Log,
-    pub(crate) ids: &'i [u64],
-    pub(crate) names: &'n Names,
-    pub(crate) base: &'b B,
+pub struct LineSource<'l, 'i, 'n, 'b, B> {
+    pub log: &'l Log,
+    pub ids: &'i [u64],
+    pub names: &'n Names,
+    pub base: &'b B,
     /// The last id of the base.
-    pub(crate) last: u64,
+    pub last: u64,
 }
 
 /// The lines of the derived clauses among the source's ids. It takes time for the clauses that are
 /// reached and their hints, and for each hint the logarithm of the ids; memory for these clauses.
-pub(crate) fn write_lines<B: Ground>(
-    alloc: Global,
-    source: &LineSource<B>,
-) -> Result<StepList, Memory>
+pub fn write_lines<B: Ground>(alloc: Global, source: &LineSource<B>) -> Result<StepList, Memory>
     requires can { CanBeWritten (renaming source.now.names.now) (B.Knows source.now.base.now)
         source.now.log.now.entries source.now.ids.now }
     requires few { source.now.last < 2 ^ 63 }

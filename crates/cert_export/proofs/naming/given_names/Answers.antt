@@ -2,8 +2,8 @@ use Rattle.std.proofs.Common.{◌+◌, sym, ◌∙◌, ap, subst, slice_index, i
 use Rattle.std.proofs.lemmas.List.{get_or_default}
 use Rattle.cert_export.specs.Names.{renaming, NameTable}
 use Rattle.cert_export.proofs.GivenNames.{GivenNamed, one_given, given_here, none_here, all_given, known_of}
-use Rattle.cert_export.proofs.given_names.given_names.Goals.{then-is_some+in_ok-name_variables, else-is_some}
-use Rattle.cert_export.proofs.given_names.given_names.Goals as goal
+use Rattle.cert_export.proofs.naming.given_names.Goals.{then-is_some+in_ok-name_variables, else-is_some}
+use Rattle.cert_export.proofs.naming.given_names.Goals as goal
 
 pub name_variables-requires-clause-known : goal.name_variables-requires-clause-known
 name_variables-requires-clause-known g c =

@@ -14,7 +14,7 @@ use hint_log::Log;
 use std::alloc::Global;
 
 /// The names that a certificate has for a log's variables.
-pub(crate) trait Naming {
+pub trait Naming {
     /// The names.
     ghost target: { Self → Renaming };
 
@@ -30,7 +30,7 @@ pub(crate) trait Naming {
 
 /// The names of the variables that the given clauses among some ids stand on. They take memory for
 /// these variables alone.
-pub(crate) fn given_names<N: Naming>(
+pub fn given_names<N: Naming>(
     alloc: Global,
     log: &Log,
     ids: &[u64],

@@ -1,6 +1,6 @@
 use Rattle.cert_export.specs.Names.{renaming}
 use Rattle.cert_export.proofs.GivenNames.{one_named, all_named}
-use Rattle.cert_export.proofs.given_names.name_variables.Goals as goal
+use Rattle.cert_export.proofs.naming.name_variables.Goals as goal
 
 pub loop-l-preserved : goal.loop-l-preserved
 loop-l-preserved g c =

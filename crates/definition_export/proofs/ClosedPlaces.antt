@@ -1,0 +1,231 @@
+-- Needed gates by their places: the greatest is taken out, and what its gate reads is added, until none waits.
+use Rattle.std.proofs.Common.{◌≡◌, ℕ, zero, suc, ◌+◌, ◌<◌, ◌==◌, ◌⊎◌, Bool, true, false, true≢false, cond, List, [], ◌∷◌, ◌++◌, length, get_or, slice_get, slice_index, OnOk, Result, Ok, Err, Option, None, Some, Contains, inl, inr, refl, sym, ap, ◌∙◌, subst, arith}
+use Rattle.std.specs.List.{All}
+use Rattle.std.specs.List.Sorted.{IsStrictlyIncreasing}
+use Rattle.std.proofs.lemmas.Bool.{cases_Bool, eqb-true, eqb-false, eq-eqb}
+use Rattle.std.proofs.lemmas.List.{get_or_default}
+use Rattle.std.proofs.lemmas.List.Elements.{All-nil, All-push}
+use Rattle.std.proofs.lemmas.List.Quantifiers.{position-Some}
+use Rattle.std.proofs.lemmas.Option.{slice_get-get_or}
+use Rattle.dq_lits.specs.Literal.{Literal, variable_of}
+use Rattle.dq_lits.specs.declared.memory.Memory.{Memory}
+use Rattle.hint_log.specs.Entries.{Entry, name_of}
+use Rattle.hint_log.specs.declared.names.Name.TheVariants.{Term}
+use Rattle.number_tables.specs.Numbers.{place_of}
+use Rattle.definition_export.specs.Closing.{is_waiting, Takes, IsPlaceOf, IsWithPlace, IsSidePlace, IsWithSides, IsGateWaiting, AreWithin, AreClosed, AreTermNames}
+use Rattle.definition_export.specs.declared.places.PlaceSet.{PlaceSet}
+
+-- one place more
+module _ (terms : List ℕ) (variable place : ℕ) (old new : PlaceSet)
+    (is : (p : ℕ) → is_waiting new p ≡ cond (place == p) true (is_waiting old p)) where
+  pub place_added : place_of terms variable ≡ Some place → IsWithPlace terms variable old new
+  place_added at = record {
+    kept = λ p h. is p ∙ always p (place == p) h;
+    there = λ p h. is p ∙ ap (λ b. cond b true (is_waiting old p)) (eq-eqb place p (same p (sym at ∙ h)));
+    only = λ p h. by_bit p (place == p) refl (sym (is p) ∙ h);
+  } where
+    always : (p : ℕ) (b : Bool) → is_waiting old p ≡ true → cond b true (is_waiting old p) ≡ true
+    always p true h = refl
+    always p false h = h
+
+    same : (p : ℕ) → Some place ≡ Some p → place ≡ p
+    same p e = cc
+
+    by_bit : (p : ℕ) (b : Bool) → (place == p) ≡ b → cond b true (is_waiting old p) ≡ true →
+        (is_waiting old p ≡ true) ⊎ IsPlaceOf terms variable p
+    by_bit p true e h = inr (at ∙ ap Some (eqb-true place p e))
+    by_bit p false e h = inl h
+
+pub no_place : (terms : List ℕ) (variable : ℕ) (set : PlaceSet) → place_of terms variable ≡ None →
+    IsWithPlace terms variable set set
+no_place terms variable set none = record {
+  kept = λ p h. h;
+  there = λ p h. let both : None ≡ Some p = sym none ∙ h in cc;
+  only = λ p h. inl h;
+}
+
+-- both sides of a gate were added
+pub sides_added : (entries : List Entry) (terms : List ℕ) (place v : ℕ) (a b : Literal) (old mid new : PlaceSet) →
+    slice_get terms place ≡ Some v → name_of entries v ≡ Some (Term a b) →
+    IsWithPlace terms (variable_of a) old mid → IsWithPlace terms (variable_of b) mid new →
+    IsWithSides entries terms place old new
+sides_added entries terms place v a b old mid new at named first second = record {
+  kept = λ p h. second.kept p (first.kept p h);
+  there = λ p s. there p s;
+  only = λ p h. elim (second.only p h) [
+    | inl before ↦ elim (first.only p before) [
+      | inl older ↦ inl older
+      | inr left ↦ inr (side a (inl refl) p left)
+    ]
+    | inr right ↦ inr (side b (inr refl) p right)
+  ];
+} where
+  side : (l : Literal) → (l ≡ a) ⊎ (l ≡ b) → (p : ℕ) → IsPlaceOf terms (variable_of l) p →
+      IsSidePlace entries terms place p
+  side l either p is = record {
+    variable = v;
+    left = a;
+    right = b;
+    literal = l;
+    at = at;
+    named = named;
+    either = either;
+    side_is = is;
+  }
+
+  there : (p : ℕ) → IsSidePlace entries terms place p → is_waiting new p ≡ true
+  there p s =
+      let both : Some v ≡ Some s.variable = sym at ∙ s.at in
+      let same : v ≡ s.variable = cc in
+      let names : Some (Term a b) ≡ Some (Term s.left s.right) = sym named ∙ ap (name_of entries) same ∙ s.named in
+      let left : s.left ≡ a = cc in
+      let right : s.right ≡ b = cc in
+      elim s.either [
+        | inl is ↦ second.kept p (first.there p (ap (λ l. place_of terms (variable_of l)) (sym (is ∙ left))
+            ∙ s.side_is))
+        | inr is ↦ second.there p (ap (λ l. place_of terms (variable_of l)) (sym (is ∙ right)) ∙ s.side_is)
+      ]
+
+-- the same, where the second one may be refused
+pub both_added : (entries : List Entry) (terms items : List ℕ) (place : ℕ) (a b : Literal) (old mid new : PlaceSet)
+    (r : Result (Unit {0}) Memory) → items ≡ terms → place < length terms →
+    name_of entries (get_or items place 0) ≡ Some (Term a b) → (v w : ℕ) → v ≡ variable_of a → w ≡ variable_of b →
+    IsWithPlace terms v old mid → OnOk r (IsWithPlace terms w mid new) →
+    OnOk r (IsWithSides entries terms place old new)
+both_added entries terms items place a b old mid new (Err e) is small named v w v_is w_is first second = tt
+both_added entries terms items place a b old mid new (Ok u) is small named v w v_is w_is first second =
+    let at : slice_get terms place ≡ Some (get_or items place 0) =
+    slice_get-get_or terms place 0 small ∙ ap (λ xs. Some (get_or xs place 0)) (sym is) in
+    sides_added entries terms place (get_or items place 0) a b old mid new at named
+    (subst (λ n. IsWithPlace terms n old mid) v_is first) (subst (λ n. IsWithPlace terms n mid new) w_is second)
+
+-- a place's gate has a name
+pub term_there : (entries : List Entry) (terms items : List ℕ) (place : ℕ) → AreTermNames entries terms →
+    items ≡ terms → place < length terms →
+    (a : Literal) × (b : Literal) × (name_of entries (get_or items place 0) ≡ Some (Term a b))
+term_there entries terms items place names is small =
+    let at : get_or terms place 0 ≡ get_or items place 0 = ap (λ xs. get_or xs place 0) (sym is) in
+    let own : get_or terms place (get_or items place 0) ≡ get_or items place 0 =
+    get_or_default terms place (get_or items place 0) 0 small ∙ at in
+    names.named (get_or items place 0) (place, small, own)
+
+-- a place more stays within the gates
+pub within_with : (terms : List ℕ) (variable : ℕ) (old new : PlaceSet) → IsWithPlace terms variable old new →
+    AreWithin terms old → AreWithin terms new
+within_with terms variable old new added within p h = elim (added.only p h) [
+  | inl before ↦ within p before
+  | inr is ↦ (position-Some (λ x. x == variable) terms p 0 is).0
+]
+
+-- what was taken out, least first, and what waits
+pub record IsClosing (entries : List Entry) (terms : List ℕ) (first now : PlaceSet) (up : List ℕ) : Type 0 where
+  pub rising : IsStrictlyIncreasing up
+  pub below : (p : ℕ) → is_waiting now p ≡ true → p < get_or up 0 (length terms)
+  pub within : (p : ℕ) → Contains up p → p < length terms
+  pub first_in : (p : ℕ) → is_waiting first p ≡ true → (is_waiting now p ≡ true) ⊎ Contains up p
+  pub sides_in : (p q : ℕ) → Contains up p → IsSidePlace entries terms p q →
+      (is_waiting now q ≡ true) ⊎ Contains up q
+
+nothing : (v : ℕ) → Contains {X = ℕ} [] v → ⊥
+nothing v (k, lt, at) = omega (arith, lt)
+
+pub closing_first : (entries : List Entry) (terms : List ℕ) (first : PlaceSet) → AreWithin terms first →
+    IsClosing entries terms first first []
+closing_first entries terms first within = record {
+  rising = λ k lt. absurd (omega (arith, lt));
+  below = λ p h. within p h;
+  within = λ p has. absurd (nothing p has);
+  first_in = λ p h. inl h;
+  sides_in = λ p q has s. absurd (nothing p has);
+}
+
+pub closing_more : (entries : List Entry) (terms : List ℕ) (first before taken after : PlaceSet) (at : ℕ)
+    (up : List ℕ) → AreTermNames entries terms → IsClosing entries terms first before up → Takes before taken at →
+    IsWithSides entries terms at taken after → at < length terms → IsClosing entries terms first after (at ∷ up)
+closing_more entries terms first before taken after at up names so_far takes added small = record {
+  rising = ascends;
+  below = λ p h. elim (added.only p h) [
+    | inl old ↦ takes.below p old
+    | inr side ↦ names.ordered at p side
+  ];
+  within = λ p has. elim (head_or_tail p has) [
+    | inl here ↦ subst (λ n. n < length terms) (sym here) small
+    | inr behind ↦ so_far.within p behind
+  ];
+  first_in = λ p h. elim (so_far.first_in p h) [ inl was ↦ stays p was | inr has ↦ inr (later p has) ];
+  sides_in = λ p q has side. elim (head_or_tail p has) [
+    | inl here ↦ inl (added.there q (subst (λ n. IsSidePlace entries terms n q) here side))
+    | inr behind ↦ elim (so_far.sides_in p q behind side) [
+      | inl was ↦ stays q was
+      | inr has_side ↦ inr (later q has_side)
+    ]
+  ];
+} where
+  later : (v : ℕ) → Contains up v → Contains (at ∷ up) v
+  later v (k, lt, is) = (suc k, omega (arith, lt), is)
+
+  head_or_tail : (v : ℕ) → Contains (at ∷ up) v → (v ≡ at) ⊎ Contains up v
+  head_or_tail v (zero, lt, is) = inl (sym is)
+  head_or_tail v (suc k, lt, is) = inr (k, omega (arith, lt), is)
+
+  stays : (v : ℕ) → is_waiting before v ≡ true → (is_waiting after v ≡ true) ⊎ Contains (at ∷ up) v
+  stays v was = elim (cases_Bool (v == at)) [
+    | inl same ↦ inr (0, omega arith, sym (eqb-true v at same))
+    | inr other ↦ inl (added.kept v (takes.others v was (eqb-false v at other)))
+  ]
+
+  ascends : IsStrictlyIncreasing (at ∷ up)
+  ascends zero lt = let low = so_far.below at takes.was in first_step up low lt where
+    first_step : (ys : List ℕ) → at < get_or ys 0 (length terms) → 0 + 1 < length (at ∷ ys) →
+        slice_index (at ∷ ys) 0 < slice_index (at ∷ ys) (0 + 1)
+    first_step [] low lt = absurd (omega (arith, lt))
+    first_step (y ∷ ys) low lt = low
+  ascends (suc k) lt =
+      let step : suc k + 1 ≡ suc (k + 1) = omega arith in
+      subst (λ n. slice_index (at ∷ up) (suc k) < slice_index (at ∷ up) n) (sym step)
+      (so_far.rising k (omega (arith, lt)))
+
+-- a place that waits is that of a gate
+pub waiting_within : (entries : List Entry) (terms : List ℕ) (first now : PlaceSet) (up : List ℕ) →
+    IsClosing entries terms first now up → (p : ℕ) → is_waiting now p ≡ true → p < length terms
+waiting_within entries terms first now up so_far p h = by_list up so_far.within (so_far.below p h) where
+  by_list : (xs : List ℕ) → ((q : ℕ) → Contains xs q → q < length terms) → p < get_or xs 0 (length terms) →
+      p < length terms
+  by_list [] within low = low
+  by_list (x ∷ xs) within low = let top = within x (0, omega arith, refl) in omega (arith, low, top)
+
+pub all_closed : (entries : List Entry) (terms : List ℕ) (first now : PlaceSet) (up : List ℕ) →
+    IsClosing entries terms first now up → ((p : ℕ) → is_waiting now p ≡ false) → AreClosed entries terms first up
+all_closed entries terms first now up so_far empty = record {
+  rising = so_far.rising;
+  within = so_far.within;
+  first_in = λ p h. inside p (so_far.first_in p h);
+  sides_in = λ p q has side. inside q (so_far.sides_in p q has side);
+} where
+  inside : (v : ℕ) → (is_waiting now v ≡ true) ⊎ Contains up v → Contains up v
+  inside v (inl was) = absurd (true≢false (sym was ∙ empty v))
+  inside v (inr has) = has
+
+-- gates whose clauses have some ids wait
+pub record AreUsedSoFar (entries : List Entry) (terms ids : List ℕ) (old new : PlaceSet) : Type 0 where
+  pub within : AreWithin terms old → AreWithin terms new
+  pub kept : (p : ℕ) → is_waiting old p ≡ true → is_waiting new p ≡ true
+  pub there : All (IsGateWaiting entries terms new) ids
+
+pub none_used : (entries : List Entry) (terms : List ℕ) (set : PlaceSet) → AreUsedSoFar entries terms [] set set
+none_used entries terms set = record {
+  within = λ h. h;
+  kept = λ p h. h;
+  there = All-nil (IsGateWaiting entries terms set);
+}
+
+pub one_used : (entries : List Entry) (terms ids : List ℕ) (id : ℕ) (old mid new : PlaceSet) →
+    AreUsedSoFar entries terms ids old mid → (AreWithin terms mid → AreWithin terms new) →
+    ((p : ℕ) → is_waiting mid p ≡ true → is_waiting new p ≡ true) → IsGateWaiting entries terms new id →
+    AreUsedSoFar entries terms (ids ++ id ∷ []) old new
+one_used entries terms ids id old mid new so_far within kept here = record {
+  within = λ h. within (so_far.within h);
+  kept = λ p h. kept p (so_far.kept p h);
+  there = All-push (IsGateWaiting entries terms new) ids id
+      (λ k d low v i p at is. kept p (so_far.there k d low v i p at is)) here;
+}

@@ -1,0 +1,9 @@
+mod OrderedTerms
+mod ClosedPlaces
+mod NumberedVariables
+mod BlockClauses
+mod OrderedGates
+mod BlockLines
+mod AllowedBlocks
+mod ReadTerms
+mod ExportableDefinitions
