@@ -7,15 +7,16 @@ use Rattle.dq_lits.specs.Formula.{Dqbf}
 use Rattle.dq_text.specs.Line.{line_tokens, lines_from}
 use Rattle.aig_binary.specs.Scan.{scan_binary}
 use Rattle.cert_text.specs.Beginning.{header_place}
-use Rattle.cert_text.specs.Kind.{agreeing, certificate_kind, header_kind, kind_at, kind_behind, kind_of_lines, refusal, same_verdict, shown_verdict, stated_verdict}
+use Rattle.cert_text.specs.DefinitionText.{definitions_of}
+use Rattle.cert_text.specs.Kind.{agreeing, certificate_kind, header_kind, kind_at, kind_behind, kind_of_lines, kind_of_p, refusal, shows, stated_verdict}
 use Rattle.cert_text.specs.Scan.{refutation_of}
 use Rattle.cert_text.specs.declared.faults.CertFault.TheVariants.{BadHeader, WrongVerdict}
 use Rattle.cert_text.specs.declared.faults.CertRefusal.{CertRefusal}
 use Rattle.cert_text.specs.declared.kinds.Kind.{Kind}
-use Rattle.cert_text.specs.declared.kinds.Kind.TheVariants.{Circuit as CircuitText, BinaryCircuit as BinaryText, Refutation as RefutationText}
+use Rattle.cert_text.specs.declared.kinds.Kind.TheVariants.{Circuit as CircuitText, BinaryCircuit as BinaryText, Refutation as RefutationText, Definitions as DefinitionsText}
 use Rattle.cert_text.specs.declared.kinds.Verdict.{Verdict}
 use Rattle.cert_judge.specs.Beginnings.{BeginsAs, IsJudgementFrom, Starts}
-use Rattle.cert_judge.specs.Judgement.{answer_of_refutation, IsBinaryJudgement, IsCircuitAnswer, IsCircuitRefusal, IsJudgement, IsJudgementOf}
+use Rattle.cert_judge.specs.Judgement.{answer_of_refutation, IsBinaryJudgement, IsCircuitAnswer, IsCircuitRefusal, IsDefinitionsAnswer, IsJudgement, IsJudgementOf}
 use Rattle.cert_judge.specs.Phases.{line_end, HasNoEnd, IsBeginning, IsLastUnless, IsLawful, IsVerdictLine}
 use Rattle.cert_judge.specs.declared.answers.Judgement.{Judgement}
 use Rattle.cert_judge.specs.declared.answers.Judgement.TheVariants.{Refused}
@@ -119,39 +120,49 @@ by_end lines missing true text behind r (inr is) free last told final =
     ∙ sym (second_kind lines missing is true text [] free tt) ∙ told
 
 -- where the header line begins
-placed : (a b c : Bool) (at line : ℕ) (fault : CertRefusal) (kind : Kind) →
-    cond a (Ok (CircuitText at line)) (cond b (Ok (BinaryText at line)) (cond c (Ok (RefutationText at line))
+placed_by_second : (is : Bool) (at line : ℕ) →
+    header_place (cond is (DefinitionsText at line) (RefutationText at line)) ≡ at
+placed_by_second true at line = refl
+placed_by_second false at line = refl
+
+p_placed : (at line : ℕ) (tokens : List (List ℕ)) → header_place (kind_of_p at line tokens) ≡ at
+p_placed at line [] = refl
+p_placed at line (word ∷ _) = placed_by_second (bytes_eq word (codes "dqd")) at line
+
+placed : (a b c : Bool) (at line : ℕ) (tokens : List (List ℕ)) (fault : CertRefusal) (kind : Kind) →
+    cond a (Ok (CircuitText at line)) (cond b (Ok (BinaryText at line)) (cond c (Ok (kind_of_p at line tokens))
     (Err fault))) ≡ (λ (r : Result Kind CertRefusal). r) (Ok kind) → header_place kind ≡ at
-placed true b c at line fault kind is =
+placed true b c at line tokens fault kind is =
     let same : CircuitText at line ≡ kind = cc in ap header_place (sym same)
-placed false true c at line fault kind is =
+placed false true c at line tokens fault kind is =
     let same : BinaryText at line ≡ kind = cc in ap header_place (sym same)
-placed false false true at line fault kind is =
-    let same : RefutationText at line ≡ kind = cc in ap header_place (sym same)
-placed false false false at line fault kind is = cc
+placed false false true at line tokens fault kind is =
+    let same : kind_of_p at line tokens ≡ kind = cc in ap header_place (sym same) ∙ p_placed at line tokens
+placed false false false at line tokens fault kind is = cc
 
 header_placed : (at line : ℕ) (tokens : List (List ℕ)) (kind : Kind) → header_kind at line tokens ≡ Ok kind →
     header_place kind ≡ at
 header_placed at line [] kind is = cc
-header_placed at line (word ∷ _) kind is =
+header_placed at line (word ∷ rest) kind is =
     placed (bytes_eq word (codes "aag")) (bytes_eq word (codes "aig")) (bytes_eq word (codes "p")) at line
-    (refusal line BadHeader) kind is
+    rest (refusal line BadHeader) kind is
 
-numbered : (a b c : Bool) (at line : ℕ) (fault : CertRefusal) →
-    cond a (Ok (CircuitText at line)) (cond b (Ok (BinaryText at line)) (cond c (Ok (RefutationText at line))
+numbered : (a b c : Bool) (at line : ℕ) (tokens : List (List ℕ)) (fault : CertRefusal) →
+    cond a (Ok (CircuitText at line)) (cond b (Ok (BinaryText at line)) (cond c (Ok (kind_of_p at line tokens))
     (Err (refusal line BadHeader)))) ≡ (λ (r : Result Kind CertRefusal). r) (Err fault) → fault.line ≡ line
-numbered true b c at line fault is = cc
-numbered false true c at line fault is = cc
-numbered false false true at line fault is = cc
-numbered false false false at line fault is =
+numbered true b c at line tokens fault is = cc
+numbered false true c at line tokens fault is = cc
+numbered false false true at line tokens fault is = cc
+numbered false false false at line tokens fault is =
     let same : refusal line BadHeader ≡ fault = cc in ap (λ (x : CertRefusal). x.line) (sym same)
 
 header_numbered : (at line : ℕ) (tokens : List (List ℕ)) (fault : CertRefusal) →
     header_kind at line tokens ≡ Err fault → fault.line ≡ line
 header_numbered at line [] fault is =
     let same : refusal line BadHeader ≡ fault = cc in ap (λ (x : CertRefusal). x.line) (sym same)
-header_numbered at line (word ∷ _) fault is =
-    numbered (bytes_eq word (codes "aag")) (bytes_eq word (codes "aig")) (bytes_eq word (codes "p")) at line fault is
+header_numbered at line (word ∷ rest) fault is =
+    numbered (bytes_eq word (codes "aag")) (bytes_eq word (codes "aig")) (bytes_eq word (codes "p")) at line rest
+    fault is
 
 agreed_or_not : (b : Bool) (kind shown : Kind) →
     cond b (Ok kind) (Err (refusal 1 WrongVerdict)) ≡ (λ (r : Result Kind CertRefusal). r) (Ok shown) → kind ≡ shown
@@ -159,7 +170,7 @@ agreed_or_not true kind shown is = cc
 agreed_or_not false kind shown is = cc
 
 agreed : (verdict : Verdict) (r : Result Kind CertRefusal) (kind : Kind) → agreeing verdict r ≡ Ok kind → r ≡ Ok kind
-agreed verdict (Ok shown) kind is = ap Ok (agreed_or_not (same_verdict (shown_verdict shown) verdict) shown kind is)
+agreed verdict (Ok shown) kind is = ap Ok (agreed_or_not (shows shown verdict) shown kind is)
 agreed verdict (Err fault) kind is = cc
 
 disagreed : (b : Bool) (kind : Kind) (fault : CertRefusal) →
@@ -172,7 +183,7 @@ disagreed false kind fault is =
 agreeing_early : (verdict : Verdict) (at : ℕ) (tokens : List (List ℕ)) (r : Result Kind CertRefusal)
     (fault : CertRefusal) → header_kind at 2 tokens ≡ r → agreeing verdict r ≡ Err fault → fault.line < 3
 agreeing_early verdict at tokens (Ok kind) fault header is =
-    let one = disagreed (same_verdict (shown_verdict kind) verdict) kind fault is in omega (arith, one)
+    let one = disagreed (shows kind verdict) kind fault is in omega (arith, one)
 agreeing_early verdict at tokens (Err other) fault header is =
     let same : other ≡ fault = cc in
     let two = header_numbered at 2 tokens fault (header ∙ ap Err same) in omega (arith, two)
@@ -233,6 +244,8 @@ judged_from f lines bytes (BinaryText at h) answer place says =
     subst (λ b. IsBinaryJudgement f h (scan_binary b h) answer) (sym (behind_lines lines bytes at place)) says
 judged_from f lines bytes (RefutationText at h) answer place says =
     subst (λ b. answer ≡ answer_of_refutation f (refutation_of f b h)) (sym (behind_lines lines bytes at place)) says
+judged_from f lines bytes (DefinitionsText at h) answer place says =
+    subst (λ b. IsDefinitionsAnswer f (definitions_of f b h) answer) (sym (behind_lines lines bytes at place)) says
 
 module _ (f : Dqbf) (lines : List ℕ) (missing : CertRefusal) (ended : Bool) (text : List ℕ)
     (is : IsBeginning lines missing) (free : HasNoEnd text) where

@@ -20,11 +20,13 @@ use Rattle.cert_text.specs.Kind.{certificate_kind}
 use Rattle.cert_text.specs.declared.circuit_proofs.Dqp.{Dqp}
 use Rattle.cert_text.specs.declared.faults.CertRefusal.{CertRefusal}
 use Rattle.cert_text.specs.declared.kinds.Kind.{Kind}
-use Rattle.cert_text.specs.declared.kinds.Kind.TheVariants.{Circuit as CircuitText, BinaryCircuit as BinaryText, Refutation}
+use Rattle.cert_text.specs.declared.kinds.Kind.TheVariants.{Circuit as CircuitText, BinaryCircuit as BinaryText, Refutation, Definitions}
 use Rattle.cert_judge.specs.Judgement.{line_ends, proof_in, proof_on, mapping_line, binary_mapping_line, IsTestedByRows, IsTestedBy, HasUndeclaredRead, PassesReads, IsTested, BehindMapping, BehindProof, IsCircuitJudgement, IsBinaryJudgement, IsCircuitRefusal, IsCircuitAnswer, IsJudgementOf, IsJudgement}
+use Rattle.defined_checker.specs.Forced.{TextsAreJudgedOnce}
 use Rattle.cert_judge.specs.declared.answers.Judgement.{Judgement}
-use Rattle.cert_judge.specs.declared.answers.Judgement.TheVariants.{Refused, UndeclaredRead, BadRow, Unproved, UnderivedStep, NoEmptyClause, ValidTrue, ValidFalse}
+use Rattle.cert_judge.specs.declared.answers.Judgement.TheVariants.{Refused, UndeclaredRead, BadRow, Unproved, UnderivedStep, NoEmptyClause, ValidTrue, ValidFalse, BadBlock, ValidDefinitions}
 use Rattle.cert_judge.specs.declared.answers.CertificateFault.TheVariants.{Circuit}
+use Rattle.cert_judge.proofs.DefinitionAnswers.{one_definitions_answer}
 
 read_is_declared : (Reads : ℕ → ℕ → Type 0) (f : Dqbf) (y : Existential) (x end : ℕ) (r : IsFirstRead Reads f y x)
     → r.place < end → ReadsDeclaredBefore Reads f y end → ⊥
@@ -94,6 +96,8 @@ one_by_rows f c (UndeclaredRead y x) b impossible _ = absurd impossible
 one_by_rows f c (UnderivedStep id) b impossible _ = absurd impossible
 one_by_rows f c NoEmptyClause b impossible _ = absurd impossible
 one_by_rows f c ValidFalse b impossible _ = absurd impossible
+one_by_rows f c (BadBlock fault) b impossible _ = absurd impossible
+one_by_rows f c (ValidDefinitions counts) b impossible _ = absurd impossible
 one_by_rows f c (BadRow k) b r s = bad_row_is b s
   where
     bad_row_is : (b : Judgement) → IsTestedByRows f c b → BadRow k ≡ b
@@ -102,6 +106,8 @@ one_by_rows f c (BadRow k) b r s = bad_row_is b s
     bad_row_is (UnderivedStep id) impossible = absurd impossible
     bad_row_is NoEmptyClause impossible = absurd impossible
     bad_row_is ValidFalse impossible = absurd impossible
+    bad_row_is (BadBlock fault) impossible = absurd impossible
+    bad_row_is (ValidDefinitions counts) impossible = absurd impossible
     bad_row_is (BadRow j) (_, s) = ap BadRow (one_bad (RowHolds f c) (RowFails f c) (2 ^ length f.universals) k j
         (row_is_one f c) r.1 s)
     bad_row_is (Unproved n) (many, same) = let few = r.0 in absurd (omega (arith, few, many, same))
@@ -114,6 +120,8 @@ one_by_rows f c (Unproved n) b r s = unproved_is b s
     unproved_is (UnderivedStep id) impossible = absurd impossible
     unproved_is NoEmptyClause impossible = absurd impossible
     unproved_is ValidFalse impossible = absurd impossible
+    unproved_is (BadBlock fault) impossible = absurd impossible
+    unproved_is (ValidDefinitions counts) impossible = absurd impossible
     unproved_is (BadRow j) (few, _) = let many = r.0 in let same = r.1 in absurd (omega (arith, few, many, same))
     unproved_is (Unproved m) (_, same) = ap Unproved (r.1 ∙ sym same)
     unproved_is ValidTrue (few, _) = let many = r.0 in let same = r.1 in absurd (omega (arith, few, many, same))
@@ -125,6 +133,8 @@ one_by_rows f c ValidTrue b r s = valid_is b s
     valid_is (UnderivedStep id) impossible = absurd impossible
     valid_is NoEmptyClause impossible = absurd impossible
     valid_is ValidFalse impossible = absurd impossible
+    valid_is (BadBlock fault) impossible = absurd impossible
+    valid_is (ValidDefinitions counts) impossible = absurd impossible
     valid_is (BadRow j) (_, s) = absurd (row_is_one f c j (r.1 j s.0) s.2)
     valid_is (Unproved n) (many, same) = let few = r.0 in absurd (omega (arith, few, many, same))
     valid_is ValidTrue _ = refl
@@ -185,13 +195,16 @@ by_file_or_fault law f h text a b (inr r) (inr s) =
     (subst (λ (file : AagFile). IsCircuitJudgement f h text file a)
     (law.unique text r.file s.file r.spelled s.spelled) r.is) s.is
 
-by_kind : CircuitLaw → (kind : Result Kind CertRefusal) (f : Dqbf) (text : List ℕ) (a b : Judgement) →
+by_kind : CircuitLaw → TextsAreJudgedOnce → (kind : Result Kind CertRefusal) (f : Dqbf) (text : List ℕ)
+    (a b : Judgement) →
     IsJudgementOf f text kind a → IsJudgementOf f text kind b → a ≡ b
-by_kind law (Ok (CircuitText at h)) f text a b r s = by_file_or_fault law f h (drop at text) a b r s
-by_kind law (Ok (BinaryText at h)) f text a b r s = one_binary_judgement f h (scan_binary (drop at text) h) a b r s
-by_kind law (Ok (Refutation at h)) f text a b r s = r ∙ sym s
-by_kind law (Err refusal) f text a b r s = r ∙ sym s
+by_kind law once (Ok (CircuitText at h)) f text a b r s = by_file_or_fault law f h (drop at text) a b r s
+by_kind law once (Ok (BinaryText at h)) f text a b r s = one_binary_judgement f h (scan_binary (drop at text) h) a b r s
+by_kind law once (Ok (Refutation at h)) f text a b r s = r ∙ sym s
+by_kind law once (Ok (Definitions at h)) f text a b r s = one_definitions_answer once f (drop at text) h a b r s
+by_kind law once (Err refusal) f text a b r s = r ∙ sym s
 
-pub one_judgement : CircuitLaw → (f : Dqbf) (text : List ℕ) (a b : Judgement) → IsJudgement f text a →
+pub one_judgement : CircuitLaw → TextsAreJudgedOnce → (f : Dqbf) (text : List ℕ) (a b : Judgement) →
+    IsJudgement f text a →
     IsJudgement f text b → a ≡ b
-one_judgement law f text a b r s = by_kind law (certificate_kind text) f text a b r s
+one_judgement law once f text a b r s = by_kind law once (certificate_kind text) f text a b r s

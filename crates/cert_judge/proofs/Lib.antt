@@ -2,6 +2,7 @@ pub mod BinaryAnswers
 pub mod Certificates
 pub mod CircuitSteps
 pub mod CommentLines
+pub mod DefinitionAnswers
 pub mod HeaderKinds
 pub mod Judgements
 pub mod LinesToCome

@@ -1,5 +1,5 @@
 -- What is accepted is right.
-use Rattle.std.proofs.Common.{◌≡◌, ℕ, inl, inr, List, Option, None, Some, Result, Ok, Err, refl, sym, ap, subst}
+use Rattle.std.proofs.Common.{◌≡◌, ◌⊎◌, ℕ, inl, inr, List, Option, None, Some, Result, Ok, Err, refl, sym, ap, subst}
 use Rattle.std.specs.Prelude.{drop, ◌↔◌}
 use Rattle.std.specs.List.{All}
 use Rattle.dq_lits.specs.Formula.{Dqbf, HasLawfulPrefix, IsWellFormed}
@@ -14,13 +14,16 @@ use Rattle.aiger_text.specs.declared.files.AagFile.{AagFile}
 use Rattle.aiger_text.specs.declared.files.ReadCircuit.{ReadCircuit}
 use Rattle.aig_binary.specs.Grammar.{SpellsBinary}
 use Rattle.aig_binary.specs.Scan.{scan_binary}
+use Rattle.cert_text.specs.DefinitionText.{definitions_of}
 use Rattle.cert_text.specs.Kind.{certificate_kind}
 use Rattle.cert_text.specs.Scan.{refutation_of}
 use Rattle.cert_text.specs.declared.circuit_proofs.Dqp.{Dqp}
 use Rattle.cert_text.specs.declared.faults.CertRefusal.{CertRefusal}
 use Rattle.cert_text.specs.declared.kinds.Kind.{Kind}
-use Rattle.cert_text.specs.declared.kinds.Kind.TheVariants.{Circuit as CircuitText, BinaryCircuit as BinaryText, Refutation}
+use Rattle.cert_text.specs.declared.kinds.Kind.TheVariants.{Circuit as CircuitText, BinaryCircuit as BinaryText, Refutation, Definitions}
 use Rattle.cert_text.specs.declared.refutations.Dqr.{Dqr}
+use Rattle.defined_checker.specs.Forced.{AcceptedTextsAreRight}
+use Rattle.defined_checker.specs.declared.checks.Counts.{Counts}
 use Rattle.proof_checker.specs.CircuitProof.{circuit_proof_fault}
 use Rattle.refutation_checker.specs.Refutation.{refutation_fault}
 use Rattle.skolem_checker.specs.Checks.{Candidate, candidate_of, with_mapping, IsReadsAnswer, IsRowsAnswer}
@@ -28,11 +31,13 @@ use Rattle.skolem_checker.specs.Mapping.{Mapping, mapping_of}
 use Rattle.skolem_checker.specs.SkolemCircuit.{IsComplete, IsSkolemCircuit, ReadsUniversal}
 use Rattle.skolem_checker.specs.declared.mapping.MapError.{MapError}
 use Rattle.skolem_checker.specs.declared.mapping.MapPlace.{MapPlace}
-use Rattle.cert_judge.specs.Judgement.{HoldsSkolemCircuit, IsTested, BehindMapping, BehindProof, IsJudgementOf, IsJudgement, answer_of_derivation, answer_of_refutation, line_ends, mapping_line, binary_mapping_line, proof_in, proof_on, IsBinaryJudgement, SpellsFile}
-use Rattle.cert_judge.specs.declared.answers.Judgement.TheVariants.{Refused, UndeclaredRead, ValidTrue, ValidFalse}
+use Rattle.cert_judge.specs.declared.answers.Judgement.{Judgement}
+use Rattle.cert_judge.specs.Judgement.{HoldsRightDefinitions, HoldsSkolemCircuit, IsCircuitAnswer, IsCircuitRefusal, IsTested, IsTestedByRows, BehindMapping, BehindProof, IsJudgementOf, IsJudgement, answer_of_derivation, answer_of_refutation, line_ends, mapping_line, binary_mapping_line, proof_in, proof_on, IsBinaryJudgement, SpellsFile}
+use Rattle.cert_judge.specs.declared.answers.Judgement.TheVariants.{Refused, UndeclaredRead, ValidTrue, ValidFalse, ValidDefinitions}
 use Rattle.cert_judge.specs.declared.answers.CertificateFault.{CertificateFault}
 use Rattle.cert_judge.specs.declared.answers.CertificateFault.TheVariants.{Text, Circuit, Mapping as BadMapping}
 use Rattle.cert_judge.proofs.Certificates.{meaning_grounded, spelled_complete}
+use Rattle.cert_judge.proofs.DefinitionAnswers.{accepted_blocks, never_false, never_true}
 
 -- what the laws of the circuits' tests and proofs give
 pub record TestsLaw : Type 0 where
@@ -132,6 +137,7 @@ spelled_netlist law text (Ok (BinaryText at h)) file (line, spelled) =
     let read : ReadCircuit = record { file = file; comment_line = line } in
     (law.lawful (drop at text) h read spelled, binary_complete law (drop at text) h read spelled)
 spelled_netlist law text (Ok (Refutation at h)) file impossible = absurd impossible
+spelled_netlist law text (Ok (Definitions at h)) file impossible = absurd impossible
 spelled_netlist law text (Err refusal) file impossible = absurd impossible
 
 circuit_by_scan : TestsLaw → BinaryLaw → (f : Dqbf) (text : List ℕ) (at h : ℕ) →
@@ -164,6 +170,8 @@ circuit_by_kind law binary (Ok (BinaryText at h)) f text is formed r =
     circuit_by_scan law binary f text at h is formed (scan_binary (drop at text) h) refl r
 circuit_by_kind law binary (Ok (Refutation at h)) f text is formed r =
     absurd (true_is_no_refutation f (refutation_of f (drop at text) h) r)
+circuit_by_kind law binary (Ok (Definitions at h)) f text is formed r =
+    absurd (never_true f (definitions_of f (drop at text) h) r)
 circuit_by_kind law binary (Err refusal) f text is formed r =
     absurd (true_is_no_refusal refusal.line (Text refusal.name) r)
 
@@ -178,6 +186,43 @@ accepted_is_true law binary f text formed r =
     let net = spelled_netlist binary text (certificate_kind text) h.file h.spelled in
     law.is_true f h.file.circuit h.file.symbols formed.prefix net.0 net.1 h.skolem
 
+-- what isn't said of circuits
+record IsForeign (answer : Judgement) : Type 0 where
+  no_refusal : (line : ℕ) (name : CertificateFault) → answer ≡ Refused line name → ⊥
+  no_read : (y x : ℕ) → answer ≡ UndeclaredRead y x → ⊥
+  no_proof : (fault : Option ProofFault) → answer ≡ answer_of_derivation ValidTrue fault → ⊥
+  no_rows : (c : Candidate) → IsTestedByRows c.formula c.circuit answer → ⊥
+
+module _ (answer : Judgement) (is : IsForeign answer) where
+  foreign_by_tests : (proof : Option Dqp) (c : Candidate) → IsTested proof c answer → ⊥
+  foreign_by_tests proof c (inl r) = is.no_read r.existential r.universal r.is
+  foreign_by_tests None c (inr r) = is.no_rows c r.tested
+  foreign_by_tests (Some d) c (inr r) = is.no_proof (circuit_proof_fault c d.items) r.tested
+
+  foreign_by_mapping : (line_of : MapPlace → ℕ) (proof : Option Dqp) (mapped : Result Candidate MapError) →
+      BehindMapping line_of proof mapped answer → ⊥
+  foreign_by_mapping line_of proof (Err fault) r = is.no_refusal (line_of fault.at) (BadMapping fault.name) r
+  foreign_by_mapping line_of proof (Ok c) r = foreign_by_tests proof c r
+
+  foreign_by_proof : (line_of : MapPlace → ℕ) (read : Result (Option Dqp) CertRefusal)
+      (mapped : Result Candidate MapError) → BehindProof line_of read mapped answer → ⊥
+  foreign_by_proof line_of (Err refusal) mapped r = is.no_refusal refusal.line (Text refusal.name) r
+  foreign_by_proof line_of (Ok proof) mapped r = foreign_by_mapping line_of proof mapped r
+
+  foreign_by_scan : (f : Dqbf) (h : ℕ) (scanned : Result ReadCircuit LineFault) →
+      IsBinaryJudgement f h scanned answer → ⊥
+  foreign_by_scan f h (Err fault) r = is.no_refusal fault.line (Circuit fault.name) r
+  foreign_by_scan f h (Ok read) r =
+      foreign_by_proof (binary_mapping_line h) (proof_on f read.file.circuit read.file.comment read.comment_line)
+      (candidate_of f read.file.circuit read.file.symbols) r
+
+  foreign_by_file : (f : Dqbf) (h : ℕ) (text : List ℕ) →
+      IsCircuitRefusal h text answer ⊎ IsCircuitAnswer f h text answer → ⊥
+  foreign_by_file f h text (inl r) = is.no_refusal r.fault.line (Circuit r.fault.name) r.is
+  foreign_by_file f h text (inr r) =
+      foreign_by_proof (mapping_line h r.file.circuit) (proof_in f h (line_ends text) r.file.circuit r.file.comment)
+      (candidate_of f r.file.circuit r.file.symbols) r.is
+
 false_is_no_read : (y x : ℕ) → ValidFalse ≡ UndeclaredRead y x → ⊥
 false_is_no_read y x same = cc
 
@@ -186,28 +231,13 @@ false_is_no_proof None same = cc
 false_is_no_proof (Some (underived id)) same = cc
 false_is_no_proof (Some unfinished) same = cc
 
-false_by_tests : (proof : Option Dqp) (c : Candidate) → IsTested proof c ValidFalse → ⊥
-false_by_tests proof c (inl r) = false_is_no_read r.existential r.universal r.is
-false_by_tests None c (inr r) = r.tested
-false_by_tests (Some d) c (inr r) = false_is_no_proof (circuit_proof_fault c d.items) r.tested
-
-false_by_mapping : (line_of : MapPlace → ℕ) (proof : Option Dqp) (mapped : Result Candidate MapError) →
-    BehindMapping line_of proof mapped ValidFalse → ⊥
-false_by_mapping line_of proof (Err fault) r = false_is_no_refusal (line_of fault.at) (BadMapping fault.name) r
-false_by_mapping line_of proof (Ok c) r = false_by_tests proof c r
-
-false_by_proof : (line_of : MapPlace → ℕ) (read : Result (Option Dqp) CertRefusal)
-    (mapped : Result Candidate MapError) →
-    BehindProof line_of read mapped ValidFalse → ⊥
-false_by_proof line_of (Err refusal) mapped r = false_is_no_refusal refusal.line (Text refusal.name) r
-false_by_proof line_of (Ok proof) mapped r = false_by_mapping line_of proof mapped r
-
-false_by_scan : (f : Dqbf) (h : ℕ) (scanned : Result ReadCircuit LineFault) →
-    IsBinaryJudgement f h scanned ValidFalse → ⊥
-false_by_scan f h (Err fault) r = false_is_no_refusal fault.line (Circuit fault.name) r
-false_by_scan f h (Ok read) r =
-    false_by_proof (binary_mapping_line h) (proof_on f read.file.circuit read.file.comment read.comment_line)
-    (candidate_of f read.file.circuit read.file.symbols) r
+false_is_foreign : IsForeign ValidFalse
+false_is_foreign = record {
+  no_refusal = false_is_no_refusal;
+  no_read = false_is_no_read;
+  no_proof = false_is_no_proof;
+  no_rows = λ c impossible. impossible;
+}
 
 false_by_derivation : RefutationLaw → (f : Dqbf) (d : Dqr) → IsWellFormed f → (fault : Option ProofFault) →
     refutation_fault f d ≡ fault
@@ -223,18 +253,68 @@ false_by_refutation law f formed (Err refusal) same = absurd (false_is_no_refusa
 
 false_by_kind : RefutationLaw → (kind : Result Kind CertRefusal) (f : Dqbf) (text : List ℕ) → IsWellFormed f →
     IsJudgementOf f text kind ValidFalse → IsFalseFormula f
-false_by_kind law (Ok (CircuitText at h)) f text formed (inl r) =
-    absurd (false_is_no_refusal r.fault.line (Circuit r.fault.name) r.is)
-false_by_kind law (Ok (CircuitText at h)) f text formed (inr r) =
-    absurd (false_by_proof (mapping_line h r.file.circuit)
-    (proof_in f h (line_ends (drop at text)) r.file.circuit r.file.comment)
-    (candidate_of f r.file.circuit r.file.symbols) r.is)
+false_by_kind law (Ok (CircuitText at h)) f text formed r =
+    absurd (foreign_by_file ValidFalse false_is_foreign f h (drop at text) r)
 false_by_kind law (Ok (BinaryText at h)) f text formed r =
-    absurd (false_by_scan f h (scan_binary (drop at text) h) r)
+    absurd (foreign_by_scan ValidFalse false_is_foreign f h (scan_binary (drop at text) h) r)
 false_by_kind law (Ok (Refutation at h)) f text formed r = false_by_refutation law f formed
     (refutation_of f (drop at text) h) r
+false_by_kind law (Ok (Definitions at h)) f text formed r =
+    absurd (never_false f (definitions_of f (drop at text) h) r)
 false_by_kind law (Err refusal) f text formed r = absurd (false_is_no_refusal refusal.line (Text refusal.name) r)
 
 pub accepted_is_false : RefutationLaw → (f : Dqbf) (text : List ℕ) → IsWellFormed f → IsJudgement f text ValidFalse →
     IsFalseFormula f
 accepted_is_false law f text formed r = false_by_kind law (certificate_kind text) f text formed r
+
+-- definitions
+counts_are_no_refusal : (counts : Counts) (line : ℕ) (name : CertificateFault) →
+    ValidDefinitions counts ≡ Refused line name → ⊥
+counts_are_no_refusal counts line name same = cc
+
+counts_are_no_read : (counts : Counts) (y x : ℕ) → ValidDefinitions counts ≡ UndeclaredRead y x → ⊥
+counts_are_no_read counts y x same = cc
+
+counts_are_no_proof : (counts : Counts) (fault : Option ProofFault) →
+    ValidDefinitions counts ≡ answer_of_derivation ValidTrue fault → ⊥
+counts_are_no_proof counts None same = cc
+counts_are_no_proof counts (Some (underived id)) same = cc
+counts_are_no_proof counts (Some unfinished) same = cc
+
+counts_are_foreign : (counts : Counts) → IsForeign (ValidDefinitions counts)
+counts_are_foreign counts = record {
+  no_refusal = counts_are_no_refusal counts;
+  no_read = counts_are_no_read counts;
+  no_proof = counts_are_no_proof counts;
+  no_rows = λ c impossible. impossible;
+}
+
+counts_are_no_derivation : (counts : Counts) (fault : Option ProofFault) →
+    ValidDefinitions counts ≡ answer_of_derivation ValidFalse fault → ⊥
+counts_are_no_derivation counts None same = cc
+counts_are_no_derivation counts (Some (underived id)) same = cc
+counts_are_no_derivation counts (Some unfinished) same = cc
+
+counts_are_no_refutation : (f : Dqbf) (counts : Counts) (read : Result Dqr CertRefusal) →
+    ValidDefinitions counts ≡ answer_of_refutation f read → ⊥
+counts_are_no_refutation f counts (Ok d) same = counts_are_no_derivation counts (refutation_fault f d) same
+counts_are_no_refutation f counts (Err refusal) same =
+    counts_are_no_refusal counts refusal.line (Text refusal.name) same
+
+blocks_by_kind : AcceptedTextsAreRight → (kind : Result Kind CertRefusal) (f : Dqbf) (text : List ℕ) (counts : Counts) →
+    certificate_kind text ≡ kind → IsWellFormed f → IsJudgementOf f text kind (ValidDefinitions counts) →
+    HoldsRightDefinitions f text counts
+blocks_by_kind law (Ok (CircuitText at h)) f text counts is formed r =
+    absurd (foreign_by_file (ValidDefinitions counts) (counts_are_foreign counts) f h (drop at text) r)
+blocks_by_kind law (Ok (BinaryText at h)) f text counts is formed r =
+    absurd (foreign_by_scan (ValidDefinitions counts) (counts_are_foreign counts) f h (scan_binary (drop at text) h) r)
+blocks_by_kind law (Ok (Refutation at h)) f text counts is formed r =
+    absurd (counts_are_no_refutation f counts (refutation_of f (drop at text) h) r)
+blocks_by_kind law (Ok (Definitions at h)) f text counts is formed r =
+    accepted_blocks law f text at h counts formed is r
+blocks_by_kind law (Err refusal) f text counts is formed r =
+    absurd (counts_are_no_refusal counts refusal.line (Text refusal.name) r)
+
+pub accepted_definitions : AcceptedTextsAreRight → (f : Dqbf) (text : List ℕ) (counts : Counts) → IsWellFormed f →
+    IsJudgement f text (ValidDefinitions counts) → HoldsRightDefinitions f text counts
+accepted_definitions law f text counts formed r = blocks_by_kind law (certificate_kind text) f text counts refl formed r

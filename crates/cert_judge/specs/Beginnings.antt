@@ -2,11 +2,12 @@
 use Rattle.std.specs.Prelude.{◌≡◌, ◌⊎◌, ℕ, Bool, List, ◌++◌, Option, None, Some}
 use Rattle.dq_lits.specs.Formula.{Dqbf}
 use Rattle.aig_binary.specs.Scan.{scan_binary}
+use Rattle.cert_text.specs.DefinitionText.{definitions_of}
 use Rattle.cert_text.specs.Scan.{refutation_of}
 use Rattle.cert_text.specs.declared.faults.CertRefusal.{CertRefusal}
 use Rattle.cert_text.specs.declared.kinds.Kind.{Kind}
-use Rattle.cert_text.specs.declared.kinds.Kind.TheVariants.{Circuit as CircuitText, BinaryCircuit as BinaryText, Refutation as RefutationText}
-use Rattle.cert_judge.specs.Judgement.{answer_of_refutation, IsBinaryJudgement, IsCircuitAnswer, IsCircuitRefusal, IsJudgement}
+use Rattle.cert_text.specs.declared.kinds.Kind.TheVariants.{Circuit as CircuitText, BinaryCircuit as BinaryText, Refutation as RefutationText, Definitions as DefinitionsText}
+use Rattle.cert_judge.specs.Judgement.{answer_of_refutation, IsBinaryJudgement, IsCircuitAnswer, IsCircuitRefusal, IsDefinitionsAnswer, IsJudgement}
 use Rattle.cert_judge.specs.Phases.{line_end, Gives, IsBeginning, IsLastUnless, IsLawful}
 use Rattle.cert_judge.specs.declared.answers.Judgement.{Judgement}
 use Rattle.cert_judge.specs.declared.phases.Phase.{Phase}
@@ -19,6 +20,8 @@ IsJudgementFrom f bytes (BinaryText _ h) answer =
     IsBinaryJudgement f h (scan_binary bytes h) answer
 IsJudgementFrom f bytes (RefutationText _ h) answer =
     answer ≡ answer_of_refutation f (refutation_of f bytes h)
+IsJudgementFrom f bytes (DefinitionsText _ h) answer =
+    IsDefinitionsAnswer f (definitions_of f bytes h) answer
 
 -- what a phase gives behind the header line
 abbrev pub Starts : Dqbf → Kind → List ℕ → Bool → Phase → Type 0

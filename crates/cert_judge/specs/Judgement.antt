@@ -1,5 +1,5 @@
 -- What is to be said of a certificate: the first of its faults, or that it proves the formula true
--- or false.
+-- or false, or which existentials it shows to be defined.
 use Rattle.std.specs.Prelude.{◌≡◌, ℕ, ◌+◌, ◌-◌, ◌<◌, ◌≤◌, ◌==◌, ◌⊎◌, Bool, false, ◌||◌, List, [], ◌∷◌, length, take, drop, Option, None, Some, Result, Ok, Err, if◌then◌else◌}
 use Rattle.std.specs.List.{filter, position}
 use Rattle.std.specs.Str.{bytes_eq}
@@ -15,15 +15,21 @@ use Rattle.aiger_text.specs.declared.files.ReadCircuit.{ReadCircuit}
 use Rattle.aig_binary.specs.Grammar.{SpellsBinary}
 use Rattle.aig_binary.specs.Scan.{scan_binary}
 use Rattle.cert_text.specs.CircuitProof.{circuit_proof_of}
+use Rattle.cert_text.specs.DefinitionBlocks.{DefinitionBlock}
+use Rattle.cert_text.specs.DefinitionText.{definitions_of}
 use Rattle.cert_text.specs.Header.{proof_word}
 use Rattle.cert_text.specs.Kind.{certificate_kind}
 use Rattle.cert_text.specs.Scan.{refutation_of}
 use Rattle.cert_text.specs.declared.circuit_proofs.Dqp.{Dqp}
 use Rattle.cert_text.specs.declared.faults.CertRefusal.{CertRefusal}
 use Rattle.cert_text.specs.declared.kinds.Kind.{Kind}
-use Rattle.cert_text.specs.declared.kinds.Kind.TheVariants.{Circuit as CircuitText, BinaryCircuit as BinaryText, Refutation}
+use Rattle.cert_text.specs.declared.kinds.Kind.TheVariants.{Circuit as CircuitText, BinaryCircuit as BinaryText, Refutation, Definitions}
 use Rattle.cert_text.specs.declared.refutations.Dqr.{Dqr}
 use Rattle.cert_text.specs.declared.versions.Version.TheVariants.{One, Two}
+use Rattle.defined_checker.specs.Forced.{AreRight}
+use Rattle.defined_checker.specs.Judging.{AreJudged, counts_of, no_counts}
+use Rattle.defined_checker.specs.declared.checks.Counts.{Counts}
+use Rattle.defined_checker.specs.declared.faults.DefinitionFault.{DefinitionFault}
 use Rattle.proof_checker.specs.CircuitProof.{circuit_proof_fault}
 use Rattle.refutation_checker.specs.Refutation.{refutation_fault}
 use Rattle.skolem_checker.specs.Checks.{Candidate, candidate_of, IsReadsAnswer, IsRowsAnswer}
@@ -32,7 +38,7 @@ use Rattle.skolem_checker.specs.declared.mapping.MapError.{MapError}
 use Rattle.skolem_checker.specs.declared.mapping.MapPlace.{MapPlace}
 use Rattle.skolem_checker.specs.declared.mapping.MapPlace.TheVariants.{Whole, Input, Output}
 use Rattle.cert_judge.specs.declared.answers.Judgement.{Judgement}
-use Rattle.cert_judge.specs.declared.answers.Judgement.TheVariants.{Refused, UndeclaredRead, BadRow, Unproved, UnderivedStep, NoEmptyClause, ValidTrue, ValidFalse}
+use Rattle.cert_judge.specs.declared.answers.Judgement.TheVariants.{Refused, UndeclaredRead, BadRow, Unproved, UnderivedStep, NoEmptyClause, ValidTrue, ValidFalse, BadBlock, ValidDefinitions}
 use Rattle.cert_judge.specs.declared.answers.CertificateFault.TheVariants.{Text, Circuit, Mapping}
 
 abbrev pub begins_with : List ℕ → List (List ℕ) → Bool
@@ -177,6 +183,19 @@ abbrev pub answer_of_refutation : Dqbf → Result Dqr CertRefusal → Judgement
 answer_of_refutation f (Ok d) = answer_of_derivation ValidFalse (refutation_fault f d)
 answer_of_refutation f (Err refusal) = Refused refusal.line (Text refusal.name)
 
+-- the counts of the blocks where none is at fault, and else the first fault
+abbrev pub answer_of_blocks : List DefinitionBlock → Option DefinitionFault → Judgement
+answer_of_blocks blocks None = ValidDefinitions (counts_of no_counts blocks)
+answer_of_blocks blocks (Some fault) = BadBlock fault
+
+-- the first fault of a text of definitions, and then of its blocks
+abbrev pub IsDefinitionsAnswer : Dqbf → Result (List DefinitionBlock) CertRefusal → Judgement
+    → Type 0
+IsDefinitionsAnswer f (Ok blocks) answer =
+    (fault : Option DefinitionFault)
+    × (AreJudged f blocks fault × (answer ≡ answer_of_blocks blocks fault))
+IsDefinitionsAnswer f (Err refusal) answer = answer ≡ Refused refusal.line (Text refusal.name)
+
 -- by the kind of the certificate, and where its header line begins
 abbrev pub IsJudgementOf : Dqbf → List ℕ → Result Kind CertRefusal → Judgement → Type 0
 IsJudgementOf f text (Ok (CircuitText at h)) answer =
@@ -185,6 +204,8 @@ IsJudgementOf f text (Ok (BinaryText at h)) answer =
     IsBinaryJudgement f h (scan_binary (drop at text) h) answer
 IsJudgementOf f text (Ok (Refutation at h)) answer =
     answer ≡ answer_of_refutation f (refutation_of f (drop at text) h)
+IsJudgementOf f text (Ok (Definitions at h)) answer =
+    IsDefinitionsAnswer f (definitions_of f (drop at text) h) answer
 IsJudgementOf f text (Err refusal) answer = answer ≡ Refused refusal.line (Text refusal.name)
 
 abbrev pub IsJudgement : Dqbf → List ℕ → Judgement → Type 0
@@ -197,6 +218,7 @@ SpellsFile text (Ok (BinaryText at h)) file =
     (line : Option ℕ)
     × SpellsBinary (drop at text) h (record { file = file; comment_line = line })
 SpellsFile text (Ok (Refutation at h)) file = ⊥
+SpellsFile text (Ok (Definitions at h)) file = ⊥
 SpellsFile text (Err refusal) file = ⊥
 
 -- the text is a circuit's by its first lines, and spells behind these one that is made of Skolem
@@ -205,3 +227,16 @@ pub record HoldsSkolemCircuit (f : Dqbf) (text : List ℕ) : Type 0 where
   pub file : AagFile
   pub spelled : SpellsFile text (certificate_kind text) file
   pub skolem : IsSkolemCircuit f file.circuit file.symbols
+
+-- the blocks of a certificate that is a text of definitions by its first lines
+abbrev pub HasBlocks : Dqbf → List ℕ → Result Kind CertRefusal → List DefinitionBlock → Type 0
+HasBlocks f text (Ok (Definitions at h)) blocks = definitions_of f (drop at text) h ≡ Ok blocks
+HasBlocks f text (Ok _) blocks = ⊥
+HasBlocks f text (Err refusal) blocks = ⊥
+
+-- the text has a block for each existential, so many of each kind, and what they say is right
+pub record HoldsRightDefinitions (f : Dqbf) (text : List ℕ) (counts : Counts) : Type 0 where
+  pub blocks : List DefinitionBlock
+  pub read : HasBlocks f text (certificate_kind text) blocks
+  pub counted : counts ≡ counts_of no_counts blocks
+  pub right : AreRight f blocks

@@ -10,6 +10,7 @@ use Rattle.aiger_text.specs.Scan.{IsAagReading, scan}
 use Rattle.aiger_text.specs.declared.faults.AagStop.{AagStop}
 use Rattle.aiger_text.specs.declared.faults.AagStop.TheVariants.{Refused as RefusedFile, Memory as NoFile}
 use Rattle.aiger_text.specs.declared.files.AagFile.{AagFile}
+use Rattle.cert_text.specs.DefinitionText.{definitions_of}
 use Rattle.cert_text.specs.Kind.{refusal, stated_verdict}
 use Rattle.cert_text.specs.declared.faults.CertFault.TheVariants.{BadHeader}
 use Rattle.cert_text.specs.declared.faults.CertRefusal.{CertRefusal}
@@ -21,13 +22,13 @@ use Rattle.cert_stream.specs.ProofState as Proofs
 use Rattle.cert_stream.specs.RefutationState.{RefutationState, MayAnswer}
 use Rattle.skolem_checker.specs.Checks.{candidate_of}
 use Rattle.skolem_checker.specs.SkolemCircuit.{IsComplete}
-use Rattle.cert_judge.specs.Judgement.{answer_of_derivation, line_ends, mapping_line, proof_in, BehindMapping, BehindProof, IsBinaryJudgement, IsJudgement}
+use Rattle.cert_judge.specs.Judgement.{answer_of_derivation, line_ends, mapping_line, proof_in, BehindMapping, BehindProof, IsBinaryJudgement, IsDefinitionsAnswer, IsJudgement}
 use Rattle.cert_judge.specs.Places.{HasFewLines}
 use Rattle.cert_judge.specs.declared.answers.Judgement.{Judgement}
 use Rattle.cert_judge.specs.declared.answers.Judgement.TheVariants.{Refused, NoEmptyClause, ValidTrue, ValidFalse}
 use Rattle.cert_judge.specs.declared.answers.CertificateFault.TheVariants.{Text, Circuit as CircuitFault}
 use Rattle.cert_judge.specs.declared.phases.Phase.{Phase}
-use Rattle.cert_judge.specs.declared.phases.Phase.TheVariants.{Beginning, Refutation, Circuit, Proof, FreeText, Binary, Decided, NoMemory}
+use Rattle.cert_judge.specs.declared.phases.Phase.TheVariants.{Beginning, Refutation, Circuit, Proof, FreeText, Binary, Definitions, Decided, NoMemory}
 
 -- LF, where the line has one
 abbrev pub line_end : Bool → List ℕ
@@ -106,6 +107,8 @@ Gives f (FreeText first file) bytes answer =
     (candidate_of f file.circuit file.symbols) answer
 Gives f (Binary first text) bytes answer =
     IsBinaryJudgement f first (scan_binary (text.items ++ bytes) first) answer
+Gives f (Definitions first text) bytes answer =
+    IsDefinitionsAnswer f (definitions_of f (text.items ++ bytes) first) answer
 Gives f (Decided said) bytes answer = answer ≡ said
 Gives f NoMemory bytes answer = ⊥
 
@@ -151,6 +154,7 @@ IsLawful (Circuit first lines) = AreLinesFrom first lines
 IsLawful (Proof proof finding) = Unit {0}
 IsLawful (FreeText first file) = IsJudged first file
 IsLawful (Binary first text) = first ≤ 2
+IsLawful (Definitions first text) = first ≤ 2
 IsLawful (Decided said) = Unit {0}
 IsLawful NoMemory = Unit {0}
 

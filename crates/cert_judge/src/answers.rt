@@ -5,13 +5,14 @@ ghost use Rattle.cert_judge.specs.declared.answers.Judgement.TheVariants.{Refuse
 
 use aiger_text::AagFault;
 use cert_text::CertFault;
+use defined_checker::{Counts, DefinitionFault};
 use skolem_checker::MapName;
 
 /// What is wrong with a certificate's text.
 #[derive(Clone, Copy, PartialEq, Eq)]
 pub enum CertificateFault {
-    /// Its first lines, its lines as a refutation, or those of the proof in its comment have this
-    /// fault.
+    /// Its first lines, its lines as a refutation or as definitions, or those of the proof in its
+    /// comment have this fault.
     Text(CertFault),
     /// It isn't a circuit file.
     Circuit(AagFault),
@@ -40,6 +41,11 @@ pub enum Judgement {
     ValidTrue,
     /// The derivation shows that no choice of functions solves the formula, so it is false.
     ValidFalse,
+    /// A block of definitions is at fault in this way, and no block before it is at fault.
+    BadBlock { fault: DefinitionFault },
+    /// Each block of definitions is right: so many existentials are functions of what they may read,
+    /// wherever the matrix is true, and so many aren't.
+    ValidDefinitions { counts: Counts },
 }
 
 /// The certificate's text has this fault.

@@ -72,6 +72,11 @@ fn start<'f>(
             gather(&mut text, header, ended)?;
             Ok(Phase::Binary { first: line, text })
         }
+        Kind::Definitions { line, .. } => {
+            let mut text = Vec::new(alloc);
+            gather(&mut text, header, ended)?;
+            Ok(Phase::Definitions { first: line, text })
+        }
     }
 }
 

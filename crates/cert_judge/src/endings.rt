@@ -10,6 +10,7 @@ ghost use Rattle.cert_judge.specs.Phases.{found_or_derived, AreLinesFrom, Circui
 use crate::answers::{CertificateFault, Judgement, refused};
 use crate::binary::judge_binary;
 use crate::circuits::{Form, judge_mapped, stopped};
+use crate::definitions::judge_definitions;
 use crate::phases::Phase;
 use aag_lines::AagLines;
 use aiger_text::AagFile;
@@ -36,6 +37,7 @@ pub(crate) fn finish(alloc: Global, f: &Formula, phase: Phase) -> Result<Judgeme
         Phase::Proof { proof, finding } => finish_proof(proof, finding),
         Phase::FreeText { first, file } => judge_mapped(alloc, f, Form::Ascii, first, &file, &None),
         Phase::Binary { first, text } => judge_binary(alloc, f, first, text),
+        Phase::Definitions { first, text } => judge_definitions(alloc, f, first, text),
         Phase::Decided(answer) => Ok(answer),
         Phase::NoMemory => Err(Memory),
     }

@@ -11,7 +11,8 @@ use dq_io::Feed;
 use dq_lits::Memory;
 use std::alloc::Global;
 
-/// Judges a certificate: the first fault that it has, or that it proves the formula true or false.
+/// Judges a certificate: the first fault that it has, or that it proves the formula true or false, or
+/// what it shows of its existentials.
 /// Its text is let go as soon as it was read.
 pub fn judge(alloc: Global, f: &Formula, text: Vec<u8>) -> Result<Judgement, Memory>
     requires well_formed { IsWellFormed f.now }

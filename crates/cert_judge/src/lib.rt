@@ -1,5 +1,5 @@
-//! The judgement of a certificate: whether it proves a formula true or false, and what is wrong with
-//! it first where it doesn't.
+//! The judgement of a certificate: whether it proves a formula true or false, or shows which of its
+//! existentials are defined, and what is wrong with it first where it doesn't.
 //!
 //! `judge` judges a text for a formula that was read. The laws in `laws` say that only one thing is
 //! to be said of a certificate, and that what is accepted is right.
@@ -14,6 +14,7 @@ mod beginnings;
 mod binary;
 mod circuits;
 mod comments;
+mod definitions;
 mod endings;
 mod judging;
 pub mod laws;

@@ -45,6 +45,11 @@ pub(crate) enum Phase<'f> {
         first: u64,
         text: Vec<u8>,
     },
+    /// Definitions, of which all bytes are kept.
+    Definitions {
+        first: u64,
+        text: Vec<u8>,
+    },
     /// Nothing that comes changes what is said.
     Decided(Judgement),
     /// Memory wanted.
@@ -80,6 +85,7 @@ pub(crate) fn take_line<'f>(
             Ok(())
         }
         Phase::Binary { text, .. } => gather(text, line, ended),
+        Phase::Definitions { text, .. } => gather(text, line, ended),
         Phase::Beginning { lines, missing } => {
             let next = begin(alloc, f, lines, missing, line, ended)?;
             turn(phase, next);

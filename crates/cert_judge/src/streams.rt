@@ -21,8 +21,8 @@ use std::marker::Model;
 /// Judges a certificate for a formula as it comes, however it is cut.
 ///
 /// It holds the line whose end didn't come yet, a refutation's rows or the circuit, which ids are
-/// live, and the lines that are live; of a circuit in the binary form it keeps all bytes. What is
-/// wrong with the certificate, and want of memory, is told at the end.
+/// live, and the lines that are live; of a circuit in the binary form and of definitions it keeps
+/// all bytes. What is wrong with the certificate, and want of memory, is told at the end.
 #[derive(Drop)]
 pub struct Stream<'f> {
     alloc: Global,

@@ -1,14 +1,14 @@
 -- The kind of a certificate, as its first lines tell it.
-use Rattle.std.proofs.Common.{◌≡◌, ℕ, ◌+◌, ◌-◌, ◌==◌, ◌≤◌, Bool, true, false, cond, inl, inr, List, [], ◌∷◌, length, Option, Some, None, Result, Ok, Err, codes, refl, sym, ◌∙◌, ap, ap₂, arith, subst}
+use Rattle.std.proofs.Common.{◌≡◌, ◌≢◌, ℕ, ◌+◌, ◌-◌, ◌==◌, ◌≤◌, Bool, true, false, cond, inl, inr, List, [], ◌∷◌, length, Option, Some, None, Result, Ok, Err, codes, refl, sym, ◌∙◌, ap, ap₂, arith, subst}
 use Rattle.std.specs.Str.{bytes_eq}
 use Rattle.std.proofs.lemmas.Slice.Eq.{bytes_eq-Decides}
 use Rattle.dq_text.specs.Line.{TextLine, line_tokens, extend_line, lines_from}
-use Rattle.cert_text.specs.Beginning.{header_word, verdict_word, header_place, header_number, BeginsPlainly, BeginsWithVerdict, Begins}
-use Rattle.cert_text.specs.Kind.{refusal, verdict_of_word, stated_verdict, shown_verdict, header_kind, same_verdict, agreeing, kind_at, kind_behind, kind_of_lines, certificate_kind}
+use Rattle.cert_text.specs.Beginning.{header_word, verdict_word, header_place, header_number, BeginsPlainly, BeginsWithVerdict, HasRest, Begins}
+use Rattle.cert_text.specs.Kind.{refusal, verdict_of_word, stated_verdict, shows, kind_of_p, header_kind, agreeing, kind_at, kind_behind, kind_of_lines, certificate_kind}
 use Rattle.cert_text.specs.declared.faults.CertFault.TheVariants.{BadHeader, WrongVerdict}
 use Rattle.cert_text.specs.declared.faults.CertRefusal.{CertRefusal}
 use Rattle.cert_text.specs.declared.kinds.Kind.{Kind}
-use Rattle.cert_text.specs.declared.kinds.Kind.TheVariants.{Circuit, BinaryCircuit, Refutation}
+use Rattle.cert_text.specs.declared.kinds.Kind.TheVariants.{Circuit, BinaryCircuit, Refutation, Definitions}
 use Rattle.cert_text.specs.declared.kinds.Verdict.{Verdict}
 use Rattle.cert_text.specs.declared.kinds.Verdict.TheVariants.{True, False}
 
@@ -71,28 +71,65 @@ first_line n (byte ∷ bytes) line lines h = by_byte (byte == 10) n bytes byte l
 record IsHeaderOf (place number : ℕ) (tokens : List (List ℕ)) (kind : Kind) : Type 0 where
   rest : List (List ℕ)
   word : tokens ≡ header_word kind ∷ rest
+  behind : HasRest kind rest
   place_is : header_place kind ≡ place
   number_is : header_number kind ≡ number
+
+first_same : (a b : List ℕ) (others more : List (List ℕ)) → a ∷ others ≡ b ∷ more → a ≡ b
+first_same a b others more same = cc
+
+-- by the token behind `p`
+by_second : (is : Bool) (place number : ℕ) (word : List ℕ) (others : List (List ℕ)) (kind : Kind) →
+    (is ≡ true → word ≡ codes "dqd") → (word ≡ codes "dqd" → is ≡ true) →
+    cond is (Definitions place number) (Refutation place number) ≡ kind →
+    IsHeaderOf place number (codes "p" ∷ word ∷ others) kind
+by_second true place number word others kind found told h =
+    subst (IsHeaderOf place number (codes "p" ∷ word ∷ others)) h (record {
+      rest = word ∷ others;
+      word = refl;
+      behind = (others, ap (λ w. w ∷ others) (found refl));
+      place_is = refl;
+      number_is = refl;
+    })
+by_second false place number word others kind found told h =
+    subst (IsHeaderOf place number (codes "p" ∷ word ∷ others)) h (record {
+      rest = word ∷ others;
+      word = refl;
+      behind = λ more same. let both : false ≡ true = told (first_same word (codes "dqd") others more same) in cc;
+      place_is = refl;
+      number_is = refl;
+    })
+
+nothing_behind : (others : List (List ℕ)) → [] ≢ codes "dqd" ∷ others
+nothing_behind others same = cc
+
+behind_p : (place number : ℕ) (tokens : List (List ℕ)) (kind : Kind) → kind_of_p place number tokens ≡ kind →
+    IsHeaderOf place number (codes "p" ∷ tokens) kind
+behind_p place number [] kind h =
+    subst (IsHeaderOf place number (codes "p" ∷ [])) h
+    (record { rest = []; word = refl; behind = nothing_behind; place_is = refl; number_is = refl })
+behind_p place number (word ∷ others) kind h =
+    by_second (bytes_eq word (codes "dqd")) place number word others kind (bytes_eq-Decides word (codes "dqd")).0
+    (bytes_eq-Decides word (codes "dqd")).1 h
 
 by_words : (circuit binary refutation : Bool) (place number : ℕ) (word : List ℕ) (tokens : List (List ℕ))
     (kind : Kind) →
     (circuit ≡ true → word ≡ codes "aag") → (binary ≡ true → word ≡ codes "aig") →
     (refutation ≡ true → word ≡ codes "p") →
     cond circuit (Ok (Circuit place number)) (cond binary (Ok (BinaryCircuit place number))
-    (cond refutation (Ok (Refutation place number)) (Err (refusal number BadHeader)))) ≡ Ok kind →
+    (cond refutation (Ok (kind_of_p place number tokens)) (Err (refusal number BadHeader)))) ≡ Ok kind →
     IsHeaderOf place number (word ∷ tokens) kind
 by_words true binary refutation place number word tokens kind aag aig p h =
     let is : Circuit place number ≡ kind = cc in
     subst (IsHeaderOf place number (word ∷ tokens)) is (record
-    { rest = tokens; word = ap (λ w. w ∷ tokens) (aag refl); place_is = refl; number_is = refl })
+    { rest = tokens; word = ap (λ w. w ∷ tokens) (aag refl); behind = tt; place_is = refl; number_is = refl })
 by_words false true refutation place number word tokens kind aag aig p h =
     let is : BinaryCircuit place number ≡ kind = cc in
     subst (IsHeaderOf place number (word ∷ tokens)) is (record
-    { rest = tokens; word = ap (λ w. w ∷ tokens) (aig refl); place_is = refl; number_is = refl })
+    { rest = tokens; word = ap (λ w. w ∷ tokens) (aig refl); behind = tt; place_is = refl; number_is = refl })
 by_words false false true place number word tokens kind aag aig p h =
-    let is : Refutation place number ≡ kind = cc in
-    subst (IsHeaderOf place number (word ∷ tokens)) is (record
-    { rest = tokens; word = ap (λ w. w ∷ tokens) (p refl); place_is = refl; number_is = refl })
+    let is : kind_of_p place number tokens ≡ kind = cc in
+    subst (λ w. IsHeaderOf place number (w ∷ tokens) kind) (sym (p refl)) (behind_p place number tokens kind is)
 by_words false false false place number word tokens kind aag aig p h = cc
 
 header_is : (place number : ℕ) (tokens : List (List ℕ)) (kind : Kind) → header_kind place number tokens ≡ Ok kind →
@@ -133,14 +170,16 @@ stated_is (letter ∷ word ∷ []) verdict h = by_letter (bytes_eq letter (codes
     (bytes_eq-Decides letter (codes "s")).0 h
 stated_is (letter ∷ word ∷ more ∷ rest) verdict h = cc
 
-same_word : (verdict : Verdict) (kind : Kind) → same_verdict (shown_verdict kind) verdict ≡ true →
-    word_of verdict ≡ verdict_word kind
+same_word : (verdict : Verdict) (kind : Kind) → shows kind verdict ≡ true →
+    verdict_word kind ≡ Some (word_of verdict)
 same_word True (Circuit place number) h = refl
 same_word False (Circuit place number) h = cc
 same_word True (BinaryCircuit place number) h = refl
 same_word False (BinaryCircuit place number) h = cc
 same_word True (Refutation place number) h = cc
 same_word False (Refutation place number) h = refl
+same_word True (Definitions place number) h = cc
+same_word False (Definitions place number) h = cc
 
 agreed : (same : Bool) (kind other : Kind) → cond same (Ok kind) (Err (refusal 1 WrongVerdict)) ≡ Ok other →
     (same ≡ true) × (kind ≡ other)
@@ -148,11 +187,11 @@ agreed true kind other h = let is : kind ≡ other = cc in (refl, is)
 agreed false kind other h = cc
 
 agrees : (verdict : Verdict) (found : Result Kind CertRefusal) (kind : Kind) → agreeing verdict found ≡ Ok kind →
-    (found ≡ Ok kind) × (word_of verdict ≡ verdict_word kind)
+    (found ≡ Ok kind) × (verdict_word kind ≡ Some (word_of verdict))
 agrees verdict (Err fault) kind h = cc
 agrees verdict (Ok found) kind h =
-    let both = agreed (same_verdict (shown_verdict found) verdict) found kind h in
-    (ap Ok both.1, same_word verdict found both.0 ∙ ap verdict_word both.1)
+    let both = agreed (shows found verdict) found kind h in
+    (ap Ok both.1, ap verdict_word (sym both.1) ∙ same_word verdict found both.0)
 
 behind_verdict : (text : List ℕ) (verdict : Verdict) (line : TextLine) (lines : List TextLine) (kind : Kind) →
     lines_from 1 text ≡ line ∷ lines →
@@ -169,9 +208,12 @@ behind_verdict text verdict line (header ∷ others) kind is stated h =
       header = header;
       others = others;
       rest = found.rest;
+      shown = word_of verdict;
+      shows = both.1;
       lines = is;
-      verdict = stated ∙ ap (λ word. codes "s" ∷ word ∷ []) both.1;
+      verdict = stated;
       word = found.word;
+      behind = found.behind;
       place = omega (arith, found.place_is, first.short);
       number = found.number_is ∙ second.number;
     }
@@ -188,6 +230,7 @@ by_statement text line lines None kind is stated h =
       rest = found.rest;
       lines = is;
       word = found.word;
+      behind = found.behind;
       place = found.place_is;
       number = found.number_is ∙ (first_line 1 text line lines is).number;
     })
@@ -214,16 +257,35 @@ unstated (BinaryCircuit place number) (word ∷ more ∷ rest) = refl
 unstated (Refutation place number) [] = refl
 unstated (Refutation place number) (word ∷ []) = refl
 unstated (Refutation place number) (word ∷ more ∷ rest) = refl
+unstated (Definitions place number) [] = refl
+unstated (Definitions place number) (word ∷ []) = refl
+unstated (Definitions place number) (word ∷ more ∷ rest) = refl
 
-told : (kind : Kind) (place number : ℕ) (rest : List (List ℕ)) → header_place kind ≡ place →
+-- the token behind `p` isn't `dqd`
+is_other : (is : Bool) (word : List ℕ) (others : List (List ℕ)) → (is ≡ true → word ≡ codes "dqd") →
+    ((more : List (List ℕ)) → word ∷ others ≢ codes "dqd" ∷ more) → is ≡ false
+is_other true word others found differ = absurd (differ others (ap (λ w. w ∷ others) (found refl)))
+is_other false word others found differ = refl
+
+refutation_told : (place number : ℕ) (rest : List (List ℕ)) →
+    ((more : List (List ℕ)) → rest ≢ codes "dqd" ∷ more) → kind_of_p place number rest ≡ Refutation place number
+refutation_told place number [] differ = refl
+refutation_told place number (word ∷ others) differ =
+    ap (λ b. cond b (Definitions place number) (Refutation place number))
+    (is_other (bytes_eq word (codes "dqd")) word others (bytes_eq-Decides word (codes "dqd")).0 differ)
+
+told : (kind : Kind) (place number : ℕ) (rest : List (List ℕ)) → HasRest kind rest → header_place kind ≡ place →
     header_number kind ≡ number →
     header_kind place number (header_word kind ∷ rest) ≡ Ok kind
-told (Circuit at line) place number rest place_is number_is =
+told (Circuit at line) place number rest behind place_is number_is =
     ap₂ (λ p n. Ok (Circuit p n)) (sym place_is) (sym number_is)
-told (BinaryCircuit at line) place number rest place_is number_is =
+told (BinaryCircuit at line) place number rest behind place_is number_is =
     ap₂ (λ p n. Ok (BinaryCircuit p n)) (sym place_is) (sym number_is)
-told (Refutation at line) place number rest place_is number_is =
-    ap₂ (λ p n. Ok (Refutation p n)) (sym place_is) (sym number_is)
+told (Refutation at line) place number rest behind place_is number_is =
+    ap Ok (refutation_told place number rest behind) ∙ ap₂ (λ p n. Ok (Refutation p n)) (sym place_is) (sym number_is)
+told (Definitions at line) place number rest behind place_is number_is =
+    ap (λ tokens. Ok (kind_of_p place number tokens)) behind.1
+    ∙ ap₂ (λ p n. Ok (Definitions p n)) (sym place_is) (sym number_is)
 
 plain_told : (text : List ℕ) (kind : Kind) → BeginsPlainly text kind → certificate_kind text ≡ Ok kind
 plain_told text kind b =
@@ -232,17 +294,28 @@ plain_told text kind b =
     ∙ ap (λ tokens. kind_behind (length text) b.header b.others (stated_verdict tokens)) b.word
     ∙ ap (kind_behind (length text) b.header b.others) (unstated kind b.rest)
     ∙ ap (header_kind 0 b.header.number) b.word
-    ∙ told kind 0 b.header.number b.rest b.place number
+    ∙ told kind 0 b.header.number b.rest b.behind b.place number
 
-stated_told : (kind : Kind) → stated_verdict (codes "s" ∷ verdict_word kind ∷ []) ≡ Some (shown_verdict kind)
-stated_told (Circuit place number) = refl
-stated_told (BinaryCircuit place number) = refl
-stated_told (Refutation place number) = refl
+abbrev verdict_of : Kind → Verdict
+verdict_of (Refutation _ _) = False
+verdict_of _ = True
 
-agreeing_told : (kind : Kind) → agreeing (shown_verdict kind) (Ok kind) ≡ Ok kind
-agreeing_told (Circuit place number) = refl
-agreeing_told (BinaryCircuit place number) = refl
-agreeing_told (Refutation place number) = refl
+stated_told : (kind : Kind) (word : List ℕ) → verdict_word kind ≡ Some word →
+    stated_verdict (codes "s" ∷ word ∷ []) ≡ Some (verdict_of kind)
+stated_told (Circuit place number) word is =
+    let same : codes "TRUE" ≡ word = cc in ap (λ w. stated_verdict (codes "s" ∷ w ∷ [])) (sym same)
+stated_told (BinaryCircuit place number) word is =
+    let same : codes "TRUE" ≡ word = cc in ap (λ w. stated_verdict (codes "s" ∷ w ∷ [])) (sym same)
+stated_told (Refutation place number) word is =
+    let same : codes "FALSE" ≡ word = cc in ap (λ w. stated_verdict (codes "s" ∷ w ∷ [])) (sym same)
+stated_told (Definitions place number) word is = cc
+
+agreeing_told : (kind : Kind) (word : List ℕ) → verdict_word kind ≡ Some word →
+    agreeing (verdict_of kind) (Ok kind) ≡ Ok kind
+agreeing_told (Circuit place number) word is = refl
+agreeing_told (BinaryCircuit place number) word is = refl
+agreeing_told (Refutation place number) word is = refl
+agreeing_told (Definitions place number) word is = cc
 
 verdict_told : (text : List ℕ) (kind : Kind) → BeginsWithVerdict text kind → certificate_kind text ≡ Ok kind
 verdict_told text kind b =
@@ -252,12 +325,12 @@ verdict_told text kind b =
     let place : header_place kind ≡ length text - length b.stated.behind = omega (arith, b.place) in
     ap (kind_of_lines (length text)) b.lines
     ∙ ap (λ tokens. kind_behind (length text) b.stated lines (stated_verdict tokens)) b.verdict
-    ∙ ap (kind_behind (length text) b.stated lines) (stated_told kind)
-    ∙ ap (λ tokens. agreeing (shown_verdict kind) (header_kind
+    ∙ ap (kind_behind (length text) b.stated lines) (stated_told kind b.shown b.shows)
+    ∙ ap (λ tokens. agreeing (verdict_of kind) (header_kind
     (length text - length b.stated.behind) b.header.number tokens)) b.word
-    ∙ ap (agreeing (shown_verdict kind)) (told kind (length text - length b.stated.behind) b.header.number b.rest place
-    (b.number ∙ sym second.number))
-    ∙ agreeing_told kind
+    ∙ ap (agreeing (verdict_of kind)) (told kind (length text - length b.stated.behind) b.header.number b.rest b.behind
+    place (b.number ∙ sym second.number))
+    ∙ agreeing_told kind b.shown b.shows
 
 pub kind_told : (text : List ℕ) (kind : Kind) → Begins text kind → certificate_kind text ≡ Ok kind
 kind_told text kind begins = elim begins [

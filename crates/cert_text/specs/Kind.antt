@@ -1,5 +1,5 @@
 -- Which kind a certificate is: a circuit, in one of AIGER's two forms, or a refutation, behind an
--- optional line with the verdict, as in the output of SAT solvers.
+-- optional line with the verdict, as in the output of SAT solvers; or definitions.
 use Rattle.std.specs.Prelude.{ℕ, ◌-◌, Bool, true, false, List, [], ◌∷◌, length, Option, Some, None, Result, Ok, Err, codes, if◌then◌else◌}
 use Rattle.std.specs.Str.{bytes_eq}
 use Rattle.dq_text.specs.Line.{TextLine, line_tokens, lines_from}
@@ -7,7 +7,7 @@ use Rattle.cert_text.specs.declared.faults.CertFault.{CertFault}
 use Rattle.cert_text.specs.declared.faults.CertFault.TheVariants.{BadHeader, WrongVerdict}
 use Rattle.cert_text.specs.declared.faults.CertRefusal.{CertRefusal}
 use Rattle.cert_text.specs.declared.kinds.Kind.{Kind}
-use Rattle.cert_text.specs.declared.kinds.Kind.TheVariants.{Circuit, BinaryCircuit, Refutation}
+use Rattle.cert_text.specs.declared.kinds.Kind.TheVariants.{Circuit, BinaryCircuit, Refutation, Definitions}
 use Rattle.cert_text.specs.declared.kinds.Verdict.{Verdict}
 use Rattle.cert_text.specs.declared.kinds.Verdict.TheVariants.{True, False}
 
@@ -25,30 +25,38 @@ stated_verdict (letter ∷ word ∷ []) =
     if bytes_eq letter (codes "s") then verdict_of_word word else None
 stated_verdict _ = None
 
-abbrev pub shown_verdict : Kind → Verdict
-shown_verdict (Circuit _ _) = True
-shown_verdict (BinaryCircuit _ _) = True
-shown_verdict (Refutation _ _) = False
-
--- the first token of the header line decides
-abbrev pub header_kind : ℕ → ℕ → List (List ℕ) → Result Kind CertRefusal
-header_kind at line [] = Err (refusal line BadHeader)
-header_kind at line (word ∷ _) =
-    if bytes_eq word (codes "aag") then Ok (Circuit at line) else
-    if bytes_eq word (codes "aig") then Ok (BinaryCircuit at line) else
-    if bytes_eq word (codes "p") then Ok (Refutation at line) else
-    Err (refusal line BadHeader)
-
 abbrev pub same_verdict : Verdict → Verdict → Bool
 same_verdict True True = true
 same_verdict True False = false
 same_verdict False True = false
 same_verdict False False = true
 
+-- definitions show neither verdict
+abbrev pub shows : Kind → Verdict → Bool
+shows (Circuit _ _) verdict = same_verdict verdict True
+shows (BinaryCircuit _ _) verdict = same_verdict verdict True
+shows (Refutation _ _) verdict = same_verdict verdict False
+shows (Definitions _ _) verdict = false
+
+-- by the tokens behind `p`
+abbrev pub kind_of_p : ℕ → ℕ → List (List ℕ) → Kind
+kind_of_p at line [] = Refutation at line
+kind_of_p at line (word ∷ _) =
+    if bytes_eq word (codes "dqd") then Definitions at line else Refutation at line
+
+-- the first token of the header line decides, and behind `p` the second
+abbrev pub header_kind : ℕ → ℕ → List (List ℕ) → Result Kind CertRefusal
+header_kind at line [] = Err (refusal line BadHeader)
+header_kind at line (word ∷ rest) =
+    if bytes_eq word (codes "aag") then Ok (Circuit at line) else
+    if bytes_eq word (codes "aig") then Ok (BinaryCircuit at line) else
+    if bytes_eq word (codes "p") then Ok (kind_of_p at line rest) else
+    Err (refusal line BadHeader)
+
 -- a kind that doesn't show the verdict is refused
 abbrev pub agreeing : Verdict → Result Kind CertRefusal → Result Kind CertRefusal
 agreeing verdict (Ok kind) =
-    if same_verdict (shown_verdict kind) verdict then Ok kind else Err (refusal 1 WrongVerdict)
+    if shows kind verdict then Ok kind else Err (refusal 1 WrongVerdict)
 agreeing verdict (Err fault) = Err fault
 
 -- the header line begins at the byte `at`; its number is 2 where it is missing

@@ -3,7 +3,7 @@
 ghost use Rattle.std.specs.Prelude.{◌≡◌, ◌≤◌, length, Ok, IfOk, codes};
 ghost use Rattle.dq_text.specs.Line.{line_tokens};
 ghost use Rattle.cert_text.specs.Beginning.{header_place, header_number};
-ghost use Rattle.cert_text.specs.Kind.{verdict_of_word, stated_verdict, shown_verdict, kind_at, header_kind, agreeing, certificate_kind};
+ghost use Rattle.cert_text.specs.Kind.{verdict_of_word, stated_verdict, shows, kind_at, kind_of_p, header_kind, agreeing, certificate_kind};
 
 use crate::faults::{CertFault, CertRefusal};
 use crate::kinds::{Kind, Verdict};
@@ -13,8 +13,9 @@ use dq_text::{LineTokens, Lines, is_word};
 ///
 /// A first line of the two tokens `s` and `TRUE`, or `s` and `FALSE`, states the verdict, and the
 /// header line follows; else the first line is the header line. The first token of the header line
-/// decides: `aag` begins a circuit, `aig` one in the binary form, and `p` a refutation. Anything
-/// else, or a missing line, is `BadHeader` at that line. A verdict that the kind doesn't show is `WrongVerdict` at line 1.
+/// decides: `aag` begins a circuit, `aig` one in the binary form, and `p` definitions where `dqd`
+/// stands behind it, and else a refutation. Anything else, or a missing line, is `BadHeader` at that
+/// line. A verdict that the kind doesn't show is `WrongVerdict` at line 1; definitions show none.
 pub fn kind(bytes: &[u8]) -> Result<Kind, CertRefusal>
     ensures kind { result ≡ certificate_kind bytes.now }
     ensures within { IfOk result (λ kind. header_place kind ≤ length bytes.now) }
@@ -74,11 +75,24 @@ fn header_kind(text: &[u8], at: usize, line: u64) -> Result<Kind, CertRefusal>
     ensures place { IfOk result (λ kind. header_place kind ≡ at) }
     ensures number { IfOk result (λ kind. header_number kind ≡ line) }
 {
-    match LineTokens::new(text).next() {
+    let mut tokens = LineTokens::new(text);
+    match tokens.next() {
         Some(word) if is_word(word, b"aag") => Ok(Kind::Circuit { at, line }),
         Some(word) if is_word(word, b"aig") => Ok(Kind::BinaryCircuit { at, line }),
-        Some(word) if is_word(word, b"p") => Ok(Kind::Refutation { at, line }),
+        Some(word) if is_word(word, b"p") => Ok(kind_of_p(tokens, at, line)),
         _ => Err(bad_header(line)),
+    }
+}
+
+// The kind of a header line by its tokens behind `p`.
+fn kind_of_p(mut tokens: LineTokens, at: usize, line: u64) -> Kind
+    ensures kind { result ≡ kind_of_p at line tokens.entry }
+    ensures place { header_place result ≡ at }
+    ensures number { header_number result ≡ line }
+{
+    match tokens.next() {
+        Some(word) if is_word(word, b"dqd") => Kind::Definitions { at, line },
+        _ => Kind::Refutation { at, line },
     }
 }
 
@@ -88,7 +102,7 @@ fn agreeing(verdict: Verdict, kind: Result<Kind, CertRefusal>) -> Result<Kind, C
     ensures same { IfOk result (λ shown. kind ≡ Ok shown) }
 {
     let kind = kind?;
-    if shown(kind) == verdict {
+    if shows(kind, verdict) {
         Ok(kind)
     } else {
         Err(CertRefusal {
@@ -98,11 +112,12 @@ fn agreeing(verdict: Verdict, kind: Result<Kind, CertRefusal>) -> Result<Kind, C
     }
 }
 
-fn shown(kind: Kind) -> Verdict
-    ensures { result ≡ shown_verdict kind }
+fn shows(kind: Kind, verdict: Verdict) -> bool
+    ensures { result ≡ shows kind verdict }
 {
     match kind {
-        Kind::Circuit { .. } | Kind::BinaryCircuit { .. } => Verdict::True,
-        Kind::Refutation { .. } => Verdict::False,
+        Kind::Circuit { .. } | Kind::BinaryCircuit { .. } => verdict == Verdict::True,
+        Kind::Refutation { .. } => verdict == Verdict::False,
+        Kind::Definitions { .. } => false,
     }
 }

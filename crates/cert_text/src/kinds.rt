@@ -10,6 +10,9 @@ pub enum Kind {
     BinaryCircuit { at: usize, line: u64 },
     /// A refutation, which shows that a formula is false.
     Refutation { at: usize, line: u64 },
+    /// Definitions, which show which existentials are functions of what they may read. They show no
+    /// verdict.
+    Definitions { at: usize, line: u64 },
 }
 
 /// What the line `s` states.

@@ -1,4 +1,4 @@
-use Rattle.cert_judge.proofs.Soundness.{accepted_circuit, accepted_is_true, accepted_is_false}
+use Rattle.cert_judge.proofs.Soundness.{accepted_circuit, accepted_definitions, accepted_is_true, accepted_is_false}
 use Rattle.cert_judge.proofs.laws.acceptance_is_sound.Goals as goal
 
 pub returns-clause-is_true : goal.returns-clause-is_true
@@ -17,6 +17,9 @@ returns-clause-is_true c =
 
 pub returns-clause-is_false : goal.returns-clause-is_false
 returns-clause-is_false c = accepted_is_false c.refutation_shows_false.ensures
+
+pub returns-clause-definitions : goal.returns-clause-definitions
+returns-clause-definitions c = accepted_definitions c.accepted_texts_are_right.ensures
 
 pub returns-clause-circuit : goal.returns-clause-circuit
 returns-clause-circuit c =

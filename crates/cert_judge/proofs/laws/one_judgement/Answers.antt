@@ -8,3 +8,4 @@ returns c =
       never_both = c.circuit_or_first_fault.ensures.never_both;
       one_fault = c.circuit_or_first_fault.ensures.one_fault;
     })
+    c.texts_are_judged_once.ensures
