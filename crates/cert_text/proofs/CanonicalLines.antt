@@ -32,7 +32,7 @@ use Rattle.cert_text.proofs.NumberWords.{IsSpellable, signed_word, signed_is_wor
 use Rattle.cert_text.proofs.PairNumbers.{pair_small}
 use Rattle.cert_text.proofs.Parts.{pair_positive, universals_in_range}
 
-zero_is_word : IsWord (codes "0")
+pub zero_is_word : IsWord (codes "0")
 zero_is_word = (refl, tt)
 
 -- the header
@@ -58,35 +58,35 @@ header_line Two rows items rest few_rows few_items =
     (natural_is_word items few_items)
 
 -- a row
-abbrev Bits : Type 0
+abbrev pub Bits : Type 0
 Bits = List (ℕ × Bool)
 
-abbrev bit_text : ℕ × Bool → List ℕ
+abbrev pub bit_text : ℕ × Bool → List ℕ
 bit_text x = signed_text x.1 x.0
 
-abbrev bit_word : ℕ × Bool → List ℕ
+abbrev pub bit_word : ℕ × Bool → List ℕ
 bit_word x = signed_word x.1 x.0
 
 text_is_word : (b : Bool) (v : ℕ) → signed_text b v ≡ signed_word b v ++ 32 ∷ []
 text_is_word true v = refl
 text_is_word false v = refl
 
-bits_spaced : (xs : Bits) → flat_map bit_text xs ≡ spaced (map bit_word xs)
+pub bits_spaced : (xs : Bits) → flat_map bit_text xs ≡ spaced (map bit_word xs)
 bits_spaced [] = refl
 bits_spaced (x ∷ xs) = ap₂ (λ a b. a ++ b) (text_is_word x.1 x.0) (bits_spaced xs)
 
-abbrev row_words : List ℕ → List Bool → List (List ℕ)
+abbrev pub row_words : List ℕ → List Bool → List (List ℕ)
 row_words us row = codes "u" ∷ map bit_word (zip us row)
 
-abbrev row_tokens : List ℕ → List Bool → Tokens
+abbrev pub row_tokens : List ℕ → List Bool → Tokens
 row_tokens us row = codes "u" ∷ (map bit_word (zip us row) ++ codes "0" ∷ [])
 
-bits_are_words : (us : List ℕ) (row : List Bool) → AllByRecursion IsSpellable us → AreWords (map bit_word (zip us row))
+pub bits_are_words : (us : List ℕ) (row : List Bool) → AllByRecursion IsSpellable us → AreWords (map bit_word (zip us row))
 bits_are_words [] row are = tt
 bits_are_words (x ∷ us) [] are = tt
 bits_are_words (x ∷ us) (b ∷ row) are = (signed_is_word b x are.0, bits_are_words us row are.1)
 
-row_line : (us : List ℕ) (row : List Bool) (rest : List ℕ) → AllByRecursion IsSpellable us →
+pub row_line : (us : List ℕ) (row : List Bool) (rest : List ℕ) → AllByRecursion IsSpellable us →
     tokens_of (row_text us row ++ rest) ≡ row_tokens us row ∷ tokens_of rest
 row_line us row rest are =
     let bits = zip us row in
@@ -94,13 +94,13 @@ row_line us row rest are =
     (append_assoc (flat_map bit_text bits) line_end rest ∙ ap (λ front. front ++ (48 ∷ 10 ∷ rest)) (bits_spaced bits))
     ∙ line_of_words (row_words us row) (codes "0") rest ((refl, tt), bits_are_words us row are) zero_is_word
 
-bits_numbers : (us : List ℕ) (row : List Bool) → AllByRecursion IsSpellable us →
+pub bits_numbers : (us : List ℕ) (row : List Bool) → AllByRecursion IsSpellable us →
     map number_of (map bit_word (zip us row) ++ codes "0" ∷ []) ≡ integers (row_numbers us row)
 bits_numbers [] row are = refl
 bits_numbers (x ∷ us) [] are = refl
 bits_numbers (x ∷ us) (b ∷ row) are = ap₂ (λ n ns. n ∷ ns) (signed_number_is b x are.0) (bits_numbers us row are.1)
 
-row_spells : (us : List ℕ) (row : List Bool) → AllByRecursion IsSpellable us → SpellsRow us (row_tokens us row) row
+pub row_spells : (us : List ℕ) (row : List Bool) → AllByRecursion IsSpellable us → SpellsRow us (row_tokens us row) row
 row_spells us row are = record {
   rest = map bit_word (zip us row) ++ codes "0" ∷ [];
   letter = refl;
@@ -182,7 +182,7 @@ step_bytes s rest =
     ∙ ap (λ bytes. ls ++ (48 ∷ 32 ∷ bytes)) (append_assoc hs line_end rest) ∙ sym parted)
     ∙ sym (append_assoc id (spaced (words ++ zero_and_hints)) end)
 
-step_line : (s : ProofStep) (rest : List ℕ) → IsSmallStep s →
+pub step_line : (s : ProofStep) (rest : List ℕ) → IsSmallStep s →
     tokens_of (step_text s ++ rest) ≡ step_tokens s ∷ tokens_of rest
 step_line s rest is =
     ap tokens_of (step_bytes s rest)
@@ -209,7 +209,7 @@ literals_numbers [] hs are small = ap (λ ns. Int (pos 0) ∷ ns) (hints_numbers
 literals_numbers (l ∷ ls) hs are small = ap₂ (λ n ns. n ∷ ns) (literal_number l are.0)
     (literals_numbers ls hs are.1 small)
 
-step_spells : (s : ProofStep) → IsSmallStep s → SpellsStep (step_tokens s) s
+pub step_spells : (s : ProofStep) → IsSmallStep s → SpellsStep (step_tokens s) s
 step_spells s is = ap₂ (λ n ns. n ∷ ns) (natural_is_read s.id is.id)
     (literals_numbers s.literals s.hints is.literals is.hints)
 
@@ -287,7 +287,7 @@ pub items_spell : (items : List ProofItem) → AreSpelledSmall items →
 items_spell items are = items_spell_in (version_for items) items are (needs_two (list_any is_deletion items))
 
 -- what the format allows has small numbers
-spellable : (variables : ℕ) (us : List ℕ) → variables < 10 ^ 18 → AllByRecursion (λ v. (1 ≤ v) × (v ≤ variables)) us →
+pub spellable : (variables : ℕ) (us : List ℕ) → variables < 10 ^ 18 → AllByRecursion (λ v. (1 ≤ v) × (v ≤ variables)) us →
     AllByRecursion IsSpellable us
 spellable variables [] few are = tt
 spellable variables (x ∷ us) few are = ((are.0.0, omega (arith, are.0.1, few)), spellable variables us few are.1)

@@ -22,21 +22,27 @@ item_at [] k step h = cc
 item_at (s ∷ steps) zero step h = let same : s ≡ step = cc in ap (λ x. Some (kept_item x)) same
 item_at (s ∷ steps) (suc k) step h = item_at steps k step h
 
-got : (xs : List ProofItem) (k : ℕ) (x : ProofItem) → slice_get xs k ≡ Some x → drop k xs ≡ x ∷ drop (suc k) xs
+got : {X : Type 0} (xs : List X) (k : ℕ) (x : X) → slice_get xs k ≡ Some x → drop k xs ≡ x ∷ drop (suc k) xs
 got [] k x h = cc
 got (y ∷ ys) zero x h = let same : y ≡ x = cc in ap (λ z. z ∷ ys) same
 got (y ∷ ys) (suc k) x h = got ys k x h
 
--- one item more is written
+-- one of them more is written
+pub one_written : {X : Type 0} (written_as : X → List ℕ) (items : List X) (k : ℕ) (item : X)
+    (text more start : List ℕ) → slice_get items k ≡ Some item → more ≡ text ++ written_as item →
+    text ++ flat_map written_as (drop k items) ≡ start → more ++ flat_map written_as (drop (k + 1) items) ≡ start
+one_written written_as items k item text more start is written so_far =
+    let next : k + 1 ≡ suc k = omega arith in
+    ap₂ (λ a n. a ++ flat_map written_as (drop n items)) written next
+    ∙ append_assoc text (written_as item) (flat_map written_as (drop (suc k) items))
+    ∙ ap (λ rest. text ++ flat_map written_as rest) (sym (got items k item is))
+    ∙ so_far
+
 pub item_written : (items : List ProofItem) (k : ℕ) (item : ProofItem) (text more start : List ℕ) →
     slice_get items k ≡ Some item → more ≡ text ++ item_text item →
     text ++ flat_map item_text (drop k items) ≡ start → more ++ flat_map item_text (drop (k + 1) items) ≡ start
 item_written items k item text more start is written so_far =
-    let next : k + 1 ≡ suc k = omega arith in
-    ap₂ (λ a n. a ++ flat_map item_text (drop n items)) written next
-    ∙ append_assoc text (item_text item) (flat_map item_text (drop (suc k) items))
-    ∙ ap (λ rest. text ++ flat_map item_text rest) (sym (got items k item is))
-    ∙ so_far
+    one_written item_text items k item text more start is written so_far
 
 -- one item more is looked at
 pub deletion_at : (items : List ProofItem) (k : ℕ) (item : ProofItem) → slice_get items k ≡ Some item →

@@ -32,3 +32,5 @@ pub mod DefinitionParts
 pub mod AllowedDefinitions
 pub mod DefinitionBodies
 pub mod Marks
+mod WrittenBlocks
+mod ReadWrittenBlocks

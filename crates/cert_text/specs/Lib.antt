@@ -34,3 +34,5 @@ pub mod StepLine
 pub mod StepNumbers
 pub mod Steps
 pub mod Variables
+pub mod CanonicalDefinitions
+pub mod DefinitionsWritten

@@ -11,6 +11,7 @@ ghost use Rattle.rup_core.specs.Items.{ProofItem, derived};
 ghost use Rattle.cert_text.specs.AllowedDefinitions.{AreBlocksOf, IsBlockOf};
 ghost use Rattle.cert_text.specs.Beginning.{Begins};
 ghost use Rattle.cert_text.specs.Canonical.{canonical, canonical_proof, version_for};
+ghost use Rattle.cert_text.specs.CanonicalDefinitions.{WrittenDefinitionsAreRead};
 ghost use Rattle.cert_text.specs.CircuitProof.{circuit_proof_of};
 ghost use Rattle.cert_text.specs.DefinitionBlocks.{DefinitionBlock};
 ghost use Rattle.cert_text.specs.DefinitionText.{PartRead, definitions_of, read_block};
@@ -125,4 +126,9 @@ pub fn definitions_are_lawful()
     ensures text { (f : Dqbf) (text : List ℕ) (first : ℕ) (blocks : List DefinitionBlock)
         → definitions_of f text first ≡ Ok blocks
         → AreBlocksOf f (existential_variables f) blocks }
+{}
+
+/// Blocks that may stand there are read back from their canonical text.
+pub fn written_definitions_are_read()
+    ensures { WrittenDefinitionsAreRead }
 {}

@@ -129,7 +129,7 @@ fn write_literals(literals: &[Lit], text: &mut Vec<u8>) -> Result<(), Memory>
 }
 
 // The universals, as far as the row has bits.
-fn write_bits(universals: &[u64], row: &Row, text: &mut Vec<u8>) -> Result<(), Memory>
+pub(crate) fn write_bits(universals: &[u64], row: &Row, text: &mut Vec<u8>) -> Result<(), Memory>
     ensures { OnOk result
         (text.new.items
         ≡ text.old.items ++ flat_map (λ x. signed_text x.1 x.0) (zip universals.now row.now)) }
@@ -140,7 +140,7 @@ fn write_bits(universals: &[u64], row: &Row, text: &mut Vec<u8>) -> Result<(), M
     Ok(())
 }
 
-fn write_row(universals: &[u64], row: &Row, text: &mut Vec<u8>) -> Result<(), Memory>
+pub(crate) fn write_row(universals: &[u64], row: &Row, text: &mut Vec<u8>) -> Result<(), Memory>
     ensures { OnOk result (text.new.items ≡ text.old.items ++ row_text universals.now row.now) }
 {
     push_word(text, b"u ")?;
@@ -160,7 +160,7 @@ fn write_rows(universals: &[u64], rows: &[Row], text: &mut Vec<u8>) -> Result<()
     Ok(())
 }
 
-fn write_step(step: Step, text: &mut Vec<u8>) -> Result<(), Memory>
+pub(crate) fn write_step(step: Step, text: &mut Vec<u8>) -> Result<(), Memory>
     ensures { OnOk result (text.new.items ≡ text.old.items ++ step_text (step_seen step.entry)) }
 {
     push_spaced(text, step.id)?;
