@@ -88,7 +88,8 @@ pub record AreLiteralsFrom (f : Dqbf) (graph : AigGraph) (gates : List ℕ) (fir
 module _ (f : Dqbf) (graph : AigGraph) (node : Node) (gates : List ℕ) (first : Terms) (old : ProofLog) (terms : Terms)
     (log : ProofLog) (literals : BTreeMap ℕ Literal) (at g : ℕ) (lawful : IsGraph graph)
     (cone : AreConeGates graph node gates)
-    (far : AreLiteralsFrom f graph gates first old terms log literals (at + 1)) (here : slice_get gates at ≡ Some g) where
+    (far : AreLiteralsFrom f graph gates first old terms log literals (at + 1))
+    (here : slice_get gates at ≡ Some g) where
   at_here : (d : ℕ) → get_or gates at d ≡ g
   at_here d = get_or_from_slice_get gates at g d here
 
@@ -100,7 +101,9 @@ module _ (f : Dqbf) (graph : AigGraph) (node : Node) (gates : List ℕ) (first :
   behind h j below is less = elim (cases_lt at j) [
     | inl after ↦ after
     | inr before ↦ absurd (elim (cases_eq j at) [
-      | inl same ↦ (let equal : h ≡ g = sym is ∙ ap (λ k. get_or gates k h) same ∙ at_here h in omega (arith, equal, less))
+      | inl same ↦ (
+          let equal : h ≡ g = sym is ∙ ap (λ k. get_or gates k h) same ∙ at_here h in
+          omega (arith, equal, less))
       | inr differ ↦ (
           let down = cone.descending j at g (omega (arith, before, differ)) (slice_get_within gates at g here) in
           let one : get_or gates at g ≡ g = at_here g in
@@ -141,7 +144,8 @@ module _ (f : Dqbf) (graph : AigGraph) (node : Node) (gates : List ℕ) (first :
         | inr same ↦ (
             let is : k ≡ at = omega (arith, past, same) in
             let equal : g ≡ h = some_is (sym here ∙ ap (slice_get gates) (sym is) ∙ there) in
-            subst (HasLiteral f graph new.entries after) equal (record { literal = l; found = updates.1; stands = stands }))
+            subst (HasLiteral f graph new.entries after) equal
+            (record { literal = l; found = updates.1; stands = stands }))
       ];
     } where
       stay : NamesStay log.entries new.entries

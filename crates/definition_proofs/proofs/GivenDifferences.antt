@@ -33,7 +33,8 @@ some_name : (o : Option Name) → is_term_name o ≡ true → (n : Name) × (o �
 some_name None is = cc
 some_name (Some n) is = (n, refl)
 
-pub term_leaf_stays : (old new : List Entry) → NamesStay old new → (leaf : Leaf) → IsTermLeaf old leaf → IsTermLeaf new leaf
+pub term_leaf_stays : (old new : List Entry) → NamesStay old new → (leaf : Leaf) → IsTermLeaf old leaf →
+    IsTermLeaf new leaf
 term_leaf_stays old new stay (Constant b) is = tt
 term_leaf_stays old new stay (LeafLiteral l) is =
     let n = some_name (name_of old (variable_of l)) is in
@@ -124,7 +125,8 @@ module _ (group : ℕ) (d : Difference) (old log new : ProofLog) (part : ℕ) (w
   other_ungiven other apart none = by (differing copy leaf (is_second part)) where
     by : (o : Option (List Literal)) → IsPut log new (Differ d.existential d.output part) group o →
         (c : List Literal) → Contains new.entries (Given (Differ d.existential d.output other) c) → ⊥
-    by None is c inside = none c (subst (λ (l : ProofLog). Contains l.entries (Given (Differ y leaf other) c)) is inside)
+    by None is c inside = none c
+        (subst (λ (l : ProofLog). Contains l.entries (Given (Differ y leaf other) c)) is inside)
     by (Some rest) is c inside = elim (contains_cases (Given (Differ y leaf part) (negative group ∷ rest))
         (Given (Differ y leaf other) c) log.entries
         (subst (λ (l : ProofLog). Contains l.entries (Given (Differ y leaf other) c)) is inside)) [

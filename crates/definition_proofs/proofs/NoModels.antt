@@ -116,7 +116,8 @@ module _ (f : Dqbf) (graph : AigGraph) (p : Padoa) (terms : Terms) (es : List En
       given_true (TermGate v 1) g (negative v ∷ a ∷ []) terms_on (clauses 1 (negative v ∷ a ∷ []) refl) in
       let two : (not (values v) || (literal_true values b || false)) ≡ true =
       given_true (TermGate v 2) g (negative v ∷ b ∷ []) terms_on (clauses 2 (negative v ∷ b ∷ []) refl) in
-      let three : (values v || (literal_true values (opposite a) || (literal_true values (opposite b) || false))) ≡ true =
+      let three : (values v || (literal_true values (opposite a) || (literal_true values (opposite b) || false))) ≡
+      true =
       given_true (TermGate v 3) g (positive v ∷ opposite a ∷ opposite b ∷ []) terms_on
       (clauses 3 (positive v ∷ opposite a ∷ opposite b ∷ []) refl) in
       both_sides (values v) (literal_true values a) (literal_true values b) one two

@@ -120,8 +120,8 @@ reads_inputs f graph es _ _ (not_input i l stands) x reads =
 reads_inputs f graph es _ _ (not_gate g l stands) x reads =
     reads_inputs f graph es (Gate g false) l stands x (same_reads es (opposite l) l x (opposite_variable l) reads)
 
-pub reads_support : (f : Dqbf) (graph : AigGraph) (es : List Entry) (n : Node) (l : Literal) → StandsFor f graph es n l →
-    (x : ℕ) → ReadsCopy es l x → Contains (map (input_variable f) (node_support graph n)) x
+pub reads_support : (f : Dqbf) (graph : AigGraph) (es : List Entry) (n : Node) (l : Literal) →
+    StandsFor f graph es n l → (x : ℕ) → ReadsCopy es l x → Contains (map (input_variable f) (node_support graph n)) x
 reads_support f graph es n l stands x reads =
     let r = reads_inputs f graph es n l stands x reads in
     subst (Contains (map (input_variable f) (node_support graph n))) (sym r.1)
@@ -132,7 +132,8 @@ pub input_stands : (f : Dqbf) (graph : AigGraph) (es : List Entry) (copies : Lis
     AreCopiesOf es 1 (declared f) copies → i < length (declared f) → slice_get copies i ≡ Some l →
     StandsFor f graph es (Input i false) l
 input_stands f graph es copies i l are below at =
-    input i l below (copy_at es 1 (declared f) copies i (input_variable f i) l are (slice_get-get_or (declared f) i 0 below) at)
+    input i l below (copy_at es 1 (declared f) copies i (input_variable f i) l are
+    (slice_get-get_or (declared f) i 0 below) at)
 
 -- either sign
 pub input_signed : (f : Dqbf) (graph : AigGraph) (es : List Entry) (i : ℕ) (l : Literal) (negated : Bool) →

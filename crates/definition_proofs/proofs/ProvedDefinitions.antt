@@ -43,7 +43,8 @@ use Rattle.definition_proofs.proofs.NodeLiterals.{stands_still, on_term, reads_s
 use Rattle.definition_proofs.proofs.NoModels.{no_values}
 use Rattle.definition_proofs.proofs.Refutations.{learned_same, same_leaves}
 
-pub is_existential : (f : Dqbf) (graph : AigGraph) (y : ℕ) (node : Node) → IsDefinedBy f graph y node → IsExistential f y
+pub is_existential : (f : Dqbf) (graph : AigGraph) (y : ℕ) (node : Node) → IsDefinedBy f graph y node →
+    IsExistential f y
 is_existential f graph y node defined none =
     let both : None ≡ Some defined.existential = sym none ∙ defined.found in
     cc
@@ -150,8 +151,8 @@ module _ (f : Dqbf) (graph : AigGraph) (p : Padoa) (first t : Terms) (y : ℕ) (
   few = few_still f (group_variable first.group) y old log (grew f y) beside.few
 
   pub undiffered : AreUndiffered y log.entries
-  undiffered out part c inside = elim (own_differs f (group_variable first.group) (suc y) old log (grew f (suc y)) y part
-      out c inside) [ inl was ↦ none out part c was | inr same ↦ omega (arith, same) ]
+  undiffered out part c inside = elim (own_differs f (group_variable first.group) (suc y) old log (grew f (suc y)) y
+      part out c inside) [ inl was ↦ none out part c was | inr same ↦ omega (arith, same) ]
 
   module _ (formula : IsWellFormed f)
       (names_unique : (es : List Entry) (v w : ℕ) (name : Name) → AreLogged es → name_of es v ≡ Some name →
@@ -159,7 +160,8 @@ module _ (f : Dqbf) (graph : AigGraph) (p : Padoa) (first t : Terms) (y : ℕ) (
       (given : ProofLog) (group : Group)
       (more : (h : Dqbf) (standing : ℕ) → IsExistential h y → GrewByProof h standing y log given)
       (made : IsMade given.entries group)
-      (has : HasDifference given.entries (group_variable group) (record { existential = y; copy = copy; output = output }))
+      (has : HasDifference given.entries (group_variable group)
+      (record { existential = y; copy = copy; output = output }))
       (alone : HasDifferenceAlone given.entries (group_variable group)
       (record { existential = y; copy = copy; output = output }))
       (leaves : (g : ℕ) (n : Name) → name_of log.entries g ≡ Some n → LeavesTerms g log.entries given.entries) where

@@ -209,13 +209,14 @@ module _ (implied : LinesAreImplied) (y : ℕ) (leaf : Leaf) (active : List Grou
   }
 
   pub answer_proof : (f : Dqbf) (group x : ℕ) → GrewByProof f group x old new
-  answer_proof f group x = proof_then f group x old r.before new (learned_proof f group x old r.before r.learned) (record {
-    grew = λ start names. grown_by (IsAddedBy f copies group true start) r.before new (Answer r.clause r.hints)
-        r.answered (λ quiet. undecided_answer implied f r.before.entries r.clause r.hints searched_there
-        (λ origin c reached. given_is_copies y leaf origin (given_right origin c reached)));
-    givens = λ o c inside. inl ((same_answer r.clause r.hints r.before.entries).givens o c
-        (subst (λ es. Contains es (Given o c)) all_is inside));
-  })
+  answer_proof f group x = proof_then f group x old r.before new
+      (learned_proof f group x old r.before r.learned) (record {
+        grew = λ start names. grown_by (IsAddedBy f copies group true start) r.before new (Answer r.clause r.hints)
+            r.answered (λ quiet. undecided_answer implied f r.before.entries r.clause r.hints searched_there
+            (λ origin c reached. given_is_copies y leaf origin (given_right origin c reached)));
+        givens = λ o c inside. inl ((same_answer r.clause r.hints r.before.entries).givens o c
+            (subst (λ es. Contains es (Given o c)) all_is inside));
+      })
 
   pub answer_same : HasSameGivens old.entries new.entries
   answer_same = subst (HasSameGivens old.entries) (sym all_is)

@@ -47,7 +47,8 @@ IsExistential f y = existential_of f y ≡ None → ⊥
 -- no clause of this kind was given for the existential
 abbrev pub AreUndiffered : ℕ → List Entry → Type 0
 AreUndiffered y entries =
-    (leaf : Leaf) (part : ℕ) (c : List Literal) → Contains entries (Given (Differ y leaf part) c) → ⊥
+    (leaf : Leaf) (part : ℕ) (c : List Literal) → Contains entries (Given (Differ y leaf part) c)
+    → ⊥
 
 -- both clauses stand in the group, where they are clauses
 abbrev pub HasDifference : List Entry → ℕ → Difference → Type 0
@@ -60,7 +61,8 @@ HasDifference entries group d =
 -- the group has no clauses of other origins
 abbrev pub HasDifferenceAlone : List Entry → ℕ → Difference → Type 0
 HasDifferenceAlone entries group d =
-    (origin : Origin) (rest : List Literal) → Contains entries (Given origin (negative group ∷ rest))
+    (origin : Origin) (rest : List Literal)
+    → Contains entries (Given origin (negative group ∷ rest))
     → IsDifferenceOf d.existential d.output origin
 
 -- what leaves the gates over first copies in a group as they stand

@@ -18,7 +18,8 @@ use Rattle.hint_log.specs.declared.origins.Leaf.TheVariants.{Constant as LeafCon
 
 -- a literal that stands for a node: the first copy of an input's variable, or a gate over the
 -- literals of its sides; or the negation of such a one
-pub data StandsFor (f : Dqbf) (graph : AigGraph) (entries : List Entry) : Node → Literal → Type 0 where
+pub data StandsFor (f : Dqbf) (graph : AigGraph)
+    (entries : List Entry) : Node → Literal → Type 0 where
   input : (i : ℕ) (l : Literal) → i < length (declared f)
       → name_literal entries l ≡ Some (named_literal (CopyOf 1 (input_variable f i)) false)
       → StandsFor f graph entries (Input i false) l

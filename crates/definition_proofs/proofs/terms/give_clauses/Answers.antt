@@ -19,8 +19,8 @@ returns-in_err-add-3-clause-gives g c = λ f.
     c.requires.named c.requires.few c.requires.none c.add.new.log c.part_of.result c.neg.result c.part_of.ensures
     c.neg.ensures c.in_ok-add.ensures.ok in
     let second = two f c.args.group.now gate.variable gate.left gate.right c.args.log.now c.requires.made
-    c.requires.named c.requires.few c.requires.none c.add.new.log c.add-2.new.log c.part_of-2.result c.neg-2.result first
-    c.part_of-2.ensures c.neg-2.ensures c.in_ok-add-2.ensures.ok in
+    c.requires.named c.requires.few c.requires.none c.add.new.log c.add-2.new.log c.part_of-2.result c.neg-2.result
+    first c.part_of-2.ensures c.neg-2.ensures c.in_ok-add-2.ensures.ok in
     (stopped f c.args.group.now gate.variable gate.left gate.right c.args.log.now c.requires.made
     c.requires.named c.requires.few c.requires.none 2 c.add-2.new.log c.add-3.new.log second
     c.in_err-add-3.ensures.err).gives
@@ -32,8 +32,8 @@ returns-clause-gives g c = λ f.
     c.requires.named c.requires.few c.requires.none c.add.new.log c.part_of.result c.neg.result c.part_of.ensures
     c.neg.ensures c.in_ok-add.ensures.ok in
     let second = two f c.args.group.now gate.variable gate.left gate.right c.args.log.now c.requires.made
-    c.requires.named c.requires.few c.requires.none c.add.new.log c.add-2.new.log c.part_of-2.result c.neg-2.result first
-    c.part_of-2.ensures c.neg-2.ensures c.in_ok-add-2.ensures.ok in
+    c.requires.named c.requires.few c.requires.none c.add.new.log c.add-2.new.log c.part_of-2.result c.neg-2.result
+    first c.part_of-2.ensures c.neg-2.ensures c.in_ok-add-2.ensures.ok in
     let third = three f c.args.group.now gate.variable gate.left gate.right c.args.log.now c.requires.made
     c.requires.named c.requires.few c.requires.none c.add-2.new.log c.add-3.new.log c.part_of-3.result c.pos.result
     c.not.result c.not-2.result second c.part_of-3.ensures c.pos.ensures c.not.ensures c.not-2.ensures
@@ -48,8 +48,8 @@ returns-clause-given g c =
     c.requires.named c.requires.few c.requires.none c.add.new.log c.part_of.result c.neg.result c.part_of.ensures
     c.neg.ensures c.in_ok-add.ensures.ok in
     let second = two f c.args.group.now gate.variable gate.left gate.right c.args.log.now c.requires.made
-    c.requires.named c.requires.few c.requires.none c.add.new.log c.add-2.new.log c.part_of-2.result c.neg-2.result first
-    c.part_of-2.ensures c.neg-2.ensures c.in_ok-add-2.ensures.ok in
+    c.requires.named c.requires.few c.requires.none c.add.new.log c.add-2.new.log c.part_of-2.result c.neg-2.result
+    first c.part_of-2.ensures c.neg-2.ensures c.in_ok-add-2.ensures.ok in
     let third = three f c.args.group.now gate.variable gate.left gate.right c.args.log.now c.requires.made
     c.requires.named c.requires.few c.requires.none c.add-2.new.log c.add-3.new.log c.part_of-3.result c.pos.result
     c.not.result c.not-2.result second c.part_of-3.ensures c.pos.ensures c.not.ensures c.not-2.ensures

@@ -29,6 +29,7 @@ returns-clause-alone g c =
 
 pub returns-clause-leaves : goal.returns-clause-leaves
 returns-clause-leaves g c =
-    group_leaves (group_variable c.in_ok-group.group) c.args.self.now c.args.log.now c.group.new.log c.give_parts.new.log
+    group_leaves (group_variable c.in_ok-group.group) c.args.self.now c.args.log.now c.group.new.log
+    c.give_parts.new.log
     (g.met.O.Oracle.searched c.args.oracle.now c.args.log.now c.requires.fit).logged c.in_ok-group.ensures.unnamed
     c.in_ok-group.ensures.ok c.give_parts.ensures.differing

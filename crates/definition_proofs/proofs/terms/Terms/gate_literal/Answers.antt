@@ -17,8 +17,8 @@ literal-a-requires-clause-found g c =
     let graph = c.args.inputs.now.graph.now in
     let es = c.args.log.now.entries in
     let literals = c.args.literals.now in
-    known_found f graph es literals c.in-Gate.left (left_known f graph es literals c.args.g c.in-Gate.left c.in-Gate.right
-    c.in-Gate.field-2 c.in-Gate.ensures c.requires.sides)
+    known_found f graph es literals c.in-Gate.left (left_known f graph es literals c.args.g c.in-Gate.left
+    c.in-Gate.right c.in-Gate.field-2 c.in-Gate.ensures c.requires.sides)
 
 pub literal-b-requires-clause-found : goal.literal-b-requires-clause-found
 literal-b-requires-clause-found g c =
@@ -35,8 +35,8 @@ gate-requires-clause-sides g c =
     let graph = c.args.inputs.now.graph.now in
     let es = c.args.log.now.entries in
     let literals = c.args.literals.now in
-    let left = left_known f graph es literals c.args.g c.in-Gate.left c.in-Gate.right c.in-Gate.field-2 c.in-Gate.ensures
-    c.requires.sides in
+    let left = left_known f graph es literals c.args.g c.in-Gate.left c.in-Gate.right c.in-Gate.field-2
+    c.in-Gate.ensures c.requires.sides in
     let right = right_known f graph es literals c.args.g c.in-Gate.left c.in-Gate.right c.in-Gate.field-2
     c.in-Gate.ensures c.requires.sides in (
       on_term f graph es c.in-Gate.left c.literal-a.result (c.literal-a.ensures es c.requires.copies left),
@@ -52,14 +52,15 @@ returns-clause-stands g c =
     let new = c.gate.new.log in
     let a = c.literal-a.result in
     let b = c.literal-b.result in
-    let left = left_known f graph es literals c.args.g c.in-Gate.left c.in-Gate.right c.in-Gate.field-2 c.in-Gate.ensures
-    c.requires.sides in
+    let left = left_known f graph es literals c.args.g c.in-Gate.left c.in-Gate.right c.in-Gate.field-2
+    c.in-Gate.ensures c.requires.sides in
     let right = right_known f graph es literals c.args.g c.in-Gate.left c.in-Gate.right c.in-Gate.field-2
     c.in-Gate.ensures c.requires.sides in
     IfOk-weaker c.gate.result (λ l. (v : ℕ) × (l ≡ positive v) × (name_of new.entries v ≡ Some (Term a b)))
     (StandsFor f graph new.entries (Gate c.args.g false))
     (λ l named. gate_stands f graph es literals c.args.g c.in-Gate.left c.in-Gate.right c.in-Gate.field-2
     c.in-Gate.ensures c.requires.sides new.entries
-    (names_stay no_formula (group_variable c.args.self.now.group) 0 c.args.log.now new (c.gate.ensures.grew no_formula 0))
+    (names_stay no_formula (group_variable c.args.self.now.group) 0 c.args.log.now new
+    (c.gate.ensures.grew no_formula 0))
     a b l (c.literal-a.ensures es c.requires.copies left) (c.literal-b.ensures es c.requires.copies right) named)
     c.gate.ensures.named

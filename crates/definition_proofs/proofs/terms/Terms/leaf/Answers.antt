@@ -74,7 +74,8 @@ loop-at-preserved g c =
     let below : at ≡ at - 1 + 1 = let test = c.loop-at-test.true in omega (arith, test) in
     let far = subst (AreLiteralsFrom f graph gates c.args.self.now c.args.log.now c.loop-at.self c.loop-at.log
     c.loop-at.literals) below c.loop-at.invariant.1 in
-    let here = there gates at c.index-g.result.now c.loop-at-test.true c.loop-at.invariant.1.within c.index-g.ensures in (
+    let within = c.loop-at.invariant.1.within in
+    let here = there gates at c.index-g.result.now c.loop-at-test.true within c.index-g.ensures in (
       c.gate_literal.ensures.fit,
       literal_more f graph c.args.node gates c.args.self.now c.args.log.now c.loop-at.self c.loop-at.log
           c.loop-at.literals (at - 1) c.index-g.result.now c.every_graph_is_lawful.ensures c.in_ok-gates.ensures
