@@ -31,7 +31,8 @@ use Rattle.padoa_definitions.proofs.SearchAnswers.{padoa_learned, found_declared
 use Rattle.definition_proofs.specs.Differing.{IsDifferenceOf, IsDifference, IsExistential, AreUndiffered, HasDifference, HasDifferenceAlone, LeavesTerms}
 use Rattle.definition_proofs.specs.Leaves.{IsLeafFor}
 use Rattle.definition_proofs.specs.Proving.{AreBeside, IsDefinedBy}
-use Rattle.definition_proofs.specs.Searching.{ArePremises, HaveNoModel, HasSameGivens}
+use Rattle.padoa_definitions.specs.Growing.{HasSameGivens}
+use Rattle.definition_proofs.specs.Searching.{ArePremises, HaveNoModel}
 use Rattle.definition_proofs.specs.Shown.{TermLeafReads, IsDefinitionGiven}
 use Rattle.definition_proofs.specs.Terms.{is_term_gate, AreTerms, GrewByProof}
 use Rattle.definition_proofs.specs.declared.differing.Difference.{Difference}
@@ -41,7 +42,8 @@ use Rattle.definition_proofs.proofs.GrownProofs.{names_stay, few_still, padoa_st
 use Rattle.definition_proofs.proofs.KnownTerms.{each_one, terms_stay}
 use Rattle.definition_proofs.proofs.NodeLiterals.{stands_still, on_term, reads_support}
 use Rattle.definition_proofs.proofs.NoModels.{no_values}
-use Rattle.definition_proofs.proofs.Refutations.{learned_same, same_leaves}
+use Rattle.padoa_definitions.proofs.SameGivens.{learned_same}
+use Rattle.definition_proofs.proofs.Refutations.{same_leaves}
 
 pub is_existential : (f : Dqbf) (graph : AigGraph) (y : ℕ) (node : Node) → IsDefinedBy f graph y node →
     IsExistential f y

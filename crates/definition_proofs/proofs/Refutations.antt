@@ -25,7 +25,9 @@ use Rattle.padoa_definitions.proofs.DividedAnswers.{holds_cases, as_positive, sa
 use Rattle.padoa_definitions.proofs.KeptCopies.{contains_first, contains_later, contains_cases}
 use Rattle.padoa_definitions.proofs.Reached.{LinesAreImplied, of_answer, undecided_answer}
 use Rattle.definition_proofs.specs.Differing.{LeavesTerms}
-use Rattle.definition_proofs.specs.Searching.{ArePremises, HasSameGivens}
+use Rattle.padoa_definitions.specs.Growing.{HasSameGivens}
+use Rattle.padoa_definitions.proofs.SameGivens.{learned_same, same_then, same_answer}
+use Rattle.definition_proofs.specs.Searching.{ArePremises}
 use Rattle.definition_proofs.specs.Shown.{IsDefinitionGiven, IsShownDefinition}
 use Rattle.definition_proofs.specs.Terms.{GrewByProof}
 use Rattle.definition_proofs.proofs.GivenDifferences.{term_leaf_stays}
@@ -39,46 +41,6 @@ learned_is_added f group start earlier (Learned c hints) h = tt
 learned_is_added f group start earlier (Answer c hints) h = absurd h
 learned_is_added f group start earlier (Round row values j) h = absurd h
 learned_is_added f group start earlier (Begun live) h = absurd h
-
-same_then : (a b c : List Entry) → HasSameGivens a b → HasSameGivens b c → HasSameGivens a c
-same_then a b c first second = record {
-  names = λ v. second.names v ∙ first.names v;
-  entries = λ e inside. second.entries e (first.entries e inside);
-  givens = λ o d inside. first.givens o d (second.givens o d inside);
-}
-
-same_nothing : (es : List Entry) → HasSameGivens es es
-same_nothing es = record { names = λ v. refl; entries = λ e inside. inside; givens = λ o c inside. inside }
-
-same_learned : (clause : List Literal) (hints : List ℕ) (es : List Entry) → HasSameGivens es (Learned clause hints ∷ es)
-same_learned clause hints es = record {
-  names = λ v. refl;
-  entries = λ e inside. contains_later (Learned clause hints) e es inside;
-  givens = λ o c inside. elim (contains_cases (Learned clause hints) (Given o c) es inside)
-      [ inl same ↦ cc | inr behind ↦ behind ];
-}
-
-same_answer : (clause : List Literal) (hints : List ℕ) (es : List Entry) → HasSameGivens es (Answer clause hints ∷ es)
-same_answer clause hints es = record {
-  names = λ v. refl;
-  entries = λ e inside. contains_later (Answer clause hints) e es inside;
-  givens = λ o c inside. elim (contains_cases (Answer clause hints) (Given o c) es inside)
-      [ inl same ↦ cc | inr behind ↦ behind ];
-}
-
-same_more : (more old : List Entry) → EachOf IsLearnedEntry more old → HasSameGivens old (more ++ old)
-same_more [] old each = same_nothing old
-same_more (Named v n ∷ more) old each = absurd each.0
-same_more (Given o c ∷ more) old each = absurd each.0
-same_more (Learned c hints ∷ more) old each =
-    same_then old (more ++ old) (Learned c hints ∷ (more ++ old)) (same_more more old each.1)
-    (same_learned c hints (more ++ old))
-same_more (Answer c hints ∷ more) old each = absurd each.0
-same_more (Round row values j ∷ more) old each = absurd each.0
-same_more (Begun live ∷ more) old each = absurd each.0
-
-pub learned_same : (old new : ProofLog) → Grew IsLearnedEntry old new → HasSameGivens old.entries new.entries
-learned_same old new g = subst (HasSameGivens old.entries) (sym g.grown) (same_more g.more old.entries g.each)
 
 pub learned_proof : (f : Dqbf) (group y : ℕ) (old new : ProofLog) → Grew IsLearnedEntry old new →
     GrewByProof f group y old new

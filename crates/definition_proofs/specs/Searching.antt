@@ -1,9 +1,9 @@
 -- What a search in three groups leaves and shows, for private contracts.
-use Rattle.std.specs.Prelude.{◌≡◌, ℕ, List, ◌∷◌, []}
+use Rattle.std.specs.Prelude.{ℕ, List, ◌∷◌, []}
 use Rattle.std.specs.List.{All, Contains}
 use Rattle.dq_lits.specs.Literal.{Assignment, Literal, negative}
 use Rattle.hint_log.specs.Conditions.{AreLogged}
-use Rattle.hint_log.specs.Entries.{Entry, Given, ProofLog, clause_at, name_of}
+use Rattle.hint_log.specs.Entries.{Entry, Given, ProofLog, clause_at}
 use Rattle.hint_log.specs.Growth.{Grew}
 use Rattle.hint_log.specs.Origins.{IsTermLeaf}
 use Rattle.hint_log.specs.declared.origins.Leaf.{Leaf}
@@ -27,10 +27,3 @@ abbrev pub HaveNoModel : ProofLog → List Group → Type 0
 HaveNoModel old active =
     (new : ProofLog) (values : Assignment) → AreLogged new.entries → Grew IsLearnedEntry old new
     → IsModelUnder values (clause_at new.entries) (assumed active []) → ⊥
-
--- nothing was named or given
-pub record HasSameGivens (old new : List Entry) : Type 0 where
-  pub names : (v : ℕ) → name_of new v ≡ name_of old v
-  pub entries : (e : Entry) → Contains old e → Contains new e
-  pub givens : (origin : Origin) (c : List Literal) → Contains new (Given origin c)
-      → Contains old (Given origin c)

@@ -21,3 +21,4 @@ pub mod ForcedBits
 pub mod SharedCopies
 pub mod ApartLiterals
 pub mod GivenAnswers
+pub mod SameGivens

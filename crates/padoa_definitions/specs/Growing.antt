@@ -33,9 +33,18 @@ GrewIn f group old new =
     (standing : ℕ) (start : List Entry) → (group ≡ standing) ⊎ (name_of start group ≡ None)
     → Grew (IsAddedBy f copies standing true start) old new
 
--- whatever came of a search: the copies stand, and what is new in the log is theirs, in any group
+-- nothing was named or given
+pub record HasSameGivens (old new : List Entry) : Type 0 where
+  pub names : (v : ℕ) → name_of new v ≡ name_of old v
+  pub entries : (e : Entry) → Contains old e → Contains new e
+  pub givens : (origin : Origin) (c : List Literal) → Contains new (Given origin c)
+      → Contains old (Given origin c)
+
+-- whatever came of a search: the copies stand, nothing was named or given, and what is new in the
+-- log may be any group's
 pub record HasSearched (f : Dqbf) (p : Padoa) (old new : ProofLog) : Type 0 where
   pub copied : IsPadoa f p new.entries
+  pub same : HasSameGivens old.entries new.entries
   pub grew : (group : ℕ) → Grew (IsAddedBy f copies group true old.entries) old new
 
 -- there is room for a given clause more

@@ -8,6 +8,7 @@ ghost use Rattle.log_laws.specs.Engines.{copies, IsAddedBy};
 ghost use Rattle.oracle.specs.Limits.{IsAtSomeLimit};
 ghost use Rattle.padoa_definitions.specs.Copies.{IsPadoa};
 ghost use Rattle.padoa_definitions.specs.Defining.{IsFound};
+ghost use Rattle.padoa_definitions.specs.Growing.{HasSameGivens};
 
 use crate::asking::Question;
 use crate::guessing::Guess;
@@ -42,7 +43,8 @@ pub enum Found {
 impl Padoa {
     /// A definition of an existential over the universals that it sees and the existentials that
     /// come before it by these ranks and see no more, or values that show that there is none. It
-    /// stops for want of memory or at the log's limit, and may be called again then.
+    /// stops for want of memory or at the log's limit, and may be called again then. The log gets
+    /// what was learned and an answer.
     pub fn define<O: Oracle>(
         &mut self,
         oracle: &mut O,
@@ -62,6 +64,7 @@ impl Padoa {
         ensures padoa { IsPadoa f.now self.new log.new.entries }
         ensures grew { (group : ℕ)
             → Grew (IsAddedBy f.now copies group true log.old.entries) log.old log.new }
+        ensures same_givens { HasSameGivens log.old.entries log.new.entries }
         ensures extends { Extends graph.old graph.new }
         ensures found { (e : Existential) → existential_of f.now y ≡ Some e
             → IfOk result (IsFound f.now ranks.now graph.new e) }

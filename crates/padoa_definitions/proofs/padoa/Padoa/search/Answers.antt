@@ -7,6 +7,7 @@ use Rattle.oracle.specs.Calls.{IsMade, IsPlain, assumed}
 use Rattle.oracle.specs.declared.oracles.Answer.TheVariants.{Unsat}
 use Rattle.padoa_definitions.proofs.ApartLiterals.{asked_plain, both_apart}
 use Rattle.padoa_definitions.proofs.SearchAnswers.{places_below, active_made, padoa_learned, learned_grew, padoa_refuted, refuted_grew, shows, on_answer, two_joined, refuted_under}
+use Rattle.padoa_definitions.proofs.SameGivens.{learned_same, refuted_same}
 use Rattle.padoa_definitions.proofs.padoa.Padoa.search.Goals as goal
 
 pub active-requires : goal.active-requires
@@ -43,6 +44,7 @@ pub returns-in_err-answer-clause-searched : goal.returns-in_err-answer-clause-se
 returns-in_err-answer-clause-searched g c = record {
   copied = padoa_learned c.args.question.now.f.now c.args.self.now c.args.log.now
       c.solve.new.log c.in_err-answer.ensures.stop c.requires.padoa;
+  same = learned_same c.args.log.now c.solve.new.log c.in_err-answer.ensures.stop;
   grew = learned_grew c.args.question.now.f.now c.args.log.now c.solve.new.log
       c.in_err-answer.ensures.stop;
 }
@@ -56,6 +58,12 @@ returns-clause-searched g c = record {
       on_answer c.in_ok-answer.answer
       (λ e. padoa_learned f p old new (c.solve.ensures.sat (c.in_ok-answer.was ∙ ap Ok e)).0 c.requires.padoa)
       (λ id e. padoa_refuted f p (assumed c.deref-3.result.now c.deref-4.result.now) old new id c.requires.padoa
+      (c.solve.ensures.unsat id (c.in_ok-answer.was ∙ ap Ok e)));
+  same = let old = c.args.log.now in
+      let new = c.solve.new.log in
+      on_answer c.in_ok-answer.answer
+      (λ e. learned_same old new (c.solve.ensures.sat (c.in_ok-answer.was ∙ ap Ok e)).0)
+      (λ id e. refuted_same (assumed c.deref-3.result.now c.deref-4.result.now) old new id
       (c.solve.ensures.unsat id (c.in_ok-answer.was ∙ ap Ok e)));
   grew = λ group. let question = c.args.question.now in
       let asked = c.args.asked.now in

@@ -5,6 +5,7 @@ use Rattle.oracle.specs.Calls.{assumed}
 use Rattle.oracle.specs.declared.oracles.Answer.TheVariants.{Unsat}
 use Rattle.padoa_definitions.proofs.SearchAnswers.{padoa_learned, learned_grew, padoa_refuted, on_answer}
 use Rattle.padoa_definitions.proofs.FirstCopySearch.{first_plain, shows_clause, first_grew}
+use Rattle.padoa_definitions.proofs.SameGivens.{learned_same, refuted_same}
 use Rattle.padoa_definitions.proofs.padoa.Padoa.search_first.Goals as goal
 
 pub solve-requires-clause-plain : goal.solve-requires-clause-plain
@@ -14,6 +15,7 @@ pub returns-in_err-answer-clause-searched : goal.returns-in_err-answer-clause-se
 returns-in_err-answer-clause-searched g c = record {
   copied = padoa_learned c.args.f.now c.args.self.now c.args.log.now c.solve.new.log
       c.in_err-answer.ensures.stop c.requires.padoa;
+  same = learned_same c.args.log.now c.solve.new.log c.in_err-answer.ensures.stop;
   grew = learned_grew c.args.f.now c.args.log.now c.solve.new.log
       c.in_err-answer.ensures.stop;
 }
@@ -26,6 +28,11 @@ returns-clause-searched g c = record {
       (λ id e. padoa_refuted c.args.f.now c.args.self.now (assumed (c.args.self.now.first.group ∷ []) c.args.asked.now)
       c.args.log.now c.solve.new.log id c.requires.padoa
       (c.solve.ensures.unsat id (c.in_ok-answer.was ∙ ap Ok e)));
+  same = on_answer c.in_ok-answer.answer
+      (λ e. learned_same c.args.log.now c.solve.new.log
+      (c.solve.ensures.sat (c.in_ok-answer.was ∙ ap Ok e)).0)
+      (λ id e. refuted_same (assumed (c.args.self.now.first.group ∷ []) c.args.asked.now) c.args.log.now
+      c.solve.new.log id (c.solve.ensures.unsat id (c.in_ok-answer.was ∙ ap Ok e)));
   grew = λ group. on_answer c.in_ok-answer.answer
       (λ e. learned_grew c.args.f.now c.args.log.now c.solve.new.log
       (c.solve.ensures.sat (c.in_ok-answer.was ∙ ap Ok e)).0 group)
