@@ -32,7 +32,8 @@ use Rattle.cert_export.specs.Renaming.{Renaming}
 use Rattle.cert_export.proofs.CircuitNumbers.{among, position_below, HasNumber, code_at}
 use Rattle.cert_export.proofs.Codes.{half_even, half_odd}
 use Rattle.definition_export.specs.ExportedDefinition.{definition_renaming, exported_definition, exported_gates, term_gate}
-use Rattle.definition_export.specs.Exporting.{IsDeclaredCopy, IsLeafDeclared, IsLeafListed, IsTermBefore}
+use Rattle.definition_proofs.specs.Shown.{IsDeclaredCopy, IsLeafDeclared}
+use Rattle.definition_export.specs.Exporting.{IsLeafListed, IsTermBefore}
 use Rattle.definition_export.specs.Parts.{AreDefinitionIds}
 use Rattle.definition_export.proofs.BlockLines.{inside_before, term_in_log}
 use Rattle.definition_export.proofs.OrderedTerms.{term_sides}

@@ -34,7 +34,8 @@ use Rattle.cert_export.proofs.Codes.{opposite_even, opposite_odd, as_even, as_od
 use Rattle.cert_export.proofs.Instances.{same_on}
 use Rattle.cert_export.proofs.PairNames.{small_place, from_one}
 use Rattle.definition_export.specs.ExportedDefinition.{definition_number, definition_renaming, definition_id, last_definition_id, exported_definition, exported_gates, term_gate}
-use Rattle.definition_export.specs.Exporting.{IsDeclaredCopy, ReadDeclaredCopies, IsLeafDeclared, IsLeafListed, IsTermBefore}
+use Rattle.definition_proofs.specs.Shown.{IsDeclaredCopy, ReadDeclaredCopies, IsLeafDeclared}
+use Rattle.definition_export.specs.Exporting.{IsLeafListed, IsTermBefore}
 use Rattle.definition_export.proofs.OrderedTerms.{term_sides}
 use Rattle.definition_export.proofs.NumberedVariables.{copy_numbered, gate_numbered, term_numbered, in_range}
 

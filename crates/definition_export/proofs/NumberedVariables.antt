@@ -18,7 +18,7 @@ use Rattle.cert_export.proofs.CircuitNumbers.{IsPlace, place_parts, place_there,
 use Rattle.cert_export.proofs.ListedGates.{inside_of}
 use Rattle.cert_export.proofs.PairNames.{same_name}
 use Rattle.definition_export.specs.ExportedDefinition.{definition_number, definition_renaming}
-use Rattle.definition_export.specs.Exporting.{IsDeclaredCopy}
+use Rattle.definition_proofs.specs.Shown.{IsDeclaredCopy}
 
 -- a declared variable's number is in range
 pub in_range : (f : Dqbf) (x : ℕ) → IsWellFormed f → is_declared f x ≡ true → (1 ≤ x) × (x ≤ f.variables)

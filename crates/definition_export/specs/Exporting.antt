@@ -4,13 +4,12 @@ use Rattle.std.specs.List.{AllPairs, Contains, position_or_len}
 use Rattle.dq_lits.specs.Formula.{Dqbf, existential_of}
 use Rattle.dq_lits.specs.Literal.{Literal, variable_of}
 use Rattle.dq_lits.specs.Derivation.{proof_fault}
-use Rattle.dq_formula.specs.Prefix.{is_declared}
 use Rattle.hint_log.specs.Conditions.{AreLogged}
 use Rattle.hint_log.specs.Entries.{Entry, Named, Given, count, has_id, name_of, numbered}
 use Rattle.hint_log.specs.Growth.{Each}
 use Rattle.hint_log.specs.ProductiveLog.{IsDerivedByHints, IsProductiveLog}
 use Rattle.hint_log.specs.Reached.{Reaches}
-use Rattle.hint_log.specs.declared.names.Name.TheVariants.{Copy as CopyOf, Term}
+use Rattle.hint_log.specs.declared.names.Name.TheVariants.{Term}
 use Rattle.hint_log.specs.declared.origins.Leaf.{Leaf}
 use Rattle.hint_log.specs.declared.origins.Leaf.TheVariants.{Constant, Literal as LeafLiteral}
 use Rattle.hint_log.specs.declared.origins.Origin.TheVariants.{TermGate}
@@ -19,24 +18,9 @@ use Rattle.cert_text.specs.DefinitionBlocks.{Definition}
 use Rattle.cert_text.specs.Header.{max_count}
 use Rattle.defined_checker.specs.DefinitionBase.{definition_base}
 use Rattle.defined_checker.specs.DefinitionReads.{IsRead}
-use Rattle.definition_proofs.specs.Shown.{IsShownDefinition, TermLeafReads}
+use Rattle.definition_proofs.specs.Shown.{IsLeafDeclared, IsShownDefinition, ReadDeclaredCopies, TermLeafReads}
 use Rattle.cert_export.specs.Given.{EachGivenReached, IsGivenRightly}
 use Rattle.cert_export.specs.Lines.{is_lemma}
-
--- where the literal stands on a first copy, it is that of a declared variable
-abbrev pub IsDeclaredCopy : Dqbf → List Entry → Literal → Type 0
-IsDeclaredCopy f entries l =
-    (x : ℕ) → name_of entries (variable_of l) ≡ Some (CopyOf 1 x) → is_declared f x ≡ true
-
--- all that gates over first copies read directly
-abbrev pub ReadDeclaredCopies : Dqbf → List Entry → Type 0
-ReadDeclaredCopies f entries =
-    (v : ℕ) (a b : Literal) → name_of entries v ≡ Some (Term a b)
-    → IsDeclaredCopy f entries a × IsDeclaredCopy f entries b
-
-abbrev pub IsLeafDeclared : Dqbf → List Entry → Leaf → Type 0
-IsLeafDeclared f entries (Constant b) = Unit {0}
-IsLeafDeclared f entries (LeafLiteral l) = IsDeclaredCopy f entries l
 
 -- the last entry is an answer that shows a definition, and what the export reads of the log is right
 -- by the formula: what gates and leaf read, and the given clauses that the answer rests on; every

@@ -21,6 +21,7 @@ use Rattle.log_laws.proofs.Kept.{NamesStay}
 use Rattle.padoa_definitions.specs.Copies.{group_variable}
 use Rattle.definition_proofs.specs.Terms.{AreTerms, GrewByProof}
 use Rattle.definition_proofs.specs.Leaves.{StandsFor, gate, HasLiteral, IsKnown, AreSidesKnown, HasGate}
+use Rattle.definition_proofs.specs.Shown.{ReadDeclaredCopies}
 use Rattle.definition_proofs.specs.declared.terms.Terms.{Terms}
 use Rattle.definition_proofs.proofs.GrownProofs.{no_formula, names_stay, proof_same, proof_then}
 use Rattle.definition_proofs.proofs.NodeLiterals.{stands_still}
@@ -82,6 +83,7 @@ pub record AreLiteralsFrom (f : Dqbf) (graph : AigGraph) (gates : List ℕ) (fir
   pub grew : (h : Dqbf) (y : ℕ) → GrewByProof h (group_variable first.group) y old log
   pub group : terms.group ≡ first.group
   pub terms_known : AreTerms terms log.entries
+  pub sides : ReadDeclaredCopies f old.entries → ReadDeclaredCopies f log.entries
   pub within : at ≤ length gates
   pub each : (k g : ℕ) → at ≤ k → slice_get gates k ≡ Some g → HasLiteral f graph log.entries literals g
 
@@ -131,10 +133,12 @@ module _ (f : Dqbf) (graph : AigGraph) (node : Node) (gates : List ℕ) (first :
     stopped h y = proof_then h (group_variable first.group) y old log new (far.grew h y)
         (subst (λ t. GrewByProof h (group_variable t) y log new) far.group (grew h y))
 
-    pub literal_more : next.group ≡ terms.group → AreTerms next new.entries → (l : Literal) →
+    pub literal_more : next.group ≡ terms.group → AreTerms next new.entries →
+        (ReadDeclaredCopies f log.entries → ReadDeclaredCopies f new.entries) → (l : Literal) →
         StandsFor f graph new.entries (Gate g false) l → (after : BTreeMap ℕ Literal) →
         Updates nat_cmp literals after g (Some l) → AreLiteralsFrom f graph gates first old next new after at
-    literal_more group known l stands after updates = record {
+    literal_more group known sides l stands after updates = record {
+      sides = λ before. sides (far.sides before);
       grew = stopped;
       group = group ∙ far.group;
       terms_known = known;
@@ -183,6 +187,7 @@ no_literals f graph gates terms log literals at all known = record {
   grew = λ h y. proof_same h (group_variable terms.group) y log log refl;
   group = refl;
   terms_known = known;
+  sides = λ before. before;
   within = omega (arith, all);
   each = λ k g past there. (let below = slice_get_within gates k g there in absurd (omega (arith, below, past, all)));
 }

@@ -208,6 +208,9 @@ module _ (g : ℕ) (d : Difference) (old mid new : ProofLog) (logged : AreLogged
     terms = λ v a b there. elim (name_cases old.entries g v (Selector g) (Term a b)
         (sym (ap (λ es. name_of es v) mid_is) ∙ sym (differ.names v) ∙ there))
         [ inl same ↦ cc | inr was ↦ was ];
+    copies = λ v x there. elim (name_cases old.entries g v (Selector g) (CopyOf 1 x)
+        (sym (ap (λ es. name_of es v) mid_is) ∙ sym (differ.names v) ∙ there))
+        [ inl same ↦ cc | inr was ↦ was ];
     entries = λ e inside. differ.entries e (subst (λ es. Contains es e) (sym mid_is)
         (contains_later (Named g (Selector g)) e old.entries inside));
     gates = λ v i c inside. elim (differ.givens (TermGate v i) c inside)

@@ -27,6 +27,7 @@ use Rattle.padoa_definitions.proofs.StandingCopies.{groups_named}
 use Rattle.definition_proofs.specs.Terms.{literal_number, by_both, is_gate_of, HasTermClauses, HasNoTerms, AreTerms}
 use Rattle.definition_proofs.specs.Differing.{LeavesTerms}
 use Rattle.definition_proofs.specs.Proving.{AreBeside}
+use Rattle.definition_proofs.specs.Shown.{ReadDeclaredCopies}
 use Rattle.definition_proofs.specs.declared.terms.Terms.{Terms}
 use Rattle.definition_proofs.proofs.GrownProofs.{no_formula, proof_gives, entries_stay, gate_is, given_before}
 
@@ -138,8 +139,9 @@ no_gates t old new logged none unnamed made is empty = record {
 pub beside_group : (f : Dqbf) (p : Padoa) (t : Terms) (old new : List Entry) →
     name_of old (group_variable t.group) ≡ None →
     new ≡ Named (group_variable t.group) (Selector (group_variable t.group)) ∷ old → AreTerms t new → IsPadoa f p old →
-    HasFewFaults old → AreBeside f p t new
-beside_group f p t old new unnamed is terms padoa few = record {
+    HasFewFaults old → ReadDeclaredCopies f new → AreBeside f p t new
+beside_group f p t old new unnamed is terms padoa few sides = record {
+  sides = sides;
   padoa = subst (IsPadoa f p) (sym is) (padoa_stays f (λ mine. Unit {0}) old (Named g (Selector g) ∷ old)
       (keeps_entry f (Named g (Selector g)) old (name_stays_by old g (Selector g) unnamed) (λ test mine. tt)) p
       (λ k d lt. tt) padoa);

@@ -7,3 +7,4 @@ pub mod GivenDifferences
 pub mod Refutations
 pub mod NoModels
 pub mod ProvedDefinitions
+pub mod DeclaredSides

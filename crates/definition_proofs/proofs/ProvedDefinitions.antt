@@ -44,6 +44,8 @@ use Rattle.definition_proofs.proofs.NodeLiterals.{stands_still, on_term, reads_s
 use Rattle.definition_proofs.proofs.NoModels.{no_values}
 use Rattle.padoa_definitions.proofs.SameGivens.{learned_same}
 use Rattle.definition_proofs.proofs.Refutations.{same_leaves}
+use Rattle.definition_proofs.proofs.DeclaredSides.{leaves_sides, same_sides, leaf_declared}
+use Rattle.definition_proofs.specs.Shown.{ReadDeclaredCopies, IsLeafDeclared}
 
 pub is_existential : (f : Dqbf) (graph : AigGraph) (y : ℕ) (node : Node) → IsDefinedBy f graph y node →
     IsExistential f y
@@ -131,6 +133,7 @@ module _ (f : Dqbf) (graph : AigGraph) (p : Padoa) (first t : Terms) (y : ℕ) (
     (defined : IsDefinedBy f graph y node) (none : AreUndiffered y old.entries)
     (grew : (h : Dqbf) (x : ℕ) → GrewByProof h (group_variable first.group) x old log)
     (group_is : t.group ≡ first.group) (known : AreTerms t log.entries)
+    (sides : ReadDeclaredCopies f old.entries → ReadDeclaredCopies f log.entries)
     (leaf_is : IsLeafFor f graph log.entries node output)
     (copied : IsPadoa f p log.entries → name_literal log.entries copy ≡ Some (named_literal (CopyOf 1 y) false)) where
   abbrev d : Difference
@@ -240,6 +243,9 @@ module _ (f : Dqbf) (graph : AigGraph) (p : Padoa) (first t : Terms) (y : ℕ) (
         padoa = padoa_still f (group_variable first.group) y old last whole p beside.apart beside.padoa;
         terms = terms_stay t given.entries last.entries
             (same_leaves (group_variable t.group) given.entries last.entries same) known_there;
+        sides = same_sides f given.entries last.entries same (leaves_sides f (group_variable t.group) log.entries
+            given.entries (leaves (group_variable t.group) (Selector (group_variable t.group)) known.made.named)
+            (sides beside.sides));
         apart = subst (λ h. All (λ g. g ≢ group_variable h) (groups_of p)) (sym group_is) beside.apart;
         few = few_still f (group_variable first.group) y old last whole beside.few;
       }
@@ -247,6 +253,9 @@ module _ (f : Dqbf) (graph : AigGraph) (p : Padoa) (first t : Terms) (y : ℕ) (
       pub own_leaf : (out : Leaf) → out ≡ output → IsLeafFor f graph last.entries node out
       own_leaf out is = subst (IsLeafFor f graph last.entries node) (sym is)
           (leaf_stays f graph log.entries last.entries (λ v n there. same.names v ∙ stay v n there) node output leaf_is)
+
+      pub own_declared_leaf : (out : Leaf) → out ≡ output → IsLeafDeclared f last.entries out
+      own_declared_leaf out is = leaf_declared f graph last.entries node out (own_leaf out is)
 
       pub own_reads : (out : Leaf) → out ≡ output → (x : ℕ) → TermLeafReads last.entries out x →
           Contains (map (input_variable f) (node_support graph node)) x

@@ -59,6 +59,7 @@ pub same_leaves : (group : ℕ) (old new : List Entry) → HasSameGivens old new
 same_leaves group old new same = record {
   names = λ v n is. same.names v ∙ is;
   terms = λ v a b is. sym (same.names v) ∙ is;
+  copies = λ v x is. sym (same.names v) ∙ is;
   entries = same.entries;
   gates = λ v i c inside. same.givens _ c inside;
   in_group = λ o rest inside. same.givens o _ inside;

@@ -70,6 +70,7 @@ pub record LeavesTerms (group : ℕ) (old new : List Entry) : Type 0 where
   pub names : (v : ℕ) (n : Name) → name_of old v ≡ Some n → name_of new v ≡ Some n
   pub terms : (v : ℕ) (a b : Literal) → name_of new v ≡ Some (Term a b)
       → name_of old v ≡ Some (Term a b)
+  pub copies : (v x : ℕ) → name_of new v ≡ Some (CopyOf 1 x) → name_of old v ≡ Some (CopyOf 1 x)
   pub entries : (e : Entry) → Contains old e → Contains new e
   pub gates : (v i : ℕ) (c : List Literal) → Contains new (Given (TermGate v i) c)
       → Contains old (Given (TermGate v i) c)

@@ -9,14 +9,16 @@ use Rattle.hint_log.specs.Entries.{Entry}
 use Rattle.padoa_definitions.specs.Copies.{IsPadoa, group_variable, groups_of}
 use Rattle.padoa_definitions.specs.Growing.{HasFewFaults}
 use Rattle.padoa_definitions.specs.declared.padoa.Padoa.{Padoa}
+use Rattle.definition_proofs.specs.Shown.{ReadDeclaredCopies}
 use Rattle.definition_proofs.specs.Terms.{AreTerms}
 use Rattle.definition_proofs.specs.declared.terms.Terms.{Terms}
 
--- the copies of the matrix and the gates over the first one stand in the log, in groups of their
--- own, with room for clauses more
+-- the copies of the matrix and the gates over the first one, which read copies of declared
+-- variables, stand in the log, in groups of their own, with room for clauses more
 pub record AreBeside (f : Dqbf) (p : Padoa) (t : Terms) (entries : List Entry) : Type 0 where
   pub padoa : IsPadoa f p entries
   pub terms : AreTerms t entries
+  pub sides : ReadDeclaredCopies f entries
   pub apart : All (λ g. g ≢ group_variable t.group) (groups_of p)
   pub few : HasFewFaults entries
 

@@ -9,6 +9,7 @@ ghost use Rattle.hint_log.specs.Entries.{Entry};
 ghost use Rattle.padoa_definitions.specs.Copies.{AreCopiesOf, copies_of, group_variable};
 ghost use Rattle.padoa_definitions.specs.Growing.{HasFewFaults};
 ghost use Rattle.definition_proofs.specs.Terms.{AreTerms, GrewByProof};
+ghost use Rattle.definition_proofs.specs.Shown.{ReadDeclaredCopies};
 ghost use Rattle.definition_proofs.specs.Leaves.{StandsFor, IsLeafFor, IsKnown, AreSidesKnown, HasGate, negated_by};
 
 use crate::terms::Terms;
@@ -51,6 +52,8 @@ impl Terms {
             → GrewByProof f (group_variable self.old.group) y log.old log.new }
         ensures group { self.new.group ≡ self.old.group }
         ensures terms { OnOk result (AreTerms self.new log.new.entries) }
+        ensures sides { ReadDeclaredCopies inputs.now.f.now log.old.entries
+            → OnOk result (ReadDeclaredCopies inputs.now.f.now log.new.entries) }
         ensures leaf { IfOk result (IsLeafFor inputs.now.f.now inputs.now.graph.now
             log.new.entries node) }
     {
@@ -90,6 +93,8 @@ impl Terms {
             → GrewByProof f (group_variable self.old.group) y log.old log.new }
         ensures group { self.new.group ≡ self.old.group }
         ensures terms { OnOk result (AreTerms self.new log.new.entries) }
+        ensures sides { ReadDeclaredCopies inputs.now.f.now log.old.entries
+            → OnOk result (ReadDeclaredCopies inputs.now.f.now log.new.entries) }
         ensures stands { IfOk result (StandsFor inputs.now.f.now inputs.now.graph.now
             log.new.entries (Node.Gate g false)) }
     {

@@ -15,7 +15,7 @@ ghost use Rattle.padoa_definitions.specs.Copies.{IsPadoa, group_variable};
 ghost use Rattle.definition_proofs.specs.Differing.{AreUndiffered};
 ghost use Rattle.definition_proofs.specs.Leaves.{IsLeafFor};
 ghost use Rattle.definition_proofs.specs.Proving.{AreBeside, IsDefinedBy};
-ghost use Rattle.definition_proofs.specs.Shown.{TermLeafReads, IsShownDefinition};
+ghost use Rattle.definition_proofs.specs.Shown.{IsLeafDeclared, IsShownDefinition, TermLeafReads};
 
 use crate::differing::Difference;
 use crate::leaves::Inputs;
@@ -58,6 +58,7 @@ impl Terms {
             → Contains log.new.entries (Given (Differ x leaf part) c)
             → Contains log.old.entries (Given (Differ x leaf part) c) ⊎ (x ≡ y) }
         ensures shown { IfOk result (λ p. IsShownDefinition log.new.entries y p.leaf p.id) }
+        ensures declared { IfOk result (λ p. IsLeafDeclared f.now log.new.entries p.leaf) }
         ensures leaf { IfOk result (λ p. IsLeafFor f.now graph.now log.new.entries node p.leaf) }
         ensures reads { IfOk result (λ p. (v : ℕ) → TermLeafReads log.new.entries p.leaf v
             → Contains (defining_output f.now graph.now node).support v) }

@@ -15,6 +15,7 @@ ghost use Rattle.padoa_definitions.specs.Copies.{IsPadoa, group_variable};
 ghost use Rattle.padoa_definitions.specs.Growing.{Gives, HasFewFaults};
 ghost use Rattle.padoa_definitions.specs.declared.padoa.Padoa.{Padoa as PadoaValue};
 ghost use Rattle.definition_proofs.specs.Proving.{AreBeside};
+ghost use Rattle.definition_proofs.specs.Shown.{IsDeclaredCopy, ReadDeclaredCopies};
 ghost use Rattle.definition_proofs.specs.Terms.{literal_number, is_gate_of, HasTermClauses, HasNoTerms, AreTerms, GrewByProof};
 
 use dq_lits::{Lit, Memory};
@@ -82,6 +83,9 @@ impl Terms {
             → GrewByProof f (group_variable self.old.group) y log.old log.new }
         ensures group { self.new.group ≡ self.old.group }
         ensures terms { OnOk result (AreTerms self.new log.new.entries) }
+        ensures sides { (f : Dqbf) → ReadDeclaredCopies f log.old.entries
+            → IsDeclaredCopy f log.old.entries a → IsDeclaredCopy f log.old.entries b
+            → OnOk result (ReadDeclaredCopies f log.new.entries) }
         ensures named { IfOk result (λ l. (v : ℕ) × (l ≡ positive v)
             × (name_of log.new.entries v ≡ Some (Term a b))) }
     {

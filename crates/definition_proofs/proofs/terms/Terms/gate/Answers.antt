@@ -9,6 +9,7 @@ use Rattle.hint_log.specs.declared.names.Name.TheVariants.{Term}
 use Rattle.padoa_definitions.specs.Copies.{group_variable}
 use Rattle.definition_proofs.specs.Terms.{by_both}
 use Rattle.definition_proofs.proofs.GrownProofs.{no_formula, proof_named, proof_gives, proof_then}
+use Rattle.definition_proofs.proofs.DeclaredSides.{gate_sides}
 use Rattle.definition_proofs.proofs.KnownTerms.{key_of, key_is, none_yet, gate_more}
 use Rattle.definition_proofs.proofs.terms.Terms.gate.Goals as goal
 
@@ -78,3 +79,9 @@ returns-clause-named g c =
           ∙ ap (λ (l : ProofLog). name_of l.entries v) c.in_ok-v.ensures.ok
           ∙ ap (λ x. cond x (Some (Term a b)) (name_of c.args.log.now.entries v)) (eq-eqb v v refl),
     )
+
+pub returns-clause-sides : goal.returns-clause-sides
+returns-clause-sides g c = λ f before left right.
+    gate_sides f c.args.log.now.entries c.give_clauses.new.log.entries c.in_ok-v.v c.args.a c.args.b
+    (λ w. (c.give_clauses.ensures.gives no_formula).names w
+    ∙ ap (λ (l : ProofLog). name_of l.entries w) c.in_ok-v.ensures.ok) before left right

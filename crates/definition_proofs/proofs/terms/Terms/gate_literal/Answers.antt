@@ -7,6 +7,7 @@ use Rattle.hint_log.specs.declared.names.Name.TheVariants.{Term}
 use Rattle.padoa_definitions.specs.Copies.{group_variable}
 use Rattle.definition_proofs.specs.Leaves.{StandsFor}
 use Rattle.definition_proofs.proofs.ConeLiterals.{known_found, left_known, right_known, gate_stands}
+use Rattle.definition_proofs.proofs.DeclaredSides.{stands_declared}
 use Rattle.definition_proofs.proofs.GrownProofs.{no_formula, names_stay}
 use Rattle.definition_proofs.proofs.NodeLiterals.{on_term}
 use Rattle.definition_proofs.proofs.terms.Terms.gate_literal.Goals as goal
@@ -64,3 +65,19 @@ returns-clause-stands g c =
     (c.gate.ensures.grew no_formula 0))
     a b l (c.literal-a.ensures es c.requires.copies left) (c.literal-b.ensures es c.requires.copies right) named)
     c.gate.ensures.named
+
+pub returns-clause-sides : goal.returns-clause-sides
+returns-clause-sides g c = λ before.
+    let f = c.args.inputs.now.f.now in
+    let graph = c.args.inputs.now.graph.now in
+    let es = c.args.log.now.entries in
+    let literals = c.args.literals.now in
+    let a = c.literal-a.result in
+    let b = c.literal-b.result in
+    let left = left_known f graph es literals c.args.g c.in-Gate.left c.in-Gate.right c.in-Gate.field-2
+    c.in-Gate.ensures c.requires.sides in
+    let right = right_known f graph es literals c.args.g c.in-Gate.left c.in-Gate.right c.in-Gate.field-2
+    c.in-Gate.ensures c.requires.sides in
+    c.gate.ensures.sides f before
+    (stands_declared f graph es c.in-Gate.left a (c.literal-a.ensures es c.requires.copies left))
+    (stands_declared f graph es c.in-Gate.right b (c.literal-b.ensures es c.requires.copies right))

@@ -81,7 +81,7 @@ loop-at-preserved g c =
           c.loop-at.literals (at - 1) c.index-g.result.now c.every_graph_is_lawful.ensures c.in_ok-gates.ensures
           far here
           c.gate_literal.new.self c.gate_literal.new.log c.gate_literal.ensures.grew c.gate_literal.ensures.group
-          c.in_ok-l.ensures.terms c.in_ok-l.l c.in_ok-l.ensures.stands c.insert.new.self c.in_ok-insert.ensures.updates,
+          c.in_ok-l.ensures.terms c.in_ok-l.ensures.sides c.in_ok-l.l c.in_ok-l.ensures.stands c.insert.new.self c.in_ok-insert.ensures.updates,
     )
 
 pub leaf-requires-clause-found : goal.leaf-requires-clause-found
@@ -109,3 +109,6 @@ returns-clause-leaf g c =
     (c.loop-at.invariant.1.grew no_formula 0)) (copies_of c.args.inputs.now.copy.now) _ c.requires.copies)
     (node_known f graph c.args.node gates c.args.self.now c.args.log.now c.loop-at.self c.loop-at.log c.loop-at.literals
     at none c.in_ok-gates.ensures c.loop-at.invariant.1)
+
+pub returns-clause-sides : goal.returns-clause-sides
+returns-clause-sides g c = c.loop-at.invariant.1.sides

@@ -6,6 +6,7 @@ use Rattle.padoa_definitions.specs.Copies.{group_variable}
 use Rattle.padoa_definitions.proofs.GivenClauses.{group_anew}
 use Rattle.definition_proofs.specs.Terms.{by_both}
 use Rattle.definition_proofs.specs.declared.terms.Terms.{Terms}
+use Rattle.definition_proofs.proofs.DeclaredSides.{no_sides}
 use Rattle.definition_proofs.proofs.KnownTerms.{no_gates, beside_group}
 use Rattle.definition_proofs.proofs.terms.Terms.new.Goals as goal
 
@@ -26,6 +27,7 @@ returns-clause-beside g c = λ f p padoa few.
     (g.met.O.Oracle.searched c.args.oracle.now c.args.log.now c.requires.fit).logged c.requires.none
     c.in_ok-group.ensures.unnamed c.in_ok-group.ensures.made is
     (λ q. ap (lookup (is_at (by_both q))) c.new.ensures.empty)) padoa few
+    (no_sides f c.args.log.now.entries c.group.new.log.entries (group_variable c.in_ok-group.group) c.requires.none is)
 
 pub returns-clause-grew : goal.returns-clause-grew
 returns-clause-grew g c = λ f group.

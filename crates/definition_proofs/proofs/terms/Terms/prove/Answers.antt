@@ -1,6 +1,6 @@
 use Rattle.padoa_definitions.specs.Copies.{group_variable}
 use Rattle.definition_proofs.proofs.GrownProofs.{own_growth, padoa_still, proof_then}
-use Rattle.definition_proofs.proofs.ProvedDefinitions.{is_existential, own_declared, own_differs, difference, few, undiffered, premises, no_model, still_beside, own_leaf, own_reads}
+use Rattle.definition_proofs.proofs.ProvedDefinitions.{is_existential, own_declared, own_differs, difference, few, undiffered, premises, no_model, still_beside, own_leaf, own_declared_leaf, own_reads}
 use Rattle.definition_proofs.proofs.terms.Terms.prove.Goals as goal
 
 pub returns-in_err-leaf-clause-grew : goal.returns-in_err-leaf-clause-grew
@@ -56,7 +56,7 @@ give-requires-clause-difference g c =
     let group = group_variable c.args.self.now.group in
     difference f c.args.graph.now p c.args.self.now c.leaf.new.self y c.args.node c.copied_variable.result
     c.in_ok-leaf.leaf old log c.requires.beside c.requires.definition c.requires.none c.leaf.ensures.grew
-    c.leaf.ensures.group c.in_ok-leaf.ensures.terms c.in_ok-leaf.ensures.leaf
+    c.leaf.ensures.group c.in_ok-leaf.ensures.terms c.in_ok-leaf.ensures.sides c.in_ok-leaf.ensures.leaf
     (λ padoa. c.copied_variable.ensures log.entries 1 padoa.first.universals padoa.first.existentials)
 
 pub give-requires-clause-few : goal.give-requires-clause-few
@@ -69,7 +69,7 @@ give-requires-clause-few g c =
     let group = group_variable c.args.self.now.group in
     few f c.args.graph.now p c.args.self.now c.leaf.new.self y c.args.node c.copied_variable.result
     c.in_ok-leaf.leaf old log c.requires.beside c.requires.definition c.requires.none c.leaf.ensures.grew
-    c.leaf.ensures.group c.in_ok-leaf.ensures.terms c.in_ok-leaf.ensures.leaf
+    c.leaf.ensures.group c.in_ok-leaf.ensures.terms c.in_ok-leaf.ensures.sides c.in_ok-leaf.ensures.leaf
     (λ padoa. c.copied_variable.ensures log.entries 1 padoa.first.universals padoa.first.existentials)
 
 pub give-requires-clause-none : goal.give-requires-clause-none
@@ -82,7 +82,7 @@ give-requires-clause-none g c =
     let group = group_variable c.args.self.now.group in
     undiffered f c.args.graph.now p c.args.self.now c.leaf.new.self y c.args.node c.copied_variable.result
     c.in_ok-leaf.leaf old log c.requires.beside c.requires.definition c.requires.none c.leaf.ensures.grew
-    c.leaf.ensures.group c.in_ok-leaf.ensures.terms c.in_ok-leaf.ensures.leaf
+    c.leaf.ensures.group c.in_ok-leaf.ensures.terms c.in_ok-leaf.ensures.sides c.in_ok-leaf.ensures.leaf
     (λ padoa. c.copied_variable.ensures log.entries 1 padoa.first.universals padoa.first.existentials)
 
 pub returns-in_err-group-clause-grew : goal.returns-in_err-group-clause-grew
@@ -131,7 +131,7 @@ refute-requires-clause-premises g c =
     let group = group_variable c.args.self.now.group in
     premises f c.args.graph.now p c.args.self.now c.leaf.new.self y c.args.node c.copied_variable.result
     c.in_ok-leaf.leaf old log c.requires.beside c.requires.definition c.requires.none c.leaf.ensures.grew
-    c.leaf.ensures.group c.in_ok-leaf.ensures.terms c.in_ok-leaf.ensures.leaf
+    c.leaf.ensures.group c.in_ok-leaf.ensures.terms c.in_ok-leaf.ensures.sides c.in_ok-leaf.ensures.leaf
     (λ padoa. c.copied_variable.ensures log.entries 1 padoa.first.universals padoa.first.existentials)
     c.requires.formula c.names_are_unique.ensures c.give.new.log c.in_ok-group.group c.give.ensures.grew
     c.in_ok-group.ensures.made c.in_ok-group.ensures.given c.in_ok-group.ensures.alone c.in_ok-group.ensures.leaves
@@ -146,7 +146,7 @@ refute-requires-clause-none g c =
     let group = group_variable c.args.self.now.group in
     no_model f c.args.graph.now p c.args.self.now c.leaf.new.self y c.args.node c.copied_variable.result
     c.in_ok-leaf.leaf old log c.requires.beside c.requires.definition c.requires.none c.leaf.ensures.grew
-    c.leaf.ensures.group c.in_ok-leaf.ensures.terms c.in_ok-leaf.ensures.leaf
+    c.leaf.ensures.group c.in_ok-leaf.ensures.terms c.in_ok-leaf.ensures.sides c.in_ok-leaf.ensures.leaf
     (λ padoa. c.copied_variable.ensures log.entries 1 padoa.first.universals padoa.first.existentials)
     c.requires.formula c.names_are_unique.ensures c.give.new.log c.in_ok-group.group c.give.ensures.grew
     c.in_ok-group.ensures.made c.in_ok-group.ensures.given c.in_ok-group.ensures.alone c.in_ok-group.ensures.leaves
@@ -239,7 +239,7 @@ returns-clause-beside g c =
     let group = group_variable c.args.self.now.group in
     still_beside f c.args.graph.now p c.args.self.now c.leaf.new.self y c.args.node c.copied_variable.result
     c.in_ok-leaf.leaf old log c.requires.beside c.requires.definition c.requires.none c.leaf.ensures.grew
-    c.leaf.ensures.group c.in_ok-leaf.ensures.terms c.in_ok-leaf.ensures.leaf
+    c.leaf.ensures.group c.in_ok-leaf.ensures.terms c.in_ok-leaf.ensures.sides c.in_ok-leaf.ensures.leaf
     (λ padoa. c.copied_variable.ensures log.entries 1 padoa.first.universals padoa.first.existentials)
     c.requires.formula c.names_are_unique.ensures c.give.new.log c.in_ok-group.group c.give.ensures.grew
     c.in_ok-group.ensures.made c.in_ok-group.ensures.given c.in_ok-group.ensures.alone c.in_ok-group.ensures.leaves
@@ -255,7 +255,7 @@ returns-clause-reads g c =
     let group = group_variable c.args.self.now.group in
     own_reads f c.args.graph.now p c.args.self.now c.leaf.new.self y c.args.node c.copied_variable.result
     c.in_ok-leaf.leaf old log c.requires.beside c.requires.definition c.requires.none c.leaf.ensures.grew
-    c.leaf.ensures.group c.in_ok-leaf.ensures.terms c.in_ok-leaf.ensures.leaf
+    c.leaf.ensures.group c.in_ok-leaf.ensures.terms c.in_ok-leaf.ensures.sides c.in_ok-leaf.ensures.leaf
     (λ padoa. c.copied_variable.ensures log.entries 1 padoa.first.universals padoa.first.existentials)
     c.requires.formula c.names_are_unique.ensures c.give.new.log c.in_ok-group.group c.give.ensures.grew
     c.in_ok-group.ensures.made c.in_ok-group.ensures.given c.in_ok-group.ensures.alone c.in_ok-group.ensures.leaves
@@ -272,7 +272,24 @@ returns-clause-leaf g c =
     let group = group_variable c.args.self.now.group in
     own_leaf f c.args.graph.now p c.args.self.now c.leaf.new.self y c.args.node c.copied_variable.result
     c.in_ok-leaf.leaf old log c.requires.beside c.requires.definition c.requires.none c.leaf.ensures.grew
-    c.leaf.ensures.group c.in_ok-leaf.ensures.terms c.in_ok-leaf.ensures.leaf
+    c.leaf.ensures.group c.in_ok-leaf.ensures.terms c.in_ok-leaf.ensures.sides c.in_ok-leaf.ensures.leaf
+    (λ padoa. c.copied_variable.ensures log.entries 1 padoa.first.universals padoa.first.existentials)
+    c.requires.formula c.names_are_unique.ensures c.give.new.log c.in_ok-group.group c.give.ensures.grew
+    c.in_ok-group.ensures.made c.in_ok-group.ensures.given c.in_ok-group.ensures.alone c.in_ok-group.ensures.leaves
+    c.refute.new.log c.refute.ensures.grew c.refute.ensures.same
+    c.in_ok-proved.proved.leaf c.in_ok-proved.ensures.output
+
+pub returns-clause-declared : goal.returns-clause-declared
+returns-clause-declared g c =
+    let f = c.args.f.now in
+    let y = c.args.y in
+    let p = c.args.padoa.now in
+    let old = c.args.log.now in
+    let log = c.leaf.new.log in
+    let group = group_variable c.args.self.now.group in
+    own_declared_leaf f c.args.graph.now p c.args.self.now c.leaf.new.self y c.args.node c.copied_variable.result
+    c.in_ok-leaf.leaf old log c.requires.beside c.requires.definition c.requires.none c.leaf.ensures.grew
+    c.leaf.ensures.group c.in_ok-leaf.ensures.terms c.in_ok-leaf.ensures.sides c.in_ok-leaf.ensures.leaf
     (λ padoa. c.copied_variable.ensures log.entries 1 padoa.first.universals padoa.first.existentials)
     c.requires.formula c.names_are_unique.ensures c.give.new.log c.in_ok-group.group c.give.ensures.grew
     c.in_ok-group.ensures.made c.in_ok-group.ensures.given c.in_ok-group.ensures.alone c.in_ok-group.ensures.leaves
