@@ -22,3 +22,4 @@ pub mod SharedCopies
 pub mod ApartLiterals
 pub mod GivenAnswers
 pub mod SameGivens
+pub mod OnlyCopies

@@ -65,6 +65,25 @@ pub record Adds (f : Dqbf) (side : ℕ) (test : Origin → Bool) (old new : Proo
   pub givens : (origin : Origin) (c : List Literal) → Contains new.entries (Given origin c)
       → Contains old.entries (Given origin c) ⊎ (test origin ≡ true)
 
+-- copies, and selectors
+abbrev pub is_copy_name : Name → Bool
+is_copy_name (CopyOf s v) = true
+is_copy_name (Selector g) = true
+is_copy_name _ = false
+
+-- clauses of copies, and equations between these
+abbrev pub is_copy_origin : Origin → Bool
+is_copy_origin (Copy s j) = true
+is_copy_origin (Link v i) = true
+is_copy_origin _ = false
+
+-- only copies and selectors were named, and only clauses on copies were given
+pub record HasCopied (old new : List Entry) : Type 0 where
+  pub names : (v : ℕ) (n : Name) → name_of new v ≡ Some n
+      → (name_of old v ≡ Some n) ⊎ (is_copy_name n ≡ true)
+  pub givens : (origin : Origin) (c : List Literal) → Contains new (Given origin c)
+      → Contains old (Given origin c) ⊎ (is_copy_origin origin ≡ true)
+
 -- no variable is the copy of one of these
 abbrev pub AreUncopied : ℕ → List ℕ → List Entry → Type 0
 AreUncopied side variables entries =

@@ -1,12 +1,12 @@
 //! The two copies of the matrix, as they were given to the oracle.
 
-ghost use Rattle.std.specs.Prelude.{◌≡◌, ℕ, true, All, IfOk, None};
+ghost use Rattle.std.specs.Prelude.{◌≡◌, ℕ, true, All, IfOk, OnOk, None};
 ghost use Rattle.dq_lits.specs.Formula.{IsWellFormed};
 ghost use Rattle.hint_log.specs.Entries.{name_of};
 ghost use Rattle.hint_log.specs.Growth.{Grew};
 ghost use Rattle.log_laws.specs.Engines.{copies, IsAddedBy, HasNone};
 ghost use Rattle.padoa_definitions.specs.Copies.{IsPadoa, groups_of};
-ghost use Rattle.padoa_definitions.specs.Growing.{HasFewFaults};
+ghost use Rattle.padoa_definitions.specs.Growing.{HasCopied, HasFewFaults};
 
 use crate::copies::MatrixCopy;
 use crate::giving::Setup;
@@ -42,6 +42,7 @@ impl Padoa {
         ensures fit { O.Fits oracle.new log.new }
         ensures grew { (group : ℕ)
             → Grew (IsAddedBy f.now copies group true log.old.entries) log.old log.new }
+        ensures copied { OnOk result (HasCopied log.old.entries log.new.entries) }
         ensures made { IfOk result (λ p. IsPadoa f.now p log.new.entries) }
         ensures fresh { IfOk result
             (λ p. All (λ g. name_of log.old.entries g ≡ None) (groups_of p)) }

@@ -5,6 +5,7 @@ use Rattle.padoa_definitions.proofs.DeclaredPlaces.{copies_declared}
 use Rattle.padoa_definitions.proofs.KeptCopies.{keeps_anew}
 use Rattle.dq_lits.specs.Formula.{declared}
 use Rattle.padoa_definitions.proofs.MadeCopies.{uncopied_yet, ungiven_yet, first_grew, first_few, second_uncopied, second_ungiven, second_grew, second_few, unlinked_yet, third_grew, padoa_made, groups_fresh}
+use Rattle.padoa_definitions.proofs.OnlyCopies.{all_copied}
 use Rattle.padoa_definitions.proofs.padoa.Padoa.new.Goals as goal
 
 pub copy_matrix-requires-clause-uncopied : goal.copy_matrix-requires-clause-uncopied
@@ -95,3 +96,8 @@ link_copies-requires-clause-second g c =
     let second = c.in_ok-second.second in
     copies_declared c.args.f.now 2 second c.copy_matrix-2.new.log.entries c.in_ok-second.ensures.copy.universals
     c.in_ok-second.ensures.copy.existentials
+
+pub returns-clause-copied : goal.returns-clause-copied
+returns-clause-copied g c =
+    all_copied c.args.f.now c.args.log.now c.copy_matrix.new.log c.copy_matrix-2.new.log c.link_copies.new.log
+    c.copy_matrix.ensures.adds c.copy_matrix-2.ensures.adds c.link_copies.ensures.adds
