@@ -18,7 +18,7 @@ use Rattle.padoa_definitions.proofs.KeptCopies.{IsNamed, contains_first, contain
 use Rattle.padoa_definitions.proofs.GivenClauses.{few_anew, anew_then, unnamed_back}
 
 -- a name stands in the log
-named_contains : (es : List Entry) (v : ℕ) (n : Name) → name_of es v ≡ Some n → Contains es (Named v n)
+pub named_contains : (es : List Entry) (v : ℕ) (n : Name) → name_of es v ≡ Some n → Contains es (Named v n)
 named_contains [] v n is = cc
 named_contains (Named w m ∷ es) v n is = by (v == w) refl (named_contains es v n) is where
   by : (b : Bool) → (v == w) ≡ b → (name_of es v ≡ Some n → Contains es (Named v n)) →

@@ -1,0 +1,37 @@
+use Rattle.std.proofs.Common.{◌+◌, length, ◌∙◌, ap, ap₂}
+use Rattle.std.proofs.lemmas.List.{length-map}
+use Rattle.definition_order.proofs.Declared.{variable}
+use Rattle.aig_graph.specs.Graph.{AigGraph}
+use Rattle.definition_search.proofs.KeptSearches.{still_few}
+use Rattle.definition_search.proofs.NewSearches.{new_search, no_terms}
+use Rattle.definition_search.proofs.searching.Search.new.Goals as goal
+
+pub new-requires-3-clause-none : goal.new-requires-3-clause-none
+new-requires-3-clause-none g c =
+    no_terms c.args.log.now.entries c.new-2.new.log.entries c.requires.none c.in_ok-padoa.ensures.copied
+
+pub returns-clause-search : goal.returns-clause-search
+returns-clause-search g c =
+    let f = c.args.f.now in
+    let old = c.args.log.now in
+    let mid = c.new-2.new.log in
+    let new = c.new-3.new.log in
+    let law = c.engines_leave_the_rest.ensures in
+    new_search law f
+    (record {
+      alloc = c.args.alloc;
+      gates = c.in_ok-gates.gates;
+      padoa = c.in_ok-padoa.padoa;
+      terms = c.in_ok-terms.terms;
+      order = c.new-4.result;
+      graph = c.new-5.result;
+    }) old mid new c.requires.none c.in_ok-padoa.ensures.copied (c.new-2.ensures.grew 0)
+    (g.met.O.Oracle.searched c.new-2.new.oracle mid c.new-2.ensures.fit) (c.new-3.ensures.grew f 0)
+    (g.met.O.Oracle.searched c.new-3.new.oracle new c.new-3.ensures.fit) c.in_ok-terms.ensures.ok
+    c.requires.productive
+    (c.in_ok-terms.ensures.beside f c.in_ok-padoa.padoa c.in_ok-padoa.ensures.made
+    (still_few law f 0 old mid (c.new-2.ensures.grew 0) c.requires.few))
+    (c.new-4.ensures new.entries)
+    (ap (λ (n : AigGraph). n.inputs) c.new-5.ensures
+    ∙ ap₂ (λ a b. a + b) (ap length c.universals.ensures) (ap length c.existentials.ensures
+    ∙ length-map f.existentials variable))
