@@ -24,6 +24,7 @@ use Rattle.definition_proofs.proofs.KnownTerms.{terms_stay}
 use Rattle.definition_proofs.proofs.Refutations.{same_leaves}
 use Rattle.definition_export.specs.TermOrder.{HasRead}
 use Rattle.definition_search.specs.Searching.{IsSearch}
+use Rattle.definition_search.specs.Texts.{GoesOn}
 use Rattle.definition_search.specs.declared.searching.Search.{Search}
 use Rattle.definition_search.proofs.ReadNames.{read_stays}
 
@@ -148,4 +149,24 @@ later_search f s place entries before = record {
   read = before.read;
   inputs = before.inputs;
   undiffered = λ i y far at. before.undiffered i y (omega (arith, far)) at;
+}
+
+-- the log goes on
+pub on_same : (f : Dqbf) (log : ProofLog) → IsProductiveLog f log.entries → GoesOn f log log
+on_same f log productive = record { productive = productive; limit = refl; rounds = refl }
+
+pub on_then : (f : Dqbf) (a b c : ProofLog) → GoesOn f a b → GoesOn f b c → GoesOn f a c
+on_then f a b c first second = record {
+  productive = second.productive;
+  limit = second.limit ∙ first.limit;
+  rounds = second.rounds ∙ first.rounds;
+}
+
+pub on_by : EnginesLeaveRest → (f : Dqbf) (group : ℕ) (old new : ProofLog) →
+    Grew (IsAddedBy f copies group true old.entries) old new → IsSearched new.entries →
+    IsProductiveLog f old.entries → GoesOn f old new
+on_by law f group old new grew searched productive = record {
+  productive = still_productive law f group old new grew searched productive;
+  limit = grew.limit;
+  rounds = (law f copies group true old new grew).rounds;
 }

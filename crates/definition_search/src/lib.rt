@@ -7,5 +7,6 @@
 
 pub use texts::write_definitions;
 
+pub mod laws;
 mod searching;
 mod texts;

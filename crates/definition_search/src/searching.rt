@@ -11,7 +11,7 @@ ghost use Rattle.log_laws.specs.Engines.{copies, HasNone};
 ghost use Rattle.oracle.specs.Limits.{IsAtSomeLimit};
 ghost use Rattle.padoa_definitions.specs.Defining.{IsFound, IsFreePair};
 ghost use Rattle.padoa_definitions.specs.Growing.{HasFewFaults};
-ghost use Rattle.definition_search.specs.Texts.{AreRightBlocks};
+ghost use Rattle.definition_search.specs.Texts.{AreRightBlocks, GoesOn};
 ghost use Rattle.definition_search.specs.Searching.{IsSearch};
 
 use aig_graph::{Graph, Node};
@@ -56,6 +56,7 @@ impl Search {
         requires none { HasNone copies log.old.entries }
         requires few { HasFewFaults log.old.entries }
         ensures fit { O.Fits oracle.new log.new }
+        ensures goes_on { GoesOn f.now log.old log.new }
         ensures search { IfOk result (λ search. IsSearch f.now search 0 log.new.entries) }
     {
         engines_leave_the_rest();
@@ -85,6 +86,7 @@ impl Search {
         requires search { IsSearch f.now self.old place log.old.entries }
         requires place { place < length f.now.existentials }
         ensures fit { O.Fits oracle.new log.new }
+        ensures goes_on { GoesOn f.now log.old log.new }
         ensures search { OnOk result (IsSearch f.now self.new (place + 1) log.new.entries) }
         ensures block { (y : ℕ) → slice_get (existential_variables f.now) place ≡ Some y
             → IfOk result (λ b. AreRightBlocks f.now (y ∷ []) (block_seen b ∷ [])) }
@@ -115,6 +117,7 @@ impl Search {
         requires search { IsSearch f.now self.old place log.old.entries }
         requires place { place < length f.now.existentials }
         ensures fit { O.Fits oracle.new log.new }
+        ensures goes_on { GoesOn f.now log.old log.new }
         ensures search { IsSearch f.now self.new place log.new.entries }
         ensures found { (e : Existential) → slice_get f.now.existentials place ≡ Some e
             → IfOk result (IsFound f.now [] self.new.graph e) }
@@ -146,6 +149,7 @@ impl Search {
         requires definition { (e : Existential) → slice_get f.now.existentials place ≡ Some e
             → IsDefinition f.now [] self.old.graph e node }
         ensures fit { O.Fits oracle.new log.new }
+        ensures goes_on { GoesOn f.now log.old log.new }
         ensures search { OnOk result (IsSearch f.now self.new (place + 1) log.new.entries) }
         ensures block { (y : ℕ) → slice_get (existential_variables f.now) place ≡ Some y
             → IfOk result (λ d. AreRightBlocks f.now (y ∷ []) (defined (definition_seen d) ∷ [])) }

@@ -6,7 +6,7 @@ ghost use Rattle.hint_log.specs.ProductiveLog.{IsProductiveLog};
 ghost use Rattle.log_laws.specs.Engines.{copies, HasNone};
 ghost use Rattle.oracle.specs.Limits.{IsAtSomeLimit};
 ghost use Rattle.padoa_definitions.specs.Growing.{HasFewFaults};
-ghost use Rattle.definition_search.specs.Texts.{IsTextOfDefinitions};
+ghost use Rattle.definition_search.specs.Texts.{GoesOn, IsTextOfDefinitions};
 
 use crate::searching::Search;
 use cert_text::{write_block, write_definitions_header};
@@ -29,6 +29,7 @@ pub fn write_definitions<O: Oracle>(
     requires none { HasNone copies log.old.entries }
     requires few { HasFewFaults log.old.entries }
     ensures fit { O.Fits oracle.new log.new }
+    ensures goes_on { GoesOn f.now log.old log.new }
     ensures text { IfOk result (λ text. IsTextOfDefinitions f.now text.items) }
     ensures limit { IsErrOf result Stop.Limit → IsAtSomeLimit log.new }
 {

@@ -4,7 +4,7 @@ use Rattle.padoa_definitions.specs.Copies.{group_variable}
 use Rattle.cert_text.specs.DefinitionBlocks.{defined}
 use Rattle.cert_text.specs.DefinitionsRead.{definition_seen}
 use Rattle.definition_search.specs.Texts.{AreRightBlocks}
-use Rattle.definition_search.proofs.KeptSearches.{existential_there, proved_search, some_at, still_productive, variable_at}
+use Rattle.definition_search.proofs.KeptSearches.{existential_there, on_by, proved_search, some_at, still_productive, variable_at}
 use Rattle.definition_search.proofs.ReadNames.{read_stays}
 use Rattle.definition_search.proofs.RightBlocks.{definition_right}
 use Rattle.definition_search.proofs.searching.Search.definition.Goals as goal
@@ -68,3 +68,33 @@ returns-clause-block g c = λ y at.
     (definition_right f here.0 variable c.args.self.now.graph c.args.node c.prove.new.log.entries
     c.in_ok-proved.proved.leaf (definition_seen d) here.2 (c.requires.definition here.0 here.1)
     c.in_ok-proved.ensures.reads c.in_ok-d.ensures (omega (arith, gates)) (omega (arith, steps, many)))
+
+pub returns-in_err-proved-clause-goes_on : goal.returns-in_err-proved-clause-goes_on
+returns-in_err-proved-clause-goes_on g c =
+    on_by c.engines_leave_the_rest.ensures c.args.f.now (group_variable c.args.self.now.terms.group) c.args.log.now
+    c.prove.new.log c.prove.ensures.grew
+    (g.met.O.Oracle.searched c.prove.new.oracle c.prove.new.log c.prove.ensures.fit) c.requires.search.productive
+
+pub returns-in_err-read_on-clause-goes_on : goal.returns-in_err-read_on-clause-goes_on
+returns-in_err-read_on-clause-goes_on g c =
+    on_by c.engines_leave_the_rest.ensures c.args.f.now (group_variable c.args.self.now.terms.group) c.args.log.now
+    c.prove.new.log c.prove.ensures.grew
+    (g.met.O.Oracle.searched c.prove.new.oracle c.prove.new.log c.prove.ensures.fit) c.requires.search.productive
+
+pub returns-in_err-d-clause-goes_on : goal.returns-in_err-d-clause-goes_on
+returns-in_err-d-clause-goes_on g c =
+    on_by c.engines_leave_the_rest.ensures c.args.f.now (group_variable c.args.self.now.terms.group) c.args.log.now
+    c.prove.new.log c.prove.ensures.grew
+    (g.met.O.Oracle.searched c.prove.new.oracle c.prove.new.log c.prove.ensures.fit) c.requires.search.productive
+
+pub returns-then-len-gt-MOST-clause-goes_on : goal.returns-then-len-gt-MOST-clause-goes_on
+returns-then-len-gt-MOST-clause-goes_on g c =
+    on_by c.engines_leave_the_rest.ensures c.args.f.now (group_variable c.args.self.now.terms.group) c.args.log.now
+    c.prove.new.log c.prove.ensures.grew
+    (g.met.O.Oracle.searched c.prove.new.oracle c.prove.new.log c.prove.ensures.fit) c.requires.search.productive
+
+pub returns-clause-goes_on : goal.returns-clause-goes_on
+returns-clause-goes_on g c =
+    on_by c.engines_leave_the_rest.ensures c.args.f.now (group_variable c.args.self.now.terms.group) c.args.log.now
+    c.prove.new.log c.prove.ensures.grew
+    (g.met.O.Oracle.searched c.prove.new.oracle c.prove.new.log c.prove.ensures.fit) c.requires.search.productive

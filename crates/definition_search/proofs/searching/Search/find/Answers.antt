@@ -1,6 +1,6 @@
 use Rattle.std.proofs.Common.{refl, ◌∙◌}
 use Rattle.definition_order.proofs.Declared.{known_at}
-use Rattle.definition_search.proofs.KeptSearches.{existential_there, asked_search}
+use Rattle.definition_search.proofs.KeptSearches.{existential_there, asked_search, on_by}
 use Rattle.definition_search.proofs.searching.Search.find.Goals as goal
 
 pub read-requires-clause-existential : goal.read-requires-clause-existential
@@ -44,3 +44,13 @@ returns-clause-search g c =
     (c.define.ensures.extends.inputs ∙ c.read.ensures.extends.inputs) (c.define.ensures.grew 0) c.define.ensures.same_givens
     c.define.ensures.padoa (g.met.O.Oracle.searched c.define.new.oracle c.define.new.log c.define.ensures.fit)
     c.requires.search
+
+pub returns-in_err-found-clause-goes_on : goal.returns-in_err-found-clause-goes_on
+returns-in_err-found-clause-goes_on g c =
+    on_by c.engines_leave_the_rest.ensures c.args.f.now 0 c.args.log.now c.define.new.log (c.define.ensures.grew 0)
+    (g.met.O.Oracle.searched c.define.new.oracle c.define.new.log c.define.ensures.fit) c.requires.search.productive
+
+pub returns-clause-goes_on : goal.returns-clause-goes_on
+returns-clause-goes_on g c =
+    on_by c.engines_leave_the_rest.ensures c.args.f.now 0 c.args.log.now c.define.new.log (c.define.ensures.grew 0)
+    (g.met.O.Oracle.searched c.define.new.oracle c.define.new.log c.define.ensures.fit) c.requires.search.productive

@@ -2,7 +2,7 @@ use Rattle.std.proofs.Common.{◌+◌, length, ◌∙◌, ap, ap₂}
 use Rattle.std.proofs.lemmas.List.{length-map}
 use Rattle.definition_order.proofs.Declared.{variable}
 use Rattle.aig_graph.specs.Graph.{AigGraph}
-use Rattle.definition_search.proofs.KeptSearches.{still_few}
+use Rattle.definition_search.proofs.KeptSearches.{on_by, on_then, still_few}
 use Rattle.definition_search.proofs.NewSearches.{new_search, no_terms}
 use Rattle.definition_search.proofs.searching.Search.new.Goals as goal
 
@@ -35,3 +35,28 @@ returns-clause-search g c =
     (ap (λ (n : AigGraph). n.inputs) c.new-5.ensures
     ∙ ap₂ (λ a b. a + b) (ap length c.universals.ensures) (ap length c.existentials.ensures
     ∙ length-map f.existentials variable))
+
+pub returns-in_err-padoa-clause-goes_on : goal.returns-in_err-padoa-clause-goes_on
+returns-in_err-padoa-clause-goes_on g c =
+    on_by c.engines_leave_the_rest.ensures c.args.f.now 0 c.args.log.now c.new-2.new.log (c.new-2.ensures.grew 0)
+    (g.met.O.Oracle.searched c.new-2.new.oracle c.new-2.new.log c.new-2.ensures.fit) c.requires.productive
+
+pub returns-in_err-terms-clause-goes_on : goal.returns-in_err-terms-clause-goes_on
+returns-in_err-terms-clause-goes_on g c =
+    let f = c.args.f.now in
+    let law = c.engines_leave_the_rest.ensures in
+    let first = on_by law f 0 c.args.log.now c.new-2.new.log (c.new-2.ensures.grew 0)
+    (g.met.O.Oracle.searched c.new-2.new.oracle c.new-2.new.log c.new-2.ensures.fit) c.requires.productive in
+    on_then f c.args.log.now c.new-2.new.log c.new-3.new.log first
+    (on_by law f 0 c.new-2.new.log c.new-3.new.log (c.new-3.ensures.grew f 0)
+    (g.met.O.Oracle.searched c.new-3.new.oracle c.new-3.new.log c.new-3.ensures.fit) first.productive)
+
+pub returns-clause-goes_on : goal.returns-clause-goes_on
+returns-clause-goes_on g c =
+    let f = c.args.f.now in
+    let law = c.engines_leave_the_rest.ensures in
+    let first = on_by law f 0 c.args.log.now c.new-2.new.log (c.new-2.ensures.grew 0)
+    (g.met.O.Oracle.searched c.new-2.new.oracle c.new-2.new.log c.new-2.ensures.fit) c.requires.productive in
+    on_then f c.args.log.now c.new-2.new.log c.new-3.new.log first
+    (on_by law f 0 c.new-2.new.log c.new-3.new.log (c.new-3.ensures.grew f 0)
+    (g.met.O.Oracle.searched c.new-3.new.oracle c.new-3.new.log c.new-3.ensures.fit) first.productive)
