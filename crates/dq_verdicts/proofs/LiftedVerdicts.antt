@@ -29,6 +29,10 @@ use Rattle.proof_checker.specs.ProvedCircuit.{IsProvedCircuit}
 use Rattle.proof_deletions.specs.Laws.{AllowedLinesAreNumbered}
 use Rattle.repair_loop.specs.Stopping.{IsStoppedAtLimit}
 use Rattle.dq_runs.specs.declared.outputs.Output.{Output}
+use Rattle.ordered_gates.specs.Circuits.{is_sorted}
+use Rattle.lifted_proofs.specs.LiftedCircuits.{IsLiftedProof}
+use Rattle.lifted_proofs.specs.Laws.{SettledFilesAreSpellable}
+use Rattle.lifted_proofs.specs.SettledCircuits.{IsSettledFile}
 use Rattle.dq_verdicts.specs.Accepted.{ProvedCircuitsAreAccepted, RefutationsAreAccepted}
 use Rattle.dq_verdicts.specs.Prepared.{IsPrep, IsPreparedOutput, IsCertificate}
 use Rattle.dq_verdicts.specs.Shown.{IsShownTrue, IsShownFalse}
@@ -136,3 +140,25 @@ left-undecided f g log form rounds steps output prep productive undecided stoppe
       is_printed = printed_as (is_unknown rounds (steps - rounds)) output.status output.text.items
           (verdict_text form f (is_unknown rounds (steps - rounds))) status text;
     }
+
+-- and what is lifted of it
+pub lifted-certificate : SettledFilesAreSpellable → (f g : Dqbf) (units : List Taken) (file : AagFile) (proof : Dqp)
+    (lifted : AagFile × Dqp) → IsCertificate g file proof → IsSettledFile f units file lifted.0
+    → IsLiftedProof f lifted.0 lifted.1 → IsCertificate f lifted.0 lifted.1
+lifted-certificate spellable f g units file proof lifted was settled it = record {
+  circuit = it.circuit;
+  lines = it.lines;
+  writable = λ comment few. spellable f units
+      (record { circuit = file.circuit; symbols = file.symbols; comment = comment })
+      (record { circuit = lifted.0.circuit; symbols = lifted.0.symbols; comment = comment })
+      (record {
+        mapping = settled.mapping;
+        maps = settled.maps;
+        circuit = settled.circuit;
+        symbols = settled.symbols;
+        comment = refl;
+      })
+      (was.writable comment (subst (λ n. n ≤ max_count) (ap (λ n. n.max_var) settled.circuit) few));
+  sorted = ap is_sorted settled.circuit ∙ was.sorted;
+  allowed = λ _. it.allowed;
+}

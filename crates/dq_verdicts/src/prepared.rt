@@ -28,19 +28,20 @@ use cert_export::laws::{exported_proof_is_allowed, productive_answers_can_be_exp
 use cert_export::{clause_numbers, export_false, export_true};
 use cert_text::{Dqp, Dqr};
 use dq_formula::Formula;
-use dq_lits::laws::{derivation_refutes_expansion, expansion_lifts, no_formula_is_both};
+use dq_lits::laws::derivation_refutes_expansion;
 use dq_lits::{Lit, Memory};
 use dq_prep::laws::{simplification_keeps_choices, simplified_formulas_are_well_formed};
 use dq_prep::{Trace, prep};
 use dq_runs::Output;
 use hint_log::laws::rounds_are_steps;
 use hint_log::{Log, Stop};
+use lifted_proofs::laws::settled_files_are_spellable;
 use lifted_proofs::{lift_false, lift_true};
 use proof_deletions::laws::allowed_lines_are_numbered;
 use refutation_checker::laws::refutation_shows_false;
 use std::alloc::Global;
 
-/// The most lines of a refutation's text, and the most steps of a search.
+/// The most lines of a refutation's text.
 const MOST: u64 = 1_000_000_000;
 
 // A formula, what is left of it where these units were taken, and the units.
@@ -119,37 +120,17 @@ fn lifted_true(p: &Prepared, log: &Log, id: u64, form: Form) -> Result<Output, M
     })
 }
 
-// A circuit and its proof over the formula: those of what is left, lifted. Where the checker doesn't
-// accept the lifted proof, the formula itself is searched, in a log of its own.
+// A circuit and its proof over the formula: those of what is left, lifted.
 fn certificate(p: &Prepared, log: &Log, id: u64) -> Result<(AagFile, Dqp), Memory>
     requires prepared { IsPrepared p.now }
     requires productive { IsProductiveLog p.now.left.now log.now.entries }
-    requires is_true { IsTrueFormula p.now.formula.now }
     requires decided { IsDecidedTrue p.now.left.now log.now.entries id }
     ensures { IfOk result (λ c. IsCertificate p.now.formula.now c.0 c.1) }
 {
+    settled_files_are_spellable();
     let (file, proof) = exported(p.alloc, log, id, p.left)?;
-    match lift_true(p.alloc, &file, &proof, p.trace, p.formula, p.left)? {
-        Some(lifted) => Ok((file, lifted)),
-        None => certificate_alone(p.alloc, p.formula),
-    }
-}
-
-// A circuit and its proof of a true formula, from a search of its own. It has the most steps that a
-// search can have: behind these it answers `Memory`.
-fn certificate_alone(alloc: Global, f: &Formula) -> Result<(AagFile, Dqp), Memory>
-    requires formula { IsWellFormed f.now }
-    requires is_true { IsTrueFormula f.now }
-    ensures { IfOk result (λ c. IsCertificate f.now c.0 c.1) }
-{
-    expansion_lifts();
-    no_formula_is_both();
-    let mut log = Log::new(alloc, MOST);
-    match search(alloc, f, &mut log) {
-        Ok(Decision::Shown(id)) => exported(alloc, &log, id, f),
-        Ok(Decision::Refuted(_)) => unreachable!(),
-        Err(_) => Err(Memory),
-    }
+    let lifted = lift_true(p.alloc, file, &proof, p.trace, p.formula, p.left)?;
+    Ok(lifted)
 }
 
 // What is exported of an answer.

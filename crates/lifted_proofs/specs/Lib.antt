@@ -10,4 +10,13 @@ pub mod Hinted
 pub mod Planned
 pub mod Renumbered
 pub mod LiftedRefutations
+pub mod SettledCircuits
+pub mod Laws
+pub mod KeptPlaces
+pub mod CarriedProofs
+pub mod NamedIds
+pub mod Liftables
+pub mod NegatedBases
+pub mod Liftings
+pub mod Carryings
 pub mod LiftedCircuits

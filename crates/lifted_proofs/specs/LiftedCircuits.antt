@@ -1,20 +1,24 @@
 -- Proofs of circuits that are lifted.
-use Rattle.std.specs.Prelude.{◌≡◌, ℕ, ◌≤◌, ◌+◌, ◌^◌, List, length, map, None, Ok}
+use Rattle.std.specs.Prelude.{◌≡◌, ◌≤◌, ◌^◌, false, List, length, map, reverse, None, Ok}
 use Rattle.dq_lits.specs.Derivation.{ProofStep}
 use Rattle.dq_lits.specs.Formula.{Dqbf}
-use Rattle.aiger_text.specs.Lines.{max_count}
 use Rattle.aiger_text.specs.declared.files.AagFile.{AagFile}
 use Rattle.circuit_plain.specs.Netlist.{Netlist}
 use Rattle.cert_text.specs.CircuitProof.{first_proof_id, is_proof_variable}
 use Rattle.cert_text.specs.Grammar.{AreSteps}
+use Rattle.cert_text.specs.Header.{max_count}
 use Rattle.cert_text.specs.ProofGrammar.{IsDqpOf}
 use Rattle.cert_text.specs.declared.circuit_proofs.Dqp.{Dqp}
-use Rattle.rup_core.specs.Items.{derived}
-use Rattle.proof_checker.specs.CircuitProof.{circuit_proof_fault}
+use Rattle.dq_prep.specs.declared.traces.Taken.{Taken}
+use Rattle.dq_prep.specs.Simplified.{simplified_formula}
+use Rattle.dq_prep.specs.Units.{taken_literals}
+use Rattle.rup_core.specs.Items.{derived, items_fault}
 use Rattle.proof_checker.specs.ProvedCircuit.{IsProvedCircuit}
 use Rattle.proof_deletions.specs.Deletions.{AreNumberedLines}
 use Rattle.skolem_checker.specs.Checks.{Candidate, candidate_of}
-use Rattle.lifted_proofs.specs.declared.negated_bases.Base.{Base}
+use Rattle.lifted_proofs.specs.Liftables.{lifted_base}
+use Rattle.lifted_proofs.specs.SettledCircuits.{settled_netlist}
+use Rattle.lifted_proofs.specs.declared.units.UnitTable.{UnitTable}
 
 -- the proof shows that the circuit has Skolem functions, and a text can hold it, lines alone
 pub record IsLiftedProof (f : Dqbf) (file : AagFile) (p : Dqp) : Type 0 where
@@ -22,27 +26,30 @@ pub record IsLiftedProof (f : Dqbf) (file : AagFile) (p : Dqp) : Type 0 where
   pub allowed : IsDqpOf f file.circuit p
   pub lines : AreNumberedLines p.items
 
--- Words of private contracts: a number that is counted, and small
-pub record IsCounted (count n : ℕ) : Type 0 where
-  pub is : n ≡ count
-  pub small : n ≤ 10 ^ 16
+-- Words of private contracts: a circuit with a proof for what is left of the formula
+pub record IsLeftProof (t : UnitTable) (file : AagFile) (g : Dqbf) (p : Dqp) : Type 0 where
+  pub left : g ≡ simplified_formula t.formula.now (reverse t.units.now)
+  pub proved : IsProvedCircuit g file p
+  pub allowed : IsDqpOf g file.circuit p
 
-pub record IsBaseOf (f : Dqbf) (net : Netlist) (b : Base) : Type 0 where
-  pub first : b.first ≡ first_proof_id f net
-  pub small : b.first ≤ 10 ^ 17
-  pub variables : b.variables ≡ net.max_var + length f.matrix
-  pub few : net.max_var ≤ max_count
+-- lines over the formula and the settled circuit, without a fault
+pub record AreLiftedLines (f : Dqbf) (units : List Taken) (c : Candidate)
+    (steps : List ProofStep) : Type 0 where
+  pub derives : items_fault false (lifted_base f units c) (map derived steps) ≡ None
+  pub allowed : AreSteps (is_proof_variable f c.circuit.netlist)
+      (first_proof_id f c.circuit.netlist) steps
+  pub few : length steps ≤ max_count
+  pub small_id : first_proof_id f c.circuit.netlist ≤ 10 ^ 17
+  pub few_variables : c.circuit.netlist.max_var ≤ 10 ^ 16
 
--- a proof that a text can hold, lines alone
-pub record IsAllowedProof (f : Dqbf) (net : Netlist) (p : Dqp) : Type 0 where
-  pub few : net.max_var ≤ max_count
-  pub allowed : IsDqpOf f net p
-  pub steps : List ProofStep
-  pub are : p.items ≡ map derived steps
-  pub numbered : AreSteps (is_proof_variable f net) (first_proof_id f net) steps
-
--- the checker of circuits' proofs finds no fault
-pub record IsAccepted (f : Dqbf) (file : AagFile) (p : Dqp) : Type 0 where
+-- the settled circuit and such lines
+pub record IsLifted (t : UnitTable) (file : AagFile) (net : Netlist) (p : Dqp) : Type 0 where
   pub candidate : Candidate
-  pub is : candidate_of f file.circuit file.symbols ≡ Ok candidate
-  pub derives : circuit_proof_fault candidate p.items ≡ None
+  pub is : candidate_of (simplified_formula t.formula.now (reverse t.units.now)) file.circuit
+      file.symbols
+      ≡ Ok candidate
+  pub settled : net ≡ settled_netlist (taken_literals (reverse t.units.now))
+      candidate.circuit.mapping.outputs candidate.circuit.netlist
+  pub steps : List ProofStep
+  pub items : p.items ≡ map derived steps
+  pub lines : AreLiftedLines t.formula.now (reverse t.units.now) candidate steps

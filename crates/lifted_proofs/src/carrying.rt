@@ -1,129 +1,131 @@
-//! A circuit's proof over the simpler formula, carried over to the formula: the ids and the variables
-//! of the one negated matrix become those of the other. No contract says that the lines derive
-//! anything, since the proof is tested behind it.
+//! A circuit's proof over the simpler formula, by the ids and the variables of the formula's negated
+//! matrix.
 
-ghost use Rattle.std.specs.Prelude.{◌≤◌, ◌^◌};
-ghost use Rattle.lifted_proofs.specs.UnitTables.{IsUnitTable};
+ghost use Rattle.std.specs.Prelude.{◌≡◌, ◌<◌, ◌++◌, ◌∷◌, [], ◌^◌, map, All, IfOk, OnOk};
+ghost use Rattle.cert_text.specs.Items.{item_seen};
+ghost use Rattle.cert_text.specs.Steps.{step_seen};
+ghost use Rattle.lifted_proofs.specs.Carried.{lines_of};
+ghost use Rattle.lifted_proofs.specs.CarriedProofs.{carried_literal, carried_id, carried_line};
+ghost use Rattle.lifted_proofs.specs.Carryings.{carrying, IsCarrying, IsCarriedVariable, IsCarriedStep};
 
-use crate::goals::Source;
-use crate::matrix_ids::{Walk, some_false};
-use crate::negated_bases::Base;
-use crate::units::UnitTable;
-use cert_text::{Dqp, Item, Step, StepList};
-use dq_formula::Formula;
+use cert_text::{Item, ItemList, Step, StepList};
 use dq_lits::{Lit, Memory};
 use std::alloc::Global;
 
 /// What the ids and the variables of the simpler formula's negated matrix become.
 #[derive(Drop)]
-struct Carrying<'a> {
-    alloc: Global,
-    base: Base,
-    // Where the clauses come from that were kept.
-    sources: &'a [Source],
-    // By their literals, the ids of the clauses that say that a clause's literal is false.
-    ids: &'a [u64],
-}
-
-/// The lines over the formula, from those over the simpler one, `g`: first that some clause which is
-/// kept is false, then the proof's own. It answers `None` where a line is on a variable that isn't
-/// there.
-pub(crate) fn carried(
-    table: &UnitTable,
-    g: &Formula,
-    sources: &[Source],
-    base: Base,
-    p: &Dqp,
-) -> Result<Option<StepList>, Memory>
-    requires right { IsUnitTable table.now }
-    requires few { base.first ≤ 10 ^ 17 }
-{
-    let mut walk = Walk::new(table.alloc, base.gates);
-    walk.pass_all(table, g, sources)?;
-    let mut steps = StepList::new(table.alloc);
-    if !some_false(table.alloc, sources, base, &walk.dropped, &mut steps)? {
-        return Ok(None);
-    }
-    let carrying = Carrying {
-        alloc: table.alloc,
-        base,
-        sources,
-        ids: &walk.ids,
-    };
-    if !carrying.carry_all(p, &mut steps)? {
-        return Ok(None);
-    }
-    Ok(Some(steps))
+pub(crate) struct Carrying<'a> {
+    /// How many ids the clauses of gates have, and the circuit's largest variable; these stay.
+    pub gates: u64,
+    pub largest: u64,
+    /// By clause that is kept, its place among so many of the formula.
+    pub places: &'a [usize],
+    pub clauses: usize,
+    /// By literal that is left, the id of the clause that it is false.
+    pub ids: &'a [u64],
+    /// The id of the line that some clause which is kept is false; the proof's own lines come next.
+    pub some_false: u64,
 }
 
 impl<'a> Carrying<'a> {
-    // Puts the proof's lines behind the others, and says whether all could be named.
-    fn carry_all(&self, p: &Dqp, steps: &mut StepList) -> Result<bool, Memory>
-        requires { self.now.base.first ≤ 10 ^ 17 }
+    /// Puts a proof's lines behind these steps.
+    pub(crate) fn carry(
+        &self,
+        alloc: Global,
+        items: &ItemList,
+        steps: &mut StepList,
+    ) -> Result<(), Memory>
+        requires can { IsCarrying self.now }
+        requires small { All (IsCarriedStep self.now) (lines_of items.now) }
+        ensures { OnOk result (steps.new
+            ≡ steps.old ++ map (carried_line (carrying self.now)) (lines_of items.now)) }
     {
-        for k in 0..p.items.len() {
-            if let Item::Line(step) = p.items.get(k) {
-                if !self.carry(step, steps)? {
-                    return Ok(false);
-                }
-            }
+        for k in 0..items.len() {
+            self.carry_item(alloc, items.get(k), steps)?;
         }
-        Ok(true)
+        Ok(())
     }
 
-    fn carry(&self, step: Step, steps: &mut StepList) -> Result<bool, Memory>
-        requires { self.now.base.first ≤ 10 ^ 17 }
+    fn carry_item(&self, alloc: Global, item: Item, steps: &mut StepList) -> Result<(), Memory>
+        requires can { IsCarrying self.now }
+        requires small { All (IsCarriedStep self.now) (lines_of (item_seen item ∷ [])) }
+        ensures { OnOk result (steps.new ≡ steps.old
+            ++ map (carried_line (carrying self.now)) (lines_of (item_seen item.entry ∷ []))) }
     {
-        let mut lits = Vec::new(self.alloc);
-        for l in step.lits {
-            match self.renamed(*l) {
-                Some(renamed) => lits.push(renamed)?,
-                None => return Ok(false),
-            }
+        match item {
+            Item::Line(step) => self.carry_line(alloc, step, steps),
+            Item::Gone(_) => Ok(()),
         }
-        let mut hints = Vec::new(self.alloc);
-        for h in step.hints {
-            hints.push(self.id_of(*h))?;
-        }
+    }
+
+    fn carry_line(&self, alloc: Global, step: Step, steps: &mut StepList) -> Result<(), Memory>
+        requires can { IsCarrying self.now }
+        requires small { IsCarriedStep self.now (step_seen step) }
+        ensures { OnOk result (steps.new
+            ≡ steps.old ++ carried_line (carrying self.now) (step_seen step.entry) ∷ []) }
+    {
+        let lits = self.literals_of(alloc, step.lits)?;
+        let hints = self.ids_of(alloc, step.hints)?;
         steps.push(Step {
-            id: self.base.first + steps.len() as u64,
+            id: self.id_of(step.id),
             lits: &lits,
             hints: &hints,
         })?;
-        Ok(true)
+        Ok(())
     }
 
-    // A literal of the circuit stays, and one that says that a clause is false names it by its place
-    // in the formula.
-    fn renamed(&self, l: Lit) -> Option<Lit> {
-        let largest = self.base.largest;
-        if l.var() <= largest {
-            return Some(l);
+    fn literals_of(&self, alloc: Global, lits: &[Lit]) -> Result<Vec<Lit>, Memory>
+        requires can { IsCarrying self.now }
+        requires few { All (IsCarriedVariable self.now) lits.now }
+        ensures { IfOk result (λ new. new.items ≡ map (carried_literal (carrying self.now)) lits.now) }
+    {
+        let mut carried = Vec::new(alloc);
+        for l in lits {
+            carried.push(self.literal_of(*l))?;
         }
-        let clause = (l.var() - largest - 1) as usize;
-        if clause >= self.sources.len() {
-            return None;
-        }
-        let bad = self.base.clause_false(self.sources[clause].place)?;
-        if l.is_neg() {
-            Some(bad.not())
-        } else {
-            Some(bad)
-        }
+        Ok(carried)
     }
 
-    // The ids of gates stay, then come those of literals' clauses, and last that of the clause that
-    // some clause is false, which the first line has now.
-    fn id_of(&self, id: u64) -> u64 {
-        if id <= self.base.gates {
+    fn literal_of(&self, l: Lit) -> Lit
+        requires can { IsCarrying self.now }
+        requires few { IsCarriedVariable self.now l }
+        ensures { result ≡ carried_literal (carrying self.now) l }
+    {
+        let v = l.var();
+        if v <= self.largest {
+            return l;
+        }
+        let clause = self.places[(v - self.largest - 1) as usize];
+        let bad = Lit::pos(self.largest + 1 + clause as u64);
+        if l.is_neg() { bad.not() } else { bad }
+    }
+
+    fn ids_of(&self, alloc: Global, hints: &[u64]) -> Result<Vec<u64>, Memory>
+        requires can { IsCarrying self.now }
+        requires small { All (λ h. h < 2 ^ 62) hints.now }
+        ensures { IfOk result (λ ids. ids.items ≡ map (carried_id (carrying self.now)) hints.now) }
+    {
+        let mut ids = Vec::new(alloc);
+        for h in hints {
+            ids.push(self.id_of(*h))?;
+        }
+        Ok(ids)
+    }
+
+    fn id_of(&self, id: u64) -> u64
+        requires can { IsCarrying self.now }
+        requires small { id < 2 ^ 62 }
+        ensures { result ≡ carried_id (carrying self.now) id }
+    {
+        if id <= self.gates {
             return id;
         }
-        let place = id - self.base.gates - 1;
+        let place = id - self.gates - 1;
         let literals = self.ids.len() as u64;
         if place < literals {
             self.ids[place as usize]
         } else {
-            (place - literals).saturating_add(self.base.first)
+            place - literals + self.some_false
         }
     }
 }

@@ -1,30 +1,33 @@
-//! The proof of a circuit over the simpler formula, lifted to the formula.
+//! A circuit and its proof over the simpler formula, lifted to the formula.
 
-ghost use Rattle.std.specs.Prelude.{◌≡◌, ◌≤◌, None, IfOk, IfSome};
-ghost use Rattle.std.specs.Bool.{OnTrue};
+ghost use Rattle.std.specs.Prelude.{◌≡◌, ◌≤◌, None, length, reverse, IfOk, Ok};
 ghost use Rattle.dq_lits.specs.Formula.{IsWellFormed};
-ghost use Rattle.aiger_text.specs.Lines.{max_count};
+ghost use Rattle.cert_text.specs.Header.{max_count};
 ghost use Rattle.cert_text.specs.ProofGrammar.{IsDqpOf};
 ghost use Rattle.dq_prep.specs.Units.{AreUnits};
 ghost use Rattle.dq_prep.specs.Simplified.{simplified_formula};
 ghost use Rattle.proof_checker.specs.CircuitProof.{circuit_proof_fault};
 ghost use Rattle.proof_checker.specs.ProvedCircuit.{IsProvedCircuit};
-ghost use Rattle.skolem_checker.specs.SkolemCircuit.{IsComplete};
+ghost use Rattle.skolem_checker.specs.Checks.{candidate_of};
+ghost use Rattle.skolem_checker.specs.SkolemCircuit.{IsComplete, IsSkolemCircuit};
+ghost use Rattle.lifted_proofs.specs.Liftables.{IsLiftable};
+ghost use Rattle.lifted_proofs.specs.LiftedCircuits.{IsLiftedProof, IsLeftProof, AreLiftedLines, IsLifted};
+ghost use Rattle.lifted_proofs.specs.SettledCircuits.{IsSettledFile};
 ghost use Rattle.lifted_proofs.specs.UnitTables.{IsUnitTable};
-ghost use Rattle.lifted_proofs.specs.LiftedCircuits.{IsLiftedProof, IsAllowedProof, IsAccepted};
 
-use crate::allowed::are_allowed;
-use crate::carrying::carried;
-use crate::negated_bases::base_of;
-use crate::sources::sources;
+use crate::carrying::Carrying;
+use crate::liftings::Lifting;
+use crate::names::Named;
+use crate::settled::settled;
 use crate::units::UnitTable;
 use aiger_text::AagFile;
-use cert_text::{Dqp, ItemList};
+use cert_text::{Dqp, ItemList, StepList};
+use circuit_plain::Circuit;
 use dq_formula::Formula;
 use dq_lits::Memory;
 use dq_prep::Trace;
+use dq_prep::laws::simplified_formulas_are_well_formed;
 use proof_checker::laws::refuted_negation_solves;
-use proof_checker::{ProofFault, by_proof};
 use proof_deletions::laws::allowed_lines_are_numbered;
 use skolem_checker::{Bench, BenchStop};
 use std::alloc::Global;
@@ -32,84 +35,97 @@ use std::alloc::Global;
 /// The most lines of a proof's text.
 const MOST_LINES: usize = 1_000_000_000;
 
-/// A proof over a formula that a circuit has its Skolem functions, from one over what is left of it
-/// where these units were taken, `g`. A first line says that some clause which was kept is false; the
-/// proof's own lines follow, with other ids and variables.
+/// A circuit for a formula with a proof that it has its Skolem functions, from those for what is left
+/// of it where these units were taken, `g`. The circuit's output for each unit's existential becomes
+/// the constant that makes the unit true. In front of the proof's lines come one for each unit whose
+/// output wasn't constant, and one that some clause which was kept is false; its own lines get other
+/// ids and variables.
 ///
-/// The lines are proposed, and the checker of circuits' proofs decides: where it doesn't accept them,
-/// the answer is `None`. It accepts them where the output for each unit's existential is the constant
-/// that makes the unit true, as the search's definitions of unit clauses are.
+/// It answers `Memory` also past 1,000,000,000 lines, as many as a text can hold, and past 10^16 gates,
+/// variables or literals.
 pub fn lift_true(
     alloc: Global,
-    file: &AagFile,
+    mut file: AagFile,
     p: &Dqp,
     trace: &Trace,
     f: &Formula,
     g: &Formula,
-) -> Result<Option<Dqp>, Memory>
+) -> Result<(AagFile, Dqp), Memory>
     requires well { IsWellFormed f.now }
     requires units { AreUnits f.now trace.now }
     requires left { g.now ≡ simplified_formula f.now trace.now }
-    requires proved { IsProvedCircuit g.now file.now p.now }
-    ensures { IfOk result (λ lifted. IfSome lifted (IsLiftedProof f.now file.now)) }
+    requires proved { IsProvedCircuit g.now file p.now }
+    requires allowed { length p.now.items ≤ max_count → IsDqpOf g.now file.circuit p.now }
+    ensures settled { IfOk result (λ lifted. IsSettledFile f.now trace.now file lifted.0) }
+    ensures lifted { IfOk result (λ lifted. IsLiftedProof f.now lifted.0 lifted.1) }
 {
+    simplified_formulas_are_well_formed();
     allowed_lines_are_numbered();
     refuted_negation_solves();
+    if p.items.len() > MOST_LINES {
+        return Err(Memory);
+    }
     let table = UnitTable::new(alloc, f, trace)?;
-    let Some(lifted) = proposed(&table, file, p, g)? else {
-        return Ok(None);
-    };
-    let accepted = is_accepted(alloc, f, file, &lifted)?;
-    if !accepted {
-        return Ok(None);
-    }
-    Ok(Some(lifted))
+    let (circuit, proof) = lifted(&table, &file, p, g)?;
+    file.circuit = circuit;
+    Ok((file, proof))
 }
 
-// A proof that a text can hold.
-fn proposed(table: &UnitTable, file: &AagFile, p: &Dqp, g: &Formula) -> Result<Option<Dqp>, Memory>
-    requires { IsUnitTable table.now }
-    ensures { IfOk result (λ lifted. IfSome lifted
-        (IsAllowedProof table.now.formula.now file.now.circuit)) }
+// The circuit and the proof.
+fn lifted(table: &UnitTable, file: &AagFile, p: &Dqp, g: &Formula) -> Result<(Circuit, Dqp), Memory>
+    requires right { IsUnitTable table.now }
+    requires well { IsWellFormed g.now }
+    requires left { IsLeftProof table.now file.now g.now p.now }
+    ensures { IfOk result (λ lifted. IsLifted table.now file.now lifted.0 lifted.1) }
 {
-    let Some(base) = base_of(table.formula, &file.circuit) else {
-        return Ok(None);
-    };
-    let sources = sources(table)?;
-    let Some(steps) = carried(table, g, &sources, base, p)? else {
-        return Ok(None);
-    };
-    if steps.len() > MOST_LINES || !are_allowed(&steps, base.first, base.variables) {
-        return Ok(None);
-    }
-    Ok(Some(Dqp {
+    let bench = bench_of(table.alloc, g, file)?;
+    let circuit = settled(table, &bench)?;
+    let steps = lifted_lines(table, &bench, p)?;
+    let proof = Dqp {
         items: ItemList::of_lines(steps),
-    }))
+    };
+    Ok((circuit, proof))
 }
 
-// Whether the checker accepts a proof that a circuit makes every clause true.
-fn is_accepted(alloc: Global, f: &Formula, file: &AagFile, p: &Dqp) -> Result<bool, Memory>
-    requires well { IsWellFormed f.now }
+// The circuit with what its inputs and outputs stand for.
+fn bench_of<'a>(alloc: Global, g: &'a Formula, file: &'a AagFile) -> Result<Bench<'a>, Memory>
+    requires well { IsWellFormed g.now }
     requires complete { IsComplete file.now.circuit }
-    requires allowed { IsAllowedProof f.now file.now.circuit p.now }
-    ensures { IfOk result (λ accepted. OnTrue accepted (IsAccepted f.now file.now p.now)) }
+    requires skolem { IsSkolemCircuit g.now file.now.circuit file.now.symbols }
+    ensures { IfOk result
+        (λ bench. candidate_of g.now file.now.circuit file.now.symbols ≡ Ok bench) }
 {
-    match Bench::new(alloc, f, file) {
-        Ok(bench) => is_derived(alloc, &bench, p),
-        Err(BenchStop::Map(_)) => Ok(false),
+    match Bench::new(alloc, g, file) {
+        Ok(bench) => Ok(bench),
+        Err(BenchStop::Map(_)) => unreachable!(),
         Err(BenchStop::Memory) => Err(Memory),
     }
 }
 
-fn is_derived(alloc: Global, bench: &Bench, p: &Dqp) -> Result<bool, Memory>
-    requires few { bench.now.circuit.netlist.max_var ≤ max_count }
-    requires lawful { IsDqpOf bench.now.formula bench.now.circuit.netlist p.now }
-    ensures { IfOk result (λ derived. OnTrue derived
-        (circuit_proof_fault bench.now p.now.items ≡ None)) }
+// The lines over the formula.
+fn lifted_lines(table: &UnitTable, bench: &Bench, p: &Dqp) -> Result<StepList, Memory>
+    requires right { IsUnitTable table.now }
+    requires can { IsLiftable table.now.formula.now (reverse table.now.units.now) bench.now }
+    requires allowed { IsDqpOf bench.now.formula bench.now.circuit.netlist p.now }
+    requires derives { circuit_proof_fault bench.now p.now.items ≡ None }
+    ensures { IfOk result
+        (AreLiftedLines table.now.formula.now (reverse table.now.units.now) bench.now) }
 {
-    match by_proof(alloc, bench, p) {
-        Ok(()) => Ok(true),
-        Err(ProofFault::Memory) => Err(Memory),
-        Err(_) => Ok(false),
+    let lifting = Lifting::of(table, bench)?;
+    let Named { ids, mut steps } = lifting.names()?;
+    let some_false = lifting.base.first + steps.len() as u64;
+    lifting.add_some_false(&mut steps)?;
+    let carrying = Carrying {
+        gates: lifting.base.gates,
+        largest: lifting.base.largest,
+        places: &lifting.kept,
+        clauses: table.formula.clauses(),
+        ids: &ids,
+        some_false,
+    };
+    carrying.carry(table.alloc, &p.items, &mut steps)?;
+    if steps.len() > MOST_LINES {
+        return Err(Memory);
     }
+    Ok(steps)
 }

@@ -5,20 +5,24 @@
 pub use circuits::lift_true;
 pub use refutations::lift_false;
 
-mod allowed;
 mod asking;
 mod carried;
 mod carrying;
 mod circuits;
 mod goals;
 mod hinted;
+mod kept_places;
+pub mod laws;
+mod liftings;
 mod lines;
-mod matrix_ids;
+mod names;
 mod negated_bases;
 mod planned;
 mod refutations;
 mod rows;
+mod settled;
 mod settling;
+mod some_false;
 mod sources;
 mod turns;
 mod units;

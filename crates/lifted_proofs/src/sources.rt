@@ -37,8 +37,8 @@ fn no_units(alloc: Global, n: usize) -> Result<Vec<Option<usize>>, Memory>
     Ok(vec![in alloc; None; n]?)
 }
 
-// By clause, the place of the unit that was taken of it.
-fn taken_places(table: &UnitTable) -> Result<Vec<Option<usize>>, Memory>
+/// By clause, the place of the unit that was taken of it.
+pub(crate) fn taken_places(table: &UnitTable) -> Result<Vec<Option<usize>>, Memory>
     ensures many { IfOk result (λ taken. length taken.items ≡ length table.now.formula.now.matrix) }
     ensures tell { IfOk result (λ taken.
         TellTaken table.now.units.now (length table.now.units.now) taken.items) }
@@ -53,8 +53,8 @@ fn taken_places(table: &UnitTable) -> Result<Vec<Option<usize>>, Memory>
     Ok(taken)
 }
 
-// Where what is kept of the clause at a place comes from, if something is.
-fn source_at(table: &UnitTable, taken: &[Option<usize>], place: usize) -> Option<Source>
+/// Where what is kept of the clause at a place comes from, if something is.
+pub(crate) fn source_at(table: &UnitTable, taken: &[Option<usize>], place: usize) -> Option<Source>
     requires right { IsUnitTable table.now }
     requires many { length taken.now ≡ length table.now.formula.now.matrix }
     requires tell { TellTaken table.now.units.now (length table.now.units.now) taken.now }

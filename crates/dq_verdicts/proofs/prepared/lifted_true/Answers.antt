@@ -6,11 +6,6 @@ use Rattle.dq_verdicts.proofs.LiftedVerdicts.{true-kept, shown-true}
 use Rattle.dq_verdicts.proofs.ShownVerdicts.{printed_as}
 use Rattle.dq_verdicts.proofs.prepared.lifted_true.Goals as goal
 
-pub certificate-requires-clause-is_true : goal.certificate-requires-clause-is_true
-certificate-requires-clause-is_true c =
-    true-kept c.simplification_keeps_choices.ensures c.args.p.now.formula.now c.args.p.now.left.now c.args.p.now.trace.now c.requires.prepared.formula
-    c.every_formula_is_lawful.ensures c.requires.prepared.units c.requires.prepared.left_is c.requires.is_true
-
 pub returns : goal.returns
 returns c =
     let f = c.args.p.now.formula.now in

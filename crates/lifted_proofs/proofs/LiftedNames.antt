@@ -1,0 +1,319 @@
+-- How a lifting's ids are named.
+use Rattle.std.proofs.Common.{◌≡◌, ◌≢◌, ℕ, zero, suc, ◌+◌, ◌*◌, ◌<◌, ◌≤◌, nat_le, ◌&&◌, Bool, true, false, not, List, [], ◌∷◌, ◌++◌, take, length, get_or, Option, Some, None, Result, Ok, Err, slice_get, refl, sym, ◌∙◌, ap, subst, arith, length-append}
+use Rattle.std.specs.Prelude.{slice_index, OnOk}
+use Rattle.std.specs.List.{All, AllZip, Contains, sum_by}
+use Rattle.std.proofs.lemmas.Bool.{true≢false, le-leb}
+use Rattle.std.proofs.lemmas.Option.{slice_get-get_or, slice_get_within, same_Some}
+use Rattle.std.proofs.lemmas.List.{append-nil, get_or_default, length-map, take_all, take_more}
+use Rattle.dq_lits.specs.Literal.{Literal, positive, negative, variable_of, same_literal}
+use Rattle.dq_lits.specs.declared.memory.Memory.{Memory}
+use Rattle.dq_lits.specs.Formula.{Dqbf}
+use Rattle.dq_lits.specs.Derivation.{LiveClauses, ProofStep, holds}
+use Rattle.dq_formula.specs.Prefix.{existential_variables}
+use Rattle.cert_text.specs.CircuitProof.{first_proof_id, is_proof_variable}
+use Rattle.cert_text.specs.Grammar.{IsStep}
+use Rattle.cert_text.specs.NegatedMatrix.{falsity_clauses, opposite_of, as_literal}
+use Rattle.circuit_plain.specs.Netlist.{Netlist}
+use Rattle.dq_prep.specs.Units.{taken_literals}
+use Rattle.dq_prep.proofs.SignedLiterals.{same_literal-sound, same_literal-refl}
+use Rattle.skolem_checker.specs.Checks.{Candidate}
+use Rattle.skolem_checker.specs.Mapping.{Mapping}
+use Rattle.skolem_checker.specs.Tables.{IsMapping}
+use Rattle.proof_checker.specs.CircuitProof.{circuit_literal}
+use Rattle.lifted_proofs.specs.Goals.{clause_at}
+use Rattle.lifted_proofs.specs.KeptPlaces.{kept_places, dropped_places}
+use Rattle.lifted_proofs.specs.Liftables.{falsity, left_falsities, lifted_base, lifted_literal, AreLiftedNames, weaker_line}
+use Rattle.lifted_proofs.specs.Liftings.{IsLifting, HasOutput, IsSettledFrom, IsNameable, AreNamedIn, AreFirstNamed, IsNaming, AreTrueIds, formula_of, units_of, left_at, place_at}
+use Rattle.lifted_proofs.specs.Lines.{behind_steps}
+use Rattle.lifted_proofs.specs.NamedIds.{IsTrueBy}
+use Rattle.lifted_proofs.specs.UnitTables.{first_literals, IsUnitTable}
+use Rattle.lifted_proofs.specs.declared.liftings.Lifting.{Lifting}
+use Rattle.lifted_proofs.specs.declared.names.Named.{Named}
+use Rattle.lifted_proofs.specs.declared.units.UnitTable.{UnitTable}
+use Rattle.lifted_proofs.proofs.KeptSources.{all-literals}
+use Rattle.lifted_proofs.proofs.LiftedClauses.{base-true, base-names, weaker-names}
+use Rattle.lifted_proofs.proofs.NamedClauses.{IsLeftAt, left-place, gone-place, falsities-more, falsity-more, part-found, part-passed, part-ended, part-whole, held-at}
+use Rattle.lifted_proofs.proofs.NamedIds.{behind-same, name-more, line-more, line-clause, weaker-derived, two-plain}
+use Rattle.lifted_proofs.proofs.NegatedIds.{literal-fits, opposite-fits, free-variable}
+use Rattle.lifted_proofs.proofs.PairedLiterals.{existential-range}
+use Rattle.lifted_proofs.proofs.SettledOutputs.{unit-output, literal-in-range}
+
+-- ---- places
+
+pub kept-place : (l : Lifting) (j : ℕ) → IsLifting l → j < length l.kept.items
+    → IsLeftAt (formula_of l) (units_of l) l.bench.now j (slice_index l.kept.items j)
+kept-place l j it below =
+    left-place (formula_of l) (units_of l) l.bench.now l.kept.items j it.can.units_are it.can.left it.kept below
+
+-- by a value that stands there
+pub kept-in : (l : Lifting) (j x : ℕ) → IsLifting l → j < length l.kept.items → x ≡ get_or l.kept.items j x
+    → (x ≡ slice_index l.kept.items j) × (x < length (formula_of l).matrix)
+kept-in l j x it below is =
+    let same : x ≡ slice_index l.kept.items j = is ∙ get_or_default l.kept.items j x 0 below in
+    let place = (kept-place l j it below).within in
+    (same, omega (arith, same, place))
+
+pub left-in : (l : Lifting) (j : ℕ) → IsLifting l → j < length l.kept.items → j < length l.bench.now.formula.matrix
+left-in l j it below = (kept-place l j it below).left_within
+
+-- outputs stand for existentials
+pub output-range : (t : UnitTable) (net : Netlist) (mapping : Mapping) (outs : List ℕ) (i : ℕ) → IsUnitTable t
+    → IsMapping t.formula.now net mapping → outs ≡ mapping.outputs → i < length net.outputs
+    → (1 ≤ get_or outs i 0) × (get_or outs i 0 < 4611686018427387904)
+output-range t net mapping outs i right mapped is below =
+    let f = t.formula.now in
+    let all-long = length-map f.existentials (λ y. y.variable) in
+    let long : length mapping.outputs ≡ length (existential_variables f) = mapped.outputs.same_length in
+    let sized : length outs ≡ length mapping.outputs = ap (λ (xs : List ℕ). length xs) is in
+    let all : All (Contains (existential_variables f)) outs =
+    subst (All (Contains (existential_variables f))) (sym is) mapped.outputs.declared_alone in
+    let range = existential-range f (get_or outs i 0) right.well
+    (all i 0 (omega (arith, below, sized, long, all-long, mapped.outputs_length))) in
+    (range.0, omega (arith, range.1, right.lawful.few_variables))
+
+pub outputs-enough : (t : UnitTable) (net : Netlist) (mapping : Mapping) (i : ℕ)
+    → IsMapping t.formula.now net mapping → i < length net.outputs → i < length mapping.outputs
+outputs-enough t net mapping i mapped below =
+    let f = t.formula.now in
+    let all-long = length-map f.existentials (λ y. y.variable) in
+    let long : length mapping.outputs ≡ length (existential_variables f) = mapped.outputs.same_length in
+    omega (arith, below, long, all-long, mapped.outputs_length)
+
+pub taken-output : (l : Lifting) (literal : Literal) (b : Bool) → IsLifting l
+    → b ≡ holds (first_literals l.table.now.units.now (length l.table.now.units.now)) literal → b ≡ true
+    → HasOutput l.bench.now (variable_of literal)
+taken-output l literal b it is taken =
+    unit-output (formula_of l) (units_of l) l.bench.now literal it.can.well it.can.units_are it.can.mapped
+    (ap (λ ls. holds ls literal) (sym (all-literals l.table.now.units.now)) ∙ sym is ∙ taken)
+
+-- ---- names
+
+module _ (l : Lifting) (it : IsLifting l) where
+  abbrev f : Dqbf
+  f = formula_of l
+
+  abbrev c : Candidate
+  c = l.bench.now
+
+  abbrev first : ℕ
+  first = first_proof_id (formula_of l) l.bench.now.circuit.netlist
+
+  abbrev variable : ℕ → Bool
+  variable = is_proof_variable (formula_of l) l.bench.now.circuit.netlist
+
+  abbrev base : LiveClauses
+  base = lifted_base (formula_of l) (units_of l) l.bench.now
+
+  abbrev to : Literal → Literal
+  to = lifted_literal (formula_of l) (units_of l) l.bench.now
+
+  -- the id is the formula's own
+  pub name-known : (j : ℕ) (literal : Literal) (id : ℕ) → IsNameable l j literal id → IsSettledFrom l literal None
+      → (falsities : List (List ℕ)) (ids : List ℕ) (steps : List ProofStep)
+      → AreLiftedNames (formula_of l) (units_of l) l.bench.now falsities ids steps
+      → AreLiftedNames (formula_of l) (units_of l) l.bench.now
+      (falsities ++ falsity (circuit_literal l.bench.now.circuit) (l.bench.now.circuit.netlist.max_var + 1 + j) literal ∷ [])
+      (ids ++ id ∷ []) steps
+  name-known j literal id n kind falsities ids steps named =
+      name-more variable first to base falsities ids steps
+      (falsity (circuit_literal c.circuit) (c.circuit.netlist.max_var + 1 + j) literal) id named (record {
+        from_one = omega (arith, n.is.is);
+        before = omega (arith, n.before);
+        names = λ clause is.
+            behind-same base variable first steps id named.allowed n.before
+            ∙ base-names f (units_of l) c it.can j n.place literal id clause n.at n.is n.none_false kind is;
+      })
+
+  -- or that of a line
+  pub name-weak : (j : ℕ) (literal : Literal) (id was place : ℕ) → IsNameable l j literal id
+      → IsSettledFrom l literal (Some was)
+      → slice_get (kept_places (formula_of l) (units_of l) 0 (formula_of l).matrix) j ≡ Some place
+      → place < length (formula_of l).matrix
+      → (falsities : List (List ℕ)) (ids : List ℕ) (steps : List ProofStep)
+      → AreLiftedNames (formula_of l) (units_of l) l.bench.now falsities ids steps
+      → AreLiftedNames (formula_of l) (units_of l) l.bench.now
+      (falsities ++ falsity (circuit_literal l.bench.now.circuit) (l.bench.now.circuit.netlist.max_var + 1 + j) literal ∷ [])
+      (ids ++ (first_proof_id (formula_of l) l.bench.now.circuit.netlist + length steps) ∷ [])
+      (steps ++ weaker_line (formula_of l) l.bench.now place was id steps ∷ [])
+  name-weak j literal id was place n kind at within falsities ids steps named =
+      let largest = c.circuit.netlist.max_var in
+      let line = weaker_line f c place was id steps in
+      let other = as_literal (opposite_of was) in
+      let fits : was ≤ 2 * largest + 1 =
+      subst (λ x. x ≤ 2 * largest + 1) (sym kind.0) (literal-in-range c.circuit literal it.can.lawful) in
+      let low : variable_of other ≤ largest =
+      literal-fits (opposite_of was) largest (opposite-fits was largest fits) in
+      let free : 1 ≤ variable_of other = free-variable was kind.1 in
+      let own : n.place ≡ place = same-place n.at at in
+      let hinted : base id ≡ Some (negative (largest + 1 + place) ∷ []) =
+      base-true f (units_of l) c it.can n.place literal id n.is kind.2
+      ∙ ap (λ p. Some (negative (largest + 1 + p) ∷ [])) own in
+      let step : IsStep variable (first + length steps) line = record {
+        numbered = refl;
+        on_variables = two-all (λ k. variable (variable_of k) ≡ true) (negative (largest + 1 + place)) other
+            (up (largest + length f.matrix) (largest + 1 + place) (omega arith) (omega (arith, within)))
+            (up (largest + length f.matrix) (variable_of other) free (omega (arith, low)));
+        hints_before = one-all (λ h. (1 ≤ h) × (h < first + length steps)) id
+            (omega (arith, n.is.is), omega (arith, n.before));
+      } in
+      let plain = two-plain (negative (largest + 1 + place)) other (λ same. absurd (omega (arith, same, low))) in
+      let more = line-more variable first to base falsities ids steps line named step
+      (weaker-derived (behind_steps base steps) (negative (largest + 1 + place)) other id
+      (behind-same base variable first steps id named.allowed n.before ∙ hinted) plain) in
+      name-more variable first to base falsities ids (steps ++ line ∷ [])
+      (falsity (circuit_literal c.circuit) (largest + 1 + j) literal) (first + length steps) more (record {
+        from_one = omega arith;
+        before = omega (arith, length-append steps (line ∷ []));
+        names = λ clause is.
+            line-clause variable first to base steps line
+            ∙ ap Some (weaker-names f (units_of l) c it.can j place literal was clause at kind.0 kind.1 is);
+      })
+    where
+      same-place : {o : Option ℕ} {a b : ℕ} → o ≡ Some a → o ≡ Some b → a ≡ b
+      same-place {o} {a} {b} p q = same_Some a b (sym p ∙ q)
+
+      up : (variables v : ℕ) → 1 ≤ v → v ≤ variables → (nat_le 1 v && nat_le v variables) ≡ true
+      up variables v low high = ap (λ b. b && nat_le v variables) (le-leb 1 v low) ∙ le-leb v variables high
+
+      one-all : {X : Type 0} (P : X → Type 0) (x : X) → P x → All P (x ∷ [])
+      one-all P x has zero d below = has
+      one-all P x has (suc k) d below = absurd (omega (arith, below))
+
+      two-all : {X : Type 0} (P : X → Type 0) (x y : X) → P x → P y → All P (x ∷ y ∷ [])
+      two-all P x y a b zero d below = a
+      two-all P x y a b (suc zero) d below = b
+      two-all P x y a b (suc (suc k)) d below = absurd (omega (arith, below))
+
+  -- a literal that is left has an id
+  pub nameable : (j q id : ℕ) (found : ℕ) (literal : Literal) → j < length l.kept.items
+      → slice_get (left_at l j) found ≡ Some literal
+      → slice_get (clause_at (formula_of l) (slice_index l.kept.items j)) q ≡ Some literal
+      → id ≡ 3 * length l.bench.now.circuit.netlist.gates
+      + (sum_by length (take (slice_index l.kept.items j) (formula_of l).matrix) + q) + 1
+      → id < l.base.first → IsNameable l j literal id
+  nameable j q id found literal below at-left at is before =
+      let p = kept-place l j it below in
+      record {
+        place = slice_index l.kept.items j;
+        at = p.place_at;
+        is = record {
+          clause = clause_at f (slice_index l.kept.items j);
+          clause_at = p.clause;
+          place = q;
+          at = at;
+          is = is;
+        };
+        none_false = p.left.none_false literal (held-at (left_at l j) found literal at-left);
+        before = omega (arith, before, it.base.first);
+      }
+
+  pub naming-ended : (j found q : ℕ) (w : Named) → IsNaming l j found q w → length (left_at l j) ≤ found
+      → IsNaming l j found (q + 1) w
+  naming-ended j found q w n past = record {
+    named = n.named;
+    rest = part-ended (left_at l j) (clause_at f (place_at l j)) found q past;
+    low = n.low;
+  }
+
+  pub naming-passed : (j found q : ℕ) (w : Named) (m literal : Literal) → IsNaming l j found q w
+      → slice_get (left_at l j) found ≡ Some m → slice_get (clause_at (formula_of l) (place_at l j)) q ≡ Some literal
+      → m ≢ literal → IsNaming l j found (q + 1) w
+  naming-passed j found q w m literal n at-left at apart = record {
+    named = n.named;
+    rest = part-passed (left_at l j) (clause_at f (place_at l j)) found q m literal n.rest at-left at apart;
+    low = n.low;
+  }
+
+  pub naming-found : (j found q : ℕ) (old new : Named) (literal : Literal) → IsNaming l j found q old
+      → slice_get (left_at l j) found ≡ Some literal
+      → slice_get (clause_at (formula_of l) (place_at l j)) q ≡ Some literal
+      → ((falsities : List (List ℕ)) → AreNamedIn l falsities old
+      → AreNamedIn l (falsities
+      ++ falsity (circuit_literal l.bench.now.circuit) (l.bench.now.circuit.netlist.max_var + 1 + j) literal ∷ []) new)
+      → IsNaming l j (found + 1) (q + 1) new
+  naming-found j found q old new literal n at-left at more =
+      let lit = circuit_literal c.circuit in
+      let bad = c.circuit.netlist.max_var + 1 + j in
+      let front = left_falsities c (take j c.formula.matrix) in
+      record {
+        named = subst (λ fs. AreNamedIn l fs new) (sym (falsity-more lit bad front (left_at l j) found literal at-left))
+            (more (front ++ falsity_clauses lit bad (take found (left_at l j))) n.named);
+        rest = part-found (left_at l j) (clause_at f (place_at l j)) found q literal n.rest at-left at;
+        low = (let within = slice_get_within (left_at l j) found literal at-left in omega (arith, within));
+      }
+
+  pub naming-begun : (j : ℕ) (w : Named) → j < length l.kept.items → AreFirstNamed l j w → IsNaming l j 0 0 w
+  naming-begun j w below named = record {
+    named = subst (λ fs. AreNamedIn l fs w) (sym (append-nil (left_falsities c (take j c.formula.matrix)))) named;
+    rest = (kept-place l j it below).left.part;
+    low = omega arith;
+  }
+
+  pub naming-done : (j found q : ℕ) (w : Named) → j < length l.kept.items → IsNaming l j found q w
+      → length (clause_at (formula_of l) (place_at l j)) ≤ q → AreFirstNamed l (j + 1) w
+  naming-done j found q w below n past =
+      let left = left_at l j in
+      let whole = part-whole left (clause_at f (place_at l j)) found q n.rest past in
+      let all : take found left ≡ left = take_all found left whole in
+      let lit = circuit_literal c.circuit in
+      let bad = c.circuit.netlist.max_var + 1 + j in
+      let front = left_falsities c (take j c.formula.matrix) in
+      subst (λ fs. AreNamedIn l fs w)
+      (ap (λ ls. front ++ falsity_clauses lit bad ls) all
+      ∙ sym (falsities-more c j left (left-in l j it below) refl)) n.named
+
+  -- ---- true literals
+
+  pub true-more : (dropped : List ℕ) (k id place : ℕ) (ids new : List ℕ)
+      → dropped ≡ dropped_places (formula_of l) (units_of l) 0 (formula_of l).matrix → k < length dropped
+      → place < length (clause_at (formula_of l) (slice_index dropped k))
+      → ((literal : Literal) → slice_get (clause_at (formula_of l) (slice_index dropped k)) place ≡ Some literal
+      → holds (taken_literals (units_of l)) literal ≡ true)
+      → id ≡ 3 * length l.bench.now.circuit.netlist.gates
+      + (sum_by length (take (slice_index dropped k) (formula_of l).matrix) + place) + 1
+      → id < l.base.first → AreTrueIds l (take k dropped) ids → new ≡ ids ++ id ∷ []
+      → AreTrueIds l (take (k + 1) dropped) new
+  true-more dropped k id place ids new is below within held id-is before all more =
+      let p = slice_index dropped k in
+      let gone = gone-place f (units_of l) dropped k is below in
+      let clause = clause_at f p in
+      let literal = get_or clause place (positive 0) in
+      let at : slice_get clause place ≡ Some literal = slice_get-get_or clause place (positive 0) within in
+      let clause-is : slice_get f.matrix p ≡ Some clause = slice_get-get_or f.matrix p [] gone.within in
+      let own : IsTrueBy base (c.circuit.netlist.max_var + 1) first p id = record {
+        from_one = omega (arith, id-is);
+        before = omega (arith, before, it.base.first);
+        is = base-true f (units_of l) c it.can p literal id
+            (record { clause = clause; clause_at = clause-is; place = place; at = at; is = id-is }) (held literal at);
+      } in
+      subst (λ ps. AreTrueIds l ps new) (sym (take_more dropped k 0 below))
+      (subst (AreTrueIds l (take k dropped ++ p ∷ [])) (sym more)
+      (zip-push (IsTrueBy base (c.circuit.netlist.max_var + 1) first) (take k dropped) ids p id all own))
+    where
+      zip-push : {X Y : Type 0} (P : X → Y → Type 0) (xs : List X) (ys : List Y) (x : X) (y : Y) → AllZip P xs ys
+          → P x y → AllZip P (xs ++ x ∷ []) (ys ++ y ∷ [])
+      zip-push P [] [] x y all has = (has, tt)
+      zip-push P [] (b ∷ ys) x y all has = absurd all
+      zip-push P (a ∷ xs) [] x y all has = absurd all
+      zip-push P (a ∷ xs) (b ∷ ys) x y all has = (all.0, zip-push P xs ys x y all.1 has)
+
+-- what a literal that is read is
+pub read-at : (xs ys : List Literal) (k : ℕ) (x : Literal) → xs ≡ ys → k < length ys → x ≡ get_or xs k x
+    → slice_get ys k ≡ Some x
+read-at xs ys k x same below is =
+    slice_get-get_or ys k x below ∙ ap Some (sym (is ∙ ap (λ zs. get_or zs k x) same))
+
+pub apart-by : (k l : Literal) → true ≡ not (same_literal k l) → k ≢ l
+apart-by k l other same =
+    true≢false (other ∙ ap not (ap (λ m. same_literal m l) same ∙ same_literal-refl l))
+
+pub same-by : (k l : Literal) → false ≡ not (same_literal k l) → k ≡ l
+same-by k l same = same_literal-sound k l (by (same_literal k l) same)
+  where
+    by : (b : Bool) → false ≡ not b → b ≡ true
+    by true h = refl
+    by false h = absurd (true≢false (sym h))
+
+pub on-ok-both : (r : Result (Unit {0}) Memory) (A B P : Type 0) → OnOk r A → OnOk r B → (A → B → P) → OnOk r P
+on-ok-both (Ok x) A B P a b to-p = to-p a b
+on-ok-both (Err e) A B P a b to-p = tt

@@ -1,0 +1,371 @@
+-- The clauses of a negated matrix by their ids.
+use Rattle.std.proofs.Common.{◌≡◌, ℕ, zero, suc, ◌+◌, ◌-◌, ◌*◌, ◌/◌, ◌%◌, ◌<◌, ◌≤◌, ◌==◌, Bool, true, false, not, cond, ◌||◌, inl, inr, List, [], ◌∷◌, ◌++◌, map, take, length, Option, Some, None, slice_get, refl, sym, ◌∙◌, ap, subst, arith, length-append}
+use Rattle.std.specs.List.{All, AllByRecursion, flat_map, filter, list_any, range_with_len, sum_by}
+use Rattle.std.specs.Option.{option_and_then}
+use Rattle.std.proofs.lemmas.Bool.{ne_eqb, eq-eqb, eqb-true, cases_eq}
+use Rattle.std.proofs.lemmas.List.{length-map}
+use Rattle.std.proofs.lemmas.List.Sums.{sum_by-cons}
+use Rattle.std.proofs.lemmas.Option.{slice_get_past, same_Some}
+use Rattle.dq_lits.specs.Literal.{Literal, positive, negative, variable_of}
+use Rattle.dq_lits.specs.Formula.{Dqbf}
+use Rattle.circuit_plain.specs.Netlist.{Netlist, IsNetlist, IsGate}
+use Rattle.circuit_plain.specs.declared.circuits.Gate.{Gate}
+use Rattle.cert_text.specs.NegatedMatrix.{opposite_of, gate_clauses, literal_under, falsity_clauses, all_falsity_clauses, some_clause_false, as_literal, without_constants, negated_matrix}
+use Rattle.lifted_proofs.specs.Liftables.{falsity}
+
+append-left : {X : Type 0} (xs ys : List X) (i : ℕ) → i < length xs → slice_get (xs ++ ys) i ≡ slice_get xs i
+append-left [] ys i below = absurd (omega (arith, below))
+append-left (x ∷ xs) ys zero below = refl
+append-left (x ∷ xs) ys (suc i) below = append-left xs ys i (omega (arith, below))
+
+append-right : {X : Type 0} (xs ys : List X) (i k : ℕ) → k ≡ length xs + i → slice_get (xs ++ ys) k ≡ slice_get ys i
+append-right [] ys i k is = ap (slice_get ys) (omega (arith, is))
+append-right (x ∷ xs) ys i zero is = absurd (omega (arith, is))
+append-right (x ∷ xs) ys i (suc k) is = append-right xs ys i k (omega (arith, is))
+
+gates-length : (gates : List Gate) → length (flat_map gate_clauses gates) ≡ 3 * length gates
+gates-length [] = refl
+gates-length (g ∷ gates) = omega (arith, gates-length gates)
+
+in-clause : (lit : ℕ → ℕ) (bad : ℕ) (clause : List Literal) (q : ℕ) (l : Literal) → slice_get clause q ≡ Some l
+    → slice_get (falsity_clauses lit bad clause) q ≡ Some (falsity lit bad l)
+in-clause lit bad [] q l at = cc
+in-clause lit bad (k ∷ ks) zero l at = ap (λ x. Some (falsity lit bad x)) (same_Some k l at)
+in-clause lit bad (k ∷ ks) (suc q) l at = in-clause lit bad ks q l at
+
+place-within : {X : Type 0} (xs : List X) (q : ℕ) (x : X) → slice_get xs q ≡ Some x → q < length xs
+place-within [] q x at = cc
+place-within (y ∷ ys) zero x at = omega arith
+place-within (y ∷ ys) (suc q) x at = let h = place-within ys q x at in omega (arith, h)
+
+falsity-length : (lit : ℕ → ℕ) (bad : ℕ) (c : List Literal) → length (falsity_clauses lit bad c) ≡ length c
+falsity-length lit bad c = length-map c (λ x. opposite_of (2 * bad) ∷ opposite_of (literal_under lit x) ∷ [])
+
+sum-first : (c : List Literal) (cs : List (List Literal)) → sum_by length (c ∷ cs) ≡ length c + sum_by length cs
+sum-first c cs = sum_by-cons length c cs
+
+sum-taken : (c : List Literal) (cs : List (List Literal)) (p : ℕ)
+    → sum_by length (take (suc p) (c ∷ cs)) ≡ length c + sum_by length (take p cs)
+sum-taken c cs p = sum_by-cons length c (take p cs)
+
+sum-none : (cs : List (List Literal)) → sum_by length (take 0 cs) ≡ 0
+sum-none [] = refl
+sum-none (c ∷ cs) = refl
+
+in-clauses : (lit : ℕ → ℕ) (bad : ℕ) (clauses : List (List Literal)) (p q k : ℕ) (clause : List Literal) (l : Literal)
+    → slice_get clauses p ≡ Some clause → slice_get clause q ≡ Some l
+    → k ≡ sum_by length (take p clauses) + q
+    → slice_get (all_falsity_clauses lit bad clauses) k ≡ Some (falsity lit (bad + p) l)
+in-clauses lit bad [] p q k clause l there at is = cc
+in-clauses lit bad (c ∷ cs) zero q k clause l there at is =
+    let own : c ≡ clause = same_Some c clause there in
+    let here : slice_get c q ≡ Some l = ap (λ x. slice_get x q) own ∙ at in
+    let within = place-within c q l here in
+    let long = falsity-length lit bad c in
+    let same : k ≡ q = omega (arith, is, sum-none (c ∷ cs)) in
+    ap (slice_get (all_falsity_clauses lit bad (c ∷ cs))) same
+    ∙ append-left (falsity_clauses lit bad c) (all_falsity_clauses lit (bad + 1) cs) q (omega (arith, within, long))
+    ∙ in-clause lit bad c q l here ∙ ap (λ b. Some (falsity lit b l)) (omega arith)
+in-clauses lit bad (c ∷ cs) (suc p) q k clause l there at is =
+    let long = falsity-length lit bad c in
+    let rest : ℕ = sum_by length (take p cs) + q in
+    append-right (falsity_clauses lit bad c) (all_falsity_clauses lit (bad + 1) cs) rest k
+    (omega (arith, is, long, sum-taken c cs p))
+    ∙ in-clauses lit (bad + 1) cs p q rest clause l there at refl
+    ∙ ap (λ b. Some (falsity lit b l)) (omega arith)
+
+pub falsities-length : (lit : ℕ → ℕ) (bad : ℕ) (clauses : List (List Literal))
+    → length (all_falsity_clauses lit bad clauses) ≡ sum_by length clauses
+falsities-length lit bad [] = refl
+falsities-length lit bad (c ∷ cs) =
+    let long = falsity-length lit bad c in
+    let rest = falsities-length lit (bad + 1) cs in
+    let both = length-append (falsity_clauses lit bad c) (all_falsity_clauses lit (bad + 1) cs) in
+    omega (arith, long, rest, both, sum-first c cs)
+
+module _ (f : Dqbf) (net : Netlist) (lit : ℕ → ℕ) where
+  abbrev gate_part : List (List ℕ)
+  gate_part = flat_map gate_clauses net.gates
+
+  abbrev falsity_part : List (List ℕ)
+  falsity_part = all_falsity_clauses lit (net.max_var + 1) f.matrix
+
+  abbrev last_part : List (List ℕ)
+  last_part = some_clause_false net f.matrix ∷ []
+
+  by-id : (id i : ℕ) (o : Option (List ℕ)) → id ≡ suc i → slice_get (gate_part ++ (falsity_part ++ last_part)) i ≡ o
+      → negated_matrix f net lit id ≡ option_and_then without_constants o
+  by-id id i o is at = ap (negated_matrix f net lit) is ∙ ap (option_and_then without_constants) at
+
+  -- the clauses of gates come first
+  pub in-gates : (id i : ℕ) → id ≡ suc i → i < 3 * length net.gates
+      → negated_matrix f net lit id ≡ option_and_then without_constants (slice_get (flat_map gate_clauses net.gates) i)
+  in-gates id i is below =
+      by-id id i (slice_get gate_part i) is
+      (append-left gate_part (falsity_part ++ last_part) i (omega (arith, below, gates-length net.gates)))
+
+  -- then those of the literals
+  pub in-falsity : (id k : ℕ) (o : Option (List ℕ)) → id ≡ 3 * length net.gates + k + 1 → k < sum_by length f.matrix
+      → slice_get (all_falsity_clauses lit (net.max_var + 1) f.matrix) k ≡ o
+      → negated_matrix f net lit id ≡ option_and_then without_constants o
+  in-falsity id k o is below at =
+      by-id id (3 * length net.gates + k) o (omega (arith, is))
+      (append-right gate_part (falsity_part ++ last_part) k (3 * length net.gates + k)
+      (omega (arith, gates-length net.gates))
+      ∙ append-left falsity_part last_part k
+      (omega (arith, below, falsities-length lit (net.max_var + 1) f.matrix)) ∙ at)
+
+  -- and last that some clause is false
+  pub in-last : (id : ℕ) → id ≡ 3 * length net.gates + sum_by length f.matrix + 1
+      → negated_matrix f net lit id ≡ without_constants (some_clause_false net f.matrix)
+  in-last id is =
+      let many = sum_by length f.matrix in
+      let long = falsities-length lit (net.max_var + 1) f.matrix in
+      by-id id (3 * length net.gates + many) (Some (some_clause_false net f.matrix)) (omega (arith, is))
+      (append-right gate_part (falsity_part ++ last_part) many (3 * length net.gates + many)
+      (omega (arith, gates-length net.gates))
+      ∙ append-right falsity_part last_part 0 many (omega (arith, long)))
+
+  pub behind-all : (id : ℕ) → 3 * length net.gates + sum_by length f.matrix + 1 < id → negated_matrix f net lit id ≡ None
+  behind-all zero behind = refl
+  behind-all (suc i) behind =
+      let long = falsities-length lit (net.max_var + 1) f.matrix in
+      let tail = length-append falsity_part last_part in
+      let whole = length-append gate_part (falsity_part ++ last_part) in
+      by-id (suc i) i None refl
+      (slice_get_past (gate_part ++ (falsity_part ++ last_part)) i
+      (omega (arith, behind, long, tail, whole, gates-length net.gates)))
+
+-- the clause of a literal at its place
+pub at-literal : (f : Dqbf) (net : Netlist) (lit : ℕ → ℕ) (p q id : ℕ) (clause : List Literal) (l : Literal)
+    → slice_get f.matrix p ≡ Some clause → slice_get clause q ≡ Some l
+    → id ≡ 3 * length net.gates + (sum_by length (take p f.matrix) + q) + 1
+    → sum_by length (take p f.matrix) + q < sum_by length f.matrix
+    → negated_matrix f net lit id ≡ without_constants (falsity lit (net.max_var + 1 + p) l)
+at-literal f net lit p q id clause l there at is below =
+    in-falsity f net lit id (sum_by length (take p f.matrix) + q) (Some (falsity lit (net.max_var + 1 + p) l)) is below
+    (in-clauses lit (net.max_var + 1) f.matrix p q (sum_by length (take p f.matrix) + q) clause l there at refl)
+
+pub literal-before : (clauses : List (List Literal)) (p q : ℕ) (clause : List Literal) → slice_get clauses p ≡ Some clause
+    → q < length clause → sum_by length (take p clauses) + q < sum_by length clauses
+literal-before [] p q clause at below = cc
+literal-before (c ∷ cs) zero q clause at below =
+    let same = ap (λ (x : List Literal). length x) (same_Some c clause at) in
+    omega (arith, below, same, sum-first c cs, sum-none (c ∷ cs))
+literal-before (c ∷ cs) (suc p) q clause at below =
+    let rest = literal-before cs p q clause at below in
+    omega (arith, rest, sum-first c cs, sum-taken c cs p)
+
+-- ---- constants
+
+opposite-even : (bad : ℕ) → opposite_of (2 * bad) ≡ 2 * bad + 1
+opposite-even bad =
+    let even : 2 * bad % 2 ≡ 0 = omega arith in
+    ap (λ r. cond (r == 1) (2 * bad - 1) (2 * bad + 1)) even
+
+-- where the clause is false, its literal's own circuit literal is
+pub data Stands : ℕ → Type 0 where
+  is_false : {x : ℕ} → x ≡ 0 → Stands x
+  is_true : {x : ℕ} → x ≡ 1 → Stands x
+  is_free : {x : ℕ} → 2 ≤ x → Stands x
+
+pub stands-by : (x : ℕ) → Stands x
+stands-by zero = is_false refl
+stands-by (suc zero) = is_true refl
+stands-by (suc (suc x)) = is_free (omega arith)
+
+opposite-free : (x : ℕ) → 2 ≤ x → 2 ≤ opposite_of x
+opposite-free x free = by (x % 2 == 1) refl
+  where
+    by : (b : Bool) → (x % 2 == 1) ≡ b → 2 ≤ cond b (x - 1) (x + 1)
+    by true e = omega (arith, eqb-true (x % 2) 1 e, free)
+    by false e = omega (arith, free)
+
+abbrev named : ℕ → Literal
+named bad = negative bad
+
+negated-number : (bad : ℕ) → as_literal (2 * bad + 1) ≡ negative bad
+negated-number bad =
+    let odd : (2 * bad + 1) % 2 ≡ 1 = omega arith in
+    let half : (2 * bad + 1) / 2 ≡ bad = omega arith in
+    ap (λ r. cond (r == 1) (negative ((2 * bad + 1) / 2)) (positive ((2 * bad + 1) / 2))) odd ∙ ap negative half
+
+positive-number : (bad : ℕ) → as_literal (2 * bad) ≡ positive bad
+positive-number bad =
+    let even : 2 * bad % 2 ≡ 0 = omega arith in
+    let half : 2 * bad / 2 ≡ bad = omega arith in
+    ap (λ r. cond (r == 1) (negative (2 * bad / 2)) (positive (2 * bad / 2))) even ∙ ap positive half
+
+two-kept : (a b : ℕ) (p q r s : Bool) → (a == 1) ≡ p → (b == 1) ≡ q → (a == 0) ≡ r → (b == 0) ≡ s
+    → without_constants (a ∷ b ∷ [])
+    ≡ cond (p || (q || false)) None
+    (Some (map as_literal (cond (not r) (a ∷ cond (not s) (b ∷ []) []) (cond (not s) (b ∷ []) []))))
+two-kept a b p q r s e1 e2 e3 e4 =
+    ap (λ x. cond (x || ((b == 1) || false)) None
+    (Some (map as_literal (cond (not (a == 0)) (a ∷ cond (not (b == 0)) (b ∷ []) []) (cond (not (b == 0)) (b ∷ []) []))))) e1
+    ∙ ap (λ x. cond (p || (x || false)) None
+    (Some (map as_literal (cond (not (a == 0)) (a ∷ cond (not (b == 0)) (b ∷ []) []) (cond (not (b == 0)) (b ∷ []) []))))) e2
+    ∙ ap (λ x. cond (p || (q || false)) None
+    (Some (map as_literal (cond (not x) (a ∷ cond (not (b == 0)) (b ∷ []) []) (cond (not (b == 0)) (b ∷ []) []))))) e3
+    ∙ ap (λ x. cond (p || (q || false)) None
+    (Some (map as_literal (cond (not r) (a ∷ cond (not x) (b ∷ []) []) (cond (not x) (b ∷ []) []))))) e4
+
+module _ (bad x : ℕ) (some : 1 ≤ bad) where
+  first-free : (opposite_of (2 * bad) == 1) ≡ false
+  first-free = ne_eqb (opposite_of (2 * bad)) 1 (λ e. absurd (omega (arith, e, opposite-even bad, some)))
+
+  first-kept : (opposite_of (2 * bad) == 0) ≡ false
+  first-kept = ne_eqb (opposite_of (2 * bad)) 0 (λ e. absurd (omega (arith, e, opposite-even bad)))
+
+  first-is : as_literal (opposite_of (2 * bad)) ≡ negative bad
+  first-is = ap as_literal (opposite-even bad) ∙ negated-number bad
+
+  pub falsity-false : x ≡ 0 → without_constants (opposite_of (2 * bad) ∷ opposite_of x ∷ []) ≡ None
+  falsity-false is =
+      ap (λ y. without_constants (opposite_of (2 * bad) ∷ opposite_of y ∷ [])) is
+      ∙ two-kept (opposite_of (2 * bad)) 1 false true false false first-free refl first-kept refl
+
+  pub falsity-true : x ≡ 1
+      → without_constants (opposite_of (2 * bad) ∷ opposite_of x ∷ []) ≡ Some (negative bad ∷ [])
+  falsity-true is =
+      ap (λ y. without_constants (opposite_of (2 * bad) ∷ opposite_of y ∷ [])) is
+      ∙ two-kept (opposite_of (2 * bad)) 0 false false false true first-free refl first-kept refl
+      ∙ ap (λ l. Some (l ∷ [])) first-is
+
+  pub falsity-free : 2 ≤ x
+      → without_constants (opposite_of (2 * bad) ∷ opposite_of x ∷ [])
+      ≡ Some (negative bad ∷ as_literal (opposite_of x) ∷ [])
+  falsity-free free =
+      let above = opposite-free x free in
+      two-kept (opposite_of (2 * bad)) (opposite_of x) false false false false first-free
+      (ne_eqb (opposite_of x) 1 (λ e. absurd (omega (arith, e, above)))) first-kept
+      (ne_eqb (opposite_of x) 0 (λ e. absurd (omega (arith, e, above))))
+      ∙ ap (λ l. Some (l ∷ as_literal (opposite_of x) ∷ [])) first-is
+
+-- the clause that some clause is false
+pub last-clause : (first count : ℕ) → 1 ≤ first
+    → without_constants (map (λ bad. 2 * bad) (range_with_len first count))
+    ≡ Some (map positive (range_with_len first count))
+last-clause first count some =
+    ap (λ b. cond b None (Some (map as_literal (filter (λ l. not (l == 0)) (map (λ bad. 2 * bad) (range_with_len first count))))))
+    (none-true first count some)
+    ∙ ap (λ ls. Some (map as_literal ls)) (all-kept first count some)
+    ∙ ap Some (all-are first count)
+  where
+    none-true : (first count : ℕ) → 1 ≤ first
+        → list_any (λ l. l == 1) (map (λ bad. 2 * bad) (range_with_len first count)) ≡ false
+    none-true first zero some = refl
+    none-true first (suc count) some =
+        ap (λ b. b || list_any (λ l. l == 1) (map (λ bad. 2 * bad) (range_with_len (first + 1) count)))
+        (ne_eqb (2 * first) 1 (λ e. absurd (omega (arith, e))))
+        ∙ none-true (first + 1) count (omega arith)
+
+    all-kept : (first count : ℕ) → 1 ≤ first
+        → filter (λ l. not (l == 0)) (map (λ bad. 2 * bad) (range_with_len first count))
+        ≡ map (λ bad. 2 * bad) (range_with_len first count)
+    all-kept first zero some = refl
+    all-kept first (suc count) some =
+        let rest : List ℕ = filter (λ l. not (l == 0)) (map (λ bad. 2 * bad) (range_with_len (first + 1) count)) in
+        ap (λ b. cond (not b) (2 * first ∷ rest) rest) (ne_eqb (2 * first) 0 (λ e. absurd (omega (arith, e, some))))
+        ∙ ap (λ ls. 2 * first ∷ ls) (all-kept (first + 1) count (omega arith))
+
+    all-are : (first count : ℕ)
+        → map as_literal (map (λ bad. 2 * bad) (range_with_len first count)) ≡ map positive (range_with_len first count)
+    all-are first zero = refl
+    all-are first (suc count) =
+        ap (λ l. l ∷ map as_literal (map (λ bad. 2 * bad) (range_with_len (first + 1) count))) (positive-number first)
+        ∙ ap (λ ls. positive first ∷ ls) (all-are (first + 1) count)
+
+-- ---- variables
+
+pub free-variable : (x : ℕ) → 2 ≤ x → 1 ≤ variable_of (as_literal (opposite_of x))
+free-variable x free = by (opposite_of x) (opposite-free x free)
+  where
+    by : (y : ℕ) → 2 ≤ y → 1 ≤ variable_of (as_literal y)
+    by y above = sign (y % 2 == 1)
+      where
+        sign : (b : Bool) → 1 ≤ variable_of (cond b (negative (y / 2)) (positive (y / 2)))
+        sign true = omega (arith, above)
+        sign false = omega (arith, above)
+
+pub literal-fits : (x max : ℕ) → x ≤ 2 * max + 1 → variable_of (as_literal x) ≤ max
+literal-fits x max less = by (x % 2 == 1)
+  where
+    by : (b : Bool) → variable_of (cond b (negative (x / 2)) (positive (x / 2))) ≤ max
+    by true = omega (arith, less)
+    by false = omega (arith, less)
+
+pub opposite-fits : (x max : ℕ) → x ≤ 2 * max + 1 → opposite_of x ≤ 2 * max + 1
+opposite-fits x max less = by (x % 2 == 1) refl
+  where
+    by : (b : Bool) → (x % 2 == 1) ≡ b → cond b (x - 1) (x + 1) ≤ 2 * max + 1
+    by true e = omega (arith, less)
+    by false e = elim (cases_eq (x % 2) 1) [
+      | inl odd ↦ absurd (clash (sym (eq-eqb (x % 2) 1 odd) ∙ e))
+      | inr even ↦ omega (arith, less, even)
+    ]
+      where
+        clash : true ≡ false → ⊥
+        clash h = cc
+
+-- no literal of these is above
+abbrev AreWithin : ℕ → List ℕ → Type 0
+AreWithin max xs = AllByRecursion (λ x. x ≤ 2 * max + 1) xs
+
+abbrev pub AreOn : ℕ → List Literal → Type 0
+AreOn max ls = AllByRecursion (λ l. variable_of l ≤ max) ls
+
+kept-fits : (max : ℕ) (xs : List ℕ) → AreWithin max xs
+    → AreOn max (map as_literal (filter (λ l. not (l == 0)) xs))
+kept-fits max [] all = tt
+kept-fits max (x ∷ xs) all = by (x == 0) (kept-fits max xs all.1)
+  where
+    rest : List ℕ
+    rest = filter (λ l. not (l == 0)) xs
+
+    by : (b : Bool) → AreOn max (map as_literal rest) → AreOn max (map as_literal (cond (not b) (x ∷ rest) rest))
+    by true fit = fit
+    by false fit = (literal-fits x max all.0, fit)
+
+constants-fit : (max : ℕ) (xs : List ℕ) (clause : List Literal) → AreWithin max xs → without_constants xs ≡ Some clause
+    → AreOn max clause
+constants-fit max xs clause all is = by (list_any (λ l. l == 1) xs) is
+  where
+    by : (b : Bool) → cond b None (Some (map as_literal (filter (λ l. not (l == 0)) xs))) ≡ Some clause
+        → AreOn max clause
+    by true h = cc
+    by false h = subst (AreOn max)
+        (same_Some (map as_literal (filter (λ l. not (l == 0)) xs)) clause h) (kept-fits max xs all)
+
+gate-fits : (max : ℕ) (gates : List Gate) (i : ℕ) (xs : List ℕ) → All (IsGate max) gates
+    → slice_get (flat_map gate_clauses gates) i ≡ Some xs → AreWithin max xs
+gate-fits max [] i xs all at = cc
+gate-fits max (g ∷ gs) i xs all at =
+    by (λ k. gate-fits max gs k xs (λ j d below. all (suc j) d (omega (arith, below)))) i at
+  where
+    fits : IsGate max g
+    fits = all 0 g (omega arith)
+
+    own : 2 * g.variable ≤ 2 * max + 1
+    own = omega (arith, fits.variable.1)
+
+    by : ((k : ℕ) → slice_get (flat_map gate_clauses gs) k ≡ Some xs → AreWithin max xs) → (i : ℕ)
+        → slice_get (gate_clauses g ++ flat_map gate_clauses gs) i ≡ Some xs → AreWithin max xs
+    by later zero h = subst (AreWithin max) (same_Some (opposite_of (2 * g.variable) ∷ g.left ∷ []) xs h)
+        (opposite-fits (2 * g.variable) max own, (fits.left, tt))
+    by later (suc zero) h = subst (AreWithin max) (same_Some (opposite_of (2 * g.variable) ∷ g.right ∷ []) xs h)
+        (opposite-fits (2 * g.variable) max own, (fits.right, tt))
+    by later (suc (suc zero)) h =
+        subst (AreWithin max) (same_Some (2 * g.variable ∷ opposite_of g.left ∷ opposite_of g.right ∷ []) xs h)
+        (own, (opposite-fits g.left max fits.left, (opposite-fits g.right max fits.right, tt)))
+    by later (suc (suc (suc k))) h = later k h
+
+pub gate-clause-fits : (net : Netlist) (i : ℕ) (clause : List Literal) → IsNetlist net
+    → option_and_then without_constants (slice_get (flat_map gate_clauses net.gates) i) ≡ Some clause
+    → AreOn net.max_var clause
+gate-clause-fits net i clause lawful is = by (slice_get (flat_map gate_clauses net.gates) i) refl is
+  where
+    by : (o : Option (List ℕ)) → slice_get (flat_map gate_clauses net.gates) i ≡ o
+        → option_and_then without_constants o ≡ Some clause → AreOn net.max_var clause
+    by None e h = cc
+    by (Some xs) e h = constants-fit net.max_var xs clause (gate-fits net.max_var net.gates i xs lawful.gates_fit e) h

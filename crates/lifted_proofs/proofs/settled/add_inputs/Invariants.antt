@@ -1,0 +1,6 @@
+use Rattle.std.proofs.Common.{◌≡◌}
+use Rattle.lifted_proofs.proofs.CopiedCircuits.{with_inputs}
+use Rattle.lifted_proofs.proofs.settled.add_inputs.Given as goal
+
+abbrev pub invariant-loop-i : goal.invariant-loop-i
+invariant-loop-i l = l.settled ≡ with_inputs l.circuit l.i
