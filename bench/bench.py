@@ -667,6 +667,33 @@ def unended_last_line(count):
     return formula, lines(*others, last) + gone
 
 
+def one_definition(count):
+    """Definitions of one existential: a chain of so many gates, and as many lines, each a clause of a gate."""
+    formula = lines("p cnf 2 1", "a 1 0", "d 2 1 0", "0")
+    sides = [2, *range(6, 2 * count + 4, 2)]
+    gates = [f"{2 * (3 + i)} {side} 2" for i, side in enumerate(sides)]
+    first = 1 + 3 * count + 3
+    steps = [f"{first + i} -{3 + i} 1 0 {3 * i + 3} 0" for i in range(count)]
+    head = f"t 2 {2 * (2 + count)} {count} {count + 1}"
+    return formula, lines("p dqd 1", head, *gates, *steps, f"{first + count} 0 1 0")
+
+
+def definition_blocks(count):
+    """So many existentials that see as many universals, each with a definition that reads the one before."""
+    formula = lines(f"p cnf {2 * count} 1", f"a {numbers(1, count)} 0", f"e {numbers(count + 1, 2 * count)} 0", "0")
+    outputs = [0, *range(2 * count + 2, 4 * count, 2)]
+    blocks = [f"t {count + 1 + i} {output} 0 1\n4 0 1 0" for i, output in enumerate(outputs)]
+    return formula, lines(f"p dqd {count}", *blocks)
+
+
+def pair_blocks(count):
+    """So many existentials without a clause, each with two assignments, and 100 clauses for each."""
+    formula = lines(f"p cnf {count} {100 * count}", f"e {numbers(1, count)} 0", *["1 -1 0"] * (100 * count))
+    second = f"u 0\nv {numbers(1, count)} 0"
+    firsts = (" ".join(str(-z if z == y else z) for z in range(1, count + 1)) for y in range(1, count + 1))
+    return formula, lines(f"p dqd {count}", *(f"f {y}\nu 0\nv {first} 0\n{second}" for y, first in enumerate(firsts, 1)))
+
+
 def one_long_clause(count):
     """One clause of so many literals, each variable with both signs, in falling order."""
     literals = " ".join(f"{v} -{v}" for v in range(count // 2, 0, -1))
@@ -736,6 +763,9 @@ MEASUREMENTS = [
     *(at(make, size) for make in (underived_first, unended_last_line) for size in (200_000, 400_000)),
     *(at(deleted_long_instances, size) for size in (10_000, 20_000)),
     *(at(deleted_long_last_clause, size) for size in (20_000, 40_000)),
+    *(at(one_definition, size) for size in (50_000, 100_000)),
+    *(at(definition_blocks, size) for size in (50_000, 100_000)),
+    *(at(pair_blocks, size) for size in (250, 500)),
     *(at(one_long_clause, size) for size in (500_000, 1_000_000)),
     *(at(many_xor_lines, size) for size in (100_000, 200_000)),
     *(at(one_long_token, size) for size in (10_000_000, 20_000_000)),

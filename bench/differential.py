@@ -545,13 +545,13 @@ def show_difference(case, texts, expected, found):
             print(f"    {line}")
 
 
-def compare(count, seed):
+def compare(count, seed, make_case=random_case):
     """The number of differences in so many cases; behind the tenth the rest is left out."""
     choose = random.Random(seed)
     kinds, differences = collections.Counter(), 0
     with tempfile.TemporaryDirectory() as folder:
         for case in range(1, count + 1):
-            texts = random_case(choose)
+            texts = make_case(choose)
             expected, found = expected_answer(texts), checker_answer(folder, texts)
             kinds[kind_of(expected[0])] += 1
             if expected != found:

@@ -666,12 +666,17 @@ def read_refutation(reader, header, formula):
 
 def read_row(reader, formula):
     """The value of each universal under a row."""
+    return read_signs(reader, b"u", formula.universals)
+
+
+def read_signs(reader, letter, variables):
+    """The value of each of these variables on a line of their signs."""
     tokens = tokens_of(reader.take())
-    reader.check(tokens[:1] == [b"u"], "BadLine")
+    reader.check(tokens[:1] == [letter], "BadLine")
     values = [number(token) for token in tokens[1:]]
     reader.check(None not in values, "BadLine")
     reader.check(all(abs(value) < TOO_BIG for value in values), "TooBig")
-    reader.check([abs(value) for value in values] == [*formula.universals, 0], "RowIncomplete")
+    reader.check([abs(value) for value in values] == [*variables, 0], "RowIncomplete")
     return {abs(value): value > 0 for value in values[:-1]}
 
 
@@ -714,6 +719,128 @@ def instance(formula, rows, row, clause):
     return frozenset(pair if literal > 0 else -pair for literal, pair in pairs.items())
 
 
+# Definitions
+
+
+class Definition(NamedTuple):
+    """An existential as a literal over the formula's variables and those of the gates, with its proof."""
+
+    existential: int
+    output: int
+    gates: list
+    items: list
+
+
+class FreePair(NamedTuple):
+    """Two values of each variable, which are to show that the existential has no definition."""
+
+    existential: int
+    assignments: list
+
+
+def read_definitions(reader, header, formula):
+    """The block of each existential, where the header line with these tokens was taken."""
+    count = natural(header[2]) if len(header) == 3 else None
+    reader.check(count is not None, "BadHeader")
+    reader.check(count <= LARGEST_COUNT, "TooBig")
+    reader.check(count == len(formula.existentials), "BadHeader")
+    blocks = [read_block(reader, formula, existential) for existential in formula.existentials]
+    while not reader.is_done():
+        reader.check(not tokens_of(reader.take()), "BadLine")
+    return blocks
+
+
+def read_block(reader, formula, existential):
+    letter, *numbers = tokens_of(reader.take()) or [b""]
+    values = [natural(token) for token in numbers]
+    reader.check((letter, len(values)) in ((b"t", 4), (b"f", 1)) and None not in values, "BadLine")
+    reader.check(max(values) < TOO_BIG, "TooBig")
+    reader.check(values[0] == existential, "BlockOrder")
+    if letter == b"f":
+        return FreePair(existential, [read_assignment(reader, formula) for _ in range(2)])
+    _, output, gate_count, line_count = values
+    reader.check(max(gate_count, line_count) <= LARGEST_COUNT, "TooBig")
+    reader.check(is_block_literal(formula, output, formula.variables + gate_count), "BadGate")
+    gates = [read_block_gate(reader, formula, formula.variables + i) for i in range(1, gate_count + 1)]
+    largest, first_id = formula.variables + gate_count, len(formula.clauses) + 3 * gate_count + 3
+    items = read_derivation(reader, line_count, first_id, lambda variable: variable <= largest, 1)
+    return Definition(existential, output, gates, items)
+
+
+def read_assignment(reader, formula):
+    row = read_row(reader, formula)
+    return row | read_signs(reader, b"v", formula.existentials)
+
+
+def is_block_literal(formula, literal, largest):
+    """Whether a literal is on a constant, a declared variable, or a gate's variable up to the largest one."""
+    variable = literal // 2
+    return formula.variables < variable <= largest or variable == 0 or is_declared(formula, variable)
+
+
+def is_declared(formula, variable):
+    return variable in formula.universals or variable in formula.dependencies
+
+
+def read_block_gate(reader, formula, variable):
+    literal, *sides = take_naturals(reader, 3)
+    is_gate = literal == 2 * variable and all(side < literal for side in sides)
+    reader.check(is_gate and all(is_block_literal(formula, side, variable) for side in sides), "BadGate")
+    return Gate(variable, tuple(sides))
+
+
+def readable_variables(formula, existential):
+    """What a definition of the existential may read."""
+    seen, order = formula.dependencies[existential], formula.existentials
+
+    def rank(other):
+        return len(formula.dependencies[other]), order.index(other)
+
+    return seen | {z for z in order if formula.dependencies[z] <= seen and rank(z) < rank(existential)}
+
+
+def block_fault(formula, block):
+    """What is wrong with a block, or None."""
+    if isinstance(block, FreePair):
+        return pair_fault(formula, block)
+    reached = reached_variables(block, block.output)
+    foreign = [v for v in reached - readable_variables(formula, block.existential) if 0 < v <= formula.variables]
+    if foreign:
+        return f"INVALID reads {block.existential} {min(foreign)}"
+    fault = derivation_fault(definition_base(formula, block), block.items)
+    return fault and f"INVALID definition {block.existential} {fault.split()[-1]}"
+
+
+def definition_base(formula, block):
+    """The clauses, by id, that hold where the matrix does, the gates have their values, and the existential hasn't the
+    output's."""
+    clauses = []
+    for gate in block.gates:
+        itself = 2 * gate.variable
+        left, right = gate.sides
+        clauses += [[itself ^ 1, left], [itself ^ 1, right], [itself, left ^ 1, right ^ 1]]
+    itself = 2 * block.existential
+    clauses += [[itself, block.output], [itself ^ 1, block.output ^ 1]]
+    base = {id: frozenset(clause) for id, clause in enumerate(formula.clauses, 1)}
+    first = len(formula.clauses) + 1
+    return base | {id: without_constants(clause) for id, clause in enumerate(clauses, first) if 1 not in clause}
+
+
+def pair_fault(formula, block):
+    first, second = block.assignments
+    are_models = all(is_true(clause, assignment) for clause in formula.clauses for assignment in block.assignments)
+    alike = all(first[v] == second[v] for v in readable_variables(formula, block.existential))
+    apart = first[block.existential] != second[block.existential]
+    return None if are_models and alike and apart else f"INVALID pair {block.existential}"
+
+
+def judge_definitions(reader, header, formula):
+    blocks = read_definitions(reader, header, formula)
+    faults = [fault for block in blocks if (fault := block_fault(formula, block))]
+    defined = sum(isinstance(block, Definition) for block in blocks)
+    return faults[0] if faults else f"VALID DEFINED {defined} FREE {len(blocks) - defined}"
+
+
 # Judgement
 
 
@@ -753,10 +880,15 @@ def judge(formula, text):
         verdict = tokens[1]
         tokens = tokens_of(reader.take("BadHeader"))
     reader.check(tokens[:1] in ([b"aag"], [b"aig"], [b"p"]), "BadHeader")
-    is_circuit = tokens[0] != b"p"
-    if verdict is not None and is_circuit != (verdict == b"TRUE"):
+    if tokens[:2] == [b"p", b"dqd"]:
+        shown, judge_kind = None, judge_definitions
+    elif tokens[0] == b"p":
+        shown, judge_kind = b"FALSE", judge_refutation
+    else:
+        shown, judge_kind = b"TRUE", judge_circuit
+    if verdict is not None and verdict != shown:
         raise Fault(1, "WrongVerdict")
-    return (judge_circuit if is_circuit else judge_refutation)(reader, tokens, formula)
+    return judge_kind(reader, tokens, formula)
 
 
 def certificate_answer(formula, text):

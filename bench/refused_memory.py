@@ -78,6 +78,10 @@ __attribute__((destructor)) static void tell(void) {
 FILES = {
     "copies": "p cnf 4 4\na 1 2 0\nd 3 1 0\nd 4 2 0\n3 -1 0\n-3 1 0\n4 -2 0\n-4 2 0\n",
     "circuit": "aag 2 2 0 2 0\n2\n4\n2\n4\n",
+    "xor": "p cnf 4 4\na 1 2 0\nd 3 1 0\nd 4 1 2 0\n-4 3 2 0\n-4 -3 -2 0\n4 -3 2 0\n4 3 -2 0\n",
+    "definitions": "p dqd 2\nf 3\nu -1 -2 0\nv -3 -4 0\nu -1 -2 0\nv 3 4 0\n"
+    "t 4 15 3 4\n10 6 5\n12 7 4\n14 11 13\n"
+    "16 -4 3 0 15 12 1 10 0\n17 -4 0 16 2 15 11 7 0\n18 5 0 17 14 13 8 9 4 0\n19 0 17 18 5 6 3 0\n",
     "no-clause": "p cnf 2 0\na 1 0\nd 2 1 0\n",
     "split-conjunction": "p cnf 4 6\na 1 2 0\nd 3 1 0\nd 4 2 0\n-1 -2 3 4 0\n-1 -2 -3 -4 0\n1 -3 4 0\n1 3 -4 0\n2 -3 4 0\n2 3 -4 0\n",
     "spec": "aag 3 2 0 1 1\n2\n4\n6\n6 4 2\n",
@@ -88,6 +92,7 @@ FILES = {
 # The program, its words, and the status where nothing is refused.
 RUNS = (
     ("DQCHECK", ["copies", "circuit"], 0),
+    ("DQCHECK", ["xor", "definitions"], 0),
     ("DQSOLVE", ["solve", "--steps", "1", "no-clause"], 10),
     ("DQSOLVE", ["solve", "split-conjunction"], 20),
     ("DQSOLVE", ["pec", "spec", "imp"], 10),

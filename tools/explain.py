@@ -4,8 +4,8 @@ circuits, and then why.
 
 The first line is the program's own. Behind it: at a refusal the text's line and what its name stands for; where a clause is
 false under a row, that clause and the outputs' bits; at a step that isn't derived, what each of its hints comes to; where an
-output reaches what it may not read, the way there; where no proof stands, the command that makes one. Nothing here is trusted:
-the program's word is its own, and the script only looks at the texts again.
+output reaches what it may not read, the way there; where no proof stands, the command that makes one; of definitions, what one may
+read. Nothing here is trusted: the program's word is its own, and the script only looks at the texts again.
 
 The exit status is the program's, or 2 where a text can't be looked at. DQSOLVE and DQCHECK may name the programs; else they are
 those beside this folder.
@@ -19,7 +19,7 @@ from failure import UNREADABLE, USAGE, Failure
 from refusals import at_start, sentences
 from skolem import gates_in_order, mapping
 from steps import explain_step
-from texts import bytes_of, file_lines, read_circuit, read_formula
+from texts import bytes_of, file_lines, read_circuit, read_formula, tokens_of
 
 TOP = os.path.dirname(os.path.dirname(os.path.abspath(__file__)))
 LONGEST_SHOWN = 160
@@ -97,12 +97,47 @@ def explain_reads(formula_path, certificate_path, words):
     print(" <- ".join(map(str, reversed(way))))
 
 
+def are_definitions(path):
+    """Whether a certificate's first line is that of definitions."""
+    return [tokens_of(line)[:2] for line in file_lines(bytes_of(path))[:1]] == [[b"p", b"dqd"]]
+
+
+def readable(formula, existential):
+    """What a definition of the existential may read, as text."""
+    seen, order = formula.dependencies[existential], list(formula.dependencies)
+    before = [
+        other
+        for place, other in enumerate(order)
+        if formula.dependencies[other] <= seen
+        and (len(formula.dependencies[other]), place) < (len(seen), order.index(existential))
+    ]
+    return " ".join(map(str, [*sorted(seen), *before])) or "nothing"
+
+
+def explain_block(formula_path, words):
+    """What is wrong with the block of an existential."""
+    existential = int(words[2])
+    may_read = f"a definition of {existential} may read {readable(read_formula(formula_path), existential)}"
+    if words[1] == "reads":
+        print(f"The output's cone has variable {words[3]}, and {may_read}.")
+    elif words[1] == "pair":
+        print(f"Both assignments are to make each clause true, to differ at {existential}, and to agree on what it may read:")
+        print(f"{may_read}.")
+    elif words[3] == "end":
+        print("Each line of its proof is derived, and the last one isn't the empty clause, or there is none.")
+    else:
+        print(f"In its proof the line {words[3]} isn't derived, and all before it are. Of C clauses and G gates, ids from 1 are")
+        print("the clauses', three a gate, and two which say that output and existential differ.")
+
+
 def explain(formula, certificate, words):
     """Prints why the checker answered with these words."""
     if words[:1] == ["refused"]:
         explain_refusal(formula, words, "formula")
     elif words[:1] == ["certificate"]:
         explain_refusal(certificate, words, "certificate")
+    elif words[:1] == ["INVALID"] and are_definitions(certificate):
+        explain_block(formula, words)
     elif words[:2] == ["INVALID", "row"]:
         explain_row(formula, certificate, words)
     elif words[:2] == ["INVALID", "reads"]:
@@ -118,6 +153,8 @@ def explain(formula, certificate, words):
         print("The formula is true: the circuit's outputs are Skolem functions.")
     elif words == ["VALID", "FALSE"]:
         print("The formula is false: under the certificate's rows its clauses have no model.")
+    elif words[:2] == ["VALID", "DEFINED"]:
+        print(f"Wherever the matrix is true, {words[2]} existentials are functions of what they may read, and {words[4]} aren't.")
     elif words[:2] == ["too", "long"]:
         print("A formula has at most 2^30 bytes, a certificate 2^40.")
     elif words == ["source", "fault"]:

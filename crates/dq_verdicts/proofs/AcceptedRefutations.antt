@@ -1,8 +1,10 @@
 -- The checker accepts refutations as they are written.
-use Rattle.std.proofs.Common.{◌≡◌, ◌∙◌, ℕ, Bool, cond, true, false, sym, ap, subst, List, [], ◌++◌, None, Result, Ok, codes}
+use Rattle.std.proofs.Common.{◌≡◌, ◌∙◌, ℕ, Bool, cond, true, false, sym, ap, subst, List, [], ◌++◌, length, None, Result, Ok, codes}
 use Rattle.dq_lits.specs.Formula.{Dqbf}
+use Rattle.std.specs.List.{flat_map}
 use Rattle.dq_formula.specs.Prefix.{IsLawful}
-use Rattle.cert_text.specs.Canonical.{canonical}
+use Rattle.dq_text.specs.Written.{number_line, number_text}
+use Rattle.cert_text.specs.Canonical.{canonical, item_text, row_text, version_for}
 use Rattle.cert_text.specs.Grammar.{IsDqrOf}
 use Rattle.cert_text.specs.Scan.{refutation_of}
 use Rattle.cert_text.specs.declared.faults.CertRefusal.{CertRefusal}
@@ -43,7 +45,9 @@ pub refutations_accepted : ReadsRefutationBack → DeletionsChangeNoFault → De
 refutations_accepted back same laws alike f d form lawful none are allowed few =
     let bare = form.bare in
     let e = written_refutation form d in
-    subst (λ kind. IsJudgementOf f (verdict_text form f (is_false d)) kind ValidFalse) (sym (refutation_kind bare _))
+    subst (λ kind. IsJudgementOf f (verdict_text form f (is_false d)) kind ValidFalse)
+    (sym (refutation_kind (version_for e.items) bare (number_text (length e.rows) ++ number_line (length e.items))
+    (flat_map (row_text f.universals) e.rows ++ flat_map item_text e.items)))
     (false_judgement bare f (canonical f.universals e)
     (false_answer f e (refutation_of f (canonical f.universals e) (header_number bare))
     (back f e (header_number bare) lawful (written_refutation_allowed laws f d form are few allowed))

@@ -6,6 +6,7 @@ use Rattle.std.proofs.lemmas.List.{length-append}
 use Rattle.dq_text.specs.Line.{TextLine, extend_line, line_tokens, lines_from}
 use Rattle.dq_text.specs.Written.{number_line}
 use Rattle.cert_text.specs.Canonical.{proof_header_text}
+use Rattle.cert_text.specs.Header.{refutation_word}
 use Rattle.cert_text.specs.Kind.{certificate_kind, kind_of_lines, kind_at, kind_behind, agreeing, stated_verdict}
 use Rattle.cert_text.specs.declared.faults.CertRefusal.{CertRefusal}
 use Rattle.cert_text.specs.declared.kinds.Kind.{Kind}
@@ -105,33 +106,60 @@ refutation_verdict [] = refl
 refutation_verdict (_ ∷ []) = refl
 refutation_verdict (_ ∷ _ ∷ _) = refl
 
-abbrev refutation_lines : ℕ → List TextLine → List TextLine
-refutation_lines n lines = extend_line 112 n (extend_line 32 n lines)
+-- the word behind `p`, and a space
+abbrev word_lines : Version → ℕ → List TextLine → List TextLine
+word_lines One n lines = extend_line 100 n (extend_line 113 n (extend_line 114 n (extend_line 32 n lines)))
+word_lines Two n lines =
+    extend_line 100 n (extend_line 113 n (extend_line 114 n (extend_line 50 n (extend_line 32 n lines))))
 
-refutation_header : (at n : ℕ) (lines : List TextLine) → kind_at at (refutation_lines n lines) ≡ Ok (Refutation at n)
-refutation_header at n [] = refl
-refutation_header at n (l ∷ ls) = refl
+abbrev refutation_lines : Version → ℕ → List TextLine → List TextLine
+refutation_lines version n lines = extend_line 112 n (extend_line 32 n (word_lines version n lines))
 
-refutation_alone : (bytes : ℕ) (lines : List TextLine) → kind_of_first bytes (refutation_lines 1 lines) ≡ Ok
-    (Refutation 0 1)
-refutation_alone bytes [] = refl
-refutation_alone bytes (l ∷ ls) =
-    ap (kind_behind bytes (record { text = 112 ∷ 32 ∷ l.text; number = 1; behind = l.behind }) ls)
-    (refutation_verdict (line_tokens (32 ∷ l.text)))
+refutation_header : (version : Version) (at n : ℕ) (lines : List TextLine) →
+    kind_at at (refutation_lines version n lines) ≡ Ok (Refutation at n)
+refutation_header One at n [] = refl
+refutation_header One at n (l ∷ ls) = refl
+refutation_header Two at n [] = refl
+refutation_header Two at n (l ∷ ls) = refl
 
-refutation_behind : (bytes : ℕ) (text : List ℕ) (lines : List TextLine) → bytes ≡ 8 + length text →
-    agreeing False (kind_at (bytes - length text) (refutation_lines 2 lines)) ≡ Ok (Refutation 8 2)
-refutation_behind bytes text lines whole =
-    ap (λ at. agreeing False (kind_at at (refutation_lines 2 lines))) (less bytes 8 (length text) whole) ∙ ap
-    (agreeing False) (refutation_header 8 2 lines)
+refutation_alone : (version : Version) (bytes : ℕ) (lines : List TextLine) →
+    kind_of_first bytes (refutation_lines version 1 lines) ≡ Ok (Refutation 0 1)
+refutation_alone One bytes [] = refl
+refutation_alone One bytes (l ∷ ls) =
+    ap (kind_behind bytes (record { text = codes "p dqr " ++ l.text; number = 1; behind = l.behind }) ls)
+    (refutation_verdict (codes "dqr" ∷ line_tokens l.text))
+refutation_alone Two bytes [] = refl
+refutation_alone Two bytes (l ∷ ls) =
+    ap (kind_behind bytes (record { text = codes "p dqr2 " ++ l.text; number = 1; behind = l.behind }) ls)
+    (refutation_verdict (codes "dqr2" ∷ line_tokens l.text))
 
-pub refutation_kind : (bare : Bool) (rest : List ℕ) → certificate_kind
-    ((cond bare [] (line (codes "s FALSE"))) ++ (codes "p " ++ rest)) ≡ Ok
+refutation_behind : (version : Version) (bytes : ℕ) (text : List ℕ) (lines : List TextLine) →
+    bytes ≡ 8 + length text →
+    agreeing False (kind_at (bytes - length text) (refutation_lines version 2 lines)) ≡ Ok (Refutation 8 2)
+refutation_behind version bytes text lines whole =
+    ap (λ at. agreeing False (kind_at at (refutation_lines version 2 lines))) (less bytes 8 (length text) whole) ∙ ap
+    (agreeing False) (refutation_header version 8 2 lines)
+
+-- behind the header's word stand its counts, and then the other lines
+abbrev pub refutation_begun : Version → List ℕ → List ℕ → List ℕ
+refutation_begun version counts rest =
+    (codes "p " ++ (refutation_word version ++ (codes " " ++ counts))) ++ rest
+
+pub refutation_kind : (version : Version) (bare : Bool) (counts rest : List ℕ) → certificate_kind
+    ((cond bare [] (line (codes "s FALSE"))) ++ refutation_begun version counts rest) ≡ Ok
     (Refutation (header_at bare 8) (header_number bare))
-refutation_kind true rest = refutation_alone (length (codes "p " ++ rest)) (lines_from 1 rest)
-refutation_kind false rest = refutation_behind (length (line (codes "s FALSE") ++ (codes "p " ++ rest)))
-    (codes "p " ++ rest) (lines_from 2 rest)
-    (length-append (line (codes "s FALSE")) (codes "p " ++ rest))
+refutation_kind One true counts rest =
+    refutation_alone One (length (refutation_begun One counts rest)) (lines_from 1 (counts ++ rest))
+refutation_kind Two true counts rest =
+    refutation_alone Two (length (refutation_begun Two counts rest)) (lines_from 1 (counts ++ rest))
+refutation_kind One false counts rest =
+    refutation_behind One (length (line (codes "s FALSE") ++ refutation_begun One counts rest))
+    (refutation_begun One counts rest) (lines_from 2 (counts ++ rest))
+    (length-append (line (codes "s FALSE")) (refutation_begun One counts rest))
+refutation_kind Two false counts rest =
+    refutation_behind Two (length (line (codes "s FALSE") ++ refutation_begun Two counts rest))
+    (refutation_begun Two counts rest) (lines_from 2 (counts ++ rest))
+    (length-append (line (codes "s FALSE")) (refutation_begun Two counts rest))
 
 -- ---- proofs in comments
 

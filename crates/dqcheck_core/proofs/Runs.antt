@@ -18,7 +18,7 @@ use Rattle.dq_runs.specs.declared.formulas.NoFormula.{NoFormula}
 use Rattle.dq_runs.specs.declared.formulas.NoFormula.TheVariants.{Unreadable, TooLong, Refused as RefusedFormula}
 use Rattle.dq_runs.specs.declared.outputs.Output.{Output}
 use Rattle.cert_judge.specs.declared.answers.Judgement.{Judgement}
-use Rattle.cert_judge.specs.declared.answers.Judgement.TheVariants.{Refused, UndeclaredRead, BadRow, Unproved, UnderivedStep, NoEmptyClause, ValidTrue, ValidFalse}
+use Rattle.cert_judge.specs.declared.answers.Judgement.TheVariants.{Refused, UndeclaredRead, BadRow, Unproved, UnderivedStep, NoEmptyClause, ValidTrue, ValidFalse, BadBlock, ValidDefinitions}
 use Rattle.dqcheck_words.specs.Command.{Command}
 use Rattle.dqcheck_core.specs.Outputs.{IsReported, IsDueBehind, IsReportedBehind}
 use Rattle.dqcheck_core.specs.Report.{Report, no_formula, unreadable_certificate, long_certificate, judged, printed_report, answer_status}
@@ -146,6 +146,8 @@ status_apart (UnderivedStep id) = inr (omega arith)
 status_apart NoEmptyClause = inr (omega arith)
 status_apart ValidTrue = inl refl
 status_apart ValidFalse = inl refl
+status_apart (BadBlock fault) = inr (omega arith)
+status_apart (ValidDefinitions counts) = inl refl
 
 not_long : (answer : Judgement) → answer_status answer ≡ 6 → ⊥
 not_long answer same = elim (status_apart answer) [

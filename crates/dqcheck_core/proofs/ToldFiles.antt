@@ -17,14 +17,15 @@ use Rattle.dq_runs.specs.Printed.{printed, line}
 use Rattle.dq_runs.specs.Sinks.{SinkState}
 use Rattle.dq_runs.specs.declared.formulas.NoFormula.TheVariants.{Unreadable, TooLong, Refused as RefusedFormula}
 use Rattle.dq_runs.specs.declared.outputs.Output.{Output}
-use Rattle.cert_judge.specs.Judgement.{IsJudgement, HoldsSkolemCircuit}
+use Rattle.defined_checker.specs.declared.checks.Counts.{Counts}
+use Rattle.cert_judge.specs.Judgement.{IsJudgement, HoldsSkolemCircuit, HoldsRightDefinitions}
 use Rattle.cert_judge.specs.declared.answers.Judgement.{Judgement}
-use Rattle.cert_judge.specs.declared.answers.Judgement.TheVariants.{Refused, UndeclaredRead, BadRow, Unproved, UnderivedStep, NoEmptyClause, ValidTrue, ValidFalse}
+use Rattle.cert_judge.specs.declared.answers.Judgement.TheVariants.{Refused, UndeclaredRead, BadRow, Unproved, UnderivedStep, NoEmptyClause, ValidTrue, ValidFalse, BadBlock, ValidDefinitions}
 use Rattle.dqcheck_words.specs.Command.{Command}
 use Rattle.dqcheck_core.specs.Outputs.{IsReported}
 use Rattle.dqcheck_core.specs.Report.{Report, no_formula, unreadable_certificate, long_certificate, judged, printed_report, answer_text, answer_status}
 use Rattle.dqcheck_core.specs.Running.{max_certificate, IsAnswerTo, IsDueFor, IsDue}
-use Rattle.dqcheck_core.specs.Told.{AreTold, IsAnswered, IsProvedTrue, IsProvedFalse, IsAcceptance, JudgesTold}
+use Rattle.dqcheck_core.specs.Told.{AreTold, IsAnswered, IsProvedTrue, IsProvedFalse, IsProvedDefined, IsAcceptance, JudgesTold}
 
 -- what the law of the formulas' grammar gives
 pub record FormulaLaw : Type 0 where
@@ -36,6 +37,8 @@ pub record AcceptanceLaw : Type 0 where
   pub circuit : (f : Dqbf) (text : List ℕ) → IsWellFormed f → IsJudgement f text ValidTrue → HoldsSkolemCircuit f text
   pub is_true : (f : Dqbf) (text : List ℕ) → IsWellFormed f → IsJudgement f text ValidTrue → IsTrueFormula f
   pub is_false : (f : Dqbf) (text : List ℕ) → IsWellFormed f → IsJudgement f text ValidFalse → IsFalseFormula f
+  pub definitions : (f : Dqbf) (text : List ℕ) (counts : Counts) → IsWellFormed f →
+      IsJudgement f text (ValidDefinitions counts) → HoldsRightDefinitions f text counts
 
 held_text : (holding : Holding) (bytes text : List ℕ) → holding ≡ Holds bytes → IsTextOf holding text → text ≡ bytes
 held_text holding bytes text is has = subst (λ h. IsTextOf h text) is has
@@ -120,7 +123,8 @@ verdict_of : AcceptanceLaw → (g : Dqbf) (certificate : List ℕ) (before now :
     IsWellFormed g
     → IsJudgement g certificate answer → answer_status answer ≡ 0 →
     now ≡ append_known before (line (answer_text g answer))
-    → IsProvedTrue g certificate before now ⊎ IsProvedFalse g certificate before now
+    → IsProvedTrue g certificate before now
+    ⊎ (IsProvedFalse g certificate before now ⊎ IsProvedDefined g certificate before now)
 verdict_of law g certificate before now (Refused l name) formed judgement status written =
     absurd (omega (arith, status))
 verdict_of law g certificate before now (UndeclaredRead y x) formed judgement status written =
@@ -139,7 +143,20 @@ verdict_of law g certificate before now ValidTrue formed judgement status writte
       written = written;
     })
 verdict_of law g certificate before now ValidFalse formed judgement status written =
-    inr (record { accepted = judgement; is_false = law.is_false g certificate formed judgement; written = written })
+    inr (inl (record {
+      accepted = judgement;
+      is_false = law.is_false g certificate formed judgement;
+      written = written;
+    }))
+verdict_of law g certificate before now (BadBlock fault) formed judgement status written =
+    absurd (omega (arith, status))
+verdict_of law g certificate before now (ValidDefinitions counts) formed judgement status written =
+    inr (inr (record {
+      counts = counts;
+      accepted = judgement;
+      definitions = law.definitions g certificate counts formed judgement;
+      written = written;
+    }))
 
 accepted_by : AcceptanceLaw → (files now : FilesState) (c : Command) (formula certificate : List ℕ)
     (sink sink_now : SinkState) (status : ℕ)

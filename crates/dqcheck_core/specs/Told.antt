@@ -1,5 +1,6 @@
 -- What a run of the checker shows over files that are told.
-use Rattle.std.specs.Prelude.{◌≡◌, ◌≢◌, ℕ, ◌≤◌, ◌⊎◌, List, length, Option, Some, codes}
+use Rattle.std.specs.Prelude.{◌≡◌, ◌≢◌, ℕ, ◌≤◌, ◌⊎◌, List, ◌++◌, length, Option, Some, codes}
+use Rattle.std.specs.Fmt.{decimal}
 use Rattle.std.specs.Io.KnownBytes.{append_known}
 use Rattle.dq_io.specs.Causes.{Rose}
 use Rattle.dq_io.specs.Files.{Holding, Holds}
@@ -10,9 +11,10 @@ use Rattle.dqdimacs_reader.specs.Grammar.{SpellsFormula}
 use Rattle.dq_runs.specs.FormulaFiles.{max_formula}
 use Rattle.dq_runs.specs.Printed.{line}
 use Rattle.dq_runs.specs.Sinks.{SinkState}
-use Rattle.cert_judge.specs.Judgement.{IsJudgement, HoldsSkolemCircuit}
+use Rattle.defined_checker.specs.declared.checks.Counts.{Counts}
+use Rattle.cert_judge.specs.Judgement.{IsJudgement, HoldsSkolemCircuit, HoldsRightDefinitions}
 use Rattle.cert_judge.specs.declared.answers.Judgement.{Judgement}
-use Rattle.cert_judge.specs.declared.answers.Judgement.TheVariants.{ValidTrue, ValidFalse}
+use Rattle.cert_judge.specs.declared.answers.Judgement.TheVariants.{ValidTrue, ValidFalse, ValidDefinitions}
 use Rattle.dqcheck_words.specs.Command.{Command}
 use Rattle.dqcheck_core.specs.Report.{answer_text, answer_status}
 use Rattle.dqcheck_core.specs.Running.{max_certificate}
@@ -39,12 +41,22 @@ pub record IsProvedFalse (f : Dqbf) (certificate : List ℕ)
   pub is_false : IsFalseFormula f
   pub written : now ≡ append_known before (line (codes "VALID FALSE"))
 
+-- the line counts the blocks of each kind, and what they say of the existentials is right
+pub record IsProvedDefined (f : Dqbf) (certificate : List ℕ)
+    (before now : Option (List ℕ)) : Type 0 where
+  pub counts : Counts
+  pub accepted : IsJudgement f certificate (ValidDefinitions counts)
+  pub definitions : HoldsRightDefinitions f certificate counts
+  pub written : now ≡ append_known before (line (codes "VALID DEFINED "
+      ++ (decimal counts.defined ++ (codes " FREE " ++ decimal counts.free))))
+
 -- the texts are a formula's and an accepted certificate's, and what is written is right
 pub record IsAcceptance (formula certificate : List ℕ) (before now : Option (List ℕ)) : Type 0 where
   pub f : Dqbf
   pub spelled : SpellsFormula formula f
   pub well_formed : IsWellFormed f
-  pub verdict : IsProvedTrue f certificate before now ⊎ IsProvedFalse f certificate before now
+  pub verdict : IsProvedTrue f certificate before now
+      ⊎ (IsProvedFalse f certificate before now ⊎ IsProvedDefined f certificate before now)
 
 -- what is said of a formula and a certificate, and written with that status
 pub record IsAnswered (f : Dqbf) (certificate : List ℕ) (before now : Option (List ℕ))

@@ -1,4 +1,5 @@
-//! The checker: whether a certificate proves a formula true or false.
+//! The checker: whether a certificate proves a formula true or false, or shows which of its
+//! existentials are defined.
 //!
 //! `dqcheck_run` is a whole run of the program `dqcheck`: its contract says which line is written
 //! and with which status it ends.

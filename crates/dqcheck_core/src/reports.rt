@@ -2,12 +2,13 @@
 
 ghost use Rattle.std.specs.Prelude.{◌≡◌, ◌++◌, codes, IfOk, OnOk};
 ghost use Rattle.dq_runs.specs.Printed.{line, printed};
-ghost use Rattle.dqcheck_core.specs.Report.{judged, row_text, answer_text, answer_status, printed_report};
+ghost use Rattle.dqcheck_core.specs.Report.{judged, row_text, block_text, answer_text, answer_status, printed_report};
 ghost use Rattle.dqcheck_core.specs.Statuses.{code};
 
 use crate::fault_names::certificate_fault_name;
 use crate::statuses::Status;
 use cert_judge::Judgement;
+use defined_checker::DefinitionFault;
 use dq_formula::Formula;
 use dq_lits::Memory;
 use dq_runs::Output;
@@ -35,6 +36,8 @@ fn answer_status(answer: Judgement) -> Status
         Judgement::NoEmptyClause => Status::WrongCertificate,
         Judgement::ValidTrue => Status::Accepted,
         Judgement::ValidFalse => Status::Accepted,
+        Judgement::BadBlock { .. } => Status::WrongCertificate,
+        Judgement::ValidDefinitions { .. } => Status::Accepted,
     }
 }
 
@@ -56,6 +59,25 @@ fn answer_line(alloc: Global, f: &Formula, answer: Judgement) -> Result<Vec<u8>,
         Judgement::NoEmptyClause => format!(in alloc; "INVALID end\n")?,
         Judgement::ValidTrue => format!(in alloc; "VALID TRUE\n")?,
         Judgement::ValidFalse => format!(in alloc; "VALID FALSE\n")?,
+        Judgement::BadBlock { fault } => return block_line(alloc, fault),
+        Judgement::ValidDefinitions { counts } => {
+            let defined = counts.defined;
+            let free = counts.free;
+            format!(in alloc; "VALID DEFINED {defined} FREE {free}\n")?
+        }
+    };
+    Ok(text.into_bytes())
+}
+
+// What is wrong with a block of definitions.
+fn block_line(alloc: Global, fault: DefinitionFault) -> Result<Vec<u8>, Memory>
+    ensures { IfOk result (λ bytes. bytes.items ≡ line (block_text fault)) }
+{
+    let text = match fault {
+        DefinitionFault::Reads(y, x) => format!(in alloc; "INVALID reads {y} {x}\n")?,
+        DefinitionFault::Step(y, id) => format!(in alloc; "INVALID definition {y} {id}\n")?,
+        DefinitionFault::Unfinished(y) => format!(in alloc; "INVALID definition {y} end\n")?,
+        DefinitionFault::Pair(y) => format!(in alloc; "INVALID pair {y}\n")?,
     };
     Ok(text.into_bytes())
 }

@@ -24,6 +24,7 @@ returns-clause-told g c =
       circuit = c.acceptance_is_sound.ensures.circuit;
       is_true = c.acceptance_is_sound.ensures.is_true;
       is_false = c.acceptance_is_sound.ensures.is_false;
+      definitions = c.acceptance_is_sound.ensures.definitions;
     })
     (state_of g.F.Files c.args.files.now) (state_of g.F.Files c.report-output.new.files)
     (command_of (map string_bytes c.args.words.now))

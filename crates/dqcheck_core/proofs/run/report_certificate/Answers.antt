@@ -1,4 +1,4 @@
-use Rattle.std.proofs.Common.{◌≡◌, Err, sym, ◌∙◌, ap}
+use Rattle.std.proofs.Common.{Err, ◌∙◌, ap}
 use Rattle.dq_io.specs.State.{state_of}
 use Rattle.cert_judge.specs.Streams.{StandsFor}
 use Rattle.dqcheck_core.proofs.FedCertificates.{fed_long, fed_reported, whole_was_fed}
