@@ -10,7 +10,7 @@ use Rattle.clap.specs.Walk.{Row, Text, first_of, rows_of}
 use Rattle.clap.specs.declared.parser.matches.Found.{Found}
 use Rattle.clap.specs.declared.error.kind.ErrorKind.{ErrorKind}
 use Rattle.clap.proofs.WalkLemmas.{first_value-rows}
-use Rattle.dqsolve_words.specs.Command.{Options, Search, Circuits, Comparison, Command, command_of, command_in, solve_in, circuits_in, pec_in, steps_in, number_in, has_flag, options_in, without_fault, solver_app, least_steps, most_steps, default_steps}
+use Rattle.dqsolve_words.specs.Command.{Options, Search, Circuits, Comparison, Defining, Command, command_of, command_in, solve_in, circuits_in, pec_in, defined_in, steps_in, number_in, has_flag, options_in, without_fault, solver_app, least_steps, most_steps, default_steps}
 
 -- what a getter finds is the first value in the rows
 pub value_found : (f : Found) (id : Text) (value : Option Text) → value ≡ first_value f id →
@@ -47,6 +47,18 @@ solve_found f file steps options is_file is_steps is_options =
     (first_of (codes "FILE") (rows_of f))) is_steps
     ∙ ap (λ (c : Options). option_and_then (λ (name : Text). option_map (λ (n : ℕ). search n c name)
     (steps_in (rows_of f))) (first_of (codes "FILE") (rows_of f))) is_options
+
+abbrev defining : ℕ → Text → Defining
+defining steps file = record { steps = steps; file = file }
+
+pub defined_found : (f : Found) (file : Option Text) (steps : Option ℕ) → file ≡ first_value f (codes "FILE") →
+    steps ≡ steps_in (rows_of f)
+    → option_and_then (λ (name : Text). option_map (λ (n : ℕ). defining n name) steps) file ≡ defined_in (rows_of f)
+defined_found f file steps is_file is_steps =
+    ap (λ (a : Option Text). option_and_then (λ (name : Text). option_map (λ (n : ℕ). defining n name) steps) a)
+    (value_found f (codes "FILE") file is_file)
+    ∙ ap (λ (b : Option ℕ). option_and_then (λ (name : Text). option_map (λ (n : ℕ). defining n name) b)
+    (first_of (codes "FILE") (rows_of f))) is_steps
 
 abbrev pair : Text → Text → Circuits
 pair spec imp = record { specification = spec; implementation = imp }

@@ -11,7 +11,7 @@ use Rattle.clap.specs.Walk.{Row, Text, first_of}
 use Rattle.clap.specs.declared.builder.value_parser.ValueParser.TheVariants as vp
 use Rattle.clap.proofs.ValueTestLemmas.{accepts-Accepts, Accepts-accepts}
 use Rattle.std.specs.Str.{bytes_eq}
-use Rattle.dqsolve_words.specs.Command.{Options, Search, Planting, Circuits, Comparison, Command, solve, demo, pec, encode, IsInRange, number_in, steps_in, solve_in, demo_in, circuits_in, pec_in, command_in, options_in, without_fault, command_of, solver_app, least_steps, most_steps, default_steps, most_seed, least_size, most_size}
+use Rattle.dqsolve_words.specs.Command.{Options, Search, Planting, Circuits, Comparison, Defining, Command, solve, demo, pec, encode, defined, IsInRange, number_in, steps_in, solve_in, demo_in, circuits_in, pec_in, defined_in, command_in, options_in, without_fault, command_of, solver_app, least_steps, most_steps, default_steps, most_seed, least_size, most_size}
 
 abbrev search : ℕ → Options → Text → Search
 search steps options file = record { steps = steps; options = options; file = file }
@@ -21,6 +21,9 @@ planting seed size = record { seed = seed; size = size }
 
 abbrev comparison : ℕ → Circuits → Comparison
 comparison steps circuits = record { steps = steps; circuits = circuits }
+
+abbrev defining : ℕ → Text → Defining
+defining steps file = record { steps = steps; file = file }
 
 abbrev value : Text → ℕ
 value text = digits_value 10 (without_leading_plus text)
@@ -117,26 +120,39 @@ encode_by : (circuits : Option Circuits) (c : Command) → option_map encode cir
 encode_by None c is = cc
 encode_by (Some two) c is = subst IsInRange (same_command (encode two) c is) tt
 
-asked_by : (rows : List Row) (b p e : Bool) (c : Command)
+defined_by : (file : Option Text) (steps : Option ℕ) → ((n : ℕ) → steps ≡ Some n →
+    (least_steps ≤ n) × (n ≤ most_steps)) → (c : Command)
+    → option_map defined (option_and_then (λ (name : Text). option_map (λ (n : ℕ). defining n name) steps) file)
+    ≡ Some c → IsInRange c
+defined_by None steps range c is = cc
+defined_by (Some name) None range c is = cc
+defined_by (Some name) (Some n) range c is =
+    subst IsInRange (same_command (defined (defining n name)) c is) (range n refl)
+
+asked_by : (rows : List Row) (b p e d : Bool) (c : Command)
     → cond b (option_map demo (demo_in rows)) (cond p (option_map pec (pec_in rows))
-    (cond e (option_map encode (circuits_in rows)) (option_map solve (solve_in rows)))) ≡ Some c
+    (cond e (option_map encode (circuits_in rows)) (cond d (option_map defined (defined_in rows))
+    (option_map solve (solve_in rows))))) ≡ Some c
     → IsInRange c
-asked_by rows true p e c is =
+asked_by rows true p e d c is =
     demo_by (option_and_then (number_in 0 most_seed) (first_of (codes "SEED") rows))
     (option_and_then (number_in least_size most_size) (first_of (codes "SIZE") rows))
     (found_range 0 most_seed (first_of (codes "SEED") rows))
     (found_range least_size most_size (first_of (codes "SIZE") rows)) c is
-asked_by rows false true e c is =
+asked_by rows false true e d c is =
     pec_by (circuits_in rows) (steps_in rows) (steps_range (first_of (codes "steps") rows)) c is
-asked_by rows false false true c is = encode_by (circuits_in rows) c is
-asked_by rows false false false c is =
+asked_by rows false false true d c is = encode_by (circuits_in rows) c is
+asked_by rows false false false true c is =
+    defined_by (first_of (codes "FILE") rows) (steps_in rows) (steps_range (first_of (codes "steps") rows)) c is
+asked_by rows false false false false c is =
     solve_by (first_of (codes "FILE") rows) (steps_in rows) (options_in rows)
     (steps_range (first_of (codes "steps") rows)) c is
 
 command_range : (sub : Option (Text × List Row)) (c : Command) → command_in sub ≡ Some c → IsInRange c
 command_range None c is = cc
 command_range (Some p) c is =
-    asked_by p.1 (bytes_eq p.0 (codes "demo")) (bytes_eq p.0 (codes "pec")) (bytes_eq p.0 (codes "encode")) c is
+    asked_by p.1 (bytes_eq p.0 (codes "demo")) (bytes_eq p.0 (codes "pec")) (bytes_eq p.0 (codes "encode"))
+    (bytes_eq p.0 (codes "defined")) c is
 
 by_fault : (kinds : Kinds) (given : Option Command) → ((c : Command) → given ≡ Some c → IsInRange c) → (c : Command) →
     without_fault kinds given ≡ Some c → IsInRange c

@@ -44,6 +44,12 @@ pub record Comparison : Type 0 where
   pub steps : ℕ
   pub circuits : Circuits
 
+-- a search for the definitions of the existentials of the formula in a file, with so many steps at
+-- most
+pub record Defining : Type 0 where
+  pub steps : ℕ
+  pub file : List ℕ
+
 pub data Command : Type 0 where
   -- a search on the formula in a file
   solve : Search → Command
@@ -53,6 +59,8 @@ pub data Command : Type 0 where
   pec : Comparison → Command
   -- the formula of such a search
   encode : Circuits → Command
+  -- the definitions of a formula's existentials
+  defined : Defining → Command
 
 -- an argument that is known by its place, has to be there, and is given once
 abbrev pub required_word : List ℕ → Rule
@@ -104,6 +112,12 @@ encode_shape = record (without_flags (new_shape (codes "encode"))) {
   rules = required_word (codes "SPEC") ∷ required_word (codes "IMPL") ∷ [];
 }
 
+-- defined [--steps N] FILE
+abbrev pub defined_shape : Shape
+defined_shape = record (without_flags (new_shape (codes "defined"))) {
+  rules = value_option (codes "steps") ∷ required_word (codes "FILE") ∷ [];
+}
+
 -- dqsolve without subcommands, not even `help`
 abbrev pub bare_app : App
 bare_app = on_top (λ top. record (without_flags top) { disable_help_subcommand = true })
@@ -115,7 +129,9 @@ formula_app = with_subcommand (with_subcommand bare_app solve_shape) demo_shape
 
 -- dqsolve, with its subcommands
 abbrev pub solver_app : App
-solver_app = with_subcommand (with_subcommand formula_app pec_shape) encode_shape
+solver_app =
+    with_subcommand (with_subcommand (with_subcommand formula_app pec_shape) encode_shape)
+    defined_shape
 
 abbrev pub least_steps : ℕ
 least_steps = 1
@@ -140,6 +156,7 @@ IsInRange (solve s) = (least_steps ≤ s.steps) × (s.steps ≤ most_steps)
 IsInRange (demo p) = (p.seed ≤ most_seed) × (least_size ≤ p.size) × (p.size ≤ most_size)
 IsInRange (pec c) = (least_steps ≤ c.steps) × (c.steps ≤ most_steps)
 IsInRange (encode c) = Unit {0}
+IsInRange (defined d) = (least_steps ≤ d.steps) × (d.steps ≤ most_steps)
 
 -- a number in a range, in decimal digits, perhaps behind a plus
 abbrev pub number_in : ℕ → ℕ → List ℕ → Option ℕ
@@ -198,12 +215,19 @@ pec_in rows = option_and_then
     (λ circuits. option_map (λ steps. record { steps = steps; circuits = circuits }) (steps_in rows))
     (circuits_in rows)
 
+-- what is asked of `defined`
+abbrev pub defined_in : List Row → Option Defining
+defined_in rows = option_and_then
+    (λ file. option_map (λ steps. record { steps = steps; file = file }) (steps_in rows))
+    (first_of (codes "FILE") rows)
+
 -- what is asked of the subcommand of a name
 abbrev pub asked_of : List ℕ → List Row → Option Command
 asked_of name rows =
     if bytes_eq name (codes "demo") then option_map demo (demo_in rows) else
     if bytes_eq name (codes "pec") then option_map pec (pec_in rows) else
-    if bytes_eq name (codes "encode") then option_map encode (circuits_in rows)
+    if bytes_eq name (codes "encode") then option_map encode (circuits_in rows) else
+    if bytes_eq name (codes "defined") then option_map defined (defined_in rows)
     else option_map solve (solve_in rows)
 
 -- what is asked of the subcommand that was named

@@ -2,7 +2,7 @@
 
 ghost use Rattle.std.specs.Prelude.{◌≡◌, true, false, [], ◌∷◌, Some, None, codes};
 ghost use Rattle.dqsolve_words.specs.Command.{command_of, default_steps};
-ghost use Rattle.dqsolve_words.specs.Examples.{default_options, solving, solving_with, planting, comparing, encoding, dqsolve};
+ghost use Rattle.dqsolve_words.specs.Examples.{default_options, solving, solving_with, planting, comparing, encoding, defining, dqsolve};
 
 /// Options stand before or behind the name, the number of steps also behind `=`.
 pub fn options_are_taken()
@@ -72,6 +72,25 @@ pub fn circuits_are_taken()
     ensures binary { dqsolve (codes "pec" ∷ codes "--binary" ∷ codes "s" ∷ codes "i" ∷ []) ≡ None }
     ensures encode_steps { dqsolve
         (codes "encode" ∷ codes "--steps" ∷ codes "7" ∷ codes "s" ∷ codes "i" ∷ []) ≡ None }
+{}
+
+/// A formula's definitions are asked for with a number of steps alone.
+pub fn definitions_are_taken()
+    ensures none { dqsolve (codes "defined" ∷ codes "f" ∷ [])
+        ≡ Some (defining default_steps (codes "f")) }
+    ensures steps { dqsolve (codes "defined" ∷ codes "--steps" ∷ codes "7" ∷ codes "f" ∷ [])
+        ≡ Some (defining 7 (codes "f")) }
+    ensures behind { dqsolve (codes "defined" ∷ codes "f" ∷ codes "--steps=7" ∷ [])
+        ≡ Some (defining 7 (codes "f")) }
+    ensures no_name { dqsolve (codes "defined" ∷ []) ≡ None }
+    ensures two_names { dqsolve (codes "defined" ∷ codes "f" ∷ codes "g" ∷ []) ≡ None }
+    ensures bare { dqsolve (codes "defined" ∷ codes "--bare" ∷ codes "f" ∷ []) ≡ None }
+    ensures deletions { dqsolve (codes "defined" ∷ codes "--v2" ∷ codes "f" ∷ []) ≡ None }
+    ensures preparation { dqsolve (codes "defined" ∷ codes "--prep" ∷ codes "f" ∷ []) ≡ None }
+    ensures binary { dqsolve (codes "defined" ∷ codes "--binary" ∷ codes "f" ∷ []) ≡ None }
+    ensures least { dqsolve (codes "defined" ∷ codes "--steps" ∷ codes "0" ∷ codes "f" ∷ []) ≡ None }
+    ensures most { dqsolve
+        (codes "defined" ∷ codes "--steps" ∷ codes "1000000001" ∷ codes "f" ∷ []) ≡ None }
 {}
 
 /// Other words are refused, not even those of most programs are taken.

@@ -5,8 +5,8 @@ ghost use Rattle.clap.specs.Simple.{app_of, shape_of, subcommand_rows_of};
 ghost use Rattle.clap.specs.Walk.{rows_of, rule_of, first_of};
 ghost use Rattle.clap.specs.Matches.{found_of};
 ghost use Rattle.clap.specs.declared.builder.command.Command.TheViews.{out-Command};
-ghost use Rattle.dqsolve_words.specs.Command.{solve, demo, pec, encode, command_of, command_in, asked_of, formula_app, solver_app, writing_options, solve_options, solve_shape, demo_shape, pec_shape, encode_shape, required_word, value_option, flag, solve_in, demo_in, circuits_in, pec_in, steps_in, number_in, has_flag, options_in, most_seed, least_size, most_size};
-ghost use Rattle.dqsolve_words.specs.Words.{options_of, search_of, planting_of, circuits_of, comparison_of, command_said};
+ghost use Rattle.dqsolve_words.specs.Command.{solve, demo, pec, encode, defined, command_of, command_in, asked_of, formula_app, solver_app, writing_options, solve_options, solve_shape, demo_shape, pec_shape, encode_shape, defined_shape, required_word, value_option, flag, solve_in, demo_in, circuits_in, pec_in, defined_in, steps_in, number_in, has_flag, options_in, most_seed, least_size, most_size};
+ghost use Rattle.dqsolve_words.specs.Words.{options_of, search_of, planting_of, circuits_of, comparison_of, defining_of, command_said};
 
 use clap::error::ErrorKind;
 use clap::{Arg, ArgAction, ArgMatches, Command};
@@ -72,6 +72,14 @@ pub struct PecWords<'a> {
     pub circuits: CircuitWords<'a>,
 }
 
+/// A search for the definitions of the existentials of the formula in a file, with so many steps
+/// at most.
+#[derive(Clone, Copy)]
+pub struct DefiningWords<'a> {
+    pub steps: u64,
+    pub file: &'a str,
+}
+
 /// What the words ask for.
 #[derive(Clone, Copy)]
 pub enum CommandWords<'a> {
@@ -79,6 +87,7 @@ pub enum CommandWords<'a> {
     Demo(DemoWords),
     Pec(PecWords<'a>),
     Encode(CircuitWords<'a>),
+    Defined(DefiningWords<'a>),
 }
 
 // An argument that is known by its place, has to be there, and is given once.
@@ -186,6 +195,20 @@ fn encode_command<'a>(alloc: Global) -> Result<Command<'a>, AllocError>
         .arg(imp)
 }
 
+// `defined [--steps N] FILE`.
+fn defined_command<'a>(alloc: Global) -> Result<Command<'a>, AllocError>
+    ensures shape { IfOk result (λ command. shape_of command ≡ defined_shape) }
+    ensures local { IfOk result (λ command. (out-Command command).has_globals ≡ false) }
+{
+    let steps = option_argument(alloc, "steps");
+    let file = word_argument(alloc, "FILE");
+    Command::new(alloc, "defined")
+        .disable_help_flag(true)
+        .disable_version_flag(true)
+        .arg(steps)?
+        .arg(file)
+}
+
 // `dqsolve`, with the subcommands on formulas.
 fn formula_command<'a>(alloc: Global) -> Result<Command<'a>, AllocError>
     ensures { IfOk result (λ command. app_of command ≡ formula_app) }
@@ -206,7 +229,11 @@ fn solver_command<'a>(alloc: Global) -> Result<Command<'a>, AllocError>
 {
     let pec = pec_command(alloc)?;
     let encode = encode_command(alloc)?;
-    formula_command(alloc)?.subcommand(pec)?.subcommand(encode)
+    let defined = defined_command(alloc)?;
+    formula_command(alloc)?
+        .subcommand(pec)?
+        .subcommand(encode)?
+        .subcommand(defined)
 }
 
 // A number in a range.
@@ -324,6 +351,19 @@ fn pec_in<'a>(matches: &ArgMatches<'a>) -> Option<PecWords<'a>>
     Some(PecWords { steps, circuits })
 }
 
+// What the matches of `defined` ask for.
+fn defined_in<'a>(matches: &ArgMatches<'a>) -> Option<DefiningWords<'a>>
+    ensures { option_map defining_of result ≡ defined_in (rows_of (found_of matches.now)) }
+{
+    let Some(file) = matches.get_str("FILE") else {
+        return None;
+    };
+    let Some(steps) = steps_in(matches) else {
+        return None;
+    };
+    Some(DefiningWords { steps, file })
+}
+
 // What the matches of `solve` ask for, as a command.
 fn solve_asked<'a>(matches: &ArgMatches<'a>) -> Option<CommandWords<'a>>
     ensures { option_map command_said result
@@ -368,6 +408,17 @@ fn encode_asked<'a>(matches: &ArgMatches<'a>) -> Option<CommandWords<'a>>
     }
 }
 
+// What the matches of `defined` ask for, as a command.
+fn defined_asked<'a>(matches: &ArgMatches<'a>) -> Option<CommandWords<'a>>
+    ensures { option_map command_said result
+        ≡ option_map defined (defined_in (rows_of (found_of matches.now))) }
+{
+    match defined_in(matches) {
+        Some(defining) => Some(CommandWords::Defined(defining)),
+        None => None,
+    }
+}
+
 // What the matches ask of the subcommand of a name.
 fn asked_of<'a>(name: &str, matches: &ArgMatches<'a>) -> Option<CommandWords<'a>>
     ensures { option_map command_said result ≡ asked_of name.now (rows_of (found_of matches.now)) }
@@ -380,6 +431,9 @@ fn asked_of<'a>(name: &str, matches: &ArgMatches<'a>) -> Option<CommandWords<'a>
     }
     if name == "encode" {
         return encode_asked(matches);
+    }
+    if name == "defined" {
+        return defined_asked(matches);
     }
     solve_asked(matches)
 }
