@@ -1,15 +1,14 @@
 -- From what was found for a formula whose definitions are asked for to what is due, and why.
-use Rattle.std.proofs.Common.{◌≡◌, ◌⊎◌, inl, inr, ℕ, ◌<◌, ◌≤◌, List, [], length, Option, Some, Result, Ok, Err, refl, sym, ap, ◌∙◌, subst, arith}
+use Rattle.std.proofs.Common.{◌≡◌, ◌⊎◌, inl, inr, ℕ, ◌≤◌, List, length, Option, Some, Result, Ok, Err, refl, sym, ap, ◌∙◌, subst, arith}
 use Rattle.std.specs.Prelude.{IfOk}
 use Rattle.dq_io.specs.Causes.{Rose}
-use Rattle.dq_io.specs.Files.{Holding, Holds}
+use Rattle.dq_io.specs.Files.{Holds}
 use Rattle.dq_io.specs.State.{FilesState}
 use Rattle.dq_lits.specs.Formula.{Dqbf}
 use Rattle.dq_lits.specs.declared.memory.Memory.{Memory}
 use Rattle.hint_log.specs.Entries.{ProofLog, steps_of}
 use Rattle.dqdimacs_reader.specs.Grammar.{SpellsFormula}
 use Rattle.dq_runs.specs.Ending.{IsWritten, IsEnd}
-use Rattle.dq_runs.specs.FileTexts.{PickedOnce}
 use Rattle.dq_runs.specs.FormulaFiles.{max_formula, IsNoFormula, formula_line}
 use Rattle.dq_runs.specs.Printed.{Printed, printed}
 use Rattle.dq_runs.specs.Sinks.{SinkState}

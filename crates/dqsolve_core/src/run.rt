@@ -173,20 +173,20 @@ fn report_circuits<F: Files>(
 // What is to be written where the definitions of the formula in a file are asked for.
 fn report_definitions<F: Files>(
     alloc: Global,
-    asked: DefiningWords,
+    defining: DefiningWords,
     files: &mut F,
     log: &mut Log,
 ) -> Result<Output, Memory>
     ensures reported { IfOk result
         (IsReported (state_of F.Files files.old) (state_of F.Files files.new)
-        (Some (defined (defining_of asked.entry))) log.new) }
+        (Some (defined (defining_of defining.entry))) log.new) }
     ensures log { IsRunLog (state_of F.Files files.old)
-        (Some (defined (defining_of asked.entry))) log.new }
-    ensures limit { log.new.limit ≡ asked.entry.steps }
+        (Some (defined (defining_of defining.entry))) log.new }
+    ensures limit { log.new.limit ≡ defining.entry.steps }
     ensures held { F.held files.new ≡ F.held files.old }
 {
-    log.rewind(asked.steps);
-    define_file(alloc, files, asked.file, log)
+    log.rewind(defining.steps);
+    define_file(alloc, files, defining.file, log)
 }
 
 // What is to be written where the words name a file.
