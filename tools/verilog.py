@@ -1,19 +1,22 @@
 #!/usr/bin/env python3
 """Writes what a certificate of two circuits' formula says of the black boxes: each box as a module of Verilog, with a
-wire for each of its gates.
+wire for each of its gates. Of a text of definitions it writes one module, with an assignment for each definition.
 
 Usage: tools/verilog.py [--dot] SPEC IMPL CERT
+       tools/verilog.py DEFINITIONS
 
 CERT is what `dqsolve pec SPEC IMPL` writes with status 10. Boxes and ports have the names that tools/pec_from_verilog.py
 puts behind the boxes' lines, and else their numbers. With --dot the boxes are written as a graph for graphviz
-(`| dot -Tsvg`); an edge with a circle at its end negates. Untrusted: nothing here is proved, and nothing needs to be.
+(`| dot -Tsvg`); an edge with a circle at its end negates. DEFINITIONS is what `dqsolve defined` writes; its variable 7
+is `v7`, and existentials without a definition are inputs where others read them. Untrusted: nothing here is proved, and
+nothing needs to be.
 """
 import re
 import sys
 
 from fill_boxes import Circuit, boxes_of
 
-USAGE = "usage: tools/verilog.py [--dot] SPEC IMPL CERT"
+USAGE = "usage: tools/verilog.py [--dot] SPEC IMPL CERT / tools/verilog.py DEFINITIONS"
 
 
 def identifier(name):
@@ -112,11 +115,51 @@ def filled_boxes(spec, imp, cert):
         yield box
 
 
+def definitions_of(path):
+    """Of each `t` block the existential, its output and its gates; and the existentials of `f` blocks."""
+    with open(path, encoding="utf-8", errors="replace") as it:
+        lines = [line.split() for line in it if line.split()]
+    blocks, free, at = [], [], 1
+    while at < len(lines):
+        words = lines[at]
+        if words[0] == "t":
+            existential, output, gates, steps = map(int, words[1:])
+            blocks.append((existential, output, [[int(n) for n in it] for it in lines[at + 1 : at + 1 + gates]]))
+            at += 1 + gates + steps
+        else:
+            free.append(int(words[1]))
+            at += 5
+    return blocks, free
+
+
+def definitions_module(blocks, free):
+    """One module: the gates of each definition as wires of its own, and an assignment."""
+    inner, read = [], set()
+    for existential, output, gates in blocks:
+        wires = {lhs // 2: f"v{existential}_{place + 1}" for place, (lhs, _, _) in enumerate(gates)}
+
+        def text(literal, wires=wires):
+            if literal < 2:
+                return f"1'b{literal}"
+            return "~" * (literal % 2) + wires.get(literal // 2, f"v{literal // 2}")
+
+        inner += [f"  wire {wires[lhs // 2]} = {text(a)} & {text(b)};" for lhs, a, b in gates]
+        inner.append(f"  assign v{existential} = {text(output)};")
+        read |= {n // 2 for n in [output, *(side for _, *sides in gates for side in sides)]} - set(wires) - {0}
+    defined = [existential for existential, _, _ in blocks]
+    ports = [f"input v{it}" for it in sorted(read - set(defined))] + [f"output v{it}" for it in defined]
+    notes = [f"  // no definition: {', '.join(f'v{it}' for it in free)}"] if free else []
+    return [f"module definitions({', '.join(ports)});", *notes, *inner, "endmodule"]
+
+
 def main():
     if sys.argv[1:] == ["--help"]:
         print(__doc__.strip())
         return 0
     words = sys.argv[1:]
+    if len(words) == 1 and words != ["--dot"]:
+        print("\n".join(definitions_module(*definitions_of(words[0]))))
+        return 0
     is_graph = words[:1] == ["--dot"]
     if len(words) - is_graph != 3:
         print(USAGE, file=sys.stderr)

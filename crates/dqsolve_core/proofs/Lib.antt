@@ -6,3 +6,4 @@ pub mod Runs
 pub mod Statuses
 pub mod ToldDesigns
 pub mod ToldFiles
+pub mod DefinedRuns

@@ -23,7 +23,7 @@ use Rattle.dq_verdicts.specs.Verdicts.{printed_verdict}
 use Rattle.dq_verdicts.specs.declared.forms.Form.{Form}
 use Rattle.dq_verdicts.specs.declared.demonstrations.Demonstration.{Demonstration}
 use Rattle.dq_verdicts.specs.declared.demonstrations.Demonstration.TheVariants.{Valid, Large, CutOff}
-use Rattle.dqsolve_words.specs.Command.{Options, Search, Planting, Command, solve, demo, pec, encode, default_steps}
+use Rattle.dqsolve_words.specs.Command.{Options, Search, Planting, Command, solve, demo, pec, encode, defined, default_steps}
 use Rattle.dqsolve_words.specs.Words.{search_of, planting_of, comparison_of, command_said}
 use Rattle.dqsolve_words.specs.declared.requests.SolveWords.{SolveWords}
 use Rattle.dqsolve_words.specs.declared.requests.DemoWords.{DemoWords}
@@ -34,6 +34,7 @@ use Rattle.dqsolve_core.specs.Outputs.{IsReported, IsSolveOutput, IsSolveLog, Is
 use Rattle.dqsolve_core.specs.Report.{form_of, SearchReport, no_formula, solved, printed_search, printed_demo, demonstration_status}
 use Rattle.dqsolve_core.specs.Running.{IsDueFor, IsDue, IsRunLog, IsOwnLog, IsDemonstration, SeeksVerdict, steps_asked}
 use Rattle.dqsolve_core.specs.Searched.{IsSearched}
+use Rattle.dqsolve_core.proofs.DefinedRuns.{defined_reasons, defined_steps}
 use Rattle.dqsolve_core.proofs.CircuitRuns.{comparison_reasons, encode_reasons, comparison_steps}
 use Rattle.dqsolve_core.proofs.Statuses.{status_of, not_long, Reasons, verdict_reasons, verdict_steps}
 
@@ -259,6 +260,7 @@ reasons before now (Some (pec c)) log p (report, due, same) =
     subst (λ (q : Printed). Reasons before now (Some (pec c)) q.status) (sym same)
     (comparison_reasons before now log c report due)
 reasons before now (Some (encode c)) log p due = encode_reasons before now c p due
+reasons before now (Some (defined c)) log p due = defined_reasons before now log c p due.1
 
 pub causes : (before now : FilesState) (asked : Option Command) (log : ProofLog) (sink sink_now : SinkState)
     (r : Result Output Memory) (status : ℕ) → now.held ≡ before.held
@@ -324,6 +326,7 @@ all_steps before now (demo d) log p seeks (due, picks) zero = demo_steps d log d
 all_steps before now (pec c) log p seeks (report, due, same) zero =
     comparison_steps before now log c report due (sym (ap (λ (q : Printed). q.status) same) ∙ zero)
 all_steps before now (encode c) log p seeks due zero = absurd seeks
+all_steps before now (defined c) log p seeks due zero = defined_steps before now log c p due.1 zero
 
 pub own_log : (before now : FilesState) (asked : Option Command) (log : ProofLog) (sink sink_now : SinkState)
     (r : Result Output Memory) (status : ℕ)

@@ -1,5 +1,5 @@
 -- Which statuses a report has, and why.
-use Rattle.std.proofs.Common.{◌≡◌, ◌≢◌, ℕ, Bool, Option, None, Some, ap, arith}
+use Rattle.std.proofs.Common.{◌≡◌, ◌≢◌, ℕ, Option, None, Some, ap, arith}
 use Rattle.dq_io.specs.Causes.{Rose}
 use Rattle.dq_io.specs.State.{FilesState}
 use Rattle.dq_lits.specs.Formula.{Dqbf}

@@ -36,12 +36,12 @@ pub held_long : (limit : ℕ) (holding : Holding) (bytes : List ℕ) → holding
 held_long limit holding bytes is long = subst (λ h. IsLong limit h) is long
 
 -- a formula that was read of a told file is spelled there
-read_spells : (holding : Holding) (bytes : List ℕ) (f : Dqbf) → holding ≡ Holds bytes → IsFormulaOf holding f →
+pub read_spells : (holding : Holding) (bytes : List ℕ) (f : Dqbf) → holding ≡ Holds bytes → IsFormulaOf holding f →
     SpellsFormula bytes f
 read_spells holding bytes f is one = subst (λ text. SpellsFormula text f)
     (held_text holding bytes one.text is one.read.is) one.spelled
 
-no_fault : FormulaLaw → (formula : List ℕ) (f : Dqbf) (holding : Holding) (fault : TextFault) →
+pub no_fault : FormulaLaw → (formula : List ℕ) (f : Dqbf) (holding : Holding) (fault : TextFault) →
     holding ≡ Holds formula → SpellsFormula formula f → IsFaultOf holding fault → ⊥
 no_fault law formula f holding fault is spelled refused =
     let same : refused.text ≡ formula = held_text holding formula refused.text is refused.read.is in

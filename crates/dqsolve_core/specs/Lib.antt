@@ -5,3 +5,4 @@ pub mod Running
 pub mod Searched
 pub mod Told
 pub mod ToldCircuits
+pub mod ToldDefinitions

@@ -18,7 +18,8 @@ abbrev pub usage : Printed
 usage =
     usage_line
     (codes "dqsolve solve [--steps N] [--bare] [--v2] [--prep] [--binary] FILE / dqsolve demo SEED SIZE"
-    ++ codes " / dqsolve pec [--steps N] SPEC IMPL / dqsolve encode SPEC IMPL")
+    ++ codes " / dqsolve pec [--steps N] SPEC IMPL / dqsolve encode SPEC IMPL"
+    ++ codes " / dqsolve defined [--steps N] FILE")
 
 -- what is said of the files of two circuits that are to be compared
 pub data ComparisonReport : Type 0 where

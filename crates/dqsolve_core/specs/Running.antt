@@ -13,7 +13,8 @@ use Rattle.dq_verdicts.specs.Shown.{IsVerdict, IsDemonstrated}
 use Rattle.dq_verdicts.specs.declared.demonstrations.Demonstration.{Demonstration}
 use Rattle.pec_runs.specs.DesignFiles.{IsNoDesign, IsDesignFormula}
 use Rattle.pec_runs.specs.Encoded.{IsEncodeDue}
-use Rattle.dqsolve_words.specs.Command.{Search, Planting, Comparison, Command, solve, demo, pec, encode, default_steps}
+use Rattle.definition_runs.specs.DefinedFiles.{IsDefinedDue}
+use Rattle.dqsolve_words.specs.Command.{Search, Planting, Comparison, Command, solve, demo, pec, encode, defined, default_steps}
 use Rattle.dqsolve_core.specs.Report.{SearchReport, no_formula, solved, ComparisonReport, no_design, compared, usage, printed_search, printed_comparison, printed_demo}
 use Rattle.dqsolve_core.specs.Searched.{IsSearchedFor, IsVerdictBy}
 
@@ -65,6 +66,8 @@ IsDue before now log (Some (pec c)) printed =
     × (printed ≡ printed_comparison report)
 IsDue before now log (Some (encode c)) printed =
     IsEncodeDue before now c.specification c.implementation printed
+IsDue before now log (Some (defined c)) printed =
+    (log.limit ≡ c.steps) × IsDefinedDue before now log c.file printed
 
 -- the formula that is asked for: the one that is read, or the planted one
 abbrev pub IsAskedFormula : FilesState → Command → Dqbf → Type 0
@@ -73,12 +76,14 @@ IsAskedFormula files (demo p) f = f ≡ planted_formula p.seed p.size
 IsAskedFormula files (pec c) f =
     IsDesignFormula (files.held c.circuits.specification) (files.held c.circuits.implementation) f
 IsAskedFormula files (encode c) f = ⊥
+IsAskedFormula files (defined c) f = IsFormulaOf (files.held c.file) f
 
 abbrev pub steps_asked : Command → ℕ
 steps_asked (solve c) = c.steps
 steps_asked (demo p) = default_steps
 steps_asked (pec c) = c.steps
 steps_asked (encode c) = 0
+steps_asked (defined c) = c.steps
 
 -- the log's work was for the formula that was asked for, or for what is left of it where preparation
 -- was, and all of it productive
@@ -96,12 +101,13 @@ pub record IsWorkOn (files : FilesState) (asked : Option Command) (log : ProofLo
 abbrev pub IsRunLog : FilesState → Option Command → ProofLog → Type 0
 IsRunLog files asked log = (log.entries ≡ []) ⊎ IsWorkOn files asked log
 
--- a command that searches for one verdict, so that it ends with 0 where none was found
+-- a command that searches, so that it ends with 0 only where the steps didn't suffice
 abbrev pub SeeksVerdict : Command → Type 0
 SeeksVerdict (solve c) = Unit {0}
 SeeksVerdict (demo p) = Unit {0}
 SeeksVerdict (pec c) = Unit {0}
 SeeksVerdict (encode c) = ⊥
+SeeksVerdict (defined c) = Unit {0}
 
 -- The log is the run's own: of productive work, in as many steps as are asked for, all of which are
 -- done where no verdict was found.

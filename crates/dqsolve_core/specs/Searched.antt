@@ -4,7 +4,7 @@ use Rattle.dq_lits.specs.Formula.{Dqbf}
 use Rattle.dq_verdicts.specs.Prepared.{IsPrep}
 use Rattle.dq_verdicts.specs.Shown.{IsVerdict}
 use Rattle.dq_verdicts.specs.Verdicts.{Verdict}
-use Rattle.dqsolve_words.specs.Command.{Options, Command, solve, demo, pec, encode}
+use Rattle.dqsolve_words.specs.Command.{Options, Command, solve, demo, pec, encode, defined}
 use Rattle.dqsolve_core.specs.Report.{form_of}
 use Rattle.hint_log.specs.Entries.{ProofLog}
 
@@ -19,6 +19,7 @@ IsSearchedFor (solve c) f searched = IsSearched c.options.prepares f searched
 IsSearchedFor (demo p) f searched = searched ≡ f
 IsSearchedFor (pec c) f searched = searched ≡ f
 IsSearchedFor (encode c) f searched = searched ≡ f
+IsSearchedFor (defined c) f searched = searched ≡ f
 
 -- a verdict on a formula, which the log of a search with these options shows
 pub record IsVerdictBy (f : Dqbf) (log : ProofLog) (o : Options) (verdict : Verdict) : Type 0 where

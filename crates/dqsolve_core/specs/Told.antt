@@ -17,6 +17,7 @@ use Rattle.dqsolve_core.specs.Report.{form_of, demo_text, demonstration_status}
 use Rattle.dqsolve_core.specs.Running.{IsDemonstration}
 use Rattle.dqsolve_core.specs.Searched.{IsVerdictBy}
 use Rattle.dqsolve_core.specs.ToldCircuits.{ComparesTold}
+use Rattle.dqsolve_core.specs.ToldDefinitions.{DefinesTold}
 
 -- the command names a file with this text
 pub record IsTold (held : List ℕ → Holding) (asked : Option Command)
@@ -68,8 +69,10 @@ pub record SolvesTold (files now : FilesState) (asked : Option Command) (log : P
       → ¬ Rose sink.faults sink_now.faults → status ≢ 5
       → IsDemonstratedRun p log sink.taken sink_now.taken status
 
--- over files that are told: a formula's, two circuits'
+-- over files that are told: a formula's that is to be decided, two circuits', and a formula's whose
+-- definitions are asked for
 pub record ShowsTold (files now : FilesState) (asked : Option Command) (log : ProofLog)
     (sink sink_now : SinkState) (status : ℕ) : Type 0 where
   pub formula : SolvesTold files now asked log sink sink_now status
   pub circuits : ComparesTold files asked log sink sink_now status
+  pub definitions : DefinesTold files now asked log sink sink_now status

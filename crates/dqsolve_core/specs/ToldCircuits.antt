@@ -27,7 +27,7 @@ use Rattle.pec_runs.specs.declared.designs.ImpFault.TheVariants.{Circuit, Design
 use Rattle.pec_runs.specs.declared.designs.NoDesign.{NoDesign}
 use Rattle.pec_runs.specs.declared.designs.NoDesign.TheVariants.{Unreadable, LongSpec, LongImp, RefusedSpec, RefusedImp}
 use Rattle.skolem_checker.specs.SkolemCircuit.{IsSkolemCircuit, AreOutputsOf}
-use Rattle.dqsolve_words.specs.Command.{Circuits, Comparison, Command, solve, demo, pec, encode}
+use Rattle.dqsolve_words.specs.Command.{Circuits, Comparison, Command, solve, demo, pec, encode, defined}
 
 -- the circuits that a command names
 abbrev pub NamesCircuits : Option Command → Circuits → Type 0
@@ -118,6 +118,7 @@ AnswersFor (Some (solve c)) d log before now status = ⊥
 AnswersFor (Some (demo p)) d log before now status = ⊥
 AnswersFor (Some (pec c)) d log before now status = IsCompared d log c before now status
 AnswersFor (Some (encode c)) d log before now status = IsEncoded d before now status
+AnswersFor (Some (defined c)) d log before now status = ⊥
 
 -- Over circuits that are told, where no failure has the status, what is written is the first refusal
 -- of the texts, or the command's answer for their design.

@@ -8,14 +8,15 @@ ghost use Rattle.hint_log.specs.ProductiveLog.{IsProductiveLog};
 ghost use Rattle.planted_formulas.specs.Planted.{planted_formula};
 ghost use Rattle.dq_runs.specs.Ending.{Ends, HasCauses};
 ghost use Rattle.dq_runs.specs.Sinks.{sink_of};
-ghost use Rattle.dqsolve_words.specs.Command.{Command, solve, pec, command_of, most_seed, least_size, most_size, default_steps};
-ghost use Rattle.dqsolve_words.specs.Words.{options_of, search_of, planting_of, comparison_of};
+ghost use Rattle.dqsolve_words.specs.Command.{Command, solve, pec, defined, command_of, most_seed, least_size, most_size, default_steps};
+ghost use Rattle.dqsolve_words.specs.Words.{options_of, search_of, planting_of, comparison_of, defining_of};
 ghost use Rattle.dqsolve_core.specs.Outputs.{IsReported, IsSolveOutput, IsSolveLog, IsDemoOutput};
 ghost use Rattle.dqsolve_core.specs.Report.{form_of};
 ghost use Rattle.dqsolve_core.specs.Running.{IsDue, IsRunLog, IsOwnLog, steps_asked};
 ghost use Rattle.dqsolve_core.specs.Told.{ShowsTold};
 
 use crate::demos::demo_output;
+use definition_runs::define_file;
 use dq_formula::Formula;
 use dq_io::{Files, Sink};
 use dq_lits::Memory;
@@ -23,7 +24,9 @@ use dq_runs::{FormulaStop, Output, deliver, outputs, read_formula};
 use dq_verdicts::{Form, solve, solve_prepared};
 use dqdimacs_reader::laws::formula_or_first_fault;
 use dqsolve_words::laws::numbers_are_in_range;
-use dqsolve_words::{CommandWords, DemoWords, PecWords, SolveOptions, SolveWords, command_words};
+use dqsolve_words::{
+    CommandWords, DefiningWords, DemoWords, PecWords, SolveOptions, SolveWords, command_words,
+};
 use hint_log::Log;
 use pec_front::laws::{certified_boxes_fit, design_formulas_are_well_formed, fitting_boxes_choose};
 use pec_runs::{DesignStop, encode, read_design_formula};
@@ -37,16 +40,18 @@ const DEFAULT_STEPS: u64 = 1_000_000;
 const COMMANDS: &str = concat!(
     "dqsolve solve [--steps N] [--bare] [--v2] [--prep] [--binary] FILE / dqsolve demo SEED SIZE",
     " / dqsolve pec [--steps N] SPEC IMPL / dqsolve encode SPEC IMPL",
+    " / dqsolve defined [--steps N] FILE",
 );
 
 /// Decides the formula in a file, and writes the verdict with a certificate; or decides a planted
 /// formula, judges the certificate, and writes a line on it; or decides whether the black boxes of a
-/// circuit can be filled as its specification asks, or writes the formula of that question.
+/// circuit can be filled as its specification asks, or writes the formula of that question; or
+/// writes the definitions of the existentials of the formula in a file.
 ///
 /// The words are the program's name and those of one command, as clap reads them (`COMMANDS`). The
 /// log is emptied first, and then has the search's entries. The status is 10 where the formula is
-/// true, 20 where it is false, 0 where the steps didn't suffice or the formula was written, 1 where
-/// the words are others, 2 where the formula's text has a fault, 3 where a file can't be read, 4
+/// true, 20 where it is false, 30 where definitions were written, 0 where the steps didn't suffice or
+/// the formula was written, 1 where the words are others, 2 where the formula's text has a fault, 3 where a file can't be read, 4
 /// where the text can't be written, 5 for want of memory, 6 where a file is too long, and 7 where a
 /// circuit or its boxes are refused.
 pub fn dqsolve_run<F: Files, K: Sink>(
@@ -68,7 +73,7 @@ pub fn dqsolve_run<F: Files, K: Sink>(
 
     // Over files that are told, what is written is right, and where nothing failed, there is an
     // answer: a verdict on a formula, a line on a planted one, a verdict on the boxes of a design or
-    // its formula, or the first refusal of two circuits.
+    // its formula, the first refusal of two circuits, or the definitions of a formula.
     ensures told { ShowsTold (state_of F.Files files.old) (state_of F.Files files.new)
         (command_of (map string_bytes words.now)) log.new
         (sink_of K.Sink out.old) (sink_of K.Sink out.new) result }
@@ -109,6 +114,7 @@ fn report<F: Files>(
         Some(CommandWords::Demo(asked)) => report_demo(alloc, asked, log),
         Some(CommandWords::Pec(asked)) => report_circuits(alloc, asked, files, log),
         Some(CommandWords::Encode(asked)) => encode(alloc, files, asked.spec, asked.imp),
+        Some(CommandWords::Defined(asked)) => report_definitions(alloc, asked, files, log),
     }
 }
 
@@ -162,6 +168,25 @@ fn report_circuits<F: Files>(
         Err(DesignStop::Memory) => Err(Memory),
         Err(DesignStop::Said(said)) => said.output(alloc),
     }
+}
+
+// What is to be written where the definitions of the formula in a file are asked for.
+fn report_definitions<F: Files>(
+    alloc: Global,
+    defining: DefiningWords,
+    files: &mut F,
+    log: &mut Log,
+) -> Result<Output, Memory>
+    ensures reported { IfOk result
+        (IsReported (state_of F.Files files.old) (state_of F.Files files.new)
+        (Some (defined (defining_of defining.entry))) log.new) }
+    ensures log { IsRunLog (state_of F.Files files.old)
+        (Some (defined (defining_of defining.entry))) log.new }
+    ensures limit { log.new.limit ≡ defining.entry.steps }
+    ensures held { F.held files.new ≡ F.held files.old }
+{
+    log.rewind(defining.steps);
+    define_file(alloc, files, defining.file, log)
 }
 
 // What is to be written where the words name a file.

@@ -88,7 +88,8 @@ pub fn definitions_are_taken()
     ensures deletions { dqsolve (codes "defined" ∷ codes "--v2" ∷ codes "f" ∷ []) ≡ None }
     ensures preparation { dqsolve (codes "defined" ∷ codes "--prep" ∷ codes "f" ∷ []) ≡ None }
     ensures binary { dqsolve (codes "defined" ∷ codes "--binary" ∷ codes "f" ∷ []) ≡ None }
-    ensures least { dqsolve (codes "defined" ∷ codes "--steps" ∷ codes "0" ∷ codes "f" ∷ []) ≡ None }
+    ensures least { dqsolve (codes "defined" ∷ codes "--steps" ∷ codes "0" ∷ codes "f" ∷ [])
+        ≡ None }
     ensures most { dqsolve
         (codes "defined" ∷ codes "--steps" ∷ codes "1000000001" ∷ codes "f" ∷ []) ≡ None }
 {}

@@ -8,14 +8,14 @@
 //! words, reads and writes are as at the start; the checker has to say the same under reads of 1, 2,
 //! 3, 7 and 64 bytes, where none is to fail; behind a verdict of the solver it prints what the
 //! checker says of the text that was written, and how many rounds and learned clauses the log has.
-//! `alone` does the same without that. `verdict` runs the solver, and prints the status and, behind a
-//! verdict, what the checker says, but no text. `compare` does it with a verdict on two circuits: the formula
-//! is the one that `encode` writes, and of the text the status alone is printed, and what the
-//! checker says. `unfailing` runs the program over files and a sink that never fail, and prints the
-//! status alone; `read` reads the formula's file, of at most so many bytes. `canonical` prints the
-//! canonical text of the formula, `refutation` that of the certificate as a refutation of it,
-//! `proof` that of the proof in the certificate, a circuit, and `circuit` that of the circuit. Lines
-//! that begin with `#` are comments.
+//! `alone` does the same without that. `verdict` runs the solver, and prints the status and, behind
+//! a verdict or definitions, what the checker says, but no text. `compare` does it with a verdict
+//! on two circuits: the formula is the one that `encode` writes, and of the text the status alone
+//! is printed, and what the checker says. `unfailing` runs the program over files and a sink that
+//! never fail, and prints the status alone; `read` reads the formula's file, of at most so many
+//! bytes. `canonical` prints the canonical text of the formula, `refutation` that of the
+//! certificate as a refutation of it, `proof` that of the proof in the certificate, a circuit, and
+//! `circuit` that of the circuit. Lines that begin with `#` are comments.
 
 use crate::settings::{Calls, Ran, Settings, words_of};
 use crate::texts;
@@ -174,7 +174,7 @@ fn run_alone(
     Ok(Some(format!(in alloc; "{name}: {shown}")?))
 }
 
-// A case: its status, and, behind a verdict, what the checker says of the text.
+// A case: its status, and, behind a verdict or definitions, what the checker says of the text.
 fn run_verdict(
     alloc: Global,
     settings: &mut Settings,
@@ -184,7 +184,7 @@ fn run_verdict(
     let ran = settings.run(alloc, log)?;
     settings.reset(alloc)?;
     let status = ran.status;
-    if status != 10 && status != 20 {
+    if status != 10 && status != 20 && status != 30 {
         return Ok(Some(format!(in alloc; "{name}: {status}")?));
     }
     let judged = shown_run(alloc, &settings.judge(alloc, &ran.text, log)?)?;
