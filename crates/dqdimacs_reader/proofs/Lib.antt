@@ -3,7 +3,7 @@ mod ReadIsSpelled
 mod CompletedReadings
 mod PiecesAnswer
 mod Runs
-mod SpelledClauses
+pub mod SpelledClauses
 mod SpelledIsRead
 mod ExistentialPlaces
 mod Words

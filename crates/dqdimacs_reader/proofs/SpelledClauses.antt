@@ -22,7 +22,7 @@ same_literal-refl (positive v) = eq-eqb v v refl
 same_literal-refl (negative v) = eq-eqb v v refl
 
 -- what a literal that is added keeps
-grown : (Q : List Literal → Type 0) (b : Bool) (more less : List Literal) → (b ≡ false → Q more) → Q less →
+pub grown : (Q : List Literal → Type 0) (b : Bool) (more less : List Literal) → (b ≡ false → Q more) → Q less →
     Q (cond b less more)
 grown Q true more less added kept = kept
 grown Q false more less added kept = added refl
@@ -33,7 +33,7 @@ apart clause l absent k d below same =
     true≢false (sym (list_any_at (same_literal l) clause k d below (ap (same_literal l) same ∙ same_literal-refl l))
     ∙ absent)
 
-add_literal-distinct : (clause : List Literal) (l : Literal) → AllPairs (λ j k. j ≢ k) clause →
+pub add_literal-distinct : (clause : List Literal) (l : Literal) → AllPairs (λ j k. j ≢ k) clause →
     AllPairs (λ j k. j ≢ k) (add_literal clause l)
 add_literal-distinct clause l pairs =
     grown (AllPairs (λ j k. j ≢ k)) (list_any (same_literal l) clause) (clause ++ l ∷ []) clause

@@ -1,6 +1,7 @@
 //! DQDIMACS: QDIMACS with `d` lines, read exactly.
 #![tactic(auto)]
 
+pub use distinct::DistinctLiterals;
 pub use faults::{FormulaFault, ReadStop};
 pub use reader::{Reader, read};
 pub use writer::write;

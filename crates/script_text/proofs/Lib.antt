@@ -1,0 +1,2 @@
+mod AllowedScripts
+mod CommandLists
