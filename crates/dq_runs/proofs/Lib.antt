@@ -1,1 +1,3 @@
 pub mod ReadFormulas
+pub mod SaidFormulas
+pub mod ToldTexts

@@ -1,8 +1,7 @@
 -- From what was fed to what is read of a formula's file.
-use Rattle.std.proofs.Common.{◌≡◌, ℕ, ◌+◌, ◌<◌, ◌≤◌, List, [], length, Result, Ok, Err, refl, sym, subst, arith}
-use Rattle.std.proofs.Math.Nat.{lt_of_not-le}
+use Rattle.std.proofs.Common.{◌≡◌, ℕ, ◌<◌, List, [], length, Result, Ok, Err, sym, subst}
 use Rattle.dq_io.specs.Feeding.{WasFed}
-use Rattle.dq_io.specs.Files.{Holding, Untold, Absent, Holds}
+use Rattle.dq_io.specs.Files.{Holding, Absent}
 use Rattle.dq_io.specs.State.{FilesState}
 use Rattle.dq_lits.specs.Formula.{Dqbf}
 use Rattle.dqdimacs_reader.specs.Machine.{TextFault}
@@ -10,24 +9,12 @@ use Rattle.dqdimacs_reader.specs.Reading.{IsReading}
 use Rattle.dqdimacs_reader.specs.declared.faults.FormulaFault.{FormulaFault}
 use Rattle.dqdimacs_reader.specs.declared.faults.ReadStop.{ReadStop}
 use Rattle.dqdimacs_reader.specs.declared.faults.ReadStop.TheVariants.{Refused as RefusedText}
-use Rattle.dq_runs.specs.FileTexts.{IsTextOf, IsShortText, PickedOnce}
+use Rattle.dq_runs.specs.FileTexts.{IsShortText, PickedOnce}
 use Rattle.dq_runs.specs.FormulaFiles.{max_formula, IsTextRead, IsFormulaRead}
 use Rattle.dq_runs.specs.declared.formulas.FormulaStop.{FormulaStop}
 use Rattle.dq_runs.specs.declared.formulas.FormulaStop.TheVariants.{Memory, Said}
 use Rattle.dq_runs.specs.declared.formulas.NoFormula.TheVariants.{Unreadable, TooLong, Refused}
-
--- a text that was read is the file's
-told_text : (holding : Holding) (text : List ℕ) → ((bytes : List ℕ) → holding ≡ Holds bytes → text ≡ bytes) →
-    (holding ≡ Absent → ⊥) → IsTextOf holding text
-told_text Untold text is there = tt
-told_text Absent text is there = there refl
-told_text (Holds bytes) text is there = is bytes refl
-
--- a text that wasn't told to be too long
-is_short : (limit given count : ℕ) → given ≡ count → (limit < given → ⊥) → count ≤ limit
-is_short limit given count same not_long =
-    let h : count < limit + 1 = lt_of_not-le {n = limit + 1} {m = count}
-    (λ more. not_long (omega (arith, more, same))) in omega (arith, h)
+use Rattle.dq_runs.proofs.ToldTexts.{told_text, is_short}
 
 -- what was fed of a file that was read to its end is its text
 pub record IsFed (now : List ℕ → Type 0) (holding : Holding) : Type 0 where

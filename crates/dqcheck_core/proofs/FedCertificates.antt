@@ -1,13 +1,12 @@
 -- From what was fed to what is said of a certificate's file.
-use Rattle.std.proofs.Common.{◌≡◌, ℕ, ◌+◌, ◌<◌, ◌≤◌, List, [], length, Result, Ok, Err, refl, sym, subst, arith}
+use Rattle.std.proofs.Common.{◌≡◌, ℕ, ◌<◌, ◌≤◌, List, [], length, Result, Ok, Err, refl, sym, subst, arith}
 use Rattle.std.specs.Prelude.{IfOk}
-use Rattle.std.proofs.Math.Nat.{lt_of_not-le}
 use Rattle.dq_io.specs.Feeding.{WasFed}
 use Rattle.dq_io.specs.Files.{Holding, Untold, Absent, Holds}
 use Rattle.dq_io.specs.State.{FilesState}
 use Rattle.dq_lits.specs.Formula.{Dqbf}
 use Rattle.dq_lits.specs.declared.memory.Memory.{Memory}
-use Rattle.dq_runs.specs.FileTexts.{IsLong, IsTextOf, IsShortText, PickedOnce}
+use Rattle.dq_runs.specs.FileTexts.{IsLong, IsShortText, PickedOnce}
 use Rattle.dq_runs.specs.Printed.{printed}
 use Rattle.dq_runs.specs.declared.outputs.Output.{Output}
 use Rattle.cert_judge.specs.Judgement.{IsJudgement}
@@ -17,19 +16,7 @@ use Rattle.dqcheck_core.specs.Outputs.{IsReportedBehind}
 use Rattle.dqcheck_core.specs.Report.{judged, printed_report}
 use Rattle.dqcheck_core.specs.Running.{max_certificate}
 use Rattle.dqcheck_core.proofs.Runs.{judged_reported}
-
--- a text that was read is the file's
-told_text : (holding : Holding) (text : List ℕ) → ((bytes : List ℕ) → holding ≡ Holds bytes → text ≡ bytes) →
-    (holding ≡ Absent → ⊥) → IsTextOf holding text
-told_text Untold text is there = tt
-told_text Absent text is there = there refl
-told_text (Holds bytes) text is there = is bytes refl
-
--- a text that wasn't told to be too long
-is_short : (limit given count : ℕ) → given ≡ count → (limit < given → ⊥) → count ≤ limit
-is_short limit given count same not_long =
-    let h : count < limit + 1 = lt_of_not-le {n = limit + 1} {m = count}
-    (λ more. not_long (omega (arith, more, same))) in omega (arith, h)
+use Rattle.dq_runs.proofs.ToldTexts.{told_text, is_short}
 
 -- what was fed of a file that was read to its end is its text
 pub record IsFed (now : List ℕ → Type 0) (holding : Holding) : Type 0 where

@@ -1,17 +1,14 @@
 -- From what a run's parts answer to what is due, and why.
-use Rattle.std.proofs.Common.{◌≡◌, ◌≢◌, ◌⊎◌, inl, inr, ℕ, ◌+◌, ◌<◌, ◌≤◌, List, Option, None, Some, Result, Ok, Err, refl, sym, ap, ◌∙◌, subst, arith, codes}
+use Rattle.std.proofs.Common.{◌≡◌, ◌≢◌, ◌⊎◌, inl, inr, ℕ, ◌<◌, ◌≤◌, List, Option, None, Some, Result, Ok, Err, refl, sym, ap, ◌∙◌, subst, arith, codes}
 use Rattle.std.specs.Prelude.{IfOk}
-use Rattle.std.proofs.Math.Nat.{lt_of_not-le}
 use Rattle.dq_io.specs.Causes.{next_count, Rose}
-use Rattle.dq_io.specs.Files.{Holding, Untold, Absent, Holds}
+use Rattle.dq_io.specs.Files.{Absent}
 use Rattle.dq_io.specs.State.{FilesState}
 use Rattle.dq_lits.specs.Formula.{Dqbf}
 use Rattle.dq_lits.specs.declared.memory.Memory.{Memory}
 use Rattle.dq_runs.specs.Ending.{IsEnd, Ends, HasCauses}
-use Rattle.dq_runs.specs.FileTexts.{IsLong, IsTextOf, IsUnreadable, IsTooLong, PickedOnce, PickedTwice}
-use Rattle.dq_runs.specs.FormulaFiles.{IsFormulaOf, IsNoFormula, IsFormulaRead, IsUnreadableStop}
-use Rattle.dq_runs.specs.declared.formulas.FormulaStop.{FormulaStop}
-use Rattle.dq_runs.specs.declared.formulas.FormulaStop.TheVariants.{Said}
+use Rattle.dq_runs.specs.FileTexts.{IsLong, IsUnreadable, IsTooLong, PickedOnce, PickedTwice}
+use Rattle.dq_runs.specs.FormulaFiles.{IsFormulaOf, IsNoFormula}
 use Rattle.dq_runs.specs.Printed.{Printed, printed, unreadable_line, long_line}
 use Rattle.dq_runs.specs.Sinks.{SinkState}
 use Rattle.dq_runs.specs.declared.formulas.NoFormula.{NoFormula}
@@ -23,24 +20,12 @@ use Rattle.dqcheck_words.specs.Command.{Command}
 use Rattle.dqcheck_core.specs.Outputs.{IsReported, IsDueBehind, IsReportedBehind}
 use Rattle.dqcheck_core.specs.Report.{Report, no_formula, unreadable_certificate, long_certificate, judged, printed_report, answer_status}
 use Rattle.dqcheck_core.specs.Running.{max_certificate, IsAnswerTo, IsDueFor, IsDue}
+use Rattle.dq_runs.proofs.SaidFormulas.{status_of, said_rightly}
 
 -- ---- one file behind another
 
 rose_earlier : (before mid now : ℕ) → before ≤ mid → Rose mid now → Rose before now
 rose_earlier before mid now later rose = omega arith
-
--- a text that was read is the file's
-pub told_text : (holding : Holding) (text : List ℕ) → ((bytes : List ℕ) → holding ≡ Holds bytes → text ≡ bytes) →
-    (holding ≡ Absent → ⊥) → IsTextOf holding text
-told_text Untold text is there = tt
-told_text Absent text is there = there refl
-told_text (Holds bytes) text is there = is bytes refl
-
--- a text that wasn't told to be too long
-pub is_short : (limit given count : ℕ) → given ≡ count → (limit < given → ⊥) → count ≤ limit
-is_short limit given count same not_long =
-    let h : count < limit + 1 = lt_of_not-le {n = limit + 1} {m = count}
-    (λ more. not_long (omega (arith, more, same))) in omega (arith, h)
 
 -- the formula's file was picked, between these states
 pub record Picks (before now : FilesState) : Type 0 where
@@ -109,9 +94,6 @@ reported_behind before mid now c f (Err _) picks one o = tt
 
 -- ---- the parts
 
-status_of : (output : Output) (p : Printed) → printed output ≡ p → output.status ≡ p.status
-status_of output p same = ap (λ (q : Printed). q.status) same
-
 -- the certificate can't be read
 pub unreadable_reported : (before now : FilesState) (name : List ℕ) (f : Dqbf) (r : Result Output Memory) →
     IsUnreadable before now name → PickedOnce before now
@@ -174,23 +156,12 @@ pub said_reported : (before now : FilesState) (c : Command) (said : NoFormula) (
     IsNoFormula before now c.formula said → PickedOnce before now
     → (said ≢ Unreadable → now.faults ≡ before.faults) → IfOk r
     (λ output. printed output ≡ printed_report (no_formula said)) → IfOk r (IsReported before now (Some c))
-said_reported before now c Unreadable (Ok output) is once unfaulted same = record {
-  due = (no_formula Unreadable, (is, once), same);
-  long = λ six. let three = status_of output (printed_report (no_formula Unreadable)) same in
-      absurd (omega (arith, six, three));
-  unfaulted = λ other. absurd (other (status_of output (printed_report (no_formula Unreadable)) same));
-}
-said_reported before now c TooLong (Ok output) is once unfaulted same = record {
-  due = (no_formula TooLong, (is, once), same);
-  long = λ _. is.given;
-  unfaulted = λ _. unfaulted (λ other. cc);
-}
-said_reported before now c (RefusedFormula line name) (Ok output) is once unfaulted same = record {
-  due = (no_formula (RefusedFormula line name), (is, once), same);
-  long = λ six. let two = status_of output (printed_report (no_formula (RefusedFormula line name))) same in
-      absurd (omega (arith, six, two));
-  unfaulted = λ _. unfaulted (λ other. cc);
-}
+said_reported before now c said (Ok output) is once unfaulted same =
+    let rightly = said_rightly before now c.formula said output is unfaulted same in record {
+      due = (no_formula said, (is, once), same);
+      long = rightly.long;
+      unfaulted = rightly.unfaulted;
+    }
 said_reported before now c said (Err _) is once unfaulted same = tt
 
 -- ---- the run
@@ -318,21 +289,3 @@ causes before now asked sink sink_now (Err _) status held o unwritten =
       unfaulted_sink = λ _. ap (λ (s : SinkState). s.faults) unwritten.same;
       held = held;
     }
-
--- what was read where the formula's file gives none
-pub said_read : (before now : FilesState) (name : List ℕ) (r : Result Dqbf FormulaStop) (stop : FormulaStop)
-    (said : NoFormula) → r ≡ Err stop → stop ≡ Said said
-    → IsFormulaRead before now name r → IsNoFormula before now name said × PickedOnce before now
-said_read before now name r stop said is kind read = subst (IsFormulaRead before now name) (is ∙ ap Err kind) read
-
-unreadable_said : (said : NoFormula) → said ≢ Unreadable → IsUnreadableStop (Err (Said said)) → ⊥
-unreadable_said Unreadable other is = other refl
-unreadable_said TooLong other is = is
-unreadable_said (RefusedFormula line name) other is = is
-
--- a file that is said to be other than unreadable counted no fault
-pub not_unreadable : (r : Result Dqbf FormulaStop) (stop : FormulaStop) (said : NoFormula) → r ≡ Err stop →
-    stop ≡ Said said → said ≢ Unreadable
-    → IsUnreadableStop r → ⊥
-not_unreadable r stop said is kind other unreadable = unreadable_said said other
-    (subst IsUnreadableStop (is ∙ ap Err kind) unreadable)

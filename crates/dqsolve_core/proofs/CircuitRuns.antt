@@ -21,7 +21,8 @@ use Rattle.dqsolve_words.specs.Command.{Circuits, Comparison, Command, pec, enco
 use Rattle.dqsolve_core.specs.Outputs.{IsReported}
 use Rattle.dqsolve_core.specs.Report.{ComparisonReport, no_design, compared, printed_comparison}
 use Rattle.dqsolve_core.specs.Running.{IsDueForCircuits}
-use Rattle.dqsolve_core.proofs.Statuses.{status_of, not_long, Reasons, verdict_reasons, verdict_steps}
+use Rattle.dq_runs.proofs.SaidFormulas.{status_of}
+use Rattle.dqsolve_core.proofs.Statuses.{not_long, Reasons, verdict_reasons, verdict_steps}
 
 -- a verdict on the design's formula
 pub comparison_reported : (before now : FilesState) (log : ProofLog) (c : Comparison) (f : Dqbf)

@@ -1,5 +1,5 @@
 -- From what a run's parts answer to what is due, and why.
-use Rattle.std.proofs.Common.{◌≡◌, ◌≢◌, ◌⊎◌, inl, inr, ℕ, Bool, true, false, List, [], Option, None, Some, Result, Ok, Err, refl, sym, ap, ◌∙◌, subst, arith}
+use Rattle.std.proofs.Common.{◌≡◌, ◌≢◌, ◌⊎◌, inl, inr, ℕ, Bool, true, false, [], Option, None, Some, Result, Ok, Err, refl, sym, ap, ◌∙◌, subst, arith}
 use Rattle.std.specs.Prelude.{IfOk, option_map}
 use Rattle.dq_io.specs.State.{FilesState}
 use Rattle.dq_lits.specs.Formula.{Dqbf}
@@ -9,9 +9,7 @@ use Rattle.hint_log.specs.ProductiveLog.{IsProductiveLog}
 use Rattle.planted_formulas.specs.Planted.{planted_formula}
 use Rattle.dq_runs.specs.Ending.{IsEnd, Ends, HasCauses}
 use Rattle.dq_runs.specs.FileTexts.{PickedOnce}
-use Rattle.dq_runs.specs.FormulaFiles.{IsFormulaOf, IsNoFormula, IsFormulaRead, IsUnreadableStop}
-use Rattle.dq_runs.specs.declared.formulas.FormulaStop.{FormulaStop}
-use Rattle.dq_runs.specs.declared.formulas.FormulaStop.TheVariants.{Said}
+use Rattle.dq_runs.specs.FormulaFiles.{IsFormulaOf, IsNoFormula}
 use Rattle.dq_runs.specs.Printed.{Printed, printed}
 use Rattle.dq_runs.specs.Sinks.{SinkState}
 use Rattle.dq_runs.specs.declared.formulas.NoFormula.{NoFormula}
@@ -36,7 +34,8 @@ use Rattle.dqsolve_core.specs.Running.{IsDueFor, IsDue, IsRunLog, IsOwnLog, IsDe
 use Rattle.dqsolve_core.specs.Searched.{IsSearched}
 use Rattle.dqsolve_core.proofs.DefinedRuns.{defined_reasons, defined_steps}
 use Rattle.dqsolve_core.proofs.CircuitRuns.{comparison_reasons, encode_reasons, comparison_steps}
-use Rattle.dqsolve_core.proofs.Statuses.{status_of, not_long, Reasons, verdict_reasons, verdict_steps}
+use Rattle.dq_runs.proofs.SaidFormulas.{status_of, said_rightly}
+use Rattle.dqsolve_core.proofs.Statuses.{not_long, Reasons, verdict_reasons, verdict_steps}
 
 -- ---- what the words ask for
 
@@ -78,23 +77,12 @@ pub said_reported : (before now : FilesState) (log : ProofLog) (c : Search) (sai
     → (said ≢ Unreadable → now.faults ≡ before.faults) → IfOk r
     (λ output. printed output ≡ printed_search c (no_formula said)) →
     IfOk r (IsReported before now (Some (solve c)) log)
-said_reported before now log c Unreadable (Ok output) is once unfaulted same = record {
-  due = (no_formula Unreadable, (is, once), same);
-  long = λ six. let three = status_of output (printed_search c (no_formula Unreadable)) same in
-      absurd (omega (arith, six, three));
-  unfaulted = λ other. absurd (other (status_of output (printed_search c (no_formula Unreadable)) same));
-}
-said_reported before now log c TooLong (Ok output) is once unfaulted same = record {
-  due = (no_formula TooLong, (is, once), same);
-  long = λ _. is.given;
-  unfaulted = λ _. unfaulted (λ other. cc);
-}
-said_reported before now log c (Refused line name) (Ok output) is once unfaulted same = record {
-  due = (no_formula (Refused line name), (is, once), same);
-  long = λ six. let two = status_of output (printed_search c (no_formula (Refused line name))) same in
-      absurd (omega (arith, six, two));
-  unfaulted = λ _. unfaulted (λ other. cc);
-}
+said_reported before now log c said (Ok output) is once unfaulted same =
+    let rightly = said_rightly before now c.file said output is unfaulted same in record {
+      due = (no_formula said, (is, once), same);
+      long = rightly.long;
+      unfaulted = rightly.unfaulted;
+    }
 said_reported before now log c said (Err _) is once unfaulted same = tt
 
 -- a planted formula's line
@@ -351,21 +339,3 @@ own_log before now asked log sink sink_now (Err _) status o limit work unwritten
       limit = λ c is made. absurd (made five);
       unknown = λ c is seeks zero. absurd (omega (arith, zero, five));
     }
-
--- what was read where the formula's file gives none
-pub said_read : (before now : FilesState) (name : List ℕ) (r : Result Dqbf FormulaStop) (stop : FormulaStop)
-    (said : NoFormula) → r ≡ Err stop → stop ≡ Said said
-    → IsFormulaRead before now name r → IsNoFormula before now name said × PickedOnce before now
-said_read before now name r stop said is kind read = subst (IsFormulaRead before now name) (is ∙ ap Err kind) read
-
-unreadable_said : (said : NoFormula) → said ≢ Unreadable → IsUnreadableStop (Err (Said said)) → ⊥
-unreadable_said Unreadable other is = other refl
-unreadable_said TooLong other is = is
-unreadable_said (Refused line name) other is = is
-
--- a file that is said to be other than unreadable counted no fault
-pub not_unreadable : (r : Result Dqbf FormulaStop) (stop : FormulaStop) (said : NoFormula) → r ≡ Err stop →
-    stop ≡ Said said → said ≢ Unreadable
-    → IsUnreadableStop r → ⊥
-not_unreadable r stop said is kind other unreadable = unreadable_said said other
-    (subst IsUnreadableStop (is ∙ ap Err kind) unreadable)

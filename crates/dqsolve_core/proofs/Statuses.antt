@@ -1,18 +1,13 @@
 -- Which statuses a report has, and why.
-use Rattle.std.proofs.Common.{◌≡◌, ◌≢◌, ℕ, Option, None, Some, ap, arith}
+use Rattle.std.proofs.Common.{◌≡◌, ◌≢◌, ℕ, Option, None, Some, arith}
 use Rattle.dq_io.specs.Causes.{Rose}
 use Rattle.dq_io.specs.State.{FilesState}
 use Rattle.dq_lits.specs.Formula.{Dqbf}
 use Rattle.hint_log.specs.Entries.{ProofLog, steps_of}
-use Rattle.dq_runs.specs.Printed.{Printed, printed}
-use Rattle.dq_runs.specs.declared.outputs.Output.{Output}
 use Rattle.dq_verdicts.specs.declared.forms.Form.{Form}
 use Rattle.dq_verdicts.specs.Shown.{IsVerdict}
 use Rattle.dq_verdicts.specs.Verdicts.{Verdict, is_true, is_false, is_unknown, verdict_status}
 use Rattle.dqsolve_words.specs.Command.{Command}
-
-pub status_of : (output : Output) (p : Printed) → printed output ≡ p → output.status ≡ p.status
-status_of output p same = ap (λ (q : Printed). q.status) same
 
 pub not_long : (verdict : Verdict) → verdict_status verdict ≡ 6 → ⊥
 not_long (is_true _ _) same = omega (arith, same)

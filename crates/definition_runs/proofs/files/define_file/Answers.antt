@@ -1,5 +1,6 @@
 use Rattle.dq_io.specs.State.{state_of}
-use Rattle.definition_runs.proofs.ReadFormulas.{found_defined, found_log, not_unreadable, said_defined, said_read}
+use Rattle.dq_runs.proofs.SaidFormulas.{not_unreadable, said_read}
+use Rattle.definition_runs.proofs.ReadFormulas.{found_defined, found_log, said_defined}
 use Rattle.definition_runs.proofs.files.define_file.Goals as goal
 
 pub returns-in-Ok-clause-defined : goal.returns-in-Ok-clause-defined

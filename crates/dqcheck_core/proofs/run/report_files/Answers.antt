@@ -1,5 +1,6 @@
 use Rattle.dq_io.specs.State.{state_of}
-use Rattle.dqcheck_core.proofs.Runs.{reported_behind, said_reported, said_read, not_unreadable}
+use Rattle.dq_runs.proofs.SaidFormulas.{said_read, not_unreadable}
+use Rattle.dqcheck_core.proofs.Runs.{reported_behind, said_reported}
 use Rattle.dqcheck_core.proofs.run.report_files.Goals as goal
 
 pub returns-in-Ok-clause-reported : goal.returns-in-Ok-clause-reported

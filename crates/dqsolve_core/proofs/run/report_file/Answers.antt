@@ -2,7 +2,8 @@ use Rattle.std.proofs.Common.{◌∙◌, ap}
 use Rattle.hint_log.specs.Entries.{ProofLog}
 use Rattle.dq_io.specs.State.{state_of}
 use Rattle.dqsolve_words.specs.Words.{options_of}
-use Rattle.dqsolve_core.proofs.Runs.{verdict_reported, search_log, said_reported, said_read, not_unreadable}
+use Rattle.dq_runs.proofs.SaidFormulas.{said_read, not_unreadable}
+use Rattle.dqsolve_core.proofs.Runs.{verdict_reported, search_log, said_reported}
 use Rattle.dqsolve_core.proofs.run.report_file.Goals as goal
 
 pub returns-in-Ok-clause-reported : goal.returns-in-Ok-clause-reported
