@@ -21,6 +21,12 @@ const MOST_CONDITIONS: usize = 1024;
 // After so many existentials in a row for which no guess was found none is asked for.
 const MOST_IN_VAIN: usize = 32;
 
+// How many clauses are learned for a question at most: while guesses are found, and where the
+// existential before has none.
+const MOST_STEPS: u64 = 8000;
+
+const FEW_STEPS: u64 = 1000;
+
 /// Sets of conditions, and what was learned from asking for definitions under them. No contract
 /// speaks of it.
 #[derive(Drop)]
@@ -64,6 +70,15 @@ impl Conditions {
         self.rows.push(pair.row1.copy()?)?;
         self.rows.push(pair.row2.copy()?)?;
         Ok(())
+    }
+
+    /// How many clauses may be learned for a question.
+    pub(crate) fn most_steps(&self) -> u64 {
+        if self.in_vain == 0 {
+            MOST_STEPS
+        } else {
+            FEW_STEPS
+        }
     }
 
     /// Learns whether they gave a guess.

@@ -22,9 +22,6 @@ use dq_lits::{Lit, Memory};
 use hint_log::{Log, Stop};
 use oracle::Oracle;
 
-// How many clauses are learned for a question at most.
-const MOST_STEPS: u64 = 1000;
-
 impl Definitions {
     // Asks for guesses of the existentials without a definition, and keeps them.
     pub(crate) fn guess_all<O: Oracle>(
@@ -201,7 +198,7 @@ impl Definitions {
         ensures limit { IsErrOf result Stop.Limit → IsAtSomeLimit log.new }
     {
         let whole = log.limit();
-        let most = most_steps(log);
+        let most = most_steps(log, self.questions.conditions.most_steps());
         log.set_limit(most);
         let found = self.guess_or_learn(oracle, graph, f, y, conditions, log);
         let _ = log.steps();
@@ -210,12 +207,12 @@ impl Definitions {
     }
 }
 
-// How many steps a log may have behind a question.
-fn most_steps(log: &Log) -> u64
+// How many steps a log may have behind a question that may take so many.
+fn most_steps(log: &Log, further: u64) -> u64
     ensures steps { steps_of log.now.entries ≤ result }
     ensures limit { result ≤ log.now.limit }
 {
-    log.limit().min(log.steps().saturating_add(MOST_STEPS))
+    log.limit().min(log.steps().saturating_add(further))
 }
 
 // What was found, or none where the question's own limit cut it off.

@@ -150,7 +150,7 @@ impl Engines {
         match self.checker.turn(oracle, candidates.graph, f, nodes, log)? {
             Turn::Holds(id) => Ok(Judged::Hold(id)),
             Turn::Fails { row, values, j } => {
-                let failure = Failure { row, values, j };
+                let failure = self.find_worse(f, candidates, Failure { row, values, j });
                 self.log_failure(oracle, f, candidates, &failure, log)?;
                 Ok(Judged::Fail(failure.row))
             }

@@ -9,3 +9,4 @@ mod candidates;
 mod decisions;
 mod judging;
 mod universal_clauses;
+mod worse_rows;

@@ -1,0 +1,129 @@
+//! Failing rows at which more clauses are false. Where a formula is clauses rather than circuits, a
+//! row tells the more the more clauses are false there, and the solver looks for one alone.
+
+ghost use Rattle.std.specs.Prelude.{◌≡◌, length, IfSome};
+ghost use Rattle.dq_lits.specs.Formula.{IsWellFormed};
+ghost use Rattle.aig_graph.specs.Outputs.{outputs_of};
+ghost use Rattle.circuit_cnf.specs.Failing.{IsFailure};
+ghost use Rattle.known_functions.specs.Searching.{HasInputs};
+ghost use Rattle.repair_loop.specs.Searching.{AreBuilt};
+
+use crate::decisions::Engines;
+use crate::judging::Candidates;
+use circuit_cnf::{Failure, failure_at};
+use dq_formula::Formula;
+use dq_lits::{Lit, Row};
+
+// How many gates and clauses are looked at for a row at most.
+const MOST_LOOKS: usize = 1 << 24;
+
+impl Engines {
+    // How candidates fail at a row near that of a failure, at which no fewer clauses are false. Each
+    // bit is turned in turn and stays so where that makes more clauses false. Want of memory leaves
+    // the row as it is.
+    pub(crate) fn find_worse(
+        &self,
+        f: &Formula,
+        candidates: &Candidates,
+        failure: Failure,
+    ) -> Failure
+        requires formula { IsWellFormed f.now }
+        requires inputs { HasInputs f.now candidates.now.graph.now }
+        requires candidates { AreBuilt f.now candidates.now.graph.now self.now.table.rows
+            candidates.now.outputs.now }
+        requires failure { IsFailure f.now
+            (outputs_of f.now candidates.now.graph.now candidates.now.outputs.now) failure.row
+            failure.values failure.j }
+        ensures { IsFailure f.now
+            (outputs_of f.now candidates.now.graph.now candidates.now.outputs.now) result.row
+            result.values result.j }
+    {
+        let mut worst = failure;
+        let mut most = count_false(f, &worst);
+        for place in 0..self.most_turns(f, candidates) {
+            if let Some(found) = self.turned(f, candidates, &worst.row, place) {
+                let count = count_false(f, &found);
+                if count > most {
+                    worst = found;
+                    most = count;
+                }
+            }
+        }
+        worst
+    }
+
+    // How many bits are turned. None where most existentials have a definition, since rows that make
+    // many outputs of a circuit wrong take more rounds there; and every other row stays as it is
+    // found.
+    fn most_turns(&self, f: &Formula, candidates: &Candidates) -> usize {
+        let nodes = &self.definitions.nodes;
+        let free = nodes.iter().filter(|node| node.is_none()).count();
+        if self.table.rows() % 2 == 0 || free < nodes.len().saturating_sub(free) {
+            return 0;
+        }
+        let looks = candidates.graph.len().saturating_add(f.clauses());
+        f.universals().len().min(MOST_LOOKS / looks.max(1))
+    }
+
+    // How candidates fail at a row with the bit at a place turned, if they do.
+    fn turned(
+        &self,
+        f: &Formula,
+        candidates: &Candidates,
+        row: &Row,
+        place: usize,
+    ) -> Option<Failure>
+        requires formula { IsWellFormed f.now }
+        requires inputs { HasInputs f.now candidates.now.graph.now }
+        requires candidates { AreBuilt f.now candidates.now.graph.now self.now.table.rows
+            candidates.now.outputs.now }
+        requires whole { length row.now ≡ length f.now.universals }
+        ensures { IfSome result (λ failure. IsFailure f.now
+            (outputs_of f.now candidates.now.graph.now candidates.now.outputs.now) failure.row
+            failure.values failure.j) }
+    {
+        if place >= row.len() {
+            return None;
+        }
+        let Ok(mut turned) = row.copy() else {
+            return None;
+        };
+        turned.set(place, !row.get(place));
+        let nodes = candidates.outputs.items();
+        match failure_at(self.alloc, candidates.graph, f, nodes, &turned) {
+            Ok(found) => found,
+            Err(_) => None,
+        }
+    }
+}
+
+// How many clauses are false in a failure. No contract says so: it only chooses among rows.
+fn count_false(f: &Formula, failure: &Failure) -> usize {
+    let mut count = 0usize;
+    for number in 0..f.clauses() {
+        if !is_true(f, failure, f.clause(number)) {
+            count = count.saturating_add(1);
+        }
+    }
+    count
+}
+
+fn is_true(f: &Formula, failure: &Failure, clause: &[Lit]) -> bool {
+    clause
+        .iter()
+        .any(|l| bit_of(f, failure, l.var()) != l.is_neg())
+}
+
+fn bit_of(f: &Formula, failure: &Failure, v: u64) -> bool {
+    if let Some(place) = f.universal_place(v) {
+        return bit_at(&failure.row, place);
+    }
+    match f.existential_place(v) {
+        Some(place) => bit_at(&failure.values, place),
+        None => false,
+    }
+}
+
+fn bit_at(row: &Row, place: usize) -> bool {
+    place < row.len() && row.get(place)
+}
