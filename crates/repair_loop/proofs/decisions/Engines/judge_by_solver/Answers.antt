@@ -74,8 +74,8 @@ log_failure-requires-clause-refuted g c =
     c.requires.search c.turn.ensures.turned.grew c.turn.ensures.turned.group
     c.turn.ensures.turned.checker c.turn.ensures.turned.few
 
-pub find_worse-requires-clause-failure : goal.find_worse-requires-clause-failure
-find_worse-requires-clause-failure g c =
+pub find_worse-failure-requires-clause-failure : goal.find_worse-failure-requires-clause-failure
+find_worse-failure-requires-clause-failure g c =
     let x = c.in-Fails in
     subst (λ ns. IsFailure c.args.f.now (outputs_of c.args.f.now c.args.candidates.now.graph.now ns) x.row x.values x.j)
     c.items-nodes.ensures (c.turn.ensures.fails x.row x.values x.j (c.in_ok-id.was ∙ ap Ok x.is))
@@ -92,6 +92,6 @@ returns-in_ok-log_failure-in-Fails-clause-went g c =
 
 pub returns-in_ok-log_failure-in-Fails-clause-fail : goal.returns-in_ok-log_failure-in-Fails-clause-fail
 returns-in_ok-log_failure-in-Fails-clause-fail g c row e =
-    let same : c.find_worse-in-Fails.result.row ≡ row = cc in
-    round_after c.args.f.now _ c.find_worse-in-Fails.result.row row c.args.log.now c.turn.new.log c.log_failure.new.log same
+    let same : c.find_worse-failure.result.row ≡ row = cc in
+    round_after c.args.f.now _ c.find_worse-failure.result.row row c.args.log.now c.turn.new.log c.log_failure.new.log same
     (log_grew _ c.args.log.now c.turn.new.log c.turn.ensures.turned.grew) c.in_ok-log_failure-in-Fails.ensures.round
