@@ -111,7 +111,7 @@ impl ClauseStore {
         }
     }
 
-    /// A place to look at the next clause from, if it is long.
+    /// A place to decide a literal of the next clause from, if it is long.
     pub(crate) fn add_cursor(&mut self, lits: &[Lit]) -> Result<(), Memory>
         ensures clauses { self.new.clauses ≡ self.old.clauses }
     {
@@ -154,6 +154,7 @@ impl ClauseStore {
         make_room(&mut self.first, lits)?;
         make_room(&mut self.second, lits)?;
         self.short.reserve(1)?;
+        self.cursors.grow(self.arena.len() + 1)?;
         self.arena.reserve(lits)?;
         self.spare = lits.len() + 1;
         Ok(())

@@ -4,7 +4,6 @@
 //! trail is taken back to where that one was open; but for clauses that were learned meanwhile. So
 //! it is where all but the assumptions are taken back: what these make true they make true again.
 
-use dq_lits::Memory;
 use std::alloc::Global;
 
 /// Ids of clauses, from the larger one downwards.
@@ -22,14 +21,21 @@ pub(crate) struct Positions {
     // true.
     newest: Span,
     rest: Span,
-    // For each level, by how many literals were true when it began, its open clause, and how many
-    // clauses there were.
-    opened: Vec<u64>,
-    counts: Vec<u64>,
+    // The levels of the trail, the newest one last, but for those that memory was refused for.
+    levels: Vec<Level>,
     // The first level that isn't assumed, and the same of it when it began last in this search.
     free: usize,
     free_opened: u64,
     free_count: u64,
+}
+
+// A level that began where so many literals were true: its open clause, and how many clauses there
+// were. It is noted when it begins, so that a variable costs nothing.
+#[derive(Clone, Copy)]
+struct Level {
+    literals: usize,
+    opened: u64,
+    clauses: u64,
 }
 
 const NOWHERE: Span = Span {
@@ -49,23 +55,16 @@ impl Positions {
         Positions {
             newest: NOWHERE,
             rest: NOWHERE,
-            opened: Vec::new(alloc),
-            counts: Vec::new(alloc),
+            levels: Vec::new(alloc),
             free: usize::MAX,
             free_opened: u64::MAX,
             free_count: 0,
         }
     }
 
-    /// Room for one variable more.
-    pub(crate) fn grow(&mut self) -> Result<(), Memory> {
-        self.opened.push(0)?;
-        self.counts.push(0)?;
-        Ok(())
-    }
-
     /// All clauses are to be looked at: a search begins.
     pub(crate) fn begin(&mut self) {
+        self.levels.clear();
         self.free_opened = u64::MAX;
         self.back_to_assumptions(0);
     }
@@ -123,33 +122,37 @@ impl Positions {
 
     /// Goes back to where so many literals were true, where there are so many clauses now.
     pub(crate) fn back(&mut self, literals: usize, clauses: u64) {
-        let opened = at(&self.opened, literals);
-        if opened > clauses {
-            self.back_to_assumptions(clauses);
-        } else {
-            self.newest = Span {
-                from: clauses,
-                down_to: at(&self.counts, literals),
-            };
-            self.rest = down_from(opened);
+        self.leave(literals.saturating_add(1));
+        match self.levels.last() {
+            Some(level) if level.literals == literals && level.opened <= clauses => {
+                self.newest = Span {
+                    from: clauses,
+                    down_to: level.clauses,
+                };
+                self.rest = down_from(level.opened);
+            }
+            _ => self.back_to_assumptions(clauses),
         }
     }
 
+    // Notes a level. Where memory is refused all is looked at once it is gone back to.
     fn set(&mut self, literals: usize, opened: u64, clauses: u64) {
-        put(&mut self.opened, literals, opened);
-        put(&mut self.counts, literals, clauses);
+        self.leave(literals);
+        let _noted = self.levels.push(Level {
+            literals,
+            opened,
+            clauses,
+        });
     }
-}
 
-fn at(numbers: &[u64], place: usize) -> u64 {
-    match numbers.get(place) {
-        Some(number) => *number,
-        None => u64::MAX,
-    }
-}
-
-fn put(numbers: &mut [u64], place: usize, number: u64) {
-    if let Some(old) = numbers.get_mut(place) {
-        *old = number;
+    // Takes away the levels that began where so many literals or more were true.
+    fn leave(&mut self, literals: usize) {
+        for _ in 0..self.levels.len() {
+            match self.levels.last() {
+                Some(level) if level.literals >= literals => {}
+                _ => return,
+            }
+            self.levels.pop();
+        }
     }
 }

@@ -15,12 +15,12 @@ ghost use Rattle.oracle.specs.Fit.{live_in};
 ghost use Rattle.learning_trail.specs.Steps.{literals_of, Grown};
 ghost use Rattle.learning_trail.specs.Sound.{IsSound};
 ghost use Rattle.learning_trail.specs.Passes.{AreWithin};
-ghost use Rattle.cdcl_core.specs.Chains.{watch_at, IsLinked, HasList, IsTaken, IsLeft};
+ghost use Rattle.cdcl_core.specs.Chains.{watch_at, IsLinked, HasList, IsLeft};
 ghost use Rattle.cdcl_core.specs.Watching.{AreShort, IsReady, AreSame};
 ghost use Rattle.cdcl_core.specs.Visits.{IsVisitable, IsLooked, IsOther, AreOthersFalse, IsVisited, IsListVisited, AreVisited, IsTrailVisited, IsProcessed};
 
 use crate::arenas::Arena;
-use crate::cursors::{Cursors, is_long};
+use crate::cursors::{Cursors, has_place};
 use crate::watches::{Watches, put_back, put_elsewhere, take};
 use dq_lits::Lit;
 use learning_trail::{Status, Step, Trail, is_false, is_true, status_of};
@@ -155,7 +155,7 @@ fn visit_list(
     ensures { IsListVisited arena.now.clauses trail.old trail.new these.old these.new others.now l
         result }
 {
-    let mut at = take_oldest_first(these, l);
+    let mut at = take(these, l);
     for _ in 0..these.nexts.len() {
         if at == 0 {
             return None;
@@ -169,23 +169,6 @@ fn visit_list(
         }
     }
     None
-}
-
-// Takes a literal's list away in the order in which its clauses came, and gives its first clause:
-// lists begin with what was put on them last. So what propagates, and with it each derivation,
-// doesn't depend on how often a list was visited.
-fn take_oldest_first(these: &mut Watches, l: Lit) -> u64
-    requires { IsLinked these.old 0 [] }
-    ensures taken { IsTaken these.new l result }
-    ensures literals { these.new.literals.items ≡ these.old.literals.items }
-    ensures lists { length these.new.heads.items ≡ length these.old.heads.items }
-{
-    let newest = take(these, l);
-    if newest == 0 {
-        return 0;
-    }
-    put_all_back(these, newest, l);
-    take(these, l)
 }
 
 // Puts the clauses that are left to visit back on their literal's list.
@@ -289,14 +272,14 @@ fn other_literal(
     ensures { MatchOption result (AreOthersFalse (literals_of trail.now.steps) lits.now other)
         (λ k. IsOther (literals_of trail.now.steps) lits.now other k) }
 {
-    if is_long(lits) {
-        return other_in_long(trail, lits, cursors, other, id);
+    if has_place(lits) {
+        return other_from_place(trail, lits, cursors, other, id);
     }
     first_other(trail, lits, other)
 }
 
-// The same of a long clause, from where it was looked at last.
-fn other_in_long(
+// The same from where the clause was looked at last.
+fn other_from_place(
     trail: &Trail,
     lits: &[Lit],
     cursors: &mut Cursors,
@@ -307,13 +290,11 @@ fn other_in_long(
     ensures { MatchOption result (AreOthersFalse (literals_of trail.now.steps) lits.now other)
         (λ k. IsOther (literals_of trail.now.steps) lits.now other k) }
 {
-    if let Some(from) = cursors.watched(id, lits) {
-        let place = next_other(trail, lits, other, from);
-        cursors.watch(id, place);
-        let found = other_at(trail, lits, other, place);
-        if found.is_some() {
-            return found;
-        }
+    let place = next_other(trail, lits, other, cursors.watched(id));
+    cursors.watch(id, place);
+    let found = other_at(trail, lits, other, place);
+    if found.is_some() {
+        return found;
     }
     first_other(trail, lits, other)
 }

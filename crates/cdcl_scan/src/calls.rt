@@ -48,7 +48,6 @@ pub(crate) fn grow(s: &mut Searcher, model: &mut Vec<bool>) -> Result<u64, Memor
         return Err(Memory);
     }
     model.reserve(1)?;
-    s.activities.grow()?;
     s.notes.begin()?;
     s.notes.grow()?;
     s.trail.grow()?;

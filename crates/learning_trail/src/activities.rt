@@ -1,6 +1,6 @@
 //! How active literals are: a policy that no contract speaks of.
 
-use dq_lits::{Lit, Memory};
+use dq_lits::Lit;
 use std::alloc::Global;
 
 // Above this the scores are scaled down.
@@ -11,7 +11,8 @@ const SCALE: u32 = 24;
 /// Scores of literals: those that stood in clauses of late conflicts have the highest.
 #[derive(Drop)]
 pub struct Activities {
-    // The score of each variable, and behind it that of its negation.
+    // The score of each variable, and behind it that of its negation, up to the last one that a
+    // conflict touched: so a variable costs nothing before one does.
     scores: Vec<Score>,
     // What a literal gets now.
     bonus: u64,
@@ -41,21 +42,25 @@ impl Activities {
         }
     }
 
-    /// Room for the literals of one variable more.
-    pub fn grow(&mut self) -> Result<(), Memory> {
-        self.scores.push(NO_SCORE)?;
-        self.scores.push(NO_SCORE)?;
-        Ok(())
-    }
-
     /// Makes the literals of a clause more active.
     pub fn bump(&mut self, lits: &[Lit]) {
         for l in lits {
-            if let Some(score) = self.scores.get_mut(place_of(*l)) {
+            let place = place_of(*l);
+            self.extend(place);
+            if let Some(score) = self.scores.get_mut(place) {
                 *score = Score {
                     value: score.after(self.scaled).saturating_add(self.bonus),
                     scaled: self.scaled,
                 };
+            }
+        }
+    }
+
+    // Scores up to a place. Where memory is refused its literal stays as active as it was.
+    fn extend(&mut self, place: usize) {
+        for _ in self.scores.len()..place.saturating_add(1) {
+            if self.scores.push(NO_SCORE).is_err() {
+                return;
             }
         }
     }

@@ -1,6 +1,6 @@
 //! When a search begins anew: a policy that no contract speaks of.
 
-const UNIT: u64 = 32;
+const UNIT: u64 = 100;
 
 /// Restarts after numbers of conflicts that follow Luby's sequence 1, 1, 2, 1, 1, 2, 4, ..
 ///

@@ -8,10 +8,10 @@ use Rattle.cdcl_core.proofs.propagation.visit_list.Goals as goal
 
 pub loop-init : goal.loop-init
 loop-init c =
-    visiting_first c.args.arena.now.clauses c.args.trail.now c.args.these.now c.take_oldest_first-at.new.these
-    c.args.others.now c.args.l c.take_oldest_first-at.result c.requires.visitable
-    c.take_oldest_first-at.ensures.taken
-    c.take_oldest_first-at.ensures.literals c.take_oldest_first-at.ensures.lists
+    visiting_first c.args.arena.now.clauses c.args.trail.now c.args.these.now c.take-at.new.watches
+    c.args.others.now c.args.l c.take-at.result c.requires.visitable
+    c.take-at.ensures.taken
+    c.take-at.ensures.literals c.take-at.ensures.lists
 
 pub returns-then-at-eq0 : goal.returns-then-at-eq0
 returns-then-at-eq0 c =
