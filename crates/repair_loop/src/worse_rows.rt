@@ -14,7 +14,7 @@ use circuit_cnf::{Failure, failure_at};
 use dq_formula::Formula;
 use dq_lits::{Lit, Row};
 
-// How many gates and clauses are looked at for a row at most.
+// How many gates, literals and bits are looked at for a row at most.
 const MOST_LOOKS: usize = 1 << 24;
 
 impl Engines {
@@ -61,8 +61,9 @@ impl Engines {
         if self.table.rows() % 2 == 0 || free < nodes.len().saturating_sub(free) {
             return 0;
         }
-        let looks = candidates.graph.len().saturating_add(f.clauses());
-        f.universals().len().min(MOST_LOOKS / looks.max(1))
+        let bits = f.universals().len();
+        let looks = candidates.graph.len().saturating_add(count_literals(f));
+        bits.min(MOST_LOOKS / looks.saturating_add(bits).max(1))
     }
 
     // How candidates fail at a row with the bit at a place turned, if they do.
@@ -95,6 +96,15 @@ impl Engines {
             Err(_) => None,
         }
     }
+}
+
+// How many literals the clauses have together, and one for each clause.
+fn count_literals(f: &Formula) -> usize {
+    let mut count = 0usize;
+    for number in 0..f.clauses() {
+        count = count.saturating_add(f.clause(number).len()).saturating_add(1);
+    }
+    count
 }
 
 // How many clauses are false in a failure. No contract says so: it only chooses among rows.
