@@ -72,7 +72,7 @@ module _ (f : Dqbf) (formula : IsWellFormed f) (es : List Entry) (logged : AreLo
       arbiter_value values es f rows row y v logged range.0 range.1
       (own_name instances es v (arbiter f rows row y) logged named)
 
-  by_names : (row : List Bool) (clause rest : List Literal) →
+  pub by_names : (row : List Bool) (clause rest : List Literal) →
       map (name_literal own) rest ≡ map Some (filter_map (on_arbiter f rows row) clause) →
       clause_true values rest ≡ clause_true model (filter_map (pair_literal f rows row) clause)
   by_names row [] [] h = refl

@@ -1,12 +1,12 @@
 -- An instance that is given.
-use Rattle.std.proofs.Common.{◌≡◌, ℕ, zero, suc, ◌+◌, ◌<◌, ◌≤◌, ◌==◌, ◌^◌, ◌⊎◌, inl, inr, Bool, true, false, true≢false, cond, List, [], ◌∷◌, ◌++◌, map, length, get_or, slice_get, Option, Some, None, IsSome, refl, sym, ◌∙◌, ap, subst, arith}
+use Rattle.std.proofs.Common.{◌≡◌, ℕ, zero, suc, ◌+◌, ◌-◌, ◌<◌, ◌≤◌, ◌==◌, ◌^◌, ◌⊎◌, inl, inr, Bool, true, false, true≢false, cond, List, [], ◌∷◌, ◌++◌, map, length, get_or, slice_get, Option, Some, None, IsSome, Result, Ok, Err, OnOk, refl, sym, ◌∙◌, ap, subst, arith}
 use Rattle.std.specs.List.{All, Contains, list_any, filter_map, cons_option}
 use Rattle.std.specs.Option.{option_map, option_and_then}
 use Rattle.std.proofs.lemmas.Bool.{eqb-true, eq-eqb}
-use Rattle.std.proofs.lemmas.List.{length-append}
+use Rattle.std.proofs.lemmas.List.{length-append, length-map, get_or_default}
 use Rattle.std.proofs.lemmas.List.Elements.{All-cons}
 use Rattle.std.proofs.lemmas.Option.{slice_get-get_or}
-use Rattle.dq_lits.specs.Literal.{Literal, negative, variable_of, is_negative, opposite}
+use Rattle.dq_lits.specs.Literal.{Literal, positive, negative, variable_of, is_negative, opposite}
 use Rattle.dq_lits.specs.Formula.{Dqbf, Existential, existential_of}
 use Rattle.dq_lits.specs.Expansion.{universal_literal_true}
 use Rattle.hint_log.specs.Conditions.{AreLogged}
@@ -20,9 +20,11 @@ use Rattle.log_laws.specs.Engines.{instances, is_own, part, IsAddedBy}
 use Rattle.log_laws.proofs.Found.{named_variable}
 use Rattle.log_laws.proofs.LargerLogs.{grown_by, grown_by_none, grown_then}
 use Rattle.oracle.specs.Calls.{IsPlain}
-use Rattle.expansion.specs.Table.{TableState, HasInstance}
+use Rattle.expansion.specs.Giving.{IsGivenInstance}
+use Rattle.expansion.specs.Table.{TableState, AreArbiters, HasInstance, IsTable}
 use Rattle.expansion.specs.Adding.{with_row, IsAddingPart, IsAdding, AreNewArbiters, AreInRange, IsGivenNext}
 use Rattle.expansion.proofs.TableGrowth.{KeepsNames, more_keeps, literals_kept, instance_kept, one_more_done}
+use Rattle.expansion.proofs.NamedArbiters.{as_many}
 use Rattle.expansion.proofs.Firsts.{below_or_here}
 use Rattle.expansion.proofs.InstanceModels.{own_name, head_or_tail, later}
 use Rattle.expansion.proofs.Told.{switch_is}
@@ -142,6 +144,55 @@ module _ (f : Dqbf) (es : List Entry) (logged : AreLogged es) (rows : List (List
 
           rest : AreNamedAs (part instances es) lits (filter_map (on_arbiter f rows row) clause)
           rest = cc
+
+-- the pairs of a table's row
+pub table_arbiters : (f : Dqbf) (t : TableState) (es : List Entry) → IsTable f t es → (k : ℕ) (row : List Bool)
+    (vs : List ℕ) → 1 ≤ k → k ≤ length t.rows → row ≡ get_or t.rows (k - 1) row → vs ≡ get_or t.pairs (k - 1) []
+    → AreArbiters f (part instances es) t.rows row vs
+table_arbiters f t es table k row vs low high row_is vs_is =
+    let many = table.own.pairs_long in
+    table.own.arbiters (k - 1) row vs
+    (slice_get-get_or t.rows (k - 1) row (omega (arith, low, high)) ∙ ap Some (sym row_is))
+    (slice_get-get_or t.pairs (k - 1) [] (omega (arith, low, high, many)) ∙ ap Some (sym vs_is))
+
+pub row_pairs_many : (f : Dqbf) (t : TableState) (es : List Entry) → IsTable f t es → (k : ℕ) → 1 ≤ k →
+    k ≤ length t.rows → length (get_or t.pairs (k - 1) []) ≡ length t.existentials
+row_pairs_many f t es table k low high =
+    let row = get_or t.rows (k - 1) [] in
+    let are = table_arbiters f t es table k row (get_or t.pairs (k - 1) []) low high
+    (get_or_default t.rows (k - 1) [] row (omega (arith, low, high))) refl in
+    as_many (name_of (part instances es)) (λ y. Some (arbiter f t.rows row y)) (get_or t.pairs (k - 1) [])
+    f.existentials are ∙ sym (ap length table.existentials ∙ length-map f.existentials (λ y. y.variable))
+
+pub on_ok : {X E : Type 0} (A B : Type 0) (r : Result X E) → (A → B) → OnOk r A → OnOk r B
+on_ok A B (Ok x) both a = both a
+on_ok A B (Err e) both a = tt
+
+-- a clause's instance in a group
+module _ (f : Dqbf) (group : ℕ) (rows : List (List Bool)) (row : List Bool) (k j : ℕ) (clause : List Literal)
+    (log : ProofLog) where
+  pub instance_passed : list_any (universal_literal_true f row) clause ≡ true →
+      IsGivenInstance f group rows row k j clause log log
+  instance_passed done = record {
+    passed = λ is. refl;
+    given = λ live. absurd (true≢false (sym done ∙ live));
+  }
+
+pub instance_added : (f : Dqbf) (rows : List (List Bool)) (row : List Bool) (k j : ℕ) (clause : List Literal)
+    (log : ProofLog) (sel : Literal) (lits : List Literal) (new : ProofLog) → is_negative sel ≡ false
+    → list_any (universal_literal_true f row) clause ≡ false
+    → AreNamedAs (part instances log.entries) lits (filter_map (on_arbiter f rows row) clause)
+    → new ≡ with_entry log (Given (Instance k j) (opposite sel ∷ lits))
+    → IsGivenInstance f (variable_of sel) rows row k j clause log new
+instance_added f rows row k j clause log sel lits new plain live named added = record {
+  passed = λ done. absurd (true≢false (sym done ∙ live));
+  given = λ is. record {
+    rest = lits;
+    added = added ∙ ap (λ s. with_entry log (Given (Instance k j) (opposite s ∷ lits)))
+        (switch_is sel (variable_of sel) plain refl);
+    named = named;
+  };
+}
 
 -- the instance of the next clause
 given_more : (f : Dqbf) (t : TableState) (row : List Bool) (named given : ℕ) (c : List Literal) (own : List Entry)
@@ -285,6 +336,17 @@ module _ (f : Dqbf) (t : TableState) (row : List Bool) (j : ℕ) (log : ProofLog
       nowhere : (length t.rows + 1 ≤ length t.rows) ⊎ ((length t.rows + 1 ≡ length t.rows + 1) × (j + 1 ≤ j)) → ⊥
       nowhere (inl old) = omega (arith, old)
       nowhere (inr (same, old)) = omega (arith, old)
+
+  -- the instance of the next clause
+  pub next_instance : (new : ProofLog) → AreLogged log.entries → IsGivenInstance f t.group (with_row t row) row
+      (length t.rows + 1) (j + 1) clause log new → IsGivenNext f t row j log new
+  next_instance new logged given = by (list_any (universal_literal_true f row) clause) refl
+    where
+      by : (b : Bool) → list_any (universal_literal_true f row) clause ≡ b → IsGivenNext f t row j log new
+      by true is = passed_next new is (given.passed is)
+      by false is =
+          let added = given.given is in
+          given_next (positive t.group) added.rest new logged refl refl is added.named added.added
 
 -- the instances of the first so many clauses were given
 pub record AreGivenSoFar (f : Dqbf) (t : TableState) (row : List Bool) (vs : List ℕ) (j : ℕ)

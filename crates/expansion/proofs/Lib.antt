@@ -1,7 +1,7 @@
 mod VariableBits
 mod EmptyTables
-mod TableAnswers
-mod InstanceModels
+pub mod TableAnswers
+pub mod InstanceModels
 pub mod FoundPoints
 mod WrittenBits
 mod Told

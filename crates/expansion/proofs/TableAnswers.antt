@@ -1,8 +1,9 @@
 -- The table's search, by what the solver's ensures.
-use Rattle.std.proofs.Common.{◌≡◌, ℕ, Bool, true, false, true≢false, ◌||◌, inl, inr, List, [], ◌∷◌, ◌++◌, Some, refl, sym, ◌∙◌, ap, subst}
-use Rattle.std.specs.List.{All}
+use Rattle.std.proofs.Common.{◌≡◌, ℕ, zero, suc, Bool, true, false, true≢false, ◌||◌, inl, inr, List, [], ◌∷◌, ◌++◌, map, Some, refl, sym, ◌∙◌, ap, subst, arith}
+use Rattle.std.specs.List.{All, Contains}
 use Rattle.std.proofs.lemmas.Bool.{or_cases, eq-eqb}
-use Rattle.std.proofs.lemmas.List.Elements.{All-cons, All-nil}
+use Rattle.std.proofs.lemmas.List.{append-nil}
+use Rattle.std.proofs.lemmas.List.Elements.{All-cons, All-nil, All-tail, All-contains, Contains-append_right}
 use Rattle.dq_lits.specs.Literal.{Literal, positive, negative, variable_of, opposite, same_literal}
 use Rattle.dq_lits.specs.Formula.{Dqbf}
 use Rattle.dq_lits.specs.Derivation.{holds}
@@ -18,136 +19,153 @@ use Rattle.hint_log.specs.Origins.{IsOriginsClause}
 use Rattle.log_laws.specs.Engines.{Engine, instances, origin_engine, is_own, IsInGroup, IsOwnGiven, IsAddedBy}
 use Rattle.log_laws.specs.Meaning.{InstancesHaveNoModel}
 use Rattle.log_laws.proofs.Found.{split_at, each_at}
-use Rattle.oracle.specs.Calls.{IsLearnedEntry, IsRefutedUnder}
+use Rattle.oracle.specs.Calls.{IsMade, assumed, IsLearnedEntry, IsRefutedUnder}
+use Rattle.oracle.specs.declared.groups.Group.{Group}
 use Rattle.oracle.specs.Searched.{IsSearched, IsGivenToGroup, IsOfGroup}
 use Rattle.oracle.proofs.ExcludedAssignments.{same-sound}
+use Rattle.expansion.specs.Searches.{switches, HoldInstances, IsSearchEntry}
 use Rattle.expansion.specs.Table.{TableState, IsTable, IsFullTable, IsRefutedBy}
+use Rattle.expansion.proofs.InstanceModels.{head_or_tail, later}
+use Rattle.expansion.proofs.Told.{switch_is}
 use Rattle.log_laws.proofs.LargerLogs.{each_grown, filter_grown}
 use Rattle.log_laws.proofs.Kept.{each_of_weaker}
 
-module _ (f : Dqbf) (engine : Engine) (group : ℕ) (silent : Bool) (old : List Entry) where
-  learned_is_added : (earlier : List Entry) (e : Entry) → IsLearnedEntry earlier e →
-      IsAddedBy f engine group silent old earlier e
-  learned_is_added earlier (Named v n) h = absurd h
-  learned_is_added earlier (Given origin c) h = absurd h
-  learned_is_added earlier (Learned c hints) h = tt
-  learned_is_added earlier (Answer c hints) h = absurd h
-  learned_is_added earlier (Round row values j) h = absurd h
-  learned_is_added earlier (Begun live) h = absurd h
+-- what was learned is what a search adds
+learned_is_found : (silent : Bool) (earlier : List Entry) (e : Entry) → IsLearnedEntry earlier e →
+    IsSearchEntry silent earlier e
+learned_is_found silent earlier (Named v n) h = absurd h
+learned_is_found silent earlier (Given origin c) h = absurd h
+learned_is_found silent earlier (Learned c hints) h = tt
+learned_is_found silent earlier (Answer c hints) h = absurd h
+learned_is_found silent earlier (Round row values j) h = absurd h
+learned_is_found silent earlier (Begun live) h = absurd h
 
--- a search that logs no answer
-pub searched_grew : (f : Dqbf) (engine : Engine) (group : ℕ) (silent : Bool) (old new : ProofLog) →
-    Grew IsLearnedEntry old new → Grew (IsAddedBy f engine group silent old.entries) old new
-searched_grew f engine group silent old new g = record {
+pub learned_grew : (silent : Bool) (old new : ProofLog) → Grew IsLearnedEntry old new →
+    Grew (IsSearchEntry silent) old new
+learned_grew silent old new g = record {
   more = g.more;
   grown = g.grown;
-  each = each_of_weaker IsLearnedEntry (IsAddedBy f engine group silent old.entries)
-      (learned_is_added f engine group silent old.entries) g.more old.entries g.each;
+  each = each_of_weaker IsLearnedEntry (IsSearchEntry silent) (learned_is_found silent) g.more old.entries g.each;
   limit = g.limit;
 }
 
 -- a search that ends with an answer
-pub refuted_grew : (f : Dqbf) (engine : Engine) (group : ℕ) (silent : Bool) → silent ≡ false →
-    (assumptions : List Literal) (old new : ProofLog) (id : ℕ)
-    → IsRefutedUnder old new assumptions id → Grew (IsAddedBy f engine group silent old.entries) old new
-refuted_grew f engine group silent loud assumptions old new id r =
-    let g = searched_grew f engine group silent old r.before r.learned in
+pub refuted_grew : (silent : Bool) → silent ≡ false → (assumptions : List Literal) (old new : ProofLog) (id : ℕ) →
+    IsRefutedUnder old new assumptions id → Grew (IsSearchEntry silent) old new
+refuted_grew silent loud assumptions old new id r =
+    let g = learned_grew silent old r.before r.learned in
     record {
       more = Answer r.clause r.hints ∷ g.more;
       grown = ap (λ (l : ProofLog). l.entries) r.answered ∙ ap (λ es. Answer r.clause r.hints ∷ es) g.grown;
-      each = (λ quiet. absurd (true≢false (sym quiet ∙ loud)), g.each);
+      each = (loud, g.each);
       limit = ap (λ (l : ProofLog). l.limit) r.answered ∙ g.limit;
     }
 
-learned_not_own : (engine : Engine) (earlier : List Entry) (e : Entry) → IsLearnedEntry earlier e →
+module _ (f : Dqbf) (engine : Engine) (group : ℕ) (silent : Bool) (old : List Entry) where
+  found_is_added : (earlier : List Entry) (e : Entry) → IsSearchEntry silent earlier e →
+      IsAddedBy f engine group silent old earlier e
+  found_is_added earlier (Named v n) h = absurd h
+  found_is_added earlier (Given origin c) h = absurd h
+  found_is_added earlier (Learned c hints) h = tt
+  found_is_added earlier (Answer c hints) h = λ quiet. absurd (true≢false (sym quiet ∙ h))
+  found_is_added earlier (Round row values j) h = absurd h
+  found_is_added earlier (Begun live) h = absurd h
+
+pub searched_grew : (f : Dqbf) (engine : Engine) (group : ℕ) (silent : Bool) (old new : ProofLog) →
+    Grew (IsSearchEntry silent) old new → Grew (IsAddedBy f engine group silent old.entries) old new
+searched_grew f engine group silent old new g = record {
+  more = g.more;
+  grown = g.grown;
+  each = each_of_weaker (IsSearchEntry silent) (IsAddedBy f engine group silent old.entries)
+      (found_is_added f engine group silent old.entries) g.more old.entries g.each;
+  limit = g.limit;
+}
+
+found_not_own : (silent : Bool) (engine : Engine) (earlier : List Entry) (e : Entry) → IsSearchEntry silent earlier e →
     is_own engine e ≡ false
-learned_not_own engine earlier (Named v n) h = absurd h
-learned_not_own engine earlier (Given origin c) h = absurd h
-learned_not_own engine earlier (Learned c hints) h = refl
-learned_not_own engine earlier (Answer c hints) h = absurd h
-learned_not_own engine earlier (Round row values j) h = absurd h
-learned_not_own engine earlier (Begun live) h = absurd h
+found_not_own silent engine earlier (Named v n) h = absurd h
+found_not_own silent engine earlier (Given origin c) h = absurd h
+found_not_own silent engine earlier (Learned c hints) h = refl
+found_not_own silent engine earlier (Answer c hints) h = refl
+found_not_own silent engine earlier (Round row values j) h = absurd h
+found_not_own silent engine earlier (Begun live) h = absurd h
 
-learned_own_given : (f : Dqbf) (engine : Engine) (group : ℕ) (earlier : List Entry) (e : Entry) →
-    IsLearnedEntry earlier e → IsOwnGiven f engine group earlier e
-learned_own_given f engine group earlier (Named v n) h = absurd h
-learned_own_given f engine group earlier (Given origin c) h = absurd h
-learned_own_given f engine group earlier (Learned c hints) h = tt
-learned_own_given f engine group earlier (Answer c hints) h = absurd h
-learned_own_given f engine group earlier (Round row values j) h = absurd h
-learned_own_given f engine group earlier (Begun live) h = absurd h
+found_own_given : (silent : Bool) (f : Dqbf) (engine : Engine) (group : ℕ) (earlier : List Entry) (e : Entry) →
+    IsSearchEntry silent earlier e → IsOwnGiven f engine group earlier e
+found_own_given silent f engine group earlier (Named v n) h = absurd h
+found_own_given silent f engine group earlier (Given origin c) h = absurd h
+found_own_given silent f engine group earlier (Learned c hints) h = tt
+found_own_given silent f engine group earlier (Answer c hints) h = tt
+found_own_given silent f engine group earlier (Round row values j) h = absurd h
+found_own_given silent f engine group earlier (Begun live) h = absurd h
 
-pub learned_names : (more old : List Entry) (v : ℕ) → EachOf IsLearnedEntry more old →
+-- a search names nothing, gives nothing, and adds no round
+pub found_names : (silent : Bool) (more old : List Entry) (v : ℕ) → EachOf (IsSearchEntry silent) more old →
     name_of (more ++ old) v ≡ name_of old v
-learned_names [] old v h = refl
-learned_names (Named w n ∷ more) old v h = absurd h.0
-learned_names (Given origin c ∷ more) old v h = absurd h.0
-learned_names (Learned c hints ∷ more) old v h = learned_names more old v h.1
-learned_names (Answer c hints ∷ more) old v h = absurd h.0
-learned_names (Round row values j ∷ more) old v h = absurd h.0
-learned_names (Begun live ∷ more) old v h = absurd h.0
+found_names silent [] old v h = refl
+found_names silent (Named w n ∷ more) old v h = absurd h.0
+found_names silent (Given origin c ∷ more) old v h = absurd h.0
+found_names silent (Learned c hints ∷ more) old v h = found_names silent more old v h.1
+found_names silent (Answer c hints ∷ more) old v h = found_names silent more old v h.1
+found_names silent (Round row values j ∷ more) old v h = absurd h.0
+found_names silent (Begun live ∷ more) old v h = absurd h.0
 
-pub learned_rows : (more old : List Entry) → EachOf IsLearnedEntry more old → rows_of (more ++ old) ≡ rows_of old
-learned_rows [] old h = refl
-learned_rows (Named w n ∷ more) old h = absurd h.0
-learned_rows (Given origin c ∷ more) old h = absurd h.0
-learned_rows (Learned c hints ∷ more) old h = learned_rows more old h.1
-learned_rows (Answer c hints ∷ more) old h = absurd h.0
-learned_rows (Round row values j ∷ more) old h = absurd h.0
-learned_rows (Begun live ∷ more) old h = absurd h.0
+pub found_rows : (silent : Bool) (more old : List Entry) → EachOf (IsSearchEntry silent) more old →
+    rows_of (more ++ old) ≡ rows_of old
+found_rows silent [] old h = refl
+found_rows silent (Named w n ∷ more) old h = absurd h.0
+found_rows silent (Given origin c ∷ more) old h = absurd h.0
+found_rows silent (Learned c hints ∷ more) old h = found_rows silent more old h.1
+found_rows silent (Answer c hints ∷ more) old h = found_rows silent more old h.1
+found_rows silent (Round row values j ∷ more) old h = absurd h.0
+found_rows silent (Begun live ∷ more) old h = absurd h.0
 
-pub table_searched : (f : Dqbf) (t : TableState) (old new : ProofLog) → Grew IsLearnedEntry old new →
-    IsTable f t old.entries → IsTable f t new.entries
-table_searched f t old new g table = subst (IsTable f t) (sym g.grown) (record {
-  group = learned_names g.more old.entries t.group g.each ∙ table.group;
+pub found_givens : (silent : Bool) (more old : List Entry) (origin : Origin) (c : List Literal) →
+    EachOf (IsSearchEntry silent) more old → Contains (more ++ old) (Given origin c) → Contains old (Given origin c)
+found_givens silent [] old origin c h has = has
+found_givens silent (e ∷ more) old origin c h has =
+    elim (head_or_tail (Given origin c) e (more ++ old) has) [
+      | inl here ↦ absurd (subst (IsSearchEntry silent (more ++ old)) here h.0)
+      | inr behind ↦ found_givens silent more old origin c h.1 behind
+    ]
+
+pub table_searched : (silent : Bool) (f : Dqbf) (t : TableState) (old new : ProofLog) →
+    Grew (IsSearchEntry silent) old new → IsTable f t old.entries → IsTable f t new.entries
+table_searched silent f t old new g table = subst (IsTable f t) (sym g.grown) (record {
+  group = found_names silent g.more old.entries t.group g.each ∙ table.group;
   existentials = table.existentials;
-  own_group = each_grown IsLearnedEntry (IsOwnGiven f instances t.group)
-      (learned_own_given f instances t.group) g.more old.entries g.each table.own_group;
-  own = rw (filter_grown IsLearnedEntry (is_own instances) (learned_not_own instances) g.more old.entries g.each)
-      table.own;
+  own_group = each_grown (IsSearchEntry silent) (IsOwnGiven f instances t.group)
+      (found_own_given silent f instances t.group) g.more old.entries g.each table.own_group;
+  own = rw (filter_grown (IsSearchEntry silent) (is_own instances) (found_not_own silent instances) g.more old.entries
+      g.each) table.own;
   first_rows = table.first_rows;
 })
 
-pub table_answered : (f : Dqbf) (t : TableState) (assumptions : List Literal) (old new : ProofLog) (id : ℕ) →
-    IsRefutedUnder old new assumptions id → IsTable f t old.entries → IsTable f t new.entries
-table_answered f t assumptions old new id r table =
-    let before = table_searched f t old r.before r.learned table in
-    subst (λ (l : ProofLog). IsTable f t l.entries) (sym r.answered)
-    (record {
-      group = before.group;
-      existentials = before.existentials;
-      own_group = (tt, before.own_group);
-      own =
-          before.own;
-      first_rows = before.first_rows;
-    })
-
--- the rounds stay in both
-pub full_searched : (f : Dqbf) (t : TableState) (old new : ProofLog) → Grew IsLearnedEntry old new →
-    IsFullTable f t old.entries → IsFullTable f t new.entries
-full_searched f t old new g full = record {
+-- the rounds stay
+pub full_searched : (silent : Bool) (f : Dqbf) (t : TableState) (old new : ProofLog) →
+    Grew (IsSearchEntry silent) old new → IsFullTable f t old.entries → IsFullTable f t new.entries
+full_searched silent f t old new g full = record {
   formula = full.formula;
-  table = table_searched f t old new g full.table;
-  rows = ap rows_of g.grown ∙ learned_rows g.more old.entries g.each ∙ full.rows;
+  table = table_searched silent f t old new g full.table;
+  rows = ap rows_of g.grown ∙ found_rows silent g.more old.entries g.each ∙ full.rows;
 }
 
-pub full_answered : (f : Dqbf) (t : TableState) (assumptions : List Literal) (old new : ProofLog) (id : ℕ) →
-    IsRefutedUnder old new assumptions id → IsFullTable f t old.entries → IsFullTable f t new.entries
-full_answered f t assumptions old new id r full = record {
-  formula = full.formula;
-  table = table_answered f t assumptions old new id r full.table;
-  rows = ap (λ (l : ProofLog). rows_of l.entries) r.answered ∙ (full_searched f t old r.before r.learned full).rows;
-}
+-- a literal among the negated selectors of some groups
+only_selector : (g : ℕ) (l : Literal) → same_literal (opposite l) (positive g) ≡ true → l ≡ negative g
+only_selector g (positive v) h = cc
+only_selector g (negative v) h =
+    let same : positive v ≡ positive g = same-sound (positive v) (positive g) h in
+    let is : v ≡ g = cc in
+    ap negative is
 
--- a literal among the negated selectors of one group
-only_selector : (g : ℕ) (l : Literal) → holds (positive g ∷ []) (opposite l) ≡ true → l ≡ negative g
-only_selector g (positive v) h = elim (or_cases (same_literal (negative v) (positive g)) false h)
-    [ inl e ↦ cc | inr e ↦ cc ]
-only_selector g (negative v) h = elim (or_cases (same_literal (positive v) (positive g)) false h) [
-  | inl e ↦ (let same : positive v ≡ positive g = same-sound (positive v) (positive g) e in let is : v ≡ g = cc in
-      ap negative is)
-  | inr e ↦ cc
-]
+one_of_groups : (gs : List ℕ) (l : Literal) → holds (map positive gs) (opposite l) ≡ true →
+    (g : ℕ) × Contains gs g × (l ≡ negative g)
+one_of_groups [] l h = cc
+one_of_groups (g ∷ gs) l h =
+    elim (or_cases (same_literal (opposite l) (positive g)) (holds (map positive gs) (opposite l)) h) [
+      | inl here ↦ (g, (0, omega arith, refl), only_selector g l here)
+      | inr behind ↦ (let r = one_of_groups gs l behind in (r.0, later r.0 g gs r.1, r.2))
+    ]
 
 is_selector_here : (entries : List Entry) (g : ℕ) (l : Literal) → name_of entries g ≡ Some (Selector g) →
     l ≡ negative g →
@@ -182,60 +200,176 @@ all_held P (l ∷ ls) each = All-cons P l ls (each l (or_left (same_literal l l)
     or_right true b h = refl
     or_right false b h = h
 
-pub record IsRefutedTable (f : Dqbf) (t : TableState) (new : ProofLog) (id : ℕ) : Type 0 where
-  pub unsatisfiable : IsExpansionUnsatisfiable f t.rows
-  pub shown : IsRefutedBy new.entries id
+contains_map : {X Y : Type 0} (f : X → Y) (xs : List X) (y : Y) → Contains (map f xs) y →
+    (x : X) × Contains xs x × (f x ≡ y)
+contains_map f [] y (k, below, is) = absurd (omega (arith, below))
+contains_map f (x ∷ xs) y (zero, below, is) = (x, (0, omega arith, refl), is)
+contains_map f (x ∷ xs) y (suc k, below, is) =
+    let r = contains_map f xs y (k, omega (arith, below), is) in
+    (r.0, later r.0 x xs r.1, r.2)
 
--- an answer to the table's group rests on right instances alone
+-- the literals that switch groups on, by the groups' numbers
+pub switches_are : (t : TableState) (more : List Group) (entries : List Entry) → All (IsMade entries) more →
+    switches t more ≡ map positive (t.group ∷ map (λ g. variable_of g.selector) more)
+switches_are t more entries made = ap (λ ls. positive t.group ∷ ls) (by more made)
+  where
+    by : (gs : List Group) → All (IsMade entries) gs →
+        map (λ g. g.selector) gs ≡ map positive (map (λ g. variable_of g.selector) gs)
+    by [] all = refl
+    by (g ∷ gs) all =
+        let here = (all 0 g (omega arith)).positive in
+        let first = switch_is g.selector (variable_of g.selector) here refl in
+        let rest = by gs (All-tail (IsMade entries) g gs all) in
+        ap (λ l. l ∷ map (λ h. h.selector) gs) first ∙ ap (λ ls. positive (variable_of g.selector) ∷ ls) rest
+
+-- an answer to groups rests on what was given to them
+module _ (gs : List ℕ) (old new : ProofLog) (id : ℕ) (searched_new : IsSearched new.entries)
+    (named : (g : ℕ) → Contains gs g → name_of old.entries g ≡ Some (Selector g))
+    (r : IsRefutedUnder old new (map positive gs) id) where
+  abbrev es : List Entry
+  es = r.before.entries
+
+  answered : new.entries ≡ Answer r.clause r.hints ∷ es
+  answered = ap (λ (l : ProofLog). l.entries) r.answered
+
+  pub searched : IsSearched (Answer r.clause r.hints ∷ es)
+  searched = subst IsSearched answered searched_new
+
+  abbrev learned : Grew (IsSearchEntry false) old r.before
+  learned = learned_grew false old r.before r.learned
+
+  pub named_there : (g : ℕ) → Contains gs g → name_of es g ≡ Some (Selector g)
+  named_there g has = ap (λ xs. name_of xs g) learned.grown
+      ∙ found_names false learned.more old.entries g learned.each ∙ named g has
+
+  pub negated_selectors : AreNegatedSelectors es r.clause
+  negated_selectors = all_held
+      (λ l. (l ≡ negative (variable_of l)) × (name_of es (variable_of l) ≡ Some (Selector (variable_of l))))
+      r.clause (λ l h. let one = one_of_groups gs l (r.negated l h) in
+      is_selector_here es one.0 l (named_there one.0 one.1) one.2)
+
+  pub in_active : (origin : Origin) (c : List Literal) → ReachesGiven es r.hints origin c →
+      (g : ℕ) × Contains gs g × IsInGroup g c
+  in_active origin c reached =
+      let place = split_at es reached.id (Given origin c) reached.is_given in
+      let grouped : IsOfGroup place.1 c = each_at IsGivenToGroup place.0 place.1 (Given origin c)
+      (subst (Each IsGivenToGroup) place.2 searched.grouped.1) in
+      let there = subst (ReachesGiven es r.hints origin) grouped.clause_is reached in
+      let kept = searched.kept.0 origin grouped.group grouped.rest there in
+      let one = one_of_groups gs (negative grouped.group) (r.negated (negative grouped.group) kept) in
+      (one.0, one.1, (grouped.rest, grouped.clause_is ∙ ap (λ l. l ∷ grouped.rest) one.2))
+
+  pub given_before : (origin : Origin) (c : List Literal) → ReachesGiven es r.hints origin c →
+      Contains old.entries (Given origin c)
+  given_before origin c reached =
+      let place = split_at es reached.id (Given origin c) reached.is_given in
+      found_givens false learned.more old.entries origin c learned.each
+      (subst (λ xs. Contains xs (Given origin c)) learned.grown
+      (subst (λ xs. Contains xs (Given origin c)) (sym place.2) (Contains-append_right place.0
+      (Given origin c ∷ place.1) (Given origin c) (0, omega arith, refl))))
+
+  pub shown_by : ((origin : Origin) (c : List Literal) → ReachesGiven es r.hints origin c → IsInstance origin) →
+      IsRefutedBy new.entries id
+  shown_by right = record {
+    clause = r.clause;
+    hints = r.hints;
+    earlier = es;
+    answered = answered;
+    last = r.last;
+    decides = record { selectors = negated_selectors; instances = right };
+  }
+
+-- a table's answer
+module _ (f : Dqbf) (t : TableState) (more : List Group) (old new : ProofLog) (id : ℕ) (full : IsFullTable f t old.entries)
+    (made : All (IsMade old.entries) more) (searched_new : IsSearched new.entries)
+    (r : IsRefutedUnder old new (switches t more) id) where
+  abbrev pub active : List ℕ
+  active = t.group ∷ map (λ g. variable_of g.selector) more
+
+  abbrev pub by_numbers : IsRefutedUnder old new (map positive active) id
+  by_numbers = subst (λ ls. IsRefutedUnder old new ls id) (switches_are t more old.entries made) r
+
+  pub active_named : (g : ℕ) → Contains active g → name_of old.entries g ≡ Some (Selector g)
+  active_named g has =
+      elim (head_or_tail g t.group (map (λ h. variable_of h.selector) more) has) [
+        | inl here ↦ subst (λ v. name_of old.entries v ≡ Some (Selector v)) here full.table.group
+        | inr behind ↦ among behind
+      ]
+    where
+      among : Contains (map (λ h. variable_of h.selector) more) g → name_of old.entries g ≡ Some (Selector g)
+      among has' = let m = contains_map (λ h. variable_of h.selector) more g has' in
+          subst (λ v. name_of old.entries v ≡ Some (Selector v)) m.2 (All-contains (IsMade old.entries) more m.0 made m.1).named
+
+  pub own_instance : (origin : Origin) (c : List Literal) →
+      ReachesGiven by_numbers.before.entries by_numbers.hints origin c → IsInGroup t.group c →
+      (more' earlier : List Entry) → by_numbers.before.entries ≡ more' ++ Given origin c ∷ earlier →
+      IsInstance origin × IsOriginsClause f earlier origin c
+  own_instance origin c reached inside more' earlier is =
+      let before = table_searched false f t old by_numbers.before (learned_grew false old by_numbers.before
+      by_numbers.learned) full.table in
+      let own = each_at (IsOwnGiven f instances t.group) more' earlier (Given origin c)
+      (subst (Each (IsOwnGiven f instances t.group)) is before.own_group) inside in
+      (instance_of origin own.0, own.1)
+
+  pub table_shown : HoldInstances more old.entries → IsRefutedBy new.entries id
+  table_shown hold = shown_by active old new id searched_new active_named by_numbers right
+    where
+      right : (origin : Origin) (c : List Literal) →
+          ReachesGiven by_numbers.before.entries by_numbers.hints origin c → IsInstance origin
+      right origin c reached =
+          let place = split_at by_numbers.before.entries reached.id (Given origin c) reached.is_given in
+          let one = in_active active old new id searched_new active_named by_numbers origin c reached in
+          elim (head_or_tail one.0 t.group (map (λ h. variable_of h.selector) more) one.1) [
+            | inl here ↦ (own_instance origin c reached
+                (subst (λ g. IsInGroup g c) (sym here) one.2) place.0 place.1 place.2).0
+            | inr behind ↦
+                (let m = contains_map (λ h. variable_of h.selector) more one.0 behind in
+                hold m.0 origin c m.1 (given_before active old new id searched_new active_named by_numbers origin c
+                reached) (subst (λ g. IsInGroup g c) (sym m.2) one.2))
+          ]
+
+-- the table alone
 pub table_refuted : InstancesHaveNoModel → (f : Dqbf) (t : TableState) (old new : ProofLog) (id : ℕ) →
     IsFullTable f t old.entries → IsSearched new.entries
-    → IsRefutedUnder old new (positive t.group ∷ []) id → IsRefutedTable f t new id
+    → IsRefutedUnder old new (positive t.group ∷ []) id → IsExpansionUnsatisfiable f t.rows
 table_refuted law f t old new id full searched_new r =
-    let es = r.before.entries in
-    let answered = ap (λ (l : ProofLog). l.entries) r.answered in
-    let searched = subst IsSearched answered searched_new in
-    let before = table_searched f t old r.before r.learned full.table in
-    let selectors : AreNegatedSelectors es r.clause = all_held
-    (λ l. (l ≡ negative (variable_of l)) × (name_of es (variable_of l) ≡ Some (Selector (variable_of l))))
-    r.clause (λ l h. is_selector_here es t.group l before.group (only_selector t.group l (r.negated l h))) in
-    let mine : (origin : Origin) (c : List Literal) → ReachesGiven es r.hints origin c → IsInGroup t.group c =
-    λ origin c reached.
-    let place = split_at es reached.id (Given origin c) reached.is_given in
-    let grouped : IsOfGroup place.1 c = each_at IsGivenToGroup place.0 place.1 (Given origin c)
-    (subst (Each IsGivenToGroup) place.2 searched.grouped.1) in
-    let there = subst (ReachesGiven es r.hints origin) grouped.clause_is reached in
-    let kept = searched.kept.0 origin grouped.group grouped.rest there in
-    let is : negative grouped.group ≡ negative t.group = only_selector t.group (negative grouped.group)
-    (r.negated (negative grouped.group) kept) in
-    (grouped.rest, grouped.clause_is ∙ ap (λ l. l ∷ grouped.rest) is) in
+    let none : All (IsMade old.entries) [] = All-nil (IsMade old.entries) in
+    let q = by_numbers f t [] old new id full none searched_new r in
+    let named = active_named f t [] old new id full none searched_new r in
+    let s = searched (t.group ∷ []) old new id searched_new named q in
+    let es = q.before.entries in
+    let learned = learned_grew false old q.before q.learned in
     let right : (more earlier : List Entry) (origin : Origin) (c : List Literal) →
-    es ≡ more ++ Given origin c ∷ earlier → ReachesGiven es r.hints origin c →
+    es ≡ more ++ Given origin c ∷ earlier → ReachesGiven es q.hints origin c →
     IsInstance origin × IsOriginsClause f earlier origin c =
     λ more earlier origin c is reached.
-    let own = each_at (IsOwnGiven f instances t.group) more earlier (Given origin c)
-    (subst (Each (IsOwnGiven f instances t.group)) is before.own_group) (mine origin c reached) in
-    (instance_of origin own.0, own.1) in
-    let rows : rows_of es ≡ t.rows = ap rows_of r.learned.grown ∙ learned_rows r.learned.more old.entries r.learned.each
+    let one = in_active (t.group ∷ []) old new id searched_new named
+    q origin c reached in
+    let mine : t.group ≡ one.0 = only_one t.group one.0 one.1 in
+    own_instance f t [] old new id full none searched_new r origin c reached
+    (subst (λ g. IsInGroup g c) (sym mine) one.2) more earlier is in
+    let rows : rows_of es ≡ t.rows = ap rows_of learned.grown ∙ found_rows false learned.more old.entries learned.each
     ∙ full.rows in
-    let decides : DecidesFalse es r.clause r.hints = record {
-      selectors = selectors;
+    let decides : DecidesFalse es q.clause q.hints = record {
+      selectors = negated_selectors (t.group ∷ []) old new id searched_new
+          named q;
       instances = λ origin c reached. let place = split_at es reached.id (Given origin c) reached.is_given in
           (right place.0 place.1 origin c place.2 reached).0;
     } in
-    record {
-      unsatisfiable = subst (IsExpansionUnsatisfiable f) rows
-          (law f es r.clause r.hints (record {
-            logged = searched.logged.1;
-            lemmas_are_derived = searched.derived.1;
-            derived = searched.derived.0;
-            givens_match_origins = λ more earlier origin c is reached. (right more earlier origin c is reached).1;
-          }) decides);
-      shown = record {
-        clause = r.clause;
-        hints = r.hints;
-        earlier = es;
-        answered = answered;
-        last = r.last;
-        decides = decides;
-      };
-    }
+    subst (IsExpansionUnsatisfiable f) rows
+    (law f es q.clause q.hints (record {
+      logged = s.logged.1;
+      lemmas_are_derived = s.derived.1;
+      derived = s.derived.0;
+      givens_match_origins = λ more earlier origin c is reached. (right more earlier origin c is reached).1;
+    }) decides)
+  where
+    only_one : (g h : ℕ) → Contains (g ∷ []) h → g ≡ h
+    only_one g h (zero, below, is) = is
+    only_one g h (suc k, below, is) = absurd (omega (arith, below))
+
+-- what is assumed where the table's group and further ones are active
+pub assumed_are : (t : TableState) (active groups more : List Group) → active ≡ groups →
+    map (λ g. g.selector) groups ≡ switches t more → assumed active [] ≡ switches t more
+assumed_are t active groups more same are =
+    append-nil (map (λ g. g.selector) active) ∙ ap (map (λ g. g.selector)) same ∙ are

@@ -1,7 +1,10 @@
--- The bit of a variable in a row of bits.
-use Rattle.std.proofs.Common.{◌≡◌, ◌≢◌, ℕ, zero, suc, ◌+◌, ◌<◌, ◌==◌, Bool, true, false, cond, List, [], ◌∷◌, length, drop, get_or, inl, inr, refl, sym, ap, ◌∙◌, arith}
+-- The bit of a variable in a row of bits, and its place.
+use Rattle.std.proofs.Common.{◌≡◌, ◌≢◌, ℕ, zero, suc, ◌+◌, ◌<◌, ◌==◌, Bool, true, false, cond, not, List, [], ◌∷◌, length, drop, get_or, position, Some, None, inl, inr, refl, sym, ap, ◌∙◌, arith}
 use Rattle.std.proofs.lemmas.Bool.{cases_Bool, eqb-true, eq-eqb}
-use Rattle.std.specs.List.{AllPairs}
+use Rattle.std.specs.List.{AllPairs, Contains, position_or_len}
+use Rattle.std.proofs.lemmas.List.Quantifiers.{position-Some}
+use Rattle.std.proofs.lemmas.List.Sums.{position_or_len_is}
+use Rattle.dq_formula.proofs.Places.{place-absent}
 use Rattle.dq_lits.specs.Row.{bit_of, assignment_of}
 
 -- a place more, where another variable stands
@@ -57,3 +60,31 @@ bit_at_place (x ∷ xs) (b ∷ row) y (suc p) once below is =
     (λ e. once 0 (suc p) 0 (omega arith) (omega (arith, below)) (e ∙ sym is)))
     ∙ bit_at_place xs row y p (λ i j d order inside. once (suc i) (suc j) d (omega (arith, order))
     (omega (arith, inside))) (omega (arith, below)) is
+
+-- the place of a variable
+pub place_of_variable : (xs : List ℕ) (y p : ℕ) → AllPairs (λ v w. v ≢ w) xs → p < length xs → get_or xs p 0 ≡ y →
+    p ≡ position_or_len (λ v. v == y) xs
+place_of_variable xs y p once below is =
+    sym (position_or_len_is (λ v. v == y) xs p 0 (omega (arith, below))
+    (λ k less. differs (get_or xs k 0) y (λ e. once k p 0 less below (e ∙ sym is)))
+    (λ b. eq-eqb (get_or xs p 0) y is))
+
+pub place_found : (xs : List ℕ) (y p : ℕ) → position (λ v. v == y) xs ≡ Some p → p ≡ position_or_len (λ v. v == y) xs
+place_found xs y p found =
+    let h = position-Some (λ v. v == y) xs p 0 found in
+    let below = h.0 in
+    sym (position_or_len_is (λ v. v == y) xs p 0 (omega (arith, below)) h.2 (λ b. h.1))
+
+pub place_missing : (xs : List ℕ) (y n : ℕ) → n ≡ length xs → position (λ v. v == y) xs ≡ None →
+    n ≡ position_or_len (λ v. v == y) xs
+place_missing xs y n many none = many ∙ sym (place-absent (λ v. v == y) xs none)
+
+pub place_within : (xs : List ℕ) (y : ℕ) → Contains xs y → position_or_len (λ v. v == y) xs < length xs
+place_within [] y (k, below, is) = absurd (omega (arith, below))
+place_within (x ∷ xs) y (zero, below, is) = rw (eq-eqb x y is) (omega arith)
+place_within (x ∷ xs) y (suc k, below, is) = by (x == y) (place_within xs y (k, omega (arith, below), is))
+  where
+    by : (b : Bool) → position_or_len (λ v. v == y) xs < length xs →
+        cond (not b) (1 + position_or_len (λ v. v == y) xs) 0 < suc (length xs)
+    by true less = omega arith
+    by false less = omega arith

@@ -3,6 +3,7 @@
 //! Kleine Büning, "Dependency quantified Horn formulas", 2006).
 #![tactic(auto)]
 
+pub use instances::NumberedClause;
 pub use points::Points;
 pub use tables::{Exp, Table};
 

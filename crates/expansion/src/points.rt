@@ -1,7 +1,7 @@
 //! A bit for each existential under each row of a table.
 
-ghost use Rattle.std.specs.Prelude.{◌≡◌, ◌≢◌, ◌≤◌, length, Contains};
-ghost use Rattle.std.specs.List.{AllPairs};
+ghost use Rattle.std.specs.Prelude.{◌≡◌, ◌≢◌, ◌≤◌, ◌==◌, length, position, Contains};
+ghost use Rattle.std.specs.List.{AllPairs, position_or_len};
 ghost use Rattle.dq_lits.specs.Row.{assignment_of, bit_of};
 ghost use Rattle.expansion.specs.Table.{point_bits};
 
@@ -66,6 +66,28 @@ fn bit_by_order(variables: &[u64], order: &[usize], row: &Row, y: u64) -> bool
         return bit_or_false(row, place);
     }
     bit_of_variable(variables, row, y)
+}
+
+/// The place of a variable, where these are distinct; how many there are where it isn't among them.
+pub(crate) fn place_by_order(variables: &[u64], order: &[usize], y: u64) -> usize
+    requires { AllPairs (λ v w. v ≢ w) variables.now }
+    ensures { result ≡ position_or_len (λ v. v == y) variables.now }
+{
+    let place = proposed_place(variables, order, y);
+    if place < variables.len() && variables[place] == y {
+        return place;
+    }
+    match first_place(variables, y) {
+        Some(place) => place,
+        None => variables.len(),
+    }
+}
+
+// The same by looking at all of them.
+fn first_place(variables: &[u64], y: u64) -> Option<usize>
+    ensures { result ≡ position (λ v. v == y) variables.now }
+{
+    variables.iter().position(|v| *v == y)
 }
 
 // It promises nothing of what it finds, since that is compared.

@@ -1,6 +1,6 @@
 //! The instances of a matrix under the rounds' rows.
 
-ghost use Rattle.std.specs.Prelude.{◌≡◌, ◌≢◌, All, map, ◌≤◌, ◌+◌, ◌-◌, ◌++◌, ◌∷◌, [], ℕ, List, length, true, false, OnOk, OnErr, IfOk, IsErrOf, Some, None, Ok, slice_get};
+ghost use Rattle.std.specs.Prelude.{◌≡◌, ◌≢◌, All, map, ◌≤◌, ◌+◌, ◌-◌, ◌++◌, ◌∷◌, [], ℕ, List, length, true, false, OnOk, OnErr, IfOk, IsErrOf, Some, None, Ok, Contains, slice_get};
 ghost use Rattle.std.specs.List.{AllPairs};
 ghost use Rattle.dq_lits.specs.Literal.{positive};
 ghost use Rattle.dq_lits.specs.Formula.{Dqbf, IsWellFormed};
@@ -10,14 +10,17 @@ ghost use Rattle.hint_log.specs.Growth.{Grew};
 ghost use Rattle.hint_log.specs.Naming.{rows_of};
 ghost use Rattle.hint_log.specs.ProductiveLog.{fault_groups, fault_room};
 ghost use Rattle.log_laws.specs.Engines.{instances, IsAddedBy, HasNone};
+ghost use Rattle.hint_log.specs.declared.names.Name.TheVariants.{Selector};
+ghost use Rattle.oracle.specs.Calls.{IsMade, IsRefutedUnder};
 ghost use Rattle.oracle.specs.Limits.{IsAtLimit};
 ghost use Rattle.expansion.specs.Table.{PointState, IsTable, IsFullTable, ArePoints, point_bits, IsRefutedBy};
 ghost use Rattle.expansion.specs.FirstRows.{IsRowIndex, AreFirstRows};
+ghost use Rattle.expansion.specs.Searches.{pair_variable, switches, HoldInstances, IsSearchEntry, AreFound};
 ghost use Rattle.expansion.specs.Silence.{is_silent};
 
 use crate::first_rows::FirstRows;
 use crate::new_rows::{NewRow, PairedRow};
-use crate::points::{Points, places_in_order};
+use crate::points::{Points, place_by_order, places_in_order};
 use dq_formula::Formula;
 use dq_lits::{Memory, Row, RowList};
 use flat_lists::FlatLists;
@@ -237,11 +240,68 @@ impl Table {
         ensures limit { IsErrOf result Stop.Limit → IsAtLimit log.new (positive self.old.group ∷ []) }
     {
         instances_have_no_model();
+        self.solve_with(oracle, &[], log)
+    }
+
+    /// The same over the table's instances and the clauses of further groups, which hold instances
+    /// alone.
+    pub fn solve_with<O: Oracle>(
+        &mut self,
+        oracle: &mut O,
+        more: &[Group],
+        log: &mut Log,
+    ) -> Result<Exp, Stop>
+        requires fit { O.Fits oracle.old log.old }
+        requires table { (f : Dqbf) × IsFullTable f self.old log.old.entries }
+        requires made { All (IsMade log.old.entries) more.now }
+        requires instances { HoldInstances more.now log.old.entries }
+        ensures fit { O.Fits oracle.new log.new }
+        ensures same { self.new ≡ self.old }
+        ensures grew { Grew (IsSearchEntry (is_silent result)) log.old log.new }
+        ensures table { (f : Dqbf) → IsFullTable f self.old log.old.entries
+            → IsFullTable f self.new log.new.entries }
+        ensures model { (points : PointState) → result ≡ Ok (Exp.Model points)
+            → AreFound self.old log.new.entries (switches self.old more.now) points }
+        ensures refuted { (id : ℕ) → result ≡ Ok (Exp.Refuted id)
+            → IsRefutedUnder log.old log.new (switches self.old more.now) id }
+        ensures shown { (id : ℕ) → result ≡ Ok (Exp.Refuted id) → IsRefutedBy log.new.entries id }
+        ensures limit { IsErrOf result Stop.Limit
+            → IsAtLimit log.new (switches self.old more.now) }
+    {
         oracle.focus(&self.newest_first()?)?;
-        match oracle.solve(&[self.group], &[], log)? {
+        let active = self.with_own(more)?;
+        match oracle.solve(&active, &[], log)? {
             Answer::Unsat(id) => Ok(Exp::Refuted(id)),
             Answer::Sat => Ok(Exp::Model(self.points(oracle)?)),
         }
+    }
+
+    // The table's group, and further ones.
+    fn with_own(&self, more: &[Group]) -> Result<Vec<Group>, Memory>
+        ensures switches { IfOk result
+            (λ groups. map (λ g. g.selector) groups.items ≡ switches self.now more.now) }
+        ensures made { (entries : List Entry)
+            → name_of entries self.now.group ≡ Some (Selector self.now.group)
+            → All (IsMade entries) more.now
+            → IfOk result (λ groups. All (IsMade entries) groups.items) }
+    {
+        let mut groups = vec![in self.alloc; self.group; 1]?;
+        groups.extend_from_slice(more)?;
+        Ok(groups)
+    }
+
+    /// The variable of the pair of an existential under the row of a round, by its number from 1
+    /// on.
+    pub fn pair(&self, y: u64, k: u64) -> u64
+        requires from_one { 1 ≤ k }
+        requires last { k ≤ length self.now.rows }
+        requires existential { Contains self.now.existentials y }
+        requires table { (f : Dqbf) × (entries : List Entry) × IsWellFormed f
+            × IsTable f self.now entries }
+        ensures { result ≡ pair_variable self.now y k }
+    {
+        let variables = self.pairs.get(k as usize - 1);
+        variables[place_by_order(&self.existentials, &self.order, y)]
     }
 
     // The arbiters, those of the newest row first: what an old one has stays more likely, so that

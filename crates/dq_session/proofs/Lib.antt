@@ -1,0 +1,9 @@
+mod GrownBooks
+mod StandingBooks
+mod Stacks
+mod ChangedBooks
+mod AddedClauses
+mod LiveModels
+mod LiveRefutations
+mod GroupedFrames
+mod MadeGroups

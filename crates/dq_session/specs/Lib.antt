@@ -1,0 +1,7 @@
+pub mod Books
+pub mod Changes
+pub mod Changing
+pub mod Grouped
+pub mod Shown
+pub mod Searching
+pub mod Standing
