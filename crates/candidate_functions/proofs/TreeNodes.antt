@@ -5,12 +5,12 @@ use Rattle.std.proofs.lemmas.Bool.{cases_lt}
 use Rattle.std.proofs.lemmas.List.{get_or_past, get_or-map, length-map, length-set, length_push, get_or_push}
 use Rattle.std.proofs.Math.ListN.{get_or-append}
 use Rattle.std.proofs.lemmas.List.Elements.{All-set, All-contains}
-use Rattle.std.proofs.lemmas.Option.{slice_get_within}
+use Rattle.std.proofs.lemmas.Option.{slice_get_within, slice_get_cases}
 use Rattle.dq_lits.specs.Formula.{Existential, Dqbf, existential_of}
 use Rattle.dq_formula.specs.Prefix.{IsLawful}
 use Rattle.dq_formula.proofs.Places.{place}
 use Rattle.dq_formula.proofs.Sorted.{get_or-place, place-below}
-use Rattle.aig_graph.specs.Graph.{AigGraph, node_support}
+use Rattle.aig_graph.specs.Graph.{AigGraph, IsNode, node_support}
 use Rattle.aig_graph.specs.Made.{Extends, IsChosen}
 use Rattle.aig_graph.specs.declared.nodes.Node.{Node}
 use Rattle.aig_graph.specs.declared.nodes.Node.TheVariants.{Constant, Input}
@@ -131,6 +131,14 @@ guess_there f lawful g guesses p y n are at is = record {
   guess = All-contains (λ z. (m : Node) → definition_of f guesses z ≡ Some m → IsGuess f g z m) f.existentials y are
       (contained_at f.existentials p y at) n
       (ap (λ k. get_or guesses k None) (existential_at f lawful.prefix p y at) ∙ is)
+
+-- the guess of an existential is a node
+pub guess_is_node : (f : Dqbf) → IsLawful f → (g : AigGraph) (guesses : List (Option Node)) (p : ℕ) (n : Node) →
+    AreGuesses f g guesses → p < length f.existentials → get_or guesses p None ≡ Some n → IsNode g n
+guess_is_node f lawful g guesses p n are below is = let (_, cases) = slice_get_cases f.existentials p in elim cases [
+  | inl found ↦ let (y, _, at, _) = found in (guess_there f lawful g guesses p y n are at is).is_node
+  | inr past ↦ let (least, _) = past in absurd (omega (arith, below, least))
+]
 
 -- a constant reads nothing
 pub unruled_constant : (f : Dqbf) (g : AigGraph) (y : Existential) (b : Bool) → IsByRules f g [] y (Constant b)

@@ -13,6 +13,7 @@ use crate::definitions::put_definitions;
 use crate::guesses::Trees;
 use crate::outputs::{Known, first_outputs};
 use crate::rules::by_rules;
+use crate::samples::Samples;
 use aig_graph::{Graph, Node};
 use dq_formula::{Formula, Rule};
 use dq_lits::Memory;
@@ -48,7 +49,8 @@ impl Outputs {
 /// has a definition gets it, with the outputs of the existentials that it reads put in; any other
 /// has its point's bit at each pair of the table, and elsewhere the bit of its first rule whose
 /// cube is true; where there is none, the value of its guess, or without a guess what its tree says:
-/// no contract speaks of either. The trees of those without a guess first grow by the points.
+/// no contract speaks of either. The trees of those without a guess first grow by the points, and the
+/// samples guide them. A guess that is wrong at most rows, and at 8 at least, is none from then on.
 /// Definitions and guesses are in the order of the existentials; those that are missing are none.
 /// The ranks are those by which definitions may read what they read.
 ///
@@ -62,6 +64,7 @@ pub fn build(
     f: &Formula,
     table: &Table,
     points: &Points,
+    samples: &Samples,
     trees: &mut Trees,
     rules: &[Rule],
     ranks: &[usize],
@@ -94,6 +97,7 @@ pub fn build(
         points,
         definitions,
         guesses,
+        samples,
     };
     let others = by_rules(alloc, &known, trees, rules, graph)?;
     let mut nodes = first_outputs(alloc, &known, &others, graph)?;

@@ -60,7 +60,8 @@ fn rows_to_see(table: &Table, graph: &Graph) -> u64
     table.rows().min(most as u64)
 }
 
-fn values_at(
+// The bits of nodes at a row.
+pub(crate) fn values_at(
     alloc: Global,
     nodes: &[Node],
     row: &Row,

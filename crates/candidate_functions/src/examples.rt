@@ -2,6 +2,8 @@
 
 ghost use Rattle.std.specs.Prelude.{◌≡◌, ◌≤◌, length, Contains};
 
+use crate::counts::Counts;
+use crate::samples::Samples;
 use dq_formula::Formula;
 use dq_lits::{Memory, Row};
 use expansion::{Points, Table};
@@ -11,16 +13,16 @@ use std::alloc::Global;
 // product of two counts.
 const MOST_TESTS: usize = 64;
 
-// Scores are sums of quotients, which this factor keeps apart.
-const SCALE: u64 = 1024;
-
-// Rows, each with a bit, and the universals that are seen there.
+// Rows, each with the bit of the existential at a place, and the universals that it sees there; and
+// samples, which say something where these don't.
 #[derive(Drop)]
 pub(crate) struct Examples<'a> {
     pub f: &'a Formula,
     pub table: &'a Table,
+    pub place: usize,
     pub bits: &'a [bool],
     pub seen: &'a [u64],
+    pub samples: &'a Samples,
 }
 
 // The bits of an existential in the rounds of a table.
@@ -58,7 +60,7 @@ impl Examples<'_> {
         tested: usize,
         bit: bool,
     ) -> Result<Vec<usize>, Memory> {
-        let place = self.place(tested);
+        let place = self.universal(tested);
         let mut found = Vec::new(alloc);
         for number in some {
             if self.is_one(*number, place) == bit {
@@ -76,8 +78,14 @@ impl Examples<'_> {
         }
     }
 
+    /// What most samples say of the existential, or false.
+    pub(crate) fn likely_bit(&self) -> bool {
+        self.samples.majority(self.place)
+    }
+
     /// The universal that parts some examples by their bits best, by its place among those that are
-    /// seen: of those in which two examples with other bits differ. None where all have one bit.
+    /// seen: of those in which two examples with other bits differ. Where two part them equally
+    /// well, the samples choose. None where all examples have one bit.
     pub(crate) fn best_test(&self, some: &[usize]) -> Option<usize> {
         let one = some.first()?;
         let bit = self.bit(*one);
@@ -86,12 +94,12 @@ impl Examples<'_> {
         let mut least = u64::MAX;
         let mut tests = 0usize;
         for tested in 0..self.seen.len() {
-            let place = self.place(tested);
+            let place = self.universal(tested);
             if tests < MOST_TESTS && self.is_one(*one, place) != self.is_one(*other, place) {
                 tests += 1;
-                let score = self.score(some, place);
-                if score < least {
-                    least = score;
+                let impurity = self.impurity(some, place);
+                if impurity < least || impurity == least && self.is_purer(tested, best) {
+                    least = impurity;
                     best = Some(tested);
                 }
             }
@@ -99,15 +107,25 @@ impl Examples<'_> {
         best
     }
 
-    // How mixed the bits of examples are at both branches of a test: of each the product of the ones
-    // and the zeros, over how many there are (the Gini impurity, L. Breiman et al., "Classification
-    // and regression trees", 1984).
-    fn score(&self, some: &[usize], place: usize) -> u64 {
+    // How mixed the bits of examples are at both branches of a test.
+    fn impurity(&self, some: &[usize], place: usize) -> u64 {
         let mut counts = Counts::none();
         for number in some {
             counts.add(self.is_one(*number, place), self.bit(*number));
         }
-        counts.score()
+        counts.impurity()
+    }
+
+    // Whether a test parts the samples better than the best one up to now.
+    fn is_purer(&self, tested: usize, best: Option<usize>) -> bool {
+        match best {
+            None => true,
+            Some(other) => self.samples_impurity(tested) < self.samples_impurity(other),
+        }
+    }
+
+    fn samples_impurity(&self, tested: usize) -> u64 {
+        self.samples.impurity(self.universal(tested), self.place)
     }
 
     fn bit(&self, number: usize) -> bool {
@@ -119,7 +137,7 @@ impl Examples<'_> {
 
     // Where a universal stands in the rows, by its place among those that are seen; behind all
     // where there is none.
-    fn place(&self, tested: usize) -> usize {
+    fn universal(&self, tested: usize) -> usize {
         match self.seen.get(tested) {
             Some(x) => self.f.place_of(*x),
             None => self.f.universals().len(),
@@ -140,46 +158,4 @@ fn bit_at(table: &Table, number: usize, place: usize) -> bool {
     }
     let row: &Row = table.row(k + 1);
     place < row.len() && row.get(place)
-}
-
-// How many examples there are at each branch of a test, by their bits.
-#[derive(Drop)]
-struct Counts {
-    yes_ones: u64,
-    yes_zeros: u64,
-    no_ones: u64,
-    no_zeros: u64,
-}
-
-impl Counts {
-    fn none() -> Counts {
-        Counts {
-            yes_ones: 0,
-            yes_zeros: 0,
-            no_ones: 0,
-            no_zeros: 0,
-        }
-    }
-
-    fn add(&mut self, is_yes: bool, bit: bool) {
-        let count = match (is_yes, bit) {
-            (true, true) => &mut self.yes_ones,
-            (true, false) => &mut self.yes_zeros,
-            (false, true) => &mut self.no_ones,
-            (false, false) => &mut self.no_zeros,
-        };
-        *count = count.saturating_add(1);
-    }
-
-    fn score(&self) -> u64 {
-        mixed(self.yes_ones, self.yes_zeros).saturating_add(mixed(self.no_ones, self.no_zeros))
-    }
-}
-
-fn mixed(ones: u64, zeros: u64) -> u64 {
-    let all = ones.saturating_add(zeros);
-    if all == 0 {
-        return 0;
-    }
-    ones.saturating_mul(zeros).saturating_mul(SCALE) / all
 }

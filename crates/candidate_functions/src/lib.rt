@@ -4,9 +4,11 @@
 
 pub use building::{Outputs, build};
 pub use guesses::Trees;
+pub use samples::{Sample, Samples};
 
 mod building;
 mod classes;
+mod counts;
 mod cubes;
 mod definitions;
 mod differing;
@@ -16,6 +18,8 @@ pub mod laws;
 mod outputs;
 mod patches;
 mod patching;
+mod refutations;
 mod rounds;
 mod rules;
+mod samples;
 mod trees;

@@ -14,6 +14,7 @@ use crate::classes::{Classes, no_classes};
 use crate::definitions::given_at;
 use crate::differing::{Others, Own, has_all_points, values_at_rows};
 use crate::patches::patched;
+use crate::samples::Samples;
 use aig_graph::{Graph, Node};
 use dq_formula::Formula;
 use dq_lits::Memory;
@@ -21,7 +22,7 @@ use expansion::{Points, Table};
 use std::alloc::Global;
 
 /// What the outputs are to agree with: the definitions that there are, and the points of a model of
-/// the formula's instances under a table's rows; and the guesses that there are.
+/// the formula's instances under a table's rows; and the guesses and samples that there are.
 #[derive(Drop)]
 pub(crate) struct Known<'a> {
     pub f: &'a Formula,
@@ -29,6 +30,7 @@ pub(crate) struct Known<'a> {
     pub points: &'a Points,
     pub definitions: &'a [Option<Node>],
     pub guesses: &'a [Option<Node>],
+    pub samples: &'a Samples,
 }
 
 // The outputs of the existentials without a definition, each at its existential's place; the other

@@ -27,6 +27,8 @@ pub(crate) fn by_rules(
     graph: &mut Graph,
 ) -> Result<Vec<Node>, Memory>
     requires inputs { length known.now.f.now.universals ≤ graph.old.inputs }
+    requires whole { All (λ row. length row ≡ length known.now.f.now.universals)
+        known.now.table.now.rows }
     requires variables { known.now.points.now.variables ≡ existential_variables known.now.f.now }
     requires as_many { length known.now.points.now.rows ≡ length known.now.table.now.rows }
     requires rules { All (IsRule known.now.f.now) rules.now }

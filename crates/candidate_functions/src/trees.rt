@@ -13,7 +13,7 @@ ghost use Rattle.candidate_functions.specs.Trees.{IsOver};
 use crate::examples::Examples;
 use aig_graph::{Graph, Node};
 use dq_formula::Formula;
-use dq_lits::Memory;
+use dq_lits::{Memory, Row};
 use std::alloc::Global;
 
 // What is done at a place of a tree: all is decided, or a universal is tested, by its place among
@@ -48,10 +48,11 @@ impl Tree {
         }
     }
 
-    // Grows until all examples at a leaf have one bit, which is the leaf's then.
+    // Grows until all examples at a leaf have one bit, which is the leaf's then. Rows never go, so a
+    // leaf without examples is a whole tree that no row came to yet: it has the bit of most samples.
     pub(crate) fn learn(&mut self, alloc: Global, examples: &Examples) -> Result<(), Memory> {
         if self.branches.is_empty() {
-            self.branches.push(Branch::Leaf(false))?;
+            self.branches.push(Branch::Leaf(examples.likely_bit()))?;
         }
         let mut parts = Vec::new(alloc);
         let all = examples.numbers(alloc)?;
@@ -123,6 +124,33 @@ impl Tree {
         }
     }
 
+    // How many leaves there are.
+    pub(crate) fn leaves(&self) -> usize {
+        self.branches
+            .iter()
+            .filter(|branch| is_leaf(branch))
+            .count()
+    }
+
+    // The bit at a row.
+    pub(crate) fn bit(&self, f: &Formula, seen: &[u64], row: &Row) -> bool {
+        let mut at = 0usize;
+        for _ in 0..self.branches.len() {
+            match self.branches.get(at) {
+                Some(Branch::Test { tested, yes, no }) => {
+                    at = if is_true(f, seen.get(*tested), row) {
+                        *yes
+                    } else {
+                        *no
+                    };
+                }
+                Some(Branch::Leaf(bit)) => return *bit,
+                None => return false,
+            }
+        }
+        false
+    }
+
     fn put(&mut self, at: usize, branch: Branch) {
         if let Some(place) = self.branches.get_mut(at) {
             *place = branch;
@@ -177,6 +205,23 @@ impl Tree {
             Some(Branch::Leaf(bit)) => Ok(Node::constant(*bit)),
             None => Ok(Node::constant(false)),
         }
+    }
+}
+
+fn is_true(f: &Formula, universal: Option<&u64>, row: &Row) -> bool {
+    match universal {
+        Some(x) => {
+            let place = f.place_of(*x);
+            place < row.len() && row.get(place)
+        }
+        None => false,
+    }
+}
+
+fn is_leaf(branch: &Branch) -> bool {
+    match branch {
+        Branch::Leaf(_) => true,
+        Branch::Test { .. } => false,
     }
 }
 

@@ -1,6 +1,6 @@
 //! The expansion and its candidates, row by row.
 
-ghost use Rattle.std.specs.Prelude.{◌≡◌, ◌≤◌, ◌+◌, ◌++◌, ◌∷◌, [], ℕ, true, All, length, IfOk};
+ghost use Rattle.std.specs.Prelude.{◌≡◌, ◌≤◌, ◌+◌, ◌++◌, ◌∷◌, [], ℕ, true, All, ◌<◌, length, IfOk};
 ghost use Rattle.dq_lits.specs.Formula.{IsWellFormed};
 ghost use Rattle.hint_log.specs.Entries.{rounds_of};
 ghost use Rattle.hint_log.specs.Naming.{rows_of};
@@ -15,7 +15,7 @@ use crate::rows::row_of;
 use crate::shown::{Shown, show_more};
 use aig_graph::Graph;
 use anyhow::{Result, anyhow};
-use candidate_functions::{Trees, build};
+use candidate_functions::{Samples, Trees, build};
 use cdcl_core::Cdcl;
 use dq_formula::Formula;
 use dq_lits::Row;
@@ -83,15 +83,22 @@ fn begin<O: Oracle + Drop>(
 {
     engines_leave_the_rest();
     let table = Table::new(alloc, &mut oracle, f, &mut log)?;
-    Ok(Expanding { oracle, log, table })
+    Ok(Expanding {
+        oracle,
+        log,
+        table,
+        trees: Trees::new(alloc),
+    })
 }
 
-/// The table of the rows so far, with the solver that has their instances, and its log.
+/// The table of the rows so far, with the solver that has their instances, and its log; and the
+/// trees that grew by the models.
 #[derive(Drop)]
 struct Expanding<O> {
     oracle: O,
     log: Log,
     table: Table,
+    trees: Trees,
 }
 
 impl<O: Oracle> Expanding<O> {
@@ -151,7 +158,11 @@ impl<O: Oracle> Expanding<O> {
                 Ok(false)
             }
             Ok(Exp::Model(points)) => {
-                show_model(alloc, f, &self.table, &points, report)?;
+                let model = TableModel {
+                    table: &self.table,
+                    points: &points,
+                };
+                show_model(alloc, f, &model, &mut self.trees, report)?;
                 Ok(true)
             }
             Err(Stop::Limit) => Err(anyhow!("limit")),
@@ -164,24 +175,24 @@ impl<O: Oracle> Expanding<O> {
 fn show_model(
     alloc: Global,
     f: &Formula,
-    table: &Table,
-    points: &Points,
+    model: &TableModel,
+    trees: &mut Trees,
     report: &mut Report,
 ) -> Result<()>
     requires formula { IsWellFormed f.now }
-    requires whole { All (λ row. length row ≡ length f.now.universals) table.now.rows }
-    requires rows { length points.now.rows ≡ length table.now.rows }
-    requires variables { points.now.variables ≡ existential_variables f.now }
-    requires points { ArePoints f.now table.now.rows (point_bits points.now) }
+    requires whole { All (λ row. length row ≡ length f.now.universals) model.now.table.now.rows }
+    requires rows { length model.now.points.now.rows ≡ length model.now.table.now.rows }
+    requires variables { model.now.points.now.variables ≡ existential_variables f.now }
+    requires points { ArePoints f.now model.now.table.now.rows (point_bits model.now.points.now) }
 {
     let mut graph = Graph::new(alloc, f.universals().len() + f.existentials().len());
-    let mut trees = Trees::new(alloc);
     let outputs = build(
         alloc,
         f,
-        table,
-        points,
-        &mut trees,
+        model.table,
+        model.points,
+        &Samples::new(alloc),
+        trees,
         &[],
         &[],
         &[],
@@ -192,9 +203,49 @@ fn show_model(
         graph: &graph,
         nodes: outputs.items(),
     };
-    show_rows(alloc, f, &TableModel { table, points }, &candidates, report)?;
-    if let Detail::Bits = report.detail {
-        show_candidates(alloc, f, &candidates, &mut report.text)?;
+    show_rows(alloc, f, model, &candidates, report)?;
+    match report.detail {
+        Detail::Checks => Ok(()),
+        Detail::Bits => show_candidates(alloc, f, &candidates, &mut report.text),
+        Detail::Leaves => show_leaves(alloc, f, model, trees, &mut report.text),
+    }
+}
+
+// How many leaves each existential's tree has, and whether it has the points' bits at all rows.
+fn show_leaves(
+    alloc: Global,
+    f: &Formula,
+    model: &TableModel,
+    trees: &Trees,
+    text: &mut String,
+) -> Result<()>
+    requires rows { length model.now.points.now.rows ≡ length model.now.table.now.rows }
+    requires variables { model.now.points.now.variables ≡ existential_variables f.now }
+{
+    for place in 0..f.existentials().len() {
+        let leaves = trees.leaves(place);
+        let kind = if is_pure(f, model, trees, place) {
+            "pure"
+        } else {
+            "mixed"
+        };
+        text.push_str(&format!(in alloc; "\n tree: {leaves} leaves, {kind}")?)?;
     }
     Ok(())
+}
+
+fn is_pure(f: &Formula, model: &TableModel, trees: &Trees, place: usize) -> bool
+    requires place { place < length f.now.existentials }
+    requires rows { length model.now.points.now.rows ≡ length model.now.table.now.rows }
+    requires variables { model.now.points.now.variables ≡ existential_variables f.now }
+{
+    f.every_formula_is_lawful();
+    let y = f.existentials()[place];
+    for before in 0..model.table.rows() {
+        let row = model.table.row(before + 1);
+        if trees.bit(f, place, row) != model.points.bit(y, before + 1) {
+            return false;
+        }
+    }
+    true
 }

@@ -9,6 +9,8 @@ pub enum Detail {
     Checks,
     /// Its bits, and the candidates' values, too.
     Bits,
+    /// How many leaves the existentials' trees have, and whether they have its bits, too.
+    Leaves,
 }
 
 /// What a run printed so far.

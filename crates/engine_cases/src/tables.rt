@@ -6,7 +6,8 @@
 //! the circuits' checker judge outputs, until some hold, and prints what each turn told. `rows NAME
 //! : ROW ; ROW ..` adds rows to the expansion, until they are refuted, and prints for each row of a
 //! model whether the clauses hold there and the candidates have its bits; `points` does the same,
-//! and prints the bits, and the candidates' values under all rows. `decide NAME : LIMIT` runs the
+//! and prints the bits, and the candidates' values under all rows; `trees` prints how many leaves
+//! each existential's tree has, and whether it has the points' bits at all rows. `decide NAME : LIMIT` runs the
 //! loop in so many steps, and prints `true`, `false` or `limit`; `rounds` prints how many rounds it
 //! took, too. `refute` does the same, exports the refutation, and prints what the checker says of
 //! its text; `certificate` prints that text, too. `define NAME : Y Y ..` asks for definitions of
@@ -39,6 +40,7 @@ pub fn take_line(alloc: Global, formula: &mut String, line: &str) -> Result<Opti
         "turns" => run(alloc, formula, rest, Kind::Turns),
         "rows" => run(alloc, formula, rest, Kind::Rows(Detail::Checks)),
         "points" => run(alloc, formula, rest, Kind::Rows(Detail::Bits)),
+        "trees" => run(alloc, formula, rest, Kind::Rows(Detail::Leaves)),
         "decide" => run(
             alloc,
             formula,

@@ -14,6 +14,7 @@ ghost use Rattle.oracle.specs.Limits.{IsAtSomeLimit};
 
 use crate::questions::Questions;
 use aig_graph::{Graph, Node};
+use candidate_functions::Samples;
 use definition_order::existentials_in_order;
 use dq_formula::{Formula, Rule};
 use dq_lits::{Memory, Row};
@@ -77,6 +78,11 @@ impl Definitions {
     /// such. No contract speaks of them: who uses one tests it.
     pub fn refuting_rows(&self) -> &[Row] {
         self.questions.conditions.rows()
+    }
+
+    /// What the questions found that makes the matrix true, for the trees. No contract speaks of it.
+    pub fn samples(&self) -> &Samples {
+        &self.questions.samples
     }
 
     // Notes what was found of the existential at a place.

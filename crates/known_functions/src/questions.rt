@@ -6,6 +6,7 @@ use crate::conditions::Conditions;
 use crate::occurrences::Occurrences;
 use crate::samples::{Sample, bits_of};
 use crate::walks::Walk;
+use candidate_functions::Samples;
 use dq_formula::Formula;
 use dq_lits::{Memory, Row};
 use padoa_definitions::{Forced, Found, Pair};
@@ -21,6 +22,9 @@ const FEW_SEEN: usize = 5;
 
 const MOST_LOOSE: u8 = 8;
 
+// So many samples are kept at most: each costs a bit for each variable, and each tree reads them.
+const MOST_SAMPLES: usize = 64;
+
 // So many bits are asked about in a round at most; the next round goes on with the existentials
 // behind these. What an answer forces is a clause of as many literals as the existential sees.
 const MOST_IN_A_ROUND: usize = 64;
@@ -32,6 +36,9 @@ pub(crate) struct Questions {
     pub alloc: Global,
     pub occurrences: Occurrences,
     pub conditions: Conditions,
+    // Of the pairs that showed existentials free; other values that make the matrix true guide trees
+    // no better.
+    pub samples: Samples,
     // The existentials' places in the order in which they are asked for, and their numbers there.
     order: Vec<usize>,
     numbers: Vec<usize>,
@@ -56,6 +63,7 @@ impl Questions {
             alloc,
             occurrences: Occurrences::new(alloc, f)?,
             conditions: Conditions::none(alloc),
+            samples: Samples::new(alloc),
             order: Vec::new(alloc),
             numbers: vec![in alloc; 0usize; count]?,
             is_free: vec![in alloc; false; count]?,
@@ -157,6 +165,10 @@ impl Questions {
     }
 
     fn learn_pair(&mut self, f: &Formula, pair: &Pair) -> Result<(), Memory> {
+        if self.samples.len() < MOST_SAMPLES {
+            self.samples.add(&pair.row1, &pair.values1)?;
+            self.samples.add(&pair.row2, &pair.values2)?;
+        }
         self.walk(f, &pair.row1, &pair.values1)?;
         self.walk(f, &pair.row2, &pair.values2)
     }

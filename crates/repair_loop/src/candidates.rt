@@ -65,6 +65,7 @@ impl Engines {
                     f,
                     &self.table,
                     &points,
+                    self.definitions.samples(),
                     &mut self.trees,
                     &self.definitions.rules,
                     &self.definitions.ranks,
