@@ -8,14 +8,16 @@ use Rattle.dq_lits.specs.Literal.{Literal}
 use Rattle.dq_lits.specs.Formula.{Dqbf, IsWellFormed}
 use Rattle.dq_lits.specs.Expansion.{universal_literal_true}
 use Rattle.hint_log.specs.Conditions.{AreLogged}
-use Rattle.hint_log.specs.Entries.{Entry, name_of}
+use Rattle.hint_log.specs.Entries.{Entry, Named, Given, Learned, Answer, Round, Begun, ProofLog, name_of}
+use Rattle.hint_log.specs.Growth.{Grew}
 use Rattle.hint_log.specs.Naming.{AreNamedAs, arbiter, rows_of}
 use Rattle.hint_log.specs.ProductiveLog.{fault_groups, fault_room}
 use Rattle.hint_log.specs.declared.names.Name.TheVariants.{Pair}
-use Rattle.log_laws.specs.Engines.{instances, part}
+use Rattle.log_laws.specs.Engines.{instances, part, IsAddedBy}
+use Rattle.log_laws.proofs.Kept.{each_of_weaker}
 use Rattle.expansion.specs.FirstRows.{RowIndex, IsRowIndex}
 use Rattle.expansion.specs.Table.{TableState, AreArbiters, HasInstance, IsOfPairs, IsTable, IsFullTable}
-use Rattle.expansion.specs.Adding.{with_row, IsNewPair, IsAdding, AreNewArbiters}
+use Rattle.expansion.specs.Adding.{with_row, IsNewPair, IsAdding, AreNewArbiters, IsRowEntry}
 use Rattle.expansion.proofs.NamedArbiters.{as_many, named_at}
 use Rattle.expansion.proofs.InstanceModels.{own_name, found_variable}
 use Rattle.expansion.proofs.RowOrders.{index_kept}
@@ -28,7 +30,7 @@ module _ (f : Dqbf) (t : TableState) (row : List Bool) (own : List Entry) (k : �
   arbiters_behind vs are = are ∙ names_same (arbiter f t.rows r) (arbiter f (with_row t row) r)
       (λ y. same_arbiter f t.rows (row ∷ []) k r y row_is) f.existentials
 
-  instance_behind : (j : ℕ) (clause : List Literal) → HasInstance f t.group t.rows own k j r clause →
+  pub instance_behind : (j : ℕ) (clause : List Literal) → HasInstance f t.group t.rows own k j r clause →
       HasInstance f t.group (with_row t row) own k j r clause
   instance_behind j clause h = record {
     rest = h.rest;
@@ -209,3 +211,29 @@ looked f t new es same table index =
       };
       first_rows = subst (λ rs. IsRowIndex f rs new.first_rows) rows index;
     })
+
+-- what a row adds is the engine's
+module _ (f : Dqbf) (group : ℕ) (silent : Bool) (first : List Entry) where
+  row_is_added : (earlier : List Entry) (e : Entry) → IsRowEntry f group earlier e →
+      IsAddedBy f instances group silent first earlier e
+  row_is_added earlier (Named v n) h = h
+  row_is_added earlier (Given origin c) h = record {
+    own = h.own;
+    in_group = (group, h.in_group, inl refl);
+    matches_origin = h.matches_origin;
+    not_repeated = h.not_repeated;
+  }
+  row_is_added earlier (Learned c hints) h = absurd h
+  row_is_added earlier (Answer c hints) h = absurd h
+  row_is_added earlier (Round r values j) h = absurd h
+  row_is_added earlier (Begun live) h = absurd h
+
+  pub row_grew : (old new : ProofLog) → Grew (IsRowEntry f group) old new →
+      Grew (IsAddedBy f instances group silent first) old new
+  row_grew old new g = record {
+    more = g.more;
+    grown = g.grown;
+    each = each_of_weaker (IsRowEntry f group) (IsAddedBy f instances group silent first) row_is_added g.more
+        old.entries g.each;
+    limit = g.limit;
+  }

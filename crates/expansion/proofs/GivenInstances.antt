@@ -16,13 +16,13 @@ use Rattle.hint_log.specs.Naming.{numbered_from_one, named_literal, name_literal
 use Rattle.hint_log.specs.Origins.{IsOriginsClause}
 use Rattle.hint_log.specs.declared.names.Name.{Name}
 use Rattle.hint_log.specs.declared.origins.Origin.TheVariants.{Instance}
-use Rattle.log_laws.specs.Engines.{instances, is_own, part, IsAddedBy}
+use Rattle.log_laws.specs.Engines.{instances, is_own, part}
 use Rattle.log_laws.proofs.Found.{named_variable}
 use Rattle.log_laws.proofs.LargerLogs.{grown_by, grown_by_none, grown_then}
 use Rattle.oracle.specs.Calls.{IsPlain}
 use Rattle.expansion.specs.Giving.{IsGivenInstance}
 use Rattle.expansion.specs.Table.{TableState, AreArbiters, HasInstance, IsTable}
-use Rattle.expansion.specs.Adding.{with_row, IsAddingPart, IsAdding, AreNewArbiters, AreInRange, IsGivenNext}
+use Rattle.expansion.specs.Adding.{with_row, IsRowEntry, IsAddingPart, IsAdding, AreNewArbiters, AreInRange, IsGivenNext}
 use Rattle.expansion.proofs.TableGrowth.{KeepsNames, more_keeps, literals_kept, instance_kept, one_more_done}
 use Rattle.expansion.proofs.NamedArbiters.{as_many}
 use Rattle.expansion.proofs.Firsts.{below_or_here}
@@ -30,7 +30,7 @@ use Rattle.expansion.proofs.InstanceModels.{own_name, head_or_tail, later}
 use Rattle.expansion.proofs.Told.{switch_is}
 
 -- the row of the newest round
-rounds_are_rows : (es : List Entry) → rounds_of es ≡ length (rows_of es)
+pub rounds_are_rows : (es : List Entry) → rounds_of es ≡ length (rows_of es)
 rounds_are_rows [] = refl
 rounds_are_rows (Named v n ∷ es) = rounds_are_rows es
 rounds_are_rows (Given o c ∷ es) = rounds_are_rows es
@@ -259,7 +259,7 @@ module _ (f : Dqbf) (t : TableState) (row : List Bool) (j : ℕ) (log : ProofLog
   pub passed_next : (new : ProofLog) → list_any (universal_literal_true f row) clause ≡ true → new ≡ log →
       IsGivenNext f t row j log new
   passed_next new done same = subst (IsGivenNext f t row j log) (sym same) (record {
-    grew = λ start. grown_by_none (IsAddedBy f instances t.group true start) log log refl;
+    grew = grown_by_none (IsRowEntry f t.group) log log refl;
     adding = record {
       group = adding.group;
       existentials = adding.existentials;
@@ -314,9 +314,9 @@ module _ (f : Dqbf) (t : TableState) (row : List Bool) (j : ℕ) (log : ProofLog
             (filter_map (on_arbiter f (with_row t row) row) clause) named;
       } in
       subst (IsGivenNext f t row j log) (sym entry) (record {
-        grew = λ start. grown_by (IsAddedBy f instances t.group true start) log (with_entry log e) e refl (record {
+        grew = grown_by (IsRowEntry f t.group) log (with_entry log e) e refl (record {
           own = refl;
-          in_group = (t.group, (lits, refl), inl refl);
+          in_group = (lits, refl);
           matches_origin = matches;
           not_repeated = record { first = λ h d has. not_yet d has; groups = adding.faults };
         });
@@ -351,7 +351,7 @@ module _ (f : Dqbf) (t : TableState) (row : List Bool) (j : ℕ) (log : ProofLog
 -- the instances of the first so many clauses were given
 pub record AreGivenSoFar (f : Dqbf) (t : TableState) (row : List Bool) (vs : List ℕ) (j : ℕ)
     (old new : ProofLog) : Type 0 where
-  pub grew : (first : List Entry) → Grew (IsAddedBy f instances t.group true first) old new
+  pub grew : Grew (IsRowEntry f t.group) old new
   pub adding : IsAdding f t row (length f.existentials) j new.entries
   pub variables : AreNewArbiters f t row new.entries vs
 
@@ -359,8 +359,7 @@ pub given_so_far : (f : Dqbf) (t : TableState) (row : List Bool) (vs : List ℕ)
     AreGivenSoFar f t row vs j old log → IsGivenNext f t row j log new
     → AreGivenSoFar f t row vs (j + 1) old new
 given_so_far f t row vs j old log new before next = record {
-  grew = λ start. grown_then (IsAddedBy f instances t.group true start) old log new (before.grew start)
-      (next.grew start);
+  grew = grown_then (IsRowEntry f t.group) old log new before.grew next.grew;
   adding = next.adding;
   variables = next.variables vs before.variables;
 }

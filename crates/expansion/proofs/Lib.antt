@@ -6,11 +6,11 @@ pub mod FoundPoints
 mod WrittenBits
 mod Told
 pub mod Firsts
-mod TableGrowth
+pub mod TableGrowth
 mod NamedArbiters
 mod InstanceLiterals
-mod GivenInstances
-mod AddedRows
+pub mod GivenInstances
+pub mod AddedRows
 mod StandingTables
 mod ComparedRows
 mod RowOrders

@@ -12,11 +12,11 @@ use Rattle.hint_log.specs.Growth.{Grew}
 use Rattle.hint_log.specs.Naming.{arbiter}
 use Rattle.hint_log.specs.declared.names.Name.{Name}
 use Rattle.hint_log.specs.declared.names.Name.TheVariants.{Selector, Pair}
-use Rattle.log_laws.specs.Engines.{instances, part, IsAddedBy}
+use Rattle.log_laws.specs.Engines.{instances, part}
 use Rattle.log_laws.proofs.LargerLogs.{grown_by, grown_by_none, grown_then}
 use Rattle.expansion.specs.Table.{TableState, AreArbiters, IsOfPairs}
 use Rattle.expansion.specs.FirstRows.{IsFirstRow}
-use Rattle.expansion.specs.Adding.{with_row, IsNewPair, AreFirstArbiters, IsAddingPart, IsAdding, IsNamedNext}
+use Rattle.expansion.specs.Adding.{with_row, IsRowEntry, IsNewPair, AreFirstArbiters, IsAddingPart, IsAdding, IsNamedNext}
 use Rattle.expansion.proofs.TableGrowth.{pair_own, unnamed_own, named_keeps, names_kept, KeepsNames, one_more_named, new_named}
 use Rattle.expansion.proofs.Firsts.{arbiter_of_first, arbiter_of_new, passes_there, position_within}
 use Rattle.expansion.proofs.FoundPoints.{existentials_once}
@@ -156,7 +156,7 @@ module _ (f : Dqbf) (t : TableState) (row : List Bool) (place first : ℕ) (log 
       (old_pairs f t row place log.entries adding first old) here_is
       ∙ ap Some (arbiter_of_first f t.rows (row ∷ []) row (get_or t.rows first []) here agrees) in
       subst (IsNamedNext f t row place v log) (sym same) (record {
-        grew = λ start. grown_by_none (IsAddedBy f instances t.group true start) log log refl;
+        grew = grown_by_none (IsRowEntry f t.group) log log refl;
         adding = one_more (one_more_named f t row place 0 mine adding.own);
         variables = λ vs are. more_variables f t row mine place here v vs here_is named are;
       })
@@ -180,7 +180,7 @@ module _ (f : Dqbf) (t : TableState) (row : List Bool) (place first : ℕ) (log 
       let named : name_of (Named v n ∷ mine) v ≡ Some (arbiter f (with_row t row) row here) =
       ap (λ b. cond b (Some n) (name_of mine v)) (eq-eqb v v refl) ∙ ap Some (sym arbiter_is) in
       subst (IsNamedNext f t row place v log) (sym entry) (record {
-        grew = λ start. grown_by (IsAddedBy f instances t.group true start) log (with_entry log (Named v n))
+        grew = grown_by (IsRowEntry f t.group) log (with_entry log (Named v n))
             (Named v n) refl (record { unnamed = unnamed; own = inr refl; rightly = tt });
         adding = record {
           group = named_keeps log.entries v n unnamed t.group (Selector t.group) adding.group;
@@ -199,7 +199,7 @@ module _ (f : Dqbf) (t : TableState) (row : List Bool) (place first : ℕ) (log 
 -- the new row has the pairs of the first so many existentials
 pub record ArePairsSoFar (f : Dqbf) (t : TableState) (row : List Bool) (place : ℕ) (vs : List ℕ)
     (old new : ProofLog) : Type 0 where
-  pub grew : (first : List Entry) → Grew (IsAddedBy f instances t.group true first) old new
+  pub grew : Grew (IsRowEntry f t.group) old new
   pub adding : IsAdding f t row place 0 new.entries
   pub variables : AreFirstArbiters f t row (part instances new.entries) place vs
 
@@ -207,8 +207,7 @@ pub pair_more : (f : Dqbf) (t : TableState) (row : List Bool) (place v : ℕ) (v
     ArePairsSoFar f t row place vs old log → IsNamedNext f t row place v log new
     → ArePairsSoFar f t row (place + 1) (vs ++ v ∷ []) old new
 pair_more f t row place v vs old log new before next = record {
-  grew = λ start. grown_then (IsAddedBy f instances t.group true start) old log new (before.grew start)
-      (next.grew start);
+  grew = grown_then (IsRowEntry f t.group) old log new before.grew next.grew;
   adding = next.adding;
   variables = next.variables vs before.variables;
 }

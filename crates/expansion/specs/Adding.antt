@@ -5,13 +5,14 @@ use Rattle.std.specs.List.{All, Contains, list_any}
 use Rattle.dq_lits.specs.Literal.{Literal, positive, negative}
 use Rattle.dq_lits.specs.Formula.{Dqbf, Existential}
 use Rattle.dq_lits.specs.Expansion.{universal_literal_true}
-use Rattle.hint_log.specs.Entries.{Entry, Given, ProofLog, name_of}
+use Rattle.hint_log.specs.Entries.{Entry, Named, Given, ProofLog, name_of}
 use Rattle.hint_log.specs.Growth.{Each, Grew}
 use Rattle.hint_log.specs.Naming.{arbiter, rows_of}
-use Rattle.hint_log.specs.ProductiveLog.{fault_groups, fault_room}
+use Rattle.hint_log.specs.ProductiveLog.{MatchesOrigin, IsNotRepeated, fault_groups, fault_room}
 use Rattle.hint_log.specs.declared.names.Name.TheVariants.{Selector, Pair}
+use Rattle.hint_log.specs.declared.origins.Origin.{Origin}
 use Rattle.hint_log.specs.declared.origins.Origin.TheVariants.{Instance}
-use Rattle.log_laws.specs.Engines.{instances, part, IsOwnGiven, IsAddedBy}
+use Rattle.log_laws.specs.Engines.{instances, origin_engine, part, IsInGroup, IsOwnGiven, IsNamedBy}
 use Rattle.expansion.specs.Table.{TableState, AreArbiters, HasInstance, IsOfPairs}
 
 abbrev pub with_row : TableState → List Bool → List (List Bool)
@@ -62,10 +63,24 @@ pub record IsAdding (f : Dqbf) (t : TableState) (row : List Bool) (named given :
   pub faults : length (fault_groups entries) ≤ fault_room entries
   pub own : IsAddingPart f t row named given (part instances entries)
 
+-- an instance that goes into the group, the first of its origin
+pub record IsRowInstance (f : Dqbf) (group : ℕ) (earlier : List Entry) (origin : Origin)
+    (clause : List Literal) : Type 0 where
+  pub own : origin_engine origin ≡ instances
+  pub in_group : IsInGroup group clause
+  pub matches_origin : MatchesOrigin f earlier (Given origin clause)
+  pub not_repeated : IsNotRepeated earlier (Given origin clause)
+
+-- what a row adds to the log: names and instances, and no answer
+abbrev pub IsRowEntry : Dqbf → ℕ → List Entry → Entry → Type 0
+IsRowEntry f group earlier (Named v name) = IsNamedBy f instances earlier v name
+IsRowEntry f group earlier (Given origin clause) = IsRowInstance f group earlier origin clause
+IsRowEntry f group earlier _ = ⊥
+
 -- the variable of the new row's pair of the existential at a place was found or named
 pub record IsNamedNext (f : Dqbf) (t : TableState) (row : List Bool) (place v : ℕ)
     (old new : ProofLog) : Type 0 where
-  pub grew : (first : List Entry) → Grew (IsAddedBy f instances t.group true first) old new
+  pub grew : Grew (IsRowEntry f t.group) old new
   pub adding : IsAdding f t row (place + 1) 0 new.entries
   pub variables : (vs : List ℕ) → AreFirstArbiters f t row (part instances old.entries) place vs
       → AreFirstArbiters f t row (part instances new.entries) (place + 1) (vs ++ v ∷ [])
@@ -78,7 +93,7 @@ AreNewArbiters f t row entries variables =
 -- the instance of a clause was given, or a universal makes the clause true
 pub record IsGivenNext (f : Dqbf) (t : TableState) (row : List Bool) (j : ℕ)
     (old new : ProofLog) : Type 0 where
-  pub grew : (first : List Entry) → Grew (IsAddedBy f instances t.group true first) old new
+  pub grew : Grew (IsRowEntry f t.group) old new
   pub adding : IsAdding f t row (length f.existentials) (j + 1) new.entries
   pub variables : (vs : List ℕ) → AreNewArbiters f t row old.entries vs
       → AreNewArbiters f t row new.entries vs

@@ -6,8 +6,8 @@ ghost use Rattle.dq_lits.specs.Formula.{Dqbf, Existential, IsWellFormed, existen
 ghost use Rattle.dq_lits.specs.Expansion.{agree_on};
 ghost use Rattle.hint_log.specs.Entries.{Entry, name_of};
 ghost use Rattle.hint_log.specs.Growth.{Grew};
-ghost use Rattle.log_laws.specs.Engines.{instances, part, IsAddedBy};
-ghost use Rattle.expansion.specs.Adding.{IsAdding, AreNewArbiters, IsNamedNext};
+ghost use Rattle.log_laws.specs.Engines.{instances, part};
+ghost use Rattle.expansion.specs.Adding.{IsAdding, IsRowEntry, AreNewArbiters, IsNamedNext};
 ghost use Rattle.expansion.specs.FirstRows.{IsFirstRow, AreFirstRows};
 
 use crate::new_rows::NewRow;
@@ -32,9 +32,7 @@ impl Table {
         requires firsts { AreFirstRows new.now.f.now self.now.rows new.now.row.now
             (length new.now.f.now.existentials) firsts.now }
         ensures fit { O.Fits oracle.new log.new }
-        ensures grew { (first : List Entry)
-            → Grew (IsAddedBy new.now.f.now instances self.now.group true first) log.old
-            log.new }
+        ensures grew { Grew (IsRowEntry new.now.f.now self.now.group) log.old log.new }
         ensures adding { OnOk result (IsAdding new.now.f.now self.now new.now.row.now
             (length new.now.f.now.existentials) 0 log.new.entries) }
         ensures variables { IfOk result (λ vs. AreNewArbiters new.now.f.now self.now

@@ -8,8 +8,8 @@ ghost use Rattle.dq_lits.specs.Expansion.{universal_literal_true};
 ghost use Rattle.hint_log.specs.Entries.{Entry, name_of};
 ghost use Rattle.hint_log.specs.Growth.{Grew};
 ghost use Rattle.hint_log.specs.Naming.{AreNamedAs, on_arbiter};
-ghost use Rattle.log_laws.specs.Engines.{instances, part, IsAddedBy};
-ghost use Rattle.expansion.specs.Adding.{IsAdding, AreNewArbiters, IsGivenNext, AreInRange, signed};
+ghost use Rattle.log_laws.specs.Engines.{instances, part};
+ghost use Rattle.expansion.specs.Adding.{IsAdding, IsRowEntry, AreNewArbiters, IsGivenNext, AreInRange, signed};
 ghost use Rattle.expansion.specs.Giving.{IsGivenInstance};
 ghost use Rattle.expansion.specs.Table.{AreArbiters, IsFullTable};
 ghost use Rattle.oracle.specs.Calls.{IsMade};
@@ -114,9 +114,7 @@ impl Table {
         requires variables { AreNewArbiters new.now.f.now self.now new.now.row.now
             log.old.entries new.now.variables.now }
         ensures fit { O.Fits oracle.new log.new }
-        ensures grew { (first : List Entry)
-            → Grew (IsAddedBy new.now.f.now instances self.now.group true first) log.old
-            log.new }
+        ensures grew { Grew (IsRowEntry new.now.f.now self.now.group) log.old log.new }
         ensures adding { OnOk result (IsAdding new.now.f.now self.now new.now.row.now
             (length new.now.f.now.existentials) (length new.now.f.now.matrix)
             log.new.entries) }

@@ -5,7 +5,7 @@ ghost use Rattle.std.specs.List.{AllPairs};
 ghost use Rattle.dq_lits.specs.Literal.{positive};
 ghost use Rattle.dq_lits.specs.Formula.{Dqbf, IsWellFormed};
 ghost use Rattle.dq_lits.specs.Expansion.{IsExpansionUnsatisfiable};
-ghost use Rattle.hint_log.specs.Entries.{Entry, ProofLog, name_of, rounds_of};
+ghost use Rattle.hint_log.specs.Entries.{Entry, Named, with_entry, name_of};
 ghost use Rattle.hint_log.specs.Growth.{Grew};
 ghost use Rattle.hint_log.specs.Naming.{rows_of};
 ghost use Rattle.hint_log.specs.ProductiveLog.{fault_groups, fault_room};
@@ -14,6 +14,7 @@ ghost use Rattle.hint_log.specs.declared.names.Name.TheVariants.{Selector};
 ghost use Rattle.oracle.specs.Calls.{IsMade, IsRefutedUnder};
 ghost use Rattle.oracle.specs.Limits.{IsAtLimit};
 ghost use Rattle.expansion.specs.Table.{PointState, IsTable, IsFullTable, ArePoints, point_bits, IsRefutedBy};
+ghost use Rattle.expansion.specs.Adding.{IsRowEntry};
 ghost use Rattle.expansion.specs.FirstRows.{IsRowIndex, AreFirstRows};
 ghost use Rattle.expansion.specs.Searches.{pair_variable, switches, HoldInstances, IsSearchEntry, AreFound};
 ghost use Rattle.expansion.specs.Silence.{is_silent};
@@ -86,6 +87,9 @@ impl Table {
         ensures grew { (group : ℕ)
             → Grew (IsAddedBy f.now instances group true log.old.entries) log.old log.new }
         ensures unnamed { IfOk result (λ t. name_of log.old.entries t.group ≡ None) }
+        ensures named { IfOk result
+            (λ t. log.new ≡ with_entry log.old (Named t.group (Selector t.group))) }
+        ensures err { OnErr result (log.new ≡ log.old) }
         ensures made { IfOk result (λ t. IsTable f.now t log.new.entries) }
         ensures rows { IfOk result (λ t. t.rows ≡ []) }
     {
@@ -140,6 +144,7 @@ impl Table {
         ensures fit { O.Fits oracle.new log.new }
         ensures grew { (first : List Entry)
             → Grew (IsAddedBy f.now instances self.old.group true first) log.old log.new }
+        ensures added { Grew (IsRowEntry f.now self.old.group) log.old log.new }
         ensures group { self.new.group ≡ self.old.group }
         ensures table { OnOk result (IsFullTable f.now self.new log.new.entries) }
         ensures rows { OnOk result (self.new.rows ≡ self.old.rows ++ row.now ∷ []) }
@@ -167,9 +172,7 @@ impl Table {
         requires firsts { AreFirstRows new.now.f.now self.old.rows new.now.row.now
             (length new.now.f.now.existentials) firsts.now }
         ensures fit { O.Fits oracle.new log.new }
-        ensures grew { (first : List Entry)
-            → Grew (IsAddedBy new.now.f.now instances self.old.group true first) log.old
-            log.new }
+        ensures added { Grew (IsRowEntry new.now.f.now self.old.group) log.old log.new }
         ensures group { self.new.group ≡ self.old.group }
         ensures table { OnOk result (IsFullTable new.now.f.now self.new log.new.entries) }
         ensures rows { OnOk result (self.new.rows ≡ self.old.rows ++ new.now.row.now ∷ []) }

@@ -1,4 +1,4 @@
-use Rattle.std.proofs.Common.{◌≡◌, ◌≢◌, ℕ, ◌<◌, ◌==◌, ◌∙◌, Some, None, length, get_or, sym, refl, arith}
+use Rattle.std.proofs.Common.{◌∙◌, length, sym, refl}
 use Rattle.expansion.proofs.VariableBits.{place_of_variable, place_found, place_missing}
 use Rattle.expansion.proofs.points.place_by_order.Goals as goal
 

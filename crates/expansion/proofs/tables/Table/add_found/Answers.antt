@@ -1,8 +1,7 @@
-use Rattle.std.proofs.Common.{◌≡◌, ◌++◌, ◌∷◌, [], true, ◌∙◌, ap, subst}
-use Rattle.log_laws.specs.Engines.{instances, IsAddedBy}
+use Rattle.std.proofs.Common.{◌≡◌, ◌++◌, ◌∷◌, [], ◌∙◌, ap, subst}
 use Rattle.log_laws.proofs.LargerLogs.{grown_then}
 use Rattle.expansion.specs.Table.{IsFullTable}
-use Rattle.expansion.specs.Adding.{AreNewArbiters}
+use Rattle.expansion.specs.Adding.{IsRowEntry, AreNewArbiters}
 use Rattle.expansion.proofs.AddedRows.{begin, finish_as, on_both}
 use Rattle.expansion.proofs.tables.Table.add_found.Goals as goal
 
@@ -10,17 +9,15 @@ pub row_pairs-requires-clause-adding : goal.row_pairs-requires-clause-adding
 row_pairs-requires-clause-adding g c = begin c.args.new.now.f.now c.args.self.now c.args.new.now.row.now
     c.args.log.now.entries c.requires.table c.requires.rows c.args.new.now.long c.requires.few
 
-pub returns-in_err-give_instances-clause-grew : goal.returns-in_err-give_instances-clause-grew
-returns-in_err-give_instances-clause-grew g c first =
-    grown_then (IsAddedBy c.args.new.now.f.now instances c.args.self.now.group true first) c.args.log.now
-    c.row_pairs.new.log c.give_instances.new.log (c.row_pairs.ensures.grew first)
-    (c.give_instances.ensures.grew first)
+pub returns-in_err-give_instances-clause-added : goal.returns-in_err-give_instances-clause-added
+returns-in_err-give_instances-clause-added g c =
+    grown_then (IsRowEntry c.args.new.now.f.now c.args.self.now.group) c.args.log.now c.row_pairs.new.log
+    c.give_instances.new.log c.row_pairs.ensures.grew c.give_instances.ensures.grew
 
-pub returns-clause-grew : goal.returns-clause-grew
-returns-clause-grew g c first =
-    grown_then (IsAddedBy c.args.new.now.f.now instances c.args.self.now.group true first) c.args.log.now
-    c.row_pairs.new.log c.give_instances.new.log (c.row_pairs.ensures.grew first)
-    (c.give_instances.ensures.grew first)
+pub returns-clause-added : goal.returns-clause-added
+returns-clause-added g c =
+    grown_then (IsRowEntry c.args.new.now.f.now c.args.self.now.group) c.args.log.now c.row_pairs.new.log
+    c.give_instances.new.log c.row_pairs.ensures.grew c.give_instances.ensures.grew
 
 pub returns-clause-table : goal.returns-clause-table
 returns-clause-table g c =

@@ -1,9 +1,8 @@
-use Rattle.std.proofs.Common.{◌≡◌, ◌-◌, ℕ, List, Bool, [], get_or, Some, slice_get, refl, sym, ◌∙◌, ap, subst}
+use Rattle.std.proofs.Common.{◌≡◌, ◌-◌, List, Bool, [], get_or, ◌∙◌, ap, subst}
 use Rattle.std.proofs.lemmas.Option.{get_or_from_slice_get}
 use Rattle.dq_lits.specs.Literal.{variable_of}
-use Rattle.log_laws.specs.Engines.{instances, part}
 use Rattle.expansion.specs.Giving.{IsGivenInstance}
-use Rattle.expansion.specs.Table.{TableState, AreArbiters}
+use Rattle.expansion.specs.Table.{TableState}
 use Rattle.expansion.proofs.GivenInstances.{table_arbiters, on_ok}
 use Rattle.expansion.proofs.tables.Table.give.Goals as goal
 

@@ -1,4 +1,4 @@
-use Rattle.std.proofs.Common.{ℕ, ◌+◌, length, sym, ap, subst}
+use Rattle.std.proofs.Common.{ℕ, ◌+◌, ap, subst}
 use Rattle.dq_lits.specs.Literal.{variable_of}
 use Rattle.expansion.specs.Adding.{with_row, IsGivenNext}
 use Rattle.expansion.specs.Giving.{IsGivenInstance}

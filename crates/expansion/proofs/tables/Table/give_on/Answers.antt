@@ -1,4 +1,4 @@
-use Rattle.std.proofs.Common.{◌≡◌, ◌∷◌, refl, true, false, true≢false, sym, ◌∙◌, ap, subst}
+use Rattle.std.proofs.Common.{◌∷◌, sym, ◌∙◌, ap, subst}
 use Rattle.std.specs.List.{All}
 use Rattle.dq_lits.specs.Literal.{opposite, variable_of}
 use Rattle.hint_log.specs.Entries.{Given, with_entry}

@@ -1,4 +1,4 @@
-use Rattle.std.proofs.Common.{◌≡◌, ◌∙◌, ap, subst, refl, sym, map, length, [], ◌∷◌}
+use Rattle.std.proofs.Common.{◌∙◌, ap, subst, refl, map, length}
 use Rattle.std.proofs.lemmas.List.{length-map}
 use Rattle.dq_lits.specs.Literal.{positive}
 use Rattle.hint_log.specs.Entries.{clause_at}
