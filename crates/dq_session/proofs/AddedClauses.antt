@@ -20,7 +20,7 @@ use Rattle.dq_session.specs.Changing.{ClausesCome}
 use Rattle.dq_session.proofs.GrownBooks.{IsGrown, entries_same}
 use Rattle.dq_session.proofs.Stacks.{old_or_last, get_more, clause_added, same_frame}
 
-numbered_more : (xs ys : List (List Literal)) (j : ℕ) (c : List Literal) → numbered_from_one xs j ≡ Some c →
+pub numbered_more : (xs ys : List (List Literal)) (j : ℕ) (c : List Literal) → numbered_from_one xs j ≡ Some c →
     numbered_from_one (xs ++ ys) j ≡ Some c
 numbered_more xs ys zero c is = cc
 numbered_more xs ys (suc i) c is = get_more xs ys i c is

@@ -7,3 +7,9 @@ mod LiveModels
 mod LiveRefutations
 mod GroupedFrames
 mod MadeGroups
+mod GivenClauses
+mod BooksGiving
+mod BegunBooks
+mod AddedRows
+mod LivePlaces
+mod Searches

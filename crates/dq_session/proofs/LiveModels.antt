@@ -25,7 +25,8 @@ use Rattle.expansion.proofs.FoundPoints.{by_names, row_bits}
 use Rattle.expansion.proofs.TableAnswers.{found_rows}
 use Rattle.dq_session.specs.Books.{BookState, all_of, live_of, now_of, number_at, frame_at, HasGroup, number_of, IsOpen, IsBook}
 use Rattle.dq_session.specs.Changes.{open_groups}
-use Rattle.dq_session.specs.Searching.{IsWhole, SearchesLeaveBooks, FoundPointsAreLive}
+use Rattle.dq_session.specs.Giving.{IsWhole}
+use Rattle.dq_session.specs.Searching.{SearchesLeaveBooks, FoundPointsAreLive}
 use Rattle.dq_session.specs.declared.live.Live.{Live}
 use Rattle.dq_session.proofs.StandingBooks.{IsForeign, books_stand}
 use Rattle.dq_session.proofs.Stacks.{live_at, contains_at}
@@ -59,7 +60,7 @@ kept_by h (z ∷ xs) x y (zero, below, is) passes =
 kept_by h (z ∷ xs) x y (suc k, below, is) passes =
     behind (h z) (filter_map h xs) y (kept_by h xs x y (k, omega (arith, below), is) passes)
 
-left_of : {X : Type 0} (xs ys : List X) (i : ℕ) (x : X) → i < length xs → slice_get (xs ++ ys) i ≡ Some x →
+pub left_of : {X : Type 0} (xs ys : List X) (i : ℕ) (x : X) → i < length xs → slice_get (xs ++ ys) i ≡ Some x →
     slice_get xs i ≡ Some x
 left_of [] ys i x below is = absurd (omega (arith, below))
 left_of (z ∷ xs) ys zero x below is = is

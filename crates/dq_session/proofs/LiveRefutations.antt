@@ -5,7 +5,7 @@ use Rattle.std.proofs.lemmas.Bool.{cases_lt}
 use Rattle.std.proofs.lemmas.List.{length-append, length-replicate, get_or_append_left, get_or_default, get_or-append-add}
 use Rattle.std.proofs.lemmas.Option.{slice_get-get_or}
 use Rattle.dq_lits.specs.Literal.{Literal, positive, variable_of}
-use Rattle.dq_lits.specs.Formula.{declared}
+use Rattle.dq_lits.specs.Formula.{declared, IsWellFormed}
 use Rattle.dq_lits.specs.Expansion.{IsExpansionUnsatisfiable}
 use Rattle.hint_log.specs.Deciding.{ReachesGiven, IsInstance, AreNegatedSelectors}
 use Rattle.hint_log.specs.declared.names.Name.TheVariants.{Selector}
@@ -46,7 +46,7 @@ group_open b es book g has =
     (p.0.number, (p.0, p.1, refl), slice_get-get_or b.groups p.0.number None known ∙ ap Some p.2)
 
 -- the frame of an added clause
-frame_of_added : (b : BookState) (place : ℕ) → frame_of (frames_of b) (number_at b place) ≡ frame_at b place
+pub frame_of_added : (b : BookState) (place : ℕ) → frame_of (frames_of b) (number_at b place) ≡ frame_at b place
 frame_of_added b place =
     let zeros : List ℕ = replicate (length b.file.matrix) 0 in
     let long = length-replicate {A = ℕ} (length b.file.matrix) 0 in
@@ -167,34 +167,44 @@ contains_map (g ∷ gs) v (suc k, below, is) =
     let less = r.1.1 in
     (r.0, (suc n, omega (arith, less), r.1.2), r.2)
 
+-- the file's clauses are well-formed alone
+pub file_formed : (b : BookState) → IsWellFormed (all_of b) → IsWellFormed b.file
+file_formed b formed = record {
+  prefix = record {
+    in_range = formed.prefix.in_range;
+    declared_once = formed.prefix.declared_once;
+    sees_universals = formed.prefix.sees_universals;
+  };
+  bound = λ k d below.
+      let long = length-append b.file.matrix b.added in
+      subst (All (λ l. Contains (declared b.file) (variable_of l)))
+      (get_or_append_left b.file.matrix b.added d k below)
+      (formed.bound k d (omega (arith, below, long)));
+}
+
+pub full_table : (b : BookState) (es : List Entry) → IsFullBook b es → IsFullTable b.file b.table es
+full_table b es full = record {
+  formula = file_formed b full.book.well_formed;
+  table = full.book.table;
+  rows = full.rows;
+}
+
+pub open_made : (b : BookState) (es : List Entry) → IsBook b es → All (IsMade es) (open_groups b)
+open_made b es book k d below =
+    let g = slice_index_or (open_groups b) k d in
+    let at = group_open b es book g (k, below, get_or_default (open_groups b) k g d below) in
+    book.groups.made at.0 g at.2
+
 module _ (implied : LinesAreImplied) (b : BookState) (old new : ProofLog) (id : ℕ) (full : IsFullBook b old.entries)
     (searched_new : IsSearched new.entries) (r : IsRefutedUnder old new (switches b.table (open_groups b)) id) where
   book : IsBook b old.entries
   book = full.book
 
   table : IsFullTable b.file b.table old.entries
-  table = record {
-    formula = record {
-      prefix = record {
-        in_range = book.well_formed.prefix.in_range;
-        declared_once = book.well_formed.prefix.declared_once;
-        sees_universals = book.well_formed.prefix.sees_universals;
-      };
-      bound = λ k d below.
-          let long = length-append b.file.matrix b.added in
-          subst (All (λ l. Contains (declared b.file) (variable_of l)))
-          (get_or_append_left b.file.matrix b.added d k below)
-          (book.well_formed.bound k d (omega (arith, below, long)));
-    };
-    table = book.table;
-    rows = full.rows;
-  }
+  table = full_table b old.entries full
 
   made : All (IsMade old.entries) (open_groups b)
-  made k d below =
-      let g = slice_index_or (open_groups b) k d in
-      let at = group_open b old.entries book g (k, below, get_or_default (open_groups b) k g d below) in
-      book.groups.made at.0 g at.2
+  made = open_made b old.entries book
 
   abbrev gs : List ℕ
   gs = b.table.group ∷ map (λ g. variable_of g.selector) (open_groups b)

@@ -26,7 +26,7 @@ set_or_old (x ∷ xs) (suc i) (suc k) y z is = further (set_or_old xs i k y z is
     further (inl (here, same)) = inl (ap suc here, same)
     further (inr old) = inr old
 
-set_here : {X : Type 0} (xs : List X) (i : ℕ) (x y : X) → slice_get xs i ≡ Some x →
+pub set_here : {X : Type 0} (xs : List X) (i : ℕ) (x y : X) → slice_get xs i ≡ Some x →
     slice_get (set xs i y) i ≡ Some y
 set_here [] i x y is = cc
 set_here (z ∷ xs) zero x y is = refl
@@ -56,10 +56,10 @@ module _ (b : BookState) (frame : ℕ) (g : Group) (es : List Entry) (one : 1 �
   apart_from F h has same =
       let there : slice_get b.groups frame ≡ Some (Some h) = ap (slice_get b.groups) (sym same) ∙ has in cc
 
-  kept : (F : ℕ) (h : Group) → HasGroup b F h → HasGroup after F h
+  pub kept : (F : ℕ) (h : Group) → HasGroup b F h → HasGroup after F h
   kept F h has = set_other b.groups frame F (Some g) (Some h) (apart_from F h has) has
 
-  new_or_old : (F : ℕ) (h : Group) → HasGroup after F h → ((F ≡ frame) × (g ≡ h)) ⊎ HasGroup b F h
+  pub new_or_old : (F : ℕ) (h : Group) → HasGroup after F h → ((F ≡ frame) × (g ≡ h)) ⊎ HasGroup b F h
   new_or_old F h has = by (set_or_old b.groups frame F (Some g) (Some h) has)
     where
       by : ((F ≡ frame) × (Some g ≡ Some h)) ⊎ HasGroup b F h → ((F ≡ frame) × (g ≡ h)) ⊎ HasGroup b F h

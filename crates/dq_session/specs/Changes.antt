@@ -1,11 +1,31 @@
 -- How a book changes.
-use Rattle.std.specs.Prelude.{ℕ, ◌+◌, ◌-◌, List, [], ◌∷◌, ◌++◌, take, length, None, slice_index_or}
-use Rattle.std.specs.List.{filter_map}
+use Rattle.std.specs.Prelude.{◌≡◌, ℕ, ◌+◌, ◌-◌, ◌≤◌, List, [], ◌∷◌, ◌++◌, map, take, length, None, slice_index_or}
+use Rattle.std.specs.List.{filter_map, range_with_len}
 use Rattle.std.specs.Option.{option_map}
 use Rattle.dq_lits.specs.Literal.{Literal}
+use Rattle.dq_lits.specs.Formula.{Dqbf}
 use Rattle.oracle.specs.declared.groups.Group.{Group}
-use Rattle.dq_session.specs.Books.{BookState, number_of}
+use Rattle.expansion.specs.Table.{TableState}
+use Rattle.dq_session.specs.Books.{BookState, HasGroup, number_of}
+use Rattle.dq_session.specs.declared.live.Live.{Live}
 use Rattle.dq_session.specs.declared.live.OpenFrame.{OpenFrame}
+
+-- a clause of the file
+abbrev pub file_live : ℕ → Live
+file_live j = record { clause = j; frame = 0 }
+
+-- without frames: the file's clauses are live
+abbrev pub begun : Dqbf → TableState → BookState
+begun f table = record {
+  file = f;
+  table = table;
+  added = [];
+  frames = [];
+  given = [];
+  groups = None ∷ [];
+  open_frames = [];
+  live = map file_live (range_with_len 1 (length f.matrix));
+}
 
 -- the frame that was opened last
 abbrev pub newest : BookState → OpenFrame
@@ -44,3 +64,10 @@ groups_of b = b.table.group ∷ filter_map (option_map number_of) b.groups
 -- the groups of the open frames, of those that have one
 abbrev pub open_groups : BookState → List Group
 open_groups b = filter_map (λ o. slice_index_or b.groups o.number None) b.open_frames
+
+-- instances were given, and groups made for them
+pub record IsCaughtUp (old new : BookState) : Type 0 where
+  pub same : new ≡ record old { given = new.given; groups = new.groups }
+  pub more : (place : ℕ) → slice_index_or old.given place 0 ≤ slice_index_or new.given place 0
+  pub many_groups : length new.groups ≡ length old.groups
+  pub made : (frame : ℕ) (g : Group) → HasGroup old frame g → HasGroup new frame g

@@ -1,6 +1,5 @@
 -- What a search over the live instances of a book shows.
-use Rattle.std.specs.Prelude.{◌≡◌, ℕ, ◌<◌, Bool, List, length}
-use Rattle.std.specs.List.{Contains}
+use Rattle.std.specs.Prelude.{ℕ, Bool, List}
 use Rattle.dq_lits.specs.Expansion.{IsExpansionUnsatisfiable}
 use Rattle.hint_log.specs.Conditions.{AreLogged}
 use Rattle.hint_log.specs.Entries.{Entry, ProofLog}
@@ -9,15 +8,10 @@ use Rattle.oracle.specs.Calls.{IsRefutedUnder}
 use Rattle.oracle.specs.Searched.{IsSearched}
 use Rattle.expansion.specs.Searches.{switches, IsSearchEntry, AreFound}
 use Rattle.expansion.specs.Table.{PointState, ArePoints, point_bits}
-use Rattle.dq_session.specs.Books.{BookState, now_of, IsBook, IsFullBook, live_of, number_at, given_at}
+use Rattle.dq_session.specs.Books.{BookState, now_of, IsBook, IsFullBook}
 use Rattle.dq_session.specs.Changes.{open_groups}
+use Rattle.dq_session.specs.Giving.{IsWhole}
 use Rattle.dq_session.specs.Shown.{IsRefutedLive}
-
--- the live clauses that were added have their instances under all rows
-abbrev pub IsWhole : BookState → Type 0
-IsWhole b =
-    (place : ℕ) → place < length b.added → Contains (live_of b) (number_at b place)
-    → given_at b place ≡ length b.table.rows
 
 abbrev pub SearchesLeaveBooks : Type 0
 SearchesLeaveBooks =

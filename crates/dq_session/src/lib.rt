@@ -8,5 +8,6 @@ pub use books::Book;
 pub use live::Live;
 
 mod books;
+mod giving;
 pub mod laws;
 mod live;

@@ -1,0 +1,93 @@
+-- A search over the groups of open frames.
+use Rattle.std.proofs.Common.{◌≡◌, ℕ, zero, suc, ◌+◌, ◌<◌, Bool, true≢false, List, [], ◌∷◌, ◌++◌, take, length, get_or, slice_index_or, Option, Some, None, sym, ◌∙◌, ap, subst, arith}
+use Rattle.std.specs.List.{filter_map, cons_option}
+use Rattle.dq_lits.specs.Formula.{Dqbf}
+use Rattle.hint_log.specs.Deciding.{IsInstance}
+use Rattle.hint_log.specs.Entries.{Entry, Named, Given, Learned, Answer, Round, Begun, ProofLog}
+use Rattle.hint_log.specs.Growth.{Grew}
+use Rattle.hint_log.specs.declared.origins.Origin.{Origin}
+use Rattle.hint_log.specs.declared.origins.Origin.TheVariants.{Instance, Gate, Fault, Copy, Link, TermGate, Differ}
+use Rattle.log_laws.specs.Engines.{instances}
+use Rattle.log_laws.specs.Sessions.{IsAddedLive}
+use Rattle.log_laws.proofs.Kept.{each_of_weaker}
+use Rattle.oracle.specs.declared.groups.Group.{Group}
+use Rattle.expansion.specs.Searches.{HoldInstances, IsSearchEntry}
+use Rattle.expansion.specs.Table.{TableState}
+use Rattle.dq_session.specs.Books.{BookState, HasGroup, IsBookEntry, IsBook, IsFullBook}
+use Rattle.dq_session.specs.Changes.{open_groups}
+use Rattle.dq_session.specs.declared.live.OpenFrame.{OpenFrame}
+use Rattle.dq_session.proofs.GroupedFrames.{each_contained}
+use Rattle.dq_session.proofs.LiveRefutations.{group_open}
+
+search_added : (all : Dqbf) (groups : List ℕ) (silent : Bool) (first earlier : List Entry) (e : Entry) →
+    IsSearchEntry silent earlier e → IsAddedLive all instances groups silent first earlier e
+search_added all groups silent first earlier (Named v n) h = absurd h
+search_added all groups silent first earlier (Given o c) h = absurd h
+search_added all groups silent first earlier (Learned c hs) h = tt
+search_added all groups silent first earlier (Answer c hs) h = λ quiet. absurd (true≢false (sym quiet ∙ h))
+search_added all groups silent first earlier (Round r values j) h = absurd h
+search_added all groups silent first earlier (Begun live) h = absurd h
+
+-- what a search adds is right in a session, over whatever clauses and groups
+pub search_grew : (all : Dqbf) (groups : List ℕ) (silent : Bool) (first : List Entry) (old new : ProofLog) →
+    Grew (IsSearchEntry silent) old new → Grew (IsAddedLive all instances groups silent first) old new
+search_grew all groups silent first old new g = record {
+  more = g.more;
+  grown = g.grown;
+  each = each_of_weaker (IsSearchEntry silent) (IsAddedLive all instances groups silent first)
+      (search_added all groups silent first) g.more old.entries g.each;
+  limit = g.limit;
+}
+
+module _ (b : BookState) (es : List Entry) (book : IsBook b es) where
+  pub open_hold : HoldInstances (open_groups b) es
+  open_hold g origin c has given inside =
+      let at = group_open b es book g has in
+      let entry = each_contained (IsBookEntry b) es (Given origin c) book.givens given in
+      by origin at.0 at.2 entry.0 entry.1
+    where
+      by : (o : Origin) (frame : ℕ) → HasGroup b frame g → (earlier : List Entry) →
+          IsBookEntry b earlier (Given o c) → IsInstance o
+      by (Instance k j) frame mine earlier entry = tt
+      by (Gate v i) frame mine earlier entry = absurd (entry frame g mine inside)
+      by (Fault j i leaf) frame mine earlier entry = absurd (entry frame g mine inside)
+      by (Copy side j) frame mine earlier entry = absurd (entry frame g mine inside)
+      by (Link v i) frame mine earlier entry = absurd (entry frame g mine inside)
+      by (TermGate v i) frame mine earlier entry = absurd (entry frame g mine inside)
+      by (Differ y leaf i) frame mine earlier entry = absurd (entry frame g mine inside)
+
+-- the groups of the first so many frames
+pub group_more : (groups : List (Option Group)) (frames : List OpenFrame) (i : ℕ) (o : OpenFrame) → i < length frames
+    → o ≡ get_or frames i o →
+    filter_map (λ (f : OpenFrame). slice_index_or groups f.number None) (take (i + 1) frames)
+    ≡ filter_map (λ (f : OpenFrame). slice_index_or groups f.number None) (take i frames)
+    ++ cons_option (slice_index_or groups o.number None) []
+group_more groups [] i o below is = absurd (omega (arith, below))
+group_more groups (x ∷ frames) zero o below is =
+    ap (λ (f : OpenFrame). cons_option (slice_index_or groups f.number None) []) (sym is)
+group_more groups (x ∷ frames) (suc i) o below is =
+    let rest = group_more groups frames i o (omega (arith, below)) is in
+    let plus_one : suc i + 1 ≡ suc (i + 1) = omega arith in
+    ap (λ n. filter_map (λ (f : OpenFrame). slice_index_or groups f.number None) (take n (x ∷ frames))) plus_one
+    ∙ by (slice_index_or groups x.number None) rest
+  where
+    by : (h : Option Group)
+        → filter_map (λ (f : OpenFrame). slice_index_or groups f.number None) (take (i + 1) frames)
+        ≡ filter_map (λ (f : OpenFrame). slice_index_or groups f.number None) (take i frames)
+        ++ cons_option (slice_index_or groups o.number None) []
+        → cons_option h (filter_map (λ (f : OpenFrame). slice_index_or groups f.number None) (take (i + 1) frames))
+        ≡ cons_option h (filter_map (λ (f : OpenFrame). slice_index_or groups f.number None) (take i frames))
+        ++ cons_option (slice_index_or groups o.number None) []
+    by None rest = rest
+    by (Some g) rest = ap (λ gs. g ∷ gs) rest
+
+-- what the table's search says, by the book's parts
+pub by_parts : (P : TableState → List Group → Type 0) (x b : BookState) → x ≡ b → (gs : List Group) →
+    gs ≡ open_groups b → P x.table gs → P b.table (open_groups b)
+by_parts P x b view gs same holds =
+    subst (P b.table) same (subst (λ (y : BookState). P y.table gs) view holds)
+
+pub same_book : (x b : BookState) → x ≡ b → (t : TableState) → t ≡ x.table → (es : List Entry) → IsFullBook b es →
+    IsFullBook (record x { table = t }) es
+same_book x b view t same es full =
+    subst (λ s. IsFullBook (record x { table = s }) es) (sym same) (subst (λ y. IsFullBook y es) (sym view) full)

@@ -1,0 +1,35 @@
+use Rattle.std.proofs.Common.{subst}
+use Rattle.dq_lits.specs.Expansion.{IsExpansionUnsatisfiable}
+use Rattle.log_laws.specs.Engines.{instances}
+use Rattle.log_laws.specs.Sessions.{IsAddedLive}
+use Rattle.log_laws.proofs.LargerLogs.{grown_then}
+use Rattle.expansion.specs.Silence.{is_silent}
+use Rattle.expansion.specs.Table.{ArePoints, point_bits}
+use Rattle.dq_session.specs.Books.{BookState, all_of, now_of}
+use Rattle.dq_session.specs.Changes.{groups_of}
+use Rattle.dq_session.proofs.BooksGiving.{shown_before}
+use Rattle.dq_session.proofs.books.Book.solve.Goals as goal
+
+pub returns-clause-grew : goal.returns-clause-grew
+returns-clause-grew g c =
+    let b = c.args.self.now in
+    let log = c.args.log.now in
+    let silent = is_silent c.search.result in
+    grown_then (IsAddedLive (all_of b) instances (groups_of b) silent log.entries) log c.give_live.new.log
+    c.search.new.log (c.give_live.ensures.giving.grew silent)
+    (c.search.ensures.grew (all_of b) (groups_of b) log.entries)
+
+pub returns-clause-model : goal.returns-clause-model
+returns-clause-model g c points e =
+    subst (λ (x : BookState). ArePoints (now_of x) x.table.rows (point_bits points))
+    c.give_live.ensures.giving.caught_up.same (c.search.ensures.model points e)
+
+pub returns-clause-refuted : goal.returns-clause-refuted
+returns-clause-refuted g c id e =
+    subst (λ (x : BookState). IsExpansionUnsatisfiable (now_of x) x.table.rows)
+    c.give_live.ensures.giving.caught_up.same (c.search.ensures.refuted id e)
+
+pub returns-clause-shown : goal.returns-clause-shown
+returns-clause-shown g c id e =
+    shown_before c.args.self.now c.give_live.new.self c.search.new.log.entries id
+    c.give_live.ensures.giving.caught_up (c.search.ensures.shown id e)
