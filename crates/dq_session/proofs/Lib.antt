@@ -13,3 +13,4 @@ mod BegunBooks
 mod AddedRows
 mod LivePlaces
 mod Searches
+mod LiveFormulas

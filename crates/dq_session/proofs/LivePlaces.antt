@@ -24,7 +24,7 @@ module _ (b : BookState) (s : IsStack b) where
       by (inr (place, number, below, frame, is_open)) = omega (arith, number)
 
   -- a place is below its clause's number
-  number_above : (i : ℕ) (l : Live) → slice_get b.live i ≡ Some l → i + 1 ≤ l.clause
+  pub number_above : (i : ℕ) (l : Live) → slice_get b.live i ≡ Some l → i + 1 ≤ l.clause
   number_above zero l is = let low = from_one l (contains_at b.live zero l is) in omega (arith, low)
   number_above (suc i) l is =
       let below = slice_get_within b.live (suc i) l is in

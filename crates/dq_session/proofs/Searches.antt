@@ -1,5 +1,5 @@
 -- A search over the groups of open frames.
-use Rattle.std.proofs.Common.{◌≡◌, ℕ, zero, suc, ◌+◌, ◌<◌, Bool, true≢false, List, [], ◌∷◌, ◌++◌, take, length, get_or, slice_index_or, Option, Some, None, sym, ◌∙◌, ap, subst, arith}
+use Rattle.std.proofs.Common.{◌≡◌, ℕ, zero, suc, ◌+◌, Bool, true≢false, List, [], ◌∷◌, ◌++◌, take, slice_get, Option, Some, None, sym, ◌∙◌, ap, subst, arith}
 use Rattle.std.specs.List.{filter_map, cons_option}
 use Rattle.dq_lits.specs.Formula.{Dqbf}
 use Rattle.hint_log.specs.Deciding.{IsInstance}
@@ -15,7 +15,6 @@ use Rattle.expansion.specs.Searches.{HoldInstances, IsSearchEntry}
 use Rattle.expansion.specs.Table.{TableState}
 use Rattle.dq_session.specs.Books.{BookState, HasGroup, IsBookEntry, IsBook, IsFullBook}
 use Rattle.dq_session.specs.Changes.{open_groups}
-use Rattle.dq_session.specs.declared.live.OpenFrame.{OpenFrame}
 use Rattle.dq_session.proofs.GroupedFrames.{each_contained}
 use Rattle.dq_session.proofs.LiveRefutations.{group_open}
 
@@ -56,30 +55,19 @@ module _ (b : BookState) (es : List Entry) (book : IsBook b es) where
       by (TermGate v i) frame mine earlier entry = absurd (entry frame g mine inside)
       by (Differ y leaf i) frame mine earlier entry = absurd (entry frame g mine inside)
 
--- the groups of the first so many frames
-pub group_more : (groups : List (Option Group)) (frames : List OpenFrame) (i : ℕ) (o : OpenFrame) → i < length frames
-    → o ≡ get_or frames i o →
-    filter_map (λ (f : OpenFrame). slice_index_or groups f.number None) (take (i + 1) frames)
-    ≡ filter_map (λ (f : OpenFrame). slice_index_or groups f.number None) (take i frames)
-    ++ cons_option (slice_index_or groups o.number None) []
-group_more groups [] i o below is = absurd (omega (arith, below))
-group_more groups (x ∷ frames) zero o below is =
-    ap (λ (f : OpenFrame). cons_option (slice_index_or groups f.number None) []) (sym is)
-group_more groups (x ∷ frames) (suc i) o below is =
-    let rest = group_more groups frames i o (omega (arith, below)) is in
+-- what passes of the first so many elements
+pub taken_more : {X Y : Type 0} (h : X → Option Y) (xs : List X) (i : ℕ) (x : X) → slice_get xs i ≡ Some x →
+    filter_map h (take (i + 1) xs) ≡ filter_map h (take i xs) ++ cons_option (h x) []
+taken_more h [] i x is = cc
+taken_more h (z ∷ xs) zero x is = let here : z ≡ x = cc in ap (λ y. cons_option (h y) []) here
+taken_more {Y = Y} h (z ∷ xs) (suc i) x is =
     let plus_one : suc i + 1 ≡ suc (i + 1) = omega arith in
-    ap (λ n. filter_map (λ (f : OpenFrame). slice_index_or groups f.number None) (take n (x ∷ frames))) plus_one
-    ∙ by (slice_index_or groups x.number None) rest
+    ap (λ n. filter_map h (take n (z ∷ xs))) plus_one ∙ by (h z) (taken_more h xs i x is)
   where
-    by : (h : Option Group)
-        → filter_map (λ (f : OpenFrame). slice_index_or groups f.number None) (take (i + 1) frames)
-        ≡ filter_map (λ (f : OpenFrame). slice_index_or groups f.number None) (take i frames)
-        ++ cons_option (slice_index_or groups o.number None) []
-        → cons_option h (filter_map (λ (f : OpenFrame). slice_index_or groups f.number None) (take (i + 1) frames))
-        ≡ cons_option h (filter_map (λ (f : OpenFrame). slice_index_or groups f.number None) (take i frames))
-        ++ cons_option (slice_index_or groups o.number None) []
+    by : (o : Option Y) → filter_map h (take (i + 1) xs) ≡ filter_map h (take i xs) ++ cons_option (h x) []
+        → cons_option o (filter_map h (take (i + 1) xs)) ≡ cons_option o (filter_map h (take i xs)) ++ cons_option (h x) []
     by None rest = rest
-    by (Some g) rest = ap (λ gs. g ∷ gs) rest
+    by (Some y) rest = ap (λ ys. y ∷ ys) rest
 
 -- what the table's search says, by the book's parts
 pub by_parts : (P : TableState → List Group → Type 0) (x b : BookState) → x ≡ b → (gs : List Group) →

@@ -8,6 +8,7 @@ pub use books::Book;
 pub use live::Live;
 
 mod books;
+mod formulas;
 mod giving;
 pub mod laws;
 mod live;

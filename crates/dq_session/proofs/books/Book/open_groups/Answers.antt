@@ -1,10 +1,10 @@
-use Rattle.std.proofs.Common.{◌≡◌, ◌<◌, [], ◌++◌, length, get_or, slice_get, slice_index_or, None, Some, sym, ◌∙◌, ap, subst, arith}
+use Rattle.std.proofs.Common.{◌≡◌, [], ◌++◌, length, get_or, slice_get, slice_index_or, None, Some, sym, ◌∙◌, ap, subst, arith}
 use Rattle.std.specs.List.{filter_map, cons_option}
-use Rattle.std.proofs.lemmas.List.{get_or_default, take_all}
+use Rattle.std.proofs.lemmas.List.{take_all}
 use Rattle.std.proofs.lemmas.Option.{slice_get-get_or}
 use Rattle.dq_session.specs.Books.{BookState}
 use Rattle.dq_session.specs.declared.live.OpenFrame.{OpenFrame}
-use Rattle.dq_session.proofs.Searches.{group_more}
+use Rattle.dq_session.proofs.Searches.{taken_more}
 use Rattle.dq_session.proofs.books.Book.open_groups.Goals as goal
 
 pub push_group-requires : goal.push_group-requires
@@ -24,11 +24,10 @@ loop-frame-preserved c =
     let none : OpenFrame = record { number = 0; start = 0 } in
     let o = get_or items i none in
     let are = c.deref-frame-items.ensures.value ∙ ap (λ (x : BookState). x.open_frames) c.self.view_is in
-    let below = subst (λ xs. i < length xs) are c.loop-frame-test.true in
+    let there = subst (λ xs. slice_get xs i ≡ Some o) are (slice_get-get_or items i none c.loop-frame-test.true) in
     c.in_ok-push_group.ensures
     ∙ ap (λ gs. gs ++ cons_option (slice_index_or b.groups o.number None) []) c.loop-frame.invariant
-    ∙ sym (group_more b.groups b.open_frames i o below
-    (get_or_default items i none o c.loop-frame-test.true ∙ ap (λ xs. get_or xs i o) are))
+    ∙ sym (taken_more (λ (f : OpenFrame). slice_index_or b.groups f.number None) b.open_frames i o there)
 
 pub returns : goal.returns
 returns c =
