@@ -18,7 +18,7 @@ use Rattle.hint_log.specs.declared.origins.Origin.{Origin}
 use Rattle.hint_log.specs.declared.origins.Origin.TheVariants.{TermGate}
 use Rattle.log_laws.proofs.Kept.{NamesStay, name_stays_by, name_cases}
 use Rattle.oracle.specs.Calls.{IsMade}
-use Rattle.padoa_definitions.specs.Copies.{IsPadoa, IsGroupGiven, group_variable}
+use Rattle.padoa_definitions.specs.Copies.{IsPadoa, IsWhole, IsGroupGiven, group_variable}
 use Rattle.padoa_definitions.specs.Growing.{Gives, HasFewFaults}
 use Rattle.padoa_definitions.specs.declared.padoa.Padoa.{Padoa}
 use Rattle.padoa_definitions.proofs.GivenClauses.{fresh_group}
@@ -138,12 +138,13 @@ no_gates t old new logged none unnamed made is empty = record {
 -- a group more beside the copies
 pub beside_group : (f : Dqbf) (p : Padoa) (t : Terms) (old new : List Entry) →
     name_of old (group_variable t.group) ≡ None →
-    new ≡ Named (group_variable t.group) (Selector (group_variable t.group)) ∷ old → AreTerms t new → IsPadoa f p old →
+    new ≡ Named (group_variable t.group) (Selector (group_variable t.group)) ∷ old → AreTerms t new → IsPadoa f p old → IsWhole f p →
     HasFewFaults old → ReadDeclaredCopies f new → AreBeside f p t new
-beside_group f p t old new unnamed is terms padoa few sides = record {
+beside_group f p t old new unnamed is terms padoa whole few sides = record {
   sides = sides;
+  whole = whole;
   padoa = subst (IsPadoa f p) (sym is) (padoa_stays f (λ mine. Unit {0}) old (Named g (Selector g) ∷ old)
-      (keeps_entry f (Named g (Selector g)) old (name_stays_by old g (Selector g) unnamed) (λ test mine. tt)) p
+      (keeps_entry f (Named g (Selector g)) old (name_stays_by old g (Selector g) unnamed) (λ test mine. tt) (λ side mine. tt)) p
       (λ k d lt. tt) padoa);
   terms = terms;
   apart = λ k d lt same. (

@@ -21,11 +21,12 @@ use Rattle.hint_log.specs.declared.origins.Origin.{Origin}
 use Rattle.hint_log.specs.declared.origins.Origin.TheVariants.{TermGate, Differ}
 use Rattle.log_laws.specs.Circuits.{leaf_value}
 use Rattle.log_laws.proofs.Found.{named_variable}
-use Rattle.padoa_definitions.specs.Copies.{group_variable, IsPadoa}
+use Rattle.padoa_definitions.specs.Copies.{group_variable, IsPadoa, IsWhole}
+use Rattle.oracle.specs.declared.groups.Group.{Group}
 use Rattle.padoa_definitions.specs.Dividing.{values_at}
 use Rattle.padoa_definitions.specs.declared.padoa.Padoa.{Padoa}
 use Rattle.padoa_definitions.proofs.DividedAnswers.{as_positive}
-use Rattle.padoa_definitions.proofs.FreePairs.{given_id, copied_value, matrix_holds}
+use Rattle.padoa_definitions.proofs.FreePairs.{bits_of_values, given_id, copied_value, matrix_holds}
 use Rattle.padoa_definitions.proofs.SearchAnswers.{found_declared, found_variable}
 use Rattle.definition_proofs.specs.Differing.{part_number, differing, IsDifference, HasDifference}
 use Rattle.definition_proofs.specs.Leaves.{StandsFor, input, gate, not_input, not_gate, IsLeafFor}
@@ -79,8 +80,8 @@ same_breaks values copy (LeafLiteral l) same parts =
 module _ (f : Dqbf) (graph : AigGraph) (p : Padoa) (terms : Terms) (es : List Entry) (values : Assignment)
     (formula : IsWellFormed f)
     (unique : (v w : ℕ) (name : Name) → name_of es v ≡ Some name → name_of es w ≡ Some name → v ≡ w)
-    (padoa : IsPadoa f p es) (known : AreTerms terms es) (live : MakesTrue values (clause_at es))
-    (first_on : values (group_variable p.first.group) ≡ true)
+    (padoa : IsPadoa f p es) (whole : IsWhole f p) (known : AreTerms terms es) (live : MakesTrue values (clause_at es))
+    (first_on : (g : Group) → Contains p.first.groups.items g → values (group_variable g) ≡ true)
     (terms_on : values (group_variable terms.group) ≡ true) where
   abbrev row : List Bool
   row = values_at values p.first.universals.items
@@ -95,10 +96,12 @@ module _ (f : Dqbf) (graph : AigGraph) (p : Padoa) (terms : Terms) (es : List En
   inputs i = m (input_variable f i)
 
   holds_there : MatrixHolds f m
-  holds_there = matrix_holds f es values formula unique live 1 p.first padoa.first row bits refl refl first_on
+  holds_there = matrix_holds f es values formula unique live 1 p.copied.items p.first padoa.first padoa.covered row row
+      bits (bits_of_values values p.copied.items p.first.universals.items) refl first_on
 
   copied : (v w : ℕ) → Contains (declared f) v → name_of es w ≡ Some (CopyOf 1 v) → m v ≡ values w
-  copied = copied_value f es values formula unique live 1 p.first padoa.first row bits refl refl first_on
+  copied v w among = copied_value f es values formula unique live 1 p.copied.items p.first padoa.first padoa.covered row
+      row bits (bits_of_values values p.copied.items p.first.universals.items) refl first_on v w among (whole v)
 
   -- a clause that was given to a group that is active
   given_true : (o : Origin) (group : ℕ) (rest : List Literal) → values group ≡ true →

@@ -1,8 +1,8 @@
 -- A definition that is proved: its leaf, then the clauses of the difference, then the search.
-use Rattle.std.proofs.Common.{◌≡◌, ◌≢◌, ◌⊎◌, ℕ, zero, suc, true, false, inl, inr, List, [], ◌∷◌, map, None, Some, refl, sym, ◌∙◌, subst, arith}
+use Rattle.std.proofs.Common.{◌≡◌, ◌≢◌, ◌⊎◌, ℕ, zero, suc, true, false, inl, inr, List, [], ◌∷◌, ◌++◌, map, get_or, None, Some, refl, sym, ◌∙◌, subst, arith}
 use Rattle.std.specs.List.{All, Contains}
 use Rattle.std.proofs.lemmas.Bool.{eqb-true}
-use Rattle.std.proofs.lemmas.List.Elements.{All-head, All-tail, All-cons, All-nil}
+use Rattle.std.proofs.lemmas.List.Elements.{All-contains, Contains-get_or, Contains-append_cases, Contains-append_left, Contains-append_right}
 use Rattle.dq_lits.specs.Literal.{Literal, negative, variable_of, literal_true}
 use Rattle.dq_lits.specs.Formula.{Dqbf, IsWellFormed, declared}
 use Rattle.aig_graph.specs.declared.nodes.Node.{Node}
@@ -22,11 +22,11 @@ use Rattle.log_laws.proofs.Found.{named_variable}
 use Rattle.log_laws.proofs.Kept.{NamesStay}
 use Rattle.oracle.specs.Calls.{IsMade}
 use Rattle.oracle.specs.declared.groups.Group.{Group}
-use Rattle.padoa_definitions.specs.Copies.{group_variable, groups_of, is_copy_of, IsGroupGiven, IsPadoa}
+use Rattle.padoa_definitions.specs.Copies.{group_variable, groups_of, is_copy_of, IsSideGiven, IsPadoa}
 use Rattle.padoa_definitions.specs.Growing.{HasFewFaults}
 use Rattle.padoa_definitions.specs.declared.padoa.Padoa.{Padoa}
 use Rattle.padoa_definitions.proofs.DividedAnswers.{as_positive}
-use Rattle.padoa_definitions.proofs.FreePairs.{positive_true}
+use Rattle.padoa_definitions.proofs.FreePairs.{all_there, groups_on, positive_true}
 use Rattle.padoa_definitions.proofs.SearchAnswers.{padoa_learned, found_declared, found_variable}
 use Rattle.definition_proofs.specs.Differing.{IsDifferenceOf, IsDifference, IsExistential, AreUndiffered, HasDifference, HasDifferenceAlone, LeavesTerms}
 use Rattle.definition_proofs.specs.Leaves.{IsLeafFor}
@@ -121,11 +121,10 @@ difference_is_right y output (Link v i) h = h
 difference_is_right y output (TermGate v i) h = absurd h
 difference_is_right y output (Differ x out part) h = h
 
-one_of_three : (a b c g : Group) → Contains (a ∷ b ∷ c ∷ []) g → (a ≡ g) ⊎ ((b ≡ g) ⊎ (c ≡ g))
-one_of_three a b c g (zero, lt, at) = inl at
-one_of_three a b c g (suc zero, lt, at) = inr (inl at)
-one_of_three a b c g (suc (suc zero), lt, at) = inr (inr at)
-one_of_three a b c g (suc (suc (suc k)), lt, at) = absurd (omega (arith, lt))
+one_of_two : (a b g : Group) → Contains (a ∷ b ∷ []) g → (a ≡ g) ⊎ (b ≡ g)
+one_of_two a b g (zero, lt, at) = inl at
+one_of_two a b g (suc zero, lt, at) = inr at
+one_of_two a b g (suc (suc k), lt, at) = absurd (omega (arith, lt))
 
 -- behind the leaf
 module _ (f : Dqbf) (graph : AigGraph) (p : Padoa) (first t : Terms) (y : ℕ) (node : Node) (copy : Literal)
@@ -183,52 +182,62 @@ module _ (f : Dqbf) (graph : AigGraph) (p : Padoa) (first t : Terms) (y : ℕ) (
     known_there = terms_stay t log.entries given.entries
         (leaves (group_variable t.group) (Selector (group_variable t.group)) known.made.named) known
 
-    own : (g : Group) → (p.first.group ≡ g) ⊎ ((t.group ≡ g) ⊎ (group ≡ g)) → (origin : Origin) (rest : List Literal) →
+    abbrev active : List Group
+    active = p.first.groups.items ++ t.group ∷ group ∷ []
+
+    which : (g : Group) → Contains active g → Contains p.first.groups.items g ⊎ ((t.group ≡ g) ⊎ (group ≡ g))
+    which g among = elim (Contains-append_cases p.first.groups.items (t.group ∷ group ∷ []) g among)
+        [ inl first ↦ inl first | inr behind ↦ inr (one_of_two t.group group g behind) ]
+
+    own : (g : Group) → Contains p.first.groups.items g ⊎ ((t.group ≡ g) ⊎ (group ≡ g)) → (origin : Origin)
+        (rest : List Literal) →
         Contains given.entries (Given origin (negative (group_variable g) ∷ rest)) → IsDefinitionGiven y output origin
-    own g (inl is) origin rest inside =
-        let e = Given origin (negative (group_variable p.first.group) ∷ rest) in
-        let one = each_one (IsGroupGiven f (is_copy_of 1) (group_variable p.first.group)) given.entries e
-        padoa_there.first.own
-        (subst (λ h. Contains given.entries (Given origin (negative (group_variable h) ∷ rest))) (sym is) inside) in
+    own g (inl among) origin rest inside =
+        let e = Given origin (negative (group_variable g) ∷ rest) in
+        let one = each_one (IsSideGiven f 1 (group_variable g)) given.entries e (padoa_there.first.own g among) inside in
         copy_is_right y output origin (one.1 (rest, refl)).0
     own g (inr (inl is)) origin rest inside = gate_is_right y output origin (known_there.own origin rest
         (subst (λ h. Contains given.entries (Given origin (negative (group_variable h) ∷ rest))) (sym is) inside))
     own g (inr (inr is)) origin rest inside = difference_is_right y output origin (alone origin rest
         (subst (λ h. Contains given.entries (Given origin (negative (group_variable h) ∷ rest))) (sym is) inside))
 
-    pub premises : ArePremises given.entries y output (p.first.group ∷ t.group ∷ group ∷ [])
+    made_of : (g : Group) → Contains p.first.groups.items g ⊎ ((t.group ≡ g) ⊎ (group ≡ g)) → IsMade given.entries g
+    made_of g (inl among) = All-contains (IsMade given.entries) p.first.groups.items g padoa_there.first.made among
+    made_of g (inr (inl is)) = subst (IsMade given.entries) is known_there.made
+    made_of g (inr (inr is)) = subst (IsMade given.entries) is made
+
+    pub premises : ArePremises given.entries y output (p.first.groups.items ++ t.group ∷ group ∷ [])
     premises = record {
-      made = All-cons (IsMade given.entries) p.first.group (t.group ∷ group ∷ []) padoa_there.first.made
-          (All-cons (IsMade given.entries) t.group (group ∷ []) known_there.made
-          (All-cons (IsMade given.entries) group [] made (All-nil (IsMade given.entries))));
+      made = λ k d lt. made_of (get_or active k d) (which (get_or active k d) (Contains-get_or active k d lt));
       leaf_is = term_leaf_stays log.entries given.entries stay output (leaf_on_term f graph log.entries node output
           leaf_is);
-      own = λ g among. own g (one_of_three p.first.group t.group group g among);
+      own = λ g among. own g (which g among);
     }
 
-    pub no_model : HaveNoModel given (p.first.group ∷ t.group ∷ group ∷ [])
+    pub no_model : HaveNoModel given (p.first.groups.items ++ t.group ∷ group ∷ [])
     no_model new values logged learned model =
         let P : Literal → Type 0 = λ l. literal_true values l ≡ true in
         let same = learned_same given new learned in
         let later : NamesStay given.entries new.entries = λ v n is. same.names v ∙ is in
-        let all = model.assumptions_true in
-        let behind = All-tail P p.first.group.selector (t.group.selector ∷ group.selector ∷ []) all in
+        let on = (all_there P active [] model.assumptions_true).0 in
+        let firsts = p.first.groups.items in
+        let rest = t.group ∷ group ∷ [] in
         no_values f graph p t new.entries values formula (λ v w name a b. names_unique new.entries v w name logged a b)
-        (padoa_learned f p given new learned padoa_there)
+        (padoa_learned f p given new learned padoa_there) beside.whole
         (terms_stay t given.entries new.entries (same_leaves (group_variable t.group) given.entries new.entries same)
         known_there)
         model.clauses
-        (positive_true values p.first.group.selector padoa_there.first.made.positive
-        (All-head P p.first.group.selector (t.group.selector ∷ group.selector ∷ []) all))
+        (groups_on given.entries values firsts padoa_there.first.made (λ g among.
+        on g (Contains-append_left firsts rest g among)))
         (positive_true values t.group.selector known_there.made.positive
-        (All-head P t.group.selector (group.selector ∷ []) behind))
+        (on t.group (Contains-append_right firsts rest t.group (0, omega arith, refl))))
         d (group_variable group) node
         (difference_stays log.entries new.entries (λ v n is. later v n (stay v n is)) d difference)
         (λ second rest is. same.entries _ (has second rest is))
         (leaf_stays f graph log.entries new.entries (λ v n is. later v n (stay v n is)) node output leaf_is)
         defined
-        (positive_true values group.selector made.positive (All-head P group.selector []
-        (All-tail P t.group.selector (group.selector ∷ []) behind)))
+        (positive_true values group.selector made.positive
+        (on group (Contains-append_right firsts rest group (1, omega arith, refl))))
 
     -- behind the search
     module _ (last : ProofLog) (shown : (h : Dqbf) (standing : ℕ) → GrewByProof h standing y given last)
@@ -241,6 +250,7 @@ module _ (f : Dqbf) (graph : AigGraph) (p : Padoa) (first t : Terms) (y : ℕ) (
       pub still_beside : AreBeside f p t last.entries
       still_beside = record {
         padoa = padoa_still f (group_variable first.group) y old last whole p beside.apart beside.padoa;
+        whole = beside.whole;
         terms = terms_stay t given.entries last.entries
             (same_leaves (group_variable t.group) given.entries last.entries same) known_there;
         sides = same_sides f given.entries last.entries same (leaves_sides f (group_variable t.group) log.entries

@@ -6,17 +6,18 @@ use Rattle.aig_graph.specs.Graph.{AigGraph}
 use Rattle.aig_graph.specs.declared.nodes.Node.{Node}
 use Rattle.defining_nodes.specs.Definitions.{IsDefinition}
 use Rattle.hint_log.specs.Entries.{Entry}
-use Rattle.padoa_definitions.specs.Copies.{IsPadoa, group_variable, groups_of}
+use Rattle.padoa_definitions.specs.Copies.{IsPadoa, IsWhole, group_variable, groups_of}
 use Rattle.padoa_definitions.specs.Growing.{HasFewFaults}
 use Rattle.padoa_definitions.specs.declared.padoa.Padoa.{Padoa}
 use Rattle.definition_proofs.specs.Shown.{ReadDeclaredCopies}
 use Rattle.definition_proofs.specs.Terms.{AreTerms}
 use Rattle.definition_proofs.specs.declared.terms.Terms.{Terms}
 
--- the copies of the matrix and the gates over the first one, which read copies of declared
--- variables, stand in the log, in groups of their own, with room for clauses more
+-- the copies of the matrix, with copies of all variables, and the gates over the first one, which read
+-- copies of declared variables, stand in the log, in groups of their own, with room for clauses more
 pub record AreBeside (f : Dqbf) (p : Padoa) (t : Terms) (entries : List Entry) : Type 0 where
   pub padoa : IsPadoa f p entries
+  pub whole : IsWhole f p
   pub terms : AreTerms t entries
   pub sides : ReadDeclaredCopies f entries
   pub apart : All (λ g. g ≢ group_variable t.group) (groups_of p)

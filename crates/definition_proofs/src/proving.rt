@@ -19,7 +19,7 @@ ghost use Rattle.definition_proofs.specs.Shown.{IsLeafDeclared, IsShownDefinitio
 
 use crate::differing::Difference;
 use crate::leaves::Inputs;
-use crate::searching::Proved;
+use crate::searching::{Proved, joined};
 use crate::terms::Terms;
 use aig_graph::{Graph, Node};
 use dq_formula::Formula;
@@ -77,7 +77,7 @@ impl Terms {
             output: leaf,
         };
         let group = difference.give(oracle, log)?;
-        let active = [padoa.first.group, self.group, group];
+        let active = joined(self.alloc, &padoa.first.groups, &[self.group, group])?;
         let proved = difference.refute(oracle, &active, log)?;
         Ok(proved)
     }

@@ -1,6 +1,6 @@
 //! The search that proves a definition.
 
-ghost use Rattle.std.specs.Prelude.{◌≡◌, ℕ, IfOk, IsErrOf};
+ghost use Rattle.std.specs.Prelude.{◌≡◌, ◌++◌, ℕ, IfOk, IsErrOf};
 ghost use Rattle.dq_lits.specs.Formula.{Dqbf};
 ghost use Rattle.oracle.specs.Limits.{IsAtSomeLimit};
 ghost use Rattle.padoa_definitions.specs.Growing.{HasSameGivens};
@@ -9,9 +9,11 @@ ghost use Rattle.definition_proofs.specs.Shown.{IsShownDefinition};
 ghost use Rattle.definition_proofs.specs.Terms.{GrewByProof};
 
 use crate::differing::Difference;
+use dq_lits::Memory;
 use dq_lits::laws::derived_line_is_implied;
 use hint_log::{Leaf, Log, Stop};
 use oracle::{Answer, Group, Oracle};
+use std::alloc::Global;
 
 /// What a definition was proved by: the id of the log's answer, and the output over first copies
 /// that the existential's copy equals.
@@ -19,6 +21,20 @@ use oracle::{Answer, Group, Oracle};
 pub struct Proved {
     pub id: u64,
     pub leaf: Leaf,
+}
+
+/// These groups, and then those.
+pub(crate) fn joined(
+    alloc: Global,
+    groups: &[Group],
+    more: &[Group],
+) -> Result<Vec<Group>, Memory>
+    ensures { IfOk result (λ joined. joined.items ≡ groups.now ++ more.now) }
+{
+    let mut joined = Vec::new(alloc);
+    joined.extend_from_slice(groups)?;
+    joined.extend_from_slice(more)?;
+    Ok(joined)
 }
 
 impl Difference {

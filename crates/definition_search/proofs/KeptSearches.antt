@@ -15,7 +15,7 @@ use Rattle.hint_log.specs.declared.origins.Origin.TheVariants.{Differ}
 use Rattle.log_laws.specs.Engines.{copies, IsAddedBy, EnginesLeaveRest}
 use Rattle.oracle.specs.Searched.{IsSearched}
 use Rattle.definition_order.proofs.Declared.{known_at, one_place, variable}
-use Rattle.padoa_definitions.specs.Copies.{IsPadoa, groups_of}
+use Rattle.padoa_definitions.specs.Copies.{IsPadoa, IsWhole, groups_of}
 use Rattle.padoa_definitions.specs.Growing.{HasFewFaults, HasSameGivens}
 use Rattle.padoa_definitions.specs.Copies.{group_variable}
 use Rattle.definition_proofs.specs.Proving.{AreBeside}
@@ -87,6 +87,7 @@ asked_search law f s t place old new padoa_is terms_is order_is inputs_are grew 
   productive = still_productive law f 0 old new grew searched before.productive;
   beside = subst (λ u. AreBeside f t.padoa u new.entries) (sym terms_is) (record {
     padoa = padoa;
+    whole = subst (IsWhole f) (sym padoa_is) before.beside.whole;
     terms = terms_stay s.terms old.entries new.entries (same_leaves (group_variable s.terms.group) old.entries
         new.entries same) before.beside.terms;
     sides = same_sides f old.entries new.entries same before.beside.sides;

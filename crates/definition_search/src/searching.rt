@@ -61,7 +61,7 @@ impl Search {
     {
         engines_leave_the_rest();
         let gates = Gates::new(alloc, f)?;
-        let padoa = Padoa::new(alloc, oracle, f, log)?;
+        let padoa = Padoa::whole(alloc, oracle, f, log)?;
         let terms = Terms::new(alloc, oracle, log)?;
         Ok(Search {
             alloc,

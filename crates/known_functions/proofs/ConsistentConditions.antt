@@ -11,7 +11,7 @@ use Rattle.dq_formula.specs.Prefix.{IsLawful, is_declared, existential_variables
 use Rattle.dq_formula.proofs.Places.{contains-has}
 use Rattle.known_functions.specs.Guessing.{AreConditions}
 use Rattle.definition_order.proofs.Declared.{is_variable}
-use Rattle.padoa_definitions.proofs.AskedLiterals.{universal_differs}
+use Rattle.padoa_definitions.proofs.KeptPlaces.{universal_differs}
 use Rattle.padoa_definitions.proofs.DividedAnswers.{holds_cases, held_in_either}
 
 opposite-opposite : (l : Literal) → opposite (opposite l) ≡ l

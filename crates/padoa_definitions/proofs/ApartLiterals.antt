@@ -2,7 +2,7 @@
 use Rattle.std.proofs.Common.{◌≡◌, ◌≢◌, ℕ, Bool, true, false, true≢false, not, inl, inr, List, [], ◌∷◌, ◌++◌, Some, IsSome, refl, sym, ◌∙◌, ap, subst}
 use Rattle.std.specs.List.{All, list_any}
 use Rattle.std.proofs.lemmas.Bool.{cases_Bool, or_left, or_right}
-use Rattle.std.proofs.lemmas.List.Elements.{All-cons}
+use Rattle.std.proofs.lemmas.List.Elements.{All-head, All-tail, All-cons}
 use Rattle.dq_lits.specs.Derivation.{holds, is_tautology}
 use Rattle.dq_lits.specs.Literal.{Literal, positive, negative, variable_of, is_negative, opposite}
 use Rattle.hint_log.specs.Conditions.{AreNamed}
@@ -10,7 +10,8 @@ use Rattle.hint_log.specs.Entries.{Entry, name_of}
 use Rattle.hint_log.specs.Naming.{is_selector_name}
 use Rattle.hint_log.specs.declared.names.Name.TheVariants.{Copy as CopyOf}
 use Rattle.interpolants.proofs.Truth.{any_witness, variable_of-opposite}
-use Rattle.oracle.specs.Calls.{IsPlain}
+use Rattle.oracle.specs.Calls.{IsMade, IsPlain, assumed}
+use Rattle.oracle.specs.declared.groups.Group.{Group}
 use Rattle.padoa_definitions.specs.Dividing.{asked_of, IsAsked, IsCopyLiteral}
 use Rattle.padoa_definitions.specs.declared.asking.Asked.{Asked}
 use Rattle.padoa_definitions.proofs.AskedLiterals.{all_of_held, no_negation}
@@ -113,12 +114,13 @@ module _ (es : List Entry) (v : ℕ) (conditions : List Literal) (asked : Asked)
       ])
 
   -- the assumptions of the first copy have names
-  pub first_named : (selector : Literal) → IsSome (name_of es (variable_of selector)) →
-      AreNamed es (selector ∷ asked.first.items)
-  first_named selector named =
-      All-cons (λ l. IsSome (name_of es (variable_of l))) selector asked.first.items named
-      (all_of_held (λ l. IsSome (name_of es (variable_of l))) asked.first.items
-      (λ l h. (plain_copy 1 firsts l (first_copy l h)).named))
+  pub first_named : (groups : List Group) → All (IsMade es) groups → AreNamed es (assumed groups asked.first.items)
+  first_named [] made = all_of_held (λ l. IsSome (name_of es (variable_of l))) asked.first.items
+      (λ l h. (plain_copy 1 firsts l (first_copy l h)).named)
+  first_named (g ∷ groups) made =
+      All-cons (λ l. IsSome (name_of es (variable_of l))) g.selector (assumed groups asked.first.items)
+      (subst IsSome (sym (All-head (IsMade es) g groups made).named) refl)
+      (first_named groups (All-tail (IsMade es) g groups made))
 
   module _ (consistent : is_tautology conditions ≡ false) (others : All (λ l. variable_of l ≢ v) conditions) where
     no_pair : (l : Literal) → holds (asked.first.items ++ asked.second.items) l ≡ true →

@@ -1,16 +1,14 @@
 -- What is asked at a row: an existential's copy with the other bit, and the copies of what it sees with the row's bits.
-use Rattle.std.proofs.Common.{◌≡◌, ◌≢◌, ◌⊎◌, ℕ, zero, suc, ◌+◌, ◌<◌, Bool, true, false, true≢false, not, cond, inl, inr, List, [], ◌∷◌, map, length, get_or, slice_get, Option, Some, refl, sym, ◌∙◌, ap, arith}
-use Rattle.std.specs.List.{All, AllPairs, Contains}
+use Rattle.std.proofs.Common.{◌≡◌, ◌≢◌, ◌⊎◌, ℕ, zero, suc, Bool, true, false, true≢false, not, inl, inr, List, [], ◌∷◌, map, get_or, slice_get, Option, Some, refl, sym, ◌∙◌, ap, arith}
+use Rattle.std.specs.List.{All, Contains}
 use Rattle.std.specs.Option.{option_map}
-use Rattle.std.proofs.lemmas.Bool.{cases_Bool, eq-eqb, ne_eqb, or_right}
-use Rattle.std.proofs.lemmas.List.{length-append, get_or_append_left, get_or-append-add}
+use Rattle.std.proofs.lemmas.Bool.{cases_Bool, or_right}
 use Rattle.std.proofs.lemmas.List.Elements.{All-cons, All-nil}
-use Rattle.std.proofs.lemmas.Option.{slice_get_within, slice_get-get_or, get_or_from_slice_get}
+use Rattle.std.proofs.lemmas.Option.{slice_get_within, slice_get-get_or}
 use Rattle.dq_lits.specs.Derivation.{holds, is_tautology}
 use Rattle.dq_lits.specs.Expansion.{row_assignment}
 use Rattle.dq_lits.specs.Formula.{Dqbf, Existential, HasLawfulPrefix}
 use Rattle.dq_lits.specs.Literal.{Literal, positive, negative, variable_of, is_negative, opposite, same_literal}
-use Rattle.dq_lits.specs.Row.{assignment_of}
 use Rattle.dq_formula.specs.Prefix.{existential_variables}
 use Rattle.hint_log.specs.Entries.{Entry, name_of}
 use Rattle.hint_log.specs.Naming.{NamedLiteral, named_literal, name_literal}
@@ -18,12 +16,12 @@ use Rattle.hint_log.specs.declared.names.Name.{Name}
 use Rattle.hint_log.specs.declared.names.Name.TheVariants.{Copy as CopyOf}
 use Rattle.interpolants.proofs.Truth.{any_witness, holds_here}
 use Rattle.log_laws.proofs.Found.{named_variable}
-use Rattle.padoa_definitions.specs.Copies.{AreCopiesOf}
+use Rattle.padoa_definitions.specs.Copies.{AreCopies, IsCopied, is_copied_at}
 use Rattle.padoa_definitions.specs.Ruling.{AreFirstCopies, signed_literal, row_copies}
-use Rattle.padoa_definitions.specs.Seeing.{ArePlaces}
+use Rattle.padoa_definitions.specs.Seeing.{AreCopiedPlaces}
 use Rattle.padoa_definitions.specs.declared.copies.MatrixCopy.{MatrixCopy}
-use Rattle.padoa_definitions.proofs.CopiedVariables.{copy_at}
-use Rattle.padoa_definitions.proofs.DeclaredPlaces.{copies_long}
+use Rattle.padoa_definitions.proofs.DeclaredPlaces.{at_first}
+use Rattle.padoa_definitions.proofs.KeptPlaces.{bit_at, copied_there}
 use Rattle.padoa_definitions.proofs.DividedAnswers.{holds_cases}
 use Rattle.padoa_definitions.proofs.GivenClauses.{universals_distinct}
 
@@ -40,7 +38,12 @@ pub record AreAsked (f : Dqbf) (es : List Entry) (y : Existential) (row : List B
   pub each : (l : Literal) → holds lits l ≡ true → IsOwn es y bit l ⊎
       ((x : ℕ) × Contains y.sees x × IsAtRow f es row x l)
   pub own : (l : Literal) × (holds lits l ≡ true) × IsOwn es y bit l
-  pub seen : (x : ℕ) → Contains y.sees x → (l : Literal) × (holds lits l ≡ true) × IsAtRow f es row x l
+
+-- what it sees is asked for where it has a copy
+abbrev pub IsSeenAsked : Dqbf → List Entry → List Bool → List Bool → List Literal → ℕ → Type 0
+IsSeenAsked f es flags row lits x =
+    (IsCopied f flags x × ((l : Literal) × (holds lits l ≡ true) × IsAtRow f es row x l))
+    ⊎ ((p : ℕ) × (slice_get f.universals p ≡ Some x) × (is_copied_at flags p ≡ false))
 
 -- the negation of a named literal
 pub opposite_named : (es : List Entry) (l : Literal) (n : Name) (b : Bool) →
@@ -91,46 +94,20 @@ mapped_held g (q ∷ ps) p (zero, lt, at) = ap (λ k. holds (map g (q ∷ ps)) (
 mapped_held g (q ∷ ps) p (suc k, lt, at) = or_right (same_literal (g p) (g q)) (holds (map g ps) (g p))
     (mapped_held g ps p (k, omega (arith, lt), at))
 
--- the bit of a universal, by its place
-bit_at : (us : List ℕ) (row : List Bool) (p x : ℕ) → AllPairs (λ v w. v ≢ w) us → slice_get us p ≡ Some x →
-    assignment_of us row x ≡ get_or row p false
-bit_at [] row p x distinct at = cc
-bit_at (u ∷ us) [] p x distinct at = refl
-bit_at (u ∷ us) (b ∷ bits) zero x distinct at = let same : u ≡ x = cc in
-    ap (λ t. cond t b (assignment_of us bits x)) (eq-eqb u x same)
-bit_at (u ∷ us) (b ∷ bits) (suc p) x distinct at =
-    let lt = slice_get_within us p x at in
-    let differ : u ≢ x = λ same. distinct 0 (suc p) x (omega arith) (omega (arith, lt))
-    (same ∙ sym (get_or_from_slice_get us p x x at)) in
-    ap (λ t. cond t b (assignment_of us bits x)) (ne_eqb u x differ) ∙ bit_at us bits p x
-    (λ i j e less within. distinct (suc i) (suc j) e (omega (arith, less)) (omega (arith, within))) at
-
--- a universal is no existential
-pub universal_differs : (f : Dqbf) → HasLawfulPrefix f → (x v : ℕ) → Contains f.universals x →
-    Contains (existential_variables f) v → x ≢ v
-universal_differs f lawful x v (i, lt, at) (k, less, there) same =
-    let us = f.universals in
-    let ys = existential_variables f in
-    let long = length-append us ys in
-    lawful.declared_once i (length us + k) x (omega (arith, lt)) (omega (arith, less, long))
-    (get_or_append_left us ys x i lt ∙ at ∙ same ∙ sym there ∙ other us ys k less ∙ sym (get_or-append-add us ys k x))
-  where
-    other : (us ys : List ℕ) (k : ℕ) → k < length ys → get_or ys k v ≡ get_or ys k x
-    other us ys k below = sym (get_or_from_slice_get ys k (get_or ys k v) x (slice_get-get_or ys k v below))
-
 module _ (f : Dqbf) (lawful : HasLawfulPrefix f) (es : List Entry) (y : Existential) (copy : MatrixCopy)
-    (row : List Bool) (bit : Bool) (places : List ℕ) (own : Literal)
-    (copies : AreCopiesOf es 1 f.universals copy.universals.items)
-    (are : ArePlaces f.universals (Contains y.sees) places) (own_is : IsOwn es y bit own) where
+    (flags row : List Bool) (bit : Bool) (places : List ℕ) (own : Literal)
+    (copies : AreCopies es 1 flags f.universals copy.universals.items)
+    (are : AreCopiedPlaces f.universals (Contains y.sees) flags places) (own_is : IsOwn es y bit own) where
   abbrev at_place : ℕ → Literal
   at_place p = signed_literal (get_or copy.universals.items p (positive 0)) (get_or row p false)
 
-  place_name : (p x : ℕ) → slice_get f.universals p ≡ Some x → IsAtRow f es row x (at_place p)
-  place_name p x at =
+  place_name : (p x : ℕ) → is_copied_at flags p ≡ true → slice_get f.universals p ≡ Some x →
+      IsAtRow f es row x (at_place p)
+  place_name p x flag at =
       let lits = copy.universals.items in
       let lt = slice_get_within f.universals p x at in
-      let long = copies_long es 1 f.universals lits copies in
-      let is = copy_at es 1 f.universals lits p x (get_or lits p (positive 0)) copies at
+      let long = copies.long in
+      let is = copies.named p x (get_or lits p (positive 0)) flag at
       (slice_get-get_or lits p (positive 0) (omega (arith, lt, long))) in
       signed_name es (get_or lits p (positive 0)) (CopyOf 1 x) (get_or row p false) is
       ∙ ap (λ b. Some (named_literal (CopyOf 1 x) (not b))) (sym
@@ -143,17 +120,29 @@ module _ (f : Dqbf) (lawful : HasLawfulPrefix f) (es : List Entry) (y : Existent
       | inr later ↦ (
           let r = held_mapped at_place places l later in
           let x = are.sound r.0 r.1 in
-          inr (x.0, x.2, ap (name_literal es) r.2 ∙ place_name r.0 x.0 x.1))
+          inr (x.0, x.2, ap (name_literal es) r.2 ∙ place_name r.0 x.0 (are.copied r.0 r.1) x.1))
     ];
     own = (own, holds_here own (map at_place places), own_is);
-    seen = λ x among.
-        let p = are.complete x among in (
-          at_place p.0,
-          or_right (same_literal (at_place p.0) own) (holds (map at_place places) (at_place p.0))
-              (mapped_held at_place places p.0 p.2),
-          place_name p.0 x p.1,
-        );
   }
+
+  pub seen_asked : (x : ℕ) → Contains y.sees x → IsSeenAsked f es flags row (own ∷ row_copies copy row places) x
+  seen_asked x among =
+      let p = are.complete x among in
+      elim p.2 [
+        | inl inside ↦ (
+            let flag = are.copied p.0 inside in
+            inl (
+              copied_there f flags p.0 x lawful.declared_once
+                  (at_first f.universals (existential_variables f) p.0 x p.1) flag,
+              (
+                at_place p.0,
+                or_right (same_literal (at_place p.0) own) (holds (map at_place places) (at_place p.0))
+                    (mapped_held at_place places p.0 inside),
+                place_name p.0 x flag p.1,
+              ),
+            ))
+        | inr none ↦ inr (p.0, p.1, none)
+      ]
 
 same_names : (o : Option NamedLiteral) (a b : ℕ) (s t : Bool) → o ≡ Some (named_literal (CopyOf 1 a) s) →
     o ≡ Some (named_literal (CopyOf 1 b) t) → (a ≡ b) × (s ≡ t)

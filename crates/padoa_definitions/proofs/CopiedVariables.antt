@@ -1,9 +1,9 @@
 -- Copies of variables, as they are named and looked up.
-use Rattle.std.proofs.Common.{◌≡◌, ◌≢◌, ℕ, zero, suc, ◌+◌, ◌<◌, ◌≤◌, ◌==◌, true, false, inl, inr, List, [], ◌∷◌, ◌++◌, map, length, take, get_or, slice_get, position, Option, Some, None, refl, sym, ◌∙◌, ap, subst, arith}
+use Rattle.std.proofs.Common.{◌≡◌, ◌≢◌, ◌⊎◌, ℕ, zero, suc, ◌+◌, ◌<◌, ◌≤◌, ◌==◌, Bool, true, false, true≢false, inl, inr, List, [], ◌∷◌, ◌++◌, map, length, take, get_or, slice_get, position, Option, Some, None, refl, sym, ◌∙◌, ap, subst, arith}
 use Rattle.std.specs.List.{AllPairs, Contains}
 use Rattle.std.specs.Option.{option_map}
 use Rattle.std.proofs.lemmas.Bool.{eqb-true, eq-eqb, cond-true}
-use Rattle.std.proofs.lemmas.List.{take_all, take_more, map-append}
+use Rattle.std.proofs.lemmas.List.{take_more, map-append, length-append}
 use Rattle.std.proofs.lemmas.List.Quantifiers.{position-Some}
 use Rattle.std.proofs.lemmas.Option.{slice_get-get_or, get_or_from_slice_get}
 use Rattle.dq_lits.specs.Literal.{Literal, positive, negative, variable_of, is_negative, opposite}
@@ -15,10 +15,10 @@ use Rattle.hint_log.specs.declared.names.Name.{Name}
 use Rattle.hint_log.specs.declared.names.Name.TheVariants.{Copy as CopyOf}
 use Rattle.log_laws.specs.Engines.{copies, IsAddedBy}
 use Rattle.log_laws.proofs.LargerLogs.{grown_by, grown_by_none, grown_then}
-use Rattle.log_laws.proofs.Kept.{named_stay, name_stays_by, name_cases}
-use Rattle.padoa_definitions.specs.Copies.{AreCopiesOf, copy_names}
-use Rattle.padoa_definitions.specs.Growing.{AreUncopied, AreNamedSoFar}
-use Rattle.padoa_definitions.proofs.KeptCopies.{contains_cases}
+use Rattle.log_laws.proofs.Kept.{name_stays_by, name_cases}
+use Rattle.padoa_definitions.specs.Copies.{AreCopies, AreCopiesOf, copy_names, is_copied_at}
+use Rattle.padoa_definitions.specs.Growing.{AreUncopied, AreNamedSoFar, IsNamedIfWanted}
+use Rattle.padoa_definitions.proofs.KeptCopies.{contains_cases, one_stays}
 
 pub element_at : {X : Type 0} (xs : List X) (i : ℕ) (x : X) → slice_get xs i ≡ Some x → Contains xs x
 element_at [] i x h = cc
@@ -129,35 +129,83 @@ copied_last es side originals lits l are =
     subst (AreNamedAs es lits) (sym (map-append (λ k. named_literal (CopyOf side (variable_of k)) (is_negative k))
     originals (l ∷ []))) are
 
-pub none_named : (side : ℕ) (vars : List ℕ) (log : ProofLog) (lits : List Literal) → lits ≡ [] →
-    AreUncopied side vars log.entries → AreNamedSoFar side vars 0 log log lits
-none_named side vars log lits empty fresh = record {
+pub none_named : (side : ℕ) (flags : List Bool) (vars : List ℕ) (log : ProofLog) (lits : List Literal) → lits ≡ [] →
+    AreUncopied side vars log.entries → AreNamedSoFar side flags vars 0 log log lits
+none_named side flags vars log lits empty fresh = record {
   grew = λ f standing start names. grown_by_none (IsAddedBy f copies standing true start) log log refl;
-  named = ap (map (name_literal log.entries)) empty;
+  within = omega arith;
+  long = ap length empty;
+  named = λ k v l flag v_at l_at. (let none : None ≡ Some l = sym (ap (λ ls. slice_get ls k) empty) ∙ l_at in cc);
   only = record { names = λ v n is. inl is; givens = λ o c inside. inside };
   fresh = λ v k x le at is. fresh v x (element_at vars k x at) is;
 }
 
+-- the last element of a longer list, or one of those before
+pub pushed_cases : {X : Type 0} (xs : List X) (y z : X) (k : ℕ) → slice_get (xs ++ y ∷ []) k ≡ Some z →
+    ((k ≡ length xs) × (y ≡ z)) ⊎ (slice_get xs k ≡ Some z)
+pushed_cases [] y z zero at = inl (refl, cc)
+pushed_cases [] y z (suc k) at = cc
+pushed_cases (x ∷ xs) y z zero at = inr at
+pushed_cases (x ∷ xs) y z (suc k) at = elim (pushed_cases xs y z k at)
+    [ inl last ↦ inl (ap suc last.0, last.1) | inr early ↦ inr early ]
+
+-- where all have copies
+pub by_places : (es : List Entry) (side : ℕ) (xs : List ℕ) (lits : List Literal) → length lits ≡ length xs →
+    ((k v : ℕ) (l : Literal) → slice_get xs k ≡ Some v → slice_get lits k ≡ Some l →
+    name_literal es l ≡ Some (named_literal (CopyOf side v) false)) → AreCopiesOf es side xs lits
+by_places es side [] [] long each = refl
+by_places es side [] (l ∷ lits) long each = cc
+by_places es side (x ∷ xs) [] long each = cc
+by_places es side (x ∷ xs) (l ∷ lits) long each =
+    let fewer : length lits ≡ length xs = omega (arith, long) in
+    ap (λ o. o ∷ map (name_literal es) lits) (each 0 x l refl refl)
+    ∙ ap (λ os. Some (named_literal (CopyOf side x) false) ∷ os)
+    (by_places es side xs lits fewer (λ k v m v_at m_at. each (suc k) v m v_at m_at))
+
+pub unflagged : (es : List Entry) (side : ℕ) (xs : List ℕ) (lits : List Literal) → AreCopies es side [] xs lits →
+    AreCopiesOf es side xs lits
+unflagged es side xs lits are = by_places es side xs lits are.long (λ k v l v_at l_at. are.named k v l refl v_at l_at)
+
 copy_same : (s x y : ℕ) → CopyOf s x ≡ CopyOf s y → x ≡ y
 copy_same s x y e = cc
 
-pub named_more : (side : ℕ) (vars : List ℕ) (i x v : ℕ) (old log new : ProofLog) (lits more : List Literal) →
-    AllPairs (λ a b. a ≢ b) vars → AreNamedSoFar side vars i old log lits →
-    i < length vars → get_or vars i x ≡ x → name_of log.entries v ≡ None →
-    new ≡ with_entry log (Named v (CopyOf side x)) → more ≡ lits ++ positive v ∷ [] →
-    AreNamedSoFar side vars (i + 1) old new more
-named_more side vars i x v old log new lits more distinct before lt at unnamed is pushed =
-    subst (λ (l : ProofLog). AreNamedSoFar side vars (i + 1) old l more) (sym is) (record {
+pub named_more : (side : ℕ) (flags : List Bool) (vars : List ℕ) (i x : ℕ) (b : Bool) (old log new : ProofLog)
+    (lits more : List Literal) (l : Literal) → AllPairs (λ a b. a ≢ b) vars →
+    AreNamedSoFar side flags vars i old log lits → i < length vars → get_or vars i x ≡ x →
+    b ≡ is_copied_at flags (length lits) → IsNamedIfWanted b side x log new l → more ≡ lits ++ l ∷ [] →
+    AreNamedSoFar side flags vars (i + 1) old new more
+named_more side flags vars i x false old log new lits more l distinct before lt at flag is pushed =
+    subst (λ (g : ProofLog). AreNamedSoFar side flags vars (i + 1) old g more) (sym is)
+    (subst (AreNamedSoFar side flags vars (i + 1) old log) (sym pushed) (record {
+      grew = before.grew;
+      within = omega (arith, lt);
+      long = length-append lits (l ∷ []) ∙ ap (λ n. n + 1) before.long;
+      named = λ k v m wanted v_at m_at. elim (pushed_cases lits l m k m_at) [
+        | inl last ↦ absurd (true≢false (sym wanted ∙ ap (is_copied_at flags) last.0 ∙ sym flag))
+        | inr early ↦ before.named k v m wanted v_at early
+      ];
+      only = before.only;
+      fresh = λ w k y le y_at named. before.fresh w k y (omega (arith, le)) y_at named;
+    }))
+named_more side flags vars i x true old log new lits more l distinct before lt at flag (v, l_is, unnamed, is) pushed =
+    subst (λ (g : ProofLog). AreNamedSoFar side flags vars (i + 1) old g more) (sym is)
+    (subst (AreNamedSoFar side flags vars (i + 1) old (with_entry log (Named v (CopyOf side x)))) (sym pushed) (record {
       grew = λ f standing start names.
           grown_then (IsAddedBy f copies standing true start) old log (with_entry log (Named v (CopyOf side x)))
           (before.grew f standing start names)
           (grown_by (IsAddedBy f copies standing true start) log (with_entry log (Named v (CopyOf side x)))
           (Named v (CopyOf side x)) refl (record { unnamed = unnamed; own = inr refl; rightly = tt }));
-      named = subst (λ ls. AreNamedAs es ls (map g (take (i + 1) vars))) (sym pushed)
-          (subst (AreNamedAs es (lits ++ positive v ∷ [])) (sym taken)
-          (named_push es lits (map g (take i vars)) (positive v) (g x)
-          (named_stay log.entries es (name_stays_by log.entries v (CopyOf side x) unnamed) lits
-          (map g (take i vars)) before.named) here));
+      within = omega (arith, lt);
+      long = length-append lits (l ∷ []) ∙ ap (λ n. n + 1) before.long;
+      named = λ k w m wanted w_at m_at. elim (pushed_cases lits l m k m_at) [
+        | inl last ↦ (
+            let both : Some x ≡ Some w = sym there ∙ ap (slice_get vars) (sym (last.0 ∙ before.long)) ∙ w_at in
+            let x_is : x ≡ w = cc in
+            subst (λ z. name_literal es m ≡ Some (g z)) x_is
+            (ap (name_literal es) (sym last.1 ∙ l_is) ∙ here))
+        | inr early ↦ one_stays log.entries es (name_stays_by log.entries v (CopyOf side x) unnamed) m
+            (named_literal (CopyOf side w) false) (before.named k w m wanted w_at early)
+      ];
       only = record {
         names = λ w n named. elim (name_cases log.entries v w (CopyOf side x) n named) [
           | inl same ↦ inr (x, sym same.1, element_at vars i x there)
@@ -170,7 +218,7 @@ named_more side vars i x v old log new lits more distinct before lt at unnamed i
         | inl same ↦ not_again k y le y_at (copy_same side x y same.1)
         | inr behind ↦ before.fresh w k y (omega (arith, le)) y_at behind
       ];
-    })
+    }))
   where
     es : List Entry
     es = Named v (CopyOf side x) ∷ log.entries
@@ -180,10 +228,6 @@ named_more side vars i x v old log new lits more distinct before lt at unnamed i
 
     there : slice_get vars i ≡ Some x
     there = slice_get-get_or vars i x lt ∙ ap Some at
-
-    taken : map g (take (i + 1) vars) ≡ map g (take i vars) ++ g x ∷ []
-    taken = ap (map g) (take_more vars i x lt ∙ ap (λ y. take i vars ++ y ∷ []) at) ∙ map-append g (take i vars)
-        (x ∷ [])
 
     here : name_literal es (positive v) ≡ Some (g x)
     here = ap (option_map (λ m. named_literal m false)) (cond-true (v == v) (Some (CopyOf side x))
@@ -199,7 +243,9 @@ named_more side vars i x v old log new lits more distinct before lt at unnamed i
         within (z ∷ zs) zero y h = omega arith
         within (z ∷ zs) (suc k) y h = let b = within zs k y h in omega (arith, b)
 
-pub all_named : (side : ℕ) (vars : List ℕ) (i : ℕ) (old new : ProofLog) (lits : List Literal) →
-    AreNamedSoFar side vars i old new lits → length vars ≤ i → AreCopiesOf new.entries side vars lits
-all_named side vars i old new lits are all = subst (λ vs. AreCopiesOf new.entries side vs lits)
-    (take_all i vars all) are.named
+pub all_named : (side : ℕ) (flags : List Bool) (vars : List ℕ) (i : ℕ) (old new : ProofLog) (lits : List Literal) →
+    AreNamedSoFar side flags vars i old new lits → length vars ≤ i → AreCopies new.entries side flags vars lits
+all_named side flags vars i old new lits are all = record {
+  long = let long = are.long in let most = are.within in omega (arith, long, most, all);
+  named = are.named;
+}

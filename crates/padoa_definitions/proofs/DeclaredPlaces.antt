@@ -1,9 +1,9 @@
 -- Places among all declared variables: universals first, then existentials.
-use Rattle.std.proofs.Common.{◌≡◌, ℕ, zero, suc, ◌+◌, ◌<◌, ◌≤◌, Bool, true, false, ◌||◌, inl, inr, List, [], ◌∷◌, ◌++◌, map, length, get_or, slice_get, Some, refl, sym, ◌∙◌, ap, subst, arith, eqb}
+use Rattle.std.proofs.Common.{◌≡◌, ◌⊎◌, ℕ, zero, suc, ◌+◌, ◌<◌, ◌≤◌, Bool, true, false, ◌||◌, inl, inr, List, [], ◌∷◌, ◌++◌, map, length, get_or, slice_get, Some, refl, sym, ◌∙◌, ap, subst, arith, eqb}
 use Rattle.std.specs.List.{All, Contains, list_any}
 use Rattle.std.proofs.lemmas.Bool.{eqb-true}
 use Rattle.std.proofs.lemmas.Bool.Decides.{Decides-eqb}
-use Rattle.std.proofs.lemmas.List.{get_or_default, length-append, length-map, map-append}
+use Rattle.std.proofs.lemmas.List.{get_or_default, length-append, length-map}
 use Rattle.std.proofs.lemmas.List.Elements.{All-contains, Contains-append_left, Contains-append_right, Contains-append_cases}
 use Rattle.std.proofs.lemmas.Map.Made.{IsDistinct-from_AllPairs}
 use Rattle.std.proofs.lemmas.Map.Steps.{length-le_from_distinct_below}
@@ -13,12 +13,12 @@ use Rattle.dq_lits.specs.Formula.{Dqbf, Existential, HasLawfulPrefix, declared, 
 use Rattle.definition_order.specs.Order.{MayRead, ArePlacesOfShared}
 use Rattle.dq_formula.specs.Prefix.{IsLawful, existential_variables}
 use Rattle.hint_log.specs.Entries.{Entry}
-use Rattle.hint_log.specs.Naming.{NamedLiteral, named_literal, name_literal}
+use Rattle.hint_log.specs.Naming.{named_literal}
 use Rattle.hint_log.specs.declared.names.Name.TheVariants.{Copy as CopyOf}
-use Rattle.padoa_definitions.specs.Copies.{AreCopiesOf, copies_of}
+use Rattle.padoa_definitions.specs.Copies.{AreCopies, AreCopiesOf, IsCopied, copies_of}
 use Rattle.padoa_definitions.specs.Seeing.{ArePlaces}
 use Rattle.padoa_definitions.specs.declared.copies.MatrixCopy.{MatrixCopy}
-use Rattle.padoa_definitions.proofs.CopiedVariables.{element_at, named_length}
+use Rattle.padoa_definitions.proofs.CopiedVariables.{by_places, copy_at, element_at, named_length}
 use Rattle.definition_order.proofs.Declared.{find_sound}
 
 any_inside : (q : ℕ) (xs : List ℕ) → list_any (eqb q) xs ≡ true → Contains xs q
@@ -67,23 +67,62 @@ at_mapped [] p z h = cc
 at_mapped (y ∷ ys) zero z h = let same : y ≡ z = cc in ap (λ (e : Existential). Some e.variable) same
 at_mapped (y ∷ ys) (suc p) z h = at_mapped ys p z h
 
--- the copies of all declared variables
-pub copies_declared : (f : Dqbf) (side : ℕ) (copy : MatrixCopy) (es : List Entry) →
-    AreCopiesOf es side f.universals copy.universals.items →
-    AreCopiesOf es side (existential_variables f) copy.existentials.items →
-    AreCopiesOf es side (declared f) (copies_of copy)
-copies_declared f side copy es us ys =
-    let g : ℕ → NamedLiteral = λ v. named_literal (CopyOf side v) false in
-    map-append (name_literal es) copy.universals.items copy.existentials.items
-    ∙ ap (λ xs. xs ++ map (name_literal es) copy.existentials.items) us
-    ∙ ap (λ xs. map Some (map g f.universals) ++ xs) ys
-    ∙ sym (ap (map Some) (map-append g f.universals (existential_variables f)) ∙ map-append Some (map g f.universals)
-    (map g (existential_variables f)))
-
 pub copies_long : (es : List Entry) (side : ℕ) (xs : List ℕ) (lits : List Literal) → AreCopiesOf es side xs lits →
     length lits ≡ length xs
 copies_long es side xs lits are = named_length es lits (map (λ v. named_literal (CopyOf side v) false) xs) are
     ∙ length-map xs (λ v. named_literal (CopyOf side v) false)
+
+-- where an element of two lists, one behind the other, stands
+pub joined_cases : {X : Type 0} (xs ys : List X) (k : ℕ) (x : X) → slice_get (xs ++ ys) k ≡ Some x →
+    (slice_get xs k ≡ Some x) ⊎ ((j : ℕ) × (k ≡ length xs + j) × (slice_get ys j ≡ Some x))
+joined_cases [] ys k x at = inr (k, omega arith, at)
+joined_cases (z ∷ xs) ys zero x at = inl at
+joined_cases (z ∷ xs) ys (suc k) x at = elim (joined_cases xs ys k x at) [
+  | inl first ↦ inl first
+  | inr second ↦ (let same = second.1 in inr (second.0, omega (arith, same), second.2))
+]
+
+-- the copies of all declared variables
+pub copies_declared : (f : Dqbf) (side : ℕ) (flags : List Bool) (copy : MatrixCopy) (es : List Entry) →
+    AreCopies es side flags f.universals copy.universals.items →
+    AreCopiesOf es side (existential_variables f) copy.existentials.items →
+    AreCopies es side flags (declared f) (copies_of copy)
+copies_declared f side flags copy es us ys = record {
+  long = length-append copy.universals.items copy.existentials.items
+      ∙ ap (λ n. n + length copy.existentials.items) us.long
+      ∙ ap (λ n. length f.universals + n) (copies_long es side (existential_variables f) copy.existentials.items ys)
+      ∙ sym (length-append f.universals (existential_variables f));
+  named = λ k v l flag v_at l_at. elim (joined_cases f.universals (existential_variables f) k v v_at) [
+    | inl universal ↦ (
+        let lt = slice_get_within f.universals k v universal in
+        let long = us.long in
+        elim (joined_cases copy.universals.items copy.existentials.items k l l_at) [
+          | inl at ↦ us.named k v l flag universal at
+          | inr far ↦ (let is = far.1 in absurd (omega (arith, lt, long, is)))
+        ])
+    | inr existential ↦ (
+        let long = us.long in
+        let there = existential.1 in
+        elim (joined_cases copy.universals.items copy.existentials.items k l l_at) [
+          | inl at ↦ (let lt = slice_get_within copy.universals.items k l at in absurd (omega (arith, lt, long, there)))
+          | inr far ↦ (
+              let is = far.1 in
+              let same : far.0 ≡ existential.0 = omega (arith, is, there, long) in
+              copy_at es side (existential_variables f) copy.existentials.items existential.0 v l ys existential.2
+              (subst (λ j. slice_get copy.existentials.items j ≡ Some l) same far.2))
+        ])
+  ];
+}
+
+-- where all have copies
+pub whole_copies : (f : Dqbf) (side : ℕ) (flags : List Bool) (copy : MatrixCopy) (es : List Entry) →
+    ((v : ℕ) → IsCopied f flags v) → AreCopies es side flags f.universals copy.universals.items →
+    AreCopiesOf es side (existential_variables f) copy.existentials.items →
+    AreCopiesOf es side (declared f) (copies_of copy)
+whole_copies f side flags copy es whole us ys =
+    let all = copies_declared f side flags copy es us ys in
+    by_places es side (declared f) (copies_of copy) all.long
+    (λ k v l v_at l_at. all.named k v l (whole v k v_at) v_at l_at)
 
 mapped_back : (n : ℕ) (ps : List ℕ) (k : ℕ) → Contains (map (λ q. n + q) ps) k → (q : ℕ) × Contains ps q × (n + q ≡ k)
 mapped_back n [] k (i, lt, at) = absurd (omega (arith, lt))

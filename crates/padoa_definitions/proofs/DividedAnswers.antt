@@ -1,9 +1,10 @@
 -- What an answer of the copies rests on: the first copy on one side, the second copy and equations on the other.
-use Rattle.std.proofs.Common.{◌≡◌, ◌⊎◌, ℕ, suc, ◌+◌, ◌<◌, Bool, true, false, true≢false, cond, ◌&&◌, inl, inr, List, [], ◌∷◌, ◌++◌, map, length, Option, Some, None, IsSome, get_or, slice_get, refl, sym, ◌∙◌, ap, subst, arith}
+use Rattle.std.proofs.Common.{◌≡◌, ◌⊎◌, ℕ, zero, suc, ◌+◌, ◌<◌, Bool, true, false, true≢false, cond, ◌&&◌, inl, inr, List, [], ◌∷◌, ◌++◌, map, length, Option, Some, None, IsSome, get_or, slice_get, refl, sym, ◌∙◌, ap, subst, arith}
 use Rattle.std.specs.List.{All, Contains, list_any}
 use Rattle.std.specs.Option.{option_and_then}
 use Rattle.std.proofs.lemmas.Bool.{or_cases, or_left, or_right, and_parts, eqb-true, eq-eqb}
 use Rattle.std.proofs.lemmas.List.Folds.{list_any-append}
+use Rattle.std.proofs.lemmas.List.Elements.{All-contains, Contains-append_cases}
 use Rattle.std.proofs.lemmas.Option.{slice_get-get_or}
 use Rattle.dq_lits.specs.Literal.{Literal, positive, negative, variable_of, is_negative, opposite, same_literal}
 use Rattle.dq_lits.specs.Derivation.{holds}
@@ -23,39 +24,15 @@ use Rattle.hint_log.specs.declared.origins.Origin.TheVariants.{Instance, Gate, F
 use Rattle.aig_graph.specs.declared.nodes.Node.{Node}
 use Rattle.interpolants.specs.Interpolant.{Partition, partition, IsReachedGiven, IsOther}
 use Rattle.interpolants.proofs.Truth.{any_witness, same_literal-sound, same_literal-refl, opposite-opposite}
-use Rattle.log_laws.proofs.Found.{named_variable, numbered_among}
+use Rattle.log_laws.proofs.Found.{named_variable}
 use Rattle.log_laws.proofs.Kept.{NamesStay, named_stay}
 use Rattle.oracle.specs.Calls.{assumed, IsMade, IsPlain}
 use Rattle.oracle.specs.Searched.{IsSearched}
 use Rattle.oracle.specs.declared.groups.Group.{Group}
-use Rattle.padoa_definitions.specs.Copies.{is_copy_of, is_link_of, group_variable, IsGroupGiven, copy_names, IsLink, IsPadoa}
-use Rattle.padoa_definitions.specs.Dividing.{asked_of, IsRead, IsCopyGiven, IsLinkGiven, IsSelectorLiteral, IsCopyLiteral, Divides, AreActive}
+use Rattle.padoa_definitions.specs.Copies.{is_copied_at, is_copy_of, is_link_of, group_variable, IsCopyGiven, IsGroupGiven, IsSideGiven, copy_names, IsLink, IsPadoa}
+use Rattle.padoa_definitions.specs.Dividing.{asked_of, IsRead, IsLinkGiven, IsSelectorLiteral, IsCopyLiteral, Divides, AreActive}
 use Rattle.padoa_definitions.specs.declared.padoa.Padoa.{Padoa}
-use Rattle.padoa_definitions.proofs.Reached.{IsOfCopies, IsOfAnswer, of_answer, is_given_entry, reached_given, earlier_stay, group_named, own_at}
-
--- right clauses by their origins
-pub copy_given : (es earlier : List Entry) (f : Dqbf) (side : ℕ) (origin : Origin) (c : List Literal) →
-    NamesStay earlier es → is_copy_of side origin ≡ true → MatchesOrigin f earlier (Given origin c) →
-    IsCopyGiven es f side c
-copy_given es earlier f side (Instance k j) c stay test right = cc
-copy_given es earlier f side (Gate v i) c stay test right = cc
-copy_given es earlier f side (Fault j i leaf) c stay test right = cc
-copy_given es earlier f side (Link v i) c stay test right = cc
-copy_given es earlier f side (TermGate v i) c stay test right = cc
-copy_given es earlier f side (Differ y leaf part) c stay test right = cc
-copy_given es earlier f side (Copy s j) c stay test right =
-    let same : s ≡ side = eqb-true s side test in
-    let rest_is = right.rest_is.1 in
-    record {
-      group = right.group;
-      rest = right.rest;
-      original = rest_is.clause;
-      is_group = stay right.group (Selector right.group) right.is_group;
-      clause_is = right.clause_is;
-      original_is = numbered_among f.matrix j rest_is.clause rest_is.clause_is;
-      copied = subst (λ k. AreNamedAs es right.rest (copy_names k rest_is.clause)) same
-          (named_stay earlier es stay right.rest (copy_names s rest_is.clause) rest_is.named);
-    }
+use Rattle.padoa_definitions.proofs.Reached.{IsOfCopies, IsOfAnswer, of_answer, is_given_entry, reached_given, earlier_stay, group_named, own_at, side_at}
 
 link_given : (es earlier : List Entry) (f : Dqbf) (places : List ℕ) (x : ℕ) (origin : Origin) (c : List Literal) →
     NamesStay earlier es → IsRead f places x → is_link_of x origin ≡ true →
@@ -118,8 +95,10 @@ read_at f places within k (i, lt, at) = (
 
 -- an assumption: a selector of one of the groups, or a copy of what is asked
 pub data IsAssumed (p : Padoa) (places : List ℕ) (first second : List Literal) : Literal → Type 0 where
-  by_first : (l : Literal) → l ≡ p.first.group.selector → IsAssumed p places first second l
-  by_second : (l : Literal) → l ≡ p.second.group.selector → IsAssumed p places first second l
+  by_first : (l : Literal) (g : Group) → Contains p.first.groups.items g → l ≡ g.selector →
+      IsAssumed p places first second l
+  by_second : (l : Literal) (g : Group) → Contains p.second.groups.items g → l ≡ g.selector →
+      IsAssumed p places first second l
   by_link : (l : Literal) (k : ℕ) (g : Group) → Contains places k → slice_get p.links.items k ≡ Some g →
       l ≡ g.selector → IsAssumed p places first second l
   by_one : (l : Literal) → holds first l ≡ true → IsAssumed p places first second l
@@ -130,7 +109,7 @@ pub holds_cases : (x : Literal) (xs : List Literal) (l : Literal) → holds (x �
 holds_cases x xs l h = elim (or_cases (same_literal l x) (holds xs l) h)
     [ inl same ↦ inl (same_literal-sound l x same) | inr later ↦ inr later ]
 
-element_of : (gs : List Group) (more : List Literal) (l : Literal) → holds (map (λ g. g.selector) gs ++ more) l ≡ true →
+pub element_of : (gs : List Group) (more : List Literal) (l : Literal) → holds (map (λ g. g.selector) gs ++ more) l ≡ true →
     ((g : Group) × Contains gs g × (l ≡ g.selector)) ⊎ (holds more l ≡ true)
 element_of [] more l h = inr h
 element_of (g ∷ gs) more l h = elim (holds_cases g.selector (map (λ x. x.selector) gs ++ more) l h) [
@@ -145,25 +124,40 @@ pub held_in_either : (xs ys : List Literal) (l : Literal) → holds (xs ++ ys) l
     (holds xs l ≡ true) ⊎ (holds ys l ≡ true)
 held_in_either xs ys l h = or_cases (holds xs l) (holds ys l) (sym (list_any-append (same_literal l) xs ys) ∙ h)
 
+-- the selector of an active group is assumed, and what is assumed beside
+pub selector_held : (gs : List Group) (more : List Literal) (g : Group) → Contains gs g →
+    holds (map (λ x. x.selector) gs ++ more) g.selector ≡ true
+selector_held [] more g (k, lt, at) = absurd (omega (arith, lt))
+selector_held (h ∷ gs) more g (zero, lt, at) = or_left (same_literal g.selector h.selector)
+    (holds (map (λ x. x.selector) gs ++ more) g.selector)
+    (ap (λ (x : Group). same_literal g.selector x.selector) at ∙ same_literal-refl g.selector)
+selector_held (h ∷ gs) more g (suc k, lt, at) = or_right (same_literal g.selector h.selector)
+    (holds (map (λ x. x.selector) gs ++ more) g.selector) (selector_held gs more g (k, omega (arith, lt), at))
+
+pub beside_held : (gs : List Group) (more : List Literal) (l : Literal) → holds more l ≡ true →
+    holds (map (λ x. x.selector) gs ++ more) l ≡ true
+beside_held [] more l h = h
+beside_held (g ∷ gs) more l h = or_right (same_literal l g.selector) (holds (map (λ x. x.selector) gs ++ more) l)
+    (beside_held gs more l h)
+
 pub which_assumed : (p : Padoa) (places : List ℕ) (active : List Group) (first second : List Literal) (l : Literal) →
     AreActive p places active → holds (assumed active (first ++ second)) l ≡ true →
     IsAssumed p places first second l
-which_assumed p places active first second l are h =
-    let rest : List Literal = first ++ second in
-    let spelled : holds (p.first.group.selector ∷ p.second.group.selector ∷ map (λ g. g.selector) are.links ++ rest) l
-    ≡ true = sym (ap (λ gs. holds (assumed gs rest) l) are.active_is) ∙ h in
-    elim (holds_cases p.first.group.selector (p.second.group.selector ∷ map (λ g. g.selector) are.links ++ rest) l
-    spelled) [
-      | inl one ↦ by_first l one
-      | inr behind ↦ elim (holds_cases p.second.group.selector (map (λ g. g.selector) are.links ++ rest) l behind) [
-        | inl two ↦ by_second l two
-        | inr further ↦ elim (element_of are.links rest l further) [
-          | inl link ↦ (let r = are.sound link.0 link.1 in by_link l r.0 link.0 r.1 r.2 link.2)
-          | inr last ↦ elim (held_in_either first second l last)
-              [ inl in_first ↦ by_one l in_first | inr in_second ↦ by_other l in_second ]
+which_assumed p places active first second l are h = elim (element_of active (first ++ second) l h) [
+  | inl found ↦ (
+      let g = found.0 in
+      let behind = p.second.groups.items ++ are.links in
+      elim (Contains-append_cases p.first.groups.items behind g
+      (subst (λ gs. Contains gs g) are.active_is found.1)) [
+        | inl one ↦ by_first l g one found.2
+        | inr later ↦ elim (Contains-append_cases p.second.groups.items are.links g later) [
+          | inl two ↦ by_second l g two found.2
+          | inr link ↦ (let r = are.sound g link in by_link l r.0 g r.1 r.2 found.2)
         ]
-      ]
-    ]
+      ])
+  | inr last ↦ elim (held_in_either first second l last)
+      [ inl in_first ↦ by_one l in_first | inr in_second ↦ by_other l in_second ]
+]
 
 -- a literal that is named as a copy is a copy of one of the literals that were copied
 pub copy_among : (es : List Entry) (side : ℕ) (originals lits : List Literal) →
@@ -206,7 +200,8 @@ module _ (f : Dqbf) (v : ℕ) (conditions : List Literal) (p : Padoa) (places : 
     IsId entries i)
     (es_is : es ≡ Answer clause hints ∷ before) (searched : IsSearched (Answer clause hints ∷ before))
     (padoa : IsPadoa f p (Answer clause hints ∷ before))
-    (within : All (λ k. k < length (declared f)) places) (are_active : AreActive p places active)
+    (within : All (λ k. k < length (declared f)) places)
+    (flagged : All (λ k. is_copied_at p.copied.items k ≡ true) places) (are_active : AreActive p places active)
     (ones_are : AreNamedAs (Answer clause hints ∷ before) ones (copy_names 1 (asked_of conditions (positive v))))
     (others_are : AreNamedAs (Answer clause hints ∷ before) others (copy_names 2 (asked_of conditions (negative v))))
     (negated : (l : Literal) → holds clause l ≡ true → holds (assumed active (ones ++ others)) (opposite l)
@@ -214,17 +209,23 @@ module _ (f : Dqbf) (v : ℕ) (conditions : List Literal) (p : Padoa) (places : 
   abbrev all : List Entry
   all = Answer clause hints ∷ before
 
-  abbrev first : ℕ
-  first = group_variable p.first.group
-
   abbrev a_side : List Literal
-  a_side = p.first.group.selector ∷ ones
+  a_side = assumed p.first.groups.items ones
 
   first_copy : (l : Literal) → holds ones l ≡ true → IsCopyLiteral all 1 (asked_of conditions (positive v)) l
   first_copy = copy_among all 1 (asked_of conditions (positive v)) ones ones_are
 
   second_copy : (l : Literal) → holds others l ≡ true → IsCopyLiteral all 2 (asked_of conditions (negative v)) l
   second_copy = copy_among all 2 (asked_of conditions (negative v)) others others_are
+
+  first_made : (g : Group) → Contains p.first.groups.items g → IsMade all g
+  first_made g among = All-contains (IsMade all) p.first.groups.items g padoa.first.made among
+
+  second_made : (g : Group) → Contains p.second.groups.items g → IsMade all g
+  second_made g among = All-contains (IsMade all) p.second.groups.items g padoa.second.made among
+
+  flag_at : (k : ℕ) → Contains places k → is_copied_at p.copied.items k ≡ true
+  flag_at k among = All-contains (λ i. is_copied_at p.copied.items i ≡ true) places k flagged among
 
   selector_is : (g : Group) → IsMade all g → g.selector ≡ positive (group_variable g)
   selector_is g made = as_positive g.selector made.positive
@@ -246,24 +247,20 @@ module _ (f : Dqbf) (v : ℕ) (conditions : List Literal) (p : Padoa) (places : 
     g_named : name_of all g ≡ Some (Selector g)
     g_named = group_named f before clause hints searched origin c is
 
-    own : (test : Origin → Bool) (h : ℕ) → g ≡ h → Each (IsGroupGiven f test h) all →
-        (test origin ≡ true) × MatchesOrigin f is.earlier (Given origin c)
-    own = own_at f before clause hints searched origin c is
-
     data IsInSome : Type 0 where
-      in_first : g ≡ first → IsInSome
-      in_second : g ≡ group_variable p.second.group → IsInSome
+      in_first : (h : Group) → Contains p.first.groups.items h → g ≡ group_variable h → IsInSome
+      in_second : (h : Group) → Contains p.second.groups.items h → g ≡ group_variable h → IsInSome
       in_link : (k x : ℕ) (link : Group) → IsRead f places x → IsLink f x link all → g ≡ group_variable link → IsInSome
 
     group_of : (h : Group) → IsMade all h → positive g ≡ h.selector → g ≡ group_variable h
     group_of h made same = same_variable g (group_variable h) (same ∙ selector_is h made)
 
     in_some : IsAssumed p places ones others (positive g) → IsInSome
-    in_some (by_first l same) = in_first (group_of p.first.group padoa.first.made same)
-    in_some (by_second l same) = in_second (group_of p.second.group padoa.second.made same)
+    in_some (by_first l h among same) = in_first h among (group_of h (first_made h among) same)
+    in_some (by_second l h among same) = in_second h among (group_of h (second_made h among) same)
     in_some (by_link l k h among at same) =
         let r = read_at f places within k among in
-        let link = padoa.links k r.0 h r.1 at in
+        let link = padoa.links k r.0 h (flag_at k among) r.1 at in
         in_link k r.0 h (k, r.1, among) link (group_of h link.made same)
     in_some (by_one l held) = absurd (not_copy 1 (asked_of conditions (positive v)) g (positive g) refl g_named
         (first_copy (positive g) held))
@@ -274,18 +271,28 @@ module _ (f : Dqbf) (v : ℕ) (conditions : List Literal) (p : Padoa) (places : 
     classified = in_some (which_assumed p places active ones others (positive g) are_active
         (negated (negative g) is.kept))
 
+    own_side : (side h : ℕ) → g ≡ h → Each (IsSideGiven f side h) all →
+        (is_copy_of side origin ≡ true) × IsCopyGiven all f side c
+    own_side = side_at f before clause hints searched origin c is
+
+    own_link : (x h : ℕ) → g ≡ h → Each (IsGroupGiven f (is_link_of x) h) all →
+        (is_link_of x origin ≡ true) × MatchesOrigin f is.earlier (Given origin c)
+    own_link x = own_at f before clause hints searched origin c is (is_link_of x)
+
     is_of_copies : IsOfCopies origin
     is_of_copies = by classified
       where
         by : IsInSome → IsOfCopies origin
-        by (in_first same) = of_copies 1 origin (own (is_copy_of 1) first same padoa.first.own).0
-        by (in_second same) = of_copies 2 origin (own (is_copy_of 2)
-            (group_variable p.second.group) same padoa.second.own).0
+        by (in_first h among same) = of_copies 1 origin
+            (own_side 1 (group_variable h) same (padoa.first.own h among)).0
+        by (in_second h among same) = of_copies 2 origin
+            (own_side 2 (group_variable h) same (padoa.second.own h among)).0
         by (in_link k x link seen is_link same) = of_links x origin
-            (own (is_link_of x) (group_variable link) same is_link.own).0
+            (own_link x (group_variable link) same is_link.own).0
 
     -- the side of the clause is its group's
-    on_a_group : list_any (λ l. holds a_side (opposite l) && is_selector all (variable_of l)) c ≡ true → g ≡ first
+    on_a_group : list_any (λ l. holds a_side (opposite l) && is_selector all (variable_of l)) c ≡ true →
+        (h : Group) × Contains p.first.groups.items h × (g ≡ group_variable h)
     on_a_group h =
         let w = any_witness (λ l. holds a_side (opposite l) && is_selector all (variable_of l))
         (negative g ∷ is.grouped.rest) (sym (ap (list_any
@@ -293,8 +300,12 @@ module _ (f : Dqbf) (v : ℕ) (conditions : List Literal) (p : Padoa) (places : 
         let l = w.0 in
         let both = and_parts (holds a_side (opposite l)) (is_selector all (variable_of l)) w.2 in
         elim (holds_cases (negative g) is.grouped.rest l w.1) [
-          | inl here ↦ elim (holds_cases p.first.group.selector ones (opposite l) both.0) [
-            | inl switch ↦ group_of p.first.group padoa.first.made (sym (ap opposite here) ∙ switch)
+          | inl here ↦ elim (element_of p.first.groups.items ones (opposite l) both.0) [
+            | inl switch ↦ (
+              switch.0,
+              switch.1,
+              group_of switch.0 (first_made switch.0 switch.1) (sym (ap opposite here) ∙ switch.2),
+            )
             | inr last ↦ absurd (not_copy 1 (asked_of conditions (positive v)) g (opposite l) (ap opposite here) g_named
                 (first_copy (opposite l) last))
           ]
@@ -310,31 +321,30 @@ module _ (f : Dqbf) (v : ℕ) (conditions : List Literal) (p : Padoa) (places : 
                 let there = stay (variable_of l) n e in
                 true≢false (sym h ∙ ap is_selector_name there ∙ sym (ap is_selector_name e) ∙ plain.no_selector)
 
-    on_a_first : g ≡ first → list_any (λ l. holds a_side (opposite l) && is_selector all (variable_of l)) c ≡ true
-    on_a_first same =
+    on_a_first : (h : Group) → Contains p.first.groups.items h → g ≡ group_variable h →
+        list_any (λ l. holds a_side (opposite l) && is_selector all (variable_of l)) c ≡ true
+    on_a_first h among same =
         let test : Literal → Bool = λ l. holds a_side (opposite l) && is_selector all (variable_of l) in
-        let switch : p.first.group.selector ≡ positive g = selector_is p.first.group padoa.first.made ∙ ap positive
-        (sym same) in
-        let held : holds a_side (positive g) ≡ true = or_left (same_literal (positive g) p.first.group.selector)
-        (holds ones (positive g)) (ap (same_literal (positive g)) switch ∙ same_literal-refl (positive g)) in
+        let switch : h.selector ≡ positive g = selector_is h (first_made h among) ∙ ap positive (sym same) in
+        let held : holds a_side (positive g) ≡ true = ap (holds a_side) (sym switch)
+        ∙ selector_held p.first.groups.items ones h among in
         let here : test (negative g) ≡ true = ap (λ b. b && is_selector all g) held ∙ ap is_selector_name g_named in
         ap (list_any test) is.grouped.clause_is ∙ or_left (test (negative g)) (list_any test is.grouped.rest) here
 
     pub a_clause : list_any (λ l. holds a_side (opposite l) && is_selector all (variable_of l)) c ≡ true →
         IsCopyGiven all f 1 c
-    a_clause h = let r = own (is_copy_of 1) first (on_a_group h) padoa.first.own in
-        copy_given all is.earlier f 1 origin c stay r.0 r.1
+    a_clause h = let r = on_a_group h in (own_side 1 (group_variable r.0) r.2 (padoa.first.own r.0 r.1)).1
 
     pub b_clause : list_any (λ l. holds a_side (opposite l) && is_selector all (variable_of l)) c ≡ false →
         IsCopyGiven all f 2 c ⊎ IsLinkGiven all f places c
     b_clause h = by classified
       where
         by : IsInSome → IsCopyGiven all f 2 c ⊎ IsLinkGiven all f places c
-        by (in_first same) = absurd (true≢false (sym (on_a_first same) ∙ h))
-        by (in_second same) = let r = own (is_copy_of 2) (group_variable p.second.group) same padoa.second.own in
-            inl (copy_given all is.earlier f 2 origin c stay r.0 r.1)
+        by (in_first group among same) = absurd (true≢false (sym (on_a_first group among same) ∙ h))
+        by (in_second group among same) =
+            inl (own_side 2 (group_variable group) same (padoa.second.own group among)).1
         by (in_link k x link seen is_link same) =
-            let r = own (is_link_of x) (group_variable link) same is_link.own in
+            let r = own_link x (group_variable link) same is_link.own in
             inr (link_given all is.earlier f places x origin c stay seen r.0 r.1)
 
   selector_literal : (h : Group) → IsMade all h → (l : Literal) → l ≡ h.selector → IsSelectorLiteral all l
@@ -364,27 +374,23 @@ module _ (f : Dqbf) (v : ℕ) (conditions : List Literal) (p : Padoa) (places : 
         let same : clause ≡ o.clause = cc in
         ap (λ ls. holds ls (opposite l)) same ∙ o.negated
 
-    in_a : (l : Literal) → (l ≡ p.first.group.selector) ⊎ (holds ones l ≡ true) → holds a_side l ≡ true
-    in_a l (inl same) = or_left (same_literal l p.first.group.selector) (holds ones l)
-        (ap (same_literal l) (sym same) ∙ same_literal-refl l)
-    in_a l (inr held) = or_right (same_literal l p.first.group.selector) (holds ones l) held
-
     other_kind : (l : Literal) → holds a_side l ≡ false → IsAssumed p places ones others l →
         IsSelectorLiteral all l ⊎ IsCopyLiteral all 2 (asked_of conditions (negative v)) l
-    other_kind l none (by_first k same) = absurd (true≢false (sym (in_a l (inl same)) ∙ none))
-    other_kind l none (by_second k same) = inl (selector_literal p.second.group padoa.second.made l same)
+    other_kind l none (by_first k h among same) = absurd (true≢false (sym (ap (holds a_side) same
+        ∙ selector_held p.first.groups.items ones h among) ∙ none))
+    other_kind l none (by_second k h among same) = inl (selector_literal h (second_made h among) l same)
     other_kind l none (by_link k place h among at same) =
         let r = read_at f places within place among in inl (selector_literal h
-        (padoa.links place r.0 h r.1 at).made l same)
-    other_kind l none (by_one k held) = absurd (true≢false (sym (in_a l (inr held)) ∙ none))
+        (padoa.links place r.0 h (flag_at place among) r.1 at).made l same)
+    other_kind l none (by_one k held) = absurd (true≢false (sym (beside_held p.first.groups.items ones l held) ∙ none))
     other_kind l none (by_other k held) = inr (second_copy l held)
 
     pub divides : Divides f places v conditions q
     divides = record {
       a_given = λ at c given on_a. let e = given_entry at c given in a_clause e.0 c (from_given at c given e) on_a;
       b_given = λ at c given on_b. let e = given_entry at c given in b_clause e.0 c (from_given at c given e) on_b;
-      assumed = λ l h. elim (holds_cases p.first.group.selector ones l h) [
-        | inl switch ↦ inl (selector_literal p.first.group padoa.first.made l switch)
+      assumed = λ l h. elim (element_of p.first.groups.items ones l h) [
+        | inl switch ↦ inl (selector_literal switch.0 (first_made switch.0 switch.1) l switch.2)
         | inr held ↦ inr (first_copy l held)
       ];
       others = λ l other_l. other_kind l other_l.not_a

@@ -1,8 +1,9 @@
 -- What a search in the first copy alone leaves and shows.
-use Rattle.std.proofs.Common.{◌≡◌, ℕ, ◌+◌, true, cond, inl, inr, List, [], ◌∷◌, Some, IsSome, get_or, refl, sym, ◌∙◌, ap, subst, arith}
-use Rattle.std.specs.List.{All}
+use Rattle.std.proofs.Common.{◌≡◌, ℕ, ◌+◌, true, cond, inl, inr, List, ◌∷◌, Some, IsSome, get_or, refl, sym, ◌∙◌, ap, subst, arith}
+use Rattle.std.specs.List.{All, Contains}
 use Rattle.std.specs.Option.{option_and_then}
 use Rattle.std.proofs.lemmas.Bool.{eq-eqb}
+use Rattle.std.proofs.lemmas.List.Elements.{All-contains}
 use Rattle.dq_lits.specs.Derivation.{holds}
 use Rattle.dq_lits.specs.Formula.{Dqbf}
 use Rattle.dq_lits.specs.Literal.{Literal, positive, negative, variable_of, opposite}
@@ -16,16 +17,16 @@ use Rattle.hint_log.specs.declared.names.Name.TheVariants.{Copy as CopyOf}
 use Rattle.hint_log.specs.declared.origins.Origin.{Origin}
 use Rattle.log_laws.specs.Engines.{copies, IsAddedBy}
 use Rattle.log_laws.proofs.ReachedClauses.{answer_true}
-use Rattle.oracle.specs.Calls.{IsPlain, IsRefutedUnder, assumed}
+use Rattle.oracle.specs.Calls.{IsMade, IsPlain, IsRefutedUnder, assumed}
 use Rattle.oracle.specs.Searched.{IsSearched}
-use Rattle.padoa_definitions.specs.Copies.{is_copy_of, group_variable, IsPadoa}
-use Rattle.padoa_definitions.specs.Dividing.{IsCopyGiven}
+use Rattle.oracle.specs.declared.groups.Group.{Group}
+use Rattle.padoa_definitions.specs.Copies.{is_copy_of, group_variable, IsCopyGiven, IsPadoa}
 use Rattle.padoa_definitions.specs.Ruling.{copied_assignment, AreFirstCopies, ShowsClause}
 use Rattle.padoa_definitions.specs.declared.padoa.Padoa.{Padoa}
 use Rattle.padoa_definitions.proofs.SearchAnswers.{answered, answer_last, padoa_answered, names_answered, silent_grew}
-use Rattle.padoa_definitions.proofs.DividedAnswers.{copy_given, of_copies, selector_not_copy, holds_cases, as_positive, same_variable}
+use Rattle.padoa_definitions.proofs.DividedAnswers.{of_copies, selector_not_copy, element_of, as_positive, same_variable}
 use Rattle.padoa_definitions.proofs.LinkedInterpolants.{copy_given_true, held_of_all}
-use Rattle.padoa_definitions.proofs.Reached.{LinesAreImplied, of_answer, earlier_stay, group_named, own_at, undecided_answer}
+use Rattle.padoa_definitions.proofs.Reached.{LinesAreImplied, of_answer, group_named, side_at, undecided_answer}
 
 pub first_plain : (es : List Entry) (lits : List Literal) → AreFirstCopies es lits → All (IsPlain es) lits
 first_plain es lits are i d lt =
@@ -40,9 +41,9 @@ module _ (implied : LinesAreImplied)
     IsId entries i)
     (f : Dqbf) (p : Padoa) (asked : List Literal) (old new : ProofLog) (id : ℕ) (padoa : IsPadoa f p old.entries)
     (are : AreFirstCopies old.entries asked)
-    (searched : IsSearched new.entries) (r : IsRefutedUnder old new (assumed (p.first.group ∷ []) asked) id) where
+    (searched : IsSearched new.entries) (r : IsRefutedUnder old new (assumed p.first.groups.items asked) id) where
   abbrev under : List Literal
-  under = assumed (p.first.group ∷ []) asked
+  under = assumed p.first.groups.items asked
 
   abbrev before : List Entry
   before = r.before.entries
@@ -62,8 +63,11 @@ module _ (implied : LinesAreImplied)
       are l h in
       (named.0, names_answered f p under old new id padoa r (variable_of l) (CopyOf 1 named.0) named.1)
 
-  first_selector : p.first.group.selector ≡ positive (group_variable p.first.group)
-  first_selector = as_positive p.first.group.selector padoa_there.first.made.positive
+  first_made : (g : Group) → Contains p.first.groups.items g → IsMade all g
+  first_made g among = All-contains (IsMade all) p.first.groups.items g padoa_there.first.made among
+
+  first_selector : (g : Group) → Contains p.first.groups.items g → g.selector ≡ positive (group_variable g)
+  first_selector g among = as_positive g.selector (first_made g among).positive
 
   -- a given clause that is reached is one of the first copy
   copy_clause : (origin : Origin) (c : List Literal) → ReachesGiven before r.hints origin c →
@@ -72,15 +76,10 @@ module _ (implied : LinesAreImplied)
       let is = of_answer before r.clause r.hints searched_there origin c reached in
       let g = is.grouped.group in
       let named = group_named f before r.clause r.hints searched_there origin c is in
-      elim (holds_cases p.first.group.selector asked (positive g) (r.negated (negative g) is.kept)) [
-        | inl first ↦ (
-            let own = own_at f before r.clause r.hints searched_there origin c is (is_copy_of 1)
-            (group_variable p.first.group)
-            (same_variable g (group_variable p.first.group) (first ∙ first_selector)) padoa_there.first.own in (
-              own.0,
-              copy_given all is.earlier f 1 origin c (earlier_stay f before r.clause r.hints searched_there origin
-                  c is) own.0 own.1,
-            ))
+      elim (element_of p.first.groups.items asked (positive g) (r.negated (negative g) is.kept)) [
+        | inl first ↦ side_at f before r.clause r.hints searched_there origin c is 1 (group_variable first.0)
+            (same_variable g (group_variable first.0) (first.2 ∙ first_selector first.0 first.1))
+            (padoa_there.first.own first.0 first.1)
         | inr copy ↦ (let it = copy_named (positive g) copy in
             absurd (selector_not_copy (name_of all g) g 1 it.0 named it.1))
       ]
@@ -91,8 +90,12 @@ module _ (implied : LinesAreImplied)
     is_id = record { from_one = omega arith; last = omega arith };
     clause_is = ap (λ b. option_and_then clause_of (cond b (Some (Answer r.clause r.hints))
         (numbered has_id before (last_id before + 1)))) (eq-eqb (last_id before + 1) (last_id before + 1) refl);
-    negated = λ l h. elim (holds_cases p.first.group.selector asked (opposite l) (r.negated l h)) [
-      | inl first ↦ inl (group_variable p.first.group, first ∙ first_selector, padoa_there.first.made.named)
+    negated = λ l h. elim (element_of p.first.groups.items asked (opposite l) (r.negated l h)) [
+      | inl first ↦ inl (
+        group_variable first.0,
+        first.2 ∙ first_selector first.0 first.1,
+        (first_made first.0 first.1).named,
+      )
       | inr copy ↦ inr copy
     ];
     implied = λ m holds_there.

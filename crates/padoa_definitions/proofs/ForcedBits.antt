@@ -1,5 +1,5 @@
 -- What is asked at a row for an existential of a formula, and what its answers say.
-use Rattle.std.proofs.Common.{◌≡◌, ◌≢◌, ◌<◌, ℕ, Bool, false, not, List, [], ◌∷◌, length, Some, get_or, sym, ◌∙◌, ap, subst, arith}
+use Rattle.std.proofs.Common.{◌≡◌, ◌≢◌, ◌<◌, ℕ, Bool, false, not, List, ◌∷◌, length, Some, get_or, sym, ◌∙◌, ap, subst, arith}
 use Rattle.std.specs.List.{All, Contains}
 use Rattle.std.proofs.lemmas.List.{get_or_default}
 use Rattle.std.proofs.lemmas.List.Elements.{All-contains, Contains-append_left}
@@ -13,22 +13,24 @@ use Rattle.hint_log.specs.Naming.{named_literal, name_literal}
 use Rattle.hint_log.specs.declared.names.Name.{Name}
 use Rattle.hint_log.specs.declared.names.Name.TheVariants.{Copy as CopyOf}
 use Rattle.oracle.specs.Calls.{IsModelUnder, assumed}
-use Rattle.padoa_definitions.specs.Copies.{IsPadoa}
-use Rattle.padoa_definitions.specs.Dividing.{values_at}
+use Rattle.padoa_definitions.specs.Copies.{IsCopied, IsPadoa}
+use Rattle.padoa_definitions.specs.Dividing.{AreBits, values_at}
 use Rattle.padoa_definitions.specs.Forcing.{IsForcedBy, IsLoose}
 use Rattle.padoa_definitions.specs.Ruling.{AreFirstCopies, ShowsClause, IsLiteralName, signed_literal, row_copies, cube_of}
-use Rattle.padoa_definitions.specs.Seeing.{ArePlaces}
+use Rattle.padoa_definitions.specs.Seeing.{AreCopiedPlaces}
 use Rattle.padoa_definitions.specs.declared.padoa.Padoa.{Padoa}
 use Rattle.padoa_definitions.proofs.SearchAnswers.{found_declared, found_variable, mapped_existential}
-use Rattle.padoa_definitions.proofs.AskedLiterals.{AreAsked, are_asked, asked_apart, asked_copies, own_name, universal_differs}
+use Rattle.padoa_definitions.proofs.AskedLiterals.{AreAsked, IsOwn, IsSeenAsked, are_asked, asked_apart, asked_copies, own_name, seen_asked}
+use Rattle.padoa_definitions.proofs.KeptPlaces.{existential_copied, universal_differs}
 use Rattle.padoa_definitions.proofs.ShownRules.{forced_by, literal_names}
 use Rattle.padoa_definitions.proofs.LooseSamples.{loose}
 use Rattle.definition_order.proofs.Declared.{find_sound, sees_universals}
 
 -- places of what an existential sees are places of universals
-pub seen_within : (f : Dqbf) (sees places : List ℕ) (n : ℕ) → ArePlaces f.universals (Contains sees) places →
+pub seen_within : (f : Dqbf) (sees : List ℕ) (flags : List Bool) (places : List ℕ) (n : ℕ) →
+    AreCopiedPlaces f.universals (Contains sees) flags places →
     n ≡ length f.universals → All (λ k. k < n) places
-seen_within f sees places n are same k d lt =
+seen_within f sees flags places n are same k d lt =
     let r = are.sound (get_or places k d) (k, lt, get_or_default places k (get_or places k d) d lt) in
     let within = slice_get_within f.universals (get_or places k d) r.0 r.1 in
     omega (arith, within, same)
@@ -47,21 +49,37 @@ module _ (f : Dqbf) (lawful : IsLawful f) (v : ℕ) (y : Existential) (found : e
   variable_is : y.variable ≡ v
   variable_is = found_variable f v y found
 
+  -- an existential has copies
+  pub own_copied : (p : Padoa) (es : List Entry) → IsPadoa f p es → IsCopied f p.copied.items y.variable
+  own_copied p es padoa = existential_copied f lawful.prefix p.copied.items y.variable padoa.as_many_flags
+      (mapped_existential f.existentials y (find_sound v f.existentials y found).0)
+
   own_found : existential_of f y.variable ≡ Some y
   own_found = ap (existential_of f) variable_is ∙ found
 
   module _ (p : Padoa) (row : List Bool) (bit : Bool) (seen places : List ℕ) (copied own : Literal)
-      (asked : List Literal) (are : ArePlaces f.universals (Contains y.sees) seen) (same : places ≡ seen)
+      (asked : List Literal) (are : AreCopiedPlaces f.universals (Contains y.sees) p.copied.items seen)
+      (same : places ≡ seen)
       (own_is : own ≡ signed_literal copied (not bit)) (asked_is : asked ≡ own ∷ row_copies p.first row places)
       (es : List Entry) (padoa : IsPadoa f p es)
       (copied_is : name_literal es copied ≡ Some (named_literal (CopyOf 1 v) false)) where
+    spelled : asked ≡ signed_literal copied (not bit) ∷ row_copies p.first row seen
+    spelled = asked_is ∙ ap (λ ps. own ∷ row_copies p.first row ps) same ∙ ap (λ l. l ∷ row_copies p.first row seen)
+        own_is
+
+    own_asked : IsOwn es y bit (signed_literal copied (not bit))
+    own_asked = own_name es y copied bit (copied_is ∙ ap (λ x. Some (named_literal (CopyOf 1 x) false))
+        (sym variable_is))
+
     asked_there : AreAsked f es y row bit asked
-    asked_there =
-        subst (AreAsked f es y row bit) (sym (asked_is ∙ ap (λ ps. own ∷ row_copies p.first row ps) same ∙ ap
-        (λ l. l ∷ row_copies p.first row seen) own_is))
-        (are_asked f lawful.prefix es y p.first row bit seen
-        (signed_literal copied (not bit)) padoa.first.universals are
-        (own_name es y copied bit (copied_is ∙ ap (λ x. Some (named_literal (CopyOf 1 x) false)) (sym variable_is))))
+    asked_there = subst (AreAsked f es y row bit) (sym spelled)
+        (are_asked f lawful.prefix es y p.first p.copied.items row bit seen (signed_literal copied (not bit))
+        padoa.first.universals are own_asked)
+
+    seen_there : (x : ℕ) → Contains y.sees x → IsSeenAsked f es p.copied.items row asked x
+    seen_there x among = subst (λ ls. IsSeenAsked f es p.copied.items row ls x) (sym spelled)
+        (seen_asked f lawful.prefix es y p.first p.copied.items row bit seen (signed_literal copied (not bit))
+        padoa.first.universals are own_asked x among)
 
     pub copies_asked : AreFirstCopies es asked
     copies_asked = asked_copies f es y row bit asked asked_there unseen
@@ -90,9 +108,9 @@ module _ (f : Dqbf) (lawful : IsLawful f) (v : ℕ) (y : Existential) (found : e
 
     pub loose_shown : IsWellFormed f → ((a b : ℕ) (name : Name) → name_of es a ≡ Some name → name_of es b ≡ Some name →
         a ≡ b) → (values : Assignment) →
-        IsModelUnder values (clause_at es) (assumed (p.first.group ∷ []) asked) → (other bits : List Bool) →
-        other ≡ values_at values p.first.universals.items →
+        IsModelUnder values (clause_at es) (assumed p.first.groups.items asked) → (other bits : List Bool) →
+        AreBits values p.copied.items row p.first.universals.items other →
         bits ≡ values_at values p.first.existentials.items → IsLoose f y row bit other bits
     loose_shown formula unique values model other bits other_is bits_are =
-        loose f y p row bit es values asked formula unique padoa asked_there
-        (found_declared f v y found) seen_universal model other bits other_is bits_are
+        loose f y p row bit es values asked formula unique padoa asked_there seen_there
+        (found_declared f v y found) (own_copied p es padoa) seen_universal model other bits other_is bits_are

@@ -1,9 +1,9 @@
 -- Clauses that are given to a group, and how steps compose.
-use Rattle.std.proofs.Common.{◌≡◌, ◌≢◌, ◌⊎◌, ℕ, suc, ◌+◌, ◌≤◌, ◌==◌, Bool, true, false, cond, inl, inr, List, [], ◌∷◌, map, length, Option, Some, None, IsSome, slice_get, refl, sym, ◌∙◌, ap, subst, arith}
+use Rattle.std.proofs.Common.{◌≡◌, ◌≢◌, ◌⊎◌, ℕ, zero, suc, ◌+◌, ◌<◌, ◌≤◌, ◌==◌, Bool, true, false, cond, inl, inr, List, [], ◌∷◌, ◌++◌, map, length, Option, Some, None, IsSome, get_or, slice_get, refl, sym, ◌∙◌, ap, subst, arith}
 use Rattle.std.specs.List.{All, AllPairs, Contains}
-use Rattle.std.proofs.lemmas.List.{length-append, get_or_append_left, get_or-append-add}
-use Rattle.std.proofs.lemmas.List.Elements.{All-head, All-cons, Contains-append_right}
-use Rattle.std.proofs.lemmas.Option.{slice_get_within}
+use Rattle.std.proofs.lemmas.List.{get_or_default, length-append, get_or_append_left, get_or-append-add}
+use Rattle.std.proofs.lemmas.List.Elements.{All-head, All-cons, All-nil, Contains-append_right}
+use Rattle.std.proofs.lemmas.Option.{slice_get-get_or}
 use Rattle.std.proofs.lemmas.Bool.{eq-eqb, cases_lt}
 use Rattle.dq_lits.specs.Literal.{Literal, positive, negative, variable_of, is_negative, opposite}
 use Rattle.dq_lits.specs.Formula.{Dqbf, HasLawfulPrefix, declared}
@@ -23,10 +23,13 @@ use Rattle.log_laws.proofs.Found.{named_variable}
 use Rattle.log_laws.proofs.LargerLogs.{leaves_rest, grown_by, grown_by_none, grown_then}
 use Rattle.log_laws.proofs.Kept.{NamesStay, named_stay}
 use Rattle.oracle.specs.Calls.{IsPlain, IsMade}
-use Rattle.padoa_definitions.specs.Copies.{is_copy_of, group_variable, IsGroupGiven, IsGivenIn, AreCopiesOf, copy_names, IsMatrixCopy}
-use Rattle.padoa_definitions.specs.Growing.{GrewAnew, GrewIn, HasFewFaults, is_side_name, Adds, AreUncopied, NamesCopies, AreUngiven, IsCopyNamed, Gives, AreGivenSoFar}
+use Rattle.oracle.specs.declared.groups.Group.{Group}
+use Rattle.padoa_definitions.specs.Copies.{is_copy_of, group_variable, IsGroupGiven, IsSideGiven, IsGivenIn, AreCopies, AreCopiesOf, IsCopied, copy_names, IsMatrixCopy}
+use Rattle.padoa_definitions.specs.Growing.{GrewAnew, GrewIn, HasFewFaults, is_side_name, Adds, AreUncopied, NamesCopies, AreUngiven, AreVariablesNamed, IsCopyNamed, Gives, AreGivenSoFar}
 use Rattle.padoa_definitions.specs.declared.copies.MatrixCopy.{MatrixCopy}
-use Rattle.padoa_definitions.proofs.KeptCopies.{contains_first, contains_later, contains_cases, keeps_anew, given_stays, made_stays, Keeps}
+use Rattle.padoa_definitions.proofs.KeptCopies.{contains_first, contains_later, contains_cases, keeps_anew, given_stays, made_stays, copies_stay, Keeps}
+use Rattle.padoa_definitions.proofs.CopiedVariables.{unflagged}
+use Rattle.padoa_definitions.proofs.SideClauses.{side_given}
 
 -- growth composes
 pub unnamed_back : (old new : List Entry) → NamesStay old new → (v : ℕ) → name_of new v ≡ None → name_of old v ≡ None
@@ -256,8 +259,8 @@ given_more f side g j old log new clause rest sides is_group before clause_is na
     keeps = record {
       names = λ v n is. is;
       contains = λ x. contains_later e x log.entries;
-      groups =
-          λ test mine apart own. absurd apart;
+      groups = λ test mine apart own. absurd apart;
+      sides = λ side mine apart own. absurd apart;
     }
 
 none_below : (b : Bool) (n : Name) (o : Option Name) → cond b (Some n) o ≡ None → o ≡ None
@@ -371,53 +374,101 @@ module _ (f : Dqbf) (side : ℕ) (us ys : List ℕ) (old first second : ProofLog
       (adds_names f side (is_copy_of side) us old first (named.first_grew f) named.first_only)
       (adds_names f side (is_copy_of side) ys first second (named.second_grew f) named.second_only)
 
-  second_ungiven : AreUngiven side old.entries → AreUngiven side second.entries
+  pub second_ungiven : AreUngiven side old.entries → AreUngiven side second.entries
   second_ungiven ungiven j c inside = ungiven j c (named.first_only.givens (Copy side j) c
       (named.second_only.givens (Copy side j) c inside))
 
-  module _ (third : ProofLog) (g : ℕ) (unnamed : name_of second.entries g ≡ None)
-      (is : third ≡ with_entry second (Named g (Selector g))) where
-    pub third_adds : Adds f side (is_copy_of side) old third
-    third_adds = adds_then f side (is_copy_of side) old second third second_adds
-        (adds_group f side (is_copy_of side) second third g unnamed is)
+  pub variables_named : (flags : List Bool) (copy : MatrixCopy) → us ≡ f.universals → ys ≡ existential_variables f →
+      AreCopies first.entries side flags us copy.universals.items →
+      AreCopies second.entries side [] ys copy.existentials.items →
+      AreVariablesNamed f side flags copy second.entries
+  variables_named flags copy us_are ys_are universals existentials = record {
+    universals = subst (λ xs. AreCopies second.entries side flags xs copy.universals.items) us_are
+        (copies_stay first.entries second.entries (keeps_anew f first second (named.second_grew f)).names side flags us
+        copy.universals.items universals);
+    existentials = subst (λ xs. AreCopiesOf second.entries side xs copy.existentials.items) ys_are
+        (unflagged second.entries side ys copy.existentials.items existentials);
+  }
 
-    pub third_unnamed : name_of old.entries g ≡ None
-    third_unnamed = unnamed_back old.entries second.entries (keeps_anew f old second second_adds.grew).names g unnamed
+-- its group
+module _ (f : Dqbf) (side : ℕ) (flags : List Bool) (copy : MatrixCopy) (old log new : ProofLog) (group : Group)
+    (adds : Adds f side (is_copy_of side) old log) (named : AreVariablesNamed f side flags copy log.entries)
+    (unnamed : name_of log.entries (group_variable group) ≡ None)
+    (is : new ≡ with_entry log (Named (group_variable group) (Selector (group_variable group)))) where
+  abbrev number : ℕ
+  number = group_variable group
 
-    third_stay : NamesStay second.entries third.entries
-    third_stay = (keeps_anew f second third (group_anew f second third g unnamed is)).names
+  pub group_adds : Adds f side (is_copy_of side) old new
+  group_adds = adds_then f side (is_copy_of side) old log new adds
+      (adds_group f side (is_copy_of side) log new number unnamed is)
 
-    pub copy_named : (copy : MatrixCopy) → us ≡ f.universals → ys ≡ existential_variables f →
-        group_variable copy.group ≡ g → IsMade third.entries copy.group →
-        AreCopiesOf first.entries side us copy.universals.items →
-        AreCopiesOf second.entries side ys copy.existentials.items → AreLogged second.entries →
-        AreUngiven side old.entries → HasFewFaults old.entries → IsCopyNamed f side copy third.entries
-    copy_named copy us_are ys_are g_is made universals existentials logged ungiven few = record {
-      made = made;
-      universals = subst (λ xs. AreCopiesOf third.entries side xs copy.universals.items) us_are
-          (named_stay second.entries third.entries third_stay copy.universals.items _
-          (named_stay first.entries second.entries (keeps_anew f first second (named.second_grew f)).names
-          copy.universals.items _ universals));
-      existentials = subst (λ xs. AreCopiesOf third.entries side xs copy.existentials.items) ys_are
-          (named_stay second.entries third.entries third_stay copy.existentials.items _ existentials);
-      own = subst (λ h. Each (IsGroupGiven f (is_copy_of side) h) third.entries) (sym g_is)
-          (subst (λ (l : ProofLog). Each (IsGroupGiven f (is_copy_of side) g) l.entries) (sym is)
-          (tt, fresh_group f (is_copy_of side) g second.entries logged unnamed));
-      ungiven = subst (λ (l : ProofLog). AreUngiven side l.entries) (sym is) (λ j c inside.
-          elim (contains_cases (Named g (Selector g)) (Given (Copy side j) c) second.entries inside)
-          [ inl same ↦ cc | inr behind ↦ second_ungiven ungiven j c behind ]);
-      few = few_anew f old third third_adds.grew few;
-    }
+  pub group_unnamed : name_of old.entries (group_variable group) ≡ None
+  group_unnamed = unnamed_back old.entries log.entries (keeps_anew f old log adds.grew).names number unnamed
 
-pub matrix_given : (f : Dqbf) (side : ℕ) (copy : MatrixCopy) (old new : ProofLog) →
-    IsCopyNamed f side copy old.entries →
-    AreGivenSoFar f side (group_variable copy.group) (length f.matrix) old new → IsMatrixCopy f side copy new.entries
-matrix_given f side copy old new named given =
+  pub copy_named : IsMade new.entries group → AreLogged log.entries → AreUngiven side log.entries →
+      HasFewFaults old.entries → IsCopyNamed f side flags copy group new.entries
+  copy_named made logged ungiven few =
+      let stay = (keeps_anew f log new (group_anew f log new number unnamed is)).names in
+      record {
+        made = made;
+        universals = copies_stay log.entries new.entries stay side flags f.universals copy.universals.items
+            named.universals;
+        existentials = named_stay log.entries new.entries stay copy.existentials.items _ named.existentials;
+        own = subst (λ (l : ProofLog). Each (IsGroupGiven f (is_copy_of side) number) l.entries) (sym is)
+            (tt, fresh_group f (is_copy_of side) number log.entries logged unnamed);
+        ungiven = subst (λ (l : ProofLog). AreUngiven side l.entries) (sym is) (λ j c inside.
+            elim (contains_cases (Named number (Selector number)) (Given (Copy side j) c) log.entries inside)
+            [ inl same ↦ cc | inr behind ↦ ungiven j c behind ]);
+        few = few_anew f old new group_adds.grew few;
+      }
+
+only_one : (group g : Group) → Contains (group ∷ []) g → group ≡ g
+only_one group g (zero, lt, at) = at
+only_one group g (suc k, lt, at) = absurd (omega (arith, lt))
+
+pub fresh_one : (old : List Entry) (groups : List Group) (group : Group) → groups ≡ [] ++ group ∷ [] →
+    name_of old (group_variable group) ≡ None → (g : Group) → Contains groups g →
+    name_of old (group_variable g) ≡ None
+fresh_one old groups group are unnamed g among =
+    subst (λ h. name_of old (group_variable h) ≡ None)
+    (only_one group g (subst (λ gs. Contains gs g) are among)) unnamed
+
+pub matrix_given : (f : Dqbf) (side : ℕ) (flags : List Bool) (copy whole : MatrixCopy) (group : Group)
+    (old new : ProofLog) → whole.universals.items ≡ copy.universals.items →
+    whole.existentials.items ≡ copy.existentials.items →
+    whole.groups.items ≡ group ∷ [] → IsCopyNamed f side flags copy group old.entries →
+    AreGivenSoFar f side (group_variable group) (length f.matrix) old new → IsMatrixCopy f side flags whole new.entries
+matrix_given f side flags copy whole group old new us_are ys_are groups_are named given =
     let stay : NamesStay old.entries new.entries = λ v n is. given.gives.names v ∙ is in
     record {
-      made = made_stays old.entries new.entries stay copy.group named.made;
-      universals = named_stay old.entries new.entries stay copy.universals.items _ named.universals;
-      existentials = named_stay old.entries new.entries stay copy.existentials.items _ named.existentials;
-      own = given.own;
-      whole = λ j clause is. given.given j clause (slice_get_within f.matrix j clause is) is;
+      made = subst (All (IsMade new.entries)) (sym groups_are) (All-cons (IsMade new.entries) group []
+          (made_stays old.entries new.entries stay group named.made) (All-nil (IsMade new.entries)));
+      universals = subst (AreCopies new.entries side flags f.universals) (sym us_are)
+          (copies_stay old.entries new.entries stay side flags f.universals copy.universals.items named.universals);
+      existentials = subst (AreCopiesOf new.entries side (existential_variables f)) (sym ys_are)
+          (named_stay old.entries new.entries stay copy.existentials.items _ named.existentials);
+      own = λ g among. subst (λ h. Each (IsSideGiven f side (group_variable h)) new.entries)
+          (only_one group g (subst (λ gs. Contains gs g) groups_are among))
+          (side_given f side (group_variable group) new.entries given.own);
+      whole = λ clause inside.
+          let lt = inside.1 in
+          let at = slice_get-get_or f.matrix inside.0 clause lt ∙ ap Some inside.2 in
+          record {
+            group = group;
+            among = subst (λ gs. Contains gs group) (sym groups_are) (0, omega arith, refl);
+            origin = Copy side (inside.0 + 1);
+            given = given.given inside.0 clause lt at;
+          };
     }
+
+-- the variables of a clause at a place
+pub clause_covered : (f : Dqbf) (flags : List Bool) (j : ℕ) (clause : List Literal) → ((c : List Literal) →
+    Contains f.matrix c → All (λ l. IsCopied f flags (variable_of l)) c) → j < length f.matrix →
+    clause ≡ get_or f.matrix j [] → All (λ l. IsCopied f flags (variable_of l)) clause
+clause_covered f flags j clause covered lt is =
+    covered clause (j, lt, get_or_default f.matrix j clause [] lt ∙ sym is)
+
+-- the first group of one
+pub spare_among : (gs : List Group) (group spare : Group) → gs ≡ group ∷ [] → spare ≡ get_or gs 0 spare →
+    Contains gs spare
+spare_among gs group spare is at = (0, (let long = ap length is in omega (arith, long)), sym at)

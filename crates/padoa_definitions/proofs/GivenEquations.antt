@@ -1,5 +1,5 @@
 -- Equations that are given, part by part and variable by variable.
-use Rattle.std.proofs.Common.{◌≡◌, ◌≢◌, ◌⊎◌, ℕ, zero, suc, ◌+◌, ◌≤◌, Bool, true, false, inl, inr, List, [], ◌∷◌, ◌++◌, map, length, slice_get, Some, None, refl, sym, ◌∙◌, ap, subst, arith}
+use Rattle.std.proofs.Common.{◌≡◌, ◌≢◌, ◌⊎◌, ℕ, ◌+◌, ◌≤◌, Bool, true, false, inl, inr, List, [], ◌∷◌, ◌++◌, length, slice_get, Some, None, refl, sym, ◌∙◌, ap, subst, arith}
 use Rattle.std.specs.List.{AllPairs, Contains}
 use Rattle.std.specs.Option.{option_map}
 use Rattle.std.proofs.lemmas.Bool.{eq-eqb, eqb-true, cases_lt}
@@ -15,13 +15,12 @@ use Rattle.hint_log.specs.declared.names.Name.{Name}
 use Rattle.hint_log.specs.declared.names.Name.TheVariants.{Selector, Copy as CopyOf}
 use Rattle.hint_log.specs.declared.origins.Origin.{Origin}
 use Rattle.hint_log.specs.declared.origins.Origin.TheVariants.{Instance, Gate, Fault, Copy, Link, TermGate, Differ}
-use Rattle.log_laws.proofs.Kept.{NamesStay, named_stay}
 use Rattle.oracle.specs.Calls.{IsMade}
 use Rattle.oracle.specs.declared.groups.Group.{Group}
-use Rattle.padoa_definitions.specs.Copies.{is_link_of, IsGroupGiven, IsGivenIn, AreCopiesOf, IsLink, group_variable}
+use Rattle.padoa_definitions.specs.Copies.{is_link_of, IsGroupGiven, IsGivenIn, IsLink, group_variable, is_copied_at}
 use Rattle.padoa_definitions.specs.Growing.{HasFewFaults, Adds, is_any_link, IsUnlinked, AreEquated, AreLinkedSoFar}
 use Rattle.padoa_definitions.proofs.KeptCopies.{Keeps, IsNamed, contains_first, contains_later, contains_cases, given_stays, keeps_anew, link_stays, made_stays}
-use Rattle.padoa_definitions.proofs.CopiedVariables.{opposite_name, copy_at}
+use Rattle.padoa_definitions.proofs.CopiedVariables.{opposite_name, pushed_cases}
 use Rattle.padoa_definitions.proofs.GivenClauses.{in_by, few_more, right_clause, switch_off, unnamed_back, adds_same, adds_then, gives_none, gives_more}
 
 pub none_equated : (f : Dqbf) (x g : ℕ) (log : ProofLog) → HasFewFaults log.entries →
@@ -81,8 +80,8 @@ part_more f x g parts old log new rest which is_group before named is =
     keeps = record {
       names = λ v n is. is;
       contains = λ x. contains_later e x log.entries;
-      groups =
-          λ test mine apart own. absurd apart;
+      groups = λ test mine apart own. absurd apart;
+      sides = λ side mine apart own. absurd apart;
     }
 
 pub both_equated : (f : Dqbf) (x : ℕ) (group : Group) (old new : ProofLog) → IsMade old.entries group →
@@ -113,53 +112,55 @@ adds_any f x old new adds = record {
   givens = λ o c inside. elim (adds.givens o c inside) [ inl before ↦ inl before | inr link ↦ inr (any_link x o link) ];
 }
 
-pub none_linked : (f : Dqbf) (log : ProofLog) (groups : List Group) → groups ≡ [] →
-    ((x : ℕ) → IsUnlinked x log.entries) → AreLinkedSoFar f 0 log log groups
-none_linked f log groups empty unlinked = record {
+pub none_linked : (f : Dqbf) (flags : List Bool) (spare : Group) (log : ProofLog) (groups : List Group) → groups ≡ [] →
+    ((x : ℕ) → IsUnlinked x log.entries) → AreLinkedSoFar f flags spare 0 log log groups
+none_linked f flags spare log groups empty unlinked = record {
   adds = adds_same f 0 is_any_link log log refl;
   as_many = ap length empty;
   later = λ k x le at. unlinked x;
-  links = λ k x g x_is g_is. (let none : None ≡ Some g = sym (ap (λ gs. slice_get gs k) empty) ∙ g_is in cc);
+  links = λ k x g flag x_is g_is. (let none : None ≡ Some g = sym (ap (λ gs. slice_get gs k) empty) ∙ g_is in cc);
+  made = λ k g g_is. (let none : None ≡ Some g = sym (ap (λ gs. slice_get gs k) empty) ∙ g_is in cc);
   fresh = λ k g g_is. (let none : None ≡ Some g = sym (ap (λ gs. slice_get gs k) empty) ∙ g_is in cc);
 }
 
--- the last element of a longer list, or one of those before
-push_cases : (gs : List Group) (g h : Group) (k : ℕ) → slice_get (gs ++ g ∷ []) k ≡ Some h →
-    ((k ≡ length gs) × (g ≡ h)) ⊎ (slice_get gs k ≡ Some h)
-push_cases [] g h zero at = inl (refl, cc)
-push_cases [] g h (suc k) at = cc
-push_cases (x ∷ gs) g h zero at = inr at
-push_cases (x ∷ gs) g h (suc k) at = elim (push_cases gs g h k at)
-    [ inl last ↦ inl (ap suc last.0, last.1) | inr early ↦ inr early ]
-
-pub link_more : (f : Dqbf) (i x : ℕ) (old log new : ProofLog) (groups more : List Group) (g : Group) →
+pub link_more : (f : Dqbf) (flags : List Bool) (spare : Group) (i x : ℕ) (wanted : Bool) (old log new : ProofLog)
+    (groups more : List Group) (g : Group) →
     AllPairs (λ a b. a ≢ b) (declared f) → slice_get (declared f) i ≡ Some x →
-    AreLinkedSoFar f i old log groups → Adds f 0 (is_link_of x) log new → IsLink f x g new.entries →
-    name_of log.entries (group_variable g) ≡ None → more ≡ groups ++ g ∷ [] →
-    AreLinkedSoFar f (i + 1) old new more
-link_more f i x old log new groups more g distinct x_at before adds link unnamed pushed =
-    subst (AreLinkedSoFar f (i + 1) old new) (sym pushed) (record {
+    AreLinkedSoFar f flags spare i old log groups → Adds f 0 (is_link_of x) log new →
+    wanted ≡ is_copied_at flags i → (wanted ≡ true → IsLink f x g new.entries) → IsMade new.entries g →
+    (g ≡ spare) ⊎ (name_of log.entries (group_variable g) ≡ None) → more ≡ groups ++ g ∷ [] →
+    AreLinkedSoFar f flags spare (i + 1) old new more
+link_more f flags spare i x wanted old log new groups more g distinct x_at before adds flag link made unnamed pushed =
+    subst (AreLinkedSoFar f flags spare (i + 1) old new) (sym pushed) (record {
       adds = adds_then f 0 is_any_link old log new before.adds (adds_any f x log new adds);
       as_many = length-append groups (g ∷ []) ∙ ap (λ n. n + 1) before.as_many;
       later = λ k y le y_at p c inside. elim (adds.givens (Link y p) c inside) [
         | inl behind ↦ before.later k y (omega (arith, le)) y_at p c behind
         | inr same ↦ not_again k y le y_at (sym (eqb-true y x same))
       ];
-      links = λ k y h y_at h_at. elim (push_cases groups g h k h_at) [
+      links = λ k y h flag_k y_at h_at. elim (pushed_cases groups g h k h_at) [
         | inl last ↦ (
-            let here : slice_get (declared f) i ≡ Some y = ap (slice_get (declared f)) (sym (last.0 ∙ before.as_many))
-            ∙ y_at in
+            let place : k ≡ i = last.0 ∙ before.as_many in
+            let here : slice_get (declared f) i ≡ Some y = ap (slice_get (declared f)) (sym place) ∙ y_at in
             let both : Some x ≡ Some y = sym x_at ∙ here in
             let x_is : x ≡ y = cc in
-            subst (λ z. IsLink f z h new.entries) x_is (subst (λ z. IsLink f x z new.entries) last.1 link))
-        | inr early ↦ (let old_link = before.links k y h y_at early in
+            subst (λ z. IsLink f z h new.entries) x_is (subst (λ z. IsLink f x z new.entries) last.1
+            (link (flag ∙ ap (is_copied_at flags) (sym place) ∙ flag_k))))
+        | inr early ↦ (let old_link = before.links k y h flag_k y_at early in
             link_stays f (IsNamed log.entries) log.entries new.entries keeps y h
             (Selector (group_variable h), old_link.made.named) old_link)
       ];
-      fresh = λ k h h_at. elim (push_cases groups g h k h_at) [
-        | inl last ↦ subst (λ z. name_of old.entries (group_variable z) ≡ None) last.1
-            (unnamed_back old.entries log.entries (keeps_anew f old log before.adds.grew).names
-            (group_variable g) unnamed)
+      made = λ k h h_at. elim (pushed_cases groups g h k h_at) [
+        | inl last ↦ subst (IsMade new.entries) last.1 made
+        | inr early ↦ made_stays log.entries new.entries keeps.names h (before.made k h early)
+      ];
+      fresh = λ k h h_at. elim (pushed_cases groups g h k h_at) [
+        | inl last ↦ subst (λ z. (z ≡ spare) ⊎ (name_of old.entries (group_variable z) ≡ None)) last.1
+            (elim unnamed [
+              | inl same ↦ inl same
+              | inr none ↦ inr (unnamed_back old.entries log.entries (keeps_anew f old log before.adds.grew).names
+                  (group_variable g) none)
+            ])
         | inr early ↦ before.fresh k h early
       ];
     })
@@ -215,14 +216,6 @@ pub unlinked_still : (x g : ℕ) (old new : ProofLog) → new ≡ with_entry old
 unlinked_still x g old new is unlinked = subst (λ (l : ProofLog). IsUnlinked x l.entries) (sym is) (λ i c inside.
     elim (contains_cases (Named g (Selector g)) (Given (Link x i) c) old.entries inside)
     [ inl same ↦ cc | inr behind ↦ unlinked i c behind ])
-
--- the copy at a place, later in the log
-pub copy_there : (old new : List Entry) → NamesStay old new →
-    (side : ℕ) (us : List ℕ) (lits : List Literal) (i x : ℕ) (l : Literal) → AreCopiesOf old side us lits →
-    slice_get us i ≡ Some x → slice_get lits i ≡ Some l → name_literal new l ≡ Some
-    (named_literal (CopyOf side x) false)
-copy_there old new stay side us lits i x l are at is = copy_at new side us lits i x l
-    (named_stay old new stay lits (map (λ v. named_literal (CopyOf side v) false) us) are) at is
 
 pub all_linked : (f : Dqbf) (n i : ℕ) → n ≡ length (declared f) → n ≤ i → i ≤ n → i ≡ length (declared f)
 all_linked f n i same all few = omega (arith, same, all, few)

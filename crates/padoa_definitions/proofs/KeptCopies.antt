@@ -1,21 +1,22 @@
 -- What stays of the copies as the log grows.
-use Rattle.std.proofs.Common.{◌≡◌, ◌≢◌, ◌⊎◌, ℕ, zero, suc, ◌+◌, Bool, true, inl, inr, List, [], ◌∷◌, map, Some, None, slice_get, refl, sym, ◌∙◌, ap, subst, arith}
+use Rattle.std.proofs.Common.{◌≡◌, ◌≢◌, ◌⊎◌, ℕ, zero, suc, ◌+◌, Bool, true, false, inl, inr, List, [], ◌∷◌, ◌++◌, map, get_or, Some, None, slice_get, refl, sym, ◌∙◌, ap, subst, arith}
 use Rattle.std.specs.List.{All, Contains}
-use Rattle.std.proofs.lemmas.List.Elements.{All-head, All-tail, Contains-append_right}
+use Rattle.std.proofs.lemmas.List.Elements.{All-head, All-tail, All-cons, All-nil, Contains-append_left, Contains-append_right}
+use Rattle.std.proofs.lemmas.Option.{slice_get_within, get_or_from_slice_get}
 use Rattle.dq_lits.specs.Literal.{Literal, negative, variable_of}
 use Rattle.dq_lits.specs.Formula.{Dqbf}
 use Rattle.hint_log.specs.Entries.{Entry, Named, Given, Learned, Answer, Round, Begun, ProofLog, name_of}
 use Rattle.hint_log.specs.Growth.{Each, Grew}
-use Rattle.hint_log.specs.Naming.{NamedLiteral}
+use Rattle.hint_log.specs.Naming.{NamedLiteral, named_literal, name_literal, AreNamedAs}
 use Rattle.hint_log.specs.declared.names.Name.{Name}
-use Rattle.hint_log.specs.declared.names.Name.TheVariants.{Selector}
+use Rattle.hint_log.specs.declared.names.Name.TheVariants.{Selector, Copy as CopyOf}
 use Rattle.hint_log.specs.declared.origins.Origin.{Origin}
 use Rattle.log_laws.specs.Engines.{Engine, copies, IsInGroup, IsAddedBy}
 use Rattle.log_laws.proofs.LargerLogs.{each_grown, name_kept}
 use Rattle.log_laws.proofs.Kept.{NamesStay, named_stay}
 use Rattle.oracle.specs.Calls.{IsMade}
 use Rattle.oracle.specs.declared.groups.Group.{Group}
-use Rattle.padoa_definitions.specs.Copies.{IsGroupGiven, IsGivenIn, IsMatrixCopy, IsLink, IsPadoa, group_variable, groups_of}
+use Rattle.padoa_definitions.specs.Copies.{IsGroupGiven, IsSideGiven, IsGivenIn, AreCopies, IsMatrixCopy, IsLink, IsPadoa, all_groups, copy_names, group_variable, groups_of}
 use Rattle.padoa_definitions.specs.Growing.{GrewAnew}
 use Rattle.padoa_definitions.specs.declared.copies.MatrixCopy.{MatrixCopy}
 use Rattle.padoa_definitions.specs.declared.padoa.Padoa.{Padoa}
@@ -36,6 +37,7 @@ pub record Keeps (f : Dqbf) (apart : ℕ → Type 0) (old new : List Entry) : Ty
   pub contains : (e : Entry) → Contains old e → Contains new e
   pub groups : (test : Origin → Bool) (mine : ℕ) → apart mine → Each (IsGroupGiven f test mine) old →
       Each (IsGroupGiven f test mine) new
+  pub sides : (side mine : ℕ) → apart mine → Each (IsSideGiven f side mine) old → Each (IsSideGiven f side mine) new
 
 abbrev pub IsNamed : List Entry → ℕ → Type 0
 IsNamed entries v = (n : Name) × (name_of entries v ≡ Some n)
@@ -45,21 +47,38 @@ in_one_group g mine c a b = let e : negative mine ∷ a.0 ≡ negative g ∷ b.0
 
 module _ (f : Dqbf) (engine : Engine) (group : ℕ) (silent : Bool) (old : List Entry) where
   -- no clause is given to another group
+  not_given : (mine : ℕ) (n : Name) → mine ≢ group → name_of old mine ≡ Some n → (earlier : List Entry)
+      (origin : Origin) (c : List Literal) → IsAddedBy f engine group silent old earlier (Given origin c) →
+      IsInGroup mine c → ⊥
+  not_given mine n apart named earlier origin c h inside =
+      let g = h.in_group.0 in
+      let same = in_one_group g mine c inside h.in_group.1 in
+      elim h.in_group.2 [
+        | inl is_group ↦ apart (same ∙ is_group)
+        | inr unnamed ↦ (let none : name_of old mine ≡ None = ap (name_of old) same ∙ unnamed in cc)
+      ]
+
   other_group : (test : Origin → Bool) (mine : ℕ) (n : Name) → mine ≢ group → name_of old mine ≡ Some n →
       (earlier : List Entry) (e : Entry) →
       IsAddedBy f engine group silent old earlier e → IsGroupGiven f test mine earlier e
   other_group test mine n apart named earlier (Named v m) h = tt
   other_group test mine n apart named earlier (Given origin c) h = λ inside.
-      let g = h.in_group.0 in
-      let same = in_one_group g mine c inside h.in_group.1 in
-      absurd (elim h.in_group.2 [
-        | inl is_group ↦ apart (same ∙ is_group)
-        | inr unnamed ↦ (let none : name_of old mine ≡ None = ap (name_of old) same ∙ unnamed in cc)
-      ])
+      absurd (not_given mine n apart named earlier origin c h inside)
   other_group test mine n apart named earlier (Learned c hints) h = tt
   other_group test mine n apart named earlier (Answer c hints) h = tt
   other_group test mine n apart named earlier (Round row values j) h = tt
   other_group test mine n apart named earlier (Begun live) h = tt
+
+  other_side : (side mine : ℕ) (n : Name) → mine ≢ group → name_of old mine ≡ Some n →
+      (earlier : List Entry) (e : Entry) →
+      IsAddedBy f engine group silent old earlier e → IsSideGiven f side mine earlier e
+  other_side side mine n apart named earlier (Named v m) h = tt
+  other_side side mine n apart named earlier (Given origin c) h = λ inside.
+      absurd (not_given mine n apart named earlier origin c h inside)
+  other_side side mine n apart named earlier (Learned c hints) h = tt
+  other_side side mine n apart named earlier (Answer c hints) h = tt
+  other_side side mine n apart named earlier (Round row values j) h = tt
+  other_side side mine n apart named earlier (Begun live) h = tt
 
 pub keeps_by_engine : (f : Dqbf) (engine : Engine) (group : ℕ) (silent : Bool) (old new : ProofLog) →
     Grew (IsAddedBy f engine group silent old.entries) old new →
@@ -71,6 +90,10 @@ keeps_by_engine f engine group silent old new grew =
       groups = λ test mine apart.
           each_grown (IsAddedBy f engine group silent old.entries) (IsGroupGiven f test mine)
           (other_group f engine group silent old.entries test mine apart.1.0 apart.0 apart.1.1) grew.more old.entries
+          grew.each;
+      sides = λ side mine apart.
+          each_grown (IsAddedBy f engine group silent old.entries) (IsSideGiven f side mine)
+          (other_side f engine group silent old.entries side mine apart.1.0 apart.0 apart.1.1) grew.more old.entries
           grew.each;
     })
 
@@ -87,16 +110,18 @@ keeps_anew f old new grew =
       names = (by 0).names;
       contains = (by 0).contains;
       groups = λ test mine named. (by (mine + 1)).groups test mine (next_differs mine, named);
+      sides = λ side mine named. (by (mine + 1)).sides side mine (next_differs mine, named);
     }
 
 -- entries that neither name nor give
 pub keeps_entry : (f : Dqbf) (e : Entry) (es : List Entry) → NamesStay es (e ∷ es) →
     ((test : Origin → Bool) (mine : ℕ) → IsGroupGiven f test mine es e) →
-    Keeps f (λ mine. Unit {0}) es (e ∷ es)
-keeps_entry f e es names plain = record {
+    ((side mine : ℕ) → IsSideGiven f side mine es e) → Keeps f (λ mine. Unit {0}) es (e ∷ es)
+keeps_entry f e es names plain plain_side = record {
   names = names;
   contains = λ x. contains_later e x es;
   groups = λ test mine apart own. (plain test mine, own);
+  sides = λ side mine apart own. (plain_side side mine, own);
 }
 
 pub given_stays : (f : Dqbf) (apart : ℕ → Type 0) (old new : List Entry) → Keeps f apart old new →
@@ -117,15 +142,41 @@ made_stays old new stay g made = record {
       stay (variable_of g.selector) (Selector (variable_of g.selector)) made.named;
 }
 
+head_named : (es : List Entry) (l : Literal) (n : NamedLiteral) → AreNamedAs es (l ∷ []) (n ∷ []) →
+    name_literal es l ≡ Some n
+head_named es l n are = let here : name_literal es l ≡ Some n = cc in here
+
+-- a name that stays names its literals still
+pub one_stays : (old new : List Entry) → NamesStay old new → (l : Literal) (n : NamedLiteral) →
+    name_literal old l ≡ Some n → name_literal new l ≡ Some n
+one_stays old new stay l n is = head_named new l n (named_stay old new stay (l ∷ []) (n ∷ []) (ap (λ o. o ∷ []) is))
+
+pub copies_stay : (old new : List Entry) → NamesStay old new → (side : ℕ) (flags : List Bool) (xs : List ℕ)
+    (lits : List Literal) → AreCopies old side flags xs lits → AreCopies new side flags xs lits
+copies_stay old new stay side flags xs lits are = record {
+  long = are.long;
+  named = λ k v l flag v_at l_at. one_stays old new stay l (named_literal (CopyOf side v) false)
+      (are.named k v l flag v_at l_at);
+}
+
 pub matrix_stays : (f : Dqbf) (apart : ℕ → Type 0) (old new : List Entry) → Keeps f apart old new →
-    (side : ℕ) (copy : MatrixCopy) → apart (group_variable copy.group) →
-    IsMatrixCopy f side copy old → IsMatrixCopy f side copy new
-matrix_stays f apart old new keeps side copy is_apart m = record {
-  made = made_stays old new keeps.names copy.group m.made;
-  universals = named_stay old new keeps.names copy.universals.items _ m.universals;
+    (side : ℕ) (flags : List Bool) (copy : MatrixCopy) →
+    ((g : Group) → Contains copy.groups.items g → apart (group_variable g)) →
+    IsMatrixCopy f side flags copy old → IsMatrixCopy f side flags copy new
+matrix_stays f apart old new keeps side flags copy are_apart m = record {
+  made = λ k d lt. made_stays old new keeps.names (get_or copy.groups.items k d) (m.made k d lt);
+  universals = copies_stay old new keeps.names side flags f.universals copy.universals.items m.universals;
   existentials = named_stay old new keeps.names copy.existentials.items _ m.existentials;
-  own = keeps.groups _ (group_variable copy.group) is_apart m.own;
-  whole = λ j clause is. given_stays f apart old new keeps (group_variable copy.group) _ _ (m.whole j clause is);
+  own = λ g among. keeps.sides side (group_variable g) (are_apart g among) (m.own g among);
+  whole = λ clause inside.
+      let there = m.whole clause inside in
+      record {
+        group = there.group;
+        among = there.among;
+        origin = there.origin;
+        given = given_stays f apart old new keeps (group_variable there.group) there.origin
+            (copy_names side clause) there.given;
+      };
 }
 
 pub link_stays : (f : Dqbf) (apart : ℕ → Type 0) (old new : List Entry) → Keeps f apart old new → (x : ℕ) (g : Group) →
@@ -136,26 +187,45 @@ link_stays f apart old new keeps x g is_apart l = record {
   whole = λ i is. given_stays f apart old new keeps (group_variable g) _ _ (l.whole i is);
 }
 
-all_at : (apart : ℕ → Type 0) (gs : List Group) (i : ℕ) (g : Group) → All apart (map group_variable gs) →
-    slice_get gs i ≡ Some g → apart (group_variable g)
-all_at apart [] i g all at = cc
-all_at apart (h ∷ gs) zero g all at =
-    let same : h ≡ g = cc in
-    subst (λ x. apart (group_variable x)) same (All-head apart (group_variable h) (map group_variable gs) all)
-all_at apart (h ∷ gs) (suc i) g all at = all_at apart gs i g
-    (All-tail apart (group_variable h) (map group_variable gs) all) at
+-- what holds of all groups' variables
+pub of_mapped : (P : ℕ → Type 0) (gs : List Group) (g : Group) → All P (map group_variable gs) → Contains gs g →
+    P (group_variable g)
+of_mapped P [] g all (k, lt, at) = absurd (omega (arith, lt))
+of_mapped P (h ∷ gs) g all (zero, lt, at) = subst (λ x. P (group_variable x)) at
+    (All-head P (group_variable h) (map group_variable gs) all)
+of_mapped P (h ∷ gs) g all (suc k, lt, at) = of_mapped P gs g
+    (All-tail P (group_variable h) (map group_variable gs) all) (k, omega (arith, lt), at)
+
+pub to_mapped : (P : ℕ → Type 0) (gs : List Group) → ((g : Group) → Contains gs g → P (group_variable g)) →
+    All P (map group_variable gs)
+to_mapped P [] each = All-nil P
+to_mapped P (g ∷ gs) each = All-cons P (group_variable g) (map group_variable gs) (each g (0, omega arith, refl))
+    (to_mapped P gs (λ h among. each h (further h among)))
+  where
+    further : (h : Group) → Contains gs h → Contains (g ∷ gs) h
+    further h (k, lt, at) = (suc k, omega (arith, lt), at)
+
+pub group_element : (gs : List Group) (k : ℕ) (g : Group) → slice_get gs k ≡ Some g → Contains gs g
+group_element gs k g at = (k, slice_get_within gs k g at, get_or_from_slice_get gs k g g at)
 
 pub padoa_stays : (f : Dqbf) (apart : ℕ → Type 0) (old new : List Entry) → Keeps f apart old new → (p : Padoa) →
     All apart (groups_of p) → IsPadoa f p old → IsPadoa f p new
 padoa_stays f apart old new keeps p all is =
-    let first = group_variable p.first.group in
-    let second = group_variable p.second.group in
-    let links = map group_variable p.links.items in
-    let rest = All-tail apart first (second ∷ links) all in
+    let of_second = p.second.groups.items ++ p.links.items in
+    let each : (g : Group) → Contains (all_groups p) g → apart (group_variable g) =
+    λ g among. of_mapped apart (all_groups p) g all among in
     record {
-      first = matrix_stays f apart old new keeps 1 p.first (All-head apart first (second ∷ links) all) is.first;
-      second = matrix_stays f apart old new keeps 2 p.second (All-head apart second links rest) is.second;
+      as_many_flags = is.as_many_flags;
+      covered = is.covered;
+      first = matrix_stays f apart old new keeps 1 p.copied.items p.first
+          (λ g among. each g (Contains-append_left p.first.groups.items of_second g among)) is.first;
+      second = matrix_stays f apart old new keeps 2 p.copied.items p.second
+          (λ g among. each g (Contains-append_right p.first.groups.items of_second g
+          (Contains-append_left p.second.groups.items p.links.items g among))) is.second;
       as_many = is.as_many;
-      links = λ i x g x_is g_is. link_stays f apart old new keeps x g
-          (all_at apart p.links.items i g (All-tail apart second links rest) g_is) (is.links i x g x_is g_is);
+      links_made = λ k d lt. made_stays old new keeps.names (get_or p.links.items k d) (is.links_made k d lt);
+      links = λ i x g flag x_is g_is. link_stays f apart old new keeps x g
+          (each g (Contains-append_right p.first.groups.items of_second g
+          (Contains-append_right p.second.groups.items p.links.items g (group_element p.links.items i g g_is))))
+          (is.links i x g flag x_is g_is);
     }

@@ -5,6 +5,10 @@ pub mod GivenEquations
 pub mod MadeCopies
 pub mod SeenPlaces
 pub mod DeclaredPlaces
+pub mod KeptPlaces
+pub mod MarkedVariables
+pub mod SideClauses
+pub mod MetConditions
 pub mod Reached
 pub mod DividedAnswers
 pub mod SharedVariables

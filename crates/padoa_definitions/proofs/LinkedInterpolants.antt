@@ -17,10 +17,10 @@ use Rattle.aig_graph.specs.declared.nodes.Node.{Node}
 use Rattle.interpolants.specs.Interpolant.{Partition, SideHolds, Agrees, is_on_a, IsInterpolant}
 use Rattle.interpolants.proofs.Truth.{same_literal-sound}
 use Rattle.log_laws.proofs.Found.{named_variable}
-use Rattle.padoa_definitions.specs.Copies.{copy_names}
+use Rattle.padoa_definitions.specs.Copies.{copy_names, IsCopyGiven}
 use Rattle.padoa_definitions.specs.Defining.{DefinitionsAreForced}
 use Rattle.padoa_definitions.specs.Ruling.{copy_value, value_by, copied_assignment}
-use Rattle.padoa_definitions.specs.Dividing.{asked_of, IsCopyGiven, IsLinkGiven, IsSelectorLiteral, IsCopyLiteral, Divides, AreSharedCopies, IsDefinitionAt}
+use Rattle.padoa_definitions.specs.Dividing.{asked_of, IsLinkGiven, IsSelectorLiteral, IsCopyLiteral, Divides, AreSharedCopies, IsDefinitionAt}
 
 abbrev pub signed : Bool → Bool → Bool
 signed negated b = cond negated (not b) b

@@ -1,24 +1,25 @@
 -- Values of the first copy, as a sample in which an existential has the other bit.
-use Rattle.std.proofs.Common.{◌≡◌, ℕ, suc, Bool, true, false, not, List, [], ◌∷◌, map, Some, refl, sym, ◌∙◌, ap, arith}
-use Rattle.std.specs.List.{Contains}
-use Rattle.std.proofs.lemmas.List.Elements.{All-head, All-tail}
+use Rattle.std.proofs.Common.{◌≡◌, ℕ, suc, Bool, true, false, not, inl, inr, List, [], ◌∷◌, map, Some, refl, sym, ◌∙◌, ap, arith}
+use Rattle.std.specs.List.{All, Contains}
 use Rattle.dq_lits.specs.Derivation.{holds}
 use Rattle.dq_lits.specs.Expansion.{row_assignment}
 use Rattle.dq_lits.specs.Formula.{Dqbf, Existential, IsWellFormed, declared}
 use Rattle.dq_lits.specs.Literal.{Assignment, Literal, variable_of, literal_true}
-use Rattle.dq_lits.specs.Row.{assignment_of}
 use Rattle.hint_log.specs.Entries.{Entry, clause_at, name_of}
 use Rattle.hint_log.specs.Naming.{named_literal, name_literal}
 use Rattle.hint_log.specs.declared.names.Name.{Name}
 use Rattle.hint_log.specs.declared.names.Name.TheVariants.{Copy as CopyOf}
 use Rattle.log_laws.proofs.Found.{named_variable}
 use Rattle.oracle.specs.Calls.{IsModelUnder, assumed}
-use Rattle.padoa_definitions.specs.Copies.{group_variable, IsPadoa}
-use Rattle.padoa_definitions.specs.Dividing.{values_at}
+use Rattle.oracle.specs.declared.groups.Group.{Group}
+use Rattle.padoa_definitions.specs.Copies.{group_variable, IsCopied, IsPadoa}
+use Rattle.padoa_definitions.specs.Dividing.{AreBits, values_at}
 use Rattle.padoa_definitions.specs.Forcing.{IsLoose}
 use Rattle.padoa_definitions.specs.declared.padoa.Padoa.{Padoa}
-use Rattle.padoa_definitions.proofs.AskedLiterals.{AreAsked, not_not}
-use Rattle.padoa_definitions.proofs.FreePairs.{positive_true, assigned, sample, copied_value}
+use Rattle.padoa_definitions.proofs.AskedLiterals.{AreAsked, IsSeenAsked, not_not}
+use Rattle.padoa_definitions.proofs.FreePairs.{all_there, groups_on, sample, copied_value, universal_bit}
+use Rattle.padoa_definitions.proofs.GivenClauses.{universals_distinct}
+use Rattle.padoa_definitions.proofs.KeptPlaces.{bit_at}
 use Rattle.padoa_definitions.proofs.LinkedInterpolants.{signed, literal_signed, held_of_all}
 
 same_map : (m n : Assignment) (xs : List ℕ) → ((x : ℕ) → Contains xs x → m x ≡ n x) → map m xs ≡ map n xs
@@ -39,14 +40,18 @@ module _ (f : Dqbf) (y : Existential) (p : Padoa) (row : List Bool) (bit : Bool)
     (asked : List Literal) (formula : IsWellFormed f)
     (unique : (v w : ℕ) (name : Name) → name_of es v ≡ Some name → name_of es w ≡ Some name → v ≡ w)
     (padoa : IsPadoa f p es) (are : AreAsked f es y row bit asked)
-    (y_declared : Contains (declared f) y.variable) (seen_universal : (x : ℕ) → Contains y.sees x →
-    Contains f.universals x)
-    (model : IsModelUnder values (clause_at es) (assumed (p.first.group ∷ []) asked)) (other bits : List Bool)
-    (other_is : other ≡ values_at values p.first.universals.items)
+    (seen : (x : ℕ) → Contains y.sees x → IsSeenAsked f es p.copied.items row asked x)
+    (y_declared : Contains (declared f) y.variable) (y_copied : IsCopied f p.copied.items y.variable)
+    (seen_universal : (x : ℕ) → Contains y.sees x → Contains f.universals x)
+    (model : IsModelUnder values (clause_at es) (assumed p.first.groups.items asked)) (other bits : List Bool)
+    (other_is : AreBits values p.copied.items row p.first.universals.items other)
     (bits_are : bits ≡ values_at values p.first.existentials.items) where
-  first_on : values (group_variable p.first.group) ≡ true
-  first_on = positive_true values p.first.group.selector padoa.first.made.positive
-      (All-head (λ l. literal_true values l ≡ true) p.first.group.selector asked model.assumptions_true)
+  on : ((g : Group) → Contains p.first.groups.items g → literal_true values g.selector ≡ true)
+      × All (λ l. literal_true values l ≡ true) asked
+  on = all_there (λ l. literal_true values l ≡ true) p.first.groups.items asked model.assumptions_true
+
+  first_on : (g : Group) → Contains p.first.groups.items g → values (group_variable g) ≡ true
+  first_on = groups_on es values p.first.groups.items padoa.first.made on.0
 
   -- a copy that was asked for has the value that was asked
   value_of : (l : Literal) (x : ℕ) (s : Bool) → holds asked l ≡ true →
@@ -54,29 +59,34 @@ module _ (f : Dqbf) (y : Existential) (p : Padoa) (row : List Bool) (bit : Bool)
       (name_of es (variable_of l) ≡ Some (CopyOf 1 x)) × (values (variable_of l) ≡ not s)
   value_of l x s h is =
       let named = named_variable es l (CopyOf 1 x) s (name_of es (variable_of l)) refl is in
-      let on = held_of_all (λ k. literal_true values k ≡ true) asked
-      (All-tail (λ k. literal_true values k ≡ true) p.first.group.selector asked model.assumptions_true) l h in (
+      let is_true = held_of_all (λ k. literal_true values k ≡ true) asked on.1 l h in (
         named.0,
         signed_true s (values (variable_of l)) (sym (literal_signed values l ∙ ap
-            (λ b. signed b (values (variable_of l))) named.1) ∙ on),
+            (λ b. signed b (values (variable_of l))) named.1) ∙ is_true),
       )
 
   agree_at : (x : ℕ) → Contains y.sees x → row_assignment f other x ≡ row_assignment f row x
-  agree_at x among =
-      let l = are.seen x among in
-      let v = value_of l.0 x (not (row_assignment f row x)) l.1 l.2 in
-      ap (λ r. assignment_of f.universals r x) other_is
-      ∙ assigned f es values formula unique model.clauses 1 f.universals p.first.universals.items padoa.first.universals
-      x (variable_of l.0) (seen_universal x among) v.0
-      ∙ v.1 ∙ not_not (row_assignment f row x)
+  agree_at x among = elim (seen x among) [
+    | inl there ↦ (
+        let l = there.1 in
+        let v = value_of l.0 x (not (row_assignment f row x)) l.1 l.2 in
+        universal_bit f es values formula unique model.clauses 1 p.copied.items p.first padoa.first padoa.covered row
+        other bits other_is bits_are first_on x (variable_of l.0) (seen_universal x among) there.0 v.0
+        ∙ v.1 ∙ not_not (row_assignment f row x))
+    | inr none ↦ (
+        let us = f.universals in
+        let distinct = universals_distinct f formula.prefix in
+        bit_at us other none.0 x distinct none.1 ∙ other_is.rest none.0 none.2
+        ∙ sym (bit_at us row none.0 x distinct none.1))
+  ]
 
   pub loose : IsLoose f y row bit other bits
   loose = record {
-    sample = sample f es values formula unique model.clauses 1 p.first padoa.first other bits other_is bits_are
-        first_on;
+    sample = sample f es values formula unique model.clauses 1 p.copied.items p.first padoa.first padoa.covered row
+        other bits other_is bits_are first_on;
     agree = same_map (row_assignment f other) (row_assignment f row) y.sees agree_at;
     differs =
         let v = value_of are.own.0 y.variable bit are.own.1 are.own.2 in
-        copied_value f es values formula unique model.clauses 1 p.first padoa.first other bits other_is bits_are
-        first_on y.variable (variable_of are.own.0) y_declared v.0 ∙ v.1;
+        copied_value f es values formula unique model.clauses 1 p.copied.items p.first padoa.first padoa.covered row
+        other bits other_is bits_are first_on y.variable (variable_of are.own.0) y_declared y_copied v.0 ∙ v.1;
   }

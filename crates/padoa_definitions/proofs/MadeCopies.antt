@@ -1,8 +1,11 @@
 -- The copies as they are made, step by step.
-use Rattle.std.proofs.Common.{◌≡◌, ℕ, suc, ◌==◌, Bool, true, false, cond, inl, inr, List, [], ◌∷◌, map, length, slice_get, Some, None, refl, sym, ◌∙◌, ap, subst}
+use Rattle.std.proofs.Common.{◌≡◌, ℕ, ◌==◌, Bool, true, false, cond, inl, inr, List, [], ◌∷◌, ◌++◌, length, get_or, slice_get, Some, None, refl, sym, ◌∙◌, ap, subst}
 use Rattle.std.specs.List.{All, Contains}
 use Rattle.std.proofs.lemmas.Bool.{eqb-true}
-use Rattle.std.proofs.lemmas.List.Elements.{All-cons, All-nil}
+use Rattle.std.proofs.lemmas.List.Elements.{All-contains, Contains-append_cases}
+use Rattle.std.proofs.lemmas.Option.{slice_get-get_or}
+use Rattle.dq_lits.specs.Literal.{Literal, variable_of}
+use Rattle.oracle.specs.Calls.{IsMade}
 use Rattle.dq_lits.specs.Formula.{Dqbf, declared}
 use Rattle.hint_log.specs.Entries.{Entry, Named, Given, Learned, Answer, Round, Begun, ProofLog, name_of}
 use Rattle.hint_log.specs.Growth.{Grew}
@@ -11,10 +14,10 @@ use Rattle.hint_log.specs.declared.names.Name.TheVariants.{Selector, Copy as Cop
 use Rattle.hint_log.specs.declared.origins.Origin.TheVariants.{Copy, Link}
 use Rattle.log_laws.specs.Engines.{copies, IsAddedBy, HasNone}
 use Rattle.oracle.specs.declared.groups.Group.{Group}
-use Rattle.padoa_definitions.specs.Copies.{is_copy_of, group_variable, IsMatrixCopy, IsPadoa, groups_of}
+use Rattle.padoa_definitions.specs.Copies.{is_copy_of, is_copied_at, group_variable, IsCopied, IsLink, IsMatrixCopy, IsPadoa, all_groups, groups_of}
 use Rattle.padoa_definitions.specs.Growing.{GrewAnew, HasFewFaults, Adds, is_any_link, AreUncopied, AreUngiven, IsUnlinked, AreLinkedSoFar}
 use Rattle.padoa_definitions.specs.declared.padoa.Padoa.{Padoa}
-use Rattle.padoa_definitions.proofs.KeptCopies.{IsNamed, contains_first, contains_later, keeps_anew, matrix_stays}
+use Rattle.padoa_definitions.proofs.KeptCopies.{IsNamed, contains_first, contains_later, keeps_anew, matrix_stays, to_mapped}
 use Rattle.padoa_definitions.proofs.GivenClauses.{few_anew, anew_then, unnamed_back}
 
 -- a name stands in the log
@@ -44,12 +47,6 @@ ungiven_yet side es none j c inside = none (Given (Copy side j) c) refl inside
 grew_all : (f : Dqbf) (old new : ProofLog) → GrewAnew f old new → (group : ℕ) →
     Grew (IsAddedBy f copies group true old.entries) old new
 grew_all f old new grew group = grew group old.entries (λ v none. none)
-
-pub all_groups : (P : ℕ → Type 0) (gs : List Group) → ((k : ℕ) (g : Group) → slice_get gs k ≡ Some g →
-    P (group_variable g)) → All P (map group_variable gs)
-all_groups P [] each = All-nil P
-all_groups P (g ∷ gs) each = All-cons P (group_variable g) (map group_variable gs) (each 0 g refl)
-    (all_groups P gs (λ k h at. each (suc k) h at))
 
 module _ (f : Dqbf) (old first : ProofLog) (none : HasNone copies old.entries) (few : HasFewFaults old.entries)
     (first_adds : Adds f 1 (is_copy_of 1) old first) where
@@ -93,34 +90,51 @@ module _ (f : Dqbf) (old first : ProofLog) (none : HasNone copies old.entries) (
       pub third_grew : (group : ℕ) → Grew (IsAddedBy f copies group true old.entries) old third
       third_grew = grew_all f old third third_anew
 
-      module _ (p : Padoa) (first_copy : IsMatrixCopy f 1 p.first first.entries)
-          (second_copy : IsMatrixCopy f 2 p.second second.entries)
-          (linked : AreLinkedSoFar f (length (declared f)) second third p.links.items) where
-        pub padoa_made : IsPadoa f p third.entries
-        padoa_made =
+      module _ (flags : List Bool) (spare : Group) (p : Padoa)
+          (first_copy : IsMatrixCopy f 1 flags p.first first.entries)
+          (second_copy : IsMatrixCopy f 2 flags p.second second.entries)
+          (linked : AreLinkedSoFar f flags spare (length (declared f)) second third p.links.items) where
+        made_named : (es : List Entry) (gs : List Group) → All (IsMade es) gs → (g : Group) → Contains gs g →
+            IsNamed es (group_variable g)
+        made_named es gs made g among = (Selector (group_variable g), (All-contains (IsMade es) gs g made among).named)
+
+        pub padoa_made : length flags ≡ length f.universals →
+            ((clause : List Literal) → Contains f.matrix clause → All (λ l. IsCopied f flags (variable_of l)) clause) →
+            p.copied.items ≡ flags → IsPadoa f p third.entries
+        padoa_made as_many covered flags_are =
             let one = keeps_anew f first second second_adds.grew in
             let two = keeps_anew f second third third_adds.grew in
-            let middle = matrix_stays f (IsNamed first.entries) first.entries second.entries one 1 p.first
-            (Selector (group_variable p.first.group), first_copy.made.named) first_copy in
+            let middle = matrix_stays f (IsNamed first.entries) first.entries second.entries one 1 flags p.first
+            (made_named first.entries p.first.groups.items first_copy.made) first_copy in
             record {
-              first = matrix_stays f (IsNamed second.entries) second.entries third.entries two 1 p.first
-                  (Selector (group_variable p.first.group), middle.made.named) middle;
-              second = matrix_stays f (IsNamed second.entries) second.entries third.entries two 2 p.second
-                  (Selector (group_variable p.second.group), second_copy.made.named) second_copy;
+              as_many_flags = ap length flags_are ∙ as_many;
+              covered = subst (λ fs. (clause : List Literal) → Contains f.matrix clause →
+                  All (λ l. IsCopied f fs (variable_of l)) clause) (sym flags_are) covered;
+              first = subst (λ fs. IsMatrixCopy f 1 fs p.first third.entries) (sym flags_are)
+                  (matrix_stays f (IsNamed second.entries) second.entries third.entries two 1 flags p.first
+                  (made_named second.entries p.first.groups.items middle.made) middle);
+              second = subst (λ fs. IsMatrixCopy f 2 fs p.second third.entries) (sym flags_are)
+                  (matrix_stays f (IsNamed second.entries) second.entries third.entries two 2 flags p.second
+                  (made_named second.entries p.second.groups.items second_copy.made) second_copy);
               as_many = linked.as_many;
-              links = linked.links;
+              links_made = λ k d lt. linked.made k (get_or p.links.items k d) (slice_get-get_or p.links.items k d lt);
+              links = subst (λ fs. (i x : ℕ) (g : Group) → is_copied_at fs i ≡ true → slice_get (declared f) i ≡ Some x →
+                  slice_get p.links.items i ≡ Some g → IsLink f x g third.entries) (sym flags_are) linked.links;
             }
 
-        pub groups_fresh : name_of old.entries (group_variable p.first.group) ≡ None →
-            name_of first.entries (group_variable p.second.group) ≡ None →
-            All (λ g. name_of old.entries g ≡ None) (groups_of p)
-        groups_fresh one two =
-            let P : ℕ → Type 0 = λ g. name_of old.entries g ≡ None in
-            let a = group_variable p.first.group in
-            let b = group_variable p.second.group in
-            let links = map group_variable p.links.items in
-            All-cons P a (b ∷ links) one
-            (All-cons P b links (unnamed_back old.entries first.entries
-            (keeps_anew f old first first_adds.grew).names b two)
-            (all_groups P p.links.items (λ k g at. unnamed_back old.entries second.entries
-            (keeps_anew f old second second_anew).names (group_variable g) (linked.fresh k g at))))
+        pub groups_fresh : ((g : Group) → Contains p.first.groups.items g → name_of old.entries (group_variable g) ≡ None) →
+            ((g : Group) → Contains p.second.groups.items g → name_of first.entries (group_variable g) ≡ None) →
+            Contains p.first.groups.items spare → All (λ g. name_of old.entries g ≡ None) (groups_of p)
+        groups_fresh one two among_first = to_mapped (λ g. name_of old.entries g ≡ None) (all_groups p) (λ g among.
+            elim (Contains-append_cases p.first.groups.items (p.second.groups.items ++ p.links.items) g among) [
+              | inl in_first ↦ one g in_first
+              | inr behind ↦ elim (Contains-append_cases p.second.groups.items p.links.items g behind) [
+                | inl in_second ↦ unnamed_back old.entries first.entries (keeps_anew f old first first_adds.grew).names
+                    (group_variable g) (two g in_second)
+                | inr link ↦ elim (linked.fresh link.0 g (slice_get-get_or p.links.items link.0 g link.1 ∙ ap Some link.2)) [
+                  | inl same ↦ one g (subst (Contains p.first.groups.items) (sym same) among_first)
+                  | inr none ↦ unnamed_back old.entries second.entries (keeps_anew f old second second_anew).names
+                      (group_variable g) none
+                ]
+              ]
+            ])

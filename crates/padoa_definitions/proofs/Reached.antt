@@ -21,7 +21,8 @@ use Rattle.log_laws.proofs.ReachedClauses.{answer_true, name_stays}
 use Rattle.log_laws.proofs.Kept.{NamesStay}
 use Rattle.hint_log.specs.ProductiveLog.{MatchesOrigin}
 use Rattle.oracle.specs.Searched.{IsSearched, IsGivenToGroup, IsOfGroup}
-use Rattle.padoa_definitions.specs.Copies.{IsGroupGiven}
+use Rattle.padoa_definitions.specs.Copies.{is_copy_of, IsCopyGiven, IsGroupGiven, IsSideGiven}
+use Rattle.padoa_definitions.proofs.SideClauses.{copy_given_stays}
 
 -- the law of derived lines
 abbrev pub LinesAreImplied : Type 0
@@ -155,6 +156,15 @@ module _ (f : Dqbf) (es : List Entry) (clause : List Literal) (hints : List ℕ)
       each_at (IsGroupGiven f test h) (Answer clause hints ∷ is.more) is.earlier (Given origin c)
       (subst (Each (IsGroupGiven f test h)) more_split own)
       (is.grouped.rest, is.grouped.clause_is ∙ ap (λ k. negative k ∷ is.grouped.rest) same)
+
+  pub side_at : (side h : ℕ) → is.grouped.group ≡ h →
+      Each (IsSideGiven f side h) (Answer clause hints ∷ es) →
+      (is_copy_of side origin ≡ true) × IsCopyGiven (Answer clause hints ∷ es) f side c
+  side_at side h same own =
+      let r = each_at (IsSideGiven f side h) (Answer clause hints ∷ is.more) is.earlier (Given origin c)
+      (subst (Each (IsSideGiven f side h)) more_split own)
+      (is.grouped.rest, is.grouped.clause_is ∙ ap (λ k. negative k ∷ is.grouped.rest) same) in
+      (r.0, copy_given_stays is.earlier (Answer clause hints ∷ es) f side c earlier_stay r.1)
 
 -- a clause of negated selectors isn't true everywhere
 abbrev all_true : Assignment

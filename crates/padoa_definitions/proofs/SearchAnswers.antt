@@ -1,7 +1,7 @@
 -- What a search leaves and shows.
-use Rattle.std.proofs.Common.{◌≡◌, ◌≢◌, ℕ, zero, suc, ◌+◌, ◌<◌, Bool, true, false, List, [], ◌∷◌, ◌++◌, map, length, get_or, Some, IsSome, slice_get, refl, sym, ◌∙◌, ap, subst, arith}
+use Rattle.std.proofs.Common.{◌≡◌, ◌≢◌, ℕ, zero, suc, ◌+◌, ◌<◌, Bool, true, false, inl, inr, List, [], ◌∷◌, ◌++◌, map, length, get_or, Some, IsSome, refl, sym, ◌∙◌, ap, subst, arith}
 use Rattle.std.specs.List.{All, Contains}
-use Rattle.std.proofs.lemmas.List.Elements.{All-cons, All-nil, Contains-get_or, Contains-append_right}
+use Rattle.std.proofs.lemmas.List.Elements.{All-cons, All-nil, Contains-get_or, Contains-append_left, Contains-append_right, Contains-append_cases}
 use Rattle.std.proofs.lemmas.Option.{slice_get_within, slice_get-get_or}
 use Rattle.dq_lits.specs.Literal.{Literal, positive, negative, variable_of}
 use Rattle.dq_lits.specs.Formula.{Dqbf, Existential, existential_of, declared}
@@ -20,12 +20,12 @@ use Rattle.oracle.specs.Searched.{IsSearched}
 use Rattle.oracle.specs.declared.groups.Group.{Group}
 use Rattle.oracle.specs.declared.oracles.Answer.{Answer as AnswerOf}
 use Rattle.oracle.specs.declared.oracles.Answer.TheVariants.{Sat, Unsat}
-use Rattle.padoa_definitions.specs.Copies.{groups_of, AreCopiesOf, IsPadoa, copy_names}
-use Rattle.padoa_definitions.specs.Dividing.{asked_of, IsAsked, AreActive, ShowsDefinition}
+use Rattle.padoa_definitions.specs.Copies.{all_groups, groups_of, is_copied_at, AreCopies, AreCopiesOf, IsPadoa, copy_names}
+use Rattle.padoa_definitions.specs.Dividing.{asked_of, IsAsked, AreActive, AreTold, ShowsDefinition}
 use Rattle.padoa_definitions.specs.declared.asking.Asked.{Asked}
 use Rattle.padoa_definitions.specs.declared.padoa.Padoa.{Padoa}
-use Rattle.padoa_definitions.proofs.KeptCopies.{Keeps, IsNamed, keeps_by_engine, keeps_entry, padoa_stays}
-use Rattle.padoa_definitions.proofs.StandingCopies.{groups_named}
+use Rattle.padoa_definitions.proofs.KeptCopies.{Keeps, IsNamed, group_element, keeps_by_engine, keeps_entry, padoa_stays}
+use Rattle.padoa_definitions.proofs.StandingCopies.{groups_made, groups_named}
 use Rattle.padoa_definitions.proofs.Reached.{LinesAreImplied, undecided_answer}
 use Rattle.padoa_definitions.proofs.DividedAnswers.{divides, only_copies}
 use Rattle.definition_order.proofs.Declared.{find_sound, some_existential}
@@ -61,6 +61,7 @@ keeps_learned f old new grew =
       names = (by 0).names;
       contains = (by 0).contains;
       groups = λ test mine named. (by (mine + 1)).groups test mine (next_differs mine, named);
+      sides = λ side mine named. (by (mine + 1)).sides side mine (next_differs mine, named);
     }
 
 pub names_learned : (old new : ProofLog) → Dqbf → Grew IsLearnedEntry old new → NamesStay old.entries new.entries
@@ -79,21 +80,23 @@ places_below places n m same within = subst (λ b. All (λ k. k < b) places) (sy
 
 pub active_made : (f : Dqbf) (p : Padoa) (es : List Entry) (places : List ℕ) (active : List Group) → IsPadoa f p es →
     AreActive p places active → All (IsMade es) active
-active_made f p es places active padoa are =
-    subst (All (IsMade es)) (sym are.active_is) (All-cons (IsMade es) p.first.group
-    (p.second.group ∷ are.links) padoa.first.made
-    (All-cons (IsMade es) p.second.group are.links padoa.second.made
-    (all_links are.links (λ g among. made g (are.sound g among)))))
+active_made f p es places active padoa are k d lt =
+    groups_made f p es padoa (get_or active k d) (among (get_or active k d) (Contains-get_or active k d lt))
   where
-    all_links : (gs : List Group) → ((g : Group) → Contains gs g → IsMade es g) → All (IsMade es) gs
-    all_links gs each k d lt = each (get_or gs k d) (Contains-get_or gs k d lt)
-
-    made : (g : Group) → ((k : ℕ) × Contains places k × (slice_get p.links.items k ≡ Some g)) → IsMade es g
-    made g r =
-        let lt = slice_get_within p.links.items r.0 g r.2 in
-        let many = padoa.as_many in
-        let x_is = slice_get-get_or (declared f) r.0 0 (omega (arith, lt, many)) in
-        (padoa.links r.0 (get_or (declared f) r.0 0) g x_is r.2).made
+    among : (g : Group) → Contains active g → Contains (all_groups p) g
+    among g inside =
+        let behind = p.second.groups.items ++ p.links.items in
+        elim (Contains-append_cases p.first.groups.items (p.second.groups.items ++ are.links) g
+        (subst (λ gs. Contains gs g) are.active_is inside)) [
+          | inl one ↦ Contains-append_left p.first.groups.items behind g one
+          | inr later ↦ Contains-append_right p.first.groups.items behind g
+              (elim (Contains-append_cases p.second.groups.items are.links g later) [
+                | inl two ↦ Contains-append_left p.second.groups.items p.links.items g two
+                | inr link ↦ (
+                    let r = are.sound g link in
+                    Contains-append_right p.second.groups.items p.links.items g (group_element p.links.items r.0 g r.2))
+              ])
+        ]
 
 -- a search that ends with an answer, whatever was assumed
 module _ (f : Dqbf) (p : Padoa) (assumptions : List Literal) (old new : ProofLog) (id : ℕ)
@@ -110,7 +113,7 @@ module _ (f : Dqbf) (p : Padoa) (assumptions : List Literal) (old new : ProofLog
   pub padoa_answered : IsPadoa f p (Answer r.clause r.hints ∷ r.before.entries)
   padoa_answered =
       padoa_stays f (λ mine. Unit {0}) r.before.entries (answer ∷ r.before.entries)
-      (keeps_entry f answer r.before.entries (λ w n named. named) (λ test mine. tt)) p (all_plain (groups_of p))
+      (keeps_entry f answer r.before.entries (λ w n named. named) (λ test mine. tt) (λ side mine. tt)) p (all_plain (groups_of p))
       (padoa_learned f p old r.before r.learned padoa)
 
   pub padoa_refuted : IsPadoa f p new.entries
@@ -139,6 +142,7 @@ module _ (implied : LinesAreImplied)
     (f : Dqbf) (places : List ℕ) (v : ℕ) (conditions : List Literal) (p : Padoa) (active : List Group) (asked : Asked)
     (old new : ProofLog) (id : ℕ)
     (padoa : IsPadoa f p old.entries) (within : All (λ k. k < length (declared f)) places)
+    (flagged : All (λ k. is_copied_at p.copied.items k ≡ true) places)
     (are_active : AreActive p places active) (are : IsAsked old.entries v conditions asked)
     (searched : IsSearched new.entries) (r : IsRefutedUnder old new
     (assumed active (asked.first.items ++ asked.second.items)) id) where
@@ -169,7 +173,7 @@ module _ (implied : LinesAreImplied)
         derived = searched_there.derived;
         divides = divides f v conditions p places active asked.first.items asked.second.items all r.before.entries
             r.clause r.hints stays are_ids refl searched_there
-            (padoa_answered f p under old new id padoa r) within are_active first_there second_there r.negated;
+            (padoa_answered f p under old new id padoa r) within flagged are_active first_there second_there r.negated;
       }))
 
   pub refuted_grew : (group : ℕ) → Grew (IsAddedBy f copies group true old.entries) old new
@@ -178,7 +182,7 @@ module _ (implied : LinesAreImplied)
       (undecided_answer implied f r.before.entries r.clause r.hints searched_there
       (only_copies f v conditions p places active asked.first.items asked.second.items all r.before.entries r.clause
       r.hints stays are_ids refl searched_there
-      (padoa_answered f p under old new id padoa r) within are_active first_there second_there r.negated))
+      (padoa_answered f p under old new id padoa r) within flagged are_active first_there second_there r.negated))
 
 -- the assumptions, as they were put together
 pub two_joined : (xs ys first second lits joined : List Literal) → xs ≡ first → ys ≡ second → lits ≡ xs ++ ys →
@@ -229,3 +233,14 @@ copies_told es side (v ∷ vs) (l ∷ lits) P are made =
     let named = named_variable es l (CopyOf side v) false (name_of es (variable_of l)) refl here in
     All-cons (λ k. P (variable_of k)) l lits (made (variable_of l) (subst IsSome (sym named.0) refl))
     (copies_told es side vs lits P later made)
+
+-- of those of the universals that have some
+pub flags_told : (es : List Entry) (side : ℕ) (flags : List Bool) (vs : List ℕ) (lits : List Literal) (P : ℕ → Type 0) →
+    AreCopies es side flags vs lits → ((v : ℕ) → IsSome (name_of es v) → P v) → AreTold P flags lits
+flags_told es side flags vs lits P are made k l flag at =
+    let lt = slice_get_within lits k l at in
+    let long = are.long in
+    let v = get_or vs k 0 in
+    let is = are.named k v l flag (slice_get-get_or vs k 0 (omega (arith, lt, long))) at in
+    let named = named_variable es l (CopyOf side v) false (name_of es (variable_of l)) refl is in
+    made (variable_of l) (subst IsSome (sym named.0) refl)

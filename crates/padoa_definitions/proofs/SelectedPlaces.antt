@@ -1,11 +1,16 @@
 -- What is selected by places, one by one.
-use Rattle.std.proofs.Common.{◌≡◌, ℕ, zero, suc, ◌+◌, ◌-◌, ◌<◌, ◌≤◌, Bool, false, List, [], ◌∷◌, ◌++◌, map, take, set, replicate, length, get_or, Some, refl, sym, ◌∙◌, ap, subst, arith}
+use Rattle.std.proofs.Common.{◌≡◌, ℕ, zero, suc, ◌+◌, ◌-◌, ◌<◌, ◌≤◌, Bool, true, false, true≢false, cond, inl, inr, filter, slice_get, List, [], ◌∷◌, ◌++◌, map, take, set, replicate, length, get_or, Some, refl, sym, ◌∙◌, ap, append_assoc, subst, arith}
 use Rattle.std.specs.List.{All, Contains}
 use Rattle.std.proofs.lemmas.List.{append-nil, take_all, take_more, map-append}
-use Rattle.std.proofs.lemmas.Option.{slice_get-get_or, get_or_from_slice_get}
-use Rattle.dq_lits.specs.Literal.{Literal}
+use Rattle.std.proofs.lemmas.Bool.{cases_lt}
+use Rattle.std.proofs.lemmas.List.{length-set, get_or-set_same, get_or-set_other}
+use Rattle.std.proofs.lemmas.List.Elements.{filter-append}
+use Rattle.std.proofs.lemmas.Option.{slice_get-get_or, slice_get_within, get_or_from_slice_get}
+use Rattle.dq_lits.specs.Literal.{Assignment, Literal, positive, variable_of}
+use Rattle.dq_lits.specs.Row.{bit_of}
 use Rattle.oracle.specs.declared.groups.Group.{Group}
-use Rattle.padoa_definitions.specs.Dividing.{AreActive}
+use Rattle.padoa_definitions.specs.Copies.{is_copied_at}
+use Rattle.padoa_definitions.specs.Dividing.{AreActive, AreBits}
 use Rattle.padoa_definitions.specs.declared.padoa.Padoa.{Padoa}
 
 one_more : (f : Literal → Bool) (xs : List Literal) (i n : ℕ) (d : Literal) → length xs ≡ i + suc n
@@ -54,22 +59,112 @@ mapped_complete g (p ∷ ps) k (suc i, lt, at) = let r = mapped_complete g ps k 
     r.1 in (suc r.0, omega (arith, b), r.2)
 
 -- the equations at some places
+abbrev pub no_group : Group
+no_group = record { selector = positive 0 }
+
 abbrev pub links_at : Padoa → List ℕ → List Group
-links_at p places = map (λ k. get_or p.links.items k p.first.group) places
+links_at p places = map (λ k. get_or p.links.items k no_group) places
 
 pub all_active : (p : Padoa) (places : List ℕ) (active : List Group) → All (λ k. k < length p.links.items) places →
-    active ≡ p.first.group ∷ p.second.group ∷ links_at p places →
+    active ≡ (p.first.groups.items ++ p.second.groups.items) ++ links_at p places →
     AreActive p places active
 all_active p places active within is = record {
   links = links_at p places;
-  active_is = is;
+  active_is = is ∙ append_assoc p.first.groups.items p.second.groups.items (links_at p places);
   sound = λ g among.
-      let r = mapped_sound (λ k. get_or p.links.items k p.first.group) places g among in
-      (r.0, r.1, slice_get-get_or p.links.items r.0 p.first.group (in_range r.0 r.1) ∙ ap Some r.2);
+      let r = mapped_sound (λ k. get_or p.links.items k no_group) places g among in
+      (r.0, r.1, slice_get-get_or p.links.items r.0 no_group (in_range r.0 r.1) ∙ ap Some r.2);
   complete = λ k g among at.
-      subst (Contains (links_at p places)) (get_or_from_slice_get p.links.items k g p.first.group at)
-      (mapped_complete (λ i. get_or p.links.items i p.first.group) places k among);
+      subst (Contains (links_at p places)) (get_or_from_slice_get p.links.items k g no_group at)
+      (mapped_complete (λ i. get_or p.links.items i no_group) places k among);
 }
   where
     in_range : (k : ℕ) → Contains places k → k < length p.links.items
     in_range k (i, lt, at) = subst (λ n. n < length p.links.items) at (within i k lt)
+
+-- one more equation behind the others
+pub active_more : (p : Padoa) (places : List ℕ) (i place : ℕ) (old new : List Group) (g : Group) → i < length places →
+    get_or places i place ≡ place → old ≡ (p.first.groups.items ++ p.second.groups.items) ++ links_at p (take i places) →
+    new ≡ old ++ g ∷ [] → g ≡ get_or p.links.items place no_group →
+    new ≡ (p.first.groups.items ++ p.second.groups.items) ++ links_at p (take (i + 1) places)
+active_more p places i place old new g lt at before pushed is =
+    let both = p.first.groups.items ++ p.second.groups.items in
+    let ls = links_at p (take i places) in
+    pushed ∙ ap (λ gs. gs ++ g ∷ []) before ∙ append_assoc both ls (g ∷ [])
+    ∙ ap (λ gs. both ++ gs)
+    (mapped_more (λ k. get_or p.links.items k no_group) places i place ls (ls ++ g ∷ []) g lt at refl refl is)
+
+-- the bits of the first so many places are written
+pub record AreBitsSoFar (values : Assignment) (flags others : List Bool) (lits : List Literal) (i : ℕ)
+    (row : List Bool) : Type 0 where
+  pub long : length row ≡ length lits
+  pub copied : (k : ℕ) (l : Literal) → k < i → is_copied_at flags k ≡ true → slice_get lits k ≡ Some l →
+      bit_of row k ≡ values (variable_of l)
+  pub rest : (k : ℕ) → is_copied_at flags k ≡ false → bit_of row k ≡ bit_of others k
+
+pub none_written : (values : Assignment) (flags others : List Bool) (lits : List Literal) (row : List Bool) →
+    length others ≡ length lits → row ≡ others → AreBitsSoFar values flags others lits 0 row
+none_written values flags others lits row long is = record {
+  long = ap length is ∙ long;
+  copied = λ k l less flag at. absurd (omega (arith, less));
+  rest = λ k none. ap (λ r. bit_of r k) is;
+}
+
+pub bit_written : (values : Assignment) (flags others : List Bool) (lits : List Literal) (i : ℕ) (l : Literal)
+    (bit : Bool) (old new : List Bool) → slice_get lits i ≡ Some l → is_copied_at flags i ≡ true →
+    bit ≡ values (variable_of l) → new ≡ set old i bit → AreBitsSoFar values flags others lits i old →
+    AreBitsSoFar values flags others lits (i + 1) new
+bit_written values flags others lits i l bit old new at flag bit_is is before =
+    subst (AreBitsSoFar values flags others lits (i + 1)) (sym is) (record {
+      long = length-set old i bit ∙ before.long;
+      copied = λ k m less flag_k at_k. elim (cases_lt k i) [
+        | inl early ↦ get_or-set_other old i k bit false (λ same. omega (arith, early, same))
+            ∙ before.copied k m early flag_k at_k
+        | inr late ↦ (
+            let same : k ≡ i = omega (arith, less, late) in
+            let within = slice_get_within lits i l at in
+            let long = before.long in
+            let both : Some l ≡ Some m = sym at ∙ ap (slice_get lits) (sym same) ∙ at_k in
+            let l_is : l ≡ m = cc in
+            ap (bit_of (set old i bit)) same ∙ get_or-set_same old i bit false (omega (arith, within, long)) ∙ bit_is
+            ∙ ap (λ n. values (variable_of n)) l_is)
+      ];
+      rest = λ k none. get_or-set_other old i k bit false (λ same. true≢false (sym flag ∙ ap (is_copied_at flags)
+          (sym same) ∙ none)) ∙ before.rest k none;
+    })
+
+pub bit_passed : (values : Assignment) (flags others : List Bool) (lits : List Literal) (i : ℕ)
+    (old new : List Bool) → is_copied_at flags i ≡ false → new ≡ old → AreBitsSoFar values flags others lits i old →
+    AreBitsSoFar values flags others lits (i + 1) new
+bit_passed values flags others lits i old new flag is before =
+    subst (AreBitsSoFar values flags others lits (i + 1)) (sym is) (record {
+      long = before.long;
+      copied = λ k m less flag_k at_k. elim (cases_lt k i) [
+        | inl early ↦ before.copied k m early flag_k at_k
+        | inr late ↦ (
+            let same : k ≡ i = omega (arith, less, late) in
+            absurd (true≢false (sym flag_k ∙ ap (is_copied_at flags) same ∙ flag)))
+      ];
+      rest = before.rest;
+    })
+
+pub all_written : (values : Assignment) (flags others : List Bool) (lits : List Literal) (i : ℕ) (row : List Bool) →
+    length lits ≤ i → AreBitsSoFar values flags others lits i row → AreBits values flags others lits row
+all_written values flags others lits i row past are = record {
+  long = are.long;
+  copied = λ k l flag at. are.copied k l (let lt = slice_get_within lits k l at in omega (arith, lt, past)) flag at;
+  rest = are.rest;
+}
+
+-- elements that pass a test, one by one
+pub filtered_more : {X : Type 0} (p : X → Bool) (xs : List X) (i : ℕ) (x : X) (old : List X) → i < length xs →
+    get_or xs i x ≡ x → old ≡ filter p (take i xs) →
+    cond (p x) (old ++ x ∷ []) old ≡ filter p (take (i + 1) xs)
+filtered_more p xs i x old lt at before =
+    let more = take_more xs i x lt ∙ ap (λ y. take i xs ++ y ∷ []) at in
+    by (p x) refl ∙ sym (ap (filter p) more ∙ filter-append p (take i xs) (x ∷ []))
+  where
+    by : (b : Bool) → p x ≡ b → cond b (old ++ x ∷ []) old ≡ filter p (take i xs) ++ filter p (x ∷ [])
+    by true is = ap (λ ys. ys ++ x ∷ []) before ∙ ap (λ b. filter p (take i xs) ++ cond b (x ∷ []) []) (sym is)
+    by false is = before ∙ sym (append-nil (filter p (take i xs)))
+        ∙ ap (λ b. filter p (take i xs) ++ cond b (x ∷ []) []) (sym is)

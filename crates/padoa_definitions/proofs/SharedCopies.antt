@@ -14,11 +14,9 @@ use Rattle.aig_graph.specs.declared.nodes.Node.{Node}
 use Rattle.aig_graph.specs.declared.nodes.Node.TheVariants.{Input}
 use Rattle.interpolants.specs.Interpolant.{node_of, AreNodes}
 use Rattle.log_laws.proofs.Found.{named_variable}
-use Rattle.padoa_definitions.specs.Copies.{AreCopiesOf, copies_of}
+use Rattle.padoa_definitions.specs.Copies.{AreCopies, copies_of, is_copied_at}
 use Rattle.padoa_definitions.specs.Dividing.{AreSharedCopies, shared_pairs}
 use Rattle.padoa_definitions.specs.declared.padoa.Padoa.{Padoa}
-use Rattle.padoa_definitions.proofs.CopiedVariables.{copy_at}
-use Rattle.padoa_definitions.proofs.DeclaredPlaces.{copies_long}
 use Rattle.padoa_definitions.proofs.DividedAnswers.{read_at}
 
 -- the nodes of variables that are selected by places
@@ -50,16 +48,21 @@ module _ (g : ℕ → ℕ × Node) where
       by later false e (suc i, lt, at) = later k (i, omega (arith, lt), at)
 
 module _ (f : Dqbf) (p : Padoa) (places : List ℕ) (es : List Entry) (within : All (λ k. k < length (declared f)) places)
-    (copies : AreCopiesOf es 1 (declared f) (copies_of p.first)) where
+    (flagged : All (λ k. is_copied_at p.copied.items k ≡ true) places)
+    (copies : AreCopies es 1 p.copied.items (declared f) (copies_of p.first)) where
   abbrev pick : ℕ → ℕ × Node
   pick k = (variable_of (get_or (copies_of p.first) k (positive 0)), Input k false)
 
-  copy_there : (k x : ℕ) → slice_get (declared f) k ≡ Some x → name_of es (pick k).0 ≡ Some (CopyOf 1 x)
-  copy_there k x at =
+  flag_there : (k : ℕ) → Contains places k → is_copied_at p.copied.items k ≡ true
+  flag_there k (i, lt, at) = ap (is_copied_at p.copied.items) (sym at) ∙ flagged i k lt
+
+  copy_there : (k x : ℕ) → Contains places k → slice_get (declared f) k ≡ Some x →
+      name_of es (pick k).0 ≡ Some (CopyOf 1 x)
+  copy_there k x among at =
       let lits = copies_of p.first in
       let lt = slice_get_within (declared f) k x at in
-      let long = copies_long es 1 (declared f) lits copies in
-      let is = copy_at es 1 (declared f) lits k x (get_or lits k (positive 0)) copies at
+      let long = copies.long in
+      let is = copies.named k x (get_or lits k (positive 0)) (flag_there k among) at
       (slice_get-get_or lits k (positive 0) (omega (arith, lt, long))) in
       (named_variable es (get_or lits k (positive 0)) (CopyOf 1 x) false (name_of es (pick k).0) refl is).0
 
@@ -74,13 +77,13 @@ module _ (f : Dqbf) (p : Padoa) (places : List ℕ) (es : List Entry) (within : 
         let x_is : input_variable f k ≡ x.0 = get_or_from_slice_get (declared f) k x.0 0 x.1 in
         record {
           place = k;
-          named = ap (name_of es) r.2 ∙ copy_there k x.0 x.1 ∙ ap (λ z. Some (CopyOf 1 z)) (sym x_is);
+          named = ap (name_of es) r.2 ∙ copy_there k x.0 r.1 x.1 ∙ ap (λ z. Some (CopyOf 1 z)) (sym x_is);
           value = λ inputs. ap (node_value graph inputs) (sym r.3);
           support = λ i has. only k i (subst (λ m. Contains (node_support graph m) i) (sym r.3) has);
           read = r.1;
         };
     all = λ v x named seen.
-        let same = unique (pick seen.0).0 v (CopyOf 1 x) (copy_there seen.0 x seen.1) named in
+        let same = unique (pick seen.0).0 v (CopyOf 1 x) (copy_there seen.0 x seen.2 seen.1) named in
         subst (λ w. IsSome (node_of (map pick places) w)) same (selected_complete pick places seen.0 seen.2);
   }
     where

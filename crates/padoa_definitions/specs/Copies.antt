@@ -1,16 +1,16 @@
 -- Two copies of the matrix in a log, and equations between the copies of each variable, all in
--- groups of their own (A. Padoa, 1900).
-use Rattle.std.specs.Prelude.{◌≡◌, ◌⊎◌, ◌+◌, ◌==◌, ℕ, Bool, true, false, List, ◌∷◌, ◌++◌, map, length, Some, slice_get}
-use Rattle.std.specs.List.{Contains}
+-- groups of their own (A. Padoa, 1900). Universals that stand in no clause need no copies.
+use Rattle.std.specs.Prelude.{◌≡◌, ◌⊎◌, ◌==◌, ℕ, Bool, true, false, List, ◌∷◌, ◌++◌, map, length, Some, slice_get, slice_index_or}
+use Rattle.std.specs.List.{All, Contains}
 use Rattle.dq_lits.specs.Literal.{Literal, negative, variable_of, is_negative}
 use Rattle.dq_lits.specs.Formula.{Dqbf, declared}
 use Rattle.dq_formula.specs.Prefix.{existential_variables}
-use Rattle.hint_log.specs.Entries.{Entry, Given}
+use Rattle.hint_log.specs.Entries.{Entry, Given, name_of}
 use Rattle.hint_log.specs.Growth.{Each}
 use Rattle.hint_log.specs.Naming.{NamedLiteral, named_literal, name_literal, AreNamedAs}
 use Rattle.hint_log.specs.Origins.{link_names}
 use Rattle.hint_log.specs.ProductiveLog.{MatchesOrigin}
-use Rattle.hint_log.specs.declared.names.Name.TheVariants.{Copy as CopyOf}
+use Rattle.hint_log.specs.declared.names.Name.TheVariants.{Selector, Copy as CopyOf}
 use Rattle.hint_log.specs.declared.origins.Origin.{Origin}
 use Rattle.hint_log.specs.declared.origins.Origin.TheVariants.{Copy, Link}
 use Rattle.log_laws.specs.Engines.{IsInGroup}
@@ -63,16 +63,60 @@ abbrev pub copy_names : ℕ → List Literal → List NamedLiteral
 copy_names side clause =
     map (λ l. named_literal (CopyOf side (variable_of l)) (is_negative l)) clause
 
--- one side's variables are named, and its group has all clauses of the matrix on them, and no
+-- whether the variable at a place among the declared ones, universals first, has copies: a flag says
+-- so of a universal, and existentials have them
+abbrev pub is_copied_at : List Bool → ℕ → Bool
+is_copied_at flags k = slice_index_or flags k true
+
+-- the variable has copies wherever it stands
+abbrev pub IsCopied : Dqbf → List Bool → ℕ → Type 0
+IsCopied f flags v = (k : ℕ) → slice_get (declared f) k ≡ Some v → is_copied_at flags k ≡ true
+
+-- positive literals on the copies of those of these variables that have copies, and others at the
+-- places of the rest
+pub record AreCopies (entries : List Entry) (side : ℕ) (flags : List Bool) (variables : List ℕ)
+    (copies : List Literal) : Type 0 where
+  pub long : length copies ≡ length variables
+  pub named : (k v : ℕ) (l : Literal) → is_copied_at flags k ≡ true
+      → slice_get variables k ≡ Some v → slice_get copies k ≡ Some l
+      → name_literal entries l ≡ Some (named_literal (CopyOf side v) false)
+
+-- a clause of the matrix on one side's copies, in a group
+pub record IsCopyGiven (entries : List Entry) (f : Dqbf) (side : ℕ)
+    (clause : List Literal) : Type 0 where
+  pub group : ℕ
+  pub rest : List Literal
+  pub original : List Literal
+  pub is_group : name_of entries group ≡ Some (Selector group)
+  pub clause_is : clause ≡ negative group ∷ rest
+  pub original_is : Contains f.matrix original
+  pub copied : AreNamedAs entries rest (copy_names side original)
+
+-- each given clause of the group is a copy of some clause of the matrix on this side
+abbrev pub IsSideGiven : Dqbf → ℕ → ℕ → List Entry → Entry → Type 0
+IsSideGiven f side group earlier (Given origin clause) =
+    IsInGroup group clause → (is_copy_of side origin ≡ true) × IsCopyGiven earlier f side clause
+IsSideGiven f side group earlier _ = Unit {0}
+
+-- one of the groups has the copy of a clause
+pub record IsCopiedIn (entries : List Entry) (groups : List Group) (side : ℕ)
+    (clause : List Literal) : Type 0 where
+  pub group : Group
+  pub among : Contains groups group
+  pub origin : Origin
+  pub given : IsGivenIn entries (group_variable group) origin (copy_names side clause)
+
+-- one side's variables are named, and its groups have all clauses of the matrix on them, and no
 -- others
-pub record IsMatrixCopy (f : Dqbf) (side : ℕ) (copy : MatrixCopy)
+pub record IsMatrixCopy (f : Dqbf) (side : ℕ) (flags : List Bool) (copy : MatrixCopy)
     (entries : List Entry) : Type 0 where
-  pub made : IsMade entries copy.group
-  pub universals : AreCopiesOf entries side f.universals copy.universals.items
+  pub made : All (IsMade entries) copy.groups.items
+  pub universals : AreCopies entries side flags f.universals copy.universals.items
   pub existentials : AreCopiesOf entries side (existential_variables f) copy.existentials.items
-  pub own : Each (IsGroupGiven f (is_copy_of side) (group_variable copy.group)) entries
-  pub whole : (j : ℕ) (clause : List Literal) → slice_get f.matrix j ≡ Some clause →
-      IsGivenIn entries (group_variable copy.group) (Copy side (j + 1)) (copy_names side clause)
+  pub own : (g : Group) → Contains copy.groups.items g
+      → Each (IsSideGiven f side (group_variable g)) entries
+  pub whole : (clause : List Literal) → Contains f.matrix clause
+      → IsCopiedIn entries copy.groups.items side clause
 
 -- the group has both clauses of the equation between the copies of a variable, and no others
 pub record IsLink (f : Dqbf) (x : ℕ) (group : Group) (entries : List Entry) : Type 0 where
@@ -81,14 +125,27 @@ pub record IsLink (f : Dqbf) (x : ℕ) (group : Group) (entries : List Entry) : 
   pub whole : (i : ℕ) → (i ≡ 1) ⊎ (i ≡ 2)
       → IsGivenIn entries (group_variable group) (Link x i) (link_names x i)
 
--- the copies, and an equation for each declared variable
+-- the copies, of which the variables of all clauses have some, and an equation for each variable that
+-- has copies; clauses have no numbers here
 pub record IsPadoa (f : Dqbf) (p : Padoa) (entries : List Entry) : Type 0 where
-  pub first : IsMatrixCopy f 1 p.first entries
-  pub second : IsMatrixCopy f 2 p.second entries
+  pub as_many_flags : length p.copied.items ≡ length f.universals
+  pub covered : (clause : List Literal) → Contains f.matrix clause
+      → All (λ l. IsCopied f p.copied.items (variable_of l)) clause
+  pub first : IsMatrixCopy f 1 p.copied.items p.first entries
+  pub second : IsMatrixCopy f 2 p.copied.items p.second entries
   pub as_many : length p.links.items ≡ length (declared f)
-  pub links : (i x : ℕ) (g : Group) → slice_get (declared f) i ≡ Some x
-      → slice_get p.links.items i ≡ Some g → IsLink f x g entries
+  pub links_made : All (IsMade entries) p.links.items
+  pub links : (i x : ℕ) (g : Group) → is_copied_at p.copied.items i ≡ true
+      → slice_get (declared f) i ≡ Some x → slice_get p.links.items i ≡ Some g
+      → IsLink f x g entries
+
+-- every universal has copies, as every existential does
+abbrev pub IsWhole : Dqbf → Padoa → Type 0
+IsWhole f p = (v : ℕ) → IsCopied f p.copied.items v
+
+-- the groups of the copies: the active ones of both sides, and those of the equations
+abbrev pub all_groups : Padoa → List Group
+all_groups p = p.first.groups.items ++ (p.second.groups.items ++ p.links.items)
 
 abbrev pub groups_of : Padoa → List ℕ
-groups_of p =
-    group_variable p.first.group ∷ group_variable p.second.group ∷ map group_variable p.links.items
+groups_of p = map group_variable (all_groups p)

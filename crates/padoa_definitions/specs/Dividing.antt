@@ -7,6 +7,7 @@ use Rattle.dq_lits.specs.Literal.{Assignment, Literal, positive, negative, varia
 use Rattle.dq_lits.specs.Derivation.{holds, is_tautology}
 use Rattle.dq_lits.specs.Formula.{Dqbf, declared}
 use Rattle.dq_lits.specs.Henkin.{MatrixHolds}
+use Rattle.dq_lits.specs.Row.{bit_of}
 use Rattle.defining_nodes.specs.Definitions.{input_variable}
 use Rattle.hint_log.specs.Conditions.{IsId}
 use Rattle.hint_log.specs.Entries.{Entry, clause_at, name_of}
@@ -21,7 +22,7 @@ use Rattle.aig_graph.specs.declared.nodes.Node.TheVariants.{Input}
 use Rattle.interpolants.specs.Interpolant.{Partition, partition, node_of, is_on_a, IsReachedGiven, IsOther}
 use Rattle.oracle.specs.Calls.{IsModelUnder, assumed}
 use Rattle.oracle.specs.declared.groups.Group.{Group}
-use Rattle.padoa_definitions.specs.Copies.{copies_of, copy_names}
+use Rattle.padoa_definitions.specs.Copies.{copies_of, copy_names, is_copied_at, IsCopied, IsCopyGiven}
 use Rattle.padoa_definitions.specs.Defining.{IsSample}
 use Rattle.padoa_definitions.specs.declared.defining.Pair.{Pair}
 use Rattle.padoa_definitions.specs.declared.guessing.Guess.{Guess}
@@ -30,11 +31,15 @@ use Rattle.padoa_definitions.specs.declared.padoa.Padoa.{Padoa}
 use Rattle.padoa_definitions.specs.declared.asking.Asked.{Asked}
 
 -- what may be asked of a variable, where the copies agree at these places: conditions that agree
--- with one another and say nothing of it
-pub record IsQuestion (f : Dqbf) (places : List ℕ) (v : ℕ) (conditions : List Literal) : Type 0 where
+-- with one another and say nothing of it; all these variables have copies
+pub record IsQuestion (f : Dqbf) (flags : List Bool) (places : List ℕ) (v : ℕ)
+    (conditions : List Literal) : Type 0 where
   pub places_within : All (λ k. k < length (declared f)) places
+  pub places_copied : All (λ k. is_copied_at flags k ≡ true) places
   pub is_declared : Contains (declared f) v
+  pub is_copied : IsCopied f flags v
   pub are_declared : All (λ l. Contains (declared f) (variable_of l)) conditions
+  pub are_copied : All (λ l. IsCopied f flags (variable_of l)) conditions
   pub consistent : is_tautology conditions ≡ false
   pub others : All (λ l. variable_of l ≢ v) conditions
 
@@ -53,17 +58,6 @@ pub record IsAsked (entries : List Entry) (v : ℕ) (conditions : List Literal)
 -- a variable that stands at one of the places
 abbrev pub IsRead : Dqbf → List ℕ → ℕ → Type 0
 IsRead f places x = (k : ℕ) × (slice_get (declared f) k ≡ Some x) × Contains places k
-
--- a clause of the matrix on one side's copies, in a group
-pub record IsCopyGiven (entries : List Entry) (f : Dqbf) (side : ℕ)
-    (clause : List Literal) : Type 0 where
-  pub group : ℕ
-  pub rest : List Literal
-  pub original : List Literal
-  pub is_group : name_of entries group ≡ Some (Selector group)
-  pub clause_is : clause ≡ negative group ∷ rest
-  pub original_is : Contains f.matrix original
-  pub copied : AreNamedAs entries rest (copy_names side original)
 
 -- one half of an equation between the two copies of a variable that stands at one of the places, in
 -- a group
@@ -130,12 +124,12 @@ pub record ShowsDefinition (f : Dqbf) (places : List ℕ) (v : ℕ) (conditions 
   pub derived : Each IsDerivedByHints entries
   pub divides : (shared : List (ℕ × Node))
       → Divides f places v conditions
-      (partition entries id (p.first.group.selector ∷ first) shared)
+      (partition entries id (assumed p.first.groups.items first) shared)
 
--- the groups that are to be active: both copies, and the equations at some places
+-- the groups that are to be active: those of both copies, and of the equations at some places
 pub record AreActive (p : Padoa) (places : List ℕ) (active : List Group) : Type 0 where
   pub links : List Group
-  pub active_is : active ≡ p.first.group ∷ p.second.group ∷ links
+  pub active_is : active ≡ p.first.groups.items ++ (p.second.groups.items ++ links)
   pub sound : (g : Group) → Contains links g
       → (k : ℕ) × Contains places k × (slice_get p.links.items k ≡ Some g)
   pub complete : (k : ℕ) (g : Group) → Contains places k → slice_get p.links.items k ≡ Some g
@@ -145,11 +139,27 @@ pub record AreActive (p : Padoa) (places : List ℕ) (active : List Group) : Typ
 abbrev pub values_at : Assignment → List Literal → List Bool
 values_at values lits = map (λ l. values (variable_of l)) lits
 
--- the values of both copies
-pub record IsPairOf (p : Padoa) (values : Assignment) (pair : Pair) : Type 0 where
-  pub row1 : pair.row1 ≡ values_at values p.first.universals.items
+-- a row has the values of these literals' variables where these are copies, and else the bits of
+-- another row
+pub record AreBits (values : Assignment) (flags others : List Bool) (lits : List Literal)
+    (row : List Bool) : Type 0 where
+  pub long : length row ≡ length lits
+  pub copied : (k : ℕ) (l : Literal) → is_copied_at flags k ≡ true → slice_get lits k ≡ Some l
+      → bit_of row k ≡ values (variable_of l)
+  pub rest : (k : ℕ) → is_copied_at flags k ≡ false → bit_of row k ≡ bit_of others k
+
+-- those of these literals that are copies are told of
+abbrev pub AreTold : (ℕ → Type 0) → List Bool → List Literal → Type 0
+AreTold told flags lits =
+    (k : ℕ) (l : Literal) → is_copied_at flags k ≡ true → slice_get lits k ≡ Some l
+    → told (variable_of l)
+
+-- the values of both copies, with these bits of the universals that have none
+pub record IsPairOf (p : Padoa) (others : List Bool) (values : Assignment)
+    (pair : Pair) : Type 0 where
+  pub row1 : AreBits values p.copied.items others p.first.universals.items pair.row1
   pub values1 : pair.values1 ≡ values_at values p.first.existentials.items
-  pub row2 : pair.row2 ≡ values_at values p.second.universals.items
+  pub row2 : AreBits values p.copied.items others p.second.universals.items pair.row2
   pub values2 : pair.values2 ≡ values_at values p.second.existentials.items
 
 -- the values make the copies true, and the equations at some places, and these literals
@@ -175,9 +185,9 @@ pub record IsDefinitionAt (f : Dqbf) (places : List ℕ) (v : ℕ) (conditions :
       → m v ≡ node_value graph (λ i. m (input_variable f i)) node
 
 -- two samples that agree at the places, in which the conditions are true, and the variable is true
--- and false
-pub record IsPairAt (f : Dqbf) (places : List ℕ) (v : ℕ) (conditions : List Literal)
-    (pair : Pair) : Type 0 where
+-- and false; universals without copies have these bits in both
+pub record IsPairAt (f : Dqbf) (flags others : List Bool) (places : List ℕ) (v : ℕ)
+    (conditions : List Literal) (pair : Pair) : Type 0 where
   pub first : IsSample f pair.row1 pair.values1
   pub second : IsSample f pair.row2 pair.values2
   pub agree : (x : ℕ) → IsRead f places x
@@ -186,9 +196,13 @@ pub record IsPairAt (f : Dqbf) (places : List ℕ) (v : ℕ) (conditions : List 
       (asked_of conditions (positive v))
   pub second_true : All (λ l. literal_true (round_assignment f pair.row2 pair.values2) l ≡ true)
       (asked_of conditions (negative v))
+  pub first_rest : (k : ℕ) → is_copied_at flags k ≡ false → bit_of pair.row1 k ≡ bit_of others k
+  pub second_rest : (k : ℕ) → is_copied_at flags k ≡ false → bit_of pair.row2 k ≡ bit_of others k
 
 -- what is found for the question is right
-abbrev pub IsAnswerAt : Dqbf → List ℕ → ℕ → List Literal → AigGraph → Guess → Type 0
-IsAnswerAt f places v conditions graph (NodeFound node) =
+abbrev pub IsAnswerAt : Dqbf → List Bool → List Bool → List ℕ → ℕ → List Literal → AigGraph → Guess
+    → Type 0
+IsAnswerAt f flags others places v conditions graph (NodeFound node) =
     IsDefinitionAt f places v conditions graph node
-IsAnswerAt f places v conditions graph (PairFound pair) = IsPairAt f places v conditions pair
+IsAnswerAt f flags others places v conditions graph (PairFound pair) =
+    IsPairAt f flags others places v conditions pair

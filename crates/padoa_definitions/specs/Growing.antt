@@ -1,11 +1,11 @@
 -- How a log grows while the copies are made, for private contracts.
-use Rattle.std.specs.Prelude.{◌≡◌, ◌⊎◌, ◌+◌, ◌<◌, ◌≤◌, ◌==◌, ℕ, Bool, true, false, List, ◌∷◌, take, length, None, Some, slice_get}
+use Rattle.std.specs.Prelude.{◌≡◌, ◌⊎◌, ◌+◌, ◌<◌, ◌≤◌, ◌==◌, ℕ, Bool, true, false, List, ◌∷◌, length, None, Some, slice_get}
 use Rattle.std.specs.List.{Contains}
-use Rattle.dq_lits.specs.Literal.{Literal, negative}
+use Rattle.dq_lits.specs.Literal.{Literal, positive, negative}
 use Rattle.dq_lits.specs.Formula.{Dqbf, declared}
-use Rattle.hint_log.specs.Entries.{Entry, Given, ProofLog, with_entry, name_of}
+use Rattle.hint_log.specs.Entries.{Entry, Named, Given, ProofLog, with_entry, name_of}
 use Rattle.hint_log.specs.Growth.{Each, Grew}
-use Rattle.hint_log.specs.Naming.{AreNamedAs}
+use Rattle.hint_log.specs.Naming.{named_literal, name_literal, AreNamedAs}
 use Rattle.hint_log.specs.Origins.{link_names}
 use Rattle.hint_log.specs.ProductiveLog.{fault_groups, fault_room}
 use Rattle.hint_log.specs.declared.names.Name.{Name}
@@ -18,7 +18,7 @@ use Rattle.oracle.specs.Calls.{IsMade}
 use Rattle.oracle.specs.declared.groups.Group.{Group}
 use Rattle.padoa_definitions.specs.declared.copies.MatrixCopy.{MatrixCopy}
 use Rattle.padoa_definitions.specs.declared.padoa.Padoa.{Padoa}
-use Rattle.padoa_definitions.specs.Copies.{is_copy_of, is_link_of, IsGroupGiven, IsGivenIn, AreCopiesOf, copy_names, group_variable, IsLink, IsPadoa}
+use Rattle.padoa_definitions.specs.Copies.{is_copy_of, is_link_of, IsGroupGiven, IsGivenIn, is_copied_at, AreCopies, AreCopiesOf, copy_names, group_variable, IsLink, IsPadoa}
 
 -- names, and clauses in groups that were made since, wherever one begins to look
 abbrev pub GrewAnew : Dqbf → ProofLog → ProofLog → Type 0
@@ -96,11 +96,22 @@ pub record NamesCopies (side : ℕ) (variables : List ℕ) (old new : List Entry
   pub givens : (origin : Origin) (c : List Literal) → Contains new (Given origin c)
       → Contains old (Given origin c)
 
--- the first of these variables have copies, and the others have none
-pub record AreNamedSoFar (side : ℕ) (variables : List ℕ) (i : ℕ) (old new : ProofLog)
-    (lits : List Literal) : Type 0 where
+-- a variable that is to have a copy has one, and nothing else was done
+abbrev pub IsNamedIfWanted : Bool → ℕ → ℕ → ProofLog → ProofLog → Literal → Type 0
+IsNamedIfWanted true side x old new l =
+    (v : ℕ) × (l ≡ positive v) × (name_of old.entries v ≡ None)
+    × (new ≡ with_entry old (Named v (CopyOf side x)))
+IsNamedIfWanted false side x old new l = new ≡ old
+
+-- those of the first of these variables that are to have copies have them, and the others have none
+pub record AreNamedSoFar (side : ℕ) (flags : List Bool) (variables : List ℕ) (i : ℕ)
+    (old new : ProofLog) (lits : List Literal) : Type 0 where
   pub grew : (f : Dqbf) → GrewAnew f old new
-  pub named : AreCopiesOf new.entries side (take i variables) lits
+  pub within : i ≤ length variables
+  pub long : length lits ≡ i
+  pub named : (k v : ℕ) (l : Literal) → is_copied_at flags k ≡ true
+      → slice_get variables k ≡ Some v → slice_get lits k ≡ Some l
+      → name_literal new.entries l ≡ Some (named_literal (CopyOf side v) false)
   pub only : NamesCopies side variables old.entries new.entries
   pub fresh : (v k x : ℕ) → i ≤ k → slice_get variables k ≡ Some x
       → name_of new.entries v ≡ Some (CopyOf side x) → ⊥
@@ -109,12 +120,19 @@ pub record AreNamedSoFar (side : ℕ) (variables : List ℕ) (i : ℕ) (old new 
 abbrev pub AreUngiven : ℕ → List Entry → Type 0
 AreUngiven side entries = (j : ℕ) (c : List Literal) → Contains entries (Given (Copy side j) c) → ⊥
 
--- a copy's variables are named and its group is made, and no clause of it was given yet
-pub record IsCopyNamed (f : Dqbf) (side : ℕ) (copy : MatrixCopy) (entries : List Entry) : Type 0 where
-  pub made : IsMade entries copy.group
-  pub universals : AreCopiesOf entries side f.universals copy.universals.items
+-- a copy's variables are named
+pub record AreVariablesNamed (f : Dqbf) (side : ℕ) (flags : List Bool) (copy : MatrixCopy)
+    (entries : List Entry) : Type 0 where
+  pub universals : AreCopies entries side flags f.universals copy.universals.items
   pub existentials : AreCopiesOf entries side (existential_variables f) copy.existentials.items
-  pub own : Each (IsGroupGiven f (is_copy_of side) (group_variable copy.group)) entries
+
+-- its group is made too, and no clause of it was given yet
+pub record IsCopyNamed (f : Dqbf) (side : ℕ) (flags : List Bool) (copy : MatrixCopy)
+    (group : Group) (entries : List Entry) : Type 0 where
+  pub made : IsMade entries group
+  pub universals : AreCopies entries side flags f.universals copy.universals.items
+  pub existentials : AreCopiesOf entries side (existential_variables f) copy.existentials.items
+  pub own : Each (IsGroupGiven f (is_copy_of side) (group_variable group)) entries
   pub ungiven : AreUngiven side entries
   pub few : HasFewFaults entries
 
@@ -142,16 +160,18 @@ abbrev pub is_any_link : Origin → Bool
 is_any_link (Link v i) = true
 is_any_link _ = false
 
--- the first declared variables have their equations, and the others have none
-pub record AreLinkedSoFar (f : Dqbf) (i : ℕ) (old new : ProofLog)
-    (groups : List Group) : Type 0 where
+-- those of the first declared variables that have copies have their equations, and the others have
+-- none: at their places stands another group
+pub record AreLinkedSoFar (f : Dqbf) (flags : List Bool) (spare : Group) (i : ℕ)
+    (old new : ProofLog) (groups : List Group) : Type 0 where
   pub adds : Adds f 0 is_any_link old new
   pub as_many : length groups ≡ i
   pub later : (k x : ℕ) → i ≤ k → slice_get (declared f) k ≡ Some x → IsUnlinked x new.entries
-  pub links : (k x : ℕ) (g : Group) → slice_get (declared f) k ≡ Some x
-      → slice_get groups k ≡ Some g → IsLink f x g new.entries
+  pub links : (k x : ℕ) (g : Group) → is_copied_at flags k ≡ true
+      → slice_get (declared f) k ≡ Some x → slice_get groups k ≡ Some g → IsLink f x g new.entries
+  pub made : (k : ℕ) (g : Group) → slice_get groups k ≡ Some g → IsMade new.entries g
   pub fresh : (k : ℕ) (g : Group) → slice_get groups k ≡ Some g
-      → name_of old.entries (group_variable g) ≡ None
+      → (g ≡ spare) ⊎ (name_of old.entries (group_variable g) ≡ None)
 
 -- the copy of a clause, by its number from 0 on
 pub record IsClauseGiven (f : Dqbf) (side group j : ℕ) (old new : ProofLog) : Type 0 where

@@ -7,3 +7,4 @@ pub mod Dividing
 pub mod Seeing
 pub mod Forcing
 pub mod Ruling
+pub mod Conditions

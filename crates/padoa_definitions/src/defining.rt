@@ -13,7 +13,6 @@ ghost use Rattle.padoa_definitions.specs.Growing.{HasSameGivens};
 use crate::asking::Question;
 use crate::guessing::Guess;
 use crate::padoa::Padoa;
-use crate::seeing::shared_places;
 use aig_graph::{Graph, Node};
 use dq_formula::Formula;
 use dq_lits::Row;
@@ -70,12 +69,15 @@ impl Padoa {
             → IfOk result (IsFound f.now ranks.now graph.new e) }
         ensures limit { IsErrOf result Stop.Limit → IsAtSomeLimit log.new }
     {
-        let places = shared_places(self.alloc, f, ranks, y)?;
+        f.every_formula_is_lawful();
+        let places = self.shared_copies(f, ranks, y)?;
+        let others = Row::new(self.alloc, f.universals().len())?;
         let question = Question {
             f,
             places: &places,
             y,
             conditions: &[],
+            others: &others,
         };
         match self.ask(oracle, graph, &question, log)? {
             Guess::Node(node) => Ok(Found::Defined(node)),

@@ -17,8 +17,7 @@ ghost use Rattle.padoa_definitions.specs.Ruling.{AreFirstCopies, ShowsClause, Is
 
 use crate::copies::copied_variable;
 use crate::padoa::Padoa;
-use crate::reading::row_of_values;
-use crate::seeing::seen_places;
+use crate::reading::{row_of_copies, row_of_values};
 use dq_formula::{Formula, Rule};
 use dq_lits::laws::derived_line_is_implied;
 use dq_lits::{Clause, Lit, Memory, Row};
@@ -65,7 +64,7 @@ impl Padoa {
     {
         names_are_unique();
         f.every_formula_is_lawful();
-        let places = seen_places(self.alloc, f, y)?;
+        let places = self.seen_copies(f, y)?;
         let own = signed(copied_variable(&self.first, f, y), !bit);
         let asked = self.row_copies(own, row, &places)?;
         match self.search_first(oracle, f, &asked, log)? {
@@ -74,7 +73,7 @@ impl Padoa {
                 Ok(Forced::Rule(Rule { y, cube, bit }))
             }
             Answer::Sat => {
-                let row = row_of_values(self.alloc, oracle, &self.first.universals)?;
+                let row = row_of_copies(oracle, &self.first.universals, &self.copied, row)?;
                 let values = row_of_values(self.alloc, oracle, &self.first.existentials)?;
                 Ok(Forced::Loose { row, values })
             }
@@ -114,7 +113,7 @@ impl Padoa {
         ensures told { result ≡ Ok Answer.Sat → O.is_told oracle.new ≡ true }
         ensures sat { result ≡ Ok Answer.Sat
             → IsModelUnder (O.values oracle.new) (clause_at log.new.entries)
-            (assumed (self.now.first.group ∷ []) asked.now) }
+            (assumed self.now.first.groups.items asked.now) }
         ensures unsat { (id : ℕ) → result ≡ Ok (Answer.Unsat id)
             → ShowsClause f.now log.new.entries asked.now id }
         ensures limit { IsErrOf result Stop.Limit → IsAtSomeLimit log.new }
@@ -123,7 +122,7 @@ impl Padoa {
         ids_stay();
         reached_are_ids();
         let _ = f.vars();
-        let answer = oracle.solve(&[self.first.group], asked, log)?;
+        let answer = oracle.solve(&self.first.groups, asked, log)?;
         Ok(answer)
     }
 

@@ -12,9 +12,9 @@ ghost use Rattle.padoa_definitions.specs.Copies.{IsPadoa};
 ghost use Rattle.padoa_definitions.specs.Guessing.{IsGuess};
 
 use crate::asking::Question;
+use crate::conditions::bits_of;
 use crate::defining::Pair;
 use crate::padoa::Padoa;
-use crate::seeing::seen_places;
 use aig_graph::{Graph, Node};
 use dq_formula::Formula;
 use dq_lits::Lit;
@@ -64,12 +64,16 @@ impl Padoa {
             → IfOk result (IsGuess f.now graph.new e conditions.now) }
         ensures limit { IsErrOf result Stop.Limit → IsAtSomeLimit log.new }
     {
-        let places = seen_places(self.alloc, f, y)?;
+        f.every_formula_is_lawful();
+        let places = self.seen_copies(f, y)?;
+        let kept = self.copied_conditions(f, conditions)?;
+        let others = bits_of(self.alloc, f, conditions)?;
         let question = Question {
             f,
             places: &places,
             y,
-            conditions,
+            conditions: &kept,
+            others: &others,
         };
         let answer = self.ask(oracle, graph, &question, log)?;
         Ok(answer)

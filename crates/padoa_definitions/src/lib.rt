@@ -2,7 +2,7 @@
 //! existentials that see no more.
 //!
 //! Two copies of the matrix are given to the oracle once, each in a group, and an equation between
-//! the copies of each variable, each in a group of its own. An existential is defined where the
+//! the copies of each variable that stands in a clause, each in a group of its own. An existential is defined where the
 //! copies can't be true together while what its definition may read agrees and it is true in one
 //! copy alone: then an interpolant of the answer is its definition. Else the values that were found
 //! show that it isn't. The same question may be asked under conditions, which both copies then have
@@ -17,6 +17,7 @@ pub use guessing::Guess;
 pub use padoa::Padoa;
 
 mod asking;
+mod conditions;
 mod copies;
 mod defining;
 mod forcing;
@@ -28,3 +29,4 @@ mod padoa;
 mod reading;
 mod searching;
 mod seeing;
+mod standing;

@@ -1,15 +1,20 @@
 //! The two copies of the matrix, as they were given to the oracle.
+//!
+//! A universal that stands in no clause has no copies and no equation: it takes a flag and three
+//! words. Whether the matrix is true doesn't depend on it, and so no question needs it.
 
-ghost use Rattle.std.specs.Prelude.{◌≡◌, ℕ, true, All, IfOk, OnOk, None};
+ghost use Rattle.std.specs.Prelude.{◌≡◌, ℕ, List, true, All, Contains, IfOk, OnOk, None, length};
+ghost use Rattle.dq_lits.specs.Literal.{Literal, variable_of};
 ghost use Rattle.dq_lits.specs.Formula.{IsWellFormed};
 ghost use Rattle.hint_log.specs.Entries.{name_of};
 ghost use Rattle.hint_log.specs.Growth.{Grew};
 ghost use Rattle.log_laws.specs.Engines.{copies, IsAddedBy, HasNone};
-ghost use Rattle.padoa_definitions.specs.Copies.{IsPadoa, groups_of};
+ghost use Rattle.padoa_definitions.specs.Copies.{IsCopied, IsPadoa, IsWhole, groups_of};
 ghost use Rattle.padoa_definitions.specs.Growing.{HasCopied, HasFewFaults};
 
 use crate::copies::MatrixCopy;
 use crate::giving::Setup;
+use crate::standing::{all_flags, standing};
 use dq_formula::Formula;
 use dq_lits::Memory;
 use hint_log::Log;
@@ -17,18 +22,22 @@ use oracle::{Group, Oracle};
 use std::alloc::Global;
 
 /// What was given to the oracle once: two copies of the matrix, and an equation for each declared
-/// variable.
+/// variable that has copies.
 #[derive(Drop)]
 pub struct Padoa {
     pub(crate) alloc: Global,
     /// The first copy of the matrix.
     pub first: MatrixCopy,
     pub(crate) second: MatrixCopy,
+    /// Which universals have copies.
+    pub(crate) copied: Vec<bool>,
+    /// The groups of the equations, universals first.
     pub(crate) links: Vec<Group>,
 }
 
 impl Padoa {
-    /// Gives the copies and the equations, each to a group of its own.
+    /// Gives the copies, of the variables that stand in clauses and of all existentials, and the
+    /// equations, each to a group of its own.
     pub fn new<O: Oracle>(
         alloc: Global,
         oracle: &mut O,
@@ -47,19 +56,74 @@ impl Padoa {
         ensures fresh { IfOk result
             (λ p. All (λ g. name_of log.old.entries g ≡ None) (groups_of p)) }
     {
+        let copied = standing(alloc, f)?;
+        Padoa::with_copies(alloc, oracle, f, copied, log)
+    }
+
+    /// The same with copies of all variables, for questions on functions that may read them.
+    pub fn whole<O: Oracle>(
+        alloc: Global,
+        oracle: &mut O,
+        f: &Formula,
+        log: &mut Log,
+    ) -> Result<Padoa, Memory>
+        requires fit { O.Fits oracle.old log.old }
+        requires formula { IsWellFormed f.now }
+        requires none { HasNone copies log.old.entries }
+        requires few { HasFewFaults log.old.entries }
+        ensures fit { O.Fits oracle.new log.new }
+        ensures grew { (group : ℕ)
+            → Grew (IsAddedBy f.now copies group true log.old.entries) log.old log.new }
+        ensures copied { OnOk result (HasCopied log.old.entries log.new.entries) }
+        ensures made { IfOk result (λ p. IsPadoa f.now p log.new.entries) }
+        ensures fresh { IfOk result
+            (λ p. All (λ g. name_of log.old.entries g ≡ None) (groups_of p)) }
+        ensures whole { IfOk result (IsWhole f.now) }
+    {
+        let copied = all_flags(alloc, f)?;
+        Padoa::with_copies(alloc, oracle, f, copied, log)
+    }
+
+    // Gives the copies of the universals with a flag, and of the existentials.
+    fn with_copies<O: Oracle>(
+        alloc: Global,
+        oracle: &mut O,
+        f: &Formula,
+        copied: Vec<bool>,
+        log: &mut Log,
+    ) -> Result<Padoa, Memory>
+        requires fit { O.Fits oracle.old log.old }
+        requires formula { IsWellFormed f.now }
+        requires none { HasNone copies log.old.entries }
+        requires few { HasFewFaults log.old.entries }
+        requires as_many { length copied.items ≡ length f.now.universals }
+        requires covered { (clause : List Literal) → Contains f.now.matrix clause
+            → All (λ l. IsCopied f.now copied.items (variable_of l)) clause }
+        ensures fit { O.Fits oracle.new log.new }
+        ensures grew { (group : ℕ)
+            → Grew (IsAddedBy f.now copies group true log.old.entries) log.old log.new }
+        ensures only { OnOk result (HasCopied log.old.entries log.new.entries) }
+        ensures made { IfOk result (λ p. IsPadoa f.now p log.new.entries) }
+        ensures fresh { IfOk result
+            (λ p. All (λ g. name_of log.old.entries g ≡ None) (groups_of p)) }
+        ensures flags { IfOk result (λ p. p.copied.items ≡ copied.items) }
+    {
         let who = oracle.tenant()?;
         let setup = Setup {
             alloc,
             who: &who,
             f,
+            flags: &copied,
         };
         let first = setup.copy_matrix(oracle, 1, log)?;
         let second = setup.copy_matrix(oracle, 2, log)?;
-        let links = setup.link_copies(oracle, &first, &second, log)?;
+        let spare = first.groups[0];
+        let links = setup.link_copies(oracle, &first, &second, &spare, log)?;
         Ok(Padoa {
             alloc,
             first,
             second,
+            copied,
             links,
         })
     }

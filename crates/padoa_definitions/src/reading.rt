@@ -4,12 +4,13 @@ ghost use Rattle.std.specs.Prelude.{◌≡◌, ◌<◌, ◌+◌, true, All, leng
 ghost use Rattle.dq_lits.specs.Literal.{variable_of};
 ghost use Rattle.aig_graph.specs.Made.{Extends};
 ghost use Rattle.padoa_definitions.specs.Copies.{IsPadoa, copies_of};
-ghost use Rattle.padoa_definitions.specs.Dividing.{IsAsked, IsQuestion, IsDefinitionAt, ShowsDefinition, IsPairOf, shared_pairs, values_at};
+ghost use Rattle.padoa_definitions.specs.Dividing.{IsAsked, IsQuestion, IsDefinitionAt, ShowsDefinition, AreBits, AreTold, IsPairOf, shared_pairs, values_at};
 
 use crate::asking::{Asked, Question};
+use crate::copies::is_copied;
 use crate::defining::Pair;
 use crate::padoa::Padoa;
-use crate::searching::joined;
+use crate::searching::switched;
 use aig_graph::{Graph, Node};
 use dq_lits::{Lit, Memory, Row};
 use hint_log::Log;
@@ -29,8 +30,8 @@ impl Padoa {
         log: &Log,
     ) -> Result<Node, Memory>
         requires padoa { IsPadoa question.now.f.now self.now log.now.entries }
-        requires posed { IsQuestion question.now.f.now question.now.places.now question.now.y
-            question.now.conditions.now }
+        requires posed { IsQuestion question.now.f.now self.now.copied.items
+            question.now.places.now question.now.y question.now.conditions.now }
         requires copied { IsAsked log.now.entries question.now.y question.now.conditions.now
             asked.now }
         requires shown { ShowsDefinition question.now.f.now question.now.places.now question.now.y
@@ -44,7 +45,7 @@ impl Padoa {
         names_are_unique();
         log.every_log_is_lawful();
         let shared = self.shared(graph, question.places)?;
-        let a_side = joined(self.alloc, &[self.first.group.selector], &asked.first)?;
+        let a_side = switched(self.alloc, &self.first.groups, &asked.first)?;
         let node = from_log(self.alloc, log, id, &a_side, &shared, graph)?;
         Ok(node)
     }
@@ -63,22 +64,25 @@ impl Padoa {
         Ok(shared)
     }
 
-    /// The values of both copies that a search found.
-    pub(crate) fn pair<O: Oracle>(&self, oracle: &O) -> Result<Pair, Memory>
+    /// The values of both copies that a search found, with these bits of the universals that have
+    /// none.
+    pub(crate) fn pair<O: Oracle>(&self, oracle: &O, others: &Row) -> Result<Pair, Memory>
         requires told { O.is_told oracle.now ≡ true }
-        requires first_universals { All (λ l. O.HasVariable oracle.now (variable_of l))
+        requires first_long { length others.now ≡ length self.now.first.universals.items }
+        requires second_long { length others.now ≡ length self.now.second.universals.items }
+        requires first_universals { AreTold (O.HasVariable oracle.now) self.now.copied.items
             self.now.first.universals.items }
         requires first_existentials { All (λ l. O.HasVariable oracle.now (variable_of l))
             self.now.first.existentials.items }
-        requires second_universals { All (λ l. O.HasVariable oracle.now (variable_of l))
+        requires second_universals { AreTold (O.HasVariable oracle.now) self.now.copied.items
             self.now.second.universals.items }
         requires second_existentials { All (λ l. O.HasVariable oracle.now (variable_of l))
             self.now.second.existentials.items }
-        ensures { IfOk result (IsPairOf self.now (O.values oracle.now)) }
+        ensures { IfOk result (IsPairOf self.now others.now (O.values oracle.now)) }
     {
-        let row1 = row_of_values(self.alloc, oracle, &self.first.universals)?;
+        let row1 = row_of_copies(oracle, &self.first.universals, &self.copied, others)?;
         let values1 = row_of_values(self.alloc, oracle, &self.first.existentials)?;
-        let row2 = row_of_values(self.alloc, oracle, &self.second.universals)?;
+        let row2 = row_of_copies(oracle, &self.second.universals, &self.copied, others)?;
         let values2 = row_of_values(self.alloc, oracle, &self.second.existentials)?;
         Ok(Pair {
             row1,
@@ -87,6 +91,29 @@ impl Padoa {
             values2,
         })
     }
+}
+
+/// The values of the variables of those of these literals that are copies, and else the bits of
+/// another row.
+pub(crate) fn row_of_copies<O: Oracle>(
+    oracle: &O,
+    lits: &[Lit],
+    flags: &[bool],
+    others: &Row,
+) -> Result<Row, Memory>
+    requires told { O.is_told oracle.now ≡ true }
+    requires made { AreTold (O.HasVariable oracle.now) flags.now lits.now }
+    requires long { length others.now ≡ length lits.now }
+    ensures { IfOk result (AreBits (O.values oracle.now) flags.now others.now lits.now) }
+{
+    let mut row = others.copy()?;
+    for place in 0..lits.len() {
+        if is_copied(flags, place) {
+            let bit = oracle.value(lits[place].var());
+            row.set(place, bit);
+        }
+    }
+    Ok(row)
 }
 
 /// The values of these literals' variables, in order.

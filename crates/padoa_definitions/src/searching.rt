@@ -1,6 +1,7 @@
 //! The search for values of both copies that a question asks for.
 
 ghost use Rattle.std.specs.Prelude.{◌≡◌, ◌<◌, ◌++◌, ℕ, true, All, length, IfOk, IsErrOf, Ok};
+ghost use Rattle.oracle.specs.Calls.{assumed};
 ghost use Rattle.oracle.specs.Limits.{IsAtSomeLimit};
 ghost use Rattle.padoa_definitions.specs.Copies.{IsPadoa};
 ghost use Rattle.padoa_definitions.specs.Growing.{HasSearched};
@@ -27,8 +28,8 @@ impl Padoa {
     ) -> Result<Answer, Stop>
         requires fit { O.Fits oracle.old log.old }
         requires padoa { IsPadoa question.now.f.now self.now log.old.entries }
-        requires posed { IsQuestion question.now.f.now question.now.places.now question.now.y
-            question.now.conditions.now }
+        requires posed { IsQuestion question.now.f.now self.now.copied.items
+            question.now.places.now question.now.y question.now.conditions.now }
         requires copied { IsAsked log.old.entries question.now.y question.now.conditions.now
             asked.now }
         ensures fit { O.Fits oracle.new log.new }
@@ -51,19 +52,31 @@ impl Padoa {
         Ok(answer)
     }
 
-    // The groups of both copies, and of the equations at these places.
+    // The groups of both copies, and those of the equations at these places.
     fn active(&self, places: &[usize]) -> Result<Vec<Group>, Memory>
         requires { All (λ p. p < length self.now.links.items) places.now }
         ensures { IfOk result (λ active. AreActive self.now places.now active.items) }
     {
         let mut active = Vec::new(self.alloc);
-        active.push(self.first.group)?;
-        active.push(self.second.group)?;
+        active.extend_from_slice(&self.first.groups)?;
+        active.extend_from_slice(&self.second.groups)?;
         for place in places {
             active.push(self.links[*place])?;
         }
         Ok(active)
     }
+}
+
+/// The selectors of these groups, and then these literals.
+pub(crate) fn switched(alloc: Global, groups: &[Group], lits: &[Lit]) -> Result<Vec<Lit>, Memory>
+    ensures { IfOk result (λ all. all.items ≡ assumed groups.now lits.now) }
+{
+    let mut all = Vec::new(alloc);
+    for group in groups {
+        all.push(group.selector)?;
+    }
+    all.extend_from_slice(lits)?;
+    Ok(all)
 }
 
 /// These literals, and then those.

@@ -20,9 +20,11 @@ use Rattle.circuit_cnf.specs.declared.checkers.Checker.{Checker}
 use Rattle.circuit_cnf.specs.Checking.{IsChecker, group_of, CheckersStay, CheckersStayWithRounds}
 use Rattle.expansion.specs.Table.{TableState, IsTable, IsFullTable}
 use Rattle.expansion.specs.Standing.{EnginesLeaveTables, RoundsLeaveTables}
-use Rattle.padoa_definitions.specs.Copies.{IsPadoa, groups_of, group_variable}
+use Rattle.padoa_definitions.specs.Copies.{IsPadoa, all_groups, groups_of}
 use Rattle.padoa_definitions.specs.Standing.{EnginesLeaveCopies, RoundsLeaveCopies}
 use Rattle.padoa_definitions.specs.declared.padoa.Padoa.{Padoa}
+use Rattle.padoa_definitions.proofs.KeptCopies.{to_mapped}
+use Rattle.padoa_definitions.proofs.StandingCopies.{groups_made}
 use Rattle.hint_log.specs.declared.names.Name.TheVariants.{Selector}
 use Rattle.known_functions.specs.Searching.{LogGrew, IsKept, IsFresh, HasInputs, AreApart, IsSearch}
 use Rattle.repair_loop.specs.Searching.{AreCandidates, AreRefuted, IsRoundLogged}
@@ -214,23 +216,8 @@ productive f entries kept searched = record {
 -- the groups of the copies were made
 groups_are_made : (f : Dqbf) (p : Padoa) (entries : List Entry) → IsPadoa f p entries →
     All (λ g. name_of entries g ≡ Some (Selector g)) (groups_of p)
-groups_are_made f p entries is =
-    let links = map group_variable p.links.items in
-    let second = group_variable p.second.group in
-    All-cons IsMadeHere (group_variable p.first.group) (second ∷ links) is.first.made.named
-    (All-cons IsMadeHere second links is.second.made.named of_links) where
-      IsMadeHere : ℕ → Type 0
-      IsMadeHere g = name_of entries g ≡ Some (Selector g)
-
-      of_links : All IsMadeHere (map group_variable p.links.items)
-      of_links k d below =
-          let inside : k < length p.links.items = let e = length-map p.links.items group_variable in
-          omega (arith, below, e) in
-          let within : k < length (declared f) = let e = is.as_many in omega (arith, inside, e) in
-          let group = get_or p.links.items k p.first.group in
-          let link = is.links k (get_or (declared f) k 0) group (slice_get-get_or (declared f) k 0 within)
-          (slice_get-get_or p.links.items k p.first.group inside) in
-          subst IsMadeHere (sym (get_or-map group_variable p.links.items k p.first.group d inside)) link.made.named
+groups_are_made f p entries is = to_mapped (λ g. name_of entries g ≡ Some (Selector g)) (all_groups p)
+    (λ g among. (groups_made f p entries is g among).named)
 
 -- groups that have names are none that had none
 made_apart : (entries : List Entry) (group : ℕ) (groups : List ℕ) →

@@ -4,6 +4,7 @@ use Rattle.std.proofs.lemmas.List.Elements.{Contains-append_cases}
 use Rattle.dq_lits.specs.Formula.{Existential}
 use Rattle.dq_formula.specs.Prefix.{existential_variables}
 use Rattle.padoa_definitions.proofs.CopiedVariables.{copy_at, place_holds, place_within, none_contained, found_at}
+use Rattle.padoa_definitions.proofs.DeclaredPlaces.{at_first}
 use Rattle.padoa_definitions.proofs.copies.copied_variable.Goals as goal
 
 pub unreachable-requires : goal.unreachable-requires
@@ -17,17 +18,18 @@ unreachable-requires c =
     ]
 
 pub returns-in-Some-default : goal.returns-in-Some-default
-returns-in-Some-default c = λ entries side us es.
+returns-in-Some-default c = λ entries side flags us es copied.
     let f = c.args.f.now in
     let i = c.in-Some-default.i in
     let found = sym c.universal_place.ensures ∙ c.in-Some-default.is-0 in
     let lt = subst (λ n. i < n) (sym c.requires.universals) (place_within f.universals c.args.v i found) in
-    copy_at entries side f.universals c.args.copy.now.universals.items i c.args.v c.index.result.now us
-    (place_holds f.universals c.args.v i found) (found_at c.args.copy.now.universals.items i c.index.result.now lt
+    let there = place_holds f.universals c.args.v i found in
+    us.named i c.args.v c.index.result.now
+    (copied i (at_first f.universals (existential_variables f) i c.args.v there)) there (found_at c.args.copy.now.universals.items i c.index.result.now lt
     c.index.ensures)
 
 pub returns-in-None-Some : goal.returns-in-None-Some
-returns-in-None-Some c = λ entries side us es.
+returns-in-None-Some c = λ entries side flags us es copied.
     let f = c.args.f.now in
     let k = c.in-None-Some.k in
     let found = sym c.existential_place.ensures ∙ c.in-None-Some.is-1 in

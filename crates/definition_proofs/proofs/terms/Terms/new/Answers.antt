@@ -19,14 +19,14 @@ returns-clause-made g c =
     (λ q. ap (lookup (is_at (by_both q))) c.new.ensures.empty)
 
 pub returns-clause-beside : goal.returns-clause-beside
-returns-clause-beside g c = λ f p padoa few.
+returns-clause-beside g c = λ f p padoa whole few.
     let t : Terms = record { alloc = c.args.alloc; group = c.in_ok-group.group; literals = c.new.result } in
     let is = ap (λ (l : ProofLog). l.entries) c.in_ok-group.ensures.ok in
     beside_group f p t c.args.log.now.entries c.group.new.log.entries c.in_ok-group.ensures.unnamed is
     (no_gates t c.args.log.now.entries c.group.new.log.entries
     (g.met.O.Oracle.searched c.args.oracle.now c.args.log.now c.requires.fit).logged c.requires.none
     c.in_ok-group.ensures.unnamed c.in_ok-group.ensures.made is
-    (λ q. ap (lookup (is_at (by_both q))) c.new.ensures.empty)) padoa few
+    (λ q. ap (lookup (is_at (by_both q))) c.new.ensures.empty)) padoa whole few
     (no_sides f c.args.log.now.entries c.group.new.log.entries (group_variable c.in_ok-group.group) c.requires.none is)
 
 pub returns-clause-grew : goal.returns-clause-grew

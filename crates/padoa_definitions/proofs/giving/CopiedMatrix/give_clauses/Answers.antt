@@ -9,14 +9,14 @@ pub loop-j-init : goal.loop-j-init
 loop-j-init g c = (
   c.requires.fit,
   none_given c.args.self.now.f.now c.args.self.now.side
-      (group_variable c.args.self.now.copy.now.group) c.args.log.now c.requires.named.few c.requires.named.own
+      (group_variable c.args.self.now.group.now) c.args.log.now c.requires.named.few c.requires.named.own
       c.requires.named.ungiven,
 )
 
 pub returns-in_err-give_clause-clause-gives : goal.returns-in_err-give_clause-clause-gives
 returns-in_err-give_clause-clause-gives g c =
     (subst (AreGivenSoFar c.args.self.now.f.now c.args.self.now.side
-    (group_variable c.args.self.now.copy.now.group) c.loop-j.j c.args.log.now)
+    (group_variable c.args.self.now.group.now) c.loop-j.j c.args.log.now)
     (sym c.in_err-give_clause.ensures.err) c.loop-j.invariant.1).gives
 
 pub loop-j-preserved : goal.loop-j-preserved
@@ -27,9 +27,9 @@ loop-j-preserved g c =
     let lt = subst (λ n. j < n) c.clauses-j-end.ensures.value c.loop-j-test.true in
     let at = slice_get-get_or f.matrix j [] lt in (
       c.give_clause.ensures.fit,
-      given_more c.args.self.now.f.now c.args.self.now.side (group_variable c.args.self.now.copy.now.group) j
+      given_more c.args.self.now.f.now c.args.self.now.side (group_variable c.args.self.now.group.now) j
           c.args.log.now c.loop-j.log c.give_clause.new.log (get_or f.matrix j []) step.rest c.requires.side
-          (c.loop-j.invariant.1.gives.names (group_variable c.args.self.now.copy.now.group)
+          (c.loop-j.invariant.1.gives.names (group_variable c.args.self.now.group.now)
           ∙ c.requires.named.made.named)
           c.loop-j.invariant.1 at (step.named (get_or f.matrix j []) at) step.added,
     )

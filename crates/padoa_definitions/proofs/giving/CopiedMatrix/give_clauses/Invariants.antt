@@ -4,4 +4,4 @@ use Rattle.padoa_definitions.proofs.giving.CopiedMatrix.give_clauses.Given as go
 
 abbrev pub invariant-loop-j : goal.invariant-loop-j
 invariant-loop-j g l = (g.O.Oracle.Fits l.oracle l.log) × AreGivenSoFar l.self.f.now l.self.side
-    (group_variable l.self.copy.now.group) l.j l.fn.log l.log
+    (group_variable l.self.group.now) l.j l.fn.log l.log

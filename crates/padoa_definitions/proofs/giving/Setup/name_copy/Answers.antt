@@ -1,8 +1,8 @@
-use Rattle.std.proofs.Common.{◌≢◌, refl, sym, subst}
+use Rattle.std.proofs.Common.{◌≢◌, sym, subst}
 use Rattle.std.specs.List.{AllPairs}
-use Rattle.padoa_definitions.specs.Copies.{is_copy_of, group_variable}
-use Rattle.padoa_definitions.specs.Growing.{Adds, AreUncopied}
-use Rattle.padoa_definitions.proofs.GivenClauses.{AreNamed, existentials_distinct, existentials_fresh, second_adds, third_adds, third_unnamed, copy_named}
+use Rattle.hint_log.specs.declared.origins.Origin.TheVariants.{Copy}
+use Rattle.padoa_definitions.specs.Growing.{AreUncopied}
+use Rattle.padoa_definitions.proofs.GivenClauses.{AreNamed, existentials_distinct, existentials_fresh, second_adds, second_ungiven, variables_named}
 use Rattle.padoa_definitions.proofs.giving.Setup.name_copy.Goals as goal
 
 pub name_copies-requires-2-clause-distinct : goal.name_copies-requires-2-clause-distinct
@@ -28,8 +28,8 @@ returns-in_err-existentials-clause-adds g c =
     } in
     second_adds f c.args.side _ _ c.args.log.now c.name_copies.new.log c.name_copies-2.new.log named
 
-pub returns-in_err-group-clause-adds : goal.returns-in_err-group-clause-adds
-returns-in_err-group-clause-adds g c =
+pub returns-in_err-existentials-clause-ungiven : goal.returns-in_err-existentials-clause-ungiven
+returns-in_err-existentials-clause-ungiven g c =
     let f = c.args.self.now.f.now in
     let named : AreNamed f c.args.side c.universals.result.now c.existentials.result.now c.args.log.now
     c.name_copies.new.log c.name_copies-2.new.log = record {
@@ -38,8 +38,8 @@ returns-in_err-group-clause-adds g c =
       second_grew = c.name_copies-2.ensures.grew;
       second_only = c.name_copies-2.ensures.only;
     } in
-    subst (Adds f c.args.side (is_copy_of c.args.side) c.args.log.now) (sym c.in_err-group.ensures.err)
-    (second_adds f c.args.side _ _ c.args.log.now c.name_copies.new.log c.name_copies-2.new.log named)
+    second_ungiven f c.args.side _ _ c.args.log.now c.name_copies.new.log c.name_copies-2.new.log named
+    c.requires.ungiven
 
 pub returns-clause-adds : goal.returns-clause-adds
 returns-clause-adds g c =
@@ -51,11 +51,10 @@ returns-clause-adds g c =
       second_grew = c.name_copies-2.ensures.grew;
       second_only = c.name_copies-2.ensures.only;
     } in
-    third_adds f c.args.side _ _ c.args.log.now c.name_copies.new.log c.name_copies-2.new.log named c.group.new.log
-    (group_variable c.in_ok-group.group) c.in_ok-group.ensures.unnamed c.in_ok-group.ensures.ok
+    second_adds f c.args.side _ _ c.args.log.now c.name_copies.new.log c.name_copies-2.new.log named
 
-pub returns-clause-fresh : goal.returns-clause-fresh
-returns-clause-fresh g c =
+pub returns-clause-ungiven : goal.returns-clause-ungiven
+returns-clause-ungiven g c =
     let f = c.args.self.now.f.now in
     let named : AreNamed f c.args.side c.universals.result.now c.existentials.result.now c.args.log.now
     c.name_copies.new.log c.name_copies-2.new.log = record {
@@ -64,8 +63,8 @@ returns-clause-fresh g c =
       second_grew = c.name_copies-2.ensures.grew;
       second_only = c.name_copies-2.ensures.only;
     } in
-    third_unnamed f c.args.side _ _ c.args.log.now c.name_copies.new.log c.name_copies-2.new.log named c.group.new.log
-    (group_variable c.in_ok-group.group) c.in_ok-group.ensures.unnamed c.in_ok-group.ensures.ok
+    second_ungiven f c.args.side _ _ c.args.log.now c.name_copies.new.log c.name_copies-2.new.log named
+    c.requires.ungiven
 
 pub returns-clause-named : goal.returns-clause-named
 returns-clause-named g c =
@@ -77,8 +76,13 @@ returns-clause-named g c =
       second_grew = c.name_copies-2.ensures.grew;
       second_only = c.name_copies-2.ensures.only;
     } in
-    copy_named f c.args.side _ _ c.args.log.now c.name_copies.new.log c.name_copies-2.new.log named c.group.new.log
-    (group_variable c.in_ok-group.group) c.in_ok-group.ensures.unnamed c.in_ok-group.ensures.ok _ c.universals.ensures
-    c.existentials.ensures refl c.in_ok-group.ensures.made c.in_ok-universals.ensures.named
-    c.in_ok-existentials.ensures.named (g.met.O.Oracle.searched c.name_copies-2.new.oracle c.name_copies-2.new.log
-    c.name_copies-2.ensures.fit).logged c.requires.ungiven c.requires.few
+    variables_named f c.args.side _ _ c.args.log.now c.name_copies.new.log c.name_copies-2.new.log named
+    c.args.self.now.flags.now (record {
+      groups = c.new.result;
+      universals = c.in_ok-universals.universals;
+      existentials = c.in_ok-existentials.existentials;
+    }) c.universals.ensures c.existentials.ensures c.in_ok-universals.ensures.named c.in_ok-existentials.ensures.named
+
+pub returns-in_err-universals-clause-ungiven : goal.returns-in_err-universals-clause-ungiven
+returns-in_err-universals-clause-ungiven g c = λ j clause inside.
+    c.requires.ungiven j clause (c.name_copies.ensures.only.givens (Copy c.args.side j) clause inside)

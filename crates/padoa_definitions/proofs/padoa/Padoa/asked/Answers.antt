@@ -8,16 +8,19 @@ use Rattle.padoa_definitions.proofs.padoa.Padoa.asked.Goals as goal
 pub returns : goal.returns
 returns c = λ entries padoa.
     let y = c.args.question.now.y in
+    let flags = c.args.self.now.copied.items in
     let conditions = c.args.question.now.conditions.now in
-    let one = c.copied_variable-one.ensures entries 1 padoa.first.universals padoa.first.existentials in
-    let other = c.copied_variable.ensures entries 2 padoa.second.universals padoa.second.existentials in
+    let one = c.copied_variable-one.ensures entries 1 flags padoa.first.universals padoa.first.existentials
+    c.requires.posed.is_copied in
+    let other = c.copied_variable.ensures entries 2 flags padoa.second.universals padoa.second.existentials
+    c.requires.posed.is_copied in
     let negated = ap (name_literal entries) c.not-other.ensures ∙ opposite_name entries c.copied_variable.result
     (CopyOf 2 y) other in
     record {
       first = copied_last entries 1 conditions c.in_ok-first.first.items (positive y)
-          (c.in_ok-first.ensures entries 1 (named_literal (CopyOf 1 y) false) padoa.first.universals
-          padoa.first.existentials one);
+          (c.in_ok-first.ensures entries 1 flags (named_literal (CopyOf 1 y) false) padoa.first.universals
+          padoa.first.existentials c.requires.posed.are_copied one);
       second = copied_last entries 2 conditions c.in_ok-second.second.items (negative y)
-          (c.in_ok-second.ensures entries 2 (named_literal (CopyOf 2 y) true) padoa.second.universals
-          padoa.second.existentials negated);
+          (c.in_ok-second.ensures entries 2 flags (named_literal (CopyOf 2 y) true) padoa.second.universals
+          padoa.second.existentials c.requires.posed.are_copied negated);
     }

@@ -4,10 +4,10 @@ use Rattle.dq_lits.specs.Derivation.{is_tautology}
 use Rattle.dq_lits.specs.Literal.{variable_of}
 use Rattle.dq_formula.specs.Prefix.{existential_variables}
 use Rattle.hint_log.specs.Entries.{name_of}
-use Rattle.padoa_definitions.specs.Dividing.{values_at}
+use Rattle.padoa_definitions.specs.Dividing.{AreBits, AreTold, values_at}
 use Rattle.padoa_definitions.specs.Ruling.{AreFirstCopies, IsLiteralName}
-use Rattle.padoa_definitions.proofs.SearchAnswers.{existential_declared, copies_told}
-use Rattle.padoa_definitions.proofs.DeclaredPlaces.{copies_long}
+use Rattle.padoa_definitions.proofs.SearchAnswers.{existential_declared, copies_told, flags_told}
+use Rattle.padoa_definitions.proofs.MetConditions.{existential_has_copies}
 use Rattle.definition_order.proofs.Declared.{some_existential}
 use Rattle.padoa_definitions.proofs.ForcedBits.{seen_within, copies_asked, apart_asked, names_shown, rule_shown, loose_shown}
 use Rattle.padoa_definitions.proofs.padoa.Padoa.force.Goals as goal
@@ -20,7 +20,7 @@ row_copies-requires-clause-row g c =
     let f = c.args.f.now in
     let n = length c.args.row.now in
     some_existential f c.args.y (All (λ p. p < n) c.deref.result.now) c.requires.existential (λ e found.
-    subst (All (λ p. p < n)) (sym c.deref.ensures.value) (seen_within f e.sees c.in_ok-places.places.items n
+    subst (All (λ p. p < n)) (sym c.deref.ensures.value) (seen_within f e.sees c.args.self.now.copied.items c.in_ok-places.places.items n
     (c.in_ok-places.ensures e found) c.requires.row))
 
 pub row_copies-requires-clause-copies : goal.row_copies-requires-clause-copies
@@ -29,8 +29,8 @@ row_copies-requires-clause-copies g c =
     let lits = c.args.self.now.first.universals.items in
     some_existential f c.args.y (All (λ p. p < length lits) c.deref.result.now) c.requires.existential (λ e found.
     subst (All (λ p. p < length lits)) (sym c.deref.ensures.value)
-    (seen_within f e.sees c.in_ok-places.places.items (length lits) (c.in_ok-places.ensures e found)
-    (copies_long c.args.log.now.entries 1 f.universals lits c.requires.padoa.first.universals)))
+    (seen_within f e.sees c.args.self.now.copied.items c.in_ok-places.places.items (length lits)
+    (c.in_ok-places.ensures e found) c.requires.padoa.first.universals.long))
 
 pub search_first-requires-clause-copies : goal.search_first-requires-clause-copies
 search_first-requires-clause-copies g c =
@@ -42,7 +42,9 @@ search_first-requires-clause-copies g c =
     c.in_ok-places.places.items c.deref.result.now c.copied_variable.result c.signed-own.result
     c.deref-2.result.now (c.in_ok-places.ensures e found) c.deref.ensures.value c.signed-own.ensures
     (c.deref-2.ensures.value ∙ c.in_ok-asked.ensures) es c.requires.padoa
-    (c.copied_variable.ensures es 1 c.requires.padoa.first.universals c.requires.padoa.first.existentials))
+    (c.copied_variable.ensures es 1 p.copied.items c.requires.padoa.first.universals
+    c.requires.padoa.first.existentials (existential_has_copies f c.every_formula_is_lawful.ensures p.copied.items
+    c.args.y c.requires.padoa.as_many_flags c.requires.existential)))
 
 pub search_first-requires-clause-apart : goal.search_first-requires-clause-apart
 search_first-requires-clause-apart g c =
@@ -54,7 +56,9 @@ search_first-requires-clause-apart g c =
     c.in_ok-places.places.items c.deref.result.now c.copied_variable.result c.signed-own.result
     c.deref-2.result.now (c.in_ok-places.ensures e found) c.deref.ensures.value c.signed-own.ensures
     (c.deref-2.ensures.value ∙ c.in_ok-asked.ensures) es c.requires.padoa
-    (c.copied_variable.ensures es 1 c.requires.padoa.first.universals c.requires.padoa.first.existentials))
+    (c.copied_variable.ensures es 1 p.copied.items c.requires.padoa.first.universals
+    c.requires.padoa.first.existentials (existential_has_copies f c.every_formula_is_lawful.ensures p.copied.items
+    c.args.y c.requires.padoa.as_many_flags c.requires.existential)))
 
 pub cube-requires-clause-id : goal.cube-requires-clause-id
 cube-requires-clause-id g c = (c.search_first.ensures.unsat c.in-Unsat.id (c.in_ok-id.was ∙ ap Ok c.in-Unsat.is)).is_id
@@ -71,7 +75,9 @@ cube-requires-clause-names g c = λ clause is.
     c.in_ok-places.places.items c.deref.result.now c.copied_variable.result c.signed-own.result
     c.deref-2.result.now (c.in_ok-places.ensures e found) c.deref.ensures.value c.signed-own.ensures
     (c.deref-2.ensures.value ∙ c.in_ok-asked.ensures) es padoa
-    (c.copied_variable.ensures es 1 padoa.first.universals padoa.first.existentials) c.in-Unsat.id
+    (c.copied_variable.ensures es 1 p.copied.items padoa.first.universals padoa.first.existentials
+    (existential_has_copies f c.every_formula_is_lawful.ensures p.copied.items c.args.y padoa.as_many_flags
+    c.requires.existential)) c.in-Unsat.id
     (c.search_first.ensures.unsat c.in-Unsat.id (c.in_ok-id.was ∙ ap Ok c.in-Unsat.is)) clause is)
 
 pub returns-in-Unsat-clause-forced : goal.returns-in-Unsat-clause-forced
@@ -84,25 +90,33 @@ returns-in-Unsat-clause-forced g c = λ e found.
     c.in_ok-places.places.items c.deref.result.now c.copied_variable.result c.signed-own.result
     c.deref-2.result.now (c.in_ok-places.ensures e found) c.deref.ensures.value c.signed-own.ensures
     (c.deref-2.ensures.value ∙ c.in_ok-asked.ensures) es padoa
-    (c.copied_variable.ensures es 1 padoa.first.universals padoa.first.existentials) c.in-Unsat.id
+    (c.copied_variable.ensures es 1 p.copied.items padoa.first.universals padoa.first.existentials
+    (existential_has_copies f c.every_formula_is_lawful.ensures p.copied.items c.args.y padoa.as_many_flags
+    c.requires.existential)) c.in-Unsat.id
     (c.search_first.ensures.unsat c.in-Unsat.id (c.in_ok-id.was ∙ ap Ok c.in-Unsat.is))
     c.in_ok-cube-in-Unsat.cube c.in_ok-cube-in-Unsat.ensures
 
-pub row_of_values-requires-clause-made : goal.row_of_values-requires-clause-made
-row_of_values-requires-clause-made g c =
+pub row_of_copies-requires-clause-made : goal.row_of_copies-requires-clause-made
+row_of_copies-requires-clause-made g c =
     let lits = c.args.self.now.first.universals.items in
     let has = g.O.Oracle.HasVariable c.search_first.new.oracle in
-    subst (All (λ l. has (variable_of l))) (sym c.deref-in-Sat.ensures.value)
-    (copies_told c.search_first.new.log.entries 1 c.args.f.now.universals lits has
+    let flags = c.args.self.now.copied.items in
+    subst (λ fs. AreTold has fs c.deref-in-Sat.result.now) (sym c.deref-in-Sat-2.ensures.value)
+    (subst (AreTold has flags) (sym c.deref-in-Sat.ensures.value)
+    (flags_told c.search_first.new.log.entries 1 flags c.args.f.now.universals lits has
     c.search_first.ensures.searched.copied.first.universals
     (λ v named. g.met.O.Oracle.made c.search_first.new.oracle c.search_first.new.log v
-    c.search_first.ensures.fit named))
+    c.search_first.ensures.fit named)))
 
-pub row_of_values-requires-in-Sat-clause-made : goal.row_of_values-requires-in-Sat-clause-made
-row_of_values-requires-in-Sat-clause-made g c =
+pub row_of_copies-requires-clause-long : goal.row_of_copies-requires-clause-long
+row_of_copies-requires-clause-long g c =
+    c.requires.row ∙ sym c.requires.padoa.first.universals.long ∙ sym (ap length c.deref-in-Sat.ensures.value)
+
+pub row_of_values-requires-clause-made : goal.row_of_values-requires-clause-made
+row_of_values-requires-clause-made g c =
     let lits = c.args.self.now.first.existentials.items in
     let has = g.O.Oracle.HasVariable c.search_first.new.oracle in
-    subst (All (λ l. has (variable_of l))) (sym c.deref-in-Sat-2.ensures.value)
+    subst (All (λ l. has (variable_of l))) (sym c.deref-in-Sat-3.ensures.value)
     (copies_told c.search_first.new.log.entries 1 (existential_variables c.args.f.now) lits has
     c.search_first.ensures.searched.copied.first.existentials
     (λ v named. g.met.O.Oracle.made c.search_first.new.oracle c.search_first.new.log v
@@ -121,9 +135,14 @@ returns-clause-forced g c = λ e found.
     c.in_ok-places.places.items c.deref.result.now c.copied_variable.result c.signed-own.result
     c.deref-2.result.now (c.in_ok-places.ensures e found) c.deref.ensures.value c.signed-own.ensures
     (c.deref-2.ensures.value ∙ c.in_ok-asked.ensures) es padoa
-    (c.copied_variable.ensures es 1 padoa.first.universals padoa.first.existentials) c.requires.formula
+    (c.copied_variable.ensures es 1 p.copied.items padoa.first.universals padoa.first.existentials
+    (existential_has_copies f c.every_formula_is_lawful.ensures p.copied.items c.args.y padoa.as_many_flags
+    c.requires.existential)) c.requires.formula
     (λ v w name a b. c.names_are_unique.ensures es v w name logged a b) values
     (c.search_first.ensures.sat (c.in_ok-id.was ∙ ap Ok c.in-Sat.is)) c.in_ok-row-in-Sat.row
     c.in_ok-values-in-Sat.values
-    (c.in_ok-row-in-Sat.ensures ∙ ap (values_at values) c.deref-in-Sat.ensures.value)
-    (c.in_ok-values-in-Sat.ensures ∙ ap (values_at values) c.deref-in-Sat-2.ensures.value)
+    (subst (λ fs. AreBits values fs c.args.row.now p.first.universals.items c.in_ok-row-in-Sat.row)
+    c.deref-in-Sat-2.ensures.value
+    (subst (λ ls. AreBits values c.deref-in-Sat-2.result.now c.args.row.now ls c.in_ok-row-in-Sat.row)
+    c.deref-in-Sat.ensures.value c.in_ok-row-in-Sat.ensures))
+    (c.in_ok-values-in-Sat.ensures ∙ ap (values_at values) c.deref-in-Sat-3.ensures.value)

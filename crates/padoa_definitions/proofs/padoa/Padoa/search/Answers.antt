@@ -79,7 +79,7 @@ returns-clause-searched g c = record {
       (λ id e. refuted_grew c.derived_line_is_implied.ensures c.ids_stay.ensures
       c.reached_are_ids.ensures question.f.now
       question.places.now question.y question.conditions.now p active asked old new id
-      c.requires.padoa c.requires.posed.places_within c.in_ok-active.ensures c.requires.copied
+      c.requires.padoa c.requires.posed.places_within c.requires.posed.places_copied c.in_ok-active.ensures c.requires.copied
       (g.met.O.Oracle.searched c.solve.new.self new c.solve.ensures.fit)
       (refuted_under old new c.deref-3.result.now active c.deref-4.result.now
       (asked.first.items ++ asked.second.items) id c.deref-3.ensures.value both
@@ -100,7 +100,7 @@ returns-clause-unsat g c = λ id is.
     c.in_ok-assume.ensures c.deref-4.ensures.value in
     shows c.derived_line_is_implied.ensures c.ids_stay.ensures c.reached_are_ids.ensures question.f.now
     question.places.now question.y question.conditions.now p active asked old new id
-    c.requires.padoa c.requires.posed.places_within c.in_ok-active.ensures c.requires.copied
+    c.requires.padoa c.requires.posed.places_within c.requires.posed.places_copied c.in_ok-active.ensures c.requires.copied
     (g.met.O.Oracle.searched c.solve.new.self new c.solve.ensures.fit)
     (refuted_under old new c.deref-3.result.now active c.deref-4.result.now
     (asked.first.items ++ asked.second.items) id c.deref-3.ensures.value both

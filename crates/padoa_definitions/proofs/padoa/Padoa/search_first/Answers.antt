@@ -1,9 +1,9 @@
-use Rattle.std.proofs.Common.{◌≡◌, ◌∷◌, [], Ok, ap, ◌∙◌, rules, Err}
+use Rattle.std.proofs.Common.{◌≡◌, refl, Ok, ap, ◌∙◌, rules, Err}
 use Rattle.hint_log.specs.declared.stops.Stop.TheVariants.{Limit}
 use Rattle.oracle.proofs.SomeLimits.{some_limit}
 use Rattle.oracle.specs.Calls.{assumed}
 use Rattle.oracle.specs.declared.oracles.Answer.TheVariants.{Unsat}
-use Rattle.padoa_definitions.proofs.SearchAnswers.{padoa_learned, learned_grew, padoa_refuted, on_answer}
+use Rattle.padoa_definitions.proofs.SearchAnswers.{padoa_learned, learned_grew, padoa_refuted, on_answer, refuted_under}
 use Rattle.padoa_definitions.proofs.FirstCopySearch.{first_plain, shows_clause, first_grew}
 use Rattle.padoa_definitions.proofs.SameGivens.{learned_same, refuted_same}
 use Rattle.padoa_definitions.proofs.padoa.Padoa.search_first.Goals as goal
@@ -25,13 +25,13 @@ returns-clause-searched g c = record {
   copied = on_answer c.in_ok-answer.answer
       (λ e. padoa_learned c.args.f.now c.args.self.now c.args.log.now c.solve.new.log
       (c.solve.ensures.sat (c.in_ok-answer.was ∙ ap Ok e)).0 c.requires.padoa)
-      (λ id e. padoa_refuted c.args.f.now c.args.self.now (assumed (c.args.self.now.first.group ∷ []) c.args.asked.now)
+      (λ id e. padoa_refuted c.args.f.now c.args.self.now (assumed c.deref.result.now c.args.asked.now)
       c.args.log.now c.solve.new.log id c.requires.padoa
       (c.solve.ensures.unsat id (c.in_ok-answer.was ∙ ap Ok e)));
   same = on_answer c.in_ok-answer.answer
       (λ e. learned_same c.args.log.now c.solve.new.log
       (c.solve.ensures.sat (c.in_ok-answer.was ∙ ap Ok e)).0)
-      (λ id e. refuted_same (assumed (c.args.self.now.first.group ∷ []) c.args.asked.now) c.args.log.now
+      (λ id e. refuted_same (assumed c.deref.result.now c.args.asked.now) c.args.log.now
       c.solve.new.log id (c.solve.ensures.unsat id (c.in_ok-answer.was ∙ ap Ok e)));
   grew = λ group. on_answer c.in_ok-answer.answer
       (λ e. learned_grew c.args.f.now c.args.log.now c.solve.new.log
@@ -39,7 +39,9 @@ returns-clause-searched g c = record {
       (λ id e. first_grew c.derived_line_is_implied.ensures c.ids_stay.ensures c.reached_are_ids.ensures c.args.f.now
       c.args.self.now c.args.asked.now c.args.log.now c.solve.new.log id
       c.requires.padoa c.requires.copies (g.met.O.Oracle.searched c.solve.new.self c.solve.new.log c.solve.ensures.fit)
-      (c.solve.ensures.unsat id (c.in_ok-answer.was ∙ ap Ok e)) group);
+      (refuted_under c.args.log.now c.solve.new.log c.deref.result.now c.args.self.now.first.groups.items
+      c.args.asked.now c.args.asked.now id c.deref.ensures.value refl
+      (c.solve.ensures.unsat id (c.in_ok-answer.was ∙ ap Ok e))) group);
 }
 
 pub returns-clause-unsat : goal.returns-clause-unsat
@@ -48,7 +50,9 @@ returns-clause-unsat g c = λ id is.
     shows_clause c.derived_line_is_implied.ensures c.ids_stay.ensures c.reached_are_ids.ensures c.args.f.now
     c.args.self.now c.args.asked.now c.args.log.now c.solve.new.log id
     c.requires.padoa c.requires.copies (g.met.O.Oracle.searched c.solve.new.self c.solve.new.log c.solve.ensures.fit)
-    (c.solve.ensures.unsat id (c.in_ok-answer.was ∙ ap Ok e))
+    (refuted_under c.args.log.now c.solve.new.log c.deref.result.now c.args.self.now.first.groups.items
+    c.args.asked.now c.args.asked.now id c.deref.ensures.value refl
+    (c.solve.ensures.unsat id (c.in_ok-answer.was ∙ ap Ok e)))
 
 pub returns-in_err-answer-clause-limit : goal.returns-in_err-answer-clause-limit
 returns-in_err-answer-clause-limit g c = λ is.

@@ -1,12 +1,16 @@
-use Rattle.std.proofs.Common.{inl, inr, refl}
-use Rattle.log_laws.proofs.Kept.{named_stay}
-use Rattle.padoa_definitions.specs.Copies.{copies_of}
+use Rattle.std.proofs.Common.{inl, inr, refl, List, length, sym, ◌∙◌, ap, subst, arith}
+use Rattle.std.specs.List.{All, Contains}
+use Rattle.std.proofs.lemmas.List.Elements.{All-contains}
+use Rattle.dq_lits.specs.Literal.{Literal, variable_of}
+use Rattle.oracle.specs.Calls.{IsMade}
+use Rattle.padoa_definitions.specs.Copies.{IsCopied, copies_of}
 use Rattle.padoa_definitions.proofs.DeclaredPlaces.{copies_declared}
-use Rattle.padoa_definitions.proofs.KeptCopies.{keeps_anew}
+use Rattle.padoa_definitions.proofs.KeptCopies.{copies_stay, keeps_anew, made_stays}
 use Rattle.dq_lits.specs.Formula.{declared}
 use Rattle.padoa_definitions.proofs.MadeCopies.{uncopied_yet, ungiven_yet, first_grew, first_few, second_uncopied, second_ungiven, second_grew, second_few, unlinked_yet, third_grew, padoa_made, groups_fresh}
+use Rattle.padoa_definitions.proofs.GivenClauses.{spare_among}
 use Rattle.padoa_definitions.proofs.OnlyCopies.{all_copied}
-use Rattle.padoa_definitions.proofs.padoa.Padoa.new.Goals as goal
+use Rattle.padoa_definitions.proofs.padoa.Padoa.with_copies.Goals as goal
 
 pub copy_matrix-requires-clause-uncopied : goal.copy_matrix-requires-clause-uncopied
 copy_matrix-requires-clause-uncopied g c = uncopied_yet 1 (declared c.args.f.now) c.args.log.now.entries c.requires.none
@@ -58,46 +62,69 @@ returns-clause-grew g c = third_grew c.args.f.now c.args.log.now c.copy_matrix.n
     c.copy_matrix.ensures.adds c.copy_matrix-2.new.log c.copy_matrix-2.ensures.adds c.link_copies.new.log
     c.link_copies.ensures.adds
 
+pub index-requires : goal.index-requires
+index-requires g c =
+    let one = c.in_ok-first.ensures.one in
+    let long = ap length one.1 in
+    omega (arith, long)
+
+pub link_copies-requires-clause-spare : goal.link_copies-requires-clause-spare
+link_copies-requires-clause-spare g c =
+    let f = c.args.f.now in
+    made_stays c.copy_matrix.new.log.entries c.copy_matrix-2.new.log.entries
+    (keeps_anew f c.copy_matrix.new.log c.copy_matrix-2.new.log c.copy_matrix-2.ensures.adds.grew).names
+    c.index.result.now
+    (All-contains (IsMade c.copy_matrix.new.log.entries) c.in_ok-first.first.groups.items c.index.result.now
+    c.in_ok-first.ensures.copy.made (spare_among c.in_ok-first.first.groups.items c.in_ok-first.ensures.one.0
+    c.index.result.now c.in_ok-first.ensures.one.1 c.index.ensures))
+
 pub returns-clause-made : goal.returns-clause-made
 returns-clause-made g c = padoa_made c.args.f.now c.args.log.now c.copy_matrix.new.log c.requires.none c.requires.few
     c.copy_matrix.ensures.adds c.copy_matrix-2.new.log c.copy_matrix-2.ensures.adds c.link_copies.new.log
-    c.link_copies.ensures.adds (record {
+    c.link_copies.ensures.adds c.deref.result.now c.index.result.now (record {
       alloc = c.args.alloc;
       first = c.in_ok-first.first;
-      second =
-          c.in_ok-second.second;
+      second = c.in_ok-second.second;
+      copied = c.args.copied;
       links = c.in_ok-links.links;
     }) c.in_ok-first.ensures.copy c.in_ok-second.ensures.copy
-    c.in_ok-links.ensures.links
+    c.in_ok-links.ensures.links (ap length c.deref.ensures.value ∙ c.requires.as_many)
+    (subst (λ fs. (clause : List Literal) → Contains c.args.f.now.matrix clause →
+    All (λ l. IsCopied c.args.f.now fs (variable_of l)) clause) (sym c.deref.ensures.value) c.requires.covered)
+    (sym c.deref.ensures.value)
 
 pub returns-clause-fresh : goal.returns-clause-fresh
 returns-clause-fresh g c = groups_fresh c.args.f.now c.args.log.now c.copy_matrix.new.log c.requires.none c.requires.few
     c.copy_matrix.ensures.adds c.copy_matrix-2.new.log c.copy_matrix-2.ensures.adds c.link_copies.new.log
-    c.link_copies.ensures.adds (record {
+    c.link_copies.ensures.adds c.deref.result.now c.index.result.now (record {
       alloc = c.args.alloc;
       first = c.in_ok-first.first;
-      second =
-          c.in_ok-second.second;
+      second = c.in_ok-second.second;
+      copied = c.args.copied;
       links = c.in_ok-links.links;
     }) c.in_ok-first.ensures.copy c.in_ok-second.ensures.copy
     c.in_ok-links.ensures.links c.in_ok-first.ensures.fresh c.in_ok-second.ensures.fresh
+    (spare_among c.in_ok-first.first.groups.items c.in_ok-first.ensures.one.0 c.index.result.now
+    c.in_ok-first.ensures.one.1 c.index.ensures)
 
 pub link_copies-requires-clause-first : goal.link_copies-requires-clause-first
 link_copies-requires-clause-first g c =
     let f = c.args.f.now in
     let first = c.in_ok-first.first in
+    let flags = c.deref.result.now in
     let keeps = keeps_anew f c.copy_matrix.new.log c.copy_matrix-2.new.log c.copy_matrix-2.ensures.adds.grew in
-    named_stay c.copy_matrix.new.log.entries c.copy_matrix-2.new.log.entries keeps.names (copies_of first) _
-    (copies_declared f 1 first c.copy_matrix.new.log.entries c.in_ok-first.ensures.copy.universals
+    copies_stay c.copy_matrix.new.log.entries c.copy_matrix-2.new.log.entries keeps.names 1 flags (declared f)
+    (copies_of first)
+    (copies_declared f 1 flags first c.copy_matrix.new.log.entries c.in_ok-first.ensures.copy.universals
     c.in_ok-first.ensures.copy.existentials)
 
 pub link_copies-requires-clause-second : goal.link_copies-requires-clause-second
 link_copies-requires-clause-second g c =
     let second = c.in_ok-second.second in
-    copies_declared c.args.f.now 2 second c.copy_matrix-2.new.log.entries c.in_ok-second.ensures.copy.universals
-    c.in_ok-second.ensures.copy.existentials
+    copies_declared c.args.f.now 2 c.deref.result.now second c.copy_matrix-2.new.log.entries
+    c.in_ok-second.ensures.copy.universals c.in_ok-second.ensures.copy.existentials
 
-pub returns-clause-copied : goal.returns-clause-copied
-returns-clause-copied g c =
+pub returns-clause-only : goal.returns-clause-only
+returns-clause-only g c =
     all_copied c.args.f.now c.args.log.now c.copy_matrix.new.log c.copy_matrix-2.new.log c.link_copies.new.log
     c.copy_matrix.ensures.adds c.copy_matrix-2.ensures.adds c.link_copies.ensures.adds
