@@ -7,6 +7,7 @@ ghost use Rattle.learning_trail.specs.Pieces.{pieces, AreEnds, start_of};
 ghost use Rattle.cdcl_core.specs.Runs.{BeginAlike, BeginsAlike, IsNextStart};
 
 use dq_lits::{Lit, Memory};
+use learning_trail::Code;
 use std::alloc::Global;
 use std::marker::Model;
 
@@ -14,7 +15,7 @@ use std::marker::Model;
 #[derive(Drop)]
 pub(crate) struct Arena {
     // The literals of all clauses, in order.
-    literals: Vec<Lit>,
+    literals: Vec<Code>,
     // Where the literals of each clause end.
     ends: Vec<usize>,
     // Up to which id all clauses up to each one begin as this one does.
@@ -54,7 +55,7 @@ impl Arena {
     }
 
     /// The literals of the clause with an id.
-    pub(crate) fn lits(&self, id: u64) -> &[Lit]
+    pub(crate) fn lits(&self, id: u64) -> &[Code]
         requires from_one { 1 ≤ id }
         requires is_id { id ≤ length self.now.clauses }
         ensures { live_in self.now.clauses id ≡ Some result.now }
@@ -112,7 +113,7 @@ impl Arena {
 }
 
 // The piece at a place.
-fn piece<'a>(literals: &'a [Lit], ends: &[usize], at: usize) -> &'a [Lit]
+fn piece<'a>(literals: &'a [Code], ends: &[usize], at: usize) -> &'a [Code]
     requires ends { AreEnds 0 ends.now (length literals.now) }
     requires at { at < length ends.now }
     ensures { slice_get (pieces literals.now 0 ends.now) at ≡ Some result.now }
@@ -129,12 +130,12 @@ fn start_of(ends: &[usize], at: usize) -> usize
     if at == 0 { 0 } else { ends[at - 1] }
 }
 
-fn append(literals: &mut Vec<Lit>, lits: &[Lit])
+fn append(literals: &mut Vec<Code>, lits: &[Lit])
     requires { length literals.old.items + length lits.now ≤ vec_capacity literals.old }
     ensures { literals.new.items ≡ literals.old.items ++ lits.now }
 {
     for l in lits {
-        if literals.push(*l).is_err() {
+        if literals.push(Code::of(*l)).is_err() {
             unreachable!();
         }
     }
@@ -159,11 +160,14 @@ fn put_start(starts: &mut Vec<u64>, start: u64)
 }
 
 // Whether two clauses begin with the same literal.
-fn begin_alike(lits: &[Lit], others: &[Lit]) -> bool
+fn begin_alike(lits: &[Code], others: &[Lit]) -> bool
     ensures { result ≡ true → BeginsAlike lits.now others.now }
 {
     match lits.first() {
-        Some(l) => others.first() == Some(l),
+        Some(l) => {
+            let first = l.lit();
+            others.first() == Some(&first)
+        }
         None => false,
     }
 }

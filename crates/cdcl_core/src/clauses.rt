@@ -15,7 +15,7 @@ use crate::cursors::Cursors;
 use crate::propagation::propagate;
 use crate::watches::{Watches, add_watch, make_lists, make_room, no_watches};
 use dq_lits::{Lit, Memory};
-use learning_trail::{Clauses, Trail};
+use learning_trail::{Clauses, Code, Trail};
 use std::alloc::Global;
 use std::marker::Model;
 
@@ -50,7 +50,7 @@ impl Clauses for ClauseStore {
 
     ghost HasRoom = { λ s lits. (length lits < s.spare) × HasLists s lits };
 
-    fn lits(&self, id: u64) -> &[Lit] {
+    fn lits(&self, id: u64) -> &[Code] {
         self.arena.lits(id)
     }
 
@@ -119,7 +119,7 @@ impl ClauseStore {
     }
 
     /// Where a long clause is to be looked at for a literal to decide.
-    pub(crate) fn cursor(&self, id: u64, lits: &[Lit]) -> Option<usize> {
+    pub(crate) fn cursor(&self, id: u64, lits: &[Code]) -> Option<usize> {
         self.cursors.decided(id, lits)
     }
 
@@ -223,8 +223,8 @@ impl ClauseStore {
 /// Two literals that a clause is watched at.
 #[derive(Clone, Copy)]
 pub(crate) struct Watched {
-    pub(crate) first: Lit,
-    pub(crate) second: Lit,
+    pub(crate) first: Code,
+    pub(crate) second: Code,
 }
 
 // The first literal of a clause, and the first that differs from it; some literal, where it has
@@ -236,12 +236,12 @@ fn watched_of(lits: &[Lit]) -> Watched
 {
     match lits.first() {
         Some(l) => Watched {
-            first: *l,
-            second: other_of(lits, *l),
+            first: Code::of(*l),
+            second: Code::of(other_of(lits, *l)),
         },
         None => Watched {
-            first: Lit::pos(1),
-            second: Lit::pos(1),
+            first: Code::of(Lit::pos(1)),
+            second: Code::of(Lit::pos(1)),
         },
     }
 }

@@ -6,6 +6,7 @@
 //! a time that grows with the square of their number.
 
 use dq_lits::{Lit, Memory};
+use learning_trail::Code;
 use std::alloc::Global;
 
 // Clauses of more literals that were put to the solver have a place to decide from.
@@ -33,13 +34,13 @@ pub(crate) struct Cursors {
 }
 
 /// Whether a clause has so many literals that it is looked at from a place on, for one to watch.
-pub(crate) fn has_place(lits: &[Lit]) -> bool {
+pub(crate) fn has_place(lits: &[Code]) -> bool {
     lits.len() > SHORT
 }
 
 // Whether a clause has so many literals that one to decide is looked for from a place on.
-fn is_long(lits: &[Lit]) -> bool {
-    lits.len() > LONG
+fn is_long(literals: usize) -> bool {
+    literals > LONG
 }
 
 impl Cursors {
@@ -60,7 +61,7 @@ impl Cursors {
 
     /// A place to decide from for a clause of an id larger than all up to now, if it is long.
     pub(crate) fn add(&mut self, clause: u64, lits: &[Lit]) -> Result<(), Memory> {
-        if is_long(lits) {
+        if is_long(lits.len()) {
             self.cursors.push(Cursor { clause, decided: 0 })?;
         }
         Ok(())
@@ -75,7 +76,7 @@ impl Cursors {
     }
 
     /// Where a literal to decide was found last, if the clause has a place.
-    pub(crate) fn decided(&self, clause: u64, lits: &[Lit]) -> Option<usize> {
+    pub(crate) fn decided(&self, clause: u64, lits: &[Code]) -> Option<usize> {
         let cursor = self.get(clause, lits)?;
         Some(cursor.decided)
     }
@@ -99,8 +100,8 @@ impl Cursors {
         }
     }
 
-    fn get(&self, clause: u64, lits: &[Lit]) -> Option<&Cursor> {
-        if !is_long(lits) {
+    fn get(&self, clause: u64, lits: &[Code]) -> Option<&Cursor> {
+        if !is_long(lits.len()) {
             return None;
         }
         self.cursors.get(self.place_of(clause)?)

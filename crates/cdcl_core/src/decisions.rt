@@ -18,7 +18,7 @@ ghost use Rattle.cdcl_core.specs.Passes.{AreTrueWithin};
 use crate::clauses::{ClauseStore, Watched};
 use crate::positions::{Positions, Span};
 use dq_lits::Lit;
-use learning_trail::{Activities, Clauses, Trail, is_true, next_not_false, open_literal_at};
+use learning_trail::{Activities, Clauses, Code, Trail, is_true, next_not_false, open_literal_at};
 
 /// A clause that has no true literal, and a literal of it without a value.
 #[derive(Clone, Copy)]
@@ -96,7 +96,7 @@ fn larger(id: u64, other: u64) -> u64
 }
 
 // Whether a clause's first literal is true.
-fn begins_true(trail: &Trail, lits: &[Lit]) -> bool
+fn begins_true(trail: &Trail, lits: &[Code]) -> bool
     requires { All (λ l. variable_of l ≤ trail.now.room) lits.now }
     ensures { result ≡ true → BeginsTrue (literals_of trail.now.steps) lits.now }
 {
@@ -156,7 +156,7 @@ fn open_in(trail: &Trail, clauses: &ClauseStore, activities: &Activities, id: u6
 }
 
 // Where a clause is to be looked at first; behind its end, where it isn't long.
-fn place_in(trail: &Trail, clauses: &ClauseStore, lits: &[Lit], id: u64) -> usize
+fn place_in(trail: &Trail, clauses: &ClauseStore, lits: &[Code], id: u64) -> usize
     requires { All (λ l. variable_of l ≤ trail.now.room) lits.now }
 {
     match clauses.cursor(id, lits) {

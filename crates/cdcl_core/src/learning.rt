@@ -21,7 +21,9 @@ use crate::positions::Positions;
 use crate::searchers::Searcher;
 use dq_lits::Lit;
 use hint_log::{Log, Stop};
-use learning_trail::{Assumptions, Notes, Restarts, Step, Trail, analyse, land, newest_place};
+use learning_trail::{
+    Assumptions, Code, Notes, Restarts, Step, Trail, analyse, land, newest_place,
+};
 
 /// Learns from a falsified clause, and goes back to where what was learned is unit, or begins anew.
 pub(crate) fn learn(
@@ -115,8 +117,8 @@ fn hold(clauses: &mut ClauseStore, notes: &Notes, first: &Step, level: &Option<L
         Some(l) => clauses.push_watched(
             notes.literals(),
             Watched {
-                first: first.literal.not(),
-                second: l.not(),
+                first: Code::of(first.literal.not()),
+                second: Code::of(l.not()),
             },
         ),
     }

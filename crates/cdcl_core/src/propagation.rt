@@ -22,8 +22,7 @@ ghost use Rattle.cdcl_core.specs.Visits.{IsVisitable, IsLooked, IsOther, AreOthe
 use crate::arenas::Arena;
 use crate::cursors::{Cursors, has_place};
 use crate::watches::{Watches, put_back, put_elsewhere, take};
-use dq_lits::Lit;
-use learning_trail::{Status, Step, Trail, is_false, is_true, status_of};
+use learning_trail::{Code, Status, Step, Trail, is_false, is_true, status_of};
 use truth_values::TruthValue;
 
 /// Propagates to the end, or to a falsified clause, whose id it answers. All literals but the
@@ -107,7 +106,8 @@ fn visit_from(
         match trail.literal_at(at) {
             None => return None,
             Some(l) => {
-                if let Some(id) = visit_both(trail, arena, cursors, first, second, l.not()) {
+                let code = Code::of(l.not());
+                if let Some(id) = visit_both(trail, arena, cursors, first, second, code) {
                     return Some(id);
                 }
             }
@@ -123,7 +123,7 @@ fn visit_both(
     cursors: &mut Cursors,
     first: &mut Watches,
     second: &mut Watches,
-    l: Lit,
+    l: Code,
 ) -> Option<u64>
     requires visitable { IsVisitable arena.now.clauses trail.old first.old second.old }
     requires linked { IsLinked first.old 0 [] }
@@ -146,7 +146,7 @@ fn visit_list(
     cursors: &mut Cursors,
     these: &mut Watches,
     others: &Watches,
-    l: Lit,
+    l: Code,
 ) -> Option<u64>
     requires visitable { IsVisitable arena.now.clauses trail.old these.old others.now }
     requires linked { IsLinked these.old 0 [] }
@@ -172,7 +172,7 @@ fn visit_list(
 }
 
 // Puts the clauses that are left to visit back on their literal's list.
-fn put_all_back(these: &mut Watches, first: u64, l: Lit)
+fn put_all_back(these: &mut Watches, first: u64, l: Code)
     requires left { IsLeft these.old first l }
     requires list { HasList these.old l }
     ensures linked { IsLinked these.new 0 [] }
@@ -194,7 +194,7 @@ pub(crate) enum Look {
     /// The other watched literal is true.
     Kept,
     /// Another literal isn't false.
-    Moved(Lit),
+    Moved(Code),
     /// All are false.
     Falsified,
 }
@@ -207,7 +207,7 @@ fn visit(
     cursors: &mut Cursors,
     these: &mut Watches,
     others: &Watches,
-    l: Lit,
+    l: Code,
     id: u64,
 ) -> Option<u64>
     requires visitable { IsVisitable arena.now.clauses trail.old these.old others.now }
@@ -234,24 +234,21 @@ fn visit(
 
 // Looks at a clause, beside its other watched literal, which it makes true where all others are
 // false.
-fn look_at(trail: &mut Trail, lits: &[Lit], cursors: &mut Cursors, other: Lit, id: u64) -> Look
+fn look_at(trail: &mut Trail, lits: &[Code], cursors: &mut Cursors, other: Code, id: u64) -> Look
     requires in_range { All (λ l. variable_of l ≤ trail.old.room) lits.now }
     requires other_in_range { variable_of other ≤ trail.old.room }
     requires few { length trail.old.steps ≤ trail.old.room }
     ensures few { length trail.new.steps ≤ trail.new.room }
     ensures looked { IsLooked lits.now id trail.old trail.new other result }
 {
-    match trail.value(other) {
-        TruthValue::True => Look::Kept,
-        TruthValue::False => match other_literal(trail, lits, cursors, other, id) {
-            Some(k) => Look::Moved(k),
-            None => Look::Falsified,
-        },
-        TruthValue::Unassigned => match other_literal(trail, lits, cursors, other, id) {
-            Some(k) => Look::Moved(k),
-            None => {
+    match other_literal(trail, lits, cursors, other, id) {
+        Some(k) => Look::Moved(k),
+        None => match trail.code_value(other) {
+            TruthValue::True => Look::Kept,
+            TruthValue::False => Look::Falsified,
+            TruthValue::Unassigned => {
                 trail.push(Step {
-                    literal: other,
+                    literal: other.lit(),
                     reason: Some(id),
                 });
                 Look::Kept
@@ -263,11 +260,11 @@ fn look_at(trail: &mut Trail, lits: &[Lit], cursors: &mut Cursors, other: Lit, i
 // A literal that isn't false, beside the other watched literal.
 fn other_literal(
     trail: &Trail,
-    lits: &[Lit],
+    lits: &[Code],
     cursors: &mut Cursors,
-    other: Lit,
+    other: Code,
     id: u64,
-) -> Option<Lit>
+) -> Option<Code>
     requires { All (λ l. variable_of l ≤ trail.now.room) lits.now }
     ensures { MatchOption result (AreOthersFalse (literals_of trail.now.steps) lits.now other)
         (λ k. IsOther (literals_of trail.now.steps) lits.now other k) }
@@ -281,11 +278,11 @@ fn other_literal(
 // The same from where the clause was looked at last.
 fn other_from_place(
     trail: &Trail,
-    lits: &[Lit],
+    lits: &[Code],
     cursors: &mut Cursors,
-    other: Lit,
+    other: Code,
     id: u64,
-) -> Option<Lit>
+) -> Option<Code>
     requires { All (λ l. variable_of l ≤ trail.now.room) lits.now }
     ensures { MatchOption result (AreOthersFalse (literals_of trail.now.steps) lits.now other)
         (λ k. IsOther (literals_of trail.now.steps) lits.now other k) }
@@ -301,7 +298,7 @@ fn other_from_place(
 
 // The first place, from one on, of a literal that isn't false, beside the other watched literal; 0,
 // where there is none.
-fn next_other(trail: &Trail, lits: &[Lit], other: Lit, from: usize) -> usize
+fn next_other(trail: &Trail, lits: &[Code], other: Code, from: usize) -> usize
     requires { All (λ l. variable_of l ≤ trail.now.room) lits.now }
 {
     for place in from..lits.len() {
@@ -313,7 +310,7 @@ fn next_other(trail: &Trail, lits: &[Lit], other: Lit, from: usize) -> usize
 }
 
 // The literal at a place, if it isn't false, nor the other watched literal.
-fn other_at(trail: &Trail, lits: &[Lit], other: Lit, place: usize) -> Option<Lit>
+fn other_at(trail: &Trail, lits: &[Code], other: Code, place: usize) -> Option<Code>
     requires { All (λ l. variable_of l ≤ trail.now.room) lits.now }
     ensures { IfSome result (λ k. IsOther (literals_of trail.now.steps) lits.now other k) }
 {
@@ -329,7 +326,7 @@ fn other_at(trail: &Trail, lits: &[Lit], other: Lit, place: usize) -> Option<Lit
 }
 
 // The first literal that isn't false, beside the other watched literal.
-fn first_other(trail: &Trail, lits: &[Lit], other: Lit) -> Option<Lit>
+fn first_other(trail: &Trail, lits: &[Code], other: Code) -> Option<Code>
     requires { All (λ l. variable_of l ≤ trail.now.room) lits.now }
     ensures { MatchOption result (AreOthersFalse (literals_of trail.now.steps) lits.now other)
         (λ k. IsOther (literals_of trail.now.steps) lits.now other k) }

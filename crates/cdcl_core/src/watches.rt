@@ -9,6 +9,7 @@ ghost use Rattle.dq_lits.specs.Literal.{positive};
 ghost use Rattle.cdcl_core.specs.Chains.{watch_at, place_of, has, IsLinked, HasList, IsTaken, AddsLists};
 
 use dq_lits::{Lit, Memory};
+use learning_trail::Code;
 use std::alloc::Global;
 
 /// One of the two literals that each clause is watched at.
@@ -17,7 +18,7 @@ pub(crate) struct Watches {
     /// The id of the first clause on each literal's list; 0, where there is none.
     pub(crate) heads: Vec<u64>,
     /// The literal of the clause with id i at place i - 1.
-    pub(crate) literals: Vec<Lit>,
+    pub(crate) literals: Vec<Code>,
     /// The id of the clause behind it on its list; 0, where there is none.
     pub(crate) nexts: Vec<u64>,
 }
@@ -89,7 +90,7 @@ fn extend(heads: &mut Vec<u64>, wanted: usize) -> Result<(), Memory>
 }
 
 /// One clause more, watched at a literal.
-pub(crate) fn add_watch(watches: &mut Watches, l: Lit)
+pub(crate) fn add_watch(watches: &mut Watches, l: Code)
     requires linked { IsLinked watches.old 0 [] }
     requires list { HasList watches.old l }
     requires room { length watches.old.literals.items < vec_capacity watches.old.literals }
@@ -98,7 +99,7 @@ pub(crate) fn add_watch(watches: &mut Watches, l: Lit)
     ensures literals { watches.new.literals.items ≡ watches.old.literals.items ++ l ∷ [] }
     ensures lists { length watches.new.heads.items ≡ length watches.old.heads.items }
 {
-    let place = place_of(l);
+    let place = l.place();
     let next = watches.heads[place];
     if watches.literals.push(l).is_err() {
         unreachable!();
@@ -110,13 +111,13 @@ pub(crate) fn add_watch(watches: &mut Watches, l: Lit)
 }
 
 /// Takes a literal's list away, and gives its first clause.
-pub(crate) fn take(watches: &mut Watches, l: Lit) -> u64
+pub(crate) fn take(watches: &mut Watches, l: Code) -> u64
     requires { IsLinked watches.old 0 [] }
     ensures taken { IsTaken watches.new l result }
     ensures literals { watches.new.literals.items ≡ watches.old.literals.items }
     ensures lists { length watches.new.heads.items ≡ length watches.old.heads.items }
 {
-    let place = place_of(l);
+    let place = l.place();
     if place >= watches.heads.len() {
         return 0;
     }
@@ -127,7 +128,7 @@ pub(crate) fn take(watches: &mut Watches, l: Lit) -> u64
 
 /// Puts the first of the clauses that are left to visit back on its literal's list, and gives the
 /// next one.
-pub(crate) fn put_back(watches: &mut Watches, id: u64, l: Lit) -> u64
+pub(crate) fn put_back(watches: &mut Watches, id: u64, l: Code) -> u64
     requires from_one { 1 ≤ id }
     requires is_id { id ≤ length watches.old.nexts.items }
     requires list { HasList watches.old l }
@@ -139,7 +140,7 @@ pub(crate) fn put_back(watches: &mut Watches, id: u64, l: Lit) -> u64
     ensures len { length watches.new.nexts.items ≡ length watches.old.nexts.items }
 {
     let at = id as usize - 1;
-    let place = place_of(l);
+    let place = l.place();
     let next = watches.nexts[at];
     watches.nexts[at] = watches.heads[place];
     watches.heads[place] = id;
@@ -148,7 +149,7 @@ pub(crate) fn put_back(watches: &mut Watches, id: u64, l: Lit) -> u64
 
 /// Puts the first of the clauses that are left to visit on another literal's list, and gives the
 /// next one.
-pub(crate) fn put_elsewhere(watches: &mut Watches, id: u64, l: Lit) -> u64
+pub(crate) fn put_elsewhere(watches: &mut Watches, id: u64, l: Code) -> u64
     requires from_one { 1 ≤ id }
     requires is_id { id ≤ length watches.old.nexts.items }
     requires list { HasList watches.old l }
@@ -161,12 +162,4 @@ pub(crate) fn put_elsewhere(watches: &mut Watches, id: u64, l: Lit) -> u64
 {
     watches.literals[id as usize - 1] = l;
     put_back(watches, id, l)
-}
-
-// The place of a literal's list.
-fn place_of(l: Lit) -> usize
-    ensures { result ≡ place_of l }
-{
-    let place = l.var() as usize * 2;
-    if l.is_neg() { place + 1 } else { place }
 }

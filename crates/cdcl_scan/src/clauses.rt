@@ -8,7 +8,7 @@ ghost use Rattle.cdcl_scan.specs.Runs.{Shares, AreRuns};
 ghost use Rattle.learning_trail.specs.Pieces.{pieces, AreEnds, start_of};
 
 use dq_lits::{Lit, Memory};
-use learning_trail::{Clauses, holds};
+use learning_trail::{Clauses, Code, holds};
 use std::alloc::Global;
 use std::marker::Model;
 
@@ -28,7 +28,7 @@ pub(crate) struct Run {
 #[derive(Drop)]
 pub(crate) struct ClauseStore {
     // The literals of all clauses, in order.
-    literals: Vec<Lit>,
+    literals: Vec<Code>,
     // Where the literals of each clause end.
     ends: Vec<usize>,
     runs: Vec<Run>,
@@ -51,7 +51,7 @@ impl Clauses for ClauseStore {
 
     ghost HasRoom = { λ s lits. length lits < s.spare };
 
-    fn lits(&self, id: u64) -> &[Lit] {
+    fn lits(&self, id: u64) -> &[Code] {
         piece(&self.literals, &self.ends, id as usize - 1)
     }
 
@@ -101,7 +101,7 @@ impl ClauseStore {
 }
 
 // The piece at a place.
-fn piece<'a>(literals: &'a [Lit], ends: &[usize], at: usize) -> &'a [Lit]
+fn piece<'a>(literals: &'a [Code], ends: &[usize], at: usize) -> &'a [Code]
     requires ends { AreEnds 0 ends.now (length literals.now) }
     requires at { at < length ends.now }
     ensures { slice_get (pieces literals.now 0 ends.now) at ≡ Some result.now }
@@ -118,12 +118,12 @@ fn start_of(ends: &[usize], at: usize) -> usize
     if at == 0 { 0 } else { ends[at - 1] }
 }
 
-fn append(literals: &mut Vec<Lit>, lits: &[Lit])
+fn append(literals: &mut Vec<Code>, lits: &[Lit])
     requires { length literals.old.items + length lits.now ≤ vec_capacity literals.old }
     ensures { literals.new.items ≡ literals.old.items ++ lits.now }
 {
     for l in lits {
-        if literals.push(*l).is_err() {
+        if literals.push(Code::of(*l)).is_err() {
             unreachable!();
         }
     }

@@ -1,6 +1,8 @@
 pub mod Analyses
 pub mod Answering
 pub mod Backing
+pub mod CodeLaws
+pub mod Codes
 pub mod Extension
 pub mod FitLaws
 pub mod Growing
@@ -13,3 +15,4 @@ pub mod Searching
 pub mod Sound
 pub mod Steps
 pub mod TrailInside
+pub mod Valued

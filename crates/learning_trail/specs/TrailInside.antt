@@ -10,7 +10,7 @@ use Rattle.truth_values.specs.Truth.{is_assigned}
 use Rattle.learning_trail.specs.declared.trails.Trail.TheInside.{Inside}
 
 abbrev pub trailed_in : Inside → Trailed
-trailed_in t = record { room = length t.values.items; steps = reverse t.steps.items }
+trailed_in t = record { room = length t.values; steps = reverse t.steps.items }
 
 abbrev pub AreApart : List Step → Type 0
 AreApart [] = Unit {0}
@@ -32,9 +32,9 @@ ArePlaced places [] = Unit {0}
 ArePlaced places (s ∷ earlier) = IsPlaced places s (length earlier) × ArePlaced places earlier
 
 pub record IsTrail (t : Inside) : Type 0 where
-  pub kept : IsKept t.values.items (reverse t.steps.items)
-  pub room : length t.values.items ≤ vec_capacity t.steps
+  pub kept : IsKept t.values (reverse t.steps.items)
+  pub room : length t.values ≤ vec_capacity t.steps
   pub placed : ArePlaced t.places.items (reverse t.steps.items)
-  pub places : length t.places.items ≡ length t.values.items
+  pub places : length t.places.items ≡ length t.values
   pub starts : reverse t.starts.items ≡ starts_of (reverse t.steps.items)
-  pub starts_room : length t.values.items ≤ vec_capacity t.starts
+  pub starts_room : length t.values ≤ vec_capacity t.starts

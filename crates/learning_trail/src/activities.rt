@@ -1,5 +1,6 @@
 //! How active literals are: a policy that no contract speaks of.
 
+use crate::codes::Code;
 use dq_lits::Lit;
 use std::alloc::Global;
 
@@ -43,9 +44,9 @@ impl Activities {
     }
 
     /// Makes the literals of a clause more active.
-    pub fn bump(&mut self, lits: &[Lit]) {
+    pub fn bump(&mut self, lits: &[Code]) {
         for l in lits {
-            let place = place_of(*l);
+            let place = l.place().saturating_sub(2);
             self.extend(place);
             if let Some(score) = self.scores.get_mut(place) {
                 *score = Score {

@@ -21,6 +21,7 @@ ghost use Rattle.learning_trail.specs.Noting.{Noted};
 
 use crate::activities::Activities;
 use crate::clauses::Clauses;
+use crate::codes::Code;
 use crate::levels::is_level_marked;
 use crate::notes::Notes;
 use crate::trails::{Step, Trail};
@@ -192,11 +193,12 @@ fn redundant_by<C: Clauses>(clauses: &C, notes: &Notes, step: &Step) -> Option<u
 }
 
 // Whether all variables of a clause but one are marked.
-fn are_others_marked(notes: &Notes, lits: &[Lit], l: Lit) -> bool
+fn are_others_marked(notes: &Notes, lits: &[Code], l: Lit) -> bool
     requires { All (λ k. variable_of k < length notes.now.marks) lits.now }
     ensures { result
         ≡ list_all (λ k. (variable_of k == variable_of l) || marked notes.now.marks (variable_of k))
         lits.now }
 {
-    lits.iter().all(|k| k.var() == l.var() || notes.has(*k))
+    lits.iter()
+        .all(|k| k.var() == l.var() || notes.has_code(*k))
 }

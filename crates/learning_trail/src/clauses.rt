@@ -4,6 +4,7 @@ ghost use Rattle.std.specs.Prelude.{◌≡◌, ◌≤◌, ◌++◌, ◌∷◌, [
 ghost use Rattle.dq_lits.specs.Literal.{Literal};
 ghost use Rattle.oracle.specs.Fit.{live_in};
 
+use crate::codes::Code;
 use dq_lits::{Lit, Memory};
 
 /// Clauses in order of time, each read by its id, from 1 on.
@@ -15,7 +16,7 @@ pub trait Clauses {
     ghost HasRoom: { Self → List Literal → Type 0 };
 
     /// The literals of the clause with an id.
-    fn lits(&self, id: u64) -> &[Lit]
+    fn lits(&self, id: u64) -> &[Code]
         requires from_one { 1 ≤ id }
         requires is_id { id ≤ length (clauses self.now) }
         ensures { live_in (clauses self.now) id ≡ Some result.now };

@@ -8,12 +8,13 @@ ghost use Rattle.learning_trail.specs.Steps.{literals_of};
 ghost use Rattle.truth_values.specs.Truth.{IsFree};
 
 use crate::activities::Activities;
+use crate::codes::Code;
 use crate::trails::Trail;
 use dq_lits::Lit;
 use truth_values::TruthValue;
 
 /// The most active literal without a value, where the clause has no true literal.
-pub fn open_literal(trail: &Trail, lits: &[Lit], activities: &Activities) -> Option<Lit>
+pub fn open_literal(trail: &Trail, lits: &[Code], activities: &Activities) -> Option<Lit>
     requires in_range { All (λ l. variable_of l ≤ trail.now.room) lits.now }
     requires stuck { status_of (literals_of trail.now.steps) (Some lits.now) ≡ stuck }
     ensures { MatchOption result
@@ -22,10 +23,10 @@ pub fn open_literal(trail: &Trail, lits: &[Lit], activities: &Activities) -> Opt
 {
     let mut best = None;
     for l in lits {
-        match trail.value(*l) {
+        match trail.code_value(*l) {
             TruthValue::False => {}
             TruthValue::True => return None,
-            TruthValue::Unassigned => best = Some(more_active(activities, &best, *l)),
+            TruthValue::Unassigned => best = Some(more_active(activities, &best, l.lit())),
         }
     }
     best
@@ -35,7 +36,7 @@ pub fn open_literal(trail: &Trail, lits: &[Lit], activities: &Activities) -> Opt
 /// no value.
 pub fn open_literal_at(
     trail: &Trail,
-    lits: &[Lit],
+    lits: &[Code],
     place: usize,
     activities: &Activities,
 ) -> Option<Lit>
@@ -47,10 +48,10 @@ pub fn open_literal_at(
 {
     if place < lits.len() {
         let l = lits[place];
-        match trail.value(l) {
+        match trail.code_value(l) {
             TruthValue::False => {}
             TruthValue::True => return None,
-            TruthValue::Unassigned => return Some(l),
+            TruthValue::Unassigned => return Some(l.lit()),
         }
     }
     open_literal(trail, lits, activities)
@@ -58,7 +59,7 @@ pub fn open_literal_at(
 
 /// The first place, from one on, of a literal that isn't false; 0, where there is none. It is a
 /// place to go on from, and no contract speaks of it.
-pub fn next_not_false(trail: &Trail, lits: &[Lit], from: usize) -> usize
+pub fn next_not_false(trail: &Trail, lits: &[Code], from: usize) -> usize
     requires { All (λ l. variable_of l ≤ trail.now.room) lits.now }
 {
     for place in from..lits.len() {
@@ -70,11 +71,11 @@ pub fn next_not_false(trail: &Trail, lits: &[Lit], from: usize) -> usize
 }
 
 /// Whether a literal is false.
-pub fn is_false(trail: &Trail, l: Lit) -> bool
+pub fn is_false(trail: &Trail, l: Code) -> bool
     requires { variable_of l ≤ trail.now.room }
     ensures { result ≡ holds (literals_of trail.now.steps) (opposite l) }
 {
-    match trail.value(l) {
+    match trail.code_value(l) {
         TruthValue::True => false,
         TruthValue::False => true,
         TruthValue::Unassigned => false,

@@ -7,6 +7,7 @@ ghost use Rattle.learning_trail.specs.Steps.{IsAt};
 ghost use Rattle.learning_trail.specs.Marks.{marked, stands_on};
 ghost use Rattle.learning_trail.specs.Noting.{is_marked, is_touched, AreTouched};
 
+use crate::codes::Code;
 use crate::trails::Trail;
 use dq_lits::{Lit, Memory};
 use std::alloc::Global;
@@ -94,6 +95,14 @@ impl Notes {
         is_marked(self.marks[l.var() as usize])
     }
 
+    /// Whether the variable of a literal of a clause is marked.
+    pub(crate) fn has_code(&self, l: Code) -> bool
+        requires { variable_of l < length self.now.marks }
+        ensures { result ≡ marked self.now.marks (variable_of l) }
+    {
+        is_marked(self.marks[l.var() as usize])
+    }
+
     /// The hints.
     pub fn hints(&self) -> &[u64]
         ensures { result.now ≡ self.now.hints }
@@ -122,7 +131,7 @@ impl Notes {
     }
 
     /// Adds a hint, and marks the variables of its clause's literals.
-    pub fn add_hint(&mut self, id: u64, lits: &[Lit])
+    pub fn add_hint(&mut self, id: u64, lits: &[Code])
         requires room { length self.old.hints < length self.old.marks }
         requires in_range { All (λ l. variable_of l < length self.old.marks) lits.now }
         ensures len { length self.new.marks ≡ length self.old.marks }
@@ -154,7 +163,7 @@ impl Notes {
     }
 
     // Marks a literal's variable.
-    fn add_mark(&mut self, l: Lit)
+    fn add_mark(&mut self, l: Code)
         requires { variable_of l < length self.old.marks }
         ensures len { length self.new.marks ≡ length self.old.marks }
         ensures marked { (v : ℕ)

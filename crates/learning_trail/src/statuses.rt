@@ -9,6 +9,7 @@ ghost use Rattle.truth_values.specs.Truth.{IsFree};
 ghost use Rattle.learning_trail.specs.Extension.{seen};
 ghost use Rattle.truth_values.specs.Extension.{with_free, with_literal};
 
+use crate::codes::Code;
 use crate::trails::Trail;
 use dq_lits::Lit;
 use truth_values::TruthValue;
@@ -24,13 +25,13 @@ pub enum Status {
     Stuck,
 }
 
-pub fn status_of(trail: &Trail, lits: &[Lit]) -> Status
+pub fn status_of(trail: &Trail, lits: &[Code]) -> Status
     requires { All (λ l. variable_of l ≤ trail.now.room) lits.now }
     ensures { seen result ≡ status_of (literals_of trail.now.steps) (Some lits.now) }
 {
     let mut status = Status::Falsified;
     for l in lits {
-        status = status.with_literal(*l, trail.value(*l));
+        status = status.with_literal(l.lit(), trail.code_value(*l));
         if status.is_stuck() {
             return status;
         }
@@ -39,11 +40,11 @@ pub fn status_of(trail: &Trail, lits: &[Lit]) -> Status
 }
 
 /// Whether a literal is true.
-pub fn is_true(trail: &Trail, l: Lit) -> bool
+pub fn is_true(trail: &Trail, l: Code) -> bool
     requires { variable_of l ≤ trail.now.room }
     ensures { result ≡ true → holds (literals_of trail.now.steps) l ≡ true }
 {
-    match trail.value(l) {
+    match trail.code_value(l) {
         TruthValue::True => true,
         TruthValue::False => false,
         TruthValue::Unassigned => false,

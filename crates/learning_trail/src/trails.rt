@@ -3,7 +3,9 @@
 ghost use Rattle.std.specs.Prelude.{◌≡◌, ◌+◌, ◌<◌, ◌≤◌, ◌++◌, [], ◌∷◌, ℕ, Some, length, reverse, vec_capacity, IfOk, OnErr, OnOk, IfSome, MatchOption, All, if◌then◌else◌};
 ghost use Rattle.dq_lits.specs.Literal.{Literal, variable_of};
 
+use crate::codes::Code;
 use crate::starts::{newest_start, put_start, take_start};
+use crate::values::Values;
 use dq_lits::{Lit, Memory};
 use std::alloc::Global;
 use std::marker::Model;
@@ -20,8 +22,7 @@ pub struct Step {
 /// The literals that were made true, in order.
 #[derive(Drop)]
 pub struct Trail {
-    // The value of variable v at place v - 1.
-    values: Vec<TruthValue>,
+    values: Values,
     // Where the literal of variable v stands, if it is true or false, at place v - 1.
     places: Vec<usize>,
     steps: Vec<Step>,
@@ -49,7 +50,7 @@ impl Trail {
         ensures { result ≡ record { room = 0; steps = [] } }
     {
         Trail {
-            values: Vec::new(alloc),
+            values: Values::new(alloc),
             places: Vec::new(alloc),
             steps: Vec::new(alloc),
             starts: Vec::new(alloc),
@@ -65,7 +66,7 @@ impl Trail {
         self.steps.reserve(self.values.len() + 1)?;
         self.places.reserve(1)?;
         self.starts.reserve(self.values.len() + 1)?;
-        self.values.push(TruthValue::Unassigned)?;
+        self.values.grow()?;
         put_place(&mut self.places);
         Ok(())
     }
@@ -74,11 +75,15 @@ impl Trail {
         requires { variable_of l ≤ self.now.room }
         ensures { result ≡ literal_value (literals_of self.now.steps) l }
     {
-        match self.values[place_of(l)] {
-            TruthValue::Unassigned => TruthValue::Unassigned,
-            TruthValue::True => truth(!l.is_neg()),
-            TruthValue::False => truth(l.is_neg()),
-        }
+        self.code_value(Code::of(l))
+    }
+
+    /// The same of a literal's code.
+    pub fn code_value(&self, l: Code) -> TruthValue
+        requires { variable_of l ≤ self.now.room }
+        ensures { result ≡ literal_value (literals_of self.now.steps) l }
+    {
+        self.values.of(l)
     }
 
     /// Makes an unassigned literal true.
@@ -88,7 +93,8 @@ impl Trail {
         ensures is { self.new ≡ record { room = self.old.room; steps = step ∷ self.old.steps } }
         ensures few { length self.new.steps ≤ self.new.room }
     {
-        self.values[place_of(step.literal)] = truth(!step.literal.is_neg());
+        self.values
+            .set(place_of(step.literal), truth(!step.literal.is_neg()));
         self.places[place_of(step.literal)] = self.steps.len();
         put_start(&mut self.starts, &step, self.steps.len());
         if self.steps.push(step).is_err() {
@@ -104,7 +110,8 @@ impl Trail {
         ensures in_range { IfSome result (λ s. variable_of s.literal ≤ self.old.room) }
     {
         let step = self.steps.pop()?;
-        self.values[place_of(step.literal)] = TruthValue::Unassigned;
+        self.values
+            .set(place_of(step.literal), TruthValue::Unassigned);
         take_start(&mut self.starts, &step);
         Some(step)
     }

@@ -7,9 +7,9 @@ pub returns-clause-linked : goal.returns-clause-linked
 returns-clause-linked c =
     let w = c.args.watches.now in
     let q = place_of c.args.l in
-    let place : c.place_of-place.result ≡ q = c.place_of-place.ensures in
+    let place : c.place-place.result ≡ q = c.place-place.ensures.value in
     let next : c.index-next.result.now ≡ get_or w.heads.items q 0 =
-    read_zero w.heads.items c.place_of-place.result q c.index-next.result.now c.index-next.ensures place
+    read_zero w.heads.items c.place-place.result q c.index-next.result.now c.index-next.ensures place
     (omega (arith, c.requires.list)) in
     let nexts : c.push-2.new.self.items ≡ w.nexts.items ++ get_or w.heads.items q 0 ∷ [] =
     c.push-2.ensures.items ∙ ap (λ b. cond b (w.nexts.items ++ c.index-next.result.now ∷ []) w.nexts.items)

@@ -7,9 +7,9 @@ pub returns-clause-linked : goal.returns-clause-linked
 returns-clause-linked c = λ rest k.
     let w = c.args.watches.now in
     let q = place_of c.args.l in
-    let place : c.place_of-place.result ≡ q = c.place_of-place.ensures in
+    let place : c.place-place.result ≡ q = c.place-place.ensures.value in
     let head : c.index.result.now ≡ get_or w.heads.items q 0 =
-    read_zero w.heads.items c.place_of-place.result q c.index.result.now c.index.ensures place
+    read_zero w.heads.items c.place-place.result q c.index.result.now c.index.ensures place
     (omega (arith, c.requires.list)) in
     let next : c.index-next.result.now ≡ get_or w.nexts.items (c.args.id - 1) 0 =
     read_zero w.nexts.items (c.args.id - 1) (c.args.id - 1) c.index-next.result.now c.index-next.ensures refl

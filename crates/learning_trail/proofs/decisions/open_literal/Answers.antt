@@ -7,7 +7,7 @@ use Rattle.learning_trail.proofs.decisions.open_literal.Goals as goal
 pub returns-in-True : goal.returns-in-True
 returns-in-True c =
     true_at (literals_of c.args.trail.now.steps) c.args.lits.now c.l-item.result c.loop-l.l-index c.loop-l-test.true
-    (sym c.l-item.is) (sym c.value.ensures ∙ c.in-True.is)
+    (sym c.l-item.is) (sym c.code_value.ensures ∙ c.in-True.is)
 
 at_end : (P Q : Type 0) (R : Literal → Type 0) (open' : Option Literal) → MatchOption open' P R → (P → ⊥) →
     MatchOption open' Q R

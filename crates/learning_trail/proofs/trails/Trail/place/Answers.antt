@@ -7,7 +7,7 @@ use Rattle.learning_trail.proofs.trails.Trail.place.Goals as goal
 pub returns-then-v-eq0 : goal.returns-then-v-eq0
 returns-then-v-eq0 c = λ at k h same.
     let inside = c.self.inside in
-    let f = placed_at inside.places.items (length inside.values.items)
+    let f = placed_at inside.places.items (length inside.values)
     (reverse inside.steps.items) at k c.self.invariant.placed c.self.invariant.kept.in_range
     (subst (λ (t : Trailed). IsAt t.steps at k) (sym c.self.view_is) h) in
     let one = f.from_one in
@@ -16,7 +16,7 @@ returns-then-v-eq0 c = λ at k h same.
 pub returns-then-v-len : goal.returns-then-v-len
 returns-then-v-len c = λ at k h same.
     let inside = c.self.inside in
-    let f = placed_at inside.places.items (length inside.values.items)
+    let f = placed_at inside.places.items (length inside.values)
     (reverse inside.steps.items) at k c.self.invariant.placed c.self.invariant.kept.in_range
     (subst (λ (t : Trailed). IsAt t.steps at k) (sym c.self.view_is) h) in
     let high = f.in_range in
@@ -26,7 +26,7 @@ returns-then-v-len c = λ at k h same.
 pub returns : goal.returns
 returns c = λ at k h same.
     let inside = c.self.inside in
-    let f = placed_at inside.places.items (length inside.values.items)
+    let f = placed_at inside.places.items (length inside.values)
     (reverse inside.steps.items) at k c.self.invariant.placed c.self.invariant.kept.in_range
     (subst (λ (t : Trailed). IsAt t.steps at k) (sym c.self.view_is) h) in
     let one = f.from_one in

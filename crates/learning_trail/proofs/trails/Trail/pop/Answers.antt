@@ -1,9 +1,10 @@
-use Rattle.std.proofs.Common.{◌≡◌, ◌++◌, ◌∷◌, [], suc, reverse, length, subst, ap, ◌∙◌, arith, List}
+use Rattle.std.proofs.Common.{◌≡◌, ◌++◌, ◌∷◌, [], suc, reverse, length, subst, sym, ap, ◌∙◌, arith, List}
 use Rattle.std.proofs.lemmas.List.{length-set}
 use Rattle.dq_lits.specs.Literal.{variable_of}
 use Rattle.learning_trail.specs.Steps.{starts_of}
 use Rattle.learning_trail.specs.TrailInside.{IsKept, ArePlaced}
 use Rattle.learning_trail.specs.declared.trails.Step.{Step}
+use Rattle.truth_values.specs.declared.values.TruthValue.{TruthValue}
 use Rattle.truth_values.specs.declared.values.TruthValue.TheVariants.{Unassigned}
 use Rattle.learning_trail.proofs.KeptTrails.{kept_popped, newest}
 use Rattle.learning_trail.proofs.trails.Trail.pop.Goals as goal
@@ -15,8 +16,8 @@ invariant_of-self-2 c =
     let place = c.place_of.result in
     let at : variable_of step.literal ≡ suc place = omega (arith, c.place_of.ensures) in
     let split : inside.steps.items ≡ c.pop.new.self.items ++ step ∷ [] = c.in_ok-step.ensures.items in
-    let P : List Step → Type 0 = λ xs. IsKept inside.values.items xs in
-    let old : IsKept inside.values.items (step ∷ reverse c.pop.new.self.items) =
+    let P : List Step → Type 0 = λ xs. IsKept inside.values xs in
+    let old : IsKept inside.values (step ∷ reverse c.pop.new.self.items) =
     subst P (ap reverse split ∙ newest c.pop.new.self.items step) c.self.invariant.kept in
     let placed : ArePlaced inside.places.items (step ∷ reverse c.pop.new.self.items) =
     subst (ArePlaced inside.places.items) (ap reverse split ∙ newest c.pop.new.self.items step)
@@ -27,16 +28,25 @@ invariant_of-self-2 c =
           (c.self.invariant.starts ∙ ap starts_of (ap reverse split ∙ newest c.pop.new.self.items step));
       starts_room = omega (
         arith,
-        length-set inside.values.items place Unassigned,
+        length-set inside.values place Unassigned,
+        ap length c.set.ensures,
         c.self.invariant.starts_room,
         c.take_start.ensures.capacity,
       );
       placed = placed.1;
-      places = let n = c.self.invariant.places in omega (arith, n, length-set inside.values.items place Unassigned);
-      kept = kept_popped inside.values.items (reverse c.pop.new.self.items) step place at old;
+      places = let n = c.self.invariant.places in omega (
+        arith,
+        n,
+        length-set inside.values place Unassigned,
+        ap length
+            c.set.ensures,
+      );
+      kept = subst (λ (vs : List TruthValue). IsKept vs (reverse c.pop.new.self.items)) (sym c.set.ensures)
+          (kept_popped inside.values (reverse c.pop.new.self.items) step place at old);
       room = omega (
         arith,
-        length-set inside.values.items place Unassigned,
+        length-set inside.values place Unassigned,
+        ap length c.set.ensures,
         c.self.invariant.room,
         c.pop.ensures.capacity,
       );

@@ -20,12 +20,12 @@ unreachable-requires c =
     let inside = c.self.inside in
     let place = c.place_of.result in
     let at : variable_of c.args.step.literal ≡ suc place = omega (arith, c.place_of.ensures) in
-    let in_range : place < length inside.values.items = omega
+    let in_range : place < length inside.values = omega
     (arith, ap (λ t. t.room) c.self.view_is, at, c.requires.in_range) in
     let free : IsFree (literals_of (reverse inside.steps.items)) c.args.step.literal =
     subst (λ (t : Trailed). IsFree (literals_of t.steps) c.args.step.literal)
     (sym c.self.view_is) c.requires.free in
-    let all = kept_pushed inside.values.items (reverse inside.steps.items) c.args.step place at in_range free
+    let all = kept_pushed inside.values (reverse inside.steps.items) c.args.step place at in_range free
     c.self.invariant.kept in
     let pushed = c.push.ensures.succeeds (omega (
       arith,
@@ -41,12 +41,12 @@ put_start-requires c =
     let inside = c.self.inside in
     let place = c.place_of.result in
     let at : variable_of c.args.step.literal ≡ suc place = omega (arith, c.place_of.ensures) in
-    let in_range : place < length inside.values.items = omega
+    let in_range : place < length inside.values = omega
     (arith, ap (λ t. t.room) c.self.view_is, at, c.requires.in_range) in
     let free : IsFree (literals_of (reverse inside.steps.items)) c.args.step.literal =
     subst (λ (t : Trailed). IsFree (literals_of t.steps) c.args.step.literal)
     (sym c.self.view_is) c.requires.free in
-    let all = kept_pushed inside.values.items (reverse inside.steps.items) c.args.step place at in_range free
+    let all = kept_pushed inside.values (reverse inside.steps.items) c.args.step place at in_range free
     c.self.invariant.kept in
     omega (
       arith,
@@ -64,12 +64,12 @@ invariant_of-self c =
     let step = c.args.step in
     let more = c.push.new.self.items in
     let at : variable_of step.literal ≡ suc place = omega (arith, c.place_of.ensures) in
-    let in_range : place < length inside.values.items = omega
+    let in_range : place < length inside.values = omega
     (arith, ap (λ t. t.room) c.self.view_is, at, c.requires.in_range) in
     let free : IsFree (literals_of (reverse inside.steps.items)) step.literal =
     subst (λ (t : Trailed). IsFree (literals_of t.steps) c.args.step.literal)
     (sym c.self.view_is) c.requires.free in
-    let all = kept_pushed inside.values.items (reverse inside.steps.items) step place at in_range free
+    let all = kept_pushed inside.values (reverse inside.steps.items) step place at in_range free
     c.self.invariant.kept in
     let value : c.truth.result ≡ value_where_true step.literal =
     c.truth.ensures ∙ ap (λ b. cond (not b) True False) c.is_neg.ensures in
@@ -83,8 +83,8 @@ invariant_of-self c =
     omega (arith, c.len.ensures, length-reverse inside.steps.items, inside.steps.ok.0) in
     let count_again : c.len-2.result ≡ length (reverse inside.steps.items) =
     omega (arith, c.len-2.ensures, length-reverse inside.steps.items, inside.steps.ok.0) in
-    let P : List Step → Type 0 = λ xs. IsKept (set inside.values.items place c.truth.result) xs in
-    let Q : TruthValue → Type 0 = λ t. IsKept (set inside.values.items place t) (step ∷ reverse inside.steps.items) in
+    let P : List Step → Type 0 = λ xs. IsKept (set inside.values place c.truth.result) xs in
+    let Q : TruthValue → Type 0 = λ t. IsKept (set inside.values place t) (step ∷ reverse inside.steps.items) in
     record {
       starts = c.put_start.ensures.starts ∙ ap (λ n. cond (is_decision step) (n ∷ reverse inside.starts.items)
           (reverse inside.starts.items)) count_again
@@ -92,14 +92,17 @@ invariant_of-self c =
           ∙ ap starts_of (sym (ap reverse longer ∙ newest inside.steps.items step));
       starts_room = omega (
         arith,
-        length-set inside.values.items place c.truth.result,
+        length-set inside.values place c.truth.result,
+        ap length c.set.ensures,
         c.self.invariant.starts_room,
         c.put_start.ensures.capacity,
       );
-      kept = subst P (sym (ap reverse longer ∙ newest inside.steps.items step)) (subst Q (sym value) all.0);
+      kept = subst (λ (vs : List TruthValue). IsKept vs (reverse more)) (sym c.set.ensures)
+          (subst P (sym (ap reverse longer ∙ newest inside.steps.items step)) (subst Q (sym value) all.0));
       room = omega (
         arith,
-        length-set inside.values.items place c.truth.result,
+        length-set inside.values place c.truth.result,
+        ap length c.set.ensures,
         c.self.invariant.room,
         c.push.ensures.capacity,
       );
@@ -113,7 +116,8 @@ invariant_of-self c =
         arith,
         n,
         length-set inside.places.items c.place_of-2.result c.len.result,
-        length-set inside.values.items place c.truth.result,
+        length-set inside.values place c.truth.result,
+        ap length c.set.ensures,
       );
     }
 
@@ -123,12 +127,12 @@ returns-clause-few c =
     let place = c.place_of.result in
     let step = c.args.step in
     let at : variable_of step.literal ≡ suc place = omega (arith, c.place_of.ensures) in
-    let in_range : place < length inside.values.items = omega
+    let in_range : place < length inside.values = omega
     (arith, ap (λ t. t.room) c.self.view_is, at, c.requires.in_range) in
     let free : IsFree (literals_of (reverse inside.steps.items)) step.literal =
     subst (λ (t : Trailed). IsFree (literals_of t.steps) c.args.step.literal)
     (sym c.self.view_is) c.requires.free in
-    let all = kept_pushed inside.values.items (reverse inside.steps.items) step place at in_range free
+    let all = kept_pushed inside.values (reverse inside.steps.items) step place at in_range free
     c.self.invariant.kept in
     let longer : c.push.new.self.items ≡ inside.steps.items ++ step ∷ [] =
     c.push.ensures.items ∙ ap (λ b. cond b (inside.steps.items ++ step ∷ []) inside.steps.items)
@@ -137,5 +141,6 @@ returns-clause-few c =
       arith,
       ap length (ap reverse longer ∙ newest inside.steps.items step),
       all.1,
-      length-set inside.values.items place c.truth.result,
+      length-set inside.values place c.truth.result,
+      ap length c.set.ensures,
     )
