@@ -24,11 +24,7 @@ pub struct Proved {
 }
 
 /// These groups, and then those.
-pub(crate) fn joined(
-    alloc: Global,
-    groups: &[Group],
-    more: &[Group],
-) -> Result<Vec<Group>, Memory>
+pub(crate) fn joined(alloc: Global, groups: &[Group], more: &[Group]) -> Result<Vec<Group>, Memory>
     ensures { IfOk result (λ joined. joined.items ≡ groups.now ++ more.now) }
 {
     let mut joined = Vec::new(alloc);

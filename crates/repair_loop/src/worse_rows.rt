@@ -102,7 +102,9 @@ impl Engines {
 fn count_literals(f: &Formula) -> usize {
     let mut count = 0usize;
     for number in 0..f.clauses() {
-        count = count.saturating_add(f.clause(number).len()).saturating_add(1);
+        count = count
+            .saturating_add(f.clause(number).len())
+            .saturating_add(1);
     }
     count
 }
