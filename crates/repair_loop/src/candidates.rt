@@ -60,17 +60,18 @@ impl Engines {
                     points: &points,
                 };
                 self.definitions.force_all(oracle, f, &model, log)?;
+                let definitions = &self.definitions;
                 let outputs = build(
                     self.alloc,
                     f,
                     &self.table,
                     &points,
-                    self.definitions.samples(),
+                    definitions.samples(),
                     &mut self.trees,
-                    &self.definitions.rules,
-                    &self.definitions.ranks,
-                    &self.definitions.nodes,
-                    &self.definitions.guesses,
+                    &definitions.rules,
+                    &definitions.ranks,
+                    &definitions.nodes,
+                    &definitions.guesses,
                     graph,
                 )?;
                 Ok(Proposal::Candidates(outputs))
