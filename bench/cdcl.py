@@ -1,7 +1,8 @@
 #!/usr/bin/env python3
 """Makes formulas, solves each by the built solver and by minisat, compares the answers, checks each model and each refutation, and
 prints how many conflicts either had. With --callgrind it prints, too, how many instructions a conflict takes, start and reading counted,
-among the first 20,000: of the solver, and of cadical, which keeps all that it learns then, as the solver does.
+among the first 20,000: of the solver, and of cadical, which keeps all that it learns then, as the solver does. Since cadical writes no
+refutation, the solver stops one clause before its answer there.
 
 Usage: bench/cdcl.py [--callgrind] [NAME..]     all formulas, or those whose names begin with a NAME
 
@@ -204,8 +205,9 @@ def instructions(command, conflicts):
     return int(collected.group(1)) / max(1, int(count.group(1))) if collected and count else float("nan")
 
 
-def compared(path):
-    own = instructions([SOLVER, path, str(FIRST)], r"^c (\d+) learned$")
+def compared(path, learned):
+    most = FIRST if learned is None else max(1, min(FIRST, learned - 1))
+    own = instructions([SOLVER, path, str(most)], r"^c (\d+) learned$")
     other = instructions(["cadical", "--reduce=0", "-c", str(FIRST), path], r"^c conflicts:\s+(\d+)")
     return f" {own:12.0f} {other:12.0f} instructions a conflict, ratio {own / other:.2f}"
 
@@ -234,7 +236,7 @@ def main():
             wrong += not agrees
             print(f"{name:16} {answer:8} {learned!s:>8} {conflicts:>8} {seconds:8.2f} s" + ("" if agrees else f"  minisat says {other}"), end="")
             if counted:
-                print(compared(path), end="")
+                print(compared(path, learned), end="")
             print(flush=True)
             if learned is not None:
                 ratio = (learned + 1) / (conflicts + 1)
