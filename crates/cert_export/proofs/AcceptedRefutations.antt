@@ -1,15 +1,17 @@
--- An exported refutation names each pair by the first row that agrees, so its lines are read as they stand.
+-- An exported refutation names each pair by some row that it keeps; by the pairs' own numbers its lines
+-- are derived.
 use Rattle.std.proofs.Common.{◌≡◌, ◌==◌, nat_lt, is_some, not, ◌&&◌, ℕ, ◌+◌, ◌-◌, ◌*◌, ◌/◌, ◌%◌, ◌<◌, Bool, true, false, List, [], ◌∷◌, map, length, slice_get, Option, None, Some, refl, sym, ◌∙◌, ap, subst, arith}
 use Rattle.std.specs.List.{cons_option, position_or_len}
 use Rattle.std.specs.Option.{option_map}
 use Rattle.std.proofs.lemmas.Bool.{and_from, lt-ltb, ne_eqb}
+use Rattle.std.proofs.lemmas.List.{length-map}
 use Rattle.std.proofs.lemmas.List.Kept.{AllPairs-from_increasing}
 use Rattle.std.proofs.lemmas.Nat.{div-mul-add, mod-mul-add}
-use Rattle.dq_lits.specs.Literal.{Literal, positive, negative, variable_of, on_variable}
+use Rattle.dq_lits.specs.Literal.{Literal, positive, negative, variable_of, on_variable, opposite}
 use Rattle.dq_lits.specs.Formula.{Dqbf, existential_of, IsWellFormed}
 use Rattle.dq_lits.specs.Expansion.{agree_on, instance_at}
 use Rattle.dq_lits.specs.Derivation.{ProofStep, is_empty}
-use Rattle.hint_log.specs.Entries.{has_id, numbered, last_id, name_of}
+use Rattle.hint_log.specs.Entries.{has_id, numbered, last_id, name_of, clause_at}
 use Rattle.hint_log.specs.Reached.{Reaches, AreReached}
 use Rattle.hint_log.specs.declared.origins.Origin.{Origin}
 use Rattle.hint_log.specs.Entries.{Given, Answer}
@@ -19,10 +21,10 @@ use Rattle.refutation_checker.specs.Refutation.{normal_of, normal_number, normal
 use Rattle.rup_core.specs.Items.{derived, items_fault}
 use Rattle.rup_core.proofs.DeletedClauses.{steps_alone}
 use Rattle.hint_log.specs.Naming.{rows_of}
-use Rattle.cert_export.specs.Renaming.{Renaming, IsInjective, renamed_clause, IsPartOf}
+use Rattle.cert_export.specs.Renaming.{Renaming, IsInjective, renamed_clause, cut_hints, IsPartOf}
 use Rattle.expansion.specs.Table.{IsRefutedBy}
-use Rattle.cert_export.specs.Lines.{is_derived, derived_ids, clause_or_empty, line_clause, line_step, line_steps}
-use Rattle.cert_export.specs.Expansion.{pair_of, pair_renaming, instance_id, IsInstanceClause}
+use Rattle.cert_export.specs.Lines.{is_derived, derived_ids, clause_or_empty, hints_or_none, new_number, renamed_clauses, line_clause, line_hints, line_step, line_steps}
+use Rattle.cert_export.specs.Expansion.{row_of_round, used_rounds, rows_among, pair_of, pair_renaming, instance_id, IsInstanceClause, IsKeptClause}
 use Rattle.cert_export.specs.Given.{EachGivenReached}
 use Rattle.hint_log.specs.Growth.{Each}
 use Rattle.hint_log.specs.Conditions.{MayFollow, AreLogged}
@@ -34,8 +36,11 @@ use Rattle.cert_text.specs.Scan.{first_id}
 use Rattle.cert_export.specs.LineOrder.{IsRenamedBase, AreLineNumbers, AreLines, AreFinished}
 use Rattle.cert_export.proofs.Numbers.{lines_have_numbers, rising_filter}
 use Rattle.cert_export.proofs.Allowed.{consecutive, steps_allowed}
-use Rattle.cert_export.specs.Exported.{exported_steps, IsPairRenaming, last_instance, exported_number, ExportedAnswerRefutes, ExportedLinesAreAllowed}
-use Rattle.cert_export.proofs.PairNames.{IsPair, pair_parts, in_range, from_one, small_place, pairs_are_injective}
+use Rattle.cert_export.specs.Exported.{exported_steps, normal_names, IsPairRenaming, last_instance, exported_number, ExportedAnswerRefutes, ExportedLinesAreAllowed}
+use Rattle.cert_export.proofs.PairNames.{pairs_are_injective}
+use Rattle.cert_export.proofs.UsedRounds.{kept_clause}
+use Rattle.cert_export.proofs.Renamings.{opposites_renamed}
+use Rattle.cert_export.proofs.SameCuts.{cut_alike}
 use Rattle.cert_export.proofs.Instances.{instances_are_expansion}
 use Rattle.cert_export.proofs.Answers.{answer_there, selectors_dropped}
 use Rattle.cert_export.proofs.DerivedLines.{lines_are_derived}
@@ -50,88 +55,59 @@ on-on : (x y : ℕ) (l : Literal) → on_variable x (on_variable y l) ≡ on_var
 on-on x y (positive v) = refl
 on-on x y (negative v) = refl
 
-module _ (f : Dqbf) (well : IsWellFormed f) (entries : List Entry) where
-  abbrev rows : List (List Bool)
-  rows = rows_of entries
+module _ (f : Dqbf) (rows : List (List Bool)) (r : Renaming) where
+  abbrev named : Renaming
+  named = normal_names f rows r
 
-  normal_pair : (x : ℕ) (o : Option Name) → IsPair f rows o x → normal_number f rows x ≡ x
-  normal_pair x o p =
-      let V = f.variables in
-      let e = p.existential in
-      let own = find_sound p.y f.existentials e p.own in
-      let range = in_range f well e own.0 in
-      let k = position_or_len (agree_on f e p.row) rows in
-      let low = range.0 in
-      let high = range.1 in
-      let is = p.is in
-      let less : x - 1 ≡ k * V + (e.variable - 1) = omega arith in
-      let quotient : (x - 1) / V ≡ k = ap (λ n. n / V) less ∙ div-mul-add k V (e.variable - 1) (omega arith) in
-      let rem : (x - 1) % V ≡ e.variable - 1 = ap (λ n. n % V) less ∙ mod-mul-add k V (e.variable - 1) (omega arith) in
-      let back : (x - 1) % V + 1 ≡ e.variable = omega arith in
-      let place = p.place in
-      let before : p.k - 1 ≡ k = omega arith in
-      let row_there : slice_get rows k ≡ Some p.row = ap (slice_get rows) (sym before) ∙
-      (from_one rows p.k p.row p.row_is).1 in
-      let own_there : existential_of f ((x - 1) % V + 1) ≡ Some e = ap (existential_of f) (back ∙ own.1) ∙ p.own in
-      ap (λ n. normal_of f rows x (slice_get rows n) (existential_of f ((x - 1) % V + 1))) quotient
-      ∙ ap (λ o. normal_of f rows x o (existential_of f ((x - 1) % V + 1))) row_there
-      ∙ ap (normal_of f rows x (Some p.row)) own_there
-      ∙ sym p.is
+  normal_clause : (c : List Literal) → map (normal_literal f rows) (renamed_clause r c) ≡ renamed_clause named c
+  normal_clause [] = refl
+  normal_clause (l ∷ ls) = by_option (normal_clause ls) (r (variable_of l)) where
+    by_option : map (normal_literal f rows) (renamed_clause r ls) ≡ renamed_clause named ls → (o : Option ℕ) →
+        map (normal_literal f rows) (cons_option (option_map (λ w. on_variable w l) o) (renamed_clause r ls))
+        ≡ cons_option (option_map (λ w. on_variable w l) (option_map (normal_number f rows) o))
+        (renamed_clause named ls)
+    by_option later None = later
+    by_option later (Some x) =
+        let same : normal_literal f rows (on_variable x l) ≡ on_variable (normal_number f rows x) l =
+        ap (λ n. on_variable (normal_number f rows n) (on_variable x l)) (variable_of-on x l)
+        ∙ on-on (normal_number f rows x) x l in
+        ap (λ q. q ∷ map (normal_literal f rows) (renamed_clause r ls)) same ∙ ap
+        (λ qs. on_variable (normal_number f rows x) l ∷ qs) later
 
-  module _ (r : Renaming) (part : IsPartOf r (pair_renaming f entries)) where
-    normal_clause : (c : List Literal) → map (normal_literal f rows) (renamed_clause r c) ≡ renamed_clause r c
-    normal_clause [] = refl
-    normal_clause (l ∷ ls) = by_option (normal_clause ls) (r (variable_of l)) refl where
-      by_option : map (normal_literal f rows) (renamed_clause r ls) ≡ renamed_clause r ls → (o : Option ℕ) →
-          r (variable_of l) ≡ o →
-          map (normal_literal f rows) (cons_option (option_map (λ w. on_variable w l) o) (renamed_clause r ls))
-          ≡ cons_option (option_map (λ w. on_variable w l) o) (renamed_clause r ls)
-      by_option later None e = later
-      by_option later (Some x) e =
-          let p = pair_parts f rows (name_of entries (variable_of l)) x (part (variable_of l) x e) in
-          let same : normal_literal f rows (on_variable x l) ≡ on_variable x l =
-          ap (λ n. on_variable (normal_number f rows n) (on_variable x l)) (variable_of-on x l)
-          ∙ ap (λ n. on_variable n (on_variable x l)) (normal_pair x (name_of entries (variable_of l)) p)
-          ∙ on-on x x l in
-          ap (λ q. q ∷ map (normal_literal f rows) (renamed_clause r ls)) same ∙ ap (λ qs. on_variable x l ∷ qs) later
+  -- no two names alike, and so no two of those that they are made of
+  module _ (entries : List Entry) (injective : IsInjective named) where
+    names_differ : IsInjective r
+    names_differ v w x h k = injective v w (normal_number f rows x) (ap (option_map (normal_number f rows)) h)
+        (ap (option_map (normal_number f rows)) k)
+
+    same_hints : (id : ℕ) → line_hints r entries id ≡ line_hints named entries id
+    same_hints id =
+        let c = clause_or_empty (numbered has_id entries id) in
+        let hints = hints_or_none (numbered has_id entries id) in
+        ap (λ ts. cut_hints (renamed_clauses r entries) ts hints) (opposites_renamed r names_differ c)
+        ∙ cut_alike r named (normal_number f rows) (λ v. refl) names_differ injective (clause_at entries) hints
+        (map opposite c)
+        ∙ sym (ap (λ ts. cut_hints (renamed_clauses named entries) ts hints) (opposites_renamed named injective c))
 
     normal_steps : (base_id : Origin → ℕ) (number : ℕ → ℕ) (ids : List ℕ) →
-        map (normal_step f rows) (line_steps r base_id entries number ids) ≡ line_steps r base_id entries number ids
+        map (normal_step f rows) (line_steps r base_id entries number ids) ≡ line_steps named base_id entries number ids
     normal_steps base_id number [] = refl
     normal_steps base_id number (id ∷ ids) =
-        let step = line_step r base_id entries number id in
-        let here : normal_step f rows step ≡ step = ap (λ ls. record step { literals = ls }) (normal_clause _) in
-        ap (λ s. s ∷ map (normal_step f rows) (line_steps r base_id entries number ids)) here ∙ ap (λ ss. step ∷ ss)
-        (normal_steps base_id number ids)
-
-  pair_right : (x : ℕ) (o : Option Name) → IsPair f rows o x → is_pair_number f (length rows) x ≡ true
-  pair_right x o p =
-      let V = f.variables in
-      let e = p.existential in
-      let own = find_sound p.y f.existentials e p.own in
-      let range = in_range f well e own.0 in
-      let k = position_or_len (agree_on f e p.row) rows in
-      let low = range.0 in
-      let high = range.1 in
-      let is = p.is in
-      let less : x - 1 ≡ k * V + (e.variable - 1) = omega arith in
-      let quotient : (x - 1) / V ≡ k = ap (λ n. n / V) less ∙ div-mul-add k V (e.variable - 1) (omega arith) in
-      let rem : (x - 1) % V ≡ e.variable - 1 = ap (λ n. n % V) less ∙ mod-mul-add k V (e.variable - 1) (omega arith) in
-      let back : (x - 1) % V + 1 ≡ e.variable = omega arith in
-      let place = p.place in
-      let row = from_one rows p.k p.row p.row_is in
-      let below = small_place rows (p.k - 1) p.row row.1 in
-      let k_small : k < length rows = omega (arith, place, below) in
-      let q_small : (x - 1) / V < length rows = omega (arith, quotient, k_small) in
-      let own_there : existential_of f ((x - 1) % V + 1) ≡ Some e = ap (existential_of f) (back ∙ own.1) ∙ p.own in
-      let v_there : not (V == 0) ≡ true = ap not (ne_eqb V 0 (λ z. omega (arith, z, low, high))) in
-      let x_there : not (x == 0) ≡ true = ap not (ne_eqb x 0 (λ z. omega (arith, z, is, low))) in
-      and_from (not (V == 0)) (not (x == 0) && (nat_lt ((x - 1) / V) (length rows) && is_some
-      (existential_of f ((x - 1) % V + 1)))) v_there
-      (and_from (not (x == 0)) (nat_lt ((x - 1) / V) (length rows) && is_some
-      (existential_of f ((x - 1) % V + 1))) x_there
-      (and_from (nat_lt ((x - 1) / V) (length rows)) (is_some (existential_of f ((x - 1) % V + 1)))
-      (lt-ltb ((x - 1) / V) (length rows) q_small) (ap is_some own_there)))
+        let literals = normal_clause (clause_or_empty (numbered has_id entries id)) in
+        let here : normal_step f rows (line_step r base_id entries number id) ≡ line_step named base_id entries number
+        id =
+        ap (λ ls. record {
+          id = number id;
+          literals = ls;
+          hints = map (new_number base_id entries number) (line_hints r entries id);
+        }) literals
+        ∙ ap (λ hs. record {
+          id = number id;
+          literals = line_clause named entries id;
+          hints = map (new_number base_id entries number) hs;
+        }) (same_hints id) in
+        ap (λ s. s ∷ map (normal_step f rows) (line_steps r base_id entries number ids)) here
+        ∙ ap (λ ss. line_step named base_id entries number id ∷ ss) (normal_steps base_id number ids)
 
 module _ (f : Dqbf) (entries : List Entry) (id : ℕ) (lawful : Each MayFollow entries)
     (shown : IsRefutedBy entries id) where
@@ -148,8 +124,8 @@ module _ (f : Dqbf) (entries : List Entry) (id : ℕ) (lawful : Each MayFollow e
   answer_at = ap (λ xs. numbered has_id xs id) shown.answered ∙ ap (numbered has_id all) id_is
       ∙ answer_there shown.earlier shown.clause shown.hints lawful'
 
-  answer_empty : (r : Renaming) → IsPartOf r (pair_renaming f entries) → is_empty (line_clause r entries id) ≡ true
-  answer_empty r part =
+  answer_empty : (rounds : List ℕ) (r : Renaming) → IsPartOf r (pair_renaming f entries rounds) → is_empty (line_clause r entries id) ≡ true
+  answer_empty rounds r part =
       ap (λ o. is_empty (renamed_clause r (clause_or_empty o))) answer_at
       ∙ ap is_empty (selectors_dropped shown.earlier shown.clause shown.hints lawful' r no_selector shown.clause
       shown.decides.selectors) where
@@ -160,8 +136,8 @@ module _ (f : Dqbf) (entries : List Entry) (id : ℕ) (lawful : Each MayFollow e
 
           by_option : (o : Option ℕ) → r v ≡ o → o ≡ None
           by_option None e = refl
-          by_option (Some x) e = let both : None ≡ Some x = sym (ap (pair_of f (rows_of entries)) there)
-              ∙ part v x e in cc
+          by_option (Some x) e = let both : None ≡ Some x =
+              sym (ap (pair_of f (rows_of entries) (rows_among entries rounds)) there) ∙ part v x e in cc
 
 -- lines are put on their pairs one by one
 normal_lines : (f : Dqbf) (all : List (List Bool)) (steps : List ProofStep) →
@@ -176,60 +152,82 @@ module _ (f : Dqbf) (live : List ℕ) (entries : List Entry) (id : ℕ) (ids : L
   abbrev C : ℕ
   C = length f.matrix
 
+  abbrev rounds : List ℕ
+  rounds = used_rounds entries ids
+
+  abbrev kept : List (List Bool)
+  kept = rows_among entries rounds
+
+  abbrev target : Renaming
+  target = pair_renaming f entries rounds
+
+  abbrev pairs : Renaming
+  pairs = normal_names f kept r
+
   abbrev IsUsed : Origin → List Literal → Type 0
-  IsUsed origin c = IsInstanceClause f live entries origin c ×
-      (renamed_clause r c ≡ renamed_clause (pair_renaming f entries) c)
+  IsUsed origin c = IsKeptClause f rounds live entries origin c ×
+      (renamed_clause pairs c ≡ renamed_clause target c)
 
   used : (h : ℕ) (origin : Origin) (c : List Literal) → Reaches entries id h →
       numbered has_id entries h ≡ Some (Given origin c) → IsUsed origin c
-  used h origin c reached at = (given h origin c reached at, names.whole h origin c (are.complete h reached) at)
+  used h origin c reached at =
+      let inside = are.complete h reached in (
+        kept_clause f live entries ids h origin c inside at (given h origin c reached at),
+        names.names.whole h origin c inside at,
+      )
 
-  base_right : IsRenamedBase r (instance_id live C) IsUsed (instance_at f (rows_of entries))
-      (last_instance f entries) entries
-  base_right h origin c at kept =
-      let b = instances_are_expansion f live entries well lawful h origin c at kept.0 in
-      (b.0 ∙ ap Some (sym kept.1), b.1)
+  base_right : IsRenamedBase pairs (instance_id rounds live C) IsUsed (instance_at f kept)
+      (last_instance f entries ids) entries
+  base_right h origin c at used_here =
+      let b = instances_are_expansion f rounds live entries well lawful h origin c at used_here.0 in
+      (b.0 ∙ ap Some (sym used_here.1), b.1)
 
-  injective : IsInjective r
-  injective v w x h k = pairs_are_injective f well entries lawful v w x (names.right v x h) (names.right w x k)
+  injective : IsInjective pairs
+  injective v w x h k = pairs_are_injective f well entries rounds lawful v w x (names.names.right v x h)
+      (names.names.right w x k)
 
-  numbers : AreLineNumbers entries id (last_instance f entries) (exported_number f entries ids)
-  numbers = lines_have_numbers entries id (last_instance f entries) ids are
+  numbers : AreLineNumbers entries id (last_instance f entries ids) (exported_number f entries ids)
+  numbers = lines_have_numbers entries id (last_instance f entries ids) ids are
 
-  lines : AreLines IsUsed entries (exported_number f entries ids) (last_instance f entries) [] (derived_ids entries ids)
+  lines : AreLines IsUsed entries (exported_number f entries ids) (last_instance f entries ids) []
+      (derived_ids entries ids)
   lines = are_lines IsUsed entries lawful id (exported_number f entries ids)
-      (last_instance f entries) numbers used ids are
+      (last_instance f entries ids) numbers used ids are
 
-  finished : AreFinished r entries false (derived_ids entries ids)
+  finished : AreFinished pairs entries false (derived_ids entries ids)
   finished = are_finished IsUsed entries lawful id (exported_number f entries ids)
-      (last_instance f entries) numbers used r ids are
-      (ap is_derived (answer_at f entries id lawful shown)) (answer_empty f entries id lawful shown r names.right)
+      (last_instance f entries ids) numbers used pairs ids are
+      (ap is_derived (answer_at f entries id lawful shown)) (answer_empty f entries id lawful shown rounds pairs
+      names.names.right)
 
   accepted : Each IsDerivedByHints entries → refutation_fault f
-      (record { rows = rows_of entries; items = map derived (exported_steps f live entries ids r) }) ≡ None
+      (record { rows = kept; items = map derived (exported_steps f live entries ids r) }) ≡ None
   accepted lemmas =
-      ap (items_fault false (instance_at f (rows_of entries)))
-      (normal_lines f (rows_of entries) (exported_steps f live entries ids r)
-      ∙ ap (map derived) (normal_steps f well entries r names.right (instance_id live C) (exported_number f entries ids)
-      (derived_ids entries ids)))
-      ∙ steps_alone false (instance_at f (rows_of entries)) (exported_steps f live entries ids r)
-      ∙ lines_are_derived r (instance_id live C) IsUsed (instance_at f (rows_of entries))
-      (last_instance f entries) entries (exported_number f entries ids) (derived_ids entries ids)
+      let normal = line_steps pairs (instance_id rounds live C) entries (exported_number f entries ids)
+      (derived_ids entries ids) in
+      ap (items_fault false (instance_at f kept))
+      (normal_lines f kept (exported_steps f live entries ids r)
+      ∙ ap (map derived) (normal_steps f kept r entries injective (instance_id rounds live C)
+      (exported_number f entries ids) (derived_ids entries ids)))
+      ∙ steps_alone false (instance_at f kept) normal
+      ∙ lines_are_derived pairs (instance_id rounds live C) IsUsed (instance_at f kept)
+      (last_instance f entries ids) entries (exported_number f entries ids) (derived_ids entries ids)
       injective lawful lemmas base_right lines false finished
 
-  allowed : AreSteps (is_pair_number f (length (rows_of entries))) (first_id f (length (rows_of entries)))
-      (exported_steps f live entries ids r)
+  allowed : AreSteps (is_pair_number f (length kept)) (first_id f (length kept)) (exported_steps f live entries ids r)
   allowed =
-      let base = last_instance f entries in
+      let base = last_instance f entries ids in
+      let many : length kept ≡ length rounds = length-map rounds (row_of_round entries) in
       let rising = rising_filter (λ h. is_derived (numbered has_id entries h)) ids
       (rising_of ids (AllPairs-from_increasing ids are.ascending)) in
-      steps_allowed r (instance_id live C) IsUsed (instance_at f (rows_of entries)) base entries
-      (exported_number f entries ids) (is_pair_number f (length (rows_of entries)))
-      refl base_right (λ v x h. pair_right f well entries x (name_of entries v)
-      (pair_parts f (rows_of entries) (name_of entries v) x (names.right v x h))) (derived_ids entries ids) []
+      subst (λ n. AreSteps (is_pair_number f (length kept)) (first_id f n) (exported_steps f live entries ids r))
+      (sym many)
+      (steps_allowed r pairs (instance_id rounds live C) IsUsed (instance_at f kept) base entries
+      (exported_number f entries ids) (is_pair_number f (length kept))
+      refl base_right names.pairs (derived_ids entries ids) []
       (base + 1)
       lines (consecutive base (derived_ids entries ids) rising) (omega arith)
-      (λ h inside. absurd (let b = inside.1 in omega arith))
+      (λ h inside. absurd (let b = inside.1 in omega arith)))
 
 pub exported_answer_refutes : ExportedAnswerRefutes
 exported_answer_refutes f live entries id ids r well lawful given lemmas shown are names =

@@ -70,9 +70,10 @@ variable_of-on : (x : ℕ) (l : Literal) → variable_of (on_variable x l) ≡ x
 variable_of-on x (positive v) = refl
 variable_of-on x (negative v) = refl
 
-module _ (r : Renaming) (base_id : Origin → ℕ) (usable : Origin → List Literal → Type 0) (first : LiveClauses)
+-- the base is renamed by names that may be made of the lines' own
+module _ (r named : Renaming) (base_id : Origin → ℕ) (usable : Origin → List Literal → Type 0) (first : LiveClauses)
     (base : ℕ) (entries : List Entry) (number : ℕ → ℕ) (is_variable : ℕ → Bool)
-    (none : first 0 ≡ None) (right : IsRenamedBase r base_id usable first base entries)
+    (none : first 0 ≡ None) (right : IsRenamedBase named base_id usable first base entries)
     (variables : (v x : ℕ) → r v ≡ Some x → is_variable x ≡ true) where
   abbrev OnVariable : Literal → Type 0
   OnVariable l = is_variable (variable_of l) ≡ true
@@ -100,7 +101,7 @@ module _ (r : Renaming) (base_id : Origin → ℕ) (usable : Origin → List Lit
       let new : new_number base_id entries number h ≡ base_id i.0 = ap (number_by base_id (number h)) i.2 in
       let there = right h i.0 i.1 i.2 i.3 in
       let most = there.1 in
-      let some : first (base_id i.0) ≡ Some (renamed_clause r i.1) = there.0 in
+      let some : first (base_id i.0) ≡ Some (renamed_clause named i.1) = there.0 in
       let positive' : base_id i.0 ≢ 0 = λ e. let nothing : first (base_id i.0) ≡ None = ap first e ∙ none in cc in
       (omega (arith, new, positive'), omega (arith, new, most, small))
   hint_before n done small before h (inr inside) = let b = before h inside in let a = b.0 in let c = b.1 in let d =

@@ -172,7 +172,7 @@ module _ (f : Dqbf) (entries : List Entry) (id : ℕ) (e : CircuitPart) (ids : L
       (rising_of ids (AllPairs-from_increasing ids are.ascending)) in
       subst (λ n. AreSteps (is_proof_variable f (exported_netlist f entries e)) n (proof_steps f entries e ids r))
       (first_is f entries e)
-      (steps_allowed r (circuit_id f e) IsUsed (negated_candidate (exported_candidate f entries e)) base entries
+      (steps_allowed r r (circuit_id f e) IsUsed (negated_candidate (exported_candidate f entries e)) base entries
       (proof_number f entries e ids)
       (is_proof_variable f (exported_netlist f entries e)) refl base_right
       (λ v n h. in_proof f entries e v n (names.right v n h)) (derived_ids entries ids) [] (base + 1)

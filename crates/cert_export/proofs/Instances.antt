@@ -1,9 +1,10 @@
 -- The instances given, renamed, are those of the expansion.
-use Rattle.std.proofs.Common.{◌≡◌, ℕ, zero, suc, ◌+◌, ◌-◌, ◌*◌, ◌%◌, ◌≤◌, ◌==◌, Bool, true, false, cond, List, [], ◌∷◌, ◌++◌, map, length, get_or, slice_get, Option, None, Some, refl, sym, ◌∙◌, ap, subst, arith, append_assoc, length-append, mul-le-mul_right, add-mul, one-mul}
-use Rattle.std.specs.List.{Contains, list_any, filter_map, cons_option, position_or_len}
+use Rattle.std.proofs.Common.{◌≡◌, ℕ, zero, suc, ◌+◌, ◌-◌, ◌*◌, ◌/◌, ◌%◌, ◌≤◌, ◌<◌, ◌==◌, nat_lt, is_some, ◌||◌, ◌&&◌, Bool, true, false, not, cond, List, [], ◌∷◌, ◌++◌, map, length, get_or, slice_get, Option, None, Some, refl, sym, ◌∙◌, ap, subst, arith, append_assoc, length-append, mul-le-mul_right, add-mul, one-mul}
+use Rattle.std.specs.List.{All, Contains, list_any, filter_map, cons_option, position_or_len}
 use Rattle.std.specs.List.Sorted.{IsStrictlyIncreasing}
 use Rattle.std.specs.Option.{option_map, option_and_then}
-use Rattle.std.proofs.lemmas.Bool.{false≢true, eqb-true, eq-eqb, cond-true, cond-false}
+use Rattle.std.proofs.lemmas.Bool.{and_from, or_right, lt-ltb, ne_eqb, false≢true, eqb-true, eq-eqb, cond-true, cond-false}
+use Rattle.std.proofs.lemmas.List.{length-map}
 use Rattle.std.proofs.lemmas.List.Sums.{passes_at_first}
 use Rattle.std.proofs.lemmas.Nat.{div-mul-add, mod-mul-add}
 use Rattle.std.proofs.lemmas.List.Elements.{All-nil, All-cons, Contains-append_left}
@@ -21,14 +22,15 @@ use Rattle.hint_log.specs.Growth.{Each}
 use Rattle.hint_log.specs.Naming.{numbered_from_one, named_literal, name_literal, rows_of, arbiter, on_arbiter}
 use Rattle.hint_log.specs.Origins.{IsInstanceRest, IsOriginsClause}
 use Rattle.cert_export.specs.Renaming.{Renaming, renamed_literal, renamed_clause}
-use Rattle.cert_text.specs.Header.{max_count}
+use Rattle.cert_text.specs.Pairs.{is_pair_number}
+use Rattle.refutation_checker.specs.Refutation.{normal_of, normal_number}
 use Rattle.cert_export.specs.Exportable.{IsKnownInstance}
-use Rattle.cert_export.specs.Pairing.{IsOwnName, HasOwnNames}
-use Rattle.cert_export.specs.Expansion.{first_pair, pair_of, pair_renaming, number_among, instance_id, IsInstanceClause, InstancesAreExpansion}
+use Rattle.cert_export.specs.Pairing.{IsNameAt, HasNameAt, AreNamedAt}
+use Rattle.cert_export.specs.Expansion.{row_of_round, rows_among, kept_pair, pair_of, pair_renaming, number_among, instance_id, IsInstanceClause, IsKeptClause, InstancesAreExpansion}
 use Rattle.hint_log.specs.Conditions.{MayFollow}
 use Rattle.log_laws.proofs.ReachedClauses.{name_stays}
 use Rattle.log_laws.proofs.Found.{named_variable, position_append, position_small, same_bits-refl, split_at, find_sound, slice_get_at}
-use Rattle.cert_export.proofs.PairNames.{in_range, same_bits-sound, rows_more, row_contained, from_one, small_place}
+use Rattle.cert_export.proofs.PairNames.{in_range, same_bits-sound, alike, same_places, same_numbers, rows_more, row_contained, from_one, small_place}
 use Rattle.dq_lits.specs.Henkin.{restriction, same_bits}
 use Rattle.dq_lits.specs.Expansion.{row_assignment}
 
@@ -79,11 +81,40 @@ same_on p (positive v) (negative w) e = absurd (false≢true e)
 same_on p (negative v) (positive w) e = absurd (false≢true (sym e))
 same_on p (negative v) (negative w) e = refl
 
-module _ (f : Dqbf) (well : IsWellFormed f) (all : List Entry) (lawful : Each MayFollow all) where
-  abbrev r : Renaming
-  r = pair_renaming f all
+pub get_at : {X : Type 0} (xs : List X) (k : ℕ) (x d : X) → slice_get xs k ≡ Some x → get_or xs k d ≡ x
+get_at [] k x d h = cc
+get_at (y ∷ ys) zero x d h = let same : y ≡ x = cc in same
+get_at (y ∷ ys) (suc k) x d h = get_at ys k x d h
 
-  module _ (es more : List Entry) (is : all ≡ more ++ es) (row : List Bool) (among : Contains (rows_of es) row) where
+any_at : {X : Type 0} (q : X → Bool) (xs : List X) (i : ℕ) (x : X) → slice_get xs i ≡ Some x → q x ≡ true →
+    list_any q xs ≡ true
+any_at q [] i x h passes = cc
+any_at q (y ∷ ys) zero x h passes = let same : y ≡ x = cc in ap (λ b. b || list_any q ys) (ap q same ∙ passes)
+any_at q (y ∷ ys) (suc i) x h passes = or_right (q y) (list_any q ys) (any_at q ys i x h passes)
+
+-- a number that stands in a list is at its place
+pub at_place : {X : Type 0} (g : ℕ → X) (ks : List ℕ) (k : ℕ) → Contains ks k →
+    slice_get (map g ks) (position_or_len (λ i. i == k) ks) ≡ Some (g k)
+at_place g [] k (i, below, is) = absurd (omega arith)
+at_place {X} g (x ∷ xs) k (i, below, is) = by_bit (x == k) refl i below is (at_place g xs k) where
+  by_bit : (b : Bool) → (x == k) ≡ b → (i : ℕ) → i < length (x ∷ xs) → get_or (x ∷ xs) i k ≡ k →
+      (Contains xs k → slice_get (map g xs) (position_or_len (λ i. i == k) xs) ≡ Some (g k)) →
+      slice_get (g x ∷ map g xs) (cond (not b) (1 + position_or_len (λ i. i == k) xs) 0) ≡ Some (g k)
+  by_bit true e i below is later = ap (λ n. Some (g n)) (eqb-true x k e)
+  by_bit false e zero below is later = absurd (false≢true (sym e ∙ eq-eqb x k is))
+  by_bit false e (suc i) below is later =
+      let next : 1 + position_or_len (λ i. i == k) xs ≡ suc (position_or_len (λ i. i == k) xs) = omega arith in
+      ap (slice_get (g x ∷ map g xs)) next ∙ later (i, (let b : i < length xs = omega arith in b), is)
+
+module _ (f : Dqbf) (well : IsWellFormed f) (all : List Entry) (ks : List ℕ) (lawful : Each MayFollow all) where
+  abbrev kept : List (List Bool)
+  kept = rows_among all ks
+
+  abbrev r : Renaming
+  r = pair_renaming f all ks
+
+  module _ (es more : List Entry) (is : all ≡ more ++ es) (row : List Bool) (among : Contains (rows_of es) row)
+      (place : ℕ) (at_kept : slice_get kept place ≡ Some row) where
     stays : (v : ℕ) (n : Name) → name_of es v ≡ Some n → name_of all v ≡ Some n
     stays v n h = ap (λ xs. name_of xs v) is ∙ name_stays more es v n (subst (Each MayFollow) is lawful) h
 
@@ -101,7 +132,7 @@ module _ (f : Dqbf) (well : IsWellFormed f) (all : List Entry) (lawful : Each Ma
         (rows_of es) later.0 small)
 
     pair_there : (y : Existential) → existential_of f y.variable ≡ Some y →
-        pair_of f (rows_of all) (Some (arbiter f (rows_of es) row y)) ≡ Some (pair_number f (rows_of all) row y)
+        pair_of f (rows_of all) kept (Some (arbiter f (rows_of es) row y)) ≡ Some (pair_number f kept row y)
     pair_there y own =
         let rows = rows_of all in
         let k = position_or_len (agree_on f y row) rows in
@@ -113,57 +144,94 @@ module _ (f : Dqbf) (well : IsWellFormed f) (all : List Entry) (lawful : Each Ma
         ap (agree_on f y row) at ∙ same_bits-refl (restriction y (row_assignment f row)) in
         let small = position_small (agree_on f y row) rows among_all.0 row among_all.1 passes in
         let first = get_or rows k [] in
-        let agreed : same_bits (restriction y (row_assignment f row)) (restriction y (row_assignment f first)) ≡ true =
-        passes_at_first (agree_on f y row) rows [] small in
-        let alike = same_bits-sound (restriction y (row_assignment f row))
-        (restriction y (row_assignment f first)) agreed in
-        let same : position_or_len (agree_on f y first) rows ≡ k =
-        ap (λ bits. position_or_len (λ q. same_bits bits (restriction y (row_assignment f q))) rows) (sym alike) in
+        let agreed : agree_on f y row first ≡ true = passes_at_first (agree_on f y row) rows [] small in
+        let same = alike f y row first agreed in
+        let back : agree_on f y first row ≡ true =
+        ap (λ bits. same_bits bits (restriction y (row_assignment f row))) (sym same)
+        ∙ same_bits-refl (restriction y (row_assignment f row)) in
         let suc_k : k + 1 ≡ suc k = omega arith in
         let row_there : numbered_from_one rows (k + 1) ≡ Some first =
         ap (numbered_from_one rows) suc_k ∙ slice_get_at rows k [] small in
         let test : (position_or_len (agree_on f y first) rows + 1 == k + 1) ≡ true =
-        eq-eqb (position_or_len (agree_on f y first) rows + 1) (k + 1) (ap (λ n. n + 1) same) in
-        ap (λ n. pair_of f rows (Some (Pair (n + 1) y.variable))) (same_pair y)
-        ∙ ap (λ o. first_pair f rows (k + 1) o (existential_of f y.variable)) row_there
-        ∙ ap (first_pair f rows (k + 1) (Some first)) own
-        ∙ cond-true (position_or_len (agree_on f y first) rows + 1 == k + 1)
-        (Some (pair_number f rows first y)) None test
-        ∙ ap (λ q. Some (q * f.variables + y.variable)) same
+        eq-eqb (position_or_len (agree_on f y first) rows + 1) (k + 1)
+        (ap (λ n. n + 1) (sym (same_places f y rows row first same))) in
+        let kept_there = any_at (agree_on f y first) kept place row at_kept back in
+        ap (λ n. pair_of f rows kept (Some (Pair (n + 1) y.variable))) (same_pair y)
+        ∙ ap (λ o. kept_pair f rows kept (k + 1) o (existential_of f y.variable)) row_there
+        ∙ ap (kept_pair f rows kept (k + 1) (Some first)) own
+        ∙ cond-true ((position_or_len (agree_on f y first) rows + 1 == k + 1) && list_any (agree_on f y first) kept)
+        (Some (pair_number f kept first y)) None
+        (and_from (position_or_len (agree_on f y first) rows + 1 == k + 1) (list_any (agree_on f y first) kept) test
+        kept_there)
+        ∙ ap Some (sym (same_numbers f y kept row first same))
 
-    -- an arbiter's name is its pair's own
-    own_arbiter : length (rows_of all) ≤ max_count → (y : Existential) → existential_of f y.variable ≡ Some y →
-        IsOwnName f (rows_of all) (Some (arbiter f (rows_of es) row y))
-    own_arbiter few y own =
-        let rows = rows_of all in
-        let p = position_or_len (agree_on f y row) (rows_of es) in
-        let among_place = position_small (agree_on f y row) (rows_of es) among.0 row among.1
-        (ap (agree_on f y row) among.2 ∙ same_bits-refl (restriction y (row_assignment f row))) in
-        let later = rows_more more es in
-        let many : length rows ≡ length (rows_of es) + length later.0 =
-        ap (λ xs. length (rows_of xs)) is ∙ ap length later.1 ∙ length-append (rows_of es) later.0 in
+    -- the number of the existential under the row at its place is the pair's
+    normal_there : (y : Existential) → existential_of f y.variable ≡ Some y → 1 ≤ y.variable →
+        y.variable ≤ f.variables →
+        normal_number f kept (place * f.variables + y.variable) ≡ pair_number f kept row y
+    normal_there y own low high =
+        let V = f.variables in
+        let x = place * V + y.variable in
+        let less : x - 1 ≡ place * V + (y.variable - 1) = omega arith in
+        let quotient : (x - 1) / V ≡ place = ap (λ n. n / V) less ∙ div-mul-add place V (y.variable - 1)
+        (omega arith) in
+        let rem : (x - 1) % V ≡ y.variable - 1 = ap (λ n. n % V) less ∙ mod-mul-add place V (y.variable - 1)
+        (omega arith) in
+        let back : (x - 1) % V + 1 ≡ y.variable = omega arith in
+        ap (λ n. normal_of f kept x (slice_get kept n) (existential_of f ((x - 1) % V + 1))) quotient
+        ∙ ap (λ o. normal_of f kept x o (existential_of f ((x - 1) % V + 1))) at_kept
+        ∙ ap (λ n. normal_of f kept x (Some row) (existential_of f n)) back
+        ∙ ap (normal_of f kept x (Some row)) own
+
+    pair_right : (y : Existential) → existential_of f y.variable ≡ Some y → 1 ≤ y.variable →
+        y.variable ≤ f.variables →
+        is_pair_number f (length kept) (place * f.variables + y.variable) ≡ true
+    pair_right y own low high =
+        let V = f.variables in
+        let x = place * V + y.variable in
+        let less : x - 1 ≡ place * V + (y.variable - 1) = omega arith in
+        let quotient : (x - 1) / V ≡ place = ap (λ n. n / V) less ∙ div-mul-add place V (y.variable - 1)
+        (omega arith) in
+        let rem : (x - 1) % V ≡ y.variable - 1 = ap (λ n. n % V) less ∙ mod-mul-add place V (y.variable - 1)
+        (omega arith) in
+        let back : (x - 1) % V + 1 ≡ y.variable = omega arith in
+        let small = small_place kept place row at_kept in
+        let q_small : (x - 1) / V < length kept = omega (arith, quotient, small) in
+        let own_there : existential_of f ((x - 1) % V + 1) ≡ Some y = ap (existential_of f) back ∙ own in
+        and_from (not (V == 0)) (not (x == 0) && (nat_lt ((x - 1) / V) (length kept) && is_some
+        (existential_of f ((x - 1) % V + 1)))) (ap not (ne_eqb V 0 (λ z. omega (arith, z, low, high))))
+        (and_from (not (x == 0)) (nat_lt ((x - 1) / V) (length kept) && is_some
+        (existential_of f ((x - 1) % V + 1))) (ap not (ne_eqb x 0 (λ z. omega (arith, z, low))))
+        (and_from (nat_lt ((x - 1) / V) (length kept)) (is_some (existential_of f ((x - 1) % V + 1)))
+        (lt-ltb ((x - 1) / V) (length kept) q_small) (ap is_some own_there)))
+
+    -- so an arbiter's name is that of such a pair
+    own_arbiter : (y : Existential) → existential_of f y.variable ≡ Some y →
+        IsNameAt f (rows_of all) kept place (Some (arbiter f (rows_of es) row y))
+    own_arbiter y own =
         let range = in_range f well y (find_sound y.variable f.existentials y own).0 in
-        let back : p + 1 - 1 ≡ p = omega arith in
         record {
-          row_from_one = omega arith;
-          few_rows = omega (arith, among_place, many, few);
           from_one = range.0;
           in_range = range.1;
-          number = pair_there y own ∙ ap (λ n. Some (n * f.variables + y.variable)) (sym (back ∙ same_pair y));
+          number = pair_there y own ∙ ap Some (sym (normal_there y own range.0 range.1));
+          is_pair = pair_right y own range.0 range.1;
         }
 
-    own_names : length (rows_of all) ≤ max_count → (clause rest : List Literal) →
+    abbrev IsOwn : Literal → Type 0
+    IsOwn l = HasNameAt f all ks place (variable_of l)
+
+    own_names : (clause rest : List Literal) →
         map (name_literal es) rest ≡ map Some (filter_map (on_arbiter f (rows_of es) row) clause) →
-        HasOwnNames f all rest
-    own_names few [] [] h = All-nil (λ l. IsOwnName f (rows_of all) (name_of all (variable_of l)))
-    own_names few [] (q ∷ rest) h = cc
-    own_names few (l ∷ ls) rest h = by_option (own_names few ls) (existential_of f (variable_of l)) refl rest h where
+        All IsOwn rest
+    own_names [] [] h = All-nil IsOwn
+    own_names [] (q ∷ rest) h = cc
+    own_names (l ∷ ls) rest h = by_option (own_names ls) (existential_of f (variable_of l)) refl rest h where
       by_option : ((rest : List Literal) → map (name_literal es) rest ≡ map Some
-          (filter_map (on_arbiter f (rows_of es) row) ls) → HasOwnNames f all rest) →
+          (filter_map (on_arbiter f (rows_of es) row) ls) → All IsOwn rest) →
           (o : Option Existential) → existential_of f (variable_of l) ≡ o → (rest : List Literal) →
           map (name_literal es) rest ≡ map Some (cons_option
           (option_map (λ y. named_literal (arbiter f (rows_of es) row y) (is_negative l)) o)
-          (filter_map (on_arbiter f (rows_of es) row) ls)) → HasOwnNames f all rest
+          (filter_map (on_arbiter f (rows_of es) row) ls)) → All IsOwn rest
       by_option later None e rest h = later rest h
       by_option later (Some y) e [] h = cc
       by_option later (Some y) e (q ∷ rest) h =
@@ -175,26 +243,26 @@ module _ (f : Dqbf) (well : IsWellFormed f) (all : List Entry) (lawful : Each Ma
           (find_sound (variable_of l) f.existentials y e).1 ∙ e in
           let name : name_of all (variable_of q) ≡ Some (arbiter f (rows_of es) row y) =
           stays (variable_of q) (arbiter f (rows_of es) row y) named.0 in
-          All-cons (λ k. IsOwnName f (rows_of all) (name_of all (variable_of k))) q rest
-          (subst (IsOwnName f (rows_of all)) (sym name) (own_arbiter few y own)) (later rest behind)
+          All-cons IsOwn q rest (subst (IsNameAt f (rows_of all) kept place) (sym name) (own_arbiter y own))
+          (later rest behind)
 
     instance_renamed : (clause rest : List Literal) → map (name_literal es) rest ≡ map Some
         (filter_map (on_arbiter f (rows_of es) row) clause) →
-        renamed_clause r rest ≡ filter_map (pair_literal f (rows_of all) row) clause
+        renamed_clause r rest ≡ filter_map (pair_literal f kept row) clause
     instance_renamed [] [] h = refl
     instance_renamed [] (q ∷ rest) h = cc
     instance_renamed (l ∷ ls) rest h = by_option (instance_renamed ls)
         (existential_of f (variable_of l)) refl rest h where
           by_option : ((rest : List Literal) → map (name_literal es) rest ≡ map Some
               (filter_map (on_arbiter f (rows_of es) row) ls) → renamed_clause r rest ≡ filter_map
-              (pair_literal f (rows_of all) row) ls) →
+              (pair_literal f kept row) ls) →
               (o : Option Existential) → existential_of f (variable_of l) ≡ o → (rest : List Literal) →
               map (name_literal es) rest ≡ map Some (cons_option
               (option_map (λ y. named_literal (arbiter f (rows_of es) row y) (is_negative l)) o)
               (filter_map (on_arbiter f (rows_of es) row) ls)) →
               renamed_clause r rest ≡ cons_option (option_map
-              (λ y. on_variable (pair_number f (rows_of all) row y) l) o)
-              (filter_map (pair_literal f (rows_of all) row) ls)
+              (λ y. on_variable (pair_number f kept row y) l) o)
+              (filter_map (pair_literal f kept row) ls)
           by_option later None e rest h = later rest h
           by_option later (Some y) e [] h = cc
           by_option later (Some y) e (q ∷ rest) h =
@@ -204,105 +272,101 @@ module _ (f : Dqbf) (well : IsWellFormed f) (all : List Entry) (lawful : Each Ma
               (name_of es (variable_of q)) refl here in
               let own : existential_of f y.variable ≡ Some y = ap (existential_of f)
               (find_sound (variable_of l) f.existentials y e).1 ∙ e in
-              let number : r (variable_of q) ≡ Some (pair_number f (rows_of all) row y) =
-              ap (pair_of f (rows_of all)) (stays (variable_of q) (arbiter f (rows_of es) row y) named.0)
+              let number : r (variable_of q) ≡ Some (pair_number f kept row y) =
+              ap (pair_of f (rows_of all) kept) (stays (variable_of q) (arbiter f (rows_of es) row y) named.0)
               ∙ pair_there y own in
-              let literal : renamed_literal r q ≡ Some (on_variable (pair_number f (rows_of all) row y) l) =
+              let literal : renamed_literal r q ≡ Some (on_variable (pair_number f kept row y) l) =
               ap (option_map (λ w. on_variable w q)) number ∙ ap Some
-              (same_on (pair_number f (rows_of all) row y) q l named.1) in
+              (same_on (pair_number f kept row y) q l named.1) in
               ap (λ o. cons_option o (renamed_clause r rest)) literal ∙ ap
-              (λ xs. on_variable (pair_number f (rows_of all) row y) l ∷ xs) (later rest behind)
+              (λ xs. on_variable (pair_number f kept row y) l ∷ xs) (later rest behind)
 
   -- an instance's clause is that of its number in the expansion
-  base_right : (es more : List Entry) (k j i : ℕ) (c : List Literal) → all ≡ more ++ Given (Instance k j) c ∷ es →
-      IsOriginsClause f es (Instance k i) c →
-      (instance_at f (rows_of all) ((k - 1) * length f.matrix + i) ≡ Some (renamed_clause r c)) ×
-      ((k - 1) * length f.matrix + i ≤ length (rows_of all) * length f.matrix)
-  base_right es more k j i c is o =
-      let rest : IsInstanceRest f es k i o.rest = o.rest_is in
-      let is' : all ≡ (more ++ Given (Instance k j) c ∷ []) ++ es =
-      is ∙ sym (append_assoc more (Given (Instance k j) c ∷ []) es) in
-      let among = row_contained es k rest.row rest.row_is in
-      let place = row_place es k rest.row rest.row_is in
-      let later = rows_more (more ++ Given (Instance k j) c ∷ []) es in
-      let rows : rows_of all ≡ rows_of es ++ later.0 = ap rows_of is' ∙ later.1 in
-      let row_there : slice_get (rows_of all) (k - 1) ≡ Some rest.row =
-      ap (λ xs. slice_get xs (k - 1)) rows ∙ get_front (rows_of es) later.0 (k - 1) rest.row place.1 in
-      let clause_there = from_one f.matrix i rest.clause rest.clause_is in
-      let C = length f.matrix in
-      let k1 = place.0 in
-      let i1 = clause_there.0 in
-      let row_small = small_place (rows_of all) (k - 1) rest.row row_there in
-      let clause_small = small_place f.matrix (i - 1) rest.clause clause_there.1 in
-      let next : (k - 1) * C + i ≡ suc ((k - 1) * C + (i - 1)) = omega arith in
-      let rem = mod-mul-add (k - 1) C (i - 1) clause_small in
-      let quotient = div-mul-add (k - 1) C (i - 1) clause_small in
-      let body : instance_at f (rows_of all) (suc ((k - 1) * C + (i - 1))) ≡ instance_clause f
-      (rows_of all) rest.row rest.clause =
-      ap (λ q. option_and_then (λ row. option_and_then (instance_clause f (rows_of all) row)
-      (slice_get f.matrix (((k - 1) * C + (i - 1)) % C))) (slice_get (rows_of all) q)) quotient
-      ∙ ap (option_and_then (λ row. option_and_then (instance_clause f (rows_of all) row)
-      (slice_get f.matrix (((k - 1) * C + (i - 1)) % C)))) row_there
-      ∙ ap (λ q. option_and_then (instance_clause f (rows_of all) rest.row) (slice_get f.matrix q)) rem
-      ∙ ap (option_and_then (instance_clause f (rows_of all) rest.row)) clause_there.1 in
-      let open' : instance_clause f (rows_of all) rest.row rest.clause ≡ Some
-      (filter_map (pair_literal f (rows_of all) rest.row) rest.clause) =
-      cond-false (list_any (universal_literal_true f rest.row) rest.clause) None _ rest.open_row in
-      let same = instance_renamed es (more ++ Given (Instance k j) c ∷ []) is' rest.row among rest.clause o.rest
-      rest.named in
-      let selector : renamed_literal r (negative o.group) ≡ None =
-      ap (λ q. option_map (λ w. on_variable w (negative o.group)) (pair_of f (rows_of all) q))
-      (stays es (more ++ Given (Instance k j) c ∷ []) is' rest.row among o.group (Selector o.group) o.is_group) in
-      let dropped : renamed_clause r c ≡ renamed_clause r o.rest =
-      ap (renamed_clause r) o.clause_is ∙ ap (λ q. cons_option q (renamed_clause r o.rest)) selector in
-      let up : (k - 1 + 1) * C ≤ length (rows_of all) * C = mul-le-mul_right C
-      (let s : k - 1 + 1 ≤ length (rows_of all) = omega arith in s) in
-      let parts : (k - 1 + 1) * C ≡ (k - 1) * C + 1 * C = add-mul (k - 1) 1 C in
-      let one : 1 * C ≡ C = one-mul C in (
-        ap (instance_at f (rows_of all)) next ∙ body ∙ open' ∙ ap Some (sym (dropped ∙ same)),
-        omega (arith, up, parts, one, clause_small),
-      )
+  module _ (es more : List Entry) (k j i : ℕ) (c : List Literal) (is : all ≡ more ++ Given (Instance k j) c ∷ es)
+      (o : IsOriginsClause f es (Instance k i) c) (inside : Contains ks k) where
+    abbrev rest : IsInstanceRest f es k i o.rest
+    rest = o.rest_is
 
-  -- so an instance's variables have their pairs' own names, or are its selector
-  own_instance : length (rows_of all) ≤ max_count → (es more : List Entry) (k j i : ℕ) (c : List Literal) →
-      all ≡ more ++ Given (Instance k j) c ∷ es → IsOriginsClause f es (Instance k i) c → HasOwnNames f all c
-  own_instance few es more k j i c is o =
-      let rest : IsInstanceRest f es k i o.rest = o.rest_is in
-      let is' : all ≡ (more ++ Given (Instance k j) c ∷ []) ++ es =
-      is ∙ sym (append_assoc more (Given (Instance k j) c ∷ []) es) in
-      let among = row_contained es k rest.row rest.row_is in
-      let P : Literal → Type 0 = λ l. IsOwnName f (rows_of all) (name_of all (variable_of l)) in
-      let selector = stays es (more ++ Given (Instance k j) c ∷ []) is' rest.row among o.group
-      (Selector o.group) o.is_group in
-      let first : P (negative o.group) = subst (IsOwnName f (rows_of all)) (sym selector) tt in
-      subst (HasOwnNames f all) (sym o.clause_is) (All-cons P (negative o.group) o.rest first
-      (own_names es (more ++ Given (Instance k j) c ∷ []) is' rest.row among few rest.clause o.rest rest.named))
+    abbrev more' : List Entry
+    more' = more ++ Given (Instance k j) c ∷ []
 
-  known_instance : length (rows_of all) ≤ max_count → (live : List ℕ) → IsStrictlyIncreasing live →
-      (es more : List Entry) (k j i : ℕ) (c : List Literal) → all ≡ more ++ Given (Instance k j) c ∷ es
-      → IsOriginsClause f es (Instance k i) c → Contains live j → IsKnownInstance live (Instance k j)
-  known_instance few live ascending es more k j i c is o among =
-      let rest : IsInstanceRest f es k i o.rest = o.rest_is in
-      let is' : all ≡ (more ++ Given (Instance k j) c ∷ []) ++ es =
-      is ∙ sym (append_assoc more (Given (Instance k j) c ∷ []) es) in
-      let place = row_place es k rest.row rest.row_is in
-      let small = small_place (rows_of es) (k - 1) rest.row place.1 in
-      let later = rows_more (more ++ Given (Instance k j) c ∷ []) es in
-      let many : length (rows_of all) ≡ length (rows_of es) + length later.0 =
-      ap (λ xs. length (rows_of xs)) is' ∙ ap length later.1 ∙ length-append (rows_of es) later.0 in
-      let low = place.0 in
-      (low, omega (arith, low, small, many, few), ascending, among)
+    abbrev p : ℕ
+    p = position_or_len (λ i. i == k) ks
+
+    is' : all ≡ more' ++ es
+    is' = is ∙ sym (append_assoc more (Given (Instance k j) c ∷ []) es)
+
+    among : Contains (rows_of es) rest.row
+    among = row_contained es k rest.row rest.row_is
+
+    of_round : row_of_round all k ≡ rest.row
+    of_round =
+        let later = rows_more more' es in
+        let there : slice_get (rows_of all) (k - 1) ≡ Some rest.row =
+        ap (λ xs. slice_get xs (k - 1)) (ap rows_of is' ∙ later.1) ∙ get_front (rows_of es) later.0 (k - 1) rest.row
+        (row_place es k rest.row rest.row_is).1 in
+        get_at (rows_of all) (k - 1) rest.row [] there
+
+    row_there : slice_get kept p ≡ Some rest.row
+    row_there = at_place (row_of_round all) ks k inside ∙ ap Some of_round
+
+    base_right : (instance_at f kept (p * length f.matrix + i) ≡ Some (renamed_clause r c)) ×
+        (p * length f.matrix + i ≤ length ks * length f.matrix)
+    base_right =
+        let clause_there = from_one f.matrix i rest.clause rest.clause_is in
+        let C = length f.matrix in
+        let i1 = clause_there.0 in
+        let row_small = small_place kept p rest.row row_there in
+        let many : length kept ≡ length ks = length-map ks (row_of_round all) in
+        let clause_small = small_place f.matrix (i - 1) rest.clause clause_there.1 in
+        let next : p * C + i ≡ suc (p * C + (i - 1)) = omega arith in
+        let rem = mod-mul-add p C (i - 1) clause_small in
+        let quotient = div-mul-add p C (i - 1) clause_small in
+        let body : instance_at f kept (suc (p * C + (i - 1))) ≡ instance_clause f kept rest.row rest.clause =
+        ap (λ q. option_and_then (λ row. option_and_then (instance_clause f kept row)
+        (slice_get f.matrix ((p * C + (i - 1)) % C))) (slice_get kept q)) quotient
+        ∙ ap (option_and_then (λ row. option_and_then (instance_clause f kept row)
+        (slice_get f.matrix ((p * C + (i - 1)) % C)))) row_there
+        ∙ ap (λ q. option_and_then (instance_clause f kept rest.row) (slice_get f.matrix q)) rem
+        ∙ ap (option_and_then (instance_clause f kept rest.row)) clause_there.1 in
+        let open' : instance_clause f kept rest.row rest.clause ≡ Some
+        (filter_map (pair_literal f kept rest.row) rest.clause) =
+        cond-false (list_any (universal_literal_true f rest.row) rest.clause) None _ rest.open_row in
+        let same = instance_renamed es more' is' rest.row among p row_there rest.clause o.rest rest.named in
+        let selector : renamed_literal r (negative o.group) ≡ None =
+        ap (λ q. option_map (λ w. on_variable w (negative o.group)) (pair_of f (rows_of all) kept q))
+        (stays es more' is' rest.row among p row_there o.group (Selector o.group) o.is_group) in
+        let dropped : renamed_clause r c ≡ renamed_clause r o.rest =
+        ap (renamed_clause r) o.clause_is ∙ ap (λ q. cons_option q (renamed_clause r o.rest)) selector in
+        let up : (p + 1) * C ≤ length ks * C = mul-le-mul_right C
+        (let s : p + 1 ≤ length ks = omega (arith, many, row_small) in s) in
+        let parts : (p + 1) * C ≡ p * C + 1 * C = add-mul p 1 C in
+        let one : 1 * C ≡ C = one-mul C in (
+          ap (instance_at f kept) next ∙ body ∙ open' ∙ ap Some (sym (dropped ∙ same)),
+          omega (arith, up, parts, one, clause_small, i1),
+        )
+
+    -- so an instance's variables have names of such pairs, or are its selector
+    own_instance : AreNamedAt f all ks (Instance k j) c
+    own_instance =
+        let P : Literal → Type 0 = λ l. HasNameAt f all ks p (variable_of l) in
+        let selector = stays es more' is' rest.row among p row_there o.group (Selector o.group) o.is_group in
+        let first : P (negative o.group) = subst (IsNameAt f (rows_of all) kept p) (sym selector) tt in (
+          inside,
+          subst (All P) (sym o.clause_is) (All-cons P (negative o.group) o.rest first
+              (own_names es more' is' rest.row among p row_there rest.clause o.rest rest.named)),
+        )
 
 pub instances_are_expansion : InstancesAreExpansion
-instances_are_expansion f live entries well lawful id origin c at usable = by_origin origin usable at where
-  by_origin : (o : Origin) → IsInstanceClause f live entries o c → numbered has_id entries id ≡ Some (Given o c) →
-      (instance_at f (rows_of entries) (instance_id live (length f.matrix) o) ≡ Some
-      (renamed_clause (pair_renaming f entries) c)) × (instance_id live (length f.matrix) o ≤ length
-      (rows_of entries) * length f.matrix)
+instances_are_expansion f ks live entries well lawful id origin c at usable = by_origin origin usable at where
+  by_origin : (o : Origin) → IsKeptClause f ks live entries o c → numbered has_id entries id ≡ Some (Given o c) →
+      (instance_at f (rows_among entries ks) (instance_id ks live (length f.matrix) o) ≡ Some
+      (renamed_clause (pair_renaming f entries ks) c)) × (instance_id ks live (length f.matrix) o ≤ length
+      ks * length f.matrix)
   by_origin (Instance k j) mine at =
       let place = split_at entries id (Given (Instance k j) c) at in
-      base_right f well entries lawful place.1 place.0 k j (number_among live j) c place.2
-      (mine.1 place.0 place.1 place.2)
+      base_right f well entries ks lawful place.1 place.0 k j (number_among live j) c place.2
+      (mine.1.1 place.0 place.1 place.2) mine.0
   by_origin (Gate v i) mine at = absurd mine
   by_origin (Fault j i leaf) mine at = absurd mine
   by_origin (Copy side j) mine at = absurd mine
@@ -310,14 +374,14 @@ instances_are_expansion f live entries well lawful id origin c at usable = by_or
   by_origin (TermGate v i) mine at = absurd mine
   by_origin (Differ y leaf part) mine at = absurd mine
 
-module _ (f : Dqbf) (live : List ℕ) (entries : List Entry) (well : IsWellFormed f) (lawful : Each MayFollow entries)
-    (few : length (rows_of entries) ≤ max_count) where
-  pub own_given : (id : ℕ) (origin : Origin) (c : List Literal) → IsInstanceClause f live entries origin c →
-      numbered has_id entries id ≡ Some (Given origin c) → HasOwnNames f entries c
+module _ (f : Dqbf) (ks live : List ℕ) (entries : List Entry) (well : IsWellFormed f)
+    (lawful : Each MayFollow entries) where
+  pub own_given : (id : ℕ) (origin : Origin) (c : List Literal) → IsKeptClause f ks live entries origin c →
+      numbered has_id entries id ≡ Some (Given origin c) → AreNamedAt f entries ks origin c
   own_given id (Instance k j) c mine at =
       let place = split_at entries id (Given (Instance k j) c) at in
-      own_instance f well entries lawful few place.1 place.0 k j (number_among live j) c place.2
-      (mine.1 place.0 place.1 place.2)
+      own_instance f well entries ks lawful place.1 place.0 k j (number_among live j) c place.2
+      (mine.1.1 place.0 place.1 place.2) mine.0
   own_given id (Gate v i) c mine at = absurd mine
   own_given id (Fault j i leaf) c mine at = absurd mine
   own_given id (Copy side j) c mine at = absurd mine
@@ -325,16 +389,30 @@ module _ (f : Dqbf) (live : List ℕ) (entries : List Entry) (well : IsWellForme
   own_given id (TermGate v i) c mine at = absurd mine
   own_given id (Differ y leaf part) c mine at = absurd mine
 
-  pub known_given : IsStrictlyIncreasing live → (id : ℕ) (origin : Origin) (c : List Literal) →
-      IsInstanceClause f live entries origin c → numbered has_id entries id ≡ Some (Given origin c)
-      → IsKnownInstance live origin
-  known_given ascending id (Instance k j) c mine at =
-      let place = split_at entries id (Given (Instance k j) c) at in
-      known_instance f well entries lawful few live ascending place.1 place.0 k j (number_among live j) c place.2
-      (mine.1 place.0 place.1 place.2) mine.0
-  known_given ascending id (Gate v i) c mine at = absurd mine
-  known_given ascending id (Fault j i leaf) c mine at = absurd mine
-  known_given ascending id (Copy side j) c mine at = absurd mine
-  known_given ascending id (Link v i) c mine at = absurd mine
-  known_given ascending id (TermGate v i) c mine at = absurd mine
-  known_given ascending id (Differ y leaf part) c mine at = absurd mine
+  pub known_given : IsStrictlyIncreasing ks → IsStrictlyIncreasing live → (origin : Origin) (c : List Literal) →
+      IsKeptClause f ks live entries origin c → IsKnownInstance ks live origin
+  known_given rising ascending (Instance k j) c mine = (rising, mine.0, ascending, mine.1.0)
+  known_given rising ascending (Gate v i) c mine = absurd mine
+  known_given rising ascending (Fault j i leaf) c mine = absurd mine
+  known_given rising ascending (Copy side j) c mine = absurd mine
+  known_given rising ascending (Link v i) c mine = absurd mine
+  known_given rising ascending (TermGate v i) c mine = absurd mine
+  known_given rising ascending (Differ y leaf part) c mine = absurd mine
+
+-- an instance's round is one of the log's
+pub round_below : (f : Dqbf) (live : List ℕ) (entries : List Entry) (id k j : ℕ) (c : List Literal) →
+    IsInstanceClause f live entries (Instance k j) c → numbered has_id entries id ≡ Some (Given (Instance k j) c) →
+    (1 ≤ k) × (k ≤ rounds_of entries)
+round_below f live entries id k j c mine at =
+    let s = split_at entries id (Given (Instance k j) c) at in
+    let o = mine.1 s.0 s.1 s.2 in
+    let rest : IsInstanceRest f s.1 k (number_among live j) o.rest = o.rest_is in
+    let place = row_place s.1 k rest.row rest.row_is in
+    let small = small_place (rows_of s.1) (k - 1) rest.row place.1 in
+    let later = rows_more (s.0 ++ Given (Instance k j) c ∷ []) s.1 in
+    let is' : entries ≡ (s.0 ++ Given (Instance k j) c ∷ []) ++ s.1 =
+    s.2 ∙ sym (append_assoc s.0 (Given (Instance k j) c ∷ []) s.1) in
+    let many : length (rows_of entries) ≡ length (rows_of s.1) + length later.0 =
+    ap (λ xs. length (rows_of xs)) is' ∙ ap length later.1 ∙ length-append (rows_of s.1) later.0 in
+    let all_rounds = rounds_are entries in
+    let low = place.0 in (low, omega (arith, low, small, many, all_rounds))

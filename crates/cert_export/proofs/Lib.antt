@@ -26,6 +26,10 @@ mod WrittenLines
 mod ExportableAnswers
 mod ExportableLogs
 mod RoundRows
+mod UsedRounds
+mod MarkedRounds
+mod SameCuts
+mod NamedPairs
 pub mod LineCounts
 pub mod Codes
 pub mod CircuitNumbers

@@ -12,7 +12,7 @@ use Rattle.hint_log.specs.Entries.{Entry, Named, Given, Learned, Answer, Round, 
 use Rattle.cert_export.specs.Exportable.{AreExportedItems}
 use Rattle.rup_core.specs.Items.{ProofItem, derived}
 use Rattle.cert_export.specs.Exported.{exported_number}
-use Rattle.cert_export.specs.Expansion.{instance_id}
+use Rattle.cert_export.specs.Expansion.{instance_id, used_rounds}
 use Rattle.hint_log.specs.declared.origins.Origin.{Origin}
 use Rattle.cert_export.specs.Renaming.{Renaming}
 use Rattle.cert_export.specs.Lines.{derived_ids, is_derived, is_lemma, line_step, line_steps}
@@ -115,7 +115,7 @@ lines_few entries ids r base_id number steps ascending are =
 pub few_items : (f : Dqbf) (live : List ℕ) (entries : List Entry) (ids : List ℕ) (items : List ProofItem) →
     IsStrictlyIncreasing ids → AreExportedItems f live entries ids items → length items ≤ count is_lemma entries
 few_items f live entries ids items ascending exported =
-    let few = lines_few entries ids exported.1.0 (instance_id live (length f.matrix))
+    let few = lines_few entries ids exported.1.0 (instance_id (used_rounds entries ids) live (length f.matrix))
     (exported_number f entries ids) exported.0 ascending exported.1.2 in
     let many : length items ≡ length exported.0 = ap length exported.2 ∙ length-map exported.0 derived in
     omega (arith, many, few)

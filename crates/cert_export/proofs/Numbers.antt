@@ -14,7 +14,7 @@ contains_more x h xs inside = let b = inside.1 in (suc inside.0, omega arith, in
 
 -- places of rising numbers rise
 module _ (p : ℕ → Bool) where
-  in_filter : (xs : List ℕ) (h : ℕ) → p h ≡ true → Contains xs h → Contains (filter p xs) h
+  pub in_filter : (xs : List ℕ) (h : ℕ) → p h ≡ true → Contains xs h → Contains (filter p xs) h
   in_filter [] h passes (k, below, is) = absurd (omega arith)
   in_filter (x ∷ xs) h passes (zero, below, is) = subst (λ b. Contains (cond b (x ∷ filter p xs) (filter p xs)) h)
       (sym (ap p is ∙ passes)) (0, omega arith, is)
@@ -24,7 +24,7 @@ module _ (p : ℕ → Bool) where
         by_bit true inside = contains_more x h (filter p xs) inside
         by_bit false inside = inside
 
-  of_filter : (xs : List ℕ) (h : ℕ) → Contains (filter p xs) h → Contains xs h
+  pub of_filter : (xs : List ℕ) (h : ℕ) → Contains (filter p xs) h → Contains xs h
   of_filter [] h inside = inside
   of_filter (x ∷ xs) h inside = by_bit (p x) (of_filter xs h) inside where
     by_bit : (b : Bool) → (Contains (filter p xs) h → Contains xs h) →

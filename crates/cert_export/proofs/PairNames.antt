@@ -1,8 +1,8 @@
 -- Pairs have names of their own.
-use Rattle.std.proofs.Common.{◌≡◌, ℕ, zero, suc, ◌+◌, ◌-◌, ◌*◌, ◌/◌, ◌%◌, ◌≤◌, ◌<◌, ◌==◌, Bool, true, false, cond, List, [], ◌∷◌, ◌++◌, map, length, slice_get, Option, None, Some, refl, sym, ◌∙◌, ap, subst, arith, append_assoc}
-use Rattle.std.specs.List.{Contains, position_or_len}
+use Rattle.std.proofs.Common.{◌≡◌, ℕ, zero, suc, ◌+◌, ◌-◌, ◌*◌, ◌/◌, ◌%◌, ◌≤◌, ◌<◌, ◌==◌, ◌&&◌, Bool, true, false, not, cond, ◌||◌, List, [], ◌∷◌, ◌++◌, map, length, get_or, slice_get, Option, None, Some, refl, sym, ◌∙◌, ap, subst, arith, append_assoc}
+use Rattle.std.specs.List.{Contains, list_any, position_or_len}
 use Rattle.std.specs.Option.{option_and_then}
-use Rattle.std.proofs.lemmas.Bool.{eqb-true}
+use Rattle.std.proofs.lemmas.Bool.{and_parts, eqb-true}
 use Rattle.std.proofs.lemmas.List.{get_or-map, length-map}
 use Rattle.std.proofs.lemmas.Nat.{div-mul-add, mod-mul-add}
 use Rattle.std.proofs.lemmas.List.Elements.{Contains-push, All-contains, Contains-append_right, Contains-append_left}
@@ -16,10 +16,12 @@ use Rattle.hint_log.specs.declared.names.Name.TheVariants.{Selector, Pair, Input
 use Rattle.hint_log.specs.Growth.{Each}
 use Rattle.hint_log.specs.Naming.{numbered_from_one, rows_of}
 use Rattle.cert_export.specs.Renaming.{IsInjective}
-use Rattle.cert_export.specs.Expansion.{first_pair, pair_of, pair_renaming}
+use Rattle.cert_export.specs.Expansion.{rows_among, kept_pair, pair_of, pair_renaming}
 use Rattle.hint_log.specs.Conditions.{MayFollow}
 use Rattle.log_laws.proofs.Found.{variable, find_sound}
-use Rattle.dq_lits.specs.Henkin.{same_bits}
+use Rattle.dq_lits.specs.Henkin.{restriction, same_bits}
+use Rattle.dq_lits.specs.Expansion.{row_assignment}
+use Rattle.std.proofs.lemmas.List.Sums.{passes_at_first}
 
 pub contains_mapped : (ys : List Existential) (y : Existential) → Contains ys y → Contains (map variable ys) y.variable
 contains_mapped ys y (k, below, is) = (
@@ -46,7 +48,7 @@ same_name (Answer c hints ∷ es) v w n lawful h k = same_name es v w n lawful.1
 same_name (Round row values j ∷ es) v w n lawful h k = same_name es v w n lawful.1 h k
 same_name (Begun live ∷ es) v w n lawful h k = same_name es v w n lawful.1 h k
 
-pub record IsPair (f : Dqbf) (rows : List (List Bool)) (o : Option Name) (x : ℕ) : Type 0 where
+pub record IsPair (f : Dqbf) (rows kept : List (List Bool)) (o : Option Name) (x : ℕ) : Type 0 where
   pub k : ℕ
   pub y : ℕ
   pub row : List Bool
@@ -55,18 +57,21 @@ pub record IsPair (f : Dqbf) (rows : List (List Bool)) (o : Option Name) (x : �
   pub row_is : numbered_from_one rows k ≡ Some row
   pub own : existential_of f y ≡ Some existential
   pub place : position_or_len (agree_on f existential row) rows + 1 ≡ k
-  pub is : x ≡ pair_number f rows row existential
+  pub there : list_any (agree_on f existential row) kept ≡ true
+  pub is : x ≡ pair_number f kept row existential
 
-pub pair_parts : (f : Dqbf) (rows : List (List Bool)) (o : Option Name) (x : ℕ) → pair_of f rows o ≡ Some x →
-    IsPair f rows o x
-pair_parts f rows None x h = cc
-pair_parts f rows (Some (Selector g)) x h = cc
-pair_parts f rows (Some (Pair k y)) x h = by_parts (numbered_from_one rows k) (existential_of f y) refl refl h where
+pub pair_parts : (f : Dqbf) (rows kept : List (List Bool)) (o : Option Name) (x : ℕ) → pair_of f rows kept o ≡ Some x →
+    IsPair f rows kept o x
+pair_parts f rows kept None x h = cc
+pair_parts f rows kept (Some (Selector g)) x h = cc
+pair_parts f rows kept (Some (Pair k y)) x h = by_parts (numbered_from_one rows k) (existential_of f y) refl refl h where
   by_bit : (row : List Bool) (e : Existential) → numbered_from_one rows k ≡ Some row → existential_of f y ≡ Some e →
-      (b : Bool) → (position_or_len (agree_on f e row) rows + 1 == k) ≡ b →
-      cond b (Some (pair_number f rows row e)) None ≡ Some x → IsPair f rows (Some (Pair k y)) x
+      (b : Bool) →
+      ((position_or_len (agree_on f e row) rows + 1 == k) && list_any (agree_on f e row) kept) ≡ b →
+      cond b (Some (pair_number f kept row e)) None ≡ Some x → IsPair f rows kept (Some (Pair k y)) x
   by_bit row e a c true g h =
-      let is : pair_number f rows row e ≡ x = cc in
+      let is : pair_number f kept row e ≡ x = cc in
+      let parts = and_parts (position_or_len (agree_on f e row) rows + 1 == k) (list_any (agree_on f e row) kept) g in
       record {
         k = k;
         y = y;
@@ -76,21 +81,23 @@ pair_parts f rows (Some (Pair k y)) x h = by_parts (numbered_from_one rows k) (e
         row_is = a;
         own = c;
         place =
-            eqb-true (position_or_len (agree_on f e row) rows + 1) k g;
+            eqb-true (position_or_len (agree_on f e row) rows + 1) k parts.0;
+        there = parts.1;
         is = sym is;
       }
   by_bit row e a c false g h = cc
 
   by_parts : (p : Option (List Bool)) (q : Option Existential) → numbered_from_one rows k ≡ p → existential_of f y ≡ q →
-      first_pair f rows k p q ≡ Some x → IsPair f rows (Some (Pair k y)) x
+      kept_pair f rows kept k p q ≡ Some x → IsPair f rows kept (Some (Pair k y)) x
   by_parts None q a c h = cc
   by_parts (Some row) None a c h = cc
-  by_parts (Some row) (Some e) a c h = by_bit row e a c (position_or_len (agree_on f e row) rows + 1 == k) refl h
-pair_parts f rows (Some (Input g)) x h = cc
-pair_parts f rows (Some (And a b)) x h = cc
-pair_parts f rows (Some (Bad g j)) x h = cc
-pair_parts f rows (Some (CopyOf side v)) x h = cc
-pair_parts f rows (Some (Term p q)) x h = cc
+  by_parts (Some row) (Some e) a c h = by_bit row e a c
+      ((position_or_len (agree_on f e row) rows + 1 == k) && list_any (agree_on f e row) kept) refl h
+pair_parts f rows kept (Some (Input g)) x h = cc
+pair_parts f rows kept (Some (And a b)) x h = cc
+pair_parts f rows kept (Some (Bad g j)) x h = cc
+pair_parts f rows kept (Some (CopyOf side v)) x h = cc
+pair_parts f rows kept (Some (Term p q)) x h = cc
 
 pub in_range : (f : Dqbf) → IsWellFormed f → (y : Existential) → Contains f.existentials y →
     (1 ≤ y.variable) × (y.variable ≤ f.variables)
@@ -109,24 +116,75 @@ pair_back vars a b y z y1 y2 z1 z2 h =
     let rest = sym low ∙ ap (λ n. n % vars) same ∙ low' in
     (sym left ∙ ap (λ n. n / vars) same ∙ right, omega (arith, rest))
 
-pub pairs_are_injective : (f : Dqbf) → IsWellFormed f → (all : List Entry) → Each MayFollow all →
-    IsInjective (pair_renaming f all)
-pairs_are_injective f well all lawful v w x h k =
+pub same_bits-sound : (xs ys : List Bool) → same_bits xs ys ≡ true → xs ≡ ys
+same_bits-sound [] [] h = refl
+same_bits-sound [] (y ∷ ys) h = cc
+same_bits-sound (x ∷ xs) [] h = cc
+same_bits-sound (true ∷ xs) (true ∷ ys) h = ap (λ zs. true ∷ zs) (same_bits-sound xs ys h)
+same_bits-sound (true ∷ xs) (false ∷ ys) h = cc
+same_bits-sound (false ∷ xs) (true ∷ ys) h = cc
+same_bits-sound (false ∷ xs) (false ∷ ys) h = ap (λ zs. false ∷ zs) (same_bits-sound xs ys h)
+
+-- a row that passes stands below the end
+any_below : (p : List Bool → Bool) (rows : List (List Bool)) → list_any p rows ≡ true →
+    position_or_len p rows < length rows
+any_below p [] h = cc
+any_below p (x ∷ xs) h = by_bit (any_below p xs) (p x) h where
+  by_bit : (list_any p xs ≡ true → position_or_len p xs < length xs) → (b : Bool) → (b || list_any p xs) ≡ true →
+      cond (not b) (1 + position_or_len p xs) 0 < suc (length xs)
+  by_bit later true h = omega arith
+  by_bit later false h = let r = later h in omega (arith, r)
+
+-- rows that agree with one row agree with one another
+module _ (f : Dqbf) (y : Existential) where
+  abbrev seen : List Bool → List Bool
+  seen row = restriction y (row_assignment f row)
+
+  pub alike : (row other : List Bool) → agree_on f y row other ≡ true → seen row ≡ seen other
+  alike row other h = same_bits-sound (seen row) (seen other) h
+
+  pub same_places : (rows : List (List Bool)) (row other : List Bool) → seen row ≡ seen other →
+      position_or_len (agree_on f y row) rows ≡ position_or_len (agree_on f y other) rows
+  same_places rows row other h = ap (λ bits. position_or_len (λ q. same_bits bits (seen q)) rows) h
+
+  pub same_numbers : (rows : List (List Bool)) (row other : List Bool) → seen row ≡ seen other →
+      pair_number f rows row y ≡ pair_number f rows other y
+  same_numbers rows row other h = ap (λ n. n * f.variables + y.variable) (same_places rows row other h)
+
+-- the first row that passes
+pub first_passing : (p : List Bool → Bool) (rows : List (List Bool)) → list_any p rows ≡ true →
+    p (get_or rows (position_or_len p rows) []) ≡ true
+first_passing p rows h = passes_at_first p rows [] (any_below p rows h)
+
+pub pairs_are_injective : (f : Dqbf) → IsWellFormed f → (all : List Entry) (rounds : List ℕ) → Each MayFollow all →
+    IsInjective (pair_renaming f all rounds)
+pairs_are_injective f well all rounds lawful v w x h k =
     let rows = rows_of all in
-    let p = pair_parts f rows (name_of all v) x h in
-    let q = pair_parts f rows (name_of all w) x k in
+    let kept = rows_among all rounds in
+    let p = pair_parts f rows kept (name_of all v) x h in
+    let q = pair_parts f rows kept (name_of all w) x k in
     let py = find_sound p.y f.existentials p.existential p.own in
     let qy = find_sound q.y f.existentials q.existential q.own in
     let pr = in_range f well p.existential py.0 in
     let qr = in_range f well q.existential qy.0 in
-    let a = position_or_len (agree_on f p.existential p.row) rows in
-    let b = position_or_len (agree_on f q.existential q.row) rows in
+    let a = position_or_len (agree_on f p.existential p.row) kept in
+    let b = position_or_len (agree_on f q.existential q.row) kept in
     let back = pair_back f.variables a b p.existential.variable q.existential.variable pr.0 pr.1 qr.0 qr.1
     (sym p.is ∙ q.is) in
-    let ks : p.k ≡ q.k = sym p.place ∙ ap (λ n. n + 1) back.0 ∙ q.place in
     let ys : p.y ≡ q.y = sym py.1 ∙ back.1 ∙ qy.1 in
-    let same : Pair p.k p.y ≡ Pair q.k q.y = ap (λ n. Pair n p.y) ks ∙ ap (Pair q.k) ys in
-    same_name all v w (Pair p.k p.y) lawful p.named (q.named ∙ ap Some (sym same))
+    let both : Some p.existential ≡ Some q.existential = sym p.own ∙ ap (existential_of f) ys ∙ q.own in
+    let e : p.existential ≡ q.existential = cc in
+    let first : agree_on f p.existential p.row (get_or kept a []) ≡ true =
+    first_passing (agree_on f p.existential p.row) kept p.there in
+    let second : agree_on f p.existential q.row (get_or kept a []) ≡ true =
+    ap (λ n. agree_on f p.existential q.row (get_or kept n [])) back.0 ∙ ap
+    (λ z. agree_on f z q.row (get_or kept b [])) e ∙ first_passing (agree_on f q.existential q.row) kept q.there in
+    let same = alike f p.existential p.row (get_or kept a []) first ∙ sym
+    (alike f p.existential q.row (get_or kept a []) second) in
+    let ks : p.k ≡ q.k = sym p.place ∙ ap (λ n. n + 1) (same_places f p.existential rows p.row q.row same) ∙ ap
+    (λ z. position_or_len (agree_on f z q.row) rows + 1) e ∙ q.place in
+    let named : Pair p.k p.y ≡ Pair q.k q.y = ap (λ n. Pair n p.y) ks ∙ ap (Pair q.k) ys in
+    same_name all v w (Pair p.k p.y) lawful p.named (q.named ∙ ap Some (sym named))
 
 pub small_place : {X : Type 0} (xs : List X) (i : ℕ) (x : X) → slice_get xs i ≡ Some x → i < length xs
 small_place [] i x h = cc
@@ -165,12 +223,3 @@ row_contained (Round r values j ∷ es) k row h = by_bit (row_contained es k row
       (Contains-push (rows_of es) row)
   by_bit before false h = Contains-append_left (rows_of es) (r ∷ []) row (before h)
 row_contained (Begun live ∷ es) k row h = row_contained es k row h
-
-pub same_bits-sound : (xs ys : List Bool) → same_bits xs ys ≡ true → xs ≡ ys
-same_bits-sound [] [] h = refl
-same_bits-sound [] (y ∷ ys) h = cc
-same_bits-sound (x ∷ xs) [] h = cc
-same_bits-sound (true ∷ xs) (true ∷ ys) h = ap (λ zs. true ∷ zs) (same_bits-sound xs ys h)
-same_bits-sound (true ∷ xs) (false ∷ ys) h = cc
-same_bits-sound (false ∷ xs) (true ∷ ys) h = cc
-same_bits-sound (false ∷ xs) (false ∷ ys) h = ap (λ zs. false ∷ zs) (same_bits-sound xs ys h)

@@ -66,7 +66,7 @@ module _ (r : Renaming) (injective : IsInjective r) where
     ]
 
   -- renamed literals are the same where the literals are
-  same_renamed : (k l k' l' : Literal) → ren k ≡ Some k' → ren l ≡ Some l' → same_literal k' l' ≡ same_literal k l
+  pub same_renamed : (k l k' l' : Literal) → ren k ≡ Some k' → ren l ≡ Some l' → same_literal k' l' ≡ same_literal k l
   same_renamed k l k' l' e h = by_names (r (variable_of k)) (r (variable_of l)) refl refl e h where
     by_names : (o p : Option ℕ) → r (variable_of k) ≡ o → r (variable_of l) ≡ p →
         option_map (λ w. on_variable w k) o ≡ Some k' → option_map (λ w. on_variable w l) p ≡ Some l' →
@@ -85,7 +85,7 @@ module _ (r : Renaming) (injective : IsInjective r) where
     | inr differ ↦ differ
   ]
 
-  holds_renamed : (l l' : Literal) → ren l ≡ Some l' → (xs : List Literal) → holds (filter_map ren xs) l' ≡ holds xs l
+  pub holds_renamed : (l l' : Literal) → ren l ≡ Some l' → (xs : List Literal) → holds (filter_map ren xs) l' ≡ holds xs l
   holds_renamed l l' e [] = refl
   holds_renamed l l' e (x ∷ xs) = by_option (holds_renamed l l' e xs) (ren x) refl where
     by_option : holds (filter_map ren xs) l' ≡ holds xs l → (o : Option Literal) → ren x ≡ o →
@@ -94,11 +94,11 @@ module _ (r : Renaming) (injective : IsInjective r) where
     by_option later (Some x') h = ap (λ b. b || holds (filter_map ren xs) l') (same_renamed l x l' x' e h) ∙ ap
         (λ b. same_literal l x || b) later
 
-  abbrev open_in : List Literal → List Literal → List Literal
+  abbrev pub open_in : List Literal → List Literal → List Literal
   open_in trues clause = filter (λ l. not (holds trues (opposite l))) clause
 
   -- the literals that aren't false
-  open_renamed : (trues clause : List Literal) → open_in (filter_map ren trues) (filter_map ren clause) ≡ filter_map ren
+  pub open_renamed : (trues clause : List Literal) → open_in (filter_map ren trues) (filter_map ren clause) ≡ filter_map ren
       (open_in trues clause)
   open_renamed trues [] = refl
   open_renamed trues (l ∷ ls) = by_option (open_renamed trues ls) (ren l) refl where
@@ -231,7 +231,7 @@ module _ (r : Renaming) (injective : IsInjective r) where
               subst (IsCutRight trues place' hints) (sym same)
               (with_open trues (open_in trues c) place place' hints later h)
 
-  opposites_renamed : (ls : List Literal) → map opposite (filter_map ren ls) ≡ filter_map ren (map opposite ls)
+  pub opposites_renamed : (ls : List Literal) → map opposite (filter_map ren ls) ≡ filter_map ren (map opposite ls)
   opposites_renamed [] = refl
   opposites_renamed (l ∷ ls) = by_option (opposites_renamed ls) (ren l) (ren_opposite l) where
     by_option : map opposite (filter_map ren ls) ≡ filter_map ren (map opposite ls) → (o : Option Literal) →

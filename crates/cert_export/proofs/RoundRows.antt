@@ -1,24 +1,73 @@
--- The rows of the first so many rounds.
-use Rattle.std.proofs.Common.{◌≡◌, ℕ, zero, suc, ◌+◌, ◌-◌, ◌≤◌, Bool, List, [], ◌∷◌, ◌++◌, take, get_or, slice_get, Some, sym, ◌∙◌, ap, arith}
-use Rattle.std.proofs.lemmas.List.{take_all, take_more}
+-- The rows of some rounds, in their order.
+use Rattle.std.proofs.Common.{◌≡◌, ℕ, zero, suc, ◌+◌, ◌-◌, ◌≤◌, ◌<◌, Bool, true, false, cond, List, [], ◌∷◌, ◌++◌, map, take, length, get_or, slice_get, Some, refl, sym, ◌∙◌, ap, subst, arith}
+use Rattle.std.specs.List.{All, Contains, filter, range_with_len}
+use Rattle.std.proofs.lemmas.List.FromFn.{length-range_with_len}
+use Rattle.std.proofs.lemmas.List.{map-append, take_more}
+use Rattle.std.proofs.lemmas.List.Elements.{All-nil, All-cons, All-head, All-tail, All-contains}
 use Rattle.hint_log.specs.Entries.{Entry, row_at, rounds_of}
 use Rattle.hint_log.specs.Naming.{rows_of}
-use Rattle.cert_export.proofs.Instances.{rounds_are, row_place}
-use Rattle.cert_export.proofs.PairNames.{small_place}
+use Rattle.cert_export.specs.Expansion.{has_instance, row_of_round, rows_among, used_rounds, used_rows}
+use Rattle.cert_export.specs.Exportable.{AreRounds}
+use Rattle.cert_export.proofs.Instances.{get_at, rounds_are, row_place}
+use Rattle.cert_export.proofs.Numbers.{of_filter}
 
-get_at : {X : Type 0} (xs : List X) (k : ℕ) (x d : X) → slice_get xs k ≡ Some x → get_or xs k d ≡ x
-get_at [] k x d h = cc
-get_at (y ∷ ys) zero x d h = let same : y ≡ x = cc in same
-get_at (y ∷ ys) (suc k) x d h = get_at ys k x d h
+-- a row more
+pub row_more : (es : List Entry) (rounds : List ℕ) (i k : ℕ) (row : List Bool) → i < length rounds →
+    k ≡ get_or rounds i k → row_at es k ≡ Some row →
+    rows_among es (take (i + 1) rounds) ≡ rows_among es (take i rounds) ++ row ∷ []
+row_more es rounds i k row below is h =
+    let own : row_of_round es k ≡ row = get_at (rows_of es) (k - 1) row [] (row_place es k row h).1 in
+    ap (rows_among es) (take_more rounds i k below)
+    ∙ map-append (row_of_round es) (take i rounds) (get_or rounds i k ∷ [])
+    ∙ ap (λ n. rows_among es (take i rounds) ++ row_of_round es n ∷ []) (sym is)
+    ∙ ap (λ r. rows_among es (take i rounds) ++ r ∷ []) own
 
-pub row_more : (es : List Entry) (k : ℕ) (row : List Bool) → row_at es (k + 1) ≡ Some row →
-    take (k + 1) (rows_of es) ≡ take k (rows_of es) ++ row ∷ []
-row_more es k row h =
-    let back : k + 1 - 1 ≡ k = omega arith in
-    let there : slice_get (rows_of es) k ≡ Some row = ap (slice_get (rows_of es)) (sym back) ∙
-    (row_place es (k + 1) row h).1 in
-    take_more (rows_of es) k row (small_place (rows_of es) k row there) ∙ ap (λ r. take k (rows_of es) ++ r ∷ [])
-    (get_at (rows_of es) k row row there)
+-- used rounds are rounds
+range_rounds : (n start : ℕ) → (k : ℕ) → Contains (range_with_len start n) k → (start ≤ k) × (k < start + n)
+range_rounds zero start k inside = absurd (let b = inside.1 in omega arith)
+range_rounds (suc n) start k (zero, below, is) = (omega (arith, is), omega (arith, is))
+range_rounds (suc n) start k (suc i, below, is) =
+    let r = range_rounds n (start + 1) k (i, (let b : i < length (range_with_len (start + 1) n) = omega arith in b), is) in
+    let low = r.0 in let high = r.1 in (omega (arith, low), omega (arith, high))
 
-pub rows_all : (es : List Entry) (k : ℕ) → rounds_of es ≤ k → take k (rows_of es) ≡ rows_of es
-rows_all es k past = let many = rounds_are es in take_all k (rows_of es) (omega (arith, many, past))
+all_of : (P : ℕ → Type 0) (xs : List ℕ) → ((k : ℕ) → Contains xs k → P k) → All P xs
+all_of P [] h = All-nil P
+all_of P (x ∷ xs) h = All-cons P x xs (h x (0, omega arith, refl)) (all_of P xs (λ k inside. h k
+    (let b = inside.1 in (suc inside.0, omega arith, inside.2))))
+
+pub used_are_rounds : (es : List Entry) (ids : List ℕ) → AreRounds es (used_rounds es ids)
+used_are_rounds es ids = all_of (λ k. (1 ≤ k) × (k ≤ rounds_of es)) (used_rounds es ids)
+    (λ k inside. let r = range_rounds (rounds_of es) 1 k (of_filter (has_instance es ids)
+    (range_with_len 1 (rounds_of es)) k inside) in let low = r.0 in let high = r.1 in (low, omega (arith, high)))
+
+-- no more rounds are used than there are
+filter_shorter : (p : ℕ → Bool) (xs : List ℕ) → length (filter p xs) ≤ length xs
+filter_shorter p [] = omega arith
+filter_shorter p (x ∷ xs) = by_bit (p x) (filter_shorter p xs) where
+  by_bit : (b : Bool) → length (filter p xs) ≤ length xs → length (cond b (x ∷ filter p xs) (filter p xs)) ≤ suc
+      (length xs)
+  by_bit true h = omega (arith, h)
+  by_bit false h = omega (arith, h)
+
+pub few_used : (es : List Entry) (ids : List ℕ) → length (used_rounds es ids) ≤ rounds_of es
+few_used es ids =
+    let h = filter_shorter (has_instance es ids) (range_with_len 1 (rounds_of es)) in
+    let n = length-range_with_len 1 (rounds_of es) in omega (arith, h, n)
+
+-- whole rows stay whole
+rows_at : (P : List Bool → Type 0) (rows : List (List Bool)) (i : ℕ) → i < length rows → All P rows →
+    P (get_or rows i [])
+rows_at P rows i below all = all i [] below
+
+pub rows_stay : (P : List Bool → Type 0) (es : List Entry) (rounds : List ℕ) → AreRounds es rounds →
+    All P (rows_of es) → All P (rows_among es rounds)
+rows_stay P es [] h all = All-nil P
+rows_stay P es (k ∷ ks) h all =
+    let Q : ℕ → Type 0 = λ n. (1 ≤ n) × (n ≤ rounds_of es) in
+    let here = All-head Q k ks h in
+    let many = rounds_are es in
+    let low = here.0 in
+    let high = here.1 in
+    All-cons P (row_of_round es k) (rows_among es ks)
+    (rows_at P (rows_of es) (k - 1) (omega (arith, low, high, many)) all)
+    (rows_stay P es ks (All-tail Q k ks h) all)

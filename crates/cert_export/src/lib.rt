@@ -27,5 +27,6 @@ mod new_names;
 mod pairs;
 mod parts;
 mod refutations;
+mod rounds;
 mod symbols;
 mod written;

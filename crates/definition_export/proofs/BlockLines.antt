@@ -224,7 +224,7 @@ module _ (f : Dqbf) (entries : List Entry) (id : ℕ) (ids : List ℕ) (y : ℕ)
         (rising_of ids (AllPairs-from_increasing ids d.reached.ascending)) in
         let first : base + 1 ≡ first_definition_id f (length gates) = omega arith in
         subst (λ n. AreSteps (is_up_to (f.variables + length gates)) n steps) first
-        (steps_allowed r (definition_id f gates) IsUsed (definition_base f exported) base entries number
+        (steps_allowed r r (definition_id f gates) IsUsed (definition_base f exported) base entries number
         (is_up_to (f.variables + length gates)) refl base_right in_proof (derived_ids entries ids) [] (base + 1)
         lines (consecutive base (derived_ids entries ids) rising) (omega arith)
         (λ h inside. absurd (let b = inside.1 in omega arith)))

@@ -5,4 +5,5 @@ mod Beginnings
 pub mod Counts
 mod NumberedFiles
 pub mod ShownVerdicts
+mod RefutedRows
 mod LiftedVerdicts

@@ -1,17 +1,14 @@
 -- From what is lifted to a verdict's output.
 use Rattle.std.proofs.Common.{◌≡◌, ◌≢◌, ◌∙◌, ◌-◌, ◌≤◌, ℕ, refl, sym, ap, subst, arith, Bool, false, List, [], ◌∷◌, map, length, None, Ok, Err, Result}
-use Rattle.dq_lits.specs.Expansion.{IsExpansionUnsatisfiable, instance_at}
 use Rattle.dq_lits.specs.Formula.{Dqbf, IsWellFormed}
 use Rattle.dq_lits.specs.Henkin.{IsTrueFormula, IsFalseFormula}
 use Rattle.dq_lits.specs.declared.memory.Memory.{Memory}
 use Rattle.std.specs.Prelude.{IfOk}
-use Rattle.dq_lits.specs.Derivation.{LiveClauses, Derives, ProofStep, fault_of_step, is_empty, line_fault, steps_fault, with_clause}
 use Rattle.dq_formula.specs.Prefix.{IsLawful}
 use Rattle.dq_prep.specs.Laws.{SimplificationKeepsChoices}
 use Rattle.dq_prep.specs.Simplified.{simplified_formula}
 use Rattle.dq_prep.specs.Units.{AreUnits}
 use Rattle.dq_prep.specs.declared.traces.Taken.{Taken}
-use Rattle.rup_core.specs.Items.{derived, items_fault}
 use Rattle.hint_log.specs.Deciding.{IsUndecided}
 use Rattle.hint_log.specs.Entries.{Entry, ProofLog, rounds_of, steps_of}
 use Rattle.hint_log.specs.ProductiveLog.{IsProductiveLog}
@@ -23,8 +20,8 @@ use Rattle.cert_text.specs.Header.{max_count}
 use Rattle.cert_text.specs.ProofGrammar.{IsDqpOf}
 use Rattle.cert_text.specs.declared.circuit_proofs.Dqp.{Dqp}
 use Rattle.cert_text.specs.declared.refutations.Dqr.{Dqr}
-use Rattle.proof_deletions.specs.Deletions.{AreNumberedLines, lines_of}
-use Rattle.refutation_checker.specs.Refutation.{refutation_fault, normal_item, normal_step}
+use Rattle.proof_deletions.specs.Deletions.{AreNumberedLines}
+use Rattle.refutation_checker.specs.Refutation.{refutation_fault}
 use Rattle.proof_checker.specs.ProvedCircuit.{IsProvedCircuit}
 use Rattle.proof_deletions.specs.Laws.{AllowedLinesAreNumbered}
 use Rattle.repair_loop.specs.Stopping.{IsStoppedAtLimit}
@@ -39,6 +36,7 @@ use Rattle.dq_verdicts.specs.Shown.{IsShownTrue, IsShownFalse}
 use Rattle.dq_verdicts.specs.Verdicts.{is_unknown, verdict_text}
 use Rattle.dq_verdicts.specs.declared.forms.Form.{Form}
 use Rattle.dq_verdicts.proofs.NumberedFiles.{are_sorted}
+use Rattle.dq_verdicts.proofs.RefutedRows.{DerivationsRefute, unsatisfiable}
 use Rattle.dq_verdicts.proofs.ShownVerdicts.{proof_numbered, printed_as}
 
 pub true-kept : SimplificationKeepsChoices → (f g : Dqbf) (units : List Taken) → IsWellFormed f → IsLawful f
@@ -58,33 +56,6 @@ shown-true accepted f g log id form file proof other is decided e = record {
   accepted = accepted f file proof form e.circuit e.lines e.writable (λ _. e.sorted) e.allowed;
   within = λ same. absurd (other same);
 }
-
--- a derivation from instances shows that they have no model
-abbrev pub DerivationsRefute : Type 0
-DerivationsRefute = (f : Dqbf) (rows : List (List Bool)) (steps : List ProofStep) → Derives (instance_at f rows) steps
-    → IsExpansionUnsatisfiable f rows
-
--- lines alone have the fault that they have as steps
-lines-fault : (finished : Bool) (live : LiveClauses) (steps : List ProofStep)
-    → items_fault finished live (map derived steps) ≡ steps_fault finished live steps
-lines-fault finished live [] = refl
-lines-fault finished live (s ∷ ss) = ap (fault_of_step (line_fault live s.literals s.hints) s.id)
-    (lines-fault (is_empty s.literals) (with_clause live s.id s.literals) ss)
-
-normal-lines : (f : Dqbf) (rows : List (List Bool)) (steps : List ProofStep)
-    → map (normal_item f rows) (map derived steps) ≡ map derived (map (normal_step f rows) steps)
-normal-lines f rows [] = refl
-normal-lines f rows (s ∷ ss) = ap (λ xs. derived (normal_step f rows s) ∷ xs) (normal-lines f rows ss)
-
-unsatisfiable : DerivationsRefute → (f : Dqbf) (d : Dqr) → refutation_fault f d ≡ None → AreNumberedLines d.items
-    → IsExpansionUnsatisfiable f d.rows
-unsatisfiable refute f d none numbered =
-    let steps = lines_of d.items in
-    let live = instance_at f d.rows in
-    refute f d.rows (map (normal_step f d.rows) steps)
-    (sym (lines-fault false live (map (normal_step f d.rows) steps))
-    ∙ ap (items_fault false live) (sym (normal-lines f d.rows steps))
-    ∙ ap (λ xs. items_fault false live (map (normal_item f d.rows) xs)) (sym numbered.lines) ∙ none)
 
 pub shown-false : RefutationsAreAccepted → DerivationsRefute → (f g : Dqbf) (log : ProofLog) (form : Form) (d : Dqr)
     → IsLawful f → f ≢ g → IsFalseFormula f → IsDqrOf f d → refutation_fault f d ≡ None → AreNumberedLines d.items

@@ -1,7 +1,6 @@
 -- From what the search and the exports answer to a verdict's output.
 use Rattle.std.proofs.Common.{◌≡◌, ◌∙◌, ◌-◌, ◌*◌, ◌≤◌, ℕ, sym, ap, subst, arith, List, length, map, None, Result, Ok, Err}
 use Rattle.std.specs.List.{range_with_len}
-use Rattle.dq_lits.specs.Expansion.{IsExpansionUnsatisfiable}
 use Rattle.dq_lits.specs.Formula.{Dqbf, IsWellFormed}
 use Rattle.dq_lits.specs.Henkin.{IsTrueFormula, IsFalseFormula}
 use Rattle.dq_formula.specs.Prefix.{IsLawful}
@@ -12,7 +11,6 @@ use Rattle.rup_core.specs.Items.{ProofItem, derived}
 use Rattle.hint_log.specs.Conditions.{AreLogged}
 use Rattle.hint_log.specs.Deciding.{IsUndecided}
 use Rattle.hint_log.specs.Entries.{Entry, ProofLog, count, rounds_of, steps_of}
-use Rattle.hint_log.specs.Naming.{rows_of}
 use Rattle.hint_log.specs.ProductiveLog.{IsProductiveLog}
 use Rattle.hint_log.specs.Reached.{AreReached}
 use Rattle.hint_log.specs.declared.stops.Stop.{Stop}
@@ -25,7 +23,8 @@ use Rattle.cert_text.specs.ProofGrammar.{IsDqpOf}
 use Rattle.cert_text.specs.declared.circuit_proofs.Dqp.{Dqp}
 use Rattle.cert_text.specs.declared.refutations.Dqr.{Dqr}
 use Rattle.cert_export.specs.CircuitPart.{exported_netlist}
-use Rattle.cert_export.specs.Exportable.{AreExportedItems}
+use Rattle.cert_export.specs.Expansion.{used_rows}
+use Rattle.cert_export.specs.Exportable.{AreExported, AreExportedItems}
 use Rattle.cert_export.specs.Exported.{ExportedLinesAreAllowed, CanExportFalse, exported_steps}
 use Rattle.cert_export.specs.ExportedCircuit.{IsDecidedTrue, IsNumberedFile, IsWritable, ExportedProofIsAllowed, proof_steps, is_gate_name}
 use Rattle.cert_export.specs.Lines.{is_lemma}
@@ -47,6 +46,7 @@ use Rattle.dq_verdicts.specs.declared.verdicts.Decision.TheVariants.{Shown, Refu
 use Rattle.dq_runs.specs.Printed.{Printed}
 use Rattle.dq_runs.specs.declared.outputs.Output.{Output}
 use Rattle.dq_verdicts.proofs.NumberedFiles.{are_sorted}
+use Rattle.dq_verdicts.proofs.RefutedRows.{DerivationsRefute, unsatisfiable}
 use Rattle.dq_verdicts.proofs.WrittenForms.{written_few}
 use Rattle.dq_verdicts.proofs.Counts.{count_few}
 
@@ -103,7 +103,7 @@ pub refutation_numbered : ExportedLinesAreAllowed → AllowedLinesAreNumbered �
 refutation_numbered allowed numbered f live entries id ids items well logged can reached e =
     let (steps, (r, renaming, are), same) = e in
     subst AreNumberedLines (sym (same ∙ ap (map derived) are))
-    (numbered _ (first_id f (length (rows_of entries))) (exported_steps f live entries ids r) (omega arith)
+    (numbered _ (first_id f (length (used_rows entries ids))) (exported_steps f live entries ids r) (omega arith)
     (allowed f live entries id ids r well logged can.instances can.refuted reached renaming))
 
 pub shown_true : ProvedCircuitsAreAccepted → SmallLogsAreWithinLimits →
@@ -129,12 +129,11 @@ shown_true accepted within f log id form file proof lawful is_so decided e = rec
 
 -- what the export of a refutation gives
 pub record IsWrittenRefutation (f : Dqbf) (entries : List Entry) (id : ℕ) (d : Dqr) : Type 0 where
-  pub rows : d.rows ≡ rows_of entries
   pub accepted : refutation_fault f d ≡ None
   pub few : length d.items ≤ count is_lemma entries
   pub spelled : length d.items ≤ max_count → IsDqrOf f d
-  pub lines : (ids : List ℕ) × AreReached entries id ids × AreExportedItems f
-      (range_with_len 1 (length f.matrix)) entries ids d.items
+  pub lines : (ids : List ℕ) × AreReached entries id ids × AreExported f
+      (range_with_len 1 (length f.matrix)) entries ids d
   pub numbered : AreNumberedLines d.items
 
 few_lines : (entries : List Entry) (steps written : ℕ) → steps ≤ count is_lemma entries → written ≤ 2 * steps →
@@ -142,21 +141,20 @@ few_lines : (entries : List Entry) (steps written : ℕ) → steps ≤ count is_
 few_lines entries steps written few twice small =
     let all = count_few is_lemma entries in omega (arith, few, twice, small, all)
 
-pub shown_false : RefutationsAreAccepted → DeletionsAreAllowed → (f : Dqbf) (log : ProofLog) (id : ℕ) (form : Form)
+pub shown_false : RefutationsAreAccepted → DerivationsRefute → DeletionsAreAllowed → (f : Dqbf) (log : ProofLog) (id : ℕ) (form : Form)
     (d : Dqr)
     → IsLawful f → IsFalseFormula f → IsFoundFalse f log id → IsWrittenRefutation f log.entries id d →
     IsShownFalse f f log form d
-shown_false accepted laws f log id form d lawful is_so found e = record {
+shown_false accepted refute laws f log id form d lawful is_so found e = record {
   false_formula = is_so;
-  unsatisfiable = subst (IsExpansionUnsatisfiable f) (sym e.rows) found.unsatisfiable;
+  unsatisfiable = unsatisfiable refute f d e.accepted e.numbered;
   refutes = e.accepted;
   exported = λ _. record {
     id = id;
     refuted = found.shown;
     ids = e.lines.0;
     reached = e.lines.1;
-    items = e.lines.2;
-    rows = e.rows;
+    exported = e.lines.2;
   };
   accepted = accepted f d form lawful e.accepted e.numbered e.spelled;
   within = λ _. few_lines log.entries (length d.items) (length (written_items form d.items)) e.few

@@ -6,7 +6,6 @@ use Rattle.dq_lits.specs.Formula.{Dqbf}
 use Rattle.dq_lits.specs.Henkin.{IsTrueFormula, IsFalseFormula}
 use Rattle.hint_log.specs.Deciding.{IsUndecided}
 use Rattle.hint_log.specs.Entries.{ProofLog, rounds_of, steps_of}
-use Rattle.hint_log.specs.Naming.{rows_of}
 use Rattle.hint_log.specs.ProductiveLog.{IsProductiveLog}
 use Rattle.hint_log.specs.Reached.{AreReached}
 use Rattle.aiger_text.specs.declared.files.AagFile.{AagFile}
@@ -14,7 +13,7 @@ use Rattle.cert_text.specs.Header.{max_count}
 use Rattle.cert_text.specs.declared.circuit_proofs.Dqp.{Dqp}
 use Rattle.cert_text.specs.declared.refutations.Dqr.{Dqr}
 use Rattle.expansion.specs.Table.{IsRefutedBy}
-use Rattle.cert_export.specs.Exportable.{AreExportedItems}
+use Rattle.cert_export.specs.Exportable.{AreExported}
 use Rattle.cert_export.specs.ExportedCircuit.{IsDecidedTrue, IsNumberedFile}
 use Rattle.cert_export.specs.Parts.{IsExportedCircuit}
 use Rattle.proof_checker.specs.ProvedCircuit.{IsProvedCircuit}
@@ -64,15 +63,13 @@ pub record IsShownTrue (decided searched : Dqbf) (log : ProofLog) (form : Form) 
       → IsWithinLimits form file proof
 
 -- An answer of the log rests on instances of the searched formula alone, and the refutation is what
--- is exported of it, under the rounds' rows.
+-- is exported of it, under the rows of these instances.
 pub record IsRefutationOf (searched : Dqbf) (log : ProofLog) (d : Dqr) : Type 0 where
   pub id : ℕ
   pub refuted : IsRefutedBy log.entries id
   pub ids : List ℕ
   pub reached : AreReached log.entries id ids
-  pub items : AreExportedItems searched (range_with_len 1 (length searched.matrix)) log.entries
-      ids d.items
-  pub rows : d.rows ≡ rows_of log.entries
+  pub exported : AreExported searched (range_with_len 1 (length searched.matrix)) log.entries ids d
 
 -- The instances under the refutation's rows have no model, the refutation shows it, and the checker
 -- accepts what is written where it is within the formats' limits.

@@ -36,7 +36,7 @@ use cert_text::{Dqp, Dqr, write_dqp, write_dqr};
 use circuit_cnf::laws::shown_outputs_decide;
 use dq_formula::Formula;
 use dq_lits::Memory;
-use dq_lits::laws::skolem_functions_show_true;
+use dq_lits::laws::{derivation_refutes_expansion, skolem_functions_show_true};
 use dq_runs::Output;
 use hint_log::laws::rounds_are_steps;
 use hint_log::{Log, Stop};
@@ -243,6 +243,7 @@ fn false_output(
     exported_lines_are_allowed();
     allowed_lines_are_numbered();
     deletions_are_allowed();
+    derivation_refutes_expansion();
     refutations_are_accepted();
     refutation_shows_false();
     let numbers = clause_numbers(alloc, f)?;

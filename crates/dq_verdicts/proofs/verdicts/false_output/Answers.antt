@@ -1,6 +1,6 @@
 use Rattle.std.proofs.Common.{◌∙◌, ◌++◌, sym, subst, ap, cond, [], length, codes}
 use Rattle.std.specs.List.{range_with_len}
-use Rattle.cert_export.specs.Exportable.{AreExportedItems}
+use Rattle.cert_export.specs.Exportable.{AreExported}
 use Rattle.cert_export.specs.Exported.{CanExportFalse}
 use Rattle.dq_runs.specs.Printed.{line}
 use Rattle.dq_verdicts.specs.Verdicts.{is_false, verdict_text}
@@ -26,8 +26,8 @@ refutation_text-requires c =
     ((c.productive_answers_can_be_exported.ensures f entries c.args.id c.every_log_is_lawful.ensures
     c.requires.productive).1 c.requires.refuted.shown)
     exported.lines.1
-    (subst (λ live. AreExportedItems f live entries exported.lines.0 c.in_ok-refutation.refutation.items)
-    (c.deref.ensures.value ∙ c.in_ok-numbers.ensures) exported.lines.2)
+    (subst (λ live. AreExported f live entries exported.lines.0 c.in_ok-refutation.refutation)
+    (c.deref.ensures.value ∙ c.in_ok-numbers.ensures) exported.lines.2).items
 
 pub returns : goal.returns
 returns c =
@@ -38,13 +38,13 @@ returns c =
       verdict = is_false c.in_ok-refutation.refutation;
       is = record {
         productive = c.requires.productive;
-        shown = shown_false c.refutations_are_accepted.ensures c.deletions_are_allowed.ensures c.args.f.now
+        shown = shown_false c.refutations_are_accepted.ensures c.derivation_refutes_expansion.ensures
+            c.deletions_are_allowed.ensures c.args.f.now
             c.args.log.now c.args.id c.args.form
             c.in_ok-refutation.refutation c.every_formula_is_lawful.ensures
             (c.refutation_shows_false.ensures c.args.f.now c.in_ok-refutation.refutation c.requires.formula
             exported.accepted) c.requires.refuted
             (record {
-              rows = exported.rows;
               accepted = exported.accepted;
               few = exported.few;
               spelled =
@@ -52,8 +52,8 @@ returns c =
               lines = (
                 exported.lines.0,
                 exported.lines.1,
-                subst (λ live. AreExportedItems c.args.f.now live c.args.log.now.entries exported.lines.0
-                    c.in_ok-refutation.refutation.items)
+                subst (λ live. AreExported c.args.f.now live c.args.log.now.entries exported.lines.0
+                    c.in_ok-refutation.refutation)
                     (c.deref.ensures.value ∙ c.in_ok-numbers.ensures) exported.lines.2,
               );
               numbered = refutation_numbered c.exported_lines_are_allowed.ensures c.allowed_lines_are_numbered.ensures f
@@ -63,8 +63,8 @@ returns c =
                   ((c.productive_answers_can_be_exported.ensures f entries c.args.id c.every_log_is_lawful.ensures
                   c.requires.productive).1 c.requires.refuted.shown)
                   exported.lines.1
-                  (subst (λ live. AreExportedItems f live entries exported.lines.0 c.in_ok-refutation.refutation.items)
-                  (c.deref.ensures.value ∙ c.in_ok-numbers.ensures) exported.lines.2);
+                  (subst (λ live. AreExported f live entries exported.lines.0 c.in_ok-refutation.refutation)
+                  (c.deref.ensures.value ∙ c.in_ok-numbers.ensures) exported.lines.2).items;
             });
       };
       is_printed = printed_as (is_false c.in_ok-refutation.refutation) c.code.result c.in_ok-text.text.items

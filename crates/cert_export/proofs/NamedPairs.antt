@@ -1,0 +1,178 @@
+-- Variables of instances get their pairs' numbers.
+use Rattle.std.proofs.Common.{◌≡◌, ℕ, ◌+◌, ◌*◌, ◌≤◌, ◌<◌, ◌⊎◌, inl, inr, true, Bool, List, [], take, get_or, length, Option, None, Some, IsSome, refl, sym, ◌∙◌, ap, subst}
+use Rattle.std.specs.List.{All, Contains}
+use Rattle.std.specs.Option.{option_map, option_and_then}
+use Rattle.std.proofs.lemmas.List.{take_all, take_more}
+use Rattle.std.proofs.lemmas.List.Elements.{All-nil, All-push}
+use Rattle.dq_lits.specs.Literal.{Literal, variable_of}
+use Rattle.dq_lits.specs.Formula.{Dqbf}
+use Rattle.cert_text.specs.Pairs.{is_pair_number}
+use Rattle.hint_log.specs.Entries.{Entry, Named, Given, Learned, Answer, Round, Begun, has_id, numbered, clause_of, clause_at, origin_of, origin_at, name_of}
+use Rattle.hint_log.specs.declared.origins.Origin.{Origin}
+use Rattle.hint_log.specs.Naming.{rows_of}
+use Rattle.hint_log.specs.declared.names.Name.{Name}
+use Rattle.hint_log.specs.declared.names.Name.TheVariants.{Pair}
+use Rattle.refutation_checker.specs.Refutation.{normal_number}
+use Rattle.cert_export.specs.Expansion.{rows_among, pair_of, pair_renaming}
+use Rattle.cert_export.specs.Exported.{normal_names, IsPairNaming}
+use Rattle.cert_export.specs.Pairing.{IsPairAt, IsNameAt, HasNameAt, ArePairNames, ArePairsNamed, IsPairNamed}
+use Rattle.cert_export.specs.Renaming.{Renaming, IsPartOf, IsNamed, IsRenamingOf}
+use Rattle.cert_export.proofs.GivenNames.{named_as, named_still, right_with, GivenNamed, no_given, one_given, all_given}
+
+module _ (f : Dqbf) (entries : List Entry) (rounds : List ℕ) where
+  abbrev rows : List (List Bool)
+  rows = rows_among entries rounds
+
+  abbrev target : Renaming
+  target = pair_renaming f entries rounds
+
+  abbrev pairs : Renaming → Renaming
+  pairs r = normal_names f rows r
+
+  -- more names, more pairs' numbers
+  pub kept_pairs : (old new : Renaming) → IsPartOf old new → IsPartOf (pairs old) (pairs new)
+  kept_pairs old new kept v x h = by_option (old v) refl h where
+    by_option : (o : Option ℕ) → old v ≡ o → option_map (normal_number f rows) o ≡ Some x → pairs new v ≡ Some x
+    by_option None e k = cc
+    by_option (Some y) e k = ap (option_map (normal_number f rows)) (kept v y e) ∙ k
+
+  -- one variable more has its number
+  pub pair_right : (old new : Renaming) (v x : ℕ) → ArePairNames f entries rounds old →
+      target v ≡ Some (normal_number f rows x) → is_pair_number f (length rows) x ≡ true →
+      ((w n : ℕ) → new w ≡ Some n → (old w ≡ Some n) ⊎ ((w ≡ v) × (n ≡ x))) → ArePairNames f entries rounds new
+  pair_right old new v x names is pair only = record {
+    right = right_with target (pairs old) (pairs new) v (normal_number f rows x) is names.right only_pairs;
+    pairs = λ w n h. elim (only w n h) [
+      | inl before ↦ names.pairs w n before
+      | inr here ↦ ap (is_pair_number f (length rows)) here.1 ∙ pair
+    ];
+  } where
+    only_pairs : (w n : ℕ) → pairs new w ≡ Some n → (pairs old w ≡ Some n) ⊎ ((w ≡ v) × (n ≡ normal_number f rows x))
+    only_pairs w n h = by_option (new w) refl h where
+      by_option : (o : Option ℕ) → new w ≡ o → option_map (normal_number f rows) o ≡ Some n →
+          (pairs old w ≡ Some n) ⊎ ((w ≡ v) × (n ≡ normal_number f rows x))
+      by_option None e k = cc
+      by_option (Some y) e k =
+          let is_n : normal_number f rows y ≡ n = cc in
+          elim (only w y e) [
+            | inl before ↦ inl (ap (option_map (normal_number f rows)) before ∙ k)
+            | inr here ↦ inr (here.0, sym is_n ∙ ap (normal_number f rows) here.1)
+          ]
+
+  pub pair_named : (r : Renaming) (l : Literal) → ArePairNames f entries rounds r → IsSome (r (variable_of l)) →
+      IsPairNamed f entries rounds r l
+  pair_named r l names there = named_as target (pairs r) (variable_of l) names.right
+      (by_option (r (variable_of l)) there) where
+        by_option : (o : Option ℕ) → IsSome o → IsSome (option_map (normal_number f rows) o)
+        by_option None h = cc
+        by_option (Some x) h = refl
+
+  -- a name that is no pair's gives no number
+  pub unpaired : (r : Renaming) (l : Literal) → ArePairNames f entries rounds r → target (variable_of l) ≡ None →
+      IsPairNamed f entries rounds r l
+  unpaired r l names none = by_option (pairs r (variable_of l)) refl where
+    by_option : (o : Option ℕ) → pairs r (variable_of l) ≡ o → pairs r (variable_of l) ≡ target (variable_of l)
+    by_option None e = e ∙ sym none
+    by_option (Some x) e = let both : None ≡ Some x = sym none ∙ names.right (variable_of l) x e in cc
+
+  -- names of all instances
+  pub naming_of : (ids : List ℕ) (r : Renaming) → ArePairNames f entries rounds r →
+      IsRenamingOf target entries ids (pairs r) → IsPairNaming f entries rounds ids r
+  naming_of ids r names are = record { names = are; pairs = names.pairs }
+
+  -- a pair's name gives its number under the row at a place
+  pub pair_at : (place v k y : ℕ) → name_of entries v ≡ Some (Pair k y) → HasNameAt f entries rounds place v →
+      IsPairAt f (rows_of entries) rows place k y
+  pair_at place v k y is known = subst (IsNameAt f (rows_of entries) rows place) is known
+
+  pub target_at : (place v k y : ℕ) → name_of entries v ≡ Some (Pair k y) → HasNameAt f entries rounds place v →
+      target v ≡ Some (normal_number f rows (place * f.variables + y))
+  target_at place v k y is known = ap (pair_of f (rows_of entries) rows) is ∙ (pair_at place v k y is known).number
+
+  -- the pairs of the first so many literals
+  pub record PairsSoFar (old new : Renaming) (done : List Literal) : Type 0 where
+    pub kept : IsPartOf old new
+    pub names : ArePairNames f entries rounds new
+    pub named : All (IsPairNamed f entries rounds new) done
+
+  pub no_pair : (r : Renaming) (done : List Literal) → done ≡ [] → ArePairNames f entries rounds r →
+      PairsSoFar r r done
+  no_pair r done is names = record {
+    kept = λ v x h. h;
+    names = names;
+    named = subst (All (IsPairNamed f entries rounds r)) (sym is) (All-nil (IsPairNamed f entries rounds r));
+  }
+
+  pub one_pair : (old mid new : Renaming) (lits : List Literal) (i : ℕ) (l : Literal) →
+      PairsSoFar old mid (take i lits) → IsPartOf mid new → ArePairNames f entries rounds new →
+      IsPairNamed f entries rounds new l → i < length lits → l ≡ get_or lits i l →
+      PairsSoFar old new (take (i + 1) lits)
+  one_pair old mid new lits i l so_far kept names here below l_is =
+      let P = IsPairNamed f entries rounds new in
+      record {
+        kept = λ v x h. kept v x (so_far.kept v x h);
+        names = names;
+        named = subst (All P) (sym (take_more lits i l below))
+            (All-push P (take i lits) (get_or lits i l) (λ k d less. named_still target (pairs mid) (pairs new)
+            (get_or (take i lits) k d) (kept_pairs mid new kept) names.right (so_far.named k d less))
+            (subst P l_is here));
+      }
+
+  pub all_pairs : (old new : Renaming) (lits : List Literal) (i : ℕ) → length lits ≤ i →
+      PairsSoFar old new (take i lits) → ArePairsNamed f entries rounds new lits
+  all_pairs old new lits i past so_far = record {
+    names = so_far.names;
+    named = subst (All (IsPairNamed f entries rounds new)) (take_all i lits past) so_far.named;
+  }
+
+  -- and of the first so many ids
+  pub record GivenPairs (r : Renaming) (done : List ℕ) : Type 0 where
+    pub names : ArePairNames f entries rounds r
+    pub given : GivenNamed target entries (pairs r) done
+
+  pub no_given_pair : (r : Renaming) (done : List ℕ) → done ≡ [] → ((v : ℕ) → r v ≡ None) → GivenPairs r done
+  no_given_pair r done is none = record {
+    names = record {
+      right = nothing.right;
+      pairs = λ v x h. let both : None ≡ Some x = sym (none v) ∙ h in cc;
+    };
+    given = nothing;
+  } where
+    nothing : GivenNamed target entries (pairs r) done
+    nothing = no_given target entries (pairs r) done is (λ v. ap (option_map (normal_number f rows)) (none v))
+
+  pub one_instance : (old new : Renaming) (ids : List ℕ) (i id : ℕ) → GivenPairs old (take i ids) → IsPartOf old new →
+      ArePairNames f entries rounds new → i < length ids → id ≡ get_or ids i id →
+      ((origin : Origin) (c : List Literal) → numbered has_id entries id ≡ Some (Given origin c) →
+      All (IsPairNamed f entries rounds new) c) →
+      GivenPairs new (take (i + 1) ids)
+  one_instance old new ids i id so_far kept names below id_is here = record {
+    names = names;
+    given = one_given target entries (pairs old) (pairs new) ids i id so_far.given (kept_pairs old new kept)
+        names.right below id_is here;
+  }
+
+  pub all_instances : (r : Renaming) (ids : List ℕ) (i : ℕ) → length ids ≤ i → GivenPairs r (take i ids) →
+      IsPairNaming f entries rounds ids r
+  all_instances r ids i past so_far = naming_of ids r so_far.names
+      (all_given target entries (pairs r) ids i past so_far.given)
+
+-- what is known of the clause of an origin
+pub known_clause : (P : Origin → List Literal → Type 0) (entries : List Entry) (ids : List ℕ) (id : ℕ) (origin : Origin)
+    (clause : List Literal) → ((i : ℕ) (o : Origin) (c : List Literal) → Contains ids i →
+    numbered has_id entries i ≡ Some (Given o c) → P o c) → Contains ids id →
+    origin_at entries id ≡ Some origin → clause_at entries id ≡ Some clause → P origin clause
+known_clause P entries ids id origin clause known inside own there =
+    by_entry (numbered has_id entries id) refl own there where
+      by_entry : (o : Option Entry) → numbered has_id entries id ≡ o → option_and_then origin_of o ≡ Some origin →
+          option_and_then clause_of o ≡ Some clause → P origin clause
+      by_entry None at g t = cc
+      by_entry (Some (Named v n)) at g t = cc
+      by_entry (Some (Given q c)) at g t =
+          let same : q ≡ origin = cc in
+          let same_clause : c ≡ clause = cc in
+          subst (P origin) same_clause (subst (λ o. P o c) same (known id q c inside at))
+      by_entry (Some (Learned c hints)) at g t = cc
+      by_entry (Some (Answer c hints)) at g t = cc
+      by_entry (Some (Round row values j)) at g t = cc
+      by_entry (Some (Begun live)) at g t = cc
