@@ -1,5 +1,4 @@
 pub mod Carried
-mod CopiedPrefixes
 mod Emptied
 mod FewUnits
 mod Kept

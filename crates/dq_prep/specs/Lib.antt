@@ -4,7 +4,6 @@ pub mod KeptClauses
 pub mod Laws
 pub mod Lifted
 pub mod LoweredRows
-pub mod Prefixes
 pub mod Reduction
 pub mod Roles
 pub mod Sights

@@ -6,10 +6,10 @@ ghost use Rattle.dq_prep.specs.Simplified.{simplified_formula};
 ghost use Rattle.dq_prep.specs.Takings.{IsTaking};
 ghost use Rattle.dq_prep.specs.KeptClauses.{IsTableOf, IsKeeper, AreKeptBefore};
 
-use crate::prefixes::copy_prefix;
 use crate::sights::reduce;
 use crate::takings::Taking;
 use crate::traces::Trace;
+use copied_prefixes::copy_prefix;
 use dq_formula::Formula;
 use dq_lits::{Lit, Memory};
 use std::alloc::Global;

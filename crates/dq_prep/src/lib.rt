@@ -8,7 +8,6 @@ pub use traces::{Taken, Trace};
 pub mod examples;
 mod kept_clauses;
 pub mod laws;
-mod prefixes;
 mod preparation;
 mod roles;
 mod sights;

@@ -1,6 +1,6 @@
-use Rattle.dq_prep.proofs.SeenUniversals.{on_ok}
-use Rattle.dq_prep.proofs.CopiedPrefixes.{next-fresh, next-listed, listed-next}
-use Rattle.dq_prep.proofs.prefixes.declare_next.Goals as goal
+use Rattle.copied_prefixes.proofs.CopiedPrefixes.{on_ok}
+use Rattle.copied_prefixes.proofs.CopiedPrefixes.{next-fresh, next-listed, listed-next}
+use Rattle.copied_prefixes.proofs.declare_next.Goals as goal
 
 pub add_first-requires-clause-undeclared : goal.add_first-requires-clause-undeclared
 add_first-requires-clause-undeclared c =

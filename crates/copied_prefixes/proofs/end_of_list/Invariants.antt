@@ -1,6 +1,6 @@
 use Rattle.std.proofs.Common.{◌≤◌, length, take}
 use Rattle.std.specs.List.{All, Contains}
-use Rattle.dq_prep.proofs.prefixes.end_of_list.Given as goal
+use Rattle.copied_prefixes.proofs.end_of_list.Given as goal
 
 abbrev pub invariant-loop-x : goal.invariant-loop-x
 invariant-loop-x l =

@@ -1,8 +1,8 @@
 use Rattle.std.proofs.Common.{get_or, ap, ◌∙◌, arith}
 use Rattle.std.proofs.lemmas.List.{get_or_default, length-map}
 use Rattle.dq_formula.specs.Prefix.{existential_variables}
-use Rattle.dq_prep.proofs.CopiedPrefixes.{is-at}
-use Rattle.dq_prep.proofs.prefixes.existential_at.Goals as goal
+use Rattle.copied_prefixes.proofs.CopiedPrefixes.{is-at}
+use Rattle.copied_prefixes.proofs.existential_at.Goals as goal
 
 pub returns : goal.returns
 returns c =

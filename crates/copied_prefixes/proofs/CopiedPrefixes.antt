@@ -1,18 +1,34 @@
 -- A prefix that is copied, variable by variable.
-use Rattle.std.proofs.Common.{◌≡◌, ◌≢◌, ℕ, zero, suc, ◌+◌, ◌-◌, ◌<◌, ◌≤◌, ◌==◌, max, Bool, true, false, inl, inr, List, [], ◌∷◌, ◌++◌, take, length, get_or, slice_get, Option, Some, None, IfSome, is_some, refl, sym, ◌∙◌, ap, subst, arith}
+use Rattle.std.proofs.Common.{Result, Ok, Err, OnOk, cond, ◌≡◌, ◌≢◌, ℕ, zero, suc, ◌+◌, ◌-◌, ◌<◌, ◌≤◌, ◌==◌, max, Bool, true, false, inl, inr, List, [], ◌∷◌, ◌++◌, take, length, get_or, slice_get, Option, Some, None, IfSome, is_some, refl, sym, ◌∙◌, ap, subst, arith}
 use Rattle.std.specs.List.{All, AllPairs, Contains, list_any, filter}
-use Rattle.std.proofs.lemmas.Bool.{cases_lt, cases_Bool}
+use Rattle.std.proofs.lemmas.Bool.{true≢false, cases_lt, cases_Bool}
 use Rattle.std.proofs.lemmas.List.{get_or_default, take_more, take-map, length-take-le, get_or-take, length-map, length-append, get_or-map, get_or-append_right, get_or_append_left}
 use Rattle.std.proofs.lemmas.List.Elements.{All-push, All-contains, Contains-append_cases}
 use Rattle.dq_lits.specs.Formula.{Existential, Dqbf, declared, is_universal, existential_of}
 use Rattle.dq_formula.specs.Dependencies.{listed_universals}
 use Rattle.dq_formula.specs.Prefix.{IsLawful, is_declared, existential_variables}
 use Rattle.dq_formula.proofs.Lawful.{take-filter}
+use Rattle.dq_formula.proofs.Places.{contains-has, has-contains}
 use Rattle.dq_formula.proofs.Subsets.{distinct_universals}
-use Rattle.dq_prep.specs.Prefixes.{begun, IsBegun, IsAt, SeesAmong}
-use Rattle.dq_prep.proofs.Reduction.{universal-contained}
-use Rattle.dq_prep.proofs.SeenUniversals.{contained-any}
-use Rattle.dq_prep.proofs.LeftLiterals.{filter-wider}
+use Rattle.copied_prefixes.specs.Prefixes.{begun, IsBegun, IsAt, SeesAmong}
+
+pub on_ok : {X E P Q : Type 0} (r : Result X E) → (P → Q) → OnOk r P → OnOk r Q
+on_ok (Ok x) step h = step h
+on_ok (Err e) step h = h
+
+-- a test that lets through all that another one does
+filter-wider : {X : Type 0} (p q : X → Bool) (xs : List X) → ((l : X) → p l ≡ true → q l ≡ true)
+    → filter p (filter q xs) ≡ filter p xs
+filter-wider p q [] wider = refl
+filter-wider p q (x ∷ xs) wider = by (q x) (p x) (wider x) (filter-wider p q xs wider) refl
+  where
+    by : (b a : Bool) → (a ≡ true → b ≡ true) → filter p (filter q xs) ≡ filter p xs
+        → p x ≡ a → filter p (cond b (x ∷ filter q xs) (filter q xs)) ≡ cond a (x ∷ filter p xs) (filter p xs)
+    by true a w h e =
+        ap (λ c. cond c (x ∷ filter p (filter q xs)) (filter p (filter q xs))) e
+        ∙ ap (λ ls. cond a (x ∷ ls) ls) h
+    by false true w h e = absurd (true≢false (sym (w refl)))
+    by false false w h e = h
 
 -- an element at a place is among the first ones
 among : (us : List ℕ) (p end x : ℕ) → slice_get us p ≡ Some x → p < end → Contains (take end us) x
@@ -56,7 +72,7 @@ place-small (u ∷ us) (suc p) x at = omega (arith, place-small us p x at)
 
 not-in : (xs : List ℕ) (v : ℕ) → (Contains xs v → ⊥) → list_any (λ x. x == v) xs ≡ false
 not-in xs v absent = elim (cases_Bool (list_any (λ x. x == v) xs)) [
-  | inl here ↦ absurd (absent (universal-contained xs v here))
+  | inl here ↦ absurd (absent (contains-has xs v here))
   | inr none ↦ none
 ]
 
@@ -198,9 +214,9 @@ listed-whole f n end e lawful few reach ordered among' =
     let q : ℕ → Bool = λ u. list_any (λ x. x == u) (take n us) in
     ap (filter p) (take-filter n us (distinct_universals f lawful.prefix) few)
     ∙ filter-wider p q us (λ u inside.
-    contained-any (take n us) u
+    has-contains (take n us) u
     (more-among us end n u reach
-    (All-contains (Contains (take end us)) e.sees u among' (universal-contained e.sees u inside))))
+    (All-contains (Contains (take end us)) e.sees u among' (contains-has e.sees u inside))))
     ∙ sym ordered
 
 -- its members are declared
@@ -210,7 +226,7 @@ listed-declared f g end e is reach among' k d below =
     let us = f.universals in
     let n = length g.universals in
     ap (λ q. is_universal q (get_or e.sees k d)) is.same
-    ∙ contained-any (take n us) (get_or e.sees k d) (more-among us end n (get_or e.sees k d) reach (among' k d below))
+    ∙ has-contains (take n us) (get_or e.sees k d) (more-among us end n (get_or e.sees k d) reach (among' k d below))
 
 pub is-at : (f : Dqbf) (place y : ℕ) → IsLawful f → place < length f.existentials
     → y ≡ get_or (existential_variables f) place y → IsAt f place y

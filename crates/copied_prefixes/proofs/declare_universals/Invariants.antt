@@ -1,6 +1,6 @@
 use Rattle.std.proofs.Common.{◌≡◌, ◌≤◌, length, max}
-use Rattle.dq_prep.specs.Prefixes.{IsBegun}
-use Rattle.dq_prep.proofs.prefixes.declare_universals.Given as goal
+use Rattle.copied_prefixes.specs.Prefixes.{IsBegun}
+use Rattle.copied_prefixes.proofs.declare_universals.Given as goal
 
 abbrev pub invariant-loop-at : goal.invariant-loop-at
 invariant-loop-at l =

@@ -5,8 +5,8 @@ use Rattle.dq_lits.specs.Formula.{existential_of}
 use Rattle.dq_formula.specs.Dependencies.{dependencies, IsDependencySet}
 use Rattle.dq_formula.specs.declared.dependencies.Deps.TheVariants.{Listed}
 use Rattle.dq_formula.proofs.Distinct.{All-dependencies}
-use Rattle.dq_prep.proofs.CopiedPrefixes.{sees-among}
-use Rattle.dq_prep.proofs.prefixes.end_of.Goals as goal
+use Rattle.copied_prefixes.proofs.CopiedPrefixes.{sees-among}
+use Rattle.copied_prefixes.proofs.end_of.Goals as goal
 
 pub end_of_list-requires : goal.end_of_list-requires
 end_of_list-requires c =

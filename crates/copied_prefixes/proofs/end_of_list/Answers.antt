@@ -1,8 +1,8 @@
 use Rattle.std.proofs.Common.{◌+◌, length, take, get_or, sym, subst, ap, arith}
 use Rattle.std.specs.List.{All, Contains}
 use Rattle.std.proofs.lemmas.List.{get_or_default, take_all}
-use Rattle.dq_prep.proofs.CopiedPrefixes.{reach-more, place-small}
-use Rattle.dq_prep.proofs.prefixes.end_of_list.Goals as goal
+use Rattle.copied_prefixes.proofs.CopiedPrefixes.{reach-more, place-small}
+use Rattle.copied_prefixes.proofs.end_of_list.Goals as goal
 
 pub overflow_add-place_of : goal.overflow_add-place_of
 overflow_add-place_of c =

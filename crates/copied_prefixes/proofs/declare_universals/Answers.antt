@@ -1,7 +1,7 @@
 use Rattle.std.proofs.Common.{ap, ◌∙◌, arith, get_or}
 use Rattle.dq_formula.specs.Prefix.{is_declared}
-use Rattle.dq_prep.proofs.CopiedPrefixes.{universal-fresh}
-use Rattle.dq_prep.proofs.prefixes.declare_universals.Goals as goal
+use Rattle.copied_prefixes.proofs.CopiedPrefixes.{universal-fresh}
+use Rattle.copied_prefixes.proofs.declare_universals.Goals as goal
 
 pub add_universal-requires-clause-undeclared : goal.add_universal-requires-clause-undeclared
 add_universal-requires-clause-undeclared c =

@@ -1,16 +1,17 @@
-//! A formula's prefix in another formula.
+//! A formula's prefix, in another formula that has no clause yet.
+#![tactic(auto)]
 
 ghost use Rattle.std.specs.Prelude.{◌≡◌, ◌<◌, ◌≤◌, ◌+◌, [], true, All, IsSome, IfSome, IfOk, OnOk, length, take, max, Contains};
 ghost use Rattle.dq_lits.specs.Formula.{existential_of};
 ghost use Rattle.dq_formula.specs.Prefix.{IsLawful};
-ghost use Rattle.dq_prep.specs.Prefixes.{IsBegun, IsAt, SeesAmong};
+ghost use Rattle.copied_prefixes.specs.Prefixes.{IsBegun, IsAt, SeesAmong};
 
 use dq_formula::{Deps, Formula};
 use dq_lits::Memory;
 use std::alloc::Global;
 
 /// A formula with the same prefix, and without clauses.
-pub(crate) fn copy_prefix(alloc: Global, f: &Formula) -> Result<Formula, Memory>
+pub fn copy_prefix(alloc: Global, f: &Formula) -> Result<Formula, Memory>
     ensures { IfOk result (λ g. g ≡ record f.now { matrix = [] }) }
 {
     f.every_formula_is_lawful();

@@ -1,7 +1,7 @@
 use Rattle.std.proofs.Common.{length, arith}
 use Rattle.dq_lits.specs.Formula.{existential_of}
-use Rattle.dq_prep.proofs.CopiedPrefixes.{reach-wider}
-use Rattle.dq_prep.proofs.prefixes.declare.Goals as goal
+use Rattle.copied_prefixes.proofs.CopiedPrefixes.{reach-wider}
+use Rattle.copied_prefixes.proofs.declare.Goals as goal
 
 pub declare_next-requires-clause-reach : goal.declare_next-requires-clause-reach
 declare_next-requires-clause-reach c =
