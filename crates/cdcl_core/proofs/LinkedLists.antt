@@ -1,5 +1,5 @@
 -- Lists of clauses, as clauses go from one to another.
-use Rattle.std.proofs.Common.{◌≡◌, ◌≢◌, ℕ, suc, ◌+◌, ◌-◌, ◌*◌, ◌<◌, ◌≤◌, ◌==◌, true, false, cond, ◌⊎◌, inl, inr, List, [], ◌∷◌, ◌++◌, length, set, get_or, refl, sym, ◌∙◌, ap, subst, arith, get_or-set_other, get_or-set_same, length-append, take, All}
+use Rattle.std.proofs.Common.{◌≡◌, ◌≢◌, ℕ, zero, suc, ◌+◌, ◌-◌, ◌*◌, ◌<◌, ◌≤◌, ◌==◌, true, false, cond, ◌⊎◌, inl, inr, List, [], ◌∷◌, ◌++◌, length, set, get_or, refl, sym, ◌∙◌, ap, subst, arith, get_or-set_other, get_or-set_same, length-append, take, All}
 use Rattle.std.specs.List.{AllByRecursion, IsDistinct}
 use Rattle.std.proofs.Math.Dec.{eqb}
 use Rattle.std.proofs.Math.Seq.{get_or-append_seam}
@@ -9,7 +9,7 @@ use Rattle.std.proofs.lemmas.List.Elements.{All-cons, All-append, All-nil}
 use Rattle.std.proofs.lemmas.Map.Steps.{length-le_from_distinct_below}
 use Rattle.dq_lits.specs.Literal.{Literal, positive, negative, variable_of}
 use Rattle.cdcl_core.specs.declared.watches.Watches.{Watches}
-use Rattle.cdcl_core.specs.Chains.{watch_at, place_of, has, IsChain, AreOnce, AreLinked, IsLinked, IsTaken, AddsLists}
+use Rattle.cdcl_core.specs.Chains.{chain_length, watch_at, place_of, has, IsChain, AreOnce, AreLinked, IsLinked, IsTaken, AddsLists}
 
 pub place_of-one : (k l : Literal) → place_of k ≡ place_of l → k ≡ l
 place_of-one (positive v) (positive w) e = ap positive (omega (arith, e))
@@ -100,6 +100,22 @@ chain_short nexts start xs c once =
       | inr t ↦ let r = chain_range nexts start q xs c t in let high = r.1 in omega (arith, high)
     ]) in
     omega (arith, all)
+
+-- so many stand on a list
+pub chain_counted : (n : ℕ) (nexts : List ℕ) (start : ℕ) (xs : List ℕ) → IsChain nexts start xs → length xs ≤ n →
+    chain_length n nexts start ≡ length xs
+chain_counted zero nexts start [] c few = refl
+chain_counted zero nexts start (x ∷ xs) c few = absurd (omega (arith, few))
+chain_counted (suc n) nexts start [] c few = ap (λ b. cond b 0 (suc (chain_length n nexts (get_or nexts (start - 1) 0))))
+    (eq-eqb start 0 c)
+chain_counted (suc n) nexts start (x ∷ xs) c few =
+    let low = c.1 in
+    let is = c.0 in
+    let same : get_or nexts (x - 1) 0 ≡ get_or nexts (start - 1) 0 = ap (λ k. get_or nexts (k - 1) 0) (sym is) in
+    ap (λ b. cond b 0 (suc (chain_length n nexts (get_or nexts (start - 1) 0))))
+    (ne_eqb start 0 (λ e. omega (arith, e, is, low)))
+    ∙ ap (λ k. suc (chain_length n nexts k)) (sym same)
+    ∙ ap suc (chain_counted n nexts (get_or nexts (x - 1) 0) xs c.3 (omega (arith, few)))
 
 -- one list changes
 abbrev put : (ℕ → List ℕ) → ℕ → List ℕ → ℕ → List ℕ

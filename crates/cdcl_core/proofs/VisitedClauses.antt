@@ -13,13 +13,13 @@ use Rattle.cdcl_core.specs.declared.watches.Watches.{Watches}
 use Rattle.learning_trail.specs.Steps.{Trailed, literals_of, Grown, IsAt}
 use Rattle.learning_trail.specs.Sound.{IsSound}
 use Rattle.learning_trail.specs.Passes.{AreWithin}
-use Rattle.cdcl_core.specs.Chains.{watch_at, has, IsLinked, IsTaken, IsLeft}
+use Rattle.cdcl_core.specs.Chains.{left_to_visit, watch_at, has, IsLinked, IsTaken, IsLeft}
 use Rattle.cdcl_core.specs.Watching.{IsWatched, AreWatched, AreSame, AreShort, IsGuarded, AreLevelsGuarded, IsMove, AreMoved, IsReady}
 use Rattle.cdcl_core.specs.Visits.{IsVisitable, IsLooked, IsDone, IsVisited, IsListVisited, IsVisiting, AreVisited, IsTrailVisited, IsProcessed, AreOnTrail, IsPuttingBack, IsPassing}
 use Rattle.learning_trail.proofs.ConflictAnalysis.{sound_consistent, contains_none, contains_cases}
 use Rattle.cdcl_core.proofs.GuardedClauses.{Among, among_grown, among_suffix, any_more, same_stuck, same-sym, watched_turned, guarded_moved, guarded_turned, levels_moved, levels_turned, levels_grown, short_kept, short_notes_turned, guards_visited, moved_both}
 use Rattle.truth_values.proofs.HeldLiterals.{any_one, opposite-opposite, holds_first, holds_later, same_literal-sound, same_literal-refl}
-use Rattle.cdcl_core.proofs.LinkedLists.{has_first, has_later, has_cases, chain_short, chain_range}
+use Rattle.cdcl_core.proofs.LinkedLists.{chain_counted, has_first, has_later, has_cases, chain_short, chain_range}
 use Rattle.learning_trail.proofs.LargerTrails.{grown_none, grown_one, grown_both, implied_step, literal_within, live_within}
 use Rattle.learning_trail.proofs.ClauseStatus.{is_falsified, is_unit, implied_from}
 
@@ -287,7 +287,7 @@ off_end these others i a b apart =
 pub visiting_first : (clauses : List (List Literal)) (trail : Trailed) (was now others : Watches) (l : Literal) (at : ℕ)
     → IsVisitable clauses trail was others → IsTaken now l at
     → now.literals.items ≡ was.literals.items → length now.heads.items ≡ length was.heads.items →
-    IsVisiting clauses trail trail was now others l at 0
+    IsVisiting clauses trail trail was now others l at
 visiting_first clauses trail was now others l at v taken same lists =
     let count = v.count in
     let other_count = v.other_count in
@@ -313,13 +313,12 @@ visiting_first clauses trail was now others l at v taken same lists =
             (omega (arith, past, count, ap length same)) (omega (arith, past, other_count)) apart))
       ];
       list = taken.list;
-      few = let s = left_short now at taken.rest taken.linked in omega (arith, s, nexts);
     }
 
 pub visiting_end : (clauses : List (List Literal)) (old new : Trailed) (was now others : Watches) (l : Literal)
-    (at i : ℕ) → (p : IsVisiting clauses old new was now others l at i) → at ≡ 0
+    (at : ℕ) → (p : IsVisiting clauses old new was now others l at) → at ≡ 0
     → IsListVisited clauses old new was now others l None
-visiting_end clauses old new was now others l at i p e =
+visiting_end clauses old new was now others l at p e =
     let none = none_left now at p.rest p.linked e in
     record {
       visitable = p.visitable;
@@ -334,8 +333,8 @@ visiting_end clauses old new was now others l at i p e =
     }
 
 module _ (clauses : List (List Literal)) (old now_trail new_trail : Trailed) (was now new others : Watches)
-    (l : Literal) (at i : ℕ) (found : Option ℕ)
-    (p : IsVisiting clauses old now_trail was now others l at i) (f : IsFirstLeft now at p.rest)
+    (l : Literal) (at : ℕ) (found : Option ℕ)
+    (p : IsVisiting clauses old now_trail was now others l at) (f : IsFirstLeft now at p.rest)
     (s : IsVisited clauses now_trail new_trail now new others l at found)
     (false_now : holds (literals_of old.steps) (opposite l) ≡ true) where
   here : watch_at now.literals.items (at - 1) ≡ l
@@ -360,7 +359,7 @@ module _ (clauses : List (List Literal)) (old now_trail new_trail : Trailed) (wa
       let same : j ≡ at = omega (arith, low, low', e) in
       false≢true (sym before.rest_once.0 ∙ ap (has f.later) (sym same) ∙ h)
 
-  pub visiting_next : (next : ℕ) → found ≡ Some next → IsVisiting clauses old new_trail was new others l next (i + 1)
+  pub visiting_next : (next : ℕ) → found ≡ Some next → IsVisiting clauses old new_trail was new others l next
   visiting_next next is =
       let ends = subst (λ (o : Option ℕ). MatchOption o ((new ≡ now) ×
       (status_of (literals_of new_trail.steps) (live_in clauses at) ≡ falsified))
@@ -368,7 +367,6 @@ module _ (clauses : List (List Literal)) (old now_trail new_trail : Trailed) (wa
       let after : IsLinked new next f.later = subst (λ (o : Option ℕ). MatchOption o (IsLinked new at (at ∷ f.later))
       (λ n. IsLinked new n f.later)) is (s.linked f.later before) in
       let low = before.rest_chain.1 in
-      let few = p.few in
       record {
         visitable = s.visitable;
         room = s.room ∙ p.room;
@@ -398,8 +396,18 @@ module _ (clauses : List (List Literal)) (old now_trail new_trail : Trailed) (wa
           | inl z ↦ absurd (omega (arith, z, low))
           | inr g ↦ inr (omega (arith, g, s.lists))
         ];
-        few = omega (arith, few, ap length f.is);
       }
+
+  -- one clause fewer is left
+  pub fewer_left : (next : ℕ) → found ≡ Some next → left_to_visit new next < left_to_visit now at
+  fewer_left next is =
+      let after : IsLinked new next f.later = subst (λ (o : Option ℕ). MatchOption o (IsLinked new at (at ∷ f.later))
+      (λ n. IsLinked new n f.later)) is (s.linked f.later before) in
+      let here = chain_counted (length now.nexts.items) now.nexts.items at (at ∷ f.later) before.rest_chain
+      (left_short now at (at ∷ f.later) before) in
+      let there = chain_counted (length new.nexts.items) new.nexts.items next f.later after.rest_chain
+      (left_short new next f.later after) in
+      omega (arith, here, there)
 
   pub visiting_conflict : (back : Watches) → found ≡ None → IsLinked back 0 [] →
       back.literals.items ≡ new.literals.items → length back.heads.items ≡ length new.heads.items

@@ -1,6 +1,6 @@
 -- Lists of clauses, linked: where each list begins, and what stands behind each clause. An id is
 -- from 1 on, and 0 ends a list.
-use Rattle.std.specs.Prelude.{◌≡◌, ℕ, ◌+◌, ◌-◌, ◌*◌, ◌≤◌, ◌==◌, Bool, true, false, List, [], ◌∷◌, length, slice_index_or, if◌then◌else◌, ◌⊎◌}
+use Rattle.std.specs.Prelude.{◌≡◌, ℕ, zero, suc, ◌+◌, ◌-◌, ◌*◌, ◌≤◌, ◌==◌, Bool, true, false, List, [], ◌∷◌, length, slice_index_or, if◌then◌else◌, ◌⊎◌}
 use Rattle.std.specs.List.{list_any}
 use Rattle.dq_lits.specs.Literal.{Literal, positive, variable_of, is_negative}
 use Rattle.cdcl_core.specs.declared.watches.Watches.{Watches}
@@ -21,6 +21,12 @@ IsChain nexts start [] = start ≡ 0
 IsChain nexts start (id ∷ rest) =
     (start ≡ id) × (1 ≤ id) × (id ≤ length nexts)
     × IsChain nexts (slice_index_or nexts (id - 1) 0) rest
+
+-- how many ids stand on a list, of at most so many
+abbrev pub chain_length : ℕ → List ℕ → ℕ → ℕ
+chain_length zero nexts at = 0
+chain_length (suc n) nexts at =
+    if at == 0 then 0 else suc (chain_length n nexts (slice_index_or nexts (at - 1) 0))
 
 -- none stands twice
 abbrev pub AreOnce : List ℕ → Type 0
@@ -68,3 +74,7 @@ pub record IsLeft (w : Watches) (at : ℕ) (l : Literal) : Type 0 where
 pub record AddsLists (old new : List ℕ) : Type 0 where
   pub more : length old ≤ length new
   pub same : (p : ℕ) → slice_index_or new p 0 ≡ slice_index_or old p 0
+
+-- how many clauses are left to visit, from one on
+abbrev pub left_to_visit : Watches → ℕ → ℕ
+left_to_visit w at = chain_length (length w.nexts.items) w.nexts.items at

@@ -1,5 +1,5 @@
 -- Clauses are visited whose watched literal became false.
-use Rattle.std.specs.Prelude.{◌≡◌, ℕ, suc, ◌+◌, ◌-◌, ◌≤◌, true, false, List, [], ◌∷◌, ◌++◌, length, Option, Some, MatchOption, slice_get, Contains, ◌⊎◌}
+use Rattle.std.specs.Prelude.{◌≡◌, ℕ, suc, ◌+◌, ◌-◌, ◌≤◌, ◌<◌, true, false, List, [], ◌∷◌, ◌++◌, length, Option, Some, MatchOption, slice_get, Contains, ◌⊎◌}
 use Rattle.std.specs.List.{list_any}
 use Rattle.dq_lits.specs.Literal.{Literal, opposite, same_literal}
 use Rattle.dq_lits.specs.Derivation.{holds, status_of, falsified}
@@ -53,6 +53,11 @@ pub record IsOther (trues clause : List Literal) (other k : Literal) : Type 0 wh
   pub apart : same_literal k other ≡ false
   pub not_false : holds trues (opposite k) ≡ false
 
+-- the literal at a place is such a one
+pub record IsOtherAt (trues clause : List Literal) (other : Literal) (place : ℕ) : Type 0 where
+  pub within : place < length clause
+  pub is_other : IsOther trues clause other (watch_at clause place)
+
 abbrev pub IsLooked : List Literal → ℕ → Trailed → Trailed → Literal → Look → Type 0
 IsLooked clause id old new other Kept =
     ((new ≡ old) × (holds (literals_of old.steps) other ≡ true))
@@ -101,7 +106,7 @@ pub record IsListVisited (clauses : List (List Literal)) (old new : Trailed)
 
 -- the visits of a list go on
 pub record IsVisiting (clauses : List (List Literal)) (old new : Trailed) (was now others : Watches)
-    (l : Literal) (at i : ℕ) : Type 0 where
+    (l : Literal) (at : ℕ) : Type 0 where
   pub visitable : IsVisitable clauses new now others
   pub room : new.room ≡ old.room
   pub grown : Grown old.steps new.steps
@@ -114,7 +119,6 @@ pub record IsVisiting (clauses : List (List Literal)) (old new : Trailed) (was n
       → (has rest (suc i) ≡ true)
       ⊎ IsDone (literals_of new.steps) now.literals.items others.literals.items l i
   pub list : (at ≡ 0) ⊎ HasList now l
-  pub few : length rest + i ≤ length clauses
 
 -- the notes on short clauses stay right
 abbrev pub KeepsShort : List (List Literal) → Watches → Watches → Watches → Watches → Type 0

@@ -7,7 +7,7 @@
 //! is true; and it was true at the end of the same level, so that going back over levels leaves all
 //! watches as they are.
 
-ghost use Rattle.std.specs.Prelude.{◌≡◌, ◌≤◌, ◌-◌, [], ℕ, List, true, length, All, MatchOption, Some, IfSome, Contains};
+ghost use Rattle.std.specs.Prelude.{◌≡◌, ◌≤◌, ◌-◌, [], ℕ, List, true, length, drop, All, MatchOption, Some, Contains};
 ghost use Rattle.std.specs.List.{list_any};
 ghost use Rattle.dq_lits.specs.Literal.{Literal, variable_of, opposite};
 ghost use Rattle.dq_lits.specs.Derivation.{holds, status_of, falsified};
@@ -17,7 +17,7 @@ ghost use Rattle.learning_trail.specs.Sound.{IsSound};
 ghost use Rattle.learning_trail.specs.Passes.{AreWithin};
 ghost use Rattle.cdcl_core.specs.Chains.{watch_at, IsLinked, HasList, IsLeft};
 ghost use Rattle.cdcl_core.specs.Watching.{AreShort, IsReady, AreSame};
-ghost use Rattle.cdcl_core.specs.Visits.{IsVisitable, IsLooked, IsOther, AreOthersFalse, IsVisited, IsListVisited, AreVisited, IsTrailVisited, IsProcessed};
+ghost use Rattle.cdcl_core.specs.Visits.{IsOtherAt, IsVisitable, IsLooked, IsOther, AreOthersFalse, IsVisited, IsListVisited, AreVisited, IsTrailVisited, IsProcessed};
 
 use crate::arenas::Arena;
 use crate::cursors::{Cursors, has_place};
@@ -156,7 +156,7 @@ fn visit_list(
         result }
 {
     let mut at = take(these, l);
-    for _ in 0..these.nexts.len() {
+    'visits: loop {
         if at == 0 {
             return None;
         }
@@ -168,7 +168,6 @@ fn visit_list(
             }
         }
     }
-    None
 }
 
 // Puts the clauses that are left to visit back on their literal's list.
@@ -275,7 +274,8 @@ fn other_literal(
     first_other(trail, lits, other)
 }
 
-// The same from where the clause was looked at last.
+// The same from where the clause was looked at last: what stands behind that place at first, and then
+// what stands before it.
 fn other_from_place(
     trail: &Trail,
     lits: &[Code],
@@ -287,42 +287,32 @@ fn other_from_place(
     ensures { MatchOption result (AreOthersFalse (literals_of trail.now.steps) lits.now other)
         (λ k. IsOther (literals_of trail.now.steps) lits.now other k) }
 {
-    let place = next_other(trail, lits, other, cursors.watched(id));
-    cursors.watch(id, place);
-    let found = other_at(trail, lits, other, place);
-    if found.is_some() {
-        return found;
+    let from = cursors.watched(id).min(lits.len());
+    match next_other(trail, lits, other, from) {
+        Some(place) => {
+            cursors.watch(id, place);
+            Some(lits[place])
+        }
+        None => {
+            cursors.watch(id, 0);
+            first_other(trail, &lits[..from], other)
+        }
     }
-    first_other(trail, lits, other)
 }
 
-// The first place, from one on, of a literal that isn't false, beside the other watched literal; 0,
-// where there is none.
-fn next_other(trail: &Trail, lits: &[Code], other: Code, from: usize) -> usize
+// The first place, from one on, of a literal that isn't false, beside the other watched literal.
+fn next_other(trail: &Trail, lits: &[Code], other: Code, from: usize) -> Option<usize>
     requires { All (λ l. variable_of l ≤ trail.now.room) lits.now }
+    ensures { MatchOption result
+        (AreOthersFalse (literals_of trail.now.steps) (drop from lits.now) other)
+        (IsOtherAt (literals_of trail.now.steps) lits.now other) }
 {
     for place in from..lits.len() {
         if lits[place] != other && !is_false(trail, lits[place]) {
-            return place;
+            return Some(place);
         }
     }
-    0
-}
-
-// The literal at a place, if it isn't false, nor the other watched literal.
-fn other_at(trail: &Trail, lits: &[Code], other: Code, place: usize) -> Option<Code>
-    requires { All (λ l. variable_of l ≤ trail.now.room) lits.now }
-    ensures { IfSome result (λ k. IsOther (literals_of trail.now.steps) lits.now other k) }
-{
-    if place >= lits.len() {
-        return None;
-    }
-    let l = lits[place];
-    if l != other && !is_false(trail, l) {
-        Some(l)
-    } else {
-        None
-    }
+    None
 }
 
 // The first literal that isn't false, beside the other watched literal.
