@@ -5,7 +5,6 @@ use Rattle.std.specs.Map.{lookup}
 use Rattle.std.specs.Option.{option_and_then}
 use Rattle.std.proofs.Math.Seq.{take-append_seam}
 use Rattle.std.proofs.lemmas.List.{reverse-append, length-append, length-reverse, reverse-reverse, get_or_default}
-use Rattle.indexmap.specs.IndexMap.{insert_entry}
 use Rattle.dq_lits.specs.Literal.{Literal, positive, negative, variable_of, is_negative}
 use Rattle.hint_log.specs.Conditions.{IsId, MayFollow, IsNewName, AreLogged}
 use Rattle.hint_log.specs.declared.kinds.EntryKind.{EntryKind}
@@ -248,20 +247,13 @@ one_clause_more log limit steps counted es more_es names ks more_ks ls more_ls n
     }
 
 -- an entry of a variable that has none stands at the end
-insert_absent : {V : Type 0} (entries : List (ℕ × V)) (k : ℕ) (v : V) → AllByRecursion (λ e. eqb k e.0 ≡ false) entries
-    → insert_entry eqb entries k v ≡ entries ++ (k, v) ∷ []
-insert_absent [] k v absent = refl
-insert_absent (e ∷ entries) k v absent =
-    ap (λ b. cond b ((e.0, v) ∷ entries) (e ∷ insert_entry eqb entries k v)) absent.0 ∙ ap (λ es. e ∷ es)
-    (insert_absent entries k v absent.1)
-
 absent_append : {V : Type 0} (k : ℕ) (xs ys : List (ℕ × V)) → AllByRecursion (λ e. eqb k e.0 ≡ false) xs →
     AllByRecursion (λ e. eqb k e.0 ≡ false) ys
     → AllByRecursion (λ e. eqb k e.0 ≡ false) (xs ++ ys)
 absent_append k [] ys left right = right
 absent_append k (x ∷ xs) ys left right = (left.0, absent_append k xs ys left.1 right)
 
-unnamed_absent : (entries : List Entry) (v : ℕ) → name_of entries v ≡ None →
+pub unnamed_absent : (entries : List Entry) (v : ℕ) → name_of entries v ≡ None →
     AllByRecursion (λ e. eqb v e.0 ≡ false) (names_of entries)
 unnamed_absent [] v none = tt
 unnamed_absent (Given _ _ ∷ entries) v none = unnamed_absent entries v none
@@ -283,18 +275,13 @@ pub one_name_more : (log : ProofLog) (limit steps var : ℕ) (name : Name) (es m
     (ls : List (List Literal)) (ns : List (List ℕ)) (rs : List KeptRound) (vs : List (List ℕ)) →
     record { limit = limit; entries = log_entries es names ks ls ns rs vs } ≡ log
     → IsKept limit steps es names ks ls ns rs vs → IsNewName log.entries var name → more_es ≡ es ++ Naming ∷ [] →
-    more_names ≡ insert_entry eqb names var name
+    more_names ≡ names ++ (var, name) ∷ []
     → IsMore (Named var name) log limit steps more_es more_names ks ls ns rs vs
 one_name_more log limit steps var name es more_es names more_names ks ls ns rs vs is kept asked es_is names_is =
     let before = log_entries es names ks ls ns rs vs in
     let same : before ≡ log.entries = ap (λ (p : ProofLog). p.entries) is in
-    let all = names_kept log limit steps es names ks ls ns rs vs is kept in
-    let at_end : more_names ≡ names ++ (var, name) ∷ [] =
-    names_is ∙ ap (λ xs. insert_entry eqb xs var name) all ∙ insert_absent (names_of log.entries) var name
-    (unnamed_absent log.entries var asked.unnamed)
-    ∙ ap (λ xs. xs ++ (var, name) ∷ []) (sym all) in
     let kinds_back : reverse more_es ≡ Naming ∷ reverse es = ap reverse es_is ∙ newest es Naming in
-    let names_back : reverse more_names ≡ (var, name) ∷ reverse names = ap reverse at_end ∙ newest names (var, name) in
+    let names_back : reverse more_names ≡ (var, name) ∷ reverse names = ap reverse names_is ∙ newest names (var, name) in
     let entries : log_entries more_es more_names ks ls ns rs vs ≡ Named var name ∷ before =
     rw (kinds_back, names_back) refl in
     let follows : IsNewName before var name = subst (λ ps. IsNewName ps var name) (sym same) asked in

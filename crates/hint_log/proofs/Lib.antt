@@ -5,3 +5,4 @@ mod Lawful
 mod Logged
 mod KeptNames
 mod ReachedIds
+mod OrderedNames

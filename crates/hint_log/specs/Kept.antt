@@ -1,6 +1,6 @@
 -- How a log is kept: what each entry is, in order of time, and the names, the clauses, the rounds
 -- and the beginnings in lists of their own.
-use Rattle.std.specs.Prelude.{◌≡◌, ℕ, ◌≤◌, ◌<◌, ◌^◌, true, false, List, [], ◌∷◌, ◌++◌, reverse, take, length, slice_index}
+use Rattle.std.specs.Prelude.{◌≡◌, ℕ, ◌+◌, ◌≤◌, ◌<◌, ◌^◌, true, false, List, [], ◌∷◌, ◌++◌, reverse, take, length, slice_index}
 use Rattle.std.specs.List.{AllByRecursion}
 use Rattle.dq_lits.specs.Literal.{Literal, positive, negative}
 use Rattle.hint_log.specs.declared.kinds.EntryKind.{EntryKind}
@@ -78,6 +78,11 @@ abbrev pub kept_clauses : List ClauseKind → List (List Literal) → List (List
 kept_clauses (k ∷ kinds) (c ∷ literals) (ns ∷ numbers) =
     record { kind = k; literals = c; numbers = ns } ∷ kept_clauses kinds literals numbers
 kept_clauses _ _ _ = []
+
+-- variables that are named one after the other
+abbrev pub names_from : ℕ → List Name → List (ℕ × Name)
+names_from v [] = []
+names_from v (name ∷ names) = (v, name) ∷ names_from (v + 1) names
 
 -- the entries, newest first, from what is kept, newest first
 abbrev pub interleaved : List EntryKind → List (ℕ × Name) → List KeptClause → List KeptRound

@@ -10,6 +10,7 @@ pub use names::Name;
 pub use origins::{Leaf, Origin};
 pub use stops::Stop;
 
+mod kept_names;
 mod kinds;
 pub mod laws;
 mod logs;

@@ -9,13 +9,13 @@ ghost use Rattle.hint_log.specs.Live.{last_live};
 ghost use Rattle.hint_log.specs.declared.origins.Origin.TheVariants.{Fault, Differ};
 ghost use Rattle.hint_log.specs.declared.origins.Leaf.TheVariants.{Literal as LeafLiteral};
 
+use crate::kept_names::Names;
 use crate::kinds::{ClauseKind, EntryKind, KeptRound, kept_hints, kept_origin};
 use crate::names::Name;
 use crate::origins::{Leaf, Origin};
 use crate::stops::Stop;
 use dq_lits::{Lit, Memory, Row};
 use flat_lists::FlatLists;
-use indexmap::IndexMap;
 use std::alloc::Global;
 use std::marker::Model;
 
@@ -27,7 +27,7 @@ pub struct Log {
     steps: u64,
     // What each entry is, in order of time.
     entries: Vec<EntryKind>,
-    names: IndexMap<u64, Name>,
+    names: Names,
     // The clauses by id.
     kinds: Vec<ClauseKind>,
     literals: FlatLists<Lit>,
@@ -48,12 +48,12 @@ impl Model for Log {
     ghost view = { λ l.
         record {
           limit = l.limit;
-          entries = log_entries l.entries.items l.names.entries l.kinds.items l.literals l.numbers
+          entries = log_entries l.entries.items l.names l.kinds.items l.literals l.numbers
               l.rounds.items (kept_lives l.stays.items l.added);
         } };
 
     ghost invariant = { λ l.
-        IsKept l.limit l.steps l.entries.items l.names.entries l.kinds.items l.literals l.numbers
+        IsKept l.limit l.steps l.entries.items l.names l.kinds.items l.literals l.numbers
         l.rounds.items (kept_lives l.stays.items l.added) };
 }
 
@@ -67,7 +67,7 @@ impl Log {
             limit,
             steps: 0,
             entries: Vec::new(alloc),
-            names: IndexMap::new(alloc),
+            names: Names::new(alloc),
             kinds: Vec::new(alloc),
             literals: FlatLists::new(alloc),
             numbers: FlatLists::new(alloc),
@@ -288,8 +288,8 @@ impl Log {
         requires { place < length (names_of self.now.entries) }
         ensures { slice_get (names_of self.now.entries) place ≡ Some result }
     {
-        match self.names.get_index(place) {
-            Some((variable, name)) => (*variable, *name),
+        match self.names.at(place) {
+            Some(named) => named,
             None => unreachable!(),
         }
     }
@@ -299,8 +299,8 @@ impl Log {
         requires { IsSome (name_of self.now.entries var) }
         ensures { name_of self.now.entries var ≡ Some result }
     {
-        match self.names.get(&var) {
-            Some(name) => *name,
+        match self.names.get(var) {
+            Some(name) => name,
             None => unreachable!(),
         }
     }

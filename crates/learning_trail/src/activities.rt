@@ -9,12 +9,17 @@ const LARGE: u64 = 1 << 48;
 
 const SCALE: u32 = 24;
 
+// How many scores stand on a page: those of 256 variables.
+const PAGE: usize = 512;
+
 /// Scores of literals: those that stood in clauses of late conflicts have the highest.
 #[derive(Drop)]
 pub struct Activities {
-    // The score of each variable, and behind it that of its negation, up to the last one that a
-    // conflict touched: so a variable costs nothing before one does.
-    scores: Vec<Score>,
+    alloc: Global,
+    // The score of each variable, and behind it that of its negation, in pages. A page is empty before
+    // a conflict touches one of its variables: so a variable costs nothing as long as none comes near
+    // it, and a search that touches the last variables alone takes no room for all before them.
+    pages: Vec<Vec<Score>>,
     // What a literal gets now.
     bonus: u64,
     // How often the scores were scaled down.
@@ -37,7 +42,8 @@ const NO_SCORE: Score = Score {
 impl Activities {
     pub fn new(alloc: Global) -> Activities {
         Activities {
-            scores: Vec::new(alloc),
+            alloc,
+            pages: Vec::new(alloc),
             bonus: 1 << SCALE,
             scaled: 0,
         }
@@ -47,22 +53,44 @@ impl Activities {
     pub fn bump(&mut self, lits: &[Code]) {
         for l in lits {
             let place = l.place().saturating_sub(2);
-            self.extend(place);
-            if let Some(score) = self.scores.get_mut(place) {
-                *score = Score {
-                    value: score.after(self.scaled).saturating_add(self.bonus),
-                    scaled: self.scaled,
-                };
+            if !self.has_page(place / PAGE) {
+                self.add_page(place / PAGE);
             }
+            self.bump_at(place);
         }
     }
 
-    // Scores up to a place. Where memory is refused its literal stays as active as it was.
-    fn extend(&mut self, place: usize) {
-        for _ in self.scores.len()..place.saturating_add(1) {
-            if self.scores.push(NO_SCORE).is_err() {
+    // Makes the literal at a place more active, if its page is there.
+    fn bump_at(&mut self, place: usize) {
+        if let Some(page) = self.pages.get_mut(place / PAGE)
+            && let Some(score) = page.get_mut(place % PAGE)
+        {
+            *score = Score {
+                value: score.after(self.scaled).saturating_add(self.bonus),
+                scaled: self.scaled,
+            };
+        }
+    }
+
+    fn has_page(&self, page: usize) -> bool {
+        match self.pages.get(page) {
+            Some(scores) => !scores.is_empty(),
+            None => false,
+        }
+    }
+
+    // Scores on a page, and empty pages up to it. Where memory is refused its literals stay as active
+    // as they were.
+    fn add_page(&mut self, page: usize) {
+        for _ in self.pages.len()..page.saturating_add(1) {
+            if self.pages.push(Vec::new(self.alloc)).is_err() {
                 return;
             }
+        }
+        if let Ok(scores) = vec![in self.alloc; NO_SCORE; PAGE]
+            && let Some(place) = self.pages.get_mut(page)
+        {
+            *place = scores;
         }
     }
 
@@ -92,8 +120,10 @@ impl Activities {
     }
 
     fn score_at(&self, place: usize) -> u64 {
-        match self.scores.get(place) {
-            Some(score) => score.after(self.scaled),
+        match self.pages.get(place / PAGE) {
+            Some(page) => page
+                .get(place % PAGE)
+                .map_or(0, |score| score.after(self.scaled)),
             None => 0,
         }
     }

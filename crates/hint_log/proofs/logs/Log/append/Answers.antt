@@ -8,7 +8,7 @@ pub invariant_of-self-2 : goal.invariant_of-self-2
 invariant_of-self-2 c =
     let l = c.self.inside in
     (one_clause_more c.args.self.now l.limit l.steps c.steps.result l.entries.items c.push-3.new.self.items
-    l.names.entries l.kinds.items c.push-4.new.self.items l.literals c.push-2.new.self l.numbers c.push.new.self
+    l.names l.kinds.items c.push-4.new.self.items l.literals c.push-2.new.self l.numbers c.push.new.self
     l.rounds.items (kept_lives l.stays.items l.added) c.args.kind c.args.lits.now c.args.numbers.now
     c.self.view_is c.self.invariant c.requires.counted c.requires.asked c.requires.numbers c.steps.ensures
     ((rw c.unwrap.ensures at c.push-3.ensures.items) ∙ ap (λ xs. xs ++ Clause ∷ []) c.reserve.ensures.items)
@@ -19,10 +19,10 @@ pub returns-clause-ok : goal.returns-clause-ok
 returns-clause-ok c =
     let l = c.self.inside in
     more_log (entry_by c.args.kind c.args.lits.now c.args.numbers.now) c.args.self.now l.limit
-    (l.steps + c.steps.result) c.push-3.new.self.items l.names.entries
+    (l.steps + c.steps.result) c.push-3.new.self.items l.names
     c.push-4.new.self.items c.push-2.new.self c.push.new.self l.rounds.items (kept_lives l.stays.items l.added)
     (one_clause_more c.args.self.now l.limit l.steps c.steps.result l.entries.items c.push-3.new.self.items
-    l.names.entries l.kinds.items c.push-4.new.self.items l.literals c.push-2.new.self l.numbers c.push.new.self
+    l.names l.kinds.items c.push-4.new.self.items l.literals c.push-2.new.self l.numbers c.push.new.self
     l.rounds.items (kept_lives l.stays.items l.added) c.args.kind c.args.lits.now c.args.numbers.now
     c.self.view_is c.self.invariant c.requires.counted c.requires.asked c.requires.numbers c.steps.ensures
     ((rw c.unwrap.ensures at c.push-3.ensures.items) ∙ ap (λ xs. xs ++ Clause ∷ []) c.reserve.ensures.items)
@@ -35,9 +35,9 @@ returns-clause-id c =
     let many = ids_counted (record {
       limit = l.limit;
       entries =
-          log_entries c.push-3.new.self.items l.names.entries c.push-4.new.self.items c.push-2.new.self c.push.new.self
+          log_entries c.push-3.new.self.items l.names c.push-4.new.self.items c.push-2.new.self c.push.new.self
           l.rounds.items (kept_lives l.stays.items l.added);
     })
-    l.limit (l.steps + c.steps.result) c.push-3.new.self.items l.names.entries c.push-4.new.self.items c.push-2.new.self
+    l.limit (l.steps + c.steps.result) c.push-3.new.self.items l.names c.push-4.new.self.items c.push-2.new.self
     c.push.new.self l.rounds.items (kept_lives l.stays.items l.added) refl (invariant_of-self-2 c) in
     omega (arith, c.len.ensures, many, c.push-4.new.self.ok.0)

@@ -6,7 +6,7 @@ use Rattle.hint_log.proofs.logs.Log.hints.Goals as goal
 pub index-requires : goal.index-requires
 index-requires c =
     let l = c.self.inside in
-    let inside = (at_id c.args.self.now l.limit l.steps l.entries.items l.names.entries l.kinds.items l.literals
+    let inside = (at_id c.args.self.now l.limit l.steps l.entries.items l.names l.kinds.items l.literals
     l.numbers l.rounds.items (kept_lives l.stays.items l.added) c.args.id c.self.view_is c.self.invariant
     c.requires).kind_inside in
     omega (arith, inside, l.kinds.ok.0)
@@ -14,14 +14,14 @@ index-requires c =
 pub get-requires : goal.get-requires
 get-requires c =
     let l = c.self.inside in
-    (at_id c.args.self.now l.limit l.steps l.entries.items l.names.entries l.kinds.items l.literals l.numbers
+    (at_id c.args.self.now l.limit l.steps l.entries.items l.names l.kinds.items l.literals l.numbers
     l.rounds.items (kept_lives l.stays.items l.added) c.args.id c.self.view_is c.self.invariant
     c.requires).numbers_inside
 
 pub returns-clause-value : goal.returns-clause-value
 returns-clause-value c =
     let l = c.self.inside in
-    hints_found c.args.self.now l.limit l.steps l.entries.items l.names.entries l.kinds.items l.literals l.numbers
+    hints_found c.args.self.now l.limit l.steps l.entries.items l.names l.kinds.items l.literals l.numbers
     l.rounds.items (kept_lives l.stays.items l.added) c.args.id c.index.result.now c.get.result.now
     c.kept_hints.result.now c.self.view_is c.self.invariant c.requires
     c.index.ensures c.get.ensures c.kept_hints.ensures
@@ -29,7 +29,7 @@ returns-clause-value c =
 pub returns-clause-earlier : goal.returns-clause-earlier
 returns-clause-earlier c =
     let l = c.self.inside in
-    hints_earlier c.args.self.now l.limit l.steps l.entries.items l.names.entries l.kinds.items l.literals l.numbers
+    hints_earlier c.args.self.now l.limit l.steps l.entries.items l.names l.kinds.items l.literals l.numbers
     l.rounds.items (kept_lives l.stays.items l.added) c.args.id c.index.result.now c.get.result.now
     c.kept_hints.result.now c.self.view_is c.self.invariant c.requires
     c.index.ensures c.get.ensures c.kept_hints.ensures

@@ -1,0 +1,99 @@
+-- Names of variables that are named one after the other, and others behind them.
+use Rattle.std.proofs.Common.{◌≡◌, ◌≢◌, ℕ, zero, suc, ◌+◌, ◌-◌, ◌≤◌, ◌<◌, ◌⊎◌, inl, inr, eqb, cond, Bool, true, false, List, [], ◌∷◌, ◌++◌, length, get_or, slice_get, Option, None, Some, refl, sym, ◌∙◌, ap, arith, append_assoc}
+use Rattle.std.specs.List.{AllByRecursion}
+use Rattle.std.specs.Map.{lookup}
+use Rattle.std.proofs.lemmas.Bool.{eqb-true, eqb-false, ne_eqb}
+use Rattle.std.proofs.lemmas.List.{append-nil}
+use Rattle.indexmap.specs.IndexMap.{insert_entry}
+use Rattle.hint_log.specs.Kept.{names_from}
+use Rattle.hint_log.specs.declared.names.Name.{Name}
+
+pub length_from : (n : ℕ) (xs : List Name) → length (names_from n xs) ≡ length xs
+length_from n [] = refl
+length_from n (x ∷ xs) = ap suc (length_from (n + 1) xs)
+
+from_push : (n : ℕ) (xs : List Name) (x : Name) →
+    names_from n (xs ++ x ∷ []) ≡ names_from n xs ++ (n + length xs, x) ∷ []
+from_push n [] x = let same : n ≡ n + 0 = omega arith in ap (λ v. (v, x) ∷ []) same
+from_push n (y ∷ ys) x =
+    let same : n + 1 + length ys ≡ n + suc (length ys) = omega arith in
+    ap (λ xs. (n, y) ∷ xs) (from_push (n + 1) ys x ∙ ap (λ v. names_from (n + 1) ys ++ (v, x) ∷ []) same)
+
+-- the name at a place: in order, or behind
+pub at_from : (n : ℕ) (xs : List Name) (ys : List (ℕ × Name)) (i : ℕ) (d : Name) → i < length xs →
+    slice_get (names_from n xs ++ ys) i ≡ Some (n + i, get_or xs i d)
+at_from n [] ys i d below = absurd (omega (arith, below))
+at_from n (x ∷ xs) ys zero d below = let same : n ≡ n + 0 = omega arith in ap (λ v. Some (v, x)) same
+at_from n (x ∷ xs) ys (suc i) d below =
+    let same : n + 1 + i ≡ n + suc i = omega arith in
+    at_from (n + 1) xs ys i d (omega (arith, below)) ∙ ap (λ v. Some (v, get_or xs i d)) same
+
+pub at_behind : (n : ℕ) (xs : List Name) (ys : List (ℕ × Name)) (i : ℕ) → length xs ≤ i →
+    slice_get (names_from n xs ++ ys) i ≡ slice_get ys (i - length xs)
+at_behind n [] ys i past = let same : i ≡ i - 0 = omega arith in ap (slice_get ys) same
+at_behind n (x ∷ xs) ys zero past = absurd (omega (arith, past))
+at_behind n (x ∷ xs) ys (suc i) past =
+    let same : i - length xs ≡ suc i - suc (length xs) = omega arith in
+    at_behind (n + 1) xs ys i (omega (arith, past)) ∙ ap (slice_get ys) same
+
+-- the name of a variable: in order, or behind
+pub lookup_from : (n : ℕ) (xs : List Name) (ys : List (ℕ × Name)) (v : ℕ) (d : Name) → n ≤ v → v < n + length xs →
+    lookup (eqb v) (names_from n xs ++ ys) ≡ Some (get_or xs (v - n) d)
+lookup_from n [] ys v d low high = absurd (omega (arith, low, high))
+lookup_from n (x ∷ xs) ys v d low high = by_bit (eqb v n) refl (lookup_from (n + 1) xs ys v d) where
+  by_bit : (b : Bool) → eqb v n ≡ b →
+      (n + 1 ≤ v → v < n + 1 + length xs → lookup (eqb v) (names_from (n + 1) xs ++ ys)
+      ≡ Some (get_or xs (v - (n + 1)) d)) →
+      cond b (Some x) (lookup (eqb v) (names_from (n + 1) xs ++ ys)) ≡ Some (get_or (x ∷ xs) (v - n) d)
+  by_bit true e later =
+      let is : v ≡ n = eqb-true v n e in
+      let none : 0 ≡ v - n = omega (arith, is) in
+      ap (λ i. Some (get_or (x ∷ xs) i d)) none
+  by_bit false e later =
+      let differ : v ≢ n = eqb-false v n e in
+      let one : suc (v - (n + 1)) ≡ v - n = omega (arith, low, differ) in
+      later (omega (arith, low, differ)) (omega (arith, high)) ∙ ap (λ i. Some (get_or (x ∷ xs) i d)) one
+
+pub lookup_behind : (n : ℕ) (xs : List Name) (ys : List (ℕ × Name)) (v : ℕ) → (v < n) ⊎ (n + length xs ≤ v) →
+    lookup (eqb v) (names_from n xs ++ ys) ≡ lookup (eqb v) ys
+lookup_behind n [] ys v outside = refl
+lookup_behind n (x ∷ xs) ys v outside =
+    ap (λ b. cond b (Some x) (lookup (eqb v) (names_from (n + 1) xs ++ ys)))
+    (ne_eqb v n (λ e. elim outside [ inl low ↦ omega (arith, e, low) | inr high ↦ omega (arith, e, high) ]))
+    ∙ lookup_behind (n + 1) xs ys v
+    (elim outside [ inl low ↦ inl (omega (arith, low)) | inr high ↦ inr (omega (arith, high)) ])
+
+-- one more in order, where none is behind
+pub in_order : (xs more : List Name) (ys : List (ℕ × Name)) (v : ℕ) (x : Name) → more ≡ xs ++ x ∷ [] → ys ≡ [] →
+    v ≡ length xs + 1 → names_from 1 more ++ ys ≡ (names_from 1 xs ++ ys) ++ (v, x) ∷ []
+in_order xs more ys v x more_is none v_is =
+    let same : 1 + length xs ≡ v = omega (arith, v_is) in
+    ap (λ zs. names_from 1 zs ++ ys) more_is ∙ ap (λ zs. names_from 1 (xs ++ x ∷ []) ++ zs) none
+    ∙ append-nil (names_from 1 (xs ++ x ∷ [])) ∙ from_push 1 xs x
+    ∙ ap (λ k. names_from 1 xs ++ (k, x) ∷ []) same
+    ∙ ap (λ zs. zs ++ (v, x) ∷ []) (sym (append-nil (names_from 1 xs)) ∙ ap (λ zs. names_from 1 xs ++ zs) (sym none))
+
+insert_absent : (entries : List (ℕ × Name)) (k : ℕ) (v : Name) → AllByRecursion (λ e. eqb k e.0 ≡ false) entries
+    → insert_entry eqb entries k v ≡ entries ++ (k, v) ∷ []
+insert_absent [] k v absent = refl
+insert_absent (e ∷ entries) k v absent =
+    ap (λ b. cond b ((e.0, v) ∷ entries) (e ∷ insert_entry eqb entries k v)) absent.0 ∙ ap (λ es. e ∷ es)
+    (insert_absent entries k v absent.1)
+
+absent_behind : (k : ℕ) (xs ys : List (ℕ × Name)) → AllByRecursion (λ e. eqb k e.0 ≡ false) (xs ++ ys) →
+    AllByRecursion (λ e. eqb k e.0 ≡ false) ys
+absent_behind k [] ys absent = absent
+absent_behind k (x ∷ xs) ys absent = absent_behind k xs ys absent.1
+
+-- or one more behind
+pub out_of_order : (xs : List Name) (ys more : List (ℕ × Name)) (v : ℕ) (x : Name) →
+    AllByRecursion (λ e. eqb v e.0 ≡ false) (names_from 1 xs ++ ys) → more ≡ insert_entry eqb ys v x →
+    names_from 1 xs ++ more ≡ (names_from 1 xs ++ ys) ++ (v, x) ∷ []
+out_of_order xs ys more v x absent is =
+    ap (λ zs. names_from 1 xs ++ zs) (is ∙ insert_absent ys v x (absent_behind v (names_from 1 xs) ys absent))
+    ∙ sym (append_assoc (names_from 1 xs) ys ((v, x) ∷ []))
+
+-- a list of length 0 has nothing
+pub none_there : (ys : List (ℕ × Name)) → length ys ≡ 0 → ys ≡ []
+none_there [] h = refl
+none_there (y ∷ ys) h = absurd (omega (arith, h))
