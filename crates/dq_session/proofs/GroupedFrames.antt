@@ -18,7 +18,7 @@ each_contained P (x ∷ es) e each (zero, below, is) = (es, subst (P es) is each
 each_contained P (x ∷ es) e each (suc k, below, is) = each_contained P es e each.1 (k, omega (arith, below), is)
 
 module _ (b : BookState) (es : List Entry) (book : IsBook b es) where
-  frame_group : (k j group : ℕ) (rest : List Literal) → Contains es (Given (Instance k j) (negative group ∷ rest)) →
+  pub frame_group : (k j group : ℕ) (rest : List Literal) → Contains es (Given (Instance k j) (negative group ∷ rest)) →
       IsInFrame b (frame_of (frames_of b) j) (negative group ∷ rest)
   frame_group k j group rest has =
       (each_contained (IsBookEntry b) es (Given (Instance k j) (negative group ∷ rest)) book.givens has).1.in_frame

@@ -1,16 +1,17 @@
 mod GrownBooks
-mod StandingBooks
-mod Stacks
+pub mod StandingBooks
+pub mod Stacks
 mod ChangedBooks
-mod AddedClauses
+pub mod AddedClauses
 mod LiveModels
 mod LiveRefutations
-mod GroupedFrames
+pub mod GroupedFrames
 mod MadeGroups
 mod GivenClauses
 mod BooksGiving
+pub mod FreshGroups
 mod BegunBooks
 mod AddedRows
-mod LivePlaces
+pub mod LivePlaces
 mod Searches
-mod LiveFormulas
+pub mod LiveFormulas

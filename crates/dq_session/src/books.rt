@@ -1,11 +1,12 @@
 //! The clauses of a session, and their instances.
 
-ghost use Rattle.std.specs.Prelude.{◌≡◌, ◌≤◌, ◌<◌, ◌-◌, ◌+◌, ◌++◌, ◌∷◌, [], ℕ, true, map, length, slice_index_or, None, Ok, All, IfOk, OnOk, OnErr, IsErrOf, Contains};
+ghost use Rattle.std.specs.Prelude.{◌≡◌, ◌⊎◌, ◌≤◌, ◌<◌, ◌-◌, ◌+◌, ◌++◌, ◌∷◌, [], ℕ, true, map, length, slice_index_or, None, Ok, All, IfOk, OnOk, OnErr, IsErrOf, Contains};
 ghost use Rattle.std.specs.List.{range_with_len};
 ghost use Rattle.dq_lits.specs.Literal.{variable_of};
 ghost use Rattle.dq_lits.specs.Formula.{IsWellFormed, declared};
 ghost use Rattle.dq_lits.specs.Expansion.{IsExpansionUnsatisfiable};
 ghost use Rattle.dq_formula.specs.declared.formula.TheConstants.{MAX_CLAUSES};
+ghost use Rattle.hint_log.specs.Entries.{name_of};
 ghost use Rattle.hint_log.specs.Growth.{Grew};
 ghost use Rattle.hint_log.specs.Naming.{rows_of};
 ghost use Rattle.hint_log.specs.ProductiveLog.{fault_groups, fault_room};
@@ -194,6 +195,7 @@ impl<'f> Book<'f> {
         ensures grew { Grew (IsAddedLive (all_of self.old) instances (groups_of self.old) true
             log.old.entries) log.old log.new }
         ensures same { self.new ≡ record self.old { table = self.new.table } }
+        ensures group { self.new.table.group ≡ self.old.table.group }
         ensures book { OnOk result (IsFullBook self.new log.new.entries) }
         ensures rows { OnOk result (self.new.table.rows ≡ self.old.table.rows ++ row.now ∷ []) }
         ensures err { OnErr result (self.new ≡ record self.old {
@@ -214,6 +216,8 @@ impl<'f> Book<'f> {
         ensures grew { Grew (IsAddedLive (all_of self.old) instances (groups_of self.old)
             (is_silent result) log.old.entries) log.old log.new }
         ensures book { IsFullBook self.new log.new.entries }
+        ensures fresh { (n : ℕ) → Contains (groups_of self.new) n
+            → Contains (groups_of self.old) n ⊎ (name_of log.old.entries n ≡ None) }
         ensures point_variables { (points : PointState) → result ≡ Ok (Exp.Model points)
             → points.variables ≡ self.old.table.existentials }
         ensures point_rows { (points : PointState) → result ≡ Ok (Exp.Model points)

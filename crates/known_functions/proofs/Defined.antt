@@ -1,7 +1,6 @@
--- What is kept while definitions are asked for: the log has nothing of the other engines, and the
--- list of definitions grows.
-use Rattle.std.proofs.Common.{◌≡◌, ◌≢◌, ℕ, zero, suc, ◌<◌, ◌==◌, true, List, [], ◌++◌, length, get_or, slice_get, replicate, set, Bool, Option, None, Some, IsSome, refl, sym, ◌∙◌, ap, subst, inl, inr, arith, Result, Ok, Err, get_or-set_same, get_or-set_other, length-set}
-use Rattle.std.specs.List.{All, Contains}
+-- What is kept while definitions are asked for: the list of definitions grows.
+use Rattle.std.proofs.Common.{◌≡◌, ◌≢◌, ℕ, zero, suc, ◌<◌, ◌==◌, List, [], ◌++◌, length, get_or, slice_get, replicate, set, Bool, Option, None, Some, IsSome, refl, sym, ◌∙◌, ap, subst, inl, inr, arith, Result, Ok, Err, get_or-set_same, get_or-set_other, length-set}
+use Rattle.std.specs.List.{All}
 use Rattle.std.specs.Option.{IfSome}
 use Rattle.std.specs.Result.{IfOk}
 use Rattle.dq_lits.specs.Literal.{Literal}
@@ -14,9 +13,6 @@ use Rattle.dq_lits.specs.Formula.{Existential, Dqbf, existential_of, HasLawfulPr
 use Rattle.dq_formula.specs.Prefix.{IsLawful, existential_variables}
 use Rattle.hint_log.specs.Entries.{Entry, ProofLog}
 use Rattle.hint_log.specs.Growth.{EachOf, Grew}
-use Rattle.hint_log.specs.Naming.{rows_of}
-use Rattle.hint_log.specs.ProductiveLog.{fault_groups}
-use Rattle.log_laws.specs.Engines.{Engine, circuits, instances, copies, HasNone, IsAddedBy, EnginesLeaveRest}
 use Rattle.aig_graph.specs.declared.nodes.Node.{Node}
 use Rattle.aig_graph.specs.Made.{Extends}
 use Rattle.defining_nodes.specs.Definitions.{IsDefinition}
@@ -36,36 +32,7 @@ use Rattle.padoa_definitions.specs.declared.forcing.Forced.{Forced}
 use Rattle.padoa_definitions.specs.declared.forcing.Forced.TheVariants.{Rule as ByRule, Loose}
 use Rattle.known_functions.specs.declared.definitions.Definitions.{Definitions}
 use Rattle.known_functions.specs.Guessing.{LeavesKnown}
-use Rattle.known_functions.specs.Searching.{IsFresh, AreKnown, definition_in}
-use Rattle.known_functions.proofs.Standing.{still_kept, still_undecided, none_stays, no_entries_kept, no_entries_undecided, no_element}
-
--- what a call of the engine of copies added leaves the log fresh
-pub still_fresh : EnginesLeaveRest → (f : Dqbf) (old new : ProofLog) →
-    ((group : ℕ) → Grew (IsAddedBy f copies group true old.entries) old new)
-    → IsFresh f old.entries → IsFresh f new.entries
-still_fresh law f old new grew fresh =
-    let left = law f copies 0 true old new (grew 0) in
-    record {
-      kept = still_kept law f copies 0 true old new (grew 0) fresh.kept;
-      undecided = still_undecided law f copies 0 true old new refl (grew 0) fresh.undecided;
-      no_rows = left.rows ∙ fresh.no_rows;
-      no_faults = left.faults refl ∙ fresh.no_faults;
-      no_circuits = none_stays law circuits f copies 0 true old new refl (grew 0) fresh.no_circuits;
-      no_instances = none_stays law instances f copies 0 true old new refl (grew 0) fresh.no_instances;
-    }
-
-pub empty_has_none : (engine : Engine) (entries : List Entry) → entries ≡ [] → HasNone engine entries
-empty_has_none engine entries empty e own inside = no_element e (subst (λ es. Contains es e) empty inside)
-
-pub empty_is_fresh : (f : Dqbf) (entries : List Entry) → entries ≡ [] → IsFresh f entries
-empty_is_fresh f entries empty = record {
-  kept = no_entries_kept f entries empty;
-  undecided = no_entries_undecided f entries empty;
-  no_rows = ap rows_of empty;
-  no_faults = ap fault_groups empty;
-  no_circuits = empty_has_none circuits entries empty;
-  no_instances = empty_has_none instances entries empty;
-}
+use Rattle.known_functions.specs.Searching.{AreKnown, definition_in}
 
 abbrev nowhere : Option Node
 nowhere = None
@@ -218,11 +185,10 @@ with_guesses f ranks graph definitions rules before after known guessed = record
 
 -- a call that asks for guesses leaves what is known
 pub left-refl : (d : Definitions) → LeavesKnown d d
-left-refl d = record { padoa = refl; ranks = refl; nodes = refl; rules = refl; guesses = refl }
+left-refl d = record { ranks = refl; nodes = refl; rules = refl; guesses = refl }
 
 pub left-trans : (d e g : Definitions) → LeavesKnown d e → LeavesKnown e g → LeavesKnown d g
 left-trans d e g one other = record {
-  padoa = other.padoa ∙ one.padoa;
   ranks = other.ranks ∙ one.ranks;
   nodes = other.nodes ∙ one.nodes;
   rules = other.rules ∙ one.rules;

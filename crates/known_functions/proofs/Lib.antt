@@ -1,5 +1,6 @@
 pub mod Standing
 pub mod Defined
+mod AskedEntries
 mod Asked
 mod Forced
 mod ConsistentConditions

@@ -5,12 +5,13 @@ use Rattle.dq_lits.specs.Formula.{Dqbf, IsWellFormed}
 use Rattle.dq_formula.specs.Prefix.{existential_variables}
 use Rattle.dq_formula.specs.Rules.{IsRule}
 use Rattle.aig_graph.specs.Graph.{AigGraph}
-use Rattle.expansion.specs.Table.{TableState}
 use Rattle.hint_log.specs.Entries.{Entry, ProofLog}
+use Rattle.hint_log.specs.Growth.{Grew}
 use Rattle.padoa_definitions.specs.Copies.{IsPadoa}
+use Rattle.padoa_definitions.specs.declared.padoa.Padoa.{Padoa}
 use Rattle.known_functions.specs.declared.definitions.Definitions.{Definitions}
 use Rattle.known_functions.specs.declared.forcing.TableModel.{TableModel}
-use Rattle.known_functions.specs.Searching.{AreKnown, GoesOn, LogGrew}
+use Rattle.known_functions.specs.Searching.{AreKnown, IsAsked}
 
 -- what these definitions know of the existentials' functions
 abbrev pub AreKnownIn : Dqbf → AigGraph → Definitions → Type 0
@@ -23,19 +24,18 @@ pub record IsModelOf (f : Dqbf) (model : TableModel) : Type 0 where
   pub rows : length model.points.now.rows ≡ length model.table.now.rows
 
 -- before it is asked what a row forces
-pub record MayForce (f : Dqbf) (d : Definitions) (entries : List Entry) : Type 0 where
+pub record MayForce (f : Dqbf) (d : Definitions) (copies : Padoa) (entries : List Entry) : Type 0 where
   pub formula : IsWellFormed f
-  pub copied : IsPadoa f d.padoa entries
+  pub copied : IsPadoa f copies entries
   pub one_each : length d.nodes.items ≡ length f.existentials
   pub forced : All (IsRule f) d.rules.items
 
--- and behind a call that asked: rules alone may have come, and the search goes on
-pub record HasForced (f : Dqbf) (t : TableState) (before after : Definitions) (old new : ProofLog) : Type 0 where
-  pub padoa : after.padoa ≡ before.padoa
+-- and behind a call that asked: rules alone may have come, and in the log what questions add
+pub record HasForced (f : Dqbf) (copies : Padoa) (before after : Definitions)
+    (old new : ProofLog) : Type 0 where
   pub ranks : after.ranks.items ≡ before.ranks.items
   pub nodes : after.nodes.items ≡ before.nodes.items
   pub guesses : after.guesses.items ≡ before.guesses.items
   pub forced : All (IsRule f) after.rules.items
-  pub copied : IsPadoa f after.padoa new.entries
-  pub goes_on : GoesOn f t before.padoa old.entries new.entries
-  pub grew : LogGrew old new
+  pub copied : IsPadoa f copies new.entries
+  pub grew : Grew (IsAsked f) old new

@@ -8,9 +8,10 @@ use Rattle.dq_lits.specs.Derivation.{is_tautology}
 use Rattle.dq_lits.specs.Formula.{Dqbf, IsWellFormed, declared}
 use Rattle.dq_lits.specs.Literal.{Literal, variable_of}
 use Rattle.hint_log.specs.Entries.{Entry, ProofLog}
+use Rattle.hint_log.specs.Growth.{Grew}
 use Rattle.padoa_definitions.specs.Copies.{IsPadoa}
 use Rattle.padoa_definitions.specs.declared.padoa.Padoa.{Padoa}
-use Rattle.known_functions.specs.Searching.{IsFresh, HasInputs}
+use Rattle.known_functions.specs.Searching.{IsAsked, HasInputs}
 use Rattle.known_functions.specs.declared.definitions.Definitions.{Definitions}
 
 -- literals on declared variables that contradict neither one another nor say anything of one
@@ -22,22 +23,21 @@ pub record AreConditions (f : Dqbf) (y : ℕ) (lits : List Literal) : Type 0 whe
 
 -- a call that asks leaves what is known as it is
 pub record LeavesKnown (old new : Definitions) : Type 0 where
-  pub padoa : new.padoa ≡ old.padoa
   pub ranks : new.ranks.items ≡ old.ranks.items
   pub nodes : new.nodes.items ≡ old.nodes.items
   pub rules : new.rules.items ≡ old.rules.items
   pub guesses : new.guesses.items ≡ old.guesses.items
 
--- before the first turn, copies of the formula's matrix stand ready
+-- copies of the formula's matrix stand ready
 pub record MayAsk (f : Dqbf) (graph : AigGraph) (copies : Padoa) (entries : List Entry) : Type 0 where
   pub formula : IsWellFormed f
-  pub fresh : IsFresh f entries
   pub padoa : IsPadoa f copies entries
   pub inputs : HasInputs f graph
 
--- and they still do behind a call, which leaves the log's limit and what stands in the graph
+-- and they still do behind a call, which adds to the log what questions add, and leaves its limit and
+-- what stands in the graph
 pub record HasAsked (f : Dqbf) (graph grown : AigGraph) (copies : Padoa)
     (old new : ProofLog) : Type 0 where
   pub may : MayAsk f grown copies new.entries
-  pub limit_same : new.limit ≡ old.limit
+  pub grew : Grew (IsAsked f) old new
   pub extends : Extends graph grown

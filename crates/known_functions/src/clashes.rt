@@ -4,10 +4,11 @@
 ghost use Rattle.std.specs.Prelude.{◌≡◌, length, IfOk, IfSome, IsErrOf, IsSome, Some};
 ghost use Rattle.dq_lits.specs.Formula.{Existential, IsWellFormed, existential_of};
 ghost use Rattle.aig_graph.specs.Made.{Extends};
+ghost use Rattle.hint_log.specs.Growth.{Grew};
 ghost use Rattle.oracle.specs.Limits.{IsAtSomeLimit};
 ghost use Rattle.padoa_definitions.specs.Copies.{IsPadoa};
 ghost use Rattle.candidate_functions.specs.Candidates.{IsGuess};
-ghost use Rattle.known_functions.specs.Searching.{IsFresh, HasInputs};
+ghost use Rattle.known_functions.specs.Searching.{HasInputs, IsAsked};
 ghost use Rattle.known_functions.specs.Guessing.{AreConditions, HasAsked, LeavesKnown, MayAsk};
 
 use crate::definitions::Definitions;
@@ -16,9 +17,8 @@ use aig_graph::{Graph, Node};
 use dq_formula::Formula;
 use dq_lits::{Lit, Row};
 use hint_log::{Log, Stop};
-use log_laws::laws::engines_leave_the_rest;
 use oracle::Oracle;
-use padoa_definitions::{Guess, Pair};
+use padoa_definitions::{Guess, Padoa, Pair};
 
 impl Definitions {
     // A guess of an existential under conditions; where there is none, what its samples tell is
@@ -26,6 +26,7 @@ impl Definitions {
     pub(crate) fn guess_or_learn<O: Oracle>(
         &mut self,
         oracle: &mut O,
+        padoa: &Padoa,
         graph: &mut Graph,
         f: &Formula,
         y: u64,
@@ -33,21 +34,20 @@ impl Definitions {
         log: &mut Log,
     ) -> Result<Option<Node>, Stop>
         requires fit { O.Fits oracle.old log.old }
-        requires may { MayAsk f.now graph.old self.old.padoa log.old.entries }
+        requires may { MayAsk f.now graph.old padoa.now log.old.entries }
         requires existential { IsSome (existential_of f.now y) }
         requires conditions { AreConditions f.now y conditions.now }
         ensures fit { O.Fits oracle.new log.new }
-        ensures asked { HasAsked f.now graph.old graph.new self.new.padoa log.old log.new }
+        ensures asked { HasAsked f.now graph.old graph.new padoa.now log.old log.new }
         ensures left { LeavesKnown self.old self.new }
         ensures guess { (e : Existential) → existential_of f.now y ≡ Some e
             → IfOk result (λ guess. IfSome guess (IsGuess f.now graph.new e)) }
         ensures limit { IsErrOf result Stop.Limit → IsAtSomeLimit log.new }
     {
-        engines_leave_the_rest();
-        match self.padoa.guess(oracle, graph, f, y, conditions, log)? {
+        match padoa.guess(oracle, graph, f, y, conditions, log)? {
             Guess::Node(node) => Ok(Some(node)),
             Guess::Pair(pair) => {
-                self.learn_clash(oracle, graph, f, y, &pair, log)?;
+                self.learn_clash(oracle, padoa, graph, f, y, &pair, log)?;
                 Ok(None)
             }
         }
@@ -58,6 +58,7 @@ impl Definitions {
     fn learn_clash<O: Oracle>(
         &mut self,
         oracle: &mut O,
+        padoa: &Padoa,
         graph: &mut Graph,
         f: &Formula,
         y: u64,
@@ -65,17 +66,17 @@ impl Definitions {
         log: &mut Log,
     ) -> Result<(), Stop>
         requires fit { O.Fits oracle.old log.old }
-        requires may { MayAsk f.now graph.old self.old.padoa log.old.entries }
+        requires may { MayAsk f.now graph.old padoa.now log.old.entries }
         requires existential { IsSome (existential_of f.now y) }
         ensures fit { O.Fits oracle.new log.new }
-        ensures asked { HasAsked f.now graph.old graph.new self.new.padoa log.old log.new }
+        ensures asked { HasAsked f.now graph.old graph.new padoa.now log.old log.new }
         ensures left { LeavesKnown self.old self.new }
         ensures limit { IsErrOf result Stop.Limit → IsAtSomeLimit log.new }
     {
-        if !self.is_fixed(oracle, graph, f, y, &pair.row1, log)? {
+        if !self.is_fixed(oracle, padoa, graph, f, y, &pair.row1, log)? {
             return Ok(());
         }
-        if !self.is_fixed(oracle, graph, f, y, &pair.row2, log)? {
+        if !self.is_fixed(oracle, padoa, graph, f, y, &pair.row2, log)? {
             return Ok(());
         }
         self.questions.conditions.keep(pair)?;
@@ -86,6 +87,7 @@ impl Definitions {
     fn is_fixed<O: Oracle>(
         &mut self,
         oracle: &mut O,
+        padoa: &Padoa,
         graph: &mut Graph,
         f: &Formula,
         y: u64,
@@ -93,19 +95,18 @@ impl Definitions {
         log: &mut Log,
     ) -> Result<bool, Stop>
         requires fit { O.Fits oracle.old log.old }
-        requires may { MayAsk f.now graph.old self.old.padoa log.old.entries }
+        requires may { MayAsk f.now graph.old padoa.now log.old.entries }
         requires existential { IsSome (existential_of f.now y) }
         ensures fit { O.Fits oracle.new log.new }
-        ensures asked { HasAsked f.now graph.old graph.new self.new.padoa log.old log.new }
+        ensures asked { HasAsked f.now graph.old graph.new padoa.now log.old log.new }
         ensures left { LeavesKnown self.old self.new }
         ensures limit { IsErrOf result Stop.Limit → IsAtSomeLimit log.new }
     {
-        engines_leave_the_rest();
         if row.len() != f.universals().len() {
             return Ok(false);
         }
         let conditions = row_conditions(self.questions.alloc, f, y, row)?;
-        let found = self.padoa.guess(oracle, graph, f, y, &conditions, log)?;
+        let found = padoa.guess(oracle, graph, f, y, &conditions, log)?;
         Ok(is_node(&found))
     }
 }

@@ -72,6 +72,12 @@ impl Conditions {
         Ok(())
     }
 
+    /// Learns a row that refutes the formula.
+    pub(crate) fn keep_row(&mut self, row: Row) -> Result<(), Memory> {
+        self.rows.push(row)?;
+        Ok(())
+    }
+
     /// How many clauses may be learned for a question.
     pub(crate) fn most_steps(&self) -> u64 {
         if self.in_vain == 0 {

@@ -4,11 +4,10 @@ ghost use Rattle.std.specs.Prelude.{◌≡◌, ◌<◌, ℕ, true, length, repli
 ghost use Rattle.dq_lits.specs.Formula.{Existential, IsWellFormed};
 ghost use Rattle.aig_graph.specs.Made.{Extends};
 ghost use Rattle.hint_log.specs.Growth.{Grew};
-ghost use Rattle.log_laws.specs.Engines.{copies, HasNone, IsAddedBy};
 ghost use Rattle.padoa_definitions.specs.Copies.{IsPadoa};
 ghost use Rattle.padoa_definitions.specs.Defining.{IsFound};
 ghost use Rattle.known_functions.specs.Guessing.{HasAsked, MayAsk};
-ghost use Rattle.known_functions.specs.Searching.{IsFresh, HasInputs, definition_in};
+ghost use Rattle.known_functions.specs.Searching.{HasInputs, IsAsked, definition_in};
 ghost use Rattle.known_functions.specs.Forcing.{AreKnownIn};
 ghost use Rattle.oracle.specs.Limits.{IsAtSomeLimit};
 
@@ -20,16 +19,13 @@ use dq_formula::{Formula, Rule};
 use dq_lits::{Memory, Row};
 use gate_definitions::Gates;
 use hint_log::{Log, Stop};
-use log_laws::laws::engines_leave_the_rest;
 use oracle::Oracle;
 use padoa_definitions::{Found, Padoa};
 use std::alloc::Global;
 
-/// What is known of the existentials, and the copies of the matrix that it is asked of.
+/// What is known of the existentials of a formula.
 #[derive(Drop)]
 pub struct Definitions {
-    /// The copies of the matrix.
-    pub padoa: Padoa,
     gates: Gates,
     /// By which ranks a definition may read others.
     pub ranks: Vec<usize>,
@@ -42,29 +38,31 @@ pub struct Definitions {
     pub guesses: Vec<Option<Node>>,
 }
 
-// An existential of a formula, by its place in order of declaration.
+// An existential of a formula, by its place in order of declaration, and the copies of the matrix
+// that questions about it are asked of.
 #[derive(Drop)]
-pub(crate) struct ExistentialAt<'f> {
+pub(crate) struct ExistentialAt<'f, 'p> {
     pub f: &'f Formula,
+    pub padoa: &'p Padoa,
     pub place: usize,
 }
 
-// A formula's existentials in the order in which they are asked for, by their places.
+// A formula's existentials in the order in which they are asked for, by their places, and the
+// copies of its matrix.
 #[derive(Drop)]
-struct Order<'f, 'p> {
+struct Order<'f, 'p, 's> {
     f: &'f Formula,
-    places: &'p [usize],
+    padoa: &'p Padoa,
+    places: &'s [usize],
 }
 
 impl Definitions {
     // Nothing is known yet.
-    fn none(alloc: Global, padoa: Padoa, gates: Gates, f: &Formula) -> Result<Definitions, Memory>
-        ensures padoa { IfOk result (λ d. d.padoa ≡ padoa) }
-        ensures known { (graph : _) → IfOk result (AreKnownIn f.now graph) }
+    fn none(alloc: Global, gates: Gates, f: &Formula) -> Result<Definitions, Memory>
+        ensures { (graph : _) → IfOk result (AreKnownIn f.now graph) }
     {
         let ranks = gates.ranks(f)?;
         Ok(Definitions {
-            padoa,
             gates,
             ranks,
             questions: Questions::none(alloc, f)?,
@@ -72,6 +70,16 @@ impl Definitions {
             rules: Vec::new(alloc),
             guesses: Vec::new(alloc),
         })
+    }
+
+    /// What is known of a formula that this row refutes: nothing is asked of it.
+    pub fn refuted(alloc: Global, f: &Formula, row: Row) -> Result<Definitions, Memory>
+        ensures { (graph : _) → IfOk result (AreKnownIn f.now graph) }
+    {
+        let gates = Gates::new(alloc, f)?;
+        let mut definitions = Definitions::none(alloc, gates, f)?;
+        definitions.questions.conditions.keep_row(row)?;
+        Ok(definitions)
     }
 
     /// Rows at which no function of some existential makes all clauses true, if the questions found
@@ -88,7 +96,6 @@ impl Definitions {
     // Notes what was found of the existential at a place.
     fn note(&mut self, place: usize, found: Found)
         requires place { place < length self.old.nodes.items }
-        ensures padoa { self.new.padoa ≡ self.old.padoa }
         ensures rules { self.new.rules.items ≡ self.old.rules.items }
         ensures ranks { self.new.ranks.items ≡ self.old.ranks.items }
         ensures guesses { self.new.guesses.items ≡ self.old.guesses.items }
@@ -110,17 +117,22 @@ impl Definitions {
         log: &mut Log,
     ) -> Result<(), Stop>
         requires fit { O.Fits oracle.old log.old }
-        requires may { MayAsk order.now.f.now graph.old self.old.padoa log.old.entries }
+        requires may { MayAsk order.now.f.now graph.old order.now.padoa.now log.old.entries }
         requires known { AreKnownIn order.now.f.now graph.old self.old }
         requires places { All (λ p. p < length order.now.f.now.existentials) order.now.places.now }
         ensures fit { O.Fits oracle.new log.new }
-        ensures asked { HasAsked order.now.f.now graph.old graph.new self.new.padoa log.old log.new }
+        ensures asked { HasAsked order.now.f.now graph.old graph.new order.now.padoa.now
+            log.old log.new }
         ensures known { OnOk result (AreKnownIn order.now.f.now graph.new self.new) }
         ensures limit { IsErrOf result Stop.Limit → IsAtSomeLimit log.new }
     {
-        let f = order.f;
         for place in order.places {
-            self.find(oracle, graph, &ExistentialAt { f, place: *place }, log)?;
+            let existential = ExistentialAt {
+                f: order.f,
+                padoa: order.padoa,
+                place: *place,
+            };
+            self.find(oracle, graph, &existential, log)?;
         }
         Ok(())
     }
@@ -134,11 +146,13 @@ impl Definitions {
         log: &mut Log,
     ) -> Result<(), Stop>
         requires fit { O.Fits oracle.old log.old }
-        requires may { MayAsk existential.now.f.now graph.old self.old.padoa log.old.entries }
+        requires may { MayAsk existential.now.f.now graph.old existential.now.padoa.now
+            log.old.entries }
         requires known { AreKnownIn existential.now.f.now graph.old self.old }
         requires place { existential.now.place < length existential.now.f.now.existentials }
         ensures fit { O.Fits oracle.new log.new }
-        ensures asked { HasAsked existential.now.f.now graph.old graph.new self.new.padoa log.old log.new }
+        ensures asked { HasAsked existential.now.f.now graph.old graph.new
+            existential.now.padoa.now log.old log.new }
         ensures known { OnOk result (AreKnownIn existential.now.f.now graph.new self.new) }
         ensures limit { IsErrOf result Stop.Limit → IsAtSomeLimit log.new }
     {
@@ -164,19 +178,19 @@ impl Definitions {
         log: &mut Log,
     ) -> Result<Option<Found>, Stop>
         requires fit { O.Fits oracle.old log.old }
-        requires may { MayAsk existential.now.f.now graph.old self.old.padoa log.old.entries }
+        requires may { MayAsk existential.now.f.now graph.old existential.now.padoa.now
+            log.old.entries }
         requires place { existential.now.place < length existential.now.f.now.existentials }
         ensures fit { O.Fits oracle.new log.new }
         ensures same { self.new ≡ self.old }
-        ensures asked { HasAsked existential.now.f.now graph.old graph.new self.new.padoa log.old
-            log.new }
+        ensures asked { HasAsked existential.now.f.now graph.old graph.new
+            existential.now.padoa.now log.old log.new }
         ensures found { (e : Existential)
             → slice_get existential.now.f.now.existentials existential.now.place ≡ Some e
             → IfOk result (λ found. IfSome found (IsFound existential.now.f.now
             self.old.ranks.items graph.new e)) }
         ensures limit { IsErrOf result Stop.Limit → IsAtSomeLimit log.new }
     {
-        engines_leave_the_rest();
         let f = existential.f;
         f.every_formula_is_lawful();
         let y = f.existentials()[existential.place];
@@ -186,7 +200,9 @@ impl Definitions {
         if self.questions.are_in_vain() {
             return Ok(None);
         }
-        let found = self.padoa.define(oracle, graph, f, &self.ranks, y, log)?;
+        let found = existential
+            .padoa
+            .define(oracle, graph, f, &self.ranks, y, log)?;
         Ok(Some(found))
     }
 }
@@ -202,30 +218,28 @@ pub(crate) fn no_nodes(alloc: Global, n: usize) -> Result<Vec<Option<Node>>, Mem
 pub fn find_definitions<O: Oracle>(
     alloc: Global,
     oracle: &mut O,
+    padoa: &Padoa,
     graph: &mut Graph,
     f: &Formula,
     log: &mut Log,
 ) -> Result<Definitions, Stop>
     requires fit { O.Fits oracle.old log.old }
-    requires formula { IsWellFormed f.now }
-    requires fresh { IsFresh f.now log.old.entries }
-    requires none { HasNone copies log.old.entries }
-    requires inputs { HasInputs f.now graph.old }
+    requires may { MayAsk f.now graph.old padoa.now log.old.entries }
     ensures fit { O.Fits oracle.new log.new }
-    ensures fresh { IsFresh f.now log.new.entries }
-    ensures limit_same { log.new.limit ≡ log.old.limit }
-    ensures extends { Extends graph.old graph.new }
-    ensures padoa { IfOk result (λ d. IsPadoa f.now d.padoa log.new.entries) }
+    ensures asked { HasAsked f.now graph.old graph.new padoa.now log.old log.new }
     ensures known { IfOk result (AreKnownIn f.now graph.new) }
     ensures limit { IsErrOf result Stop.Limit → IsAtSomeLimit log.new }
 {
-    engines_leave_the_rest();
-    let padoa = Padoa::new(alloc, oracle, f, log)?;
     let gates = Gates::new(alloc, f)?;
-    let mut definitions = Definitions::none(alloc, padoa, gates, f)?;
-    let order = existentials_in_order(alloc, f, &definitions.ranks)?;
-    definitions.questions.set_order(&order)?;
-    definitions.find_all(oracle, graph, &Order { f, places: &order }, log)?;
-    definitions.guess_all(oracle, graph, f, log)?;
+    let mut definitions = Definitions::none(alloc, gates, f)?;
+    let places = existentials_in_order(alloc, f, &definitions.ranks)?;
+    definitions.questions.set_order(&places)?;
+    let order = Order {
+        f,
+        padoa,
+        places: &places,
+    };
+    definitions.find_all(oracle, graph, &order, log)?;
+    definitions.guess_all(oracle, padoa, graph, f, log)?;
     Ok(definitions)
 }

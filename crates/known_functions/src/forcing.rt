@@ -11,15 +11,12 @@ ghost use Rattle.oracle.specs.Limits.{IsAtSomeLimit};
 use crate::definitions::{Definitions, ExistentialAt};
 use crate::samples::Sample;
 use crate::stated_rules::stated_rule;
-use circuit_cnf::laws::checkers_stay;
 use dq_formula::{Formula, Rule};
 use dq_lits::Memory;
-use expansion::laws::engines_leave_tables;
 use expansion::{Points, Table};
 use hint_log::{Log, Stop};
-use log_laws::laws::engines_leave_the_rest;
 use oracle::Oracle;
-use padoa_definitions::Forced;
+use padoa_definitions::{Forced, Padoa};
 use std::alloc::Global;
 
 /// A model of the instances of a table's rows.
@@ -35,15 +32,16 @@ impl Definitions {
     pub fn force_all<O: Oracle>(
         &mut self,
         oracle: &mut O,
+        padoa: &Padoa,
         f: &Formula,
         model: &TableModel,
         log: &mut Log,
     ) -> Result<(), Stop>
         requires fit { O.Fits oracle.old log.old }
-        requires may { MayForce f.now self.old log.old.entries }
+        requires may { MayForce f.now self.old padoa.now log.old.entries }
         requires model { IsModelOf f.now model.now }
         ensures fit { O.Fits oracle.new log.new }
-        ensures forced { HasForced f.now model.now.table.now self.old self.new log.old log.new }
+        ensures forced { HasForced f.now padoa.now self.old self.new log.old log.new }
         ensures limit { IsErrOf result Stop.Limit → IsAtSomeLimit log.new }
     {
         if model.table.rows() == 0 {
@@ -52,7 +50,8 @@ impl Definitions {
         self.questions.begin_round();
         let mut sample = newest_sample(self.questions.alloc, f, model)?;
         for place in 0..f.existentials().len() {
-            self.force(oracle, &ExistentialAt { f, place }, model, &mut sample, log)?;
+            let existential = ExistentialAt { f, padoa, place };
+            self.force(oracle, &existential, model, &mut sample, log)?;
         }
         Ok(())
     }
@@ -67,13 +66,14 @@ impl Definitions {
         log: &mut Log,
     ) -> Result<(), Stop>
         requires fit { O.Fits oracle.old log.old }
-        requires may { MayForce existential.now.f.now self.old log.old.entries }
+        requires may { MayForce existential.now.f.now self.old existential.now.padoa.now
+            log.old.entries }
         requires place { existential.now.place < length existential.now.f.now.existentials }
         requires some { 1 ≤ length model.now.table.now.rows }
         requires model { IsModelOf existential.now.f.now model.now }
         ensures fit { O.Fits oracle.new log.new }
-        ensures forced { HasForced existential.now.f.now model.now.table.now self.old self.new
-            log.old log.new }
+        ensures forced { HasForced existential.now.f.now existential.now.padoa.now self.old
+            self.new log.old log.new }
         ensures limit { IsErrOf result Stop.Limit → IsAtSomeLimit log.new }
     {
         if let Some(_) = self.nodes[existential.place] {
@@ -125,24 +125,22 @@ impl Definitions {
         log: &mut Log,
     ) -> Result<(), Stop>
         requires fit { O.Fits oracle.old log.old }
-        requires may { MayForce existential.now.f.now self.old log.old.entries }
+        requires may { MayForce existential.now.f.now self.old existential.now.padoa.now
+            log.old.entries }
         requires place { existential.now.place < length existential.now.f.now.existentials }
         requires some { 1 ≤ length model.now.table.now.rows }
         requires model { IsModelOf existential.now.f.now model.now }
         ensures fit { O.Fits oracle.new log.new }
-        ensures forced { HasForced existential.now.f.now model.now.table.now self.old self.new
-            log.old log.new }
+        ensures forced { HasForced existential.now.f.now existential.now.padoa.now self.old
+            self.new log.old log.new }
         ensures limit { IsErrOf result Stop.Limit → IsAtSomeLimit log.new }
     {
-        engines_leave_the_rest();
-        engines_leave_tables();
-        checkers_stay();
         let f = existential.f;
         f.every_formula_is_lawful();
         let y = f.existentials()[existential.place];
         let newest = model.table.rows();
         let bit = model.points.bit(y, newest);
-        let forced = self
+        let forced = existential
             .padoa
             .force(oracle, f, y, model.table.row(newest), bit, log)?;
         self.questions.learn_bit(existential.place, &forced);
@@ -152,7 +150,6 @@ impl Definitions {
 
     // Keeps a rule.
     fn keep(&mut self, forced: Forced) -> Result<(), Memory>
-        ensures padoa { self.new.padoa ≡ self.old.padoa }
         ensures nodes { self.new.nodes.items ≡ self.old.nodes.items }
         ensures ranks { self.new.ranks.items ≡ self.old.ranks.items }
         ensures guesses { self.new.guesses.items ≡ self.old.guesses.items }

@@ -2,10 +2,10 @@
 use Rattle.std.proofs.Common.{◌≡◌, ◌≢◌, ◌⊎◌, ℕ, zero, suc, ◌+◌, ◌<◌, ◌≤◌, ◌==◌, Bool, true, false, true≢false, inl, inr, List, [], ◌∷◌, ◌++◌, map, length, take, get_or, slice_get, position, Option, Some, None, refl, sym, ◌∙◌, ap, subst, arith}
 use Rattle.std.specs.List.{AllPairs, Contains}
 use Rattle.std.specs.Option.{option_map}
-use Rattle.std.proofs.lemmas.Bool.{eqb-true, eq-eqb, cond-true}
+use Rattle.std.proofs.lemmas.Bool.{eqb-true, eq-eqb, cases_lt, cond-true}
 use Rattle.std.proofs.lemmas.List.{take_more, map-append, length-append}
 use Rattle.std.proofs.lemmas.List.Quantifiers.{position-Some}
-use Rattle.std.proofs.lemmas.Option.{slice_get-get_or, get_or_from_slice_get}
+use Rattle.std.proofs.lemmas.Option.{slice_get-get_or, slice_get_within, get_or_from_slice_get}
 use Rattle.dq_lits.specs.Literal.{Literal, positive, negative, variable_of, is_negative, opposite}
 use Rattle.dq_formula.proofs.Places.{place-absent, has-contains}
 use Rattle.dq_formula.proofs.Sorted.{place-below}
@@ -169,6 +169,28 @@ unflagged es side xs lits are = by_places es side xs lits are.long (λ k v l v_a
 copy_same : (s x y : ℕ) → CopyOf s x ≡ CopyOf s y → x ≡ y
 copy_same s x y e = cc
 
+earlier : (i : ℕ) (flags : List Bool) (k : ℕ) → (i + 1 ≤ k) ⊎ (is_copied_at flags k ≡ false) →
+    (i ≤ k) ⊎ (is_copied_at flags k ≡ false)
+earlier i flags k (inl le) = inl (omega (arith, le))
+earlier i flags k (inr off) = inr off
+
+pub same_place : (xs : List ℕ) (i k v : ℕ) → AllPairs (λ a b. a ≢ b) xs → slice_get xs i ≡ Some v →
+    slice_get xs k ≡ Some v → i ≡ k
+same_place xs i k v distinct i_at k_at = by (cases_lt i k) (cases_lt k i)
+  where
+    i_below : i < length xs
+    i_below = slice_get_within xs i v i_at
+
+    k_below : k < length xs
+    k_below = slice_get_within xs k v k_at
+
+    by : (i < k) ⊎ (k ≤ i) → (k < i) ⊎ (i ≤ k) → i ≡ k
+    by (inl less) any = absurd (distinct i k v less k_below
+        (get_or_from_slice_get xs i v v i_at ∙ sym (get_or_from_slice_get xs k v v k_at)))
+    by (inr low) (inl less) = absurd (distinct k i v less i_below
+        (get_or_from_slice_get xs k v v k_at ∙ sym (get_or_from_slice_get xs i v v i_at)))
+    by (inr low) (inr high) = omega (arith, low, high)
+
 pub named_more : (side : ℕ) (flags : List Bool) (vars : List ℕ) (i x : ℕ) (b : Bool) (old log new : ProofLog)
     (lits more : List Literal) (l : Literal) → AllPairs (λ a b. a ≢ b) vars →
     AreNamedSoFar side flags vars i old log lits → i < length vars → get_or vars i x ≡ x →
@@ -185,7 +207,7 @@ named_more side flags vars i x false old log new lits more l distinct before lt 
         | inr early ↦ before.named k v m wanted v_at early
       ];
       only = before.only;
-      fresh = λ w k y le y_at named. before.fresh w k y (omega (arith, le)) y_at named;
+      fresh = λ w k y which y_at named. before.fresh w k y (earlier i flags k which) y_at named;
     }))
 named_more side flags vars i x true old log new lits more l distinct before lt at flag (v, l_is, unnamed, is) pushed =
     subst (λ (g : ProofLog). AreNamedSoFar side flags vars (i + 1) old g more) (sym is)
@@ -214,9 +236,9 @@ named_more side flags vars i x true old log new lits more l distinct before lt a
         givens = λ o c inside. elim (contains_cases (Named v (CopyOf side x)) (Given o c) log.entries inside)
             [ inl same ↦ cc | inr behind ↦ before.only.givens o c behind ];
       };
-      fresh = λ w k y le y_at named. elim (name_cases log.entries v w (CopyOf side x) (CopyOf side y) named) [
-        | inl same ↦ not_again k y le y_at (copy_same side x y same.1)
-        | inr behind ↦ before.fresh w k y (omega (arith, le)) y_at behind
+      fresh = λ w k y which y_at named. elim (name_cases log.entries v w (CopyOf side x) (CopyOf side y) named) [
+        | inl same ↦ not_named k y which y_at (copy_same side x y same.1)
+        | inr behind ↦ before.fresh w k y (earlier i flags k which) y_at behind
       ];
     }))
   where
@@ -242,6 +264,12 @@ named_more side flags vars i x true old log new lits more l distinct before lt a
         within [] k y h = cc
         within (z ∷ zs) zero y h = omega arith
         within (z ∷ zs) (suc k) y h = let b = within zs k y h in omega (arith, b)
+
+    not_named : (k y : ℕ) → (i + 1 ≤ k) ⊎ (is_copied_at flags k ≡ false) → slice_get vars k ≡ Some y → x ≡ y → ⊥
+    not_named k y (inl le) y_at same = not_again k y le y_at same
+    not_named k y (inr off) y_at same =
+        let here = same_place vars k i x distinct (y_at ∙ ap Some (sym same)) there in
+        true≢false (flag ∙ ap (is_copied_at flags) (before.long ∙ sym here) ∙ off)
 
 pub all_named : (side : ℕ) (flags : List Bool) (vars : List ℕ) (i : ℕ) (old new : ProofLog) (lits : List Literal) →
     AreNamedSoFar side flags vars i old new lits → length vars ≤ i → AreCopies new.entries side flags vars lits

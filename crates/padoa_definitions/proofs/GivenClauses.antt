@@ -3,7 +3,7 @@ use Rattle.std.proofs.Common.{◌≡◌, ◌≢◌, ◌⊎◌, ℕ, zero, suc, �
 use Rattle.std.specs.List.{All, AllPairs, Contains}
 use Rattle.std.proofs.lemmas.List.{get_or_default, length-append, get_or_append_left, get_or-append-add}
 use Rattle.std.proofs.lemmas.List.Elements.{All-head, All-cons, All-nil, Contains-append_right}
-use Rattle.std.proofs.lemmas.Option.{slice_get-get_or}
+use Rattle.std.proofs.lemmas.Option.{slice_get-get_or, slice_get_within}
 use Rattle.std.proofs.lemmas.Bool.{eq-eqb, cases_lt}
 use Rattle.dq_lits.specs.Literal.{Literal, positive, negative, variable_of, is_negative, opposite}
 use Rattle.dq_lits.specs.Formula.{Dqbf, HasLawfulPrefix, declared}
@@ -25,10 +25,10 @@ use Rattle.log_laws.proofs.Kept.{NamesStay, named_stay}
 use Rattle.oracle.specs.Calls.{IsPlain, IsMade}
 use Rattle.oracle.specs.declared.groups.Group.{Group}
 use Rattle.padoa_definitions.specs.Copies.{is_copy_of, group_variable, IsGroupGiven, IsSideGiven, IsGivenIn, AreCopies, AreCopiesOf, IsCopied, copy_names, IsMatrixCopy}
-use Rattle.padoa_definitions.specs.Growing.{GrewAnew, GrewIn, HasFewFaults, is_side_name, Adds, AreUncopied, NamesCopies, AreUngiven, AreVariablesNamed, IsCopyNamed, Gives, AreGivenSoFar}
+use Rattle.padoa_definitions.specs.Growing.{GrewAnew, GrewIn, HasFewFaults, is_side_name, Adds, AreUncopied, NamesCopies, AreUngiven, AreVariablesNamed, IsCopyNamed, Gives, AreGivenSoFar, AreNumberedIn, LeavesUncopied}
 use Rattle.padoa_definitions.specs.declared.copies.MatrixCopy.{MatrixCopy}
 use Rattle.padoa_definitions.proofs.KeptCopies.{contains_first, contains_later, contains_cases, keeps_anew, given_stays, made_stays, copies_stay, Keeps}
-use Rattle.padoa_definitions.proofs.CopiedVariables.{unflagged}
+use Rattle.padoa_definitions.proofs.CopiedVariables.{element_at, unflagged}
 use Rattle.padoa_definitions.proofs.SideClauses.{side_given}
 
 -- growth composes
@@ -67,7 +67,7 @@ in_then f group a b c first second standing start h = grown_then (IsAddedBy f co
 pub in_same : (f : Dqbf) (group : ℕ) (old new : ProofLog) → new ≡ old → GrewIn f group old new
 in_same f group old new is standing start h = grown_by_none (IsAddedBy f copies standing true start) old new is
 
-no_fault : (origin : Origin) → origin_engine origin ≡ copies → is_fault origin ≡ false
+pub no_fault : (origin : Origin) → origin_engine origin ≡ copies → is_fault origin ≡ false
 no_fault (Instance k j) e = refl
 no_fault (Gate v i) e = refl
 no_fault (Fault j i leaf) e = let h : circuits ≡ copies = e in cc
@@ -360,6 +360,29 @@ existentials_fresh f side old first us us_are lawful uncopied only v x among is 
           both_declared f lawful x (subst (λ xs. Contains xs x) us_are (subst (Contains us) (sym same) copy.2)) among)
     ]
 
+-- naming existentials gives no universal a copy
+pub still_uncopied : (f : Dqbf) (side : ℕ) (flags : List Bool) (us ys : List ℕ) → us ≡ f.universals →
+    ys ≡ existential_variables f → HasLawfulPrefix f → (first second : ProofLog) →
+    LeavesUncopied side flags us first.entries → NamesCopies side ys first.entries second.entries →
+    LeavesUncopied side flags f.universals second.entries
+still_uncopied f side flags us ys us_are ys_are lawful first second before only v k x off x_is is =
+    elim (only.names v (CopyOf side x) is) [
+      | inl old ↦ before v k x off (ap (λ xs. slice_get xs k) us_are ∙ x_is) old
+      | inr copy ↦ (let e : CopyOf side x ≡ CopyOf side copy.0 = copy.1 in let same : x ≡ copy.0 = cc in
+          both_declared f lawful x (element_at f.universals k x x_is)
+          (subst (λ xs. Contains xs x) ys_are (subst (Contains ys) (sym same) copy.2)))
+    ]
+
+-- nor do a group and its clauses
+pub uncopied_given : (f : Dqbf) (side : ℕ) (flags : List Bool) (us : List ℕ) (log middle new : ProofLog)
+    (test : Origin → Bool) (g : ℕ) → middle ≡ with_entry log (Named g (Selector g)) → Gives f test g middle new →
+    LeavesUncopied side flags us log.entries → LeavesUncopied side flags us new.entries
+uncopied_given f side flags us log middle new test g middle_is gives before v k x off x_is is =
+    let there : name_of (Named g (Selector g) ∷ log.entries) v ≡ Some (CopyOf side x) =
+    subst (λ (l : ProofLog). name_of l.entries v ≡ Some (CopyOf side x)) middle_is (sym (gives.names v) ∙ is) in
+    elim (name_cases log.entries g v (Selector g) (CopyOf side x) there)
+    [ inl here ↦ cc | inr old ↦ before v k x off x_is old ]
+
 -- these variables were named, and then those
 pub record AreNamed (f : Dqbf) (side : ℕ) (us ys : List ℕ) (old first second : ProofLog) : Type 0 where
   pub first_grew : (h : Dqbf) → GrewAnew h old first
@@ -460,6 +483,14 @@ matrix_given f side flags copy whole group old new us_are ys_are groups_are name
             given = given.given inside.0 clause lt at;
           };
     }
+
+pub numbered_in : (f : Dqbf) (side : ℕ) (groups : List Group) (group : Group) (old new : ProofLog) →
+    groups ≡ [] ++ group ∷ [] → AreGivenSoFar f side (group_variable group) (length f.matrix) old new →
+    AreNumberedIn f side groups new.entries
+numbered_in f side groups group old new are given g k clause among at =
+    subst (λ h. IsGivenIn new.entries (group_variable h) (Copy side (k + 1)) (copy_names side clause))
+    (only_one group g (subst (λ gs. Contains gs g) are among))
+    (given.given k clause (slice_get_within f.matrix k clause at) at)
 
 -- the variables of a clause at a place
 pub clause_covered : (f : Dqbf) (flags : List Bool) (j : ℕ) (clause : List Literal) → ((c : List Literal) →

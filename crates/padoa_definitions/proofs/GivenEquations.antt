@@ -20,7 +20,7 @@ use Rattle.oracle.specs.declared.groups.Group.{Group}
 use Rattle.padoa_definitions.specs.Copies.{is_link_of, IsGroupGiven, IsGivenIn, IsLink, group_variable, is_copied_at}
 use Rattle.padoa_definitions.specs.Growing.{HasFewFaults, Adds, is_any_link, IsUnlinked, AreEquated, AreLinkedSoFar}
 use Rattle.padoa_definitions.proofs.KeptCopies.{Keeps, IsNamed, contains_first, contains_later, contains_cases, given_stays, keeps_anew, link_stays, made_stays}
-use Rattle.padoa_definitions.proofs.CopiedVariables.{opposite_name, pushed_cases}
+use Rattle.padoa_definitions.proofs.CopiedVariables.{element_at, opposite_name, pushed_cases, same_place}
 use Rattle.padoa_definitions.proofs.GivenClauses.{in_by, few_more, right_clause, switch_off, unnamed_back, adds_same, adds_then, gives_none, gives_more}
 
 pub none_equated : (f : Dqbf) (x g : ℕ) (log : ProofLog) → HasFewFaults log.entries →
@@ -117,7 +117,8 @@ pub none_linked : (f : Dqbf) (flags : List Bool) (spare : Group) (log : ProofLog
 none_linked f flags spare log groups empty unlinked = record {
   adds = adds_same f 0 is_any_link log log refl;
   as_many = ap length empty;
-  later = λ k x le at. unlinked x;
+  later = λ k x which at. unlinked x;
+  are_declared = λ x j c inside. inl inside;
   links = λ k x g flag x_is g_is. (let none : None ≡ Some g = sym (ap (λ gs. slice_get gs k) empty) ∙ g_is in cc);
   made = λ k g g_is. (let none : None ≡ Some g = sym (ap (λ gs. slice_get gs k) empty) ∙ g_is in cc);
   fresh = λ k g g_is. (let none : None ≡ Some g = sym (ap (λ gs. slice_get gs k) empty) ∙ g_is in cc);
@@ -128,15 +129,19 @@ pub link_more : (f : Dqbf) (flags : List Bool) (spare : Group) (i x : ℕ) (want
     AllPairs (λ a b. a ≢ b) (declared f) → slice_get (declared f) i ≡ Some x →
     AreLinkedSoFar f flags spare i old log groups → Adds f 0 (is_link_of x) log new →
     wanted ≡ is_copied_at flags i → (wanted ≡ true → IsLink f x g new.entries) → IsMade new.entries g →
-    (g ≡ spare) ⊎ (name_of log.entries (group_variable g) ≡ None) → more ≡ groups ++ g ∷ [] →
-    AreLinkedSoFar f flags spare (i + 1) old new more
-link_more f flags spare i x wanted old log new groups more g distinct x_at before adds flag link made unnamed pushed =
+    (g ≡ spare) ⊎ (name_of log.entries (group_variable g) ≡ None) → (wanted ≡ false → new ≡ log) →
+    more ≡ groups ++ g ∷ [] → AreLinkedSoFar f flags spare (i + 1) old new more
+link_more f flags spare i x wanted old log new groups more g distinct x_at before adds flag link made unnamed idle pushed =
     subst (AreLinkedSoFar f flags spare (i + 1) old new) (sym pushed) (record {
       adds = adds_then f 0 is_any_link old log new before.adds (adds_any f x log new adds);
       as_many = length-append groups (g ∷ []) ∙ ap (λ n. n + 1) before.as_many;
-      later = λ k y le y_at p c inside. elim (adds.givens (Link y p) c inside) [
-        | inl behind ↦ before.later k y (omega (arith, le)) y_at p c behind
-        | inr same ↦ not_again k y le y_at (sym (eqb-true y x same))
+      later = λ k y which y_at p c inside. elim (adds.givens (Link y p) c inside) [
+        | inl behind ↦ before.later k y (earlier k which) y_at p c behind
+        | inr same ↦ not_linked k y which y_at (sym (eqb-true y x same)) p c inside
+      ];
+      are_declared = λ y p c inside. elim (adds.givens (Link y p) c inside) [
+        | inl behind ↦ before.are_declared y p c behind
+        | inr same ↦ inr (subst (Contains (declared f)) (sym (eqb-true y x same)) (element_at (declared f) i x x_at))
       ];
       links = λ k y h flag_k y_at h_at. elim (pushed_cases groups g h k h_at) [
         | inl last ↦ (
@@ -168,10 +173,23 @@ link_more f flags spare i x wanted old log new groups more g distinct x_at befor
     keeps : Keeps f (IsNamed log.entries) log.entries new.entries
     keeps = keeps_anew f log new adds.grew
 
+    earlier : (k : ℕ) → (i + 1 ≤ k) ⊎ (is_copied_at flags k ≡ false) → (i ≤ k) ⊎ (is_copied_at flags k ≡ false)
+    earlier k (inl le) = inl (omega (arith, le))
+    earlier k (inr off) = inr off
+
     not_again : (k y : ℕ) → i + 1 ≤ k → slice_get (declared f) k ≡ Some y → x ≡ y → ⊥
     not_again k y le y_at same =
         distinct i k x (omega (arith, le)) (slice_get_within (declared f) k y y_at)
         (get_or_from_slice_get (declared f) i x x x_at ∙ same ∙ sym (get_or_from_slice_get (declared f) k y x y_at))
+
+    not_linked : (k y : ℕ) → (i + 1 ≤ k) ⊎ (is_copied_at flags k ≡ false) → slice_get (declared f) k ≡ Some y →
+        x ≡ y → (p : ℕ) (c : List Literal) → Contains new.entries (Given (Link y p) c) → ⊥
+    not_linked k y (inl le) y_at same p c inside = not_again k y le y_at same
+    not_linked k y (inr off) y_at same p c inside =
+        let here = same_place (declared f) k i x distinct (y_at ∙ ap Some (sym same)) x_at in
+        let unwanted = flag ∙ ap (is_copied_at flags) (sym here) ∙ off in
+        before.later k y (inr off) y_at p c
+        (subst (λ (l : ProofLog). Contains l.entries (Given (Link y p) c)) (idle unwanted) inside)
 
 pair_named : (es : List Entry) (a b : Literal) (m n : NamedLiteral) → name_literal es a ≡ Some m →
     name_literal es b ≡ Some n → AreNamedAs es (a ∷ b ∷ []) (m ∷ n ∷ [])

@@ -27,3 +27,27 @@ pub mod ApartLiterals
 pub mod GivenAnswers
 pub mod SameGivens
 pub mod OnlyCopies
+pub mod GrownStores
+pub mod StandingStores
+pub mod MoreClauses
+pub mod GroupedCopies
+pub mod QuietSearches
+pub mod SessionCopies
+pub mod StoreSteps
+pub mod PartSteps
+pub mod LinkSteps
+pub mod HalfSteps
+pub mod FlagSteps
+pub mod FrameSteps
+pub mod GivenSteps
+pub mod RoomSteps
+pub mod MadeRoom
+pub mod PartAnswers
+pub mod ReadyCopies
+pub mod Activated
+pub mod ActiveFrames
+pub mod FollowedClauses
+pub mod LiveClauses
+pub mod MadeStores
+pub mod FileStores
+mod FileGroups

@@ -32,7 +32,7 @@ groups_named f p es padoa = to_mapped (IsNamed es) (all_groups p)
 all_both : (P Q : ℕ → Type 0) (xs : List ℕ) → All P xs → All Q xs → All (λ x. P x × Q x) xs
 all_both P Q xs ps qs i d lt = (ps i d lt, qs i d lt)
 
-all_plain : (xs : List ℕ) → All (λ x. Unit {0}) xs
+pub all_plain : (xs : List ℕ) → All (λ x. Unit {0}) xs
 all_plain xs i d lt = tt
 
 pub engines_leave : EnginesLeaveCopies

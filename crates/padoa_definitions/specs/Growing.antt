@@ -103,6 +103,12 @@ IsNamedIfWanted true side x old new l =
     × (new ≡ with_entry old (Named v (CopyOf side x)))
 IsNamedIfWanted false side x old new l = new ≡ old
 
+-- none of these variables that isn't to have a copy has one
+abbrev pub LeavesUncopied : ℕ → List Bool → List ℕ → List Entry → Type 0
+LeavesUncopied side flags variables entries =
+    (v k x : ℕ) → is_copied_at flags k ≡ false → slice_get variables k ≡ Some x
+    → name_of entries v ≡ Some (CopyOf side x) → ⊥
+
 -- those of the first of these variables that are to have copies have them, and the others have none
 pub record AreNamedSoFar (side : ℕ) (flags : List Bool) (variables : List ℕ) (i : ℕ)
     (old new : ProofLog) (lits : List Literal) : Type 0 where
@@ -113,7 +119,7 @@ pub record AreNamedSoFar (side : ℕ) (flags : List Bool) (variables : List ℕ)
       → slice_get variables k ≡ Some v → slice_get lits k ≡ Some l
       → name_literal new.entries l ≡ Some (named_literal (CopyOf side v) false)
   pub only : NamesCopies side variables old.entries new.entries
-  pub fresh : (v k x : ℕ) → i ≤ k → slice_get variables k ≡ Some x
+  pub fresh : (v k x : ℕ) → (i ≤ k) ⊎ (is_copied_at flags k ≡ false) → slice_get variables k ≡ Some x
       → name_of new.entries v ≡ Some (CopyOf side x) → ⊥
 
 -- no copy of a clause was given on this side
@@ -152,6 +158,12 @@ pub record AreGivenSoFar (f : Dqbf) (side group j : ℕ) (old new : ProofLog) : 
   pub given : (k : ℕ) (clause : List Literal) → k < j → slice_get f.matrix k ≡ Some clause
       → IsGivenIn new.entries group (Copy side (k + 1)) (copy_names side clause)
 
+-- each clause of the matrix was given under its number, in each of these groups
+abbrev pub AreNumberedIn : Dqbf → ℕ → List Group → List Entry → Type 0
+AreNumberedIn f side groups entries =
+    (g : Group) (k : ℕ) (clause : List Literal) → Contains groups g → slice_get f.matrix k ≡ Some clause
+    → IsGivenIn entries (group_variable g) (Copy side (k + 1)) (copy_names side clause)
+
 -- no equation of this variable was given
 abbrev pub IsUnlinked : ℕ → List Entry → Type 0
 IsUnlinked x entries = (i : ℕ) (c : List Literal) → Contains entries (Given (Link x i) c) → ⊥
@@ -166,7 +178,10 @@ pub record AreLinkedSoFar (f : Dqbf) (flags : List Bool) (spare : Group) (i : �
     (old new : ProofLog) (groups : List Group) : Type 0 where
   pub adds : Adds f 0 is_any_link old new
   pub as_many : length groups ≡ i
-  pub later : (k x : ℕ) → i ≤ k → slice_get (declared f) k ≡ Some x → IsUnlinked x new.entries
+  pub later : (k x : ℕ) → (i ≤ k) ⊎ (is_copied_at flags k ≡ false)
+      → slice_get (declared f) k ≡ Some x → IsUnlinked x new.entries
+  pub are_declared : (x j : ℕ) (c : List Literal) → Contains new.entries (Given (Link x j) c)
+      → Contains old.entries (Given (Link x j) c) ⊎ Contains (declared f) x
   pub links : (k x : ℕ) (g : Group) → is_copied_at flags k ≡ true
       → slice_get (declared f) k ≡ Some x → slice_get groups k ≡ Some g → IsLink f x g new.entries
   pub made : (k : ℕ) (g : Group) → slice_get groups k ≡ Some g → IsMade new.entries g

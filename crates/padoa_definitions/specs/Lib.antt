@@ -8,3 +8,6 @@ pub mod Seeing
 pub mod Forcing
 pub mod Ruling
 pub mod Conditions
+pub mod Store
+pub mod Following
+pub mod Leaving

@@ -1,6 +1,6 @@
 //! A copy of the matrix: its variables, and literals on them.
 
-ghost use Rattle.std.specs.Prelude.{◌≡◌, ◌≢◌, ℕ, Bool, List, All, Contains, IfOk, OnErr, Some, false, length, slice_get, ◌<◌};
+ghost use Rattle.std.specs.Prelude.{◌≡◌, ◌≢◌, ℕ, Bool, List, All, Contains, IfOk, OnOk, OnErr, Some, false, length, slice_get, ◌<◌};
 ghost use Rattle.std.specs.List.{AllPairs};
 ghost use Rattle.dq_lits.specs.Literal.{variable_of, is_negative};
 ghost use Rattle.dq_lits.specs.Formula.{Dqbf, declared};
@@ -9,7 +9,7 @@ ghost use Rattle.hint_log.specs.Entries.{Entry, name_of};
 ghost use Rattle.hint_log.specs.Naming.{named_literal, name_literal, AreNamedAs};
 ghost use Rattle.hint_log.specs.declared.names.Name.TheVariants.{Copy as CopyOf};
 ghost use Rattle.padoa_definitions.specs.Copies.{AreCopies, AreCopiesOf, IsCopied, copies_of, copy_names, is_copied_at};
-ghost use Rattle.padoa_definitions.specs.Growing.{GrewAnew, AreUncopied, IsNamedIfWanted, NamesCopies};
+ghost use Rattle.padoa_definitions.specs.Growing.{GrewAnew, AreUncopied, IsNamedIfWanted, LeavesUncopied, NamesCopies};
 
 use dq_formula::Formula;
 use dq_lits::{Lit, Memory};
@@ -77,6 +77,7 @@ pub(crate) fn name_copies<O: Oracle>(
     ensures only { NamesCopies side variables.now log.old.entries log.new.entries }
     ensures named { IfOk result
         (λ lits. AreCopies log.new.entries side flags.now variables.now lits.items) }
+    ensures unflagged { OnOk result (LeavesUncopied side flags.now variables.now log.new.entries) }
 {
     let mut lits = Vec::with_capacity(alloc, variables.len())?;
     for x in variables {

@@ -45,7 +45,7 @@ impl Padoa {
     /// stops for want of memory or at the log's limit, and may be called again then. The log gets
     /// what was learned and an answer.
     pub fn define<O: Oracle>(
-        &mut self,
+        &self,
         oracle: &mut O,
         graph: &mut Graph,
         f: &Formula,
@@ -55,12 +55,11 @@ impl Padoa {
     ) -> Result<Found, Stop>
         requires fit { O.Fits oracle.old log.old }
         requires formula { IsWellFormed f.now }
-        requires padoa { IsPadoa f.now self.old log.old.entries }
+        requires padoa { IsPadoa f.now self.now log.old.entries }
         requires existential { IsSome (existential_of f.now y) }
         requires inputs { graph.old.inputs ≡ length f.now.universals + length f.now.existentials }
         ensures fit { O.Fits oracle.new log.new }
-        ensures same { self.new ≡ self.old }
-        ensures padoa { IsPadoa f.now self.new log.new.entries }
+        ensures padoa { IsPadoa f.now self.now log.new.entries }
         ensures grew { (group : ℕ)
             → Grew (IsAddedBy f.now copies group true log.old.entries) log.old log.new }
         ensures same_givens { HasSameGivens log.old.entries log.new.entries }

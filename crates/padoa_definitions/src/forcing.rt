@@ -12,7 +12,7 @@ ghost use Rattle.oracle.specs.Calls.{IsModelUnder, assumed};
 ghost use Rattle.oracle.specs.Limits.{IsAtSomeLimit};
 ghost use Rattle.padoa_definitions.specs.Copies.{IsPadoa};
 ghost use Rattle.padoa_definitions.specs.Forcing.{IsForced};
-ghost use Rattle.padoa_definitions.specs.Growing.{HasSearched};
+ghost use Rattle.padoa_definitions.specs.Growing.{HasSameGivens, HasSearched};
 ghost use Rattle.padoa_definitions.specs.Ruling.{AreFirstCopies, ShowsClause, IsLiteralName, signed_literal, row_copies, cube_literal, cube_of};
 
 use crate::copies::copied_variable;
@@ -40,7 +40,7 @@ impl Padoa {
     /// this row: a rule that says so, whose cube is a part of the row, or values that show that it
     /// hasn't. It stops for want of memory or at the log's limit, and may be called again then.
     pub fn force<O: Oracle>(
-        &mut self,
+        &self,
         oracle: &mut O,
         f: &Formula,
         y: u64,
@@ -50,14 +50,14 @@ impl Padoa {
     ) -> Result<Forced, Stop>
         requires fit { O.Fits oracle.old log.old }
         requires formula { IsWellFormed f.now }
-        requires padoa { IsPadoa f.now self.old log.old.entries }
+        requires padoa { IsPadoa f.now self.now log.old.entries }
         requires existential { IsSome (existential_of f.now y) }
         requires row { length row.now ≡ length f.now.universals }
         ensures fit { O.Fits oracle.new log.new }
-        ensures same { self.new ≡ self.old }
-        ensures padoa { IsPadoa f.now self.new log.new.entries }
+        ensures padoa { IsPadoa f.now self.now log.new.entries }
         ensures grew { (group : ℕ)
             → Grew (IsAddedBy f.now copies group true log.old.entries) log.old log.new }
+        ensures same_givens { HasSameGivens log.old.entries log.new.entries }
         ensures forced { (e : Existential) → existential_of f.now y ≡ Some e
             → IfOk result (IsForced f.now e row.now bit) }
         ensures limit { IsErrOf result Stop.Limit → IsAtSomeLimit log.new }

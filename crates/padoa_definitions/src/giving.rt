@@ -9,7 +9,7 @@ ghost use Rattle.hint_log.specs.Growth.{Each};
 ghost use Rattle.hint_log.specs.declared.origins.Origin.{Origin as OriginValue};
 ghost use Rattle.oracle.specs.Calls.{IsMade};
 ghost use Rattle.padoa_definitions.specs.Copies.{is_copy_of, group_variable, AreCopies, AreCopiesOf, IsCopied, IsMatrixCopy};
-ghost use Rattle.padoa_definitions.specs.Growing.{HasFewFaults, Adds, AreUncopied, AreUngiven, AreVariablesNamed, IsClauseGiven, IsCopyNamed, Gives, AreGivenSoFar};
+ghost use Rattle.padoa_definitions.specs.Growing.{HasFewFaults, Adds, AreUncopied, AreUngiven, AreVariablesNamed, IsClauseGiven, IsCopyNamed, Gives, AreGivenSoFar, AreNumberedIn, LeavesUncopied};
 ghost use Rattle.oracle.specs.declared.groups.Group.{Group as GroupValue};
 
 use crate::copies::{MatrixCopy, copied_clause, name_copies};
@@ -52,6 +52,10 @@ impl<'t, 'f, 'c> Setup<'t, 'f, 'c> {
         ensures one { IfOk result (λ copy. (g : GroupValue) × (copy.groups.items ≡ g ∷ [])) }
         ensures fresh { IfOk result (λ copy. (g : GroupValue) → Contains copy.groups.items g
             → name_of log.old.entries (group_variable g) ≡ None) }
+        ensures unflagged { OnOk result (LeavesUncopied side self.now.flags.now
+            self.now.f.now.universals log.new.entries) }
+        ensures numbered { IfOk result (λ copy. AreNumberedIn self.now.f.now side copy.groups.items
+            log.new.entries) }
     {
         let mut copy = self.name_copy(oracle, side, log)?;
         let group = oracle.group(self.who, log)?;
@@ -109,6 +113,8 @@ impl<'t, 'f, 'c> Setup<'t, 'f, 'c> {
         ensures named { IfOk result (λ copy.
             AreVariablesNamed self.now.f.now side self.now.flags.now copy log.new.entries) }
         ensures no_groups { IfOk result (λ copy. copy.groups.items ≡ []) }
+        ensures unflagged { OnOk result (LeavesUncopied side self.now.flags.now
+            self.now.f.now.universals log.new.entries) }
         ensures ungiven { AreUngiven side log.new.entries }
     {
         let f = self.f;

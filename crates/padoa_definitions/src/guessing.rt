@@ -9,6 +9,7 @@ ghost use Rattle.aig_graph.specs.Made.{Extends};
 ghost use Rattle.log_laws.specs.Engines.{copies, IsAddedBy};
 ghost use Rattle.oracle.specs.Limits.{IsAtSomeLimit};
 ghost use Rattle.padoa_definitions.specs.Copies.{IsPadoa};
+ghost use Rattle.padoa_definitions.specs.Growing.{HasSameGivens};
 ghost use Rattle.padoa_definitions.specs.Guessing.{IsGuess};
 
 use crate::asking::Question;
@@ -38,7 +39,7 @@ impl Padoa {
     /// and say nothing of the existential itself. It stops for want of memory or at the log's
     /// limit, and may be called again then.
     pub fn guess<O: Oracle>(
-        &mut self,
+        &self,
         oracle: &mut O,
         graph: &mut Graph,
         f: &Formula,
@@ -48,17 +49,17 @@ impl Padoa {
     ) -> Result<Guess, Stop>
         requires fit { O.Fits oracle.old log.old }
         requires formula { IsWellFormed f.now }
-        requires padoa { IsPadoa f.now self.old log.old.entries }
+        requires padoa { IsPadoa f.now self.now log.old.entries }
         requires existential { IsSome (existential_of f.now y) }
         requires inputs { graph.old.inputs ≡ length f.now.universals + length f.now.existentials }
         requires declared { All (λ l. Contains (declared f.now) (variable_of l)) conditions.now }
         requires consistent { is_tautology conditions.now ≡ false }
         requires others { All (λ l. variable_of l ≢ y) conditions.now }
         ensures fit { O.Fits oracle.new log.new }
-        ensures same { self.new ≡ self.old }
-        ensures padoa { IsPadoa f.now self.new log.new.entries }
+        ensures padoa { IsPadoa f.now self.now log.new.entries }
         ensures grew { (group : ℕ)
             → Grew (IsAddedBy f.now copies group true log.old.entries) log.old log.new }
+        ensures same_givens { HasSameGivens log.old.entries log.new.entries }
         ensures extends { Extends graph.old graph.new }
         ensures guess { (e : Existential) → existential_of f.now y ≡ Some e
             → IfOk result (IsGuess f.now graph.new e conditions.now) }

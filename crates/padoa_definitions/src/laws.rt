@@ -2,7 +2,10 @@
 //! function without parameters.
 
 ghost use Rattle.padoa_definitions.specs.Defining.{DefinitionsAreForced};
+ghost use Rattle.padoa_definitions.specs.Leaving.{EnginesLeaveStores, RoundsLeaveStores, BeginningsLeaveStores, ClausesLeaveStores, SearchesLeaveStores, SearchesAddLive, SessionsLeaveCopies, BeginningsLeaveCopies, CopiesAreGrouped, CopiesAreStored, ActiveGroupsAreStored};
 ghost use Rattle.padoa_definitions.specs.Standing.{EnginesLeaveCopies, RoundsLeaveCopies};
+
+use log_laws::laws::engines_leave_sessions;
 
 /// Every choice that solves the formula has a definition's value.
 pub fn definitions_are_forced()
@@ -17,4 +20,63 @@ pub fn engines_leave_copies()
 /// A round leaves them as they stand.
 pub fn rounds_leave_copies()
     ensures { RoundsLeaveCopies }
+{}
+
+/// What a call adds to the log of a session, in groups of its own, leaves the active copies as they
+/// stand.
+pub fn sessions_leave_copies()
+    ensures { SessionsLeaveCopies }
+{
+    engines_leave_sessions();
+}
+
+/// The beginning of a search leaves them as they stand.
+pub fn beginnings_leave_copies()
+    ensures { BeginningsLeaveCopies }
+{}
+
+/// What another engine adds to the log of a session, in groups of its own, leaves a store of copies
+/// as it stands.
+pub fn engines_leave_stores()
+    ensures { EnginesLeaveStores }
+{}
+
+/// So does a round.
+pub fn rounds_leave_stores()
+    ensures { RoundsLeaveStores }
+{}
+
+/// So does the beginning of a search.
+pub fn beginnings_leave_stores()
+    ensures { BeginningsLeaveStores }
+{}
+
+/// So do clauses that are numbered behind all others.
+pub fn added_clauses_leave_stores()
+    ensures { ClausesLeaveStores }
+{}
+
+/// So do searches for definitions and rules.
+pub fn searches_leave_stores()
+    ensures { SearchesLeaveStores }
+{}
+
+/// What these add to the log is right in a session.
+pub fn searches_add_live()
+    ensures { SearchesAddLive }
+{}
+
+/// Copies have one group where their clauses are of one frame, and they are of one side.
+pub fn copies_are_grouped()
+    ensures { CopiesAreGrouped }
+{}
+
+/// The groups of copies are the store's.
+pub fn copies_are_stored()
+    ensures { CopiesAreStored }
+{}
+
+/// The active groups are among them.
+pub fn active_groups_are_stored()
+    ensures { ActiveGroupsAreStored }
 {}

@@ -8,6 +8,11 @@
 //! show that it isn't. The same question may be asked under conditions, which both copies then have
 //! to meet, and with what the existential sees alone. The first copy alone shows whether it is
 //! forced to have a bit where it sees what it sees at a row.
+//!
+//! In a session clauses come and go in frames, each of which has a group on either side. A clause is
+//! given when it is first live, a universal gets copies when it first stands in such a clause, and
+//! the groups of the live frames alone are active (N. Eén, N. Sörensson, "Temporal induction by
+//! incremental SAT solving", 2003).
 #![tactic(auto)]
 
 pub use copies::{MatrixCopy, copied_variable};
@@ -16,16 +21,20 @@ pub use forcing::Forced;
 pub use guessing::Guess;
 pub use padoa::Padoa;
 
+mod activating;
 mod asking;
 mod conditions;
 mod copies;
 mod defining;
+mod following;
 mod forcing;
+mod frames;
 mod giving;
 mod guessing;
 pub mod laws;
 mod links;
 mod padoa;
+mod parts;
 mod reading;
 mod searching;
 mod seeing;

@@ -1,6 +1,6 @@
 //! Equations between the copies of the variables.
 
-ghost use Rattle.std.specs.Prelude.{◌≡◌, ◌⊎◌, ℕ, true, IfOk, OnOk, None, length};
+ghost use Rattle.std.specs.Prelude.{◌≡◌, ◌⊎◌, ℕ, true, false, IfOk, OnOk, None, length};
 ghost use Rattle.dq_lits.specs.Formula.{Dqbf, declared};
 ghost use Rattle.hint_log.specs.Entries.{name_of};
 ghost use Rattle.hint_log.specs.Growth.{Each};
@@ -79,6 +79,7 @@ fn link_if_wanted<O: Oracle>(
     ensures made { IfOk result (IsMade log.new.entries) }
     ensures fresh { IfOk result (λ group. (group ≡ spare.now)
         ⊎ (name_of log.old.entries (group_variable group) ≡ None)) }
+    ensures idle { wanted ≡ false → log.new ≡ log.old }
 {
     if wanted {
         let group = link(oracle, who, twins, log)?;

@@ -3,16 +3,20 @@
 //! A universal that stands in no clause has no copies and no equation: it takes a flag and three
 //! words. Whether the matrix is true doesn't depend on it, and so no question needs it.
 
-ghost use Rattle.std.specs.Prelude.{◌≡◌, ℕ, List, true, All, Contains, IfOk, OnOk, None, length};
+ghost use Rattle.std.specs.Prelude.{◌≡◌, ℕ, List, true, All, Contains, IfOk, OnOk, None, length, replicate};
+ghost use Rattle.std.specs.List.{range_with_len};
 ghost use Rattle.dq_lits.specs.Literal.{Literal, variable_of};
 ghost use Rattle.dq_lits.specs.Formula.{IsWellFormed};
 ghost use Rattle.hint_log.specs.Entries.{name_of};
 ghost use Rattle.hint_log.specs.Growth.{Grew};
 ghost use Rattle.log_laws.specs.Engines.{copies, IsAddedBy, HasNone};
 ghost use Rattle.padoa_definitions.specs.Copies.{IsCopied, IsPadoa, IsWhole, groups_of};
+ghost use Rattle.padoa_definitions.specs.Following.{AreGiven};
 ghost use Rattle.padoa_definitions.specs.Growing.{HasCopied, HasFewFaults};
+ghost use Rattle.padoa_definitions.specs.Store.{IsCopyStore, copy_groups, store_of};
 
 use crate::copies::MatrixCopy;
+use crate::frames::Sides;
 use crate::giving::Setup;
 use crate::standing::{all_flags, standing};
 use dq_formula::Formula;
@@ -33,6 +37,14 @@ pub struct Padoa {
     pub(crate) copied: Vec<bool>,
     /// The groups of the equations, universals first.
     pub(crate) links: Vec<Group>,
+    // How many parts of a universal's copies were made: the first copy, the second, the group of
+    // their equation, and the equation's two clauses. Where memory was wanting between two of them,
+    // the next call goes on there.
+    pub(crate) parts: Vec<u8>,
+    // On how many sides each clause was given, at the place before its number, and the groups of
+    // each frame, by its number. The file is frame 0.
+    pub(crate) given: Vec<u8>,
+    pub(crate) frames: Vec<Option<Sides>>,
 }
 
 impl Padoa {
@@ -55,6 +67,11 @@ impl Padoa {
         ensures made { IfOk result (λ p. IsPadoa f.now p log.new.entries) }
         ensures fresh { IfOk result
             (λ p. All (λ g. name_of log.old.entries g ≡ None) (groups_of p)) }
+        ensures all_active { IfOk result (λ p. copy_groups p ≡ groups_of p) }
+        ensures store { IfOk result (λ p.
+            IsCopyStore f.now (replicate (length f.now.matrix) 0) p log.new.entries) }
+        ensures given { IfOk result
+            (λ p. AreGiven (store_of p) (range_with_len 1 (length f.now.matrix))) }
     {
         let copied = standing(alloc, f)?;
         Padoa::with_copies(alloc, oracle, f, copied, log)
@@ -78,6 +95,11 @@ impl Padoa {
         ensures made { IfOk result (λ p. IsPadoa f.now p log.new.entries) }
         ensures fresh { IfOk result
             (λ p. All (λ g. name_of log.old.entries g ≡ None) (groups_of p)) }
+        ensures all_active { IfOk result (λ p. copy_groups p ≡ groups_of p) }
+        ensures store { IfOk result (λ p.
+            IsCopyStore f.now (replicate (length f.now.matrix) 0) p log.new.entries) }
+        ensures given { IfOk result
+            (λ p. AreGiven (store_of p) (range_with_len 1 (length f.now.matrix))) }
         ensures whole { IfOk result (IsWhole f.now) }
     {
         let copied = all_flags(alloc, f)?;
@@ -106,6 +128,11 @@ impl Padoa {
         ensures made { IfOk result (λ p. IsPadoa f.now p log.new.entries) }
         ensures fresh { IfOk result
             (λ p. All (λ g. name_of log.old.entries g ≡ None) (groups_of p)) }
+        ensures all_active { IfOk result (λ p. copy_groups p ≡ groups_of p) }
+        ensures store { IfOk result (λ p.
+            IsCopyStore f.now (replicate (length f.now.matrix) 0) p log.new.entries) }
+        ensures given { IfOk result
+            (λ p. AreGiven (store_of p) (range_with_len 1 (length f.now.matrix))) }
         ensures flags { IfOk result (λ p. p.copied.items ≡ copied.items) }
     {
         let who = oracle.tenant()?;
@@ -119,12 +146,17 @@ impl Padoa {
         let second = setup.copy_matrix(oracle, 2, log)?;
         let spare = first.groups[0];
         let links = setup.link_copies(oracle, &first, &second, &spare, log)?;
-        Ok(Padoa {
+        let mut padoa = Padoa {
             alloc,
             first,
             second,
             copied,
             links,
-        })
+            parts: Vec::new(alloc),
+            given: Vec::new(alloc),
+            frames: Vec::new(alloc),
+        };
+        padoa.note_file(f.clauses())?;
+        Ok(padoa)
     }
 }

@@ -1,265 +1,288 @@
--- The stages of a turn: what each call leaves of the search.
-use Rattle.std.proofs.Common.{◌≡◌, ◌≢◌, ◌-◌, ◌≤◌, ◌<◌, ℕ, Bool, true, List, [], ◌∷◌, length, map, get_or, None, refl, sym, ◌∙◌, ap, subst, arith, slice_index_or, Some}
-use Rattle.std.specs.List.{All, Contains}
-use Rattle.std.proofs.lemmas.List.{get_or-map, length-map}
-use Rattle.std.proofs.lemmas.List.Elements.{All-cons}
-use Rattle.std.proofs.lemmas.Option.{slice_get-get_or}
-use Rattle.dq_lits.specs.Formula.{Dqbf, IsWellFormed, declared}
-use Rattle.hint_log.specs.Entries.{Entry, Round, ProofLog, with_entry, name_of, steps_of}
-use Rattle.hint_log.specs.Growth.{Grew}
+-- What each call leaves of a search that is under way.
+use Rattle.std.proofs.Common.{◌≡◌, ◌≢◌, inl, inr, ℕ, zero, suc, Bool, true, List, [], ◌∷◌, length, Some, refl, sym, ◌∙◌, ap, subst, arith}
+use Rattle.std.specs.List.{Contains}
+use Rattle.dq_lits.specs.Formula.{Dqbf}
+use Rattle.dq_lits.specs.Literal.{Literal, negative, variable_of}
+use Rattle.hint_log.specs.Entries.{Entry, Given, Round, ProofLog}
+use Rattle.hint_log.specs.Growth.{Each, Grew}
+use Rattle.hint_log.specs.Live.{formula_by, live_formula}
 use Rattle.hint_log.specs.Naming.{rows_of}
-use Rattle.hint_log.specs.ProductiveLog.{IsNewFailure, HasModelWith, IsProductiveLog, fault_groups, fault_room}
-use Rattle.oracle.specs.Searched.{IsSearched}
-use Rattle.log_laws.specs.Engines.{circuits, instances, IsAddedBy, EnginesLeaveRest}
-use Rattle.dq_lits.specs.Skolem.{IsSupported}
-use Rattle.aig_graph.specs.declared.nodes.Node.{Node}
-use Rattle.aig_graph.specs.Graph.{AigGraph}
-use Rattle.aig_graph.specs.Outputs.{OutputsAreSupported, output_node, outputs_of}
-use Rattle.circuit_cnf.specs.Failing.{IsFailure, FailuresRefuteRows}
+use Rattle.hint_log.specs.ProductiveLog.{RefutesNewRow, FollowsModel, IsNewFailure, HasModelWith}
+use Rattle.hint_log.specs.ProductiveSession.{frame_of}
+use Rattle.hint_log.specs.declared.origins.Origin.TheVariants.{Instance}
+use Rattle.log_laws.specs.Engines.{Engine, circuits, instances, copies, IsAddedBy}
+use Rattle.log_laws.specs.Sessions.{IsAddedLive, EnginesLeaveSessions, CircuitsAddLive}
 use Rattle.circuit_cnf.specs.declared.checkers.Checker.{Checker}
 use Rattle.circuit_cnf.specs.Checking.{IsChecker, group_of, CheckersStay, CheckersStayWithRounds}
-use Rattle.expansion.specs.Table.{TableState, IsTable, IsFullTable}
-use Rattle.expansion.specs.Standing.{EnginesLeaveTables, RoundsLeaveTables}
-use Rattle.padoa_definitions.specs.Copies.{IsPadoa, all_groups, groups_of}
-use Rattle.padoa_definitions.specs.Standing.{EnginesLeaveCopies, RoundsLeaveCopies}
+use Rattle.circuit_cnf.specs.Failing.{FailuresRefuteRows}
+use Rattle.circuit_cnf.specs.Gates.{IsGateGiven}
+use Rattle.dq_session.specs.Books.{BookState, IsInFrame, all_of, frames_of, live_of, now_of, IsBook, IsFullBook}
+use Rattle.dq_session.specs.Changes.{groups_of}
+use Rattle.dq_session.specs.Grouped.{InstancesAreGrouped}
+use Rattle.dq_session.specs.Standing.{EnginesLeaveBooks, RoundsLeaveBooks}
+use Rattle.dq_session.proofs.GroupedFrames.{frame_group}
+use Rattle.dq_session.proofs.StandingBooks.{in_one_group, has_number}
+use Rattle.padoa_definitions.specs.Leaving.{EnginesLeaveStores, RoundsLeaveStores, SessionsLeaveCopies, CopiesAreGrouped, CopiesAreStored, ActiveGroupsAreStored}
+use Rattle.padoa_definitions.specs.Standing.{RoundsLeaveCopies}
+use Rattle.padoa_definitions.specs.Store.{IsCopyStore, copy_groups}
 use Rattle.padoa_definitions.specs.declared.padoa.Padoa.{Padoa}
-use Rattle.padoa_definitions.proofs.KeptCopies.{to_mapped}
-use Rattle.padoa_definitions.proofs.StandingCopies.{groups_made}
-use Rattle.hint_log.specs.declared.names.Name.TheVariants.{Selector}
-use Rattle.known_functions.specs.Searching.{LogGrew, IsKept, IsFresh, HasInputs, AreApart, IsSearch}
-use Rattle.repair_loop.specs.Searching.{AreCandidates, AreRefuted, IsRoundLogged}
-use Rattle.repair_loop.proofs.Rows.{no_old_row}
+use Rattle.repair_loop.specs.Desks.{IsKept, IsBookAfter}
+use Rattle.repair_loop.specs.Standing.{QuestionsLeaveSearches, TurnsLeaveSearches, InstancesLeaveSearches, FailuresAreRounds, DesksAreGrouped, InstancesLeaveLogs}
+use Rattle.repair_loop.specs.Turning.{IsUnderWay}
 use Rattle.repair_loop.proofs.Extends.{extends}
-use Rattle.known_functions.proofs.Standing.{still_kept, still_undecided}
+use Rattle.repair_loop.proofs.LiveGrowth.{asked_live, same_faults, same_room, checker_left, same_prefix}
+use Rattle.repair_loop.proofs.LogGrowth.{log_grew}
+use Rattle.repair_loop.proofs.NewFaults.{others_new, turns_new}
+use Rattle.repair_loop.proofs.Rows.{no_old_row}
+use Rattle.repair_loop.proofs.StoredGroups.{apart_still}
 
-pub outputs_supported : OutputsAreSupported → (f : Dqbf) (graph : AigGraph) (nodes : List Node) →
-    All (λ y. IsSupported (outputs_of f graph nodes y)) f.existentials
-outputs_supported law f graph nodes k d below = law f graph (output_node f nodes (slice_index_or f.existentials k d))
+pub same_book : (b : BookState) → IsBookAfter b b
+same_book b = record { same = refl; many_groups = refl }
 
--- after the table found a model
-pub after_solve : EnginesLeaveRest → CheckersStay → EnginesLeaveCopies →
-    (f : Dqbf) (graph : AigGraph) (t u : TableState) (c : Checker) (p : Padoa) (silent : Bool) (old new : ProofLog)
-    → silent ≡ true → IsSearch f graph t c p old.entries → Grew
-    (IsAddedBy f instances t.group silent old.entries) old new → u ≡ t → IsFullTable f u new.entries
-    → IsSearch f graph u c p new.entries
-after_solve law stay copies_stay f graph t u c p silent old new quiet s grew same table =
-    let left = law f instances t.group silent old new grew in
-    let faults = ap length (left.faults refl) in
-    let room = left.room in
-    let before = s.faults in
+pub book_then : (a b c : BookState) → IsBookAfter a b → IsBookAfter b c → IsBookAfter a c
+book_then a b c one two = record {
+  same =
+      two.same
+      ∙ ap (λ (x : BookState). record x { table = c.table; given = c.given; groups = c.groups }) one.same;
+  many_groups = two.many_groups ∙ one.many_groups;
+}
+
+still_kept : EnginesLeaveSessions → (all : Dqbf) (engine : Engine) (groups : List ℕ) (silent : Bool)
+    (old new : ProofLog) → Grew (IsAddedLive all engine groups silent old.entries) old new → IsKept all old.entries →
+    IsKept all new.entries
+still_kept law all engine groups silent old new grew kept =
+    let left = law all engine groups silent old new grew in
     record {
-      kept = still_kept law f instances t.group silent old new grew s.kept;
-      undecided = still_undecided law f instances t.group silent old new quiet grew s.undecided;
-      table = table;
-      checked = stay f c instances t.group silent old new refl (λ e. s.apart.tables (sym e)) grew s.checked;
-      copied = copies_stay f p instances t.group silent old new grew s.apart.copies_tables s.copied;
-      apart = subst (λ v. AreApart v c p) (sym same) s.apart;
-      inputs = s.inputs;
-      faults = omega (arith, room, faults, before);
+      origins = left.origins kept.origins;
+      new_rows = left.new_rows kept.new_rows;
+      models = left.models kept.models;
+      givens = left.givens kept.givens;
     }
 
--- after the candidates were built
-pub after_build : (f : Dqbf) (graph more : AigGraph) (t : TableState) (c : Checker) (p : Padoa) (entries : List Entry) →
-    more.inputs ≡ graph.inputs
-    → IsSearch f graph t c p entries → IsSearch f more t c p entries
-after_build f graph more t c p entries same s = record {
-  kept = s.kept;
-  undecided = s.undecided;
-  table = s.table;
-  checked = s.checked;
-  copied = s.copied;
-  apart = s.apart;
-  inputs = same ∙ s.inputs;
-  faults = s.faults;
-}
+-- the search's formula is the log's
+now_live : (f : Dqbf) (b : BookState) (c : Checker) (p : Padoa) (es : List Entry) → IsUnderWay f b c p es →
+    f ≡ live_formula (all_of b) es
+now_live f b c p es way = way.now_is ∙ sym (ap (formula_by (all_of b)) way.live)
 
--- candidates that were found to fail without the solver
-pub failed_at_once : (f : Dqbf) (graph : AigGraph) (t : TableState) (c : Checker) (p : Padoa) (entries : List Entry) →
-    IsSearch f graph t c p entries → AreRefuted f t c p entries
-failed_at_once f graph t c p entries s = record {
-  kept = s.kept;
-  undecided = s.undecided;
-  table = s.table;
-  checked = s.checked;
-  copied = s.copied;
-  apart = s.apart;
-  faults = let few = s.faults in omega (arith, few);
-}
+no_groups : (p : List ℕ) (g h : ℕ) → Contains p g → Contains [] h → g ≢ h
+no_groups p g h mine (k, below, is) same = absurd (omega (arith, below))
 
-apart_as : (t u : TableState) (c d : Checker) (p : Padoa) → u.group ≡ t.group → group_of d ≡ group_of c →
-    AreApart t c p → AreApart u d p
-apart_as t u c d p tables checkers a = record {
-  tables = λ e. a.tables (sym tables ∙ e ∙ checkers);
-  copies_tables = λ k z below e. a.copies_tables k z below (e ∙ tables);
-  copies_checkers = λ k z below e. a.copies_checkers k z below (e ∙ checkers);
-}
-
--- after a turn that failed
-pub after_turn : EnginesLeaveRest → EnginesLeaveTables → EnginesLeaveCopies →
-    (f : Dqbf) (graph : AigGraph) (t : TableState) (c d : Checker) (p : Padoa) (silent : Bool) (old new : ProofLog)
-    → silent ≡ true → IsSearch f graph t c p old.entries → Grew
-    (IsAddedBy f circuits (group_of c) silent old.entries) old new → group_of d ≡ group_of c
-    → IsChecker f d new.entries → length (fault_groups new.entries) ≤ fault_room new.entries →
-    AreRefuted f t d p new.entries
-after_turn law tables copies_stay f graph t c d p silent old new quiet s grew same checker faults = record {
-  kept = still_kept law f circuits (group_of c) silent old new grew s.kept;
-  undecided = still_undecided law f circuits (group_of c) silent old new quiet grew s.undecided;
-  table = (tables f t circuits (group_of c) silent old new grew refl s.apart.tables).1 s.table;
-  checked = checker;
-  copied = copies_stay f p circuits (group_of c) silent old new grew s.apart.copies_checkers s.copied;
-  apart = apart_as t t c d p refl same s.apart;
-  faults = faults;
-}
-
--- what a failure of candidates comes to, whether the log has room for its round or not
-pub round_in_hand : FailuresRefuteRows → (f : Dqbf) (t : TableState) (c : Checker) (p : Padoa) (entries : List Entry)
-    (output : _)
-    → AreRefuted f t c p entries → AreCandidates f t.rows output → (row values : List Bool) (j : ℕ) →
-    IsFailure f output row values j
-    → IsNewFailure f entries row values j × HasModelWith f (rows_of entries) row values
-round_in_hand refute f t c p entries output a are row values j bad =
-    let well = a.table.formula in (
-      refute f output entries row values j bad
-          (λ inside. no_old_row f well.prefix t.rows are.points output are.are_points are.agree row values j bad
-          (subst (λ rows. Contains rows row) a.table.rows inside)),
-      subst (λ rows. HasModelWith f rows row values) (sym a.table.rows)
-          (extends f well.prefix t.rows are.points output are.are_points are.agree row values j bad),
+pub questions_left : EnginesLeaveSessions → EnginesLeaveBooks → EnginesLeaveStores → CheckersStay →
+    QuestionsLeaveSearches
+questions_left law books stores stay f b c p old new asked copied way =
+    let all = all_of b in
+    let now = now_live f b c p old.entries way in
+    let mine = asked_live all f copies [] old new now asked in
+    let other = asked_live all f instances [] old new now asked in
+    let left = law all copies [] true old new mine in
+    let faults = same_faults all copies [] true old new refl mine in
+    let room = same_room all copies [] true old new mine in
+    let few = way.faults in
+    let many = ap length faults in (
+      record {
+        went = record {
+          way = record {
+            formula = way.formula;
+            now_is = way.now_is;
+            live = left.live ∙ way.live;
+            kept = still_kept law all copies [] true old new mine way.kept;
+            book = (books all b copies [] true old new mine refl (no_groups (groups_of b))).0 way.book;
+            checked = same_prefix b.file all.matrix b.file.matrix c new.entries
+                (checker_left stay all copies [] true c old new refl (λ has. absurd (let below = has.1 in
+                omega (arith, below))) mine (same_prefix b.file b.file.matrix all.matrix c old.entries way.checked));
+            copied = copied;
+            stored = stores all all (frames_of b) p instances [] true old new other refl (no_groups (copy_groups p))
+                way.stored;
+            apart = way.apart;
+            faults = omega (arith, few, many, room);
+            new_faults = others_new all copies [] true old new refl mine left.before way.new_faults;
+          };
+          book = same_book b;
+          grew = log_grew all copies [] true old.entries old new mine;
+        };
+        undecided = left.decisions;
+        rows = left.rows;
+        room = room;
+        before = left.before;
+      },
+      faults,
     )
 
--- after the round is logged
-pub after_round : FailuresRefuteRows → RoundsLeaveTables → CheckersStayWithRounds → RoundsLeaveCopies →
-    (f : Dqbf) (t : TableState) (c : Checker) (p : Padoa) (old new : ProofLog) (output : _)
-    → AreRefuted f t c p old.entries → AreCandidates f t.rows output → (row values : List Bool) (j : ℕ) →
-    IsFailure f output row values j
-    → new ≡ with_entry old (Round row values j) → IsRoundLogged f t c p row new.entries
-after_round refute tables checkers copies_stay f t c p old new output a are row values j bad is =
-    let entries = old.entries in
-    let next = round_in_hand refute f t c p entries output a are row values j bad in
-    let left = tables f t row values j entries a.table in
-    let before = a.faults in
-    let here : IsRoundLogged f t c p row (Round row values j ∷ entries) = record {
-      kept = record {
-        origins = (tt, a.kept.origins);
-        new_rows = (next.0, a.kept.new_rows);
-        models =
-            (next.1, a.kept.models);
-        givens = (tt, a.kept.givens);
-      };
-      undecided = (tt, a.undecided);
-      table = left.0;
-      rows = left.1;
-      row_length = bad.row_length;
-      checked = checkers f c entries row values j a.checked;
-      copied = copies_stay f p entries row values j a.copied;
-      apart = a.apart;
-      faults = omega (arith, before);
-    } in
-    subst (λ (l : ProofLog). IsRoundLogged f t c p row l.entries) (sym is) here
+only_one : (group h : ℕ) → Contains (group ∷ []) h → group ≡ h
+only_one group h (zero, below, is) = is
+only_one group h (suc k, below, is) = absurd (omega (arith, below))
 
--- after the row is added
-pub after_row : EnginesLeaveRest → CheckersStay → EnginesLeaveCopies →
-    (f : Dqbf) (graph : AigGraph) (t u : TableState) (c : Checker) (p : Padoa) (row : List Bool) (old new : ProofLog)
-    → IsRoundLogged f t c p row old.entries → Grew (IsAddedBy f instances t.group true old.entries) old new →
-    IsFullTable f u new.entries → u.group ≡ t.group
-    → HasInputs f graph → IsSearch f graph u c p new.entries
-after_row law stay copies_stay f graph t u c p row old new a grew table same inputs =
-    let left = law f instances t.group true old new grew in
-    let faults = ap length (left.faults refl) in
-    let room = left.room in
-    let before = a.faults in
+pub turns_left : EnginesLeaveSessions → CircuitsAddLive → EnginesLeaveBooks → EnginesLeaveStores →
+    SessionsLeaveCopies → ActiveGroupsAreStored → TurnsLeaveSearches
+turns_left law add books stores sessions active f b c d p silent old new turned way =
+    let all = all_of b in
+    let group = group_of c in
+    let now = now_live f b c p old.entries way in
+    let grew = add all group silent old new
+    (subst (λ g. Grew (IsAddedBy g circuits group silent old.entries) old new) now turned.grew) in
+    let left = law all circuits (group ∷ []) silent old new grew in
+    let off_books : (g h : ℕ) → Contains (groups_of b) g → Contains (group ∷ []) h → g ≢ h =
+    λ g h mine one same. way.apart.gates (subst (Contains (groups_of b)) (same ∙ sym (only_one group h one)) mine) in
+    let off_copies : (g h : ℕ) → Contains (copy_groups p) g → Contains (group ∷ []) h → g ≢ h =
+    λ g h mine one same. way.apart.copies_gates
+    (subst (Contains (copy_groups p)) (same ∙ sym (only_one group h one)) mine) in
     record {
-      kept = still_kept law f instances t.group true old new grew a.kept;
-      undecided = still_undecided law f instances t.group true old new refl grew a.undecided;
-      table = table;
-      checked = stay f c instances t.group true old new refl (λ e. a.apart.tables (sym e)) grew a.checked;
-      copied = copies_stay f p instances t.group true old new grew a.apart.copies_tables a.copied;
-      apart = apart_as t u c c p same refl a.apart;
-      inputs = inputs;
-      faults = omega (arith, room, faults, before);
+      went = record {
+        way = record {
+          formula = way.formula;
+          now_is = way.now_is;
+          live = left.live ∙ way.live;
+          kept = still_kept law all circuits (group ∷ []) silent old new grew way.kept;
+          book = (books all b circuits (group ∷ []) silent old new grew refl off_books).0 way.book;
+          checked = same_prefix b.file (now_of b).matrix b.file.matrix d new.entries
+              (subst (λ g. IsChecker g d new.entries) way.now_is turned.checker);
+          copied = sessions f all p circuits (group ∷ []) silent old new grew
+              (λ g h mine one. off_copies g h (active all (frames_of b) p old.entries way.stored g mine) one)
+              way.copied;
+          stored = stores all all (frames_of b) p circuits (group ∷ []) silent old new grew refl off_copies way.stored;
+          apart = record {
+            gates = λ inside. way.apart.gates (subst (Contains (groups_of b)) turned.group inside);
+            copies = way.apart.copies;
+            copies_gates = λ inside. way.apart.copies_gates (subst (Contains (copy_groups p)) turned.group inside);
+          };
+          faults = turned.few;
+          new_faults = turns_new all group silent old new grew left.before
+              (subst (λ n. Each (IsGateGiven n) new.entries) turned.group turned.checker.gates.own) way.new_faults;
+        };
+        book = same_book b;
+        grew = log_grew all circuits (group ∷ []) silent old.entries old new grew;
+      };
+      undecided = left.decisions;
+      rows = left.rows;
+      room = same_room all circuits (group ∷ []) silent old new grew;
+      before = left.before;
     }
 
-pub round_grew : (old new : ProofLog) (row values : List Bool) (j : ℕ) → new ≡ with_entry old (Round row values j) →
-    LogGrew old new
-round_grew old new row values j is =
-    let steps = ap (λ (l : ProofLog). steps_of l.entries) is in
-    record { steps = omega (arith, steps); limit = ap (λ (l : ProofLog). l.limit) is }
+pub instances_left : EnginesLeaveSessions → EnginesLeaveStores → SessionsLeaveCopies → ActiveGroupsAreStored →
+    CheckersStay → InstancesLeaveSearches
+instances_left law stores sessions active stay f b after c p silent old new grew step book fresh way =
+    let same = step.same in
+    let all = all_of b in
+    let groups = groups_of b in
+    let left = law all instances groups silent old new grew in
+    let faults = same_faults all instances groups silent old new refl grew in
+    let room = same_room all instances groups silent old new grew in
+    let few = way.faults in
+    let many = ap length faults in
+    let all_same : all_of after ≡ all = ap all_of same in
+    let file_same : after.file ≡ b.file = ap (λ (x : BookState). x.file) same in
+    let off : (g h : ℕ) → Contains (copy_groups p) g → Contains groups h → g ≢ h =
+    λ g h mine other is. way.apart.copies g mine (subst (Contains groups) (sym is) other) in
+    let checked = checker_left stay all instances groups silent c old new refl way.apart.gates grew
+    (same_prefix b.file b.file.matrix all.matrix c old.entries way.checked) in
+    let stored = stores all all (frames_of b) p instances groups silent old new grew refl off way.stored in (
+      record {
+        went = record {
+          way = record {
+            formula = way.formula;
+            now_is = way.now_is ∙ sym (ap now_of same);
+            live = left.live ∙ way.live ∙ ap (λ (x : BookState). Some (live_of x)) (sym same);
+            kept = subst (λ a. IsKept a new.entries) (sym all_same)
+                (still_kept law all instances groups silent old new grew way.kept);
+            book = book;
+            checked = subst (λ g. IsChecker g c new.entries) (sym file_same)
+                (same_prefix b.file all.matrix b.file.matrix c new.entries checked);
+            copied = sessions f all p instances groups silent old new grew
+                (λ g h mine other. off g h (active all (frames_of b) p old.entries way.stored g mine) other) way.copied;
+            stored = subst (λ (x : BookState). IsCopyStore (all_of x) (frames_of x) p new.entries) (sym same) stored;
+            apart = apart_still b.file all (frames_of b) b after c p old.entries way.checked way.stored fresh way.apart;
+            faults = omega (arith, few, many, room);
+            new_faults = others_new all instances groups silent old new refl grew left.before way.new_faults;
+          };
+          book = step;
+          grew = log_grew all instances groups silent old.entries old new grew;
+        };
+        undecided = left.decisions;
+        rows = left.rows;
+        room = room;
+        before = left.before;
+      },
+      faults,
+    )
 
-pub round_counts : (old new : ProofLog) (row values : List Bool) (j : ℕ) → new ≡ with_entry old (Round row values j) →
-    steps_of old.entries < steps_of new.entries
-round_counts old new row values j is = let steps = ap (λ (l : ProofLog). steps_of l.entries) is in omega (arith, steps)
+-- what a failure of candidates comes to, whether the log has room for its round or not
+pub failure_round : FailuresRefuteRows → RoundsLeaveBooks → CheckersStayWithRounds → RoundsLeaveCopies →
+    RoundsLeaveStores → FailuresAreRounds
+failure_round refute books checkers copies_stay stores f b c p entries output row values j o are bad =
+    let way = o.way in
+    let all = all_of b in
+    let well = way.formula in
+    let rows = b.table.rows in
+    let now = now_live f b c p entries way in
+    let new : IsNewFailure f entries row values j = refute f output entries row values j bad
+    (λ inside. no_old_row f well.prefix rows are.points output are.are_points are.agree row values j bad
+    (subst (λ rs. Contains rs row) o.rows inside)) in
+    let model : HasModelWith f (rows_of entries) row values = subst (λ rs. HasModelWith f rs row values) (sym o.rows)
+    (extends f well.prefix rows are.points output are.are_points are.agree row values j bad) in
+    let full : IsFullBook b entries = record { book = way.book; rows = o.rows } in
+    let left = books b row values j entries full in
+    let few = way.faults in (
+      new,
+      model,
+      record {
+        way = record {
+          formula = well;
+          now_is = way.now_is;
+          live = way.live;
+          kept = record {
+            origins = (tt, way.kept.origins);
+            new_rows = (subst (λ g. RefutesNewRow g entries (Round row values j)) now new, way.kept.new_rows);
+            models = (subst (λ g. FollowsModel g entries (Round row values j)) now model, way.kept.models);
+            givens = (tt, way.kept.givens);
+          };
+          book = left.0;
+          checked = checkers b.file c entries row values j way.checked;
+          copied = copies_stay f p entries row values j way.copied;
+          stored = stores all (frames_of b) p entries row values j way.stored;
+          apart = way.apart;
+          faults = omega (arith, few);
+          new_faults = way.new_faults;
+        };
+        rows = left.1;
+        undecided = o.undecided;
+        row_length = bad.row_length;
+        room = omega (arith, few);
+      },
+    )
 
--- a log that isn't full has steps left
-pub steps_left : (old mid : ProofLog) → LogGrew old mid → steps_of mid.entries ≤ mid.limit →
-    (steps_of mid.entries ≡ mid.limit → ⊥) → steps_of old.entries < old.limit
-steps_left old mid grew within not_full = let s = grew.steps in let l = grew.limit in
-    omega (arith, s, l, within, not_full)
+-- an instance's group is one of the book's
+instance_group : (b : BookState) (es : List Entry) → IsBook b es → (k j group : ℕ) (rest : List Literal) →
+    Contains es (Given (Instance k j) (negative group ∷ rest)) → Contains (groups_of b) group
+instance_group b es book k j group rest has = by (frame_group b es book k j group rest has)
+  where
+    by : IsInFrame b (frame_of (frames_of b) j) (negative group ∷ rest) → Contains (groups_of b) group
+    by (inl (zero_is, inside)) = (
+      0,
+      omega arith,
+      sym (in_one_group group b.table.group (negative group ∷ rest)
+          (rest, refl) inside),
+    )
+    by (inr (g, is, inside)) = subst (Contains (groups_of b)) (sym (in_one_group group (variable_of g.selector)
+        (negative group ∷ rest) (rest, refl) inside)) (has_number b _ g is)
 
--- a turn with a round leaves fewer steps
-pub fewer_left : (a b c d : ProofLog) → LogGrew a b → LogGrew c d → LogGrew b c →
-    steps_of b.entries < steps_of c.entries → steps_of b.entries < b.limit
-    → d.limit - steps_of d.entries < a.limit - steps_of a.entries
-fewer_left a b c d one three two more left =
-    let s = one.steps in let l = one.limit in let t = three.steps in let m = three.limit in let k = two.limit in
-    omega (arith, s, l, t, m, k, more, left)
-
--- with what the solver keeps of its log, the log is productive
-pub productive : (f : Dqbf) (entries : List Entry) → IsKept f entries → IsSearched entries → IsProductiveLog f entries
-productive f entries kept searched = record {
-  givens_match_origins = kept.origins;
-  lemmas_are_derived = searched.derived;
-  lemmas_are_new = searched.new;
-  rounds_refute_new_rows = kept.new_rows;
-  rounds_follow_a_model = kept.models;
-  givens_are_not_repeated = kept.givens;
+pub desks_grouped : InstancesAreGrouped → CopiesAreGrouped → CopiesAreStored → DesksAreGrouped
+desks_grouped books grouped stored b c p entries book store apart = record {
+  instances = books b entries book;
+  copies = grouped (all_of b) (frames_of b) p entries store;
+  apart = λ k j side j' group group' rest rest' has has'. (
+    λ same. apart.copies group (subst (Contains (copy_groups p)) (sym same)
+        (stored (all_of b) (frames_of b) p entries store side j' group' rest' has'))
+        (instance_group b entries book k j group rest has),
+    λ none. absurd none,
+  );
 }
 
--- the groups of the copies were made
-groups_are_made : (f : Dqbf) (p : Padoa) (entries : List Entry) → IsPadoa f p entries →
-    All (λ g. name_of entries g ≡ Some (Selector g)) (groups_of p)
-groups_are_made f p entries is = to_mapped (λ g. name_of entries g ≡ Some (Selector g)) (all_groups p)
-    (λ g among. (groups_made f p entries is g among).named)
-
--- groups that have names are none that had none
-made_apart : (entries : List Entry) (group : ℕ) (groups : List ℕ) →
-    All (λ g. name_of entries g ≡ Some (Selector g)) groups → name_of entries group ≡ None → All (λ g. g ≢ group) groups
-made_apart entries group groups made none k d below e = let is = made k d below in let nothing =
-    ap (name_of entries) e ∙ none in cc
-
--- before the first turn
-pub begun : EnginesLeaveRest → EnginesLeaveTables → EnginesLeaveCopies → (f : Dqbf) → IsWellFormed f →
-    (graph : AigGraph) (t : TableState) (c : Checker) (p : Padoa) (first second third : ProofLog)
-    → HasInputs f graph → IsFresh f first.entries → IsPadoa f p first.entries →
-    ((group : ℕ) → Grew (IsAddedBy f instances group true first.entries) first second)
-    → name_of first.entries t.group ≡ None → IsTable f t second.entries → t.rows ≡ []
-    → ((group : ℕ) → Grew (IsAddedBy f circuits group true second.entries) second third) → IsChecker f c third.entries →
-    name_of second.entries (group_of c) ≡ None
-    → fault_groups third.entries ≡ fault_groups second.entries → IsSearch f graph t c p third.entries
-begun law tables copies_stay f well graph t c p first second third inputs start copied g new_table table rows k checker
-    fresh faults =
-    let left = law f instances 0 true first second (g 0) in
-    let apart : t.group ≢ group_of c = λ e. let is = table.group in let none : name_of second.entries t.group ≡ None =
-    ap (name_of second.entries) e ∙ fresh in cc in
-    let from_table = made_apart first.entries t.group (groups_of p)
-    (groups_are_made f p first.entries copied) new_table in
-    let still = copies_stay f p instances t.group true first second (g t.group) from_table copied in
-    let from_checker = made_apart second.entries (group_of c) (groups_of p)
-    (groups_are_made f p second.entries still) fresh in
-    let full : IsFullTable f t second.entries = record {
-      formula = well;
-      table = table;
-      rows =
-          left.rows ∙ start.no_rows ∙ sym rows;
-    } in
-    let none : length (fault_groups third.entries) ≡ 0 = ap length (faults ∙ left.faults refl ∙ start.no_faults) in
+pub logs_left : EnginesLeaveSessions → InstancesLeaveLogs
+logs_left law all groups silent old new grew =
+    let left = law all instances groups silent old new grew in
     record {
-      kept = still_kept law f circuits 0 true second third (k 0)
-          (still_kept law f instances 0 true first second (g 0) start.kept);
-      undecided = still_undecided law f circuits 0 true second third refl (k 0)
-          (still_undecided law f instances 0 true first second refl (g 0) start.undecided);
-      table = (tables f t circuits (group_of c) true second third (k (group_of c)) refl apart).1 full;
-      checked = checker;
-      copied = copies_stay f p circuits (group_of c) true second third (k (group_of c)) from_checker still;
-      apart = record { tables = apart; copies_tables = from_table; copies_checkers = from_checker };
-      inputs = inputs;
-      faults = omega (arith, none);
+      kept = still_kept law all instances groups silent old new grew;
+      undecided = left.decisions;
+      new_faults = others_new all instances groups silent old new refl grew left.before;
+      grew = log_grew all instances groups silent old.entries old new grew;
     }

@@ -1,35 +1,40 @@
 -- What stands where a step is refused.
-use Rattle.std.proofs.Common.{◌≡◌, inl, inr, ℕ, Bool, List}
+use Rattle.std.proofs.Common.{◌≡◌, inl, inr, ℕ, Bool, List, Result, Ok, Err, OnErr, refl}
 use Rattle.dq_lits.specs.Formula.{Dqbf}
 use Rattle.hint_log.specs.Entries.{ProofLog, steps_of}
+use Rattle.hint_log.specs.declared.stops.Stop.{Stop}
+use Rattle.hint_log.specs.declared.stops.Stop.TheVariants.{Memory, Limit}
 use Rattle.oracle.specs.Limits.{IsAtSomeLimit}
-use Rattle.circuit_cnf.specs.Failing.{IsFailure, FailuresRefuteRows}
+use Rattle.circuit_cnf.specs.Failing.{IsFailure}
 use Rattle.circuit_cnf.specs.declared.checkers.Checker.{Checker}
-use Rattle.expansion.specs.Table.{TableState}
+use Rattle.dq_session.specs.Books.{BookState}
 use Rattle.padoa_definitions.specs.declared.padoa.Padoa.{Padoa}
-use Rattle.repair_loop.specs.Searching.{AreCandidates, AreRefuted}
+use Rattle.repair_loop.specs.Searching.{AreCandidates}
+use Rattle.repair_loop.specs.Standing.{FailuresAreRounds}
 use Rattle.repair_loop.specs.Stopping.{IsStoppedAtLimit}
-use Rattle.repair_loop.proofs.Stages.{round_in_hand}
+use Rattle.repair_loop.specs.Turning.{IsOpen}
+
+pub on_err : {T E : Type 0} (r : Result T E) (P : Type 0) → P → OnErr r P
+on_err (Ok x) P p = tt
+on_err (Err e) P p = p
 
 -- a clause could be learned
 pub by_lemma : (f : Dqbf) (log : ProofLog) → IsAtSomeLimit log → IsStoppedAtLimit f log
 by_lemma f log at = record { reached = at.1.reached; next = inl (at.0, at.1.next) }
 
 -- a round could be logged
-pub by_round : FailuresRefuteRows → (f : Dqbf) (t : TableState) (c : Checker) (p : Padoa) (log : ProofLog) (output : _)
-    → AreRefuted f t c p log.entries → AreCandidates f t.rows output
+pub by_round : FailuresAreRounds → (f : Dqbf) (b : BookState) (c : Checker) (p : Padoa) (log : ProofLog) (output : _)
+    → IsOpen f b c p log.entries → AreCandidates f b.table.rows output
     → (row values : List Bool) (j : ℕ) → IsFailure f output row values j → steps_of log.entries ≡ log.limit →
     IsStoppedAtLimit f log
-by_round refute f t c p log output a are row values j bad reached =
-    let next = round_in_hand refute f t c p log.entries output a are row values j bad in
+by_round law f b c p log output o are row values j bad reached =
+    let next = law f b c p log.entries output row values j o are bad in
     record {
       reached = reached;
-      next = inr (record {
-        row = row;
-        values = values;
-        j = j;
-        refutes = next.0;
-        follows =
-            next.1;
-      });
+      next = inr (record { row = row; values = values; j = j; refutes = next.0; follows = next.1 });
     }
+
+-- what isn't want of memory is the limit
+pub stop_left : (e : Stop) → (e ≡ Memory → ⊥) → e ≡ Limit
+stop_left Memory other = absurd (other refl)
+stop_left Limit other = refl

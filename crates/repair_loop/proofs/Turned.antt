@@ -1,45 +1,243 @@
 -- What a turn's calls leave, one behind the other.
-use Rattle.std.proofs.Common.{◌≡◌, ◌∙◌, arith, ap, subst, ℕ, Bool, List, Result, Err, OnErr}
+use Rattle.std.proofs.Common.{◌≡◌, ◌∙◌, inl, ◌∷◌, arith, ap, sym, subst, refl, ℕ, Bool, true, List, length, None, Result, Err, OnErr, slice_index_or}
+use Rattle.std.specs.List.{All, Contains, filter_map}
+use Rattle.std.specs.Option.{option_map}
+use Rattle.dq_lits.specs.Expansion.{IsExpansionUnsatisfiable}
 use Rattle.dq_lits.specs.Formula.{Dqbf}
-use Rattle.hint_log.specs.Entries.{ProofLog}
+use Rattle.dq_formula.specs.Prefix.{existential_variables}
+use Rattle.expansion.specs.Table.{PointState, ArePoints, point_bits}
+use Rattle.dq_lits.specs.Skolem.{IsSupported}
+use Rattle.aig_graph.specs.declared.nodes.Node.{Node}
+use Rattle.aig_graph.specs.Graph.{AigGraph}
+use Rattle.aig_graph.specs.Outputs.{OutputsAreSupported, output_node, outputs_of}
+use Rattle.circuit_cnf.specs.Shown.{HoldEverywhere, IsShownSince, ShownOutputsDecide}
+use Rattle.circuit_cnf.specs.declared.checkers.Checker.{Checker}
+use Rattle.hint_log.specs.Entries.{Entry, ProofLog, name_of}
 use Rattle.hint_log.specs.Growth.{Grew}
-use Rattle.log_laws.specs.Engines.{Engine, EnginesLeaveRest, IsAddedBy}
-use Rattle.repair_loop.specs.declared.decisions.Engines.{Engines}
-use Rattle.known_functions.specs.Searching.{IsKept, LogGrew}
-use Rattle.hint_log.specs.Deciding.{IsUndecided}
+use Rattle.hint_log.specs.Live.{before_beginning}
+use Rattle.hint_log.specs.Naming.{rows_of}
+use Rattle.hint_log.specs.ProductiveLog.{fault_groups}
+use Rattle.hint_log.specs.ProductiveSession.{IsUndecidedSince}
 use Rattle.hint_log.specs.declared.stops.Stop.{Stop}
 use Rattle.hint_log.specs.declared.stops.Stop.TheVariants.{Limit}
-use Rattle.repair_loop.specs.Searching.{IsRoundLogged}
-use Rattle.repair_loop.specs.Turning.{HasGoneOn, IsNewRound, IsStoppedAs}
-use Rattle.known_functions.proofs.Standing.{log_grew, log_then, still_kept}
+use Rattle.log_laws.specs.Engines.{instances}
+use Rattle.log_laws.specs.Sessions.{IsAddedLive}
+use Rattle.dq_session.specs.Books.{BookState, number_of, all_of, live_of, now_of, IsFullBook}
+use Rattle.dq_session.specs.Changes.{groups_of, IsCaughtUp}
+use Rattle.dq_session.specs.Shown.{IsRefutedLive}
+use Rattle.padoa_definitions.specs.declared.padoa.Padoa.{Padoa}
+use Rattle.known_functions.specs.Searching.{HasInputs}
+use Rattle.repair_loop.specs.Desks.{IsKept, IsBookAfter, IsAnsweredFalse, IsAnsweredTrue}
+use Rattle.repair_loop.specs.Searching.{AreBuilt}
+use Rattle.repair_loop.specs.Standing.{IsLeft, InstancesLeaveLogs, InstancesLeaveSearches}
+use Rattle.repair_loop.specs.Turning.{LogGrew, IsModel, IsUnderWay, IsOpen, IsSearch, IsRoundLogged, HasEnded, HasGoneOn, IsNewRound, IsStoppedAs}
+use Rattle.repair_loop.proofs.LogGrowth.{log_then, log_same}
+use Rattle.repair_loop.proofs.Stages.{book_then, same_book}
+use Rattle.repair_loop.proofs.UnnamedBefore.{unnamed_since}
 
-pub went_by : EnginesLeaveRest → (f : Dqbf) (engine : Engine) (group : ℕ) (silent : Bool) (old new : ProofLog) →
-    Grew (IsAddedBy f engine group silent old.entries) old new → IsKept f old.entries → HasGoneOn f old new
-went_by law f engine group silent old new grew kept = record {
-  kept = still_kept law f engine group silent old new grew kept;
-  grew = log_grew _ old new grew;
+pub went_then : (f : Dqbf) (a b e : BookState) (c d g : Checker) (p : Padoa) (old mid new : ProofLog) →
+    HasGoneOn f a b c d p old mid → HasGoneOn f b e d g p mid new → HasGoneOn f a e c g p old new
+went_then f a b e c d g p old mid new one two = record {
+  way = two.way;
+  book = book_then a b e one.book two.book;
+  grew = log_then old mid new one.grew two.grew;
 }
 
-pub went_on : (f : Dqbf) (a b c : ProofLog) → LogGrew a b → HasGoneOn f b c → HasGoneOn f a c
-went_on f a b c one two = record { kept = two.kept; grew = log_then a b c one two.grew }
+pub nothing_went : (f : Dqbf) (b : BookState) (c : Checker) (p : Padoa) (log : ProofLog) →
+    IsUnderWay f b c p log.entries → HasGoneOn f b b c c p log log
+nothing_went f b c p log way = record { way = way; book = same_book b; grew = log_same log log refl }
 
-pub round_after : (f : Dqbf) (e : Engines) (row here : List Bool) (a b c : ProofLog) → row ≡ here → LogGrew a b →
-    IsNewRound f e row b c → IsNewRound f e here a c
-round_after f e row here a b c same grew round =
+pub caught_up_after : (b after : BookState) → IsCaughtUp b after → IsBookAfter b after
+caught_up_after b after up = record {
+  same =
+      up.same ∙ ap (λ t. record b { table = t; given = after.given; groups = after.groups })
+      (sym (ap (λ (x : BookState). x.table) up.same));
+  many_groups = up.many_groups;
+}
+
+pub row_after : (b after : BookState) → after ≡ record b { table = after.table } → IsBookAfter b after
+row_after b after same = record {
+  same =
+      same ∙ ap (λ gs. record b { table = after.table; given = gs })
+      (sym (ap (λ (x : BookState). x.given) same))
+      ∙ ap (λ gs. record b { table = after.table; given = after.given; groups = gs })
+      (sym (ap (λ (x : BookState). x.groups) same));
+  many_groups = ap (λ (x : BookState). length x.groups) same;
+}
+
+-- nothing was decided
+pub left_open : (f : Dqbf) (b after : BookState) (c d : Checker) (p : Padoa) (silent : Bool) (old new : ProofLog) →
+    silent ≡ true → IsLeft f b after c d p silent old new → rows_of new.entries ≡ after.table.rows →
+    IsUndecidedSince (all_of b) old.entries → IsOpen f after d p new.entries
+left_open f b after c d p silent old new quiet left rows before = record {
+  way = left.went.way;
+  rows = rows;
+  undecided = subst (λ a. IsUndecidedSince a new.entries) (sym (ap all_of left.went.book.same))
+      (left.undecided quiet before);
+}
+
+pub left_search : (f : Dqbf) (graph more : AigGraph) (b after : BookState) (c d : Checker) (p : Padoa) (silent : Bool)
+    (old new : ProofLog) → silent ≡ true → IsLeft f b after c d p silent old new →
+    fault_groups new.entries ≡ fault_groups old.entries → rows_of new.entries ≡ after.table.rows →
+    more.inputs ≡ graph.inputs →
+    IsSearch f graph b c p old.entries → IsSearch f more after d p new.entries
+left_search f graph more b after c d p silent old new quiet left faults rows same s =
+    let few = s.room in
+    let many = ap length faults in
+    let room = left.room in
+    record {
+      here = left_open f b after c d p silent old new quiet left rows s.here.undecided;
+      inputs = same ∙ s.inputs;
+      room = omega (arith, few, many, room);
+    }
+
+pub refuted_after : (b after : BookState) (es : List Entry) (id : ℕ) → IsBookAfter b after → IsRefutedLive b es id →
+    IsRefutedLive after es id
+refuted_after b after es id same r = record {
+  clause = r.clause;
+  hints = r.hints;
+  earlier = r.earlier;
+  answered = r.answered;
+  last = r.last;
+  decides = r.decides;
+  live = λ k j c reached. subst (λ ns. Contains ns j) (sym (ap live_of same.same)) (r.live k j c reached);
+}
+
+pub answered_false : (b after : BookState) (log : ProofLog) (id : ℕ) → IsBookAfter b after →
+    rows_of log.entries ≡ b.table.rows → IsExpansionUnsatisfiable (now_of b) b.table.rows →
+    IsRefutedLive b log.entries id → IsAnsweredFalse after log id
+answered_false b after log id same rows none shown = record {
+  unsatisfiable = subst (λ f. IsExpansionUnsatisfiable f (rows_of log.entries)) (sym (ap now_of same.same))
+      (subst (IsExpansionUnsatisfiable (now_of b)) (sym rows) none);
+  shown = refuted_after b after log.entries id same shown;
+}
+
+-- a round's row is the same
+pub round_after : (f : Dqbf) (b : BookState) (c : Checker) (p : Padoa) (row here : List Bool) (old mid new : ProofLog) →
+    row ≡ here → LogGrew old mid → IsNewRound f b c p row mid new → IsNewRound f b c p here old new
+round_after f b c p row here old mid new same grew round =
     let steps = grew.steps in
     let limit = grew.limit in
     let more = round.step in
     let within = round.within in
     record {
-      logged = subst (λ r. IsRoundLogged f e.table e.checker e.definitions.padoa r c.entries) same round.logged;
+      logged = subst (λ r. IsRoundLogged f b c p r new.entries) same round.logged;
       step = omega (arith, steps, more);
       within = omega (arith, steps, limit, within);
     }
 
 -- a call that stopped as another one did
-pub stopped_on : {T U : Type 0} (f : Dqbf) (log : ProofLog) (r : Result T Stop) (e : Stop) → r ≡ Err e →
-    IsStoppedAs f log r → IsStoppedAs {T = U} f log (Err e)
-stopped_on f log r e was s = record {
-  undecided = subst (λ (x : Result _ Stop). OnErr x (IsUndecided f log.entries)) was s.undecided;
+pub stopped_on : {T U : Type 0} (f : Dqbf) (b : BookState) (log : ProofLog) (r : Result T Stop) (e : Stop) →
+    r ≡ Err e → IsStoppedAs f b log r → IsStoppedAs {T = U} f b log (Err e)
+stopped_on f b log r e was s = record {
+  undecided = subst (λ (x : Result _ Stop). OnErr x (IsUndecidedSince (all_of b) log.entries)) was s.undecided;
   limit = λ is. let same : e ≡ Limit = cc in s.limit (was ∙ ap (λ x. Err x) same);
+  rows = λ is. let same : e ≡ Limit = cc in s.rows (was ∙ ap (λ x. Err x) same);
 }
+
+-- with its row a book is whole again
+pub row_search : InstancesLeaveSearches → (f : Dqbf) (graph : AigGraph) (b after : BookState) (c : Checker) (p : Padoa)
+    (row : List Bool) (old new : ProofLog)
+    → IsRoundLogged f b c p row old.entries
+    → Grew (IsAddedLive (all_of b) instances (groups_of b) true old.entries) old new
+    → after ≡ record b { table = after.table } → after.table.group ≡ b.table.group → IsFullBook after new.entries
+    → HasInputs f graph → IsLeft f b after c c p true old new × IsSearch f graph after c p new.entries
+row_search law f graph b after c p row old new a grew same group full inputs =
+    let groups : groups_of after ≡ groups_of b =
+    ap groups_of same ∙ ap (λ g. g ∷ filter_map (option_map number_of) b.groups) group in
+    let left = law f b after c p true old new grew (row_after b after same) full.book
+    (λ n has. inl (subst (λ gs. Contains gs n) groups has)) a.way in
+    let few = a.room in
+    let many = ap length left.1 in
+    let room = left.0.room in (
+      left.0,
+      record {
+        here = left_open f b after c c p true old new refl left.0 full.rows a.undecided;
+        inputs = inputs;
+        room = omega (arith, few, many, room);
+      },
+    )
+
+pub after_undecided : (b after : BookState) (es : List Entry) → IsBookAfter b after → IsUndecidedSince (all_of b) es →
+    IsUndecidedSince (all_of after) es
+after_undecided b after es same u = subst (λ g. IsUndecidedSince g es) (sym (ap all_of same.same)) u
+
+-- the book's model
+pub model_of : (f : Dqbf) (b after : BookState) (points : PointState) (es : List Entry) (c : Checker) (p : Padoa) →
+    IsUnderWay f b c p es → IsCaughtUp b after → points.variables ≡ b.table.existentials →
+    length points.rows ≡ length b.table.rows → ArePoints (now_of b) b.table.rows (point_bits points) →
+    IsModel f after.table points
+model_of f b after points es c p way up variables rows model =
+    let table : after.table ≡ b.table = ap (λ (x : BookState). x.table) up.same in
+    subst (λ t. IsModel f t points) (sym table) (record {
+      whole = subst (λ g. All (λ row. length row ≡ length g.universals) b.table.rows) (sym way.now_is)
+          way.book.table.own.whole;
+      variables = variables ∙ way.book.table.existentials ∙ ap existential_variables (sym way.now_is);
+      rows = rows;
+      are_points = subst (λ g. ArePoints g b.table.rows (point_bits points)) (sym way.now_is) model;
+    })
+
+pub outputs_supported : OutputsAreSupported → (f : Dqbf) (graph : AigGraph) (nodes : List Node) →
+    All (λ y. IsSupported (outputs_of f graph nodes y)) f.existentials
+outputs_supported law f graph nodes k d below =
+    law f graph (output_node f nodes (slice_index_or f.existentials k d))
+
+-- outputs that hold
+pub answered_true : OutputsAreSupported → ShownOutputsDecide → (f : Dqbf) (graph : AigGraph) (rows : List (List Bool))
+    (nodes : List Node) (old log : ProofLog) (id : ℕ) → AreBuilt f graph rows nodes
+    → HoldEverywhere f (outputs_of f graph nodes) → before_beginning log.entries ≡ before_beginning old.entries
+    → IsShownSince f graph nodes old.entries log.entries id → IsAnsweredTrue f graph nodes log id
+answered_true supported decide f graph rows nodes old log id built holds same since =
+    let shown = since.shown in
+    let right = decide f graph nodes shown.earlier shown.clause shown.hints shown.shows built.reads in
+    record {
+      found = record {
+        one_each = built.one_each;
+        are_nodes = built.are_nodes;
+        functions = record {
+          supported = outputs_supported supported f graph nodes;
+          reads_declared = built.reads;
+          holds = holds;
+        };
+        shown = shown;
+      };
+      decides = record { rests = shown.shows.rests; reads = right.reads };
+      current =
+          let last : before_beginning shown.earlier ≡ before_beginning log.entries =
+          sym (ap before_beginning shown.answered) in
+          subst (λ es. name_of es shown.shows.rests.group ≡ None) (sym (last ∙ same))
+          (unnamed_since old.entries shown.shows.rests.group since.fresh);
+    }
+
+-- a search that went on, so far
+pub ended_by : (f : Dqbf) (b after : BookState) (c d : Checker) (p : Padoa) (old new : ProofLog) →
+    HasGoneOn f b after c d p old new → HasEnded b after old new
+ended_by f b after c d p old new went = record {
+  kept = subst (λ a. IsKept a new.entries) (ap all_of went.book.same) went.way.kept;
+  new_faults = went.way.new_faults;
+  book = went.book;
+  grew = went.grew;
+}
+
+-- a row was refused
+pub row_refused : InstancesLeaveLogs → (f : Dqbf) (b after : BookState) (c : Checker) (p : Padoa) (row : List Bool)
+    (first old new : ProofLog) (start : BookState) → HasEnded start b first old → IsRoundLogged f b c p row old.entries
+    → Grew (IsAddedLive (all_of b) instances (groups_of b) true old.entries) old new
+    → after ≡ record b { table = after.table } → HasEnded start after first new
+row_refused law f b after c p row first old new start ended a grew same =
+    let left = law (all_of b) (groups_of b) true old new grew in
+    record {
+      kept = subst (λ g. IsKept g new.entries) (ap all_of ended.book.same) (left.kept a.way.kept);
+      new_faults = left.new_faults a.way.new_faults;
+      book = book_then start b after ended.book (row_after b after same);
+      grew = log_then first old new ended.grew left.grew;
+    }
+
+pub row_undecided : InstancesLeaveLogs → (f : Dqbf) (b after : BookState) (c : Checker) (p : Padoa) (row : List Bool)
+    (old new : ProofLog) → IsRoundLogged f b c p row old.entries
+    → Grew (IsAddedLive (all_of b) instances (groups_of b) true old.entries) old new
+    → after ≡ record b { table = after.table } → IsUndecidedSince (all_of after) new.entries
+row_undecided law f b after c p row old new a grew same =
+    let left = law (all_of b) (groups_of b) true old new grew in
+    subst (λ g. IsUndecidedSince g new.entries) (sym (ap all_of (row_after b after same).same))
+    (left.undecided refl a.undecided)

@@ -1,4 +1,7 @@
 pub mod Searching
-pub mod Turning
+pub mod Desks
+pub mod Changes
 pub mod Stopping
-pub mod Refuting
+pub mod Turning
+pub mod Standing
+pub mod Beginning

@@ -1,24 +1,25 @@
 //! Candidates from a model of the expansion.
 
-ghost use Rattle.std.specs.Prelude.{◌≡◌, ℕ, Ok};
+ghost use Rattle.std.specs.Prelude.{◌≡◌, ℕ, true, IsErrOf, Ok};
 ghost use Rattle.aig_graph.specs.Made.{Extends};
-ghost use Rattle.repair_loop.specs.Searching.{IsShownFalse};
+ghost use Rattle.circuit_cnf.specs.declared.checkers.Checker.{Checker as CheckerState};
+ghost use Rattle.hint_log.specs.Naming.{rows_of};
 ghost use Rattle.known_functions.specs.Forcing.{AreKnownIn};
-ghost use Rattle.repair_loop.specs.Turning.{AreProposed, HasGoneOn, IsSearchOf, IsStoppedAs};
+ghost use Rattle.oracle.specs.Limits.{IsAtSomeLimit};
+ghost use Rattle.repair_loop.specs.Desks.{IsAnsweredFalse};
+ghost use Rattle.repair_loop.specs.Standing.{IsLeft};
+ghost use Rattle.repair_loop.specs.Turning.{AreProposed, HasGoneOn, IsModel, IsSearch, IsStoppedAs};
 
-use crate::decisions::Engines;
+use crate::searches::{Known, Search};
+use crate::standing::{instances_leave_searches, questions_leave_searches};
 use aig_graph::Graph;
 use candidate_functions::{Outputs, build};
 use circuit_cnf::Checker;
-use circuit_cnf::laws::checkers_stay;
-use dq_formula::Formula;
-use expansion::{Exp, Table};
+use dq_session::Book;
+use expansion::{Exp, Points};
 use hint_log::{Log, Stop};
 use known_functions::TableModel;
-use log_laws::laws::engines_leave_the_rest;
 use oracle::Oracle;
-use padoa_definitions::laws::engines_leave_copies;
-use std::alloc::Global;
 
 // Candidates, or the id of the answer that refutes the rows.
 #[derive(Drop)]
@@ -27,55 +28,93 @@ pub(crate) enum Proposal {
     Refuted(u64),
 }
 
-impl Engines {
+impl<'f, 'p> Search<'f, 'p> {
     // Candidates from a model of the instances, what it forces at the newest row, and the
     // definitions that there are.
     pub(crate) fn find_candidates<O: Oracle>(
-        &mut self,
+        &self,
         oracle: &mut O,
         graph: &mut Graph,
-        f: &Formula,
+        book: &mut Book,
+        known: &mut Known,
         log: &mut Log,
     ) -> Result<Proposal, Stop>
         requires fit { O.Fits oracle.old log.old }
-        requires search { IsSearchOf f.now graph.old self.old log.old.entries }
-        requires known { AreKnownIn f.now graph.old self.old.definitions }
+        requires search { (c : CheckerState)
+            × IsSearch self.now.f.now graph.old book.old c self.now.padoa.now log.old.entries }
+        requires known { AreKnownIn self.now.f.now graph.old known.old.definitions }
         ensures fit { O.Fits oracle.new log.new }
         ensures extends { Extends graph.old graph.new }
-        ensures went { HasGoneOn f.now log.old log.new }
+        ensures went { (c : CheckerState)
+            → IsSearch self.now.f.now graph.old book.old c self.now.padoa.now log.old.entries
+            → HasGoneOn self.now.f.now book.old book.new c c self.now.padoa.now log.old log.new }
+        ensures rows { rows_of log.new.entries ≡ book.new.table.rows }
         ensures refuted { (id : ℕ) → result ≡ Ok (Proposal.Refuted id)
-            → IsShownFalse f.now log.new id }
-        ensures proposed { (outputs : _) → result ≡ Ok (Proposal.Candidates outputs)
-            → AreProposed f.now graph.new self.new outputs log.new.entries }
-        ensures stopped { IsStoppedAs f.now log.new result }
+            → IsAnsweredFalse book.new log.new id }
+        ensures proposed { (c : CheckerState) (outputs : _)
+            → IsSearch self.now.f.now graph.old book.old c self.now.padoa.now log.old.entries
+            → result ≡ Ok (Proposal.Candidates outputs)
+            → AreProposed self.now.f.now graph.new book.new c self.now.padoa.now
+            known.new.definitions outputs log.new.entries }
+        ensures stopped { IsStoppedAs self.now.f.now book.new log.new result }
     {
-        engines_leave_the_rest();
-        checkers_stay();
-        engines_leave_copies();
-        match self.table.solve(oracle, log)? {
+        instances_leave_searches();
+        match book.solve(oracle, log)? {
             Exp::Refuted(id) => Ok(Proposal::Refuted(id)),
             Exp::Model(points) => {
-                let model = TableModel {
-                    table: &self.table,
-                    points: &points,
-                };
-                self.definitions.force_all(oracle, f, &model, log)?;
-                let definitions = &self.definitions;
-                let outputs = build(
-                    self.alloc,
-                    f,
-                    &self.table,
-                    &points,
-                    definitions.samples(),
-                    &mut self.trees,
-                    &definitions.rules,
-                    &definitions.ranks,
-                    &definitions.nodes,
-                    &definitions.guesses,
-                    graph,
-                )?;
+                let outputs = self.propose(oracle, graph, book, &points, known, log)?;
                 Ok(Proposal::Candidates(outputs))
             }
         }
+    }
+
+    // Candidates from this model.
+    fn propose<O: Oracle>(
+        &self,
+        oracle: &mut O,
+        graph: &mut Graph,
+        book: &Book,
+        points: &Points,
+        known: &mut Known,
+        log: &mut Log,
+    ) -> Result<Outputs, Stop>
+        requires fit { O.Fits oracle.old log.old }
+        requires search { (c : CheckerState)
+            × IsSearch self.now.f.now graph.old book.now c self.now.padoa.now log.old.entries }
+        requires known { AreKnownIn self.now.f.now graph.old known.old.definitions }
+        requires model { IsModel self.now.f.now book.now.table points.now }
+        ensures fit { O.Fits oracle.new log.new }
+        ensures extends { Extends graph.old graph.new }
+        ensures left { (c : CheckerState)
+            → IsSearch self.now.f.now graph.old book.now c self.now.padoa.now log.old.entries
+            → IsLeft self.now.f.now book.now book.now c c self.now.padoa.now true log.old log.new }
+        ensures proposed { (c : CheckerState) (outputs : _)
+            → IsSearch self.now.f.now graph.old book.now c self.now.padoa.now log.old.entries
+            → result ≡ Ok outputs
+            → AreProposed self.now.f.now graph.new book.now c self.now.padoa.now
+            known.new.definitions outputs log.new.entries }
+        ensures limit { IsErrOf result Stop.Limit → IsAtSomeLimit log.new }
+    {
+        questions_leave_searches();
+        let model = TableModel {
+            table: book.table(),
+            points,
+        };
+        let definitions = &mut known.definitions;
+        definitions.force_all(oracle, self.padoa, self.f, &model, log)?;
+        let outputs = build(
+            self.alloc,
+            self.f,
+            book.table(),
+            points,
+            definitions.samples(),
+            &mut known.trees,
+            &definitions.rules,
+            &definitions.ranks,
+            &definitions.nodes,
+            &definitions.guesses,
+            graph,
+        )?;
+        Ok(outputs)
     }
 }

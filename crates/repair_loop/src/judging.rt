@@ -4,25 +4,24 @@ ghost use Rattle.std.specs.Prelude.{◌≡◌, ℕ, List, Bool, IfOk, IfSome, On
 ghost use Rattle.dq_lits.specs.Formula.{IsWellFormed};
 ghost use Rattle.aig_graph.specs.Outputs.{outputs_of};
 ghost use Rattle.circuit_cnf.specs.Failing.{IsFailure};
+ghost use Rattle.circuit_cnf.specs.declared.checkers.Checker.{Checker as CheckerState};
+ghost use Rattle.hint_log.specs.Naming.{rows_of};
 ghost use Rattle.known_functions.specs.Searching.{HasInputs};
-ghost use Rattle.repair_loop.specs.Searching.{AreBuilt, AreRefuted, IsShownTrue};
-ghost use Rattle.repair_loop.specs.Turning.{IsSearchOf, HasGoneOn, IsNewRound, IsStoppedAs};
+ghost use Rattle.repair_loop.specs.Desks.{IsAnsweredTrue};
+ghost use Rattle.repair_loop.specs.Searching.{AreBuilt};
+ghost use Rattle.repair_loop.specs.Turning.{HasGoneOn, IsNewRound, IsOpen, IsSearch, IsStoppedAs};
 
-use crate::decisions::Engines;
+use crate::searches::{Known, Search};
+use crate::standing::{failures_are_rounds, turns_leave_searches};
 use aig_graph::Graph;
 use aig_graph::laws::outputs_are_supported;
 use candidate_functions::Outputs;
-use circuit_cnf::laws::{checkers_stay_with_rounds, failures_refute_rows};
+use circuit_cnf::laws::shown_outputs_decide;
 use circuit_cnf::{Checker, Failure, Turn, failure_at};
-use dq_formula::Formula;
 use dq_lits::{Memory, Row};
-use expansion::Table;
-use expansion::laws::{engines_leave_tables, rounds_leave_tables};
+use dq_session::Book;
 use hint_log::{Log, Stop};
-use log_laws::laws::engines_leave_the_rest;
 use oracle::Oracle;
-use padoa_definitions::Padoa;
-use padoa_definitions::laws::{engines_leave_copies, rounds_leave_copies};
 
 // Candidates hold, by the answer of this id; or they fail under a row, whose round is logged.
 #[derive(Drop)]
@@ -38,48 +37,59 @@ pub(crate) struct Candidates<'g, 'o> {
     pub outputs: &'o Outputs,
 }
 
-impl Engines {
+impl<'f, 'p> Search<'f, 'p> {
     // Checks candidates, and logs a round where they fail: at a row that is known to refute the
     // formula, if there is one, else where the solver finds that they do.
     pub(crate) fn judge<O: Oracle>(
-        &mut self,
+        &self,
         oracle: &mut O,
-        f: &Formula,
         candidates: &Candidates,
+        book: &Book,
+        checker: &mut Checker,
+        known: &Known,
         log: &mut Log,
     ) -> Result<Judged, Stop>
         requires fit { O.Fits oracle.old log.old }
-        requires search { IsSearchOf f.now candidates.now.graph.now self.old log.old.entries }
-        requires candidates { AreBuilt f.now candidates.now.graph.now self.old.table.rows
+        requires search { IsSearch self.now.f.now candidates.now.graph.now book.now checker.old
+            self.now.padoa.now log.old.entries }
+        requires candidates { AreBuilt self.now.f.now candidates.now.graph.now book.now.table.rows
             candidates.now.outputs.now }
         ensures fit { O.Fits oracle.new log.new }
-        ensures definitions { self.new.definitions ≡ self.old.definitions }
-        ensures went { HasGoneOn f.now log.old log.new }
+        ensures went { HasGoneOn self.now.f.now book.now book.now checker.old checker.new
+            self.now.padoa.now log.old log.new }
         ensures hold { (id : ℕ) → result ≡ Ok (Judged.Hold id)
-            → IsShownTrue f.now candidates.now.graph.now candidates.now.outputs.now log.new id }
+            → IsAnsweredTrue self.now.f.now candidates.now.graph.now candidates.now.outputs.now
+            log.new id }
+        ensures rows { (id : ℕ) → result ≡ Ok (Judged.Hold id)
+            → rows_of log.new.entries ≡ book.now.table.rows }
         ensures fail { (row : List Bool) → result ≡ Ok (Judged.Fail row)
-            → IsNewRound f.now self.new row log.old log.new }
-        ensures stopped { IsStoppedAs f.now log.new result }
+            → IsNewRound self.now.f.now book.now checker.new self.now.padoa.now row log.old log.new }
+        ensures stopped { IsStoppedAs self.now.f.now book.now log.new result }
     {
-        if let Some(failure) = self.known_failure(f, candidates)? {
-            self.log_failure(oracle, f, candidates, &failure, log)?;
+        if let Some(failure) = self.known_failure(candidates, known)? {
+            self.log_failure(oracle, candidates, book, checker, &failure, log)?;
             return Ok(Judged::Fail(failure.row));
         }
-        self.judge_by_solver(oracle, f, candidates, log)
+        self.judge_by_solver(oracle, candidates, book, checker, known, log)
     }
 
     // How candidates fail at one of the rows that are known to refute the formula.
-    fn known_failure(&self, f: &Formula, candidates: &Candidates) -> Result<Option<Failure>, Memory>
-        requires formula { IsWellFormed f.now }
-        requires inputs { HasInputs f.now candidates.now.graph.now }
-        requires candidates { AreBuilt f.now candidates.now.graph.now self.now.table.rows
-            candidates.now.outputs.now }
-        ensures { IfOk result (λ found. IfSome found (λ failure. IsFailure f.now
-            (outputs_of f.now candidates.now.graph.now candidates.now.outputs.now) failure.row
-            failure.values failure.j)) }
+    fn known_failure(
+        &self,
+        candidates: &Candidates,
+        known: &Known,
+    ) -> Result<Option<Failure>, Memory>
+        requires formula { IsWellFormed self.now.f.now }
+        requires inputs { HasInputs self.now.f.now candidates.now.graph.now }
+        requires candidates { (rows : List (List Bool)) × AreBuilt self.now.f.now
+            candidates.now.graph.now rows candidates.now.outputs.now }
+        ensures { IfOk result (λ found. IfSome found (λ failure. IsFailure self.now.f.now
+            (outputs_of self.now.f.now candidates.now.graph.now candidates.now.outputs.now)
+            failure.row failure.values failure.j)) }
     {
+        let f = self.f;
         let nodes = candidates.outputs.items();
-        for row in self.definitions.refuting_rows() {
+        for row in known.definitions.refuting_rows() {
             if row.len() == f.universals().len() {
                 let found = failure_at(self.alloc, candidates.graph, f, nodes, row)?;
                 if found.is_some() {
@@ -94,28 +104,29 @@ impl Engines {
     fn log_failure<O: Oracle>(
         &self,
         oracle: &O,
-        f: &Formula,
         candidates: &Candidates,
+        book: &Book,
+        checker: &Checker,
         failure: &Failure,
         log: &mut Log,
     ) -> Result<(), Stop>
         requires fit { O.Fits oracle.now log.old }
-        requires refuted { AreRefuted f.now self.now.table self.now.checker
-            self.now.definitions.padoa log.old.entries }
-        requires candidates { AreBuilt f.now candidates.now.graph.now self.now.table.rows
+        requires here { IsOpen self.now.f.now book.now checker.now self.now.padoa.now
+            log.old.entries }
+        requires candidates { AreBuilt self.now.f.now candidates.now.graph.now book.now.table.rows
             candidates.now.outputs.now }
-        requires failure { IsFailure f.now
-            (outputs_of f.now candidates.now.graph.now candidates.now.outputs.now)
+        requires failure { IsFailure self.now.f.now
+            (outputs_of self.now.f.now candidates.now.graph.now candidates.now.outputs.now)
             failure.now.row failure.now.values failure.now.j }
         ensures fit { O.Fits oracle.now log.new }
-        ensures went { HasGoneOn f.now log.old log.new }
-        ensures round { OnOk result (IsNewRound f.now self.now failure.now.row log.old log.new) }
-        ensures stopped { IsStoppedAs f.now log.new result }
+        ensures went { HasGoneOn self.now.f.now book.now book.now checker.now checker.now
+            self.now.padoa.now log.old log.new }
+        ensures round { OnOk result (IsNewRound self.now.f.now book.now checker.now
+            self.now.padoa.now failure.now.row log.old log.new) }
+        ensures stopped { IsStoppedAs self.now.f.now book.now log.new result }
     {
-        rounds_leave_tables();
-        checkers_stay_with_rounds();
-        failures_refute_rows();
-        rounds_leave_copies();
+        failures_are_rounds();
+        let _ = &self.alloc;
         let _ = log.steps();
         log.round(&failure.row, &failure.values, failure.j)?;
         Ok(())
@@ -123,35 +134,42 @@ impl Engines {
 
     // Checks candidates by the solver, and logs a round where they fail.
     fn judge_by_solver<O: Oracle>(
-        &mut self,
+        &self,
         oracle: &mut O,
-        f: &Formula,
         candidates: &Candidates,
+        book: &Book,
+        checker: &mut Checker,
+        known: &Known,
         log: &mut Log,
     ) -> Result<Judged, Stop>
         requires fit { O.Fits oracle.old log.old }
-        requires search { IsSearchOf f.now candidates.now.graph.now self.old log.old.entries }
-        requires candidates { AreBuilt f.now candidates.now.graph.now self.old.table.rows
+        requires search { IsSearch self.now.f.now candidates.now.graph.now book.now checker.old
+            self.now.padoa.now log.old.entries }
+        requires candidates { AreBuilt self.now.f.now candidates.now.graph.now book.now.table.rows
             candidates.now.outputs.now }
         ensures fit { O.Fits oracle.new log.new }
-        ensures definitions { self.new.definitions ≡ self.old.definitions }
-        ensures went { HasGoneOn f.now log.old log.new }
+        ensures went { HasGoneOn self.now.f.now book.now book.now checker.old checker.new
+            self.now.padoa.now log.old log.new }
         ensures hold { (id : ℕ) → result ≡ Ok (Judged.Hold id)
-            → IsShownTrue f.now candidates.now.graph.now candidates.now.outputs.now log.new id }
+            → IsAnsweredTrue self.now.f.now candidates.now.graph.now candidates.now.outputs.now
+            log.new id }
+        ensures rows { (id : ℕ) → result ≡ Ok (Judged.Hold id)
+            → rows_of log.new.entries ≡ book.now.table.rows }
         ensures fail { (row : List Bool) → result ≡ Ok (Judged.Fail row)
-            → IsNewRound f.now self.new row log.old log.new }
-        ensures stopped { IsStoppedAs f.now log.new result }
+            → IsNewRound self.now.f.now book.now checker.new self.now.padoa.now row log.old log.new }
+        ensures stopped { IsStoppedAs self.now.f.now book.now log.new result }
     {
-        engines_leave_the_rest();
-        engines_leave_tables();
-        engines_leave_copies();
+        turns_leave_searches();
         outputs_are_supported();
+        shown_outputs_decide();
+        let f = self.f;
         let nodes = candidates.outputs.items();
-        match self.checker.turn(oracle, candidates.graph, f, nodes, log)? {
+        match checker.turn(oracle, candidates.graph, f, nodes, log)? {
             Turn::Holds(id) => Ok(Judged::Hold(id)),
             Turn::Fails { row, values, j } => {
-                let failure = self.find_worse(f, candidates, Failure { row, values, j });
-                self.log_failure(oracle, f, candidates, &failure, log)?;
+                let found = Failure { row, values, j };
+                let failure = self.find_worse(candidates, book, known, found);
+                self.log_failure(oracle, candidates, book, checker, &failure, log)?;
                 Ok(Judged::Fail(failure.row))
             }
         }

@@ -4,9 +4,14 @@
 #![tactic(auto)]
 
 pub use decisions::{Verdict, decide};
+pub use desks::Desk;
 
 mod candidates;
 mod decisions;
+mod desks;
+mod false_rows;
 mod judging;
-mod universal_clauses;
+pub mod laws;
+mod searches;
+mod standing;
 mod worse_rows;

@@ -1,48 +1,50 @@
 //! Failing rows at which more clauses are false. Where a formula is clauses rather than circuits, a
 //! row tells the more the more clauses are false there, and the solver looks for one alone.
 
-ghost use Rattle.std.specs.Prelude.{◌≡◌, length, IfSome};
+ghost use Rattle.std.specs.Prelude.{◌≡◌, List, Bool, length, IfSome};
 ghost use Rattle.dq_lits.specs.Formula.{IsWellFormed};
 ghost use Rattle.aig_graph.specs.Outputs.{outputs_of};
 ghost use Rattle.circuit_cnf.specs.Failing.{IsFailure};
 ghost use Rattle.known_functions.specs.Searching.{HasInputs};
 ghost use Rattle.repair_loop.specs.Searching.{AreBuilt};
 
-use crate::decisions::Engines;
 use crate::judging::Candidates;
+use crate::searches::{Known, Search};
 use circuit_cnf::{Failure, failure_at};
 use dq_formula::Formula;
 use dq_lits::{Lit, Row};
+use dq_session::Book;
 
 // How many gates, literals and bits are looked at for a row at most.
 const MOST_LOOKS: usize = 1 << 24;
 
-impl Engines {
+impl<'f, 'p> Search<'f, 'p> {
     // How candidates fail at a row near that of a failure, at which no fewer clauses are false. Each
     // bit is turned in turn and stays so where that makes more clauses false. Want of memory leaves
     // the row as it is.
     pub(crate) fn find_worse(
         &self,
-        f: &Formula,
         candidates: &Candidates,
+        book: &Book,
+        known: &Known,
         failure: Failure,
     ) -> Failure
-        requires formula { IsWellFormed f.now }
-        requires inputs { HasInputs f.now candidates.now.graph.now }
-        requires candidates { AreBuilt f.now candidates.now.graph.now self.now.table.rows
-            candidates.now.outputs.now }
-        requires failure { IsFailure f.now
-            (outputs_of f.now candidates.now.graph.now candidates.now.outputs.now) failure.row
-            failure.values failure.j }
-        ensures { IsFailure f.now
-            (outputs_of f.now candidates.now.graph.now candidates.now.outputs.now) result.row
-            result.values result.j }
+        requires formula { IsWellFormed self.now.f.now }
+        requires inputs { HasInputs self.now.f.now candidates.now.graph.now }
+        requires candidates { (rows : List (List Bool)) × AreBuilt self.now.f.now
+            candidates.now.graph.now rows candidates.now.outputs.now }
+        requires failure { IsFailure self.now.f.now
+            (outputs_of self.now.f.now candidates.now.graph.now candidates.now.outputs.now)
+            failure.row failure.values failure.j }
+        ensures { IsFailure self.now.f.now
+            (outputs_of self.now.f.now candidates.now.graph.now candidates.now.outputs.now)
+            result.row result.values result.j }
     {
         let mut worst = failure;
-        let mut most = count_false(f, &worst);
-        for place in 0..self.most_turns(f, candidates) {
-            if let Some(found) = self.turned(f, candidates, &worst.row, place) {
-                let count = count_false(f, &found);
+        let mut most = count_false(self.f, &worst);
+        for place in 0..self.most_turns(candidates, book, known) {
+            if let Some(found) = self.turned(candidates, &worst.row, place) {
+                let count = count_false(self.f, &found);
                 if count > most {
                     worst = found;
                     most = count;
@@ -55,33 +57,30 @@ impl Engines {
     // How many bits are turned. None where most existentials have a definition, since rows that make
     // many outputs of a circuit wrong take more rounds there; and every other row stays as it is
     // found.
-    fn most_turns(&self, f: &Formula, candidates: &Candidates) -> usize {
-        let nodes = &self.definitions.nodes;
+    fn most_turns(&self, candidates: &Candidates, book: &Book, known: &Known) -> usize {
+        let nodes = &known.definitions.nodes;
         let free = nodes.iter().filter(|node| node.is_none()).count();
-        if self.table.rows() % 2 == 0 || free < nodes.len().saturating_sub(free) {
+        if book.table().rows() % 2 == 0 || free < nodes.len().saturating_sub(free) {
             return 0;
         }
-        let bits = f.universals().len();
-        let looks = candidates.graph.len().saturating_add(count_literals(f));
+        let bits = self.f.universals().len();
+        let looks = candidates
+            .graph
+            .len()
+            .saturating_add(count_literals(self.f));
         bits.min(MOST_LOOKS / looks.saturating_add(bits).max(1))
     }
 
     // How candidates fail at a row with the bit at a place turned, if they do.
-    fn turned(
-        &self,
-        f: &Formula,
-        candidates: &Candidates,
-        row: &Row,
-        place: usize,
-    ) -> Option<Failure>
-        requires formula { IsWellFormed f.now }
-        requires inputs { HasInputs f.now candidates.now.graph.now }
-        requires candidates { AreBuilt f.now candidates.now.graph.now self.now.table.rows
-            candidates.now.outputs.now }
-        requires whole { length row.now ≡ length f.now.universals }
-        ensures { IfSome result (λ failure. IsFailure f.now
-            (outputs_of f.now candidates.now.graph.now candidates.now.outputs.now) failure.row
-            failure.values failure.j) }
+    fn turned(&self, candidates: &Candidates, row: &Row, place: usize) -> Option<Failure>
+        requires formula { IsWellFormed self.now.f.now }
+        requires inputs { HasInputs self.now.f.now candidates.now.graph.now }
+        requires candidates { (rows : List (List Bool)) × AreBuilt self.now.f.now
+            candidates.now.graph.now rows candidates.now.outputs.now }
+        requires whole { length row.now ≡ length self.now.f.now.universals }
+        ensures { IfSome result (λ failure. IsFailure self.now.f.now
+            (outputs_of self.now.f.now candidates.now.graph.now candidates.now.outputs.now)
+            failure.row failure.values failure.j) }
     {
         if place >= row.len() {
             return None;
@@ -91,7 +90,7 @@ impl Engines {
         };
         turned.set(place, !row.get(place));
         let nodes = candidates.outputs.items();
-        match failure_at(self.alloc, candidates.graph, f, nodes, &turned) {
+        match failure_at(self.alloc, candidates.graph, self.f, nodes, &turned) {
             Ok(found) => found,
             Err(_) => None,
         }

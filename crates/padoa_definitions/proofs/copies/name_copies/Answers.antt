@@ -1,4 +1,4 @@
-use Rattle.std.proofs.Common.{◌++◌, ◌∷◌, [], get_or, refl, ◌∙◌, ap, arith}
+use Rattle.std.proofs.Common.{◌++◌, ◌∷◌, [], inl, inr, get_or, refl, ◌∙◌, ap, arith}
 use Rattle.std.proofs.lemmas.Option.{slice_get-get_or}
 use Rattle.std.proofs.lemmas.List.{get_or_default}
 use Rattle.padoa_definitions.specs.Copies.{is_copied_at}
@@ -7,7 +7,7 @@ use Rattle.padoa_definitions.proofs.copies.name_copies.Goals as goal
 
 pub name_if_wanted-requires-clause-fresh : goal.name_if_wanted-requires-clause-fresh
 name_if_wanted-requires-clause-fresh g c = λ v is.
-    c.loop-x.invariant.1.fresh v c.loop-x.x-index (get_or c.args.variables.now c.loop-x.x-index 0) (omega arith)
+    c.loop-x.invariant.1.fresh v c.loop-x.x-index (get_or c.args.variables.now c.loop-x.x-index 0) (inl (omega arith))
     (slice_get-get_or c.args.variables.now c.loop-x.x-index 0 c.loop-x-test.true) is
 
 pub loop-x-init : goal.loop-x-init
@@ -54,3 +54,6 @@ pub returns-clause-named : goal.returns-clause-named
 returns-clause-named g c =
     all_named c.args.side c.args.flags.now c.args.variables.now c.loop-x.x-index c.args.log.now c.loop-x.log
     c.loop-x.lits.items c.loop-x.invariant.1 c.loop-x-test.false
+
+pub returns-clause-unflagged : goal.returns-clause-unflagged
+returns-clause-unflagged g c = λ v k x off. c.loop-x.invariant.1.fresh v k x (inr off)

@@ -30,8 +30,8 @@ returns-clause-found g c = λ e at.
 pub returns-in_err-found-clause-search : goal.returns-in_err-found-clause-search
 returns-in_err-found-clause-search g c =
     asked_search c.engines_leave_the_rest.ensures c.args.f.now c.args.self.now
-    (record c.args.self.now { padoa = c.define.new.self; graph = c.define.new.graph }) c.args.place c.args.log.now
-    c.define.new.log c.define.ensures.same refl refl
+    (record c.args.self.now { graph = c.define.new.graph }) c.args.place c.args.log.now
+    c.define.new.log refl refl refl
     (c.define.ensures.extends.inputs ∙ c.read.ensures.extends.inputs) (c.define.ensures.grew 0) c.define.ensures.same_givens
     c.define.ensures.padoa (g.met.O.Oracle.searched c.define.new.oracle c.define.new.log c.define.ensures.fit)
     c.requires.search
@@ -39,8 +39,8 @@ returns-in_err-found-clause-search g c =
 pub returns-clause-search : goal.returns-clause-search
 returns-clause-search g c =
     asked_search c.engines_leave_the_rest.ensures c.args.f.now c.args.self.now
-    (record c.args.self.now { padoa = c.define.new.self; graph = c.define.new.graph }) c.args.place c.args.log.now
-    c.define.new.log c.define.ensures.same refl refl
+    (record c.args.self.now { graph = c.define.new.graph }) c.args.place c.args.log.now
+    c.define.new.log refl refl refl
     (c.define.ensures.extends.inputs ∙ c.read.ensures.extends.inputs) (c.define.ensures.grew 0) c.define.ensures.same_givens
     c.define.ensures.padoa (g.met.O.Oracle.searched c.define.new.oracle c.define.new.log c.define.ensures.fit)
     c.requires.search

@@ -1,5 +1,7 @@
-use Rattle.std.proofs.Common.{subst}
+use Rattle.std.proofs.Common.{◌≡◌, ◌⊎◌, ℕ, None, sym, subst}
+use Rattle.std.specs.List.{Contains}
 use Rattle.dq_lits.specs.Expansion.{IsExpansionUnsatisfiable}
+use Rattle.hint_log.specs.Entries.{name_of}
 use Rattle.log_laws.specs.Engines.{instances}
 use Rattle.log_laws.specs.Sessions.{IsAddedLive}
 use Rattle.log_laws.proofs.LargerLogs.{grown_then}
@@ -8,6 +10,7 @@ use Rattle.expansion.specs.Table.{ArePoints, point_bits}
 use Rattle.dq_session.specs.Books.{BookState, all_of, now_of}
 use Rattle.dq_session.specs.Changes.{groups_of}
 use Rattle.dq_session.proofs.BooksGiving.{shown_before}
+use Rattle.dq_session.proofs.FreshGroups.{groups_fresh}
 use Rattle.dq_session.proofs.books.Book.solve.Goals as goal
 
 pub returns-clause-grew : goal.returns-clause-grew
@@ -33,3 +36,14 @@ pub returns-clause-shown : goal.returns-clause-shown
 returns-clause-shown g c id e =
     shown_before c.args.self.now c.give_live.new.self c.search.new.log.entries id
     c.give_live.ensures.giving.caught_up (c.search.ensures.shown id e)
+
+pub returns-clause-fresh : goal.returns-clause-fresh
+returns-clause-fresh g c =
+    subst (λ (x : BookState). (n : ℕ) → Contains (groups_of x) n
+    → Contains (groups_of c.args.self.now) n ⊎ (name_of c.args.log.now.entries n ≡ None))
+    (sym c.search.ensures.same)
+    (groups_fresh c.args.self.now c.args.log.now c.give_live.new.self c.give_live.new.log c.give_live.ensures.giving)
+
+pub returns-in_err-give_live-clause-fresh : goal.returns-in_err-give_live-clause-fresh
+returns-in_err-give_live-clause-fresh g c =
+    groups_fresh c.args.self.now c.args.log.now c.give_live.new.self c.give_live.new.log c.give_live.ensures.giving

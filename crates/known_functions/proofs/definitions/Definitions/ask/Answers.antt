@@ -41,14 +41,14 @@ returns-in-Some-clause-asked g c = grown_asked _ _ _ _ _ c.requires.may c.read.e
 
 pub returns-in_err-found-clause-asked : goal.returns-in_err-found-clause-asked
 returns-in_err-found-clause-asked g c =
-    asked_by c.engines_leave_the_rest.ensures c.args.existential.now.f.now c.args.graph.now c.define.new.graph
-    c.args.self.now.padoa c.define.new.self c.args.log.now c.define.new.log c.requires.may
-    c.define.ensures.grew c.define.ensures.padoa
+    asked_by c.args.existential.now.f.now c.args.graph.now c.define.new.graph c.args.existential.now.padoa.now
+    c.args.log.now c.define.new.log c.requires.may c.define.ensures.grew c.define.ensures.same_givens
+    c.define.ensures.padoa
     (extends-trans c.args.graph.now c.read.new.graph c.define.new.graph c.read.ensures.extends c.define.ensures.extends)
 
 pub returns-clause-asked : goal.returns-clause-asked
 returns-clause-asked g c =
-    asked_by c.engines_leave_the_rest.ensures c.args.existential.now.f.now c.args.graph.now c.define.new.graph
-    c.args.self.now.padoa c.define.new.self c.args.log.now c.define.new.log c.requires.may
-    c.define.ensures.grew c.define.ensures.padoa
+    asked_by c.args.existential.now.f.now c.args.graph.now c.define.new.graph c.args.existential.now.padoa.now
+    c.args.log.now c.define.new.log c.requires.may c.define.ensures.grew c.define.ensures.same_givens
+    c.define.ensures.padoa
     (extends-trans c.args.graph.now c.read.new.graph c.define.new.graph c.read.ensures.extends c.define.ensures.extends)

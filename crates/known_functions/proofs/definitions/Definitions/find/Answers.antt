@@ -3,14 +3,8 @@ use Rattle.padoa_definitions.specs.Defining.{IsFound}
 use Rattle.dq_formula.specs.Prefix.{existential_variables}
 use Rattle.known_functions.specs.declared.definitions.Definitions.{Definitions}
 use Rattle.known_functions.specs.Searching.{AreKnown, definition_in}
-use Rattle.known_functions.specs.Guessing.{HasAsked}
 use Rattle.known_functions.proofs.Defined.{known_at, known_stays, existential_there, found_defines}
 use Rattle.known_functions.proofs.definitions.Definitions.find.Goals as goal
-
-pub returns-clause-asked : goal.returns-clause-asked
-returns-clause-asked g c =
-    subst (λ p. HasAsked c.args.existential.now.f.now c.args.graph.now c.ask.new.graph p c.args.log.now c.ask.new.log)
-    (sym c.note.ensures.padoa) c.ask.ensures.asked
 
 pub returns-in_default-clause-known : goal.returns-in_default-clause-known
 returns-in_default-clause-known g c =

@@ -1,5 +1,4 @@
-use Rattle.std.proofs.Common.{◌∙◌, refl, sym, subst}
-use Rattle.padoa_definitions.specs.Copies.{IsPadoa}
+use Rattle.std.proofs.Common.{refl}
 use Rattle.known_functions.proofs.Defined.{existential_there, forced_rule}
 use Rattle.known_functions.proofs.Forced.{forced_by}
 use Rattle.known_functions.proofs.definitions.Definitions.force_bit.Goals as goal
@@ -12,9 +11,9 @@ force-requires-clause-existential g c =
 
 pub returns-in_err-forced-clause-forced : goal.returns-in_err-forced-clause-forced
 returns-in_err-forced-clause-forced g c =
-    forced_by c.engines_leave_the_rest.ensures c.engines_leave_tables.ensures c.checkers_stay.ensures
-    c.args.existential.now.f.now c.args.model.now.table.now c.args.self.now _ c.args.log.now c.force.new.log
-    c.force.ensures.same refl refl refl c.requires.may.forced c.force.ensures.grew c.force.ensures.padoa
+    forced_by c.args.existential.now.f.now c.args.existential.now.padoa.now c.args.self.now _ c.args.log.now
+    c.force.new.log refl refl refl c.requires.may.forced c.force.ensures.grew c.force.ensures.same_givens
+    c.force.ensures.padoa
 
 pub returns-in_err-keep-clause-forced : goal.returns-in_err-keep-clause-forced
 returns-in_err-keep-clause-forced g c =
@@ -23,11 +22,9 @@ returns-in_err-keep-clause-forced g c =
     c.existentials.result.now c.existentials.ensures c.args.existential.now.place c.requires.place in
     let rules = c.keep.ensures.rules f (forced_rule f here.0 c.row.result.now c.bit-bit.result c.in_ok-forced.forced
     (c.in_ok-forced.ensures.forced here.0 here.2)) c.requires.may.forced in
-    forced_by c.engines_leave_the_rest.ensures c.engines_leave_tables.ensures c.checkers_stay.ensures f
-    c.args.model.now.table.now c.args.self.now _ c.args.log.now c.force.new.log
-    (c.keep.ensures.padoa ∙ c.force.ensures.same) c.keep.ensures.ranks c.keep.ensures.nodes c.keep.ensures.guesses rules
-    c.force.ensures.grew
-    (subst (λ p. IsPadoa f p c.force.new.log.entries) (sym c.keep.ensures.padoa) c.force.ensures.padoa)
+    forced_by f c.args.existential.now.padoa.now c.args.self.now _ c.args.log.now c.force.new.log
+    c.keep.ensures.ranks c.keep.ensures.nodes c.keep.ensures.guesses rules c.force.ensures.grew
+    c.force.ensures.same_givens c.force.ensures.padoa
 
 pub returns-clause-forced : goal.returns-clause-forced
 returns-clause-forced g c =
@@ -36,8 +33,6 @@ returns-clause-forced g c =
     c.existentials.result.now c.existentials.ensures c.args.existential.now.place c.requires.place in
     let rules = c.keep.ensures.rules f (forced_rule f here.0 c.row.result.now c.bit-bit.result c.in_ok-forced.forced
     (c.in_ok-forced.ensures.forced here.0 here.2)) c.requires.may.forced in
-    forced_by c.engines_leave_the_rest.ensures c.engines_leave_tables.ensures c.checkers_stay.ensures f
-    c.args.model.now.table.now c.args.self.now _ c.args.log.now c.force.new.log
-    (c.keep.ensures.padoa ∙ c.force.ensures.same) c.keep.ensures.ranks c.keep.ensures.nodes c.keep.ensures.guesses rules
-    c.force.ensures.grew
-    (subst (λ p. IsPadoa f p c.force.new.log.entries) (sym c.keep.ensures.padoa) c.force.ensures.padoa)
+    forced_by f c.args.existential.now.padoa.now c.args.self.now _ c.args.log.now c.force.new.log
+    c.keep.ensures.ranks c.keep.ensures.nodes c.keep.ensures.guesses rules c.force.ensures.grew
+    c.force.ensures.same_givens c.force.ensures.padoa

@@ -11,7 +11,7 @@ guess-requires-clause-may g c = c.loop-place.invariant.asked.may
 pub loop-place-init : goal.loop-place-init
 loop-place-init g c = record {
   fit = c.requires.fit;
-  asked = nothing_asked c.args.f.now c.args.graph.now c.args.self.now.padoa c.args.log.now c.requires.may;
+  asked = nothing_asked c.args.f.now c.args.graph.now c.args.padoa.now c.args.log.now c.requires.may;
   known = c.requires.known;
   many = c.requires.many;
 }
@@ -33,8 +33,8 @@ loop-place-preserved g c =
     let as_many = ap length left.guesses ∙ inv.many in
     record {
       fit = c.guess.ensures.fit;
-      asked = asked_then c.args.f.now c.args.graph.now c.loop-place.graph c.guess.new.graph c.loop-place.self.padoa
-          c.guess.new.self.padoa c.args.log.now c.loop-place.log c.guess.new.log c.loop-place.invariant.asked
+      asked = asked_then c.args.f.now c.args.graph.now c.loop-place.graph c.guess.new.graph c.args.padoa.now
+          c.args.log.now c.loop-place.log c.guess.new.log c.loop-place.invariant.asked
           c.guess.ensures.asked;
       known = guess_known f d.ranks.items lawful.prefix c.loop-place.graph graph place here.0 d.nodes.items
           d.rules.items d.guesses.items guess c.guess.ensures.asked.extends as_many here.1
@@ -45,6 +45,6 @@ loop-place-preserved g c =
 
 pub returns-in_err-self-clause-asked : goal.returns-in_err-self-clause-asked
 returns-in_err-self-clause-asked g c =
-    asked_then c.args.f.now c.args.graph.now c.loop-place.graph c.guess.new.graph c.loop-place.self.padoa
-    c.guess.new.self.padoa c.args.log.now c.loop-place.log c.guess.new.log c.loop-place.invariant.asked
+    asked_then c.args.f.now c.args.graph.now c.loop-place.graph c.guess.new.graph c.args.padoa.now
+    c.args.log.now c.loop-place.log c.guess.new.log c.loop-place.invariant.asked
     c.guess.ensures.asked

@@ -1,4 +1,4 @@
-use Rattle.std.proofs.Common.{◌∙◌, refl, subst}
+use Rattle.std.proofs.Common.{refl, subst}
 use Rattle.padoa_definitions.specs.Guessing.{IsGuess}
 use Rattle.known_functions.proofs.Asked.{asked_by, asked_then}
 use Rattle.known_functions.proofs.Defined.{found_guess}
@@ -6,9 +6,8 @@ use Rattle.known_functions.proofs.definitions.Definitions.guess_or_learn.Goals a
 
 pub learn_clash-requires-clause-may : goal.learn_clash-requires-clause-may
 learn_clash-requires-clause-may g c =
-    (asked_by c.engines_leave_the_rest.ensures c.args.f.now c.args.graph.now c.guess.new.graph c.args.self.now.padoa
-    c.guess.new.self c.args.log.now c.guess.new.log c.requires.may
-    c.guess.ensures.grew c.guess.ensures.padoa c.guess.ensures.extends).may
+    (asked_by c.args.f.now c.args.graph.now c.guess.new.graph c.args.padoa.now c.args.log.now c.guess.new.log
+    c.requires.may c.guess.ensures.grew c.guess.ensures.same_givens c.guess.ensures.padoa c.guess.ensures.extends).may
 
 pub returns-in-Node-clause-guess : goal.returns-in-Node-clause-guess
 returns-in-Node-clause-guess g c e known =
@@ -18,35 +17,28 @@ returns-in-Node-clause-guess g c e known =
 
 pub returns-in-Node-clause-asked : goal.returns-in-Node-clause-asked
 returns-in-Node-clause-asked g c =
-    asked_by c.engines_leave_the_rest.ensures c.args.f.now c.args.graph.now c.guess.new.graph c.args.self.now.padoa
-    c.guess.new.self c.args.log.now c.guess.new.log c.requires.may
-    c.guess.ensures.grew c.guess.ensures.padoa c.guess.ensures.extends
+    asked_by c.args.f.now c.args.graph.now c.guess.new.graph c.args.padoa.now c.args.log.now c.guess.new.log
+    c.requires.may c.guess.ensures.grew c.guess.ensures.same_givens c.guess.ensures.padoa c.guess.ensures.extends
 
 pub returns-in_err-node-clause-asked : goal.returns-in_err-node-clause-asked
 returns-in_err-node-clause-asked g c =
-    asked_by c.engines_leave_the_rest.ensures c.args.f.now c.args.graph.now c.guess.new.graph c.args.self.now.padoa
-    c.guess.new.self c.args.log.now c.guess.new.log c.requires.may
-    c.guess.ensures.grew c.guess.ensures.padoa c.guess.ensures.extends
+    asked_by c.args.f.now c.args.graph.now c.guess.new.graph c.args.padoa.now c.args.log.now c.guess.new.log
+    c.requires.may c.guess.ensures.grew c.guess.ensures.same_givens c.guess.ensures.padoa c.guess.ensures.extends
 
 pub returns-in_ok-learn_clash-in-Pair-clause-asked : goal.returns-in_ok-learn_clash-in-Pair-clause-asked
 returns-in_ok-learn_clash-in-Pair-clause-asked g c =
-    asked_then c.args.f.now c.args.graph.now c.guess.new.graph c.learn_clash.new.graph c.guess.new.self
-    c.learn_clash.new.self.padoa c.args.log.now c.guess.new.log c.learn_clash.new.log
-    (asked_by c.engines_leave_the_rest.ensures c.args.f.now c.args.graph.now c.guess.new.graph c.args.self.now.padoa
-    c.guess.new.self c.args.log.now c.guess.new.log c.requires.may
-    c.guess.ensures.grew c.guess.ensures.padoa c.guess.ensures.extends) c.learn_clash.ensures.asked
+    asked_then c.args.f.now c.args.graph.now c.guess.new.graph c.learn_clash.new.graph c.args.padoa.now c.args.log.now c.guess.new.log c.learn_clash.new.log
+    (asked_by c.args.f.now c.args.graph.now c.guess.new.graph c.args.padoa.now c.args.log.now c.guess.new.log
+    c.requires.may c.guess.ensures.grew c.guess.ensures.same_givens c.guess.ensures.padoa c.guess.ensures.extends) c.learn_clash.ensures.asked
 
 pub returns-in_err-learn_clash-in-Pair-clause-asked : goal.returns-in_err-learn_clash-in-Pair-clause-asked
 returns-in_err-learn_clash-in-Pair-clause-asked g c =
-    asked_then c.args.f.now c.args.graph.now c.guess.new.graph c.learn_clash.new.graph c.guess.new.self
-    c.learn_clash.new.self.padoa c.args.log.now c.guess.new.log c.learn_clash.new.log
-    (asked_by c.engines_leave_the_rest.ensures c.args.f.now c.args.graph.now c.guess.new.graph c.args.self.now.padoa
-    c.guess.new.self c.args.log.now c.guess.new.log c.requires.may
-    c.guess.ensures.grew c.guess.ensures.padoa c.guess.ensures.extends) c.learn_clash.ensures.asked
+    asked_then c.args.f.now c.args.graph.now c.guess.new.graph c.learn_clash.new.graph c.args.padoa.now c.args.log.now c.guess.new.log c.learn_clash.new.log
+    (asked_by c.args.f.now c.args.graph.now c.guess.new.graph c.args.padoa.now c.args.log.now c.guess.new.log
+    c.requires.may c.guess.ensures.grew c.guess.ensures.same_givens c.guess.ensures.padoa c.guess.ensures.extends) c.learn_clash.ensures.asked
 
 pub returns-in-Node-clause-left : goal.returns-in-Node-clause-left
 returns-in-Node-clause-left g c = record {
-  padoa = c.guess.ensures.same;
   ranks = refl;
   nodes = refl;
   rules = refl;
@@ -55,7 +47,6 @@ returns-in-Node-clause-left g c = record {
 
 pub returns-in_err-node-clause-left : goal.returns-in_err-node-clause-left
 returns-in_err-node-clause-left g c = record {
-  padoa = c.guess.ensures.same;
   ranks = refl;
   nodes = refl;
   rules = refl;
@@ -65,7 +56,6 @@ returns-in_err-node-clause-left g c = record {
 pub returns-in_ok-learn_clash-in-Pair-clause-left : goal.returns-in_ok-learn_clash-in-Pair-clause-left
 returns-in_ok-learn_clash-in-Pair-clause-left g c = let left = c.learn_clash.ensures.left in
     record {
-      padoa = left.padoa ∙ c.guess.ensures.same;
       ranks = left.ranks;
       nodes = left.nodes;
       rules = left.rules;
@@ -75,7 +65,6 @@ returns-in_ok-learn_clash-in-Pair-clause-left g c = let left = c.learn_clash.ens
 pub returns-in_err-learn_clash-in-Pair-clause-left : goal.returns-in_err-learn_clash-in-Pair-clause-left
 returns-in_err-learn_clash-in-Pair-clause-left g c = let left = c.learn_clash.ensures.left in
     record {
-      padoa = left.padoa ∙ c.guess.ensures.same;
       ranks = left.ranks;
       nodes = left.nodes;
       rules = left.rules;

@@ -1,6 +1,6 @@
 use Rattle.std.proofs.Common.{◌∷◌, [], ◌++◌, refl, ◌∙◌, ap}
 use Rattle.padoa_definitions.specs.Copies.{group_variable, is_copy_of}
-use Rattle.padoa_definitions.proofs.GivenClauses.{adds_in, adds_same, adds_then, copy_named, fresh_one, group_adds, group_unnamed, matrix_given}
+use Rattle.padoa_definitions.proofs.GivenClauses.{adds_in, adds_same, adds_then, copy_named, fresh_one, group_adds, group_unnamed, matrix_given, numbered_in, uncopied_given}
 use Rattle.padoa_definitions.proofs.giving.Setup.copy_matrix.Goals as goal
 
 pub returns-in_err-group-clause-adds : goal.returns-in_err-group-clause-adds
@@ -85,3 +85,17 @@ returns-clause-fresh g c =
     (group_unnamed c.args.self.now.f.now c.args.side c.args.self.now.flags.now c.in_ok-copy.copy c.args.log.now
     c.name_copy.new.log c.group.new.log c.in_ok-group.group c.name_copy.ensures.adds c.in_ok-copy.ensures.named
     c.in_ok-group.ensures.unnamed c.in_ok-group.ensures.ok)
+
+pub returns-clause-unflagged : goal.returns-clause-unflagged
+returns-clause-unflagged g c =
+    uncopied_given c.args.self.now.f.now c.args.side c.args.self.now.flags.now c.args.self.now.f.now.universals
+    c.name_copy.new.log c.group.new.log c.give_matrix.new.log (is_copy_of c.args.side)
+    (group_variable c.in_ok-group.group) c.in_ok-group.ensures.ok c.give_matrix.ensures.gives
+    c.in_ok-copy.ensures.unflagged
+
+pub returns-clause-numbered : goal.returns-clause-numbered
+returns-clause-numbered g c =
+    numbered_in c.args.self.now.f.now c.args.side c.push.new.self.items c.in_ok-group.group c.group.new.log
+    c.give_matrix.new.log
+    (c.in_ok-push.ensures.items ∙ ap (λ gs. gs ++ c.in_ok-group.group ∷ []) c.in_ok-copy.ensures.no_groups)
+    c.in_ok-give_matrix.ensures.given

@@ -1,4 +1,4 @@
-use Rattle.std.proofs.Common.{sym, ◌∙◌, subst, arith}
+use Rattle.std.proofs.Common.{inl, sym, ◌∙◌, subst, arith}
 use Rattle.padoa_definitions.specs.Growing.{is_any_link, AreLinkedSoFar}
 use Rattle.padoa_definitions.proofs.KeptCopies.{keeps_anew, made_stays, one_stays}
 use Rattle.padoa_definitions.proofs.GivenClauses.{few_anew, adds_then}
@@ -51,7 +51,7 @@ link_if_wanted-requires-clause-spare g c =
 
 pub link_if_wanted-requires-clause-unlinked : goal.link_if_wanted-requires-clause-unlinked
 link_if_wanted-requires-clause-unlinked g c = c.loop-i.invariant.1.later c.loop-i.i c.declared_at.result
-    (omega arith) c.declared_at.ensures
+    (inl (omega arith)) c.declared_at.ensures
 
 pub returns-in_err-group-clause-adds : goal.returns-in_err-group-clause-adds
 returns-in_err-group-clause-adds g c =
@@ -74,7 +74,7 @@ loop-i-preserved g c = (
       c.every_formula_is_lawful.ensures.prefix.declared_once c.declared_at.ensures c.loop-i.invariant.1
       (c.link_if_wanted.ensures.adds c.args.self.now.f.now) c.is_copied-wanted.ensures
       (λ wanted. c.in_ok-group.ensures.link wanted c.args.self.now.f.now) c.in_ok-group.ensures.made
-      c.in_ok-group.ensures.fresh c.in_ok-push.ensures.items,
+      c.in_ok-group.ensures.fresh c.link_if_wanted.ensures.idle c.in_ok-push.ensures.items,
 )
 
 pub returns-clause-links : goal.returns-clause-links

@@ -2,7 +2,7 @@ use Rattle.std.proofs.Common.{◌≢◌, sym, subst}
 use Rattle.std.specs.List.{AllPairs}
 use Rattle.hint_log.specs.declared.origins.Origin.TheVariants.{Copy}
 use Rattle.padoa_definitions.specs.Growing.{AreUncopied}
-use Rattle.padoa_definitions.proofs.GivenClauses.{AreNamed, existentials_distinct, existentials_fresh, second_adds, second_ungiven, variables_named}
+use Rattle.padoa_definitions.proofs.GivenClauses.{AreNamed, existentials_distinct, existentials_fresh, still_uncopied, second_adds, second_ungiven, variables_named}
 use Rattle.padoa_definitions.proofs.giving.Setup.name_copy.Goals as goal
 
 pub name_copies-requires-2-clause-distinct : goal.name_copies-requires-2-clause-distinct
@@ -86,3 +86,10 @@ returns-clause-named g c =
 pub returns-in_err-universals-clause-ungiven : goal.returns-in_err-universals-clause-ungiven
 returns-in_err-universals-clause-ungiven g c = λ j clause inside.
     c.requires.ungiven j clause (c.name_copies.ensures.only.givens (Copy c.args.side j) clause inside)
+
+pub returns-clause-unflagged : goal.returns-clause-unflagged
+returns-clause-unflagged g c =
+    let f = c.args.self.now.f.now in
+    still_uncopied f c.args.side c.args.self.now.flags.now c.universals.result.now c.existentials.result.now
+    c.universals.ensures c.existentials.ensures c.every_formula_is_lawful.ensures.prefix c.name_copies.new.log
+    c.name_copies-2.new.log c.in_ok-universals.ensures.unflagged c.name_copies-2.ensures.only

@@ -1,0 +1,270 @@
+-- A store whose groups of some frames are active has the copies of the formula of these frames' clauses.
+use Rattle.std.proofs.Common.{◌≡◌, ℕ, zero, suc, ◌≤◌, true, inl, inr, List, [], ◌∷◌, map, length, get_or, slice_get, Option, Some, None, refl, sym, ◌∙◌, ap, subst, arith}
+use Rattle.std.specs.List.{All, Contains, filter_map, cons_option}
+use Rattle.std.proofs.lemmas.Bool.{eq-eqb}
+use Rattle.std.proofs.lemmas.List.Elements.{All-contains}
+use Rattle.std.proofs.lemmas.Option.{slice_get-get_or, slice_get_within}
+use Rattle.dq_lits.specs.Literal.{Literal, variable_of}
+use Rattle.dq_lits.specs.Formula.{Dqbf, declared}
+use Rattle.hint_log.specs.Entries.{Entry, Named, Given, Learned, Answer, Round, Begun}
+use Rattle.hint_log.specs.Growth.{Each}
+use Rattle.hint_log.specs.Live.{formula_of}
+use Rattle.hint_log.specs.Naming.{AreNamedAs, numbered_from_one}
+use Rattle.hint_log.specs.ProductiveSession.{frame_of}
+use Rattle.hint_log.specs.declared.origins.Origin.TheVariants.{Instance, Gate, Fault, Copy, Link, TermGate, Differ}
+use Rattle.oracle.specs.declared.groups.Group.{Group}
+use Rattle.padoa_definitions.specs.Copies.{AreCopies, AreCopiesOf, IsCopied, IsCopiedIn, IsGroupGiven, IsSideGiven, IsLink, IsMatrixCopy, IsPadoa, copy_names, group_variable, is_copied_at, is_link_of}
+use Rattle.dq_formula.specs.Prefix.{existential_variables}
+use Rattle.padoa_definitions.specs.Following.{AreActiveGroups, AreGiven, IsLiveFormula}
+use Rattle.padoa_definitions.specs.Store.{StoreState, store_of, side_universals, HasGiven, HasGroup, of_frame, of_link, IsStoreEntry, IsGivenThere, IsStore}
+use Rattle.padoa_definitions.specs.declared.copies.MatrixCopy.{MatrixCopy}
+use Rattle.padoa_definitions.specs.declared.padoa.Padoa.{Padoa}
+use Rattle.padoa_definitions.proofs.GroupedCopies.{one_group}
+use Rattle.padoa_definitions.proofs.StandingStores.{in_one_group}
+
+-- what passes a filter stood in the list, and what stands there and passes is among the rest
+passed : {X Y : Type 0} (h : X → Option Y) (xs : List X) (y : Y) → Contains (filter_map h xs) y →
+    (x : X) × Contains xs x × (h x ≡ Some y)
+passed h [] y inside = let below = inside.1 in absurd (omega (arith, below))
+passed {X} {Y} h (x ∷ xs) y inside = by (h x) refl (passed h xs y) inside
+  where
+    later : (z : X) × Contains xs z × (h z ≡ Some y) → (z : X) × Contains (x ∷ xs) z × (h z ≡ Some y)
+    later (z, (k, below, at), is) = (z, (suc k, omega (arith, below), at), is)
+
+    by : (o : Option Y) → h x ≡ o → (Contains (filter_map h xs) y → (z : X) × Contains xs z × (h z ≡ Some y)) →
+        Contains (cons_option o (filter_map h xs)) y → (z : X) × Contains (x ∷ xs) z × (h z ≡ Some y)
+    by None is behind there = later (behind there)
+    by (Some z) is behind (zero, below, at) = (x, (0, omega arith, refl), is ∙ ap Some at)
+    by (Some z) is behind (suc k, below, at) = later (behind (k, omega (arith, below), at))
+
+passes : {X Y : Type 0} (h : X → Option Y) (xs : List X) (x : X) (y : Y) → Contains xs x → h x ≡ Some y →
+    Contains (filter_map h xs) y
+passes h [] x y inside is = let below = inside.1 in absurd (omega (arith, below))
+passes {X} {Y} h (z ∷ xs) x y inside is = by (λ among. passes h xs x y among is) inside
+  where
+    behind : (o : Option Y) → Contains (filter_map h xs) y → Contains (cons_option o (filter_map h xs)) y
+    behind None there = there
+    behind (Some w) (k, below, at) = (suc k, omega (arith, below), at)
+
+    by : (Contains xs x → Contains (filter_map h xs) y) → Contains (z ∷ xs) x →
+        Contains (cons_option (h z) (filter_map h xs)) y
+    by later (zero, below, at) =
+        subst (λ o. Contains (cons_option o (filter_map h xs)) y) (sym (ap h at ∙ is)) (0, omega arith, refl)
+    by later (suc k, below, at) = behind (h z) (later (k, omega (arith, below), at))
+
+pub mapped_among : (h : ℕ → ℕ) (xs : List ℕ) (x : ℕ) → Contains xs x → Contains (map h xs) (h x)
+mapped_among h [] x inside = let below = inside.1 in absurd (omega (arith, below))
+mapped_among h (y ∷ xs) x (zero, below, at) = (0, omega arith, ap h at)
+mapped_among h (y ∷ xs) x (suc k, below, at) =
+    let r = mapped_among h xs x (k, omega (arith, below), at) in
+    let less = r.1 in
+    (suc r.0, omega (arith, less), r.2)
+
+pub numbered_low : (m : List (List Literal)) (j : ℕ) (c : List Literal) → numbered_from_one m j ≡ Some c →
+    (1 ≤ j) × (j ≤ length m)
+numbered_low m zero c is = cc
+numbered_low m (suc i) c is = let below = slice_get_within m i c is in (omega arith, omega (arith, below))
+
+module _ (all : Dqbf) (numbered : List ℕ) (live frames : List ℕ) (s : StoreState) (es : List Entry)
+    (store : IsStore all numbered s es) (now : IsLiveFormula all numbered (formula_of all live) live frames)
+    (given : AreGiven s live) where
+  abbrev f : Dqbf
+  f = formula_of all live
+
+  abbrev number : ℕ → Option (List Literal)
+  number j = numbered_from_one all.matrix j
+
+  -- the copy of a live clause
+  live_given : (side : ℕ) → 1 ≤ side → side ≤ 2 → (clause : List Literal) → Contains f.matrix clause →
+      (j : ℕ) × Contains live j × (number j ≡ Some clause) × IsGivenThere all numbered s es side j
+  live_given side one two clause inside =
+      let there = passed number live clause inside in
+      let j = there.0 in
+      let has = All-contains (HasGiven s 2) live j given there.1 in
+      let both = has.within in
+      let low = numbered_low all.matrix j clause there.2 in
+      (j, there.1, there.2, store.givens side j low.0 (record { from_one = one; within = omega (arith, two, both) }))
+
+  covered : (clause : List Literal) → Contains f.matrix clause → All (λ l. IsCopied f s.copied (variable_of l)) clause
+  covered clause inside =
+      let there = live_given 1 (omega arith) (omega arith) clause inside in
+      let h = there.3 in
+      let both : Some h.clause ≡ Some clause = sym h.clause_is ∙ there.2 in
+      let same : h.clause ≡ clause = cc in
+      subst (λ c. All (λ l. IsCopied all s.copied (variable_of l)) c) same h.covered
+
+  slot_side : (side F side' F' : ℕ) → of_frame side F ≡ of_frame side' F' → (side ≡ side') × (F ≡ F')
+  slot_side side F side' F' same = (cc, cc)
+
+  no_link : (side F k : ℕ) → of_link k ≡ of_frame side F → ⊥
+  no_link side F k same = cc
+
+  copy_entry : (side F : ℕ) (g : Group) → Contains frames F → HasGroup s (of_frame side F) g → (earlier : List Entry)
+      (e : Entry) → IsStoreEntry all numbered s earlier e → IsSideGiven f side (group_variable g) earlier e
+  copy_entry side F g among has earlier (Named v n) h = tt
+  copy_entry side F g among has earlier (Given (Instance k j) c) h = λ inside. absurd (h (of_frame side F) g has inside)
+  copy_entry side F g among has earlier (Given (Gate v i) c) h = λ inside. absurd (h (of_frame side F) g has inside)
+  copy_entry side F g among has earlier (Given (Fault j i leaf) c) h = λ inside. absurd (h (of_frame side F) g has inside)
+  copy_entry side F g among has earlier (Given (Copy m j) c) h = λ inside.
+      let same = slot_side m (frame_of numbered j) side F (store.groups.apart (of_frame m (frame_of numbered j))
+      (of_frame side F) h.group g h.has_group has
+      (in_one_group (group_variable h.group) (group_variable g) c h.in_group inside)) in
+      let r = h.right.rest_is.1 in
+      let low = numbered_low all.matrix j r.clause r.clause_is in (
+        eq-eqb m side same.0,
+        record {
+          group = h.right.group;
+          rest = h.right.rest;
+          original = r.clause;
+          is_group = h.right.is_group;
+          clause_is = h.right.clause_is;
+          original_is = passes number live j r.clause
+              (now.together j low.0 low.1 (subst (Contains frames) (sym same.1) among)) r.clause_is;
+          copied = subst (λ n. AreNamedAs earlier h.right.rest (copy_names n r.clause)) same.0 r.named;
+        },
+      )
+  copy_entry side F g among has earlier (Given (Link x i) c) h = λ inside.
+      let done = h.done in
+      absurd (no_link side F h.place (store.groups.apart (of_link h.place) (of_frame side F) h.group g
+      (omega (arith, done), h.group_is) has
+      (in_one_group (group_variable h.group) (group_variable g) c h.in_group inside)))
+  copy_entry side F g among has earlier (Given (TermGate v i) c) h = λ inside.
+      absurd (h (of_frame side F) g has inside)
+  copy_entry side F g among has earlier (Given (Differ y leaf i) c) h = λ inside.
+      absurd (h (of_frame side F) g has inside)
+  copy_entry side F g among has earlier (Learned c hs) h = tt
+  copy_entry side F g among has earlier (Answer c hs) h = tt
+  copy_entry side F g among has earlier (Round r bits j) h = tt
+  copy_entry side F g among has earlier (Begun numbers) h = tt
+
+  copy_entries : (side F : ℕ) (g : Group) → Contains frames F → HasGroup s (of_frame side F) g → (xs : List Entry) →
+      Each (IsStoreEntry all numbered s) xs → Each (IsSideGiven f side (group_variable g)) xs
+  copy_entries side F g among has [] h = tt
+  copy_entries side F g among has (e ∷ xs) h =
+      (copy_entry side F g among has xs e h.0, copy_entries side F g among has xs h.1)
+
+  pub ready_side : (side : ℕ) → 1 ≤ side → side ≤ 2 → (copy : MatrixCopy) →
+      copy.universals.items ≡ side_universals s side → length (side_universals s side) ≡ length all.universals →
+      AreCopiesOf es side (existential_variables all) copy.existentials.items →
+      AreActiveGroups s side frames copy.groups.items → IsMatrixCopy f side s.copied copy es
+  ready_side side one two copy us_are long existentials active = record {
+    made = λ k d below. (
+        let there = active.sound (get_or copy.groups.items k d) (k, below, get_or_same copy.groups.items k d) in
+        store.groups.made (of_frame side there.0) (get_or copy.groups.items k d) there.2);
+    universals = subst (AreCopies es side s.copied all.universals) (sym us_are) (record {
+      long = long;
+      named = λ k v l flag v_is l_is.
+          let low = store.whole k flag in
+          let few = two in
+          store.parts.universals side k v l (omega (arith, low, few)) v_is l_is;
+    });
+    existentials = existentials;
+    own = λ g among.
+        let there = active.sound g among in
+        copy_entries side there.0 g there.1 there.2 es store.own;
+    whole = λ clause inside.
+        let there = live_given side one two clause inside in
+        let h = there.3 in
+        let F = frame_of numbered there.0 in
+        let active_there = active.complete F
+        (subst (λ fs. Contains fs F) (sym now.frames_are) (mapped_among (frame_of numbered) live there.0 there.1)) in
+        let both : Some h.clause ≡ Some clause = sym h.clause_is ∙ there.2 in
+        let same : h.clause ≡ clause = cc in
+        let group_same : h.group ≡ active_there.0 =
+        one_group s (of_frame side F) h.group active_there.0 h.has_group active_there.1 in
+        subst (IsCopiedIn es copy.groups.items side) same (record {
+          group = h.group;
+          among = subst (Contains copy.groups.items) (sym group_same) active_there.2;
+          origin = Copy side there.0;
+          given = h.given;
+        });
+  }
+    where
+      get_or_same : (gs : List Group) (k : ℕ) (d : Group) → get_or gs k (get_or gs k d) ≡ get_or gs k d
+      get_or_same [] k d = refl
+      get_or_same (g ∷ gs) zero d = refl
+      get_or_same (g ∷ gs) (suc k) d = get_or_same gs k d
+
+  link_place : (k k' : ℕ) → of_link k ≡ of_link k' → k ≡ k'
+  link_place k k' same = cc
+
+  link_entry : (k x : ℕ) (g : Group) → slice_get (declared all) k ≡ Some x → HasGroup s (of_link k) g →
+      (earlier : List Entry) (e : Entry) → IsStoreEntry all numbered s earlier e →
+      IsGroupGiven f (is_link_of x) (group_variable g) earlier e
+  link_entry k x g x_is has earlier (Named v n) h = tt
+  link_entry k x g x_is has earlier (Given (Instance a j) c) h = λ inside. absurd (h (of_link k) g has inside)
+  link_entry k x g x_is has earlier (Given (Gate v i) c) h = λ inside. absurd (h (of_link k) g has inside)
+  link_entry k x g x_is has earlier (Given (Fault j i leaf) c) h = λ inside. absurd (h (of_link k) g has inside)
+  link_entry k x g x_is has earlier (Given (Copy m j) c) h = λ inside.
+      absurd (no_link m (frame_of numbered j) k (sym (store.groups.apart (of_frame m (frame_of numbered j)) (of_link k)
+      h.group g h.has_group has (in_one_group (group_variable h.group) (group_variable g) c h.in_group inside))))
+  link_entry k x g x_is has earlier (Given (Link y i) c) h = λ inside.
+      let done = h.done in
+      let same = link_place h.place k (store.groups.apart (of_link h.place) (of_link k) h.group g
+      (omega (arith, done), h.group_is) has
+      (in_one_group (group_variable h.group) (group_variable g) c h.in_group inside)) in
+      let both : Some y ≡ Some x = sym h.variable_is ∙ ap (slice_get (declared all)) same ∙ x_is in
+      let y_is : y ≡ x = cc in (
+        eq-eqb y x y_is,
+        record {
+          group = h.right.group;
+          rest = h.right.rest;
+          clause_is = h.right.clause_is;
+          is_group = h.right.is_group;
+          rest_is = h.right.rest_is;
+          one_leaf = λ v a b a' b' leaf leaf' rest' is. cc;
+        },
+      )
+  link_entry k x g x_is has earlier (Given (TermGate v i) c) h = λ inside. absurd (h (of_link k) g has inside)
+  link_entry k x g x_is has earlier (Given (Differ y leaf i) c) h = λ inside. absurd (h (of_link k) g has inside)
+  link_entry k x g x_is has earlier (Learned c hs) h = tt
+  link_entry k x g x_is has earlier (Answer c hs) h = tt
+  link_entry k x g x_is has earlier (Round r bits j) h = tt
+  link_entry k x g x_is has earlier (Begun numbers) h = tt
+
+  link_entries : (k x : ℕ) (g : Group) → slice_get (declared all) k ≡ Some x → HasGroup s (of_link k) g →
+      (xs : List Entry) → Each (IsStoreEntry all numbered s) xs → Each (IsGroupGiven f (is_link_of x) (group_variable g)) xs
+  link_entries k x g x_is has [] h = tt
+  link_entries k x g x_is has (e ∷ xs) h = (link_entry k x g x_is has xs e h.0, link_entries k x g x_is has xs h.1)
+
+  pub ready_link : (k x : ℕ) (g : Group) → is_copied_at s.copied k ≡ true → slice_get (declared all) k ≡ Some x →
+      slice_get s.links k ≡ Some g → IsLink f x g es
+  ready_link k x g flag x_is g_is =
+      let low = store.whole k flag in
+      record {
+        made = store.groups.links k g g_is;
+        own = link_entries k x g x_is (omega (arith, low), g_is) es store.own;
+        whole = λ i is. elim is [
+          | inl one ↦ store.parts.equations k x i g (omega (arith, low, one)) (omega (arith, one)) (omega (arith, one))
+              x_is g_is
+          | inr two ↦ store.parts.equations k x i g (omega (arith, low, two)) (omega (arith, two)) (omega (arith, two))
+              x_is g_is
+        ];
+      }
+
+pub ready_now : (all : Dqbf) (numbered : List ℕ) (live frames : List ℕ) (p : Padoa) (es : List Entry) →
+    IsStore all numbered (store_of p) es → IsLiveFormula all numbered (formula_of all live) live frames →
+    AreGiven (store_of p) live → AreActiveGroups (store_of p) 1 frames p.first.groups.items →
+    AreActiveGroups (store_of p) 2 frames p.second.groups.items → IsPadoa (formula_of all live) p es
+ready_now all numbered live frames p es store now given first second =
+    let s = store_of p in
+    record {
+      as_many_flags = store.places.flags;
+      covered = covered all numbered live frames s es store now given;
+      first = ready_side all numbered live frames s es store now given 1 (omega arith) (omega arith) p.first refl
+          store.places.first store.parts.first_existentials first;
+      second = ready_side all numbered live frames s es store now given 2 (omega arith) (omega arith) p.second refl
+          store.places.second store.parts.second_existentials second;
+      as_many = store.places.links;
+      links_made = λ k d below. store.groups.links k (get_or p.links.items k d) (slice_get-get_or p.links.items k d below);
+      links = ready_link all numbered live frames s es store now given;
+    }
+
+pub ready : (all : Dqbf) (numbered : List ℕ) (f : Dqbf) (live frames : List ℕ) (p : Padoa) (es : List Entry) →
+    IsStore all numbered (store_of p) es → IsLiveFormula all numbered f live frames →
+    AreGiven (store_of p) live → AreActiveGroups (store_of p) 1 frames p.first.groups.items →
+    AreActiveGroups (store_of p) 2 frames p.second.groups.items → IsPadoa f p es
+ready all numbered f live frames p es store now given first second =
+    subst (λ h. IsPadoa h p es) (sym now.formula_is)
+    (ready_now all numbered live frames p es store
+    (subst (λ h. IsLiveFormula all numbered h live frames) now.formula_is now) given first second)

@@ -1,0 +1,140 @@
+-- A store gets room for further clauses and frames, and other active groups.
+use Rattle.std.proofs.Common.{◌≡◌, ℕ, zero, suc, ◌-◌, inl, List, [], ◌∷◌, ◌++◌, map, replicate, slice_get, slice_index_or, Option, Some, None, refl, sym, ap, subst, arith}
+use Rattle.std.specs.List.{Contains}
+use Rattle.dq_lits.specs.Formula.{Dqbf}
+use Rattle.hint_log.specs.Conditions.{AreLogged}
+use Rattle.hint_log.specs.Entries.{ProofLog}
+use Rattle.hint_log.specs.ProductiveSession.{frame_of}
+use Rattle.oracle.specs.declared.groups.Group.{Group}
+use Rattle.padoa_definitions.specs.Copies.{group_variable}
+use Rattle.padoa_definitions.specs.Following.{IsFollowing}
+use Rattle.padoa_definitions.specs.Store.{StoreState, HasGiven, HasGroup, Slot, of_frame, of_link, both_groups, IsStore}
+use Rattle.padoa_definitions.specs.declared.frames.Sides.{Sides}
+use Rattle.padoa_definitions.proofs.GrownStores.{IsGrown, entries_kept}
+use Rattle.padoa_definitions.proofs.StoreSteps.{following_same}
+
+-- zeros and empty places behind a list
+zeros_there : (n k : ℕ) → ◌≡◌ {A = ℕ} (slice_index_or (replicate n 0) k 0) 0
+zeros_there zero k = refl
+zeros_there (suc n) zero = refl
+zeros_there (suc n) (suc k) = zeros_there n k
+
+more_zeros : (xs : List ℕ) (n k : ℕ) → slice_index_or (xs ++ replicate n 0) k 0 ≡ slice_index_or xs k 0
+more_zeros [] n k = zeros_there n k
+more_zeros (x ∷ xs) n zero = refl
+more_zeros (x ∷ xs) n (suc k) = more_zeros xs n k
+
+no_frame : (n k : ℕ) (x : Sides) → slice_get (replicate n None) k ≡ Some (Some x) → ⊥
+no_frame zero k x is = cc
+no_frame (suc n) zero x is = cc
+no_frame (suc n) (suc k) x is = no_frame n k x is
+
+old_frame : (xs : List (Option Sides)) (n k : ℕ) (x : Sides) → slice_get (xs ++ replicate n None) k ≡ Some (Some x) →
+    slice_get xs k ≡ Some (Some x)
+old_frame [] n k x is = absurd (no_frame n k x is)
+old_frame (y ∷ xs) n zero x is = is
+old_frame (y ∷ xs) n (suc k) x is = old_frame xs n k x is
+
+kept_frame : (xs : List (Option Sides)) (n k : ℕ) (x : Sides) → slice_get xs k ≡ Some (Some x) →
+    slice_get (xs ++ replicate n None) k ≡ Some (Some x)
+kept_frame [] n k x is = cc
+kept_frame (y ∷ xs) n zero x is = is
+kept_frame (y ∷ xs) n (suc k) x is = kept_frame xs n k x is
+
+no_numbers : (n : ℕ) → both_groups (replicate n None) ≡ []
+no_numbers zero = refl
+no_numbers (suc n) = no_numbers n
+
+same_numbers : (xs : List (Option Sides)) (n : ℕ) → both_groups (xs ++ replicate n None) ≡ both_groups xs
+same_numbers [] n = no_numbers n
+same_numbers (None ∷ xs) n = same_numbers xs n
+same_numbers (Some x ∷ xs) n = ap (λ ys. group_variable x.first ∷ group_variable x.second ∷ ys) (same_numbers xs n)
+
+module _ (all : Dqbf) (numbered : List ℕ) (s : StoreState) (log : ProofLog) (store : IsStore all numbered s log.entries)
+    (logged : AreLogged log.entries) (m n : ℕ) (active : List Group)
+    (among : (g : Group) → Contains active g → Contains (both_groups s.frames) (group_variable g)) where
+  abbrev pub roomier : StoreState
+  roomier = record {
+    first_universals = s.first_universals;
+    second_universals = s.second_universals;
+    first_existentials = s.first_existentials;
+    second_existentials = s.second_existentials;
+    copied = s.copied;
+    parts = s.parts;
+    links = s.links;
+    given = s.given ++ replicate m 0;
+    frames = s.frames ++ replicate n None;
+    active = active;
+  }
+
+  kept_group : (slot : Slot) (g : Group) → HasGroup s slot g → HasGroup roomier slot g
+  kept_group (of_frame side F) g (x, x_is, g_is) = (x, kept_frame s.frames n F x x_is, g_is)
+  kept_group (of_link k) g has = has
+
+  old_group : (slot : Slot) (g : Group) → HasGroup roomier slot g → HasGroup s slot g
+  old_group (of_frame side F) g (x, x_is, g_is) = (x, old_frame s.frames n F x x_is, g_is)
+  old_group (of_link k) g has = has
+
+  more : (side j : ℕ) → HasGiven s side j → HasGiven roomier side j
+  more side j has =
+      let same = more_zeros s.given m (j - 1) in
+      let low = has.within in
+      record { from_one = has.from_one; within = omega (arith, same, low) }
+
+  less : (side j : ℕ) → HasGiven roomier side j → HasGiven s side j
+  less side j has =
+      let same = more_zeros s.given m (j - 1) in
+      let low = has.within in
+      record { from_one = has.from_one; within = omega (arith, same, low) }
+
+  grown : IsGrown s roomier
+  grown = record {
+    kept_groups = kept_group;
+    more_given = more;
+    more_parts = λ k. omega arith;
+    kept_links = λ k g low is. is;
+  }
+
+  numbers : both_groups (s.frames ++ replicate n None) ≡ both_groups s.frames
+  numbers = same_numbers s.frames n
+
+  roomier_store : IsStore all numbered roomier log.entries
+  roomier_store = record {
+    places = record {
+      parts = store.places.parts;
+      flags = store.places.flags;
+      first = store.places.first;
+      second = store.places.second;
+      links = store.places.links;
+    };
+    whole = store.whole;
+    parts = record {
+      universals = store.parts.universals;
+      first_existentials = store.parts.first_existentials;
+      second_existentials = store.parts.second_existentials;
+      equations = store.parts.equations;
+    };
+    groups = record {
+      made = λ slot g has. store.groups.made slot g (old_group slot g has);
+      links = store.groups.links;
+      apart = λ a b g h has has' same. store.groups.apart a b g h (old_group a g has) (old_group b h has') same;
+    };
+    givens = λ side j one has.
+        let there = store.givens side j one (less side j has) in
+        record {
+          clause = there.clause;
+          clause_is = there.clause_is;
+          covered = there.covered;
+          group = there.group;
+          has_group = kept_group (of_frame side (frame_of numbered j)) there.group there.has_group;
+          given = there.given;
+        };
+    own = entries_kept all numbered s roomier grown log.entries (λ slot g has. inl (old_group slot g has)) logged
+        store.own;
+    active = λ g has. subst (λ ns. Contains ns (group_variable g)) (sym numbers) (among g has);
+  }
+
+  pub roomier_following : (new : ProofLog) → new ≡ log → IsFollowing all numbered s log roomier new
+  roomier_following new is = following_same all numbered s roomier log new is
+      (λ g has. inl (subst (λ ns. Contains (ns ++ map group_variable s.links) g) numbers has)) roomier_store more
+      (λ k flag. flag)

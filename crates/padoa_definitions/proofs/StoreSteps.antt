@@ -1,0 +1,151 @@
+-- Steps of a store that follows a session: places of lists that are set, and how steps compose.
+use Rattle.std.proofs.Common.{◌≡◌, ◌≢◌, ℕ, zero, suc, ◌<◌, ◌≤◌, true, ◌⊎◌, inl, inr, List, [], ◌∷◌, length, set, slice_get, Some, None, refl, sym, ◌∙◌, ap, subst, arith}
+use Rattle.std.specs.List.{Contains}
+use Rattle.dq_lits.specs.Literal.{Literal}
+use Rattle.dq_lits.specs.Formula.{Dqbf}
+use Rattle.hint_log.specs.Entries.{Entry, Named, Given, Learned, Answer, Round, Begun, ProofLog, with_entry, name_of}
+use Rattle.hint_log.specs.ProductiveLog.{fault_groups, fault_room}
+use Rattle.log_laws.specs.Engines.{copies}
+use Rattle.log_laws.specs.Sessions.{IsInOneOf, IsAddedLive}
+use Rattle.log_laws.proofs.Kept.{each_of_weaker}
+use Rattle.log_laws.proofs.LargerLogs.{grown_by, grown_by_none, grown_then}
+use Rattle.padoa_definitions.specs.Copies.{is_copied_at}
+use Rattle.padoa_definitions.specs.Following.{AreOldOrNew, IsFollowing, IsStanding}
+use Rattle.padoa_definitions.specs.Store.{StoreState, store_groups, HasGiven, IsStore}
+use Rattle.padoa_definitions.proofs.GrownStores.{unnamed_before}
+
+pub same_or_not : (k i : ℕ) → (k ≡ i) ⊎ (k ≢ i)
+same_or_not zero zero = inl refl
+same_or_not zero (suc i) = inr (λ e. omega (arith, e))
+same_or_not (suc k) zero = inr (λ e. omega (arith, e))
+same_or_not (suc k) (suc i) = by (same_or_not k i)
+  where
+    by : (k ≡ i) ⊎ (k ≢ i) → (suc k ≡ suc i) ⊎ (suc k ≢ suc i)
+    by (inl same) = inl (ap suc same)
+    by (inr differ) = inr (λ e. differ (omega (arith, e)))
+
+-- what stands in a list after one place was set
+pub set_cases : {X : Type 0} (xs : List X) (i k : ℕ) (y z : X) → slice_get (set xs i y) k ≡ Some z →
+    ((k ≡ i) × (y ≡ z)) ⊎ ((k ≢ i) × (slice_get xs k ≡ Some z))
+set_cases [] i k y z is = cc
+set_cases (x ∷ xs) zero zero y z is = inl (refl, cc)
+set_cases (x ∷ xs) zero (suc k) y z is = inr ((λ e. omega (arith, e)), is)
+set_cases (x ∷ xs) (suc i) zero y z is = inr ((λ e. omega (arith, e)), is)
+set_cases {X} (x ∷ xs) (suc i) (suc k) y z is = further (set_cases xs i k y z is)
+  where
+    further : ((k ≡ i) × (y ≡ z)) ⊎ ((k ≢ i) × (slice_get xs k ≡ Some z)) →
+        ((suc k ≡ suc i) × (y ≡ z)) ⊎ ((suc k ≢ suc i) × (slice_get xs k ≡ Some z))
+    further (inl (here, same)) = inl (ap suc here, same)
+    further (inr (differ, old)) = inr ((λ e. differ (omega (arith, e))), old)
+
+pub set_there : {X : Type 0} (xs : List X) (i k : ℕ) (y z : X) → k ≢ i → slice_get xs k ≡ Some z →
+    slice_get (set xs i y) k ≡ Some z
+set_there [] i k y z apart is = is
+set_there (x ∷ xs) zero zero y z apart is = absurd (apart refl)
+set_there (x ∷ xs) zero (suc k) y z apart is = is
+set_there (x ∷ xs) (suc i) zero y z apart is = is
+set_there (x ∷ xs) (suc i) (suc k) y z apart is = set_there xs i k y z (λ e. apart (ap suc e)) is
+
+pub set_here : {X : Type 0} (xs : List X) (i : ℕ) (y : X) → i < length xs → slice_get (set xs i y) i ≡ Some y
+set_here [] i y below = absurd (omega (arith, below))
+set_here (z ∷ xs) zero y below = refl
+set_here (z ∷ xs) (suc i) y below = set_here xs i y (omega (arith, below))
+
+-- a step without an entry, and with one
+pub following_same : (all : Dqbf) (numbered : List ℕ) (s t : StoreState) (log new : ProofLog) → new ≡ log →
+    AreOldOrNew s t log.entries → IsStore all numbered t log.entries
+    → ((side j : ℕ) → HasGiven s side j → HasGiven t side j)
+    → ((k : ℕ) → is_copied_at s.copied k ≡ true → is_copied_at t.copied k ≡ true)
+    → IsFollowing all numbered s log t new
+following_same all numbered s t log new is groups store given copied =
+    subst (IsFollowing all numbered s log t) (sym is) (record {
+      grew = grown_by_none (IsAddedLive all copies (store_groups s) true log.entries) log log refl;
+      new_groups = groups;
+      names = λ v none. none;
+      faults = refl;
+      room = refl;
+      store = store;
+      given = given;
+      copied = copied;
+    })
+
+pub following_none : (all : Dqbf) (numbered : List ℕ) (s : StoreState) (log new : ProofLog) → new ≡ log →
+    IsStore all numbered s log.entries → IsFollowing all numbered s log s new
+following_none all numbered s log new is store =
+    following_same all numbered s s log new is (λ g has. inl has) store (λ side j has. has) (λ k has. has)
+
+pub following_entry : (all : Dqbf) (numbered : List ℕ) (s t : StoreState) (log new : ProofLog) (e : Entry) →
+    new ≡ with_entry log e → IsAddedLive all copies (store_groups s) true log.entries log.entries e
+    → fault_groups (e ∷ log.entries) ≡ fault_groups log.entries → fault_room (e ∷ log.entries) ≡ fault_room log.entries
+    → AreOldOrNew s t log.entries → IsStore all numbered t (e ∷ log.entries)
+    → ((side j : ℕ) → HasGiven s side j → HasGiven t side j)
+    → ((k : ℕ) → is_copied_at s.copied k ≡ true → is_copied_at t.copied k ≡ true)
+    → IsFollowing all numbered s log t new
+following_entry all numbered s t log new e is added faults room groups store given copied =
+    subst (IsFollowing all numbered s log t) (sym is) (record {
+      grew = grown_by (IsAddedLive all copies (store_groups s) true log.entries) log (with_entry log e) e refl added;
+      new_groups = groups;
+      names = λ v none. unnamed_before e log.entries v none;
+      faults = faults;
+      room = room;
+      store = store;
+      given = given;
+      copied = copied;
+    })
+
+module _ (all : Dqbf) (numbered : List ℕ) (a b c : StoreState) (first middle last : ProofLog)
+    (x : IsFollowing all numbered a first b middle) (y : IsFollowing all numbered b middle c last) where
+  old_group : (g : ℕ) → Contains (store_groups b) g ⊎ (name_of middle.entries g ≡ None) →
+      Contains (store_groups a) g ⊎ (name_of first.entries g ≡ None)
+  old_group g (inl has) = x.new_groups g has
+  old_group g (inr none) = inr (x.names g none)
+
+  in_one_of : (d : List Literal) → IsInOneOf (store_groups b) middle.entries d →
+      IsInOneOf (store_groups a) first.entries d
+  in_one_of d (g, inside, which) = (g, inside, old_group g which)
+
+  added : (earlier : List Entry) (e : Entry)
+      → IsAddedLive all copies (store_groups b) true middle.entries earlier e
+      → IsAddedLive all copies (store_groups a) true first.entries earlier e
+  added earlier (Named v n) h = h
+  added earlier (Given origin d) h = record {
+    own = h.own;
+    in_group = in_one_of d h.in_group;
+    matches_origin = h.matches_origin;
+    not_repeated = h.not_repeated;
+  }
+  added earlier (Learned d hs) h = tt
+  added earlier (Answer d hs) h = h
+  added earlier (Round r values j) h = absurd h
+  added earlier (Begun live) h = absurd h
+
+  pub following_then : IsFollowing all numbered a first c last
+  following_then = record {
+    grew = grown_then (IsAddedLive all copies (store_groups a) true first.entries) first middle last x.grew
+        (record {
+          more = y.grew.more;
+          grown = y.grew.grown;
+          each = each_of_weaker (IsAddedLive all copies (store_groups b) true middle.entries)
+              (IsAddedLive all copies (store_groups a) true first.entries) added y.grew.more middle.entries
+              y.grew.each;
+          limit = y.grew.limit;
+        });
+    new_groups = λ g has. old_group g (y.new_groups g has);
+    names = λ v none. x.names v (y.names v none);
+    faults = y.faults ∙ x.faults;
+    room = y.room ∙ x.room;
+    store = y.store;
+    given = λ side j has. y.given side j (x.given side j has);
+    copied = λ k has. y.copied k (x.copied k has);
+  }
+
+-- what a call asks for holds behind another one
+pub standing_on : (all : Dqbf) (numbered : List ℕ) (f : Dqbf) (s t : StoreState) (old new : ProofLog) →
+    IsStanding all numbered f s old.entries → IsFollowing all numbered s old t new → IsStanding all numbered f t new.entries
+standing_on all numbered f s t old new h x = record {
+  store = x.store;
+  universals = h.universals;
+  existentials = h.existentials;
+  few = subst (λ n. length (fault_groups new.entries) ≤ n) (sym x.room)
+      (subst (λ (gs : List ℕ). length gs ≤ fault_room old.entries) (sym x.faults) h.few);
+}

@@ -1,0 +1,85 @@
+use Rattle.std.proofs.Common.{◌≡◌, ◌+◌, slice_get, Some, sym, refl, ◌∙◌, ap, subst, arith}
+use Rattle.std.specs.List.{All}
+use Rattle.dq_lits.specs.Literal.{variable_of}
+use Rattle.padoa_definitions.specs.Copies.{IsCopied}
+use Rattle.padoa_definitions.specs.Store.{store_of}
+use Rattle.padoa_definitions.specs.declared.frames.Sides.{Sides}
+use Rattle.padoa_definitions.specs.declared.padoa.Padoa.{Padoa}
+use Rattle.padoa_definitions.proofs.FollowedClauses.{following_on, one_or_two}
+use Rattle.padoa_definitions.proofs.StoreSteps.{following_none, standing_on}
+use Rattle.padoa_definitions.proofs.padoa.Padoa.give_sides.Goals as goal
+
+pub sides_of-side-requires : goal.sides_of-side-requires
+sides_of-side-requires g c = c.requires.standing.3.from_one
+
+pub loop-side-init : goal.loop-side-init
+loop-side-init g c = (
+  c.requires.fit,
+  (λ all numbered h live. following_none all numbered (store_of c.args.self.now) c.args.log.now c.args.log.now refl h.store),
+  refl,
+  refl,
+  sym c.sides_of-side.ensures,
+)
+
+pub give_copy-requires-clause-standing : goal.give_copy-requires-clause-standing
+give_copy-requires-clause-standing g c =
+    let all = c.requires.standing.0 in
+    let numbered = c.requires.standing.1 in
+    let h = c.requires.standing.2 in (
+      all,
+      numbered,
+      standing_on all numbered c.args.f.now (store_of c.args.self.now) (store_of c.loop-side.self) c.args.log.now
+          c.loop-side.log h (c.loop-side.invariant.1 all numbered h c.requires.standing.3),
+      c.requires.standing.3,
+    )
+
+pub give_copy-requires-clause-room : goal.give_copy-requires-clause-room
+give_copy-requires-clause-room g c =
+    let room = c.requires.room in
+    let long = c.loop-side.invariant.3 in
+    omega (arith, room, long)
+
+pub give_copy-requires-clause-opened : goal.give_copy-requires-clause-opened
+give_copy-requires-clause-opened g c =
+    subst (λ (p : Padoa). (sides : Sides) × (slice_get p.frames.items c.args.clause.frame ≡ Some (Some sides)))
+    (sym c.loop-side.invariant.2) c.requires.opened
+
+pub give_copy-requires-clause-covered : goal.give_copy-requires-clause-covered
+give_copy-requires-clause-covered g c = λ d d_is.
+    subst (λ (p : Padoa). All (λ l. IsCopied c.args.f.now p.copied.items (variable_of l)) d)
+    (sym c.loop-side.invariant.2) (c.requires.covered d d_is)
+
+pub give_copy-requires-clause-side : goal.give_copy-requires-clause-side
+give_copy-requires-clause-side g c = let test = c.loop-side-test.true in
+    one_or_two (c.loop-side.side + 1) (omega arith) (omega (arith, test))
+
+pub give_copy-requires-clause-next : goal.give_copy-requires-clause-next
+give_copy-requires-clause-next g c = ap (λ n. n + 1) c.loop-side.invariant.4
+
+pub returns-in_err-give_copy-clause-following : goal.returns-in_err-give_copy-clause-following
+returns-in_err-give_copy-clause-following g c = λ all numbered h live.
+    following_on all numbered c.args.f.now (store_of c.args.self.now) (store_of c.loop-side.self)
+    (store_of c.give_copy.new.self) c.args.log.now c.loop-side.log c.give_copy.new.log h
+    (c.loop-side.invariant.1 all numbered h live) (λ x. c.give_copy.ensures.following all numbered x live)
+
+pub loop-side-preserved : goal.loop-side-preserved
+loop-side-preserved g c = (
+  c.give_copy.ensures.fit,
+  (λ all numbered h live.
+      following_on all numbered c.args.f.now (store_of c.args.self.now) (store_of c.loop-side.self)
+      (store_of c.give_copy.new.self) c.args.log.now c.loop-side.log c.give_copy.new.log h
+      (c.loop-side.invariant.1 all numbered h live) (λ x. c.give_copy.ensures.following all numbered x live)),
+  c.give_copy.ensures.same
+      ∙ ap (λ (p : Padoa). record p { given = c.give_copy.new.self.given }) c.loop-side.invariant.2,
+  c.give_copy.ensures.long ∙ c.loop-side.invariant.3,
+  c.in_ok-give_copy.ensures.given,
+)
+
+pub returns-clause-following : goal.returns-clause-following
+returns-clause-following g c = c.loop-side.invariant.1
+
+pub returns-clause-given : goal.returns-clause-given
+returns-clause-given g c =
+    let there = c.loop-side.invariant.4 in
+    let past = c.loop-side-test.false in
+    record { from_one = omega arith; within = omega (arith, there, past) }

@@ -1,0 +1,241 @@
+//! Copies that follow a session, in which clauses come and go in frames.
+
+ghost use Rattle.std.specs.Prelude.{◌≡◌, ◌⊎◌, ◌≤◌, ◌+◌, ◌-◌, ℕ, List, true, All, OnOk, Some, length, slice_get, slice_index_or};
+ghost use Rattle.dq_lits.specs.Formula.{Dqbf, IsWellFormed};
+ghost use Rattle.dq_lits.specs.Literal.{Literal, variable_of};
+ghost use Rattle.hint_log.specs.Growth.{Grew};
+ghost use Rattle.hint_log.specs.ProductiveLog.{fault_groups, fault_room};
+ghost use Rattle.log_laws.specs.Engines.{copies};
+ghost use Rattle.log_laws.specs.Sessions.{IsAddedLive};
+ghost use Rattle.padoa_definitions.specs.Copies.{IsCopied, IsPadoa};
+ghost use Rattle.padoa_definitions.specs.Following.{AreGiven, AreOldOrNew, IsFollowing, IsLiveClause, IsLiveFormula, IsStanding};
+ghost use Rattle.padoa_definitions.specs.Growing.{HasFewFaults};
+ghost use Rattle.padoa_definitions.specs.Store.{HasGiven, IsCopyStore, copy_groups, store_of};
+ghost use Rattle.padoa_definitions.specs.declared.frames.Sides.{Sides as SidesValue};
+
+use crate::copies::{MatrixCopy, copied_clause};
+use crate::padoa::Padoa;
+use dq_formula::Formula;
+use dq_lits::Memory;
+use hint_log::{Log, Origin};
+use oracle::Oracle;
+
+/// A clause of a formula: its place there, its number among all that were numbered, and its frame.
+#[derive(Clone, Copy)]
+pub(crate) struct LiveClause {
+    pub place: usize,
+    pub number: u64,
+    pub frame: u64,
+}
+
+impl Padoa {
+    /// Gives the copies not yet given of the clauses of a formula, whose numbers these are, each in
+    /// its frame's group of its side, and makes the groups of these frames the active ones. Where
+    /// memory is wanting, what was given stands, and a further call goes on there.
+    pub fn set_live<O: Oracle>(
+        &mut self,
+        oracle: &mut O,
+        f: &Formula,
+        live: &[u64],
+        frames: &[u64],
+        log: &mut Log,
+    ) -> Result<(), Memory>
+        requires fit { O.Fits oracle.old log.old }
+        requires formula { IsWellFormed f.now }
+        requires store { (all : Dqbf) × (numbered : List ℕ)
+            × IsCopyStore all numbered self.old log.old.entries
+            × IsLiveFormula all numbered f.now live.now frames.now }
+        requires few { HasFewFaults log.old.entries }
+        ensures fit { O.Fits oracle.new log.new }
+        ensures grew { (all : Dqbf) (numbered : List ℕ)
+            → IsCopyStore all numbered self.old log.old.entries
+            → IsLiveFormula all numbered f.now live.now frames.now
+            → Grew (IsAddedLive all copies (copy_groups self.old) true log.old.entries) log.old
+            log.new }
+        ensures store { (all : Dqbf) (numbered : List ℕ)
+            → IsCopyStore all numbered self.old log.old.entries
+            → IsLiveFormula all numbered f.now live.now frames.now
+            → IsCopyStore all numbered self.new log.new.entries }
+        ensures ready { OnOk result (IsPadoa f.now self.new log.new.entries) }
+        ensures given { OnOk result (AreGiven (store_of self.new) live.now) }
+        ensures fresh { AreOldOrNew (store_of self.old) (store_of self.new) log.old.entries }
+        ensures faults { fault_groups log.new.entries ≡ fault_groups log.old.entries }
+        ensures room { fault_room log.new.entries ≡ fault_room log.old.entries }
+        ensures nothing { AreGiven (store_of self.old) live.now → log.new ≡ log.old }
+    {
+        self.give_live(oracle, f, live, frames, log)?;
+        self.activate(frames)?;
+        Ok(())
+    }
+
+    // Gives the copies that these clauses lack.
+    fn give_live<O: Oracle>(
+        &mut self,
+        oracle: &mut O,
+        f: &Formula,
+        live: &[u64],
+        frames: &[u64],
+        log: &mut Log,
+    ) -> Result<(), Memory>
+        requires fit { O.Fits oracle.old log.old }
+        requires formula { IsWellFormed f.now }
+        requires store { (all : Dqbf) × (numbered : List ℕ)
+            × IsCopyStore all numbered self.old log.old.entries
+            × IsLiveFormula all numbered f.now live.now frames.now }
+        requires few { HasFewFaults log.old.entries }
+        ensures fit { O.Fits oracle.new log.new }
+        ensures following { (all : Dqbf) (numbered : List ℕ)
+            → IsCopyStore all numbered self.old log.old.entries
+            → IsLiveFormula all numbered f.now live.now frames.now
+            → IsFollowing all numbered (store_of self.old) log.old (store_of self.new) log.new }
+        ensures given { OnOk result (AreGiven (store_of self.new) live.now) }
+        ensures nothing { AreGiven (store_of self.old) live.now → log.new ≡ log.old }
+    {
+        for i in 0..live.len() {
+            let clause = LiveClause {
+                place: i,
+                number: live[i],
+                frame: frames[i],
+            };
+            self.follow(oracle, f, clause, log)?;
+        }
+        Ok(())
+    }
+
+    // Gives the copies that a clause lacks.
+    fn follow<O: Oracle>(
+        &mut self,
+        oracle: &mut O,
+        f: &Formula,
+        clause: LiveClause,
+        log: &mut Log,
+    ) -> Result<(), Memory>
+        requires fit { O.Fits oracle.old log.old }
+        requires formula { IsWellFormed f.now }
+        requires standing { (all : Dqbf) × (numbered : List ℕ)
+            × IsStanding all numbered f.now (store_of self.old) log.old.entries
+            × IsLiveClause all numbered f.now clause }
+        ensures fit { O.Fits oracle.new log.new }
+        ensures following { (all : Dqbf) (numbered : List ℕ)
+            → IsStanding all numbered f.now (store_of self.old) log.old.entries
+            → IsLiveClause all numbered f.now clause
+            → IsFollowing all numbered (store_of self.old) log.old (store_of self.new) log.new }
+        ensures given { OnOk result (HasGiven (store_of self.new) 2 clause.number) }
+        ensures nothing { HasGiven (store_of self.old) 2 clause.number → log.new ≡ log.old }
+    {
+        if self.sides_of(clause.number) >= 2 {
+            return Ok(());
+        }
+        self.complete(oracle, f, clause, log)
+    }
+
+    // Gives the copies that a clause lacks, with what they need.
+    fn complete<O: Oracle>(
+        &mut self,
+        oracle: &mut O,
+        f: &Formula,
+        clause: LiveClause,
+        log: &mut Log,
+    ) -> Result<(), Memory>
+        requires fit { O.Fits oracle.old log.old }
+        requires formula { IsWellFormed f.now }
+        requires standing { (all : Dqbf) × (numbered : List ℕ)
+            × IsStanding all numbered f.now (store_of self.old) log.old.entries
+            × IsLiveClause all numbered f.now clause }
+        ensures fit { O.Fits oracle.new log.new }
+        ensures following { (all : Dqbf) (numbered : List ℕ)
+            → IsStanding all numbered f.now (store_of self.old) log.old.entries
+            → IsLiveClause all numbered f.now clause
+            → IsFollowing all numbered (store_of self.old) log.old (store_of self.new) log.new }
+        ensures given { OnOk result (HasGiven (store_of self.new) 2 clause.number) }
+    {
+        f.every_formula_is_lawful();
+        self.copy_variables(oracle, f, f.clause(clause.place), log)?;
+        self.make_room(clause.number, clause.frame)?;
+        self.open_frame(oracle, clause.frame, log)?;
+        self.give_sides(oracle, f, clause, log)
+    }
+
+    // Gives the copies that a clause lacks, where its variables have copies and its frame groups.
+    fn give_sides<O: Oracle>(
+        &mut self,
+        oracle: &mut O,
+        f: &Formula,
+        clause: LiveClause,
+        log: &mut Log,
+    ) -> Result<(), Memory>
+        requires fit { O.Fits oracle.old log.old }
+        requires formula { IsWellFormed f.now }
+        requires standing { (all : Dqbf) × (numbered : List ℕ)
+            × IsStanding all numbered f.now (store_of self.old) log.old.entries
+            × IsLiveClause all numbered f.now clause }
+        requires room { clause.number ≤ length self.old.given.items }
+        requires opened { (sides : SidesValue)
+            × (slice_get self.old.frames.items clause.frame ≡ Some (Some sides)) }
+        requires covered { (c : List Literal) → slice_get f.now.matrix clause.place ≡ Some c
+            → All (λ l. IsCopied f.now self.old.copied.items (variable_of l)) c }
+        ensures fit { O.Fits oracle.new log.new }
+        ensures following { (all : Dqbf) (numbered : List ℕ)
+            → IsStanding all numbered f.now (store_of self.old) log.old.entries
+            → IsLiveClause all numbered f.now clause
+            → IsFollowing all numbered (store_of self.old) log.old (store_of self.new) log.new }
+        ensures given { OnOk result (HasGiven (store_of self.new) 2 clause.number) }
+    {
+        for side in self.sides_of(clause.number)..2 {
+            self.give_copy(oracle, f, clause, side + 1, log)?;
+        }
+        Ok(())
+    }
+
+    // Gives a clause on the next side.
+    fn give_copy<O: Oracle>(
+        &mut self,
+        oracle: &mut O,
+        f: &Formula,
+        clause: LiveClause,
+        side: u8,
+        log: &mut Log,
+    ) -> Result<(), Memory>
+        requires fit { O.Fits oracle.old log.old }
+        requires formula { IsWellFormed f.now }
+        requires standing { (all : Dqbf) × (numbered : List ℕ)
+            × IsStanding all numbered f.now (store_of self.old) log.old.entries
+            × IsLiveClause all numbered f.now clause }
+        requires room { clause.number ≤ length self.old.given.items }
+        requires opened { (sides : SidesValue)
+            × (slice_get self.old.frames.items clause.frame ≡ Some (Some sides)) }
+        requires covered { (c : List Literal) → slice_get f.now.matrix clause.place ≡ Some c
+            → All (λ l. IsCopied f.now self.old.copied.items (variable_of l)) c }
+        requires side { (side ≡ 1) ⊎ (side ≡ 2) }
+        requires next { slice_index_or self.old.given.items (clause.number - 1) 0 + 1 ≡ side }
+        ensures fit { O.Fits oracle.new log.new }
+        ensures following { (all : Dqbf) (numbered : List ℕ)
+            → IsStanding all numbered f.now (store_of self.old) log.old.entries
+            → IsLiveClause all numbered f.now clause
+            → IsFollowing all numbered (store_of self.old) log.old (store_of self.new) log.new }
+        ensures same { self.new ≡ record self.old { given = self.new.given } }
+        ensures long { length self.new.given.items ≡ length self.old.given.items }
+        ensures given { OnOk result
+            (slice_index_or self.new.given.items (clause.number - 1) 0 ≡ side) }
+    {
+        f.every_formula_is_lawful();
+        let lits = copied_clause(self.alloc, self.side(side), f, f.clause(clause.place))?;
+        let group = self.frame_group(clause.frame, side);
+        let origin = Origin::Copy {
+            side: side as u64,
+            clause: clause.number,
+        };
+        oracle.add(&group, &lits, origin, log)?;
+        self.given[clause.number as usize - 1] = side;
+        Ok(())
+    }
+
+    // The copy of the matrix on a side.
+    fn side(&self, side: u8) -> &MatrixCopy
+        requires { (side ≡ 1) ⊎ (side ≡ 2) }
+        ensures first { side ≡ 1 → result.now ≡ self.now.first }
+        ensures second { side ≡ 2 → result.now ≡ self.now.second }
+    {
+        if side == 1 { &self.first } else { &self.second }
+    }
+}

@@ -1,0 +1,307 @@
+-- What stands when a search has begun.
+use Rattle.std.proofs.Common.{◌≡◌, ◌≢◌, ◌⊎◌, inl, inr, ◌+◌, ◌-◌, ◌≤◌, ◌<◌, ℕ, zero, suc, Bool, true, List, [], ◌∷◌, ◌++◌, length, map, take, drop, get_or, slice_get, None, Some, OnOk, Result, Ok, Err, refl, sym, ◌∙◌, ap, subst, arith}
+use Rattle.std.specs.List.{Contains}
+use Rattle.std.specs.Option.{unwrap_or}
+use Rattle.std.proofs.lemmas.List.{take_all}
+use Rattle.dq_lits.specs.Formula.{Dqbf, IsWellFormed}
+use Rattle.hint_log.specs.Entries.{Entry, Begun, ProofLog, with_entry, name_of}
+use Rattle.hint_log.specs.Growth.{Grew}
+use Rattle.hint_log.specs.Live.{last_live, live_numbers, before_beginning}
+use Rattle.hint_log.specs.Naming.{rows_of}
+use Rattle.hint_log.specs.ProductiveLog.{fault_groups, fault_room}
+use Rattle.hint_log.specs.ProductiveSession.{IsUndecidedSince}
+use Rattle.log_laws.specs.Engines.{copies}
+use Rattle.log_laws.specs.Sessions.{IsAddedLive, EnginesLeaveSessions}
+use Rattle.aig_graph.specs.Graph.{AigGraph}
+use Rattle.circuit_cnf.specs.declared.checkers.Checker.{Checker}
+use Rattle.circuit_cnf.specs.Checking.{IsChecker, CheckersStay, group_of}
+use Rattle.dq_session.specs.Books.{BookState, all_of, frames_of, live_of, now_of, IsBook, IsFullBook}
+use Rattle.dq_session.specs.Changes.{groups_of}
+use Rattle.dq_session.specs.Standing.{EnginesLeaveBooks, BeginningsLeaveBooks}
+use Rattle.padoa_definitions.specs.Copies.{IsPadoa}
+use Rattle.padoa_definitions.specs.Following.{AreOldOrNew}
+use Rattle.padoa_definitions.specs.Leaving.{BeginningsLeaveStores}
+use Rattle.padoa_definitions.specs.Store.{IsCopyStore, copy_groups, store_of}
+use Rattle.padoa_definitions.specs.declared.padoa.Padoa.{Padoa}
+use Rattle.known_functions.specs.Searching.{HasInputs}
+use Rattle.repair_loop.specs.declared.desks.Desk.{Desk}
+use Rattle.repair_loop.specs.Beginning.{IsStanding, HasBegunUndecided, HasStarted}
+use Rattle.repair_loop.specs.Desks.{IsKept, AreApart, IsReady, HasBegun}
+use Rattle.repair_loop.specs.Turning.{AreFaultsNew, IsSearch}
+use Rattle.repair_loop.proofs.LiveBooks.{now_formed, are_numbers, book_named}
+use Rattle.repair_loop.proofs.LiveGrowth.{checker_left, checker_begun, same_prefix, same_faults, same_room}
+use Rattle.repair_loop.proofs.LogGrowth.{log_grew, not_begun, begun_before}
+use Rattle.repair_loop.proofs.NewFaults.{others_new}
+
+mapped_one : {A B : Type 0} (f : A → B) (xs : List A) (i : ℕ) (x : A) → slice_get xs i ≡ Some x →
+    map f (take i xs) ++ f x ∷ [] ≡ map f (take (suc i) xs)
+mapped_one f [] i x is = cc
+mapped_one f (y ∷ xs) zero x is = let same : y ≡ x = cc in ap (λ z. f z ∷ []) (sym same)
+mapped_one f (y ∷ xs) (suc i) x is = ap (λ zs. f y ∷ zs) (mapped_one f xs i x is)
+
+pub mapped_more : {A B : Type 0} (f : A → B) (xs : List A) (i : ℕ) (x : A) → slice_get xs i ≡ Some x →
+    map f (take i xs) ++ f x ∷ [] ≡ map f (take (i + 1) xs)
+mapped_more f xs i x is =
+    let same : suc i ≡ i + 1 = omega arith in
+    mapped_one f xs i x is ∙ ap (λ n. map f (take n xs)) same
+
+-- the numbers that two lists have in common, and the rest of one, are that one
+split_whole : (xs : List ℕ) (i : ℕ) → i ≤ length xs → take i xs ++ take (length xs - i) (drop i xs) ≡ xs
+split_whole xs zero within =
+    let all : length xs - 0 ≡ length xs = omega arith in
+    ap (λ n. take n xs) all ∙ take_all (length xs) xs (omega arith)
+split_whole [] (suc i) within = absurd (omega (arith, within))
+split_whole (x ∷ xs) (suc i) within =
+    let less : suc (length xs) - suc i ≡ length xs - i = omega arith in
+    ap (λ n. x ∷ (take i xs ++ take n (drop i xs))) less
+    ∙ ap (λ ys. x ∷ ys) (split_whole xs i (omega (arith, within)))
+
+pub joined_whole : (xs ys : List ℕ) (i : ℕ) → i ≤ length ys → take i xs ≡ take i ys →
+    take i xs ++ take (length ys - i) (drop i ys) ≡ ys
+joined_whole xs ys i within same =
+    ap (λ zs. zs ++ take (length ys - i) (drop i ys)) same ∙ split_whole ys i within
+
+pub ready_standing : (b : BookState) (d : Desk) (graph : AigGraph) (es : List Entry) → IsReady b d graph es →
+    IsStanding b d.checker d.padoa es
+ready_standing b d graph es r = record {
+  kept = record {
+    origins = r.session.givens_match_origins;
+    new_rows = r.session.rounds_refute_new_rows;
+    models = r.session.rounds_follow_a_model;
+    givens = r.session.givens_are_not_repeated;
+  };
+  book = r.book.book;
+  checked = r.desk.checked;
+  stored = r.desk.stored;
+  apart = r.desk.apart;
+}
+
+-- behind the beginning itself
+pub begun_standing : BeginningsLeaveBooks → BeginningsLeaveStores → (b : BookState) (d : Desk) (graph : AigGraph)
+    (es : List Entry) → IsReady b d graph es → IsStanding b d.checker d.padoa (Begun (live_of b) ∷ es)
+begun_standing books stores b d graph es r =
+    let s = ready_standing b d graph es r in
+    record {
+      kept = record {
+        origins = (are_numbers b es r.book.book, s.kept.origins);
+        new_rows = (tt, s.kept.new_rows);
+        models = (tt, s.kept.models);
+        givens = (tt, s.kept.givens);
+      };
+      book = (books b (live_of b) es).0 s.book;
+      checked = checker_begun b.file d.checker (live_of b) es s.checked;
+      stored = stores (all_of b) (frames_of b) d.padoa es (live_of b) s.stored;
+      apart = s.apart;
+    }
+
+-- there is room for a group of faults
+pub begun_room : (b : BookState) (d : Desk) (graph : AigGraph) (es : List Entry) (live : List ℕ) → IsReady b d graph es
+    → length (fault_groups (Begun live ∷ es)) < fault_room (Begun live ∷ es)
+begun_room b d graph es live r = let few = r.faults in omega (arith, few)
+
+pub no_start : (b : BookState) (before after : Desk) (graph : AigGraph) (old new : ProofLog) →
+    IsReady b before graph old.entries → after.checker ≡ before.checker → after.padoa ≡ before.padoa →
+    after.begun.items ≡ last_live new.entries → new ≡ old → HasStarted b after old new
+no_start b before after graph old new r checker padoa named same = record {
+  standing = subst (λ c. IsStanding b c after.padoa new.entries) (sym checker)
+      (subst (λ p. IsStanding b before.checker p new.entries) (sym padoa)
+      (subst (λ (l : ProofLog). IsStanding b before.checker before.padoa l.entries) (sym same)
+      (ready_standing b before graph old.entries r)));
+  began = inr same;
+  named = named;
+  limit = ap (λ (l : ProofLog). l.limit) same;
+}
+
+pub on_ok : {T E : Type 0} (r : Result T E) (A B : Type 0) → (A → B) → OnOk r A → OnOk r B
+on_ok (Ok x) A B f a = f a
+on_ok (Err e) A B f a = tt
+
+pub on_any : {T E : Type 0} (r : Result T E) (A : Type 0) → A → OnOk r A
+on_any (Ok x) A a = a
+on_any (Err e) A a = tt
+
+module _ (law : EnginesLeaveSessions) (books : EnginesLeaveBooks) (stay : CheckersStay)
+    (begun_books : BeginningsLeaveBooks) (begun_stores : BeginningsLeaveStores) (f : Dqbf) (b : BookState) (d : Desk)
+    (graph : AigGraph) (old mid new : ProofLog) (r : IsReady b d graph old.entries)
+    (logged : mid ≡ with_entry old (Begun (live_of b))) (now : f ≡ now_of b) where
+  abbrev all : Dqbf
+  all = all_of b
+
+  mid_standing : IsStanding b d.checker d.padoa mid.entries
+  mid_standing = subst (λ (l : ProofLog). IsStanding b d.checker d.padoa l.entries) (sym logged)
+      (begun_standing begun_books begun_stores b d graph old.entries r)
+
+  mid_room : length (fault_groups mid.entries) < fault_room mid.entries
+  mid_room = subst (λ (l : ProofLog). length (fault_groups l.entries) < fault_room l.entries) (sym logged)
+      (begun_room b d graph old.entries (live_of b) r)
+
+  pub mid_few : length (fault_groups mid.entries) ≤ fault_room mid.entries
+  mid_few = let few = mid_room in omega (arith, few)
+
+  pub mid_stored : IsCopyStore all (frames_of b) d.padoa mid.entries
+  mid_stored = mid_standing.stored
+
+  mid_undecided : IsUndecidedSince all mid.entries
+  mid_undecided = subst (λ (l : ProofLog). IsUndecidedSince all l.entries) (sym logged) tt
+
+  mid_faults : AreFaultsNew (before_beginning mid.entries) mid.entries
+  mid_faults = subst (λ (l : ProofLog). AreFaultsNew (before_beginning l.entries) l.entries) (sym logged) tt
+
+  mid_rows : rows_of mid.entries ≡ b.table.rows
+  mid_rows = ap (λ (l : ProofLog). rows_of l.entries) logged ∙ r.book.rows
+
+  mid_live : live_numbers mid.entries ≡ Some (live_of b)
+  mid_live = ap (λ (l : ProofLog). live_numbers l.entries) logged
+
+  -- nothing followed yet
+  pub only_begun : (after : Desk) → after.checker ≡ d.checker → after.padoa ≡ d.padoa →
+      after.begun.items ≡ last_live mid.entries → HasStarted b after old mid
+  only_begun after checker padoa named = record {
+    standing = subst (λ c. IsStanding b c after.padoa mid.entries) (sym checker)
+        (subst (λ p. IsStanding b d.checker p mid.entries) (sym padoa) mid_standing);
+    began = inl (record {
+      begun = record {
+        more = [];
+        grown = ap (λ (l : ProofLog). l.entries) logged;
+        none = refl;
+        named = mid_live;
+      };
+      undecided = mid_undecided;
+      new_faults = mid_faults;
+    });
+    named = named;
+    limit = ap (λ (l : ProofLog). l.limit) logged;
+  }
+
+  module _ (p : Padoa) (grew : Grew (IsAddedLive all copies (copy_groups d.padoa) true mid.entries) mid new)
+      (stored : IsCopyStore all (frames_of b) p new.entries)
+      (fresh : AreOldOrNew (store_of d.padoa) (store_of p) mid.entries) where
+    abbrev mine : List ℕ
+    mine = copy_groups d.padoa
+
+    off : (g h : ℕ) → Contains (groups_of b) g → Contains mine h → g ≢ h
+    off g h here there same = mid_standing.apart.copies h there (subst (Contains (groups_of b)) same here)
+
+    still_apart : AreApart b d.checker p
+    still_apart = record {
+      gates = mid_standing.apart.gates;
+      copies = λ g has here. off_book g (fresh g has) here;
+      copies_gates = λ has. off_gates (fresh (group_of d.checker) has);
+    }
+      where
+        off_book : (g : ℕ) → Contains mine g ⊎ (name_of mid.entries g ≡ None) → Contains (groups_of b) g → ⊥
+        off_book g (inl before) here = mid_standing.apart.copies g before here
+        off_book g (inr none) here = book_named b mid.entries mid_standing.book g here none
+
+        off_gates : Contains mine (group_of d.checker) ⊎ (name_of mid.entries (group_of d.checker) ≡ None) → ⊥
+        off_gates (inl before) = mid_standing.apart.copies_gates before
+        off_gates (inr none) = let is = mid_standing.checked.gates.made.named in cc
+
+    new_standing : IsStanding b d.checker p new.entries
+    new_standing =
+        let left = law all copies mine true mid new grew in
+        record {
+          kept = record {
+            origins = left.origins mid_standing.kept.origins;
+            new_rows = left.new_rows mid_standing.kept.new_rows;
+            models = left.models mid_standing.kept.models;
+            givens = left.givens mid_standing.kept.givens;
+          };
+          book = (books all b copies mine true mid new grew refl off).0 mid_standing.book;
+          checked = same_prefix b.file all.matrix b.file.matrix d.checker new.entries
+              (checker_left stay all copies mine true d.checker mid new refl mid_standing.apart.copies_gates grew
+              (same_prefix b.file b.file.matrix all.matrix d.checker mid.entries mid_standing.checked));
+          stored = stored;
+          apart = still_apart;
+        }
+
+    pub new_search : IsPadoa f p new.entries → (more : AigGraph) → HasInputs f more →
+        IsSearch f more b d.checker p new.entries
+    new_search copied more inputs =
+        let left = law all copies mine true mid new grew in
+        let s = new_standing in
+        let few = mid_room in
+        let many = ap length (same_faults all copies mine true mid new refl grew) in
+        let room = same_room all copies mine true mid new grew in
+        record {
+          here = record {
+            way = record {
+              formula = subst IsWellFormed (sym now) (now_formed b mid.entries mid_standing.book);
+              now_is = now;
+              live = left.live ∙ mid_live;
+              kept = s.kept;
+              book = s.book;
+              checked = s.checked;
+              copied = copied;
+              stored = s.stored;
+              apart = s.apart;
+              faults = omega (arith, few, many, room);
+              new_faults = others_new all copies mine true mid new refl grew left.before mid_faults;
+            };
+            rows = left.rows ∙ mid_rows;
+            undecided = left.decisions refl mid_undecided;
+          };
+          inputs = inputs;
+          room = omega (arith, few, many, room);
+        }
+
+    pub new_begun : HasBegunUndecided b old new
+    new_begun =
+        let left = law all copies mine true mid new grew in
+        let went = log_grew all copies mine true mid.entries mid new grew in
+        record {
+          begun = record {
+            more = went.more;
+            grown = went.grown ∙ ap (λ (l : ProofLog). went.more ++ l.entries) logged;
+            none = went.none;
+            named = left.live ∙ mid_live;
+          };
+          undecided = left.decisions refl mid_undecided;
+          new_faults = others_new all copies mine true mid new refl grew left.before mid_faults;
+        }
+
+    -- the copies followed
+    pub followed : (after : Desk) → after.checker ≡ d.checker → after.padoa ≡ p →
+        after.begun.items ≡ last_live mid.entries → HasStarted b after old new
+    followed after checker padoa named =
+        let left = law all copies mine true mid new grew in
+        record {
+          standing = subst (λ c. IsStanding b c after.padoa new.entries) (sym checker)
+              (subst (λ q. IsStanding b d.checker q new.entries) (sym padoa) new_standing);
+          began = inl new_begun;
+          named = named ∙ sym (ap (λ o. unwrap_or o []) left.live);
+          limit = grew.limit ∙ ap (λ (l : ProofLog). l.limit) logged;
+        }
+
+-- what a beginning that was refused says
+pub start_undecided : (b : BookState) (after : Desk) (old new : ProofLog) → HasStarted b after old new →
+    HasBegun (live_of b) old.entries new.entries → IsUndecidedSince (all_of b) new.entries
+start_undecided b after old new s begun = by s.began
+  where
+    by : HasBegunUndecided b old new ⊎ (new ≡ old) → IsUndecidedSince (all_of b) new.entries
+    by (inl began) = began.undecided
+    by (inr same) = absurd (not_begun (live_of b) old.entries new.entries
+        (ap (λ (l : ProofLog). l.entries) same) begun)
+
+pub started_faults : (b : BookState) (old new : ProofLog) → HasBegunUndecided b old new →
+    AreFaultsNew old.entries new.entries
+started_faults b old new began =
+    subst (λ es. AreFaultsNew es new.entries) (begun_before (live_of b) old.entries new.entries began.begun)
+    began.new_faults
+
+pub start_faults : (b : BookState) (after : Desk) (old new : ProofLog) → HasStarted b after old new →
+    HasBegun (live_of b) old.entries new.entries → AreFaultsNew old.entries new.entries
+start_faults b after old new s begun = by s.began
+  where
+    by : HasBegunUndecided b old new ⊎ (new ≡ old) → AreFaultsNew old.entries new.entries
+    by (inl began) = started_faults b old new began
+    by (inr same) = absurd (not_begun (live_of b) old.entries new.entries
+        (ap (λ (l : ProofLog). l.entries) same) begun)
+
+pub start_began : (b : BookState) (after : Desk) (old new : ProofLog) (P : Type 0) → P → HasStarted b after old new →
+    HasBegun (live_of b) old.entries new.entries ⊎ (P × (new ≡ old))
+start_began b after old new P p s = by s.began
+  where
+    by : HasBegunUndecided b old new ⊎ (new ≡ old) → HasBegun (live_of b) old.entries new.entries ⊎ (P × (new ≡ old))
+    by (inl began) = inl began.begun
+    by (inr same) = inr (p, same)

@@ -1,0 +1,105 @@
+-- The faults of a search stand in groups that it made.
+use Rattle.std.proofs.Common.{◌≡◌, ◌⊎◌, inl, inr, ℕ, zero, suc, Bool, true, false, List, [], ◌∷◌, ◌++◌, None, refl, sym, ◌∙◌, ap, subst, arith}
+use Rattle.std.specs.List.{Contains}
+use Rattle.dq_lits.specs.Formula.{Dqbf}
+use Rattle.dq_lits.specs.Literal.{Literal, variable_of}
+use Rattle.hint_log.specs.Entries.{Entry, Named, Given, Learned, Answer, Round, Begun, ProofLog, name_of}
+use Rattle.hint_log.specs.Growth.{Each, EachOf, Grew}
+use Rattle.hint_log.specs.Live.{before_beginning}
+use Rattle.hint_log.specs.declared.origins.Origin.{Origin}
+use Rattle.hint_log.specs.declared.origins.Origin.TheVariants.{Instance, Gate, Fault, Copy, Link, TermGate, Differ}
+use Rattle.log_laws.specs.Engines.{Engine, circuits, same_engine, origin_engine, IsInGroup}
+use Rattle.log_laws.specs.Sessions.{IsAddedLive}
+use Rattle.circuit_cnf.specs.Gates.{IsGateGiven}
+use Rattle.dq_session.proofs.StandingBooks.{in_one_group}
+use Rattle.repair_loop.specs.Turning.{AreFaultsNew}
+use Rattle.repair_loop.proofs.UnnamedBefore.{unnamed_since}
+
+-- what is no fault adds nothing
+other_given : (before earlier : List Entry) (engine : Engine) (origin : Origin) (c : List Literal) →
+    same_engine engine circuits ≡ false → origin_engine origin ≡ engine → AreFaultsNew before earlier →
+    AreFaultsNew before (Given origin c ∷ earlier)
+other_given before earlier engine (Instance k j) c other own new = new
+other_given before earlier engine (Gate v i) c other own new = new
+other_given before earlier engine (Fault j i leaf) c other own new =
+    let same : same_engine engine circuits ≡ same_engine circuits circuits =
+    ap (λ x. same_engine x circuits) (sym own) in cc
+other_given before earlier engine (Copy side j) c other own new = new
+other_given before earlier engine (Link v i) c other own new = new
+other_given before earlier engine (TermGate v i) c other own new = new
+other_given before earlier engine (Differ y leaf part) c other own new = new
+
+others_each : (before : List Entry) (all : Dqbf) (engine : Engine) (groups : List ℕ) (silent : Bool)
+    (start more old : List Entry) → same_engine engine circuits ≡ false →
+    EachOf (IsAddedLive all engine groups silent start) more old → AreFaultsNew before old →
+    AreFaultsNew before (more ++ old)
+others_each before all engine groups silent start [] old other each new = new
+others_each before all engine groups silent start (Named v n ∷ more) old other each new =
+    others_each before all engine groups silent start more old other each.1 new
+others_each before all engine groups silent start (Given origin c ∷ more) old other each new =
+    other_given before (more ++ old) engine origin c other each.0.own
+    (others_each before all engine groups silent start more old other each.1 new)
+others_each before all engine groups silent start (Learned c hints ∷ more) old other each new =
+    others_each before all engine groups silent start more old other each.1 new
+others_each before all engine groups silent start (Answer c hints ∷ more) old other each new =
+    others_each before all engine groups silent start more old other each.1 new
+others_each before all engine groups silent start (Round row values j ∷ more) old other each new = absurd each.0
+others_each before all engine groups silent start (Begun live ∷ more) old other each new = absurd each.0
+
+pub others_new : (all : Dqbf) (engine : Engine) (groups : List ℕ) (silent : Bool) (old new : ProofLog) →
+    same_engine engine circuits ≡ false → Grew (IsAddedLive all engine groups silent old.entries) old new →
+    before_beginning new.entries ≡ before_beginning old.entries →
+    AreFaultsNew (before_beginning old.entries) old.entries → AreFaultsNew (before_beginning new.entries) new.entries
+others_new all engine groups silent old new other grew same before =
+    subst (λ b. AreFaultsNew b new.entries) (sym same)
+    (subst (AreFaultsNew (before_beginning old.entries)) (sym grew.grown)
+    (others_each (before_beginning old.entries) all engine groups silent old.entries grew.more old.entries other
+    grew.each before))
+
+-- the gates' group has no faults
+turn_given : (before start earlier : List Entry) (gates : ℕ) (origin : Origin) (c : List Literal) →
+    ((v : ℕ) → name_of start v ≡ None → name_of before v ≡ None) →
+    (g : ℕ) × IsInGroup g c × (Contains (gates ∷ []) g ⊎ (name_of start g ≡ None)) →
+    IsGateGiven gates earlier (Given origin c) → AreFaultsNew before earlier →
+    AreFaultsNew before (Given origin c ∷ earlier)
+turn_given before start earlier gates (Instance k j) c older placed own new = new
+turn_given before start earlier gates (Gate v i) c older placed own new = new
+turn_given before start earlier gates (Fault j i leaf) c older (g, inside, place) own new =
+    (λ group here. by group here place, new)
+  where
+    by : (group : ℕ) → IsInGroup group c → Contains (gates ∷ []) g ⊎ (name_of start g ≡ None) →
+        name_of before group ≡ None
+    by group here (inl (zero, below, is)) = absurd (own (subst (λ n. IsInGroup n c) (sym is) inside))
+    by group here (inl (suc k, below, is)) = absurd (omega (arith, below))
+    by group here (inr none) = older group (ap (name_of start) (in_one_group group g c here inside) ∙ none)
+turn_given before start earlier gates (Copy side j) c older placed own new = new
+turn_given before start earlier gates (Link v i) c older placed own new = new
+turn_given before start earlier gates (TermGate v i) c older placed own new = new
+turn_given before start earlier gates (Differ y leaf part) c older placed own new = new
+
+turns_each : (before : List Entry) (all : Dqbf) (gates : ℕ) (silent : Bool) (start more old : List Entry) →
+    ((v : ℕ) → name_of start v ≡ None → name_of before v ≡ None) →
+    EachOf (IsAddedLive all circuits (gates ∷ []) silent start) more old → Each (IsGateGiven gates) (more ++ old) →
+    AreFaultsNew before old → AreFaultsNew before (more ++ old)
+turns_each before all gates silent start [] old older each own new = new
+turns_each before all gates silent start (Named v n ∷ more) old older each own new =
+    turns_each before all gates silent start more old older each.1 own.1 new
+turns_each before all gates silent start (Given origin c ∷ more) old older each own new =
+    turn_given before start (more ++ old) gates origin c older each.0.in_group own.0
+    (turns_each before all gates silent start more old older each.1 own.1 new)
+turns_each before all gates silent start (Learned c hints ∷ more) old older each own new =
+    turns_each before all gates silent start more old older each.1 own.1 new
+turns_each before all gates silent start (Answer c hints ∷ more) old older each own new =
+    turns_each before all gates silent start more old older each.1 own.1 new
+turns_each before all gates silent start (Round row values j ∷ more) old older each own new = absurd each.0
+turns_each before all gates silent start (Begun live ∷ more) old older each own new = absurd each.0
+
+pub turns_new : (all : Dqbf) (gates : ℕ) (silent : Bool) (old new : ProofLog) →
+    Grew (IsAddedLive all circuits (gates ∷ []) silent old.entries) old new →
+    before_beginning new.entries ≡ before_beginning old.entries → Each (IsGateGiven gates) new.entries →
+    AreFaultsNew (before_beginning old.entries) old.entries → AreFaultsNew (before_beginning new.entries) new.entries
+turns_new all gates silent old new grew same own before =
+    subst (λ b. AreFaultsNew b new.entries) (sym same)
+    (subst (AreFaultsNew (before_beginning old.entries)) (sym grew.grown)
+    (turns_each (before_beginning old.entries) all gates silent old.entries grew.more old.entries
+    (unnamed_since old.entries) grew.each (subst (Each (IsGateGiven gates)) grew.grown own) before))

@@ -1,0 +1,65 @@
+use Rattle.std.proofs.Common.{◌∙◌, inl, [], sym, ap, subst}
+use Rattle.std.specs.Option.{unwrap_or}
+use Rattle.dq_session.specs.Books.{live_of}
+use Rattle.known_functions.specs.Searching.{HasInputs}
+use Rattle.repair_loop.specs.Turning.{AreFaultsNew}
+use Rattle.repair_loop.proofs.Beginnings.{start_undecided, start_faults}
+use Rattle.repair_loop.proofs.EndedDesks.{answered_back, ready_again}
+use Rattle.repair_loop.proofs.LogGrowth.{begun_on, begun_before}
+use Rattle.repair_loop.proofs.Stops.{on_err}
+use Rattle.repair_loop.proofs.desks.Desk.decide_now.Goals as goal
+
+pub begin-requires-clause-ready : goal.begin-requires-clause-ready
+begin-requires-clause-ready g c = (c.args.graph.now, c.requires.ready)
+
+pub returns-in_err-begin-clause-kept : goal.returns-in_err-begin-clause-kept
+returns-in_err-begin-clause-kept g c = c.begin.ensures.started.standing.kept
+
+pub returns-in_err-begin-clause-selectors : goal.returns-in_err-begin-clause-selectors
+returns-in_err-begin-clause-selectors g c =
+    (g.met.O.Oracle.searched c.begin.new.oracle c.begin.new.log c.begin.ensures.fit).kept
+
+pub returns-in_err-begin-clause-limit_same : goal.returns-in_err-begin-clause-limit_same
+returns-in_err-begin-clause-limit_same g c = c.begin.ensures.started.limit
+
+pub returns-in_err-begin-clause-undecided : goal.returns-in_err-begin-clause-undecided
+returns-in_err-begin-clause-undecided g c begun =
+    on_err _ _ (start_undecided c.args.book.now c.begin.new.self c.args.log.now c.begin.new.log
+    c.begin.ensures.started begun)
+
+pub returns-in_err-begin-clause-new_faults : goal.returns-in_err-begin-clause-new_faults
+returns-in_err-begin-clause-new_faults g c begun =
+    start_faults c.args.book.now c.begin.new.self c.args.log.now c.begin.new.log c.begin.ensures.started begun
+
+pub run-requires-clause-search : goal.run-requires-clause-search
+run-requires-clause-search g c =
+    c.in_ok-begin.ensures.ready c.args.graph.now
+    (subst (λ f. HasInputs f c.args.graph.now) (sym c.requires.now) c.requires.ready.inputs)
+
+pub returns-clause-ready : goal.returns-clause-ready
+returns-clause-ready g c other =
+    let b = c.args.book.now in
+    let begun = c.in_ok-begin.ensures.begun.begun in
+    let ended = c.run.ensures.ended in
+    let named = c.begin.ensures.started.named ∙ ap (λ o. unwrap_or o []) begun.named in
+    ready_again c.desks_are_grouped.ensures c.args.f.now b c.run.new.book c.args.self.now _ c.args.graph.now
+    c.run.new.graph c.args.log.now c.run.new.log c.requires.ready
+    (begun_on (live_of b) c.args.log.now c.begin.new.log c.run.new.log begun ended.grew) ended.book
+    (c.run.ensures.way other) (c.run.ensures.rows other)
+    (g.met.O.Oracle.searched c.run.new.oracle c.run.new.log c.run.ensures.fit) named c.run.ensures.inputs
+
+pub returns-clause-began : goal.returns-clause-began
+returns-clause-began g c =
+    inl (begun_on (live_of c.args.book.now) c.args.log.now c.begin.new.log c.run.new.log
+    c.in_ok-begin.ensures.begun.begun c.run.ensures.ended.grew)
+
+pub returns-clause-shown_false : goal.returns-clause-shown_false
+returns-clause-shown_false g c id e =
+    answered_back c.args.book.now c.run.new.book c.run.new.log id c.run.ensures.ended.book
+    (c.run.ensures.shown_false id e)
+
+pub returns-clause-new_faults : goal.returns-clause-new_faults
+returns-clause-new_faults g c begun =
+    subst (λ es. AreFaultsNew es c.run.new.log.entries)
+    (begun_before (live_of c.args.book.now) c.args.log.now.entries c.run.new.log.entries begun)
+    c.run.ensures.ended.new_faults

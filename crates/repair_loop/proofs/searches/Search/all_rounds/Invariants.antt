@@ -1,0 +1,17 @@
+use Rattle.std.proofs.Common.{◌≡◌, ◌-◌}
+use Rattle.hint_log.specs.Entries.{steps_of}
+use Rattle.known_functions.specs.Forcing.{AreKnownIn}
+use Rattle.repair_loop.specs.Turning.{HasGoneOn, IsSearch}
+use Rattle.repair_loop.proofs.searches.Search.all_rounds.Given as goal
+
+abbrev pub invariant-loop-outputs : goal.invariant-loop-outputs
+invariant-loop-outputs g l = record {
+  fit : g.O.Oracle.Fits l.oracle l.log;
+  search : IsSearch l.self.f.now l.graph l.book l.checker l.self.padoa.now l.log.entries;
+  known : AreKnownIn l.self.f.now l.graph l.known.definitions;
+  inputs : l.graph.inputs ≡ l.initial.graph.inputs;
+  went : HasGoneOn l.self.f.now l.initial.book l.book l.initial.checker l.checker l.self.padoa.now l.initial.log l.log;
+}
+
+abbrev pub decreases-loop-outputs : goal.decreases-loop-outputs
+decreases-loop-outputs g l = l.log.limit - steps_of l.log.entries

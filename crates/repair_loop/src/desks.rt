@@ -1,0 +1,207 @@
+//! The desk of a session: what stays from search to search.
+
+ghost use Rattle.std.specs.Prelude.{◌≡◌, ◌⊎◌, ℕ, map, take, ◌≤◌, length, None, IfOk, OnOk, OnErr, IsErrOf, Ok, Err};
+ghost use Rattle.dq_lits.specs.Formula.{IsWellFormed};
+ghost use Rattle.hint_log.specs.Deciding.{IsUndecided, KeepsSelectors};
+ghost use Rattle.hint_log.specs.Entries.{Begun, with_entry};
+ghost use Rattle.hint_log.specs.Live.{last_live, live_numbers};
+ghost use Rattle.hint_log.specs.ProductiveLog.{IsProductiveLog};
+ghost use Rattle.hint_log.specs.ProductiveSession.{IsProductiveSession, IsUndecidedSince};
+ghost use Rattle.aig_graph.specs.Graph.{AigGraph};
+ghost use Rattle.dq_session.specs.Books.{BookState, all_of, frames_of, live_of, now_of};
+ghost use Rattle.known_functions.specs.Searching.{HasInputs};
+ghost use Rattle.repair_loop.specs.Desks.{HasBegun, IsAnsweredFalse, IsAnsweredTrue, IsBookAfter, IsFirstBook, IsKept, IsReady};
+ghost use Rattle.repair_loop.specs.Beginning.{HasBegunUndecided, HasStarted};
+ghost use Rattle.repair_loop.specs.Stopping.{IsStoppedAtLimit};
+ghost use Rattle.repair_loop.specs.Turning.{AreFaultsNew, IsSearch};
+
+use crate::decisions::Verdict;
+use crate::searches::Search;
+use crate::standing::desks_are_grouped;
+use aig_graph::Graph;
+use circuit_cnf::Checker;
+use circuit_cnf::laws::checkers_stay;
+use dq_formula::Formula;
+use dq_lits::Memory;
+use dq_session::laws::{beginnings_leave_books, engines_leave_books};
+use dq_session::{Book, Live};
+use hint_log::{Log, Stop};
+use log_laws::laws::{engines_leave_sessions, engines_leave_the_rest, plain_logs_are_sessions};
+use oracle::Oracle;
+use padoa_definitions::Padoa;
+use padoa_definitions::laws::{beginnings_leave_stores, engines_leave_stores};
+use std::alloc::Global;
+
+/// What the searches of a session share, beside the book of its clauses: the checker of circuits and
+/// the copies of the clauses, so that no gate and no copy is given twice.
+#[derive(Drop)]
+pub struct Desk {
+    pub(crate) alloc: Global,
+    pub(crate) checker: Checker,
+    pub(crate) padoa: Padoa,
+    // The clauses' numbers of the last search that began.
+    pub(crate) begun: Vec<u64>,
+}
+
+impl Desk {
+    /// A desk for a file's book, in a log that has nothing but the book's beginning.
+    pub fn new<O: Oracle>(
+        alloc: Global,
+        oracle: &mut O,
+        f: &Formula,
+        log: &mut Log,
+    ) -> Result<Desk, Memory>
+        requires fit { O.Fits oracle.old log.old }
+        requires formula { IsWellFormed f.now }
+        requires book { (b : BookState) × IsFirstBook f.now b log.old.entries }
+        ensures fit { O.Fits oracle.new log.new }
+        ensures limit_same { log.new.limit ≡ log.old.limit }
+        ensures productive { IsProductiveLog f.now log.new.entries }
+        ensures undecided { IsUndecided f.now log.new.entries }
+        ensures none { live_numbers log.new.entries ≡ None }
+        ensures ready { (b : BookState) (graph : AigGraph) → IsFirstBook f.now b log.old.entries
+            → HasInputs f.now graph → IfOk result (λ d. IsReady b d graph log.new.entries) }
+    {
+        desks_are_grouped();
+        engines_leave_books();
+        engines_leave_sessions();
+        engines_leave_stores();
+        engines_leave_the_rest();
+        plain_logs_are_sessions();
+        let padoa = Padoa::new(alloc, oracle, f, log)?;
+        let checker = Checker::new(alloc, oracle, f, log)?;
+        Ok(Desk {
+            alloc,
+            checker,
+            padoa,
+            begun: Vec::new(alloc),
+        })
+    }
+
+    /// Decides the formula of the live clauses. The log says that a search began over them, and then
+    /// what it came to. It stops for want of memory or at the log's limit; a verdict that needs no
+    /// further step comes at the limit too. Behind a verdict, and behind the limit, clauses may come
+    /// and go, and the next search may begin.
+    pub fn decide_now<O: Oracle>(
+        &mut self,
+        oracle: &mut O,
+        graph: &mut Graph,
+        book: &mut Book,
+        f: &Formula,
+        log: &mut Log,
+    ) -> Result<Verdict, Stop>
+        requires fit { O.Fits oracle.old log.old }
+        requires ready { IsReady book.old self.old graph.old log.old.entries }
+        requires now { f.now ≡ now_of book.old }
+        ensures fit { O.Fits oracle.new log.new }
+        ensures ready { (result ≡ Err Stop.Memory → ⊥)
+            → IsReady book.new self.new graph.new log.new.entries }
+        ensures book { IsBookAfter book.old book.new }
+        ensures session { (result ≡ Err Stop.Memory → ⊥)
+            → IsProductiveSession (all_of book.old) (frames_of book.old) log.new.entries }
+        ensures kept { IsKept (all_of book.old) log.new.entries }
+        ensures inputs { graph.new.inputs ≡ graph.old.inputs }
+        ensures selectors { KeepsSelectors log.new.entries }
+        ensures limit_same { log.new.limit ≡ log.old.limit }
+        ensures began { HasBegun (live_of book.old) log.old.entries log.new.entries
+            ⊎ ((result ≡ Err Stop.Memory) × (log.new ≡ log.old)) }
+        ensures shown_true { (nodes : _) (id : ℕ) → result ≡ Ok (Verdict.True nodes id)
+            → IsAnsweredTrue f.now graph.new nodes log.new id }
+        ensures shown_false { (id : ℕ) → result ≡ Ok (Verdict.False id)
+            → IsAnsweredFalse book.old log.new id }
+        ensures undecided { HasBegun (live_of book.old) log.old.entries log.new.entries
+            → OnErr result (IsUndecidedSince (all_of book.old) log.new.entries) }
+        ensures new_faults { HasBegun (live_of book.old) log.old.entries log.new.entries
+            → AreFaultsNew log.old.entries log.new.entries }
+        ensures limit { IsErrOf result Stop.Limit → IsStoppedAtLimit f.now log.new }
+    {
+        desks_are_grouped();
+        self.begin(oracle, book, f, log)?;
+        let search = Search {
+            alloc: self.alloc,
+            f,
+            padoa: &self.padoa,
+        };
+        search.run(oracle, graph, book, &mut self.checker, log)
+    }
+
+    // Logs that a search begins over the live clauses, and lets the copies follow them.
+    fn begin<O: Oracle>(
+        &mut self,
+        oracle: &mut O,
+        book: &Book,
+        f: &Formula,
+        log: &mut Log,
+    ) -> Result<(), Memory>
+        requires fit { O.Fits oracle.old log.old }
+        requires ready { (graph : AigGraph) × IsReady book.now self.old graph log.old.entries }
+        requires now { f.now ≡ now_of book.now }
+        ensures fit { O.Fits oracle.new log.new }
+        ensures started { HasStarted book.now self.new log.old log.new }
+        ensures begun { OnOk result (HasBegunUndecided book.now log.old log.new) }
+        ensures ready { (graph : AigGraph) → HasInputs f.now graph → OnOk result
+            (IsSearch f.now graph book.now self.new.checker self.new.padoa log.new.entries) }
+    {
+        beginnings_leave_books();
+        beginnings_leave_stores();
+        checkers_stay();
+        engines_leave_books();
+        engines_leave_sessions();
+        self.log_beginning(book, log)?;
+        let frames = live_frames(self.alloc, book.live())?;
+        let live = &self.begun;
+        self.padoa.set_live(oracle, f, live, &frames, log)
+    }
+
+    // Logs that a search begins over the live clauses.
+    fn log_beginning(&mut self, book: &Book, log: &mut Log) -> Result<(), Memory>
+        requires { self.old.begun.items ≡ last_live log.old.entries }
+        ensures checker { self.new.checker ≡ self.old.checker }
+        ensures padoa { self.new.padoa ≡ self.old.padoa }
+        ensures logged { OnOk result (log.new ≡ with_entry log.old (Begun (live_of book.now))) }
+        ensures named { self.new.begun.items ≡ last_live log.new.entries }
+        ensures err { OnErr result (log.new ≡ log.old) }
+    {
+        let live = live_numbers(self.alloc, book.live())?;
+        let stays = common_length(&self.begun, &live);
+        log.begun(stays, &live[stays..])?;
+        self.begun = live;
+        Ok(())
+    }
+}
+
+// The numbers of live clauses.
+fn live_numbers(alloc: Global, live: &[Live]) -> Result<Vec<u64>, Memory>
+    ensures { IfOk result (λ numbers. numbers.items ≡ map (λ l. l.clause) live.now) }
+{
+    let mut numbers = Vec::new(alloc);
+    for l in live {
+        numbers.push(l.clause)?;
+    }
+    Ok(numbers)
+}
+
+// Their frames.
+fn live_frames(alloc: Global, live: &[Live]) -> Result<Vec<u64>, Memory>
+    ensures { IfOk result (λ frames. frames.items ≡ map (λ l. l.frame) live.now) }
+{
+    let mut frames = Vec::new(alloc);
+    for l in live {
+        frames.push(l.frame)?;
+    }
+    Ok(frames)
+}
+
+// How many numbers two lists have in common at their beginnings.
+fn common_length(xs: &[u64], ys: &[u64]) -> usize
+    ensures first { result ≤ length ys.now }
+    ensures same { take result xs.now ≡ take result ys.now }
+{
+    let shorter = xs.len().min(ys.len());
+    for at in 0..shorter {
+        if xs[at] != ys[at] {
+            return at;
+        }
+    }
+    shorter
+}

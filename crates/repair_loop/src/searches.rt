@@ -1,0 +1,160 @@
+//! The loop that decides a formula.
+
+ghost use Rattle.std.specs.Prelude.{◌≡◌, ℕ, IfOk, IsErrOf, Ok, Err};
+ghost use Rattle.aig_graph.specs.Made.{Extends};
+ghost use Rattle.hint_log.specs.Naming.{rows_of};
+ghost use Rattle.oracle.specs.Limits.{IsAtSomeLimit};
+ghost use Rattle.known_functions.specs.Forcing.{AreKnownIn};
+ghost use Rattle.known_functions.specs.Guessing.{HasAsked, MayAsk};
+ghost use Rattle.repair_loop.specs.Desks.{IsAnsweredFalse, IsAnsweredTrue};
+ghost use Rattle.repair_loop.specs.Turning.{HasEnded, IsSearch, IsStoppedAs, IsUnderWay};
+
+use crate::candidates::Proposal;
+use crate::decisions::Verdict;
+use crate::false_rows::find_false_row;
+use crate::judging::{Candidates, Judged};
+use crate::standing::{instances_leave_logs, instances_leave_searches, questions_leave_searches};
+use aig_graph::Graph;
+use candidate_functions::Trees;
+use circuit_cnf::Checker;
+use dq_formula::Formula;
+use dq_session::Book;
+use hint_log::{Log, Stop};
+use known_functions::{Definitions, find_definitions};
+use oracle::Oracle;
+use padoa_definitions::Padoa;
+use std::alloc::Global;
+
+// What a search is about: the formula of the live clauses, and their copies.
+#[derive(Drop)]
+pub(crate) struct Search<'f, 'p> {
+    pub alloc: Global,
+    pub f: &'f Formula,
+    pub padoa: &'p Padoa,
+}
+
+// What a search knows of the existentials, and their trees.
+#[derive(Drop)]
+pub(crate) struct Known {
+    pub definitions: Definitions,
+    pub trees: Trees,
+}
+
+impl<'f, 'p> Search<'f, 'p> {
+    // Decides the formula, from the first question on.
+    pub(crate) fn run<O: Oracle>(
+        &self,
+        oracle: &mut O,
+        graph: &mut Graph,
+        book: &mut Book,
+        checker: &mut Checker,
+        log: &mut Log,
+    ) -> Result<Verdict, Stop>
+        requires fit { O.Fits oracle.old log.old }
+        requires search { IsSearch self.now.f.now graph.old book.old checker.old self.now.padoa.now
+            log.old.entries }
+        ensures fit { O.Fits oracle.new log.new }
+        ensures inputs { graph.new.inputs ≡ graph.old.inputs }
+        ensures ended { HasEnded book.old book.new log.old log.new }
+        ensures way { (result ≡ Err Stop.Memory → ⊥) → IsUnderWay self.now.f.now book.new checker.new
+            self.now.padoa.now log.new.entries }
+        ensures rows { (result ≡ Err Stop.Memory → ⊥) → rows_of log.new.entries ≡ book.new.table.rows }
+        ensures shown_true { (nodes : _) (id : ℕ) → result ≡ Ok (Verdict.True nodes id)
+            → IsAnsweredTrue self.now.f.now graph.new nodes log.new id }
+        ensures shown_false { (id : ℕ) → result ≡ Ok (Verdict.False id)
+            → IsAnsweredFalse book.new log.new id }
+        ensures stopped { IsStoppedAs self.now.f.now book.new log.new result }
+    {
+        questions_leave_searches();
+        let _ = book.live();
+        let mut known = self.find_known(oracle, graph, log)?;
+        self.all_rounds(oracle, graph, book, checker, &mut known, log)
+    }
+
+    // What is known before the first candidates: a row that refutes the formula, or definitions and
+    // guesses.
+    pub(crate) fn find_known<O: Oracle>(
+        &self,
+        oracle: &mut O,
+        graph: &mut Graph,
+        log: &mut Log,
+    ) -> Result<Known, Stop>
+        requires fit { O.Fits oracle.old log.old }
+        requires may { MayAsk self.now.f.now graph.old self.now.padoa.now log.old.entries }
+        ensures fit { O.Fits oracle.new log.new }
+        ensures asked { HasAsked self.now.f.now graph.old graph.new self.now.padoa.now log.old
+            log.new }
+        ensures known { IfOk result (λ k. AreKnownIn self.now.f.now graph.new k.definitions) }
+        ensures limit { IsErrOf result Stop.Limit → IsAtSomeLimit log.new }
+    {
+        let definitions = self.find_definitions(oracle, graph, log)?;
+        Ok(Known {
+            definitions,
+            trees: Trees::new(self.alloc),
+        })
+    }
+
+    fn find_definitions<O: Oracle>(
+        &self,
+        oracle: &mut O,
+        graph: &mut Graph,
+        log: &mut Log,
+    ) -> Result<Definitions, Stop>
+        requires fit { O.Fits oracle.old log.old }
+        requires may { MayAsk self.now.f.now graph.old self.now.padoa.now log.old.entries }
+        ensures fit { O.Fits oracle.new log.new }
+        ensures asked { HasAsked self.now.f.now graph.old graph.new self.now.padoa.now log.old
+            log.new }
+        ensures known { IfOk result (AreKnownIn self.now.f.now graph.new) }
+        ensures limit { IsErrOf result Stop.Limit → IsAtSomeLimit log.new }
+    {
+        match find_false_row(self.alloc, self.f)? {
+            Some(row) => Ok(Definitions::refuted(self.alloc, self.f, row)?),
+            None => find_definitions(self.alloc, oracle, self.padoa, graph, self.f, log),
+        }
+    }
+
+    // Turns until there is a verdict or a stop.
+    pub(crate) fn all_rounds<O: Oracle>(
+        &self,
+        oracle: &mut O,
+        graph: &mut Graph,
+        book: &mut Book,
+        checker: &mut Checker,
+        known: &mut Known,
+        log: &mut Log,
+    ) -> Result<Verdict, Stop>
+        requires fit { O.Fits oracle.old log.old }
+        requires search { IsSearch self.now.f.now graph.old book.old checker.old self.now.padoa.now
+            log.old.entries }
+        requires known { AreKnownIn self.now.f.now graph.old known.old.definitions }
+        ensures fit { O.Fits oracle.new log.new }
+        ensures inputs { graph.new.inputs ≡ graph.old.inputs }
+        ensures ended { HasEnded book.old book.new log.old log.new }
+        ensures way { (result ≡ Err Stop.Memory → ⊥) → IsUnderWay self.now.f.now book.new checker.new
+            self.now.padoa.now log.new.entries }
+        ensures rows { (result ≡ Err Stop.Memory → ⊥) → rows_of log.new.entries ≡ book.new.table.rows }
+        ensures shown_true { (nodes : _) (id : ℕ) → result ≡ Ok (Verdict.True nodes id)
+            → IsAnsweredTrue self.now.f.now graph.new nodes log.new id }
+        ensures shown_false { (id : ℕ) → result ≡ Ok (Verdict.False id)
+            → IsAnsweredFalse book.new log.new id }
+        ensures stopped { IsStoppedAs self.now.f.now book.new log.new result }
+    {
+        instances_leave_logs();
+        instances_leave_searches();
+        loop {
+            let outputs = match self.find_candidates(oracle, graph, book, known, log)? {
+                Proposal::Candidates(outputs) => outputs,
+                Proposal::Refuted(id) => return Ok(Verdict::False(id)),
+            };
+            let candidates = Candidates {
+                graph,
+                outputs: &outputs,
+            };
+            match self.judge(oracle, &candidates, book, checker, known, log)? {
+                Judged::Hold(id) => return Ok(Verdict::True(outputs, id)),
+                Judged::Fail(row) => book.add_row(oracle, &row, log)?,
+            }
+        }
+    }
+}
