@@ -1,0 +1,4 @@
+pub mod Followed
+pub mod GrownSessions
+mod Lists
+pub mod Standing

@@ -1,0 +1,4 @@
+pub mod Numbering
+pub mod Following
+pub mod Laws
+pub mod LargerSessions
