@@ -1,5 +1,6 @@
 -- From what is lifted to a verdict's output.
-use Rattle.std.proofs.Common.{◌≡◌, ◌≢◌, ◌∙◌, ◌-◌, ◌≤◌, ℕ, refl, sym, ap, subst, arith, Bool, false, List, [], ◌∷◌, map, length, None, Ok, Err, Result}
+use Rattle.std.proofs.Common.{◌≡◌, ◌≢◌, ◌∙◌, ◌-◌, ◌≤◌, ℕ, refl, ap, subst, arith, List, length, None, Ok, Err, Result}
+use Rattle.std.specs.List.{range_with_len}
 use Rattle.dq_lits.specs.Formula.{Dqbf, IsWellFormed}
 use Rattle.dq_lits.specs.Henkin.{IsTrueFormula, IsFalseFormula}
 use Rattle.dq_lits.specs.declared.memory.Memory.{Memory}
@@ -30,14 +31,15 @@ use Rattle.ordered_gates.specs.Circuits.{is_sorted}
 use Rattle.lifted_proofs.specs.LiftedCircuits.{IsLiftedProof}
 use Rattle.lifted_proofs.specs.Laws.{SettledFilesAreSpellable}
 use Rattle.lifted_proofs.specs.SettledCircuits.{IsSettledFile}
-use Rattle.dq_verdicts.specs.Accepted.{ProvedCircuitsAreAccepted, RefutationsAreAccepted}
+use Rattle.verdict_texts.specs.Accepted.{ProvedCircuitsAreAccepted, RefutationsAreAccepted}
 use Rattle.dq_verdicts.specs.Prepared.{IsPrep, IsPreparedOutput, IsCertificate}
-use Rattle.dq_verdicts.specs.Shown.{IsShownTrue, IsShownFalse}
-use Rattle.dq_verdicts.specs.Verdicts.{is_unknown, verdict_text}
-use Rattle.dq_verdicts.specs.declared.forms.Form.{Form}
-use Rattle.dq_verdicts.proofs.NumberedFiles.{are_sorted}
-use Rattle.dq_verdicts.proofs.RefutedRows.{DerivationsRefute, unsatisfiable}
-use Rattle.dq_verdicts.proofs.ShownVerdicts.{proof_numbered, printed_as}
+use Rattle.verdict_texts.specs.Shown.{IsShownTrue, IsShownFalse, unknown_by}
+use Rattle.verdict_texts.specs.Verdicts.{verdict_text}
+use Rattle.verdict_texts.specs.declared.forms.Form.{Form}
+use Rattle.verdict_texts.proofs.NumberedFiles.{are_sorted}
+use Rattle.verdict_texts.proofs.RefutedRows.{DerivationsRefute, unsatisfiable}
+use Rattle.verdict_texts.proofs.ShownTexts.{proof_numbered}
+use Rattle.dq_verdicts.proofs.ShownVerdicts.{printed_as}
 
 pub true-kept : SimplificationKeepsChoices → (f g : Dqbf) (units : List Taken) → IsWellFormed f → IsLawful f
     → AreUnits f units → g ≡ simplified_formula f units → IsTrueFormula g → IsTrueFormula f
@@ -59,7 +61,7 @@ shown-true accepted f g log id form file proof other is decided e = record {
 
 pub shown-false : RefutationsAreAccepted → DerivationsRefute → (f g : Dqbf) (log : ProofLog) (form : Form) (d : Dqr)
     → IsLawful f → f ≢ g → IsFalseFormula f → IsDqrOf f d → refutation_fault f d ≡ None → AreNumberedLines d.items
-    → IsShownFalse f g log form d
+    → IsShownFalse f g (range_with_len 1 (length g.matrix)) log form d
 shown-false accepted refute f g log form d lawful other is allowed none lines = record {
   false_formula = is;
   unsatisfiable = unsatisfiable refute f d none lines;
@@ -87,30 +89,27 @@ exported-certificate law numbered f entries id (Ok c) proved writable numbers al
 exported-certificate law numbered f entries id (Err _) proved writable numbers allowed exported = tt
 
 -- where the limit came first
-pub left-undecided : (f g : Dqbf) (log : ProofLog) (form : Form) (rounds steps : ℕ) (output : Output) → IsPrep f g
+pub left-undecided : (f g : Dqbf) (log : ProofLog) (form : Form) (output : Output) → IsPrep f g
     → IsProductiveLog g log.entries → IsUndecided g log.entries → IsStoppedAtLimit g log
-    → rounds_of log.entries ≤ steps_of log.entries → rounds ≡ rounds_of log.entries → steps ≡ steps_of log.entries
-    → output.status ≡ 0 → output.text.items ≡ verdict_text form f (is_unknown rounds (steps - rounds))
-    → IsPreparedOutput f log form output
-left-undecided f g log form rounds steps output prep productive undecided stopped fewer rounds-are steps-are status
-    text =
-    record {
-      searched = g;
-      prepared = prep;
-      verdict = is_unknown rounds (steps - rounds);
-      is = record {
-        productive = productive;
-        shown = record {
-          limit = stopped.reached;
-          next = stopped.next;
-          undecided = undecided;
-          rounds_are = rounds-are;
-          steps_are = omega (arith, fewer, rounds-are, steps-are);
-        };
-      };
-      is_printed = printed_as (is_unknown rounds (steps - rounds)) output.status output.text.items
-          (verdict_text form f (is_unknown rounds (steps - rounds))) status text;
-    }
+    → rounds_of log.entries ≤ steps_of log.entries → output.status ≡ 0
+    → output.text.items ≡ verdict_text form f (unknown_by log) → IsPreparedOutput f log form output
+left-undecided f g log form output prep productive undecided stopped fewer status text = record {
+  searched = g;
+  prepared = prep;
+  verdict = unknown_by log;
+  is = record {
+    productive = productive;
+    shown = record {
+      limit = stopped.reached;
+      next = stopped.next;
+      undecided = undecided;
+      rounds_are = refl;
+      steps_are = omega (arith, fewer);
+    };
+  };
+  is_printed = printed_as (unknown_by log) output.status output.text.items (verdict_text form f (unknown_by log)) status
+      text;
+}
 
 -- and what is lifted of it
 pub lifted-certificate : SettledFilesAreSpellable → (f g : Dqbf) (units : List Taken) (file : AagFile) (proof : Dqp)

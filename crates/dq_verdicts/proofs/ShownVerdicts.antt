@@ -1,54 +1,24 @@
 -- From what the search and the exports answer to a verdict's output.
-use Rattle.std.proofs.Common.{◌≡◌, ◌∙◌, ◌-◌, ◌*◌, ◌≤◌, ℕ, sym, ap, subst, arith, List, length, map, None, Result, Ok, Err}
-use Rattle.std.specs.List.{range_with_len}
-use Rattle.dq_lits.specs.Formula.{Dqbf, IsWellFormed}
-use Rattle.dq_lits.specs.Henkin.{IsTrueFormula, IsFalseFormula}
-use Rattle.dq_formula.specs.Prefix.{IsLawful}
+use Rattle.std.proofs.Common.{◌≡◌, ◌∙◌, ◌-◌, ◌≤◌, ℕ, refl, ap, arith, List, Result, Ok, Err}
+use Rattle.dq_lits.specs.Formula.{Dqbf}
 use Rattle.aig_graph.specs.declared.nodes.Node.{Node}
 use Rattle.aig_graph.specs.Graph.{AigGraph}
 use Rattle.circuit_cnf.specs.Shown.{ShownOutputsDecide}
-use Rattle.rup_core.specs.Items.{ProofItem, derived}
-use Rattle.hint_log.specs.Conditions.{AreLogged}
 use Rattle.hint_log.specs.Deciding.{IsUndecided}
-use Rattle.hint_log.specs.Entries.{Entry, ProofLog, count, rounds_of, steps_of}
+use Rattle.hint_log.specs.Entries.{ProofLog, rounds_of, steps_of}
 use Rattle.hint_log.specs.ProductiveLog.{IsProductiveLog}
-use Rattle.hint_log.specs.Reached.{AreReached}
 use Rattle.hint_log.specs.declared.stops.Stop.{Stop}
-use Rattle.aiger_text.specs.declared.files.AagFile.{AagFile}
-use Rattle.cert_text.specs.CircuitProof.{first_proof_id}
-use Rattle.cert_text.specs.Grammar.{IsDqrOf}
-use Rattle.cert_text.specs.Header.{max_count}
-use Rattle.cert_text.specs.Scan.{first_id}
-use Rattle.cert_text.specs.ProofGrammar.{IsDqpOf}
-use Rattle.cert_text.specs.declared.circuit_proofs.Dqp.{Dqp}
-use Rattle.cert_text.specs.declared.refutations.Dqr.{Dqr}
-use Rattle.cert_export.specs.CircuitPart.{exported_netlist}
-use Rattle.cert_export.specs.Expansion.{used_rows}
-use Rattle.cert_export.specs.Exportable.{AreExported, AreExportedItems}
-use Rattle.cert_export.specs.Exported.{ExportedLinesAreAllowed, CanExportFalse, exported_steps}
-use Rattle.cert_export.specs.ExportedCircuit.{IsDecidedTrue, IsNumberedFile, IsWritable, ExportedProofIsAllowed, proof_steps, is_gate_name}
-use Rattle.cert_export.specs.Lines.{is_lemma}
-use Rattle.cert_export.specs.Parts.{IsExportedCircuit}
-use Rattle.proof_checker.specs.ProvedCircuit.{IsProvedCircuit}
-use Rattle.refutation_checker.specs.Refutation.{refutation_fault}
-use Rattle.repair_loop.specs.Searching.{IsShownTrue as IsFoundTrue, IsShownFalse as IsFoundFalse}
+use Rattle.cert_export.specs.ExportedCircuit.{IsDecidedTrue}
+use Rattle.repair_loop.specs.Searching.{IsShownTrue as IsFoundTrue}
 use Rattle.repair_loop.specs.Stopping.{IsStoppedAtLimit}
-use Rattle.proof_deletions.specs.Deletions.{AreNumberedLines}
-use Rattle.proof_deletions.specs.Laws.{AllowedLinesAreNumbered, DeletionsAreAllowed}
-use Rattle.dq_verdicts.specs.Accepted.{ProvedCircuitsAreAccepted, RefutationsAreAccepted, SmallLogsAreWithinLimits}
-use Rattle.dq_verdicts.specs.Forms.{written_items}
-use Rattle.dq_verdicts.specs.declared.forms.Form.{Form}
+use Rattle.verdict_texts.specs.declared.forms.Form.{Form}
 use Rattle.dq_verdicts.specs.Outputs.{IsVerdictOutput}
-use Rattle.dq_verdicts.specs.Verdicts.{Verdict, is_unknown, verdict_text, verdict_status}
-use Rattle.dq_verdicts.specs.Shown.{IsShownTrue, IsShownFalse, few_entries}
+use Rattle.verdict_texts.specs.Verdicts.{Verdict, verdict_text, verdict_status}
+use Rattle.verdict_texts.specs.Shown.{unknown_by}
 use Rattle.dq_verdicts.specs.declared.verdicts.Decision.{Decision}
 use Rattle.dq_verdicts.specs.declared.verdicts.Decision.TheVariants.{Shown, Refuted}
 use Rattle.dq_runs.specs.Printed.{Printed}
 use Rattle.dq_runs.specs.declared.outputs.Output.{Output}
-use Rattle.dq_verdicts.proofs.NumberedFiles.{are_sorted}
-use Rattle.dq_verdicts.proofs.RefutedRows.{DerivationsRefute, unsatisfiable}
-use Rattle.dq_verdicts.proofs.WrittenForms.{written_few}
-use Rattle.dq_verdicts.proofs.Counts.{count_few}
 
 abbrev decided_id : Result Decision Stop → ℕ
 decided_id (Ok (Shown id)) = id
@@ -73,94 +43,6 @@ decided law f graph nodes log id s = record {
   decides = law f graph nodes s.shown.earlier s.shown.clause s.shown.hints s.shown.shows s.functions.reads_declared;
 }
 
--- what the export of a circuit gives
-pub record IsWrittenCircuit (f : Dqbf) (entries : List Entry) (id : ℕ) (file : AagFile) (proof : Dqp) : Type 0 where
-  pub proved : IsProvedCircuit f file proof
-  pub gates : length file.circuit.gates ≤ count is_gate_name entries
-  pub numbers : IsNumberedFile f file
-  pub few : length proof.items ≤ count is_lemma entries
-  pub spelled : IsWritable file
-  pub allowed : length proof.items ≤ max_count → IsDqpOf f file.circuit proof
-  pub exported : (ids : List ℕ) × IsExportedCircuit f entries id ids file proof
-  pub lines : AreNumberedLines proof.items
-
--- the lines of what is exported are numbered
-pub proof_numbered : ExportedProofIsAllowed → AllowedLinesAreNumbered → (f : Dqbf) (entries : List Entry) (id : ℕ)
-    (ids : List ℕ) (file : AagFile) (proof : Dqp)
-    → IsExportedCircuit f entries id ids file proof → AreNumberedLines proof.items
-proof_numbered allowed numbered f entries id ids file proof e =
-    let d = e.from.decided in
-    let (steps, (r, renaming, are), items) = e.lines in
-    subst AreNumberedLines (sym (items ∙ ap (map derived) are))
-    (numbered _ (first_proof_id f (exported_netlist f entries e.part)) (proof_steps f entries e.part ids r)
-    (omega arith)
-    (allowed f entries id e.part ids r d.well_formed d.logged d.inputs d.givens e.from.part d.reached renaming))
-
-pub refutation_numbered : ExportedLinesAreAllowed → AllowedLinesAreNumbered → (f : Dqbf) (live : List ℕ)
-    (entries : List Entry) (id : ℕ) (ids : List ℕ) (items : List ProofItem)
-    → IsWellFormed f → AreLogged entries → CanExportFalse f live entries id → AreReached entries id ids
-    → AreExportedItems f live entries ids items → AreNumberedLines items
-refutation_numbered allowed numbered f live entries id ids items well logged can reached e =
-    let (steps, (r, renaming, are), same) = e in
-    subst AreNumberedLines (sym (same ∙ ap (map derived) are))
-    (numbered _ (first_id f (length (used_rows entries ids))) (exported_steps f live entries ids r) (omega arith)
-    (allowed f live entries id ids r well logged can.instances can.refuted reached renaming))
-
-pub shown_true : ProvedCircuitsAreAccepted → SmallLogsAreWithinLimits →
-    (f : Dqbf) (log : ProofLog) (id : ℕ) (form : Form) (file : AagFile) (proof : Dqp)
-    → IsLawful f → IsTrueFormula f → IsDecidedTrue f log.entries id → IsWrittenCircuit f log.entries id file proof →
-    IsShownTrue f f log form file proof
-shown_true accepted within f log id form file proof lawful is_so decided e = record {
-  true_formula = is_so;
-  circuit = e.proved;
-  answered = (id, decided);
-  exported = λ _. record {
-    id = id;
-    decided = decided;
-    ids = e.exported.0;
-    exported = e.exported.1;
-    circuit = e.proved;
-    numbers = e.numbers;
-  };
-  accepted = accepted f file proof form e.proved e.lines e.spelled
-      (λ _. are_sorted f file e.numbers) e.allowed;
-  within = λ _. within f log.entries file proof form lawful e.gates e.numbers.max_var e.few;
-}
-
--- what the export of a refutation gives
-pub record IsWrittenRefutation (f : Dqbf) (entries : List Entry) (id : ℕ) (d : Dqr) : Type 0 where
-  pub accepted : refutation_fault f d ≡ None
-  pub few : length d.items ≤ count is_lemma entries
-  pub spelled : length d.items ≤ max_count → IsDqrOf f d
-  pub lines : (ids : List ℕ) × AreReached entries id ids × AreExported f
-      (range_with_len 1 (length f.matrix)) entries ids d
-  pub numbered : AreNumberedLines d.items
-
-few_lines : (entries : List Entry) (steps written : ℕ) → steps ≤ count is_lemma entries → written ≤ 2 * steps →
-    length entries ≤ few_entries → written ≤ max_count
-few_lines entries steps written few twice small =
-    let all = count_few is_lemma entries in omega (arith, few, twice, small, all)
-
-pub shown_false : RefutationsAreAccepted → DerivationsRefute → DeletionsAreAllowed → (f : Dqbf) (log : ProofLog) (id : ℕ) (form : Form)
-    (d : Dqr)
-    → IsLawful f → IsFalseFormula f → IsFoundFalse f log id → IsWrittenRefutation f log.entries id d →
-    IsShownFalse f f log form d
-shown_false accepted refute laws f log id form d lawful is_so found e = record {
-  false_formula = is_so;
-  unsatisfiable = unsatisfiable refute f d e.accepted e.numbered;
-  refutes = e.accepted;
-  exported = λ _. record {
-    id = id;
-    refuted = found.shown;
-    ids = e.lines.0;
-    reached = e.lines.1;
-    exported = e.lines.2;
-  };
-  accepted = accepted f d form lawful e.accepted e.numbered e.spelled;
-  within = λ _. few_lines log.entries (length d.items) (length (written_items form d.items)) e.few
-      (written_few laws form d.items);
-}
-
 -- a verdict's status with a text
 abbrev pub written : Verdict → List ℕ → Printed
 written verdict text = record { status = verdict_status verdict; text = text }
@@ -173,24 +55,21 @@ printed_as verdict status text said same is = ap (λ s. record { status = s; tex
     (written verdict) is
 
 -- where the limit came first
-pub unknown : (f : Dqbf) (log : ProofLog) (form : Form) (rounds steps : ℕ) (output : Output) →
-    IsProductiveLog f log.entries → IsUndecided f log.entries
-    → IsStoppedAtLimit f log → rounds_of log.entries ≤ steps_of log.entries → rounds ≡ rounds_of log.entries →
-    steps ≡ steps_of log.entries
-    → output.status ≡ 0 → output.text.items ≡ verdict_text form f (is_unknown rounds (steps - rounds)) →
-    IsVerdictOutput f log form output
-unknown f log form rounds steps output productive undecided stopped fewer rounds_are steps_are status text = record {
-  verdict = is_unknown rounds (steps - rounds);
+pub unknown : (f : Dqbf) (log : ProofLog) (form : Form) (output : Output) →
+    IsProductiveLog f log.entries → IsUndecided f log.entries → IsStoppedAtLimit f log
+    → rounds_of log.entries ≤ steps_of log.entries → output.status ≡ 0
+    → output.text.items ≡ verdict_text form f (unknown_by log) → IsVerdictOutput f log form output
+unknown f log form output productive undecided stopped fewer status text = record {
+  verdict = unknown_by log;
   is = record {
     productive = productive;
     shown = record {
       limit = stopped.reached;
       next = stopped.next;
       undecided = undecided;
-      rounds_are = rounds_are;
-      steps_are = omega (arith, fewer, rounds_are, steps_are);
+      rounds_are = refl;
+      steps_are = omega (arith, fewer);
     };
   };
-  is_printed = ap (λ s. record { status = s; text = output.text.items }) status ∙ ap
-      (written (is_unknown rounds (steps - rounds))) text;
+  is_printed = ap (λ s. record { status = s; text = output.text.items }) status ∙ ap (written (unknown_by log)) text;
 }

@@ -18,8 +18,8 @@ use Rattle.proof_checker.specs.ProvedCircuit.{IsProvedCircuit}
 use Rattle.ordered_gates.specs.Circuits.{is_sorted}
 use Rattle.proof_deletions.specs.Deletions.{AreNumberedLines}
 use Rattle.dq_verdicts.specs.Shown.{IsVerdict}
-use Rattle.dq_verdicts.specs.Verdicts.{Verdict, printed_verdict}
-use Rattle.dq_verdicts.specs.declared.forms.Form.{Form}
+use Rattle.verdict_texts.specs.Verdicts.{Verdict, printed_verdict}
+use Rattle.verdict_texts.specs.declared.forms.Form.{Form}
 use Rattle.dq_verdicts.specs.declared.prepared.Prepared.{Prepared}
 
 -- what is left where some units were taken, in any order

@@ -1,88 +1,21 @@
 -- What is shown by what is written with a verdict, and by the search's log.
-use Rattle.std.specs.Prelude.{◌≡◌, ℕ, ◌+◌, ◌<◌, ◌≤◌, List, length, None}
+use Rattle.std.specs.Prelude.{◌≡◌, ℕ, ◌+◌, ◌<◌, length}
 use Rattle.std.specs.List.{range_with_len}
-use Rattle.dq_lits.specs.Expansion.{IsExpansionUnsatisfiable}
 use Rattle.dq_lits.specs.Formula.{Dqbf}
-use Rattle.dq_lits.specs.Henkin.{IsTrueFormula, IsFalseFormula}
 use Rattle.hint_log.specs.Deciding.{IsUndecided}
 use Rattle.hint_log.specs.Entries.{ProofLog, rounds_of, steps_of}
 use Rattle.hint_log.specs.ProductiveLog.{IsProductiveLog}
-use Rattle.hint_log.specs.Reached.{AreReached}
 use Rattle.aiger_text.specs.declared.files.AagFile.{AagFile}
-use Rattle.cert_text.specs.Header.{max_count}
 use Rattle.cert_text.specs.declared.circuit_proofs.Dqp.{Dqp}
-use Rattle.cert_text.specs.declared.refutations.Dqr.{Dqr}
-use Rattle.expansion.specs.Table.{IsRefutedBy}
-use Rattle.cert_export.specs.Exportable.{AreExported}
-use Rattle.cert_export.specs.ExportedCircuit.{IsDecidedTrue, IsNumberedFile}
-use Rattle.cert_export.specs.Parts.{IsExportedCircuit}
-use Rattle.proof_checker.specs.ProvedCircuit.{IsProvedCircuit}
-use Rattle.refutation_checker.specs.Refutation.{refutation_fault}
 use Rattle.repair_loop.specs.Stopping.{HasNextStep}
 use Rattle.cert_judge.specs.Judgement.{IsJudgement}
-use Rattle.cert_judge.specs.declared.answers.Judgement.TheVariants.{ValidTrue, ValidFalse}
-use Rattle.dq_verdicts.specs.Forms.{plain, written_items, written_proof}
+use Rattle.cert_judge.specs.declared.answers.Judgement.TheVariants.{ValidTrue}
+use Rattle.verdict_texts.specs.Forms.{plain}
 use Rattle.dq_verdicts.specs.declared.demonstrations.Demonstration.{Demonstration}
 use Rattle.dq_verdicts.specs.declared.demonstrations.Demonstration.TheVariants.{Valid, Large, CutOff}
-use Rattle.dq_verdicts.specs.declared.forms.Form.{Form}
-use Rattle.dq_verdicts.specs.Verdicts.{Verdict, is_true, is_false, is_unknown, verdict_text}
-
--- with at most so many entries in the log, what is written is within the formats' limits
-abbrev pub few_entries : ℕ
-few_entries = 400000000
-
--- the numbers of a circuit and its proof, as it is written, are within the formats' limits; the
--- others are no greater than these
-pub record IsWithinLimits (form : Form) (file : AagFile) (proof : Dqp) : Type 0 where
-  pub variables : file.circuit.max_var ≤ max_count
-  pub items : length (written_proof form file proof).items ≤ max_count
-
--- An answer of the log decides that the formula which was searched is true, and the circuit with its
--- proof is what is exported of it.
-pub record IsExportedOf (searched : Dqbf) (log : ProofLog) (file : AagFile)
-    (proof : Dqp) : Type 0 where
-  pub id : ℕ
-  pub decided : IsDecidedTrue searched log.entries id
-  pub ids : List ℕ
-  pub exported : IsExportedCircuit searched log.entries id ids file proof
-  pub circuit : IsProvedCircuit searched file proof
-  pub numbers : IsNumberedFile searched file
-
--- The circuit has Skolem functions, its proof shows it, and the checker accepts what is written
--- where it is within the formats' limits. The formula that is decided may be another than the one
--- that was searched; where it is the same, what is written is exported of the log.
-pub record IsShownTrue (decided searched : Dqbf) (log : ProofLog) (form : Form) (file : AagFile)
-    (proof : Dqp) : Type 0 where
-  pub true_formula : IsTrueFormula decided
-  pub circuit : IsProvedCircuit decided file proof
-  pub answered : (id : ℕ) × IsDecidedTrue searched log.entries id
-  pub exported : decided ≡ searched → IsExportedOf searched log file proof
-  pub accepted : IsWithinLimits form file proof
-      → IsJudgement decided (verdict_text form decided (is_true file proof)) ValidTrue
-  pub within : decided ≡ searched → length log.entries ≤ few_entries
-      → IsWithinLimits form file proof
-
--- An answer of the log rests on instances of the searched formula alone, and the refutation is what
--- is exported of it, under the rows of these instances.
-pub record IsRefutationOf (searched : Dqbf) (log : ProofLog) (d : Dqr) : Type 0 where
-  pub id : ℕ
-  pub refuted : IsRefutedBy log.entries id
-  pub ids : List ℕ
-  pub reached : AreReached log.entries id ids
-  pub exported : AreExported searched (range_with_len 1 (length searched.matrix)) log.entries ids d
-
--- The instances under the refutation's rows have no model, the refutation shows it, and the checker
--- accepts what is written where it is within the formats' limits.
-pub record IsShownFalse (decided searched : Dqbf) (log : ProofLog) (form : Form)
-    (d : Dqr) : Type 0 where
-  pub false_formula : IsFalseFormula decided
-  pub unsatisfiable : IsExpansionUnsatisfiable decided d.rows
-  pub refutes : refutation_fault decided d ≡ None
-  pub exported : decided ≡ searched → IsRefutationOf searched log d
-  pub accepted : length (written_items form d.items) ≤ max_count
-      → IsJudgement decided (verdict_text form decided (is_false d)) ValidFalse
-  pub within : decided ≡ searched → length log.entries ≤ few_entries
-      → length (written_items form d.items) ≤ max_count
+use Rattle.verdict_texts.specs.declared.forms.Form.{Form}
+use Rattle.verdict_texts.specs.Verdicts.{Verdict, is_true, is_false, is_unknown, verdict_text}
+use Rattle.verdict_texts.specs.Shown.{IsWithinLimits, IsExportedOf, IsShownTrue, IsShownFalse, few_entries}
 
 -- all steps were done, each productive, the next one is in hand, and no answer decides the formula
 pub record IsLimitReached (f : Dqbf) (log : ProofLog) (rounds learned : ℕ) : Type 0 where
@@ -95,7 +28,8 @@ pub record IsLimitReached (f : Dqbf) (log : ProofLog) (rounds learned : ℕ) : T
 abbrev pub IsShown : Dqbf → Dqbf → ProofLog → Form → Verdict → Type 0
 IsShown decided searched log form (is_true file proof) =
     IsShownTrue decided searched log form file proof
-IsShown decided searched log form (is_false d) = IsShownFalse decided searched log form d
+IsShown decided searched log form (is_false d) =
+    IsShownFalse decided searched (range_with_len 1 (length searched.matrix)) log form d
 IsShown decided searched log form (is_unknown rounds learned) =
     IsLimitReached searched log rounds learned
 

@@ -7,8 +7,8 @@ ghost use Rattle.hint_log.specs.ProductiveLog.{IsProductiveLog};
 ghost use Rattle.cert_export.specs.ExportedCircuit.{IsDecidedTrue};
 ghost use Rattle.dq_verdicts.specs.Shown.{IsDemonstrated};
 
-use crate::forms::Form;
-use crate::verdicts::{Decision, search, true_text};
+use crate::verdicts::{Decision, search};
+use cert_export::laws::productive_answers_can_be_exported;
 use cert_judge::laws::one_judgement;
 use cert_judge::{Judgement, judge};
 use dq_formula::Formula;
@@ -16,6 +16,7 @@ use dq_lits::Memory;
 use dq_lits::laws::{expansion_lifts, no_formula_is_both};
 use hint_log::{Log, Stop};
 use std::alloc::Global;
+use verdict_texts::{Form, true_text};
 
 /// The judge numbers the lines of a text by bytes, for texts of fewer bytes than this. No run comes
 /// there.
@@ -60,6 +61,8 @@ fn judged(alloc: Global, log: &Log, id: u64, f: &Formula) -> Result<Demonstratio
     ensures { IfOk result (IsDemonstrated f.now log.now) }
 {
     one_judgement();
+    log.every_log_is_lawful();
+    productive_answers_can_be_exported();
     let form = Form {
         bare: false,
         deletes: false,

@@ -17,12 +17,8 @@ ghost use Rattle.repair_loop.specs.Searching.{IsShownFalse};
 ghost use Rattle.repair_loop.specs.Stopping.{IsStoppedAtLimit};
 ghost use Rattle.dq_verdicts.specs.Prepared.{IsPrep, IsPrepared, IsPreparedOutput, IsPreparedLog, IsCertificate};
 
-use crate::forms::Form;
-use crate::laws::{proved_circuits_are_accepted, refutations_are_accepted};
 use crate::statuses::Status;
-use crate::verdicts::{
-    Decision, circuit_text, counts_line, refutation_text, search, solve, with_verdict,
-};
+use crate::verdicts::{Decision, search, solve};
 use aiger_text::AagFile;
 use cert_export::laws::{exported_proof_is_allowed, productive_answers_can_be_exported};
 use cert_export::{clause_numbers, export_false, export_true};
@@ -40,6 +36,8 @@ use lifted_proofs::{lift_false, lift_true};
 use proof_deletions::laws::allowed_lines_are_numbered;
 use refutation_checker::laws::refutation_shows_false;
 use std::alloc::Global;
+use verdict_texts::laws::{proved_circuits_are_accepted, refutations_are_accepted};
+use verdict_texts::{Form, circuit_text, refutation_text, unknown_text, with_verdict};
 
 /// The most lines of a refutation's text.
 const MOST: u64 = 1_000_000_000;
@@ -197,10 +195,7 @@ fn undecided(p: &Prepared, log: &Log, form: Form) -> Result<Output, Memory>
     ensures { IfOk result (IsPreparedOutput p.now.formula.now log.now form) }
 {
     rounds_are_steps();
-    let rounds = log.rounds();
-    let learned = log.steps() - rounds;
-    let evidence = counts_line(p.alloc, rounds, learned)?;
-    let text = with_verdict(p.alloc, "s UNKNOWN\n", form, evidence)?;
+    let text = unknown_text(p.alloc, log, form)?;
     Ok(Output {
         status: Status::Unknown.code(),
         text,

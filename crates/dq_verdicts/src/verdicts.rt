@@ -1,52 +1,32 @@
-//! The search, and what is written with its verdict.
+//! The search, and its output.
 
-ghost use Rattle.std.specs.Prelude.{◌≡◌, ◌≤◌, ◌++◌, ℕ, true, [], length, codes, if◌then◌else◌, Ok, IfOk, OnErr, IsErrOf};
+ghost use Rattle.std.specs.Prelude.{◌≡◌, ◌≤◌, ℕ, [], Ok, IfOk, OnErr, IsErrOf};
 ghost use Rattle.dq_lits.specs.Formula.{IsWellFormed};
 ghost use Rattle.dq_lits.specs.Henkin.{IsTrueFormula};
 ghost use Rattle.hint_log.specs.Deciding.{IsUndecided};
 ghost use Rattle.hint_log.specs.ProductiveLog.{IsProductiveLog};
-ghost use Rattle.aiger_text.specs.Canonical.{canonical_circuit};
-ghost use Rattle.aig_binary.specs.Written.{binary_text};
 ghost use Rattle.cert_text.specs.Header.{max_count};
 ghost use Rattle.cert_export.specs.ExportedCircuit.{IsDecidedTrue};
-ghost use Rattle.cert_text.specs.Canonical.{canonical, canonical_proof};
-ghost use Rattle.dq_runs.specs.Printed.{line};
 ghost use Rattle.repair_loop.specs.Searching.{IsShownFalse};
 ghost use Rattle.repair_loop.specs.Stopping.{IsStoppedAtLimit};
-ghost use Rattle.proof_deletions.specs.Deletions.{AreNumberedLines};
-ghost use Rattle.ordered_gates.specs.Circuits.{is_sorted, ordered_file, ordered_proof};
-ghost use Rattle.dq_verdicts.specs.Forms.{written_items, written_refutation};
-ghost use Rattle.dq_verdicts.specs.Outputs.{IsVerdictOutput, IsTrueText};
-ghost use Rattle.dq_verdicts.specs.Verdicts.{with_proof, circuit_text, counts_text};
+ghost use Rattle.dq_verdicts.specs.Outputs.{IsVerdictOutput};
 
-use crate::forms::{Form, written_items};
-use crate::laws::{
-    proved_circuits_are_accepted, refutations_are_accepted, small_logs_are_within_limits,
-};
 use crate::statuses::Status;
-use aig_binary::write_binary;
 use aig_graph::Graph;
-use aiger_text::{AagFile, Text};
 use cdcl_core::Cdcl;
-use cert_export::laws::{
-    exported_lines_are_allowed, exported_proof_is_allowed, productive_answers_can_be_exported,
-};
-use cert_export::{clause_numbers, export_false, export_true};
-use cert_text::{Dqp, Dqr, write_dqp, write_dqr};
+use cert_export::clause_numbers;
+use cert_export::laws::productive_answers_can_be_exported;
 use circuit_cnf::laws::shown_outputs_decide;
 use dq_formula::Formula;
 use dq_lits::Memory;
-use dq_lits::laws::{derivation_refutes_expansion, skolem_functions_show_true};
+use dq_lits::laws::skolem_functions_show_true;
 use dq_runs::Output;
 use hint_log::laws::rounds_are_steps;
 use hint_log::{Log, Stop};
 use oracle::Oracle;
-use ordered_gates::laws::{ordered_files_are_binary, ordered_lines_are_numbered};
-use ordered_gates::{ordered_circuit, ordered_items};
-use proof_deletions::laws::{allowed_lines_are_numbered, deletions_are_allowed};
-use refutation_checker::laws::refutation_shows_false;
 use repair_loop::{Verdict, decide};
 use std::alloc::Global;
+use verdict_texts::{Form, false_text, true_text, unknown_text};
 
 /// What a search came to: the id of the answer that shows the formula true, or false.
 #[derive(Clone, Copy)]
@@ -126,101 +106,13 @@ fn true_output(alloc: Global, log: &Log, id: u64, f: &Formula, form: Form) -> Re
     requires decided { IsDecidedTrue f.now log.now.entries id }
     ensures { IfOk result (IsVerdictOutput f.now log.now form) }
 {
+    log.every_log_is_lawful();
+    productive_answers_can_be_exported();
     let text = true_text(alloc, log, id, f, form)?;
     Ok(Output {
         status: Status::True.code(),
         text,
     })
-}
-
-/// The text of the circuit that an answer decides for, with its proof.
-pub(crate) fn true_text(
-    alloc: Global,
-    log: &Log,
-    id: u64,
-    f: &Formula,
-    form: Form,
-) -> Result<Vec<u8>, Memory>
-    requires formula { IsWellFormed f.now }
-    requires productive { IsProductiveLog f.now log.now.entries }
-    requires is_true { IsTrueFormula f.now }
-    requires decided { IsDecidedTrue f.now log.now.entries id }
-    ensures { IfOk result (λ text. IsTrueText f.now log.now form text.items) }
-{
-    f.every_formula_is_lawful();
-    log.every_log_is_lawful();
-    productive_answers_can_be_exported();
-    exported_proof_is_allowed();
-    allowed_lines_are_numbered();
-    proved_circuits_are_accepted();
-    small_logs_are_within_limits();
-    let (file, proof) = export_true(alloc, log, id, f)?;
-    let evidence = circuit_text(alloc, file, proof, form)?;
-    let text = with_verdict(alloc, "s TRUE\n", form, evidence)?;
-    Ok(text)
-}
-
-/// A circuit with its proof in its comment. For the binary form its gates are sorted.
-pub(crate) fn circuit_text(
-    alloc: Global,
-    file: AagFile,
-    proof: Dqp,
-    form: Form,
-) -> Result<Vec<u8>, Memory>
-    requires numbered { AreNumberedLines proof.items }
-    requires sorted { form.binary ≡ true → is_sorted file.circuit ≡ true }
-    ensures { IfOk result (λ text. text.items ≡ circuit_text form file proof) }
-{
-    if form.binary {
-        return binary_circuit(alloc, file, proof, form);
-    }
-    ascii_circuit(alloc, file, proof, form)
-}
-
-// The same in ASCII.
-fn ascii_circuit(
-    alloc: Global,
-    mut file: AagFile,
-    proof: Dqp,
-    form: Form,
-) -> Result<Vec<u8>, Memory>
-    requires { AreNumberedLines proof.items }
-    ensures { IfOk result (λ text. text.items
-        ≡ canonical_circuit (with_proof file (record { items = written_items form proof.items }))) }
-{
-    file.comment = Some(proof_text(alloc, proof, form)?);
-    aiger_text::write(alloc, &file)
-}
-
-// In the binary form, where the gates are sorted: each one's greater side first, and the hints after
-// it.
-fn binary_circuit(
-    alloc: Global,
-    mut file: AagFile,
-    proof: Dqp,
-    form: Form,
-) -> Result<Vec<u8>, Memory>
-    requires numbered { AreNumberedLines proof.items }
-    requires sorted { is_sorted file.circuit ≡ true }
-    ensures { IfOk result (λ text. text.items ≡ binary_text (with_proof (ordered_file file)
-        (record { items = written_items form (ordered_proof file.circuit proof).items }))) }
-{
-    ordered_lines_are_numbered();
-    ordered_files_are_binary();
-    let items = ordered_items(alloc, &file.circuit, &proof.items)?;
-    file.circuit = ordered_circuit(alloc, &file.circuit)?;
-    file.comment = Some(proof_text(alloc, Dqp { items }, form)?);
-    write_binary(alloc, &file)
-}
-
-fn proof_text(alloc: Global, proof: Dqp, form: Form) -> Result<Text, Memory>
-    requires { AreNumberedLines proof.items }
-    ensures { IfOk result
-        (λ text. text ≡ canonical_proof (record { items = written_items form proof.items })) }
-{
-    let items = written_items(alloc, proof.items, form)?;
-    let text = write_dqp(alloc, &Dqp { items })?;
-    Ok(Text::from_bytes(alloc, &text)?)
 }
 
 // What is written of a false formula.
@@ -237,40 +129,14 @@ fn false_output(
     requires limit { log.now.limit ≤ max_count }
     ensures { IfOk result (IsVerdictOutput f.now log.now form) }
 {
-    f.every_formula_is_lawful();
     log.every_log_is_lawful();
     productive_answers_can_be_exported();
-    exported_lines_are_allowed();
-    allowed_lines_are_numbered();
-    deletions_are_allowed();
-    derivation_refutes_expansion();
-    refutations_are_accepted();
-    refutation_shows_false();
     let numbers = clause_numbers(alloc, f)?;
-    let refutation = export_false(alloc, log, id, f, &numbers)?;
-    let evidence = refutation_text(alloc, refutation, f, form)?;
-    let text = with_verdict(alloc, "s FALSE\n", form, evidence)?;
+    let text = false_text(alloc, log, id, f, &numbers, form)?;
     Ok(Output {
         status: Status::False.code(),
         text,
     })
-}
-
-/// A refutation as it is written.
-pub(crate) fn refutation_text(
-    alloc: Global,
-    refutation: Dqr,
-    f: &Formula,
-    form: Form,
-) -> Result<Vec<u8>, Memory>
-    requires { AreNumberedLines refutation.items }
-    ensures { IfOk result
-        (λ text. text.items
-        ≡ canonical f.now.universals (written_refutation form refutation)) }
-{
-    let Dqr { rows, items } = refutation;
-    let items = written_items(alloc, items, form)?;
-    write_dqr(alloc, &Dqr { rows, items }, f)
 }
 
 // What is written where the limit came first.
@@ -281,39 +147,9 @@ fn unknown_output(alloc: Global, log: &Log, f: &Formula, form: Form) -> Result<O
     ensures { IfOk result (IsVerdictOutput f.now log.now form) }
 {
     rounds_are_steps();
-    let rounds = log.rounds();
-    let learned = log.steps() - rounds;
-    let evidence = counts_line(alloc, rounds, learned)?;
-    let text = with_verdict(alloc, "s UNKNOWN\n", form, evidence)?;
+    let text = unknown_text(alloc, log, form)?;
     Ok(Output {
         status: Status::Unknown.code(),
         text,
     })
-}
-
-/// The numbers of rounds and of learned clauses.
-pub(crate) fn counts_line(alloc: Global, rounds: u64, learned: u64) -> Result<Vec<u8>, Memory>
-    ensures { IfOk result (λ bytes. bytes.items ≡ line (counts_text rounds learned)) }
-{
-    let text = format!(in alloc; "c rounds {rounds} learned {learned}\n")?;
-    Ok(text.into_bytes())
-}
-
-/// The evidence behind the line with the verdict, or alone.
-pub(crate) fn with_verdict(
-    alloc: Global,
-    verdict: &str,
-    form: Form,
-    evidence: Vec<u8>,
-) -> Result<Vec<u8>, Memory>
-    ensures { IfOk result
-        (λ text. text.items ≡ (if form.bare then [] else verdict.now) ++ evidence.items) }
-{
-    if form.bare {
-        return Ok(evidence);
-    }
-    let mut text = Vec::new(alloc);
-    text.extend_from_slice(verdict.as_bytes())?;
-    text.extend_from_slice(&evidence)?;
-    Ok(text)
 }

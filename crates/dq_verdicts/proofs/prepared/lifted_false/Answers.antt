@@ -1,6 +1,6 @@
 use Rattle.std.proofs.Common.{◌∙◌, ◌++◌, ap, cond, [], codes}
 use Rattle.dq_runs.specs.Printed.{line}
-use Rattle.dq_verdicts.specs.Verdicts.{is_false, verdict_text}
+use Rattle.verdict_texts.specs.Verdicts.{is_false, verdict_text}
 use Rattle.dq_verdicts.proofs.LiftedVerdicts.{shown-false}
 use Rattle.dq_verdicts.proofs.ShownVerdicts.{printed_as}
 use Rattle.dq_verdicts.proofs.prepared.lifted_false.Goals as goal

@@ -1,7 +1,7 @@
 use Rattle.std.proofs.Common.{◌∙◌, ◌++◌, ap, cond, [], codes}
 use Rattle.dq_lits.specs.Henkin.{IsTrueFormula}
 use Rattle.dq_runs.specs.Printed.{line}
-use Rattle.dq_verdicts.specs.Verdicts.{is_true, verdict_text}
+use Rattle.verdict_texts.specs.Verdicts.{is_true, verdict_text}
 use Rattle.dq_verdicts.proofs.LiftedVerdicts.{true-kept, shown-true}
 use Rattle.dq_verdicts.proofs.ShownVerdicts.{printed_as}
 use Rattle.dq_verdicts.proofs.prepared.lifted_true.Goals as goal

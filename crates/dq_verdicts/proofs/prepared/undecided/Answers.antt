@@ -1,12 +1,8 @@
-use Rattle.std.proofs.Common.{◌∙◌, ◌++◌, ap, cond, [], codes}
-use Rattle.dq_runs.specs.Printed.{line}
 use Rattle.dq_verdicts.proofs.LiftedVerdicts.{left-undecided}
 use Rattle.dq_verdicts.proofs.prepared.undecided.Goals as goal
 
 pub returns : goal.returns
 returns c =
-    left-undecided c.args.p.now.formula.now c.args.p.now.left.now c.args.log.now c.args.form c.rounds-rounds.result c.steps.result _
+    left-undecided c.args.p.now.formula.now c.args.p.now.left.now c.args.log.now c.args.form _
     c.requires.prepared.prep c.requires.productive c.requires.undecided c.requires.limit
-    (c.rounds_are_steps.ensures c.args.log.now.entries) c.rounds-rounds.ensures c.steps.ensures.value c.code.ensures
-    (c.in_ok-text.ensures ∙ ap (λ evidence. cond c.args.form.bare [] (line (codes "s UNKNOWN")) ++ evidence)
-    c.in_ok-evidence.ensures)
+    (c.rounds_are_steps.ensures c.args.log.now.entries) c.code.ensures (c.in_ok-text.ensures c.args.p.now.formula.now)

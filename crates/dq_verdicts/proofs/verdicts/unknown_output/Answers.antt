@@ -1,12 +1,7 @@
-use Rattle.std.proofs.Common.{◌∙◌, ◌++◌, ap, cond, [], codes}
-use Rattle.dq_runs.specs.Printed.{line}
 use Rattle.dq_verdicts.proofs.ShownVerdicts.{unknown}
 use Rattle.dq_verdicts.proofs.verdicts.unknown_output.Goals as goal
 
 pub returns : goal.returns
-returns c = unknown c.args.f.now c.args.log.now c.args.form c.rounds-rounds.result c.steps.result _
-    c.requires.productive c.requires.undecided
-    c.requires.limit (c.rounds_are_steps.ensures c.args.log.now.entries) c.rounds-rounds.ensures c.steps.ensures.value
-    c.code.ensures
-    (c.in_ok-text.ensures ∙ ap (λ evidence. cond c.args.form.bare [] (line (codes "s UNKNOWN")) ++ evidence)
-    c.in_ok-evidence.ensures)
+returns c = unknown c.args.f.now c.args.log.now c.args.form _ c.requires.productive c.requires.undecided
+    c.requires.limit (c.rounds_are_steps.ensures c.args.log.now.entries) c.code.ensures
+    (c.in_ok-text.ensures c.args.f.now)

@@ -1,13 +1,8 @@
 use Rattle.std.proofs.Common.{◌∙◌, ◌++◌, ap, cond, [], codes}
 use Rattle.dq_runs.specs.Printed.{line}
-use Rattle.dq_verdicts.proofs.NumberedFiles.{are_sorted}
-use Rattle.dq_verdicts.proofs.ShownVerdicts.{shown_true, proof_numbered}
-use Rattle.dq_verdicts.proofs.verdicts.true_text.Goals as goal
-
-pub export_true-requires-clause-decided : goal.export_true-requires-clause-decided
-export_true-requires-clause-decided c =
-    (c.productive_answers_can_be_exported.ensures c.args.f.now c.args.log.now.entries c.args.id
-    c.every_log_is_lawful.ensures c.requires.productive).0 c.requires.decided
+use Rattle.verdict_texts.proofs.NumberedFiles.{are_sorted}
+use Rattle.verdict_texts.proofs.ShownTexts.{shown_true, proof_numbered}
+use Rattle.verdict_texts.proofs.texts.true_text.Goals as goal
 
 pub circuit_text-requires-clause-sorted : goal.circuit_text-requires-clause-sorted
 circuit_text-requires-clause-sorted c = λ _. are_sorted c.args.f.now c.in_ok-file.file c.in_ok-file.ensures.numbers
@@ -27,7 +22,7 @@ returns c =
       shown = shown_true c.proved_circuits_are_accepted.ensures c.small_logs_are_within_limits.ensures c.args.f.now
           c.args.log.now c.args.id c.args.form
           c.in_ok-file.file c.in_ok-file.proof c.every_formula_is_lawful.ensures
-          c.requires.is_true c.requires.decided
+          c.requires.is_true c.requires.decided.decided
           (record {
             proved = exported.proved;
             gates = exported.gates;

@@ -1,5 +1,5 @@
-use Rattle.dq_verdicts.proofs.AcceptedCircuits.{circuits_accepted}
-use Rattle.dq_verdicts.proofs.laws.proved_circuits_are_accepted.Goals as goal
+use Rattle.verdict_texts.proofs.AcceptedCircuits.{circuits_accepted}
+use Rattle.verdict_texts.proofs.laws.proved_circuits_are_accepted.Goals as goal
 
 pub returns : goal.returns
 returns c = circuits_accepted c.canonical_text_spells.ensures.spells c.binary_text_spells.ensures.spells

@@ -34,11 +34,11 @@ use Rattle.cert_judge.specs.declared.answers.Judgement.TheVariants.{ValidTrue}
 use Rattle.ordered_gates.specs.Circuits.{is_sorted, ordered_file, ordered_item, ordered_proof}
 use Rattle.ordered_gates.specs.Laws.{OrderedProofsStand, OrderedLinesAreNumbered, OrderedFilesAreBinary}
 use Rattle.proof_deletions.specs.Laws.{DeletionsChangeNoFault, DeletionsAreAllowed}
-use Rattle.dq_verdicts.specs.Accepted.{ProvedCircuitsAreAccepted}
-use Rattle.dq_verdicts.specs.Forms.{written_items}
-use Rattle.dq_verdicts.specs.Verdicts.{with_proof}
-use Rattle.dq_verdicts.proofs.WrittenForms.{with_items, written_circuit, written_proof_allowed, few_before}
-use Rattle.dq_verdicts.proofs.Beginnings.{header_at, header_number, circuit_kind, binary_kind, proof_begins}
+use Rattle.verdict_texts.specs.Accepted.{ProvedCircuitsAreAccepted}
+use Rattle.verdict_texts.specs.Forms.{written_items}
+use Rattle.verdict_texts.specs.Verdicts.{with_proof}
+use Rattle.verdict_texts.proofs.WrittenForms.{with_items, written_circuit, written_proof_allowed, few_before}
+use Rattle.verdict_texts.proofs.Beginnings.{header_at, header_number, circuit_kind, binary_kind, proof_begins}
 
 -- what the laws of the canonical texts give
 abbrev pub CanonicalSpells : Type 0

@@ -18,10 +18,10 @@ use Rattle.ordered_gates.specs.Circuits.{is_sorted}
 use Rattle.proof_deletions.specs.Deletions.{AreNumberedLines}
 use Rattle.cert_judge.specs.Judgement.{IsJudgement}
 use Rattle.cert_judge.specs.declared.answers.Judgement.TheVariants.{ValidTrue, ValidFalse}
-use Rattle.dq_verdicts.specs.Forms.{written_items}
-use Rattle.dq_verdicts.specs.declared.forms.Form.{Form}
-use Rattle.dq_verdicts.specs.Verdicts.{is_true, is_false, verdict_text}
-use Rattle.dq_verdicts.specs.Shown.{IsWithinLimits, few_entries}
+use Rattle.verdict_texts.specs.Forms.{written_items}
+use Rattle.verdict_texts.specs.declared.forms.Form.{Form}
+use Rattle.verdict_texts.specs.Verdicts.{is_true, is_false, verdict_text}
+use Rattle.verdict_texts.specs.Shown.{IsWithinLimits, few_entries}
 
 -- a circuit with its proof
 abbrev pub ProvedCircuitsAreAccepted : Type 0

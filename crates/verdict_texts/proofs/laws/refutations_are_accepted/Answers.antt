@@ -1,5 +1,5 @@
-use Rattle.dq_verdicts.proofs.AcceptedRefutations.{refutations_accepted}
-use Rattle.dq_verdicts.proofs.laws.refutations_are_accepted.Goals as goal
+use Rattle.verdict_texts.proofs.AcceptedRefutations.{refutations_accepted}
+use Rattle.verdict_texts.proofs.laws.refutations_are_accepted.Goals as goal
 
 pub returns : goal.returns
 returns c = refutations_accepted c.canonical_text_spells.ensures.reads_back

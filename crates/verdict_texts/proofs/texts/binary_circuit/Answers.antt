@@ -1,7 +1,7 @@
 use Rattle.std.proofs.Common.{sym, subst}
 use Rattle.proof_deletions.specs.Deletions.{AreNumberedLines}
-use Rattle.dq_verdicts.proofs.WrittenForms.{have_line_ids}
-use Rattle.dq_verdicts.proofs.verdicts.binary_circuit.Goals as goal
+use Rattle.verdict_texts.proofs.WrittenForms.{have_line_ids}
+use Rattle.verdict_texts.proofs.texts.binary_circuit.Goals as goal
 
 pub ordered_items-requires : goal.ordered_items-requires
 ordered_items-requires c = have_line_ids c.args.proof.items c.requires.numbered

@@ -14,9 +14,9 @@ use Rattle.proof_deletions.specs.Laws.{DeletionsAreAllowed}
 use Rattle.aiger_text.specs.declared.files.AagFile.{AagFile}
 use Rattle.cert_text.specs.declared.circuit_proofs.Dqp.{Dqp}
 use Rattle.ordered_gates.specs.Circuits.{ordered_item, ordered_proof}
-use Rattle.dq_verdicts.proofs.WrittenForms.{written_few}
-use Rattle.dq_verdicts.specs.Forms.{ordered_lines}
-use Rattle.dq_verdicts.specs.Accepted.{SmallLogsAreWithinLimits}
+use Rattle.verdict_texts.proofs.WrittenForms.{written_few}
+use Rattle.verdict_texts.specs.Forms.{ordered_lines}
+use Rattle.verdict_texts.specs.Accepted.{SmallLogsAreWithinLimits}
 
 one_more : (few all : ℕ) (b : Bool) → few ≤ all → cond b (few + 1) few ≤ all + 1
 one_more few all true less = omega (arith, less)

@@ -2,7 +2,7 @@
 
 ghost use Rattle.std.specs.Prelude.{◌≡◌, IfOk};
 ghost use Rattle.proof_deletions.specs.Deletions.{AreNumberedLines};
-ghost use Rattle.dq_verdicts.specs.Forms.{written_items};
+ghost use Rattle.verdict_texts.specs.Forms.{written_items};
 
 use cert_text::ItemList;
 use dq_lits::Memory;

@@ -6,7 +6,7 @@ use Rattle.cert_text.specs.declared.circuit_proofs.Dqp.{Dqp}
 use Rattle.cert_text.specs.declared.refutations.Dqr.{Dqr}
 use Rattle.ordered_gates.specs.Circuits.{ordered_file, ordered_proof}
 use Rattle.proof_deletions.specs.Deletions.{with_deletions}
-use Rattle.dq_verdicts.specs.declared.forms.Form.{Form}
+use Rattle.verdict_texts.specs.declared.forms.Form.{Form}
 
 -- behind the line that names it, without deletions, and in ASCII
 abbrev pub plain : Form

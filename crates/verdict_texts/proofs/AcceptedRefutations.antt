@@ -14,12 +14,12 @@ use Rattle.refutation_checker.specs.Refutation.{refutation_fault}
 use Rattle.cert_judge.specs.Judgement.{answer_of_derivation, answer_of_refutation, IsJudgementOf}
 use Rattle.dq_runs.specs.Printed.{line}
 use Rattle.cert_judge.specs.declared.answers.Judgement.TheVariants.{ValidFalse}
-use Rattle.dq_verdicts.specs.Accepted.{RefutationsAreAccepted}
+use Rattle.verdict_texts.specs.Accepted.{RefutationsAreAccepted}
 use Rattle.proof_deletions.specs.Laws.{DeletionsChangeNoFault, DeletionsAreAllowed, ChangedLinesDeleteAlike}
-use Rattle.dq_verdicts.specs.Forms.{written_refutation}
-use Rattle.dq_verdicts.specs.Verdicts.{verdict_text, is_false}
-use Rattle.dq_verdicts.proofs.WrittenForms.{written_refutes, written_refutation_allowed}
-use Rattle.dq_verdicts.proofs.Beginnings.{header_at, header_number, refutation_kind}
+use Rattle.verdict_texts.specs.Forms.{written_refutation}
+use Rattle.verdict_texts.specs.Verdicts.{verdict_text, is_false}
+use Rattle.verdict_texts.proofs.WrittenForms.{written_refutes, written_refutation_allowed}
+use Rattle.verdict_texts.proofs.Beginnings.{header_at, header_number, refutation_kind}
 
 -- ---- refutations
 

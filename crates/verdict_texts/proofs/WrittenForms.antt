@@ -18,8 +18,8 @@ use Rattle.proof_checker.specs.ProvedCircuit.{IsProvedCircuit}
 use Rattle.refutation_checker.specs.Refutation.{normal_step, normal_item, refutation_fault}
 use Rattle.proof_deletions.specs.Deletions.{deleting_from, with_deletions, lines_of, first_number, AreNumberedLines}
 use Rattle.proof_deletions.specs.Laws.{DeletionsChangeNoFault, DeletionsAreAllowed, ChangedLinesDeleteAlike, on_line}
-use Rattle.dq_verdicts.specs.Forms.{written_items, written_refutation}
-use Rattle.dq_verdicts.specs.declared.forms.Form.{Form}
+use Rattle.verdict_texts.specs.Forms.{written_items, written_refutation}
+use Rattle.verdict_texts.specs.declared.forms.Form.{Form}
 
 -- ---- a fault
 

@@ -9,8 +9,8 @@ use Rattle.cert_text.specs.Canonical.{canonical, canonical_proof}
 use Rattle.cert_text.specs.declared.circuit_proofs.Dqp.{Dqp}
 use Rattle.cert_text.specs.declared.refutations.Dqr.{Dqr}
 use Rattle.dq_runs.specs.Printed.{Printed, line}
-use Rattle.dq_verdicts.specs.Forms.{written_file, written_proof, written_refutation}
-use Rattle.dq_verdicts.specs.declared.forms.Form.{Form}
+use Rattle.verdict_texts.specs.Forms.{written_file, written_proof, written_refutation}
+use Rattle.verdict_texts.specs.declared.forms.Form.{Form}
 
 pub data Verdict : Type 0 where
   -- the formula is true: a circuit and its proof

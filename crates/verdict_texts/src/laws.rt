@@ -1,7 +1,7 @@
 //! What the checker says of what is written. A law is the contract of a function without
 //! parameters.
 
-ghost use Rattle.dq_verdicts.specs.Accepted.{ProvedCircuitsAreAccepted, RefutationsAreAccepted, SmallLogsAreWithinLimits};
+ghost use Rattle.verdict_texts.specs.Accepted.{ProvedCircuitsAreAccepted, RefutationsAreAccepted, SmallLogsAreWithinLimits};
 
 use ordered_gates::laws::{
     ordered_files_are_binary, ordered_lines_are_numbered, ordered_proofs_stand,

@@ -1,0 +1,4 @@
+pub mod Accepted
+pub mod Forms
+pub mod Shown
+pub mod Verdicts
