@@ -1,0 +1,202 @@
+-- A script's next command.
+use Rattle.std.proofs.Common.{◌≡◌, ℕ, ◌+◌, ◌-◌, ◌≤◌, false, List, [], ◌∷◌, ◌++◌, map, length, Some, refl, sym, ◌∙◌, ap, subst, arith, append_assoc, append-nil, replicate}
+use Rattle.std.proofs.lemmas.List.{length-append, map-append}
+use Rattle.dq_lits.specs.Formula.{Dqbf}
+use Rattle.hint_log.specs.Live.{live_numbers}
+use Rattle.script_text.specs.Commands.{ScriptCommand, push, add, pop, solve}
+use Rattle.script_text.specs.Frames.{formula_in, frames_behind, formulas_from}
+use Rattle.script_text.specs.Lawful.{IsAllowed, AreAllowed}
+use Rattle.script_text.specs.Reading.{depth_behind, clauses_behind, max_clauses}
+use Rattle.dq_session.specs.Books.{BookState, live_of, now_of}
+use Rattle.dq_session.specs.Changes.{begun}
+use Rattle.expansion.specs.Table.{TableState}
+use Rattle.script_books.specs.Following.{book_behind, MayCome, AreOpenFrames}
+use Rattle.script_books.specs.Laws.{BooksFollow, StandsFor, FollowingBooksStand}
+use Rattle.script_books.specs.Numbering.{NumberedFrame, Numbering, numbering_at_start, numbering_behind, with_number, without_newest, live_in, live_from}
+use Rattle.session_runs.specs.Blocks.{Search}
+use Rattle.session_runs.specs.Followed.{is_search, IsFollowed}
+
+-- before the first command
+pub followed-at-start : (f : Dqbf) (commands : List ScriptCommand) (t : TableState)
+    → AreAllowed f 0 (length f.matrix) commands → length f.matrix ≤ max_clauses
+    → IsFollowed f commands commands (begun f t) []
+followed-at-start f commands t allowed few = record {
+  numbering = numbering_at_start f;
+  frames = [];
+  file = refl;
+  follows = record {
+    clauses = append-nil f.matrix;
+    frames = append-nil _;
+    opened = refl;
+    open_frames = (refl, refl);
+  };
+  frames_are = tt;
+  allowed = allowed;
+  few = few;
+  rest = refl;
+  formulas = refl;
+  begun = refl;
+}
+
+same-depth : (j : ℕ) (ns : List NumberedFrame) → length (with_number j ns) ≡ length ns
+same-depth j [] = refl
+same-depth j (n ∷ ns) = refl
+
+less-depth : (ns : List NumberedFrame) → length (without_newest ns) ≡ length ns - 1
+less-depth [] = refl
+less-depth (n ∷ ns) = omega arith
+
+depth-is : (s : Numbering) (command : ScriptCommand)
+    → depth_behind (length s.open_frames) command ≡ length (numbering_behind s command).open_frames
+depth-is s push = omega arith
+depth-is s (add clause) = sym (same-depth (length s.clauses + 1) s.open_frames)
+depth-is s pop = sym (less-depth s.open_frames)
+depth-is s solve = refl
+
+count-is : (s : Numbering) (command : ScriptCommand)
+    → clauses_behind (length s.clauses) command ≡ length (numbering_behind s command).clauses
+count-is s push = refl
+count-is s (add clause) = sym (length-append s.clauses (clause ∷ []))
+count-is s pop = refl
+count-is s solve = refl
+
+few-behind : (f : Dqbf) (s : Numbering) (command : ScriptCommand) (depth : ℕ)
+    → IsAllowed f depth (length s.clauses) command → length s.clauses ≤ max_clauses
+    → length (numbering_behind s command).clauses ≤ max_clauses
+few-behind f s push depth may few = few
+few-behind f s (add clause) depth may few =
+    let long = length-append s.clauses (clause ∷ []) in
+    let less = may.1 in
+    omega (arith, long, less)
+few-behind f s pop depth may few = few
+few-behind f s solve depth may few = few
+
+module _ (stand : FollowingBooksStand) (f : Dqbf) (commands left : List ScriptCommand) (b : BookState)
+    (searches : List Search) (command : ScriptCommand)
+    (is : IsFollowed f commands (command ∷ left) b searches) where
+  stands-for : StandsFor is.numbering is.frames b
+  stands-for = stand is.numbering is.frames b is.follows is.frames_are
+
+  -- it may come
+  pub may-come : MayCome b command
+  may-come =
+      let many : length is.numbering.clauses ≡ length b.file.matrix + length b.added =
+      ap (λ cs. length cs) (sym is.follows.clauses) ∙ length-append b.file.matrix b.added in
+      subst (λ g. IsAllowed g (length b.open_frames) (length b.file.matrix + length b.added) command) (sym is.file)
+      (subst (λ n. IsAllowed f n (length b.file.matrix + length b.added) command) (sym stands-for.depth)
+      (subst (λ n. IsAllowed f (length is.numbering.open_frames) n command) many is.allowed.0))
+
+  allowed-behind : AreAllowed f (length (numbering_behind is.numbering command).open_frames)
+      (length (numbering_behind is.numbering command).clauses) left
+  allowed-behind =
+      subst (λ n. AreAllowed f n (length (numbering_behind is.numbering command).clauses) left)
+      (depth-is is.numbering command)
+      (subst (λ n. AreAllowed f (depth_behind (length is.numbering.open_frames) command) n left)
+      (count-is is.numbering command) is.allowed.1)
+
+-- a command that is no search
+file-stays : (b : BookState) (command : ScriptCommand) → (book_behind b command).file ≡ b.file
+file-stays b push = refl
+file-stays b (add clause) = refl
+file-stays b pop = refl
+file-stays b solve = refl
+
+pub followed-change : BooksFollow → FollowingBooksStand → (f : Dqbf) (commands left : List ScriptCommand) (b : BookState)
+    (searches : List Search) (command : ScriptCommand) → is_search command ≡ false
+    → IsFollowed f commands (command ∷ left) b searches → IsFollowed f commands left (book_behind b command) searches
+followed-change follow stand f commands left b searches command change is =
+    let may = may-come stand f commands left b searches command is in
+    let both = follow is.numbering is.frames b command is.follows is.frames_are may in
+    record {
+      numbering = numbering_behind is.numbering command;
+      frames = frames_behind is.frames command;
+      file = file-stays b command ∙ is.file;
+      follows = both.0;
+      frames_are = both.1;
+      allowed = allowed-behind stand f commands left b searches command is;
+      few = few-behind f is.numbering command (length is.numbering.open_frames) is.allowed.0 is.few;
+      rest = is.rest;
+      formulas = ap (λ gs. map (λ s. s.formula) searches ++ gs) (sym (formulas-stay command change)) ∙ is.formulas;
+      begun =
+          ap (λ js. map (λ s. live_numbers s.entries) searches ++ map Some js) (sym (live-stays command change))
+          ∙ is.begun;
+    }
+  where
+    formulas-stay : (c : ScriptCommand) → is_search c ≡ false
+        → formulas_from f is.frames (c ∷ left) ≡ formulas_from f (frames_behind is.frames c) left
+    formulas-stay push h = refl
+    formulas-stay (add clause) h = refl
+    formulas-stay pop h = refl
+    formulas-stay solve h = cc
+
+    live-stays : (c : ScriptCommand) → is_search c ≡ false
+        → live_from (length f.matrix) is.numbering (c ∷ left)
+        ≡ live_from (length f.matrix) (numbering_behind is.numbering c) left
+    live-stays push h = refl
+    live-stays (add clause) h = refl
+    live-stays pop h = refl
+    live-stays solve h = cc
+
+-- a search, which leaves the book's clauses
+pub followed-search : FollowingBooksStand → (f : Dqbf) (commands left : List ScriptCommand) (b : BookState)
+    (searches : List Search) (s : Search) → s.formula ≡ now_of b → live_numbers s.entries ≡ Some (live_of b)
+    → IsFollowed f commands (solve ∷ left) b searches → IsFollowed f commands left b (searches ++ s ∷ [])
+followed-search stand f commands left b searches s formula begun is =
+    let here = stand is.numbering is.frames b is.follows is.frames_are in
+    let formula-is : s.formula ≡ formula_in f is.frames =
+    formula ∙ here.now ∙ ap (λ g. formula_in g is.frames) is.file in
+    let live-is : live_numbers s.entries ≡ Some (live_in (length f.matrix) is.numbering.open_frames) =
+    begun ∙ ap Some (here.live ∙ ap (λ g. live_in (length g.matrix) is.numbering.open_frames) is.file) in
+    record {
+      numbering = is.numbering;
+      frames = is.frames;
+      file = is.file;
+      follows = is.follows;
+      frames_are = is.frames_are;
+      allowed = is.allowed.1;
+      few = is.few;
+      rest = is.rest;
+      formulas =
+          one-more (λ x. x.formula) searches s (formulas_from f is.frames left) (formula_in f is.frames) formula-is
+          ∙ is.formulas;
+      begun =
+          one-more (λ x. live_numbers x.entries) searches s
+          (map Some (live_from (length f.matrix) is.numbering left))
+          (Some (live_in (length f.matrix) is.numbering.open_frames)) live-is
+          ∙ is.begun;
+    }
+  where
+    one-more : {Y : Type 0} (h : Search → Y) (xs : List Search) (x : Search) (ys : List Y) (y : Y) → h x ≡ y
+        → map h (xs ++ x ∷ []) ++ ys ≡ map h xs ++ y ∷ ys
+    one-more h xs x ys y same =
+        ap (λ zs. zs ++ ys) (map-append h xs (x ∷ []))
+        ∙ append_assoc (map h xs) (h x ∷ []) ys
+        ∙ ap (λ z. map h xs ++ z ∷ ys) same
+
+-- a book that has the same clauses, and other instances
+pub followed-later : (f : Dqbf) (commands left : List ScriptCommand) (b c : BookState) (searches : List Search)
+    → c ≡ record b { table = c.table; given = c.given; groups = c.groups } → length c.groups ≡ length b.groups
+    → IsFollowed f commands left b searches → IsFollowed f commands left c searches
+followed-later f commands left b c searches same many is = record {
+  numbering = is.numbering;
+  frames = is.frames;
+  file = ap (λ x. x.file) same ∙ is.file;
+  follows = record {
+    clauses = ap (λ x. x.file.matrix ++ x.added) same ∙ is.follows.clauses;
+    frames = subst (λ x. Same x) (sym same) is.follows.frames;
+    opened = many ∙ is.follows.opened;
+    open_frames = subst (λ x. Open x) (sym same) is.follows.open_frames;
+  };
+  frames_are = is.frames_are;
+  allowed = is.allowed;
+  few = is.few;
+  rest = is.rest;
+  formulas = is.formulas;
+  begun = is.begun;
+}
+  where
+    Same : BookState → Type 0
+    Same x = replicate (length x.file.matrix) 0 ++ x.frames ≡ is.numbering.frames
+
+    Open : BookState → Type 0
+    Open x = AreOpenFrames (length x.file.matrix) is.numbering.open_frames x.open_frames x.live

@@ -1,0 +1,144 @@
+-- From what a search answers to what is written of it.
+use Rattle.std.proofs.Common.{◌≡◌, ◌+◌, ◌≤◌, ◌<◌, ℕ, zero, suc, List, [], ◌∷◌, ◌++◌, take, length, map, get_or, Option, Some, None, refl, sym, ◌∙◌, ap, subst, arith}
+use Rattle.std.specs.Option.{unwrap_or}
+use Rattle.std.specs.List.{All, Contains, filter_map, cons_option}
+use Rattle.std.proofs.lemmas.List.{length-map, take_more}
+use Rattle.std.proofs.lemmas.List.Elements.{All-cons, All-nil, All-contains}
+use Rattle.dq_lits.specs.Formula.{Dqbf, IsWellFormed, declared}
+use Rattle.dq_lits.specs.Literal.{Literal, variable_of}
+use Rattle.aig_graph.specs.Graph.{AigGraph}
+use Rattle.aig_graph.specs.declared.nodes.Node.{Node}
+use Rattle.cert_export.specs.Exported.{CanExportFalse}
+use Rattle.cert_export.specs.ExportedCircuit.{IsDecidedTrue, CanExportTrue}
+use Rattle.cert_export.specs.ExportableLogs.{RestsOnLive, SessionAnswersCanExport}
+use Rattle.expansion.specs.Table.{IsRefutedBy}
+use Rattle.hint_log.specs.Conditions.{AreLogged}
+use Rattle.hint_log.specs.Entries.{Entry, ProofLog, rounds_of, steps_of}
+use Rattle.hint_log.specs.Live.{live_numbers, formula_of}
+use Rattle.hint_log.specs.Naming.{numbered_from_one}
+use Rattle.hint_log.specs.ProductiveSession.{IsProductiveSession, IsUndecidedSince}
+use Rattle.log_laws.proofs.Found.{numbered_among}
+use Rattle.dq_session.specs.Books.{BookState, all_of, live_of, now_of, IsBook}
+use Rattle.dq_session.specs.declared.live.Live.{Live}
+use Rattle.repair_loop.specs.Desks.{HasBegun, IsAnsweredTrue, IsAnsweredFalse}
+use Rattle.repair_loop.specs.Stopping.{IsStoppedAtLimit}
+use Rattle.verdict_texts.specs.Forms.{plain}
+use Rattle.verdict_texts.specs.Shown.{IsShownFalse, IsTrueText, IsFalseText, unknown_by}
+use Rattle.verdict_texts.specs.Verdicts.{is_true, is_false, verdict_text}
+use Rattle.session_runs.specs.Standing.{IsFound}
+
+-- the answer can be exported, of the formula that is live
+pub can-export-true : SessionAnswersCanExport → (f all : Dqbf) (frames live : List ℕ) (graph : AigGraph)
+    (nodes : List Node) (log : ProofLog) (id : ℕ) → AreLogged log.entries → IsProductiveSession all frames log.entries
+    → live_numbers log.entries ≡ Some live → f ≡ formula_of all live → IsAnsweredTrue f graph nodes log id
+    → CanExportTrue f log.entries id
+can-export-true law f all frames live graph nodes log id logged session named is answered =
+    let a = subst (λ g. IsAnsweredTrue g graph nodes log id) is answered in
+    let shown = a.found.shown in
+    let decided : IsDecidedTrue (formula_of all live) log.entries id =
+    record {
+      clause = shown.clause;
+      hints = shown.hints;
+      earlier = shown.earlier;
+      answered = shown.answered;
+      last = shown.last;
+      decides = a.decides;
+    } in
+    subst (λ g. CanExportTrue g log.entries id) (sym is)
+    ((law all frames live log.entries id logged session named).0 decided a.current)
+
+pub can-export-false : SessionAnswersCanExport → (f all : Dqbf) (frames live : List ℕ) (log : ProofLog) (id : ℕ)
+    → AreLogged log.entries → IsProductiveSession all frames log.entries → live_numbers log.entries ≡ Some live
+    → f ≡ formula_of all live → (refuted : IsRefutedBy log.entries id) → RestsOnLive live log.entries id refuted
+    → CanExportFalse f live log.entries id
+can-export-false law f all frames live log id logged session named is refuted rests =
+    subst (λ g. CanExportFalse g live log.entries id) (sym is)
+    ((law all frames live log.entries id logged session named).1 refuted rests)
+
+-- the formula of now is well formed
+all-found-of : (P : List Literal → Type 0) (m : List (List Literal)) (live : List ℕ) → All P m
+    → All P (filter_map (numbered_from_one m) live)
+all-found-of P m [] all = All-nil P
+all-found-of P m (j ∷ js) all = by (numbered_from_one m j) refl (all-found-of P m js all)
+  where
+    by : (o : Option (List Literal)) → numbered_from_one m j ≡ o → All P (filter_map (numbered_from_one m) js)
+        → All P (cons_option o (filter_map (numbered_from_one m) js))
+    by None is rest = rest
+    by (Some c) is rest =
+        All-cons P c (filter_map (numbered_from_one m) js) (All-contains P m c all (numbered_among m j c is)) rest
+
+pub well-formed-now : (b : BookState) (es : List Entry) → IsBook b es → IsWellFormed (now_of b)
+well-formed-now b es book = record {
+  prefix = record {
+    in_range = book.well_formed.prefix.in_range;
+    declared_once = book.well_formed.prefix.declared_once;
+    sees_universals = book.well_formed.prefix.sees_universals;
+  };
+  bound = all-found-of (All (λ l. Contains (declared b.file) (variable_of l))) (all_of b).matrix (live_of b)
+      book.well_formed.bound;
+}
+
+-- the answer rests on live clauses
+pub rests-on-live : (b : BookState) (log : ProofLog) (id : ℕ) → IsAnsweredFalse b log id
+    → (refuted : IsRefutedBy log.entries id) × RestsOnLive (live_of b) log.entries id refuted
+rests-on-live b log id a = (
+  record {
+    clause = a.shown.clause;
+    hints = a.shown.hints;
+    earlier = a.shown.earlier;
+    answered = a.shown.answered;
+    last = a.shown.last;
+    decides = a.shown.decides;
+  },
+  a.shown.live,
+)
+
+module _ (b : BookState) (f : Dqbf) (old new : ProofLog) (began : HasBegun (live_of b) old.entries new.entries) where
+  pub true-found : (text : List ℕ) → IsTrueText f new plain text → IsFound b f old new text
+  true-found text t = record {
+    verdict = is_true t.file t.proof;
+    began = began;
+    shown = t.shown;
+    is = t.is;
+  }
+
+  pub false-found : (numbers : List ℕ) (text : List ℕ) → numbers ≡ live_of b → IsFalseText f numbers new plain text
+      → IsFound b f old new text
+  false-found numbers text are t = record {
+    verdict = is_false t.refutation;
+    began = began;
+    shown = subst (λ ns. IsShownFalse f f ns new plain t.refutation)
+        (are ∙ sym (ap (λ o. unwrap_or o []) began.named)) t.shown;
+    is = t.is;
+  }
+
+  pub unknown-found : (text : List ℕ) → IsStoppedAtLimit f new → IsUndecidedSince (all_of b) new.entries
+      → rounds_of new.entries ≤ steps_of new.entries → text ≡ verdict_text plain f (unknown_by new)
+      → IsFound b f old new text
+  unknown-found text stopped undecided fewer same = record {
+    verdict = unknown_by new;
+    began = began;
+    shown = record {
+      limit = stopped.reached;
+      next = stopped.next;
+      undecided = undecided;
+      rounds_are = refl;
+      steps_are = omega (arith, fewer);
+    };
+    is = same;
+  }
+
+number-at : (ls : List Live) (i : ℕ) (d : Live) → i < length ls
+    → get_or (map (λ (l : Live). l.clause) ls) i 0 ≡ (get_or ls i d).clause
+number-at [] i d below = absurd (omega (arith, below))
+number-at (l ∷ ls) zero d below = refl
+number-at (l ∷ ls) (suc i) d below = number-at ls i d (omega (arith, below))
+
+-- one number more
+pub one-number : (ls : List Live) (i : ℕ) (d : Live) → i < length ls
+    → take i (map (λ (l : Live). l.clause) ls) ++ (get_or ls i d).clause ∷ [] ≡ take (i + 1) (map (λ (l : Live). l.clause) ls)
+one-number ls i d below =
+    let number : Live → ℕ = λ l. l.clause in
+    let long = length-map ls number in
+    sym (take_more (map number ls) i 0 (omega (arith, below, long))
+    ∙ ap (λ j. take i (map number ls) ++ j ∷ []) (number-at ls i d below))

@@ -1,0 +1,10 @@
+mod CurrentFormulas
+mod FirstLogs
+mod FollowedCommands
+mod FoundVerdicts
+mod SearchEnds
+mod SearchedSessions
+mod SearchedLogs
+mod TakenCommands
+mod TwoFiles
+mod WholeSessions

@@ -1,0 +1,100 @@
+-- A session's log behind a search.
+use Rattle.std.proofs.Common.{◌≡◌, ◌⊎◌, inl, inr, ◌∷◌, [], List, ℕ, Result, Ok, Err, OnErr, sym, ◌∙◌, subst}
+use Rattle.hint_log.specs.Entries.{Entry, Named, Given, Learned, Answer, Round, Begun, ProofLog}
+use Rattle.hint_log.specs.Growth.{Each}
+use Rattle.hint_log.specs.ProductiveSession.{IsProductiveSession}
+use Rattle.hint_log.specs.declared.origins.Origin.TheVariants.{Instance, Gate, Fault, Copy, Link, TermGate, Differ}
+use Rattle.hint_log.specs.declared.stops.Stop.{Stop}
+use Rattle.hint_log.specs.declared.stops.Stop.TheVariants.{Memory, Limit}
+use Rattle.dq_lits.specs.Formula.{Dqbf}
+use Rattle.aig_graph.specs.Graph.{AigGraph}
+use Rattle.oracle.specs.Searched.{IsSearched}
+use Rattle.dq_session.specs.Books.{BookState, all_of, frames_of, live_of}
+use Rattle.repair_loop.specs.Desks.{IsReady, IsKept, HasBegun, IsOfSearch as IsOfItsSearch}
+use Rattle.repair_loop.specs.declared.desks.Desk.{Desk}
+use Rattle.script_books.specs.LargerSessions.{IsOfSearch}
+use Rattle.session_runs.specs.SessionFiles.{IsWorkOver}
+use Rattle.session_runs.specs.Standing.{IsSoFar}
+use Rattle.session_runs.proofs.SearchEnds.{of-search-behind}
+
+-- faults and rounds are of a search, in either word
+pub same-searched : (es : List Entry) → Each IsOfItsSearch es → Each IsOfSearch es
+same-searched [] each = tt
+same-searched (Named v n ∷ es) each = (tt, same-searched es each.1)
+same-searched (Given (Instance k j) c ∷ es) each = (tt, same-searched es each.1)
+same-searched (Given (Gate v i) c ∷ es) each = (tt, same-searched es each.1)
+same-searched (Given (Fault j i leaf) c ∷ es) each = (each.0, same-searched es each.1)
+same-searched (Given (Copy side j) c ∷ es) each = (tt, same-searched es each.1)
+same-searched (Given (Link v i) c ∷ es) each = (tt, same-searched es each.1)
+same-searched (Given (TermGate v i) c ∷ es) each = (tt, same-searched es each.1)
+same-searched (Given (Differ y leaf part) c ∷ es) each = (tt, same-searched es each.1)
+same-searched (Learned c hints ∷ es) each = (tt, same-searched es each.1)
+same-searched (Answer c hints ∷ es) each = (tt, same-searched es each.1)
+same-searched (Round row values j ∷ es) each = (each.0, same-searched es each.1)
+same-searched (Begun live ∷ es) each = (tt, same-searched es each.1)
+
+-- a session's log is of work
+pub session-work : (all : Dqbf) (frames : List ℕ) (es : List Entry) → IsProductiveSession all frames es
+    → IsWorkOver all es
+session-work all frames es session = record {
+  kept = record {
+    origins = session.givens_match_origins;
+    new_rows = session.rounds_refute_new_rows;
+    models = session.rounds_follow_a_model;
+    givens = session.givens_are_not_repeated;
+  };
+  lemmas_are_derived = session.lemmas_are_derived;
+  lemmas_are_new = session.lemmas_are_new;
+}
+
+pub ready-so-far : (b : BookState) (d : Desk) (g : AigGraph) (es : List Entry) → IsReady b d g es → IsSoFar b es
+ready-so-far b d g es ready = record {
+  work = session-work (all_of b) (frames_of b) es ready.session;
+  searched = same-searched es ready.searched;
+  one_each = ready.book.book.stack.many_frames;
+}
+
+-- a search began, where there is a verdict
+pub surely : {X : Type 0} {A B : Type 0} (r : Result X Stop) (x : X) → r ≡ Ok x → A ⊎ ((r ≡ Err Memory) × B) → A
+surely r x is (inl h) = h
+surely r x is (inr (err, same)) = cc
+
+pub surely-at : {X A B : Type 0} (r : Result X Stop) (stop : Stop) → r ≡ Err stop → (stop ≡ Memory → ⊥)
+    → A ⊎ ((r ≡ Err Memory) × B) → A
+surely-at r stop is other (inl h) = h
+surely-at {X} r stop is other (inr (err, same)) = absurd (other (stops stop Memory (sym is ∙ err)))
+  where
+    stops : (s t : Stop) → ◌≡◌ {A = Result X Stop} (Err s) (Err t) → s ≡ t
+    stops s t same = cc
+
+pub so-far-behind : {A : Type 0} (b : BookState) (d : Desk) (g : AigGraph) (old new : ProofLog)
+    → IsReady b d g old.entries → IsKept (all_of b) new.entries → IsSearched new.entries
+    → HasBegun (live_of b) old.entries new.entries ⊎ (A × (new ≡ old)) → IsSoFar b new.entries
+so-far-behind b d g old new ready kept searched began = record {
+  work = record { kept = kept; lemmas_are_derived = searched.derived; lemmas_are_new = searched.new };
+  searched = behind began;
+  one_each = ready.book.book.stack.many_frames;
+}
+  where
+    behind : {A : Type 0} → HasBegun (live_of b) old.entries new.entries ⊎ (A × (new ≡ old))
+        → Each IsOfSearch new.entries
+    behind (inl h) =
+        subst (Each IsOfSearch) (sym h.grown)
+        (of-search-behind h.more (live_of b) old.entries (same-searched old.entries ready.searched))
+    behind (inr (it, same)) =
+        subst (λ (log : ProofLog). Each IsOfSearch log.entries) (sym same)
+        (same-searched old.entries ready.searched)
+
+-- a verdict is no want of memory, and nor is the limit
+pub verdict-other : {X : Type 0} (x : X) → ◌≡◌ {A = Result X Stop} (Ok x) (Err Memory) → ⊥
+verdict-other x same = cc
+
+pub stop-other : {X : Type 0} (stop : Stop) → stop ≡ Limit → ◌≡◌ {A = Result X Stop} (Err stop) (Err Memory) → ⊥
+stop-other stop is same = cc
+
+pub on-err : {X E P : Type 0} (r : Result X E) → P → OnErr r P
+on-err (Ok x) h = tt
+on-err (Err e) h = h
+
+pub limit-other : Limit ≡ Memory → ⊥
+limit-other same = cc

@@ -1,0 +1,264 @@
+-- A session behind its next command.
+use Rattle.std.proofs.Common.{◌≡◌, inr, ℕ, zero, suc, ◌+◌, ◌≤◌, true, false, List, [], ◌∷◌, ◌++◌, map, drop, length, slice_get, Some, refl, sym, ◌∙◌, ap, subst, arith, append_assoc, append-nil}
+use Rattle.std.specs.List.{All}
+use Rattle.std.proofs.lemmas.List.{length-append, map-append, drop_all}
+use Rattle.std.proofs.lemmas.List.Elements.{All-push, All-nil}
+use Rattle.dq_lits.specs.Formula.{Dqbf}
+use Rattle.cert_text.specs.Header.{max_count}
+use Rattle.hint_log.specs.Entries.{Entry, ProofLog}
+use Rattle.hint_log.specs.Live.{live_numbers}
+use Rattle.hint_log.specs.ProductiveSession.{IsProductiveSession, IsUndecidedSince}
+use Rattle.dq_session.specs.Books.{BookState, all_of, frames_of, live_of, now_of}
+use Rattle.aig_graph.specs.Graph.{AigGraph}
+use Rattle.repair_loop.specs.Changes.{FramesOpen, FramesClose, ClausesCome}
+use Rattle.repair_loop.specs.Desks.{IsReady, IsBookAfter}
+use Rattle.repair_loop.specs.declared.desks.Desk.{Desk}
+use Rattle.script_text.specs.Commands.{ScriptCommand, push, add, pop, solve}
+use Rattle.script_text.specs.Lawful.{AreAllowed}
+use Rattle.script_text.specs.Reading.{max_clauses}
+use Rattle.script_books.specs.Following.{book_behind, MayCome}
+use Rattle.script_books.specs.Laws.{BooksFollow, FollowingBooksStand}
+use Rattle.script_books.specs.LargerSessions.{SessionsTakeClauses, UndecidedTakesClauses}
+use Rattle.script_books.specs.Numbering.{all_clauses}
+use Rattle.verdict_texts.specs.Verdicts.{Verdict, is_true, is_false, is_unknown}
+use Rattle.session_runs.specs.Blocks.{Search, block_text, blocks_text}
+use Rattle.session_runs.specs.Followed.{is_search, IsFollowed}
+use Rattle.session_runs.specs.ScriptFiles.{IsSessionText}
+use Rattle.session_runs.specs.Searches.{IsShown, end_of}
+use Rattle.session_runs.specs.SessionFiles.{IsWorkOf}
+use Rattle.session_runs.specs.Standing.{IsSoFar, AreMade, IsCurrent, IsBegun, IsStanding, IsSearchedOn}
+use Rattle.session_runs.specs.declared.sessions.Session.{Session}
+use Rattle.session_runs.proofs.FollowedCommands.{followed-at-start, may-come, followed-change, followed-search, followed-later}
+use Rattle.session_runs.proofs.SearchEnds.{ends-more, no-ends}
+use Rattle.session_runs.proofs.SearchedLogs.{ready-so-far}
+use Rattle.session_runs.proofs.WholeSessions.{whole-session, whole-work, whole-undecided}
+
+drop-at : {X : Type 0} (xs : List X) (i : ℕ) (x : X) → slice_get xs i ≡ Some x → drop i xs ≡ x ∷ drop (suc i) xs
+drop-at [] i x is = cc
+drop-at (y ∷ xs) zero x is = ap (λ z. z ∷ xs) (some-is y x is)
+  where
+    some-is : {A : Type 0} (a b : A) → Some a ≡ Some b → a ≡ b
+    some-is a b e = cc
+drop-at (y ∷ xs) (suc i) x is = drop-at xs i x is
+
+next-left : (commands : List ScriptCommand) (place : ℕ) (c : ScriptCommand) → slice_get commands place ≡ Some c
+    → drop place commands ≡ c ∷ drop (place + 1) commands
+next-left commands place c is =
+    let on : suc place ≡ place + 1 = omega arith in
+    drop-at commands place c is ∙ ap (λ n. c ∷ drop n commands) on
+
+pub search-is : (c : ScriptCommand) → is_search c ≡ true → c ≡ solve
+search-is push is = cc
+search-is (add clause) is = cc
+search-is pop is = cc
+search-is solve is = refl
+
+-- the desk stays ready
+ready-behind : FramesOpen → FramesClose → ClausesCome → (b : BookState) (d : Desk) (g : AigGraph) (es : List Entry)
+    (c : ScriptCommand) → MayCome b c → IsReady b d g es → IsReady (book_behind b c) d g es
+ready-behind opens closes comes b d g es push may ready = opens b d g es ready
+ready-behind opens closes comes b d g es (add clause) may ready = comes b d g es clause may.0 may.2.bound ready
+ready-behind opens closes comes b d g es pop may ready = closes b d g es may ready
+ready-behind opens closes comes b d g es solve may ready = ready
+
+module _ (stand : FollowingBooksStand) (commands : List ScriptCommand) (place : ℕ) (s : Session) (log : ProofLog)
+    (c : ScriptCommand) (at : slice_get commands place ≡ Some c) (is : IsStanding commands place s log) where
+  f : Dqbf
+  f = s.file.now
+
+  left : List ScriptCommand
+  left = drop (place + 1) commands
+
+  followed : IsFollowed s.file.now commands (c ∷ drop (place + 1) commands) s.book is.searches
+  followed =
+      subst (λ rest. IsFollowed s.file.now commands rest s.book is.searches) (next-left commands place c at) is.followed
+
+  pub may-take : MayCome s.book c
+  may-take = may-come stand s.file.now commands (drop (place + 1) commands) s.book is.searches c followed
+
+  pub few-clauses : length (all_of s.book).matrix ≤ max_clauses
+  few-clauses =
+      subst (λ cs. length cs ≤ max_clauses) (sym is.followed.follows.clauses) is.followed.few
+
+  -- want of memory ends the run with a session's log
+  pub work-of : (new : ProofLog) → IsSoFar s.book new.entries → IsWorkOf s.file.now commands new
+  work-of new so-far =
+      inr (whole-work stand s.file.now commands (drop place commands) s.book is.searches is.followed new.entries
+      so-far.searched so-far.work)
+
+  change-at : BooksFollow → FramesOpen → FramesClose → ClausesCome → is_search c ≡ false → (t : Session)
+      → t ≡ record s { book = t.book; current = t.current } → t.book ≡ book_behind s.book c → IsCurrent t
+      → IsStanding commands (place + 1) t log
+  change-at follow opens closes comes other t same book current =
+      let files = ap (λ (x : Session). x.file.now) same in
+      let desks = ap (λ (x : Session). x.desk) same in
+      let graphs = ap (λ (x : Session). x.graph) same in
+      record {
+        searches = is.searches;
+        followed =
+            subst (λ g. IsFollowed g commands (drop (place + 1) commands) t.book is.searches) (sym files)
+            (subst (λ b. IsFollowed s.file.now commands (drop (place + 1) commands) b is.searches) (sym book)
+            (followed-change follow stand s.file.now commands (drop (place + 1) commands) s.book is.searches c other
+            followed));
+        made = subst (λ g. AreMade (all_clauses g commands) log is.searches) (sym files) is.made;
+        written = ap (λ (x : Session). x.text.items) same ∙ is.written;
+        count = ap (λ (x : Session). x.count) same ∙ is.count;
+        few = (let few = is.few in omega (arith, few));
+        ready =
+            subst (λ b. IsReady b t.desk t.graph log.entries) (sym book)
+            (subst (λ d. IsReady (book_behind s.book c) d t.graph log.entries) (sym desks)
+            (subst (λ g. IsReady (book_behind s.book c) s.desk g log.entries) (sym graphs)
+            (ready-behind opens closes comes s.book s.desk s.graph log.entries c may-take is.ready)));
+        current = current;
+        limit = is.limit;
+      }
+
+pub standing-change : BooksFollow → FollowingBooksStand → FramesOpen → FramesClose → ClausesCome
+    → (commands : List ScriptCommand) (place : ℕ) (s : Session) (log : ProofLog) (c : ScriptCommand)
+    → slice_get commands place ≡ Some c → IsStanding commands place s log → is_search c ≡ false → (t : Session)
+    → t ≡ record s { book = t.book; current = t.current } → t.book ≡ book_behind s.book c → IsCurrent t
+    → IsStanding commands (place + 1) t log
+standing-change follow stand opens closes comes commands place s log c at is other t same book current =
+    change-at stand commands place s log c at is follow opens closes comes other t same book current
+
+-- one block more
+blocks-more : (k : ℕ) (ss : List Search) (x : Search)
+    → blocks_text k (ss ++ x ∷ []) ≡ blocks_text k ss ++ block_text (k + length ss) x
+blocks-more k [] x =
+    let same : k ≡ k + zero = omega arith in
+    append-nil (block_text k x) ∙ ap (λ n. block_text n x) same
+blocks-more k (s ∷ ss) x =
+    let same : k + 1 + length ss ≡ k + suc (length ss) = omega arith in
+    ap (λ t. block_text k s ++ t) (blocks-more (k + 1) ss x ∙ ap (λ n. blocks_text (k + 1) ss ++ block_text n x) same)
+    ∙ sym (append_assoc (block_text k s) (blocks_text (k + 1) ss) (block_text (k + suc (length ss)) x))
+
+shown-whole : (all whole : Dqbf) (log : ProofLog) (f : Dqbf) (v : Verdict)
+    → (IsUndecidedSince all log.entries
+    → IsUndecidedSince whole log.entries)
+    → IsShown all log f v → IsShown whole log f v
+shown-whole all whole log f (is_true file proof) more shown = shown
+shown-whole all whole log f (is_false d) more shown = shown
+shown-whole all whole log f (is_unknown rounds learned) more shown = record {
+  limit = shown.limit;
+  next = shown.next;
+  undecided = more shown.undecided;
+  rounds_are = shown.rounds_are;
+  steps_are = shown.steps_are;
+}
+
+same-all : (b c : BookState) → IsBookAfter b c → all_of c ≡ all_of b
+same-all b c after = ap all_of after.same
+
+same-frames : (b c : BookState) → IsBookAfter b c → frames_of c ≡ frames_of b
+same-frames b c after = ap frames_of after.same
+
+module _ (stand : FollowingBooksStand) (undecided-law : UndecidedTakesClauses) (commands : List ScriptCommand)
+    (place : ℕ) (s : Session) (log : ProofLog) (at : slice_get commands place ≡ Some solve)
+    (is : IsStanding commands place s log) (t : Session) (new : ProofLog) (on : IsSearchedOn s log t new)
+    (limit : new.limit ≡ log.limit) where
+  abbrev made-now : Search
+  made-now = record { formula = now_of s.book; verdict = on.verdict; entries = new.entries }
+
+  session-so-far : IsProductiveSession (all_of s.book) (frames_of s.book) new.entries
+  session-so-far =
+      subst (λ all. IsProductiveSession all (frames_of s.book) new.entries) (same-all s.book t.book on.book)
+      (subst (λ fs. IsProductiveSession (all_of t.book) fs new.entries) (same-frames s.book t.book on.book)
+      on.ready.session)
+
+  shown-now : IsShown (all_clauses s.file.now commands) (end_of new made-now) made-now.formula made-now.verdict
+  shown-now =
+      shown-whole (all_of s.book) (all_clauses s.file.now commands) new (now_of s.book) on.verdict
+      (whole-undecided stand s.file.now commands (drop place commands) s.book is.searches is.followed undecided-law
+      new.entries (live_of s.book) session-so-far on.began.named)
+      on.shown
+
+  shown-before : All
+      (λ (x : Search). IsShown (all_clauses s.file.now commands) (end_of new x) x.formula x.verdict) is.searches
+  shown-before =
+      subst (λ n. All (λ (x : Search). IsShown (all_clauses s.file.now commands)
+      (record { limit = n; entries = x.entries }) x.formula x.verdict) is.searches)
+      (sym limit) is.made.shown
+
+  made : AreMade (all_clauses s.file.now commands) new (is.searches ++ made-now ∷ [])
+  made = record {
+    ends =
+        map-append (λ (x : Search). x.entries) is.searches (made-now ∷ [])
+        ∙ ap (λ es. es ++ new.entries ∷ []) is.made.ends
+        ∙ ends-more new.entries on.began.more (live_of s.book) log.entries on.began.grown on.began.none;
+    shown =
+        All-push (λ (x : Search). IsShown (all_clauses s.file.now commands) (end_of new x) x.formula x.verdict)
+        is.searches made-now shown-before shown-now;
+  }
+
+  pub standing-search : IsStanding commands (place + 1) t new
+  standing-search =
+      let long = length-append is.searches (made-now ∷ []) in
+      let counted = is.count in
+      let one : s.count + 1 ≡ 1 + length is.searches = omega (arith, counted) in
+      record {
+        searches = is.searches ++ made-now ∷ [];
+        followed =
+            subst (λ g. IsFollowed g commands (drop (place + 1) commands) t.book (is.searches ++ made-now ∷ []))
+            (sym on.file)
+            (followed-later s.file.now commands (drop (place + 1) commands) s.book t.book (is.searches ++ made-now ∷ [])
+            on.book.same on.book.many_groups
+            (followed-search stand s.file.now commands (drop (place + 1) commands) s.book is.searches made-now refl
+            on.began.named
+            (subst (λ rest. IsFollowed s.file.now commands rest s.book is.searches)
+            (next-left commands place solve at) is.followed)));
+        made = subst (λ g. AreMade (all_clauses g commands) new (is.searches ++ made-now ∷ [])) (sym on.file) made;
+        written =
+            on.written
+            ∙ ap (λ xs. xs ++ block_text (s.count + 1) made-now) is.written
+            ∙ ap (λ n. blocks_text 1 is.searches ++ block_text n made-now) one
+            ∙ sym (blocks-more 1 is.searches made-now);
+        count = (let more = on.count in omega (arith, more, counted, long));
+        few = (let few = is.few in omega (arith, few, long));
+        ready = on.ready;
+        current = on.current;
+        limit = subst (λ n. n ≤ max_count) (sym limit) is.limit;
+      }
+
+-- all commands were taken
+pub session-done : FollowingBooksStand → SessionsTakeClauses → (commands : List ScriptCommand) (s : Session)
+    (log : ProofLog) → IsStanding commands (length commands) s log
+    → IsSessionText s.file.now commands log s.text.items
+session-done stand law commands s log is =
+    let none : drop (length commands) commands ≡ [] = drop_all (length commands) commands (omega arith) in
+    let followed : IsFollowed s.file.now commands [] s.book is.searches =
+    subst (λ rest. IsFollowed s.file.now commands rest s.book is.searches) none is.followed in
+    let so-far = ready-so-far s.book s.desk s.graph log.entries is.ready in
+    record {
+      searches = is.searches;
+      searched = record {
+        session = whole-session stand s.file.now commands [] s.book is.searches followed law log.entries
+            so-far.one_each so-far.searched is.ready.session;
+        ends = is.made.ends;
+        begun = sym (append-nil (map (λ (x : Search). live_numbers x.entries) is.searches)) ∙ followed.begun;
+        formulas = sym (append-nil (map (λ (x : Search). x.formula) is.searches)) ∙ followed.formulas;
+        shown = is.made.shown;
+      };
+      is = is.written;
+    }
+
+-- before the first command
+pub standing-at-start : (f : Dqbf) (commands : List ScriptCommand) (s : Session) (log : ProofLog)
+    → AreAllowed f 0 (length f.matrix) commands → length f.matrix ≤ max_clauses → log.limit ≤ max_count
+    → IsBegun f s log → IsStanding commands 0 s log
+standing-at-start f commands s log allowed few limit is = record {
+  searches = [];
+  followed =
+      subst (λ g. IsFollowed g commands commands s.book []) (sym is.file)
+      (subst (λ b. IsFollowed f commands commands b []) (sym is.book)
+      (followed-at-start f commands s.book.table allowed few));
+  made = record {
+    ends = no-ends log.entries is.none_began;
+    shown = All-nil (λ (x : Search). IsShown (all_clauses s.file.now commands) (end_of log x) x.formula x.verdict);
+  };
+  written = is.no_text;
+  count = is.no_count;
+  few = omega arith;
+  ready = is.ready;
+  current = is.none_kept;
+  limit = limit;
+}

@@ -1,0 +1,55 @@
+use Rattle.std.proofs.Common.{◌∙◌, Some, sym, ap, arith}
+use Rattle.script_text.specs.Commands.{command_seen}
+use Rattle.session_runs.proofs.SearchedLogs.{ready-so-far, on-err}
+use Rattle.session_runs.proofs.SearchedSessions.{on-ok, both-ok, on-err-weaker}
+use Rattle.session_runs.proofs.TakenCommands.{search-is, may-take, work-of, standing-change, standing-search}
+use Rattle.session_runs.proofs.sessions.Session.take_at.Goals as goal
+
+pub search-requires-clause-room : goal.search-requires-clause-room
+search-requires-clause-room g c =
+    let standing = c.requires.standing in
+    let count = standing.count in
+    let few = standing.few in
+    omega (arith, c.requires.small, c.requires.within, count, few)
+
+pub change-requires-clause-may_come : goal.change-requires-clause-may_come
+change-requires-clause-may_come g c =
+    may-take c.following_books_stand.ensures c.args.script.now c.args.place c.args.self.now c.args.log.now
+    (command_seen c.get-command.result) c.get-command.ensures c.requires.standing
+
+pub returns-then-is_search-clause-ok : goal.returns-then-is_search-clause-ok
+returns-then-is_search-clause-ok g c =
+    let at = c.get-command.ensures
+    ∙ ap Some (search-is (command_seen c.get-command.result) (sym c.is_search.ensures ∙ c.if-is_search.true)) in
+    on-ok c.search.result
+    (λ on. standing-search c.following_books_stand.ensures c.undecided_takes_clauses.ensures c.args.script.now
+    c.args.place c.args.self.now c.args.log.now at c.requires.standing c.search.new.self c.search.new.log on
+    c.search.ensures.limit)
+    c.search.ensures.ok
+
+pub returns-then-is_search-clause-err : goal.returns-then-is_search-clause-err
+returns-then-is_search-clause-err g c =
+    on-err-weaker c.search.result
+    (work-of c.following_books_stand.ensures c.args.script.now c.args.place c.args.self.now c.args.log.now
+    (command_seen c.get-command.result) c.get-command.ensures c.requires.standing
+    c.search.new.log)
+    c.search.ensures.err
+
+pub returns-else-is_search-clause-ok : goal.returns-else-is_search-clause-ok
+returns-else-is_search-clause-ok g c =
+    both-ok c.change.result
+    (λ book current. standing-change c.books_follow.ensures c.following_books_stand.ensures
+    c.opened_frames_leave_desks.ensures c.closed_frames_leave_desks.ensures c.added_clauses_leave_desks.ensures
+    c.args.script.now c.args.place c.args.self.now c.args.log.now (command_seen c.get-command.result)
+    c.get-command.ensures c.requires.standing (sym c.is_search.ensures ∙ c.if-is_search.false) c.change.new.self
+    c.change.ensures.same book current)
+    c.change.ensures.book c.change.ensures.current
+
+pub returns-else-is_search-clause-err : goal.returns-else-is_search-clause-err
+returns-else-is_search-clause-err g c =
+    on-err c.change.result
+    (work-of c.following_books_stand.ensures c.args.script.now c.args.place c.args.self.now c.args.log.now
+    (command_seen c.get-command.result) c.get-command.ensures c.requires.standing
+    c.args.log.now
+    (ready-so-far c.args.self.now.book c.args.self.now.desk c.args.self.now.graph c.args.log.now.entries
+    c.requires.standing.ready))

@@ -1,0 +1,81 @@
+-- Words of private contracts: a session between its commands.
+use Rattle.std.specs.Prelude.{◌≡◌, ℕ, ◌+◌, ◌≤◌, List, [], ◌++◌, map, drop, length, IfSome}
+use Rattle.std.specs.List.{All}
+use Rattle.dq_lits.specs.Formula.{Dqbf}
+use Rattle.cert_text.specs.Header.{max_count}
+use Rattle.hint_log.specs.Entries.{Entry, ProofLog, beginnings_of}
+use Rattle.hint_log.specs.Growth.{Each}
+use Rattle.dq_session.specs.Books.{BookState, all_of, live_of, now_of}
+use Rattle.dq_session.specs.Changes.{begun}
+use Rattle.repair_loop.specs.Desks.{IsReady, IsBookAfter, HasBegun}
+use Rattle.script_text.specs.Commands.{ScriptCommand}
+use Rattle.script_books.specs.LargerSessions.{IsOfSearch}
+use Rattle.script_books.specs.Numbering.{all_clauses}
+use Rattle.verdict_texts.specs.Forms.{plain}
+use Rattle.verdict_texts.specs.Verdicts.{Verdict, verdict_text}
+use Rattle.session_runs.specs.Blocks.{Search, block_text, blocks_text}
+use Rattle.session_runs.specs.Ends.{ends_of}
+use Rattle.session_runs.specs.Followed.{IsFollowed}
+use Rattle.session_runs.specs.SessionFiles.{IsWorkOver}
+use Rattle.session_runs.specs.Searches.{IsShown, end_of}
+use Rattle.session_runs.specs.declared.sessions.Session.{Session}
+
+-- the log's work is over the book's clauses
+pub record IsSoFar (b : BookState) (entries : List Entry) : Type 0 where
+  pub work : IsWorkOver (all_of b) entries
+  pub searched : Each IsOfSearch entries
+  pub one_each : length b.frames ≡ length b.added
+
+-- the searches that were made, by the log
+pub record AreMade (all : Dqbf) (log : ProofLog) (searches : List Search) : Type 0 where
+  pub ends : map (λ s. s.entries) searches ≡ ends_of log.entries
+  pub shown : All (λ s. IsShown all (end_of log s) s.formula s.verdict) searches
+
+-- the formula of now, where it is kept
+abbrev pub IsCurrent : Session → Type 0
+IsCurrent s = IfSome s.current (λ f. f ≡ now_of s.book)
+
+-- before the first command
+pub record IsBegun (f : Dqbf) (s : Session) (log : ProofLog) : Type 0 where
+  pub file : s.file.now ≡ f
+  pub book : s.book ≡ begun f s.book.table
+  pub ready : IsReady s.book s.desk s.graph log.entries
+  pub none_began : beginnings_of log.entries ≡ 0
+  pub none_kept : IsCurrent s
+  pub no_text : s.text.items ≡ blocks_text 1 []
+  pub no_count : s.count ≡ 0
+
+-- the commands before the place were taken
+pub record IsStanding (commands : List ScriptCommand) (place : ℕ) (s : Session)
+    (log : ProofLog) : Type 0 where
+  pub searches : List Search
+  pub followed : IsFollowed s.file.now commands (drop place commands) s.book searches
+  pub made : AreMade (all_clauses s.file.now commands) log searches
+  pub written : s.text.items ≡ blocks_text 1 searches
+  pub count : s.count ≡ length searches
+  pub few : length searches ≤ place
+  pub ready : IsReady s.book s.desk s.graph log.entries
+  pub current : IsCurrent s
+  pub limit : log.limit ≤ max_count
+
+-- a verdict on the book's formula of now, which the log of a search that began shows
+pub record IsFound (b : BookState) (f : Dqbf) (old new : ProofLog) (text : List ℕ) : Type 0 where
+  pub verdict : Verdict
+  pub began : HasBegun (live_of b) old.entries new.entries
+  pub shown : IsShown (all_of b) new f verdict
+  pub is : text ≡ verdict_text plain f verdict
+
+-- one search more
+pub record IsSearchedOn (s : Session) (log : ProofLog) (t : Session) (new : ProofLog) : Type 0 where
+  pub verdict : Verdict
+  pub began : HasBegun (live_of s.book) log.entries new.entries
+  pub shown : IsShown (all_of s.book) new (now_of s.book) verdict
+  pub file : t.file.now ≡ s.file.now
+  pub book : IsBookAfter s.book t.book
+  pub ready : IsReady t.book t.desk t.graph new.entries
+  pub current : IsCurrent t
+  pub count : t.count ≡ s.count + 1
+  pub written : t.text.items
+      ≡ s.text.items
+      ++ block_text (s.count + 1)
+      (record { formula = now_of s.book; verdict = verdict; entries = new.entries })
