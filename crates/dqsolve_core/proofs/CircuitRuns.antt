@@ -9,8 +9,8 @@ use Rattle.dq_runs.specs.FileTexts.{PickedTwice}
 use Rattle.dq_runs.specs.Printed.{Printed, printed}
 use Rattle.dq_runs.specs.declared.outputs.Output.{Output}
 use Rattle.dq_verdicts.specs.Outputs.{IsVerdictOutput}
-use Rattle.dq_verdicts.specs.Forms.{plain}
-use Rattle.dq_verdicts.specs.Verdicts.{printed_verdict}
+use Rattle.verdict_texts.specs.Forms.{plain}
+use Rattle.verdict_texts.specs.Verdicts.{printed_verdict}
 use Rattle.pec_runs.specs.DesignFiles.{max_circuit, IsNoDesign, IsDesignFormula, IsDesignRead, IsUnreadableStop, design_line}
 use Rattle.pec_runs.specs.Encoded.{IsEncodeDue}
 use Rattle.pec_runs.specs.declared.designs.DesignStop.{DesignStop}

@@ -40,7 +40,7 @@ pub definitions_log : (files : FilesState) (log : ProofLog) (c : Defining) → l
     IsDefinedLog files c.file log → IsRunLog files (Some (defined c)) log
 definitions_log files log c limit (inl none) = inl none
 definitions_log files log c limit (inr (f, one, productive)) =
-    inr (record {
+    inr (inl (record {
       command = defined c;
       is = refl;
       limit = limit;
@@ -49,7 +49,7 @@ definitions_log files log c limit (inr (f, one, productive)) =
       searched = f;
       is_searched = refl;
       productive = productive;
-    })
+    }))
 
 -- ---- which statuses there are, and why
 

@@ -7,3 +7,4 @@ pub mod Statuses
 pub mod ToldDesigns
 pub mod ToldFiles
 pub mod DefinedRuns
+pub mod SessionRuns

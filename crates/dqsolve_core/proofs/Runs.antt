@@ -17,22 +17,24 @@ use Rattle.dq_runs.specs.declared.formulas.NoFormula.TheVariants.{Unreadable, To
 use Rattle.dq_runs.specs.declared.outputs.Output.{Output}
 use Rattle.dq_verdicts.specs.Outputs.{IsVerdictOutput}
 use Rattle.dq_verdicts.specs.Prepared.{IsPreparedOutput, IsPreparedLog}
-use Rattle.dq_verdicts.specs.Verdicts.{printed_verdict}
-use Rattle.dq_verdicts.specs.declared.forms.Form.{Form}
+use Rattle.verdict_texts.specs.Verdicts.{printed_verdict}
+use Rattle.verdict_texts.specs.declared.forms.Form.{Form}
 use Rattle.dq_verdicts.specs.declared.demonstrations.Demonstration.{Demonstration}
 use Rattle.dq_verdicts.specs.declared.demonstrations.Demonstration.TheVariants.{Valid, Large, CutOff}
-use Rattle.dqsolve_words.specs.Command.{Options, Search, Planting, Command, solve, demo, pec, encode, defined, default_steps}
-use Rattle.dqsolve_words.specs.Words.{search_of, planting_of, comparison_of, command_said}
+use Rattle.dqsolve_words.specs.Command.{Options, Search, Planting, Command, solve, demo, pec, encode, defined, session, default_steps}
+use Rattle.dqsolve_words.specs.Words.{search_of, planting_of, comparison_of, session_of, command_said}
 use Rattle.dqsolve_words.specs.declared.requests.SolveWords.{SolveWords}
 use Rattle.dqsolve_words.specs.declared.requests.DemoWords.{DemoWords}
 use Rattle.dqsolve_words.specs.declared.requests.PecWords.{PecWords}
+use Rattle.dqsolve_words.specs.declared.requests.SessionWords.{SessionWords}
 use Rattle.dqsolve_words.specs.declared.requests.CommandWords.{CommandWords}
-use Rattle.dqsolve_words.specs.declared.requests.CommandWords.TheVariants.{Solve, Demo, Pec}
+use Rattle.dqsolve_words.specs.declared.requests.CommandWords.TheVariants.{Solve, Demo, Pec, Session as SessionCommand}
 use Rattle.dqsolve_core.specs.Outputs.{IsReported, IsSolveOutput, IsSolveLog, IsDemoOutput}
-use Rattle.dqsolve_core.specs.Report.{form_of, SearchReport, no_formula, solved, printed_search, printed_demo, demonstration_status}
+use Rattle.dqsolve_core.specs.Report.{form_of, usage, SearchReport, no_formula, solved, printed_search, printed_demo, demonstration_status}
 use Rattle.dqsolve_core.specs.Running.{IsDueFor, IsDue, IsRunLog, IsOwnLog, IsDemonstration, SeeksVerdict, steps_asked}
 use Rattle.dqsolve_core.specs.Searched.{IsSearched}
 use Rattle.dqsolve_core.proofs.DefinedRuns.{defined_reasons, defined_steps}
+use Rattle.dqsolve_core.proofs.SessionRuns.{session_reasons}
 use Rattle.dqsolve_core.proofs.CircuitRuns.{comparison_reasons, encode_reasons, comparison_steps}
 use Rattle.dq_runs.proofs.SaidFormulas.{status_of, said_rightly}
 use Rattle.dqsolve_core.proofs.Statuses.{not_long, Reasons, verdict_reasons, verdict_steps}
@@ -44,6 +46,10 @@ pub solve_asked : (asked : Option Command) (answer : Option CommandWords) (w : C
     → answer ≡ Some w → w ≡ Solve s → asked ≡ Some (solve (search_of s))
 solve_asked asked answer w s said is kind = sym said ∙ ap (option_map command_said) (is ∙ ap Some kind)
 
+pub none_asked : (asked : Option Command) (answer : Option CommandWords) → option_map command_said answer ≡ asked
+    → answer ≡ None → asked ≡ None
+none_asked asked answer said is = sym said ∙ ap (option_map command_said) is
+
 pub demo_asked : (asked : Option Command) (answer : Option CommandWords) (w : CommandWords) (s : DemoWords) →
     option_map command_said answer ≡ asked
     → answer ≡ Some w → w ≡ Demo s → asked ≡ Some (demo (planting_of s))
@@ -54,7 +60,15 @@ pub pec_asked : (asked : Option Command) (answer : Option CommandWords) (w : Com
     → answer ≡ Some w → w ≡ Pec s → asked ≡ Some (pec (comparison_of s))
 pec_asked asked answer w s said is kind = sym said ∙ ap (option_map command_said) (is ∙ ap Some kind)
 
+pub session_asked : (asked : Option Command) (answer : Option CommandWords) (w : CommandWords) (s : SessionWords) →
+    option_map command_said answer ≡ asked
+    → answer ≡ Some w → w ≡ SessionCommand s → asked ≡ Some (session (session_of s))
+session_asked asked answer w s said is kind = sym said ∙ ap (option_map command_said) (is ∙ ap Some kind)
+
 -- ---- the parts
+
+not_six : (status : ℕ) → status ≡ 1 → status ≢ 6
+not_six status one six = omega (arith, one, six)
 
 -- a verdict
 pub verdict_reported : (before now : FilesState) (log : ProofLog) (c : Search) (f : Dqbf) (r : Result Output Memory) →
@@ -91,6 +105,16 @@ demo_not_long Valid same = omega (arith, same)
 demo_not_long Large same = omega (arith, same)
 demo_not_long CutOff same = omega (arith, same)
 
+-- the usage line
+pub usage_reported : (files : FilesState) (log : ProofLog) (asked : Option Command) (r : Result Output Memory)
+    → asked ≡ None → IfOk r (λ output. printed output ≡ usage) → IfOk r (IsReported files files asked log)
+usage_reported files log asked (Ok output) none is = record {
+  due = subst (λ a. IsDue files files log a (printed output)) (sym none) (is, refl);
+  long = λ six. absurd (not_six output.status (ap (λ p. p.status) is) six);
+  unfaulted = λ _. refl;
+}
+usage_reported files log asked (Err _) none is = tt
+
 pub demo_reported : (files : FilesState) (log : ProofLog) (p : Planting) (r : Result Output Memory) →
     log.limit ≡ default_steps → IfOk r (IsDemoOutput p log)
     → IfOk r (IsReported files files (Some (demo p)) log)
@@ -107,7 +131,7 @@ pub demo_log : (files : FilesState) (log : ProofLog) (p : Planting) → log.limi
     IsRunLog files (Some (demo p)) log
 demo_log files log p limit (inl none) = inl none
 demo_log files log p limit (inr productive) =
-    inr (record {
+    inr (inl (record {
       command = demo p;
       is = refl;
       limit = limit;
@@ -116,14 +140,14 @@ demo_log files log p limit (inr productive) =
       searched = planted_formula p.seed p.size;
       is_searched = refl;
       productive = productive;
-    })
+    }))
 
 -- the log of a search with these options
 pub search_log : (files : FilesState) (log : ProofLog) (c : Search) (f : Dqbf) → IsFormulaOf (files.held c.file) f
     → log.limit ≡ c.steps → IsSolveLog f c.options.prepares log → IsRunLog files (Some (solve c)) log
 search_log files log c f one limit (inl none) = inl none
 search_log files log c f one limit (inr (searched, is, productive)) =
-    inr (record {
+    inr (inl (record {
       command = solve c;
       is = refl;
       limit = limit;
@@ -132,7 +156,7 @@ search_log files log c f one limit (inr (searched, is, productive)) =
       searched = searched;
       is_searched = is;
       productive = productive;
-    })
+    }))
 
 -- a search without preparation, and one with it
 searched_alone : (f : Dqbf) (log : ProofLog) (o : Options) (r : Result Output Memory) → o.prepares ≡ false
@@ -249,6 +273,7 @@ reasons before now (Some (pec c)) log p (report, due, same) =
     (comparison_reasons before now log c report due)
 reasons before now (Some (encode c)) log p due = encode_reasons before now c p due
 reasons before now (Some (defined c)) log p due = defined_reasons before now log c p due.1
+reasons before now (Some (session c)) log p due = session_reasons before now log c p due.1
 
 pub causes : (before now : FilesState) (asked : Option Command) (log : ProofLog) (sink sink_now : SinkState)
     (r : Result Output Memory) (status : ℕ) → now.held ≡ before.held
@@ -315,6 +340,7 @@ all_steps before now (pec c) log p seeks (report, due, same) zero =
     comparison_steps before now log c report due (sym (ap (λ (q : Printed). q.status) same) ∙ zero)
 all_steps before now (encode c) log p seeks due zero = absurd seeks
 all_steps before now (defined c) log p seeks due zero = defined_steps before now log c p due.1 zero
+all_steps before now (session c) log p seeks due zero = absurd seeks
 
 pub own_log : (before now : FilesState) (asked : Option Command) (log : ProofLog) (sink sink_now : SinkState)
     (r : Result Output Memory) (status : ℕ)

@@ -4,9 +4,9 @@ use Rattle.dq_io.specs.Causes.{Rose}
 use Rattle.dq_io.specs.State.{FilesState}
 use Rattle.dq_lits.specs.Formula.{Dqbf}
 use Rattle.hint_log.specs.Entries.{ProofLog, steps_of}
-use Rattle.dq_verdicts.specs.declared.forms.Form.{Form}
+use Rattle.verdict_texts.specs.declared.forms.Form.{Form}
 use Rattle.dq_verdicts.specs.Shown.{IsVerdict}
-use Rattle.dq_verdicts.specs.Verdicts.{Verdict, is_true, is_false, is_unknown, verdict_status}
+use Rattle.verdict_texts.specs.Verdicts.{Verdict, is_true, is_false, is_unknown, verdict_status}
 use Rattle.dqsolve_words.specs.Command.{Command}
 
 pub not_long : (verdict : Verdict) → verdict_status verdict ≡ 6 → ⊥

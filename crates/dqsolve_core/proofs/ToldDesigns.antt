@@ -17,9 +17,9 @@ use Rattle.dq_runs.specs.FileTexts.{IsShortText}
 use Rattle.dq_runs.specs.Printed.{Printed, printed}
 use Rattle.dq_runs.specs.Sinks.{SinkState}
 use Rattle.dq_runs.specs.declared.outputs.Output.{Output}
-use Rattle.dq_verdicts.specs.Forms.{plain}
+use Rattle.verdict_texts.specs.Forms.{plain}
 use Rattle.dq_verdicts.specs.Shown.{IsVerdict, IsShown}
-use Rattle.dq_verdicts.specs.Verdicts.{Verdict, is_true, is_false, is_unknown, printed_verdict}
+use Rattle.verdict_texts.specs.Verdicts.{Verdict, is_true, is_false, is_unknown, printed_verdict}
 use Rattle.pec_front.specs.Boxes.{PartialDesign, IsLawfulDesign}
 use Rattle.pec_front.specs.Encoding.{design_formula}
 use Rattle.pec_front.specs.Formulas.{IsOverLimits}

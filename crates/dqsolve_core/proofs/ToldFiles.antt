@@ -16,7 +16,7 @@ use Rattle.dq_runs.specs.Printed.{Printed, printed}
 use Rattle.dq_runs.specs.Sinks.{SinkState}
 use Rattle.dq_runs.specs.declared.formulas.NoFormula.TheVariants.{Unreadable, TooLong, Refused}
 use Rattle.dq_runs.specs.declared.outputs.Output.{Output}
-use Rattle.dq_verdicts.specs.Verdicts.{is_verdict_status}
+use Rattle.verdict_texts.specs.Verdicts.{is_verdict_status}
 use Rattle.dqsolve_words.specs.Command.{Search, Planting, Command}
 use Rattle.dqsolve_core.specs.Outputs.{IsReported}
 use Rattle.dqsolve_core.specs.Report.{SearchReport, no_formula, solved, printed_search}

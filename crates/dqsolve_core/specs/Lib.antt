@@ -6,3 +6,4 @@ pub mod Searched
 pub mod Told
 pub mod ToldCircuits
 pub mod ToldDefinitions
+pub mod ToldSessions

@@ -8,7 +8,7 @@ use Rattle.dq_runs.specs.FormulaFiles.{max_formula}
 use Rattle.dq_runs.specs.Printed.{printed}
 use Rattle.dq_runs.specs.declared.outputs.Output.{Output}
 use Rattle.dq_verdicts.specs.declared.demonstrations.Demonstration.{Demonstration}
-use Rattle.dq_verdicts.specs.Verdicts.{Verdict, printed_verdict}
+use Rattle.verdict_texts.specs.Verdicts.{Verdict, printed_verdict}
 use Rattle.dqsolve_words.specs.Command.{Options, Command, Planting}
 use Rattle.dqsolve_core.specs.Report.{form_of, printed_demo}
 use Rattle.dqsolve_core.specs.Running.{IsDue, IsDemonstration}

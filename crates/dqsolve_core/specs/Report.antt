@@ -5,9 +5,9 @@ use Rattle.dq_lits.specs.Formula.{Dqbf}
 use Rattle.dq_runs.specs.FormulaFiles.{formula_line}
 use Rattle.dq_runs.specs.Printed.{Printed, line, usage_line}
 use Rattle.dq_runs.specs.declared.formulas.NoFormula.{NoFormula}
-use Rattle.dq_verdicts.specs.Forms.{plain}
-use Rattle.dq_verdicts.specs.declared.forms.Form.{Form}
-use Rattle.dq_verdicts.specs.Verdicts.{Verdict, printed_verdict}
+use Rattle.verdict_texts.specs.Forms.{plain}
+use Rattle.verdict_texts.specs.declared.forms.Form.{Form}
+use Rattle.verdict_texts.specs.Verdicts.{Verdict, printed_verdict}
 use Rattle.dq_verdicts.specs.declared.demonstrations.Demonstration.{Demonstration}
 use Rattle.dq_verdicts.specs.declared.demonstrations.Demonstration.TheVariants.{Valid, Large, CutOff}
 use Rattle.dqsolve_words.specs.Command.{Options, Search, Planting}
@@ -19,7 +19,8 @@ usage =
     usage_line
     (codes "dqsolve solve [--steps N] [--bare] [--v2] [--prep] [--binary] FILE / dqsolve demo SEED SIZE"
     ++ codes " / dqsolve pec [--steps N] SPEC IMPL / dqsolve encode SPEC IMPL"
-    ++ codes " / dqsolve defined [--steps N] FILE")
+    ++ codes " / dqsolve defined [--steps N] FILE"
+    ++ codes " / dqsolve session [--steps N] FILE SCRIPT")
 
 -- what is said of the files of two circuits that are to be compared
 pub data ComparisonReport : Type 0 where

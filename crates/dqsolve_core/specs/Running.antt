@@ -8,13 +8,14 @@ use Rattle.planted_formulas.specs.Planted.{planted_formula}
 use Rattle.dq_runs.specs.FileTexts.{PickedOnce, PickedTwice}
 use Rattle.dq_runs.specs.FormulaFiles.{IsFormulaOf, IsNoFormula}
 use Rattle.dq_runs.specs.Printed.{Printed}
-use Rattle.dq_verdicts.specs.Forms.{plain}
+use Rattle.verdict_texts.specs.Forms.{plain}
 use Rattle.dq_verdicts.specs.Shown.{IsVerdict, IsDemonstrated}
 use Rattle.dq_verdicts.specs.declared.demonstrations.Demonstration.{Demonstration}
 use Rattle.pec_runs.specs.DesignFiles.{IsNoDesign, IsDesignFormula}
 use Rattle.pec_runs.specs.Encoded.{IsEncodeDue}
 use Rattle.definition_runs.specs.DefinedFiles.{IsDefinedDue}
-use Rattle.dqsolve_words.specs.Command.{Search, Planting, Comparison, Command, solve, demo, pec, encode, defined, default_steps}
+use Rattle.session_runs.specs.SessionFiles.{IsSessionDue, IsSessionLog}
+use Rattle.dqsolve_words.specs.Command.{Search, Planting, Comparison, Session, Command, solve, demo, pec, encode, defined, session, default_steps}
 use Rattle.dqsolve_core.specs.Report.{SearchReport, no_formula, solved, ComparisonReport, no_design, compared, usage, printed_search, printed_comparison, printed_demo}
 use Rattle.dqsolve_core.specs.Searched.{IsSearchedFor, IsVerdictBy}
 
@@ -68,6 +69,8 @@ IsDue before now log (Some (encode c)) printed =
     IsEncodeDue before now c.specification c.implementation printed
 IsDue before now log (Some (defined c)) printed =
     (log.limit ≡ c.steps) × IsDefinedDue before now log c.file printed
+IsDue before now log (Some (session c)) printed =
+    (log.limit ≡ c.steps) × IsSessionDue before now log c.file c.script printed
 
 -- the formula that is asked for: the one that is read, or the planted one
 abbrev pub IsAskedFormula : FilesState → Command → Dqbf → Type 0
@@ -77,6 +80,7 @@ IsAskedFormula files (pec c) f =
     IsDesignFormula (files.held c.circuits.specification) (files.held c.circuits.implementation) f
 IsAskedFormula files (encode c) f = ⊥
 IsAskedFormula files (defined c) f = IsFormulaOf (files.held c.file) f
+IsAskedFormula files (session c) f = IsFormulaOf (files.held c.file) f
 
 abbrev pub steps_asked : Command → ℕ
 steps_asked (solve c) = c.steps
@@ -84,6 +88,7 @@ steps_asked (demo p) = default_steps
 steps_asked (pec c) = c.steps
 steps_asked (encode c) = 0
 steps_asked (defined c) = c.steps
+steps_asked (session c) = c.steps
 
 -- the log's work was for the formula that was asked for, or for what is left of it where preparation
 -- was, and all of it productive
@@ -97,9 +102,17 @@ pub record IsWorkOn (files : FilesState) (asked : Option Command) (log : ProofLo
   pub is_searched : IsSearchedFor command f searched
   pub productive : IsProductiveLog searched log.entries
 
+-- the log's work was for the searches of a script, in as many steps as were asked for
+pub record IsSessionWork (files : FilesState) (asked : Option Command) (log : ProofLog) : Type 0 where
+  pub command : Session
+  pub is : asked ≡ Some (session command)
+  pub limit : log.limit ≡ command.steps
+  pub work : IsSessionLog files command.file command.script log
+
 -- it is empty or of productive work, however the run ends
 abbrev pub IsRunLog : FilesState → Option Command → ProofLog → Type 0
-IsRunLog files asked log = (log.entries ≡ []) ⊎ IsWorkOn files asked log
+IsRunLog files asked log =
+    (log.entries ≡ []) ⊎ IsWorkOn files asked log ⊎ IsSessionWork files asked log
 
 -- a command that searches, so that it ends with 0 only where the steps didn't suffice
 abbrev pub SeeksVerdict : Command → Type 0
@@ -108,6 +121,7 @@ SeeksVerdict (demo p) = Unit {0}
 SeeksVerdict (pec c) = Unit {0}
 SeeksVerdict (encode c) = ⊥
 SeeksVerdict (defined c) = Unit {0}
+SeeksVerdict (session c) = ⊥
 
 -- The log is the run's own: of productive work, in as many steps as are asked for, all of which are
 -- done where no verdict was found.

@@ -3,8 +3,8 @@ use Rattle.std.specs.Prelude.{◌≡◌, Bool, true, false}
 use Rattle.dq_lits.specs.Formula.{Dqbf}
 use Rattle.dq_verdicts.specs.Prepared.{IsPrep}
 use Rattle.dq_verdicts.specs.Shown.{IsVerdict}
-use Rattle.dq_verdicts.specs.Verdicts.{Verdict}
-use Rattle.dqsolve_words.specs.Command.{Options, Command, solve, demo, pec, encode, defined}
+use Rattle.verdict_texts.specs.Verdicts.{Verdict}
+use Rattle.dqsolve_words.specs.Command.{Options, Command, solve, demo, pec, encode, defined, session}
 use Rattle.dqsolve_core.specs.Report.{form_of}
 use Rattle.hint_log.specs.Entries.{ProofLog}
 
@@ -20,6 +20,7 @@ IsSearchedFor (demo p) f searched = searched ≡ f
 IsSearchedFor (pec c) f searched = searched ≡ f
 IsSearchedFor (encode c) f searched = searched ≡ f
 IsSearchedFor (defined c) f searched = searched ≡ f
+IsSearchedFor (session c) f searched = searched ≡ f
 
 -- a verdict on a formula, which the log of a search with these options shows
 pub record IsVerdictBy (f : Dqbf) (log : ProofLog) (o : Options) (verdict : Verdict) : Type 0 where

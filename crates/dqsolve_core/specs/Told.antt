@@ -10,7 +10,7 @@ use Rattle.dqdimacs_reader.specs.Grammar.{SpellsFormula}
 use Rattle.dq_runs.specs.FormulaFiles.{max_formula}
 use Rattle.dq_runs.specs.Printed.{line}
 use Rattle.dq_runs.specs.Sinks.{SinkState}
-use Rattle.dq_verdicts.specs.Verdicts.{Verdict, verdict_text, verdict_status, is_verdict_status}
+use Rattle.verdict_texts.specs.Verdicts.{Verdict, verdict_text, verdict_status, is_verdict_status}
 use Rattle.dq_verdicts.specs.declared.demonstrations.Demonstration.{Demonstration}
 use Rattle.dqsolve_words.specs.Command.{Search, Planting, Command, solve, demo, default_steps}
 use Rattle.dqsolve_core.specs.Report.{form_of, demo_text, demonstration_status}
@@ -18,6 +18,7 @@ use Rattle.dqsolve_core.specs.Running.{IsDemonstration}
 use Rattle.dqsolve_core.specs.Searched.{IsVerdictBy}
 use Rattle.dqsolve_core.specs.ToldCircuits.{ComparesTold}
 use Rattle.dqsolve_core.specs.ToldDefinitions.{DefinesTold}
+use Rattle.dqsolve_core.specs.ToldSessions.{ConversesTold}
 
 -- the command names a file with this text
 pub record IsTold (held : List ℕ → Holding) (asked : Option Command)
@@ -69,10 +70,11 @@ pub record SolvesTold (files now : FilesState) (asked : Option Command) (log : P
       → ¬ Rose sink.faults sink_now.faults → status ≢ 5
       → IsDemonstratedRun p log sink.taken sink_now.taken status
 
--- over files that are told: a formula's that is to be decided, two circuits', and a formula's whose
--- definitions are asked for
+-- over files that are told: a formula's that is to be decided, two circuits', a formula's whose
+-- definitions are asked for, and a formula's with a script's
 pub record ShowsTold (files now : FilesState) (asked : Option Command) (log : ProofLog)
     (sink sink_now : SinkState) (status : ℕ) : Type 0 where
   pub formula : SolvesTold files now asked log sink sink_now status
   pub circuits : ComparesTold files asked log sink sink_now status
   pub definitions : DefinesTold files now asked log sink sink_now status
+  pub sessions : ConversesTold files now asked log sink sink_now status

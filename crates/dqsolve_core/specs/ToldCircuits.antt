@@ -12,9 +12,9 @@ use Rattle.dq_lits.specs.Formula.{Existential}
 use Rattle.dq_lits.specs.Skolem.{OutputFunction}
 use Rattle.dqdimacs_reader.specs.Canonical.{canonical}
 use Rattle.dq_runs.specs.Sinks.{SinkState}
-use Rattle.dq_verdicts.specs.Forms.{plain}
+use Rattle.verdict_texts.specs.Forms.{plain}
 use Rattle.dq_verdicts.specs.Shown.{IsVerdict}
-use Rattle.dq_verdicts.specs.Verdicts.{Verdict, is_true, is_false, is_unknown, verdict_text, verdict_status}
+use Rattle.verdict_texts.specs.Verdicts.{Verdict, is_true, is_false, is_unknown, verdict_text, verdict_status}
 use Rattle.hint_log.specs.Entries.{ProofLog}
 use Rattle.pec_front.specs.Boxes.{PartialDesign, BoxFunctions, BoxesFit, IsLawfulDesign}
 use Rattle.pec_front.specs.Encoding.{design_formula}
@@ -27,7 +27,7 @@ use Rattle.pec_runs.specs.declared.designs.ImpFault.TheVariants.{Circuit, Design
 use Rattle.pec_runs.specs.declared.designs.NoDesign.{NoDesign}
 use Rattle.pec_runs.specs.declared.designs.NoDesign.TheVariants.{Unreadable, LongSpec, LongImp, RefusedSpec, RefusedImp}
 use Rattle.skolem_checker.specs.SkolemCircuit.{IsSkolemCircuit, AreOutputsOf}
-use Rattle.dqsolve_words.specs.Command.{Circuits, Comparison, Command, solve, demo, pec, encode, defined}
+use Rattle.dqsolve_words.specs.Command.{Circuits, Comparison, Command, solve, demo, pec, encode, defined, session}
 
 -- the circuits that a command names
 abbrev pub NamesCircuits : Option Command → Circuits → Type 0
@@ -119,6 +119,7 @@ AnswersFor (Some (demo p)) d log before now status = ⊥
 AnswersFor (Some (pec c)) d log before now status = IsCompared d log c before now status
 AnswersFor (Some (encode c)) d log before now status = IsEncoded d before now status
 AnswersFor (Some (defined c)) d log before now status = ⊥
+AnswersFor (Some (session c)) d log before now status = ⊥
 
 -- Over circuits that are told, where no failure has the status, what is written is the first refusal
 -- of the texts, or the command's answer for their design.

@@ -3,7 +3,7 @@
 //!
 //! `dqsolve_run` is a whole run of the program `dqsolve`: its contract says what is written and
 //! with which status it ends. What is written with a verdict the checker accepts, by the laws of
-//! `dq_verdicts`.
+//! `verdict_texts`.
 #![tactic(auto)]
 
 pub use run::dqsolve_run;

@@ -8,8 +8,8 @@ ghost use Rattle.hint_log.specs.ProductiveLog.{IsProductiveLog};
 ghost use Rattle.planted_formulas.specs.Planted.{planted_formula};
 ghost use Rattle.dq_runs.specs.Ending.{Ends, HasCauses};
 ghost use Rattle.dq_runs.specs.Sinks.{sink_of};
-ghost use Rattle.dqsolve_words.specs.Command.{Command, solve, pec, defined, command_of, most_seed, least_size, most_size, default_steps};
-ghost use Rattle.dqsolve_words.specs.Words.{options_of, search_of, planting_of, comparison_of, defining_of};
+ghost use Rattle.dqsolve_words.specs.Command.{Command, solve, pec, defined, session, command_of, most_seed, least_size, most_size, default_steps};
+ghost use Rattle.dqsolve_words.specs.Words.{options_of, search_of, planting_of, comparison_of, defining_of, session_of};
 ghost use Rattle.dqsolve_core.specs.Outputs.{IsReported, IsSolveOutput, IsSolveLog, IsDemoOutput};
 ghost use Rattle.dqsolve_core.specs.Report.{form_of};
 ghost use Rattle.dqsolve_core.specs.Running.{IsDue, IsRunLog, IsOwnLog, steps_asked};
@@ -21,17 +21,20 @@ use dq_formula::Formula;
 use dq_io::{Files, Sink};
 use dq_lits::Memory;
 use dq_runs::{FormulaStop, Output, deliver, outputs, read_formula};
-use dq_verdicts::{Form, solve, solve_prepared};
+use dq_verdicts::{solve, solve_prepared};
 use dqdimacs_reader::laws::formula_or_first_fault;
 use dqsolve_words::laws::numbers_are_in_range;
 use dqsolve_words::{
-    CommandWords, DefiningWords, DemoWords, PecWords, SolveOptions, SolveWords, command_words,
+    CommandWords, DefiningWords, DemoWords, PecWords, SessionWords, SolveOptions, SolveWords,
+    command_words,
 };
 use hint_log::Log;
 use pec_front::laws::{certified_boxes_fit, design_formulas_are_well_formed, fitting_boxes_choose};
 use pec_runs::{DesignStop, encode, read_design_formula};
 use planted_formulas::planted_formula;
+use session_runs::session_files;
 use std::alloc::Global;
+use verdict_texts::Form;
 
 /// The most steps of a search on a planted formula.
 const DEFAULT_STEPS: u64 = 1_000_000;
@@ -41,19 +44,22 @@ const COMMANDS: &str = concat!(
     "dqsolve solve [--steps N] [--bare] [--v2] [--prep] [--binary] FILE / dqsolve demo SEED SIZE",
     " / dqsolve pec [--steps N] SPEC IMPL / dqsolve encode SPEC IMPL",
     " / dqsolve defined [--steps N] FILE",
+    " / dqsolve session [--steps N] FILE SCRIPT",
 );
 
 /// Decides the formula in a file, and writes the verdict with a certificate; or decides a planted
 /// formula, judges the certificate, and writes a line on it; or decides whether the black boxes of a
 /// circuit can be filled as its specification asks, or writes the formula of that question; or
-/// writes the definitions of the existentials of the formula in a file.
+/// writes the definitions of the existentials of the formula in a file; or decides it once for each
+/// search that a script asks for, with the clauses that the script has added by then.
 ///
 /// The words are the program's name and those of one command, as clap reads them (`COMMANDS`). The
 /// log is emptied first, and then has the search's entries. The status is 10 where the formula is
-/// true, 20 where it is false, 30 where definitions were written, 0 where the steps didn't suffice or
-/// the formula was written, 1 where the words are others, 2 where the formula's text has a fault, 3 where a file can't be read, 4
-/// where the text can't be written, 5 for want of memory, 6 where a file is too long, and 7 where a
-/// circuit or its boxes are refused.
+/// true, 20 where it is false, 30 where definitions were written, 0 where the steps didn't suffice,
+/// the formula was written or a script's searches were made, 1 where the words are others, 2 where
+/// the formula's text has a fault, 3 where a file can't be read, 4 where the text can't be written,
+/// 5 for want of memory, 6 where a file is too long, and 7 where a circuit, its boxes or a script are
+/// refused.
 pub fn dqsolve_run<F: Files, K: Sink>(
     alloc: Global,
     words: &[String],
@@ -73,7 +79,8 @@ pub fn dqsolve_run<F: Files, K: Sink>(
 
     // Over files that are told, what is written is right, and where nothing failed, there is an
     // answer: a verdict on a formula, a line on a planted one, a verdict on the boxes of a design or
-    // its formula, the first refusal of two circuits, or the definitions of a formula.
+    // its formula, the first refusal of two circuits, the definitions of a formula, or a verdict for
+    // each search of a script.
     ensures told { ShowsTold (state_of F.Files files.old) (state_of F.Files files.new)
         (command_of (map string_bytes words.now)) log.new
         (sink_of K.Sink out.old) (sink_of K.Sink out.new) result }
@@ -115,6 +122,7 @@ fn report<F: Files>(
         Some(CommandWords::Pec(asked)) => report_circuits(alloc, asked, files, log),
         Some(CommandWords::Encode(asked)) => encode(alloc, files, asked.spec, asked.imp),
         Some(CommandWords::Defined(asked)) => report_definitions(alloc, asked, files, log),
+        Some(CommandWords::Session(asked)) => report_session(alloc, asked, files, log),
     }
 }
 
@@ -187,6 +195,26 @@ fn report_definitions<F: Files>(
 {
     log.rewind(defining.steps);
     define_file(alloc, files, defining.file, log)
+}
+
+// What is to be written where the searches of a script are asked for.
+fn report_session<F: Files>(
+    alloc: Global,
+    asked: SessionWords,
+    files: &mut F,
+    log: &mut Log,
+) -> Result<Output, Memory>
+    requires steps { asked.steps ≤ max_count }
+    ensures reported { IfOk result
+        (IsReported (state_of F.Files files.old) (state_of F.Files files.new)
+        (Some (session (session_of asked.entry))) log.new) }
+    ensures log { IsRunLog (state_of F.Files files.old)
+        (Some (session (session_of asked.entry))) log.new }
+    ensures limit { log.new.limit ≡ asked.entry.steps }
+    ensures held { F.held files.new ≡ F.held files.old }
+{
+    log.rewind(asked.steps);
+    session_files(alloc, files, asked.file, asked.script, log)
 }
 
 // What is to be written where the words name a file.

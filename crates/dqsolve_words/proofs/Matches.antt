@@ -10,7 +10,7 @@ use Rattle.clap.specs.Walk.{Row, Text, first_of, rows_of}
 use Rattle.clap.specs.declared.parser.matches.Found.{Found}
 use Rattle.clap.specs.declared.error.kind.ErrorKind.{ErrorKind}
 use Rattle.clap.proofs.WalkLemmas.{first_value-rows}
-use Rattle.dqsolve_words.specs.Command.{Options, Search, Circuits, Comparison, Defining, Command, command_of, command_in, solve_in, circuits_in, pec_in, defined_in, steps_in, number_in, has_flag, options_in, without_fault, solver_app, least_steps, most_steps, default_steps}
+use Rattle.dqsolve_words.specs.Command.{Options, Search, Circuits, Comparison, Defining, Session, Command, command_of, command_in, solve_in, circuits_in, pec_in, defined_in, session_in, steps_in, number_in, has_flag, options_in, without_fault, solver_app, least_steps, most_steps, default_steps}
 
 -- what a getter finds is the first value in the rows
 pub value_found : (f : Found) (id : Text) (value : Option Text) → value ≡ first_value f id →
@@ -58,6 +58,25 @@ defined_found f file steps is_file is_steps =
     ap (λ (a : Option Text). option_and_then (λ (name : Text). option_map (λ (n : ℕ). defining n name) steps) a)
     (value_found f (codes "FILE") file is_file)
     ∙ ap (λ (b : Option ℕ). option_and_then (λ (name : Text). option_map (λ (n : ℕ). defining n name) b)
+    (first_of (codes "FILE") (rows_of f))) is_steps
+
+abbrev conversing : ℕ → Text → Text → Session
+conversing steps file script = record { steps = steps; file = file; script = script }
+
+-- a session's names behind its formula's
+abbrev behind_file : Option Text → Option ℕ → Text → Option Session
+behind_file script steps file =
+    option_and_then (λ (s : Text). option_map (λ (n : ℕ). conversing n file s) steps) script
+
+pub session_found : (f : Found) (file script : Option Text) (steps : Option ℕ) → file ≡ first_value f (codes "FILE") →
+    script ≡ first_value f (codes "SCRIPT") → steps ≡ steps_in (rows_of f)
+    → option_and_then (behind_file script steps) file ≡ session_in (rows_of f)
+session_found f file script steps is_file is_script is_steps =
+    ap (λ (a : Option Text). option_and_then (behind_file script steps) a)
+    (value_found f (codes "FILE") file is_file)
+    ∙ ap (λ (b : Option Text). option_and_then (behind_file b steps) (first_of (codes "FILE") (rows_of f)))
+    (value_found f (codes "SCRIPT") script is_script)
+    ∙ ap (λ (n : Option ℕ). option_and_then (behind_file (first_of (codes "SCRIPT") (rows_of f)) n)
     (first_of (codes "FILE") (rows_of f))) is_steps
 
 abbrev pair : Text → Text → Circuits

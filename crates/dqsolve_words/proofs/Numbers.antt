@@ -11,7 +11,7 @@ use Rattle.clap.specs.Walk.{Row, Text, first_of}
 use Rattle.clap.specs.declared.builder.value_parser.ValueParser.TheVariants as vp
 use Rattle.clap.proofs.ValueTestLemmas.{accepts-Accepts, Accepts-accepts}
 use Rattle.std.specs.Str.{bytes_eq}
-use Rattle.dqsolve_words.specs.Command.{Options, Search, Planting, Circuits, Comparison, Defining, Command, solve, demo, pec, encode, defined, IsInRange, number_in, steps_in, solve_in, demo_in, circuits_in, pec_in, defined_in, command_in, options_in, without_fault, command_of, solver_app, least_steps, most_steps, default_steps, most_seed, least_size, most_size}
+use Rattle.dqsolve_words.specs.Command.{Options, Search, Planting, Circuits, Comparison, Defining, Session, Command, solve, demo, pec, encode, defined, session, IsInRange, number_in, steps_in, solve_in, demo_in, circuits_in, pec_in, defined_in, session_in, command_in, options_in, without_fault, command_of, solver_app, least_steps, most_steps, default_steps, most_seed, least_size, most_size}
 
 abbrev search : ℕ → Options → Text → Search
 search steps options file = record { steps = steps; options = options; file = file }
@@ -24,6 +24,9 @@ comparison steps circuits = record { steps = steps; circuits = circuits }
 
 abbrev defining : ℕ → Text → Defining
 defining steps file = record { steps = steps; file = file }
+
+abbrev conversing : ℕ → Text → Text → Session
+conversing steps file script = record { steps = steps; file = file; script = script }
 
 abbrev value : Text → ℕ
 value text = digits_value 10 (without_leading_plus text)
@@ -129,22 +132,35 @@ defined_by (Some name) None range c is = cc
 defined_by (Some name) (Some n) range c is =
     subst IsInRange (same_command (defined (defining n name)) c is) (range n refl)
 
-asked_by : (rows : List Row) (b p e d : Bool) (c : Command)
+session_by : (file script : Option Text) (steps : Option ℕ) → ((n : ℕ) → steps ≡ Some n →
+    (least_steps ≤ n) × (n ≤ most_steps)) → (c : Command)
+    → option_map session (option_and_then (λ (f : Text). option_and_then
+    (λ (s : Text). option_map (λ (n : ℕ). conversing n f s) steps) script) file) ≡ Some c → IsInRange c
+session_by None script steps range c is = cc
+session_by (Some f) None steps range c is = cc
+session_by (Some f) (Some s) None range c is = cc
+session_by (Some f) (Some s) (Some n) range c is =
+    subst IsInRange (same_command (session (conversing n f s)) c is) (range n refl)
+
+asked_by : (rows : List Row) (b p e d s : Bool) (c : Command)
     → cond b (option_map demo (demo_in rows)) (cond p (option_map pec (pec_in rows))
     (cond e (option_map encode (circuits_in rows)) (cond d (option_map defined (defined_in rows))
-    (option_map solve (solve_in rows))))) ≡ Some c
+    (cond s (option_map session (session_in rows)) (option_map solve (solve_in rows)))))) ≡ Some c
     → IsInRange c
-asked_by rows true p e d c is =
+asked_by rows true p e d s c is =
     demo_by (option_and_then (number_in 0 most_seed) (first_of (codes "SEED") rows))
     (option_and_then (number_in least_size most_size) (first_of (codes "SIZE") rows))
     (found_range 0 most_seed (first_of (codes "SEED") rows))
     (found_range least_size most_size (first_of (codes "SIZE") rows)) c is
-asked_by rows false true e d c is =
+asked_by rows false true e d s c is =
     pec_by (circuits_in rows) (steps_in rows) (steps_range (first_of (codes "steps") rows)) c is
-asked_by rows false false true d c is = encode_by (circuits_in rows) c is
-asked_by rows false false false true c is =
+asked_by rows false false true d s c is = encode_by (circuits_in rows) c is
+asked_by rows false false false true s c is =
     defined_by (first_of (codes "FILE") rows) (steps_in rows) (steps_range (first_of (codes "steps") rows)) c is
-asked_by rows false false false false c is =
+asked_by rows false false false false true c is =
+    session_by (first_of (codes "FILE") rows) (first_of (codes "SCRIPT") rows) (steps_in rows)
+    (steps_range (first_of (codes "steps") rows)) c is
+asked_by rows false false false false false c is =
     solve_by (first_of (codes "FILE") rows) (steps_in rows) (options_in rows)
     (steps_range (first_of (codes "steps") rows)) c is
 
@@ -152,7 +168,7 @@ command_range : (sub : Option (Text × List Row)) (c : Command) → command_in s
 command_range None c is = cc
 command_range (Some p) c is =
     asked_by p.1 (bytes_eq p.0 (codes "demo")) (bytes_eq p.0 (codes "pec")) (bytes_eq p.0 (codes "encode"))
-    (bytes_eq p.0 (codes "defined")) c is
+    (bytes_eq p.0 (codes "defined")) (bytes_eq p.0 (codes "session")) c is
 
 by_fault : (kinds : Kinds) (given : Option Command) → ((c : Command) → given ≡ Some c → IsInRange c) → (c : Command) →
     without_fault kinds given ≡ Some c → IsInRange c

@@ -50,6 +50,13 @@ pub record Defining : Type 0 where
   pub steps : ℕ
   pub file : List ℕ
 
+-- searches over the formula in a file, to which a script adds clauses that it takes away again, with
+-- so many steps at most in all
+pub record Session : Type 0 where
+  pub steps : ℕ
+  pub file : List ℕ
+  pub script : List ℕ
+
 pub data Command : Type 0 where
   -- a search on the formula in a file
   solve : Search → Command
@@ -61,6 +68,8 @@ pub data Command : Type 0 where
   encode : Circuits → Command
   -- the definitions of a formula's existentials
   defined : Defining → Command
+  -- a script's searches over a formula
+  session : Session → Command
 
 -- an argument that is known by its place, has to be there, and is given once
 abbrev pub required_word : List ℕ → Rule
@@ -118,6 +127,14 @@ defined_shape = record (without_flags (new_shape (codes "defined"))) {
   rules = value_option (codes "steps") ∷ required_word (codes "FILE") ∷ [];
 }
 
+-- session [--steps N] FILE SCRIPT
+abbrev pub session_shape : Shape
+session_shape = record (without_flags (new_shape (codes "session"))) {
+  rules =
+      value_option (codes "steps") ∷ required_word (codes "FILE") ∷ required_word (codes "SCRIPT")
+      ∷ [];
+}
+
 -- dqsolve without subcommands, not even `help`
 abbrev pub bare_app : App
 bare_app = on_top (λ top. record (without_flags top) { disable_help_subcommand = true })
@@ -127,11 +144,13 @@ bare_app = on_top (λ top. record (without_flags top) { disable_help_subcommand 
 abbrev pub formula_app : App
 formula_app = with_subcommand (with_subcommand bare_app solve_shape) demo_shape
 
+-- and with those on circuits
+abbrev pub circuit_app : App
+circuit_app = with_subcommand (with_subcommand formula_app pec_shape) encode_shape
+
 -- dqsolve, with its subcommands
 abbrev pub solver_app : App
-solver_app =
-    with_subcommand (with_subcommand (with_subcommand formula_app pec_shape) encode_shape)
-    defined_shape
+solver_app = with_subcommand (with_subcommand circuit_app defined_shape) session_shape
 
 abbrev pub least_steps : ℕ
 least_steps = 1
@@ -157,6 +176,7 @@ IsInRange (demo p) = (p.seed ≤ most_seed) × (least_size ≤ p.size) × (p.siz
 IsInRange (pec c) = (least_steps ≤ c.steps) × (c.steps ≤ most_steps)
 IsInRange (encode c) = Unit {0}
 IsInRange (defined d) = (least_steps ≤ d.steps) × (d.steps ≤ most_steps)
+IsInRange (session s) = (least_steps ≤ s.steps) × (s.steps ≤ most_steps)
 
 -- a number in a range, in decimal digits, perhaps behind a plus
 abbrev pub number_in : ℕ → ℕ → List ℕ → Option ℕ
@@ -221,13 +241,24 @@ defined_in rows = option_and_then
     (λ file. option_map (λ steps. record { steps = steps; file = file }) (steps_in rows))
     (first_of (codes "FILE") rows)
 
+-- what is asked of `session`
+abbrev pub session_in : List Row → Option Session
+session_in rows = option_and_then
+    (λ file. option_and_then
+    (λ script.
+    option_map (λ steps. record { steps = steps; file = file; script = script })
+    (steps_in rows))
+    (first_of (codes "SCRIPT") rows))
+    (first_of (codes "FILE") rows)
+
 -- what is asked of the subcommand of a name
 abbrev pub asked_of : List ℕ → List Row → Option Command
 asked_of name rows =
     if bytes_eq name (codes "demo") then option_map demo (demo_in rows) else
     if bytes_eq name (codes "pec") then option_map pec (pec_in rows) else
     if bytes_eq name (codes "encode") then option_map encode (circuits_in rows) else
-    if bytes_eq name (codes "defined") then option_map defined (defined_in rows)
+    if bytes_eq name (codes "defined") then option_map defined (defined_in rows) else
+    if bytes_eq name (codes "session") then option_map session (session_in rows)
     else option_map solve (solve_in rows)
 
 -- what is asked of the subcommand that was named

@@ -1,6 +1,6 @@
 -- Short words for command lines that are written out.
 use Rattle.std.specs.Prelude.{ℕ, Bool, false, List, ◌∷◌, Option, codes}
-use Rattle.dqsolve_words.specs.Command.{Options, Command, solve, demo, pec, encode, defined, command_of}
+use Rattle.dqsolve_words.specs.Command.{Options, Command, solve, demo, pec, encode, defined, session, command_of}
 
 abbrev pub solving_with : ℕ → Options → List ℕ → Command
 solving_with steps options file =
@@ -25,6 +25,9 @@ encoding spec imp = encode (record { specification = spec; implementation = imp 
 
 abbrev pub defining : ℕ → List ℕ → Command
 defining steps file = defined (record { steps = steps; file = file })
+
+abbrev pub conversing : ℕ → List ℕ → List ℕ → Command
+conversing steps file script = session (record { steps = steps; file = file; script = script })
 
 -- what is asked for by `dqsolve` with these words
 abbrev pub dqsolve : List (List ℕ) → Option Command

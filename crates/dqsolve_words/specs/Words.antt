@@ -1,13 +1,14 @@
 -- The command of words that were read.
-use Rattle.dqsolve_words.specs.Command.{Options, Search, Planting, Circuits, Comparison, Defining, Command, solve, demo, pec, encode, defined}
+use Rattle.dqsolve_words.specs.Command.{Options, Search, Planting, Circuits, Comparison, Defining, Session, Command, solve, demo, pec, encode, defined, session}
 use Rattle.dqsolve_words.specs.declared.requests.SolveOptions.{SolveOptions}
 use Rattle.dqsolve_words.specs.declared.requests.SolveWords.{SolveWords}
 use Rattle.dqsolve_words.specs.declared.requests.DemoWords.{DemoWords}
 use Rattle.dqsolve_words.specs.declared.requests.CircuitWords.{CircuitWords}
 use Rattle.dqsolve_words.specs.declared.requests.PecWords.{PecWords}
 use Rattle.dqsolve_words.specs.declared.requests.DefiningWords.{DefiningWords}
+use Rattle.dqsolve_words.specs.declared.requests.SessionWords.{SessionWords}
 use Rattle.dqsolve_words.specs.declared.requests.CommandWords.{CommandWords}
-use Rattle.dqsolve_words.specs.declared.requests.CommandWords.TheVariants.{Solve, Demo, Pec, Encode, Defined}
+use Rattle.dqsolve_words.specs.declared.requests.CommandWords.TheVariants.{Solve, Demo, Pec, Encode, Defined, Session as SessionCommand}
 
 abbrev pub options_of : SolveOptions → Options
 options_of o = record {
@@ -32,9 +33,13 @@ comparison_of w = record { steps = w.steps; circuits = circuits_of w.circuits }
 abbrev pub defining_of : DefiningWords → Defining
 defining_of w = record { steps = w.steps; file = w.file.now }
 
+abbrev pub session_of : SessionWords → Session
+session_of w = record { steps = w.steps; file = w.file.now; script = w.script.now }
+
 abbrev pub command_said : CommandWords → Command
 command_said (Solve w) = solve (search_of w)
 command_said (Demo w) = demo (planting_of w)
 command_said (Pec w) = pec (comparison_of w)
 command_said (Encode w) = encode (circuits_of w)
 command_said (Defined w) = defined (defining_of w)
+command_said (SessionCommand w) = session (session_of w)

@@ -2,7 +2,7 @@
 
 ghost use Rattle.std.specs.Prelude.{◌≡◌, true, false, [], ◌∷◌, Some, None, codes};
 ghost use Rattle.dqsolve_words.specs.Command.{command_of, default_steps};
-ghost use Rattle.dqsolve_words.specs.Examples.{default_options, solving, solving_with, planting, comparing, encoding, defining, dqsolve};
+ghost use Rattle.dqsolve_words.specs.Examples.{default_options, solving, solving_with, planting, comparing, encoding, defining, conversing, dqsolve};
 
 /// Options stand before or behind the name, the number of steps also behind `=`.
 pub fn options_are_taken()
@@ -92,6 +92,30 @@ pub fn definitions_are_taken()
         ≡ None }
     ensures most { dqsolve
         (codes "defined" ∷ codes "--steps" ∷ codes "1000000001" ∷ codes "f" ∷ []) ≡ None }
+{}
+
+/// A session takes a formula's file and then a script's, with a number of steps alone.
+pub fn sessions_are_taken()
+    ensures none { dqsolve (codes "session" ∷ codes "f" ∷ codes "s" ∷ [])
+        ≡ Some (conversing default_steps (codes "f") (codes "s")) }
+    ensures steps { dqsolve
+        (codes "session" ∷ codes "--steps" ∷ codes "7" ∷ codes "f" ∷ codes "s" ∷ [])
+        ≡ Some (conversing 7 (codes "f") (codes "s")) }
+    ensures between { dqsolve (codes "session" ∷ codes "f" ∷ codes "--steps=7" ∷ codes "s" ∷ [])
+        ≡ Some (conversing 7 (codes "f") (codes "s")) }
+    ensures no_script { dqsolve (codes "session" ∷ codes "f" ∷ []) ≡ None }
+    ensures two_scripts { dqsolve (codes "session" ∷ codes "f" ∷ codes "s" ∷ codes "t" ∷ [])
+        ≡ None }
+    ensures bare { dqsolve (codes "session" ∷ codes "--bare" ∷ codes "f" ∷ codes "s" ∷ [])
+        ≡ None }
+    ensures deletions { dqsolve (codes "session" ∷ codes "--v2" ∷ codes "f" ∷ codes "s" ∷ [])
+        ≡ None }
+    ensures preparation { dqsolve (codes "session" ∷ codes "--prep" ∷ codes "f" ∷ codes "s" ∷ [])
+        ≡ None }
+    ensures binary { dqsolve (codes "session" ∷ codes "--binary" ∷ codes "f" ∷ codes "s" ∷ [])
+        ≡ None }
+    ensures least { dqsolve
+        (codes "session" ∷ codes "--steps" ∷ codes "0" ∷ codes "f" ∷ codes "s" ∷ []) ≡ None }
 {}
 
 /// Other words are refused, not even those of most programs are taken.

@@ -1,14 +1,15 @@
 //! The words of the solver's command line, read with `clap`.
 //!
 //! `command_words` gives what `dqsolve solve [--steps N] [--bare] [--v2] [--prep] [--binary] FILE`,
-//! `dqsolve demo SEED SIZE`, `dqsolve pec [--steps N] SPEC IMPL`, `dqsolve encode SPEC IMPL` or
-//! `dqsolve defined [--steps N] FILE` asks for. What the words mean is clap's own meaning of a
-//! command with subcommands; `examples` says it of command lines that are written out.
+//! `dqsolve demo SEED SIZE`, `dqsolve pec [--steps N] SPEC IMPL`, `dqsolve encode SPEC IMPL`,
+//! `dqsolve defined [--steps N] FILE` or `dqsolve session [--steps N] FILE SCRIPT` asks for. What
+//! the words mean is clap's own meaning of a command with subcommands; `examples` says it of command
+//! lines that are written out.
 #![tactic(auto)]
 
 pub use requests::{
-    CircuitWords, CommandWords, DefiningWords, DemoWords, PecWords, SolveOptions, SolveWords,
-    command_words,
+    CircuitWords, CommandWords, DefiningWords, DemoWords, PecWords, SessionWords, SolveOptions,
+    SolveWords, command_words,
 };
 
 pub mod examples;

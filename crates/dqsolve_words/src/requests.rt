@@ -5,8 +5,8 @@ ghost use Rattle.clap.specs.Simple.{app_of, shape_of, subcommand_rows_of};
 ghost use Rattle.clap.specs.Walk.{rows_of, rule_of, first_of};
 ghost use Rattle.clap.specs.Matches.{found_of};
 ghost use Rattle.clap.specs.declared.builder.command.Command.TheViews.{out-Command};
-ghost use Rattle.dqsolve_words.specs.Command.{solve, demo, pec, encode, defined, command_of, command_in, asked_of, formula_app, solver_app, writing_options, solve_options, solve_shape, demo_shape, pec_shape, encode_shape, defined_shape, required_word, value_option, flag, solve_in, demo_in, circuits_in, pec_in, defined_in, steps_in, number_in, has_flag, options_in, most_seed, least_size, most_size};
-ghost use Rattle.dqsolve_words.specs.Words.{options_of, search_of, planting_of, circuits_of, comparison_of, defining_of, command_said};
+ghost use Rattle.dqsolve_words.specs.Command.{solve, demo, pec, encode, defined, session, command_of, command_in, asked_of, formula_app, circuit_app, solver_app, writing_options, solve_options, solve_shape, demo_shape, pec_shape, encode_shape, defined_shape, session_shape, required_word, value_option, flag, solve_in, demo_in, circuits_in, pec_in, defined_in, session_in, steps_in, number_in, has_flag, options_in, most_seed, least_size, most_size};
+ghost use Rattle.dqsolve_words.specs.Words.{options_of, search_of, planting_of, circuits_of, comparison_of, defining_of, session_of, command_said};
 
 use clap::error::ErrorKind;
 use clap::{Arg, ArgAction, ArgMatches, Command};
@@ -80,6 +80,14 @@ pub struct DefiningWords<'a> {
     pub file: &'a str,
 }
 
+/// A script's searches over the formula in a file, with so many steps at most in all.
+#[derive(Clone, Copy)]
+pub struct SessionWords<'a> {
+    pub steps: u64,
+    pub file: &'a str,
+    pub script: &'a str,
+}
+
 /// What the words ask for.
 #[derive(Clone, Copy)]
 pub enum CommandWords<'a> {
@@ -88,6 +96,7 @@ pub enum CommandWords<'a> {
     Pec(PecWords<'a>),
     Encode(CircuitWords<'a>),
     Defined(DefiningWords<'a>),
+    Session(SessionWords<'a>),
 }
 
 // An argument that is known by its place, has to be there, and is given once.
@@ -209,6 +218,22 @@ fn defined_command<'a>(alloc: Global) -> Result<Command<'a>, AllocError>
         .arg(file)
 }
 
+// `session [--steps N] FILE SCRIPT`.
+fn session_command<'a>(alloc: Global) -> Result<Command<'a>, AllocError>
+    ensures shape { IfOk result (λ command. shape_of command ≡ session_shape) }
+    ensures local { IfOk result (λ command. (out-Command command).has_globals ≡ false) }
+{
+    let steps = option_argument(alloc, "steps");
+    let file = word_argument(alloc, "FILE");
+    let script = word_argument(alloc, "SCRIPT");
+    Command::new(alloc, "session")
+        .disable_help_flag(true)
+        .disable_version_flag(true)
+        .arg(steps)?
+        .arg(file)?
+        .arg(script)
+}
+
 // `dqsolve`, with the subcommands on formulas.
 fn formula_command<'a>(alloc: Global) -> Result<Command<'a>, AllocError>
     ensures { IfOk result (λ command. app_of command ≡ formula_app) }
@@ -223,17 +248,24 @@ fn formula_command<'a>(alloc: Global) -> Result<Command<'a>, AllocError>
         .subcommand(demo)
 }
 
+// `dqsolve`, with those on circuits too.
+fn circuit_command<'a>(alloc: Global) -> Result<Command<'a>, AllocError>
+    ensures { IfOk result (λ command. app_of command ≡ circuit_app) }
+{
+    let pec = pec_command(alloc)?;
+    let encode = encode_command(alloc)?;
+    formula_command(alloc)?.subcommand(pec)?.subcommand(encode)
+}
+
 // `dqsolve`, with its subcommands.
 fn solver_command<'a>(alloc: Global) -> Result<Command<'a>, AllocError>
     ensures { IfOk result (λ command. app_of command ≡ solver_app) }
 {
-    let pec = pec_command(alloc)?;
-    let encode = encode_command(alloc)?;
     let defined = defined_command(alloc)?;
-    formula_command(alloc)?
-        .subcommand(pec)?
-        .subcommand(encode)?
-        .subcommand(defined)
+    let session = session_command(alloc)?;
+    circuit_command(alloc)?
+        .subcommand(defined)?
+        .subcommand(session)
 }
 
 // A number in a range.
@@ -364,6 +396,26 @@ fn defined_in<'a>(matches: &ArgMatches<'a>) -> Option<DefiningWords<'a>>
     Some(DefiningWords { steps, file })
 }
 
+// What the matches of `session` ask for.
+fn session_in<'a>(matches: &ArgMatches<'a>) -> Option<SessionWords<'a>>
+    ensures { option_map session_of result ≡ session_in (rows_of (found_of matches.now)) }
+{
+    let Some(file) = matches.get_str("FILE") else {
+        return None;
+    };
+    let Some(script) = matches.get_str("SCRIPT") else {
+        return None;
+    };
+    let Some(steps) = steps_in(matches) else {
+        return None;
+    };
+    Some(SessionWords {
+        steps,
+        file,
+        script,
+    })
+}
+
 // What the matches of `solve` ask for, as a command.
 fn solve_asked<'a>(matches: &ArgMatches<'a>) -> Option<CommandWords<'a>>
     ensures { option_map command_said result
@@ -419,6 +471,17 @@ fn defined_asked<'a>(matches: &ArgMatches<'a>) -> Option<CommandWords<'a>>
     }
 }
 
+// What the matches of `session` ask for, as a command.
+fn session_asked<'a>(matches: &ArgMatches<'a>) -> Option<CommandWords<'a>>
+    ensures { option_map command_said result
+        ≡ option_map session (session_in (rows_of (found_of matches.now))) }
+{
+    match session_in(matches) {
+        Some(asked) => Some(CommandWords::Session(asked)),
+        None => None,
+    }
+}
+
 // What the matches ask of the subcommand of a name.
 fn asked_of<'a>(name: &str, matches: &ArgMatches<'a>) -> Option<CommandWords<'a>>
     ensures { option_map command_said result ≡ asked_of name.now (rows_of (found_of matches.now)) }
@@ -434,6 +497,9 @@ fn asked_of<'a>(name: &str, matches: &ArgMatches<'a>) -> Option<CommandWords<'a>
     }
     if name == "defined" {
         return defined_asked(matches);
+    }
+    if name == "session" {
+        return session_asked(matches);
     }
     solve_asked(matches)
 }

@@ -36,6 +36,7 @@ pub struct Settings {
     pub certificate: Option<Vec<u8>>,
     pub specification: Option<Vec<u8>>,
     pub implementation: Option<Vec<u8>>,
+    pub script: Option<Vec<u8>>,
     pub words: Vec<String>,
     pub reads: Calls,
     pub writes: Calls,
@@ -56,6 +57,7 @@ impl Settings {
             certificate: None,
             specification: None,
             implementation: None,
+            script: None,
             words: words_of(alloc, program, program.usual_words())?,
             reads: Calls::new(alloc),
             writes: Calls::new(alloc),
@@ -155,7 +157,15 @@ impl Settings {
             files.hold("certificate", certificate)?;
         }
         self.hold_circuits(&mut files)?;
+        self.hold_script(&mut files)?;
         Ok(files)
+    }
+
+    fn hold_script(&self, files: &mut MemFiles) -> Result<()> {
+        if let Some(script) = &self.script {
+            files.hold("script", script)?;
+        }
+        Ok(())
     }
 
     fn hold_circuits(&self, files: &mut MemFiles) -> Result<()> {

@@ -1,6 +1,6 @@
 //! The lines of a table.
 //!
-//! `formula`, `certificate`, `specification` and `implementation` give the files' texts, whose lines
+//! `formula`, `certificate`, `specification`, `implementation` and `script` give the files' texts, whose lines
 //! are parted by ` / ` and each end with LF, but that a `\` at the end takes the last LF away; `\r`
 //! is a CR, and `\x0a` the byte with these two digits. `absent` takes the files away. `words` gives
 //! the words behind the program's name, `reads` the most bytes of a read and the numbers of the
@@ -39,6 +39,7 @@ pub fn take_line(
         "certificate" => set_certificate(alloc, settings, rest),
         "specification" => set_specification(alloc, settings, rest),
         "implementation" => set_implementation(alloc, settings, rest),
+        "script" => set_script(alloc, settings, rest),
         "absent" => take_files_away(settings),
         "words" => set_words(alloc, settings, rest),
         "reads" => set_reads(alloc, settings, rest),
@@ -81,11 +82,17 @@ fn set_implementation(
     Ok(None)
 }
 
+fn set_script(alloc: Global, settings: &mut Settings, rest: &str) -> Result<Option<String>> {
+    settings.script = Some(texts::text_of(alloc, rest)?);
+    Ok(None)
+}
+
 fn take_files_away(settings: &mut Settings) -> Result<Option<String>> {
     settings.formula = None;
     settings.certificate = None;
     settings.specification = None;
     settings.implementation = None;
+    settings.script = None;
     Ok(None)
 }
 

@@ -4,6 +4,7 @@ use Rattle.dq_runs.specs.Sinks.{sink_of}
 use Rattle.dqsolve_words.specs.Command.{command_of}
 use Rattle.dqsolve_core.proofs.Runs.{ends, causes, own_log}
 use Rattle.dqsolve_core.proofs.DefinedRuns.{defines_told}
+use Rattle.dqsolve_core.proofs.SessionRuns.{converses_told}
 use Rattle.dqsolve_core.proofs.ToldDesigns.{compares_told}
 use Rattle.dqsolve_core.proofs.ToldFiles.{solves_told}
 use Rattle.dqsolve_core.proofs.run.dqsolve_run.Goals as goal
@@ -45,6 +46,13 @@ returns-clause-told g c =
           before now asked c.report-output.new.log sink sink_now c.report-output.result c.deliver.result
           c.report-output.ensures.reported c.deliver.ensures;
       definitions = defines_told
+          (record {
+            exact = λ text f. (c.formula_or_first_fault.ensures.exact text f).0;
+            unique = c.formula_or_first_fault.ensures.unique;
+          })
+          before now asked c.report-output.new.log sink sink_now c.report-output.result c.deliver.result
+          c.report-output.ensures.reported c.deliver.ensures;
+      sessions = converses_told
           (record {
             exact = λ text f. (c.formula_or_first_fault.ensures.exact text f).0;
             unique = c.formula_or_first_fault.ensures.unique;

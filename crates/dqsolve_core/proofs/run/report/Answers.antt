@@ -1,11 +1,19 @@
 use Rattle.std.proofs.Common.{sym, subst, map, string_bytes}
 use Rattle.std.specs.Prelude.{IfOk}
 use Rattle.dq_io.specs.State.{state_of}
-use Rattle.dqsolve_words.specs.Command.{command_of, solve, demo, pec}
-use Rattle.dqsolve_words.specs.Words.{search_of, planting_of, comparison_of}
+use Rattle.dqsolve_words.specs.Command.{command_of, solve, demo, pec, session}
+use Rattle.dqsolve_words.specs.Words.{search_of, planting_of, comparison_of, session_of}
 use Rattle.dqsolve_core.specs.Outputs.{IsReported}
-use Rattle.dqsolve_core.proofs.Runs.{solve_asked, demo_asked, pec_asked, demo_reported}
+use Rattle.dqsolve_core.proofs.Runs.{solve_asked, demo_asked, pec_asked, session_asked, none_asked, usage_reported, demo_reported}
 use Rattle.dqsolve_core.proofs.run.report.Goals as goal
+
+pub returns-in-None-clause-reported : goal.returns-in-None-clause-reported
+returns-in-None-clause-reported g c =
+    usage_reported (state_of g.F.Files c.args.files.now) c.rewind.new.self
+    (command_of (map string_bytes c.args.words.now)) c.usage.result
+    (none_asked (command_of (map string_bytes c.args.words.now)) c.in_ok-command_words.field-0
+    c.in_ok-command_words.ensures c.in-None.is)
+    c.usage.ensures
 
 pub report_file-requires : goal.report_file-requires
 report_file-requires g c =
@@ -25,6 +33,16 @@ report_circuits-requires g c =
     record {
       steps = (c.numbers_are_in_range.ensures (map string_bytes c.args.words.now)
           (pec (comparison_of c.in-Some-Pec.asked)) asked).1;
+    }
+
+pub report_session-requires : goal.report_session-requires
+report_session-requires g c =
+    let asked = session_asked (command_of (map string_bytes c.args.words.now)) c.in_ok-command_words.field-0
+    c.in-Some-Session.field-0 c.in-Some-Session.asked
+    c.in_ok-command_words.ensures c.in-Some-Session.is c.in-Some-Session.field-0-is in
+    record {
+      steps = (c.numbers_are_in_range.ensures (map string_bytes c.args.words.now)
+          (session (session_of c.in-Some-Session.asked)) asked).1;
     }
 
 pub report_demo-requires-clause-seed : goal.report_demo-requires-clause-seed
