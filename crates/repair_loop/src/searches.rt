@@ -66,7 +66,6 @@ impl<'f, 'p> Search<'f, 'p> {
         ensures stopped { IsStoppedAs self.now.f.now book.new log.new result }
     {
         questions_leave_searches();
-        let _ = book.live();
         let mut known = self.find_known(oracle, graph, log)?;
         self.all_rounds(oracle, graph, book, checker, &mut known, log)
     }

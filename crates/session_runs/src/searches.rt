@@ -85,7 +85,7 @@ fn decide<O: Oracle>(
 {
     rounds_are_steps();
     match desk.decide_now(oracle, graph, book, f, log) {
-        Ok(Verdict::True(_, id)) => text_of_true(alloc, log, id, f, numbers),
+        Ok(Verdict::True(_, id)) => text_of_true(alloc, log, id, f),
         Ok(Verdict::False(id)) => text_of_false(alloc, log, id, f, numbers),
         Err(Stop::Limit) => unknown_text(alloc, log, PLAIN),
         Err(Stop::Memory) => Err(Memory),
@@ -104,25 +104,18 @@ fn live_clauses(alloc: Global, book: &Book) -> Result<Vec<u64>, Memory>
 }
 
 // The text where the formula of these clauses is true.
-fn text_of_true(
-    alloc: Global,
-    log: &Log,
-    id: u64,
-    f: &Formula,
-    numbers: &[u64],
-) -> Result<Vec<u8>, Memory>
+fn text_of_true(alloc: Global, log: &Log, id: u64, f: &Formula) -> Result<Vec<u8>, Memory>
     requires formula { IsWellFormed f.now }
     requires answered { (graph : AigGraph) × (nodes : List Node)
         × IsAnsweredTrue f.now graph nodes log.now id }
-    requires session { (all : Dqbf) × (frames : List ℕ) × IsProductiveSession all frames log.now.entries
-        × (live_numbers log.now.entries ≡ Some numbers.now)
-        × (f.now ≡ formula_of all numbers.now) }
+    requires session { (all : Dqbf) × (frames : List ℕ) × (numbers : List ℕ)
+        × IsProductiveSession all frames log.now.entries
+        × (live_numbers log.now.entries ≡ Some numbers) × (f.now ≡ formula_of all numbers) }
     ensures { IfOk result (λ text. IsTrueText f.now log.now plain text.items) }
 {
     log.every_log_is_lawful();
     session_answers_can_be_exported();
     skolem_functions_show_true();
-    let _ = numbers;
     true_text(alloc, log, id, f, PLAIN)
 }
 

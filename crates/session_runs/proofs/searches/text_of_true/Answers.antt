@@ -10,6 +10,6 @@ true_text-requires-clause-is_true c =
 pub true_text-requires-clause-decided : goal.true_text-requires-clause-decided
 true_text-requires-clause-decided c =
     let (graph, nodes, answered) = c.requires.answered in
-    let (all, frames, session, named, is) = c.requires.session in
-    can-export-true c.session_answers_can_be_exported.ensures c.args.f.now all frames c.args.numbers.now graph nodes
+    let (all, frames, numbers, session, named, is) = c.requires.session in
+    can-export-true c.session_answers_can_be_exported.ensures c.args.f.now all frames numbers graph nodes
     c.args.log.now c.args.id c.every_log_is_lawful.ensures session named is answered
