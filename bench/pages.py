@@ -18,6 +18,7 @@ PAGES = ("README.md", "docs/SOLVING.md", "docs/BLACK_BOX.md", "docs/FORMATS.md")
 COMMANDS = {
     "./dqsolve solve examples/copies.dqdimacs > certificate": (10, None),
     "./dqcheck examples/copies.dqdimacs certificate": (0, "VALID TRUE"),
+    "./dqsolve session examples/copies.dqdimacs examples/copies.script": (0, "solve 1 121"),
     "./dqsolve pec examples/adder-spec.aag examples/adder-boxes.aag > certificate": (10, None),
     "./dqsolve pec examples/adder-spec.aag examples/adder-blind.aag": (20, "s FALSE"),
     "./dqsolve encode examples/adder-spec.aag examples/adder-boxes.aag > formula": (0, None),

@@ -86,6 +86,7 @@ FILES = {
     "split-conjunction": "p cnf 4 6\na 1 2 0\nd 3 1 0\nd 4 2 0\n-1 -2 3 4 0\n-1 -2 -3 -4 0\n1 -3 4 0\n1 3 -4 0\n2 -3 4 0\n2 3 -4 0\n",
     "spec": "aag 3 2 0 1 1\n2\n4\n6\n6 4 2\n",
     "cases": "new 100\ngroup\ngroup\nvar\nadd 1 3\nadd 2 -3\nsolve one | 1 |\nsolve the other | 2 |\nsolve both | 1 2 |\nsolve one again | 1 |\n",
+    "script": "solve\npush\nadd -4 2 0\nsolve\nadd 4 -2 0\nadd 3 0\nsolve\npop\nsolve\n",
     "imp": "aag 3 3 0 1 0\n2\n4\n6\n6\nc\npec 1\n2 1 2 4 6\n",
 }
 
@@ -97,6 +98,8 @@ RUNS = (
     ("DQSOLVE", ["solve", "split-conjunction"], 20),
     ("DQSOLVE", ["pec", "spec", "imp"], 10),
     ("DQSOLVE", ["encode", "spec", "imp"], 0),
+    ("DQSOLVE", ["session", "split-conjunction", "script"], 0),
+    ("DQSOLVE", ["session", "copies", "script"], 0),
     ("CDCL_CASES", [], 0),
 )
 

@@ -247,7 +247,9 @@ class Session:
         counts.update(verdict_of(block) for block in blocks_of(ran[1]) or [])
         faults = self.faults_of_blocks(searches, ran, None)
         for budget in BUDGETS:
-            faults += self.faults_of_blocks(searches, self.run(script, "--steps", str(budget)), budget)
+            ran = self.run(script, "--steps", str(budget))
+            counts["UNKNOWN"] += sum(verdict_of(block) == "UNKNOWN" for block in blocks_of(ran[1]) or [])
+            faults += self.faults_of_blocks(searches, ran, budget)
         return faults
 
 
