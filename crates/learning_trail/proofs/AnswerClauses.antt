@@ -1,15 +1,19 @@
 -- Where the whole trail is taken back, the clause that is noted is derived by the hints, and keeps
 -- the selectors of what they hint.
-use Rattle.std.proofs.Common.{◌≡◌, ℕ, ◌+◌, Bool, true, false, cond, inl, inr, List, [], ◌∷◌, map, Option, Some, refl, sym, ◌∙◌, ap}
+use Rattle.std.proofs.Common.{◌≡◌, ℕ, zero, ◌+◌, Bool, true, false, cond, inl, inr, List, [], ◌∷◌, map, Option, Some, None, IsSome, Contains, refl, sym, ◌∙◌, ap, arith}
+use Rattle.std.proofs.lemmas.List.Elements.{Contains-append_right}
 use Rattle.std.proofs.lemmas.Bool.{false≢true}
-use Rattle.dq_lits.specs.Literal.{Literal, opposite}
+use Rattle.dq_lits.specs.Literal.{Literal, variable_of, opposite}
 use Rattle.dq_lits.specs.Derivation.{LiveClauses, Status, falsified, unit, stuck, holds, status_of, fault_by, hint_fault, is_tautology, IsDerived}
 use Rattle.hint_log.specs.Entries.{Entry}
 use Rattle.hint_log.specs.Entries.{clause_at}
-use Rattle.oracle.specs.Fit.{Fit, live_in, HoldsHintedSelectors}
+use Rattle.hint_log.specs.Naming.{is_selector}
+use Rattle.oracle.specs.Fit.{live_in, HoldsHintedSelectors}
 use Rattle.learning_trail.specs.Analyses.{IsAnalysis}
 use Rattle.truth_values.proofs.HeldLiterals.{opposite-opposite, holds-map, no_tautology}
+use Rattle.learning_trail.specs.Resting.{HeldFit, AreAwake}
 use Rattle.learning_trail.proofs.LeadingHints.{leads_line}
+use Rattle.learning_trail.proofs.RestingClauses.{awake_same}
 
 -- propagation depends on what the ids stand for alone
 fault_by-same : (s : Status) (place : ℕ) (hints : List ℕ) (f g : Literal → Option ℕ) → ((l : Literal) → f l ≡ g l) →
@@ -19,26 +23,29 @@ fault_by-same falsified place (_ ∷ _) f g same = refl
 fault_by-same (unit l) place hints f g same = same l
 fault_by-same stuck place hints f g same = refl
 
-hint_fault-live : (live other : LiveClauses) → ((id : ℕ) → live id ≡ other id) →
-    (hints : List ℕ) (trues : List Literal) (place : ℕ) → hint_fault live trues place hints
-    ≡ hint_fault other trues place hints
-hint_fault-live live other same [] trues place = refl
-hint_fault-live live other same (h ∷ hints) trues place =
-    ap (λ c. fault_by (status_of trues c) place hints (λ l. hint_fault live (l ∷ trues) (place + 1) hints)) (same h)
+hint_fault-live : (live other : LiveClauses) (hints : List ℕ) → ((id : ℕ) → Contains hints id → live id ≡ other id) →
+    (trues : List Literal) (place : ℕ) → hint_fault live trues place hints ≡ hint_fault other trues place hints
+hint_fault-live live other [] same trues place = refl
+hint_fault-live live other (h ∷ hints) same trues place =
+    ap (λ c. fault_by (status_of trues c) place hints (λ l. hint_fault live (l ∷ trues) (place + 1) hints))
+    (same h (zero, omega arith, refl))
     ∙ fault_by-same (status_of trues (other h)) place hints (λ l. hint_fault live (l ∷ trues) (place + 1) hints)
     (λ l. hint_fault other (l ∷ trues) (place + 1) hints)
-    (λ l. hint_fault-live live other same hints (l ∷ trues) (place + 1))
+    (λ l. hint_fault-live live other hints (λ id has. same id (Contains-append_right (h ∷ []) hints id has))
+    (l ∷ trues) (place + 1))
 
-pub derived-live : (live other : LiveClauses) → ((id : ℕ) → live id ≡ other id) →
-    (clause : List Literal) (hints : List ℕ) → IsDerived live clause hints → IsDerived other clause hints
-derived-live live other same clause hints derived =
-    ap (λ x. cond (is_tautology clause) (Some 0) x) (sym (hint_fault-live live other same hints
+pub derived-live : (live other : LiveClauses) (clause : List Literal) (hints : List ℕ) → ((id : ℕ) → Contains hints id →
+    live id ≡ other id) → IsDerived live clause hints → IsDerived other clause hints
+derived-live live other clause hints same derived =
+    ap (λ x. cond (is_tautology clause) (Some 0) x) (sym (hint_fault-live live other hints same
     (map opposite clause) 1)) ∙ derived
 
-module _ (held : List (List Literal)) (variables : ℕ) (entries : List Entry) (clause : List Literal) (marks : List Bool)
-    (hints : List ℕ)
-    (fit : Fit held variables entries) (analysis : IsAnalysis entries (live_in held) []
-    (map opposite clause) marks hints) where
+module _ (held : List (List Literal)) (resting : List Bool) (variables : ℕ) (entries : List Entry)
+    (assumptions clause : List Literal) (marks : List Bool) (hints : List ℕ)
+    (fit : HeldFit held resting variables entries) (awake : AreAwake resting assumptions)
+    (active : (l : Literal) → holds clause l ≡ true → is_selector entries (variable_of l) ≡ true →
+    holds assumptions (opposite l) ≡ true)
+    (analysis : IsAnalysis entries (live_in held) [] (map opposite clause) marks hints) where
   in_kept : (l : Literal) → holds clause l ≡ true → holds (map opposite clause) (opposite l) ≡ true
   in_kept l h = holds-map clause l ∙ h
 
@@ -50,13 +57,27 @@ module _ (held : List (List Literal)) (variables : ℕ) (entries : List Entry) (
       let g = (analysis.gone (opposite l) (in_kept l h)).1 in
       false≢true (sym g ∙ in_kept (opposite l) o))
 
+  -- the negated selectors of what is hinted
+  tied_here : (h : ℕ) → Contains hints h → (c : List Literal) → live_in held h ≡ Some c → (l : Literal) →
+      holds c l ≡ true → is_selector entries (variable_of l) ≡ true → holds clause l ≡ true
+  tied_here h has c at l m sel = elim (analysis.tied h c l has at m sel) [
+    | inl k ↦ ap (holds clause) (sym (opposite-opposite l)) ∙ of_kept (opposite l) k
+    | inr t ↦ absurd (false≢true t.0)
+  ]
+
+  -- what is hinted is the log's
+  hint_same : (h : ℕ) → Contains hints h → live_in held h ≡ clause_at entries h
+  hint_same h has = by (live_in held h) refl (analysis.ids h has)
+    where
+      by : (o : Option (List Literal)) → live_in held h ≡ o → IsSome o → live_in held h ≡ clause_at entries h
+      by None e n = absurd (false≢true n)
+      by (Some c) e n = awake_same held resting variables entries fit assumptions awake h c e
+          (λ l m sel. active l (tied_here h has c e l m sel) sel)
+
   pub concluded_derived : IsDerived (clause_at entries) clause hints
-  concluded_derived = derived-live (live_in held) (clause_at entries) fit.same clause hints
+  concluded_derived = derived-live (live_in held) (clause_at entries) clause hints hint_same
       (leads_line (live_in held) marks [] (map opposite clause) clause hints analysis.leads of_kept
       (λ t on m. absurd (false≢true on)) (λ l h. inl (in_kept l h)) plain_clause)
 
   pub concluded_tied : HoldsHintedSelectors entries clause hints
-  concluded_tied h has c at l m sel = elim (analysis.tied h c l has (fit.same h ∙ at) m sel) [
-    | inl k ↦ ap (holds clause) (sym (opposite-opposite l)) ∙ of_kept (opposite l) k
-    | inr t ↦ absurd (false≢true t.0)
-  ]
+  concluded_tied h has c at l m sel = tied_here h has c (hint_same h has ∙ at) l m sel

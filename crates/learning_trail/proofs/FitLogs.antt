@@ -1,6 +1,6 @@
 -- The solver goes with the log, as clauses are added to both.
-use Rattle.std.proofs.lemmas.Option.{slice_get_past}
-use Rattle.std.proofs.Common.{zero, is_some, not, ◌≡◌, ◌≢◌, ℕ, suc, ◌+◌, ◌==◌, true, false, cond, ◌&&◌, inl, inr, List, [], ◌∷◌, ◌++◌, length, Some, None, refl, sym, ◌∙◌, ap, subst, arith, length-append}
+use Rattle.std.proofs.lemmas.Option.{slice_get_past, slice_get_within}
+use Rattle.std.proofs.Common.{zero, is_some, not, ◌≡◌, ◌≢◌, ℕ, suc, ◌+◌, ◌==◌, Bool, true, false, cond, ◌&&◌, ◌⊎◌, inl, inr, List, [], ◌∷◌, ◌++◌, length, Some, None, refl, sym, ◌∙◌, ap, subst, arith, length-append}
 use Rattle.std.specs.Option.{option_and_then}
 use Rattle.std.proofs.lemmas.Bool.{false≢true, cases_eq, eq-eqb, ne_eqb, and_from}
 use Rattle.dq_lits.specs.Literal.{Literal, positive, negative, variable_of, is_negative, opposite}
@@ -18,6 +18,7 @@ use Rattle.oracle.specs.Calls.{IsMade, IsPlain}
 use Rattle.oracle.specs.Fit.{Fit, live_in}
 use Rattle.oracle.specs.Searched.{Stands, IsOfGroup}
 use Rattle.oracle.proofs.KeptSelectors.{holds_reached}
+use Rattle.learning_trail.specs.Resting.{IsPut, HeldFit}
 use Rattle.learning_trail.proofs.Lessons.{live_more, last_clause}
 use Rattle.truth_values.proofs.HeldLiterals.{holds_cases, opposite-variable, opposite-negative}
 
@@ -59,7 +60,7 @@ module _ (held : List (List Literal)) (c : List Literal) (es : List Entry) (e : 
     | inr n ↦ before id d l (sym (at_old id n) ∙ at) h
   ]
 
-pub fit_learned : (held : List (List Literal)) (variables : ℕ) (es : List Entry) (c : List Literal) (hs : List ℕ) →
+fit_learned : (held : List (List Literal)) (variables : ℕ) (es : List Entry) (c : List Literal) (hs : List ℕ) →
     Fit held variables es
     → AreNamed es c → AreIds es hs → IsDerived (clause_at es) c hs → IsNewByPropagation es c →
     HoldsHintedSelectors es c hs → ((k : Literal) → holds c k ≡ true → Stands es k) →
@@ -80,7 +81,7 @@ fit_learned held variables es c hs fit are_named are_ids derived new tied stands
   kept = (holds_reached es c hs fit.logged fit.grouped fit.hinted tied, fit.kept);
 }
 
-pub fit_answered : (held : List (List Literal)) (variables : ℕ) (es : List Entry) (c : List Literal) (hs : List ℕ) →
+fit_answered : (held : List (List Literal)) (variables : ℕ) (es : List Entry) (c : List Literal) (hs : List ℕ) →
     Fit held variables es
     → AreNamed es c → AreIds es hs → IsDerived (clause_at es) c hs → HoldsHintedSelectors es c hs →
     ((k : Literal) → holds c k ≡ true → Stands es k) → Fit (held ++ c ∷ []) variables (Answer c hs ∷ es)
@@ -100,7 +101,7 @@ fit_answered held variables es c hs fit are_named are_ids derived tied stands = 
   kept = (holds_reached es c hs fit.logged fit.grouped fit.hinted tied, fit.kept);
 }
 
-pub fit_given : (held : List (List Literal)) (variables : ℕ) (es : List Entry) (o : Origin) (c : List Literal) →
+fit_given : (held : List (List Literal)) (variables : ℕ) (es : List Entry) (o : Origin) (c : List Literal) →
     Fit held variables es → AreNamed es c
     → ((k : Literal) → holds c k ≡ true → Stands es k) → IsOfGroup es c →
     Fit (held ++ c ∷ []) variables (Given o c ∷ es)
@@ -119,6 +120,59 @@ fit_given held variables es o c fit are_named stands grouped = record {
   hinted = (tt, fit.hinted);
   kept = (tt, fit.kept);
 }
+
+-- one clause more for both
+module _ (held : List (List Literal)) (resting : List Bool) (variables : ℕ) (es : List Entry) (c : List Literal)
+    (fit : HeldFit held resting variables es) where
+  more_same : (id : ℕ) (clause put : List Literal) → live_in (fit.whole ++ c ∷ []) id ≡ Some clause →
+      live_in (held ++ c ∷ []) id ≡ Some put → (put ≡ clause) ⊎ IsPut resting clause put
+  more_same id clause put at at' = elim (live_more held c id) [
+    | inl k ↦ elim (live_more fit.whole c id) [
+      | inl w ↦ fit.same id clause put (sym w ∙ at) (sym k ∙ at')
+      | inr w ↦ absurd (beyond id w.0 (sym k ∙ at'))
+    ]
+    | inr k ↦
+        let count = fit.count in
+        let last : id ≡ suc (length fit.whole) = omega (arith, k.0, count) in
+        let first : Some c ≡ Some put = sym k.1 ∙ at' in
+        let second : Some c ≡ Some clause = sym (last_clause fit.whole c) ∙ ap (live_in (fit.whole ++ c ∷ [])) (sym last)
+        ∙ at in
+        inl cc
+  ]
+    where
+      beyond : (i : ℕ) → i ≡ suc (length fit.whole) → live_in held i ≡ Some put → ⊥
+      beyond zero e h = let n : None ≡ Some put = h in cc
+      beyond (suc i) e h =
+          let lt = slice_get_within held i put h in
+          let count = fit.count in
+          omega (arith, e, lt, count)
+
+  held_more : (e : Entry) → Fit (fit.whole ++ c ∷ []) variables (e ∷ es) →
+      ((v : ℕ) → name_of (e ∷ es) v ≡ name_of es v) → HeldFit (held ++ c ∷ []) resting variables (e ∷ es)
+  held_more e longer names = record {
+    whole = fit.whole ++ c ∷ [];
+    fit = longer;
+    count = let n = fit.count in omega (arith, n, length-append held (c ∷ []), length-append fit.whole (c ∷ []));
+    same = more_same;
+    selectors = λ v on. names v ∙ fit.selectors v on;
+  }
+
+  pub held_learned : (hs : List ℕ) → AreNamed es c → AreIds es hs → IsDerived (clause_at es) c hs →
+      IsNewByPropagation es c → HoldsHintedSelectors es c hs → ((k : Literal) → holds c k ≡ true → Stands es k) →
+      HeldFit (held ++ c ∷ []) resting variables (Learned c hs ∷ es)
+  held_learned hs are_named are_ids derived new tied stands = held_more (Learned c hs)
+      (fit_learned fit.whole variables es c hs fit.fit are_named are_ids derived new tied stands) (λ v. refl)
+
+  pub held_answered : (hs : List ℕ) → AreNamed es c → AreIds es hs → IsDerived (clause_at es) c hs →
+      HoldsHintedSelectors es c hs → ((k : Literal) → holds c k ≡ true → Stands es k) →
+      HeldFit (held ++ c ∷ []) resting variables (Answer c hs ∷ es)
+  held_answered hs are_named are_ids derived tied stands = held_more (Answer c hs)
+      (fit_answered fit.whole variables es c hs fit.fit are_named are_ids derived tied stands) (λ v. refl)
+
+  pub held_given : (o : Origin) → AreNamed es c → ((k : Literal) → holds c k ≡ true → Stands es k) → IsOfGroup es c →
+      HeldFit (held ++ c ∷ []) resting variables (Given o c ∷ es)
+  held_given o are_named stands grouped = held_more (Given o c)
+      (fit_given fit.whole variables es o c fit.fit are_named stands grouped) (λ v. refl)
 
 -- a group's clause stands
 pub given_stands : (es : List Entry) (g : Group) (lits : List Literal) → IsMade es g →
@@ -155,7 +209,7 @@ nothing_held zero = refl
 nothing_held (suc i) = slice_get_past [] i (omega arith)
 
 -- a solver without clauses and variables goes with a log without entries
-pub fit_first : Fit [] 0 []
+fit_first : Fit [] 0 []
 fit_first = record {
   count = refl;
   same = nothing_held;
@@ -170,3 +224,16 @@ fit_first = record {
   hinted = tt;
   kept = tt;
 }
+
+pub held_first : HeldFit [] [] 0 []
+held_first = record {
+  whole = [];
+  fit = fit_first;
+  count = refl;
+  same = λ id clause put at at'. absurd (nothing_there id clause at);
+  selectors = λ v on. absurd (false≢true on);
+}
+  where
+    nothing_there : (id : ℕ) (clause : List Literal) → live_in [] id ≡ Some clause → ⊥
+    nothing_there zero clause at = let n : None ≡ Some clause = at in cc
+    nothing_there (suc i) clause at = let lt = slice_get_within [] i clause at in omega (arith, lt)

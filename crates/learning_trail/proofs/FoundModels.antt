@@ -11,7 +11,9 @@ use Rattle.hint_log.specs.declared.names.Name.TheVariants.{Selector}
 use Rattle.hint_log.specs.Entries.{ProofLog, clause_at, name_of}
 use Rattle.hint_log.specs.Naming.{is_selector, is_selector_name}
 use Rattle.oracle.specs.declared.groups.Group.{Group}
-use Rattle.oracle.specs.Fit.{Fit, live_in}
+use Rattle.oracle.specs.Fit.{live_in}
+use Rattle.learning_trail.specs.Resting.{rests, HeldFit}
+use Rattle.learning_trail.proofs.RestingClauses.{IsKeptAs, kept_as}
 use Rattle.oracle.specs.Calls.{IsMade, IsPlain, IsModelUnder, assumed}
 use Rattle.learning_trail.specs.Growing.{HasLearned}
 use Rattle.learning_trail.specs.Steps.{literals_of}
@@ -93,11 +95,11 @@ assumptions_from log active assume made plain apart =
       ];
     }
 
--- the values that were kept
-abbrev pub AreKept : List Bool → List Literal → Type 0
-AreKept model trues =
-    (i : ℕ) → i < length model → (slice_index_or model i false ≡ true → literal_value trues (positive (suc i)) ≡ True)
-    × (literal_value trues (positive (suc i)) ≡ True → slice_index_or model i false ≡ true)
+-- values that are true where the trail's are, among so many variables
+abbrev pub AreKept : ℕ → Assignment → List Literal → Type 0
+AreKept variables values trues =
+    (v : ℕ) → 1 ≤ v → v ≤ variables → (values v ≡ true → literal_value trues (positive v) ≡ True)
+    × (literal_value trues (positive v) ≡ True → values v ≡ true)
 
 valued : (trues : List Literal) (l : Literal) → AreConsistent trues → holds trues l ≡ true →
     literal_value trues l ≡ True
@@ -106,43 +108,51 @@ valued trues l consistent h =
     (λ o. consistent l h o) in
     ap (λ b. cond b False (cond (holds trues l) True Unassigned)) other ∙ ap (λ b. cond b True Unassigned) h
 
-pub literal_kept : (model : List Bool) (trues : List Literal) → AreKept model trues → AreConsistent trues →
-    (l : Literal) → holds trues l ≡ true → 1 ≤ variable_of l
-    → variable_of l ≤ length model → literal_true (λ v. slice_index_or model (v - 1) false) l ≡ true
-literal_kept model trues kept consistent (positive zero) h low high = absurd (omega (arith, low))
-literal_kept model trues kept consistent (positive (suc i)) h low high =
-    let at : suc i - 1 ≡ i = omega arith in
-    let lt : i < length model = omega (arith, high) in
-    ap (λ n. slice_index_or model n false) at ∙ (kept i lt).1 (valued trues (positive (suc i)) consistent h)
-literal_kept model trues kept consistent (negative zero) h low high = absurd (omega (arith, low))
-literal_kept model trues kept consistent (negative (suc i)) h low high =
-    let at : suc i - 1 ≡ i = omega arith in
-    let lt : i < length model = omega (arith, high) in
-    let off : slice_index_or model i false ≡ false = false_from_ne_true (slice_index_or model i false) (λ on.
-    consistent (negative (suc i)) h (value_true trues (positive (suc i)) ((kept i lt).0 on))) in
-    ap (λ n. not (slice_index_or model n false)) at ∙ ap not off
+pub literal_kept : (variables : ℕ) (values : Assignment) (trues : List Literal) → AreKept variables values trues →
+    AreConsistent trues → (l : Literal) → holds trues l ≡ true → 1 ≤ variable_of l → variable_of l ≤ variables →
+    literal_true values l ≡ true
+literal_kept variables values trues kept consistent (positive v) h low high =
+    (kept v low high).1 (valued trues (positive v) consistent h)
+literal_kept variables values trues kept consistent (negative v) h low high =
+    ap not (false_from_ne_true (values v) (λ on.
+    consistent (negative v) h (value_true trues (positive v) ((kept v low high).0 on))))
 
-pub found_model : (assumptions : List Literal) (s : Searched) (model : List Bool) (old new : ProofLog) →
-    Fit s.clauses s.variables new.entries → HasLearned old new → AreAssumptions old assumptions
-    → IsSatisfied assumptions s → length model ≡ s.variables → AreKept model (literals_of s.trail.steps)
-    → IsModelUnder (λ v. slice_index_or model (v - 1) false) (clause_at new.entries) assumptions
-found_model assumptions s model old new fit learned are satisfied long kept =
-    let trues = literals_of s.trail.steps in
-    let values : Assignment = λ v. slice_index_or model (v - 1) false in
-    let consistent = sound_consistent (live_in s.clauses) s.trail.steps satisfied.sound in
-    let one : (l : Literal) → IsSome (name_of new.entries (variable_of l)) → holds trues l ≡ true →
-    literal_true values l ≡ true = λ l named h.
-    let r = fit.in_range (variable_of l) named in
-    let low = r.0 in
-    let high = r.1 in
-    literal_kept model trues kept consistent l h low (omega (arith, high, long)) in
-    let later = assumptions_same old new assumptions learned are in
-    record {
-      clauses = λ id c at.
-          let some = clause_of_all (λ d. list_any (holds trues) d ≡ true) s.clauses satisfied.clauses id c
-          (fit.same id ∙ at) in
-          let r = any_gives (holds trues) c some in
-          any_one (literal_true values) c r.0 r.1 (one r.0 (fit.negated id c r.0 at r.1).named r.2);
-      assumptions_true = all_of (λ l. literal_true values l ≡ true) assumptions
-          (λ l h. one l (later.named l h) (satisfied.assumed l h));
-    }
+module _ (assumptions : List Literal) (s : Searched) (values : Assignment) (old new : ProofLog)
+    (fit : HeldFit s.clauses s.resting s.variables new.entries) (learned : HasLearned old new) (are : AreAssumptions old assumptions)
+    (satisfied : IsSatisfied assumptions s) (kept : AreKept s.variables values (literals_of s.trail.steps)) where
+  abbrev trues : List Literal
+  trues = literals_of s.trail.steps
+
+  one : (l : Literal) → IsSome (name_of new.entries (variable_of l)) → holds trues l ≡ true →
+      literal_true values l ≡ true
+  one l named h =
+      let r = fit.fit.in_range (variable_of l) named in
+      literal_kept s.variables values trues kept (sound_consistent (live_in s.clauses) s.trail.steps satisfied.sound) l h
+      r.0 r.1
+
+  -- the selector of a group that rests is off
+  off : (v : ℕ) → rests s.resting v ≡ true → values v ≡ false
+  off v on = false_from_ne_true (values v) (λ is.
+      let named : IsSome (name_of new.entries v) = ap is_some (fit.selectors v on) in
+      let r = fit.fit.in_range v named in
+      false≢true (sym (satisfied.off v on) ∙ value_true trues (positive v) ((kept v r.0 r.1).0 is)))
+
+  clause_found : (id : ℕ) (c : List Literal) → clause_at new.entries id ≡ Some c →
+      IsKeptAs s.clauses s.resting id c → list_any (literal_true values) c ≡ true
+  clause_found id c at r = elim r.is [
+    | inl same ↦
+        let some = clause_of_all (λ d. list_any (holds trues) d ≡ true) s.clauses satisfied.clauses id r.put r.at in
+        let k = any_gives (holds trues) c (ap (list_any (holds trues)) (sym same) ∙ some) in
+        any_one (literal_true values) c k.0 k.1 (one k.0 (fit.fit.negated id c k.0 at k.1).named k.2)
+    | inr p ↦ any_one (literal_true values) c (negative p.group) p.among (ap not (off p.group p.group_rests))
+  ]
+
+  pub found_model : IsModelUnder values (clause_at new.entries) assumptions
+  found_model =
+      let later = assumptions_same old new assumptions learned are in
+      record {
+        clauses = λ id c at.
+            clause_found id c at (kept_as s.clauses s.resting s.variables new.entries fit id c at);
+        assumptions_true = all_of (λ l. literal_true values l ≡ true) assumptions
+            (λ l h. one l (later.named l h) (satisfied.assumed l h));
+      }

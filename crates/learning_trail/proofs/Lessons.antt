@@ -4,14 +4,14 @@ use Rattle.std.proofs.lemmas.Bool.{cases_Bool, cases_eq, cases_lt, false≢true,
 use Rattle.std.proofs.lemmas.List.{get_or_append_left}
 use Rattle.std.proofs.Math.Seq.{get_or-append_seam}
 use Rattle.std.proofs.lemmas.Option.{slice_get-get_or, slice_get_within}
-use Rattle.dq_lits.specs.Literal.{Literal, variable_of, is_negative, opposite, same_literal}
+use Rattle.dq_lits.specs.Literal.{Literal, positive, variable_of, is_negative, opposite, same_literal}
 use Rattle.dq_lits.specs.Derivation.{LiveClauses, unit, stuck, holds, status_of, IsDerived}
 use Rattle.hint_log.specs.Entries.{Entry}
 use Rattle.hint_log.specs.Entries.{clause_at, name_of}
 use Rattle.hint_log.specs.Naming.{is_selector}
 use Rattle.hint_log.specs.ProductiveLog.{IsClosed, IsNewByPropagation}
 use Rattle.oracle.specs.Fit.{HoldsHintedSelectors}
-use Rattle.oracle.specs.Fit.{Fit, live_in}
+use Rattle.oracle.specs.Fit.{live_in}
 use Rattle.oracle.specs.Searched.{Stands}
 use Rattle.learning_trail.specs.declared.trails.Step.{Step}
 use Rattle.learning_trail.specs.Steps.{Trailed, literals_of, is_decision, is_none, decision_of, under_level}
@@ -20,11 +20,13 @@ use Rattle.learning_trail.specs.Marks.{marked, is_level_marked}
 use Rattle.learning_trail.specs.Sound.{IsSound, IsReasoned, IsGuided}
 use Rattle.learning_trail.specs.Analyses.{IsAnalysis, AllStand}
 use Rattle.learning_trail.specs.Lessons.{IsLesson, IsJump}
+use Rattle.learning_trail.specs.Resting.{rests, HeldFit, AreAwake}
 use Rattle.truth_values.proofs.HeldLiterals.{same_literal-refl, opposite-opposite, opposite-variable, opposite-negative, holds_first, holds_later, holds_cases, free_variable, no_tautology}
 use Rattle.learning_trail.proofs.ClauseStatus.{is_unit, stuck_from_two}
 use Rattle.learning_trail.proofs.AnswerClauses.{concluded_derived, concluded_tied}
 use Rattle.learning_trail.proofs.ConflictAnalysis.{AreConsistent, sound_consistent, free_later}
 use Rattle.learning_trail.proofs.BacktrackSteps.{reason_of}
+use Rattle.learning_trail.proofs.RestingClauses.{switched_off, held_stand, closed_resting, consistent_resting, plain_resting, true_resting, resting_selector}
 
 -- suffixes
 pub sound_later : (live : LiveClauses) (popped steps : List Step) → IsSound live (popped ++ steps) → IsSound live steps
@@ -73,12 +75,12 @@ pub trail_assumed : (entries : List Entry) (assumptions : List Literal) (clauses
     (steps : List Step) → AllStand entries (live_in clauses) → IsSound (live_in clauses) steps
     → IsGuided entries assumptions steps → (t : Literal) → holds (literals_of steps) t ≡ true →
     is_selector entries (variable_of t) ≡ true → is_negative t ≡ false → holds assumptions t ≡ true
-trail_assumed entries assumptions clauses [] stand sound guided t on sel positive = cc
-trail_assumed entries assumptions clauses (s ∷ steps) stand sound guided t on sel positive =
+trail_assumed entries assumptions clauses [] stand sound guided t on sel up = cc
+trail_assumed entries assumptions clauses (s ∷ steps) stand sound guided t on sel up =
     elim (holds_cases s.literal (literals_of steps) t on) [
       | inl e ↦
           let here = sym (ap (λ x. is_selector entries (variable_of x)) e) ∙ sel in
-          let not_negative = sym positive ∙ ap is_negative e in
+          let not_negative = sym up ∙ ap is_negative e in
           elim (cases_Bool (is_decision s)) [
             | inl was ↦ elim (guided.0.chosen was) [
               | inl a ↦ ap (holds assumptions) e ∙ a
@@ -87,7 +89,7 @@ trail_assumed entries assumptions clauses (s ∷ steps) stand sound guided t on 
             | inr other ↦ absurd (false≢true (not_negative ∙ implied_negative entries clauses steps s stand sound
                 other here))
           ]
-      | inr later ↦ trail_assumed entries assumptions clauses steps stand sound.1 guided.1 t later sel positive
+      | inr later ↦ trail_assumed entries assumptions clauses steps stand sound.1 guided.1 t later sel up
     ]
 
 -- what is below the newest level
@@ -145,14 +147,15 @@ older_decision : (s : Step) (steps : List Step) (d : Literal) → is_decision s 
     decision_of (s ∷ steps) ≡ Some d → decision_of steps ≡ Some d
 older_decision s steps d implied is = sym (ap (λ b. cond b (Some s.literal) (decision_of steps)) implied) ∙ is
 
-module _ (entries : List Entry) (assumptions : List Literal) (clauses : List (List Literal)) (variables : ℕ)
-    (old new : Trailed) (step : Step) (marks : List Bool) (clause : List Literal) (hints : List ℕ) (d : Literal)
-    (fit : Fit clauses variables entries) (sound : IsSound (live_in clauses) old.steps)
+module _ (entries : List Entry) (assumptions : List Literal) (clauses : List (List Literal)) (resting : List Bool)
+    (variables : ℕ) (old new : Trailed) (step : Step) (marks : List Bool) (clause : List Literal) (hints : List ℕ) (d : Literal)
+    (fit : HeldFit clauses resting variables entries) (awake : AreAwake resting assumptions)
+    (sound : IsSound (live_in clauses) old.steps)
     (guided : IsGuided entries assumptions old.steps)
     (decided : decision_of old.steps ≡ Some d) (chosen : holds assumptions d ≡ false)
     (lesson : IsLesson (live_in clauses) old new step marks clause hints) where
   stand : AllStand entries (live_in clauses)
-  stand id c l at h = fit.negated id c l (sym (fit.same id) ∙ at) h
+  stand = held_stand clauses resting variables entries fit
 
   pub lesson_sound : IsSound (live_in clauses) (step ∷ new.steps)
   lesson_sound = sound_later (live_in clauses) lesson.shrunk.popped (step ∷ new.steps)
@@ -177,12 +180,6 @@ module _ (entries : List Entry) (assumptions : List Literal) (clauses : List (Li
     | inr r ↦ holds_later step.literal (literals_of new.steps) (opposite l) r.0
   ]
 
-  pub lesson_derived : IsDerived (clause_at entries) clause hints
-  lesson_derived = concluded_derived clauses variables entries clause marks hints fit analysis
-
-  pub lesson_tied : HoldsHintedSelectors entries clause hints
-  lesson_tied = concluded_tied clauses variables entries clause marks hints fit analysis
-
   pub lesson_stands : (l : Literal) → holds clause l ≡ true → Stands entries l
   lesson_stands l h = record {
     named = ap (λ v. is_some (name_of entries v)) (sym (opposite-variable l)) ∙ trail_named entries assumptions clauses
@@ -196,6 +193,14 @@ module _ (entries : List Entry) (assumptions : List Literal) (clauses : List (Li
       trail_assumed entries assumptions clauses (step ∷ new.steps) stand lesson_sound lesson_guided (opposite l)
       (on_trail l h) (ap (is_selector entries) (opposite-variable l) ∙ sel)
       (opposite-negative l ∙ ap not (lesson.negated entries stand l h sel))
+
+  pub lesson_derived : IsDerived (clause_at entries) clause hints
+  lesson_derived = concluded_derived clauses resting variables entries assumptions clause marks hints fit awake
+      lesson_active analysis
+
+  pub lesson_tied : HoldsHintedSelectors entries clause hints
+  lesson_tied = concluded_tied clauses resting variables entries assumptions clause marks hints fit awake lesson_active
+      analysis
 
   pub lesson_no_selector : is_selector entries (variable_of step.literal) ≡ false
   lesson_no_selector = false_from_ne_true (is_selector entries (variable_of step.literal)) (λ sel.
@@ -250,25 +255,44 @@ module _ (entries : List Entry) (assumptions : List Literal) (clauses : List (Li
       by true e = h
       by false e = below_marked marks new.steps t (lesson.first e) h m
 
+  -- no group that rests is switched on
+  never_on : (v : ℕ) → rests resting v ≡ true → holds (literals_of below) (positive v) ≡ false
+  never_on v on = false_from_ne_true (holds (literals_of below) (positive v)) (λ h.
+      let assumed = trail_assumed entries assumptions clauses (step ∷ new.steps) stand lesson_sound lesson_guided
+      (positive v) (holds_later step.literal (literals_of new.steps) (positive v) (below_in (positive v) h))
+      (resting_selector clauses resting variables entries fit v on) refl in
+      false≢true (sym (awake v on) ∙ assumed))
+
+  below_consistent : (l : Literal) → holds (literals_of below) l ≡ true → holds (literals_of below) (opposite l) ≡ true
+      → ⊥
+  below_consistent l h o = consistent l (holds_later step.literal (literals_of new.steps) l (below_in l h))
+      (holds_later step.literal (literals_of new.steps) (opposite l) (below_in (opposite l) o))
+
+  no_selector : is_selector entries (variable_of (opposite step.literal)) ≡ false
+  no_selector = ap (is_selector entries) (opposite-variable step.literal) ∙ lesson_no_selector
+
   pub lesson_new : IsNewByPropagation entries clause
   lesson_new = record {
     literal = opposite step.literal;
-    trues = literals_of below;
+    trues = switched_off resting ++ literals_of below;
     among = lesson.has_first;
-    no_selector = ap (is_selector entries) (opposite-variable step.literal) ∙ lesson_no_selector;
-    consistent = no_tautology (literals_of below) (λ l h o. consistent l
-        (holds_later step.literal (literals_of new.steps) l (below_in l h))
-        (holds_later step.literal (literals_of new.steps) (opposite l) (below_in (opposite l) o)));
-    not_true = false_from_ne_true (holds (literals_of below) (opposite step.literal))
-        (λ h. false≢true (sym lesson_sound.0.free.1 ∙ below_in (opposite step.literal) h));
-    not_false = false_from_ne_true (holds (literals_of below) (opposite (opposite step.literal)))
+    no_selector = no_selector;
+    consistent = consistent_resting clauses resting variables entries fit (literals_of below) never_on below_consistent;
+    not_true = plain_resting clauses resting variables entries fit (literals_of below) never_on (opposite step.literal)
+        no_selector (false_from_ne_true (holds (literals_of below) (opposite step.literal))
+        (λ h. false≢true (sym lesson_sound.0.free.1 ∙ below_in (opposite step.literal) h)));
+    not_false = plain_resting clauses resting variables entries fit (literals_of below) never_on
+        (opposite (opposite step.literal))
+        (ap (is_selector entries) (opposite-variable (opposite step.literal)) ∙ no_selector)
+        (false_from_ne_true (holds (literals_of below) (opposite (opposite step.literal)))
         (λ h. false≢true (sym lesson_sound.0.free.0 ∙ ap (holds (literals_of new.steps))
-        (sym (opposite-opposite step.literal)) ∙ below_in (opposite (opposite step.literal)) h));
+        (sym (opposite-opposite step.literal)) ∙ below_in (opposite (opposite step.literal)) h)));
     rest_false = λ k h n. elim (lesson.only k h) [
       | inl e ↦ absurd (false≢true (sym n ∙ ap (same_literal k) (sym e) ∙ same_literal-refl k))
-      | inr r ↦ marked_below (opposite k) r.0 (ap (marked marks) (opposite-variable k) ∙ r.1)
+      | inr r ↦ true_resting clauses resting variables entries fit (literals_of below) never_on (opposite k)
+          (marked_below (opposite k) r.0 (ap (marked marks) (opposite-variable k) ∙ r.1))
     ];
-    closed = λ id. ap (status_of (literals_of below)) (sym (fit.same id)) ∙ below_is_closed id;
+    closed = closed_resting clauses resting variables entries fit (literals_of below) never_on below_is_closed;
   }
 
 pub last_clause : (xs : List (List Literal)) (c : List Literal) → slice_get (xs ++ c ∷ []) (length xs) ≡ Some c

@@ -19,6 +19,7 @@ pub mod MinimalClauses
 pub mod PairedValues
 pub mod PlacedSteps
 pub mod ReadStatus
+pub mod RestingClauses
 pub mod SearchTurns
 pub mod SetMarks
 pub mod SoughtAnswers

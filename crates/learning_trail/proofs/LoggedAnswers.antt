@@ -1,13 +1,13 @@
 -- An answer goes into the log.
 use Rattle.std.proofs.Common.{reverse, subst, ◌≡◌, ℕ, Bool, true, false, not, List, [], ◌∷◌, ◌++◌, map, is_some, refl, sym, ◌∙◌, ap}
 use Rattle.std.proofs.lemmas.Bool.{false≢true}
-use Rattle.dq_lits.specs.Literal.{Literal, is_negative, opposite}
+use Rattle.dq_lits.specs.Literal.{Literal, variable_of, is_negative, opposite}
 use Rattle.dq_lits.specs.Derivation.{LiveClauses, holds}
 use Rattle.hint_log.specs.Entries.{Answer}
 use Rattle.hint_log.specs.Conditions.{AreNamed, AreIds}
 use Rattle.hint_log.specs.Entries.{ProofLog, with_entry, name_of, last_id}
 use Rattle.hint_log.specs.Naming.{is_selector}
-use Rattle.oracle.specs.Fit.{Fit, live_in}
+use Rattle.oracle.specs.Fit.{live_in}
 use Rattle.oracle.specs.Searched.{Stands}
 use Rattle.oracle.specs.Calls.{IsRefutedUnder}
 use Rattle.hint_log.specs.Entries.{Entry}
@@ -17,16 +17,18 @@ use Rattle.learning_trail.specs.Sound.{AreAssumed}
 use Rattle.learning_trail.specs.Noting.{Noted}
 use Rattle.learning_trail.specs.Backing.{IsKeeping}
 use Rattle.learning_trail.specs.Analyses.{IsAnalysis, AllStand}
+use Rattle.learning_trail.specs.Resting.{HeldFit, AreAwake}
 use Rattle.learning_trail.specs.Searching.{AreAssumptions}
 use Rattle.truth_values.proofs.HeldLiterals.{opposite-variable, opposite-negative}
 use Rattle.learning_trail.proofs.AnswerClauses.{concluded_derived, concluded_tied}
 use Rattle.learning_trail.proofs.Taught.{all_named, all_ids}
-use Rattle.learning_trail.proofs.FitLogs.{fit_answered}
+use Rattle.learning_trail.proofs.FitLogs.{held_answered}
 use Rattle.learning_trail.proofs.LearnedClauses.{holds-reverse, analysis_turned}
 
-module _ (assumptions : List Literal) (held : List (List Literal)) (variables : ℕ) (log : ProofLog)
+module _ (assumptions : List Literal) (held : List (List Literal)) (resting : List Bool) (variables : ℕ) (log : ProofLog)
     (clause : List Literal) (marks : List Bool) (hints : List ℕ)
-    (fit : Fit held variables log.entries) (assumed : AreAssumptions log assumptions)
+    (fit : HeldFit held resting variables log.entries) (awake : AreAwake resting assumptions)
+    (assumed : AreAssumptions log assumptions)
     (negated : (l : Literal) → holds clause l ≡ true → holds assumptions (opposite l) ≡ true)
     (analysis : IsAnalysis log.entries (live_in held) [] (map opposite clause) marks hints) where
   pub answer_stands : (l : Literal) → holds clause l ≡ true → Stands log.entries l
@@ -47,12 +49,17 @@ module _ (assumptions : List Literal) (held : List (List Literal)) (variables : 
   answer_named = all_named log.entries clause answer_stands
 
   pub answer_ids : AreIds log.entries hints
-  answer_ids = all_ids held variables log.entries hints fit analysis.ids
+  answer_ids = all_ids held resting variables log.entries hints fit analysis.ids
 
-  pub answer_fit : Fit (held ++ clause ∷ []) variables (Answer clause hints ∷ log.entries)
-  answer_fit = fit_answered held variables log.entries clause hints fit answer_named answer_ids
-      (concluded_derived held variables log.entries clause marks hints fit analysis)
-      (concluded_tied held variables log.entries clause marks hints fit analysis) answer_stands
+  active : (l : Literal) → holds clause l ≡ true → is_selector log.entries (variable_of l) ≡ true →
+      holds assumptions (opposite l) ≡ true
+  active l h sel = negated l h
+
+  pub answer_fit : HeldFit (held ++ clause ∷ []) resting variables (Answer clause hints ∷ log.entries)
+  answer_fit = held_answered held resting variables log.entries clause fit hints answer_named answer_ids
+      (concluded_derived held resting variables log.entries assumptions clause marks hints fit awake active analysis)
+      (concluded_tied held resting variables log.entries assumptions clause marks hints fit awake active analysis)
+      answer_stands
 
   pub answer_refuted : (new : ProofLog) (id : ℕ) → new ≡ with_entry log (Answer clause hints) →
       id ≡ last_id new.entries → IsRefutedUnder log new assumptions id

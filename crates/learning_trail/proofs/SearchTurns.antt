@@ -4,14 +4,16 @@ use Rattle.std.proofs.lemmas.Bool.{false≢true, or_parts, false_from_ne_true}
 use Rattle.std.proofs.lemmas.List.{append_assoc}
 use Rattle.std.proofs.lemmas.List.Elements.{All-cons, All-nil, All-head, All-tail, All-from_get_or}
 use Rattle.std.proofs.lemmas.Option.{slice_get-get_or}
-use Rattle.dq_lits.specs.Literal.{Literal, variable_of, opposite, same_literal}
+use Rattle.dq_lits.specs.Literal.{Literal, positive, variable_of, opposite, same_literal}
 use Rattle.dq_lits.specs.Derivation.{LiveClauses, holds, status_of, unit}
 use Rattle.hint_log.specs.Entries.{Entry}
 use Rattle.hint_log.specs.Entries.{Named, Given, Learned, Answer, Round, Begun}
 use Rattle.hint_log.specs.Entries.{ProofLog, clause_at, name_of}
 use Rattle.hint_log.specs.Growth.{EachOf}
 use Rattle.hint_log.specs.Naming.{is_selector_name}
-use Rattle.oracle.specs.Fit.{Fit, live_in}
+use Rattle.oracle.specs.Fit.{live_in}
+use Rattle.learning_trail.specs.Resting.{rests, HeldFit, AreAwake}
+use Rattle.learning_trail.proofs.RestingClauses.{held_stand, resting_selector}
 use Rattle.oracle.specs.Searched.{Stands}
 use Rattle.oracle.specs.Calls.{IsLearnedEntry, IsRefutedUnder}
 use Rattle.learning_trail.specs.Growing.{HasLearned}
@@ -24,7 +26,7 @@ use Rattle.learning_trail.specs.Passes.{AreWithin, IsOpening}
 use Rattle.learning_trail.specs.Searching.{Searched, AreAssumptions, IsAnswered}
 use Rattle.truth_values.proofs.HeldLiterals.{holds_first, holds_later, holds_cases, one_variable}
 use Rattle.learning_trail.proofs.ConflictAnalysis.{sound_consistent}
-use Rattle.learning_trail.proofs.Lessons.{sound_later, guided_later}
+use Rattle.learning_trail.proofs.Lessons.{sound_later, guided_later, trail_assumed}
 use Rattle.learning_trail.proofs.LargerTrails.{clause_read}
 
 -- below an assumption that isn't true yet, assumptions alone were decided
@@ -75,13 +77,14 @@ pub guided_grown : (entries : List Entry) (assumptions : List Literal) (old new 
 guided_grown entries assumptions old new grown guided = subst (IsGuided entries assumptions) (sym grown.is)
     (guided_more entries assumptions grown.more old grown.implied guided)
 
-pub clauses_in_room : (held : List (List Literal)) (variables room : ℕ) (es : List Entry) → Fit held variables es →
-    variables ≤ room → AreWithin room held
-clauses_in_room held variables room es fit low =
+pub clauses_in_room : (held : List (List Literal)) (resting : List Bool) (variables room : ℕ) (es : List Entry) →
+    HeldFit held resting variables es → variables ≤ room → AreWithin room held
+clauses_in_room held resting variables room es fit low =
     All-from_get_or (λ (c : List Literal). All (λ (l : Literal). variable_of l ≤ room) c) held [] (λ k lt.
     let c = get_or held k [] in
-    let at : clause_at es (suc k) ≡ Some c = sym (fit.same (suc k)) ∙ slice_get-get_or held k [] lt in
-    by c (λ l h. let r = fit.in_range (variable_of l) (fit.negated (suc k) c l at h).named in let hi = r.1 in
+    let at : live_in held (suc k) ≡ Some c = slice_get-get_or held k [] lt in
+    by c (λ l h. let r = fit.fit.in_range (variable_of l) (held_stand held resting variables es fit (suc k) c l at
+    h).named in let hi = r.1 in
     omega (arith, hi, low)))
   where
     by : (c : List Literal) → ((l : Literal) → holds c l ≡ true → variable_of l ≤ room) →
@@ -90,13 +93,24 @@ clauses_in_room held variables room es fit low =
     by (x ∷ c) h = All-cons (λ (l : Literal). variable_of l ≤ room) x c (h x (holds_first x c))
         (by c (λ l m. h l (holds_later x c l m)))
 
+-- no group that rests is switched on
+pub trail_off : (entries : List Entry) (assumptions : List Literal) (clauses : List (List Literal)) (resting : List Bool)
+    (variables : ℕ) (steps : List Step) → HeldFit clauses resting variables entries → AreAwake resting assumptions →
+    IsSound (live_in clauses) steps → IsGuided entries assumptions steps → (v : ℕ) → rests resting v ≡ true →
+    holds (literals_of steps) (positive v) ≡ false
+trail_off entries assumptions clauses resting variables steps fit awake sound guided v on =
+    false_from_ne_true (holds (literals_of steps) (positive v)) (λ h.
+    false≢true (sym (awake v on) ∙ trail_assumed entries assumptions clauses steps
+    (held_stand clauses resting variables entries fit) sound guided (positive v) h
+    (resting_selector clauses resting variables entries fit v on) refl))
+
 -- an open literal of a clause
-pub opening_stands : (held : List (List Literal)) (variables : ℕ) (es : List Entry) (trues : List Literal) (l : Literal)
-    → Fit held variables es → IsOpening held trues (Some l) → Stands es l
-opening_stands held variables es trues l fit opening =
+pub opening_stands : (held : List (List Literal)) (resting : List Bool) (variables : ℕ) (es : List Entry)
+    (trues : List Literal) (l : Literal) → HeldFit held resting variables es → IsOpening held trues (Some l) → Stands es l
+opening_stands held resting variables es trues l fit opening =
     let c = opening.1 in
     let k = opening.2 in
-    fit.negated (suc k.0) c l (sym (fit.same (suc k.0)) ∙ clause_read held k.0 c k.1 k.2) opening.3
+    held_stand held resting variables es fit (suc k.0) c l (clause_read held k.0 c k.1 k.2) opening.3
 
 -- what was learned names nothing
 name_same : (es more : List Entry) → EachOf IsLearnedEntry more es → (v : ℕ) → name_of (more ++ es) v ≡ name_of es v

@@ -5,7 +5,9 @@ use Rattle.dq_lits.specs.Derivation.{holds, status_of, falsified, unit}
 use Rattle.hint_log.specs.Conditions.{AreNamed, AreIds}
 use Rattle.hint_log.specs.Entries.{ProofLog, Answer, with_entry, last_id}
 use Rattle.oracle.specs.Calls.{IsRefutedUnder}
-use Rattle.oracle.specs.Fit.{Fit, live_in}
+use Rattle.oracle.specs.Fit.{live_in}
+use Rattle.learning_trail.specs.Resting.{HeldFit}
+use Rattle.learning_trail.proofs.RestingClauses.{held_stand}
 use Rattle.learning_trail.specs.Analyses.{IsAnalysis, AllStand}
 use Rattle.learning_trail.specs.Answering.{IsAnswering, StaysFit}
 use Rattle.learning_trail.specs.Backing.{IsKeeping}
@@ -26,11 +28,11 @@ use Rattle.truth_values.proofs.HeldLiterals.{opposite-opposite}
 module _ (assumptions : List Literal) (held : List (List Literal)) (trail : Trailed) (notes : Noted) (log : ProofLog)
     (sought : IsAnswering assumptions held trail notes log) where
   pub sought_markable : AreMarkable (length notes.marks) held
-  sought_markable = clauses_within held sought.variables (length notes.marks) log.entries sought.fit
+  sought_markable = clauses_within held sought.resting sought.variables (length notes.marks) log.entries sought.fit
       (omega (arith, sought.room, sought.marks))
 
   pub sought_stand : AllStand log.entries (live_in held)
-  sought_stand id d l at h = sought.fit.negated id d l (sym (sought.fit.same id) ∙ at) h
+  sought_stand = held_stand held sought.resting sought.variables log.entries sought.fit
 
   -- all of the trail is taken back
   pub sought_concluded : (new : Trailed) (now noted : Noted) → AreAssumed assumptions trail.steps →
@@ -53,13 +55,13 @@ module _ (assumptions : List Literal) (held : List (List Literal)) (trail : Trai
   pub concluded_named : (noted : Noted) → IsConcluded log.entries (live_in held) assumptions noted →
       AreNamed log.entries noted.literals
   concluded_named noted done =
-      answer_named assumptions held sought.variables log noted.literals noted.marks noted.hints sought.fit sought.named
+      answer_named assumptions held sought.resting sought.variables log noted.literals noted.marks noted.hints sought.fit sought.awake sought.named
       done.negated done.analysis
 
   pub concluded_ids : (noted : Noted) → IsConcluded log.entries (live_in held) assumptions noted →
       AreIds log.entries noted.hints
   concluded_ids noted done =
-      answer_ids assumptions held sought.variables log noted.literals noted.marks noted.hints sought.fit sought.named
+      answer_ids assumptions held sought.resting sought.variables log noted.literals noted.marks noted.hints sought.fit sought.awake sought.named
       done.negated done.analysis
 
   pub concluded_refuted : (noted : Noted) → IsConcluded log.entries (live_in held) assumptions noted →
@@ -67,18 +69,18 @@ module _ (assumptions : List Literal) (held : List (List Literal)) (trail : Trai
       → new ≡ with_entry log (Answer noted.literals noted.hints) → id ≡ last_id new.entries →
       IsRefutedUnder log new assumptions id
   concluded_refuted noted done new id is last =
-      answer_refuted assumptions held sought.variables log noted.literals noted.marks noted.hints sought.fit
+      answer_refuted assumptions held sought.resting sought.variables log noted.literals noted.marks noted.hints sought.fit sought.awake
       sought.named done.negated done.analysis new id is last
 
   pub concluded_fit : (noted : Noted) → IsConcluded log.entries (live_in held) assumptions noted →
       (now : List (List Literal)) (new : ProofLog)
       → now ≡ held ++ noted.literals ∷ [] → new ≡ with_entry log (Answer noted.literals noted.hints) →
-      StaysFit held now log new
-  concluded_fit noted done now new longer is variables fit =
-      subst (λ (cs : List (List Literal)). Fit cs variables new.entries) (sym longer)
-      (subst (λ (l : ProofLog). Fit (held ++ noted.literals ∷ []) variables l.entries) (sym is)
-      (answer_fit assumptions held variables log noted.literals noted.marks noted.hints fit sought.named done.negated
-      done.analysis))
+      StaysFit assumptions held now log new
+  concluded_fit noted done now new longer is resting variables awake fit =
+      subst (λ (cs : List (List Literal)). HeldFit cs resting variables new.entries) (sym longer)
+      (subst (λ (l : ProofLog). HeldFit (held ++ noted.literals ∷ []) resting variables l.entries) (sym is)
+      (answer_fit assumptions held resting variables log noted.literals noted.marks noted.hints fit awake sought.named
+      done.negated done.analysis))
 
   -- the notes of a falsified clause
   pub analysis_of_conflict : (conflict : ℕ) (now : Noted) → status_of (literals_of trail.steps) (live_in held conflict)
@@ -126,7 +128,9 @@ module _ (assumptions : List Literal) (held : List (List Literal)) (trail : Trai
         IsAnswering assumptions held new now log
     below_sought now room marks = record {
       variables = sought.variables;
+      resting = sought.resting;
       fit = sought.fit;
+      awake = sought.awake;
       sound = (back_sound log.entries held assumptions trail.steps new.steps step a sought.sound sought.guided shrunk
           still same assumed).1;
       guided = (back_guided log.entries held assumptions trail.steps new.steps step a sought.sound sought.guided shrunk

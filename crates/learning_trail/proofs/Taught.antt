@@ -9,7 +9,8 @@ use Rattle.hint_log.specs.Entries.{Entry}
 use Rattle.hint_log.specs.Entries.{Learned}
 use Rattle.hint_log.specs.Conditions.{AreNamed, AreIds, IsId}
 use Rattle.hint_log.specs.Entries.{ProofLog, with_entry, clause_at, name_of, last_id}
-use Rattle.oracle.specs.Fit.{Fit, live_in}
+use Rattle.oracle.specs.Fit.{live_in}
+use Rattle.learning_trail.specs.Resting.{HeldFit}
 use Rattle.oracle.specs.Limits.{HasNextLemma}
 use Rattle.oracle.specs.Searched.{Stands}
 use Rattle.learning_trail.specs.Growing.{HasLearned}
@@ -21,15 +22,17 @@ use Rattle.learning_trail.specs.Lessons.{IsLesson, IsJump, IsLanded, landed}
 use Rattle.learning_trail.specs.Searching.{Searched, IsSearching}
 use Rattle.truth_values.proofs.HeldLiterals.{holds_first, holds_later}
 use Rattle.learning_trail.proofs.Lessons.{lesson_derived, lesson_new, lesson_tied, lesson_stands, lesson_active, lesson_sound, lesson_guided, lesson_lands, guided_later, trail_named}
-use Rattle.learning_trail.proofs.FitLogs.{fit_learned}
+use Rattle.learning_trail.proofs.FitLogs.{held_learned}
+use Rattle.learning_trail.proofs.RestingClauses.{held_stand}
 
-pub clauses_within : (held : List (List Literal)) (variables n : ℕ) (es : List Entry) → Fit held variables es →
-    variables < n → All (λ c. All (λ l. variable_of l < n) c) held
-clauses_within held variables n es fit low =
+pub clauses_within : (held : List (List Literal)) (resting : List Bool) (variables n : ℕ) (es : List Entry) →
+    HeldFit held resting variables es → variables < n → All (λ c. All (λ l. variable_of l < n) c) held
+clauses_within held resting variables n es fit low =
     All-from_get_or (λ (c : List Literal). All (λ (l : Literal). variable_of l < n) c) held [] (λ k lt.
     let c = get_or held k [] in
-    let at : clause_at es (suc k) ≡ Some c = sym (fit.same (suc k)) ∙ slice_get-get_or held k [] lt in
-    by c (λ l h. let r = fit.in_range (variable_of l) (fit.negated (suc k) c l at h).named in let hi = r.1 in
+    let at : live_in held (suc k) ≡ Some c = slice_get-get_or held k [] lt in
+    by c (λ l h. let r = fit.fit.in_range (variable_of l) (held_stand held resting variables es fit (suc k) c l at
+    h).named in let hi = r.1 in
     omega (arith, hi, low)))
   where
     by : (c : List Literal) → ((l : Literal) → holds c l ≡ true → variable_of l < n) → All (λ l. variable_of l < n) c
@@ -42,9 +45,9 @@ all_named es [] h = All-nil (λ (l : Literal). IsSome (name_of es (variable_of l
 all_named es (x ∷ c) h = All-cons (λ (l : Literal). IsSome (name_of es (variable_of l))) x c
     (h x (holds_first x c)).named (all_named es c (λ l m. h l (holds_later x c l m)))
 
-pub all_ids : (held : List (List Literal)) (variables : ℕ) (es : List Entry) (hints : List ℕ) → Fit held variables es →
-    ((h : ℕ) → Contains hints h → IsSome (live_in held h)) → AreIds es hints
-all_ids held variables es hints fit some id has = by id (some id has)
+pub all_ids : (held : List (List Literal)) (resting : List Bool) (variables : ℕ) (es : List Entry) (hints : List ℕ) →
+    HeldFit held resting variables es → ((h : ℕ) → Contains hints h → IsSome (live_in held h)) → AreIds es hints
+all_ids held resting variables es hints fit some id has = by id (some id has)
   where
     by : (i : ℕ) → IsSome (live_in held i) → IsId es i
     by zero h = absurd (false≢true h)
@@ -54,8 +57,9 @@ all_ids held variables es hints fit some id has = by id (some id has)
         at None e n = absurd (false≢true n)
         at (Some c) e n =
             let lt = slice_get_within held i c e in
-            let count = fit.count in
-            record { from_one = omega arith; last = omega (arith, lt, count) }
+            let count = fit.fit.count in
+            let whole = fit.count in
+            record { from_one = omega arith; last = omega (arith, lt, count, whole) }
 
 guided_learned : (es : List Entry) (c : List Literal) (hs : List ℕ) (assumptions : List Literal) (steps : List Step) →
     IsGuided es assumptions steps → IsGuided (Learned c hs ∷ es) assumptions steps
@@ -69,44 +73,43 @@ module _ (assumptions : List Literal) (s : Searched) (log : ProofLog) (new : Tra
     (chosen : holds assumptions d ≡ false)
     (lesson : IsLesson (live_in s.clauses) s.trail new step marks clause hints) where
   pub learn_named : AreNamed log.entries clause
-  learn_named = all_named log.entries clause (lesson_stands log.entries assumptions s.clauses s.variables s.trail new
-      step marks clause hints d searching.fit searching.sound searching.guided decided chosen lesson)
+  learn_named = all_named log.entries clause (lesson_stands log.entries assumptions s.clauses s.resting s.variables s.trail new
+      step marks clause hints d searching.fit searching.awake searching.sound searching.guided decided chosen lesson)
 
   pub learn_ids : AreIds log.entries hints
-  learn_ids = all_ids s.clauses s.variables log.entries hints searching.fit
-      (lesson.analysis log.entries (λ id c l at h. searching.fit.negated id c l
-      (sym (searching.fit.same id) ∙ at) h)).ids
+  learn_ids = all_ids s.clauses s.resting s.variables log.entries hints searching.fit
+      (lesson.analysis log.entries (held_stand s.clauses s.resting s.variables log.entries searching.fit)).ids
 
   sound_here : IsSound (live_in s.clauses) (step ∷ new.steps)
-  sound_here = lesson_sound log.entries assumptions s.clauses s.variables s.trail new step marks clause hints d
-      searching.fit searching.sound searching.guided decided chosen lesson
+  sound_here = lesson_sound log.entries assumptions s.clauses s.resting s.variables s.trail new step marks clause hints d
+      searching.fit searching.awake searching.sound searching.guided decided chosen lesson
 
   pub learn_step : IsSound (live_in s.clauses) (step ∷ new.steps)
   learn_step = sound_here
 
   guided_here : IsGuided log.entries assumptions (step ∷ new.steps)
-  guided_here = lesson_guided log.entries assumptions s.clauses s.variables s.trail new step marks clause hints d
-      searching.fit searching.sound searching.guided decided chosen lesson
+  guided_here = lesson_guided log.entries assumptions s.clauses s.resting s.variables s.trail new step marks clause hints d
+      searching.fit searching.awake searching.sound searching.guided decided chosen lesson
 
   pub learn_in_range : variable_of step.literal ≤ s.variables
   learn_in_range =
       let named = trail_named log.entries assumptions s.clauses (step ∷ new.steps)
-      (λ id c k at h. searching.fit.negated id c k (sym (searching.fit.same id) ∙ at) h) sound_here guided_here
+      (held_stand s.clauses s.resting s.variables log.entries searching.fit) sound_here guided_here
       step.literal (holds_first step.literal (literals_of new.steps)) in
-      (searching.fit.in_range (variable_of step.literal) named).1
+      (searching.fit.fit.in_range (variable_of step.literal) named).1
 
   pub learn_free : IsFree (literals_of new.steps) step.literal
   learn_free = sound_here.0.free
 
-  pub learn_fit : Fit (s.clauses ++ clause ∷ []) s.variables (Learned clause hints ∷ log.entries)
-  learn_fit = fit_learned s.clauses s.variables log.entries clause hints searching.fit learn_named learn_ids
-      (lesson_derived log.entries assumptions s.clauses s.variables s.trail new step marks clause hints d searching.fit
+  pub learn_fit : HeldFit (s.clauses ++ clause ∷ []) s.resting s.variables (Learned clause hints ∷ log.entries)
+  learn_fit = held_learned s.clauses s.resting s.variables log.entries clause searching.fit hints learn_named learn_ids
+      (lesson_derived log.entries assumptions s.clauses s.resting s.variables s.trail new step marks clause hints d searching.fit searching.awake
       searching.sound searching.guided decided chosen lesson)
-      (lesson_new log.entries assumptions s.clauses s.variables s.trail new step marks clause hints d searching.fit
+      (lesson_new log.entries assumptions s.clauses s.resting s.variables s.trail new step marks clause hints d searching.fit searching.awake
       searching.sound searching.guided decided chosen lesson)
-      (lesson_tied log.entries assumptions s.clauses s.variables s.trail new step marks clause hints d searching.fit
+      (lesson_tied log.entries assumptions s.clauses s.resting s.variables s.trail new step marks clause hints d searching.fit searching.awake
       searching.sound searching.guided decided chosen lesson)
-      (lesson_stands log.entries assumptions s.clauses s.variables s.trail new step marks clause hints d searching.fit
+      (lesson_stands log.entries assumptions s.clauses s.resting s.variables s.trail new step marks clause hints d searching.fit searching.awake
       searching.sound searching.guided decided chosen lesson)
 
   -- what could be learned, whether the log has room for it or not
@@ -114,21 +117,22 @@ module _ (assumptions : List Literal) (s : Searched) (log : ProofLog) (new : Tra
   learn_next = record {
     clause = clause;
     hints = hints;
-    derived = lesson_derived log.entries assumptions s.clauses s.variables s.trail new step marks clause hints d
-        searching.fit searching.sound searching.guided decided chosen lesson;
-    new = lesson_new log.entries assumptions s.clauses s.variables s.trail new step marks clause hints d searching.fit
+    derived = lesson_derived log.entries assumptions s.clauses s.resting s.variables s.trail new step marks clause hints d
+        searching.fit searching.awake searching.sound searching.guided decided chosen lesson;
+    new = lesson_new log.entries assumptions s.clauses s.resting s.variables s.trail new step marks clause hints d searching.fit searching.awake
         searching.sound searching.guided decided chosen lesson;
-    stands = lesson_stands log.entries assumptions s.clauses s.variables s.trail new step marks clause hints d
-        searching.fit searching.sound searching.guided decided chosen lesson;
-    active = lesson_active log.entries assumptions s.clauses s.variables s.trail new step marks clause hints d
-        searching.fit searching.sound searching.guided decided chosen lesson;
+    stands = lesson_stands log.entries assumptions s.clauses s.resting s.variables s.trail new step marks clause hints d
+        searching.fit searching.awake searching.sound searching.guided decided chosen lesson;
+    active = lesson_active log.entries assumptions s.clauses s.resting s.variables s.trail new step marks clause hints d
+        searching.fit searching.awake searching.sound searching.guided decided chosen lesson;
   }
 
   learn_sound : (back : Trailed) (id : ℕ) → IsJump new back marks → id ≡ last_id log.entries + 1 →
       IsSound (live_in (s.clauses ++ clause ∷ [])) (landed step id ∷ back.steps)
   learn_sound back id jump is =
-      let count = searching.fit.count in
-      let e : suc (length s.clauses) ≡ id = omega (arith, is, count) in
+      let count = searching.fit.fit.count in
+      let whole = searching.fit.count in
+      let e : suc (length s.clauses) ≡ id = omega (arith, is, count, whole) in
       subst (λ i. IsSound (live_in (s.clauses ++ clause ∷ [])) (landed step i ∷ back.steps)) e
       (lesson_lands s.clauses s.trail new back step marks clause hints sound_here lesson jump)
 

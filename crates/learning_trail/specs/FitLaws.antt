@@ -5,8 +5,9 @@ use Rattle.dq_lits.specs.Literal.{Literal}
 use Rattle.hint_log.specs.Entries.{Entry, Round, Begun}
 use Rattle.oracle.specs.Fit.{Fit}
 use Rattle.oracle.specs.Searched.{IsSearched}
+use Rattle.learning_trail.specs.Resting.{HeldFit}
 
-pub fit_searched : (held : List (List Literal)) (variables : ℕ) (entries : List Entry)
+fit_searched : (held : List (List Literal)) (variables : ℕ) (entries : List Entry)
     → Fit held variables entries → IsSearched entries
 fit_searched held variables entries fit =
     record {
@@ -19,7 +20,7 @@ fit_searched held variables entries fit =
       kept = fit.kept;
     }
 
-pub fit_round : (held : List (List Literal)) (variables : ℕ) (entries : List Entry)
+fit_round : (held : List (List Literal)) (variables : ℕ) (entries : List Entry)
     (row values : List Bool) (j : ℕ)
     → Fit held variables entries → Fit held variables (Round row values j ∷ entries)
 fit_round held variables entries row values j fit =
@@ -41,7 +42,7 @@ fit_round held variables entries row values j fit =
       kept = (tt, fit.kept);
     }
 
-pub fit_begun : (held : List (List Literal)) (variables : ℕ) (entries : List Entry)
+fit_begun : (held : List (List Literal)) (variables : ℕ) (entries : List Entry)
     (live : List ℕ) → Fit held variables entries → Fit held variables (Begun live ∷ entries)
 fit_begun held variables entries live fit =
     record {
@@ -60,4 +61,33 @@ fit_begun held variables entries live fit =
       new = (tt, fit.new);
       hinted = (tt, fit.hinted);
       kept = (tt, fit.kept);
+    }
+
+pub held_searched : (held : List (List Literal)) (resting : List Bool) (variables : ℕ)
+    (entries : List Entry) → HeldFit held resting variables entries → IsSearched entries
+held_searched held resting variables entries fit = fit_searched fit.whole variables entries fit.fit
+
+pub held_round : (held : List (List Literal)) (resting : List Bool) (variables : ℕ)
+    (entries : List Entry) (row values : List Bool) (j : ℕ)
+    → HeldFit held resting variables entries
+    → HeldFit held resting variables (Round row values j ∷ entries)
+held_round held resting variables entries row values j fit =
+    record {
+      whole = fit.whole;
+      fit = fit_round fit.whole variables entries row values j fit.fit;
+      count = fit.count;
+      same = fit.same;
+      selectors = fit.selectors;
+    }
+
+pub held_begun : (held : List (List Literal)) (resting : List Bool) (variables : ℕ)
+    (entries : List Entry) (live : List ℕ) → HeldFit held resting variables entries
+    → HeldFit held resting variables (Begun live ∷ entries)
+held_begun held resting variables entries live fit =
+    record {
+      whole = fit.whole;
+      fit = fit_begun fit.whole variables entries live fit.fit;
+      count = fit.count;
+      same = fit.same;
+      selectors = fit.selectors;
     }

@@ -11,6 +11,7 @@ pub mod Marks
 pub mod Noting
 pub mod Passes
 pub mod Pieces
+pub mod Resting
 pub mod Searching
 pub mod Sound
 pub mod Steps

@@ -45,7 +45,8 @@ pub fn answer_conflict<C: Clauses>(
     requires conflict { status_of (literals_of trail.old.steps)
         (live_in (C.clauses clauses.old) conflict) ≡ falsified }
     ensures ok { IfOk result (λ id. IsRefutedUnder log.old log.new assumptions.now id) }
-    ensures fit { StaysFit (C.clauses clauses.old) (C.clauses clauses.new) log.old log.new }
+    ensures fit { StaysFit assumptions.now (C.clauses clauses.old) (C.clauses clauses.new) log.old
+        log.new }
     ensures room { trail.new.room ≡ trail.old.room }
     ensures marks { length notes.new.marks ≡ length notes.old.marks }
     ensures err { OnErr result (log.new ≡ log.old) }
@@ -70,7 +71,8 @@ pub fn answer_false<C: Clauses>(
     requires assumed { holds assumptions.now assumption ≡ true }
     requires is_false { holds (literals_of trail.old.steps) (opposite assumption) ≡ true }
     ensures ok { IfOk result (λ id. IsRefutedUnder log.old log.new assumptions.now id) }
-    ensures fit { StaysFit (C.clauses clauses.old) (C.clauses clauses.new) log.old log.new }
+    ensures fit { StaysFit assumptions.now (C.clauses clauses.old) (C.clauses clauses.new) log.old
+        log.new }
     ensures room { trail.new.room ≡ trail.old.room }
     ensures marks { length notes.new.marks ≡ length notes.old.marks }
     ensures err { OnErr result (log.new ≡ log.old) }
@@ -107,7 +109,8 @@ fn answer<C: Clauses>(
         (literals_of trail.old.steps) (map opposite notes.old.literals) notes.old.marks
         (reverse notes.old.hints) }
     ensures ok { IfOk result (λ id. IsRefutedUnder log.old log.new assumptions.now id) }
-    ensures fit { StaysFit (C.clauses clauses.old) (C.clauses clauses.new) log.old log.new }
+    ensures fit { StaysFit assumptions.now (C.clauses clauses.old) (C.clauses clauses.new) log.old
+        log.new }
     ensures room { trail.new.room ≡ trail.old.room }
     ensures marks { length notes.new.marks ≡ length notes.old.marks }
     ensures err { OnErr result (log.new ≡ log.old) }
