@@ -1,6 +1,5 @@
 -- Where another literal of a clause isn't false: behind a place, and before it.
-use Rattle.std.proofs.Common.{◌≡◌, ◌≢◌, ◌==◌, ◌||◌, ℕ, zero, suc, ◌+◌, ◌≤◌, ◌<◌, Bool, true, false, List, [], ◌∷◌, ◌++◌, take, drop, length, get_or, inl, inr, Option, None, Some, MatchOption, refl, sym, ◌∙◌, ap, subst, arith}
-use Rattle.std.specs.List.{list_any}
+use Rattle.std.proofs.Common.{◌≡◌, ◌≢◌, ◌==◌, ◌||◌, ℕ, zero, suc, ◌+◌, ◌≤◌, ◌<◌, Bool, true, false, List, [], ◌∷◌, ◌++◌, take, drop, length, inl, inr, Option, None, Some, MatchOption, refl, sym, ◌∙◌, ap, arith}
 use Rattle.std.proofs.lemmas.Bool.{false≢true, eqb-true, eqb-false, or_cases, or_left, or_right}
 use Rattle.std.proofs.lemmas.List.{get_or-drop, length-drop, take-append-drop}
 use Rattle.std.proofs.lemmas.List.Folds.{list_any-append}
@@ -8,7 +7,7 @@ use Rattle.dq_lits.specs.Literal.{Literal, positive, opposite, same_literal}
 use Rattle.dq_lits.specs.Derivation.{holds}
 use Rattle.truth_values.proofs.HeldLiterals.{same_literal-refl, same_literal-sound}
 use Rattle.cdcl_core.specs.Chains.{watch_at}
-use Rattle.cdcl_core.specs.Visits.{AreOthersFalse, IsOther, IsOtherAt}
+use Rattle.cdcl_core.specs.Visits.{AreOthersFalse, IsOther}
 
 -- the literals from one place on, before another, are false but for one
 abbrev pub AreFalseBetween : List Literal → List Literal → Literal → ℕ → ℕ → Type 0

@@ -10,6 +10,7 @@ pub at_search : (assumptions : List Literal) (s : Searcher) (log : ProofLog) →
     IsAtSearch assumptions (searched s) log
 at_search assumptions s log r = record {
   fit = r.fit;
+  awake = r.awake;
   sound = r.sound;
   guided = r.guided;
   room = r.room;

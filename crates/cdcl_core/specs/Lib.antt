@@ -6,4 +6,5 @@ pub mod Searching
 pub mod Solver
 pub mod Storage
 pub mod Visits
+pub mod Waking
 pub mod Watching

@@ -5,7 +5,8 @@ use Rattle.hint_log.specs.Entries.{ProofLog, steps_of}
 use Rattle.oracle.specs.declared.oracles.Answer.{Answer}
 use Rattle.learning_trail.specs.Growing.{HasLearned}
 use Rattle.learning_trail.specs.Searching.{Searched, IsAnswered as IsAnsweredBy}
-use Rattle.oracle.specs.Fit.{Fit, live_in}
+use Rattle.oracle.specs.Fit.{live_in}
+use Rattle.learning_trail.specs.Resting.{HeldFit, AreAwake}
 use Rattle.learning_trail.specs.Steps.{literals_of}
 use Rattle.learning_trail.specs.Sound.{IsSound, IsGuided}
 use Rattle.cdcl_core.specs.declared.searchers.Searcher.{Searcher}
@@ -16,6 +17,7 @@ abbrev pub searched : Searcher → Searched
 searched s =
     record {
       clauses = s.clauses.clauses;
+      resting = s.resting.flags.items;
       variables = s.variables;
       trail = s.trail;
       notes = s.notes;
@@ -23,7 +25,8 @@ searched s =
 
 -- the searcher goes with the log, and its trail is one
 pub record IsSearching (assumptions : List Literal) (s : Searcher) (log : ProofLog) : Type 0 where
-  pub fit : Fit s.clauses.clauses s.variables log.entries
+  pub fit : HeldFit s.clauses.clauses s.resting.flags.items s.variables log.entries
+  pub awake : AreAwake s.resting.flags.items assumptions
   pub sound : IsSound (live_in s.clauses.clauses) s.trail.steps
   pub guided : IsGuided log.entries assumptions s.trail.steps
   pub room : s.variables ≤ s.trail.room

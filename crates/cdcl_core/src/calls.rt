@@ -6,29 +6,31 @@ ghost use Rattle.dq_lits.specs.Derivation.{is_tautology};
 ghost use Rattle.hint_log.specs.Conditions.{AreNamed};
 ghost use Rattle.hint_log.specs.Entries.{last_id, with_entry, clause_at};
 ghost use Rattle.hint_log.specs.Entries.{Given};
-ghost use Rattle.oracle.specs.Fit.{Fit};
+ghost use Rattle.learning_trail.specs.Resting.{HeldFit};
 ghost use Rattle.oracle.specs.Calls.{IsMade, IsPlain, IsModelUnder, IsRefutedUnder, assumed};
 ghost use Rattle.oracle.specs.Limits.{IsAtLimit};
 ghost use Rattle.learning_trail.specs.Growing.{HasLearned};
 ghost use Rattle.learning_trail.specs.Steps.{literals_of};
 ghost use Rattle.truth_values.specs.Truth.{literal_value};
 ghost use Rattle.learning_trail.specs.Searching.{AreAssumptions};
+ghost use Rattle.cdcl_core.specs.Solver.{value_on};
 ghost use Rattle.cdcl_core.specs.Searching.{IsReady, HasRoom, KeepsPlaces, IsSearching, IsAnswered};
 ghost use Rattle.truth_values.specs.declared.values.TruthValue.TheVariants.{True};
 
 use crate::clauses::ClauseStore;
 use crate::search::search;
 use crate::searchers::Searcher;
+use crate::waking::wake;
 use dq_lits::{Lit, Memory};
 use hint_log::{Log, Origin, Stop};
-use learning_trail::{Assumptions, back_to_start, keep_values};
+use learning_trail::{Assumptions, back_to_start};
 use oracle::{Answer, Group};
 use std::alloc::Global;
 
 const FIRST_TOO_LARGE: u64 = 1 << 62;
 
 /// Room for one variable more, and its number.
-pub(crate) fn grow(s: &mut Searcher, model: &mut Vec<bool>) -> Result<u64, Memory>
+pub(crate) fn grow(s: &mut Searcher) -> Result<u64, Memory>
     requires room { s.old.variables ≤ s.old.trail.room }
     requires marks { HasRoom s.old }
     requires few { s.old.variables < 2 ^ 62 }
@@ -36,18 +38,16 @@ pub(crate) fn grow(s: &mut Searcher, model: &mut Vec<bool>) -> Result<u64, Memor
     ensures in_range { IfOk result (λ v. v < 2 ^ 62) }
     ensures variables { s.new.variables ≡ s.old.variables }
     ensures clauses { s.new.clauses.clauses ≡ s.old.clauses.clauses }
+    ensures resting { s.new.resting ≡ s.old.resting }
     ensures steps { s.new.trail.steps ≡ s.old.trail.steps }
     ensures room { s.old.trail.room ≤ s.new.trail.room }
     ensures room_ok { OnOk result (s.old.variables + 1 ≤ s.new.trail.room) }
     ensures marks { HasRoom s.new }
-    ensures model { model.new.items ≡ model.old.items }
-    ensures capacity { OnOk result (length model.new.items + 1 ≤ vec_capacity model.new) }
 {
     let var = s.variables + 1;
     if var >= FIRST_TOO_LARGE {
         return Err(Memory);
     }
-    model.reserve(1)?;
     s.focus.grow()?;
     s.notes.begin()?;
     s.notes.grow()?;
@@ -77,51 +77,48 @@ pub(crate) fn keep_given(
     Ok(id)
 }
 
-/// Searches for values, and keeps them. It leaves nothing on the trail.
+/// Searches for values. Where it finds some, they stay on the trail.
 pub(crate) fn find(
     s: &mut Searcher,
-    model: &mut [bool],
     active: &[Group],
     assume: &[Lit],
     log: &mut Log,
 ) -> Result<Answer, Stop>
-    requires fit { Fit s.old.clauses.clauses s.old.variables log.old.entries }
+    requires fit { HeldFit s.old.clauses.clauses s.old.resting.flags.items s.old.variables
+        log.old.entries }
     requires made { All (IsMade log.old.entries) active.now }
     requires plain { All (IsPlain log.old.entries) assume.now }
     requires apart { is_tautology assume.now ≡ false }
-    requires bare { s.old.trail.steps ≡ [] }
     requires room { s.old.variables ≤ s.old.trail.room }
     requires marks { HasRoom s.old }
     requires few { s.old.variables < 2 ^ 62 }
-    requires model { length model.old ≡ s.old.variables }
     ensures sat { result ≡ Ok Answer.Sat → HasLearned log.old log.new
-        × IsModelUnder (λ v. slice_index_or model.new (v - 1) false) (clause_at log.new.entries)
+        × IsModelUnder (value_on s.new.trail.steps) (clause_at log.new.entries)
         (assumed active.now assume.now) }
     ensures unsat { (id : ℕ) → result ≡ Ok (Answer.Unsat id)
         → IsRefutedUnder log.old log.new (assumed active.now assume.now) id }
-    ensures fit { Fit s.new.clauses.clauses s.new.variables log.new.entries }
-    ensures bare { s.new.trail.steps ≡ [] }
+    ensures fit { HeldFit s.new.clauses.clauses s.new.resting.flags.items s.new.variables
+        log.new.entries }
     ensures variables { s.new.variables ≡ s.old.variables }
     ensures room { s.new.trail.room ≡ s.old.trail.room }
     ensures marks { HasRoom s.new }
-    ensures model { length model.new ≡ length model.old }
     ensures stop { OnErr result (HasLearned log.old log.new) }
     ensures limit { result ≡ Err Stop.Limit → IsAtLimit log.new (assumed active.now assume.now) }
 {
+    back_to_start(&mut s.trail);
+    wake(s, active, log)?;
     s.notes.begin()?;
     s.focus.begin(&s.activities)?;
     s.positions.begin();
     let assumptions = Assumptions::new(active, assume);
-    let found = search_and_keep(s, model, &assumptions, log);
+    let found = search_and_keep(s, &assumptions, log);
     s.focus.end();
-    back_to_start(&mut s.trail);
     found
 }
 
-// Searches, and keeps the values that were found.
+// Searches, and notes the values that were found of what is in focus.
 fn search_and_keep(
     s: &mut Searcher,
-    model: &mut [bool],
     assumptions: &Assumptions,
     log: &mut Log,
 ) -> Result<Answer, Stop>
@@ -130,21 +127,19 @@ fn search_and_keep(
     requires few_steps { length s.old.trail.steps ≤ s.old.trail.room }
     requires assumptions { AreAssumptions log.old assumptions.now }
     requires few { s.old.variables < 2 ^ 62 }
-    requires model { length model.old ≡ s.old.variables }
     ensures sat { result ≡ Ok Answer.Sat → HasLearned log.old log.new
-        × IsModelUnder (λ v. slice_index_or model.new (v - 1) false) (clause_at log.new.entries)
+        × IsModelUnder (value_on s.new.trail.steps) (clause_at log.new.entries)
         assumptions.now }
     ensures unsat { (id : ℕ) → result ≡ Ok (Answer.Unsat id)
         → IsRefutedUnder log.old log.new assumptions.now id }
-    ensures fit { Fit s.new.clauses.clauses s.new.variables log.new.entries }
+    ensures fit { HeldFit s.new.clauses.clauses s.new.resting.flags.items s.new.variables
+        log.new.entries }
     ensures places { KeepsPlaces s.old s.new }
-    ensures model { length model.new ≡ length model.old }
     ensures stop { OnErr result (HasLearned log.old log.new) }
     ensures limit { result ≡ Err Stop.Limit → IsAtLimit log.new assumptions.now }
 {
     match search(s, assumptions, log)? {
         Answer::Sat => {
-            keep_values(model, &s.trail);
             s.focus.keep(&s.trail);
             Ok(Answer::Sat)
         }

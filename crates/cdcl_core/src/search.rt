@@ -11,7 +11,8 @@ ghost use Rattle.dq_lits.specs.Derivation.{holds, status_of, falsified};
 ghost use Rattle.hint_log.specs.Entries.{name_of};
 ghost use Rattle.hint_log.specs.Naming.{is_selector};
 ghost use Rattle.hint_log.specs.ProductiveLog.{IsClosed};
-ghost use Rattle.oracle.specs.Fit.{Fit, live_in};
+ghost use Rattle.oracle.specs.Fit.{live_in};
+ghost use Rattle.learning_trail.specs.Resting.{HeldFit};
 ghost use Rattle.oracle.specs.Limits.{IsAtLimit};
 ghost use Rattle.learning_trail.specs.Growing.{HasLearned};
 ghost use Rattle.learning_trail.specs.Steps.{literals_of};
@@ -41,7 +42,8 @@ pub(crate) fn search(
     requires few { length s.old.trail.steps ≤ s.old.trail.room }
     requires assumptions { AreAssumptions log.old assumptions.now }
     ensures ok { IfOk result (λ found. IsAnswered assumptions.now s.new log.old log.new found) }
-    ensures fit { Fit s.new.clauses.clauses s.new.variables log.new.entries }
+    ensures fit { HeldFit s.new.clauses.clauses s.new.resting.flags.items s.new.variables
+        log.new.entries }
     ensures places { KeepsPlaces s.old s.new }
     ensures stop { OnErr result (HasLearned log.old log.new) }
     ensures limit { result ≡ Err Stop.Limit → IsAtLimit log.new assumptions.now }
@@ -71,7 +73,8 @@ fn turn(
     ensures ok { IfOk result
         (λ found. MatchOption found (IsTurn assumptions.now s.old s.new log.old log.new)
         (λ f. IsAnswered assumptions.now s.new log.old log.new f)) }
-    ensures fit { Fit s.new.clauses.clauses s.new.variables log.new.entries }
+    ensures fit { HeldFit s.new.clauses.clauses s.new.resting.flags.items s.new.variables
+        log.new.entries }
     ensures places { KeepsPlaces s.old s.new }
     ensures stop { OnErr result (HasLearned log.old log.new) }
     ensures limit { result ≡ Err Stop.Limit → IsAtLimit log.new assumptions.now }
@@ -103,7 +106,8 @@ fn conflict(
     ensures ok { IfOk result
         (λ found. MatchOption found (IsTurn assumptions.now s.old s.new log.old log.new)
         (λ f. IsAnswered assumptions.now s.new log.old log.new f)) }
-    ensures fit { Fit s.new.clauses.clauses s.new.variables log.new.entries }
+    ensures fit { HeldFit s.new.clauses.clauses s.new.resting.flags.items s.new.variables
+        log.new.entries }
     ensures places { KeepsPlaces s.old s.new }
     ensures stop { OnErr result (HasLearned log.old log.new) }
     ensures limit { result ≡ Err Stop.Limit → IsAtLimit log.new assumptions.now }
@@ -146,7 +150,8 @@ fn go_on(
     ensures ok { IfOk result
         (λ found. MatchOption found (IsTurn assumptions.now s.old s.new log.old log.new)
         (λ f. IsAnswered assumptions.now s.new log.old log.new f)) }
-    ensures fit { Fit s.new.clauses.clauses s.new.variables log.new.entries }
+    ensures fit { HeldFit s.new.clauses.clauses s.new.resting.flags.items s.new.variables
+        log.new.entries }
     ensures places { KeepsPlaces s.old s.new }
     ensures err { OnErr result (log.new ≡ log.old) }
 {
@@ -183,7 +188,8 @@ fn settle(s: &mut Searcher, assumptions: &Assumptions, log: &Log) -> Option<Answ
         → holds (literals_of s.new.trail.steps) t ≡ true }
     ensures ok { MatchOption result (IsTurn assumptions.now s.old s.new log.now log.now)
         (λ f. IsAnswered assumptions.now s.new log.now log.now f) }
-    ensures fit { Fit s.new.clauses.clauses s.new.variables log.now.entries }
+    ensures fit { HeldFit s.new.clauses.clauses s.new.resting.flags.items s.new.variables
+        log.now.entries }
     ensures places { KeepsPlaces s.old s.new }
 {
     match focused(s, log) {
@@ -206,7 +212,8 @@ fn decide_open(s: &mut Searcher, assumptions: &Assumptions, log: &Log) -> Option
         → holds (literals_of s.new.trail.steps) t ≡ true }
     ensures ok { MatchOption result (IsTurn assumptions.now s.old s.new log.now log.now)
         (λ f. IsAnswered assumptions.now s.new log.now log.now f) }
-    ensures fit { Fit s.new.clauses.clauses s.new.variables log.now.entries }
+    ensures fit { HeldFit s.new.clauses.clauses s.new.resting.flags.items s.new.variables
+        log.now.entries }
     ensures places { KeepsPlaces s.old s.new }
 {
     match open_clause(&s.trail, &s.clauses, &s.activities, &s.positions) {
@@ -222,7 +229,8 @@ fn decide_open(s: &mut Searcher, assumptions: &Assumptions, log: &Log) -> Option
 
 // A literal on a variable in focus, if one has no value. Selectors aren't decided.
 fn focused(s: &mut Searcher, log: &Log) -> Option<Lit>
-    requires fit { Fit s.old.clauses.clauses s.old.variables log.now.entries }
+    requires fit { HeldFit s.old.clauses.clauses s.old.resting.flags.items s.old.variables
+        log.now.entries }
     ensures same { s.new ≡ record s.old { focus = s.new.focus } }
     ensures free { IfSome result (IsFree (literals_of s.old.trail.steps)) }
     ensures named { IfSome result (λ l. IsSome (name_of log.now.entries (variable_of l))) }

@@ -1,11 +1,13 @@
 //! The solver as a value, and its calls as an oracle.
 
-ghost use Rattle.std.specs.Prelude.{◌≡◌, ◌≤◌, ◌<◌, ◌-◌, ◌^◌, false};
+ghost use Rattle.std.specs.Prelude.{◌≡◌, ◌≤◌, ◌<◌, ◌^◌};
+ghost use Rattle.cdcl_core.specs.Solver.{is_on};
 
 use crate::calls::{find, grow, keep_given};
 use crate::clauses::ClauseStore;
 use crate::focus::Focus;
 use crate::positions::Positions;
+use crate::resting::Resting;
 use crate::searchers::Searcher;
 use dq_lits::{Lit, Memory};
 use hint_log::{Log, Name, Origin, Stop};
@@ -13,13 +15,13 @@ use learning_trail::{Activities, Notes, Restarts, Trail, group_clause};
 use oracle::{Answer, Group, Oracle, Tenant};
 use std::alloc::Global;
 use std::marker::Model;
+use truth_values::TruthValue;
 
 /// A solver that learns clauses.
 #[derive(Drop)]
 pub struct Cdcl {
     searcher: Searcher,
-    // The value of variable v at place v - 1.
-    model: Vec<bool>,
+    // Whether its trail stands as the last search found it.
     is_told: bool,
 }
 
@@ -35,11 +37,11 @@ impl Model for Cdcl {
 
 impl Cdcl {
     ghost use Rattle.std.specs.Prelude.{[]};
-    ghost use Rattle.oracle.specs.Fit.{Fit};
+    ghost use Rattle.learning_trail.specs.Resting.{HeldFit};
 
     /// No clauses and no variables. It takes no memory.
     pub fn new(alloc: Global) -> Cdcl
-        ensures fit { Fit result.held result.variables [] }
+        ensures fit { HeldFit result.held result.resting result.variables [] }
     {
         Cdcl {
             searcher: Searcher {
@@ -52,25 +54,25 @@ impl Cdcl {
                 restarts: Restarts::new(),
                 positions: Positions::new(alloc),
                 focus: Focus::new(alloc),
+                resting: Resting::new(alloc),
             },
-            model: Vec::new(alloc),
             is_told: false,
         }
     }
 }
 
 impl Oracle for Cdcl {
-    ghost use Rattle.std.specs.Prelude.{slice_index_or};
-    ghost use Rattle.oracle.specs.Fit.{Fit};
-    ghost use Rattle.learning_trail.specs.FitLaws.{fit_searched, fit_round, fit_begun};
+    ghost use Rattle.learning_trail.specs.Resting.{HeldFit};
+    ghost use Rattle.learning_trail.specs.FitLaws.{held_searched, held_round, held_begun};
+    ghost use Rattle.cdcl_core.specs.Solver.{value_on};
 
-    ghost Fits = { λ s log. Fit s.held s.variables log.entries };
+    ghost Fits = { λ s log. HeldFit s.held s.resting s.variables log.entries };
 
     ghost HasVariable = { λ s v. (1 ≤ v) × (v ≤ s.variables) };
 
     ghost is_told = { λ s. s.is_told };
 
-    ghost values = { λ s v. slice_index_or s.model (v - 1) false };
+    ghost values = { λ s v. value_on s.steps v };
 
     fn tenant(&mut self) -> Result<Tenant, Memory> {
         Ok(Tenant)
@@ -81,18 +83,17 @@ impl Oracle for Cdcl {
     }
 
     fn new_var(&mut self, name: Name, log: &mut Log) -> Result<u64, Memory> {
-        let var = grow(&mut self.searcher, &mut self.model)?;
+        let var = grow(&mut self.searcher)?;
         log.named(var, name)?;
-        self.model.push(false).unwrap();
         self.searcher.variables = var;
         self.is_told = false;
         Ok(var)
     }
 
     fn group(&mut self, _who: &Tenant, log: &mut Log) -> Result<Group, Memory> {
-        let var = grow(&mut self.searcher, &mut self.model)?;
+        let var = grow(&mut self.searcher)?;
+        self.searcher.resting.made(var)?;
         log.named(var, Name::Selector { group: var })?;
-        self.model.push(false).unwrap();
         self.searcher.variables = var;
         self.is_told = false;
         Ok(Group {
@@ -115,7 +116,7 @@ impl Oracle for Cdcl {
 
     fn solve(&mut self, active: &[Group], assume: &[Lit], log: &mut Log) -> Result<Answer, Stop> {
         self.is_told = false;
-        match find(&mut self.searcher, &mut self.model, active, assume, log)? {
+        match find(&mut self.searcher, active, assume, log)? {
             Answer::Sat => {
                 self.is_told = true;
                 Ok(Answer::Sat)
@@ -125,17 +126,27 @@ impl Oracle for Cdcl {
     }
 
     fn value(&self, v: u64) -> bool {
-        self.model[v as usize - 1]
+        is_on(self.searcher.trail.value(Lit::pos(v)))
     }
 
-    ghost searched = { λ s log fit. fit_searched s.held s.variables log.entries fit };
+    ghost searched = { λ s log fit. held_searched s.held s.resting s.variables log.entries fit };
 
-    ghost made = { λ s log v fit named. fit.in_range v named };
+    ghost made = { λ s log v fit named. fit.fit.in_range v named };
 
     ghost round = { λ s log row values j fit.
-        fit_round s.held s.variables log.entries row values j fit };
+        held_round s.held s.resting s.variables log.entries row values j fit };
 
     ghost limit = { λ s log limit fit. fit };
 
-    ghost begun = { λ s log live fit. fit_begun s.held s.variables log.entries live fit };
+    ghost begun = { λ s log live fit. held_begun s.held s.resting s.variables log.entries live fit };
+}
+
+fn is_on(value: TruthValue) -> bool
+    ensures { result ≡ is_on value }
+{
+    match value {
+        TruthValue::True => true,
+        TruthValue::False => false,
+        TruthValue::Unassigned => false,
+    }
 }

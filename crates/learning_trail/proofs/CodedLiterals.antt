@@ -1,11 +1,10 @@
 -- Literals by numbers.
-use Rattle.std.proofs.Common.{◌≡◌, ℕ, ◌+◌, ◌*◌, ◌/◌, ◌%◌, ◌==◌, ◌<◌, Bool, true, false, cond, inl, inr, refl, sym, ◌∙◌, ap, arith}
+use Rattle.std.proofs.Common.{◌≡◌, ℕ, ◌+◌, ◌*◌, ◌/◌, ◌%◌, ◌==◌, ◌<◌, Bool, true, false, cond, refl, ◌∙◌, ap, arith}
 use Rattle.std.proofs.Math.Nat.{mod-lt}
-use Rattle.std.proofs.lemmas.Bool.{cases_eq, eq-eqb, ne_eqb}
+use Rattle.std.proofs.lemmas.Bool.{eq-eqb, ne_eqb}
 use Rattle.std.proofs.lemmas.Nat.{div-add-mod'}
-use Rattle.dq_lits.specs.Literal.{Literal, positive, negative, variable_of, is_negative, same_literal}
+use Rattle.dq_lits.specs.Literal.{Literal, positive, negative, variable_of}
 use Rattle.learning_trail.specs.Codes.{literal_at, number_of}
-use Rattle.learning_trail.specs.CodeLaws.{number-literal}
 
 at_even : (n v : ℕ) → n ≡ v * 2 → literal_at n ≡ positive v
 at_even n v e =

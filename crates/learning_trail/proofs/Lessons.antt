@@ -21,7 +21,7 @@ use Rattle.learning_trail.specs.Sound.{IsSound, IsReasoned, IsGuided}
 use Rattle.learning_trail.specs.Analyses.{IsAnalysis, AllStand}
 use Rattle.learning_trail.specs.Lessons.{IsLesson, IsJump}
 use Rattle.learning_trail.specs.Resting.{rests, HeldFit, AreAwake}
-use Rattle.truth_values.proofs.HeldLiterals.{same_literal-refl, opposite-opposite, opposite-variable, opposite-negative, holds_first, holds_later, holds_cases, free_variable, no_tautology}
+use Rattle.truth_values.proofs.HeldLiterals.{same_literal-refl, opposite-opposite, opposite-variable, opposite-negative, holds_first, holds_later, holds_cases, free_variable}
 use Rattle.learning_trail.proofs.ClauseStatus.{is_unit, stuck_from_two}
 use Rattle.learning_trail.proofs.AnswerClauses.{concluded_derived, concluded_tied}
 use Rattle.learning_trail.proofs.ConflictAnalysis.{AreConsistent, sound_consistent, free_later}

@@ -1,15 +1,15 @@
 -- What is held in the place of clauses of groups that rest stands in no hint, and leaves the others
 -- as they are.
-use Rattle.std.proofs.Common.{◌≡◌, ℕ, zero, suc, ◌+◌, ◌<◌, Bool, true, false, cond, not, ◌&&◌, ◌||◌, ◌⊎◌, inl, inr, List, [], ◌∷◌, ◌++◌, map, length, slice_get, get_or, slice_index_or, Option, Some, None, IsSome, is_some, Contains, refl, sym, ◌∙◌, ap, subst, arith}
+use Rattle.std.proofs.Common.{◌≡◌, ℕ, zero, suc, ◌+◌, ◌<◌, Bool, true, false, cond, not, ◌&&◌, ◌||◌, ◌⊎◌, inl, inr, List, [], ◌∷◌, ◌++◌, length, get_or, Option, Some, None, is_some, refl, sym, ◌∙◌, ap, subst, arith}
 use Rattle.std.specs.List.{list_all}
 use Rattle.std.proofs.lemmas.Bool.{cases_Bool, false≢true, false_from_ne_true, or_cases, or_left, or_right}
 use Rattle.std.proofs.lemmas.Option.{slice_get-get_or, slice_get_within}
 use Rattle.dq_lits.specs.Literal.{Literal, positive, negative, variable_of, is_negative, opposite, same_literal}
 use Rattle.dq_lits.specs.Derivation.{falsified, unit, stuck, holds, status_by, status_of, is_tautology}
-use Rattle.hint_log.specs.Entries.{Entry, clause_at, name_of}
+use Rattle.hint_log.specs.Entries.{Entry, clause_at}
 use Rattle.hint_log.specs.Naming.{is_selector, is_selector_name}
 use Rattle.hint_log.specs.ProductiveLog.{IsClosed}
-use Rattle.oracle.specs.Fit.{Fit, live_in}
+use Rattle.oracle.specs.Fit.{live_in}
 use Rattle.oracle.specs.Searched.{Stands}
 use Rattle.truth_values.specs.Extension.{not_false}
 use Rattle.truth_values.proofs.HeldLiterals.{holds_first, holds_later, holds_cases, holds-append, opposite-opposite, no_tautology}
@@ -239,9 +239,9 @@ module _ (held : List (List Literal)) (resting : List Bool) (variables : ℕ) (e
       ((i : ℕ) × (l ≡ negative i) × (rests resting i ≡ true)) ⊎ (holds trues l ≡ true)
   off_or_true l h = elim (or_cases (holds (switched_off resting) l) (holds trues l)
       (sym (holds-append (switched_off resting) trues l) ∙ h)) [
-    | inl off ↦ inl (off_gives resting l off)
-    | inr on ↦ inr on
-  ]
+        | inl off ↦ inl (off_gives resting l off)
+        | inr on ↦ inr on
+      ]
 
   pub consistent_resting : ((l : Literal) → holds trues l ≡ true → holds trues (opposite l) ≡ true → ⊥) →
       is_tautology (switched_off resting ++ trues) ≡ false

@@ -8,7 +8,7 @@ use Rattle.dq_lits.specs.Literal.{Literal, positive, variable_of, opposite, same
 use Rattle.dq_lits.specs.Derivation.{LiveClauses, holds, status_of, unit}
 use Rattle.hint_log.specs.Entries.{Entry}
 use Rattle.hint_log.specs.Entries.{Named, Given, Learned, Answer, Round, Begun}
-use Rattle.hint_log.specs.Entries.{ProofLog, clause_at, name_of}
+use Rattle.hint_log.specs.Entries.{ProofLog, name_of}
 use Rattle.hint_log.specs.Growth.{EachOf}
 use Rattle.hint_log.specs.Naming.{is_selector_name}
 use Rattle.oracle.specs.Fit.{live_in}

@@ -1,5 +1,5 @@
 -- What a search learns goes into the log, and the trail goes on.
-use Rattle.std.proofs.Common.{inl, inr, ◌≡◌, ℕ, zero, suc, ◌+◌, ◌<◌, ◌≤◌, Bool, true, false, List, [], ◌∷◌, ◌++◌, length, get_or, slice_get, Option, Some, None, IsSome, Contains, All, refl, sym, ◌∙◌, subst, arith}
+use Rattle.std.proofs.Common.{inl, inr, ◌≡◌, ℕ, zero, suc, ◌+◌, ◌<◌, ◌≤◌, Bool, true, false, List, [], ◌∷◌, ◌++◌, length, get_or, slice_get, Option, Some, None, IsSome, Contains, All, refl, sym, subst, arith}
 use Rattle.std.proofs.lemmas.Bool.{false≢true}
 use Rattle.std.proofs.lemmas.Option.{slice_get-get_or, slice_get_within}
 use Rattle.std.proofs.lemmas.List.Elements.{All-from_get_or, All-cons, All-nil}
@@ -8,7 +8,7 @@ use Rattle.dq_lits.specs.Derivation.{holds}
 use Rattle.hint_log.specs.Entries.{Entry}
 use Rattle.hint_log.specs.Entries.{Learned}
 use Rattle.hint_log.specs.Conditions.{AreNamed, AreIds, IsId}
-use Rattle.hint_log.specs.Entries.{ProofLog, with_entry, clause_at, name_of, last_id}
+use Rattle.hint_log.specs.Entries.{ProofLog, with_entry, name_of, last_id}
 use Rattle.oracle.specs.Fit.{live_in}
 use Rattle.learning_trail.specs.Resting.{HeldFit}
 use Rattle.oracle.specs.Limits.{HasNextLemma}

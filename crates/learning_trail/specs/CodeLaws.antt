@@ -1,10 +1,10 @@
 -- A number and its literal stand for one another.
-use Rattle.std.specs.Prelude.{◌≡◌, ℕ, ◌+◌, ◌*◌, ◌/◌, ◌%◌, ◌==◌, ◌<◌, Bool, true, false, refl}
-use Rattle.std.proofs.Common.{ap, sym, ◌∙◌, arith, cond, inl, inr}
+use Rattle.std.specs.Prelude.{◌≡◌, ℕ, ◌/◌, ◌%◌, ◌<◌, Bool}
+use Rattle.std.proofs.Common.{ap, ◌∙◌, arith, cond, inl, inr}
 use Rattle.std.proofs.Math.Nat.{mod-lt}
 use Rattle.std.proofs.lemmas.Bool.{cases_eq, eq-eqb, ne_eqb}
 use Rattle.std.proofs.lemmas.Nat.{div-add-mod'}
-use Rattle.dq_lits.specs.Literal.{Literal, positive, negative, variable_of, is_negative}
+use Rattle.dq_lits.specs.Literal.{Literal, positive, negative}
 use Rattle.learning_trail.specs.declared.codes.Code.TheInside.{Inside}
 use Rattle.learning_trail.specs.Codes.{literal_at, number_of, literal_inside, inside_of}
 

@@ -1,8 +1,15 @@
-use Rattle.std.proofs.Common.{subst, sym, List}
+use Rattle.std.proofs.Common.{◌≡◌, ◌∙◌, [], List, length, inl, inr, ap, sym, subst, arith}
 use Rattle.dq_lits.specs.Literal.{Literal}
 use Rattle.oracle.specs.Calls.{IsRefutedUnder}
+use Rattle.oracle.specs.Fit.{live_in}
+use Rattle.learning_trail.specs.Resting.{AreAwake}
 use Rattle.learning_trail.specs.Searching.{AreAssumptions}
+use Rattle.learning_trail.specs.Sound.{IsSound, IsGuided}
+use Rattle.learning_trail.specs.Steps.{Trailed}
 use Rattle.learning_trail.proofs.FoundModels.{assumptions_from}
+use Rattle.cdcl_core.specs.declared.searchers.Searcher.{Searcher}
+use Rattle.cdcl_core.specs.Watching.{AreLevelsGuarded}
+use Rattle.cdcl_core.proofs.HeldLogs.{assumed_awake}
 use Rattle.cdcl_core.proofs.calls.find.Goals as goal
 
 pub search_and_keep-found-requires-clause-assumptions : goal.search_and_keep-found-requires-clause-assumptions
@@ -10,6 +17,37 @@ search_and_keep-found-requires-clause-assumptions c =
     subst (AreAssumptions c.args.log.now) (sym c.new-assumptions.ensures)
     (assumptions_from c.args.log.now c.args.active.now c.args.assume.now c.requires.made c.requires.plain
     c.requires.apart)
+
+pub search_and_keep-found-requires-clause-searching : goal.search_and_keep-found-requires-clause-searching
+search_and_keep-found-requires-clause-searching c =
+    let s = c.wake.new.s in
+    let flags = s.resting.flags.items in
+    let log = c.args.log.now in
+    let asm = c.new-assumptions.result in
+    let fit = c.wake.ensures.fit in
+    let trail : s.trail ≡ record { room = c.args.s.now.trail.room; steps = [] } =
+    ap (λ (x : Searcher). x.trail) c.wake.ensures.same ∙ c.back_to_start.ensures in
+    let steps : s.trail.steps ≡ [] = ap (λ (t : Trailed). t.steps) trail in
+    let room : s.trail.room ≡ c.args.s.now.trail.room = ap (λ (t : Trailed). t.room) trail in
+    let variables : s.variables ≡ c.args.s.now.variables = ap (λ (x : Searcher). x.variables) c.wake.ensures.same in
+    let marks : length s.notes.marks ≡ length c.args.s.now.notes.marks =
+    ap (λ (x : Searcher). length x.notes.marks) c.wake.ensures.same in
+    let some = c.in_ok-begin.ensures.some in
+    let more = c.in_ok-begin.ensures.more in
+    record {
+      fit = fit;
+      awake = subst (AreAwake flags) (sym c.new-assumptions.ensures)
+          (assumed_awake log.entries flags c.args.active.now c.args.assume.now fit.selectors
+          c.in_ok-wake.ensures.awake c.requires.plain);
+      sound = subst (IsSound (live_in s.clauses.clauses)) (sym steps) tt;
+      guided = subst (IsGuided log.entries asm) (sym steps) tt;
+      room = let r = c.requires.room in omega (arith, r, room, variables);
+      marks = elim c.requires.marks [
+        | inl none ↦ omega (arith, none, room, some)
+        | inr few ↦ omega (arith, few, room, marks, more)
+      ];
+      levels = subst (AreLevelsGuarded s.clauses.clauses s.clauses.first s.clauses.second) (sym steps) tt;
+    }
 
 pub returns-clause-unsat : goal.returns-clause-unsat
 returns-clause-unsat c = λ id is.

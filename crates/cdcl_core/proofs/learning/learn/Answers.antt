@@ -2,7 +2,8 @@ use Rattle.std.proofs.Common.{rules, Err, ◌≡◌, ◌∷◌, ◌++◌, [], le
 use Rattle.dq_lits.specs.Literal.{Literal}
 use Rattle.hint_log.specs.Entries.{ProofLog}
 use Rattle.hint_log.specs.declared.stops.Stop.TheVariants.{Limit}
-use Rattle.oracle.specs.Fit.{Fit, live_in}
+use Rattle.oracle.specs.Fit.{live_in}
+use Rattle.learning_trail.specs.Resting.{HeldFit}
 use Rattle.oracle.specs.Limits.{IsAtLimit}
 use Rattle.learning_trail.specs.Sound.{IsSound, IsGuided}
 use Rattle.cdcl_core.specs.Searching.{searched}
@@ -14,7 +15,7 @@ use Rattle.cdcl_core.proofs.learning.learn.Goals as goal
 pub analyse-first-requires-clause-within : goal.analyse-first-requires-clause-within
 analyse-first-requires-clause-within c =
     let s = c.args.s.now in
-    clauses_within s.clauses.clauses s.variables (length s.notes.marks) c.args.log.now.entries c.requires.searching.fit
+    clauses_within s.clauses.clauses s.resting.flags.items s.variables (length s.notes.marks) c.args.log.now.entries c.requires.searching.fit
     (omega (arith, c.requires.searching.room, c.requires.searching.marks))
 
 pub log_clause-requires-clause-named : goal.log_clause-requires-clause-named
@@ -73,9 +74,9 @@ returns-clause-fit c =
     let step = c.analyse-first.result in
     let noted = c.analyse-first.new.notes in
     let lesson = c.analyse-first.ensures.lesson in
-    subst (λ (cs : List (List Literal)). Fit cs s.variables c.log_clause.new.log.entries)
+    subst (λ (cs : List (List Literal)). HeldFit cs s.resting.flags.items s.variables c.log_clause.new.log.entries)
     (sym (c.hold.ensures.held ∙ ap (λ cs. cs ++ noted.literals ∷ []) c.log_clause.ensures.clauses))
-    (subst (λ (l : ProofLog). Fit (s.clauses.clauses ++ noted.literals ∷ []) s.variables l.entries)
+    (subst (λ (l : ProofLog). HeldFit (s.clauses.clauses ++ noted.literals ∷ []) s.resting.flags.items s.variables l.entries)
     (sym c.in_ok-id.ensures.ok)
     (learn_fit c.args.assumptions.now (searched s) log mid step noted.marks noted.literals noted.hints c.args.decision
     (at_search c.args.assumptions.now s log c.requires.searching) c.requires.decided c.requires.chosen lesson))
@@ -114,13 +115,14 @@ returns-clause-ok c =
     record {
       ready = ready.top;
       searching = record {
-        fit = subst (λ (cs : List (List Literal)). Fit cs s.variables c.log_clause.new.log.entries)
+        fit = subst (λ (cs : List (List Literal)). HeldFit cs s.resting.flags.items s.variables c.log_clause.new.log.entries)
             (sym (c.hold.ensures.held ∙ ap (λ cs. cs ++ noted.literals ∷ []) c.log_clause.ensures.clauses))
-            (subst (λ (l : ProofLog). Fit (s.clauses.clauses ++ noted.literals ∷ []) s.variables l.entries)
+            (subst (λ (l : ProofLog). HeldFit (s.clauses.clauses ++ noted.literals ∷ []) s.resting.flags.items s.variables l.entries)
             (sym c.in_ok-id.ensures.ok)
             (learn_fit c.args.assumptions.now (searched s) log mid step noted.marks noted.literals noted.hints
             c.args.decision (at_search c.args.assumptions.now s log c.requires.searching) c.requires.decided
             c.requires.chosen lesson));
+        awake = c.requires.searching.awake;
         sound = subst (λ (cs : List (List Literal)). IsSound (live_in cs) back.steps)
             (sym (c.hold.ensures.held ∙ ap (λ cs. cs ++ noted.literals ∷ []) c.log_clause.ensures.clauses))
             landed.sound;

@@ -5,7 +5,9 @@ answer_false-requires-clause-answering c =
     let s = c.requires.searching in
     record {
       variables = c.args.s.now.variables;
+      resting = c.args.s.now.resting.flags.items;
       fit = s.fit;
+      awake = s.awake;
       sound = s.sound;
       guided = s.guided;
       room = s.room;
@@ -14,7 +16,9 @@ answer_false-requires-clause-answering c =
     }
 
 pub returns-in_err-answer-in-False-clause-fit : goal.returns-in_err-answer-in-False-clause-fit
-returns-in_err-answer-in-False-clause-fit c = c.answer_false.ensures.fit c.args.s.now.variables c.requires.searching.fit
+returns-in_err-answer-in-False-clause-fit c = c.answer_false.ensures.fit
+    c.args.s.now.resting.flags.items c.args.s.now.variables c.requires.searching.awake c.requires.searching.fit
 
 pub returns-in_ok-answer-in-False-clause-fit : goal.returns-in_ok-answer-in-False-clause-fit
-returns-in_ok-answer-in-False-clause-fit c = c.answer_false.ensures.fit c.args.s.now.variables c.requires.searching.fit
+returns-in_ok-answer-in-False-clause-fit c = c.answer_false.ensures.fit
+    c.args.s.now.resting.flags.items c.args.s.now.variables c.requires.searching.awake c.requires.searching.fit
