@@ -2,8 +2,9 @@
 //!
 //! A search may leave a group behind that none assumes any more: its clauses, and what was learned
 //! from them, would be passed for ever. So a group rests that no search had for long, and wakes where
-//! one has it. Which groups rest is looked at again after so many searches as the root of the number
-//! of clauses, so that the searches between two looks and the look itself cost about the same.
+//! one has it. Which groups rest is looked at again after four times as many searches as the root of the
+//! number of clauses: so what the searches between two looks pass and the look itself cost about the
+//! same, and N searches that leave a group each take a time that grows with N to the power of 1.5.
 
 ghost use Rattle.std.specs.Prelude.{◌≡◌, []};
 
@@ -13,10 +14,10 @@ use std::alloc::Global;
 use std::collections::BTreeMap;
 
 // The fewest searches between two looks.
-const FEWEST: u64 = 128;
+const FEWEST: u64 = 1024;
 
 // In so many searches a group isn't idle that was active in one of them, at first.
-const PATIENCE: u64 = 32;
+const PATIENCE: u64 = 256;
 
 /// Which groups rest, and when each was active.
 #[derive(Drop)]
@@ -73,7 +74,9 @@ impl Resting {
             return false;
         }
         self.root = root_from(self.root, clauses);
-        self.next = self.searches.saturating_add(self.root.max(FEWEST));
+        self.next = self
+            .searches
+            .saturating_add(self.root.saturating_mul(4).max(FEWEST));
         true
     }
 
