@@ -4,7 +4,8 @@
 //! 1, and a group is named by its selector's. `add GROUP LITERAL..` adds a clause. `solve NAME |
 //! GROUP.. | LITERAL..` searches under these groups and assumptions, and prints `Sat`, where the
 //! values make the clauses of these groups and the assumptions true, or `Unsat` with the answer's
-//! clause, or `Limit`. `steps NAME` prints how many clauses were learned, and `derived NAME GROUP`
+//! clause, or `Limit`. `often COUNT NAME | GROUP.. | LITERAL..` searches so often, and prints what the
+//! last search gave. `steps NAME` prints how many clauses were learned, and `derived NAME GROUP`
 //! whether all that was learned and answered is derived by its hints. Lines that begin with `#` are
 //! comments.
 
@@ -73,6 +74,7 @@ pub fn take_line<O: Oracle>(
         "var" => var(oracle, log, case),
         "add" => add(alloc, oracle, log, case, rest),
         "solve" => solve(alloc, oracle, log, case, rest),
+        "often" => often(alloc, oracle, log, case, rest),
         "steps" => steps(alloc, log, rest),
         "derived" => derived(alloc, oracle, log, case, rest),
         _ => Err(anyhow!("no command: {line}")),
@@ -167,6 +169,25 @@ fn solve<O: Oracle>(
     let found = found_by(alloc, oracle, log, &case.made, &question)?;
     let shown = shown(alloc, &case.given, &question, &found)?;
     Ok(Some(format!(in alloc; "{name}: {shown}")?))
+}
+
+fn often<O: Oracle>(
+    alloc: Global,
+    oracle: &mut O,
+    log: &mut Log,
+    case: &Case,
+    rest: &str,
+) -> Result<Option<String>>
+    requires ready { O.Fits oracle.old log.old × AreMade case.now.made log.old.entries }
+    ensures ready { IfOk result
+        (λ p. O.Fits oracle.new log.new × AreMade case.now.made log.new.entries) }
+{
+    let (count, rest) = rest.split_once(' ').unwrap_or((rest, ""));
+    let count: u64 = count.parse()?;
+    for _ in 1..count {
+        solve(alloc, oracle, log, case, rest)?;
+    }
+    solve(alloc, oracle, log, case, rest)
 }
 
 /// Searches under these groups and assumptions.
