@@ -1,2 +1,4 @@
 pub mod ClausePasses
 pub mod ClauseRuns
+pub mod KeptModels
+pub mod NamedVariables

@@ -1,5 +1,5 @@
 -- What holds between the turns of a search.
-use Rattle.std.specs.Prelude.{◌≡◌, ℕ, ◌+◌, ◌-◌, ◌*◌, ◌≤◌, ◌<◌, List, length, ◌⊎◌}
+use Rattle.std.specs.Prelude.{◌≡◌, ℕ, ◌+◌, ◌-◌, ◌*◌, ◌≤◌, ◌<◌, List, [], length, ◌⊎◌}
 use Rattle.dq_lits.specs.Literal.{Literal}
 use Rattle.hint_log.specs.Entries.{ProofLog, steps_of}
 use Rattle.oracle.specs.declared.oracles.Answer.{Answer}
@@ -7,11 +7,12 @@ use Rattle.learning_trail.specs.Growing.{HasLearned}
 use Rattle.learning_trail.specs.Searching.{Searched, IsSearching as IsAtSearch, IsAnswered as IsAnsweredBy}
 use Rattle.cdcl_scan.specs.declared.searchers.Searcher.{Searcher}
 
--- what of it an analysis sees
+-- what of it an analysis sees: no group rests
 abbrev pub searched : Searcher → Searched
 searched s =
     record {
       clauses = s.clauses.clauses;
+      resting = [];
       variables = s.variables;
       trail = s.trail;
       notes = s.notes;

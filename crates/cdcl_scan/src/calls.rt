@@ -6,10 +6,10 @@ ghost use Rattle.dq_lits.specs.Derivation.{is_tautology};
 ghost use Rattle.hint_log.specs.Conditions.{AreNamed};
 ghost use Rattle.hint_log.specs.Entries.{last_id, with_entry, clause_at};
 ghost use Rattle.hint_log.specs.Entries.{Given};
-ghost use Rattle.oracle.specs.Fit.{Fit};
 ghost use Rattle.oracle.specs.Calls.{IsMade, IsPlain, IsModelUnder, IsRefutedUnder, assumed};
 ghost use Rattle.oracle.specs.Limits.{IsAtLimit};
 ghost use Rattle.learning_trail.specs.Growing.{HasLearned};
+ghost use Rattle.learning_trail.specs.Resting.{HeldFit};
 ghost use Rattle.learning_trail.specs.Steps.{literals_of};
 ghost use Rattle.truth_values.specs.Truth.{literal_value};
 ghost use Rattle.learning_trail.specs.Searching.{AreAssumptions};
@@ -82,7 +82,7 @@ pub(crate) fn find(
     assume: &[Lit],
     log: &mut Log,
 ) -> Result<Answer, Stop>
-    requires fit { Fit s.old.clauses.clauses s.old.variables log.old.entries }
+    requires fit { HeldFit s.old.clauses.clauses [] s.old.variables log.old.entries }
     requires made { All (IsMade log.old.entries) active.now }
     requires plain { All (IsPlain log.old.entries) assume.now }
     requires apart { is_tautology assume.now ≡ false }
@@ -96,7 +96,7 @@ pub(crate) fn find(
         (assumed active.now assume.now) }
     ensures unsat { (id : ℕ) → result ≡ Ok (Answer.Unsat id)
         → IsRefutedUnder log.old log.new (assumed active.now assume.now) id }
-    ensures fit { Fit s.new.clauses.clauses s.new.variables log.new.entries }
+    ensures fit { HeldFit s.new.clauses.clauses [] s.new.variables log.new.entries }
     ensures bare { s.new.trail.steps ≡ [] }
     ensures variables { s.new.variables ≡ s.old.variables }
     ensures room { s.new.trail.room ≡ s.old.trail.room }
@@ -129,7 +129,7 @@ fn search_and_keep(
         assumptions.now }
     ensures unsat { (id : ℕ) → result ≡ Ok (Answer.Unsat id)
         → IsRefutedUnder log.old log.new assumptions.now id }
-    ensures fit { Fit s.new.clauses.clauses s.new.variables log.new.entries }
+    ensures fit { HeldFit s.new.clauses.clauses [] s.new.variables log.new.entries }
     ensures places { KeepsPlaces s.old s.new }
     ensures model { length model.new ≡ length model.old }
     ensures stop { OnErr result (HasLearned log.old log.new) }

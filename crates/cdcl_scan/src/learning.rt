@@ -6,9 +6,10 @@ ghost use Rattle.dq_lits.specs.Derivation.{holds, status_of, falsified};
 ghost use Rattle.hint_log.specs.Conditions.{AreNamed, AreIds};
 ghost use Rattle.hint_log.specs.Entries.{steps_of, last_id, with_entry};
 ghost use Rattle.hint_log.specs.Entries.{Learned};
-ghost use Rattle.oracle.specs.Fit.{Fit, live_in};
+ghost use Rattle.oracle.specs.Fit.{live_in};
 ghost use Rattle.oracle.specs.Limits.{IsAtLimit};
 ghost use Rattle.learning_trail.specs.Growing.{HasLearned};
+ghost use Rattle.learning_trail.specs.Resting.{HeldFit};
 ghost use Rattle.learning_trail.specs.Steps.{literals_of, decision_of, is_decision};
 ghost use Rattle.truth_values.specs.Truth.{IsFree};
 ghost use Rattle.learning_trail.specs.Marks.{is_level_marked};
@@ -39,7 +40,7 @@ pub(crate) fn learn(
     ensures step { OnOk result (steps_of log.new.entries ≡ steps_of log.old.entries + 1) }
     ensures few { OnOk result (length s.new.trail.steps ≤ s.new.trail.room) }
     ensures places { KeepsPlaces s.old s.new }
-    ensures fit { Fit s.new.clauses.clauses s.new.variables log.new.entries }
+    ensures fit { HeldFit s.new.clauses.clauses [] s.new.variables log.new.entries }
     ensures learned { HasLearned log.old log.new }
     ensures limit { result ≡ Err Stop.Limit → IsAtLimit log.new assumptions.now }
 {

@@ -5,15 +5,16 @@
 //! any other one a learned clause, which is new for that reason. Each turn that goes on counts a
 //! step or makes the trail longer.
 
-ghost use Rattle.std.specs.Prelude.{◌≡◌, ◌≤◌, ◌<◌, ◌+◌, ◌⊎◌, true, length, IfOk, OnErr, Ok, Err, IsSome, MatchOption};
+ghost use Rattle.std.specs.Prelude.{◌≡◌, ◌≤◌, ◌<◌, ◌+◌, ◌⊎◌, [], true, length, IfOk, OnErr, Ok, Err, IsSome, MatchOption};
 ghost use Rattle.dq_lits.specs.Literal.{variable_of, is_negative};
 ghost use Rattle.dq_lits.specs.Derivation.{holds, status_of, falsified};
 ghost use Rattle.hint_log.specs.Entries.{name_of};
 ghost use Rattle.hint_log.specs.Naming.{is_selector};
 ghost use Rattle.hint_log.specs.ProductiveLog.{IsClosed};
-ghost use Rattle.oracle.specs.Fit.{Fit, live_in};
+ghost use Rattle.oracle.specs.Fit.{live_in};
 ghost use Rattle.oracle.specs.Limits.{IsAtLimit};
 ghost use Rattle.learning_trail.specs.Growing.{HasLearned};
+ghost use Rattle.learning_trail.specs.Resting.{HeldFit};
 ghost use Rattle.learning_trail.specs.Steps.{literals_of};
 ghost use Rattle.truth_values.specs.Truth.{IsFree};
 ghost use Rattle.learning_trail.specs.Searching.{AreAssumptions};
@@ -41,7 +42,7 @@ pub(crate) fn search(
     requires few { length s.old.trail.steps ≤ s.old.trail.room }
     requires assumptions { AreAssumptions log.old assumptions.now }
     ensures ok { IfOk result (λ found. IsAnswered assumptions.now s.new log.old log.new found) }
-    ensures fit { Fit s.new.clauses.clauses s.new.variables log.new.entries }
+    ensures fit { HeldFit s.new.clauses.clauses [] s.new.variables log.new.entries }
     ensures places { KeepsPlaces s.old s.new }
     ensures stop { OnErr result (HasLearned log.old log.new) }
     ensures limit { result ≡ Err Stop.Limit → IsAtLimit log.new assumptions.now }
@@ -62,7 +63,7 @@ fn turn(s: &mut Searcher, assumptions: &Assumptions, log: &mut Log) -> Result<Op
     ensures ok { IfOk result
         (λ found. MatchOption found (IsTurn assumptions.now s.old s.new log.old log.new)
         (λ f. IsAnswered assumptions.now s.new log.old log.new f)) }
-    ensures fit { Fit s.new.clauses.clauses s.new.variables log.new.entries }
+    ensures fit { HeldFit s.new.clauses.clauses [] s.new.variables log.new.entries }
     ensures places { KeepsPlaces s.old s.new }
     ensures stop { OnErr result (HasLearned log.old log.new) }
     ensures limit { result ≡ Err Stop.Limit → IsAtLimit log.new assumptions.now }
@@ -91,7 +92,7 @@ fn conflict(
     ensures ok { IfOk result
         (λ found. MatchOption found (IsTurn assumptions.now s.old s.new log.old log.new)
         (λ f. IsAnswered assumptions.now s.new log.old log.new f)) }
-    ensures fit { Fit s.new.clauses.clauses s.new.variables log.new.entries }
+    ensures fit { HeldFit s.new.clauses.clauses [] s.new.variables log.new.entries }
     ensures places { KeepsPlaces s.old s.new }
     ensures stop { OnErr result (HasLearned log.old log.new) }
     ensures limit { result ≡ Err Stop.Limit → IsAtLimit log.new assumptions.now }
@@ -130,7 +131,7 @@ fn go_on(
     ensures ok { IfOk result
         (λ found. MatchOption found (IsTurn assumptions.now s.old s.new log.old log.new)
         (λ f. IsAnswered assumptions.now s.new log.old log.new f)) }
-    ensures fit { Fit s.new.clauses.clauses s.new.variables log.new.entries }
+    ensures fit { HeldFit s.new.clauses.clauses [] s.new.variables log.new.entries }
     ensures places { KeepsPlaces s.old s.new }
     ensures err { OnErr result (log.new ≡ log.old) }
 {
@@ -162,7 +163,7 @@ fn settle(s: &mut Searcher, assumptions: &Assumptions, log: &Log) -> Option<Answ
     requires assumed { AreTrue assumptions.now (literals_of s.old.trail.steps) }
     ensures ok { MatchOption result (IsTurn assumptions.now s.old s.new log.now log.now)
         (λ f. IsAnswered assumptions.now s.new log.now log.now f) }
-    ensures fit { Fit s.new.clauses.clauses s.new.variables log.now.entries }
+    ensures fit { HeldFit s.new.clauses.clauses [] s.new.variables log.now.entries }
     ensures places { KeepsPlaces s.old s.new }
 {
     match newest_open(&s.trail, &s.clauses, &s.activities) {

@@ -33,11 +33,11 @@ impl Model for Scan {
 
 impl Scan {
     ghost use Rattle.std.specs.Prelude.{[]};
-    ghost use Rattle.oracle.specs.Fit.{Fit};
+    ghost use Rattle.learning_trail.specs.Resting.{HeldFit};
 
     /// No clauses and no variables. It takes no memory.
     pub fn new(alloc: Global) -> Scan
-        ensures fit { Fit result.held result.variables [] }
+        ensures fit { HeldFit result.held [] result.variables [] }
     {
         Scan {
             searcher: Searcher {
@@ -56,11 +56,11 @@ impl Scan {
 }
 
 impl Oracle for Scan {
-    ghost use Rattle.std.specs.Prelude.{slice_index_or};
-    ghost use Rattle.oracle.specs.Fit.{Fit};
-    ghost use Rattle.learning_trail.specs.FitLaws.{fit_searched, fit_round, fit_begun};
+    ghost use Rattle.std.specs.Prelude.{[], slice_index_or};
+    ghost use Rattle.learning_trail.specs.Resting.{HeldFit};
+    ghost use Rattle.learning_trail.specs.FitLaws.{held_searched, held_round, held_begun};
 
-    ghost Fits = { λ s log. Fit s.held s.variables log.entries };
+    ghost Fits = { λ s log. HeldFit s.held [] s.variables log.entries };
 
     ghost HasVariable = { λ s v. (1 ≤ v) × (v ≤ s.variables) };
 
@@ -124,14 +124,14 @@ impl Oracle for Scan {
         self.model[v as usize - 1]
     }
 
-    ghost searched = { λ s log fit. fit_searched s.held s.variables log.entries fit };
+    ghost searched = { λ s log fit. held_searched s.held [] s.variables log.entries fit };
 
-    ghost made = { λ s log v fit named. fit.in_range v named };
+    ghost made = { λ s log v fit named. fit.fit.in_range v named };
 
     ghost round = { λ s log row values j fit.
-        fit_round s.held s.variables log.entries row values j fit };
+        held_round s.held [] s.variables log.entries row values j fit };
 
     ghost limit = { λ s log limit fit. fit };
 
-    ghost begun = { λ s log live fit. fit_begun s.held s.variables log.entries live fit };
+    ghost begun = { λ s log live fit. held_begun s.held [] s.variables log.entries live fit };
 }

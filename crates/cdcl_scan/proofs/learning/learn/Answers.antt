@@ -2,8 +2,9 @@ use Rattle.std.proofs.Common.{rules, Err, ◌≡◌, ◌∷◌, ◌++◌, [], le
 use Rattle.dq_lits.specs.Literal.{Literal}
 use Rattle.hint_log.specs.Entries.{ProofLog}
 use Rattle.hint_log.specs.declared.stops.Stop.TheVariants.{Limit}
-use Rattle.oracle.specs.Fit.{Fit, live_in}
+use Rattle.oracle.specs.Fit.{live_in}
 use Rattle.oracle.specs.Limits.{IsAtLimit}
+use Rattle.learning_trail.specs.Resting.{HeldFit}
 use Rattle.learning_trail.specs.Sound.{IsSound, IsGuided}
 use Rattle.cdcl_scan.specs.Searching.{searched}
 use Rattle.learning_trail.proofs.Taught.{clauses_within, learn_named, learn_ids, learn_in_range, learn_free, learn_fit, learn_landed, learn_next, learned_one}
@@ -12,7 +13,7 @@ use Rattle.cdcl_scan.proofs.learning.learn.Goals as goal
 pub analyse-first-requires-clause-within : goal.analyse-first-requires-clause-within
 analyse-first-requires-clause-within c =
     let s = c.args.s.now in
-    clauses_within s.clauses.clauses s.variables (length s.notes.marks) c.args.log.now.entries c.requires.searching.fit
+    clauses_within s.clauses.clauses [] s.variables (length s.notes.marks) c.args.log.now.entries c.requires.searching.fit
     (omega (arith, c.requires.searching.room, c.requires.searching.marks))
 
 pub keep-requires-clause-named : goal.keep-requires-clause-named
@@ -70,8 +71,8 @@ returns-clause-fit c =
     let step = c.analyse-first.result in
     let noted = c.analyse-first.new.notes in
     let lesson = c.analyse-first.ensures.lesson in
-    subst (λ (cs : List (List Literal)). Fit cs s.variables c.keep.new.log.entries) (sym c.in_ok-id.ensures.held)
-    (subst (λ (l : ProofLog). Fit (s.clauses.clauses ++ noted.literals ∷ []) s.variables l.entries)
+    subst (λ (cs : List (List Literal)). HeldFit cs [] s.variables c.keep.new.log.entries) (sym c.in_ok-id.ensures.held)
+    (subst (λ (l : ProofLog). HeldFit (s.clauses.clauses ++ noted.literals ∷ []) [] s.variables l.entries)
     (sym c.in_ok-id.ensures.ok)
     (learn_fit c.args.assumptions.now (searched s) log mid step noted.marks noted.literals noted.hints c.args.decision
     c.requires.searching c.requires.decided c.requires.chosen lesson))
@@ -101,12 +102,13 @@ returns-clause-ok c =
     let room : back.room ≡ s.trail.room = landed.room ∙ lesson.room in
     record {
       searching = record {
-        fit = subst (λ (cs : List (List Literal)). Fit cs s.variables c.keep.new.log.entries)
+        fit = subst (λ (cs : List (List Literal)). HeldFit cs [] s.variables c.keep.new.log.entries)
             (sym c.in_ok-id.ensures.held)
-            (subst (λ (l : ProofLog). Fit (s.clauses.clauses ++ noted.literals ∷ []) s.variables l.entries)
+            (subst (λ (l : ProofLog). HeldFit (s.clauses.clauses ++ noted.literals ∷ []) [] s.variables l.entries)
             (sym c.in_ok-id.ensures.ok)
             (learn_fit c.args.assumptions.now (searched s) log mid step noted.marks noted.literals noted.hints
             c.args.decision c.requires.searching c.requires.decided c.requires.chosen lesson));
+        awake = c.requires.searching.awake;
         sound = subst (λ (cs : List (List Literal)). IsSound (live_in cs) back.steps)
             (sym c.in_ok-id.ensures.held) landed.sound;
         guided = subst (λ (l : ProofLog). IsGuided l.entries c.args.assumptions.now back.steps)

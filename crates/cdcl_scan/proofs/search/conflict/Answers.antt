@@ -1,3 +1,4 @@
+use Rattle.std.proofs.Common.{[]}
 use Rattle.oracle.specs.Fit.{live_in}
 use Rattle.learning_trail.proofs.SearchTurns.{decided_assumed}
 use Rattle.cdcl_scan.proofs.search.conflict.Goals as goal
@@ -7,7 +8,9 @@ answer_conflict-requires-clause-answering c =
     let s = c.requires.searching in
     record {
       variables = c.args.s.now.variables;
+      resting = [];
       fit = s.fit;
+      awake = s.awake;
       sound = s.sound;
       guided = s.guided;
       room = s.room;
@@ -22,9 +25,9 @@ answer_conflict-requires-clause-assumed c =
     c.requires.searching.sound c.requires.searching.guided c.in-None.ensures
 
 pub returns-in_err-answer-in-None-clause-fit : goal.returns-in_err-answer-in-None-clause-fit
-returns-in_err-answer-in-None-clause-fit c = c.answer_conflict.ensures.fit c.args.s.now.variables
-    c.requires.searching.fit
+returns-in_err-answer-in-None-clause-fit c = c.answer_conflict.ensures.fit [] c.args.s.now.variables
+    c.requires.searching.awake c.requires.searching.fit
 
 pub returns-in_ok-answer-in-None-clause-fit : goal.returns-in_ok-answer-in-None-clause-fit
-returns-in_ok-answer-in-None-clause-fit c = c.answer_conflict.ensures.fit c.args.s.now.variables
-    c.requires.searching.fit
+returns-in_ok-answer-in-None-clause-fit c = c.answer_conflict.ensures.fit [] c.args.s.now.variables
+    c.requires.searching.awake c.requires.searching.fit

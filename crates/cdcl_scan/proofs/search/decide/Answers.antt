@@ -7,7 +7,7 @@ use Rattle.cdcl_scan.proofs.search.decide.Goals as goal
 
 pub push-requires-clause-in_range : goal.push-requires-clause-in_range
 push-requires-clause-in_range c =
-    let low = (c.requires.searching.fit.in_range (variable_of c.args.l) c.requires.named).1 in
+    let low = (c.requires.searching.fit.fit.in_range (variable_of c.args.l) c.requires.named).1 in
     omega (arith, low, c.requires.searching.room)
 
 pub returns-clause-searching : goal.returns-clause-searching
@@ -17,6 +17,7 @@ returns-clause-searching c =
     let room = ap (λ (t : Trailed). t.room) c.push.ensures.is in
     record {
       fit = c.requires.searching.fit;
+      awake = c.requires.searching.awake;
       sound = subst (IsSound (live_in s.clauses.clauses)) (sym steps)
           (record { free = c.requires.free; reasoned = c.requires.closed }, c.requires.searching.sound);
       guided = subst (IsGuided c.args.log.now.entries c.args.assumptions.now) (sym steps)

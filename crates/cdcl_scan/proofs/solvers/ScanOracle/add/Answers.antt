@@ -2,13 +2,13 @@ use Rattle.std.proofs.Common.{◌≡◌, ◌∷◌, ◌++◌, [], ◌∙◌, ap,
 use Rattle.dq_lits.specs.Literal.{Literal, opposite}
 use Rattle.dq_lits.specs.Derivation.{holds}
 use Rattle.hint_log.specs.Entries.{ProofLog}
-use Rattle.oracle.specs.Fit.{Fit}
+use Rattle.learning_trail.specs.Resting.{HeldFit}
 use Rattle.oracle.specs.Searched.{Stands}
 use Rattle.oracle.specs.Calls.{IsPlain}
 use Rattle.cdcl_scan.specs.Solver.{Shown}
 use Rattle.learning_trail.proofs.Taught.{all_named}
 use Rattle.learning_trail.proofs.FoundModels.{of_all}
-use Rattle.learning_trail.proofs.FitLogs.{fit_given, given_stands, given_grouped}
+use Rattle.learning_trail.proofs.FitLogs.{held_given, given_stands, given_grouped}
 use Rattle.cdcl_scan.proofs.solvers.ScanOracle.add.Goals as goal
 
 pub returns-clause-fit : goal.returns-clause-fit
@@ -18,13 +18,14 @@ returns-clause-fit c =
     let clause = c.deref.result.now in
     let is : clause ≡ opposite c.args.g.now.selector ∷ c.args.lits.now =
     c.deref.ensures.value ∙ c.in_ok-clause.ensures in
-    let fit : Fit s.clauses.clauses s.variables es = subst (λ (v : Shown). Fit v.held v.variables es)
+    let fit : HeldFit s.clauses.clauses [] s.variables es = subst (λ (v : Shown). HeldFit v.held [] v.variables es)
     (sym c.self.view_is) c.requires.fit in
     let stands : (l : Literal) → holds clause l ≡ true → Stands es l = λ l h.
     given_stands es c.args.g.now c.args.lits.now c.requires.made
     (of_all (IsPlain es) c.args.lits.now c.requires.plain) l (ap (λ xs. holds xs l) (sym is) ∙ h) in
-    subst (λ (cs : List (List Literal)). Fit cs s.variables c.keep_given.new.log.entries) (sym c.in_ok-id.ensures.held)
-    (subst (λ (l : ProofLog). Fit (s.clauses.clauses ++ clause ∷ []) s.variables l.entries) (sym c.in_ok-id.ensures.ok)
-    (fit_given s.clauses.clauses s.variables es c.args.origin clause fit (all_named es clause stands) stands
+    subst (λ (cs : List (List Literal)). HeldFit cs [] s.variables c.keep_given.new.log.entries) (sym c.in_ok-id.ensures.held)
+    (subst (λ (l : ProofLog). HeldFit (s.clauses.clauses ++ clause ∷ []) [] s.variables l.entries)
+    (sym c.in_ok-id.ensures.ok)
+    (held_given s.clauses.clauses [] s.variables es clause fit c.args.origin (all_named es clause stands) stands
     (given_grouped es c.args.g.now c.args.lits.now clause c.requires.made
     (of_all (IsPlain es) c.args.lits.now c.requires.plain) is)))
