@@ -219,6 +219,16 @@ ended_by f b after c d p old new went = record {
   grew = went.grew;
 }
 
+-- what a search came to that had gone on before
+pub ended_then : (f : Dqbf) (b mid after : BookState) (c d : Checker) (p : Padoa) (old between new : ProofLog) →
+    HasGoneOn f b mid c d p old between → HasEnded mid after between new → HasEnded b after old new
+ended_then f b mid after c d p old between new went ended = record {
+  kept = subst (λ a. IsKept a new.entries) (ap all_of went.book.same) ended.kept;
+  new_faults = ended.new_faults;
+  book = book_then b mid after went.book ended.book;
+  grew = log_then old between new went.grew ended.grew;
+}
+
 -- a row was refused
 pub row_refused : InstancesLeaveLogs → (f : Dqbf) (b after : BookState) (c : Checker) (p : Padoa) (row : List Bool)
     (first old new : ProofLog) (start : BookState) → HasEnded start b first old → IsRoundLogged f b c p row old.entries

@@ -10,6 +10,7 @@ mod candidates;
 mod decisions;
 mod desks;
 mod false_rows;
+mod first_looks;
 mod judging;
 pub mod laws;
 mod searches;

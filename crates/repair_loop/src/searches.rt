@@ -41,8 +41,39 @@ pub(crate) struct Known {
 }
 
 impl<'f, 'p> Search<'f, 'p> {
-    // Decides the formula, from the first question on.
+    // Decides the formula: by the rows of earlier searches where these refute it, else from the first
+    // question on.
     pub(crate) fn run<O: Oracle>(
+        &self,
+        oracle: &mut O,
+        graph: &mut Graph,
+        book: &mut Book,
+        checker: &mut Checker,
+        log: &mut Log,
+    ) -> Result<Verdict, Stop>
+        requires fit { O.Fits oracle.old log.old }
+        requires search { IsSearch self.now.f.now graph.old book.old checker.old self.now.padoa.now
+            log.old.entries }
+        ensures fit { O.Fits oracle.new log.new }
+        ensures inputs { graph.new.inputs ≡ graph.old.inputs }
+        ensures ended { HasEnded book.old book.new log.old log.new }
+        ensures way { (result ≡ Err Stop.Memory → ⊥) → IsUnderWay self.now.f.now book.new checker.new
+            self.now.padoa.now log.new.entries }
+        ensures rows { (result ≡ Err Stop.Memory → ⊥) → rows_of log.new.entries ≡ book.new.table.rows }
+        ensures shown_true { (nodes : _) (id : ℕ) → result ≡ Ok (Verdict.True nodes id)
+            → IsAnsweredTrue self.now.f.now graph.new nodes log.new id }
+        ensures shown_false { (id : ℕ) → result ≡ Ok (Verdict.False id)
+            → IsAnsweredFalse book.new log.new id }
+        ensures stopped { IsStoppedAs self.now.f.now book.new log.new result }
+    {
+        match self.look_at_rows(oracle, book, log)? {
+            Some(id) => Ok(Verdict::False(id)),
+            None => self.run_on(oracle, graph, book, checker, log),
+        }
+    }
+
+    // Decides the formula, from the first question on.
+    fn run_on<O: Oracle>(
         &self,
         oracle: &mut O,
         graph: &mut Graph,
