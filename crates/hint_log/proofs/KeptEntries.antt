@@ -1,5 +1,5 @@
 -- How an entry more is kept, and how what is kept is found.
-use Rattle.std.proofs.Common.{◌≡◌, ℕ, zero, suc, ◌+◌, ◌-◌, ◌<◌, ◌≤◌, eqb, cond, Bool, true, false, true≢false, if◌then◌else◌, List, [], ◌∷◌, ◌++◌, length, reverse, get_or, take, Option, Some, None, Contains, refl, sym, ap, ◌∙◌, subst, arith}
+use Rattle.std.proofs.Common.{◌≡◌, ℕ, zero, suc, ◌+◌, ◌-◌, ◌<◌, ◌≤◌, eqb, Bool, true, false, true≢false, if◌then◌else◌, List, [], ◌∷◌, ◌++◌, length, reverse, get_or, take, Option, Some, None, Contains, refl, sym, ap, ◌∙◌, subst, arith}
 use Rattle.std.specs.List.{AllByRecursion}
 use Rattle.std.specs.Map.{lookup}
 use Rattle.std.specs.Option.{option_and_then}
@@ -281,7 +281,8 @@ one_name_more log limit steps var name es more_es names more_names ks ls ns rs v
     let before = log_entries es names ks ls ns rs vs in
     let same : before ≡ log.entries = ap (λ (p : ProofLog). p.entries) is in
     let kinds_back : reverse more_es ≡ Naming ∷ reverse es = ap reverse es_is ∙ newest es Naming in
-    let names_back : reverse more_names ≡ (var, name) ∷ reverse names = ap reverse names_is ∙ newest names (var, name) in
+    let names_back : reverse more_names ≡ (var, name) ∷ reverse names =
+    ap reverse names_is ∙ newest names (var, name) in
     let entries : log_entries more_es more_names ks ls ns rs vs ≡ Named var name ∷ before =
     rw (kinds_back, names_back) refl in
     let follows : IsNewName before var name = subst (λ ps. IsNewName ps var name) (sym same) asked in

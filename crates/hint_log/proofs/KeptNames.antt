@@ -1,5 +1,5 @@
 -- The names, as they are kept.
-use Rattle.std.proofs.Common.{◌≡◌, ℕ, zero, suc, ◌<◌, length, slice_get, arith, eqb, cond, Bool, true, false, true≢false, List, [], ◌∷◌, ◌++◌, Option, Some, None, IsSome, refl, sym, ap, ◌∙◌}
+use Rattle.std.proofs.Common.{◌≡◌, ℕ, zero, suc, ◌<◌, length, slice_get, arith, eqb, cond, Bool, true, false, true≢false, List, [], ◌∷◌, ◌++◌, Option, Some, None, IsSome, IfSome, IfNone, refl, sym, ap, subst, ◌∙◌}
 use Rattle.std.specs.Map.{lookup}
 use Rattle.std.proofs.lemmas.Bool.{eqb-true}
 use Rattle.hint_log.specs.Entries.{name_of, names_of}
@@ -54,3 +54,13 @@ no_gap xs ys i same lt none = some_there ys i lt (none ∙ ap (λ zs. slice_get 
     some_there [] k below gap = absurd (omega (arith, below))
     some_there (z ∷ zs) zero below gap = cc
     some_there (z ∷ zs) (suc k) below gap = some_there zs k (omega (arith, below)) gap
+
+pub place_of_kept : (xs ys : List (ℕ × Name)) (v : ℕ) (o : Option ℕ) → xs ≡ ys →
+    IfSome o (λ place. (name : Name) × (slice_get xs place ≡ Some (v, name)))
+    → IfSome o (λ place. (name : Name) × (slice_get ys place ≡ Some (v, name)))
+place_of_kept xs ys v o same there =
+    subst (λ ns. IfSome o (λ place. (name : Name) × (slice_get ns place ≡ Some (v, name)))) same there
+
+pub none_of_kept : (found name : Option Name) (o : Option ℕ) → found ≡ name → IfNone o (found ≡ None) →
+    IfNone o (name ≡ None)
+none_of_kept found name o same none = subst (λ n. IfNone o (n ≡ None)) same none

@@ -1,12 +1,14 @@
 -- Names of variables that are named one after the other, and others behind them.
-use Rattle.std.proofs.Common.{◌≡◌, ◌≢◌, ℕ, zero, suc, ◌+◌, ◌-◌, ◌≤◌, ◌<◌, ◌⊎◌, inl, inr, eqb, cond, Bool, true, false, List, [], ◌∷◌, ◌++◌, length, get_or, slice_get, Option, None, Some, refl, sym, ◌∙◌, ap, arith, append_assoc}
-use Rattle.std.specs.List.{AllByRecursion}
-use Rattle.std.specs.Map.{lookup}
+use Rattle.std.proofs.Common.{◌≡◌, ◌≢◌, ℕ, zero, suc, ◌+◌, ◌-◌, ◌≤◌, ◌<◌, ◌⊎◌, inl, inr, eqb, cond, not, nat_lt, Bool, true, false, List, [], ◌∷◌, ◌++◌, length, get_or, slice_get, is_some, Option, None, Some, refl, sym, ◌∙◌, ap, subst, arith, append_assoc}
+use Rattle.std.specs.List.{AllByRecursion, position, position_or_len}
+use Rattle.std.specs.Map.{keys_of, lookup}
 use Rattle.std.proofs.lemmas.Bool.{eqb-true, eqb-false, ne_eqb}
+use Rattle.std.proofs.lemmas.Bool.Decides.{nat_tests}
 use Rattle.std.proofs.lemmas.List.{append-nil}
 use Rattle.indexmap.specs.IndexMap.{insert_entry}
 use Rattle.hint_log.specs.Kept.{names_from}
 use Rattle.hint_log.specs.declared.names.Name.{Name}
+use Rattle.hint_log.specs.declared.names.Name.TheVariants.{Selector}
 
 pub length_from : (n : ℕ) (xs : List Name) → length (names_from n xs) ≡ length xs
 length_from n [] = refl
@@ -97,3 +99,56 @@ out_of_order xs ys more v x absent is =
 pub none_there : (ys : List (ℕ × Name)) → length ys ≡ 0 → ys ≡ []
 none_there [] h = refl
 none_there (y ∷ ys) h = absurd (omega (arith, h))
+
+-- a key that is found is at its place
+at_key : (ys : List (ℕ × Name)) (v : ℕ) → position_or_len (eqb v) (keys_of ys) < length (keys_of ys) →
+    (name : Name) × (slice_get ys (position_or_len (eqb v) (keys_of ys)) ≡ Some (v, name))
+at_key [] v below = absurd (omega (arith, below))
+at_key (y ∷ ys) v below = by_bit (eqb v y.0) refl (at_key ys v) below where
+  by_bit : (b : Bool) → eqb v y.0 ≡ b → (position_or_len (eqb v) (keys_of ys) < length (keys_of ys)
+      → (name : Name) × (slice_get ys (position_or_len (eqb v) (keys_of ys)) ≡ Some (v, name))) →
+      cond (not b) (1 + position_or_len (eqb v) (keys_of ys)) 0 < suc (length (keys_of ys)) →
+      (name : Name) × (slice_get (y ∷ ys) (cond (not b) (1 + position_or_len (eqb v) (keys_of ys)) 0)
+      ≡ Some (v, name))
+  by_bit true same later h = (y.1, ap (λ n. Some (n, y.1)) (sym (eqb-true v y.0 same)))
+  by_bit false other later h =
+      let at = later (omega (arith, h)) in
+      let one : 1 + position_or_len (eqb v) (keys_of ys) ≡ suc (position_or_len (eqb v) (keys_of ys)) = omega arith in
+      (at.0, ap (slice_get (y ∷ ys)) one ∙ at.1)
+
+at_position : (ys : List (ℕ × Name)) (v i : ℕ) → position (eqb v) (keys_of ys) ≡ Some i →
+    (name : Name) × (slice_get ys i ≡ Some (v, name))
+at_position ys v i found = by_bit (nat_lt (position_or_len (eqb v) (keys_of ys)) (length (keys_of ys))) refl found where
+  by_bit : (b : Bool) → nat_lt (position_or_len (eqb v) (keys_of ys)) (length (keys_of ys)) ≡ b →
+      cond b (Some (position_or_len (eqb v) (keys_of ys))) None ≡ Some i
+      → (name : Name) × (slice_get ys i ≡ Some (v, name))
+  by_bit true less h =
+      let below : position_or_len (eqb v) (keys_of ys) < length (keys_of ys) = grind (arith, nat_tests) in
+      let same : position_or_len (eqb v) (keys_of ys) ≡ i = cc in
+      subst (λ n. (name : Name) × (slice_get ys n ≡ Some (v, name))) same (at_key ys v below)
+  by_bit false not_less h = cc
+
+pub found_behind : (xs : List Name) (ys names : List (ℕ × Name)) (v i place : ℕ) → names_from 1 xs ++ ys ≡ names →
+    position (eqb v) (keys_of ys) ≡ Some i → place ≡ length xs + i →
+    (name : Name) × (slice_get names place ≡ Some (v, name))
+found_behind xs ys names v i place are found is =
+    let behind = at_position ys v i found in
+    let same : place - length xs ≡ i = omega (arith, is) in (
+      behind.0,
+      ap (λ ns. slice_get ns place) (sym are)
+          ∙ at_behind 1 xs ys place (omega (arith, is)) ∙ ap (slice_get ys) same ∙ behind.1,
+    )
+
+pub name_at_place : (xs : List Name) (ys names : List (ℕ × Name)) (v : ℕ) → names_from 1 xs ++ ys ≡ names → 1 ≤ v →
+    v ≤ length xs → (name : Name) × (slice_get names (v - 1) ≡ Some (v, name))
+name_at_place xs ys names v are low most =
+    let d = Selector 0 in
+    let same : 1 + (v - 1) ≡ v = omega (arith, low) in (
+      get_or xs (v - 1) d,
+      ap (λ ns. slice_get ns (v - 1)) (sym are)
+          ∙ at_from 1 xs ys (v - 1) d (omega (arith, low, most)) ∙ ap (λ n. Some (n, get_or xs (v - 1) d)) same,
+    )
+
+pub none_found : {X : Type 0} (o : Option X) → is_some o ≡ false → o ≡ None
+none_found None h = refl
+none_found (Some x) h = cc

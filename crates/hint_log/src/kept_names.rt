@@ -4,10 +4,11 @@
 //! variable's place. A variable that comes out of that order, and each one that is named since, is
 //! found by a table.
 
-ghost use Rattle.std.specs.Prelude.{◌≡◌, ℕ, List, [], ◌∷◌, ◌++◌, false, eqb, length, slice_get, OnOk, OnErr};
+ghost use Rattle.std.specs.Prelude.{◌≡◌, ℕ, List, [], ◌∷◌, ◌++◌, false, eqb, length, slice_get, None, Some, IfSome, IfNone, OnOk, OnErr};
 ghost use Rattle.std.specs.List.{AllByRecursion};
 ghost use Rattle.std.specs.Map.{lookup};
 ghost use Rattle.hint_log.specs.Kept.{names_from};
+ghost use Rattle.hint_log.specs.declared.names.Name.{Name};
 
 use crate::names::Name;
 use dq_lits::Memory;
@@ -76,6 +77,21 @@ impl Names {
         }
         match self.others.get(&var) {
             Some(name) => Some(*name),
+            None => None,
+        }
+    }
+
+    /// The place of a variable, from 0, if it has a name.
+    pub(crate) fn place(&self, var: u64) -> Option<usize>
+        ensures some { IfSome result
+            (λ place. (name : Name) × (slice_get self.now place ≡ Some (var, name))) }
+        ensures none { IfNone result (lookup (eqb var) self.now ≡ None) }
+    {
+        if var >= 1 && var <= self.ordered.len() as u64 {
+            return Some(var as usize - 1);
+        }
+        match self.others.get_index_of(&var) {
+            Some(behind) => Some(self.len() - (self.others.len() - behind)),
             None => None,
         }
     }

@@ -8,6 +8,7 @@
 pub use logs::Log;
 pub use names::Name;
 pub use origins::{Leaf, Origin};
+pub use pending::Pending;
 pub use stops::Stop;
 
 mod kept_names;

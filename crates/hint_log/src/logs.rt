@@ -1,6 +1,6 @@
 //! The proof log as a value, and its calls.
 
-ghost use Rattle.std.specs.Prelude.{◌≡◌, ◌+◌, ◌-◌, ◌≤◌, ◌<◌, ◌^◌, ◌↔◌, ℕ, true, false, List, [], length, take, ◌++◌, Contains, All, OnOk, OnErr, IfOk, IsErrOf, Some, None, IsSome, ◌∷◌, slice_get};
+ghost use Rattle.std.specs.Prelude.{◌≡◌, ◌+◌, ◌-◌, ◌≤◌, ◌<◌, ◌^◌, ◌↔◌, ℕ, true, false, List, [], length, take, ◌++◌, Contains, All, OnOk, OnErr, IfOk, IsErrOf, Some, None, IfSome, IfNone, IsSome, ◌∷◌, slice_get};
 ghost use Rattle.dq_lits.specs.Literal.{variable_of};
 ghost use Rattle.hint_log.specs.Conditions.{AreNamed, HasSides, IsId, AreIds, MayFollow, AreLogged};
 ghost use Rattle.hint_log.specs.Entries.{Named, Given, Learned, Answer, Round, Begun, with_entry, is_counted, origin_of, last_id, steps_of, rounds_of, clause_at, hints_at, origin_at, row_at, name_of, names_of};
@@ -8,6 +8,7 @@ ghost use Rattle.hint_log.specs.Kept.{entry_by, HasNumbers};
 ghost use Rattle.hint_log.specs.Live.{last_live};
 ghost use Rattle.hint_log.specs.declared.origins.Origin.TheVariants.{Fault, Differ};
 ghost use Rattle.hint_log.specs.declared.origins.Leaf.TheVariants.{Literal as LeafLiteral};
+ghost use Rattle.hint_log.specs.declared.names.Name.{Name};
 
 use crate::kept_names::Names;
 use crate::kinds::{ClauseKind, EntryKind, KeptRound, kept_hints, kept_origin};
@@ -292,6 +293,16 @@ impl Log {
             Some(named) => named,
             None => unreachable!(),
         }
+    }
+
+    /// The place of a variable among those that have names, from 0, in order of time, if it has one.
+    pub fn place(&self, var: u64) -> Option<usize>
+        ensures some { IfSome result
+            (λ place. (name : Name)
+            × (slice_get (names_of self.now.entries) place ≡ Some (var, name))) }
+        ensures none { IfNone result (name_of self.now.entries var ≡ None) }
+    {
+        self.names.place(var)
     }
 
     /// The name of a variable.

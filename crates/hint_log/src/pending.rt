@@ -1,4 +1,4 @@
-//! Ids that are still to be looked at, the greatest first.
+//! Numbers that are still to be looked at, the greatest first.
 
 ghost use Rattle.std.specs.Prelude.{◌≡◌, ◌==◌, ℕ, if◌then◌else◌, ◌<◌, ◌⊎◌, ◌↔◌, true, false, IfSome, IfNone, IfOk, OnOk, Contains};
 ghost use Rattle.hint_log.specs.Pending.{is_pending, Takes};
@@ -7,50 +7,53 @@ use dq_lits::Memory;
 use std::alloc::Global;
 use std::collections::BTreeSet;
 
-/// A set of ids.
+/// A set of numbers that are still to be looked at: ids, or places of names.
 #[derive(Drop)]
 pub struct Pending {
-    pub ids: BTreeSet<u64>,
-}
-
-/// No ids. It takes no memory.
-pub fn none_pending(alloc: Global) -> Pending
-    ensures { (id : ℕ) → is_pending result id ≡ false }
-{
-    Pending {
-        ids: BTreeSet::new(alloc),
-    }
+    /// The numbers.
+    pub numbers: BTreeSet<u64>,
 }
 
 impl Pending {
-    /// Takes the greatest id out.
-    pub fn pop(&mut self) -> Option<u64>
-        ensures some { IfSome result (λ id. Takes self.old self.new id) }
-        ensures none { IfNone result ((id : ℕ) → is_pending self.old id ≡ false) }
+    /// No numbers. It takes no memory.
+    pub fn new(alloc: Global) -> Pending
+        ensures { (n : ℕ) → is_pending result n ≡ false }
     {
-        self.ids.pop_last()
+        Pending {
+            numbers: BTreeSet::new(alloc),
+        }
     }
 
-    /// Adds an id.
-    pub fn insert(&mut self, id: u64) -> Result<(), Memory>
-        ensures { OnOk result
-            ((v : ℕ) → is_pending self.new v ≡ (if id == v then true else is_pending self.old v)) }
+    /// Takes the greatest number out.
+    pub fn pop(&mut self) -> Option<u64>
+        ensures some { IfSome result (λ n. Takes self.old self.new n) }
+        ensures none { IfNone result ((n : ℕ) → is_pending self.old n ≡ false) }
     {
-        self.ids.insert(id)?;
+        self.numbers.pop_last()
+    }
+
+    /// Adds a number. The only error is want of memory.
+    pub fn insert(&mut self, number: u64) -> Result<(), Memory>
+        ensures { OnOk result
+            ((n : ℕ)
+            → is_pending self.new n ≡ (if number == n then true else is_pending self.old n)) }
+    {
+        self.numbers.insert(number)?;
         Ok(())
     }
 
-    /// Adds these ids.
-    pub fn insert_all(&mut self, ids: &[u64]) -> Result<(), Memory>
+    /// Adds these numbers. The only error is want of memory.
+    pub fn insert_all(&mut self, numbers: &[u64]) -> Result<(), Memory>
         ensures kept { OnOk result
-            ((v : ℕ) → is_pending self.old v ≡ true → is_pending self.new v ≡ true) }
-        ensures added { OnOk result ((v : ℕ) → Contains ids.now v → is_pending self.new v ≡ true) }
+            ((n : ℕ) → is_pending self.old n ≡ true → is_pending self.new n ≡ true) }
+        ensures added { OnOk result
+            ((n : ℕ) → Contains numbers.now n → is_pending self.new n ≡ true) }
         ensures only { OnOk result
-            ((v : ℕ) → is_pending self.new v ≡ true
-            → (is_pending self.old v ≡ true) ⊎ Contains ids.now v) }
+            ((n : ℕ) → is_pending self.new n ≡ true
+            → (is_pending self.old n ≡ true) ⊎ Contains numbers.now n) }
     {
-        for id in ids {
-            self.insert(*id)?;
+        for number in numbers {
+            self.insert(*number)?;
         }
         Ok(())
     }

@@ -8,7 +8,7 @@ ghost use Rattle.hint_log.specs.Conditions.{IsId};
 ghost use Rattle.hint_log.specs.Reached.{AreReached};
 
 use crate::logs::Log;
-use crate::pending::none_pending;
+use crate::pending::Pending;
 use dq_lits::{Ids, Memory};
 
 impl Log {
@@ -30,7 +30,7 @@ impl Log {
     {
         self.every_log_is_lawful();
         let mut reached = Vec::new(self.alloc());
-        let mut pending = none_pending(self.alloc());
+        let mut pending = Pending::new(self.alloc());
         pending.insert(id)?;
         while let Some(at) = pending.pop() {
             pending.insert_all(self.hints(at))?;

@@ -1,5 +1,4 @@
-use Rattle.std.proofs.Common.{◌≡◌, ◌∙◌, ◌+◌, ◌-◌, ◌≤◌, ◌++◌, length, ap, sym, arith, slice_get, Some}
-use Rattle.hint_log.specs.Kept.{names_from}
+use Rattle.std.proofs.Common.{◌≡◌, ◌∙◌, ◌+◌, ◌-◌, length, ap, sym, arith, slice_get, Some}
 use Rattle.hint_log.proofs.OrderedNames.{at_from, at_behind}
 use Rattle.hint_log.proofs.kept_names.Names.at.Goals as goal
 

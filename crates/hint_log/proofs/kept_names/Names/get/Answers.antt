@@ -1,4 +1,4 @@
-use Rattle.std.proofs.Common.{◌≡◌, ◌∙◌, ◌+◌, ◌≤◌, ◌<◌, ◌⊎◌, inl, inr, length, ap, sym, arith, eqb, Some}
+use Rattle.std.proofs.Common.{◌∙◌, ◌+◌, ◌≤◌, ◌<◌, ◌⊎◌, inl, inr, length, ap, sym, arith, eqb, Some}
 use Rattle.std.specs.Map.{lookup}
 use Rattle.hint_log.proofs.OrderedNames.{lookup_from, lookup_behind}
 use Rattle.hint_log.proofs.kept_names.Names.get.Goals.{else-var-ge1-via-then-var-ge1+else-var-len, else-var-ge1-via-else-var-ge1}

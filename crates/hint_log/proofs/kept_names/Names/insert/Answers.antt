@@ -19,5 +19,6 @@ returns-in_ok-insert-clause-ok c =
     let xs = c.self.inside.ordered.items in
     let ys = c.self.inside.others.entries in
     out_of_order xs ys c.insert.new.self.entries c.args.var c.args.name
-    (subst (AllByRecursion (λ e. eqb c.args.var e.0 ≡ false)) (sym c.self.view_is) c.requires) c.in_ok-insert.ensures.entries
+    (subst (AllByRecursion (λ e. eqb c.args.var e.0 ≡ false)) (sym c.self.view_is) c.requires)
+    c.in_ok-insert.ensures.entries
     ∙ ap (λ ns. ns ++ (c.args.var, c.args.name) ∷ []) c.self.view_is

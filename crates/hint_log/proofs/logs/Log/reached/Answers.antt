@@ -8,8 +8,8 @@ pub loop-at-init : goal.loop-at-init
 loop-at-init c =
     subst (AreReachedSoFar c.args.self.now.entries c.args.id c.insert.new.self)
     (ap reverse (sym c.new-reached.ensures.items))
-    (first_pending c.args.self.now.entries c.args.id c.none_pending-pending.result c.insert.new.self
-    c.none_pending-pending.ensures c.in_ok-insert.ensures)
+    (first_pending c.args.self.now.entries c.args.id c.new-pending.result c.insert.new.self
+    c.new-pending.ensures c.in_ok-insert.ensures)
 
 pub hints-requires : goal.hints-requires
 hints-requires c =
