@@ -124,7 +124,8 @@ module _ (f : Dqbf) (entries : List Entry) (id : ℕ) (lawful : Each MayFollow e
   answer_at = ap (λ xs. numbered has_id xs id) shown.answered ∙ ap (numbered has_id all) id_is
       ∙ answer_there shown.earlier shown.clause shown.hints lawful'
 
-  answer_empty : (rounds : List ℕ) (r : Renaming) → IsPartOf r (pair_renaming f entries rounds) → is_empty (line_clause r entries id) ≡ true
+  answer_empty : (rounds : List ℕ) (r : Renaming) → IsPartOf r (pair_renaming f entries rounds) →
+      is_empty (line_clause r entries id) ≡ true
   answer_empty rounds r part =
       ap (λ o. is_empty (renamed_clause r (clause_or_empty o))) answer_at
       ∙ ap is_empty (selectors_dropped shown.earlier shown.clause shown.hints lawful' r no_selector shown.clause

@@ -3,6 +3,7 @@ use Rattle.std.proofs.Common.{◌≡◌, ℕ, zero, suc, ◌+◌, ◌*◌, ◌�
 use Rattle.std.specs.List.{Contains, list_any, cons_option, position_or_len}
 use Rattle.std.specs.Option.{option_map}
 use Rattle.std.proofs.lemmas.Bool.{false≢true, eqb-true, eq-eqb, cond-true}
+use Rattle.std.proofs.lemmas.List.{get_or_default}
 use Rattle.std.proofs.lemmas.List.Folds.{list_any_at}
 use Rattle.std.proofs.lemmas.List.Sums.{passes_at_first}
 use Rattle.dq_lits.specs.Literal.{Literal, positive, negative, variable_of, is_negative, opposite, on_variable}
@@ -62,6 +63,10 @@ place_parts xs v n h = by_bit (list_any (λ x. x == v) xs) refl h where
 
 pub among : (xs : List ℕ) (v : ℕ) → Contains xs v → list_any (λ x. x == v) xs ≡ true
 among xs v inside = list_any_at (λ x. x == v) xs inside.0 v inside.1 (eq-eqb (get_or xs inside.0 v) v inside.2)
+
+pub inside_of : (xs : List ℕ) (v : ℕ) → list_any (λ x. x == v) xs ≡ true → Contains xs v
+inside_of xs v h =
+    let p = position_is xs v h in (p.place, p.below, sym (get_or_default xs p.place 0 v p.below) ∙ p.there)
 
 pub place_there : (xs : List ℕ) (v : ℕ) → Contains xs v → place_from_one xs v ≡ Some
     (position_or_len (λ x. x == v) xs + 1)

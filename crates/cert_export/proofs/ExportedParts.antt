@@ -1,7 +1,7 @@
 -- What is exported of an answer that decides that a formula is true: its faults' leaves, and the
 -- gates that these and the proof rest on.
-use Rattle.std.proofs.Common.{◌≡◌, ◌≢◌, ℕ, zero, suc, ◌+◌, ◌≤◌, ◌<◌, ◌==◌, ◌&&◌, Bool, true, false, cond, List, [], ◌∷◌, ◌++◌, length, get_or, reverse, Option, None, Some, IsSome, is_some, refl, sym, ◌∙◌, ap, subst, arith}
-use Rattle.std.specs.List.{All, AllPairs, Contains}
+use Rattle.std.proofs.Common.{◌≡◌, ℕ, zero, suc, ◌+◌, ◌≤◌, ◌<◌, ◌==◌, ◌&&◌, Bool, true, false, cond, List, [], ◌∷◌, ◌++◌, length, get_or, Option, None, Some, IsSome, is_some, refl, sym, ◌∙◌, ap, subst, arith}
+use Rattle.std.specs.List.{All, Contains}
 use Rattle.std.specs.Prelude.{slice_index_or}
 use Rattle.std.specs.Option.{option_map, option_and_then}
 use Rattle.std.proofs.lemmas.Bool.{eqb-true}
@@ -10,7 +10,7 @@ use Rattle.dq_lits.specs.Formula.{Dqbf, Existential}
 use Rattle.dq_lits.specs.Literal.{Literal, variable_of, negative}
 use Rattle.hint_log.specs.Conditions.{MayFollow, is_circuit_name}
 use Rattle.hint_log.specs.Deciding.{ReachesGiven, ReadsInput, itself, left, right, LeafReads, IsFaultLeaf}
-use Rattle.hint_log.specs.Entries.{Entry, Named, Given, Learned, Answer, Round, Begun, has_id, count, last_id, numbered, clause_of, hints_of, origin_of, hints_at, origin_at, name_of, names_of}
+use Rattle.hint_log.specs.Entries.{Entry, Named, Given, Learned, Answer, Round, Begun, has_id, count, last_id, numbered, clause_of, hints_of, origin_of, hints_at, origin_at, name_of}
 use Rattle.hint_log.specs.Growth.{Each}
 use Rattle.hint_log.specs.Origins.{matrix_literal, IsOriginsClause, IsFaultRest, IsLeafOf, IsGateRest}
 use Rattle.hint_log.specs.Reached.{Reaches, itself as reaches_itself, by_hint}
@@ -22,16 +22,14 @@ use Rattle.hint_log.specs.declared.origins.Origin.TheVariants.{Gate, Fault}
 use Rattle.log_laws.proofs.Found.{split_at}
 use Rattle.log_laws.proofs.LeafFunctions.{circuit_stays}
 use Rattle.log_laws.proofs.ReachedClauses.{name_stays, numbered_kept}
-use Rattle.number_tables.specs.Numbers.{has_number, place_of}
-use Rattle.cert_export.specs.CircuitPart.{AreGatesInOrder, CircuitPart, IsCircuitPart, IsInFile, IsLeafInFile}
-use Rattle.cert_export.specs.ExportedCircuit.{IsExportedPart, is_gate_name}
+use Rattle.number_tables.specs.Numbers.{place_of}
+use Rattle.cert_export.specs.CircuitPart.{CircuitPart, IsCircuitPart, IsLeafInFile}
+use Rattle.cert_export.specs.ExportedCircuit.{IsExportedPart}
 use Rattle.cert_export.specs.FaultLeaves.{LeafTable, leaf_of, or_false, output_leaf, IsLeafAmong, AreLeavesAmong, HasLeavesAmong, HaveLiterals, AreOfGroup}
 use Rattle.cert_export.specs.Given.{IsGivenRightly}
-use Rattle.cert_export.specs.Needed.{with_all_sides, with_gates, IsLeafNeeded, IsGateNeeded, HasRoots}
+use Rattle.cert_export.specs.Needed.{IsGateAmong, IsLeafAmongGates, AreNeededGates}
 use Rattle.cert_export.specs.Parts.{AreDecided}
 use Rattle.cert_export.proofs.Answers.{answer_there, reached_given}
-use Rattle.cert_export.proofs.GatesInOrder.{gates_in_order}
-use Rattle.cert_export.proofs.ListedGates.{sides_over, sides_are, over_grows, over_closed, gates_over, gates_are, gate_named, gate_there, gates_distinct, gates_few}
 
 -- the given entry of an origin
 pub given_of : (es : List Entry) (id : ℕ) (o : Origin) → origin_at es id ≡ Some o →
@@ -229,18 +227,11 @@ module _ (f : Dqbf) (entries : List Entry) (id : ℕ) (ids : List ℕ) (d : AreD
   own_from_one zero i v own = cc
   own_from_one (suc j) i v own = omega arith
 
-  module _ (group : ℕ) (t : LeafTable) (roots gates : List ℕ) (of_group : AreOfGroup entries ids group)
+  module _ (group : ℕ) (t : LeafTable) (gates : List ℕ) (of_group : AreOfGroup entries ids group)
       (sound : AreLeavesAmong f entries ids t) (whole : HasLeavesAmong f entries ids t)
-      (have : HasRoots entries ids t.leaves roots) (are : gates ≡ with_gates
-      (with_all_sides (reverse (names_of entries)) roots) [] (names_of entries)) where
-    abbrev needed : List ℕ
-    needed = sides_over entries roots
-
+      (needed : AreNeededGates entries ids t.leaves gates) where
     abbrev part : CircuitPart
     part = record { group = group; gates = gates; leaf = output_leaf t }
-
-    gates_is : gates ≡ gates_over needed entries
-    gates_is = are ∙ ap (λ s. with_gates s [] (names_of entries)) (sides_are entries roots) ∙ gates_are needed entries
 
     -- a fault among the ids, in the log
     in_log : (v : ℕ) (out : Leaf) (a : IsLeafAmong f entries ids v out) →
@@ -307,11 +298,6 @@ module _ (f : Dqbf) (entries : List Entry) (id : ℕ) (ids : List ℕ) (d : AreD
           seen leaf own x (leaf_reads_before d.decided.clause d.decided.hints d.decided.earlier leaf x
           (subst (λ es. LeafReads es leaf x) d.decided.answered h))
 
-    -- a circuit's literal of the log stands on a gate of the file, if on a gate
-    in_file : (l : Literal) → has_number needed (variable_of l) ≡ true → IsInFile entries gates l
-    in_file l need a b named = subst (λ gs. Contains gs (variable_of l)) (sym gates_is)
-        (gate_there needed entries (variable_of l) a b named need)
-
     leaf_in_file : (y : Existential) → IsLeafInFile entries gates (output_leaf t y)
     leaf_in_file y = by_option (leaf_of t y.variable) refl where
       of_circuit : (l : Literal) → IsLeafAmong f entries ids y.variable (LeafLiteral l) →
@@ -330,32 +316,27 @@ module _ (f : Dqbf) (entries : List Entry) (id : ℕ) (ids : List ℕ) (d : AreD
       by_option : (o : Option Leaf) → leaf_of t y.variable ≡ o → IsLeafInFile entries gates (or_false o)
       by_option None e = tt
       by_option (Some (Constant b)) e = tt
-      by_option (Some (LeafLiteral l)) e =
-          let need : has_number roots (variable_of l) ≡ true =
-          leaf_listed (IsLeafNeeded roots) t y.variable (LeafLiteral l) have.leaves_needed tt e in
-          (of_circuit l (sound y.variable (LeafLiteral l) e), in_file l (over_grows entries roots (variable_of l) need))
+      by_option (Some (LeafLiteral l)) e = (
+        of_circuit l (sound y.variable (LeafLiteral l) e),
+        leaf_listed (IsLeafAmongGates entries gates) t y.variable (LeafLiteral l) needed.leaves_there tt e,
+      )
 
     used : (h v i : ℕ) (c : List Literal) → Reaches entries id h →
         numbered has_id entries h ≡ Some (Given (Gate v i) c) → Contains gates v
     used h v i c reached at =
-        let need : has_number roots v ≡ true = All-contains (IsGateNeeded entries roots) ids h have.gates_needed
-        (d.reached.complete h reached) v i (ap (option_and_then origin_of) at) in
         let place = at_of h (Gate v i) c (d.reached.complete h reached) at in
         let rest : IsGateRest place.earlier v i place.matches.rest = place.matches.rest_is in
         let named = name_stays place.more (Given (Gate v i) c ∷ place.earlier) v (And rest.left rest.right)
         (subst (Each MayFollow) place.is lawful) rest.named in
-        subst (λ gs. Contains gs v) (sym gates_is) (gate_there needed entries v rest.left rest.right
-        (ap (λ es. name_of es v) place.is ∙ named) (over_grows entries roots v need))
+        All-contains (λ id. (w j : ℕ) → origin_at entries id ≡ Some (Gate w j) → IsGateAmong entries gates w) ids h
+        needed.ids_there (d.reached.complete h reached) v i (ap (option_and_then origin_of) at) rest.left rest.right
+        (ap (λ es. name_of es v) place.is ∙ named)
 
     circuit_part : IsCircuitPart f entries part
     circuit_part = record {
-      named = λ v inside. let g = gate_named needed entries v lawful (subst (λ gs. Contains gs v) gates_is inside) in
-          (g.left, g.right, g.named);
-      distinct = subst (λ gs. AllPairs (λ v w. v ≢ w) gs) (sym gates_is) (gates_distinct needed entries);
-      sides = λ v a b inside named.
-          let g = gate_named needed entries v lawful (subst (λ gs. Contains gs v) gates_is inside) in
-          let both = over_closed entries roots v a b lawful named g.is_needed in
-          (in_file a both.0, in_file b both.1);
+      named = needed.named;
+      distinct = needed.distinct;
+      sides = needed.sides;
       leaves = λ k e below. leaf_in_file (get_or f.existentials k e);
     }
 
@@ -372,10 +353,3 @@ module _ (f : Dqbf) (entries : List Entry) (id : ℕ) (ids : List ℕ) (d : AreD
       part = circuit_part;
       used = used;
     }
-
-    pub few : length gates ≤ count is_gate_name entries
-    few = let most = gates_few needed entries in let is = ap length gates_is in omega (arith, most, is)
-
-    pub order : AreGatesInOrder entries gates
-    order = subst (AreGatesInOrder entries) (sym gates_is) (gates_in_order needed entries lawful
-        (λ v a b named need. over_closed entries roots v a b lawful named need))

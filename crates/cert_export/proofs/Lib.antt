@@ -12,9 +12,10 @@ mod NewNames
 mod AscendingPlaces
 pub mod GivenNames
 mod FaultLeaves
+mod NamePlaces
+mod GatePlaces
 mod NeededGates
-pub mod ListedGates
-mod GatesInOrder
+mod ListedGates
 mod ExportedParts
 mod SmallNumbers
 mod FileGates

@@ -1,334 +1,232 @@
--- The needed gates of a log: each one is a gate of it, and with a gate they hold its sides.
-use Rattle.std.proofs.Common.{◌≡◌, ◌≢◌, ℕ, ◌+◌, ◌≤◌, ◌==◌, ◌⊎◌, inl, inr, Bool, true, false, cond, List, [], ◌∷◌, ◌++◌, length, length-append, reverse, None, Some, refl, sym, ◌∙◌, ap, subst, arith}
-use Rattle.std.specs.List.{AllPairs, Contains}
-use Rattle.std.proofs.lemmas.Bool.{eqb-true, eq-eqb, cond-true, true≢false}
-use Rattle.std.proofs.lemmas.List.{reverse-append, get_or_default}
-use Rattle.std.proofs.lemmas.List.Quantifiers.{all_pairs_push}
-use Rattle.std.proofs.lemmas.List.Elements.{Contains-append_left, Contains-push}
+-- The needed gates as variables, in the order of naming: gates of the log, each once and behind its
+-- sides.
+use Rattle.std.proofs.Common.{◌≡◌, ◌≢◌, ℕ, ◌+◌, ◌-◌, ◌≤◌, ◌<◌, ◌==◌, ◌⊎◌, inl, inr, List, [], ◌∷◌, ◌++◌, length, length-append, get_or, reverse, slice_get, slice_index, true, Some, Result, Ok, Err, IfOk, refl, sym, ◌∙◌, ap, subst, arith}
+use Rattle.std.specs.List.{All, AllPairs, Contains, position_or_len}
+use Rattle.std.proofs.lemmas.Bool.{cases_lt}
+use Rattle.std.proofs.lemmas.List.{get_or_append_left, get_or_default, get_or_push, get_or-reverse, length-reverse}
+use Rattle.std.proofs.lemmas.List.Elements.{All-contains_itself}
 use Rattle.dq_lits.specs.Literal.{Literal, variable_of}
-use Rattle.hint_log.specs.Conditions.{is_circuit_name, HasSides, MayFollow}
-use Rattle.hint_log.specs.Entries.{Entry, Named, Given, Learned, Answer, Round, Begun, count, name_of, names_of}
+use Rattle.hint_log.specs.Conditions.{MayFollow}
+use Rattle.hint_log.specs.Entries.{Entry, count, name_of, names_of}
 use Rattle.hint_log.specs.Growth.{Each}
 use Rattle.hint_log.specs.declared.names.Name.{Name}
-use Rattle.hint_log.specs.declared.names.Name.TheVariants.{Selector, Pair, Input, And, Bad, Copy as CopyOf, Term}
-use Rattle.number_tables.specs.Numbers.{has_number, with_number}
+use Rattle.hint_log.specs.declared.names.Name.TheVariants.{And}
+use Rattle.hint_log.specs.declared.origins.Leaf.{Leaf}
+use Rattle.hint_log.specs.declared.origins.Leaf.TheVariants.{Constant, Literal as LeafLiteral}
+use Rattle.hint_log.specs.declared.pending.Pending.{Pending}
+use Rattle.cert_export.specs.CircuitPart.{IsSideBefore}
 use Rattle.cert_export.specs.ExportedCircuit.{is_gate_name}
-use Rattle.cert_export.specs.Needed.{with_sides, with_all_sides, with_gate, with_gates}
+use Rattle.cert_export.specs.Needed.{is_and, HasGate, IsGatePlace, IsWanted, IsLeafWanted, HasRoots, IsListed, AreGatePlaces, AreVariablesAt, IsGateAmong, IsLeafAmongGates, AreNeededGates}
 use Rattle.cert_export.proofs.CircuitNumbers.{among, position_is}
-use Rattle.cert_export.proofs.GivenNames.{Contains-append_either}
-use Rattle.log_laws.proofs.ReachedClauses.{name_stays}
-use Rattle.cert_export.proofs.NeededGates.{Grows}
+use Rattle.cert_export.proofs.GatePlaces.{reversed_contains}
+use Rattle.cert_export.proofs.NamePlaces.{gate_sides, named_at, one_place, same_pair, side_before, few_places, IsSide}
 
-pub inside_of : (s : List ℕ) (v : ℕ) → has_number s v ≡ true → Contains s v
-inside_of s v h = let p = position_is s v h in (p.place, p.below, sym (get_or_default s p.place 0 v p.below) ∙ p.there)
+-- the same list from its end on
+pub reversed_pairs : (xs : List ℕ) → AllPairs (λ p q. q < p) xs → AllPairs (λ p q. p < q) (reverse xs)
+reversed_pairs xs descending i j d less below =
+    let long = length-reverse xs in
+    let there : j < length xs = omega (arith, below, long) in
+    let first = get_or-reverse xs i d (omega (arith, less, there)) in
+    let second = get_or-reverse xs j d there in
+    let low = descending (length xs - 1 - j) (length xs - 1 - i) d
+    (omega (arith, less, there)) (omega (arith, less, there)) in
+    omega (arith, low, first, second)
 
--- one number more
-with_grows : (s : List ℕ) (n w : ℕ) → has_number s w ≡ true → has_number (with_number s n) w ≡ true
-with_grows s n w h = by_bit (has_number s n) where
-  by_bit : (b : Bool) → has_number (cond b s (s ++ n ∷ [])) w ≡ true
-  by_bit true = h
-  by_bit false = among (s ++ n ∷ []) w (Contains-append_left s (n ∷ []) w (inside_of s w h))
+pub reversed_all : (P : ℕ → Type 0) (xs : List ℕ) → All P xs → All P (reverse xs)
+reversed_all P xs all k d below =
+    let long = length-reverse xs in
+    let there : k < length xs = omega (arith, below, long) in
+    subst P (sym (get_or-reverse xs k d there)) (all (length xs - 1 - k) d (omega (arith, there)))
 
-with_there : (s : List ℕ) (n : ℕ) → has_number (with_number s n) n ≡ true
-with_there s n = by_bit (has_number s n) refl where
-  by_bit : (b : Bool) → has_number s n ≡ b → has_number (cond b s (s ++ n ∷ [])) n ≡ true
-  by_bit true e = e
-  by_bit false e = among (s ++ n ∷ []) n (Contains-push s n)
+-- the variables of the first so many places
+pub record AreVariablesSoFar (entries : List Entry) (places variables : List ℕ) (i : ℕ) : Type 0 where
+  pub long : length variables ≡ i
+  pub at : (k : ℕ) → k < i → (name : Name)
+      × (slice_get (names_of entries) (slice_index places k) ≡ Some (slice_index variables k, name))
 
-with_back : (s : List ℕ) (n w : ℕ) → Contains (with_number s n) w → Contains s w ⊎ (n ≡ w)
-with_back s n w inside = by_bit (has_number s n) inside where
-  by_bit : (b : Bool) → Contains (cond b s (s ++ n ∷ [])) w → Contains s w ⊎ (n ≡ w)
-  by_bit true h = inl h
-  by_bit false h = Contains-append_either s n w h
+pub no_variables : (entries : List Entry) (places : List ℕ) → AreVariablesSoFar entries places [] 0
+no_variables entries places = record { long = refl; at = λ k below. absurd (omega (arith, below)) }
 
-with_distinct : (s : List ℕ) (n : ℕ) → AllPairs (λ v w. v ≢ w) s → AllPairs (λ v w. v ≢ w) (with_number s n)
-with_distinct s n apart = by_bit (has_number s n) refl where
-  by_bit : (b : Bool) → has_number s n ≡ b → AllPairs (λ v w. v ≢ w) (cond b s (s ++ n ∷ []))
-  by_bit true e = apart
-  by_bit false e = all_pairs_push (λ v w. v ≢ w) s n apart (λ k d below same. true≢false
-      (sym (among s n (k, below, get_or_default s k n d below ∙ same)) ∙ e))
+pub one_variable_more : (entries : List Entry) (places variables : List ℕ) (i v : ℕ) (name : Name) →
+    AreVariablesSoFar entries places variables i →
+    slice_get (names_of entries) (slice_index places i) ≡ Some (v, name) →
+    AreVariablesSoFar entries places (variables ++ v ∷ []) (i + 1)
+one_variable_more entries places variables i v name so_far at = record {
+  long = let more = length-append variables (v ∷ []) in let long = so_far.long in omega (arith, more, long);
+  at = λ k below. by_case k (cases_lt k i) below;
+} where
+  last : slice_index (variables ++ v ∷ []) i ≡ v
+  last = get_or_push variables v 0 i so_far.long
 
-with_longer : (s : List ℕ) (n : ℕ) → length (with_number s n) ≤ length s + 1
-with_longer s n = by_bit (has_number s n) where
-  by_bit : (b : Bool) → length (cond b s (s ++ n ∷ [])) ≤ length s + 1
-  by_bit true = omega arith
-  by_bit false = let long = length-append s (n ∷ []) in omega (arith, long)
+  by_case : (k : ℕ) → (k < i) ⊎ (i ≤ k) → k < i + 1 → (n : Name)
+      × (slice_get (names_of entries) (slice_index places k) ≡ Some (slice_index (variables ++ v ∷ []) k, n))
+  by_case k (inl less) below =
+      let before = so_far.at k less in
+      let long = so_far.long in (
+        before.0,
+        before.1 ∙ ap (λ w. Some (w, before.0)) (sym (get_or_append_left variables (v ∷ []) 0 k
+            (omega (arith, less, long)))),
+      )
+  by_case k (inr more) below =
+      let same : k ≡ i = omega (arith, more, below) in (
+        name,
+        ap (λ n. slice_get (names_of entries) (slice_index places n)) same ∙ at
+            ∙ ap (λ w. Some (w, name)) (sym (ap (slice_index (variables ++ v ∷ [])) same ∙ last)),
+      )
 
--- the sides of one gate
-sides_grow : (s : List ℕ) (v : ℕ) (n : Name) → Grows s (with_sides s (v, n))
-sides_grow s v (And a b) w h = by_bit (has_number s v) where
-  by_bit : (c : Bool) → has_number (cond c (with_number (with_number s (variable_of a)) (variable_of b)) s) w ≡ true
-  by_bit true = with_grows (with_number s (variable_of a)) (variable_of b) w (with_grows s (variable_of a) w h)
-  by_bit false = h
-sides_grow s v (Selector g) w h = h
-sides_grow s v (Pair k y) w h = h
-sides_grow s v (Input x) w h = h
-sides_grow s v (Bad g j) w h = h
-sides_grow s v (CopyOf side x) w h = h
-sides_grow s v (Term p q) w h = h
+-- the variable of a later place isn't among them
+pub variable_is_new : (entries : List Entry) (places variables : List ℕ) (i v : ℕ) (name : Name) →
+    Each MayFollow entries → AllPairs (λ p q. p < q) places → i < length places →
+    AreVariablesSoFar entries places variables i →
+    slice_get (names_of entries) (slice_index places i) ≡ Some (v, name) → Contains variables v → ⊥
+variable_is_new entries places variables i v name lawful rising inside so_far at (k, below, is) =
+    let long = so_far.long in
+    let less : k < i = omega (arith, below, long) in
+    let before = so_far.at k less in
+    let one = one_place entries (slice_index places k) (slice_index places i) v before.0 name lawful
+    (before.1 ∙ ap (λ w. Some (w, before.0)) (get_or_default variables k 0 v below ∙ is)) at in
+    let low = rising k i 0 less inside in
+    omega (arith, one, low)
 
--- a variable that has no name isn't a side
-sides_back : (es : List Entry) (s : List ℕ) (v w : ℕ) (n : Name) → HasSides es n → name_of es w ≡ None →
-    has_number (with_sides s (v, n)) w ≡ true → has_number s w ≡ true
-sides_back es s v w (And a b) sides none h = by_bit (has_number s v) h where
-  no_side : (l : Literal) → is_circuit_name (name_of es (variable_of l)) ≡ true → variable_of l ≡ w → ⊥
-  no_side l named same = true≢false (sym named ∙ ap (λ x. is_circuit_name (name_of es x)) same
-      ∙ ap is_circuit_name none)
+module _ (entries : List Entry) (lawful : Each MayFollow entries) (roots : Pending) (places gates : List ℕ)
+    (are : AreGatePlaces entries roots places) (listed : AreVariablesAt entries (reverse places) gates) where
+  abbrev up : List ℕ
+  up = reverse places
 
-  by_bit : (c : Bool) → has_number (cond c (with_number (with_number s (variable_of a)) (variable_of b)) s) w ≡ true →
-      has_number s w ≡ true
-  by_bit true k = elim (with_back (with_number s (variable_of a)) (variable_of b) w
-      (inside_of (with_number (with_number s (variable_of a)) (variable_of b)) w k)) [
-        | inl before ↦ elim (with_back s (variable_of a) w before) [
-          | inl older ↦ among s w older
-          | inr same ↦ absurd (no_side a sides.0 same)
+  rising : AllPairs (λ p q. p < q) up
+  rising = reversed_pairs places are.descending
+
+  -- a gate of the list, by its place there
+  record IsGateOf (k v : ℕ) : Type 0 where
+    pub below : k < length up
+    pub name : Name
+    pub at : slice_get (names_of entries) (slice_index up k) ≡ Some (v, name)
+    pub is : is_and name ≡ true
+
+  gate_of : (k v : ℕ) → k < length up → slice_index gates k ≡ v → IsGateOf k v
+  gate_of k v below is =
+      let here = listed.at k below in
+      let at = here.1 ∙ ap (λ w. Some (w, here.0)) is in
+      let g = reversed_all (IsGatePlace entries) places are.gates k 0 below in
+      let name = (same_pair g.0 v g.1.0 here.0 (sym g.1.1 ∙ at)).1 in
+      record { below = below; name = here.0; at = at; is = sym (ap is_and name) ∙ g.1.2 }
+
+  gate_inside : (v : ℕ) (inside : Contains gates v) → IsGateOf inside.0 v
+  gate_inside v (k, below, is) =
+      let long = listed.long in gate_of k v (omega (arith, below, long)) (get_or_default gates k 0 v below ∙ is)
+
+  named : (v : ℕ) → Contains gates v → (a : Literal) × (b : Literal) × (name_of entries v ≡ Some (And a b))
+  named v inside =
+      let g = gate_inside v inside in
+      let s = gate_sides g.name g.is in
+      (s.0, s.1, named_at entries (slice_index up inside.0) v g.name lawful g.at ∙ ap Some s.2)
+
+  there : (p v : ℕ) → Contains places p → HasGate entries v p → Contains gates v
+  there p v inside gate =
+      let at = reversed_contains places p inside in
+      let below = at.1 in
+      let long = listed.long in
+      let here = listed.at at.0 below in
+      let place : slice_index up at.0 ≡ p = get_or_default up at.0 0 p below ∙ at.2 in
+      let is = (same_pair (slice_index gates at.0) v here.0 gate.0
+      (sym here.1 ∙ ap (slice_get (names_of entries)) place ∙ gate.1)).0 in
+      let within : at.0 < length gates = omega (arith, below, long) in
+      (at.0, within, get_or_default gates at.0 v 0 within ∙ is)
+
+  among_gates : (v : ℕ) → IsListed entries places v → IsGateAmong entries gates v
+  among_gates v here a b named = let l = here a b named in there l.0 v l.2 l.1
+
+  wanted : (v : ℕ) → IsWanted entries roots v → IsGateAmong entries gates v
+  wanted v here a b named = let w = here a b named in there w.0 v (are.roots_there w.0 w.2) w.1
+
+  -- what is listed of the sides of a gate
+  sides_listed : (v : ℕ) (a b : Literal) → Contains gates v → name_of entries v ≡ Some (And a b) →
+      IsListed entries places (variable_of a) × IsListed entries places (variable_of b)
+  sides_listed v a b inside named =
+      let g = gate_inside v inside in
+      let mine = named_at entries (slice_index up inside.0) v g.name lawful g.at in
+      let same : Some g.name ≡ Some (And a b) = sym mine ∙ named in
+      let is : g.name ≡ And a b = cc in
+      are.closed (slice_index up inside.0) v a b (place_inside inside.0 g.below) (g.at ∙ ap (λ n. Some (v, n)) is) where
+        place_inside : (k : ℕ) → k < length up → Contains places (slice_index up k)
+        place_inside k below = reversed_all (Contains places) places (All-contains_itself places) k 0 below
+
+  distinct : AllPairs (λ v w. v ≢ w) gates
+  distinct i j d less below same =
+      let long = listed.long in
+      let under : j < length up = omega (arith, below, long) in
+      let first = gate_of i (slice_index gates i) (omega (arith, less, under)) refl in
+      let second = gate_of j (slice_index gates i) under
+      (get_or_default gates j 0 d below ∙ sym same ∙ get_or_default gates i d 0 (omega (arith, less, below))) in
+      let one = one_place entries (slice_index up i) (slice_index up j) (slice_index gates i) first.name second.name
+      lawful first.at second.at in
+      let low = rising i j 0 less under in
+      omega (arith, one, low)
+
+  few : length gates ≤ count is_gate_name entries
+  few =
+      let long = listed.long in
+      let same = length-reverse places in
+      let most = few_places entries places are.descending are.gates in
+      omega (arith, long, same, most)
+
+  -- the place of a gate in the list, and its place in the log
+  at_position : (v : ℕ) → Contains gates v → IsGateOf (position_or_len (λ x. x == v) gates) v
+  at_position v inside =
+      let p = position_is gates v (among gates v inside) in
+      let long = listed.long in
+      let below = p.below in
+      let first = p.first in
+      gate_of (position_or_len (λ x. x == v) gates) v (omega (arith, below, long, first))
+      (ap (slice_index gates) first ∙ p.there)
+
+  side_first : (v : ℕ) (a b l : Literal) → Contains gates v → name_of entries v ≡ Some (And a b) → IsSide a b l →
+      IsListed entries places (variable_of l) → IsSideBefore entries gates v l
+  side_first v a b l inside named side here c d other =
+      let l_inside = among_gates (variable_of l) here c d other in
+      let mine = at_position v inside in
+      let its = at_position (variable_of l) l_inside in
+      let i = position_or_len (λ x. x == variable_of l) gates in
+      let j = position_or_len (λ x. x == v) gates in
+      let name = named_at entries (slice_index up j) v mine.name lawful mine.at in
+      let same : Some mine.name ≡ Some (And a b) = sym name ∙ named in
+      let is : mine.name ≡ And a b = cc in
+      let low = side_before entries (slice_index up j) (slice_index up i) v a b l its.name lawful
+      (mine.at ∙ ap (λ n. Some (v, n)) is) side its.at in
+      elim (cases_lt i j) [
+        | inl less ↦ less
+        | inr more ↦ absurd (past i j its.below more low)
+      ] where
+        past : (i j : ℕ) → i < length up → j ≤ i → slice_index up i < slice_index up j → ⊥
+        past i j below more low = elim (cases_lt j i) [
+          | inl less ↦ (let up_less = rising j i 0 less below in omega (arith, up_less, low))
+          | inr equal ↦ (let same : i ≡ j = omega (arith, more, equal) in
+              let e = ap (slice_index up) same in omega (arith, e, low))
         ]
-        | inr same ↦ absurd (no_side b sides.1 same)
-      ]
-  by_bit false k = k
-sides_back es s v w (Selector g) sides none h = h
-sides_back es s v w (Pair k y) sides none h = h
-sides_back es s v w (Input x) sides none h = h
-sides_back es s v w (Bad g j) sides none h = h
-sides_back es s v w (CopyOf side x) sides none h = h
-sides_back es s v w (Term p q) sides none h = h
 
--- all sides, by the entries from the newest on
-abbrev pub sides_over : List Entry → List ℕ → List ℕ
-sides_over [] s = s
-sides_over (Named v n ∷ es) s = sides_over es (with_sides s (v, n))
-sides_over (Given origin c ∷ es) s = sides_over es s
-sides_over (Learned c hints ∷ es) s = sides_over es s
-sides_over (Answer c hints ∷ es) s = sides_over es s
-sides_over (Round row values j ∷ es) s = sides_over es s
-sides_over (Begun live ∷ es) s = sides_over es s
+  leaf_among : (leaf : Leaf) → IsLeafWanted entries roots leaf → IsLeafAmongGates entries gates leaf
+  leaf_among (Constant b) h = tt
+  leaf_among (LeafLiteral l) h = wanted (variable_of l) h
 
-pub sides_are : (es : List Entry) (s : List ℕ) → with_all_sides (reverse (names_of es)) s ≡ sides_over es s
-sides_are [] s = refl
-sides_are (Named v n ∷ es) s = ap (λ ns. with_all_sides ns s) (reverse-append (names_of es) ((v, n) ∷ []))
-    ∙ sides_are es (with_sides s (v, n))
-sides_are (Given origin c ∷ es) s = sides_are es s
-sides_are (Learned c hints ∷ es) s = sides_are es s
-sides_are (Answer c hints ∷ es) s = sides_are es s
-sides_are (Round row values j ∷ es) s = sides_are es s
-sides_are (Begun live ∷ es) s = sides_are es s
+  pub are_needed : (ids : List ℕ) (leaves : List Leaf) → HasRoots entries ids leaves roots →
+      AreNeededGates entries ids leaves gates
+  are_needed ids leaves have = record {
+    named = named;
+    distinct = distinct;
+    few = few;
+    sides = λ v a b inside is. let both = sides_listed v a b inside is in
+        (among_gates (variable_of a) both.0, among_gates (variable_of b) both.1);
+    order = λ v a b inside is. let both = sides_listed v a b inside is in
+        (side_first v a b a inside is (inl refl) both.0, side_first v a b b inside is (inr refl) both.1);
+    leaves_there = λ k d below. leaf_among (get_or leaves k d) (have.leaves_wanted k d below);
+    ids_there = λ k d below v i at. wanted v (have.ids_wanted k d below v i at);
+  }
 
-pub over_grows : (es : List Entry) (s : List ℕ) → Grows s (sides_over es s)
-over_grows [] s w h = h
-over_grows (Named v n ∷ es) s w h = over_grows es (with_sides s (v, n)) w (sides_grow s v n w h)
-over_grows (Given origin c ∷ es) s w h = over_grows es s w h
-over_grows (Learned c hints ∷ es) s w h = over_grows es s w h
-over_grows (Answer c hints ∷ es) s w h = over_grows es s w h
-over_grows (Round row values j ∷ es) s w h = over_grows es s w h
-over_grows (Begun live ∷ es) s w h = over_grows es s w h
-
--- a variable without a name is added by none
-over_back : (es : List Entry) (s : List ℕ) (w : ℕ) → Each MayFollow es → name_of es w ≡ None →
-    has_number (sides_over es s) w ≡ true → has_number s w ≡ true
-over_back [] s w lawful none h = h
-over_back (Named v n ∷ es) s w lawful none h = by_bit (λ k. over_back es (with_sides s (v, n)) w lawful.1 k h)
-    (w == v) none where
-      by_bit : (name_of es w ≡ None → has_number (with_sides s (v, n)) w ≡ true) → (b : Bool) →
-          cond b (Some n) (name_of es w) ≡ None → has_number s w ≡ true
-      by_bit later true k = cc
-      by_bit later false k = sides_back es s v w n lawful.0.sides k (later k)
-over_back (Given origin c ∷ es) s w lawful none h = over_back es s w lawful.1 none h
-over_back (Learned c hints ∷ es) s w lawful none h = over_back es s w lawful.1 none h
-over_back (Answer c hints ∷ es) s w lawful none h = over_back es s w lawful.1 none h
-over_back (Round row values j ∷ es) s w lawful none h = over_back es s w lawful.1 none h
-over_back (Begun live ∷ es) s w lawful none h = over_back es s w lawful.1 none h
-
-abbrev HasBoth : List ℕ → Literal → Literal → Type 0
-HasBoth s a b = (has_number s (variable_of a) ≡ true) × (has_number s (variable_of b) ≡ true)
-
--- with a gate come its sides
-pub over_closed : (es : List Entry) (s : List ℕ) (v : ℕ) (a b : Literal) → Each MayFollow es →
-    name_of es v ≡ Some (And a b) → has_number (sides_over es s) v ≡ true → HasBoth (sides_over es s) a b
-over_closed [] s v a b lawful named h = cc
-over_closed (Named u n ∷ es) s v a b lawful named h = by_bit
-    (λ k. over_closed es (with_sides s (u, n)) v a b lawful.1 k h) (v == u) refl named where
-      here : v ≡ u → n ≡ And a b → HasBoth (sides_over es (with_sides s (u, n))) a b
-      here same is =
-          let none : name_of es v ≡ None = ap (name_of es) same ∙ lawful.0.unnamed in
-          let old : has_number s v ≡ true = sides_back es s u v n lawful.0.sides none
-          (over_back es (with_sides s (u, n)) v lawful.1 none h) in
-          let old' : has_number s u ≡ true = ap (has_number s) (sym same) ∙ old in
-          let two = with_number (with_number s (variable_of a)) (variable_of b) in
-          let are : with_sides s (u, n) ≡ two = ap (λ m. with_sides s (u, m)) is ∙ cond-true
-          (has_number s u) two s old' in
-          let first : has_number two (variable_of a) ≡ true = with_grows (with_number s (variable_of a)) (variable_of b)
-          (variable_of a) (with_there s (variable_of a)) in
-          let second : has_number two (variable_of b) ≡ true =
-          with_there (with_number s (variable_of a)) (variable_of b) in
-          subst (λ xs. HasBoth (sides_over es xs) a b) (sym are)
-          (over_grows es two (variable_of a) first, over_grows es two (variable_of b) second)
-
-      by_bit : (name_of es v ≡ Some (And a b) → HasBoth (sides_over es (with_sides s (u, n))) a b) → (c : Bool) →
-          (v == u) ≡ c → cond c (Some n) (name_of es v) ≡ Some (And a b) →
-          HasBoth (sides_over es (with_sides s (u, n))) a b
-      by_bit later true e k = let is : n ≡ And a b = cc in here (eqb-true v u e) is
-      by_bit later false e k = later k
-over_closed (Given origin c ∷ es) s v a b lawful named h = over_closed es s v a b lawful.1 named h
-over_closed (Learned c hints ∷ es) s v a b lawful named h = over_closed es s v a b lawful.1 named h
-over_closed (Answer c hints ∷ es) s v a b lawful named h = over_closed es s v a b lawful.1 named h
-over_closed (Round row values j ∷ es) s v a b lawful named h = over_closed es s v a b lawful.1 named h
-over_closed (Begun live ∷ es) s v a b lawful named h = over_closed es s v a b lawful.1 named h
-
--- the needed gates, by the entries
-module _ (needed : List ℕ) where
-  abbrev pub gates_over : List Entry → List ℕ
-  gates_over [] = []
-  gates_over (Named v n ∷ es) = with_gate needed (gates_over es) (v, n)
-  gates_over (Given origin c ∷ es) = gates_over es
-  gates_over (Learned c hints ∷ es) = gates_over es
-  gates_over (Answer c hints ∷ es) = gates_over es
-  gates_over (Round row values j ∷ es) = gates_over es
-  gates_over (Begun live ∷ es) = gates_over es
-
-  gates_snoc : (gates : List ℕ) (names : List (ℕ × Name)) (named : ℕ × Name) →
-      with_gates needed gates (names ++ named ∷ []) ≡ with_gate needed (with_gates needed gates names) named
-  gates_snoc gates [] named = refl
-  gates_snoc gates (x ∷ names) named = gates_snoc (with_gate needed gates x) names named
-
-  pub gates_are : (es : List Entry) → with_gates needed [] (names_of es) ≡ gates_over es
-  gates_are [] = refl
-  gates_are (Named v n ∷ es) = gates_snoc [] (names_of es) (v, n) ∙ ap (λ gs. with_gate needed gs (v, n)) (gates_are es)
-  gates_are (Given origin c ∷ es) = gates_are es
-  gates_are (Learned c hints ∷ es) = gates_are es
-  gates_are (Answer c hints ∷ es) = gates_are es
-  gates_are (Round row values j ∷ es) = gates_are es
-  gates_are (Begun live ∷ es) = gates_are es
-
-  -- a gate of the log that is needed
-  pub record IsNeededGate (es : List Entry) (v : ℕ) : Type 0 where
-    pub left : Literal
-    pub right : Literal
-    pub named : name_of es v ≡ Some (And left right)
-    pub is_needed : has_number needed v ≡ true
-
-  pub gate_back : (gates : List ℕ) (u v : ℕ) (n : Name) → Contains (with_gate needed gates (u, n)) v →
-      Contains gates v ⊎ ((u ≡ v) × (a : Literal) × (b : Literal) × (n ≡ And a b) × (has_number needed u ≡ true))
-  gate_back gates u v (And a b) inside = by_bit (has_number needed u) refl inside where
-    by_bit : (c : Bool) → has_number needed u ≡ c → Contains (cond c (with_number gates u) gates) v →
-        Contains gates v ⊎ ((u ≡ v) × (x : Literal) × (y : Literal) × (And a b ≡ And x y) ×
-        (has_number needed u ≡ true))
-    by_bit true e k = elim (with_back gates u v k) [
-      | inl before ↦ inl before
-      | inr same ↦ inr (same, a, b, refl, e)
-    ]
-    by_bit false e k = inl k
-  gate_back gates u v (Selector g) inside = inl inside
-  gate_back gates u v (Pair k y) inside = inl inside
-  gate_back gates u v (Input x) inside = inl inside
-  gate_back gates u v (Bad g j) inside = inl inside
-  gate_back gates u v (CopyOf side x) inside = inl inside
-  gate_back gates u v (Term p q) inside = inl inside
-
-  pub gate_named : (es : List Entry) (v : ℕ) → Each MayFollow es → Contains (gates_over es) v → IsNeededGate es v
-  gate_named [] v lawful (k, below, is) = absurd (omega arith)
-  gate_named (Named u n ∷ es) v lawful inside = elim (gate_back (gates_over es) u v n inside) [
-    | inl before ↦ (
-        let g = gate_named es v lawful.1 before in
-        record {
-          left = g.left;
-          right = g.right;
-          named = name_stays (Named u n ∷ []) es v
-              (And g.left g.right) lawful g.named;
-          is_needed = g.is_needed;
-        })
-    | inr here ↦ record {
-      left = here.1;
-      right = here.2;
-      named = cond-true (v == u) (Some n) (name_of es v) (eq-eqb v u (sym here.0)) ∙ ap Some here.3;
-      is_needed = ap (has_number needed) (sym here.0) ∙ here.4;
-    }
-  ]
-  gate_named (Given origin c ∷ es) v lawful inside = let g = gate_named es v lawful.1 inside in
-      record { left = g.left; right = g.right; named = g.named; is_needed = g.is_needed }
-  gate_named (Learned c hints ∷ es) v lawful inside = let g = gate_named es v lawful.1 inside in
-      record { left = g.left; right = g.right; named = g.named; is_needed = g.is_needed }
-  gate_named (Answer c hints ∷ es) v lawful inside = let g = gate_named es v lawful.1 inside in
-      record { left = g.left; right = g.right; named = g.named; is_needed = g.is_needed }
-  gate_named (Round row values j ∷ es) v lawful inside = let g = gate_named es v lawful.1 inside in
-      record { left = g.left; right = g.right; named = g.named; is_needed = g.is_needed }
-  gate_named (Begun live ∷ es) v lawful inside = let g = gate_named es v lawful.1 inside in
-      record { left = g.left; right = g.right; named = g.named; is_needed = g.is_needed }
-
-  gate_kept : (gates : List ℕ) (u v : ℕ) (n : Name) → Contains gates v → Contains (with_gate needed gates (u, n)) v
-  gate_kept gates u v (And a b) inside = by_bit (has_number needed u) where
-    by_bit : (c : Bool) → Contains (cond c (with_number gates u) gates) v
-    by_bit true = inside_of (with_number gates u) v (with_grows gates u v (among gates v inside))
-    by_bit false = inside
-  gate_kept gates u v (Selector g) inside = inside
-  gate_kept gates u v (Pair k y) inside = inside
-  gate_kept gates u v (Input x) inside = inside
-  gate_kept gates u v (Bad g j) inside = inside
-  gate_kept gates u v (CopyOf side x) inside = inside
-  gate_kept gates u v (Term p q) inside = inside
-
-  pub gate_there : (es : List Entry) (v : ℕ) (a b : Literal) → name_of es v ≡ Some (And a b) →
-      has_number needed v ≡ true → Contains (gates_over es) v
-  gate_there [] v a b named h = cc
-  gate_there (Named u n ∷ es) v a b named h = by_bit (λ k. gate_there es v a b k h) (v == u) refl named where
-    here : v ≡ u → n ≡ And a b → Contains (with_gate needed (gates_over es) (u, n)) v
-    here same is =
-        let needed' : has_number needed u ≡ true = ap (has_number needed) (sym same) ∙ h in
-        let are : with_gate needed (gates_over es) (u, n) ≡ with_number (gates_over es) u =
-        ap (λ m. with_gate needed (gates_over es) (u, m)) is
-        ∙ cond-true (has_number needed u) (with_number (gates_over es) u) (gates_over es) needed' in
-        subst (λ gs. Contains gs v) (sym are) (subst (Contains (with_number (gates_over es) u)) (sym same)
-        (inside_of (with_number (gates_over es) u) u (with_there (gates_over es) u)))
-
-    by_bit : (name_of es v ≡ Some (And a b) → Contains (gates_over es) v) → (c : Bool) → (v == u) ≡ c →
-        cond c (Some n) (name_of es v) ≡ Some (And a b) → Contains (with_gate needed (gates_over es) (u, n)) v
-    by_bit later true e k = let is : n ≡ And a b = cc in here (eqb-true v u e) is
-    by_bit later false e k = gate_kept (gates_over es) u v n (later k)
-  gate_there (Given origin c ∷ es) v a b named h = gate_there es v a b named h
-  gate_there (Learned c hints ∷ es) v a b named h = gate_there es v a b named h
-  gate_there (Answer c hints ∷ es) v a b named h = gate_there es v a b named h
-  gate_there (Round row values j ∷ es) v a b named h = gate_there es v a b named h
-  gate_there (Begun live ∷ es) v a b named h = gate_there es v a b named h
-
-  gate_distinct : (gates : List ℕ) (u : ℕ) (n : Name) → AllPairs (λ v w. v ≢ w) gates →
-      AllPairs (λ v w. v ≢ w) (with_gate needed gates (u, n))
-  gate_distinct gates u (And a b) apart = by_bit (has_number needed u) where
-    by_bit : (c : Bool) → AllPairs (λ v w. v ≢ w) (cond c (with_number gates u) gates)
-    by_bit true = with_distinct gates u apart
-    by_bit false = apart
-  gate_distinct gates u (Selector g) apart = apart
-  gate_distinct gates u (Pair k y) apart = apart
-  gate_distinct gates u (Input x) apart = apart
-  gate_distinct gates u (Bad g j) apart = apart
-  gate_distinct gates u (CopyOf side x) apart = apart
-  gate_distinct gates u (Term p q) apart = apart
-
-  pub gates_distinct : (es : List Entry) → AllPairs (λ v w. v ≢ w) (gates_over es)
-  gates_distinct [] = λ i j d low high. absurd (omega arith)
-  gates_distinct (Named v n ∷ es) = gate_distinct (gates_over es) v n (gates_distinct es)
-  gates_distinct (Given origin c ∷ es) = gates_distinct es
-  gates_distinct (Learned c hints ∷ es) = gates_distinct es
-  gates_distinct (Answer c hints ∷ es) = gates_distinct es
-  gates_distinct (Round row values j ∷ es) = gates_distinct es
-  gates_distinct (Begun live ∷ es) = gates_distinct es
-
-  gate_more : (gates : List ℕ) (v : ℕ) (n : Name) (m : ℕ) → length gates ≤ m →
-      length (with_gate needed gates (v, n)) ≤ cond (is_gate_name (Named v n)) (m + 1) m
-  gate_more gates v (And a b) m h = by_bit (has_number needed v) where
-    by_bit : (c : Bool) → length (cond c (with_number gates v) gates) ≤ m + 1
-    by_bit true = let l = with_longer gates v in omega (arith, l, h)
-    by_bit false = omega (arith, h)
-  gate_more gates v (Selector g) m h = h
-  gate_more gates v (Pair k y) m h = h
-  gate_more gates v (Input x) m h = h
-  gate_more gates v (Bad g j) m h = h
-  gate_more gates v (CopyOf side x) m h = h
-  gate_more gates v (Term p q) m h = h
-
-  pub gates_few : (es : List Entry) → length (gates_over es) ≤ count is_gate_name es
-  gates_few [] = omega arith
-  gates_few (Named v n ∷ es) = gate_more (gates_over es) v n (count is_gate_name es) (gates_few es)
-  gates_few (Given origin c ∷ es) = gates_few es
-  gates_few (Learned c hints ∷ es) = gates_few es
-  gates_few (Answer c hints ∷ es) = gates_few es
-  gates_few (Round row values j ∷ es) = gates_few es
-  gates_few (Begun live ∷ es) = gates_few es
+pub gates_are_needed : {E : Type 0} (entries : List Entry) → Each MayFollow entries → (roots : Pending)
+    (places ids : List ℕ) (leaves : List Leaf) (ascending : List ℕ) (o : Result (List ℕ) E) →
+    ascending ≡ reverse places → HasRoots entries ids leaves roots → AreGatePlaces entries roots places →
+    IfOk o (AreVariablesAt entries ascending) → IfOk o (AreNeededGates entries ids leaves)
+gates_are_needed entries lawful roots places ids leaves ascending (Ok gates) is have are listed =
+    are_needed entries lawful roots places gates are (subst (λ ps. AreVariablesAt entries ps gates) is listed) ids
+    leaves have
+gates_are_needed entries lawful roots places ids leaves ascending (Err e) is have are listed = tt

@@ -85,7 +85,8 @@ module _ (r : Renaming) (injective : IsInjective r) where
     | inr differ ↦ differ
   ]
 
-  pub holds_renamed : (l l' : Literal) → ren l ≡ Some l' → (xs : List Literal) → holds (filter_map ren xs) l' ≡ holds xs l
+  pub holds_renamed : (l l' : Literal) → ren l ≡ Some l' → (xs : List Literal) →
+      holds (filter_map ren xs) l' ≡ holds xs l
   holds_renamed l l' e [] = refl
   holds_renamed l l' e (x ∷ xs) = by_option (holds_renamed l l' e xs) (ren x) refl where
     by_option : holds (filter_map ren xs) l' ≡ holds xs l → (o : Option Literal) → ren x ≡ o →
@@ -98,8 +99,8 @@ module _ (r : Renaming) (injective : IsInjective r) where
   open_in trues clause = filter (λ l. not (holds trues (opposite l))) clause
 
   -- the literals that aren't false
-  pub open_renamed : (trues clause : List Literal) → open_in (filter_map ren trues) (filter_map ren clause) ≡ filter_map ren
-      (open_in trues clause)
+  pub open_renamed : (trues clause : List Literal) →
+      open_in (filter_map ren trues) (filter_map ren clause) ≡ filter_map ren (open_in trues clause)
   open_renamed trues [] = refl
   open_renamed trues (l ∷ ls) = by_option (open_renamed trues ls) (ren l) refl where
     dropped : (b : Bool) → ren l ≡ None → filter_map ren (open_in trues ls) ≡ filter_map ren

@@ -27,7 +27,8 @@ range_rounds : (n start : ℕ) → (k : ℕ) → Contains (range_with_len start 
 range_rounds zero start k inside = absurd (let b = inside.1 in omega arith)
 range_rounds (suc n) start k (zero, below, is) = (omega (arith, is), omega (arith, is))
 range_rounds (suc n) start k (suc i, below, is) =
-    let r = range_rounds n (start + 1) k (i, (let b : i < length (range_with_len (start + 1) n) = omega arith in b), is) in
+    let r = range_rounds n (start + 1) k
+    (i, (let b : i < length (range_with_len (start + 1) n) = omega arith in b), is) in
     let low = r.0 in let high = r.1 in (omega (arith, low), omega (arith, high))
 
 all_of : (P : ℕ → Type 0) (xs : List ℕ) → ((k : ℕ) → Contains xs k → P k) → All P xs

@@ -26,7 +26,8 @@ module _ (r s : Renaming) (to : ℕ → ℕ) (made : (v : ℕ) → s v ≡ optio
     by_name (Some x) None h = cc
     by_name (Some x) (Some y) h = tt
 
-  all_alike : (l k k' : Literal) → renamed_literal r l ≡ Some k → renamed_literal s l ≡ Some k' → (rest : List Literal) →
+  all_alike : (l k k' : Literal) → renamed_literal r l ≡ Some k → renamed_literal s l ≡ Some k' →
+      (rest : List Literal) →
       list_all (same_literal k) (renamed_clause r rest) ≡ list_all (same_literal k') (renamed_clause s rest)
   all_alike l k k' e e' [] = refl
   all_alike l k k' e e' (x ∷ xs) = by_names (all_alike l k k' e e' xs) (renamed_literal r x) (renamed_literal s x)

@@ -32,8 +32,8 @@ use std::alloc::Global;
 /// The circuit and the proof that an answer stands for, which decides that the formula is true.
 /// Each existential's output is the one in the faults that the answer reaches, and constant false
 /// where it reaches none. There is a gate for each one that an output or the proof rests on, and a
-/// line for each learned clause and answer that the answer reaches. It takes time for the log's
-/// names and for what the answer reaches, and memory for the latter.
+/// line for each learned clause and answer that the answer reaches. It takes time and memory for
+/// the formula and what the answer reaches.
 pub fn export_true(alloc: Global, log: &Log, id: u64, f: &Formula) -> Result<(AagFile, Dqp), Memory>
     requires formula { IsWellFormed f.now }
     requires decided { CanExportTrue f.now log.now.entries id }

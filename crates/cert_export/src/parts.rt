@@ -1,6 +1,6 @@
 //! What is exported of an answer that decides that a formula is true.
 
-ghost use Rattle.std.specs.Prelude.{◌≡◌, ◌≤◌, length, IfOk};
+ghost use Rattle.std.specs.Prelude.{◌≤◌, length, IfOk};
 ghost use Rattle.hint_log.specs.Entries.{count};
 ghost use Rattle.cert_export.specs.CircuitPart.{AreGatesInOrder};
 ghost use Rattle.cert_export.specs.ExportedCircuit.{IsExportedPart, is_gate_name};

@@ -14,8 +14,7 @@ use Rattle.hint_log.specs.declared.names.Name.{Name}
 use Rattle.hint_log.specs.declared.names.Name.TheVariants.{Selector, Pair, Input, And, Bad, Copy as CopyOf, Term}
 use Rattle.cert_export.specs.CircuitPart.{place_from_one}
 use Rattle.cert_export.specs.Renaming.{IsInjective}
-use Rattle.cert_export.proofs.CircuitNumbers.{IsPlace, place_parts, place_there, HasNumber}
-use Rattle.cert_export.proofs.ListedGates.{inside_of}
+use Rattle.cert_export.proofs.CircuitNumbers.{IsPlace, inside_of, place_parts, place_there, HasNumber}
 use Rattle.cert_export.proofs.PairNames.{same_name}
 use Rattle.definition_export.specs.ExportedDefinition.{definition_number, definition_renaming}
 use Rattle.definition_proofs.specs.Shown.{IsDeclaredCopy}

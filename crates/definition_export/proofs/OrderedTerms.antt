@@ -13,9 +13,8 @@ use Rattle.hint_log.specs.declared.names.Name.{Name}
 use Rattle.hint_log.specs.declared.names.Name.TheVariants.{Selector, Pair, Input, And, Bad, Copy as CopyOf, Term}
 use Rattle.log_laws.proofs.ReachedClauses.{name_stays}
 use Rattle.number_tables.specs.Numbers.{has_number, place_of, with_number}
-use Rattle.cert_export.proofs.CircuitNumbers.{among}
+use Rattle.cert_export.proofs.CircuitNumbers.{among, inside_of}
 use Rattle.cert_export.proofs.GivenNames.{Contains-append_either}
-use Rattle.cert_export.proofs.ListedGates.{inside_of}
 use Rattle.definition_export.specs.Closing.{IsSidePlace, AreTermNames}
 use Rattle.definition_export.specs.Exporting.{is_term_entry}
 use Rattle.definition_export.specs.TermOrder.{with_term, with_terms}

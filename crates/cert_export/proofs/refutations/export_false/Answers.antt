@@ -19,7 +19,8 @@ returns-clause-accepted c = ok_by (AreExported c.args.f.now c.args.live.now c.ar
     (refuted_exportable c.args.f.now c.args.live.now c.args.log.now c.args.id c.items.result.now c.requires.formula
     c.every_formula_is_lawful.ensures.few_clauses c.requires.refuted c.every_log_is_lawful.ensures
     c.requires.limit c.steps.ensures.within c.steps.ensures.value c.rounds_are_steps.ensures c.reached_are_ids.ensures
-    (subst (AreReached c.args.log.now.entries c.args.id) (sym c.items.ensures) c.in_ok-ids.ensures)) c.requires.refuted (subst (AreReached c.args.log.now.entries c.args.id)
+    (subst (AreReached c.args.log.now.entries c.args.id) (sym c.items.ensures) c.in_ok-ids.ensures)) c.requires.refuted
+    (subst (AreReached c.args.log.now.entries c.args.id)
     (sym c.items.ensures) c.in_ok-ids.ensures) x) c.refutation.ensures
 
 pub returns-clause-few : goal.returns-clause-few
@@ -35,7 +36,8 @@ returns-clause-spelled c = ok_by (AreExported c.args.f.now c.args.live.now c.arg
     (refuted_exportable c.args.f.now c.args.live.now c.args.log.now c.args.id c.items.result.now c.requires.formula
     c.every_formula_is_lawful.ensures.few_clauses c.requires.refuted c.every_log_is_lawful.ensures
     c.requires.limit c.steps.ensures.within c.steps.ensures.value c.rounds_are_steps.ensures c.reached_are_ids.ensures
-    (subst (AreReached c.args.log.now.entries c.args.id) (sym c.items.ensures) c.in_ok-ids.ensures)) c.requires.refuted (subst (AreReached c.args.log.now.entries c.args.id)
+    (subst (AreReached c.args.log.now.entries c.args.id) (sym c.items.ensures) c.in_ok-ids.ensures)) c.requires.refuted
+    (subst (AreReached c.args.log.now.entries c.args.id)
     (sym c.items.ensures) c.in_ok-ids.ensures) x) c.refutation.ensures
 
 pub returns-clause-lines : goal.returns-clause-lines

@@ -27,7 +27,8 @@ right_here c =
     let known = c.requires.known in
     pair_right f entries rounds (renaming c.args.names.now) (renaming c.insert.new.self) c.var-in-Pair.result
     (place * c.vars.result + y) c.requires.right
-    (ap (pair_renaming f entries rounds) c.var-in-Pair.ensures.value ∙ target_at f entries rounds place v k y named known
+    (ap (pair_renaming f entries rounds) c.var-in-Pair.ensures.value
+    ∙ target_at f entries rounds place v k y named known
     ∙ ap (λ n. Some (normal_number f rows (place * n + y))) (sym c.vars.ensures.value))
     (ap (λ n. is_pair_number f (length rows) (place * n + y)) c.vars.ensures.value
     ∙ (pair_at f entries rounds place v k y named known).is_pair)

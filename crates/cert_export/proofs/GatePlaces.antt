@@ -1,0 +1,231 @@
+-- The places of the needed gates: what is looked at, and what is still to be.
+use Rattle.std.proofs.Common.{◌≡◌, ℕ, ◌-◌, ◌<◌, ◌==◌, ◌⊎◌, inl, inr, Bool, true, false, cond, true≢false, List, [], ◌∷◌, ◌++◌, length, get_or, reverse, slice_get, None, Some, refl, sym, ◌∙◌, ap, subst, arith}
+use Rattle.std.specs.List.{All, AllPairs, Contains}
+use Rattle.std.proofs.lemmas.Bool.{eqb-true, eq-eqb}
+use Rattle.std.proofs.lemmas.List.{get_or-reverse, length-reverse, reverse-append, reverse-reverse}
+use Rattle.std.proofs.lemmas.List.Elements.{All-contains, All-nil, All-push, Contains-append_left, Contains-push, Contains-push_cases}
+use Rattle.std.proofs.lemmas.List.Quantifiers.{all_pairs_push}
+use Rattle.dq_lits.specs.Literal.{Literal, variable_of}
+use Rattle.hint_log.specs.Conditions.{MayFollow}
+use Rattle.hint_log.specs.Entries.{Entry, name_of, names_of}
+use Rattle.hint_log.specs.Growth.{Each}
+use Rattle.hint_log.specs.Pending.{is_pending, Takes}
+use Rattle.hint_log.specs.declared.names.Name.{Name}
+use Rattle.hint_log.specs.declared.names.Name.TheVariants.{And}
+use Rattle.hint_log.specs.declared.pending.Pending.{Pending}
+use Rattle.cert_export.specs.Needed.{is_and, HasGate, IsGatePlace, IsWanted, Wants, WantsSides, IsListed, AreGatePlaces}
+use Rattle.cert_export.proofs.PairNames.{small_place}
+use Rattle.cert_export.proofs.NamePlaces.{named_at, same_pair, side_before}
+
+-- the same list from its end on
+pub reversed_contains : (xs : List ℕ) (x : ℕ) → Contains xs x → Contains (reverse xs) x
+reversed_contains xs x (k, below, is) =
+    let long = length-reverse xs in
+    let back : length xs - 1 - (length xs - 1 - k) ≡ k = omega (arith, below) in (
+      length xs - 1 - k,
+      omega (arith, below, long),
+      get_or-reverse xs (length xs - 1 - k) x (omega (arith, below))
+          ∙ ap (λ n. get_or xs n x) back ∙ is,
+    )
+
+-- a variable that is no gate adds nothing
+pub nothing_wanted : (entries : List Entry) (v : ℕ) (pending : Pending) → ((a b : Literal) → name_of entries v
+    ≡ Some (And a b) → ⊥) → Wants entries v pending pending
+nothing_wanted entries v pending none = record {
+  kept = λ p h. h;
+  there = λ a b named. absurd (none a b named);
+  only = λ p h. inl h;
+}
+
+pub no_name : (entries : List Entry) (v : ℕ) → name_of entries v ≡ None → (a b : Literal) → name_of entries v
+    ≡ Some (And a b) → ⊥
+no_name entries v none a b named = cc
+
+-- the same place's name
+pub named_so : (names : List (ℕ × Name)) (p v : ℕ) (n : Name) (r : ℕ × Name) → slice_get names p ≡ Some (v, n) →
+    slice_get names p ≡ Some r → slice_get names p ≡ Some (v, r.1)
+named_so names p v n r at other =
+    at ∙ ap (λ m. Some (v, m)) (same_pair v r.0 n r.1 (sym at ∙ other)).1
+
+pub no_gate : (entries : List Entry) (v p : ℕ) (n : Name) → Each MayFollow entries →
+    slice_get (names_of entries) p ≡ Some (v, n) → is_and n ≡ false → (a b : Literal) → name_of entries v
+    ≡ Some (And a b) → ⊥
+no_gate entries v p n lawful at none a b named =
+    let mine = named_at entries p v n lawful at in
+    let same : n ≡ And a b = cc in
+    true≢false (sym (ap is_and same) ∙ none)
+
+abbrev IsWith : Pending → Pending → ℕ → Type 0
+IsWith old new place = (n : ℕ) → is_pending new n ≡ cond (place == n) true (is_pending old n)
+
+-- a gate's place is added
+pub gate_wanted : (entries : List Entry) (v p : ℕ) (n : Name) (old new : Pending) →
+    slice_get (names_of entries) p ≡ Some (v, n) → is_and n ≡ true → IsWith old new p → Wants entries v old new
+gate_wanted entries v p n old new at is one = record {
+  kept = λ q h. kept q h (p == q) (one q);
+  there = λ a b named. (p, (n, at, is), one p ∙ ap (λ b. cond b true (is_pending old p)) (eq-eqb p p refl));
+  only = λ q h. back q (p == q) refl (sym (one q) ∙ h);
+} where
+  kept : (q : ℕ) → is_pending old q ≡ true → (b : Bool) → is_pending new q ≡ cond b true (is_pending old q) →
+      is_pending new q ≡ true
+  kept q h true e = e
+  kept q h false e = e ∙ h
+
+  back : (q : ℕ) (b : Bool) → (p == q) ≡ b → cond b true (is_pending old q) ≡ true →
+      (is_pending old q ≡ true) ⊎ HasGate entries v q
+  back q true same h = inr (n, ap (slice_get (names_of entries)) (sym (eqb-true p q same)) ∙ at, is)
+  back q false other h = inl h
+
+pub still_wanted : (entries : List Entry) (v : ℕ) (old new : Pending) → ((p : ℕ) → is_pending old p ≡ true →
+    is_pending new p ≡ true) → IsWanted entries old v → IsWanted entries new v
+still_wanted entries v old new kept wanted a b named =
+    let w = wanted a b named in (w.0, w.1, kept w.0 w.2)
+
+-- both sides of a gate
+pub sides_wanted : (entries : List Entry) (place v : ℕ) (a b : Literal) (old mid new : Pending) →
+    Each MayFollow entries → slice_get (names_of entries) place ≡ Some (v, And a b) →
+    Wants entries (variable_of a) old mid → Wants entries (variable_of b) mid new → WantsSides entries place old new
+sides_wanted entries place v a b old mid new lawful at first second = record {
+  kept = λ p h. second.kept p (first.kept p h);
+  there = λ w c d other. both w c d other;
+  only = λ p h. elim (second.only p h) [
+    | inl before ↦ elim (first.only p before) [
+      | inl older ↦ inl older
+      | inr here ↦ inr ((variable_of a, here), side_before entries place p v a b a here.0 lawful at (inl refl) here.1)
+    ]
+    | inr here ↦ inr ((variable_of b, here), side_before entries place p v a b b here.0 lawful at (inr refl) here.1)
+  ];
+} where
+  both : (w : ℕ) (c d : Literal) → slice_get (names_of entries) place ≡ Some (w, And c d) →
+      IsWanted entries new (variable_of c) × IsWanted entries new (variable_of d)
+  both w c d other =
+      let name = (same_pair v w (And a b) (And c d) (sym at ∙ other)).1 in
+      let left : a ≡ c = cc in
+      let right : b ≡ d = cc in (
+        subst (λ l. IsWanted entries new (variable_of l)) left (still_wanted entries (variable_of a) mid new second.kept
+            first.there),
+        subst (λ l. IsWanted entries new (variable_of l)) right second.there,
+      )
+
+-- where the variable is a gate, its place was looked at or is still to be
+abbrev IsReached : List Entry → Pending → List ℕ → ℕ → Type 0
+IsReached entries pending places v =
+    (a b : Literal) → name_of entries v ≡ Some (And a b) →
+    (p : ℕ) × HasGate entries v p × ((is_pending pending p ≡ true) ⊎ Contains places p)
+
+-- the places that were looked at, descending, and those that are still to be, before them
+pub record AreLookedAt (entries : List Entry) (roots pending : Pending) (places : List ℕ) : Type 0 where
+  pub descending : AllPairs (λ p q. q < p) places
+  pub gates : All (IsGatePlace entries) places
+  pub pending_gates : (p : ℕ) → is_pending pending p ≡ true → IsGatePlace entries p
+  pub before : (p : ℕ) → is_pending pending p ≡ true → All (λ q. p < q) places
+  pub roots_there : (p : ℕ) → is_pending roots p ≡ true → (is_pending pending p ≡ true) ⊎ Contains places p
+  pub closed : (p v : ℕ) (a b : Literal) → Contains places p → slice_get (names_of entries) p ≡ Some (v, And a b) →
+      IsReached entries pending places (variable_of a) × IsReached entries pending places (variable_of b)
+
+pub none_looked_at : (entries : List Entry) (roots : Pending) → ((p : ℕ) → is_pending roots p ≡ true →
+    IsGatePlace entries p) → AreLookedAt entries roots roots []
+none_looked_at entries roots gates = record {
+  descending = λ i j d low high. absurd (omega (arith, high));
+  gates = All-nil (IsGatePlace entries);
+  pending_gates = gates;
+  before = λ p h. All-nil (λ q. p < q);
+  roots_there = λ p h. inl h;
+  closed = λ p v a b (k, below, is). absurd (omega (arith, below));
+}
+
+module _ (entries : List Entry) (roots old taken new : Pending) (place : ℕ) (places : List ℕ)
+    (so_far : AreLookedAt entries roots old places) (takes : Takes old taken place)
+    (sides : WantsSides entries place taken new) where
+  abbrev more : List ℕ
+  more = places ++ place ∷ []
+
+  last : Contains more place
+  last = Contains-push places place
+
+  stays : (p : ℕ) → Contains places p → Contains more p
+  stays p inside = Contains-append_left places (place ∷ []) p inside
+
+  moves : (p : ℕ) → is_pending old p ≡ true → (is_pending new p ≡ true) ⊎ Contains more p
+  moves p h = by_bit (p == place) refl where
+    by_bit : (b : Bool) → (p == place) ≡ b → (is_pending new p ≡ true) ⊎ Contains more p
+    by_bit true same = inr (subst (Contains more) (sym (eqb-true p place same)) last)
+    by_bit false other = inl (sides.kept p (takes.others p h (λ is. true≢false (sym (eq-eqb p place is) ∙ other))))
+
+  moves_on : (p : ℕ) → (is_pending old p ≡ true) ⊎ Contains places p → (is_pending new p ≡ true) ⊎ Contains more p
+  moves_on p (inl h) = moves p h
+  moves_on p (inr inside) = inr (stays p inside)
+
+  still_reached : (v : ℕ) → IsReached entries old places v → IsReached entries new more v
+  still_reached v reached a b named = let r = reached a b named in (r.0, r.1, moves_on r.0 r.2)
+
+  reached_now : (v : ℕ) → IsWanted entries new v → IsReached entries new more v
+  reached_now v wanted a b named = let w = wanted a b named in (w.0, w.1, inl w.2)
+
+  older : (p : ℕ) → is_pending taken p ≡ true → is_pending old p ≡ true
+  older p h = takes.fewer p h
+
+  is_before : (p : ℕ) → is_pending new p ≡ true → All (λ q. p < q) more
+  is_before p h = elim (sides.only p h) [
+    | inl before ↦ All-push (λ q. p < q) places place (so_far.before p (older p before)) (takes.below p before)
+    | inr side ↦ All-push (λ q. p < q) places place (λ k d less. let low = side.1 in
+        let mine = so_far.before place takes.was k d less in omega (arith, low, mine)) side.1
+  ]
+
+  pub one_more_looked_at : AreLookedAt entries roots new more
+  one_more_looked_at = record {
+    descending = all_pairs_push (λ p q. q < p) places place so_far.descending
+        (so_far.before place takes.was);
+    gates = All-push (IsGatePlace entries) places place so_far.gates (so_far.pending_gates place takes.was);
+    pending_gates = λ p h. elim (sides.only p h) [
+      | inl before ↦ so_far.pending_gates p (older p before)
+      | inr side ↦ side.0
+    ];
+    before = is_before;
+    roots_there = λ p h. moves_on p (so_far.roots_there p h);
+    closed = λ p v a b inside at. elim (Contains-push_cases places place p inside) [
+      | inl before ↦ (
+          let both = so_far.closed p v a b before at in
+          (still_reached (variable_of a) both.0, still_reached (variable_of b) both.1))
+      | inr same ↦ (
+          let both = sides.there v a b (ap (slice_get (names_of entries)) same ∙ at) in
+          (reached_now (variable_of a) both.0, reached_now (variable_of b) both.1))
+    ];
+  }
+
+pub all_looked_at : (entries : List Entry) (roots pending : Pending) (places : List ℕ) →
+    AreLookedAt entries roots pending places → ((n : ℕ) → is_pending pending n ≡ false) →
+    AreGatePlaces entries roots places
+all_looked_at entries roots pending places so_far none = record {
+  descending = so_far.descending;
+  gates = so_far.gates;
+  roots_there = λ p h. there p (so_far.roots_there p h);
+  closed = λ p v a b inside at. let both = so_far.closed p v a b inside at in
+      (listed (variable_of a) both.0, listed (variable_of b) both.1);
+} where
+  there : (p : ℕ) → (is_pending pending p ≡ true) ⊎ Contains places p → Contains places p
+  there p (inl h) = absurd (true≢false (sym h ∙ none p))
+  there p (inr inside) = inside
+
+  listed : (v : ℕ) → IsReached entries pending places v → IsListed entries places v
+  listed v reached a b named = let r = reached a b named in (r.0, r.1, there r.0 r.2)
+
+-- what was looked at last, or the end of the names, comes behind what is still to be
+pub fewer_left : (entries : List Entry) (roots pending : Pending) (places more : List ℕ) (place : ℕ) →
+    AreLookedAt entries roots pending places → is_pending pending place ≡ true → more ≡ places ++ place ∷ [] →
+    get_or (reverse more) 0 (length (names_of entries)) < get_or (reverse places) 0 (length (names_of entries))
+fewer_left entries roots pending places more place so_far was is =
+    let now : get_or (reverse more) 0 (length (names_of entries)) ≡ place =
+    ap (λ ps. get_or (reverse ps) 0 (length (names_of entries))) is
+    ∙ ap (λ ps. get_or ps 0 (length (names_of entries))) (reverse-append places (place ∷ [])) in
+    let low = before (reverse places) (λ q inside. so_far_before q inside) in
+    omega (arith, now, low) where
+      so_far_before : (q : ℕ) → Contains (reverse places) q → place < q
+      so_far_before q inside = All-contains (λ p. place < p) places q (so_far.before place was) (back q inside) where
+        back : (q : ℕ) → Contains (reverse places) q → Contains places q
+        back q inside = subst (λ ps. Contains ps q) (reverse-reverse places)
+            (reversed_contains (reverse places) q inside)
+
+      before : (up : List ℕ) → ((q : ℕ) → Contains up q → place < q) → place < get_or up 0 (length (names_of entries))
+      before [] low = let g = so_far.pending_gates place was in small_place (names_of entries) place (g.0, g.1.0) g.1.1
+      before (q ∷ up) low = low q (0, omega arith, refl)

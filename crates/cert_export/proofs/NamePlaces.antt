@@ -1,0 +1,189 @@
+-- Places of names in a log: a variable has one, and a gate's sides have earlier ones.
+use Rattle.std.proofs.Common.{◌≡◌, ℕ, zero, suc, ◌+◌, ◌≤◌, ◌<◌, ◌==◌, ◌⊎◌, inl, inr, Bool, true, false, cond, true≢false, List, [], ◌∷◌, ◌++◌, length, slice_get, Option, None, Some, refl, sym, ◌∙◌, ap, subst, arith}
+use Rattle.std.specs.List.{All, AllPairs}
+use Rattle.std.proofs.lemmas.Bool.{cond-true, eq-eqb}
+use Rattle.std.proofs.lemmas.List.Elements.{All-head, All-tail}
+use Rattle.dq_lits.specs.Literal.{Literal, variable_of}
+use Rattle.hint_log.specs.Conditions.{is_circuit_name, HasSides, MayFollow}
+use Rattle.hint_log.specs.Entries.{Entry, Named, Given, Learned, Answer, Round, Begun, count, name_of, names_of}
+use Rattle.hint_log.specs.Growth.{Each}
+use Rattle.hint_log.specs.declared.names.Name.{Name}
+use Rattle.hint_log.specs.declared.names.Name.TheVariants.{Selector, Pair, Input, And, Bad, Copy as CopyOf, Term}
+use Rattle.log_laws.proofs.ReachedClauses.{name_stays}
+use Rattle.log_laws.proofs.Solved.{sides}
+use Rattle.cert_export.specs.ExportedCircuit.{is_gate_name}
+use Rattle.cert_export.specs.Needed.{is_and, IsGatePlace}
+use Rattle.cert_export.proofs.PairNames.{small_place}
+
+-- a name that is a gate's
+pub gate_sides : (n : Name) → is_and n ≡ true → (a : Literal) × (b : Literal) × (n ≡ And a b)
+gate_sides (And a b) h = (a, b, refl)
+gate_sides (Selector g) h = cc
+gate_sides (Pair k y) h = cc
+gate_sides (Input x) h = cc
+gate_sides (Bad g j) h = cc
+gate_sides (CopyOf side x) h = cc
+gate_sides (Term p q) h = cc
+
+pub same_pair : (v w : ℕ) (n m : Name) → ◌≡◌ {A = Option (ℕ × Name)} (Some (v, n)) (Some (w, m)) →
+    (v ≡ w) × (n ≡ m)
+same_pair v w n m same =
+    let pair : ◌≡◌ {A = ℕ × Name} (v, n) (w, m) = cc in (ap (λ x. x.0) pair, ap (λ x. x.1) pair)
+
+-- an element more behind
+at_push : {X : Type 0} (xs : List X) (y x : X) (p : ℕ) → slice_get (xs ++ y ∷ []) p ≡ Some x →
+    (slice_get xs p ≡ Some x) ⊎ ((p ≡ length xs) × (y ≡ x))
+at_push [] y x zero at = inr (refl, cc)
+at_push [] y x (suc p) at = cc
+at_push (z ∷ xs) y x zero at = inl at
+at_push (z ∷ xs) y x (suc p) at = elim (at_push xs y x p at) [
+  | inl before ↦ inl before
+  | inr last ↦ inr (ap suc last.0, last.1)
+]
+
+pub named_at : (es : List Entry) (p v : ℕ) (n : Name) → Each MayFollow es → slice_get (names_of es) p ≡ Some (v, n) →
+    name_of es v ≡ Some n
+named_at [] p v n lawful at = cc
+named_at (Named w m ∷ es) p v n lawful at = elim (at_push (names_of es) (w, m) (v, n) p at) [
+  | inl before ↦ name_stays (Named w m ∷ []) es v n lawful (named_at es p v n lawful.1 before)
+  | inr last ↦ (
+      let same : v ≡ w = sym (ap (λ x. x.0) last.1) in
+      cond-true (v == w) (Some m) (name_of es v) (eq-eqb v w same) ∙ ap (λ x. Some x.1) last.1)
+]
+named_at (Given origin c ∷ es) p v n lawful at = named_at es p v n lawful.1 at
+named_at (Learned c hints ∷ es) p v n lawful at = named_at es p v n lawful.1 at
+named_at (Answer c hints ∷ es) p v n lawful at = named_at es p v n lawful.1 at
+named_at (Round row values j ∷ es) p v n lawful at = named_at es p v n lawful.1 at
+named_at (Begun live ∷ es) p v n lawful at = named_at es p v n lawful.1 at
+
+-- a variable that is named now had no place
+none_before : (w : ℕ) (m : Name) (es : List Entry) (p v : ℕ) (n : Name) → Each MayFollow (Named w m ∷ es) →
+    slice_get (names_of es) p ≡ Some (v, n) → w ≡ v → ⊥
+none_before w m es p v n lawful at same =
+    let named : name_of es v ≡ Some n = named_at es p v n lawful.1 at in
+    let none : name_of es v ≡ None = ap (name_of es) (sym same) ∙ lawful.0.unnamed in
+    cc
+
+pub one_place : (es : List Entry) (p q v : ℕ) (n m : Name) → Each MayFollow es →
+    slice_get (names_of es) p ≡ Some (v, n) → slice_get (names_of es) q ≡ Some (v, m) → p ≡ q
+one_place [] p q v n m lawful at other = cc
+one_place (Named w k ∷ es) p q v n m lawful at other = elim (at_push (names_of es) (w, k) (v, n) p at) [
+  | inl before ↦ elim (at_push (names_of es) (w, k) (v, m) q other) [
+    | inl earlier ↦ one_place es p q v n m lawful.1 before earlier
+    | inr last ↦ absurd (none_before w k es p v n lawful before (ap (λ x. x.0) last.1))
+  ]
+  | inr here ↦ elim (at_push (names_of es) (w, k) (v, m) q other) [
+    | inl earlier ↦ absurd (none_before w k es q v m lawful earlier (ap (λ x. x.0) here.1))
+    | inr last ↦ here.0 ∙ sym last.0
+  ]
+]
+one_place (Given origin c ∷ es) p q v n m lawful at other = one_place es p q v n m lawful.1 at other
+one_place (Learned c hints ∷ es) p q v n m lawful at other = one_place es p q v n m lawful.1 at other
+one_place (Answer c hints ∷ es) p q v n m lawful at other = one_place es p q v n m lawful.1 at other
+one_place (Round row values j ∷ es) p q v n m lawful at other = one_place es p q v n m lawful.1 at other
+one_place (Begun live ∷ es) p q v n m lawful at other = one_place es p q v n m lawful.1 at other
+
+-- the literal is a side of the gate
+abbrev pub IsSide : Literal → Literal → Literal → Type 0
+IsSide a b l = (l ≡ a) ⊎ (l ≡ b)
+
+-- a variable that is named now is no side of an earlier gate
+no_side : (w : ℕ) (m : Name) (es : List Entry) (a b l : Literal) → Each MayFollow (Named w m ∷ es) →
+    (is_circuit_name (name_of es (variable_of a)) ≡ true) × (is_circuit_name (name_of es (variable_of b)) ≡ true) →
+    IsSide a b l → w ≡ variable_of l → ⊥
+no_side w m es a b l lawful named side same = true≢false (sym (is_named side) ∙ ap is_circuit_name none) where
+  none : name_of es (variable_of l) ≡ None
+  none = ap (name_of es) (sym same) ∙ lawful.0.unnamed
+
+  is_named : IsSide a b l → is_circuit_name (name_of es (variable_of l)) ≡ true
+  is_named (inl is) = ap (λ k. is_circuit_name (name_of es (variable_of k))) is ∙ named.0
+  is_named (inr is) = ap (λ k. is_circuit_name (name_of es (variable_of k))) is ∙ named.1
+
+pub side_before : (es : List Entry) (p q v : ℕ) (a b l : Literal) (m : Name) → Each MayFollow es →
+    slice_get (names_of es) p ≡ Some (v, And a b) → IsSide a b l → slice_get (names_of es) q ≡ Some (variable_of l, m) →
+    q < p
+side_before [] p q v a b l m lawful at side other = cc
+side_before (Named w k ∷ es) p q v a b l m lawful at side other =
+    elim (at_push (names_of es) (w, k) (v, And a b) p at) [
+      | inl before ↦ elim (at_push (names_of es) (w, k) (variable_of l, m) q other) [
+        | inl earlier ↦ side_before es p q v a b l m lawful.1 before side earlier
+        | inr last ↦ absurd (no_side w k es a b l lawful
+            (sides es v a b lawful.1 (named_at es p v (And a b) lawful.1 before)) side (ap (λ x. x.0) last.1))
+      ]
+      | inr here ↦ elim (at_push (names_of es) (w, k) (variable_of l, m) q other) [
+        | inl earlier ↦ (
+            let below = small_place (names_of es) q (variable_of l, m) earlier in
+            let last = here.0 in
+            omega (arith, below, last))
+        | inr last ↦ absurd (no_side w k es a b l lawful
+            (subst (HasSides es) (ap (λ x. x.1) here.1) lawful.0.sides) side (ap (λ x. x.0) last.1))
+      ]
+    ]
+side_before (Given origin c ∷ es) p q v a b l m lawful at side other =
+    side_before es p q v a b l m lawful.1 at side other
+side_before (Learned c hints ∷ es) p q v a b l m lawful at side other =
+    side_before es p q v a b l m lawful.1 at side other
+side_before (Answer c hints ∷ es) p q v a b l m lawful at side other =
+    side_before es p q v a b l m lawful.1 at side other
+side_before (Round row values j ∷ es) p q v a b l m lawful at side other =
+    side_before es p q v a b l m lawful.1 at side other
+side_before (Begun live ∷ es) p q v a b l m lawful at side other =
+    side_before es p q v a b l m lawful.1 at side other
+
+-- descending places of gates are no more than the gates
+gate_name : (w : ℕ) (m : Name) → is_and m ≡ true → is_gate_name (Named w m) ≡ true
+gate_name w m h = let g = gate_sides m h in ap (λ n. is_gate_name (Named w n)) g.2
+
+older_gate : (w : ℕ) (m : Name) (es : List Entry) (q : ℕ) → q < length (names_of es) →
+    IsGatePlace (Named w m ∷ es) q → IsGatePlace es q
+older_gate w m es q below (v, (n, at, is)) = elim (at_push (names_of es) (w, m) (v, n) q at) [
+  | inl before ↦ (v, (n, before, is))
+  | inr last ↦ (let same = last.0 in absurd (omega (arith, same, below)))
+]
+
+older_gates : (w : ℕ) (m : Name) (es : List Entry) (qs : List ℕ) → All (λ q. q < length (names_of es)) qs →
+    All (IsGatePlace (Named w m ∷ es)) qs → All (IsGatePlace es) qs
+older_gates w m es qs below gates k d less = older_gate w m es _ (below k d less) (gates k d less)
+
+more_gates : (e : Entry) (es : List Entry) → count is_gate_name es ≤ count is_gate_name (e ∷ es)
+more_gates e es = by_bit (is_gate_name e) where
+  by_bit : (b : Bool) → count is_gate_name es ≤ cond b (count is_gate_name es + 1) (count is_gate_name es)
+  by_bit true = omega arith
+  by_bit false = omega arith
+
+pub few_places : (es : List Entry) (places : List ℕ) → AllPairs (λ p q. q < p) places → All (IsGatePlace es) places →
+    length places ≤ count is_gate_name es
+few_places es [] descending gates = omega arith
+few_places [] (p ∷ ps) descending gates = let g = All-head (IsGatePlace []) p ps gates in let at = g.1.1 in cc
+few_places (Named w m ∷ es) (p ∷ ps) descending gates =
+    let g = All-head (IsGatePlace (Named w m ∷ es)) p ps gates in
+    elim (at_push (names_of es) (w, m) (g.0, g.1.0) p g.1.1) [
+      | inl before ↦ (
+          let below = small_place (names_of es) p (g.0, g.1.0) before in
+          let all : All (λ q. q < length (names_of es)) (p ∷ ps) = all_below below in
+          let r = few_places es (p ∷ ps) descending (older_gates w m es (p ∷ ps) all gates) in
+          let more = more_gates (Named w m) es in
+          omega (arith, r, more))
+      | inr last ↦ (
+          let is : is_and m ≡ true = ap (λ x. is_and x.1) last.1 ∙ g.1.2 in
+          let counted : count is_gate_name (Named w m ∷ es) ≡ count is_gate_name es + 1 =
+          cond-true (is_gate_name (Named w m)) (count is_gate_name es + 1) (count is_gate_name es) (gate_name w m is) in
+          let here = last.0 in
+          let r = few_places es ps
+          (λ i j d less k. descending (suc i) (suc j) d (omega (arith, less)) (omega (arith, k)))
+          (older_gates w m es ps (rest_below here) (All-tail (IsGatePlace (Named w m ∷ es)) p ps gates)) in
+          omega (arith, r, counted))
+    ] where
+      rest_below : p ≡ length (names_of es) → All (λ q. q < length (names_of es)) ps
+      rest_below here k d less =
+          let low = descending 0 (suc k) d (omega arith) (omega (arith, less)) in omega (arith, low, here)
+
+      all_below : p < length (names_of es) → All (λ q. q < length (names_of es)) (p ∷ ps)
+      all_below below zero d less = below
+      all_below below (suc k) d less =
+          let low = descending 0 (suc k) d (omega arith) less in omega (arith, low, below)
+few_places (Given origin c ∷ es) (p ∷ ps) descending gates = few_places es (p ∷ ps) descending gates
+few_places (Learned c hints ∷ es) (p ∷ ps) descending gates = few_places es (p ∷ ps) descending gates
+few_places (Answer c hints ∷ es) (p ∷ ps) descending gates = few_places es (p ∷ ps) descending gates
+few_places (Round row values j ∷ es) (p ∷ ps) descending gates = few_places es (p ∷ ps) descending gates
+few_places (Begun live ∷ es) (p ∷ ps) descending gates = few_places es (p ∷ ps) descending gates
