@@ -1,5 +1,5 @@
 -- What holds between the turns of a search.
-use Rattle.std.specs.Prelude.{◌≡◌, ℕ, ◌+◌, ◌-◌, ◌*◌, ◌≤◌, ◌<◌, List, length, ◌⊎◌}
+use Rattle.std.specs.Prelude.{◌≡◌, ℕ, ◌+◌, ◌-◌, ◌*◌, ◌≤◌, ◌<◌, List, length}
 use Rattle.dq_lits.specs.Literal.{Literal}
 use Rattle.hint_log.specs.Entries.{ProofLog, steps_of}
 use Rattle.oracle.specs.declared.oracles.Answer.{Answer}
@@ -72,10 +72,6 @@ pub record IsTurn (assumptions : List Literal) (s t : Searcher) (old new : Proof
 
 abbrev pub IsAnswered : List Literal → Searcher → ProofLog → ProofLog → Answer → Type 0
 IsAnswered assumptions s old new found = IsAnsweredBy assumptions (searched s) old new found
-
--- marks have a place for each variable that there is room for
-abbrev pub HasRoom : Searcher → Type 0
-HasRoom s = (s.trail.room ≡ 0) ⊎ (s.trail.room < length s.notes.marks)
 
 -- how far a search has come
 pub record IsRunning (assumptions : List Literal) (s t : Searcher)

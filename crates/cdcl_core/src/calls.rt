@@ -14,7 +14,7 @@ ghost use Rattle.learning_trail.specs.Steps.{literals_of};
 ghost use Rattle.truth_values.specs.Truth.{literal_value};
 ghost use Rattle.learning_trail.specs.Searching.{AreAssumptions};
 ghost use Rattle.cdcl_core.specs.Solver.{value_on};
-ghost use Rattle.cdcl_core.specs.Searching.{IsReady, HasRoom, KeepsPlaces, IsSearching, IsAnswered};
+ghost use Rattle.cdcl_core.specs.Searching.{IsReady, KeepsPlaces, IsSearching, IsAnswered};
 ghost use Rattle.truth_values.specs.declared.values.TruthValue.TheVariants.{True};
 
 use crate::clauses::ClauseStore;
@@ -31,27 +31,19 @@ const FIRST_TOO_LARGE: u64 = 1 << 62;
 
 /// Room for one variable more, and its number.
 pub(crate) fn grow(s: &mut Searcher) -> Result<u64, Memory>
-    requires room { s.old.variables ≤ s.old.trail.room }
-    requires marks { HasRoom s.old }
-    requires few { s.old.variables < 2 ^ 62 }
+    requires { s.old.variables < 2 ^ 62 }
     ensures next { IfOk result (λ v. v ≡ s.old.variables + 1) }
     ensures in_range { IfOk result (λ v. v < 2 ^ 62) }
     ensures variables { s.new.variables ≡ s.old.variables }
     ensures clauses { s.new.clauses.clauses ≡ s.old.clauses.clauses }
     ensures resting { s.new.resting ≡ s.old.resting }
-    ensures steps { s.new.trail.steps ≡ s.old.trail.steps }
-    ensures room { s.old.trail.room ≤ s.new.trail.room }
-    ensures room_ok { OnOk result (s.old.variables + 1 ≤ s.new.trail.room) }
-    ensures marks { HasRoom s.new }
+    ensures trail { s.new.trail ≡ s.old.trail }
 {
     let var = s.variables + 1;
     if var >= FIRST_TOO_LARGE {
         return Err(Memory);
     }
     s.focus.grow()?;
-    s.notes.begin()?;
-    s.notes.grow()?;
-    s.trail.grow()?;
     s.clauses.grow(var)?;
     Ok(var)
 }
@@ -89,8 +81,6 @@ pub(crate) fn find(
     requires made { All (IsMade log.old.entries) active.now }
     requires plain { All (IsPlain log.old.entries) assume.now }
     requires apart { is_tautology assume.now ≡ false }
-    requires room { s.old.variables ≤ s.old.trail.room }
-    requires marks { HasRoom s.old }
     requires few { s.old.variables < 2 ^ 62 }
     ensures sat { result ≡ Ok Answer.Sat → HasLearned log.old log.new
         × IsModelUnder (value_on s.new.trail.steps) (clause_at log.new.entries)
@@ -100,14 +90,13 @@ pub(crate) fn find(
     ensures fit { HeldFit s.new.clauses.clauses s.new.resting.flags.items s.new.variables
         log.new.entries }
     ensures variables { s.new.variables ≡ s.old.variables }
-    ensures room { s.new.trail.room ≡ s.old.trail.room }
-    ensures marks { HasRoom s.new }
     ensures stop { OnErr result (HasLearned log.old log.new) }
     ensures limit { result ≡ Err Stop.Limit → IsAtLimit log.new (assumed active.now assume.now) }
 {
     back_to_start(&mut s.trail);
     wake(s, active, log)?;
-    s.notes.begin()?;
+    s.trail.cover(s.variables as usize)?;
+    s.notes.cover(&s.trail)?;
     s.focus.begin(&s.activities)?;
     s.positions.begin();
     let assumptions = Assumptions::new(active, assume);

@@ -160,7 +160,7 @@ fn free_literal(trail: &Trail, v: u64, is_true: bool) -> Option<Lit>
 }
 
 fn has_value(trail: &Trail, v: u64, value: TruthValue) -> bool {
-    if v == 0 || v >= FIRST_TOO_LARGE || v as usize > trail.room() {
+    if v == 0 || v >= FIRST_TOO_LARGE {
         return false;
     }
     trail.value(Lit::pos(v)) == value

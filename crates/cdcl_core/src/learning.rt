@@ -55,7 +55,7 @@ pub(crate) fn learn(
         &mut s.notes,
         &mut s.activities,
         conflict,
-    );
+    )?;
     s.activities.decay();
     let id = log_clause(&mut s.clauses, &s.notes, log)?;
     let is_due = is_restart_due(&mut s.restarts, &s.trail, &s.notes, &s.positions);

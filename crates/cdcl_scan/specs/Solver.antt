@@ -1,7 +1,6 @@
 -- How a solver is kept.
 use Rattle.std.specs.Prelude.{◌≡◌, ℕ, ◌≤◌, ◌<◌, ◌^◌, Bool, List, [], length}
 use Rattle.dq_lits.specs.Literal.{Literal}
-use Rattle.cdcl_scan.specs.Searching.{HasRoom}
 use Rattle.cdcl_scan.specs.declared.solvers.Scan.TheInside.{Inside}
 
 -- what a solver shows: its clauses in order of time, how many variables it has, and the values that
@@ -25,6 +24,5 @@ shown_in s =
 pub record IsAtRest (s : Inside) : Type 0 where
   pub bare : s.searcher.trail.steps ≡ []
   pub room : s.searcher.variables ≤ s.searcher.trail.room
-  pub marks : HasRoom s.searcher
   pub model : length s.model.items ≡ s.searcher.variables
   pub few : s.searcher.variables < 2 ^ 62

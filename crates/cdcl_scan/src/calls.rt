@@ -13,7 +13,7 @@ ghost use Rattle.learning_trail.specs.Resting.{HeldFit};
 ghost use Rattle.learning_trail.specs.Steps.{literals_of};
 ghost use Rattle.truth_values.specs.Truth.{literal_value};
 ghost use Rattle.learning_trail.specs.Searching.{AreAssumptions};
-ghost use Rattle.cdcl_scan.specs.Searching.{HasRoom, KeepsPlaces, IsSearching, IsAnswered};
+ghost use Rattle.cdcl_scan.specs.Searching.{KeepsPlaces, IsSearching, IsAnswered};
 ghost use Rattle.truth_values.specs.declared.values.TruthValue.TheVariants.{True};
 
 use crate::clauses::ClauseStore;
@@ -30,7 +30,6 @@ const FIRST_TOO_LARGE: u64 = 1 << 62;
 /// Room for one variable more, and its number.
 pub(crate) fn grow(s: &mut Searcher, model: &mut Vec<bool>) -> Result<u64, Memory>
     requires room { s.old.variables ≤ s.old.trail.room }
-    requires marks { HasRoom s.old }
     requires few { s.old.variables < 2 ^ 62 }
     ensures next { IfOk result (λ v. v ≡ s.old.variables + 1) }
     ensures in_range { IfOk result (λ v. v < 2 ^ 62) }
@@ -39,7 +38,6 @@ pub(crate) fn grow(s: &mut Searcher, model: &mut Vec<bool>) -> Result<u64, Memor
     ensures steps { s.new.trail.steps ≡ s.old.trail.steps }
     ensures room { s.old.trail.room ≤ s.new.trail.room }
     ensures room_ok { OnOk result (s.old.variables + 1 ≤ s.new.trail.room) }
-    ensures marks { HasRoom s.new }
     ensures model { model.new.items ≡ model.old.items }
     ensures capacity { OnOk result (length model.new.items + 1 ≤ vec_capacity model.new) }
 {
@@ -48,8 +46,6 @@ pub(crate) fn grow(s: &mut Searcher, model: &mut Vec<bool>) -> Result<u64, Memor
         return Err(Memory);
     }
     model.reserve(1)?;
-    s.notes.begin()?;
-    s.notes.grow()?;
     s.trail.grow()?;
     Ok(var)
 }
@@ -88,7 +84,6 @@ pub(crate) fn find(
     requires apart { is_tautology assume.now ≡ false }
     requires bare { s.old.trail.steps ≡ [] }
     requires room { s.old.variables ≤ s.old.trail.room }
-    requires marks { HasRoom s.old }
     requires few { s.old.variables < 2 ^ 62 }
     requires model { length model.old ≡ s.old.variables }
     ensures sat { result ≡ Ok Answer.Sat → HasLearned log.old log.new
@@ -100,12 +95,11 @@ pub(crate) fn find(
     ensures bare { s.new.trail.steps ≡ [] }
     ensures variables { s.new.variables ≡ s.old.variables }
     ensures room { s.new.trail.room ≡ s.old.trail.room }
-    ensures marks { HasRoom s.new }
     ensures model { length model.new ≡ length model.old }
     ensures stop { OnErr result (HasLearned log.old log.new) }
     ensures limit { result ≡ Err Stop.Limit → IsAtLimit log.new (assumed active.now assume.now) }
 {
-    s.notes.begin()?;
+    s.notes.cover(&s.trail)?;
     let assumptions = Assumptions::new(active, assume);
     let found = search_and_keep(s, model, &assumptions, log);
     back_to_start(&mut s.trail);

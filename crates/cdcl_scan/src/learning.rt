@@ -50,7 +50,7 @@ pub(crate) fn learn(
         &mut s.notes,
         &mut s.activities,
         conflict,
-    );
+    )?;
     s.activities.decay();
     let id = keep(&mut s.clauses, &s.notes, log)?;
     let is_due = s.restarts.is_due();

@@ -1,5 +1,5 @@
 -- Steps of taking a trail back.
-use Rattle.std.proofs.Common.{◌≡◌, ◌≢◌, ℕ, zero, suc, ◌≤◌, ◌==◌, Bool, true, false, cond, not, ◌||◌, ◌&&◌, inl, inr, List, [], ◌∷◌, ◌++◌, map, length, length-append, reverse, slice_get, Option, Some, None, refl, sym, ◌∙◌, ap, subst, arith, All}
+use Rattle.std.proofs.Common.{◌≡◌, ◌≢◌, ℕ, zero, suc, ◌≤◌, ◌==◌, Bool, true, false, cond, not, ◌||◌, ◌&&◌, inl, inr, List, [], ◌∷◌, ◌++◌, map, length, reverse, slice_get, Option, Some, None, refl, sym, ◌∙◌, ap, subst, arith, All}
 use Rattle.std.proofs.lemmas.Bool.{false≢true, or_left, or_right, or_cases, ne_eqb}
 use Rattle.std.proofs.lemmas.List.{append_assoc, reverse-append, map-append, reverse-reverse}
 use Rattle.std.proofs.lemmas.Option.{slice_get_within}
@@ -12,7 +12,7 @@ use Rattle.learning_trail.specs.Steps.{Trailed, literals_of, is_decision, is_non
 use Rattle.learning_trail.specs.Marks.{marked, stands_on, is_level_marked}
 use Rattle.learning_trail.specs.Sound.{IsSound, IsReasoned, AreAssumed}
 use Rattle.learning_trail.specs.Analyses.{IsAnalysis}
-use Rattle.learning_trail.specs.Backing.{IsWithin, LeadsOn, IsBacking, IsFirstPoint, IsKeeping}
+use Rattle.learning_trail.specs.Backing.{LeadsOn, IsBacking, IsFirstPoint, IsKeeping}
 use Rattle.learning_trail.specs.Noting.{Noted}
 use Rattle.truth_values.proofs.HeldLiterals.{holds-append, holds_cases, holds_first, holds_later, opposite-opposite, free_variable}
 use Rattle.learning_trail.proofs.ClauseStatus.{IsImplied, implied_from}
@@ -83,34 +83,6 @@ past_decision : (b : Bool) (p : Bool) (x y : Option Literal) → cond b false p 
 past_decision true p x y h = absurd (false≢true h)
 past_decision false p x y h = (h, refl)
 
--- nothing is noted, and a literal is taken back
-pub within_past : (was now : Noted) (old new : List Step) (s : Step) → IsWithin was now old (s ∷ new) →
-    IsWithin was now old new
-within_past was now old new s w = record {
-  len = w.len;
-  hints = let h = w.hints in omega (arith, h);
-  literals = let l = w.literals in omega (arith, l);
-}
-
-pub within_hint : (was now after : Noted) (old new : List Step) (s : Step) (id : ℕ) → IsWithin was now old (s ∷ new) →
-    length after.marks ≡ length now.marks
-    → after.hints ≡ now.hints ++ id ∷ [] → after.literals ≡ now.literals → IsWithin was after old new
-within_hint was now after old new s id w len hints literals = record {
-  len = len ∙ w.len;
-  hints = let h = w.hints in omega (arith, h, ap length hints, length-append now.hints (id ∷ []));
-  literals = let l = w.literals in omega (arith, l, ap length literals);
-}
-
-pub within_literal : (was now after : Noted) (old new : List Step) (s : Step) (l : Literal) →
-    IsWithin was now old (s ∷ new)
-    → after ≡ record { marks = now.marks; places = now.places; hints = now.hints; literals = now.literals ++ l ∷ [] } →
-    IsWithin was after old new
-within_literal was now after old new s l w is = subst (λ (n : Noted). IsWithin was n old new) (sym is) (record {
-  len = w.len;
-  hints = let h = w.hints in omega (arith, h);
-  literals = let k = w.literals in omega (arith, k, length-append now.literals (l ∷ []));
-})
-
 -- the analysis, past a literal that isn't marked, one that is resolved, and one that is kept
 pub leads_past_step : (live : LiveClauses) (old new : List Step) (was now : Noted) (s : Step) →
     LeadsOn live old (s ∷ new) was now → marked now.marks (variable_of s.literal) ≡ false → LeadsOn live old new was now
@@ -178,7 +150,7 @@ backing_past live old now new was noted s inv popped room unmarked =
     let both = past_decision (is_decision s) (is_level_marked noted.marks new.steps) (Some s.literal)
     (decision_of new.steps) later in
     record {
-      within = within_past was noted old.steps new.steps s (subst (IsWithin was noted old.steps) popped inv.within);
+      len = inv.len;
       literals = inv.literals;
       room = room ∙ inv.room;
       sound = (subst (IsSound live) popped inv.sound).1;
@@ -207,8 +179,7 @@ backing_next clauses old now new was noted after s id inv popped room reason sta
     let sound = subst (IsSound live) popped inv.sound in
     let implied_now : is_decision s ≡ false = ap is_none reason in
     record {
-      within = within_hint was noted after old.steps new.steps s id
-          (subst (IsWithin was noted old.steps) popped inv.within) len hints literals;
+      len = len ∙ inv.len;
       literals = literals ∙ inv.literals;
       room = room ∙ inv.room;
       sound = sound.1;
@@ -232,7 +203,7 @@ pub backing_ends : (live : LiveClauses) (old now new : Trailed) (was noted : Not
     → marked noted.marks (variable_of s.literal) ≡ true → (is_decision s ≡ false →
     is_level_marked noted.marks new.steps ≡ false) → IsFirstPoint live old new s was noted
 backing_ends live old now new was noted s inv popped room mark first = record {
-  within = subst (IsWithin was noted old.steps) popped inv.within;
+  len = inv.len;
   literals = inv.literals;
   room = room ∙ inv.room;
   shrunk = subst (Shrunk old.steps) popped inv.shrunk;
@@ -246,7 +217,7 @@ pub keeping_past : (live : LiveClauses) (old now new : Trailed) (was noted : Not
     → IsKeeping live old now was noted → now.steps ≡ s ∷ new.steps → new.room ≡ now.room →
     marked noted.marks (variable_of s.literal) ≡ false → IsKeeping live old new was noted
 keeping_past live old now new was noted s inv popped room unmarked = record {
-  within = within_past was noted old.steps new.steps s (subst (IsWithin was noted old.steps) popped inv.within);
+  len = inv.len;
   room = room ∙ inv.room;
   sound = (subst (IsSound live) popped inv.sound).1;
   negated = λ assumptions assumed negs. let r = inv.negated assumptions assumed negs in
@@ -267,8 +238,7 @@ keeping_next clauses old now new was noted after s id inv popped room status mar
     let live = live_in clauses in
     let sound = subst (IsSound live) popped inv.sound in
     record {
-      within = within_hint was noted after old.steps new.steps s id
-          (subst (IsWithin was noted old.steps) popped inv.within) len hints literals;
+      len = len ∙ inv.len;
       room = room ∙ inv.room;
       sound = sound.1;
       negated = λ assumptions assumed negs.
@@ -292,8 +262,7 @@ keeping_decision live old now new was noted after s inv popped room decided is =
     let sound = subst (IsSound live) popped inv.sound in
     let more_is : after.literals ≡ noted.literals ++ opposite s.literal ∷ [] = ap (λ (n : Noted). n.literals) is in
     record {
-      within = within_literal was noted after old.steps new.steps s (opposite s.literal)
-          (subst (IsWithin was noted old.steps) popped inv.within) is;
+      len = ap (λ (n : Noted). length n.marks) is ∙ inv.len;
       room = room ∙ inv.room;
       sound = sound.1;
       negated = λ assumptions assumed negs.
@@ -324,7 +293,7 @@ reason_at live now rest s id sound popped reason =
 pub keeping_same : (live : LiveClauses) (old now new : Trailed) (was noted : Noted) → new.steps ≡ now.steps →
     new.room ≡ now.room → IsKeeping live old now was noted → IsKeeping live old new was noted
 keeping_same live old now new was noted steps room inv = record {
-  within = subst (IsWithin was noted old.steps) (sym steps) inv.within;
+  len = inv.len;
   room = room ∙ inv.room;
   sound = subst (IsSound live) (sym steps) inv.sound;
   negated = λ assumptions assumed negs. let r = inv.negated assumptions assumed negs in

@@ -1,22 +1,22 @@
 -- How a trail is kept, as variables and literals come and go.
-use Rattle.std.proofs.Common.{◌≡◌, ℕ, suc, ◌+◌, ◌<◌, ◌≤◌, true, cond, inl, inr, List, [], ◌∷◌, ◌++◌, reverse, length, set, get_or, sym, ◌∙◌, ap, subst, arith, length-append}
+use Rattle.std.proofs.Common.{◌≡◌, ℕ, suc, ◌+◌, ◌<◌, ◌≤◌, true, false, cond, inl, inr, List, [], ◌∷◌, ◌++◌, reverse, length, set, get_or, sym, ◌∙◌, ap, subst, arith, length-append}
 use Rattle.std.specs.List.{All}
 use Rattle.std.proofs.lemmas.Bool.{cases_lt, false_from_ne_true}
 use Rattle.std.proofs.lemmas.List.{length-set, reverse-append, get_or_append_left}
 use Rattle.std.proofs.lemmas.List.Elements.{All-head, All-tail, All-cons, All-weaker}
 use Rattle.std.proofs.lemmas.List.Sums.{sum_by-append}
 use Rattle.std.proofs.Math.Seq.{get_or-append_seam}
-use Rattle.dq_lits.specs.Literal.{Literal, positive, negative, variable_of}
+use Rattle.dq_lits.specs.Literal.{Literal, positive, negative, variable_of, opposite}
 use Rattle.dq_lits.specs.Derivation.{holds}
 use Rattle.learning_trail.specs.declared.trails.Step.{Step}
 use Rattle.learning_trail.specs.Steps.{literals_of}
-use Rattle.truth_values.specs.Truth.{IsFree}
+use Rattle.truth_values.specs.Truth.{IsFree, literal_value}
 use Rattle.truth_values.specs.Table.{IsTold}
 use Rattle.truth_values.specs.Truth.{is_assigned}
 use Rattle.learning_trail.specs.TrailInside.{IsKept}
 use Rattle.truth_values.specs.declared.values.TruthValue.{TruthValue}
-use Rattle.truth_values.specs.declared.values.TruthValue.TheVariants.{Unassigned}
-use Rattle.truth_values.proofs.HeldLiterals.{holds_cases}
+use Rattle.truth_values.specs.declared.values.TruthValue.TheVariants.{True, False, Unassigned}
+use Rattle.truth_values.proofs.HeldLiterals.{holds_cases, opposite-variable}
 use Rattle.learning_trail.proofs.AssignedLiterals.{tells_less, one_more, one_less}
 use Rattle.truth_values.proofs.AssignedLiterals.{value_where_true, tells_more}
 
@@ -34,6 +34,18 @@ absent n (s ∷ xs) l all far h =
           absurd (omega (arith, here, same, far))
       | inr later ↦ absent n xs l (All-tail (λ (k : Step). variable_of k.literal ≤ n) s xs all) far later
     ]
+
+-- a variable beyond those of the trail has no value
+pub far_value : (n : ℕ) (xs : List Step) (l : Literal) → All (λ s. variable_of s.literal ≤ n) xs → n < variable_of l →
+    Unassigned ≡ literal_value (literals_of xs) l
+far_value n xs l all far =
+    let none : holds (literals_of xs) l ≡ false =
+    false_from_ne_true (holds (literals_of xs) l) (absent n xs l all far) in
+    let other : holds (literals_of xs) (opposite l) ≡ false =
+    false_from_ne_true (holds (literals_of xs) (opposite l))
+    (absent n xs (opposite l) all (subst (λ (v : ℕ). n < v) (sym (opposite-variable l)) far)) in
+    sym (ap (λ b. cond b False (cond (holds (literals_of xs) l) True Unassigned)) other
+    ∙ ap (λ b. cond b True Unassigned) none)
 
 pub kept_grown : (values : List TruthValue) (xs : List Step) → IsKept values xs → IsKept (values ++ Unassigned ∷ []) xs
 kept_grown values xs kept =

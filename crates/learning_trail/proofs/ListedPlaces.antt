@@ -4,7 +4,6 @@ use Rattle.std.specs.List.Sorted.{IsNonDecreasing}
 use Rattle.std.proofs.lemmas.Bool.{cases_lt, false≢true, false_from_ne_true}
 use Rattle.std.proofs.lemmas.List.{take_more, take_all, get_or-take, get_or_default, length-take-le}
 use Rattle.std.proofs.lemmas.List.Elements.{Contains-append_left, Contains-append_right, Contains-append_cases}
-use Rattle.std.proofs.lemmas.List.Sums.{count_by-le-length}
 use Rattle.dq_lits.specs.Literal.{Literal, variable_of}
 use Rattle.dq_lits.specs.Derivation.{LiveClauses}
 use Rattle.learning_trail.specs.declared.trails.Step.{Step}
@@ -12,16 +11,13 @@ use Rattle.learning_trail.specs.declared.notes.Mark.{Mark}
 use Rattle.learning_trail.specs.declared.notes.Mark.TheVariants.{Clear}
 use Rattle.learning_trail.specs.Steps.{IsAt}
 use Rattle.learning_trail.specs.Marks.{marked}
-use Rattle.learning_trail.specs.Noting.{Noted, is_marked, is_touched, AreTouched}
+use Rattle.learning_trail.specs.Noting.{Noted, is_marked, AreTouched}
 use Rattle.learning_trail.specs.Backing.{IsTrimmed}
 use Rattle.learning_trail.proofs.ConflictAnalysis.{contains_none, contains_cases}
 use Rattle.learning_trail.proofs.TouchedMarks.{touched_from}
 use Rattle.learning_trail.proofs.AssignedLiterals.{at_place}
 use Rattle.learning_trail.proofs.SetMarks.{turned}
 use Rattle.learning_trail.proofs.MinimalClauses.{trimmed_past}
-
-pub touched_few : (marks : List Mark) (touched : List ℕ) → AreTouched marks touched → length touched ≤ length marks
-touched_few marks touched are = let most = count_by-le-length is_touched marks in omega (arith, most, are.few)
 
 -- the marked ones of the first so many touched variables are listed
 abbrev pub AreListed : List Step → List Mark → List ℕ → List ℕ → ℕ → Type 0
@@ -109,7 +105,7 @@ trimmed_start live steps was now same =
       hints = was.hints;
       literals = was.literals;
     }) = record {
-      within = record { len = refl; hints = omega arith; literals = omega arith };
+      len = refl;
       done = [];
       split = refl;
       fewer = λ v m. m;

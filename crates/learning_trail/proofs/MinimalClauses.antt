@@ -13,7 +13,7 @@ use Rattle.learning_trail.specs.Noting.{Noted}
 use Rattle.learning_trail.specs.Backing.{IsTrimmed, IsRedundant}
 use Rattle.truth_values.proofs.HeldLiterals.{holds_cases, holds_first, holds-append, opposite-opposite, opposite-variable, free_variable, any_gives}
 use Rattle.learning_trail.proofs.Lessons.{sound_later}
-use Rattle.learning_trail.proofs.BacktrackSteps.{within_past, within_hint, within_literal, leads_past_step, leads_resolved, leads_noted, reason_of, reason_at}
+use Rattle.learning_trail.proofs.BacktrackSteps.{leads_past_step, leads_resolved, leads_noted, reason_of, reason_at}
 use Rattle.learning_trail.proofs.SetMarks.{turned}
 
 literals-append : (a b : List Step) → literals_of (a ++ b) ≡ literals_of a ++ literals_of b
@@ -68,7 +68,7 @@ pub trimmed_past : (live : LiveClauses) (steps rest : List Step) (was now : Note
     IsTrimmed live steps (s ∷ rest) was now → marked now.marks (variable_of s.literal) ≡ false
     → IsTrimmed live steps rest was now
 trimmed_past live steps rest was now s inv unmarked = record {
-  within = within_past was now steps rest s inv.within;
+  len = inv.len;
   done = inv.done ++ s ∷ [];
   split = split_more steps inv.done rest s inv.split;
   fewer = inv.fewer;
@@ -105,7 +105,7 @@ trimmed_noted live steps rest was now after s sound inv mark is =
     let back : (v : ℕ) → marked after.marks v ≡ true → marked now.marks v ≡ true =
     λ v m. sym (ap (λ ms. marked ms v) marks_are) ∙ m in
     record {
-      within = within_literal was now after steps rest s (opposite s.literal) inv.within is;
+      len = ap (λ (n : Noted). length n.marks) is ∙ inv.len;
       done = inv.done ++ s ∷ [];
       split = split_more steps inv.done rest s inv.split;
       fewer = λ v m. inv.fewer v (back v m);
@@ -172,7 +172,7 @@ trimmed_resolved clauses steps rest was now after s id sound inv status mark red
     ∙ ap (λ b. not b && (marked now.marks (variable_of s.literal) || stands_on r.clause (variable_of s.literal)))
     (eq-eqb (variable_of s.literal) (variable_of s.literal) refl) in
     record {
-      within = within_hint was now after steps rest s id inv.within len hints literals;
+      len = len ∙ inv.len;
       done = inv.done ++ s ∷ [];
       split = split_more steps inv.done rest s inv.split;
       fewer = λ v m. inv.fewer v (back v m);

@@ -1,9 +1,8 @@
 -- Marks, and the variables whose marks aren't clear.
-use Rattle.std.proofs.Common.{◌≡◌, ℕ, zero, suc, ◌<◌, Bool, true, false, not, cond, ◌&&◌, ◌||◌, ◌==◌, inl, inr, List, [], ◌∷◌, ◌++◌, map, length, length-append, drop, drop-cons, set, get_or, All, Contains, refl, sym, ◌∙◌, ap, subst, arith, get_or-set_other, get_or-set_same}
+use Rattle.std.proofs.Common.{◌≡◌, ℕ, zero, suc, ◌<◌, Bool, true, false, not, ◌&&◌, ◌||◌, ◌==◌, inl, inr, List, [], ◌∷◌, ◌++◌, map, length, length-append, drop, drop-cons, set, get_or, All, Contains, refl, sym, ◌∙◌, ap, subst, arith, get_or-set_other, get_or-set_same}
 use Rattle.std.proofs.lemmas.Bool.{cases_eq, cases_Bool, false≢true, eq-eqb, eqb-true, false_from_ne_true, or_right}
 use Rattle.std.proofs.lemmas.List.{length-set, drop_all, get_or_default}
 use Rattle.std.proofs.lemmas.List.Elements.{All-append, All-cons, All-nil, All-head, All-tail, Contains-append_left, Contains-append_right}
-use Rattle.std.proofs.lemmas.List.Sums.{sum_by-set, sum_by-append, count_by-le-length}
 use Rattle.std.proofs.Math.ListN.{get_or-map}
 use Rattle.learning_trail.specs.declared.notes.Mark.{Mark}
 use Rattle.learning_trail.specs.declared.notes.Mark.TheVariants.{Clear, Marked, Past}
@@ -96,21 +95,7 @@ touched_more marks touched v m lt clear on are = record {
     | inr other ↦ Contains-append_left touched (v ∷ []) w (are.whole w
         (ap is_touched (sym (get_or-set_other marks v w m Clear other)) ∙ h))
   ];
-  few =
-      let step = sum_by-set (λ x. cond (is_touched x) 1 0) marks v m Clear lt in
-      let size : Bool → ℕ = λ b. cond b 1 0 in
-      let here : size (is_touched (get_or marks v Clear)) ≡ size false = ap size clear in
-      let there : size (is_touched m) ≡ size true = ap size on in
-      omega (arith, step, here, there, are.few, length-append touched (v ∷ []));
 }
-
--- there is room for one
-pub touched_room : (marks : List Mark) (touched : List ℕ) (v : ℕ) → v < length marks →
-    is_touched (get_or marks v Clear) ≡ false → AreTouched marks touched → length touched < length marks
-touched_room marks touched v lt clear are =
-    let more = touched_more marks touched v Marked lt clear refl are in
-    let most = count_by-le-length is_touched (set marks v Marked) in
-    omega (arith, more.few, most, length-set marks v Marked, length-append touched (v ∷ []))
 
 -- a mark that isn't clear is changed
 pub touched_again : (marks : List Mark) (touched : List ℕ) (v : ℕ) (m : Mark) → v < length marks →
@@ -122,12 +107,6 @@ touched_again marks touched v m lt was on are = record {
     | inl same ↦ are.whole w (ap (λ n. is_touched (get_or marks n Clear)) same ∙ was)
     | inr other ↦ are.whole w (ap is_touched (sym (get_or-set_other marks v w m Clear other)) ∙ h)
   ];
-  few =
-      let step = sum_by-set (λ x. cond (is_touched x) 1 0) marks v m Clear lt in
-      let size : Bool → ℕ = λ b. cond b 1 0 in
-      let here : size (is_touched (get_or marks v Clear)) ≡ size true = ap size was in
-      let there : size (is_touched m) ≡ size true = ap size on in
-      omega (arith, step, here, there, are.few);
 }
 
 -- the marks that aren't clear yet are those of the variables to come
@@ -164,7 +143,6 @@ pub none_touched : (marks : List Mark) → ((v : ℕ) → get_or marks v Clear �
 none_touched marks clear = record {
   in_range = All-nil (λ v. v < length marks);
   whole = λ v h. absurd (false≢true (sym (ap is_touched (clear v)) ∙ h));
-  few = omega arith;
 }
 
 -- a clear mark more
@@ -173,9 +151,6 @@ pub touched_grown : (marks : List Mark) (touched : List ℕ) → AreTouched mark
 touched_grown marks touched are = record {
   in_range = grown touched are.in_range;
   whole = λ v h. are.whole v (ap is_touched (sym (read marks v)) ∙ h);
-  few =
-      let s = sum_by-append (λ x. cond (is_touched x) 1 0) marks (Clear ∷ []) in
-      omega (arith, s, are.few);
 }
   where
     grown : (xs : List ℕ) → All (λ v. v < length marks) xs → All (λ v. v < length (marks ++ Clear ∷ [])) xs

@@ -1,5 +1,5 @@
 -- How far a trail was taken back, and what was noted meanwhile.
-use Rattle.std.specs.Prelude.{◌≡◌, ℕ, ◌+◌, ◌≤◌, Bool, true, false, List, ◌∷◌, ◌++◌, map, length, reverse, Some, ◌⊎◌}
+use Rattle.std.specs.Prelude.{◌≡◌, ℕ, Bool, true, false, List, ◌∷◌, ◌++◌, map, length, reverse, Some, ◌⊎◌}
 use Rattle.dq_lits.specs.Literal.{Literal, variable_of, opposite}
 use Rattle.dq_lits.specs.Derivation.{LiveClauses, holds}
 use Rattle.hint_log.specs.Entries.{Entry}
@@ -9,12 +9,6 @@ use Rattle.learning_trail.specs.Sound.{IsSound, AreAssumed}
 use Rattle.learning_trail.specs.Marks.{marked, is_level_marked}
 use Rattle.learning_trail.specs.Noting.{Noted}
 use Rattle.learning_trail.specs.Analyses.{IsAnalysis, AllStand}
-
--- as many hints at most as literals were taken back
-pub record IsWithin (was now : Noted) (old new : List Step) : Type 0 where
-  pub len : length now.marks ≡ length was.marks
-  pub hints : length now.hints + length new ≤ length was.hints + length old
-  pub literals : length now.literals + length new ≤ length was.literals + length old
 
 -- an analysis of the notes goes on from one trail to another
 abbrev pub LeadsOn : LiveClauses → List Step → List Step → Noted → Noted → Type 0
@@ -27,7 +21,7 @@ LeadsOn live old new was now =
 
 -- from old to new in a level that has a mark
 pub record IsBacking (live : LiveClauses) (old new : Trailed) (was now : Noted) : Type 0 where
-  pub within : IsWithin was now old.steps new.steps
+  pub len : length now.marks ≡ length was.marks
   pub literals : now.literals ≡ was.literals
   pub room : new.room ≡ old.room
   pub sound : IsSound live new.steps
@@ -39,7 +33,7 @@ pub record IsBacking (live : LiveClauses) (old new : Trailed) (was now : Noted) 
 -- down to a step whose literal alone is marked in its level
 pub record IsFirstPoint (live : LiveClauses) (old new : Trailed) (step : Step)
     (was now : Noted) : Type 0 where
-  pub within : IsWithin was now old.steps (step ∷ new.steps)
+  pub len : length now.marks ≡ length was.marks
   pub literals : now.literals ≡ was.literals
   pub room : new.room ≡ old.room
   pub shrunk : Shrunk old.steps (step ∷ new.steps)
@@ -50,7 +44,7 @@ pub record IsFirstPoint (live : LiveClauses) (old new : Trailed) (step : Step)
 
 -- from old to new, where the negations of decisions are noted
 pub record IsKeeping (live : LiveClauses) (old new : Trailed) (was now : Noted) : Type 0 where
-  pub within : IsWithin was now old.steps new.steps
+  pub len : length now.marks ≡ length was.marks
   pub room : new.room ≡ old.room
   pub sound : IsSound live new.steps
   pub negated : (assumptions : List Literal) → AreAssumed assumptions old.steps
@@ -61,7 +55,7 @@ pub record IsKeeping (live : LiveClauses) (old new : Trailed) (was now : Noted) 
 
 -- down to the rest of the steps, where the negations of the literals that stay marked are noted
 pub record IsTrimmed (live : LiveClauses) (steps rest : List Step) (was now : Noted) : Type 0 where
-  pub within : IsWithin was now steps rest
+  pub len : length now.marks ≡ length was.marks
   pub done : List Step
   pub split : steps ≡ done ++ rest
   pub fewer : (v : ℕ) → marked now.marks v ≡ true → marked was.marks v ≡ true

@@ -1,5 +1,5 @@
 -- How the notes of an analysis are kept.
-use Rattle.std.specs.Prelude.{◌≡◌, ℕ, ◌<◌, ◌≤◌, Bool, true, false, List, length, map, count_by, slice_index_or, All, Contains, vec_capacity}
+use Rattle.std.specs.Prelude.{◌≡◌, ℕ, ◌<◌, Bool, true, false, List, length, map, slice_index_or, All, Contains}
 use Rattle.dq_lits.specs.Literal.{Literal}
 use Rattle.learning_trail.specs.declared.notes.Mark.{Mark}
 use Rattle.learning_trail.specs.declared.notes.Mark.TheVariants.{Clear, Marked, Past}
@@ -30,16 +30,10 @@ noted_in n = record {
   literals = n.literals.items;
 }
 
--- the variables whose marks aren't clear, none of them twice
+-- all variables whose marks aren't clear are among these
 pub record AreTouched (marks : List Mark) (touched : List ℕ) : Type 0 where
   pub in_range : All (λ v. v < length marks) touched
   pub whole : (v : ℕ) → is_touched (slice_index_or marks v Clear) ≡ true → Contains touched v
-  pub few : length touched ≤ count_by is_touched marks
 
--- there is room for as many variables, places, hints and literals as marks
-pub record HasPlaces (n : Inside) : Type 0 where
-  pub touched : AreTouched n.marks.items n.touched.items
-  pub room : length n.marks.items ≤ vec_capacity n.touched
-  pub places : length n.marks.items ≤ vec_capacity n.places
-  pub hints : length n.marks.items ≤ vec_capacity n.hints
-  pub literals : length n.marks.items ≤ vec_capacity n.literals
+abbrev pub HasTouched : Inside → Type 0
+HasTouched n = AreTouched n.marks.items n.touched.items

@@ -6,7 +6,7 @@
 //! newest level, the trail below it stays as it is; marked literals there whose reasons rest on
 //! marked ones alone are resolved too, and the negations of the others are the clause.
 
-ghost use Rattle.std.specs.Prelude.{◌≡◌, ◌<◌, ◌≤◌, ◌==◌, ◌||◌, ◌&&◌, ◌+◌, ◌++◌, ◌∷◌, [], not, ℕ, List, true, false, length, reverse, All, Some, IsSome, IfSome};
+ghost use Rattle.std.specs.Prelude.{◌≡◌, ◌<◌, ◌≤◌, ◌==◌, ◌||◌, ◌&&◌, ◌++◌, ◌∷◌, [], not, ℕ, List, true, false, length, reverse, All, OnOk, IfOk, Some, IsSome, IfSome};
 ghost use Rattle.std.specs.List.{list_all};
 ghost use Rattle.dq_lits.specs.Literal.{Literal, variable_of};
 ghost use Rattle.dq_lits.specs.Derivation.{status_of, falsified};
@@ -25,71 +25,84 @@ use crate::codes::Code;
 use crate::levels::is_level_marked;
 use crate::notes::Notes;
 use crate::trails::{Step, Trail};
-use dq_lits::Lit;
+use dq_lits::{Lit, Memory};
 
 /// Takes literals back from a falsified clause to the first that it rests on alone, and notes the
-/// clause that this teaches, oldest literal first, with its hints in order.
+/// clause that this teaches, oldest literal first, with its hints in order. Where memory is refused
+/// for a note, trail and notes stay as far as they have come.
 pub fn analyse<C: Clauses>(
     trail: &mut Trail,
     clauses: &C,
     notes: &mut Notes,
     activities: &mut Activities,
     conflict: u64,
-) -> Step
+) -> Result<Step, Memory>
     requires sound { IsSound (live_in (C.clauses clauses.now)) trail.old.steps }
     requires within { AreMarkable (length notes.old.marks) (C.clauses clauses.now) }
     requires in_range { trail.old.room < length notes.old.marks }
-    requires few { length trail.old.steps ≤ trail.old.room }
     requires conflict { status_of (literals_of trail.old.steps)
         (live_in (C.clauses clauses.now) conflict) ≡ falsified }
     requires decided { IsSome (decision_of trail.old.steps) }
     ensures len { length notes.new.marks ≡ length notes.old.marks }
-    ensures lesson { IsLesson (live_in (C.clauses clauses.now)) trail.old trail.new result
-        notes.new.marks notes.new.literals notes.new.hints }
+    ensures room { trail.new.room ≡ trail.old.room }
+    ensures lesson { IfOk result (λ first. IsLesson (live_in (C.clauses clauses.now)) trail.old
+        trail.new first notes.new.marks notes.new.literals notes.new.hints) }
 {
-    begin(clauses, notes, activities, conflict);
-    let first = back_to_first(trail, clauses, notes, activities);
-    notes.add_literal(first.literal.not());
-    add_rest(trail, clauses, notes);
+    begin(clauses, notes, activities, conflict)?;
+    let first = back_to_first(trail, clauses, notes, activities)?;
+    notes.add_literal(first.literal.not())?;
+    add_rest(trail, clauses, notes)?;
     notes.turn();
-    first
+    Ok(first)
 }
 
 /// Begins with a falsified clause.
-pub fn begin<C: Clauses>(clauses: &C, notes: &mut Notes, activities: &mut Activities, conflict: u64)
+pub fn begin<C: Clauses>(
+    clauses: &C,
+    notes: &mut Notes,
+    activities: &mut Activities,
+    conflict: u64,
+) -> Result<(), Memory>
     requires from_one { 1 ≤ conflict }
     requires is_id { conflict ≤ length (C.clauses clauses.now) }
     requires within { AreMarkable (length notes.old.marks) (C.clauses clauses.now) }
-    requires some { 0 < length notes.old.marks }
     ensures len { length notes.new.marks ≡ length notes.old.marks }
-    ensures hints { notes.new.hints ≡ conflict ∷ [] }
+    ensures hints { OnOk result (notes.new.hints ≡ conflict ∷ []) }
     ensures literals { notes.new.literals ≡ [] }
-    ensures marked { (c : List Literal) (v : ℕ) → live_in (C.clauses clauses.now) conflict ≡ Some c
-        → marked notes.new.marks v ≡ stands_on c v }
+    ensures marked { OnOk result ((c : List Literal) (v : ℕ)
+        → live_in (C.clauses clauses.now) conflict ≡ Some c
+        → marked notes.new.marks v ≡ stands_on c v) }
 {
     notes.clear();
     let lits = clauses.lits(conflict);
-    notes.add_hint(conflict, lits);
+    notes.add_hint(conflict, lits)?;
     activities.bump(lits);
+    Ok(())
 }
 
 /// Puts the literals of its reason in place of a marked literal.
-pub fn resolve<C: Clauses>(clauses: &C, notes: &mut Notes, l: Lit, reason: u64)
+pub fn resolve<C: Clauses>(
+    clauses: &C,
+    notes: &mut Notes,
+    l: Lit,
+    reason: u64,
+) -> Result<(), Memory>
     requires from_one { 1 ≤ reason }
     requires is_id { reason ≤ length (C.clauses clauses.now) }
     requires within { AreMarkable (length notes.old.marks) (C.clauses clauses.now) }
     requires in_range { variable_of l < length notes.old.marks }
-    requires room { length notes.old.hints < length notes.old.marks }
     ensures len { length notes.new.marks ≡ length notes.old.marks }
     ensures places { notes.new.places ≡ notes.old.places }
-    ensures hints { notes.new.hints ≡ notes.old.hints ++ reason ∷ [] }
+    ensures hints { OnOk result (notes.new.hints ≡ notes.old.hints ++ reason ∷ []) }
     ensures literals { notes.new.literals ≡ notes.old.literals }
-    ensures marked { (c : List Literal) (v : ℕ) → live_in (C.clauses clauses.now) reason ≡ Some c
+    ensures marked { OnOk result ((c : List Literal) (v : ℕ)
+        → live_in (C.clauses clauses.now) reason ≡ Some c
         → marked notes.new.marks v
-        ≡ (not (variable_of l == v) && (marked notes.old.marks v || stands_on c v)) }
+        ≡ (not (variable_of l == v) && (marked notes.old.marks v || stands_on c v))) }
 {
-    notes.add_hint(reason, clauses.lits(reason));
+    notes.add_hint(reason, clauses.lits(reason))?;
     notes.unmark(l);
+    Ok(())
 }
 
 // Takes literals back, down to the only marked one that is left of the newest level, and answers
@@ -99,24 +112,25 @@ fn back_to_first<C: Clauses>(
     clauses: &C,
     notes: &mut Notes,
     activities: &mut Activities,
-) -> Step
+) -> Result<Step, Memory>
     requires sound { IsSound (live_in (C.clauses clauses.now)) trail.old.steps }
     requires within { AreMarkable (length notes.old.marks) (C.clauses clauses.now) }
     requires in_range { trail.old.room < length notes.old.marks }
-    requires few { length notes.old.hints + length trail.old.steps ≤ length notes.old.marks }
     requires some { is_level_marked notes.old.marks trail.old.steps ≡ true }
-    ensures { IsFirstPoint (live_in (C.clauses clauses.now)) trail.old trail.new result notes.old
-        notes.new }
+    ensures len { length notes.new.marks ≡ length notes.old.marks }
+    ensures room { trail.new.room ≡ trail.old.room }
+    ensures first { IfOk result (λ first. IsFirstPoint (live_in (C.clauses clauses.now)) trail.old
+        trail.new first notes.old notes.new) }
 {
     while let Some(step) = trail.pop() {
         if notes.has(step.literal) {
             match step.reason {
-                None => return step,
+                None => return Ok(step),
                 Some(reason) => {
                     if !is_level_marked(notes, trail.steps()) {
-                        return step;
+                        return Ok(step);
                     }
-                    resolve(clauses, notes, step.literal, reason);
+                    resolve(clauses, notes, step.literal, reason)?;
                     activities.bump(clauses.lits(reason));
                 }
             }
@@ -127,16 +141,15 @@ fn back_to_first<C: Clauses>(
 
 // Adds the negations of the marked literals, the newest first, but for those whose reasons rest on
 // marked ones alone.
-fn add_rest<C: Clauses>(trail: &Trail, clauses: &C, notes: &mut Notes)
+fn add_rest<C: Clauses>(trail: &Trail, clauses: &C, notes: &mut Notes) -> Result<(), Memory>
     requires sound { IsSound (live_in (C.clauses clauses.now)) trail.now.steps }
     requires within { AreMarkable (length notes.old.marks) (C.clauses clauses.now) }
     requires in_range { trail.now.room < length notes.old.marks }
-    requires few { length notes.old.hints + length trail.now.steps ≤ length notes.old.marks }
-    requires few_literals { length notes.old.literals + length trail.now.steps
-        ≤ length notes.old.marks }
-    ensures { IsTrimmed (live_in (C.clauses clauses.now)) trail.now.steps [] notes.old notes.new }
+    ensures len { length notes.new.marks ≡ length notes.old.marks }
+    ensures trimmed { OnOk result
+        (IsTrimmed (live_in (C.clauses clauses.now)) trail.now.steps [] notes.old notes.new) }
 {
-    notes.list_places(trail);
+    notes.list_places(trail)?;
     let steps = trail.steps();
     let mut end = steps.len();
     let mut at = notes.places().len();
@@ -145,32 +158,34 @@ fn add_rest<C: Clauses>(trail: &Trail, clauses: &C, notes: &mut Notes)
         let place = notes.places()[at];
         if place < end {
             end = place;
-            trim(clauses, notes, &steps[place]);
+            trim(clauses, notes, &steps[place])?;
         }
     }
+    Ok(())
 }
 
 // Adds the negation of a step's literal, if it is marked and its reason doesn't rest on marked ones
 // alone.
-fn trim<C: Clauses>(clauses: &C, notes: &mut Notes, step: &Step)
+fn trim<C: Clauses>(clauses: &C, notes: &mut Notes, step: &Step) -> Result<(), Memory>
     requires within { AreMarkable (length notes.old.marks) (C.clauses clauses.now) }
     requires in_range { variable_of step.now.literal < length notes.old.marks }
     requires reason { IfSome step.now.reason
         (λ id. (1 ≤ id) × (id ≤ length (C.clauses clauses.now))) }
-    requires room { length notes.old.hints < length notes.old.marks }
-    requires literal_room { length notes.old.literals < length notes.old.marks }
+    ensures len { length notes.new.marks ≡ length notes.old.marks }
     ensures places { notes.new.places ≡ notes.old.places }
-    ensures trimmed { (steps rest : List Step) (was : Noted)
+    ensures trimmed { OnOk result ((steps rest : List Step) (was : Noted)
         → IsSound (live_in (C.clauses clauses.now)) steps
         → IsTrimmed (live_in (C.clauses clauses.now)) steps (step.now ∷ rest) was notes.old
-        → IsTrimmed (live_in (C.clauses clauses.now)) steps rest was notes.new }
+        → IsTrimmed (live_in (C.clauses clauses.now)) steps rest was notes.new) }
 {
-    if notes.has(step.literal) {
-        match redundant_by(clauses, notes, step) {
-            Some(reason) => resolve(clauses, notes, step.literal, reason),
-            None => notes.add_literal(step.literal.not()),
-        }
+    if !notes.has(step.literal) {
+        return Ok(());
     }
+    match redundant_by(clauses, notes, step) {
+        Some(reason) => resolve(clauses, notes, step.literal, reason)?,
+        None => notes.add_literal(step.literal.not())?,
+    }
+    Ok(())
 }
 
 // The reason of a step, where all its other literals are marked.

@@ -40,7 +40,6 @@ pub fn answer_conflict<C: Clauses>(
 ) -> Result<u64, Memory>
     requires answering { IsAnswering assumptions.now (C.clauses clauses.old) trail.old notes.old
         log.old }
-    requires few { length trail.old.steps ≤ trail.old.room }
     requires assumed { AreAssumed assumptions.now trail.old.steps }
     requires conflict { status_of (literals_of trail.old.steps)
         (live_in (C.clauses clauses.old) conflict) ≡ falsified }
@@ -51,7 +50,7 @@ pub fn answer_conflict<C: Clauses>(
     ensures marks { length notes.new.marks ≡ length notes.old.marks }
     ensures err { OnErr result (log.new ≡ log.old) }
 {
-    begin(clauses, notes, activities, conflict);
+    begin(clauses, notes, activities, conflict)?;
     answer(clauses, trail, notes, assumptions, log)
 }
 
@@ -67,7 +66,6 @@ pub fn answer_false<C: Clauses>(
 ) -> Result<u64, Memory>
     requires answering { IsAnswering assumptions.now (C.clauses clauses.old) trail.old notes.old
         log.old }
-    requires few { length trail.old.steps ≤ trail.old.room }
     requires assumed { holds assumptions.now assumption ≡ true }
     requires is_false { holds (literals_of trail.old.steps) (opposite assumption) ≡ true }
     ensures ok { IfOk result (λ id. IsRefutedUnder log.old log.new assumptions.now id) }
@@ -80,9 +78,9 @@ pub fn answer_false<C: Clauses>(
     let step = back_to(trail, assumption.not());
     match step.reason {
         Some(reason) => {
-            begin(clauses, notes, activities, reason);
+            begin(clauses, notes, activities, reason)?;
             notes.unmark(assumption);
-            notes.add_literal(assumption.not());
+            notes.add_literal(assumption.not())?;
             answer(clauses, trail, notes, assumptions, log)
         }
         None => unreachable!(),
@@ -99,9 +97,6 @@ fn answer<C: Clauses>(
 ) -> Result<u64, Memory>
     requires answering { IsAnswering assumptions.now (C.clauses clauses.old) trail.old notes.old
         log.old }
-    requires few { length notes.old.hints + length trail.old.steps ≤ length notes.old.marks }
-    requires few_literals { length notes.old.literals + length trail.old.steps
-        ≤ length notes.old.marks }
     requires assumed { AreAssumed assumptions.now trail.old.steps }
     requires negated { (l : Literal) → holds notes.old.literals l ≡ true
         → holds assumptions.now (opposite l) ≡ true }
@@ -115,7 +110,7 @@ fn answer<C: Clauses>(
     ensures marks { length notes.new.marks ≡ length notes.old.marks }
     ensures err { OnErr result (log.new ≡ log.old) }
 {
-    back_to_decisions(trail, clauses, notes);
+    back_to_decisions(trail, clauses, notes)?;
     notes.turn();
     let id = keep_answer(clauses, notes, log)?;
     Ok(id)
@@ -156,22 +151,27 @@ fn back_to(trail: &mut Trail, l: Lit) -> Step
 }
 
 // Takes all literals back, and adds the negations of the decisions that the marked ones rest on.
-fn back_to_decisions<C: Clauses>(trail: &mut Trail, clauses: &C, notes: &mut Notes)
+fn back_to_decisions<C: Clauses>(
+    trail: &mut Trail,
+    clauses: &C,
+    notes: &mut Notes,
+) -> Result<(), Memory>
     requires sound { IsSound (live_in (C.clauses clauses.now)) trail.old.steps }
     requires within { AreMarkable (length notes.old.marks) (C.clauses clauses.now) }
     requires in_range { trail.old.room < length notes.old.marks }
-    requires few { length notes.old.hints + length trail.old.steps ≤ length notes.old.marks }
-    requires few_literals { length notes.old.literals + length trail.old.steps
-        ≤ length notes.old.marks }
-    ensures bare { trail.new.steps ≡ [] }
-    ensures kept { IsKeeping (live_in (C.clauses clauses.now)) trail.old trail.new notes.old notes.new }
+    ensures len { length notes.new.marks ≡ length notes.old.marks }
+    ensures room { trail.new.room ≡ trail.old.room }
+    ensures bare { OnOk result (trail.new.steps ≡ []) }
+    ensures kept { OnOk result
+        (IsKeeping (live_in (C.clauses clauses.now)) trail.old trail.new notes.old notes.new) }
 {
     while let Some(step) = trail.pop() {
         if notes.has(step.literal) {
             match step.reason {
-                None => notes.add_literal(step.literal.not()),
-                Some(reason) => resolve(clauses, notes, step.literal, reason),
+                None => notes.add_literal(step.literal.not())?,
+                Some(reason) => resolve(clauses, notes, step.literal, reason)?,
             }
         }
     }
+    Ok(())
 }

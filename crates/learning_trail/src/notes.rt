@@ -1,4 +1,5 @@
-//! What an analysis writes down. There is room for all of it from the start.
+//! What an analysis writes down. Marks stand ready when a search begins. The lists grow as they are
+//! written, so that they take memory for what was noted, and not for all variables.
 
 ghost use Rattle.std.specs.Prelude.{◌≡◌, ◌≤◌, ◌<◌, ◌+◌, ◌++◌, ◌∷◌, ◌==◌, ◌||◌, ◌&&◌, not, [], List, ℕ, true, false, length, reverse, All, OnOk, OnErr, slice_index_or, vec_capacity, set, Contains};
 ghost use Rattle.std.specs.List.Sorted.{IsNonDecreasing};
@@ -36,13 +37,13 @@ pub struct Notes {
 }
 
 impl Model for Notes {
-    ghost use Rattle.learning_trail.specs.Noting.{Noted, noted_in, HasPlaces};
+    ghost use Rattle.learning_trail.specs.Noting.{Noted, noted_in, HasTouched};
 
     ghost Value = { Noted };
 
     ghost view = { noted_in };
 
-    ghost invariant = { HasPlaces };
+    ghost invariant = { HasTouched };
 }
 
 impl Notes {
@@ -59,30 +60,21 @@ impl Notes {
         }
     }
 
-    /// Room for no variables. It takes no memory where there is some.
-    pub fn begin(&mut self) -> Result<(), Memory>
-        ensures more { length self.old.marks ≤ length self.new.marks }
-        ensures some { OnOk result (0 < length self.new.marks) }
+    /// A mark for each variable of a trail. It takes no memory where there are as many.
+    pub fn cover(&mut self, trail: &Trail) -> Result<(), Memory>
+        ensures { OnOk result (trail.now.room < length self.new.marks) }
     {
-        if self.marks.is_empty() {
+        while self.marks.len() <= trail.room() {
             self.grow()?;
         }
         Ok(())
     }
 
-    /// Room for one variable more.
+    // One mark more.
     #[tactic(auto, using(crate::proofs::TouchedMarks::touched_grown))]
-    pub fn grow(&mut self) -> Result<(), Memory>
-        ensures ok { OnOk result (length self.new.marks ≡ length self.old.marks + 1) }
-        ensures err { OnErr result (length self.new.marks ≡ length self.old.marks) }
+    fn grow(&mut self) -> Result<(), Memory>
+        ensures { OnOk result (length self.new.marks ≡ length self.old.marks + 1) }
     {
-        self.hints.clear();
-        self.literals.clear();
-        self.places.clear();
-        self.touched.reserve(self.marks.len() + 1)?;
-        self.places.reserve(self.marks.len() + 1)?;
-        self.hints.reserve(self.marks.len() + 1)?;
-        self.literals.reserve(self.marks.len() + 1)?;
         self.marks.push(Mark::Clear)?;
         Ok(())
     }
@@ -130,23 +122,21 @@ impl Notes {
         self.literals.clear();
     }
 
-    /// Adds a hint, and marks the variables of its clause's literals.
-    pub fn add_hint(&mut self, id: u64, lits: &[Code])
-        requires room { length self.old.hints < length self.old.marks }
-        requires in_range { All (λ l. variable_of l < length self.old.marks) lits.now }
+    /// Marks the variables of a clause's literals, and adds its id to the hints.
+    pub fn add_hint(&mut self, id: u64, lits: &[Code]) -> Result<(), Memory>
+        requires { All (λ l. variable_of l < length self.old.marks) lits.now }
         ensures len { length self.new.marks ≡ length self.old.marks }
-        ensures marked { (v : ℕ)
-            → marked self.new.marks v ≡ (marked self.old.marks v || stands_on lits.now v) }
+        ensures marked { OnOk result ((v : ℕ)
+            → marked self.new.marks v ≡ (marked self.old.marks v || stands_on lits.now v)) }
         ensures places { self.new.places ≡ self.old.places }
-        ensures hints { self.new.hints ≡ self.old.hints ++ id ∷ [] }
+        ensures hints { OnOk result (self.new.hints ≡ self.old.hints ++ id ∷ []) }
         ensures literals { self.new.literals ≡ self.old.literals }
     {
         for l in lits {
-            self.add_mark(*l);
+            self.add_mark(*l)?;
         }
-        if self.hints.push(id).is_err() {
-            unreachable!();
-        }
+        self.hints.push(id)?;
+        Ok(())
     }
 
     /// Takes a variable's mark away.
@@ -163,26 +153,27 @@ impl Notes {
     }
 
     // Marks a literal's variable.
-    fn add_mark(&mut self, l: Code)
+    fn add_mark(&mut self, l: Code) -> Result<(), Memory>
         requires { variable_of l < length self.old.marks }
         ensures len { length self.new.marks ≡ length self.old.marks }
-        ensures marked { (v : ℕ)
-            → marked self.new.marks v ≡ (marked self.old.marks v || variable_of l == v) }
+        ensures marked { OnOk result ((v : ℕ)
+            → marked self.new.marks v ≡ (marked self.old.marks v || variable_of l == v)) }
         ensures places { self.new.places ≡ self.old.places }
         ensures hints { self.new.hints ≡ self.old.hints }
         ensures literals { self.new.literals ≡ self.old.literals }
     {
-        set_mark(&mut self.marks, &mut self.touched, l.var() as usize);
+        set_mark(&mut self.marks, &mut self.touched, l.var() as usize)?;
+        Ok(())
     }
 
     /// Adds a literal.
-    pub fn add_literal(&mut self, l: Lit)
-        requires { length self.old.literals < length self.old.marks }
-        ensures { self.new ≡ record self.old { literals = self.old.literals ++ l ∷ [] } }
+    pub fn add_literal(&mut self, l: Lit) -> Result<(), Memory>
+        ensures ok { OnOk result
+            (self.new ≡ record self.old { literals = self.old.literals ++ l ∷ [] }) }
+        ensures err { OnErr result (self.new ≡ self.old) }
     {
-        if self.literals.push(l).is_err() {
-            unreachable!();
-        }
+        self.literals.push(l)?;
+        Ok(())
     }
 
     /// Where marked literals stand, as they were listed last.
@@ -193,14 +184,15 @@ impl Notes {
     }
 
     /// Lists where a trail's marked literals stand, in order; other places may be among these.
-    pub(crate) fn list_places(&mut self, trail: &Trail)
+    pub(crate) fn list_places(&mut self, trail: &Trail) -> Result<(), Memory>
         ensures same { self.new ≡ record self.old { places = self.new.places } }
-        ensures sorted { IsNonDecreasing self.new.places }
-        ensures covered { (at : ℕ) (l : Literal) → IsAt trail.now.steps at l
-            → marked self.old.marks (variable_of l) ≡ true → Contains self.new.places at }
+        ensures sorted { OnOk result (IsNonDecreasing self.new.places) }
+        ensures covered { OnOk result ((at : ℕ) (l : Literal) → IsAt trail.now.steps at l
+            → marked self.old.marks (variable_of l) ≡ true → Contains self.new.places at) }
     {
-        list(&mut self.places, &self.marks, &self.touched, trail);
+        list(&mut self.places, &self.marks, &self.touched, trail)?;
         self.places.sort_unstable();
+        Ok(())
     }
 
     /// Turns hints and literals round.
@@ -229,17 +221,21 @@ fn is_marked(mark: Mark) -> bool
 }
 
 // Lists the places of the marked ones of these variables.
-fn list(places: &mut Vec<usize>, marks: &[Mark], touched: &[usize], trail: &Trail)
-    requires touched { AreTouched marks.now touched.now }
-    requires room { length marks.now ≤ vec_capacity places.old }
-    ensures listed { (at v : ℕ) (l : Literal) → IsAt trail.now.steps at l → variable_of l ≡ v
-        → is_marked (slice_index_or marks.now v Mark.Clear) ≡ true → Contains places.new.items at }
-    ensures capacity { vec_capacity places.old ≤ vec_capacity places.new }
+fn list(
+    places: &mut Vec<usize>,
+    marks: &[Mark],
+    touched: &[usize],
+    trail: &Trail,
+) -> Result<(), Memory>
+    requires { AreTouched marks.now touched.now }
+    ensures { OnOk result ((at v : ℕ) (l : Literal) → IsAt trail.now.steps at l → variable_of l ≡ v
+        → is_marked (slice_index_or marks.now v Mark.Clear) ≡ true → Contains places.new.items at) }
 {
     places.clear();
     for v in touched {
-        list_one(places, marks[*v], *v, trail);
+        list_one(places, marks[*v], *v, trail)?;
     }
+    Ok(())
 }
 
 fn is_clear(mark: Mark) -> bool
@@ -252,55 +248,43 @@ fn is_clear(mark: Mark) -> bool
     }
 }
 
-fn set_mark(marks: &mut Vec<Mark>, touched: &mut Vec<usize>, v: usize)
+// Marks a variable, which is listed first where its mark was clear.
+fn set_mark(marks: &mut Vec<Mark>, touched: &mut Vec<usize>, v: usize) -> Result<(), Memory>
     requires in_range { v < length marks.old.items }
     requires touched { AreTouched marks.old.items touched.old.items }
-    requires room { length marks.old.items ≤ vec_capacity touched.old }
-    ensures marks { marks.new.items ≡ set marks.old.items v Mark.Marked }
+    ensures marks { OnOk result (marks.new.items ≡ set marks.old.items v Mark.Marked) }
+    ensures len { length marks.new.items ≡ length marks.old.items }
     ensures touched { AreTouched marks.new.items touched.new.items }
-    ensures capacity { vec_capacity touched.old ≤ vec_capacity touched.new }
 {
-    let mark = marks[v];
+    if is_clear(marks[v]) {
+        touched.push(v)?;
+    }
     marks[v] = Mark::Marked;
-    if is_clear(mark) {
-        put(touched, v);
-    }
-}
-
-fn put(touched: &mut Vec<usize>, v: usize)
-    requires { length touched.old.items < vec_capacity touched.old }
-    ensures items { touched.new.items ≡ touched.old.items ++ v ∷ [] }
-    ensures capacity { vec_capacity touched.old ≤ vec_capacity touched.new }
-{
-    if touched.push(v).is_err() {
-        unreachable!();
-    }
+    Ok(())
 }
 
 // Lists where a variable's literal stands, if it has this mark.
-fn list_one(places: &mut Vec<usize>, mark: Mark, v: usize, trail: &Trail)
-    requires { length places.old.items < vec_capacity places.old }
+fn list_one(places: &mut Vec<usize>, mark: Mark, v: usize, trail: &Trail) -> Result<(), Memory>
     ensures kept { (at : ℕ) → Contains places.old.items at → Contains places.new.items at }
-    ensures listed { (at : ℕ) (l : Literal) → IsAt trail.now.steps at l → variable_of l ≡ v
-        → is_marked mark ≡ true → Contains places.new.items at }
-    ensures few { length places.new.items ≤ length places.old.items + 1 }
-    ensures capacity { vec_capacity places.old ≤ vec_capacity places.new }
+    ensures listed { OnOk result ((at : ℕ) (l : Literal) → IsAt trail.now.steps at l
+        → variable_of l ≡ v → is_marked mark ≡ true → Contains places.new.items at) }
 {
     if !is_marked(mark) {
-        return;
+        return Ok(());
     }
     if let Some(place) = trail.place(v) {
-        put(places, place);
+        places.push(place)?;
     }
+    Ok(())
 }
 
-fn take_mark(marks: &mut [Mark], v: usize)
-    requires { v < length marks.old }
-    ensures len { length marks.new ≡ length marks.old }
-    ensures marked { (w : ℕ) → is_marked (slice_index_or marks.new w Mark.Clear)
-        ≡ (not (v == w) && is_marked (slice_index_or marks.old w Mark.Clear)) }
-    ensures touched { (touched : List ℕ) → AreTouched marks.old touched
-        → AreTouched marks.new touched }
+fn take_mark(marks: &mut Vec<Mark>, v: usize)
+    requires { v < length marks.old.items }
+    ensures len { length marks.new.items ≡ length marks.old.items }
+    ensures marked { (w : ℕ) → is_marked (slice_index_or marks.new.items w Mark.Clear)
+        ≡ (not (v == w) && is_marked (slice_index_or marks.old.items w Mark.Clear)) }
+    ensures touched { (touched : List ℕ) → AreTouched marks.old.items touched
+        → AreTouched marks.new.items touched }
 {
     if is_marked(marks[v]) {
         marks[v] = Mark::Past;

@@ -71,14 +71,42 @@ impl Trail {
         Ok(())
     }
 
+    /// Room for so many variables. It takes no memory where there is as much.
+    pub fn cover(&mut self, variables: usize) -> Result<(), Memory>
+        ensures ok { OnOk result (variables ≤ self.new.room) }
+        ensures steps { self.new.steps ≡ self.old.steps }
+    {
+        if variables > self.steps.capacity() {
+            self.make_room(variables)?;
+        }
+        while self.room() < variables {
+            self.grow()?;
+        }
+        Ok(())
+    }
+
+    // Room at once for steps on so many variables and an eighth more: a list that grows is copied
+    // with what it has room for, and memory that nothing was written to isn't taken before.
+    fn make_room(&mut self, variables: usize) -> Result<(), Memory>
+        ensures { self.new ≡ self.old }
+    {
+        let room = variables.saturating_add(variables / 8);
+        self.steps.reserve(room)?;
+        self.starts.reserve(room)?;
+        Ok(())
+    }
+
+    /// The value of a literal. A variable that there is no room for has none.
     pub fn value(&self, l: Lit) -> TruthValue
-        requires { variable_of l ≤ self.now.room }
         ensures { result ≡ literal_value (literals_of self.now.steps) l }
     {
+        if l.var() as usize > self.values.len() {
+            return TruthValue::Unassigned;
+        }
         self.code_value(Code::of(l))
     }
 
-    /// The same of a literal's code.
+    /// The value of the literal that a code stands for.
     pub fn code_value(&self, l: Code) -> TruthValue
         requires { variable_of l ≤ self.now.room }
         ensures { result ≡ literal_value (literals_of self.now.steps) l }

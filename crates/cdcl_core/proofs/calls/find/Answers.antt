@@ -1,4 +1,4 @@
-use Rattle.std.proofs.Common.{◌≡◌, ◌∙◌, [], List, length, inl, inr, ap, sym, subst, arith}
+use Rattle.std.proofs.Common.{◌≡◌, ◌∙◌, [], List, ap, sym, subst}
 use Rattle.dq_lits.specs.Literal.{Literal}
 use Rattle.oracle.specs.Calls.{IsRefutedUnder}
 use Rattle.oracle.specs.Fit.{live_in}
@@ -27,13 +27,7 @@ search_and_keep-found-requires-clause-searching c =
     let fit = c.wake.ensures.fit in
     let trail : s.trail ≡ record { room = c.args.s.now.trail.room; steps = [] } =
     ap (λ (x : Searcher). x.trail) c.wake.ensures.same ∙ c.back_to_start.ensures in
-    let steps : s.trail.steps ≡ [] = ap (λ (t : Trailed). t.steps) trail in
-    let room : s.trail.room ≡ c.args.s.now.trail.room = ap (λ (t : Trailed). t.room) trail in
-    let variables : s.variables ≡ c.args.s.now.variables = ap (λ (x : Searcher). x.variables) c.wake.ensures.same in
-    let marks : length s.notes.marks ≡ length c.args.s.now.notes.marks =
-    ap (λ (x : Searcher). length x.notes.marks) c.wake.ensures.same in
-    let some = c.in_ok-begin.ensures.some in
-    let more = c.in_ok-begin.ensures.more in
+    let steps : c.cover.new.self.steps ≡ [] = c.cover.ensures.steps ∙ ap (λ (t : Trailed). t.steps) trail in
     record {
       fit = fit;
       awake = subst (AreAwake flags) (sym c.new-assumptions.ensures)
@@ -41,11 +35,8 @@ search_and_keep-found-requires-clause-searching c =
           c.in_ok-wake.ensures.awake c.requires.plain);
       sound = subst (IsSound (live_in s.clauses.clauses)) (sym steps) tt;
       guided = subst (IsGuided log.entries asm) (sym steps) tt;
-      room = let r = c.requires.room in omega (arith, r, room, variables);
-      marks = elim c.requires.marks [
-        | inl none ↦ omega (arith, none, room, some)
-        | inr few ↦ omega (arith, few, room, marks, more)
-      ];
+      room = c.in_ok-cover.ensures.ok;
+      marks = c.in_ok-cover-2.ensures;
       levels = subst (AreLevelsGuarded s.clauses.clauses s.clauses.first s.clauses.second) (sym steps) tt;
     }
 

@@ -12,8 +12,8 @@ use Rattle.cdcl_core.proofs.Backjumps.{ready_after, watches_held, held_watched}
 use Rattle.learning_trail.proofs.Taught.{learn_step, clauses_within, learn_named, learn_ids, learn_in_range, learn_free, learn_fit, learn_landed, learn_next, learned_one}
 use Rattle.cdcl_core.proofs.learning.learn.Goals as goal
 
-pub analyse-first-requires-clause-within : goal.analyse-first-requires-clause-within
-analyse-first-requires-clause-within c =
+pub analyse-requires-clause-within : goal.analyse-requires-clause-within
+analyse-requires-clause-within c =
     let s = c.args.s.now in
     clauses_within s.clauses.clauses s.resting.flags.items s.variables (length s.notes.marks) c.args.log.now.entries c.requires.searching.fit
     (omega (arith, c.requires.searching.room, c.requires.searching.marks))
@@ -22,10 +22,10 @@ pub log_clause-requires-clause-named : goal.log_clause-requires-clause-named
 log_clause-requires-clause-named c =
     let s = c.args.s.now in
     let log = c.args.log.now in
-    let mid = c.analyse-first.new.trail in
-    let step = c.analyse-first.result in
-    let noted = c.analyse-first.new.notes in
-    let lesson = c.analyse-first.ensures.lesson in
+    let mid = c.analyse.new.trail in
+    let step = c.in_ok-first.first in
+    let noted = c.analyse.new.notes in
+    let lesson = c.in_ok-first.ensures.lesson in
     learn_named c.args.assumptions.now (searched s) log mid step noted.marks noted.literals noted.hints c.args.decision
     (at_search c.args.assumptions.now s log c.requires.searching) c.requires.decided c.requires.chosen lesson
 
@@ -33,10 +33,10 @@ pub log_clause-requires-clause-hints : goal.log_clause-requires-clause-hints
 log_clause-requires-clause-hints c =
     let s = c.args.s.now in
     let log = c.args.log.now in
-    let mid = c.analyse-first.new.trail in
-    let step = c.analyse-first.result in
-    let noted = c.analyse-first.new.notes in
-    let lesson = c.analyse-first.ensures.lesson in
+    let mid = c.analyse.new.trail in
+    let step = c.in_ok-first.first in
+    let noted = c.analyse.new.notes in
+    let lesson = c.in_ok-first.ensures.lesson in
     learn_ids c.args.assumptions.now (searched s) log mid step noted.marks noted.literals noted.hints c.args.decision
     (at_search c.args.assumptions.now s log c.requires.searching) c.requires.decided c.requires.chosen lesson
 
@@ -44,10 +44,10 @@ pub land-level-requires-clause-variable : goal.land-level-requires-clause-variab
 land-level-requires-clause-variable c =
     let s = c.args.s.now in
     let log = c.args.log.now in
-    let mid = c.analyse-first.new.trail in
-    let step = c.analyse-first.result in
-    let noted = c.analyse-first.new.notes in
-    let lesson = c.analyse-first.ensures.lesson in
+    let mid = c.analyse.new.trail in
+    let step = c.in_ok-first.first in
+    let noted = c.analyse.new.notes in
+    let lesson = c.in_ok-first.ensures.lesson in
     let low = learn_in_range c.args.assumptions.now (searched s) log mid step noted.marks noted.literals noted.hints
     c.args.decision (at_search c.args.assumptions.now s log c.requires.searching) c.requires.decided
     c.requires.chosen lesson in
@@ -59,10 +59,10 @@ pub land-level-requires-clause-free : goal.land-level-requires-clause-free
 land-level-requires-clause-free c =
     let s = c.args.s.now in
     let log = c.args.log.now in
-    let mid = c.analyse-first.new.trail in
-    let step = c.analyse-first.result in
-    let noted = c.analyse-first.new.notes in
-    let lesson = c.analyse-first.ensures.lesson in
+    let mid = c.analyse.new.trail in
+    let step = c.in_ok-first.first in
+    let noted = c.analyse.new.notes in
+    let lesson = c.in_ok-first.ensures.lesson in
     learn_free c.args.assumptions.now (searched s) log mid step noted.marks noted.literals noted.hints c.args.decision
     (at_search c.args.assumptions.now s log c.requires.searching) c.requires.decided c.requires.chosen lesson
 
@@ -70,10 +70,10 @@ pub returns-clause-fit : goal.returns-clause-fit
 returns-clause-fit c =
     let s = c.args.s.now in
     let log = c.args.log.now in
-    let mid = c.analyse-first.new.trail in
-    let step = c.analyse-first.result in
-    let noted = c.analyse-first.new.notes in
-    let lesson = c.analyse-first.ensures.lesson in
+    let mid = c.analyse.new.trail in
+    let step = c.in_ok-first.first in
+    let noted = c.analyse.new.notes in
+    let lesson = c.in_ok-first.ensures.lesson in
     subst (λ (cs : List (List Literal)). HeldFit cs s.resting.flags.items s.variables c.log_clause.new.log.entries)
     (sym (c.hold.ensures.held ∙ ap (λ cs. cs ++ noted.literals ∷ []) c.log_clause.ensures.clauses))
     (subst (λ (l : ProofLog). HeldFit (s.clauses.clauses ++ noted.literals ∷ []) s.resting.flags.items s.variables l.entries)
@@ -85,20 +85,20 @@ pub returns-clause-learned : goal.returns-clause-learned
 returns-clause-learned c =
     let s = c.args.s.now in
     let log = c.args.log.now in
-    let mid = c.analyse-first.new.trail in
-    let step = c.analyse-first.result in
-    let noted = c.analyse-first.new.notes in
-    let lesson = c.analyse-first.ensures.lesson in
+    let mid = c.analyse.new.trail in
+    let step = c.in_ok-first.first in
+    let noted = c.analyse.new.notes in
+    let lesson = c.in_ok-first.ensures.lesson in
     learned_one log c.log_clause.new.log noted.literals noted.hints c.in_ok-id.ensures.ok
 
 pub returns-clause-ok : goal.returns-clause-ok
 returns-clause-ok c =
     let s = c.args.s.now in
     let log = c.args.log.now in
-    let mid = c.analyse-first.new.trail in
-    let step = c.analyse-first.result in
-    let noted = c.analyse-first.new.notes in
-    let lesson = c.analyse-first.ensures.lesson in
+    let mid = c.analyse.new.trail in
+    let step = c.in_ok-first.first in
+    let noted = c.analyse.new.notes in
+    let lesson = c.in_ok-first.ensures.lesson in
     let back = c.land-level.new.trail in
     let landed = learn_landed c.args.assumptions.now (searched s) log mid step noted.marks noted.literals noted.hints
     c.args.decision (at_search c.args.assumptions.now s log c.requires.searching) c.requires.decided
@@ -129,7 +129,7 @@ returns-clause-ok c =
         guided = subst (λ (l : ProofLog). IsGuided l.entries c.args.assumptions.now back.steps)
             (sym c.in_ok-id.ensures.ok) landed.guided;
         room = let r = c.requires.searching.room in omega (arith, r, room);
-        marks = let m = c.requires.searching.marks in omega (arith, m, room, c.analyse-first.ensures.len);
+        marks = let m = c.requires.searching.marks in omega (arith, m, room, c.analyse.ensures.len);
         levels = ready.levels;
       };
       learned = learned_one log c.log_clause.new.log noted.literals noted.hints c.in_ok-id.ensures.ok;
@@ -140,10 +140,10 @@ pub hold-requires-clause-second : goal.hold-requires-clause-second
 hold-requires-clause-second c =
     let s = c.args.s.now in
     let log = c.args.log.now in
-    let mid = c.analyse-first.new.trail in
-    let step = c.analyse-first.result in
-    let noted = c.analyse-first.new.notes in
-    let lesson = c.analyse-first.ensures.lesson in
+    let mid = c.analyse.new.trail in
+    let step = c.in_ok-first.first in
+    let noted = c.analyse.new.notes in
+    let lesson = c.in_ok-first.ensures.lesson in
     let sound_step = learn_step c.args.assumptions.now (searched s) log mid step noted.marks noted.literals noted.hints
     c.args.decision (at_search c.args.assumptions.now s log c.requires.searching) c.requires.decided
     c.requires.chosen lesson in
@@ -155,10 +155,10 @@ pub returns-in_err-id-clause-limit : goal.returns-in_err-id-clause-limit
 returns-in_err-id-clause-limit c = λ is.
     let s = c.args.s.now in
     let log = c.args.log.now in
-    let mid = c.analyse-first.new.trail in
-    let step = c.analyse-first.result in
-    let noted = c.analyse-first.new.notes in
-    let lesson = c.analyse-first.ensures.lesson in
+    let mid = c.analyse.new.trail in
+    let step = c.in_ok-first.first in
+    let noted = c.analyse.new.notes in
+    let lesson = c.in_ok-first.ensures.lesson in
     let stop : c.in_err-id.field-0.0 ≡ Limit = search rules in
     subst (λ (l : ProofLog). IsAtLimit l c.args.assumptions.now) (sym c.in_err-id.ensures.err) (record {
       reached = c.in_err-id.ensures.limit (ap (λ e. Err e) stop);

@@ -20,9 +20,9 @@ loop-at-init g c =
     record {
       within = omega (arith, count);
       long = omega arith;
-      sorted = c.list_places.ensures.sorted;
+      sorted = c.in_ok-list_places.ensures.sorted;
       below = subst (λ (n : ℕ). AreBelow was.marks items places n (length items)) (sym count)
-          (below_first was.marks steps items places c.steps-steps.ensures.value c.list_places.ensures.covered);
+          (below_first was.marks steps items places c.steps-steps.ensures.value c.in_ok-list_places.ensures.covered);
       trimmed = subst (λ (xs : List Step). IsTrimmed (live_in (g.C.Clauses.clauses c.args.clauses.now)) steps xs was
           c.list_places.new.self) (sym (ap reverse (take_all (length items) items (omega arith))
           ∙ c.steps-steps.ensures.value))
@@ -46,8 +46,8 @@ trim-requires-clause-reason g c =
     reason_known clauses (reverse (take p items)) s (sound_later live t.done (s ∷ reverse (take p items))
     (subst (IsSound live) t.split c.requires.sound))
 
-pub loop-at-preserved-then-place-end : goal.loop-at-preserved-then-place-end
-loop-at-preserved-then-place-end g c =
+pub loop-at-preserved-in-Continue-branch-2 : goal.loop-at-preserved-in-Continue-branch-2
+loop-at-preserved-in-Continue-branch-2 g c =
     let live = live_in (g.C.Clauses.clauses c.args.clauses.now) in
     let was = c.args.notes.now in
     let inv = c.loop-at.invariant in
@@ -71,11 +71,11 @@ loop-at-preserved-then-place-end g c =
       below = subst (λ (xs : List ℕ). AreBelow was.marks items xs (at - 1) p) same
           (below_next was.marks items c.loop-at.notes.places at c.loop-at.end p c.loop-at-test.true inv.within is near
           inv.below);
-      trimmed = c.trim.ensures.trimmed c.args.trail.now.steps (reverse (take p items)) was c.requires.sound t;
+      trimmed = c.in_ok-trim.ensures.trimmed c.args.trail.now.steps (reverse (take p items)) was c.requires.sound t;
     }
 
-pub returns : goal.returns
-returns g c =
+pub returns-clause-trimmed : goal.returns-clause-trimmed
+returns-clause-trimmed g c =
     let inv = c.loop-at.invariant in
     trimmed_rest (live_in (g.C.Clauses.clauses c.args.clauses.now)) c.args.trail.now.steps c.steps-steps.result.now
     c.args.notes.now c.loop-at.notes c.loop-at.notes.places c.loop-at.at c.loop-at.end

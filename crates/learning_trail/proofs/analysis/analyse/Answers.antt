@@ -12,22 +12,22 @@ use Rattle.learning_trail.proofs.TakenLevels.{conflict_of, conflict_marked, is_s
 use Rattle.learning_trail.proofs.LearnedClauses.{lesson_made}
 use Rattle.learning_trail.proofs.analysis.analyse.Goals as goal
 
-pub back_to_first-first-requires-clause-some : goal.back_to_first-first-requires-clause-some
-back_to_first-first-requires-clause-some g c =
+pub back_to_first-requires-clause-some : goal.back_to_first-requires-clause-some
+back_to_first-requires-clause-some g c =
     let clauses = g.C.Clauses.clauses c.args.clauses.now in
     let steps = c.args.trail.now.steps in
     let k = conflict_of clauses c.args.conflict (literals_of steps) c.requires.conflict in
     let d = is_some_of (decision_of steps) c.requires.decided in
     conflict_marked (live_in clauses) steps c.begin.new.notes.marks k.clause c.args.conflict d.0 c.requires.sound d.1
     k.is k.false_now
-    (λ l m. c.begin.ensures.marked k.clause (variable_of l) k.is ∙ any_one
+    (λ l m. c.in_ok-begin.ensures.marked k.clause (variable_of l) k.is ∙ any_one
     (λ x. variable_of x == variable_of l) k.clause l m (eq-eqb (variable_of l) (variable_of l) refl))
 
 pub add_rest-requires-clause-sound : goal.add_rest-requires-clause-sound
 add_rest-requires-clause-sound g c =
     let live = live_in (g.C.Clauses.clauses c.args.clauses.now) in
-    let point = c.back_to_first-first.ensures in
-    (sound_later live point.shrunk.popped (c.back_to_first-first.result ∷ c.back_to_first-first.new.trail.steps)
+    let point = c.in_ok-first.ensures.first in
+    (sound_later live point.shrunk.popped (c.in_ok-first.first ∷ c.back_to_first.new.trail.steps)
     (subst (IsSound live) point.shrunk.is c.requires.sound)).1
 
 pub returns-clause-lesson : goal.returns-clause-lesson
@@ -35,15 +35,15 @@ returns-clause-lesson g c =
     let clauses = g.C.Clauses.clauses c.args.clauses.now in
     let live = live_in clauses in
     let old = c.args.trail.now in
-    let mid = c.back_to_first-first.new.trail in
-    let step = c.back_to_first-first.result in
-    let found = c.back_to_first-first.new.notes in
-    let point = c.back_to_first-first.ensures in
+    let mid = c.back_to_first.new.trail in
+    let step = c.in_ok-first.first in
+    let found = c.back_to_first.new.notes in
+    let point = c.in_ok-first.ensures.first in
     let k = conflict_of clauses c.args.conflict (literals_of old.steps) c.requires.conflict in
-    let hints : reverse c.begin.new.notes.hints ≡ c.args.conflict ∷ [] = ap reverse c.begin.ensures.hints in
+    let hints : reverse c.begin.new.notes.hints ≡ c.args.conflict ∷ [] = ap reverse c.in_ok-begin.ensures.hints in
     let sound = sound_later live point.shrunk.popped (step ∷ mid.steps)
     (subst (IsSound live) point.shrunk.is c.requires.sound) in
-    let added = c.add_literal.ensures ∙ ap (λ l. record {
+    let added = c.in_ok-add_literal.ensures.ok ∙ ap (λ l. record {
       marks = found.marks;
       places = found.places;
       hints =
@@ -55,5 +55,5 @@ returns-clause-lesson g c =
     (λ entries stand. subst (IsAnalysis entries live (literals_of old.steps) [] c.begin.new.notes.marks) (sym hints)
     (analysis_first entries live c.begin.new.notes.marks (literals_of old.steps) k.clause c.args.conflict k.is
     k.false_now (λ l m. stand c.args.conflict k.clause l k.is m) (sound_consistent live old.steps c.requires.sound)
-    (λ v. c.begin.ensures.marked k.clause v k.is)))
-    point added c.add_rest.ensures c.turn.ensures
+    (λ v. c.in_ok-begin.ensures.marked k.clause v k.is)))
+    point added c.in_ok-add_rest.ensures.trimmed c.turn.ensures

@@ -7,16 +7,16 @@ use Rattle.learning_trail.specs.Marks.{marked, is_level_marked}
 use Rattle.learning_trail.proofs.BacktrackSteps.{reason_of, reason_at, backing_past, backing_next, backing_ends}
 use Rattle.learning_trail.proofs.analysis.back_to_first.Goals as goal
 
-pub returns-in-None : goal.returns-in-None
-returns-in-None g c =
+pub returns-in-None-clause-first : goal.returns-in-None-clause-first
+returns-in-None-clause-first g c =
     let step = c.in-Some.step in
     backing_ends (live_in (g.C.Clauses.clauses c.args.clauses.now)) c.args.trail.now c.loop-step.trail c.pop.new.self
     c.args.notes.now c.loop-step.notes step c.loop-step.invariant
     c.in-Some.ensures.steps c.pop.ensures.room (sym c.has.ensures ∙ c.if-has.true)
     (λ implied. absurd (false≢true (sym implied ∙ ap is_no_reason c.in-None.is)))
 
-pub returns-then-not-is_level_marked : goal.returns-then-not-is_level_marked
-returns-then-not-is_level_marked g c =
+pub returns-then-not-is_level_marked-clause-first : goal.returns-then-not-is_level_marked-clause-first
+returns-then-not-is_level_marked-clause-first g c =
     let step = c.in-Some.step in
     let none : is_level_marked c.loop-step.notes.marks c.pop.new.self.steps ≡ false =
     ap (is_level_marked c.loop-step.notes.marks) (sym c.steps.ensures.value) ∙ sym c.is_level_marked.ensures
@@ -57,8 +57,8 @@ loop-step-preserved-in-Some-reason g c =
     backing_next (g.C.Clauses.clauses c.args.clauses.now) c.args.trail.now c.loop-step.trail c.pop.new.self
     c.args.notes.now c.loop-step.notes c.resolve.new.notes
     step id c.loop-step.invariant c.in-Some.ensures.steps c.pop.ensures.room c.in-Some-reason.is status mark some
-    c.resolve.ensures.len c.resolve.ensures.hints c.resolve.ensures.literals
-    c.resolve.ensures.marked
+    c.resolve.ensures.len c.in_ok-resolve-in-Some-reason.ensures.hints c.resolve.ensures.literals
+    c.in_ok-resolve-in-Some-reason.ensures.marked
 
 pub loop-step-preserved : goal.loop-step-preserved
 loop-step-preserved g c =

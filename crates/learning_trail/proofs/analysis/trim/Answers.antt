@@ -8,8 +8,8 @@ use Rattle.learning_trail.proofs.Lessons.{sound_later}
 use Rattle.learning_trail.proofs.MinimalClauses.{trimmed_past, trimmed_noted, trimmed_resolved}
 use Rattle.learning_trail.proofs.analysis.trim.Goals as goal
 
-pub returns-in-Some-clause-trimmed : goal.returns-in-Some-clause-trimmed
-returns-in-Some-clause-trimmed g c = λ steps rest was sound inv.
+pub returns-in_ok-resolve-in-Some-clause-trimmed : goal.returns-in_ok-resolve-in-Some-clause-trimmed
+returns-in_ok-resolve-in-Some-clause-trimmed g c = λ steps rest was sound inv.
     let clauses = g.C.Clauses.clauses c.args.clauses.now in
     let live = live_in clauses in
     let step = c.args.step.now in
@@ -17,11 +17,11 @@ returns-in-Some-clause-trimmed g c = λ steps rest was sound inv.
     let here = sound_later live inv.done (step ∷ rest) (subst (IsSound live) inv.split sound) in
     let status = reason_at live (step ∷ rest) rest step c.in-Some.reason here refl redundant.is in
     trimmed_resolved clauses steps rest was c.args.notes.now c.resolve.new.notes step c.in-Some.reason sound inv status
-    (sym c.has.ensures ∙ c.if-has.true) redundant
-    c.resolve.ensures.len c.resolve.ensures.hints c.resolve.ensures.literals c.resolve.ensures.marked
+    (sym c.has.ensures ∙ c.if-not-has.false) redundant
+    c.resolve.ensures.len c.in_ok-resolve-in-Some.ensures.hints c.resolve.ensures.literals c.in_ok-resolve-in-Some.ensures.marked
 
-pub returns-in-None-clause-trimmed : goal.returns-in-None-clause-trimmed
-returns-in-None-clause-trimmed g c = λ steps rest was sound inv.
+pub returns-in_ok-add_literal-in-None-clause-trimmed : goal.returns-in_ok-add_literal-in-None-clause-trimmed
+returns-in_ok-add_literal-in-None-clause-trimmed g c = λ steps rest was sound inv.
     let now = c.args.notes.now in
     let step = c.args.step.now in
     let added : c.add_literal.new.self ≡ record {
@@ -31,7 +31,7 @@ returns-in-None-clause-trimmed g c = λ steps rest was sound inv.
       literals =
           now.literals ++ opposite step.literal ∷ [];
     } =
-    c.add_literal.ensures ∙ ap (λ l. record {
+    c.in_ok-add_literal-in-None.ensures.ok ∙ ap (λ l. record {
       marks = now.marks;
       places = now.places;
       hints = now.hints;
@@ -39,9 +39,9 @@ returns-in-None-clause-trimmed g c = λ steps rest was sound inv.
           now.literals ++ l ∷ [];
     }) c.not.ensures in
     trimmed_noted (live_in (g.C.Clauses.clauses c.args.clauses.now)) steps rest was now c.add_literal.new.self step
-    sound inv (sym c.has.ensures ∙ c.if-has.true) added
+    sound inv (sym c.has.ensures ∙ c.if-not-has.false) added
 
-pub returns-else-has-clause-trimmed : goal.returns-else-has-clause-trimmed
-returns-else-has-clause-trimmed g c = λ steps rest was sound inv.
+pub returns-then-not-has-clause-trimmed : goal.returns-then-not-has-clause-trimmed
+returns-then-not-has-clause-trimmed g c = λ steps rest was sound inv.
     trimmed_past (live_in (g.C.Clauses.clauses c.args.clauses.now)) steps rest was c.args.notes.now c.args.step.now inv
-    (sym c.has.ensures ∙ c.if-has.false)
+    (sym c.has.ensures ∙ c.if-not-has.true)

@@ -12,8 +12,8 @@ keep_answer-requires-clause-named g c =
     let noted = c.turn.new.self in
     let done = sought_concluded c.args.assumptions.now held c.args.trail.now c.args.notes.now c.args.log.now
     c.requires.answering c.back_to_decisions.new.trail c.back_to_decisions.new.notes
-    noted c.requires.assumed c.requires.negated c.requires.analysis c.back_to_decisions.ensures.kept
-    c.back_to_decisions.ensures.bare c.turn.ensures in
+    noted c.requires.assumed c.requires.negated c.requires.analysis c.in_ok-back_to_decisions.ensures.kept
+    c.in_ok-back_to_decisions.ensures.bare c.turn.ensures in
     concluded_named c.args.assumptions.now held c.args.trail.now c.args.notes.now c.args.log.now c.requires.answering
     noted done
 
@@ -23,8 +23,8 @@ keep_answer-requires-clause-hints g c =
     let noted = c.turn.new.self in
     let done = sought_concluded c.args.assumptions.now held c.args.trail.now c.args.notes.now c.args.log.now
     c.requires.answering c.back_to_decisions.new.trail c.back_to_decisions.new.notes
-    noted c.requires.assumed c.requires.negated c.requires.analysis c.back_to_decisions.ensures.kept
-    c.back_to_decisions.ensures.bare c.turn.ensures in
+    noted c.requires.assumed c.requires.negated c.requires.analysis c.in_ok-back_to_decisions.ensures.kept
+    c.in_ok-back_to_decisions.ensures.bare c.turn.ensures in
     concluded_ids c.args.assumptions.now held c.args.trail.now c.args.notes.now c.args.log.now c.requires.answering
     noted done
 
@@ -34,8 +34,8 @@ returns-clause-ok g c =
     let noted = c.turn.new.self in
     let done = sought_concluded c.args.assumptions.now held c.args.trail.now c.args.notes.now c.args.log.now
     c.requires.answering c.back_to_decisions.new.trail c.back_to_decisions.new.notes
-    noted c.requires.assumed c.requires.negated c.requires.analysis c.back_to_decisions.ensures.kept
-    c.back_to_decisions.ensures.bare c.turn.ensures in
+    noted c.requires.assumed c.requires.negated c.requires.analysis c.in_ok-back_to_decisions.ensures.kept
+    c.in_ok-back_to_decisions.ensures.bare c.turn.ensures in
     concluded_refuted c.args.assumptions.now held c.args.trail.now c.args.notes.now c.args.log.now c.requires.answering
     noted done c.keep_answer.new.log c.in_ok-id.id c.in_ok-id.ensures.ok c.in_ok-id.ensures.id
 
@@ -45,8 +45,8 @@ returns-clause-fit g c =
     let noted = c.turn.new.self in
     let done = sought_concluded c.args.assumptions.now held c.args.trail.now c.args.notes.now c.args.log.now
     c.requires.answering c.back_to_decisions.new.trail c.back_to_decisions.new.notes
-    noted c.requires.assumed c.requires.negated c.requires.analysis c.back_to_decisions.ensures.kept
-    c.back_to_decisions.ensures.bare c.turn.ensures in
+    noted c.requires.assumed c.requires.negated c.requires.analysis c.in_ok-back_to_decisions.ensures.kept
+    c.in_ok-back_to_decisions.ensures.bare c.turn.ensures in
     concluded_fit c.args.assumptions.now held c.args.trail.now c.args.notes.now c.args.log.now c.requires.answering
     noted done (g.C.Clauses.clauses c.keep_answer.new.clauses) c.keep_answer.new.log c.in_ok-id.ensures.held
     c.in_ok-id.ensures.ok

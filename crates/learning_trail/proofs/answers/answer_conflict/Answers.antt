@@ -8,7 +8,7 @@ begin-requires-clause-within g c =
 
 pub answer-requires-clause-analysis : goal.answer-requires-clause-analysis
 answer-requires-clause-analysis g c =
-    let now = c.begin.ensures in
+    let now = c.in_ok-begin.ensures in
     analysis_of_conflict c.args.assumptions.now (g.C.Clauses.clauses c.args.clauses.now) c.args.trail.now
     c.args.notes.now c.args.log.now c.requires.answering c.args.conflict c.begin.new.notes
-    c.requires.conflict now.hints now.literals now.marked
+    c.requires.conflict now.hints c.begin.ensures.literals now.marked

@@ -49,7 +49,7 @@ answer-requires-clause-answering g c =
     let a = c.args.assumption in
     let new = c.back_to-step.new.trail in
     let marks : length c.add_literal.new.self.marks ≡ length c.args.notes.now.marks =
-    ap (λ (n : Noted). length n.marks) c.add_literal.ensures ∙ c.unmark.ensures.len ∙ c.begin.ensures.len in
+    ap (λ (n : Noted). length n.marks) c.in_ok-add_literal-in-Some.ensures.ok ∙ c.unmark.ensures.len ∙ c.begin.ensures.len in
     below_sought c.args.assumptions.now (g.C.Clauses.clauses c.args.clauses.now) c.args.trail.now c.args.notes.now
     c.args.log.now c.requires.answering new step a back.shrunk
     (still_of (literals_of (step ∷ new.steps)) a c.not.result c.not.ensures back.still)
@@ -79,20 +79,20 @@ answer-requires-clause-analysis g c =
     let still = still_of (literals_of (step ∷ new.steps)) a c.not.result c.not.ensures back.still in
     let same = back.variable ∙ ap variable_of c.not.ensures ∙ opposite-variable a in
     let marks : length noted.marks ≡ length c.args.notes.now.marks =
-    ap (λ (n : Noted). length n.marks) c.add_literal.ensures ∙ c.unmark.ensures.len ∙ c.begin.ensures.len in
+    ap (λ (n : Noted). length n.marks) c.in_ok-add_literal-in-Some.ensures.ok ∙ c.unmark.ensures.len ∙ c.begin.ensures.len in
     let sought = below_sought c.args.assumptions.now held c.args.trail.now c.args.notes.now c.args.log.now
     c.requires.answering new step a back.shrunk still same c.requires.assumed noted back.room marks in
     let implied = below_implied c.args.assumptions.now held c.args.trail.now c.args.notes.now c.args.log.now
     c.requires.answering new step a back.shrunk still same c.requires.assumed c.in-Some.reason c.in-Some.is in
     let told : (k : List Literal) (v : ℕ) → live_in held c.in-Some.reason ≡ Some k →
     marked noted.marks v ≡ (not (variable_of a == v) && stands_on k v) = λ k v is.
-    ap (λ (n : Noted). marked n.marks v) c.add_literal.ensures ∙ c.unmark.ensures.marked v ∙ ap
-    (λ b. not (variable_of a == v) && b) (c.begin.ensures.marked k v is) in
+    ap (λ (n : Noted). marked n.marks v) c.in_ok-add_literal-in-Some.ensures.ok ∙ c.unmark.ensures.marked v ∙ ap
+    (λ b. not (variable_of a == v) && b) (c.in_ok-begin-in-Some.ensures.marked k v is) in
     let literals : noted.literals ≡ opposite a ∷ [] =
-    ap (λ (n : Noted). n.literals) c.add_literal.ensures ∙ ap (λ ls. ls ++ c.not-in-Some.result ∷ [])
+    ap (λ (n : Noted). n.literals) c.in_ok-add_literal-in-Some.ensures.ok ∙ ap (λ ls. ls ++ c.not-in-Some.result ∷ [])
     (c.unmark.ensures.literals ∙ c.begin.ensures.literals) ∙ ap (λ l. l ∷ []) c.not-in-Some.ensures in
-    let hints : noted.hints ≡ c.in-Some.reason ∷ [] = ap (λ (n : Noted). n.hints) c.add_literal.ensures
-    ∙ c.unmark.ensures.hints ∙ c.begin.ensures.hints in
+    let hints : noted.hints ≡ c.in-Some.reason ∷ [] = ap (λ (n : Noted). n.hints) c.in_ok-add_literal-in-Some.ensures.ok
+    ∙ c.unmark.ensures.hints ∙ c.in_ok-begin-in-Some.ensures.hints in
     analysis_of_reason c.args.assumptions.now held new noted c.args.log.now sought a c.in-Some.reason noted implied
     hints literals told
 

@@ -6,8 +6,8 @@ use Rattle.learning_trail.specs.Marks.{marked}
 use Rattle.learning_trail.proofs.BacktrackSteps.{reason_of, reason_at, keeping_past, keeping_next, keeping_decision, keeping_same}
 use Rattle.learning_trail.proofs.answers.back_to_decisions.Goals as goal
 
-pub loop-step-preserved-in-None : goal.loop-step-preserved-in-None
-loop-step-preserved-in-None g c =
+pub loop-step-preserved-in-Continue-1 : goal.loop-step-preserved-in-Continue-1
+loop-step-preserved-in-Continue-1 g c =
     let now = c.loop-step.notes in
     let step = c.in-Some.step in
     let added : c.add_literal.new.self ≡ record {
@@ -17,7 +17,7 @@ loop-step-preserved-in-None g c =
       literals =
           now.literals ++ opposite step.literal ∷ [];
     } =
-    c.add_literal.ensures ∙ ap (λ l. record {
+    c.in_ok-add_literal-in-None.ensures.ok ∙ ap (λ l. record {
       marks = now.marks;
       places = now.places;
       hints = now.hints;
@@ -38,8 +38,8 @@ resolve-requires-clause-is_id g c =
     (reason_of (g.C.Clauses.clauses c.args.clauses.now) c.in-Some-reason.reason
     (literals_of c.pop.new.self.steps) step.literal status).is_id
 
-pub loop-step-preserved-in-Some-reason : goal.loop-step-preserved-in-Some-reason
-loop-step-preserved-in-Some-reason g c =
+pub loop-step-preserved-in-Continue-branch-2 : goal.loop-step-preserved-in-Continue-branch-2
+loop-step-preserved-in-Continue-branch-2 g c =
     let live = live_in (g.C.Clauses.clauses c.args.clauses.now) in
     let step = c.in-Some.step in
     let id = c.in-Some-reason.reason in
@@ -49,7 +49,7 @@ loop-step-preserved-in-Some-reason g c =
     keeping_next (g.C.Clauses.clauses c.args.clauses.now) c.args.trail.now c.loop-step.trail c.pop.new.self
     c.args.notes.now c.loop-step.notes c.resolve.new.notes
     step id c.loop-step.invariant c.in-Some.ensures.steps c.pop.ensures.room status mark c.resolve.ensures.len
-    c.resolve.ensures.hints c.resolve.ensures.literals c.resolve.ensures.marked
+    c.in_ok-resolve-in-Some-reason.ensures.hints c.resolve.ensures.literals c.in_ok-resolve-in-Some-reason.ensures.marked
 
 pub loop-step-preserved : goal.loop-step-preserved
 loop-step-preserved g c =

@@ -2,12 +2,12 @@ use Rattle.std.proofs.Common.{◌≡◌, ℕ, Some, None, Contains, sym, ◌∙�
 use Rattle.learning_trail.proofs.ListedPlaces.{contains_put}
 use Rattle.learning_trail.proofs.notes.list_one.Goals as goal
 
-pub returns-in-Some-clause-listed : goal.returns-in-Some-clause-listed
-returns-in-Some-clause-listed c = λ at l h same on.
+pub returns-in_ok-push-clause-listed : goal.returns-in_ok-push-clause-listed
+returns-in_ok-push-clause-listed c = λ at l h same on.
     let e : Some c.in-Some.place ≡ Some at = sym c.in-Some.is ∙ c.place.ensures at l h same in
     let q : c.in-Some.place ≡ at = cc in
-    subst (λ (n : ℕ). Contains c.put.new.touched.items n) q (contains_put c.args.places.now.items
-    c.put.new.touched.items c.in-Some.place c.put.ensures.items)
+    subst (λ (n : ℕ). Contains c.push.new.self.items n) q (contains_put c.args.places.now.items
+    c.push.new.self.items c.in-Some.place c.in_ok-push.ensures.items)
 
 pub returns-in_default-clause-listed : goal.returns-in_default-clause-listed
 returns-in_default-clause-listed c = λ at l h same on.

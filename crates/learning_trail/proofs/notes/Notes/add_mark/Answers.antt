@@ -18,6 +18,6 @@ returns-clause-marked c = λ w.
       ap length shown,
       length-map marks is_marked,
     ) in
-    ap (λ ms. marked (map is_marked ms) w) c.set_mark.ensures.marks ∙ mark_set marks v w Marked lt refl
+    ap (λ ms. marked (map is_marked ms) w) c.in_ok-set_mark.ensures.marks ∙ mark_set marks v w Marked lt refl
     ∙ ap (λ (ms : List Bool). marked ms w || (v == w)) shown ∙ ap
     (λ n. marked c.args.self.now.marks w || (n == w)) c.var.ensures.value

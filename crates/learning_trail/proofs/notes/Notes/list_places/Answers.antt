@@ -18,5 +18,5 @@ returns-clause-covered c = λ at l h on.
     let v = variable_of l in
     let here = sym (mark_shown inside.marks.items v) ∙ ap (λ (n : Noted). marked n.marks v) c.self.view_is ∙ on in
     Contains-permutation c.list.new.places.items c.sort_unstable.new.self.items at c.sort_unstable.ensures.permutation
-    (c.list.ensures.listed at v l h refl (ap (λ (ms : List Mark). is_marked (get_or ms v Clear)) c.deref.ensures.value
+    (c.in_ok-list.ensures at v l h refl (ap (λ (ms : List Mark). is_marked (get_or ms v Clear)) c.deref.ensures.value
     ∙ here))
