@@ -5,7 +5,7 @@ mod FirstFaults
 mod GroundedGates
 pub mod SpelledHeaders
 mod LineNumbers
-mod Names
+mod NamedPlaces
 pub mod NaturalTokens
 mod NumberNames
 mod ReadIsSpelled

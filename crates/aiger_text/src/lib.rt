@@ -16,6 +16,7 @@ mod faults;
 mod files;
 mod headers;
 pub mod laws;
+mod name_tables;
 mod numbers;
 mod reader;
 mod symbol_lines;

@@ -5,16 +5,16 @@ ghost use Rattle.std.specs.Option.{option_copied};
 ghost use Rattle.aiger_text.specs.Symbol.{name_at};
 
 use crate::files::Text;
+use crate::name_tables::NameTable;
 use dq_lits::Memory;
-use indexmap::IndexMap;
 use std::alloc::Global;
 use std::marker::Model;
 
 /// Names for inputs and outputs, by place from 0.
 #[derive(Drop)]
 pub struct Symbols {
-    inputs: IndexMap<u64, Text>,
-    outputs: IndexMap<u64, Text>,
+    inputs: NameTable,
+    outputs: NameTable,
 }
 
 impl Model for Symbols {
@@ -22,7 +22,7 @@ impl Model for Symbols {
 
     ghost Value = { SymbolTable };
 
-    ghost view = { λ s. record { inputs = s.inputs.entries; outputs = s.outputs.entries } };
+    ghost view = { λ s. record { inputs = s.inputs; outputs = s.outputs } };
 }
 
 impl Symbols {
@@ -31,8 +31,8 @@ impl Symbols {
         ensures { result ≡ record { inputs = []; outputs = [] } }
     {
         Symbols {
-            inputs: IndexMap::new(alloc),
-            outputs: IndexMap::new(alloc),
+            inputs: NameTable::new(alloc),
+            outputs: NameTable::new(alloc),
         }
     }
 
@@ -40,26 +40,26 @@ impl Symbols {
     pub fn input(&self, i: usize) -> Option<&[u8]>
         ensures { option_copied result ≡ name_at self.now.inputs i }
     {
-        Some(self.inputs.get(&(i as u64))?.items())
+        self.inputs.get(i as u64)
     }
 
     /// The name of the output at place `i`, if it has one.
     pub fn output(&self, i: usize) -> Option<&[u8]>
         ensures { option_copied result ≡ name_at self.now.outputs i }
     {
-        Some(self.outputs.get(&(i as u64))?.items())
+        self.outputs.get(i as u64)
     }
 
     // The places of the inputs that have names, with these, in order of their lines.
-    pub(crate) fn input_names(&self) -> &IndexMap<u64, Text>
-        ensures { result.now.entries ≡ self.now.inputs }
+    pub(crate) fn input_names(&self) -> &NameTable
+        ensures { result.now ≡ self.now.inputs }
     {
         &self.inputs
     }
 
     // The same of the outputs.
-    pub(crate) fn output_names(&self) -> &IndexMap<u64, Text>
-        ensures { result.now.entries ≡ self.now.outputs }
+    pub(crate) fn output_names(&self) -> &NameTable
+        ensures { result.now ≡ self.now.outputs }
     {
         &self.outputs
     }
@@ -71,7 +71,7 @@ impl Symbols {
             (self.new ≡ record self.old { inputs = self.old.inputs ++ (i, name) ∷ [] }) }
         ensures err { OnErr result (self.new ≡ self.old) }
     {
-        self.inputs.insert(i, name)?;
+        self.inputs.add(i, name.items())?;
         Ok(())
     }
 
@@ -82,7 +82,7 @@ impl Symbols {
             (self.new ≡ record self.old { outputs = self.old.outputs ++ (i, name) ∷ [] }) }
         ensures err { OnErr result (self.new ≡ self.old) }
     {
-        self.outputs.insert(i, name)?;
+        self.outputs.add(i, name.items())?;
         Ok(())
     }
 }

@@ -9,10 +9,10 @@ ghost use Rattle.aiger_text.specs.Spellable.{IsSpellable};
 
 use crate::files::{AagFile, Text};
 use crate::laws::canonical_text_spells;
+use crate::name_tables::NameTable;
 use circuit_plain::Circuit;
 use dq_lits::Memory;
 use dq_text::{push_last, push_spaced, push_word};
-use indexmap::IndexMap;
 use std::alloc::Global;
 
 /// The canonical text of a circuit file: the header `aag M I 0 O A`; a line for each input, output
@@ -118,16 +118,12 @@ fn write_symbol(letter: u8, place: u64, name: &[u8], text: &mut Vec<u8>) -> Resu
     Ok(())
 }
 
-fn write_symbols(
-    letter: u8,
-    symbols: &IndexMap<u64, Text>,
-    text: &mut Vec<u8>,
-) -> Result<(), Memory>
+fn write_symbols(letter: u8, symbols: &NameTable, text: &mut Vec<u8>) -> Result<(), Memory>
     ensures { OnOk result
-        (text.new.items ≡ text.old.items ++ flat_map (symbol_text letter) symbols.now.entries) }
+        (text.new.items ≡ text.old.items ++ flat_map (symbol_text letter) symbols.now) }
 {
-    for (place, name) in symbols.iter() {
-        write_symbol(letter, *place, name.items(), text)?;
+    for i in 0..symbols.len() {
+        write_symbol(letter, symbols.place(i), symbols.name(i), text)?;
     }
     Ok(())
 }

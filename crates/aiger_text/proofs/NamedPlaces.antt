@@ -1,0 +1,97 @@
+-- Names beside their places.
+use Rattle.std.proofs.Common.{◌≡◌, ℕ, zero, suc, ◌+◌, nat_eq, nat_lt, Bool, true, false, cond, not, ◌||◌, List, [], ◌∷◌, ◌++◌, length, get_or, Option, Some, None, refl, sym, ◌∙◌, ap, arith}
+use Rattle.std.specs.List.{zip, list_any, position, position_or_len}
+use Rattle.std.specs.Map.{lookup}
+use Rattle.std.proofs.lemmas.Bool.{ltb_from_iff, ltb-true, lt-ltb}
+
+-- one place more is looked at
+step : (b : Bool) (name : List ℕ) (names : List (List ℕ)) (rest : Option (List ℕ)) (at count : ℕ) →
+    rest ≡ cond (nat_lt at count) (Some (get_or names at [])) None
+    → cond b (Some name) rest
+    ≡ cond (nat_lt (cond (not b) (1 + at) 0) (suc count)) (Some (get_or (name ∷ names) (cond (not b) (1 + at) 0) [])) None
+step true name names rest at count h =
+    ap (λ b. cond b (Some name) None) (sym (lt-ltb 0 (suc count) (omega arith)))
+step false name names rest at count h =
+    let one : suc at ≡ 1 + at = omega arith in
+    let less : nat_lt (suc at) (suc count) ≡ nat_lt at count =
+    ltb_from_iff ((λ h. omega (arith, ltb-true (suc at) (suc count) h)), (λ lt. lt-ltb (suc at) (suc count) (omega (arith, lt)))) in
+    h ∙ ap (λ b. cond b (Some (get_or names at [])) None) (sym less)
+    ∙ ap (λ n. cond (nat_lt n (suc count)) (Some (get_or (name ∷ names) n [])) None) one
+
+-- the name of a place stands at its index
+pub found_at : (places : List ℕ) (names : List (List ℕ)) (place : ℕ) → length places ≡ length names →
+    lookup (nat_eq place) (zip places names)
+    ≡ cond (nat_lt (position_or_len (nat_eq place) places) (length places))
+    (Some (get_or names (position_or_len (nat_eq place) places) [])) None
+found_at [] names place same = refl
+found_at (p ∷ places) [] place same = absurd (omega (arith, same))
+found_at (p ∷ places) (name ∷ names) place same =
+    step (nat_eq place p) name names (lookup (nat_eq place) (zip places names))
+    (position_or_len (nat_eq place) places) (length places) (found_at places names place (omega (arith, same)))
+
+absent_here : (b : Bool) (name : List ℕ) (rest : Option (List ℕ)) → cond b (Some name) rest ≡ None →
+    (b ≡ false) × (rest ≡ None)
+absent_here true name rest h = cc
+absent_here false name rest h = (refl, h)
+
+-- a place without a name isn't among them
+pub no_place : (places : List ℕ) (names : List (List ℕ)) (place : ℕ) → length places ≡ length names →
+    lookup (nat_eq place) (zip places names) ≡ None → list_any (nat_eq place) places ≡ false
+no_place [] names place same none = refl
+no_place (p ∷ places) [] place same none = absurd (omega (arith, same))
+no_place (p ∷ places) (name ∷ names) place same none =
+    let parts = absent_here (nat_eq place p) name (lookup (nat_eq place) (zip places names)) none in
+    ap (λ b. b || list_any (nat_eq place) places) parts.0
+    ∙ no_place places names place (omega (arith, same)) parts.1
+
+-- one name more, behind the others
+pub zip_more : (places : List ℕ) (names : List (List ℕ)) (place : ℕ) (name : List ℕ) →
+    length places ≡ length names
+    → zip (places ++ place ∷ []) (names ++ name ∷ []) ≡ zip places names ++ (place, name) ∷ []
+zip_more [] [] place name same = refl
+zip_more [] (n ∷ names) place name same = absurd (omega (arith, same))
+zip_more (p ∷ places) [] place name same = absurd (omega (arith, same))
+zip_more (p ∷ places) (n ∷ names) place name same =
+    ap (λ rest. (p, n) ∷ rest) (zip_more places names place name (omega (arith, same)))
+
+pub zip_long : (places : List ℕ) (names : List (List ℕ)) → length places ≡ length names →
+    length (zip places names) ≡ length names
+zip_long [] [] same = refl
+zip_long [] (n ∷ names) same = absurd (omega (arith, same))
+zip_long (p ∷ places) [] same = absurd (omega (arith, same))
+zip_long (p ∷ places) (n ∷ names) same = ap suc (zip_long places names (omega (arith, same)))
+
+-- what stands at an index
+pub zip_at : (places : List ℕ) (names : List (List ℕ)) (i : ℕ) → length places ≡ length names →
+    get_or (zip places names) i (0, []) ≡ (get_or places i 0, get_or names i [])
+zip_at [] [] i same = refl
+zip_at [] (n ∷ names) i same = absurd (omega (arith, same))
+zip_at (p ∷ places) [] i same = absurd (omega (arith, same))
+zip_at (p ∷ places) (n ∷ names) zero same = refl
+zip_at (p ∷ places) (n ∷ names) (suc i) same = zip_at places names i (omega (arith, same))
+
+at_none : (b : Bool) (at : ℕ) (name : List ℕ) → cond b (Some at) None ≡ None → cond b (Some name) None ≡ None
+at_none true at name h = let e : Some at ≡ None = h in cc
+at_none false at name h = refl
+
+at_some : (b : Bool) (at i : ℕ) (names : List (List ℕ)) → cond b (Some at) None ≡ Some i →
+    cond b (Some (get_or names at [])) None ≡ Some (get_or names i [])
+at_some true at i names h =
+    let e : Some at ≡ Some i = h in
+    let same : at ≡ i = cc in
+    ap (λ n. Some (get_or names n [])) same
+at_some false at i names h = let e : None ≡ Some i = h in cc
+
+pub named_none : (places : List ℕ) (names : List (List ℕ)) (place : ℕ) → length places ≡ length names →
+    position (nat_eq place) places ≡ None → lookup (nat_eq place) (zip places names) ≡ None
+named_none places names place same h =
+    found_at places names place same
+    ∙ at_none (nat_lt (position_or_len (nat_eq place) places) (length places)) (position_or_len (nat_eq place) places)
+    (get_or names (position_or_len (nat_eq place) places) []) h
+
+pub named_some : (places : List ℕ) (names : List (List ℕ)) (place i : ℕ) → length places ≡ length names →
+    position (nat_eq place) places ≡ Some i → lookup (nat_eq place) (zip places names) ≡ Some (get_or names i [])
+named_some places names place i same h =
+    found_at places names place same
+    ∙ at_some (nat_lt (position_or_len (nat_eq place) places) (length places)) (position_or_len (nat_eq place) places)
+    i names h

@@ -1,0 +1,108 @@
+//! Names by place, with their bytes end to end: a name costs these and what finds it, and no block of
+//! its own.
+
+ghost use Rattle.std.specs.Prelude.{◌≡◌, ◌++◌, ◌∷◌, ◌<◌, [], None, false, nat_eq, length, slice_index_or, OnOk, OnErr};
+ghost use Rattle.std.specs.Option.{option_copied};
+ghost use Rattle.indexmap.specs.IndexSet.{contains};
+ghost use Rattle.aiger_text.specs.Symbol.{name_at};
+
+use dq_lits::Memory;
+use flat_lists::FlatLists;
+use indexmap::IndexSet;
+use std::alloc::Global;
+use std::marker::Model;
+
+/// Names by place, in the order in which they came.
+#[derive(Drop)]
+pub(crate) struct NameTable {
+    places: IndexSet<u64>,
+    // The name of each place, at its index.
+    names: FlatLists<u8>,
+}
+
+impl Model for NameTable {
+    ghost use Rattle.std.specs.Prelude.{ℕ, List, length, ◌≡◌};
+    ghost use Rattle.std.specs.List.{zip};
+
+    ghost Value = { List (ℕ × List ℕ) };
+
+    ghost view = { λ t. zip t.places.keys t.names };
+
+    ghost invariant = { λ t. length t.places.keys ≡ length t.names };
+}
+
+impl NameTable {
+    /// No names. It takes no memory.
+    pub(crate) fn new(alloc: Global) -> NameTable
+        ensures { result ≡ [] }
+    {
+        NameTable {
+            places: IndexSet::new(alloc),
+            names: FlatLists::new(alloc),
+        }
+    }
+
+    /// The name of a place, if it has one.
+    pub(crate) fn get(&self, place: u64) -> Option<&[u8]>
+        ensures { option_copied result ≡ name_at self.now place }
+    {
+        let index = self.places.get_index_of(&place)?;
+        Some(self.names.get(index))
+    }
+
+    /// How many names there are.
+    pub(crate) fn len(&self) -> usize
+        ensures { result ≡ length self.now }
+    {
+        self.names.len()
+    }
+
+    /// The place of the name at an index.
+    pub(crate) fn place(&self, index: usize) -> u64
+        requires { index < length self.now }
+        ensures { result ≡ (slice_index_or self.now index (0, [])).0 }
+    {
+        match self.places.get_index(index) {
+            Some(place) => *place,
+            None => unreachable!(),
+        }
+    }
+
+    /// The name at an index.
+    pub(crate) fn name(&self, index: usize) -> &[u8]
+        requires { index < length self.now }
+        ensures { result.now ≡ (slice_index_or self.now index (0, [])).1 }
+    {
+        self.names.get(index)
+    }
+
+    /// Names a place that has no name yet, behind the others.
+    pub(crate) fn add(&mut self, place: u64, name: &[u8]) -> Result<(), Memory>
+        requires { name_at self.old place ≡ None }
+        ensures ok { OnOk result (self.new ≡ self.old ++ (place, name.now) ∷ []) }
+        ensures err { OnErr result (self.new ≡ self.old) }
+    {
+        add(&mut self.places, &mut self.names, place, name)?;
+        Ok(())
+    }
+}
+
+// The same on what a table keeps.
+fn add(
+    places: &mut IndexSet<u64>,
+    names: &mut FlatLists<u8>,
+    place: u64,
+    name: &[u8],
+) -> Result<(), Memory>
+    requires { contains nat_eq places.old place ≡ false }
+    ensures places { OnOk result (places.new.keys ≡ places.old.keys ++ place ∷ []) }
+    ensures names { OnOk result (names.new ≡ names.old ++ name.now ∷ []) }
+    ensures err { OnErr result ((places.new.keys ≡ places.old.keys) × (names.new ≡ names.old)) }
+{
+    places.reserve(1)?;
+    names.push(name)?;
+    if places.insert(place).is_err() {
+        unreachable!();
+    }
+    Ok(())
+}
