@@ -1,12 +1,11 @@
 -- What a solver holds of its log, where a variable gets a name, and where groups are put to rest or wake.
-use Rattle.std.proofs.Common.{◌≡◌, ℕ, zero, suc, ◌+◌, ◌-◌, ◌≤◌, Bool, true, cond, ◌&&◌, ◌⊎◌, inl, inr, List, [], ◌∷◌, length, Some, None, is_some, Ok, Err, OnOk, Result, All, refl, sym, ◌∙◌, ap, subst, arith, length-append}
+use Rattle.std.proofs.Common.{◌≡◌, ℕ, ◌+◌, ◌-◌, ◌≤◌, Bool, true, cond, ◌&&◌, ◌⊎◌, inl, inr, List, [], ◌∷◌, length, Some, None, is_some, Ok, Err, OnOk, Result, All, refl, sym, ◌∙◌, ap, subst, arith, length-append}
 use Rattle.std.specs.List.{list_any}
 use Rattle.std.proofs.lemmas.Bool.{cases_eq, false≢true, false_from_ne_true, ne_eqb, or_parts, and_parts}
-use Rattle.std.proofs.lemmas.Option.{slice_get_within}
 use Rattle.dq_lits.specs.Literal.{Literal, positive, negative, variable_of, is_negative}
 use Rattle.dq_lits.specs.Derivation.{holds}
 use Rattle.hint_log.specs.declared.names.Name.{Name}
-use Rattle.hint_log.specs.Entries.{Entry, Named, clause_at, last_id, name_of}
+use Rattle.hint_log.specs.Entries.{Entry, Named, clause_at, name_of}
 use Rattle.hint_log.specs.Naming.{is_selector_name}
 use Rattle.oracle.specs.declared.groups.Group.{Group}
 use Rattle.oracle.specs.Fit.{Fit, live_in}
@@ -34,28 +33,6 @@ held_named held resting variables v es name fit longer unnamed = record {
 pub on_ok : {X E : Type 0} {P Q : Type 0} (r : Result X E) → (P → Q) → OnOk r P → OnOk r Q
 on_ok (Ok x) f p = f p
 on_ok (Err e) f p = tt
-
--- what is put anew for a log
-pub held_put : (held now : List (List Literal)) (resting flags : List Bool) (variables : ℕ) (es : List Entry) →
-    HeldFit held resting variables es → HoldsPut flags es now (last_id es) → AreSelectors es flags →
-    HeldFit now flags variables es
-held_put held now resting flags variables es fit put selectors = record {
-  whole = fit.whole;
-  fit = fit.fit;
-  count = let n = fit.fit.count in let m = put.long in omega (arith, n, m);
-  same = λ id clause other at at'. put.each id clause other (sym (fit.fit.same id) ∙ at) at';
-  selectors = selectors;
-}
-
-pub none_rest : (es : List Entry) → AreSelectors es []
-none_rest es v on = absurd (false≢true on)
-
-pub nothing_put : (resting : List Bool) (es : List Entry) → HoldsPut resting es [] zero
-nothing_put resting es = record { long = refl; each = λ id clause put at at'. absurd (by id put at') }
-  where
-    by : (id : ℕ) (put : List Literal) → live_in [] id ≡ Some put → ⊥
-    by zero put at = let n : None ≡ Some put = at in cc
-    by (suc i) put at = let lt = slice_get_within [] i put at in omega (arith, lt)
 
 pub more_put : (resting : List Bool) (es : List Entry) (old new : List (List Literal)) (id : ℕ) →
     HoldsPut resting es old (id - 1) → 1 ≤ id → IsPutAs resting es id old new → HoldsPut resting es new (id + 1 - 1)

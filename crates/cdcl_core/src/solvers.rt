@@ -1,6 +1,6 @@
 //! The solver as a value, and its calls as an oracle.
 
-ghost use Rattle.std.specs.Prelude.{◌≡◌, ◌≤◌, ◌<◌, ◌^◌};
+ghost use Rattle.std.specs.Prelude.{◌≡◌, ◌≤◌, ◌<◌};
 ghost use Rattle.cdcl_core.specs.Solver.{is_on};
 
 use crate::calls::{find, grow, keep_given};

@@ -1,7 +1,6 @@
 //! What the solver's calls rest on.
 
-ghost use Rattle.std.specs.Prelude.{◌≡◌, ◌≤◌, ◌<◌, ◌+◌, ◌-◌, ◌++◌, ◌∷◌, ◌^◌, [], ◌⊎◌, ℕ, List, Bool, true, false, length, All, IfOk, OnOk, OnErr, Ok, Err, vec_capacity, slice_index_or, suc};
-ghost use Rattle.dq_lits.specs.Literal.{Literal, variable_of, opposite, positive};
+ghost use Rattle.std.specs.Prelude.{◌≡◌, ◌≤◌, ◌<◌, ◌+◌, ◌-◌, ◌++◌, ◌∷◌, ◌^◌, [], ℕ, false, length, All, IfOk, OnOk, OnErr, Ok, Err, vec_capacity, slice_index_or};
 ghost use Rattle.dq_lits.specs.Derivation.{is_tautology};
 ghost use Rattle.hint_log.specs.Conditions.{AreNamed};
 ghost use Rattle.hint_log.specs.Entries.{last_id, with_entry, clause_at};
@@ -10,11 +9,8 @@ ghost use Rattle.oracle.specs.Calls.{IsMade, IsPlain, IsModelUnder, IsRefutedUnd
 ghost use Rattle.oracle.specs.Limits.{IsAtLimit};
 ghost use Rattle.learning_trail.specs.Growing.{HasLearned};
 ghost use Rattle.learning_trail.specs.Resting.{HeldFit};
-ghost use Rattle.learning_trail.specs.Steps.{literals_of};
-ghost use Rattle.truth_values.specs.Truth.{literal_value};
 ghost use Rattle.learning_trail.specs.Searching.{AreAssumptions};
-ghost use Rattle.cdcl_scan.specs.Searching.{KeepsPlaces, IsSearching, IsAnswered};
-ghost use Rattle.truth_values.specs.declared.values.TruthValue.TheVariants.{True};
+ghost use Rattle.cdcl_scan.specs.Searching.{KeepsPlaces, IsSearching};
 
 use crate::clauses::ClauseStore;
 use crate::search::search;

@@ -1,7 +1,6 @@
 //! What a conflict teaches goes into the log and the clauses, and the trail goes on from there.
 
-ghost use Rattle.std.specs.Prelude.{◌≡◌, ◌≤◌, ◌<◌, ◌+◌, ◌++◌, ◌∷◌, [], true, false, length, IfOk, OnOk, OnErr, Some, Err, IsErrOf};
-ghost use Rattle.dq_lits.specs.Literal.{variable_of};
+ghost use Rattle.std.specs.Prelude.{◌≡◌, ◌≤◌, ◌<◌, ◌+◌, ◌++◌, ◌∷◌, [], false, length, IfOk, OnOk, OnErr, Some, Err, IsErrOf};
 ghost use Rattle.dq_lits.specs.Derivation.{holds, status_of, falsified};
 ghost use Rattle.hint_log.specs.Conditions.{AreNamed, AreIds};
 ghost use Rattle.hint_log.specs.Entries.{steps_of, last_id, with_entry};
@@ -10,10 +9,7 @@ ghost use Rattle.oracle.specs.Fit.{live_in};
 ghost use Rattle.oracle.specs.Limits.{IsAtLimit};
 ghost use Rattle.learning_trail.specs.Growing.{HasLearned};
 ghost use Rattle.learning_trail.specs.Resting.{HeldFit};
-ghost use Rattle.learning_trail.specs.Steps.{literals_of, decision_of, is_decision};
-ghost use Rattle.truth_values.specs.Truth.{IsFree};
-ghost use Rattle.learning_trail.specs.Marks.{is_level_marked};
-ghost use Rattle.learning_trail.specs.Lessons.{IsLanded};
+ghost use Rattle.learning_trail.specs.Steps.{literals_of, decision_of};
 ghost use Rattle.cdcl_scan.specs.Searching.{HasTurned, KeepsPlaces, IsSearching};
 
 use crate::clauses::ClauseStore;

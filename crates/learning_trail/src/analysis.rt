@@ -6,7 +6,7 @@
 //! newest level, the trail below it stays as it is; marked literals there whose reasons rest on
 //! marked ones alone are resolved too, and the negations of the others are the clause.
 
-ghost use Rattle.std.specs.Prelude.{◌≡◌, ◌<◌, ◌≤◌, ◌==◌, ◌||◌, ◌&&◌, ◌++◌, ◌∷◌, [], not, ℕ, List, true, false, length, reverse, All, OnOk, IfOk, Some, IsSome, IfSome};
+ghost use Rattle.std.specs.Prelude.{◌≡◌, ◌<◌, ◌≤◌, ◌==◌, ◌||◌, ◌&&◌, ◌++◌, ◌∷◌, [], not, ℕ, List, true, length, All, OnOk, IfOk, Some, IsSome, IfSome};
 ghost use Rattle.std.specs.List.{list_all};
 ghost use Rattle.dq_lits.specs.Literal.{Literal, variable_of};
 ghost use Rattle.dq_lits.specs.Derivation.{status_of, falsified};

@@ -3,17 +3,16 @@
 //! Where only assumptions were decided, the analysis takes the whole trail back. It resolves every
 //! marked literal that has a reason, and the negations of the marked decisions are the clause.
 
-ghost use Rattle.std.specs.Prelude.{◌≡◌, ◌≤◌, ◌<◌, ◌+◌, ◌++◌, ◌∷◌, [], ℕ, true, length, map, reverse, IfOk, OnOk, OnErr};
+ghost use Rattle.std.specs.Prelude.{◌≡◌, ◌<◌, ◌+◌, ◌++◌, ◌∷◌, [], true, length, map, reverse, IfOk, OnOk, OnErr};
 ghost use Rattle.dq_lits.specs.Literal.{Literal, variable_of, opposite};
-ghost use Rattle.dq_lits.specs.Derivation.{holds, status_of, falsified, unit};
+ghost use Rattle.dq_lits.specs.Derivation.{holds, status_of, falsified};
 ghost use Rattle.hint_log.specs.Conditions.{AreNamed, AreIds};
 ghost use Rattle.hint_log.specs.Entries.{Answer, last_id, with_entry};
 ghost use Rattle.oracle.specs.Calls.{IsRefutedUnder};
-ghost use Rattle.oracle.specs.Fit.{Fit, live_in};
+ghost use Rattle.oracle.specs.Fit.{live_in};
 ghost use Rattle.learning_trail.specs.Analyses.{IsAnalysis};
 ghost use Rattle.learning_trail.specs.Answering.{IsAnswering, StaysFit};
 ghost use Rattle.learning_trail.specs.Steps.{literals_of, Shrunk};
-ghost use Rattle.learning_trail.specs.Searching.{AreAssumptions};
 ghost use Rattle.learning_trail.specs.Sound.{IsSound, AreAssumed};
 ghost use Rattle.learning_trail.specs.Passes.{AreMarkable};
 ghost use Rattle.learning_trail.specs.Backing.{IsKeeping};

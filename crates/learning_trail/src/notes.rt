@@ -1,7 +1,7 @@
 //! What an analysis writes down. Marks stand ready when a search begins. The lists grow as they are
 //! written, so that they take memory for what was noted, and not for all variables.
 
-ghost use Rattle.std.specs.Prelude.{◌≡◌, ◌≤◌, ◌<◌, ◌+◌, ◌++◌, ◌∷◌, ◌==◌, ◌||◌, ◌&&◌, not, [], List, ℕ, true, false, length, reverse, All, OnOk, OnErr, slice_index_or, vec_capacity, set, Contains};
+ghost use Rattle.std.specs.Prelude.{◌≡◌, ◌<◌, ◌+◌, ◌++◌, ◌∷◌, ◌==◌, ◌||◌, ◌&&◌, not, [], List, ℕ, true, false, length, reverse, All, OnOk, OnErr, slice_index_or, set, Contains};
 ghost use Rattle.std.specs.List.Sorted.{IsNonDecreasing};
 ghost use Rattle.dq_lits.specs.Literal.{Literal, variable_of};
 ghost use Rattle.learning_trail.specs.Steps.{IsAt};

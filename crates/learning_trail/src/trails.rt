@@ -1,6 +1,6 @@
 //! A trail of literals that were made true, with reasons and levels.
 
-ghost use Rattle.std.specs.Prelude.{◌≡◌, ◌+◌, ◌<◌, ◌≤◌, ◌++◌, [], ◌∷◌, ℕ, Some, length, reverse, vec_capacity, IfOk, OnErr, OnOk, IfSome, MatchOption, All, if◌then◌else◌};
+ghost use Rattle.std.specs.Prelude.{◌≡◌, ◌+◌, ◌<◌, ◌≤◌, ◌++◌, [], ◌∷◌, ℕ, Some, length, reverse, vec_capacity, OnErr, OnOk, IfSome, MatchOption, All};
 ghost use Rattle.dq_lits.specs.Literal.{Literal, variable_of};
 
 use crate::codes::Code;
