@@ -1,7 +1,7 @@
 -- Marks, and the variables whose marks aren't clear.
 use Rattle.std.proofs.Common.{◌≡◌, ℕ, zero, suc, ◌<◌, Bool, true, false, not, ◌&&◌, ◌||◌, ◌==◌, inl, inr, List, [], ◌∷◌, ◌++◌, map, length, length-append, drop, drop-cons, set, get_or, All, Contains, refl, sym, ◌∙◌, ap, subst, arith, get_or-set_other, get_or-set_same}
 use Rattle.std.proofs.lemmas.Bool.{cases_eq, cases_Bool, false≢true, eq-eqb, eqb-true, false_from_ne_true, or_right}
-use Rattle.std.proofs.lemmas.List.{length-set, drop_all, get_or_default}
+use Rattle.std.proofs.lemmas.List.{length-set, drop_all}
 use Rattle.std.proofs.lemmas.List.Elements.{All-append, All-cons, All-nil, All-head, All-tail, Contains-append_left, Contains-append_right}
 use Rattle.std.proofs.Math.ListN.{get_or-map}
 use Rattle.learning_trail.specs.declared.notes.Mark.{Mark}
@@ -19,19 +19,6 @@ pub touched_from : (m : Mark) → is_marked m ≡ true → is_touched m ≡ true
 touched_from Clear h = cc
 touched_from Marked h = refl
 touched_from Past h = cc
-
-pub not_off : (b : Bool) → not b ≡ true → b ≡ false
-not_off true h = absurd (false≢true h)
-not_off false h = refl
-
-pub not_on : (b : Bool) → not b ≡ false → b ≡ true
-not_on true h = refl
-not_on false h = absurd (false≢true (sym h))
-
--- a mark that was read
-pub read_here : (marks : List Mark) (v : ℕ) (m : Mark) → v < length marks → get_or marks v m ≡ m →
-    get_or marks v Clear ≡ m
-read_here marks v m lt at = get_or_default marks v Clear m lt ∙ at
 
 -- what notes show of a mark
 pub mark_shown : (marks : List Mark) (v : ℕ) → marked (map is_marked marks) v ≡ is_marked (get_or marks v Clear)
