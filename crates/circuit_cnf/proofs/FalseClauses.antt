@@ -21,7 +21,7 @@ use Rattle.log_laws.specs.Circuits.{leaf_value}
 use Rattle.log_laws.proofs.Kept.{small_id}
 use Rattle.oracle.specs.Calls.{IsModelUnder, IsLearnedEntry}
 use Rattle.circuit_cnf.specs.declared.gates.Gates.{Gates}
-use Rattle.circuit_cnf.specs.Faults.{HasFault, AreGiven}
+use Rattle.circuit_cnf.specs.Faults.{AreGiven, HasFault, IsFaulted}
 use Rattle.circuit_cnf.specs.Gates.{HasGateClauses, AreKnown}
 use Rattle.circuit_cnf.specs.Turning.{NamesAreKept, AreFailing}
 use Rattle.circuit_cnf.proofs.GivenGates.{contains_cases}
@@ -99,7 +99,7 @@ all_false values [] each = refl
 all_false values (l ∷ ls) each = ap (λ b. b || clause_true values ls) (each 0 l refl) ∙ all_false values ls
     (λ i k at. each (suc i) k at)
 
-in_range : {X : Type 0} (xs : List X) (i : ℕ) (x : X) → slice_get xs i ≡ Some x → i < length xs
+pub in_range : {X : Type 0} (xs : List X) (i : ℕ) (x : X) → slice_get xs i ≡ Some x → i < length xs
 in_range [] i x h = cc
 in_range (y ∷ ys) zero x h = omega arith
 in_range (y ∷ ys) (suc i) x h = let below = in_range ys i x h in omega (arith, below)
@@ -147,8 +147,7 @@ are_failing f gates leaf sel values old log new learned model gates_on sel_on kn
   gates = λ v a b is. gate v a b (names v (And a b) is);
   j = j;
   among = among;
-  is_false = all_false (λ v. leaf_value values (leaf v)) (get_or f.matrix j []) (λ i l at. one_false i l at
-      (given.all j among i l (in_range (get_or f.matrix j []) i l at) at));
+  is_false = by (given.all j among);
 } where
   true_there : (o : Origin) (c : List Literal) → Contains log.entries (Given o c) → clause_true values c ≡ true
   true_there o c inside =
@@ -213,3 +212,13 @@ are_failing f gates leaf sel values old log new learned model gates_on sel_on kn
       let rest = rest_true values (variable_of bad) tail.0 bad_true whole in
       under_leaf values leaf l ∙ ap not (leaf_true values (leaf_with_sign (not (is_negative l)) (leaf (variable_of l)))
       tail.0 tail.1 rest)
+
+  -- the clause's variable is true, so that it isn't said to be false
+  by : IsFaulted f sel (variable_of bad) (some.0 + 1) leaf (get_or f.matrix some.0 []) log.entries →
+      clause_true (λ v. leaf_value values (leaf v)) (get_or f.matrix some.0 []) ≡ false
+  by (inl have) = all_false (λ v. leaf_value values (leaf v)) (get_or f.matrix some.0 []) (λ i l at. one_false i l at
+      (have i l (in_range (get_or f.matrix some.0 []) i l at) at))
+  by (inr never) =
+      let whole = rest_true values sel (negative (variable_of bad) ∷ []) sel_on
+      (true_there never.0 (negative sel ∷ negative (variable_of bad) ∷ []) never.1) in
+      absurd (false≢true (rest_true values (variable_of bad) [] bad_true whole))

@@ -24,22 +24,15 @@ use Rattle.log_laws.proofs.LargerLogs.{leaves_rest, grown_then}
 use Rattle.log_laws.proofs.Kept.{NamesStay, named_stay}
 use Rattle.oracle.specs.Calls.{IsMade}
 use Rattle.oracle.specs.declared.groups.Group.{Group}
-use Rattle.circuit_cnf.specs.Faults.{HaveOneLeaf, AreFewWith, IsBadAt, HaveAllFaults, NamesBadsAlone, IsNamingBads, AreGiven, AreNamedAndSaid, AreSaid, GrewByGroup}
+use Rattle.circuit_cnf.specs.Faults.{HaveOneLeaf, AreFewWith, IsBadAt, HaveAllFaults, IsFaulted, IsNamingBads, AreGiven, AreGivenUpTo, AreNamedAndSaid, AreSaid}
 use Rattle.circuit_cnf.proofs.NamedBads.{bad_name}
-use Rattle.circuit_cnf.proofs.GivenGates.{contains_cases, contains_first}
+use Rattle.circuit_cnf.proofs.GivenGates.{contains_cases, contains_first, contains_more}
 use Rattle.circuit_cnf.proofs.ClauseFaults.{fault_stays}
-
-pub record GroupSoFar (f : Dqbf) (group : ℕ) (leaf : ℕ → Leaf) (old log : ProofLog) : Type 0 where
-  pub grew : GrewByGroup f group old log
-  pub stay : NamesStay old.entries log.entries
-  pub names : NamesBadsAlone group old.entries log.entries
-  pub few : AreFewWith group log.entries
-  pub one_leaf : HaveOneLeaf f group leaf log.entries
 
 pub after_bads : (f : Dqbf) (group : ℕ) (leaf : ℕ → Leaf) (old new : ProofLog) →
     ((h : Dqbf) (standing : ℕ) (start : List Entry) → Grew (IsAddedBy h circuits standing true start) old new) →
     fault_groups new.entries ≡ fault_groups old.entries → IsNamingBads group old.entries new.entries →
-    AreFewWith group old.entries → HaveOneLeaf f group leaf old.entries → GroupSoFar f group leaf old new
+    AreFewWith group old.entries → HaveOneLeaf f group leaf old.entries → AreNamedAndSaid f group leaf old new
 after_bads f group leaf old new grew faults alone few one = record {
   grew = λ standing start unnamed. grew f standing start;
   stay = rest.names;
@@ -54,8 +47,8 @@ after_bads f group leaf old new grew faults alone few one = record {
   rest : LeavesRest f circuits group true old.entries new.entries
   rest = leaves_rest f circuits group true old new (grew f group old.entries)
 
-pub after_all : (f : Dqbf) (group : ℕ) (leaf : ℕ → Leaf) (old log new : ProofLog) → GroupSoFar f group leaf old log →
-    AreSaid f group leaf log new → GroupSoFar f group leaf old new
+pub after_all : (f : Dqbf) (group : ℕ) (leaf : ℕ → Leaf) (old log new : ProofLog) → AreNamedAndSaid f group leaf old log →
+    AreSaid f group leaf log new → AreNamedAndSaid f group leaf old new
 after_all f group leaf old log new before after = record {
   grew = λ standing start unnamed. grown_then (IsAddedBy f circuits standing true start) old log new
       (before.grew standing start unnamed) (after.grew standing start unnamed);
@@ -75,16 +68,6 @@ some_leaf_more f group leaf bads es before j i v out rest inside own =
           ap (λ x. option_map variable_of (matrix_literal f x i)) left ∙ own in cc)
       | inr earlier ↦ before j i v out rest earlier own
     ]
-
-pub so_far_is_said : (f : Dqbf) (group : ℕ) (leaf : ℕ → Leaf) (old new : ProofLog) → GroupSoFar f group leaf old new →
-    AreNamedAndSaid f group leaf old new
-so_far_is_said f group leaf old new far = record {
-  grew = far.grew;
-  names = far.names;
-  few = far.few;
-  one_leaf =
-      far.one_leaf;
-}
 
 pub made_stays : (old new : List Entry) (g : Group) → NamesStay old new → IsMade old g → IsMade new g
 made_stays old new g stay made = record {
@@ -150,22 +133,38 @@ pub bads_stay : (old new : List Entry) (group count : ℕ) (bads : List Literal)
 bads_stay old new group count bads names are = named_stay old new (λ v n h. names v ∙ h) bads
     (map (bad_name group) (range_with_len 1 count)) are
 
-pub all_given : (f : Dqbf) (group : ℕ) (leaf : ℕ → Leaf) (bads : List Literal) (named log new : ProofLog) →
-    AreNamedAs named.entries bads (map (bad_name group) (range_with_len 1 (length f.matrix))) →
-    ((v : ℕ) → name_of log.entries v ≡ name_of named.entries v) →
-    HaveAllFaults f group bads leaf (length f.matrix) log.entries →
+-- that some clause is false is given behind the faults of the first clauses
+pub given_up_to : (f : Dqbf) (group : ℕ) (leaf : ℕ → Leaf) (bads : List Literal) (count : ℕ) (log new : ProofLog) →
+    HaveAllFaults f group bads leaf count log.entries →
     new ≡ with_entry log (Given (Fault 0 0 (Constant false)) (negative group ∷ bads)) →
-    AreGiven f group leaf new.entries
-all_given f group leaf bads named log new are names all is =
-    subst (AreGiven f group leaf) (sym (ap (λ (l : ProofLog). l.entries) is)) (record {
-      bads = bads;
-      count = bads_count named.entries group (length f.matrix) bads are;
-      bads_are = bads_are_at (e ∷ log.entries) group (length f.matrix) bads
-          (named_stay named.entries (e ∷ log.entries) (λ v n h. names v ∙ h) bads
-          (map (bad_name group) (range_with_len 1 (length f.matrix))) are);
+    AreGivenUpTo f group leaf bads count new.entries
+given_up_to f group leaf bads count log new all is =
+    subst (AreGivenUpTo f group leaf bads count) (sym (ap (λ (l : ProofLog). l.entries) is)) (record {
       some = contains_first e log.entries;
-      all = λ j below i l small at. fault_stays group (variable_of (get_or bads j (positive 0))) (j + 1) (i + 1) l
-          (leaf (variable_of l)) e log.entries (all j below i l small at);
+      all = λ j below. by j (all j below);
     }) where
       e : Entry
       e = Given (Fault 0 0 (Constant false)) (negative group ∷ bads)
+
+      by : (j : ℕ) → IsFaulted f group (variable_of (get_or bads j (positive 0))) (j + 1) leaf (get_or f.matrix j [])
+          log.entries → IsFaulted f group (variable_of (get_or bads j (positive 0))) (j + 1) leaf
+          (get_or f.matrix j []) (e ∷ log.entries)
+      by j (inl have) = inl (λ i l small at. fault_stays group (variable_of (get_or bads j (positive 0))) (j + 1)
+          (i + 1) l (leaf (variable_of l)) e log.entries (have i l small at))
+      by j (inr never) = inr (
+        never.0,
+        contains_more e (Given never.0
+            (negative group ∷ negative (variable_of (get_or bads j (positive 0))) ∷ [])) log.entries never.1,
+      )
+
+-- where all clauses have their faults, the group says what it is to say
+pub all_given : (f : Dqbf) (group : ℕ) (leaf : ℕ → Leaf) (bads : List Literal) (count : ℕ) (es : List Entry) →
+    count ≡ length f.matrix → AreNamedAs es bads (map (bad_name group) (range_with_len 1 (length f.matrix))) →
+    AreGivenUpTo f group leaf bads count es → AreGiven f group leaf es
+all_given f group leaf bads count es whole are given = record {
+  bads = bads;
+  count = bads_count es group (length f.matrix) bads are;
+  bads_are = bads_are_at es group (length f.matrix) bads are;
+  some = given.some;
+  all = subst (λ n. HaveAllFaults f group bads leaf n es) whole given.all;
+}

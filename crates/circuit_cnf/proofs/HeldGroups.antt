@@ -64,7 +64,7 @@ is_selector_here es g l named h =
     (h ∙ ap negative (sym v), ap (name_of es) v ∙ named ∙ ap (λ w. Some (Selector w)) (sym v))
 
 -- what was learned gives nothing
-learned_givens : (more old : List Entry) → EachOf IsLearnedEntry more old → (origin : Origin) (c : List Literal) →
+pub learned_givens : (more old : List Entry) → EachOf IsLearnedEntry more old → (origin : Origin) (c : List Literal) →
     Contains (more ++ old) (Given origin c) → Contains old (Given origin c)
 learned_givens [] old h origin c inside = inside
 learned_givens (Named v n ∷ more) old h origin c inside = absurd h.0

@@ -24,6 +24,7 @@ mod FalseClauses
 mod OutputLeaves
 mod LongerRows
 mod OutputValues
+mod TurnParts
 mod TurnStages
 mod LeafValues
 mod TurnAnswers

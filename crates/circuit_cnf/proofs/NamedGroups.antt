@@ -2,10 +2,11 @@
 use Rattle.hint_log.specs.Entries.{ProofLog}
 use Rattle.circuit_cnf.specs.Saying.{MaySay, leaf_in, selector_in}
 use Rattle.circuit_cnf.specs.declared.fault_clauses.Faults.{Faults}
-use Rattle.circuit_cnf.proofs.GroupFaults.{GroupSoFar, made_stays, leaf_of_stays}
+use Rattle.circuit_cnf.specs.Faults.{AreNamedAndSaid}
+use Rattle.circuit_cnf.proofs.GroupFaults.{made_stays, leaf_of_stays}
 
 pub may_say_named : (s : Faults) (old new : ProofLog) → MaySay s old.entries →
-    GroupSoFar s.f.now (selector_in s) (leaf_in s) old new → MaySay s new.entries
+    AreNamedAndSaid s.f.now (selector_in s) (leaf_in s) old new → MaySay s new.entries
 may_say_named s old new may named = record {
   made = made_stays old.entries new.entries s.group.now named.stay may.made;
   inputs = may.inputs;

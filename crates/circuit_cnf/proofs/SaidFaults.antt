@@ -1,5 +1,5 @@
 -- What a group says, fault after fault.
-use Rattle.std.proofs.Common.{◌≡◌, ℕ, ◌+◌, ◌≤◌, ◌<◌, true, false, inl, inr, ◌⊎◌, not, List, [], ◌∷◌, ◌++◌, length, get_or, slice_get, Some, refl, sym, ◌∙◌, ap, subst}
+use Rattle.std.proofs.Common.{◌≡◌, ℕ, ◌+◌, ◌≤◌, ◌<◌, true, false, inl, inr, ◌⊎◌, not, List, [], ◌∷◌, ◌++◌, length, get_or, slice_get, Some, None, refl, sym, ◌∙◌, ap, subst}
 use Rattle.std.specs.List.{Contains}
 use Rattle.std.proofs.lemmas.List.Elements.{Contains-append_right}
 use Rattle.dq_lits.specs.Literal.{Literal, positive, negative, variable_of, is_negative, opposite}
@@ -13,7 +13,7 @@ use Rattle.hint_log.specs.Origins.{matrix_literal, leaf_clause, leaf_with_sign, 
 use Rattle.log_laws.specs.Engines.{circuits, IsAddedBy}
 use Rattle.log_laws.proofs.LargerLogs.{grown_then}
 use Rattle.aig_graph.proofs.LargerGraphs.{below_or_here}
-use Rattle.circuit_cnf.specs.Faults.{AreSaid, HasFault, HaveFaults, HaveAllFaults, AreFewWith, HaveOneLeaf, AreBads}
+use Rattle.circuit_cnf.specs.Faults.{AreSaid, HasFault, HaveFaults, HaveAllFaults, IsFaulted, IsNeverBad, AreFewWith, HaveOneLeaf, AreBads}
 use Rattle.circuit_cnf.specs.Saying.{MaySay, leaf_in, selector_in}
 use Rattle.circuit_cnf.specs.declared.fault_clauses.Faults.{Faults}
 use Rattle.circuit_cnf.proofs.ClauseFaults.{few_more, one_leaf_more, leaf_stays_leaf}
@@ -49,6 +49,33 @@ faults_then f group bad j leaf clause i log new said before k l below at =
     subst (HasFault group bad j (k + 1) l (leaf (variable_of l))) (sym grown.grown)
     (fault_in_more group bad j (k + 1) l (leaf (variable_of l)) grown.more log.entries (before k l below at))
 
+pub faulted_then : (f : Dqbf) (group bad j : ℕ) (leaf : ℕ → Leaf) (clause : List Literal) (log new : ProofLog) →
+    AreSaid f group leaf log new → IsFaulted f group bad j leaf clause log.entries →
+    IsFaulted f group bad j leaf clause new.entries
+faulted_then f group bad j leaf clause log new said (inl have) =
+    inl (faults_then f group bad j leaf clause (length clause) log new said have)
+faulted_then f group bad j leaf clause log new said (inr never) =
+    let grown = said.grew 0 [] refl in
+    inr (
+      never.0,
+      subst (λ es. Contains es (Given never.0 (negative group ∷ negative bad ∷ []))) (sym grown.grown)
+          (Contains-append_right grown.more log.entries (Given never.0 (negative group ∷ negative bad ∷ [])) never.1),
+    )
+
+-- the fault of a literal that is true anyway says that the clause is never false
+pub never_bad : (group bad j i : ℕ) (l : Literal) (leaf : Leaf) (es : List Entry) →
+    leaf_with_sign (not (is_negative l)) leaf ≡ Constant false → HasFault group bad j i l leaf es →
+    IsNeverBad group bad es
+never_bad group bad j i l leaf es true_anyway (inl none) =
+    let clash : Some [] ≡ None = sym (ap leaf_clause true_anyway) ∙ none in cc
+never_bad group bad j i l leaf es true_anyway (inr some) =
+    let both : Some [] ≡ Some some.0 = sym (ap leaf_clause true_anyway) ∙ some.1 in
+    let nothing : [] ≡ some.0 = cc in (
+      Fault j i leaf,
+      subst (λ tail. Contains es (Given (Fault j i leaf) (negative group ∷ negative bad ∷ tail)))
+          (sym nothing) some.2,
+    )
+
 -- the first literals of a clause have their faults
 pub record FaultsSoFar (f : Dqbf) (group bad j : ℕ) (leaf : ℕ → Leaf) (clause : List Literal) (old log : ProofLog)
     (i : ℕ) : Type 0 where
@@ -81,19 +108,19 @@ pub record AllSoFar (f : Dqbf) (group : ℕ) (bads : List Literal) (leaf : ℕ �
 
 pub next_clause : (f : Dqbf) (group : ℕ) (bads : List Literal) (leaf : ℕ → Leaf) (old log new : ProofLog) (j : ℕ) →
     AllSoFar f group bads leaf old log j → AreSaid f group leaf log new →
-    HaveFaults f group (variable_of (get_or bads j (positive 0))) (j + 1) leaf (get_or f.matrix j [])
-    (length (get_or f.matrix j [])) new.entries → AllSoFar f group bads leaf old new (j + 1)
+    IsFaulted f group (variable_of (get_or bads j (positive 0))) (j + 1) leaf (get_or f.matrix j [])
+    new.entries → AllSoFar f group bads leaf old new (j + 1)
 next_clause f group bads leaf old log new j before said here = record {
   said = said_then f group leaf old log new before.said said;
   given = λ k below. by k (below_or_here k j below);
 } where
-  by : (k : ℕ) → (k < j) ⊎ (k ≡ j) → HaveFaults f group (variable_of (get_or bads k (positive 0))) (k + 1) leaf
-      (get_or f.matrix k []) (length (get_or f.matrix k [])) new.entries
+  by : (k : ℕ) → (k < j) ⊎ (k ≡ j) → IsFaulted f group (variable_of (get_or bads k (positive 0))) (k + 1) leaf
+      (get_or f.matrix k []) new.entries
   by k (inl below) =
-      faults_then f group (variable_of (get_or bads k (positive 0))) (k + 1) leaf (get_or f.matrix k [])
-      (length (get_or f.matrix k [])) log new said (before.given k below)
-  by k (inr is) = subst (λ n. HaveFaults f group (variable_of (get_or bads n (positive 0))) (n + 1) leaf
-      (get_or f.matrix n []) (length (get_or f.matrix n [])) new.entries) (sym is) here
+      faulted_then f group (variable_of (get_or bads k (positive 0))) (k + 1) leaf (get_or f.matrix k [])
+      log new said (before.given k below)
+  by k (inr is) = subst (λ n. IsFaulted f group (variable_of (get_or bads n (positive 0))) (n + 1) leaf
+      (get_or f.matrix n []) new.entries) (sym is) here
 
 module _ (s : Faults) (log : ProofLog) (may : MaySay s log.entries) where
   pub nothing_said : AreSaid s.f.now (selector_in s) (leaf_in s) log log

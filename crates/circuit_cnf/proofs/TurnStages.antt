@@ -7,36 +7,25 @@ use Rattle.hint_log.specs.Entries.{Named, Given, Learned, Answer, Round, Begun}
 use Rattle.hint_log.specs.declared.names.Name.TheVariants.{Selector}
 use Rattle.hint_log.specs.declared.origins.Leaf.{Leaf}
 use Rattle.hint_log.specs.declared.origins.Origin.TheVariants.{Fault}
-use Rattle.hint_log.specs.Entries.{ProofLog, with_entry, name_of}
+use Rattle.hint_log.specs.Entries.{ProofLog, name_of}
 use Rattle.hint_log.specs.Growth.{Each, Grew}
 use Rattle.hint_log.specs.ProductiveLog.{fault_groups, fault_room}
 use Rattle.log_laws.specs.Engines.{circuits, IsOwnGiven, IsAddedBy}
 use Rattle.log_laws.proofs.LargerLogs.{each_grown, grown_then}
 use Rattle.log_laws.proofs.Kept.{NamesStay, name_stays_by}
 use Rattle.oracle.specs.Calls.{IsMade, IsLearnedEntry, IsRefutedUnder}
-use Rattle.oracle.specs.Searched.{IsGivenToGroup}
 use Rattle.oracle.specs.declared.groups.Group.{Group}
 use Rattle.circuit_cnf.specs.declared.checkers.Checker.{Checker}
-use Rattle.circuit_cnf.specs.Checking.{group_of, IsChecker}
-use Rattle.circuit_cnf.specs.Faults.{HaveOneLeaf, AreGiven, AreNamedAndSaid}
+use Rattle.circuit_cnf.specs.Checking.{AreInputs, group_of, IsChecker}
+use Rattle.circuit_cnf.specs.Faults.{HaveOneLeaf, AreNamedAndSaid}
 use Rattle.circuit_cnf.proofs.EmptyGroups.{IsUnused, group_is_unused, not_given_there, each_weaker}
-use Rattle.circuit_cnf.specs.Turning.{AreTwoGroups, HasTurned, HaveFaultGroup}
-use Rattle.circuit_cnf.proofs.UnchangedCheckers.{checker_stays, leaves_elsewhere, group_leaves, added_stay, learned_leaves, leaves_then}
+use Rattle.circuit_cnf.specs.Turning.{AreTwoGroups, HasTurned, IsGroupMade}
+use Rattle.circuit_cnf.proofs.UnchangedCheckers.{checker_stays, leaves_elsewhere, group_leaves, learned_leaves, leaves_then}
 use Rattle.std.specs.List.{Contains}
-use Rattle.circuit_cnf.specs.Gates.{GrewByGates}
+use Rattle.circuit_cnf.specs.Gates.{AreKnown, GrewByGates}
 use Rattle.circuit_cnf.proofs.KnownGates.{LeavesGates}
 use Rattle.circuit_cnf.proofs.OutputLeaves.{few_by_gates}
 use Rattle.circuit_cnf.proofs.TurnGrowth.{any_silence, turn_grew, group_grew, learned_grew, answered_grew, few_without, few_learned, few_answered}
-
--- a group was made for the turn
-pub record IsGroupMade (f : Dqbf) (checker : Checker) (old log : ProofLog) (group : Group) : Type 0 where
-  pub before : IsChecker f checker old.entries
-  pub ready : checker.gates.unfinished ≡ None
-  pub unnamed : name_of old.entries (variable_of group.selector) ≡ None
-  pub made : IsMade log.entries group
-  pub is : log ≡ with_entry old (Named (variable_of group.selector) (Selector (variable_of group.selector)))
-  pub grouped : Each IsGivenToGroup old.entries
-  pub few : length (fault_groups old.entries) < fault_room old.entries
 
 unused_own : (f : Dqbf) (group : ℕ) (earlier : List Entry) (e : Entry) → IsUnused group earlier e →
     IsOwnGiven f circuits group earlier e
@@ -89,14 +78,10 @@ module _ (f : Dqbf) (checker : Checker) (leaf : ℕ → Leaf) (old first : Proof
     since : Grew (IsAddedBy f circuits sel true old.entries) first log
     since = s.grew sel old.entries m.unnamed
 
-    stay_then : NamesStay first.entries log.entries
-    stay_then = subst (NamesStay first.entries) (sym since.grown)
-        (added_stay f circuits sel true old.entries since.more first.entries since.each)
-
     pub faults_checker : IsChecker f checker log.entries
     faults_checker = checker_stays f checker first.entries log.entries
         (group_leaves f circuits sel true old.entries checker.gates
-        (Selector (group_of checker)) first log since m.before.gates.made.named apart stay_then s.names
+        (Selector (group_of checker)) first log since m.before.gates.made.named apart s.stay s.names
         (subst IsSome (sym m.made.named) refl) m.ready) group_checker
 
     pub faults_grew : (silent : Bool) → Grew (IsAddedBy f circuits (group_of checker) silent old.entries) old log
@@ -106,14 +91,14 @@ module _ (f : Dqbf) (checker : Checker) (leaf : ℕ → Leaf) (old first : Proof
         (s.grew (group_of checker) old.entries m.unnamed))
 
     pub faults_made : IsMade log.entries group
-    faults_made = record { positive = m.made.positive; named = stay_then sel (Selector sel) m.made.named }
+    faults_made = record { positive = m.made.positive; named = s.stay sel (Selector sel) m.made.named }
 
     pub faults_two_groups : AreTwoGroups f leaf (group_of checker) sel old.entries log.entries
     faults_two_groups = record {
       gates_named = faults_checker.gates.made.named;
       faults_named = faults_made.named;
       faults_new = m.unnamed;
-      names = λ v n is. stay_then v n (stay_first v n is);
+      names = λ v n is. s.stay v n (stay_first v n is);
       gates_own = faults_checker.gates.own;
       faults_own = subst (Each (IsOwnGiven f circuits sel)) (sym since.grown)
           (each_grown (IsAddedBy f circuits sel true old.entries) (IsOwnGiven f circuits sel)
@@ -132,9 +117,6 @@ module _ (f : Dqbf) (checker : Checker) (leaf : ℕ → Leaf) (old first : Proof
       few =
           few_without sel log.entries s.few;
     }
-
-    pub faults_grouped : AreGiven f sel leaf log.entries → HaveFaultGroup f checker leaf old.entries log.entries group
-    faults_grouped given = record { made = faults_made; two = faults_two_groups; given = given }
 
 -- a search that learns, and perhaps answers
 module _ (f : Dqbf) (checker : Checker) (old log new : ProofLog)
@@ -191,6 +173,21 @@ quiet_turned f before after silent old new turned = record {
   checker = turned.checker;
   group = turned.group;
   grew = any_silence f circuits (group_of before) silent old.entries old new turned.grew;
+  few = turned.few;
+}
+
+-- a checker with the same gates and inputs
+pub noted_turned : (f : Dqbf) (before after noted : Checker) (silent : Bool) (old new : ProofLog) →
+    noted.gates ≡ after.gates → noted.inputs ≡ after.inputs → HasTurned f before after silent old new →
+    HasTurned f before noted silent old new
+noted_turned f before after noted silent old new gates inputs turned = record {
+  checker = record {
+    gates = subst (λ x. AreKnown x new.entries) (sym gates) turned.checker.gates;
+    inputs = subst (λ xs. AreInputs f.universals xs.items new.entries) (sym inputs) turned.checker.inputs;
+    bads = turned.checker.bads;
+  };
+  group = ap (λ x. variable_of x.group.selector) gates ∙ turned.group;
+  grew = turned.grew;
   few = turned.few;
 }
 

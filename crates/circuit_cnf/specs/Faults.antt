@@ -64,11 +64,21 @@ pub record IsBadAt (group j : ℕ) (bads : List Literal) (entries : List Entry) 
       ≡ Some (Bad group (j + 1))
   pub positive_literal : is_negative (slice_index_or bads j (positive 0)) ≡ false
 
--- each literal of each of the first clauses has its fault
+-- the variable is said to be false, so that the clause that it stands for is never false
+abbrev pub IsNeverBad : ℕ → ℕ → List Entry → Type 0
+IsNeverBad group bad entries =
+    (origin : Origin) × Contains entries (Given origin (negative group ∷ negative bad ∷ []))
+
+-- each literal of the clause has its fault, or one that is true anyway says that it is never false
+abbrev pub IsFaulted : Dqbf → ℕ → ℕ → ℕ → (ℕ → Leaf) → List Literal → List Entry → Type 0
+IsFaulted f group bad j leaf clause entries =
+    HaveFaults f group bad j leaf clause (length clause) entries ⊎ IsNeverBad group bad entries
+
+-- each of the first clauses has its faults
 abbrev pub HaveAllFaults : Dqbf → ℕ → List Literal → (ℕ → Leaf) → ℕ → List Entry → Type 0
 HaveAllFaults f group bads leaf count entries = (j : ℕ) → j < count
-    → HaveFaults f group (variable_of (slice_index_or bads j (positive 0))) (j + 1) leaf
-    (slice_index_or f.matrix j []) (length (slice_index_or f.matrix j [])) entries
+    → IsFaulted f group (variable_of (slice_index_or bads j (positive 0))) (j + 1) leaf
+    (slice_index_or f.matrix j []) entries
 
 -- how a log grows by a group's clauses: whatever stood before the group, they go into a group that
 -- was made since
@@ -115,6 +125,14 @@ pub record AreSaid (f : Dqbf) (group : ℕ) (leaf : ℕ → Leaf) (old new : Pro
 pub record AreNamedAndSaid (f : Dqbf) (group : ℕ) (leaf : ℕ → Leaf)
     (old new : ProofLog) : Type 0 where
   pub grew : GrewByGroup f group old new
+  pub stay : (v : ℕ) (name : Name) → name_of old.entries v ≡ Some name
+      → name_of new.entries v ≡ Some name
   pub names : NamesBadsAlone group old.entries new.entries
   pub few : AreFewWith group new.entries
   pub one_leaf : HaveOneLeaf f group leaf new.entries
+
+-- the first clauses have their faults, and some clause is said to be false
+pub record AreGivenUpTo (f : Dqbf) (group : ℕ) (leaf : ℕ → Leaf) (bads : List Literal) (count : ℕ)
+    (entries : List Entry) : Type 0 where
+  pub some : Contains entries (Given (Fault 0 0 (Constant false)) (negative group ∷ bads))
+  pub all : HaveAllFaults f group bads leaf count entries

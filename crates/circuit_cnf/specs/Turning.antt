@@ -4,7 +4,8 @@ use Rattle.dq_lits.specs.Literal.{Assignment, Literal, variable_of, literal_true
 use Rattle.dq_lits.specs.Formula.{Dqbf, Existential}
 use Rattle.aig_graph.specs.declared.nodes.Node.{Node}
 use Rattle.aig_graph.specs.Graph.{AigGraph}
-use Rattle.hint_log.specs.Entries.{Entry, Answer, ProofLog, name_of, last_id}
+use Rattle.hint_log.specs.Conditions.{AreLogged}
+use Rattle.hint_log.specs.Entries.{Entry, Named, Answer, ProofLog, name_of, last_id, with_entry}
 use Rattle.hint_log.specs.Growth.{Each, Grew}
 use Rattle.hint_log.specs.ProductiveLog.{fault_groups, fault_room}
 use Rattle.hint_log.specs.declared.names.Name.{Name}
@@ -16,12 +17,15 @@ use Rattle.log_laws.specs.Circuits.{leaf_value}
 use Rattle.log_laws.specs.Engines.{circuits, IsAddedBy, IsOwnGiven}
 use Rattle.log_laws.specs.Meaning.{IsSoundAnswer}
 use Rattle.oracle.specs.Calls.{IsMade}
+use Rattle.oracle.specs.Searched.{IsGivenToGroup}
 use Rattle.oracle.specs.declared.groups.Group.{Group}
 use Rattle.circuit_cnf.specs.Checking.{group_of, IsChecker}
-use Rattle.circuit_cnf.specs.Faults.{AreGiven, HaveOneLeaf}
+use Rattle.circuit_cnf.specs.Faults.{AreBads, AreNamedAndSaid, HaveAllFaults, HaveOneLeaf}
+use Rattle.circuit_cnf.specs.Saying.{MaySay, leaf_in, selector_in}
 use Rattle.circuit_cnf.specs.Gates.{IsGateGiven}
 use Rattle.circuit_cnf.specs.Leaves.{HasLeaf}
 use Rattle.circuit_cnf.specs.declared.checkers.Checker.{Checker}
+use Rattle.circuit_cnf.specs.declared.fault_clauses.Faults.{Faults}
 
 -- each node has its leaf
 pub record AreLeavesOf (f : Dqbf) (graph : AigGraph) (entries : List Entry) (nodes : List Node)
@@ -79,12 +83,28 @@ pub record AreTwoGroups (f : Dqbf) (leaf : ℕ → Leaf) (gates faults : ℕ)
   pub faults_own : Each (IsOwnGiven f circuits faults) entries
   pub one_leaf : HaveOneLeaf f faults leaf entries
 
--- the faults under these leaves are given to a new group
-pub record HaveFaultGroup (f : Dqbf) (checker : Checker) (leaf : ℕ → Leaf) (old entries : List Entry)
-    (group : Group) : Type 0 where
-  pub made : IsMade entries group
-  pub two : AreTwoGroups f leaf (group_of checker) (variable_of group.selector) old entries
-  pub given : AreGiven f (variable_of group.selector) leaf entries
+-- a group was made for the turn of a checker whose gates are all given
+pub record IsGroupMade (f : Dqbf) (checker : Checker) (old log : ProofLog) (group : Group) : Type 0 where
+  pub before : IsChecker f checker old.entries
+  pub ready : checker.gates.unfinished ≡ None
+  pub unnamed : name_of old.entries (variable_of group.selector) ≡ None
+  pub made : IsMade log.entries group
+  pub is : log
+      ≡ with_entry old (Named (variable_of group.selector) (Selector (variable_of group.selector)))
+  pub logged : AreLogged old.entries
+  pub grouped : Each IsGivenToGroup old.entries
+  pub few : length (fault_groups old.entries) < fault_room old.entries
+
+-- since then the group said of the first clauses which are false, searches learned, and it may say
+-- more
+pub record IsSaying (checker : Checker) (faults : Faults) (bads : List Literal) (count : ℕ)
+    (old log : ProofLog) : Type 0 where
+  pub first : ProofLog
+  pub group_made : IsGroupMade faults.f.now checker old first faults.group.now
+  pub said : AreNamedAndSaid faults.f.now (selector_in faults) (leaf_in faults) first log
+  pub may : MaySay faults log.entries
+  pub named : AreBads faults.f.now (selector_in faults) bads log.entries
+  pub given : HaveAllFaults faults.f.now (selector_in faults) bads (leaf_in faults) count log.entries
 
 -- a search that answers an id may decide
 abbrev pub is_silent_search : Result (Option ℕ) Stop → Bool

@@ -23,6 +23,9 @@ pub struct Checker {
     pub(crate) tenant: Tenant,
     pub(crate) gates: Gates,
     pub(crate) inputs: Vec<Lit>,
+    // The number of the clause that was false at the last failure, from 1 on. No contract speaks of
+    // it: it says how many faults are given first.
+    pub(crate) last_false: u64,
 }
 
 impl Checker {
@@ -55,6 +58,7 @@ impl Checker {
             tenant,
             gates,
             inputs,
+            last_false: 0,
         })
     }
 }

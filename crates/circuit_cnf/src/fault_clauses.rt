@@ -1,6 +1,6 @@
 //! The clauses of a group of faults: some clause of the matrix is false under the circuit's leaves.
 
-ghost use Rattle.std.specs.Prelude.{◌≡◌, ◌≤◌, ◌<◌, ◌+◌, ◌∷◌, ◌⊎◌, ℕ, true, false, List, length, slice_index_or, [], IfOk, OnOk, OnErr, Some, Contains};
+ghost use Rattle.std.specs.Prelude.{◌≡◌, ◌≤◌, ◌<◌, ◌+◌, ◌∷◌, ◌⊎◌, ℕ, true, false, not, List, length, slice_get, slice_index_or, [], IfOk, IfSome, OnOk, OnErr, Some, Contains};
 ghost use Rattle.dq_lits.specs.Formula.{Dqbf, declared};
 ghost use Rattle.std.specs.Option.{option_map};
 ghost use Rattle.dq_lits.specs.Literal.{Literal, negative, is_negative, variable_of};
@@ -14,9 +14,8 @@ ghost use Rattle.hint_log.specs.Growth.{Grew};
 ghost use Rattle.hint_log.specs.Origins.{leaf_with_sign, matrix_literal, IsLeafOf};
 ghost use Rattle.hint_log.specs.ProductiveLog.{fault_groups, fault_room};
 ghost use Rattle.log_laws.specs.Engines.{circuits, IsAddedBy};
-ghost use Rattle.oracle.specs.Calls.{IsMade};
-ghost use Rattle.circuit_cnf.specs.Faults.{AreBads, AreFewWith, AreGiven, AreNamedAndSaid, AreSaid, HasFault, HaveAllFaults, HaveFaults, HaveOneLeaf, IsBadAt, IsNamingBads};
-ghost use Rattle.circuit_cnf.specs.Saying.{AreBound, AreLeaves, HasNoBads, MaySay, leaf_in, selector_in};
+ghost use Rattle.circuit_cnf.specs.Faults.{AreBads, AreGivenUpTo, AreSaid, HasFault, HaveAllFaults, HaveFaults, IsBadAt, IsFaulted, IsNamingBads};
+ghost use Rattle.circuit_cnf.specs.Saying.{HasNoBads, MaySay, leaf_in, selector_in};
 
 use dq_formula::Formula;
 use dq_lits::{Lit, Memory};
@@ -34,6 +33,13 @@ pub(crate) struct Faults<'g, 'f, 'l> {
     pub outputs: &'l [Leaf],
 }
 
+/// The clauses from one place on up to another.
+#[derive(Clone, Copy)]
+pub(crate) struct Part {
+    pub from: usize,
+    pub upto: usize,
+}
+
 /// A literal of the matrix, by the numbers of its clause and of its place there, both from 1 on,
 /// and the leaf of its variable.
 #[derive(Clone, Copy)]
@@ -45,51 +51,35 @@ pub(crate) struct Occurrence {
 }
 
 impl<'g, 'f, 'l> Faults<'g, 'f, 'l> {
-    // Gives the group, which has nothing yet, all that it is to say.
-    pub(crate) fn give<O: Oracle>(
+    /// Gives the faults of a part of the clauses, and that some clause is false: again, where an
+    /// earlier part was given, so that a search begins with the clauses one by one.
+    pub(crate) fn say<O: Oracle>(
         &self,
-        alloc: Global,
         oracle: &mut O,
+        bads: &[Lit],
+        part: Part,
         log: &mut Log,
     ) -> Result<(), Memory>
         requires fit { O.Fits oracle.old log.old }
-        requires made { IsMade log.old.entries self.now.group.now }
-        requires fresh { HasNoBads (selector_in self.now) log.old.entries }
-        requires input_count { length self.now.inputs.now ≡ length self.now.f.now.universals }
-        requires output_count { length self.now.outputs.now ≡ length self.now.f.now.existentials }
-        requires leaves { AreLeaves self.now.f.now (leaf_in self.now) log.old.entries }
-        requires bound { AreBound self.now.f.now }
-        requires few { AreFewWith (selector_in self.now) log.old.entries }
-        requires one_leaf { HaveOneLeaf self.now.f.now (selector_in self.now) (leaf_in self.now)
-            log.old.entries }
-        ensures fit { O.Fits oracle.new log.new }
-        ensures said { AreNamedAndSaid self.now.f.now (selector_in self.now) (leaf_in self.now)
-            log.old log.new }
-        ensures given { OnOk result (AreGiven self.now.f.now (selector_in self.now)
-            (leaf_in self.now) log.new.entries) }
-    {
-        let bads = self.name_bads(alloc, oracle, log)?;
-        self.say(oracle, &bads, log)
-    }
-
-    // The same by the variables that say it.
-    fn say<O: Oracle>(&self, oracle: &mut O, bads: &[Lit], log: &mut Log) -> Result<(), Memory>
-        requires fit { O.Fits oracle.old log.old }
         requires may { MaySay self.now log.old.entries }
         requires bads { AreBads self.now.f.now (selector_in self.now) bads.now log.old.entries }
+        requires order { part.from ≤ part.upto }
+        requires within { part.upto ≤ length self.now.f.now.matrix }
+        requires before { HaveAllFaults self.now.f.now (selector_in self.now) bads.now
+            (leaf_in self.now) part.from log.old.entries }
         ensures fit { O.Fits oracle.new log.new }
         ensures said { AreSaid self.now.f.now (selector_in self.now) (leaf_in self.now) log.old
             log.new }
-        ensures given { OnOk result (AreGiven self.now.f.now (selector_in self.now)
-            (leaf_in self.now) log.new.entries) }
+        ensures given { OnOk result (AreGivenUpTo self.now.f.now (selector_in self.now)
+            (leaf_in self.now) bads.now part.upto log.new.entries) }
     {
-        self.all_faults(oracle, bads, log)?;
+        self.part_faults(oracle, bads, part, log)?;
         self.some_fault(oracle, bads, log)?;
         Ok(())
     }
 
-    // Names a variable for each clause, which says that the clause is false in the group.
-    fn name_bads<O: Oracle>(
+    /// Names a variable for each clause, which says that the clause is false in the group.
+    pub(crate) fn name_bads<O: Oracle>(
         &self,
         alloc: Global,
         oracle: &mut O,
@@ -117,11 +107,12 @@ impl<'g, 'f, 'l> Faults<'g, 'f, 'l> {
         Ok(bads)
     }
 
-    // Gives the faults of all clauses.
-    fn all_faults<O: Oracle>(
+    // Gives the faults of a part of the clauses.
+    fn part_faults<O: Oracle>(
         &self,
         oracle: &mut O,
         bads: &[Lit],
+        part: Part,
         log: &mut Log,
     ) -> Result<(), Memory>
         requires fit { O.Fits oracle.old log.old }
@@ -129,20 +120,88 @@ impl<'g, 'f, 'l> Faults<'g, 'f, 'l> {
         requires bad_count { length bads.now ≡ length self.now.f.now.matrix }
         requires bads { (j : ℕ) → j < length self.now.f.now.matrix
             → IsBadAt (selector_in self.now) j bads.now log.old.entries }
+        requires order { part.from ≤ part.upto }
+        requires within { part.upto ≤ length self.now.f.now.matrix }
+        requires before { HaveAllFaults self.now.f.now (selector_in self.now) bads.now
+            (leaf_in self.now) part.from log.old.entries }
         ensures fit { O.Fits oracle.new log.new }
         ensures said { AreSaid self.now.f.now (selector_in self.now) (leaf_in self.now) log.old
             log.new }
         ensures given { OnOk result (HaveAllFaults self.now.f.now (selector_in self.now)
-            bads.now (leaf_in self.now) (length self.now.f.now.matrix) log.new.entries) }
+            bads.now (leaf_in self.now) part.upto log.new.entries) }
     {
-        for j in 0..self.f.clauses() {
+        for j in part.from..part.upto {
             self.clause_faults(oracle, bads[j], j, log)?;
         }
         Ok(())
     }
 
-    // Gives the faults of a clause, by its number from 0 on.
+    // Gives the faults of a clause, by its number from 0 on: that of a literal alone that is true
+    // whatever the values are, if there is one.
     fn clause_faults<O: Oracle>(
+        &self,
+        oracle: &mut O,
+        bad: Lit,
+        j: usize,
+        log: &mut Log,
+    ) -> Result<(), Memory>
+        requires fit { O.Fits oracle.old log.old }
+        requires may { MaySay self.now log.old.entries }
+        requires clause { j < length self.now.f.now.matrix }
+        requires bad { name_of log.old.entries (variable_of bad)
+            ≡ Some (Bad (selector_in self.now) (j + 1)) }
+        requires positive { is_negative bad ≡ false }
+        ensures fit { O.Fits oracle.new log.new }
+        ensures said { AreSaid self.now.f.now (selector_in self.now) (leaf_in self.now) log.old
+            log.new }
+        ensures given { OnOk result (IsFaulted self.now.f.now (selector_in self.now)
+            (variable_of bad) (j + 1) (leaf_in self.now) (slice_index_or self.now.f.now.matrix j [])
+            log.new.entries) }
+    {
+        self.f.every_formula_is_lawful();
+        let clause = self.f.clause(j);
+        let Some(i) = self.true_place(clause) else {
+            return self.literal_faults(oracle, bad, j, log);
+        };
+        let occurrence = Occurrence {
+            clause: j as u64 + 1,
+            place: i as u64 + 1,
+            literal: clause[i],
+            leaf: self.leaf(clause[i].var()),
+        };
+        self.give_fault(oracle, bad, occurrence, log)
+    }
+
+    // The place of a literal that is true under its leaf whatever the values are.
+    fn true_place(&self, clause: &[Lit]) -> Option<usize>
+        requires input_count { length self.now.inputs.now ≡ length self.now.f.now.universals }
+        requires output_count { length self.now.outputs.now ≡ length self.now.f.now.existentials }
+        ensures { IfSome result (λ i. (l : Literal) × (slice_get clause.now i ≡ Some l)
+            × (leaf_with_sign (not (is_negative l)) (leaf_in self.now (variable_of l))
+            ≡ OriginLeaf.Constant false)) }
+    {
+        for i in 0..clause.len() {
+            if self.is_true(clause[i]) {
+                return Some(i);
+            }
+        }
+        None
+    }
+
+    fn is_true(&self, l: Lit) -> bool
+        requires input_count { length self.now.inputs.now ≡ length self.now.f.now.universals }
+        requires output_count { length self.now.outputs.now ≡ length self.now.f.now.existentials }
+        ensures { result ≡ true → leaf_with_sign (not (is_negative l))
+            (leaf_in self.now (variable_of l)) ≡ OriginLeaf.Constant false }
+    {
+        match signed_leaf(&self.leaf(l.var()), !l.is_neg()) {
+            Leaf::Constant(b) => !b,
+            Leaf::Literal(_) => false,
+        }
+    }
+
+    // Gives the faults of all literals of a clause.
+    fn literal_faults<O: Oracle>(
         &self,
         oracle: &mut O,
         bad: Lit,

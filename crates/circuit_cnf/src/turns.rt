@@ -1,10 +1,10 @@
 //! One check of a circuit: its gates and faults, and a search for a row that makes a clause false.
 
-ghost use Rattle.std.specs.Prelude.{◌≡◌, ◌≤◌, ◌<◌, ◌+◌, ℕ, Bool, true, false, List, length, map, Contains, All, OnOk, IfOk, IsErrOf, Ok, Some, None, [], ◌∷◌};
+ghost use Rattle.std.specs.Prelude.{◌≡◌, ◌≤◌, ◌<◌, ◌+◌, ℕ, Bool, true, false, List, length, map, Contains, All, OnOk, IfOk, IfSome, IsErrOf, Ok, Some, None, [], ◌∷◌};
 ghost use Rattle.dq_lits.specs.Formula.{IsWellFormed, declared};
 ghost use Rattle.dq_lits.specs.Literal.{positive, variable_of};
 ghost use Rattle.dq_lits.specs.Row.{bit_of};
-ghost use Rattle.hint_log.specs.Entries.{rounds_of};
+ghost use Rattle.hint_log.specs.Entries.{ProofLog, rounds_of};
 ghost use Rattle.hint_log.specs.Growth.{Grew};
 ghost use Rattle.hint_log.specs.Origins.{IsLeafOf};
 ghost use Rattle.hint_log.specs.ProductiveLog.{fault_groups, fault_room};
@@ -17,21 +17,24 @@ ghost use Rattle.circuit_cnf.specs.Failing.{IsFailure, HasFalseClause, IsFailing
 ghost use Rattle.circuit_cnf.specs.Faults.{leaf_of};
 ghost use Rattle.circuit_cnf.specs.Gates.{GrewByGates};
 ghost use Rattle.circuit_cnf.specs.Shown.{HoldEverywhere, IsShownSince};
-ghost use Rattle.circuit_cnf.specs.Saying.{AreLeaves};
-ghost use Rattle.circuit_cnf.specs.Turning.{AreFailing, AreLeavesOf, HasTurned, HaveFaultGroup, IsHeldBy, is_silent_search};
+ghost use Rattle.circuit_cnf.specs.Saying.{leaf_in};
+ghost use Rattle.circuit_cnf.specs.Turning.{AreFailing, AreLeavesOf, HasTurned, IsHeldBy, IsSaying, is_silent_search};
 
 use crate::checkers::Checker;
 use crate::circuits::Circuit;
 use crate::failures::false_clause;
-use crate::fault_clauses::Faults;
+use crate::fault_clauses::{Faults, Part};
 use crate::laws::shown_outputs_hold;
 use crate::leaves::{Cone, cone_literals, node_leaves};
 use aig_graph::{Graph, Node};
 use dq_formula::Formula;
 use dq_lits::{Lit, Memory, Row};
 use hint_log::{Leaf, Log, Stop};
-use oracle::{Answer, Group, Oracle};
+use oracle::{Answer, Oracle};
 use std::alloc::Global;
+
+// So many clauses have their faults given first, beside those that the last failure needed.
+const FEW: usize = 64;
 
 /// Whether outputs make every clause true.
 #[derive(Drop)]
@@ -77,10 +80,9 @@ impl Checker {
         shown_outputs_hold();
         let circuit = Circuit { graph, f, outputs };
         let leaves = self.output_leaves(oracle, &circuit, log)?;
-        match self.search(oracle, f, &leaves, log)? {
-            Some(id) => Ok(Turn::Holds(id)),
-            None => Ok(self.failure(oracle, &circuit)?),
-        }
+        let found = self.search(oracle, &circuit, &leaves, log)?;
+        self.note(&found);
+        Ok(found)
     }
 
     // The leaves of the outputs, whose gates are named, and given where they weren't.
@@ -122,63 +124,38 @@ impl Checker {
         Ok(leaves)
     }
 
-    // Gives the faults under these leaves to a new group, and searches for values under which a
-    // clause is false.
+    // Searches for a row at which a clause is false under these leaves. Their faults go to a new
+    // group: those of the first clauses, and the others only where no clause is false at the row
+    // that was found by these. So a row that falsifies an early clause costs no more than it needs.
     fn search<O: Oracle>(
         &self,
         oracle: &mut O,
-        f: &Formula,
+        circuit: &Circuit,
         leaves: &[Leaf],
         log: &mut Log,
-    ) -> Result<Option<u64>, Stop>
+    ) -> Result<Turn, Stop>
         requires fit { O.Fits oracle.old log.old }
-        requires checker { IsChecker f.now self.now log.old.entries }
+        requires checker { IsChecker circuit.now.f.now self.now log.old.entries }
         requires ready { self.now.gates.unfinished ≡ None }
-        requires formula { IsWellFormed f.now }
-        requires output_count { length leaves.now ≡ length f.now.existentials }
-        requires leaves { AreLeaves f.now (leaf_of f.now self.now.inputs.items leaves.now)
-            log.old.entries }
+        requires formula { IsWellFormed circuit.now.f.now }
+        requires nodes { All (IsNode circuit.now.graph.now) circuit.now.outputs.now }
+        requires leaves { AreLeavesOf circuit.now.f.now circuit.now.graph.now log.old.entries
+            circuit.now.outputs.now leaves.now }
         requires few { length (fault_groups log.old.entries) < fault_room log.old.entries }
         ensures fit { O.Fits oracle.new log.new }
-        ensures turned { HasTurned f.now self.now self.now (is_silent_search result) log.old log.new }
-        ensures held { (id : ℕ) → result ≡ Ok (Some id)
-            → IsHeldBy f.now (leaf_of f.now self.now.inputs.items leaves.now) log.old.entries
+        ensures turned { HasTurned circuit.now.f.now self.now self.now (is_silent result) log.old
+            log.new }
+        ensures held { (id : ℕ) → result ≡ Ok (Turn.Holds id)
+            → IsHeldBy circuit.now.f.now
+            (leaf_of circuit.now.f.now self.now.inputs.items leaves.now) log.old.entries
             log.new.entries id }
-        ensures told { result ≡ Ok None → O.is_told oracle.new ≡ true }
-        ensures failing { result ≡ Ok None
-            → AreFailing f.now (leaf_of f.now self.now.inputs.items leaves.now) log.old.entries
-            (O.values oracle.new) }
+        ensures fails { (row values : List Bool) (j : ℕ) → result ≡ Ok (Turn.Fails row values j)
+            → IsFailure circuit.now.f.now (outputs_of circuit.now.f.now circuit.now.graph.now
+            circuit.now.outputs.now) row values j }
         ensures limit { IsErrOf result Stop.Limit → (group : ℕ)
             × IsAtLimit log.new (positive (group_of self.now) ∷ positive group ∷ []) }
     {
-        let group = self.give_faults(oracle, f, leaves, log)?;
-        match oracle.solve(&[self.gates.group, group], &[], log)? {
-            Answer::Unsat(id) => Ok(Some(id)),
-            Answer::Sat => Ok(None),
-        }
-    }
-
-    // Gives the faults under these leaves to a new group.
-    fn give_faults<O: Oracle>(
-        &self,
-        oracle: &mut O,
-        f: &Formula,
-        leaves: &[Leaf],
-        log: &mut Log,
-    ) -> Result<Group, Memory>
-        requires fit { O.Fits oracle.old log.old }
-        requires checker { IsChecker f.now self.now log.old.entries }
-        requires ready { self.now.gates.unfinished ≡ None }
-        requires formula { IsWellFormed f.now }
-        requires output_count { length leaves.now ≡ length f.now.existentials }
-        requires leaves { AreLeaves f.now (leaf_of f.now self.now.inputs.items leaves.now)
-            log.old.entries }
-        requires few { length (fault_groups log.old.entries) < fault_room log.old.entries }
-        ensures fit { O.Fits oracle.new log.new }
-        ensures turned { HasTurned f.now self.now self.now true log.old log.new }
-        ensures given { IfOk result (HaveFaultGroup f.now self.now
-            (leaf_of f.now self.now.inputs.items leaves.now) log.old.entries log.new.entries) }
-    {
+        let f = circuit.f;
         let group = oracle.group(&self.tenant, log)?;
         let faults = Faults {
             group: &group,
@@ -186,31 +163,164 @@ impl Checker {
             inputs: &self.inputs,
             outputs: leaves,
         };
-        faults.give(self.alloc, oracle, log)?;
-        Ok(group)
+        let bads = faults.name_bads(self.alloc, oracle, log)?;
+        self.look_twice(oracle, circuit, &faults, &bads, log)
     }
 
-    // The row that a search found, the outputs' values there, and a clause that is false with them.
-    fn failure<O: Oracle>(&self, oracle: &O, circuit: &Circuit) -> Result<Turn, Memory>
+    // The same, where the group has no clause yet.
+    fn look_twice<O: Oracle>(
+        &self,
+        oracle: &mut O,
+        circuit: &Circuit,
+        faults: &Faults,
+        bads: &[Lit],
+        log: &mut Log,
+    ) -> Result<Turn, Stop>
+        requires fit { O.Fits oracle.old log.old }
+        requires formula { IsWellFormed circuit.now.f.now }
+        requires same_formula { faults.now.f.now ≡ circuit.now.f.now }
+        requires same_inputs { faults.now.inputs.now ≡ self.now.inputs.items }
+        requires nodes { All (IsNode circuit.now.graph.now) circuit.now.outputs.now }
+        requires saying { (start : ProofLog)
+            × IsSaying self.now faults.now bads.now 0 start log.old
+            × AreLeavesOf faults.now.f.now circuit.now.graph.now start.entries
+            circuit.now.outputs.now faults.now.outputs.now }
+        ensures fit { O.Fits oracle.new log.new }
+        ensures turned { (start : ProofLog) → IsSaying self.now faults.now bads.now 0 start log.old
+            → HasTurned faults.now.f.now self.now self.now (is_silent result) start log.new }
+        ensures held { (start : ProofLog) (id : ℕ)
+            → IsSaying self.now faults.now bads.now 0 start log.old → result ≡ Ok (Turn.Holds id)
+            → IsHeldBy faults.now.f.now (leaf_in faults.now) start.entries log.new.entries id }
+        ensures fails { (row values : List Bool) (j : ℕ) → result ≡ Ok (Turn.Fails row values j)
+            → IsFailure circuit.now.f.now (outputs_of circuit.now.f.now circuit.now.graph.now
+            circuit.now.outputs.now) row values j }
+        ensures limit { IsErrOf result Stop.Limit → (group : ℕ)
+            × IsAtLimit log.new (positive (group_of self.now) ∷ positive group ∷ []) }
+    {
+        let first = self.first_clauses(faults);
+        let early = Part {
+            from: 0,
+            upto: first,
+        };
+        match self.look(oracle, faults, bads, early, log)? {
+            Some(id) => return Ok(Turn::Holds(id)),
+            None => {
+                if let Some(turn) = self.failure(oracle, circuit)? {
+                    return Ok(turn);
+                }
+            }
+        }
+        let others = Part {
+            from: first,
+            upto: faults.f.clauses(),
+        };
+        match self.look(oracle, faults, bads, others, log)? {
+            Some(id) => Ok(Turn::Holds(id)),
+            None => match self.failure(oracle, circuit)? {
+                Some(turn) => Ok(turn),
+                None => unreachable!(),
+            },
+        }
+    }
+
+    // Gives a turn's group the faults of a part of the clauses, and searches for values that it
+    // allows.
+    fn look<O: Oracle>(
+        &self,
+        oracle: &mut O,
+        faults: &Faults,
+        bads: &[Lit],
+        part: Part,
+        log: &mut Log,
+    ) -> Result<Option<u64>, Stop>
+        requires fit { O.Fits oracle.old log.old }
+        requires saying { (start : ProofLog)
+            × IsSaying self.now faults.now bads.now part.from start log.old }
+        requires order { part.from ≤ part.upto }
+        requires within { part.upto ≤ length faults.now.f.now.matrix }
+        ensures fit { O.Fits oracle.new log.new }
+        ensures turned { (start : ProofLog)
+            → IsSaying self.now faults.now bads.now part.from start log.old
+            → HasTurned faults.now.f.now self.now self.now (is_silent_search result) start log.new }
+        ensures saying { (start : ProofLog)
+            → IsSaying self.now faults.now bads.now part.from start log.old → result ≡ Ok None
+            → IsSaying self.now faults.now bads.now part.upto start log.new }
+        ensures held { (start : ProofLog) (id : ℕ)
+            → IsSaying self.now faults.now bads.now part.from start log.old → result ≡ Ok (Some id)
+            → IsHeldBy faults.now.f.now (leaf_in faults.now) start.entries log.new.entries id }
+        ensures told { result ≡ Ok None → O.is_told oracle.new ≡ true }
+        ensures failing { (start : ProofLog)
+            → IsSaying self.now faults.now bads.now part.from start log.old → result ≡ Ok None
+            → part.upto ≡ length faults.now.f.now.matrix
+            → AreFailing faults.now.f.now (leaf_in faults.now) start.entries (O.values oracle.new) }
+        ensures limit { IsErrOf result Stop.Limit → (group : ℕ)
+            × IsAtLimit log.new (positive (group_of self.now) ∷ positive group ∷ []) }
+    {
+        faults.say(oracle, bads, part, log)?;
+        match oracle.solve(&[self.gates.group, *faults.group], &[], log)? {
+            Answer::Unsat(id) => Ok(Some(id)),
+            Answer::Sat => Ok(None),
+        }
+    }
+
+    // How many clauses have their faults given first: twice as many as were needed at the last
+    // failure, and a few; all, where these are the greater part, and where nothing failed yet and no
+    // output is a constant, as where each has a definition.
+    fn first_clauses(&self, faults: &Faults) -> usize
+        ensures { result ≤ length faults.now.f.now.matrix }
+    {
+        let all = faults.f.clauses();
+        if self.last_false == 0 && !has_constant(faults.outputs) {
+            return all;
+        }
+        let few = (self.last_false as usize)
+            .saturating_mul(2)
+            .saturating_add(FEW);
+        if few > all / 2 { all } else { few }
+    }
+
+    // Notes which clause was false.
+    fn note(&mut self, found: &Turn)
+        ensures gates { self.new.gates ≡ self.old.gates }
+        ensures inputs { self.new.inputs ≡ self.old.inputs }
+    {
+        if let Turn::Fails { j, .. } = found {
+            self.last_false = *j;
+        }
+    }
+
+    // How outputs fail at the row that a search found, if a clause is false there.
+    fn failure<O: Oracle>(&self, oracle: &O, circuit: &Circuit) -> Result<Option<Turn>, Memory>
         requires told { O.is_told oracle.now ≡ true }
         requires made { All (λ l. O.HasVariable oracle.now (variable_of l)) self.now.inputs.items }
         requires formula { IsWellFormed circuit.now.f.now }
         requires nodes { All (IsNode circuit.now.graph.now) circuit.now.outputs.now }
         requires input_count { length self.now.inputs.items ≡ length circuit.now.f.now.universals }
-        requires failing { HasFalseClause circuit.now.f.now
+        ensures some { IfOk result (λ found. IfSome found (IsFailing circuit.now.f.now
+            (outputs_of circuit.now.f.now circuit.now.graph.now circuit.now.outputs.now))) }
+        ensures none { result ≡ Ok None → HasFalseClause circuit.now.f.now
             (map (λ l. O.values oracle.now (variable_of l)) self.now.inputs.items)
             (map (node_value circuit.now.graph.now
             (bit_of (map (λ l. O.values oracle.now (variable_of l)) self.now.inputs.items)))
-            circuit.now.outputs.now) }
-        ensures { IfOk result (IsFailing circuit.now.f.now
-            (outputs_of circuit.now.f.now circuit.now.graph.now circuit.now.outputs.now)) }
+            circuit.now.outputs.now) → ⊥ }
     {
         let row = input_row(self.alloc, oracle, &self.inputs)?;
         let values = circuit.values_at(self.alloc, &row)?;
         match false_clause(circuit.f, &row, &values) {
-            Some(j) => Ok(Turn::Fails { row, values, j }),
-            None => unreachable!(),
+            Some(j) => Ok(Some(Turn::Fails { row, values, j })),
+            None => Ok(None),
         }
+    }
+}
+
+fn has_constant(leaves: &[Leaf]) -> bool {
+    leaves.iter().any(|leaf| is_constant(*leaf))
+}
+
+fn is_constant(leaf: Leaf) -> bool {
+    match leaf {
+        Leaf::Constant(_) => true,
+        Leaf::Literal(_) => false,
     }
 }
 

@@ -7,8 +7,8 @@ use Rattle.circuit_cnf.specs.Failing.{HasFalseClause}
 use Rattle.circuit_cnf.proofs.OutputValues.{mapped_long, failure_is}
 use Rattle.circuit_cnf.proofs.checkers.Checker.failure.Goals as goal
 
-pub returns : goal.returns
-returns g c =
+pub returns-in-Some-clause-some : goal.returns-in-Some-clause-some
+returns-in-Some-clause-some g c =
     let values = g.O.Oracle.values c.args.oracle.now in
     let inputs = c.args.self.now.inputs.items in
     let row_is : c.in_ok-row.row ≡ map (λ l. values (variable_of l)) inputs =
@@ -18,8 +18,8 @@ returns g c =
     (ap length row_is ∙ mapped_long (λ l. values (variable_of l)) inputs ∙ c.requires.input_count)
     c.in_ok-values.ensures c.in-Some.ensures.some
 
-pub unreachable-requires : goal.unreachable-requires
-unreachable-requires g c =
+pub returns-in-None-clause-none : goal.returns-in-None-clause-none
+returns-in-None-clause-none g c is false_there =
     let values = g.O.Oracle.values c.args.oracle.now in
     let inputs = c.args.self.now.inputs.items in
     let row_is : c.in_ok-row.row ≡ map (λ l. values (variable_of l)) inputs =
@@ -30,5 +30,5 @@ unreachable-requires g c =
     c.args.circuit.now.outputs.now) row_is in
     let failing = subst (λ r. HasFalseClause c.args.circuit.now.f.now r c.in_ok-values.values) (sym row_is)
     (subst (λ vs. HasFalseClause c.args.circuit.now.f.now (map (λ l. values (variable_of l)) inputs) vs)
-    (sym values_are) c.requires.failing) in
+    (sym values_are) false_there) in
     false≢true (sym failing.2 ∙ c.in-None.ensures.none refl failing.0 failing.1)

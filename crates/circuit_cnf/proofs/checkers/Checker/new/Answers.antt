@@ -26,6 +26,7 @@ returns-clause-made g c =
           record { group = c.in_ok-group.group; variables = c.new.result; unfinished = None };
       inputs =
           c.in_ok-inputs.inputs;
+      last_false = 0;
     })
     c.in_ok-inputs.ensures.none c.in_ok-inputs.ensures.inputs c.in_ok-group.ensures.made c.in_ok-group.ensures.unnamed
     c.in_ok-group.ensures.ok c.new.ensures.empty refl (g.met.O.Oracle.searched c.name_inputs.new.oracle

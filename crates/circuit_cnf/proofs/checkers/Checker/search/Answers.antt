@@ -1,77 +1,105 @@
-use Rattle.std.proofs.Common.{rules, Err, ◌≡◌, ◌∙◌, ap, subst, Ok, [], ◌∷◌}
-use Rattle.hint_log.specs.declared.stops.Stop.TheVariants.{Limit}
-use Rattle.oracle.specs.Limits.{IsAtLimit}
-use Rattle.std.proofs.lemmas.List.Elements.{All-cons, All-nil}
-use Rattle.dq_lits.specs.Literal.{positive, variable_of}
-use Rattle.hint_log.specs.Entries.{clause_at}
-use Rattle.oracle.specs.Calls.{IsMade, IsRefutedUnder}
-use Rattle.circuit_cnf.specs.Turning.{IsHeldBy}
-use Rattle.circuit_cnf.proofs.HeldGroups.{held_by}
-use Rattle.circuit_cnf.proofs.FalseClauses.{are_failing, switched_on}
-use Rattle.circuit_cnf.specs.Faults.{leaf_of}
-use Rattle.circuit_cnf.proofs.TurnStages.{learned_turned, answered_turned, quiet_turned, switch_is}
+use Rattle.std.proofs.Common.{sym, subst}
+use Rattle.dq_lits.specs.Literal.{variable_of}
+use Rattle.circuit_cnf.specs.Faults.{AreBads, leaf_of}
+use Rattle.circuit_cnf.specs.Turning.{IsGroupMade, IsHeldBy}
+use Rattle.circuit_cnf.proofs.TurnParts.{begun_saying, begun_turned, group_has_no_bads}
 use Rattle.circuit_cnf.proofs.checkers.Checker.search.Goals as goal
 
-pub returns-in_err-id-clause-turned : goal.returns-in_err-id-clause-turned
-returns-in_err-id-clause-turned g c =
-    quiet_turned c.args.f.now c.args.self.now c.args.self.now _ c.args.log.now c.solve.new.log
-    (learned_turned c.args.f.now c.args.self.now c.args.log.now c.give_faults.new.log c.solve.new.log
-    c.give_faults.ensures.turned c.in_err-id.ensures.stop)
+pub name_bads-requires-clause-fresh : goal.name_bads-requires-clause-fresh
+name_bads-requires-clause-fresh g c =
+    let m : IsGroupMade c.args.circuit.now.f.now c.args.self.now c.args.log.now c.group.new.log c.in_ok-group.group =
+    record {
+      before = c.requires.checker;
+      ready = c.requires.ready;
+      unnamed = c.in_ok-group.ensures.unnamed;
+      made = c.in_ok-group.ensures.made;
+      is = c.in_ok-group.ensures.ok;
+      logged = (g.met.O.Oracle.searched c.args.oracle.now c.args.log.now c.requires.fit).logged;
+      grouped = (g.met.O.Oracle.searched c.args.oracle.now c.args.log.now c.requires.fit).grouped;
+      few = c.requires.few;
+    } in
+    group_has_no_bads c.args.circuit.now.f.now c.args.self.now c.args.log.now c.group.new.log c.in_ok-group.group m
 
-pub returns-in-Unsat-clause-turned : goal.returns-in-Unsat-clause-turned
-returns-in-Unsat-clause-turned g c =
-    answered_turned c.args.f.now c.args.self.now c.args.log.now c.give_faults.new.log c.solve.new.log
-    c.give_faults.ensures.turned _ c.in-Unsat.id
-    (c.solve.ensures.unsat c.in-Unsat.id (c.in_ok-id.was ∙ ap Ok c.in-Unsat.is))
+pub returns-in_err-bads-clause-turned : goal.returns-in_err-bads-clause-turned
+returns-in_err-bads-clause-turned g c =
+    let m : IsGroupMade c.args.circuit.now.f.now c.args.self.now c.args.log.now c.group.new.log c.in_ok-group.group =
+    record {
+      before = c.requires.checker;
+      ready = c.requires.ready;
+      unnamed = c.in_ok-group.ensures.unnamed;
+      made = c.in_ok-group.ensures.made;
+      is = c.in_ok-group.ensures.ok;
+      logged = (g.met.O.Oracle.searched c.args.oracle.now c.args.log.now c.requires.fit).logged;
+      grouped = (g.met.O.Oracle.searched c.args.oracle.now c.args.log.now c.requires.fit).grouped;
+      few = c.requires.few;
+    } in
+    let leaf = leaf_of c.args.circuit.now.f.now c.args.self.now.inputs.items c.args.leaves.now in
+    begun_turned c.args.circuit.now.f.now c.args.self.now c.args.log.now c.group.new.log c.in_ok-group.group m leaf
+    c.name_bads.new.log c.name_bads.ensures.grew c.name_bads.ensures.faults c.name_bads.ensures.alone _
 
-pub returns-in-Sat-clause-turned : goal.returns-in-Sat-clause-turned
-returns-in-Sat-clause-turned g c =
-    learned_turned c.args.f.now c.args.self.now c.args.log.now c.give_faults.new.log c.solve.new.log
-    c.give_faults.ensures.turned (c.solve.ensures.sat (c.in_ok-id.was ∙ ap Ok c.in-Sat.is)).0
+pub look_twice-requires-clause-saying : goal.look_twice-requires-clause-saying
+look_twice-requires-clause-saying g c =
+    let m : IsGroupMade c.args.circuit.now.f.now c.args.self.now c.args.log.now c.group.new.log c.in_ok-group.group =
+    record {
+      before = c.requires.checker;
+      ready = c.requires.ready;
+      unnamed = c.in_ok-group.ensures.unnamed;
+      made = c.in_ok-group.ensures.made;
+      is = c.in_ok-group.ensures.ok;
+      logged = (g.met.O.Oracle.searched c.args.oracle.now c.args.log.now c.requires.fit).logged;
+      grouped = (g.met.O.Oracle.searched c.args.oracle.now c.args.log.now c.requires.fit).grouped;
+      few = c.requires.few;
+    } in
+    let named = c.name_bads.ensures in
+    let are = subst (λ xs. AreBads c.args.circuit.now.f.now (variable_of c.in_ok-group.group.selector) xs
+    c.name_bads.new.log.entries) (sym c.deref-2.ensures.value) c.in_ok-bads.ensures.named in (
+      c.args.log.now,
+      begun_saying c.args.circuit.now.graph.now c.args.circuit.now.outputs.now _ c.args.self.now c.args.log.now
+          c.group.new.log m c.deref.ensures.value c.args.circuit.now.a_node_an_existential c.requires.leaves
+          c.requires.formula.bound c.deref-2.result.now c.name_bads.new.log named.grew named.faults named.alone are,
+      c.requires.leaves,
+    )
 
-pub solve-requires-clause-made : goal.solve-requires-clause-made
-solve-requires-clause-made g c =
-    let made = IsMade c.give_faults.new.log.entries in
-    All-cons made c.args.self.now.gates.group (c.in_ok-group.group ∷ []) c.give_faults.ensures.turned.checker.gates.made
-    (All-cons made c.in_ok-group.group [] c.in_ok-group.ensures.given.made (All-nil made))
+pub returns-clause-turned : goal.returns-clause-turned
+returns-clause-turned g c =
+    let m : IsGroupMade c.args.circuit.now.f.now c.args.self.now c.args.log.now c.group.new.log c.in_ok-group.group =
+    record {
+      before = c.requires.checker;
+      ready = c.requires.ready;
+      unnamed = c.in_ok-group.ensures.unnamed;
+      made = c.in_ok-group.ensures.made;
+      is = c.in_ok-group.ensures.ok;
+      logged = (g.met.O.Oracle.searched c.args.oracle.now c.args.log.now c.requires.fit).logged;
+      grouped = (g.met.O.Oracle.searched c.args.oracle.now c.args.log.now c.requires.fit).grouped;
+      few = c.requires.few;
+    } in
+    let named = c.name_bads.ensures in
+    let are = subst (λ xs. AreBads c.args.circuit.now.f.now (variable_of c.in_ok-group.group.selector) xs
+    c.name_bads.new.log.entries) (sym c.deref-2.ensures.value) c.in_ok-bads.ensures.named in
+    c.look_twice.ensures.turned c.args.log.now
+    (begun_saying c.args.circuit.now.graph.now c.args.circuit.now.outputs.now _ c.args.self.now c.args.log.now
+    c.group.new.log m c.deref.ensures.value c.args.circuit.now.a_node_an_existential c.requires.leaves
+    c.requires.formula.bound c.deref-2.result.now c.name_bads.new.log named.grew named.faults named.alone are)
 
-pub returns-in-Unsat-clause-held : goal.returns-in-Unsat-clause-held
-returns-in-Unsat-clause-held g c id e =
-    let leaf = leaf_of c.args.f.now c.args.self.now.inputs.items c.args.leaves.now in
-    let r = c.solve.ensures.unsat c.in-Unsat.id (c.in_ok-id.was ∙ ap Ok c.in-Unsat.is) in
-    let gates = c.args.self.now.gates.group.selector in
-    let faults = c.in_ok-group.group.selector in
-    let switches : gates ∷ faults ∷ [] ≡ positive (variable_of gates) ∷ positive (variable_of faults) ∷ [] =
-    ap (λ l. l ∷ faults ∷ []) (switch_is gates c.requires.checker.gates.made.positive) ∙ ap
-    (λ l. positive (variable_of gates) ∷ l ∷ []) (switch_is faults c.in_ok-group.ensures.given.made.positive) in
-    let mine = subst (λ ls. IsRefutedUnder c.give_faults.new.log c.solve.new.log ls c.in-Unsat.id) switches r in
-    let held = held_by c.args.f.now leaf (variable_of gates)
-    (variable_of faults) c.args.log.now.entries c.give_faults.new.log c.solve.new.log c.in-Unsat.id
-    c.in_ok-group.ensures.given.two
-    (g.met.O.Oracle.searched c.solve.new.self c.solve.new.log c.solve.ensures.fit) mine in
-    let same : c.in-Unsat.id ≡ id = cc in
-    subst (λ i. IsHeldBy c.args.f.now leaf c.args.log.now.entries c.solve.new.log.entries i) same held
-
-pub returns-in-Sat-clause-failing : goal.returns-in-Sat-clause-failing
-returns-in-Sat-clause-failing g c e =
-    let leaf = leaf_of c.args.f.now c.args.self.now.inputs.items c.args.leaves.now in
-    let found = c.solve.ensures.sat (c.in_ok-id.was ∙ ap Ok c.in-Sat.is) in
-    let values = g.O.Oracle.values c.solve.new.self in
-    let gates = c.args.self.now.gates.group.selector in
-    let faults = c.in_ok-group.group.selector in
-    let given = c.in_ok-group.ensures.given in
-    let on = switched_on values (clause_at c.solve.new.log.entries) gates faults c.requires.checker.gates.made.positive
-    given.made.positive found.1 in
-    are_failing c.args.f.now c.args.self.now.gates leaf (variable_of faults) values c.args.log.now.entries
-    c.give_faults.new.log c.solve.new.log found.0 found.1.clauses on.0 on.1
-    c.give_faults.ensures.turned.checker.gates c.requires.ready given.two.names given.given
-
-pub returns-in_err-id-clause-limit : goal.returns-in_err-id-clause-limit
-returns-in_err-id-clause-limit g c = λ is.
-    let gates = c.args.self.now.gates.group.selector in
-    let faults = c.in_ok-group.group.selector in
-    let switches : gates ∷ faults ∷ [] ≡ positive (variable_of gates) ∷ positive (variable_of faults) ∷ [] =
-    ap (λ l. l ∷ faults ∷ []) (switch_is gates c.requires.checker.gates.made.positive) ∙ ap
-    (λ l. positive (variable_of gates) ∷ l ∷ []) (switch_is faults c.in_ok-group.ensures.given.made.positive) in
-    let stop : c.in_err-id.field-0.0 ≡ Limit = search rules in
-    (variable_of faults, subst (IsAtLimit c.solve.new.log) switches (c.in_err-id.ensures.limit (ap (λ e. Err e) stop)))
+pub returns-clause-held : goal.returns-clause-held
+returns-clause-held g c id e =
+    let m : IsGroupMade c.args.circuit.now.f.now c.args.self.now c.args.log.now c.group.new.log c.in_ok-group.group =
+    record {
+      before = c.requires.checker;
+      ready = c.requires.ready;
+      unnamed = c.in_ok-group.ensures.unnamed;
+      made = c.in_ok-group.ensures.made;
+      is = c.in_ok-group.ensures.ok;
+      logged = (g.met.O.Oracle.searched c.args.oracle.now c.args.log.now c.requires.fit).logged;
+      grouped = (g.met.O.Oracle.searched c.args.oracle.now c.args.log.now c.requires.fit).grouped;
+      few = c.requires.few;
+    } in
+    let named = c.name_bads.ensures in
+    let are = subst (λ xs. AreBads c.args.circuit.now.f.now (variable_of c.in_ok-group.group.selector) xs
+    c.name_bads.new.log.entries) (sym c.deref-2.ensures.value) c.in_ok-bads.ensures.named in
+    subst (λ xs. IsHeldBy c.args.circuit.now.f.now (leaf_of c.args.circuit.now.f.now xs c.args.leaves.now)
+    c.args.log.now.entries c.look_twice.new.log.entries id) c.deref.ensures.value
+    (c.look_twice.ensures.held c.args.log.now id
+    (begun_saying c.args.circuit.now.graph.now c.args.circuit.now.outputs.now _ c.args.self.now c.args.log.now
+    c.group.new.log m c.deref.ensures.value c.args.circuit.now.a_node_an_existential c.requires.leaves
+    c.requires.formula.bound c.deref-2.result.now c.name_bads.new.log named.grew named.faults named.alone are) e)

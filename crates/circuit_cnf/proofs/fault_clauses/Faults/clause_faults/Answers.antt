@@ -1,66 +1,50 @@
-use Rattle.std.proofs.Common.{◌≡◌, ◌+◌, ◌<◌, [], length, get_or, sym, ◌∙◌, ap, subst, arith}
+use Rattle.std.proofs.Common.{◌≡◌, ◌+◌, ◌<◌, [], inr, length, get_or, sym, ◌∙◌, ap, subst, not, false, Some}
 use Rattle.std.specs.List.{Contains}
-use Rattle.dq_lits.specs.Literal.{variable_of}
+use Rattle.std.proofs.lemmas.Result.{on_ok_weaker}
+use Rattle.dq_lits.specs.Literal.{is_negative, variable_of}
 use Rattle.dq_lits.specs.Formula.{declared}
-use Rattle.circuit_cnf.specs.Faults.{HasFault}
+use Rattle.hint_log.specs.Origins.{leaf_with_sign}
+use Rattle.hint_log.specs.declared.origins.Leaf.TheVariants.{Constant}
 use Rattle.circuit_cnf.specs.Saying.{leaf_in, selector_in}
 use Rattle.circuit_cnf.proofs.ClauseFaults.{literal_there, same_element}
-use Rattle.circuit_cnf.proofs.SaidFaults.{nothing_said, may_say_on, said_then, next_fault}
+use Rattle.circuit_cnf.proofs.FalseClauses.{in_range}
+use Rattle.circuit_cnf.proofs.SaidFaults.{never_bad}
 use Rattle.circuit_cnf.proofs.fault_clauses.Faults.clause_faults.Goals as goal
-
-pub loop-i-init : goal.loop-i-init
-loop-i-init g c = (
-  c.requires.fit,
-  record {
-    said = nothing_said c.args.self.now c.args.log.now c.requires.may;
-    given =
-        λ i l below is. absurd (omega (arith, below));
-  },
-)
-
-pub give_fault-requires-clause-may : goal.give_fault-requires-clause-may
-give_fault-requires-clause-may g c = may_say_on c.args.self.now c.args.log.now c.requires.may c.loop-i.log
-    c.loop-i.invariant.1.said
 
 pub give_fault-requires-clause-declared : goal.give_fault-requires-clause-declared
 give_fault-requires-clause-declared g c =
-    let i = c.loop-i.i in
+    let i = c.in-Some.i in
     let l = c.index-clause-i.result in
     let clause_is = c.clause-clause.ensures in
+    let below = in_range c.clause-clause.result.now i c.in-Some.ensures.0 c.in-Some.ensures.1 in
     let bound = c.requires.may.bound c.args.j [] c.requires.clause i l
-    (subst (λ xs. i < length xs) clause_is c.loop-i-test.true) in
+    (subst (λ xs. i < length xs) clause_is below) in
     subst (λ k. Contains (declared c.args.self.now.f.now) (variable_of k))
     (sym (c.index-clause-i.is ∙ ap (λ xs. get_or xs i l) clause_is)) bound
 
 pub give_fault-requires-clause-leaf : goal.give_fault-requires-clause-leaf
 give_fault-requires-clause-leaf g c =
     let leaf = leaf_in c.args.self.now in
-    let same = same_element c.clause-clause.result.now c.loop-i.i c.index-clause-i-in-loop-i.result
-    c.index-clause-i.result c.loop-i-test.true c.index-clause-i-in-loop-i.is c.index-clause-i.is in
+    let below = in_range c.clause-clause.result.now c.in-Some.i c.in-Some.ensures.0 c.in-Some.ensures.1 in
+    let same = same_element c.clause-clause.result.now c.in-Some.i c.index-clause-i-2.result c.index-clause-i.result
+    below c.index-clause-i-2.is c.index-clause-i.is in
     c.leaf.ensures ∙ ap leaf (c.var.ensures.value ∙ ap variable_of same)
 
-pub returns-in_err-give_fault-clause-said : goal.returns-in_err-give_fault-clause-said
-returns-in_err-give_fault-clause-said g c =
-    said_then c.args.self.now.f.now (selector_in c.args.self.now)
-    (leaf_in c.args.self.now) c.args.log.now c.loop-i.log c.give_fault.new.log c.loop-i.invariant.1.said
-    c.give_fault.ensures.said
-
-pub loop-i-preserved : goal.loop-i-preserved
-loop-i-preserved g c =
-    let sel = selector_in c.args.self.now in
+pub returns-clause-given : goal.returns-clause-given
+returns-clause-given g c =
     let leaf = leaf_in c.args.self.now in
-    let clause = c.clause-clause.result.now in
-    let i = c.loop-i.i in
+    let i = c.in-Some.i in
     let l = c.index-clause-i.result in
-    let same = same_element clause i c.index-clause-i-in-loop-i.result l c.loop-i-test.true
-    c.index-clause-i-in-loop-i.is c.index-clause-i.is in
+    let clause = c.clause-clause.result.now in
+    let below = in_range clause i c.in-Some.ensures.0 c.in-Some.ensures.1 in
+    let same = same_element clause i c.index-clause-i-2.result l below c.index-clause-i-2.is c.index-clause-i.is in
     let out_is : c.leaf.result ≡ leaf (variable_of l) = c.leaf.ensures ∙ ap leaf
     (c.var.ensures.value ∙ ap variable_of same) in
-    let at = literal_there clause i l c.loop-i-test.true c.index-clause-i.is in
-    let here = subst (λ out. HasFault sel (variable_of c.args.bad) (c.args.j + 1)
-    (i + 1) l out c.give_fault.new.log.entries) out_is c.in_ok-give_fault.ensures.given in (
-      c.give_fault.ensures.fit,
-      next_fault c.args.self.now.f.now sel (variable_of c.args.bad)
-          (c.args.j + 1) leaf clause c.args.log.now c.loop-i.log c.give_fault.new.log i l c.loop-i.invariant.1
-          c.give_fault.ensures.said at here,
-    )
+    let both : Some c.in-Some.ensures.0 ≡ Some l = sym c.in-Some.ensures.1
+    ∙ literal_there clause i l below c.index-clause-i.is in
+    let literal : c.in-Some.ensures.0 ≡ l = cc in
+    let anyway = subst (λ k. leaf_with_sign (not (is_negative k)) (leaf (variable_of k)) ≡ Constant false) literal
+    c.in-Some.ensures.2 in
+    on_ok_weaker c.give_fault.result (λ has. inr (never_bad (selector_in c.args.self.now) (variable_of c.args.bad)
+    (c.args.j + 1) (i + 1) l c.leaf.result c.give_fault.new.log.entries
+    (ap (leaf_with_sign (not (is_negative l))) out_is ∙ anyway) has)) c.give_fault.ensures.given

@@ -1,41 +1,40 @@
 use Rattle.std.proofs.Common.{length}
 use Rattle.circuit_cnf.specs.Saying.{leaf_in, selector_in}
-use Rattle.circuit_cnf.proofs.GroupFaults.{bads_are_at, bads_count, all_given, bads_stay}
+use Rattle.circuit_cnf.proofs.GroupFaults.{bads_are_at, bads_count, given_up_to, bads_stay}
 use Rattle.circuit_cnf.proofs.SaidFaults.{said_then, may_say_on}
 use Rattle.circuit_cnf.proofs.fault_clauses.Faults.say.Goals as goal
 
-pub all_faults-requires-clause-bad_count : goal.all_faults-requires-clause-bad_count
-all_faults-requires-clause-bad_count g c = bads_count c.args.log.now.entries (selector_in c.args.self.now)
+pub part_faults-requires-clause-bad_count : goal.part_faults-requires-clause-bad_count
+part_faults-requires-clause-bad_count g c = bads_count c.args.log.now.entries (selector_in c.args.self.now)
     (length c.args.self.now.f.now.matrix) c.args.bads.now c.requires.bads
 
-pub all_faults-requires-clause-bads : goal.all_faults-requires-clause-bads
-all_faults-requires-clause-bads g c = bads_are_at c.args.log.now.entries (selector_in c.args.self.now)
+pub part_faults-requires-clause-bads : goal.part_faults-requires-clause-bads
+part_faults-requires-clause-bads g c = bads_are_at c.args.log.now.entries (selector_in c.args.self.now)
     (length c.args.self.now.f.now.matrix) c.args.bads.now c.requires.bads
 
 pub some_fault-requires-clause-may : goal.some_fault-requires-clause-may
-some_fault-requires-clause-may g c = may_say_on c.args.self.now c.args.log.now c.requires.may c.all_faults.new.log
-    c.all_faults.ensures.said
+some_fault-requires-clause-may g c = may_say_on c.args.self.now c.args.log.now c.requires.may c.part_faults.new.log
+    c.part_faults.ensures.said
 
 pub some_fault-requires-clause-bads : goal.some_fault-requires-clause-bads
 some_fault-requires-clause-bads g c =
-    bads_stay c.args.log.now.entries c.all_faults.new.log.entries (selector_in c.args.self.now)
-    (length c.args.self.now.f.now.matrix) c.args.bads.now c.all_faults.ensures.said.names c.requires.bads
+    bads_stay c.args.log.now.entries c.part_faults.new.log.entries (selector_in c.args.self.now)
+    (length c.args.self.now.f.now.matrix) c.args.bads.now c.part_faults.ensures.said.names c.requires.bads
 
 pub returns-in_err-some_fault-clause-said : goal.returns-in_err-some_fault-clause-said
 returns-in_err-some_fault-clause-said g c =
     said_then c.args.self.now.f.now (selector_in c.args.self.now)
-    (leaf_in c.args.self.now) c.args.log.now c.all_faults.new.log c.some_fault.new.log c.all_faults.ensures.said
+    (leaf_in c.args.self.now) c.args.log.now c.part_faults.new.log c.some_fault.new.log c.part_faults.ensures.said
     c.some_fault.ensures.said
 
 pub returns-clause-said : goal.returns-clause-said
 returns-clause-said g c =
     said_then c.args.self.now.f.now (selector_in c.args.self.now)
-    (leaf_in c.args.self.now) c.args.log.now c.all_faults.new.log c.some_fault.new.log c.all_faults.ensures.said
+    (leaf_in c.args.self.now) c.args.log.now c.part_faults.new.log c.some_fault.new.log c.part_faults.ensures.said
     c.some_fault.ensures.said
 
 pub returns-clause-given : goal.returns-clause-given
 returns-clause-given g c =
-    all_given c.args.self.now.f.now (selector_in c.args.self.now)
-    (leaf_in c.args.self.now) c.args.bads.now c.args.log.now c.all_faults.new.log c.some_fault.new.log
-    c.requires.bads c.all_faults.ensures.said.names
-    c.in_ok-all_faults.ensures.given c.in_ok-some_fault.ensures.ok
+    given_up_to c.args.self.now.f.now (selector_in c.args.self.now)
+    (leaf_in c.args.self.now) c.args.bads.now c.args.part.upto c.part_faults.new.log c.some_fault.new.log
+    c.in_ok-part_faults.ensures.given c.in_ok-some_fault.ensures.ok

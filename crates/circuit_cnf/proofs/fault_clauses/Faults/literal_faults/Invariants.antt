@@ -2,7 +2,7 @@ use Rattle.std.proofs.Common.{◌+◌}
 use Rattle.dq_lits.specs.Literal.{variable_of}
 use Rattle.circuit_cnf.specs.Saying.{leaf_in, selector_in}
 use Rattle.circuit_cnf.proofs.SaidFaults.{FaultsSoFar}
-use Rattle.circuit_cnf.proofs.fault_clauses.Faults.clause_faults.Given as goal
+use Rattle.circuit_cnf.proofs.fault_clauses.Faults.literal_faults.Given as goal
 
 abbrev pub invariant-loop-i : goal.invariant-loop-i
 invariant-loop-i g l =
