@@ -1,6 +1,8 @@
 -- From what was fed to what is said of a certificate's file.
 use Rattle.std.proofs.Common.{◌≡◌, ℕ, ◌<◌, ◌≤◌, List, [], length, Result, Ok, Err, refl, sym, subst, arith}
-use Rattle.std.specs.Prelude.{IfOk}
+use Rattle.std.specs.Prelude.{IfOk, OnOk}
+use Rattle.dq_io.specs.declared.errors.FeedStop.{FeedStop}
+use Rattle.dq_io.specs.declared.errors.FeedStop.TheVariants.{Fault, TooLong}
 use Rattle.dq_io.specs.Feeding.{WasFed}
 use Rattle.dq_io.specs.Files.{Holding, Untold, Absent, Holds}
 use Rattle.dq_io.specs.State.{FilesState}
@@ -66,3 +68,15 @@ pub judged_fed : (f : Dqbf) (s : StreamState) (answer : Judgement) (r : Result O
 judged_fed f s answer (Ok output) same is told =
     λ text stands. (answer, subst (λ g. IsJudgement g text answer) same (is text stands), told)
 judged_fed f s answer (Err _) same is told = tt
+
+-- a file is fed, or it can't be read, or it is too long
+pub fed_cases : {P Q : Type 0} (r : Result (Unit {0}) FeedStop) → OnOk r Q →
+    ((u : Unit {0}) → r ≡ Ok u → Q → P) → (r ≡ Err Fault → P) → (r ≡ Err TooLong → P) → P
+fed_cases (Ok u) then fed fault long = fed u refl then
+fed_cases (Err Fault) then fed fault long = fault refl
+fed_cases (Err TooLong) then fed fault long = long refl
+
+-- what holds anyway holds where the file was fed
+pub on_fed : {E P : Type 0} (r : Result (Unit {0}) E) → P → OnOk r P
+on_fed (Ok u) held = held
+on_fed (Err e) held = tt

@@ -1,10 +1,10 @@
 //! A whole run: the words, both files, the judgement, and what is written.
 
-ghost use Rattle.std.specs.Prelude.{◌≡◌, ℕ, List, map, string_bytes, vec_len, Some, IfOk};
+ghost use Rattle.std.specs.Prelude.{◌≡◌, ℕ, List, map, string_bytes, vec_len, codes, Some, IfOk, OnOk, IsErrOf};
 ghost use Rattle.dq_io.specs.State.{state_of};
 ghost use Rattle.dq_lits.specs.Formula.{IsWellFormed};
 ghost use Rattle.dq_runs.specs.Ending.{Ends, HasCauses};
-ghost use Rattle.dq_runs.specs.Printed.{printed};
+ghost use Rattle.dq_runs.specs.Printed.{printed, unreadable_line, long_line};
 ghost use Rattle.dq_runs.specs.Sinks.{sink_of};
 ghost use Rattle.cert_judge.specs.Judgement.{IsJudgement};
 ghost use Rattle.cert_judge.specs.Streams.{StandsFor};
@@ -116,14 +116,36 @@ fn report_certificate<F: Files>(
         return Err(Memory);
     };
     let mut stream = Stream::new(alloc, formula);
-    match feed_all(
+    let fed = feed_all(
         files,
         names.certificate,
         MAX_CERTIFICATE,
         &mut stream,
         &mut buffer,
-    ) {
-        Ok(()) => judge_fed(alloc, formula, stream),
+    );
+    report_fed(alloc, formula, stream, fed)
+}
+
+// What is to be written where the certificate's file was fed, or why it wasn't. The stream is ended
+// in either case: a function that drops it costs the prover more than all others of this crate.
+fn report_fed(
+    alloc: Global,
+    formula: &Formula,
+    stream: Stream,
+    fed: Result<(), FeedStop>,
+) -> Result<Output, Memory>
+    requires { stream.formula ≡ formula.now }
+    ensures judged { OnOk fed (IfOk result (λ output. (text : List ℕ) → StandsFor stream.entry text
+        → (answer : Judgement) × IsJudgement formula.now text answer
+        × (printed output ≡ printed_report (judged formula.now answer)))) }
+    ensures unreadable { IsErrOf fed FeedStop.Fault
+        → IfOk result (λ output. printed output ≡ unreadable_line) }
+    ensures too_long { IsErrOf fed FeedStop.TooLong
+        → IfOk result (λ output. printed output ≡ long_line (codes "certificate")) }
+{
+    let answer = stream.end();
+    match fed {
+        Ok(()) => judged_output(alloc, formula, answer?),
         Err(FeedStop::Fault) => outputs::unreadable(alloc),
         Err(FeedStop::TooLong) => outputs::too_long(alloc, "certificate"),
     }
@@ -133,15 +155,4 @@ fn zeros(alloc: Global, count: usize) -> Result<Vec<u8>, AllocError>
     ensures { IfOk result (λ v. vec_len v ≡ count) }
 {
     vec![in alloc; 0u8; count]
-}
-
-// What is to be written of a certificate that was fed.
-fn judge_fed(alloc: Global, formula: &Formula, stream: Stream) -> Result<Output, Memory>
-    requires { stream.formula ≡ formula.now }
-    ensures { IfOk result (λ output. (text : List ℕ) → StandsFor stream.entry text
-        → (answer : Judgement) × IsJudgement formula.now text answer
-        × (printed output ≡ printed_report (judged formula.now answer))) }
-{
-    let answer = stream.end()?;
-    judged_output(alloc, formula, answer)
 }
