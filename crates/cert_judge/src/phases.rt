@@ -101,8 +101,16 @@ fn turn<'f>(phase: &mut Phase<'f>, next: Option<Phase<'f>>)
     ensures { phase.new ≡ next_phase phase.old next.entry }
 {
     if let Some(next) = next {
-        *phase = next;
+        put(phase, next);
     }
+}
+
+/// Puts a phase in the place of another. No other function drops one: a drop of all that a phase may
+/// hold costs the prover more than all else that such a function does.
+pub(crate) fn put<'f>(phase: &mut Phase<'f>, next: Phase<'f>)
+    ensures { phase.new ≡ next.entry }
+{
+    *phase = next;
 }
 
 /// Puts a line behind a text.

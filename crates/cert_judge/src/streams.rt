@@ -9,7 +9,7 @@ ghost use Rattle.cert_judge.specs.declared.answers.Judgement.{Judgement as Answe
 
 use crate::answers::Judgement;
 use crate::endings::finish;
-use crate::phases::{Phase, take_line};
+use crate::phases::{Phase, put, take_line};
 use cert_text::{CertFault, CertRefusal};
 use dq_formula::Formula;
 use dq_io::Feed;
@@ -73,7 +73,7 @@ impl<'f> Stream<'f> {
             unfinished,
             mut phase,
         } = self;
-        take_last_line(alloc, formula, &mut phase, &unfinished)?;
+        end_lines(alloc, formula, &mut phase, &unfinished);
         finish(alloc, formula, phase)
     }
 }
@@ -96,7 +96,7 @@ impl<'f> Feed for Stream<'f> {
             Ok(()) => {}
             Err(Memory) => {
                 self.unfinished.clear();
-                self.phase = Phase::NoMemory;
+                put(&mut self.phase, Phase::NoMemory);
             }
         }
     }
@@ -162,6 +162,21 @@ fn take_next<'f>(
     take_line(alloc, f, phase, unfinished, true)?;
     unfinished.clear();
     Ok(())
+}
+
+// Takes a last line without LF, where the text ends here. Want of memory is kept, and told behind.
+fn end_lines<'f>(alloc: Global, f: &'f Formula, phase: &mut Phase<'f>, unfinished: &[u8])
+    requires well_formed { IsWellFormed f.now }
+    requires lawful { IsLawful phase.old }
+    requires one_line { HasNoEnd unfinished.now }
+    ensures gives { (answer : Answer) → Gives f.now phase.new [] answer
+        → Gives f.now phase.old unfinished.now answer }
+    ensures lawful { IsLawful phase.new }
+{
+    match take_last_line(alloc, f, phase, unfinished) {
+        Ok(()) => {}
+        Err(Memory) => put(phase, Phase::NoMemory),
+    }
 }
 
 // Takes a last line without LF, where the text ends here.

@@ -62,51 +62,57 @@ pub fn true_text(
 }
 
 /// A circuit with its proof in its comment. For the binary form its gates are sorted.
-pub fn circuit_text(alloc: Global, file: AagFile, proof: Dqp, form: Form) -> Result<Vec<u8>, Memory>
-    requires numbered { AreNumberedLines proof.items }
-    requires sorted { form.binary ≡ true → is_sorted file.circuit ≡ true }
-    ensures { IfOk result (λ text. text.items ≡ circuit_text form file proof) }
-{
-    if form.binary {
-        return binary_circuit(alloc, file, proof, form);
-    }
-    ascii_circuit(alloc, file, proof, form)
-}
-
-// The same in ASCII.
-fn ascii_circuit(
+pub fn circuit_text(
     alloc: Global,
     mut file: AagFile,
     proof: Dqp,
     form: Form,
 ) -> Result<Vec<u8>, Memory>
+    requires numbered { AreNumberedLines proof.items }
+    requires sorted { form.binary ≡ true → is_sorted file.circuit ≡ true }
+    ensures { IfOk result (λ text. text.items ≡ circuit_text form file proof) }
+{
+    if form.binary {
+        return binary_circuit(alloc, &mut file, &proof, form);
+    }
+    ascii_circuit(alloc, &mut file, proof, form)
+}
+
+// The same in ASCII.
+fn ascii_circuit(
+    alloc: Global,
+    file: &mut AagFile,
+    proof: Dqp,
+    form: Form,
+) -> Result<Vec<u8>, Memory>
     requires { AreNumberedLines proof.items }
     ensures { IfOk result (λ text. text.items
-        ≡ canonical_circuit (with_proof file (record { items = written_items form proof.items }))) }
+        ≡ canonical_circuit (with_proof file.old
+        (record { items = written_items form proof.items }))) }
 {
     file.comment = Some(proof_text(alloc, proof, form)?);
-    aiger_text::write(alloc, &file)
+    aiger_text::write(alloc, file)
 }
 
 // In the binary form, where the gates are sorted: each one's greater side first, and the hints after
 // it.
 fn binary_circuit(
     alloc: Global,
-    mut file: AagFile,
-    proof: Dqp,
+    file: &mut AagFile,
+    proof: &Dqp,
     form: Form,
 ) -> Result<Vec<u8>, Memory>
-    requires numbered { AreNumberedLines proof.items }
-    requires sorted { is_sorted file.circuit ≡ true }
-    ensures { IfOk result (λ text. text.items ≡ binary_text (with_proof (ordered_file file)
-        (record { items = written_items form (ordered_proof file.circuit proof).items }))) }
+    requires numbered { AreNumberedLines proof.now.items }
+    requires sorted { is_sorted file.old.circuit ≡ true }
+    ensures { IfOk result (λ text. text.items ≡ binary_text (with_proof (ordered_file file.old)
+        (record { items = written_items form (ordered_proof file.old.circuit proof.now).items }))) }
 {
     ordered_lines_are_numbered();
     ordered_files_are_binary();
     let items = ordered_items(alloc, &file.circuit, &proof.items)?;
     file.circuit = ordered_circuit(alloc, &file.circuit)?;
     file.comment = Some(proof_text(alloc, Dqp { items }, form)?);
-    write_binary(alloc, &file)
+    write_binary(alloc, file)
 }
 
 fn proof_text(alloc: Global, proof: Dqp, form: Form) -> Result<Text, Memory>

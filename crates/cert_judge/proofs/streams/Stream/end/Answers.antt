@@ -11,7 +11,7 @@ pub returns : goal.returns
 returns c text =
     let i = c.self.inside in
     subst (λ (s : StreamState). StandsFor s text → IfOk c.finish.result (IsJudgement s.formula text)) c.self.view_is
-    (ended (state_in i) text c.take_last_line.new.phase c.finish.result
+    (ended (state_in i) text c.end_lines.new.phase c.finish.result
     (λ answer says. subst (λ u. Gives i.formula.now i.phase u answer) c.deref.ensures.value
-    (c.in_ok-take_last_line.ensures.gives answer says))
+    (c.end_lines.ensures.gives answer says))
     c.finish.ensures)
