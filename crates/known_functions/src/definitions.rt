@@ -82,6 +82,18 @@ impl Definitions {
         Ok(definitions)
     }
 
+    /// The gates that the clauses state of a formula's existentials. Nothing is asked of it.
+    pub fn stated(alloc: Global, graph: &mut Graph, f: &Formula) -> Result<Definitions, Memory>
+        requires { HasInputs f.now graph.old }
+        ensures extends { Extends graph.old graph.new }
+        ensures known { IfOk result (AreKnownIn f.now graph.new) }
+    {
+        let gates = Gates::new(alloc, f)?;
+        let mut definitions = Definitions::none(alloc, gates, f)?;
+        definitions.read_gates(graph, f)?;
+        Ok(definitions)
+    }
+
     /// Rows at which no function of some existential makes all clauses true, if the questions found
     /// such. No contract speaks of them: who uses one tests it.
     pub fn refuting_rows(&self) -> &[Row] {
@@ -106,6 +118,36 @@ impl Definitions {
             Found::Defined(node) => Some(node),
             Found::Free(_) => None,
         };
+    }
+
+    // Reads the gates of all existentials.
+    fn read_gates(&mut self, graph: &mut Graph, f: &Formula) -> Result<(), Memory>
+        requires inputs { HasInputs f.now graph.old }
+        requires known { AreKnownIn f.now graph.old self.old }
+        ensures extends { Extends graph.old graph.new }
+        ensures known { OnOk result (AreKnownIn f.now graph.new self.new) }
+    {
+        for place in 0..f.existentials().len() {
+            self.read_gate(graph, f, place)?;
+        }
+        Ok(())
+    }
+
+    // Reads the gate that the clauses state of the existential at a place, if they state one.
+    fn read_gate(&mut self, graph: &mut Graph, f: &Formula, place: usize) -> Result<(), Memory>
+        requires place { place < length f.now.existentials }
+        requires inputs { HasInputs f.now graph.old }
+        requires known { AreKnownIn f.now graph.old self.old }
+        ensures extends { Extends graph.old graph.new }
+        ensures known { OnOk result (AreKnownIn f.now graph.new self.new) }
+    {
+        f.every_formula_is_lawful();
+        let y = f.existentials()[place];
+        let Some(node) = self.gates.read(f, &self.ranks, y, graph)? else {
+            return Ok(());
+        };
+        self.note(place, Found::Defined(node));
+        Ok(())
     }
 
     // Asks for definitions of the existentials in this order.
