@@ -1,37 +1,24 @@
 -- What stands when a search has begun.
-use Rattle.std.proofs.Common.{◌≡◌, ◌≢◌, ◌⊎◌, inl, inr, ◌+◌, ◌-◌, ◌≤◌, ◌<◌, ℕ, zero, suc, Bool, true, List, [], ◌∷◌, ◌++◌, length, map, take, drop, get_or, slice_get, None, Some, OnOk, Result, Ok, Err, refl, sym, ◌∙◌, ap, subst, arith}
-use Rattle.std.specs.List.{Contains}
-use Rattle.std.specs.Option.{unwrap_or}
+use Rattle.std.proofs.Common.{◌≡◌, ◌⊎◌, inl, inr, ◌+◌, ◌-◌, ◌≤◌, ◌<◌, ℕ, zero, suc, false, List, [], ◌∷◌, ◌++◌, length, map, take, drop, slice_get, Some, OnOk, OnErr, Result, Ok, Err, refl, sym, ◌∙◌, ap, subst, arith}
 use Rattle.std.proofs.lemmas.List.{take_all}
 use Rattle.dq_lits.specs.Formula.{Dqbf, IsWellFormed}
-use Rattle.hint_log.specs.Entries.{Entry, Begun, ProofLog, with_entry, name_of}
-use Rattle.hint_log.specs.Growth.{Grew}
+use Rattle.hint_log.specs.Entries.{Entry, Begun, ProofLog, with_entry}
 use Rattle.hint_log.specs.Live.{last_live, live_numbers, before_beginning}
 use Rattle.hint_log.specs.Naming.{rows_of}
 use Rattle.hint_log.specs.ProductiveLog.{fault_groups, fault_room}
 use Rattle.hint_log.specs.ProductiveSession.{IsUndecidedSince}
-use Rattle.log_laws.specs.Engines.{copies}
-use Rattle.log_laws.specs.Sessions.{IsAddedLive, EnginesLeaveSessions}
 use Rattle.aig_graph.specs.Graph.{AigGraph}
-use Rattle.circuit_cnf.specs.declared.checkers.Checker.{Checker}
-use Rattle.circuit_cnf.specs.Checking.{IsChecker, CheckersStay, group_of}
-use Rattle.dq_session.specs.Books.{BookState, all_of, frames_of, live_of, now_of, IsBook, IsFullBook}
-use Rattle.dq_session.specs.Changes.{groups_of}
-use Rattle.dq_session.specs.Standing.{EnginesLeaveBooks, BeginningsLeaveBooks}
-use Rattle.padoa_definitions.specs.Copies.{IsPadoa}
-use Rattle.padoa_definitions.specs.Following.{AreOldOrNew}
+use Rattle.dq_session.specs.Books.{BookState, all_of, frames_of, live_of, now_of}
+use Rattle.dq_session.specs.Standing.{BeginningsLeaveBooks}
 use Rattle.padoa_definitions.specs.Leaving.{BeginningsLeaveStores}
-use Rattle.padoa_definitions.specs.Store.{IsCopyStore, copy_groups, store_of}
-use Rattle.padoa_definitions.specs.declared.padoa.Padoa.{Padoa}
 use Rattle.known_functions.specs.Searching.{HasInputs}
 use Rattle.repair_loop.specs.declared.desks.Desk.{Desk}
 use Rattle.repair_loop.specs.Beginning.{IsStanding, HasBegunUndecided, HasStarted}
-use Rattle.repair_loop.specs.Desks.{IsKept, AreApart, IsReady, HasBegun}
+use Rattle.repair_loop.specs.Desks.{IsReady, HasBegun}
 use Rattle.repair_loop.specs.Turning.{AreFaultsNew, IsSearch}
-use Rattle.repair_loop.proofs.LiveBooks.{now_formed, are_numbers, book_named}
-use Rattle.repair_loop.proofs.LiveGrowth.{checker_left, checker_begun, same_prefix, same_faults, same_room}
-use Rattle.repair_loop.proofs.LogGrowth.{log_grew, not_begun, begun_before}
-use Rattle.repair_loop.proofs.NewFaults.{others_new}
+use Rattle.repair_loop.proofs.LiveBooks.{now_formed, are_numbers}
+use Rattle.repair_loop.proofs.LiveGrowth.{checker_begun}
+use Rattle.repair_loop.proofs.LogGrowth.{not_begun, begun_before}
 
 mapped_one : {A B : Type 0} (f : A → B) (xs : List A) (i : ℕ) (x : A) → slice_get xs i ≡ Some x →
     map f (take i xs) ++ f x ∷ [] ≡ map f (take (suc i) xs)
@@ -116,13 +103,13 @@ pub on_ok : {T E : Type 0} (r : Result T E) (A B : Type 0) → (A → B) → OnO
 on_ok (Ok x) A B f a = f a
 on_ok (Err e) A B f a = tt
 
-pub on_any : {T E : Type 0} (r : Result T E) (A : Type 0) → A → OnOk r A
-on_any (Ok x) A a = a
-on_any (Err e) A a = tt
+-- what follows from success and from failure
+pub either_way : {T E : Type 0} (r : Result T E) (A B P : Type 0) → (A → P) → (B → P) → OnOk r A → OnErr r B → P
+either_way (Ok x) A B P f g a b = f a
+either_way (Err e) A B P f g a b = g b
 
-module _ (law : EnginesLeaveSessions) (books : EnginesLeaveBooks) (stay : CheckersStay)
-    (begun_books : BeginningsLeaveBooks) (begun_stores : BeginningsLeaveStores) (f : Dqbf) (b : BookState) (d : Desk)
-    (graph : AigGraph) (old mid new : ProofLog) (r : IsReady b d graph old.entries)
+module _ (begun_books : BeginningsLeaveBooks) (begun_stores : BeginningsLeaveStores) (f : Dqbf) (b : BookState) (d : Desk)
+    (graph : AigGraph) (old mid : ProofLog) (r : IsReady b d graph old.entries)
     (logged : mid ≡ with_entry old (Begun (live_of b))) (now : f ≡ now_of b) where
   abbrev all : Dqbf
   all = all_of b
@@ -134,12 +121,6 @@ module _ (law : EnginesLeaveSessions) (books : EnginesLeaveBooks) (stay : Checke
   mid_room : length (fault_groups mid.entries) < fault_room mid.entries
   mid_room = subst (λ (l : ProofLog). length (fault_groups l.entries) < fault_room l.entries) (sym logged)
       (begun_room b d graph old.entries (live_of b) r)
-
-  pub mid_few : length (fault_groups mid.entries) ≤ fault_room mid.entries
-  mid_few = let few = mid_room in omega (arith, few)
-
-  pub mid_stored : IsCopyStore all (frames_of b) d.padoa mid.entries
-  mid_stored = mid_standing.stored
 
   mid_undecided : IsUndecidedSince all mid.entries
   mid_undecided = subst (λ (l : ProofLog). IsUndecidedSince all l.entries) (sym logged) tt
@@ -153,125 +134,54 @@ module _ (law : EnginesLeaveSessions) (books : EnginesLeaveBooks) (stay : Checke
   mid_live : live_numbers mid.entries ≡ Some (live_of b)
   mid_live = ap (λ (l : ProofLog). live_numbers l.entries) logged
 
+  pub begun_undecided : HasBegunUndecided b old mid
+  begun_undecided = record {
+    begun = record {
+      more = [];
+      grown = ap (λ (l : ProofLog). l.entries) logged;
+      none = refl;
+      named = mid_live;
+    };
+    undecided = mid_undecided;
+    new_faults = mid_faults;
+  }
+
   -- nothing followed yet
   pub only_begun : (after : Desk) → after.checker ≡ d.checker → after.padoa ≡ d.padoa →
       after.begun.items ≡ last_live mid.entries → HasStarted b after old mid
   only_begun after checker padoa named = record {
     standing = subst (λ c. IsStanding b c after.padoa mid.entries) (sym checker)
         (subst (λ p. IsStanding b d.checker p mid.entries) (sym padoa) mid_standing);
-    began = inl (record {
-      begun = record {
-        more = [];
-        grown = ap (λ (l : ProofLog). l.entries) logged;
-        none = refl;
-        named = mid_live;
-      };
-      undecided = mid_undecided;
-      new_faults = mid_faults;
-    });
+    began = inl begun_undecided;
     named = named;
     limit = ap (λ (l : ProofLog). l.limit) logged;
   }
 
-  module _ (p : Padoa) (grew : Grew (IsAddedLive all copies (copy_groups d.padoa) true mid.entries) mid new)
-      (stored : IsCopyStore all (frames_of b) p new.entries)
-      (fresh : AreOldOrNew (store_of d.padoa) (store_of p) mid.entries) where
-    abbrev mine : List ℕ
-    mine = copy_groups d.padoa
-
-    off : (g h : ℕ) → Contains (groups_of b) g → Contains mine h → g ≢ h
-    off g h here there same = mid_standing.apart.copies h there (subst (Contains (groups_of b)) same here)
-
-    still_apart : AreApart b d.checker p
-    still_apart = record {
-      gates = mid_standing.apart.gates;
-      copies = λ g has here. off_book g (fresh g has) here;
-      copies_gates = λ has. off_gates (fresh (group_of d.checker) has);
-    }
-      where
-        off_book : (g : ℕ) → Contains mine g ⊎ (name_of mid.entries g ≡ None) → Contains (groups_of b) g → ⊥
-        off_book g (inl before) here = mid_standing.apart.copies g before here
-        off_book g (inr none) here = book_named b mid.entries mid_standing.book g here none
-
-        off_gates : Contains mine (group_of d.checker) ⊎ (name_of mid.entries (group_of d.checker) ≡ None) → ⊥
-        off_gates (inl before) = mid_standing.apart.copies_gates before
-        off_gates (inr none) = let is = mid_standing.checked.gates.made.named in cc
-
-    new_standing : IsStanding b d.checker p new.entries
-    new_standing =
-        let left = law all copies mine true mid new grew in
-        record {
-          kept = record {
-            origins = left.origins mid_standing.kept.origins;
-            new_rows = left.new_rows mid_standing.kept.new_rows;
-            models = left.models mid_standing.kept.models;
-            givens = left.givens mid_standing.kept.givens;
+  -- and no question may be asked yet
+  pub begun_search : (more : AigGraph) → HasInputs f more → IsSearch f more b d.checker d.padoa false mid.entries
+  begun_search more inputs =
+      let few = mid_room in
+      record {
+        here = record {
+          way = record {
+            formula = subst IsWellFormed (sym now) (now_formed b mid.entries mid_standing.book);
+            now_is = now;
+            live = mid_live;
+            kept = mid_standing.kept;
+            book = mid_standing.book;
+            checked = mid_standing.checked;
+            copied = λ on. cc;
+            stored = mid_standing.stored;
+            apart = mid_standing.apart;
+            faults = omega (arith, few);
+            new_faults = mid_faults;
           };
-          book = (books all b copies mine true mid new grew refl off).0 mid_standing.book;
-          checked = same_prefix b.file all.matrix b.file.matrix d.checker new.entries
-              (checker_left stay all copies mine true d.checker mid new refl mid_standing.apart.copies_gates grew
-              (same_prefix b.file b.file.matrix all.matrix d.checker mid.entries mid_standing.checked));
-          stored = stored;
-          apart = still_apart;
-        }
-
-    pub new_search : IsPadoa f p new.entries → (more : AigGraph) → HasInputs f more →
-        IsSearch f more b d.checker p new.entries
-    new_search copied more inputs =
-        let left = law all copies mine true mid new grew in
-        let s = new_standing in
-        let few = mid_room in
-        let many = ap length (same_faults all copies mine true mid new refl grew) in
-        let room = same_room all copies mine true mid new grew in
-        record {
-          here = record {
-            way = record {
-              formula = subst IsWellFormed (sym now) (now_formed b mid.entries mid_standing.book);
-              now_is = now;
-              live = left.live ∙ mid_live;
-              kept = s.kept;
-              book = s.book;
-              checked = s.checked;
-              copied = copied;
-              stored = s.stored;
-              apart = s.apart;
-              faults = omega (arith, few, many, room);
-              new_faults = others_new all copies mine true mid new refl grew left.before mid_faults;
-            };
-            rows = left.rows ∙ mid_rows;
-            undecided = left.decisions refl mid_undecided;
-          };
-          inputs = inputs;
-          room = omega (arith, few, many, room);
-        }
-
-    pub new_begun : HasBegunUndecided b old new
-    new_begun =
-        let left = law all copies mine true mid new grew in
-        let went = log_grew all copies mine true mid.entries mid new grew in
-        record {
-          begun = record {
-            more = went.more;
-            grown = went.grown ∙ ap (λ (l : ProofLog). went.more ++ l.entries) logged;
-            none = went.none;
-            named = left.live ∙ mid_live;
-          };
-          undecided = left.decisions refl mid_undecided;
-          new_faults = others_new all copies mine true mid new refl grew left.before mid_faults;
-        }
-
-    -- the copies followed
-    pub followed : (after : Desk) → after.checker ≡ d.checker → after.padoa ≡ p →
-        after.begun.items ≡ last_live mid.entries → HasStarted b after old new
-    followed after checker padoa named =
-        let left = law all copies mine true mid new grew in
-        record {
-          standing = subst (λ c. IsStanding b c after.padoa new.entries) (sym checker)
-              (subst (λ q. IsStanding b d.checker q new.entries) (sym padoa) new_standing);
-          began = inl new_begun;
-          named = named ∙ sym (ap (λ o. unwrap_or o []) left.live);
-          limit = grew.limit ∙ ap (λ (l : ProofLog). l.limit) logged;
-        }
+          rows = mid_rows;
+          undecided = mid_undecided;
+        };
+        inputs = inputs;
+        room = mid_room;
+      }
 
 -- what a beginning that was refused says
 pub start_undecided : (b : BookState) (after : Desk) (old new : ProofLog) → HasStarted b after old new →

@@ -1,5 +1,5 @@
 -- A desk behind a search is ready for the next one.
-use Rattle.std.proofs.Common.{◌≡◌, ℕ, List, [], ◌∷◌, ◌++◌, sym, ◌∙◌, ap, subst, arith}
+use Rattle.std.proofs.Common.{◌≡◌, ℕ, Bool, List, [], ◌∷◌, ◌++◌, sym, ◌∙◌, ap, subst, arith}
 use Rattle.std.specs.List.{Contains}
 use Rattle.std.specs.Option.{unwrap_or}
 use Rattle.dq_lits.specs.Expansion.{IsExpansionUnsatisfiable}
@@ -39,9 +39,9 @@ since_searched (Round row values j ∷ more) live old none tried =
     (some_live more live old, since_searched more live old none tried)
 since_searched (Begun numbers ∷ more) live old none tried = absurd (omega (arith, none))
 
-module _ (grouped : DesksAreGrouped) (f : Dqbf) (b after : BookState) (d e : Desk) (graph more : AigGraph)
+module _ (grouped : DesksAreGrouped) (f : Dqbf) (b after : BookState) (d e : Desk) (ready : Bool) (graph more : AigGraph)
     (old new : ProofLog) (r : IsReady b d graph old.entries) (begun : HasBegun (live_of b) old.entries new.entries)
-    (same : IsBookAfter b after) (way : IsUnderWay f after e.checker e.padoa new.entries)
+    (same : IsBookAfter b after) (way : IsUnderWay f after e.checker e.padoa ready new.entries)
     (rows : rows_of new.entries ≡ after.table.rows) (searched : IsSearched new.entries)
     (named : e.begun.items ≡ live_of b) (inputs : more.inputs ≡ graph.inputs) where
   session : IsProductiveSession (all_of after) (frames_of after) new.entries

@@ -1,18 +1,18 @@
 -- What a search over a whole file says of its formula.
-use Rattle.std.proofs.Common.{◌≡◌, ◌⊎◌, inl, inr, ◌+◌, ◌≤◌, ℕ, List, [], ◌∷◌, ◌++◌, length, None, Some, Result, Ok, Err, OnErr, refl, sym, ◌∙◌, ap, subst, arith}
+use Rattle.std.proofs.Common.{◌≡◌, ◌⊎◌, inl, inr, ℕ, List, [], ◌∷◌, ◌++◌, None, Result, Ok, Err, OnErr, sym, ◌∙◌, ap, subst, arith}
 use Rattle.std.specs.List.{Contains}
 use Rattle.dq_lits.specs.Expansion.{IsExpansionUnsatisfiable}
 use Rattle.dq_lits.specs.Formula.{Dqbf}
 use Rattle.hint_log.specs.Deciding.{IsUndecided}
 use Rattle.hint_log.specs.Entries.{Entry, Named, Given, Learned, Answer, Round, Begun, ProofLog, beginnings_of}
 use Rattle.hint_log.specs.Growth.{Each}
-use Rattle.hint_log.specs.Live.{live_numbers, before_beginning, formula_of}
+use Rattle.hint_log.specs.Live.{live_numbers, formula_of}
 use Rattle.hint_log.specs.Naming.{rows_of}
 use Rattle.hint_log.specs.ProductiveLog.{IsProductiveLog}
 use Rattle.hint_log.specs.ProductiveSession.{MatchesLiveOrigin, IsUndecidedSince}
 use Rattle.oracle.specs.Searched.{IsSearched}
 use Rattle.hint_log.specs.declared.stops.Stop.{Stop}
-use Rattle.dq_session.specs.Books.{BookState, all_of, frames_of, live_of, now_of}
+use Rattle.dq_session.specs.Books.{BookState, all_of, live_of, now_of}
 use Rattle.dq_session.specs.Changes.{begun}
 use Rattle.repair_loop.specs.Desks.{IsKept, IsOfSearch, HasBegun, IsAnsweredFalse}
 use Rattle.repair_loop.specs.Searching.{IsShownFalse}

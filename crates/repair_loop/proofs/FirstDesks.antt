@@ -1,27 +1,27 @@
 -- A desk for a file's book is ready for the first search.
-use Rattle.std.proofs.Common.{◌≡◌, ◌≢◌, ◌⊎◌, inl, inr, ◌+◌, ◌-◌, ◌≤◌, ◌<◌, ℕ, zero, suc, Bool, true, false, cond, List, [], ◌∷◌, ◌++◌, length, replicate, Option, None, Some, refl, sym, ◌∙◌, ap, subst, arith}
+use Rattle.std.proofs.Common.{◌≡◌, ◌≢◌, ◌⊎◌, inl, inr, ◌+◌, ℕ, zero, suc, Bool, true, false, cond, List, [], ◌∷◌, ◌++◌, length, replicate, None, Some, refl, sym, ◌∙◌, ap, subst, arith}
 use Rattle.std.specs.List.{Contains, filter, list_any}
 use Rattle.std.specs.Option.{unwrap_or}
 use Rattle.std.proofs.lemmas.List.{append-nil}
-use Rattle.dq_lits.specs.Formula.{Dqbf, IsWellFormed}
+use Rattle.dq_lits.specs.Formula.{Dqbf}
 use Rattle.dq_lits.specs.Literal.{Literal, negative, variable_of, same_literal}
 use Rattle.hint_log.specs.Deciding.{IsUndecided, DecidesTrue}
-use Rattle.hint_log.specs.Entries.{Entry, Named, Given, Learned, Answer, Round, Begun, ProofLog, name_of, rounds_of, beginnings_of}
+use Rattle.hint_log.specs.Entries.{Entry, Named, Given, Learned, Answer, Round, Begun, ProofLog, name_of}
 use Rattle.hint_log.specs.Growth.{Each, EachOf, Grew}
-use Rattle.hint_log.specs.Live.{live_numbers, last_live, live_formula, formula_by, with_matrix}
+use Rattle.hint_log.specs.Live.{live_numbers, live_formula, formula_by, with_matrix}
 use Rattle.hint_log.specs.Naming.{rows_of}
 use Rattle.hint_log.specs.ProductiveLog.{MatchesOrigin, IsProductiveLog, fault_groups, with_group}
-use Rattle.hint_log.specs.ProductiveSession.{MatchesLiveOrigin, AreGroupedByFrames, IsProductiveSession}
+use Rattle.hint_log.specs.ProductiveSession.{MatchesLiveOrigin}
 use Rattle.hint_log.specs.declared.origins.Origin.{Origin}
 use Rattle.hint_log.specs.declared.origins.Origin.TheVariants.{Instance, Gate, Fault, Copy, Link, TermGate, Differ}
 use Rattle.log_laws.specs.Engines.{Engine, circuits, instances, copies, same_engine, is_own, is_engine, name_engine, origin_engine, HasNone, IsAddedBy, EnginesLeaveRest}
-use Rattle.log_laws.specs.Sessions.{IsAddedLive, CircuitsAddLive, EnginesLeaveSessions, PlainLogsAreSessions}
+use Rattle.log_laws.specs.Sessions.{IsAddedLive, EnginesLeaveSessions, PlainLogsAreSessions}
 use Rattle.oracle.specs.Searched.{IsSearched}
 use Rattle.aig_graph.specs.Graph.{AigGraph}
 use Rattle.circuit_cnf.specs.declared.checkers.Checker.{Checker}
 use Rattle.circuit_cnf.specs.Checking.{IsChecker, group_of}
 use Rattle.dq_session.specs.Books.{BookState, all_of, frames_of, IsBook}
-use Rattle.dq_session.specs.Changes.{begun, groups_of}
+use Rattle.dq_session.specs.Changes.{groups_of}
 use Rattle.dq_session.specs.Standing.{EnginesLeaveBooks}
 use Rattle.padoa_definitions.specs.Leaving.{EnginesLeaveStores}
 use Rattle.padoa_definitions.specs.Store.{IsCopyStore, copy_groups, store_of}

@@ -1,6 +1,6 @@
 -- A session stays one where clauses are numbered behind all others: what the log says of clauses it
 -- says of those that were numbered before.
-use Rattle.std.proofs.Common.{◌≡◌, ℕ, zero, suc, ◌+◌, ◌-◌, ◌≤◌, ◌<◌, ◌↔◌, Bool, false, List, [], ◌∷◌, ◌++◌, length, get_or, slice_get, Option, None, Some, IsSome, refl, sym, ◌∙◌, ap, subst, arith}
+use Rattle.std.proofs.Common.{◌≡◌, ℕ, zero, suc, ◌+◌, ◌-◌, ◌≤◌, false, List, [], ◌∷◌, ◌++◌, length, Option, None, Some, IsSome, refl, sym, ◌∙◌, ap, subst, arith}
 use Rattle.std.specs.List.{All, Contains, filter_map, cons_option}
 use Rattle.std.proofs.lemmas.List.{length-append, get_or_append_left}
 use Rattle.std.proofs.lemmas.List.Elements.{All-head, All-tail}
@@ -8,11 +8,11 @@ use Rattle.dq_lits.specs.Literal.{Literal, negative}
 use Rattle.dq_lits.specs.Formula.{Dqbf}
 use Rattle.hint_log.specs.Entries.{Entry, Named, Given, Learned, Answer, Round, Begun}
 use Rattle.hint_log.specs.Growth.{Each}
-use Rattle.hint_log.specs.Live.{live_numbers, with_matrix, formula_of, formula_by, live_formula, AreNumbers}
+use Rattle.hint_log.specs.Live.{live_numbers, with_matrix, formula_by, live_formula, AreNumbers}
 use Rattle.hint_log.specs.Naming.{numbered_from_one}
 use Rattle.hint_log.specs.Origins.{IsRestOf, IsOriginsClause}
-use Rattle.hint_log.specs.ProductiveLog.{MatchesOrigin, RefutesNewRow, FollowsModel, is_fault}
-use Rattle.hint_log.specs.ProductiveSession.{MatchesLiveOrigin, RefutesNewLiveRow, FollowsLiveModel, ShareGroup, AreGroupedByFrames, IsProductiveSession, frame_of}
+use Rattle.hint_log.specs.ProductiveLog.{RefutesNewRow, FollowsModel, is_fault}
+use Rattle.hint_log.specs.ProductiveSession.{MatchesLiveOrigin, RefutesNewLiveRow, FollowsLiveModel, AreGroupedByFrames, IsProductiveSession, frame_of}
 use Rattle.hint_log.specs.declared.origins.Origin.{Origin}
 use Rattle.hint_log.specs.declared.origins.Origin.TheVariants.{Instance, Gate, Fault, Copy, Link, TermGate, Differ}
 use Rattle.dq_session.proofs.AddedClauses.{numbered_more, numbered_within}

@@ -19,3 +19,6 @@ mod WholeFormulas
 mod FileDecisions
 mod EndedDesks
 mod FirstDesks
+mod PrefixCopies
+mod FollowedCopies
+mod Constants

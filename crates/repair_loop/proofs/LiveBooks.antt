@@ -2,24 +2,22 @@
 use Rattle.std.proofs.Common.{◌≡◌, ◌⊎◌, inl, inr, ◌+◌, ◌-◌, ◌≤◌, ◌<◌, ℕ, zero, suc, List, [], ◌∷◌, ◌++◌, length, map, replicate, get_or, slice_get, slice_index_or, Option, None, Some, refl, sym, ◌∙◌, ap, subst, arith}
 use Rattle.std.specs.List.{All, Contains, filter_map, cons_option}
 use Rattle.std.proofs.lemmas.Bool.{cases_lt}
-use Rattle.std.proofs.lemmas.List.{length-append, length-replicate, length-map, get_or-map, get_or_append_left}
-use Rattle.std.proofs.lemmas.List.Elements.{All-cons, All-nil, All-contains, Contains-get_or}
-use Rattle.std.proofs.lemmas.Option.{slice_get-get_or, slice_get_within}
+use Rattle.std.proofs.lemmas.List.{length-append, length-map, get_or-map}
+use Rattle.std.proofs.lemmas.List.Elements.{All-cons, All-nil, All-contains}
+use Rattle.std.proofs.lemmas.Option.{slice_get-get_or}
 use Rattle.dq_lits.specs.Literal.{Literal, variable_of}
 use Rattle.dq_lits.specs.Formula.{Dqbf, IsWellFormed, declared}
 use Rattle.hint_log.specs.Entries.{Entry, name_of}
-use Rattle.hint_log.specs.Live.{AreNumbers, formula_of}
+use Rattle.hint_log.specs.Live.{AreNumbers}
 use Rattle.hint_log.specs.Naming.{numbered_from_one}
 use Rattle.hint_log.specs.ProductiveSession.{frame_of}
-use Rattle.dq_session.specs.Books.{BookState, IsOpen, IsStack, IsBook, number_at, number_of, frame_at, all_of, frames_of, live_of, now_of}
+use Rattle.dq_session.specs.Books.{BookState, IsOpen, IsBook, number_at, number_of, frame_at, all_of, frames_of, live_of, now_of}
 use Rattle.dq_session.specs.Changes.{groups_of}
 use Rattle.dq_session.specs.declared.live.Live.{Live}
 use Rattle.dq_session.proofs.FreshGroups.{group_at}
 use Rattle.dq_session.proofs.LiveFormulas.{live_within}
-use Rattle.dq_session.proofs.Stacks.{contains_at, live_at, live_there}
 use Rattle.log_laws.proofs.Found.{numbered_among}
 use Rattle.padoa_definitions.specs.Following.{IsLiveFormula}
-use Rattle.repair_loop.proofs.ReadyDesks.{as_many_frames}
 
 -- clauses that are taken by their numbers are bound as all are
 taken_bound : (P : List Literal → Type 0) (m : List (List Literal)) (js : List ℕ) → All P m →

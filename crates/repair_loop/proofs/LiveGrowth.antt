@@ -1,13 +1,12 @@
 -- What engines add in a session: which groups get faults, what room there is for them, and what leaves a
 -- checker as it is. Questions add so little that any engine may have added it.
-use Rattle.std.proofs.Common.{◌≡◌, ◌≢◌, ℕ, zero, suc, ◌+◌, ◌-◌, Bool, true, false, inl, inr, ◌⊎◌, List, [], ◌∷◌, ◌++◌, length, map, Option, None, Some, IsSome, refl, sym, ◌∙◌, ap, subst, arith}
+use Rattle.std.proofs.Common.{◌≡◌, ◌≢◌, ℕ, zero, suc, ◌+◌, ◌-◌, Bool, true, false, inl, inr, ◌⊎◌, List, [], ◌∷◌, ◌++◌, Option, None, Some, IsSome, refl, sym, ◌∙◌, ap, subst, arith}
 use Rattle.std.specs.List.{Contains}
-use Rattle.std.proofs.lemmas.List.Elements.{Contains-append_right}
-use Rattle.dq_lits.specs.Literal.{Literal, negative}
+use Rattle.dq_lits.specs.Literal.{Literal}
 use Rattle.dq_lits.specs.Formula.{Dqbf}
 use Rattle.hint_log.specs.Deciding.{DecidesNothing}
-use Rattle.hint_log.specs.Entries.{Entry, Named, Given, Learned, Answer, Round, Begun, ProofLog, with_entry, name_of, rounds_of, beginnings_of}
-use Rattle.hint_log.specs.Growth.{Each, EachOf, Grew}
+use Rattle.hint_log.specs.Entries.{Entry, Named, Given, Learned, Answer, Round, Begun, ProofLog, name_of, rounds_of, beginnings_of}
+use Rattle.hint_log.specs.Growth.{EachOf, Grew}
 use Rattle.hint_log.specs.Live.{live_numbers, live_formula, formula_by, with_matrix}
 use Rattle.hint_log.specs.ProductiveLog.{MatchesOrigin, fault_groups, fault_room}
 use Rattle.hint_log.specs.ProductiveSession.{MatchesLiveOrigin}
@@ -15,12 +14,11 @@ use Rattle.hint_log.specs.declared.origins.Origin.{Origin}
 use Rattle.hint_log.specs.declared.origins.Origin.TheVariants.{Instance, Gate, Fault, Copy, Link, TermGate, Differ}
 use Rattle.hint_log.specs.declared.names.Name.{Name}
 use Rattle.hint_log.specs.declared.names.Name.TheVariants.{Selector}
-use Rattle.log_laws.specs.Engines.{Engine, circuits, instances, same_engine, origin_engine, IsInGroup, IsInNewGroup, IsGivenBy, IsAddedBy}
-use Rattle.log_laws.specs.Sessions.{IsAddedLive, IsGivenLive}
+use Rattle.log_laws.specs.Engines.{Engine, circuits, same_engine, origin_engine, IsAddedBy}
+use Rattle.log_laws.specs.Sessions.{IsAddedLive}
 use Rattle.log_laws.proofs.LargerLogs.{grown_by}
 use Rattle.circuit_cnf.specs.declared.checkers.Checker.{Checker}
 use Rattle.circuit_cnf.specs.Checking.{IsChecker, CheckersStay, group_of}
-use Rattle.circuit_cnf.specs.Gates.{AreKnown, HasGateClauses, IsUnfinished}
 use Rattle.known_functions.specs.Searching.{IsAsked}
 
 asked_formula : (f : Dqbf) (more old : List Entry) → EachOf (IsAsked f) more old →

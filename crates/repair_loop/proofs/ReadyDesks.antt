@@ -1,22 +1,19 @@
 -- A desk stays ready where frames and clauses come and go.
-use Rattle.std.proofs.Common.{◌≡◌, ℕ, ◌+◌, ◌≤◌, List, [], ◌∷◌, ◌++◌, length, replicate, Option, None, Some, refl, sym, ◌∙◌, ap, subst, arith, append_assoc}
-use Rattle.std.specs.List.{All, Contains, filter_map, cons_option}
+use Rattle.std.proofs.Common.{◌≡◌, ℕ, List, [], ◌∷◌, ◌++◌, length, replicate, Option, None, refl, ap, subst, arith, append_assoc}
+use Rattle.std.specs.List.{Contains, filter_map, cons_option}
 use Rattle.std.specs.Option.{option_map}
-use Rattle.std.proofs.lemmas.List.{length-append, length-replicate, append-nil}
-use Rattle.dq_lits.specs.Literal.{Literal}
-use Rattle.dq_lits.specs.Formula.{Dqbf}
+use Rattle.std.proofs.lemmas.List.{length-append, length-replicate}
 use Rattle.hint_log.specs.Entries.{Entry}
 use Rattle.hint_log.specs.Live.{with_matrix}
 use Rattle.hint_log.specs.ProductiveSession.{IsProductiveSession}
 use Rattle.oracle.specs.declared.groups.Group.{Group}
 use Rattle.circuit_cnf.specs.Checking.{group_of}
 use Rattle.dq_session.specs.Books.{BookState, number_of, all_of, frames_of, IsBook}
-use Rattle.dq_session.specs.Changes.{newest, groups_of, with_frame, with_clause, without_frame}
+use Rattle.dq_session.specs.Changes.{newest, groups_of, with_frame, with_clause}
 use Rattle.dq_session.specs.Changing.{FramesOpen as OpenFramesLeaveBooks, FramesClose as ClosedFramesLeaveBooks, ClausesCome as ClausesLeaveBooks}
 use Rattle.padoa_definitions.specs.Leaving.{ClausesLeaveStores}
 use Rattle.padoa_definitions.specs.Store.{IsCopyStore}
 use Rattle.repair_loop.specs.Changes.{FramesOpen, FramesClose, ClausesCome}
-use Rattle.repair_loop.specs.Desks.{AreApart}
 use Rattle.repair_loop.proofs.GrownSessions.{session_grows}
 
 none_more : (groups : List (Option Group)) →

@@ -47,7 +47,7 @@ book_then a b c one two = record {
   many_groups = two.many_groups ∙ one.many_groups;
 }
 
-still_kept : EnginesLeaveSessions → (all : Dqbf) (engine : Engine) (groups : List ℕ) (silent : Bool)
+pub still_kept : EnginesLeaveSessions → (all : Dqbf) (engine : Engine) (groups : List ℕ) (silent : Bool)
     (old new : ProofLog) → Grew (IsAddedLive all engine groups silent old.entries) old new → IsKept all old.entries →
     IsKept all new.entries
 still_kept law all engine groups silent old new grew kept =
@@ -60,18 +60,19 @@ still_kept law all engine groups silent old new grew kept =
     }
 
 -- the search's formula is the log's
-now_live : (f : Dqbf) (b : BookState) (c : Checker) (p : Padoa) (es : List Entry) → IsUnderWay f b c p es →
+now_live : (f : Dqbf) (b : BookState) (c : Checker) (p : Padoa) (ready : Bool) (es : List Entry) →
+    IsUnderWay f b c p ready es →
     f ≡ live_formula (all_of b) es
-now_live f b c p es way = way.now_is ∙ sym (ap (formula_by (all_of b)) way.live)
+now_live f b c p ready es way = way.now_is ∙ sym (ap (formula_by (all_of b)) way.live)
 
 no_groups : (p : List ℕ) (g h : ℕ) → Contains p g → Contains [] h → g ≢ h
 no_groups p g h mine (k, below, is) same = absurd (omega (arith, below))
 
 pub questions_left : EnginesLeaveSessions → EnginesLeaveBooks → EnginesLeaveStores → CheckersStay →
     QuestionsLeaveSearches
-questions_left law books stores stay f b c p old new asked copied way =
+questions_left law books stores stay f b c p ready old new asked copied way =
     let all = all_of b in
-    let now = now_live f b c p old.entries way in
+    let now = now_live f b c p ready old.entries way in
     let mine = asked_live all f copies [] old new now asked in
     let other = asked_live all f instances [] old new now asked in
     let left = law all copies [] true old new mine in
@@ -114,10 +115,10 @@ only_one group h (suc k, below, is) = absurd (omega (arith, below))
 
 pub turns_left : EnginesLeaveSessions → CircuitsAddLive → EnginesLeaveBooks → EnginesLeaveStores →
     SessionsLeaveCopies → ActiveGroupsAreStored → TurnsLeaveSearches
-turns_left law add books stores sessions active f b c d p silent old new turned way =
+turns_left law add books stores sessions active f b c d p ready silent old new turned way =
     let all = all_of b in
     let group = group_of c in
-    let now = now_live f b c p old.entries way in
+    let now = now_live f b c p ready old.entries way in
     let grew = add all group silent old new
     (subst (λ g. Grew (IsAddedBy g circuits group silent old.entries) old new) now turned.grew) in
     let left = law all circuits (group ∷ []) silent old new grew in
@@ -136,9 +137,9 @@ turns_left law add books stores sessions active f b c d p silent old new turned 
           book = (books all b circuits (group ∷ []) silent old new grew refl off_books).0 way.book;
           checked = same_prefix b.file (now_of b).matrix b.file.matrix d new.entries
               (subst (λ g. IsChecker g d new.entries) way.now_is turned.checker);
-          copied = sessions f all p circuits (group ∷ []) silent old new grew
+          copied = λ on. sessions f all p circuits (group ∷ []) silent old new grew
               (λ g h mine one. off_copies g h (active all (frames_of b) p old.entries way.stored g mine) one)
-              way.copied;
+              (way.copied on);
           stored = stores all all (frames_of b) p circuits (group ∷ []) silent old new grew refl off_copies way.stored;
           apart = record {
             gates = λ inside. way.apart.gates (subst (Contains (groups_of b)) turned.group inside);
@@ -160,7 +161,7 @@ turns_left law add books stores sessions active f b c d p silent old new turned 
 
 pub instances_left : EnginesLeaveSessions → EnginesLeaveStores → SessionsLeaveCopies → ActiveGroupsAreStored →
     CheckersStay → InstancesLeaveSearches
-instances_left law stores sessions active stay f b after c p silent old new grew step book fresh way =
+instances_left law stores sessions active stay f b after c p ready silent old new grew step book fresh way =
     let same = step.same in
     let all = all_of b in
     let groups = groups_of b in
@@ -187,8 +188,8 @@ instances_left law stores sessions active stay f b after c p silent old new grew
             book = book;
             checked = subst (λ g. IsChecker g c new.entries) (sym file_same)
                 (same_prefix b.file all.matrix b.file.matrix c new.entries checked);
-            copied = sessions f all p instances groups silent old new grew
-                (λ g h mine other. off g h (active all (frames_of b) p old.entries way.stored g mine) other) way.copied;
+            copied = λ on. sessions f all p instances groups silent old new grew
+                (λ g h mine other. off g h (active all (frames_of b) p old.entries way.stored g mine) other) (way.copied on);
             stored = subst (λ (x : BookState). IsCopyStore (all_of x) (frames_of x) p new.entries) (sym same) stored;
             apart = apart_still b.file all (frames_of b) b after c p old.entries way.checked way.stored fresh way.apart;
             faults = omega (arith, few, many, room);
@@ -208,12 +209,12 @@ instances_left law stores sessions active stay f b after c p silent old new grew
 -- what a failure of candidates comes to, whether the log has room for its round or not
 pub failure_round : FailuresRefuteRows → RoundsLeaveBooks → CheckersStayWithRounds → RoundsLeaveCopies →
     RoundsLeaveStores → FailuresAreRounds
-failure_round refute books checkers copies_stay stores f b c p entries output row values j o are bad =
+failure_round refute books checkers copies_stay stores f b c p ready entries output row values j o are bad =
     let way = o.way in
     let all = all_of b in
     let well = way.formula in
     let rows = b.table.rows in
-    let now = now_live f b c p entries way in
+    let now = now_live f b c p ready entries way in
     let new : IsNewFailure f entries row values j = refute f output entries row values j bad
     (λ inside. no_old_row f well.prefix rows are.points output are.are_points are.agree row values j bad
     (subst (λ rs. Contains rs row) o.rows inside)) in
@@ -237,7 +238,7 @@ failure_round refute books checkers copies_stay stores f b c p entries output ro
           };
           book = left.0;
           checked = checkers b.file c entries row values j way.checked;
-          copied = copies_stay f p entries row values j way.copied;
+          copied = λ on. copies_stay f p entries row values j (way.copied on);
           stored = stores all (frames_of b) p entries row values j way.stored;
           apart = way.apart;
           faults = omega (arith, few);

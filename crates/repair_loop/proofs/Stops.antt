@@ -23,12 +23,12 @@ pub by_lemma : (f : Dqbf) (log : ProofLog) → IsAtSomeLimit log → IsStoppedAt
 by_lemma f log at = record { reached = at.1.reached; next = inl (at.0, at.1.next) }
 
 -- a round could be logged
-pub by_round : FailuresAreRounds → (f : Dqbf) (b : BookState) (c : Checker) (p : Padoa) (log : ProofLog) (output : _)
-    → IsOpen f b c p log.entries → AreCandidates f b.table.rows output
+pub by_round : FailuresAreRounds → (f : Dqbf) (b : BookState) (c : Checker) (p : Padoa) (ready : Bool) (log : ProofLog)
+    (output : _) → IsOpen f b c p ready log.entries → AreCandidates f b.table.rows output
     → (row values : List Bool) (j : ℕ) → IsFailure f output row values j → steps_of log.entries ≡ log.limit →
     IsStoppedAtLimit f log
-by_round law f b c p log output o are row values j bad reached =
-    let next = law f b c p log.entries output row values j o are bad in
+by_round law f b c p ready log output o are row values j bad reached =
+    let next = law f b c p ready log.entries output row values j o are bad in
     record {
       reached = reached;
       next = inr (record { row = row; values = values; j = j; refutes = next.0; follows = next.1 });

@@ -1,7 +1,6 @@
 -- The groups of a store were made, and stand apart from others that were made since.
-use Rattle.std.proofs.Common.{◌≡◌, ◌⊎◌, ℕ, zero, suc, ◌+◌, ◌≤◌, ◌<◌, inl, inr, List, [], ◌∷◌, ◌++◌, length, map, get_or, slice_get, Option, None, Some, refl, sym, ◌∙◌, ap, subst, arith}
+use Rattle.std.proofs.Common.{◌≡◌, ◌⊎◌, ℕ, zero, suc, inl, inr, List, [], ◌∷◌, ◌++◌, map, slice_get, Option, None, Some, refl, subst, arith}
 use Rattle.std.specs.List.{Contains}
-use Rattle.std.proofs.lemmas.Bool.{cases_lt}
 use Rattle.hint_log.specs.Entries.{Entry, name_of}
 use Rattle.dq_lits.specs.Formula.{Dqbf}
 use Rattle.oracle.specs.Calls.{IsMade}
@@ -11,7 +10,7 @@ use Rattle.circuit_cnf.specs.Checking.{IsChecker, group_of}
 use Rattle.dq_session.specs.Books.{BookState}
 use Rattle.dq_session.specs.Changes.{groups_of}
 use Rattle.padoa_definitions.specs.Copies.{group_variable}
-use Rattle.padoa_definitions.specs.Store.{StoreState, Slot, of_frame, of_link, both_groups, store_groups, store_of, copy_groups, IsStore, IsCopyStore}
+use Rattle.padoa_definitions.specs.Store.{StoreState, of_frame, both_groups, store_groups, store_of, copy_groups, IsStore, IsCopyStore}
 use Rattle.padoa_definitions.specs.declared.frames.Sides.{Sides}
 use Rattle.padoa_definitions.specs.declared.padoa.Padoa.{Padoa}
 use Rattle.repair_loop.specs.Desks.{AreApart}

@@ -35,17 +35,17 @@ use Rattle.repair_loop.proofs.LogGrowth.{log_then, log_same}
 use Rattle.repair_loop.proofs.Stages.{book_then, same_book}
 use Rattle.repair_loop.proofs.UnnamedBefore.{unnamed_since}
 
-pub went_then : (f : Dqbf) (a b e : BookState) (c d g : Checker) (p : Padoa) (old mid new : ProofLog) →
-    HasGoneOn f a b c d p old mid → HasGoneOn f b e d g p mid new → HasGoneOn f a e c g p old new
-went_then f a b e c d g p old mid new one two = record {
+pub went_then : (f : Dqbf) (a b e : BookState) (c d g : Checker) (p : Padoa) (ready : Bool) (old mid new : ProofLog) →
+    HasGoneOn f a b c d p ready old mid → HasGoneOn f b e d g p ready mid new → HasGoneOn f a e c g p ready old new
+went_then f a b e c d g p ready old mid new one two = record {
   way = two.way;
   book = book_then a b e one.book two.book;
   grew = log_then old mid new one.grew two.grew;
 }
 
-pub nothing_went : (f : Dqbf) (b : BookState) (c : Checker) (p : Padoa) (log : ProofLog) →
-    IsUnderWay f b c p log.entries → HasGoneOn f b b c c p log log
-nothing_went f b c p log way = record { way = way; book = same_book b; grew = log_same log log refl }
+pub nothing_went : (f : Dqbf) (b : BookState) (c : Checker) (p : Padoa) (ready : Bool) (log : ProofLog) →
+    IsUnderWay f b c p ready log.entries → HasGoneOn f b b c c p ready log log
+nothing_went f b c p ready log way = record { way = way; book = same_book b; grew = log_same log log refl }
 
 pub caught_up_after : (b after : BookState) → IsCaughtUp b after → IsBookAfter b after
 caught_up_after b after up = record {
@@ -66,27 +66,27 @@ row_after b after same = record {
 }
 
 -- nothing was decided
-pub left_open : (f : Dqbf) (b after : BookState) (c d : Checker) (p : Padoa) (silent : Bool) (old new : ProofLog) →
-    silent ≡ true → IsLeft f b after c d p silent old new → rows_of new.entries ≡ after.table.rows →
-    IsUndecidedSince (all_of b) old.entries → IsOpen f after d p new.entries
-left_open f b after c d p silent old new quiet left rows before = record {
+pub left_open : (f : Dqbf) (b after : BookState) (c d : Checker) (p : Padoa) (ready : Bool) (silent : Bool) (old new : ProofLog) →
+    silent ≡ true → IsLeft f b after c d p ready silent old new → rows_of new.entries ≡ after.table.rows →
+    IsUndecidedSince (all_of b) old.entries → IsOpen f after d p ready new.entries
+left_open f b after c d p ready silent old new quiet left rows before = record {
   way = left.went.way;
   rows = rows;
   undecided = subst (λ a. IsUndecidedSince a new.entries) (sym (ap all_of left.went.book.same))
       (left.undecided quiet before);
 }
 
-pub left_search : (f : Dqbf) (graph more : AigGraph) (b after : BookState) (c d : Checker) (p : Padoa) (silent : Bool)
-    (old new : ProofLog) → silent ≡ true → IsLeft f b after c d p silent old new →
+pub left_search : (f : Dqbf) (graph more : AigGraph) (b after : BookState) (c d : Checker) (p : Padoa) (ready : Bool) (silent : Bool)
+    (old new : ProofLog) → silent ≡ true → IsLeft f b after c d p ready silent old new →
     fault_groups new.entries ≡ fault_groups old.entries → rows_of new.entries ≡ after.table.rows →
     more.inputs ≡ graph.inputs →
-    IsSearch f graph b c p old.entries → IsSearch f more after d p new.entries
-left_search f graph more b after c d p silent old new quiet left faults rows same s =
+    IsSearch f graph b c p ready old.entries → IsSearch f more after d p ready new.entries
+left_search f graph more b after c d p ready silent old new quiet left faults rows same s =
     let few = s.room in
     let many = ap length faults in
     let room = left.room in
     record {
-      here = left_open f b after c d p silent old new quiet left rows s.here.undecided;
+      here = left_open f b after c d p ready silent old new quiet left rows s.here.undecided;
       inputs = same ∙ s.inputs;
       room = omega (arith, few, many, room);
     }
@@ -113,15 +113,15 @@ answered_false b after log id same rows none shown = record {
 }
 
 -- a round's row is the same
-pub round_after : (f : Dqbf) (b : BookState) (c : Checker) (p : Padoa) (row here : List Bool) (old mid new : ProofLog) →
-    row ≡ here → LogGrew old mid → IsNewRound f b c p row mid new → IsNewRound f b c p here old new
-round_after f b c p row here old mid new same grew round =
+pub round_after : (f : Dqbf) (b : BookState) (c : Checker) (p : Padoa) (ready : Bool) (row here : List Bool) (old mid new : ProofLog) →
+    row ≡ here → LogGrew old mid → IsNewRound f b c p ready row mid new → IsNewRound f b c p ready here old new
+round_after f b c p ready row here old mid new same grew round =
     let steps = grew.steps in
     let limit = grew.limit in
     let more = round.step in
     let within = round.within in
     record {
-      logged = subst (λ r. IsRoundLogged f b c p r new.entries) same round.logged;
+      logged = subst (λ r. IsRoundLogged f b c p ready r new.entries) same round.logged;
       step = omega (arith, steps, more);
       within = omega (arith, steps, limit, within);
     }
@@ -136,23 +136,23 @@ stopped_on f b log r e was s = record {
 }
 
 -- with its row a book is whole again
-pub row_search : InstancesLeaveSearches → (f : Dqbf) (graph : AigGraph) (b after : BookState) (c : Checker) (p : Padoa)
+pub row_search : InstancesLeaveSearches → (f : Dqbf) (graph : AigGraph) (b after : BookState) (c : Checker) (p : Padoa) (ready : Bool)
     (row : List Bool) (old new : ProofLog)
-    → IsRoundLogged f b c p row old.entries
+    → IsRoundLogged f b c p ready row old.entries
     → Grew (IsAddedLive (all_of b) instances (groups_of b) true old.entries) old new
     → after ≡ record b { table = after.table } → after.table.group ≡ b.table.group → IsFullBook after new.entries
-    → HasInputs f graph → IsLeft f b after c c p true old new × IsSearch f graph after c p new.entries
-row_search law f graph b after c p row old new a grew same group full inputs =
+    → HasInputs f graph → IsLeft f b after c c p ready true old new × IsSearch f graph after c p ready new.entries
+row_search law f graph b after c p ready row old new a grew same group full inputs =
     let groups : groups_of after ≡ groups_of b =
     ap groups_of same ∙ ap (λ g. g ∷ filter_map (option_map number_of) b.groups) group in
-    let left = law f b after c p true old new grew (row_after b after same) full.book
+    let left = law f b after c p ready true old new grew (row_after b after same) full.book
     (λ n has. inl (subst (λ gs. Contains gs n) groups has)) a.way in
     let few = a.room in
     let many = ap length left.1 in
     let room = left.0.room in (
       left.0,
       record {
-        here = left_open f b after c c p true old new refl left.0 full.rows a.undecided;
+        here = left_open f b after c c p ready true old new refl left.0 full.rows a.undecided;
         inputs = inputs;
         room = omega (arith, few, many, room);
       },
@@ -163,11 +163,11 @@ pub after_undecided : (b after : BookState) (es : List Entry) → IsBookAfter b 
 after_undecided b after es same u = subst (λ g. IsUndecidedSince g es) (sym (ap all_of same.same)) u
 
 -- the book's model
-pub model_of : (f : Dqbf) (b after : BookState) (points : PointState) (es : List Entry) (c : Checker) (p : Padoa) →
-    IsUnderWay f b c p es → IsCaughtUp b after → points.variables ≡ b.table.existentials →
+pub model_of : (f : Dqbf) (b after : BookState) (points : PointState) (es : List Entry) (c : Checker) (p : Padoa) (ready : Bool) →
+    IsUnderWay f b c p ready es → IsCaughtUp b after → points.variables ≡ b.table.existentials →
     length points.rows ≡ length b.table.rows → ArePoints (now_of b) b.table.rows (point_bits points) →
     IsModel f after.table points
-model_of f b after points es c p way up variables rows model =
+model_of f b after points es c p ready way up variables rows model =
     let table : after.table ≡ b.table = ap (λ (x : BookState). x.table) up.same in
     subst (λ t. IsModel f t points) (sym table) (record {
       whole = subst (λ g. All (λ row. length row ≡ length g.universals) b.table.rows) (sym way.now_is)
@@ -210,9 +210,9 @@ answered_true supported decide f graph rows nodes old log id built holds same si
     }
 
 -- a search that went on, so far
-pub ended_by : (f : Dqbf) (b after : BookState) (c d : Checker) (p : Padoa) (old new : ProofLog) →
-    HasGoneOn f b after c d p old new → HasEnded b after old new
-ended_by f b after c d p old new went = record {
+pub ended_by : (f : Dqbf) (b after : BookState) (c d : Checker) (p : Padoa) (ready : Bool) (old new : ProofLog) →
+    HasGoneOn f b after c d p ready old new → HasEnded b after old new
+ended_by f b after c d p ready old new went = record {
   kept = subst (λ a. IsKept a new.entries) (ap all_of went.book.same) went.way.kept;
   new_faults = went.way.new_faults;
   book = went.book;
@@ -220,21 +220,31 @@ ended_by f b after c d p old new went = record {
 }
 
 -- what a search came to that had gone on before
-pub ended_then : (f : Dqbf) (b mid after : BookState) (c d : Checker) (p : Padoa) (old between new : ProofLog) →
-    HasGoneOn f b mid c d p old between → HasEnded mid after between new → HasEnded b after old new
-ended_then f b mid after c d p old between new went ended = record {
+pub ended_then : (f : Dqbf) (b mid after : BookState) (c d : Checker) (p : Padoa) (ready : Bool) (old between new : ProofLog) →
+    HasGoneOn f b mid c d p ready old between → HasEnded mid after between new → HasEnded b after old new
+ended_then f b mid after c d p ready old between new went ended = record {
   kept = subst (λ a. IsKept a new.entries) (ap all_of went.book.same) ended.kept;
   new_faults = ended.new_faults;
   book = book_then b mid after went.book ended.book;
   grew = log_then old between new went.grew ended.grew;
 }
 
+-- two parts of a search, one behind the other
+pub ended_both : (b mid after : BookState) (old between new : ProofLog) →
+    HasEnded b mid old between → HasEnded mid after between new → HasEnded b after old new
+ended_both b mid after old between new one two = record {
+  kept = subst (λ a. IsKept a new.entries) (ap all_of one.book.same) two.kept;
+  new_faults = two.new_faults;
+  book = book_then b mid after one.book two.book;
+  grew = log_then old between new one.grew two.grew;
+}
+
 -- a row was refused
-pub row_refused : InstancesLeaveLogs → (f : Dqbf) (b after : BookState) (c : Checker) (p : Padoa) (row : List Bool)
-    (first old new : ProofLog) (start : BookState) → HasEnded start b first old → IsRoundLogged f b c p row old.entries
+pub row_refused : InstancesLeaveLogs → (f : Dqbf) (b after : BookState) (c : Checker) (p : Padoa) (ready : Bool) (row : List Bool)
+    (first old new : ProofLog) (start : BookState) → HasEnded start b first old → IsRoundLogged f b c p ready row old.entries
     → Grew (IsAddedLive (all_of b) instances (groups_of b) true old.entries) old new
     → after ≡ record b { table = after.table } → HasEnded start after first new
-row_refused law f b after c p row first old new start ended a grew same =
+row_refused law f b after c p ready row first old new start ended a grew same =
     let left = law (all_of b) (groups_of b) true old new grew in
     record {
       kept = subst (λ g. IsKept g new.entries) (ap all_of ended.book.same) (left.kept a.way.kept);
@@ -243,11 +253,11 @@ row_refused law f b after c p row first old new start ended a grew same =
       grew = log_then first old new ended.grew left.grew;
     }
 
-pub row_undecided : InstancesLeaveLogs → (f : Dqbf) (b after : BookState) (c : Checker) (p : Padoa) (row : List Bool)
-    (old new : ProofLog) → IsRoundLogged f b c p row old.entries
+pub row_undecided : InstancesLeaveLogs → (f : Dqbf) (b after : BookState) (c : Checker) (p : Padoa) (ready : Bool) (row : List Bool)
+    (old new : ProofLog) → IsRoundLogged f b c p ready row old.entries
     → Grew (IsAddedLive (all_of b) instances (groups_of b) true old.entries) old new
     → after ≡ record b { table = after.table } → IsUndecidedSince (all_of after) new.entries
-row_undecided law f b after c p row old new a grew same =
+row_undecided law f b after c p ready row old new a grew same =
     let left = law (all_of b) (groups_of b) true old new grew in
     subst (λ g. IsUndecidedSince g new.entries) (sym (ap all_of (row_after b after same).same))
     (left.undecided refl a.undecided)

@@ -1,5 +1,5 @@
 -- The formula of all clauses of a file is the file's.
-use Rattle.std.proofs.Common.{◌≡◌, ◌+◌, ◌≤◌, ◌<◌, ◌⊎◌, inl, inr, ℕ, zero, suc, List, [], ◌∷◌, ◌++◌, length, map, slice_get, None, Some, refl, sym, ◌∙◌, ap, subst, arith, append_assoc}
+use Rattle.std.proofs.Common.{◌≡◌, ◌+◌, ◌≤◌, ◌<◌, ◌⊎◌, inl, inr, ℕ, zero, suc, List, [], ◌∷◌, ◌++◌, length, map, slice_get, Some, refl, sym, ◌∙◌, ap, arith, append_assoc}
 use Rattle.std.specs.List.{Contains, filter_map, cons_option, range_with_len}
 use Rattle.std.proofs.lemmas.Bool.{cases_lt}
 use Rattle.std.proofs.lemmas.List.{append-nil, length-append}
@@ -7,7 +7,7 @@ use Rattle.dq_lits.specs.Formula.{Dqbf}
 use Rattle.dq_lits.specs.Literal.{Literal}
 use Rattle.hint_log.specs.Live.{with_matrix, formula_of}
 use Rattle.hint_log.specs.Naming.{numbered_from_one}
-use Rattle.dq_session.specs.Books.{BookState, all_of, live_of, now_of}
+use Rattle.dq_session.specs.Books.{all_of, live_of, now_of}
 use Rattle.dq_session.specs.Changes.{begun, file_live}
 use Rattle.dq_session.specs.declared.live.Live.{Live}
 use Rattle.expansion.specs.Table.{TableState}

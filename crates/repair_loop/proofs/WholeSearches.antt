@@ -1,10 +1,10 @@
 -- Where each search is about all clauses, a session's points are those of a log for one formula.
-use Rattle.std.proofs.Common.{◌≡◌, ℕ, Bool, true, List, [], ◌∷◌, ◌++◌, Option, None, Some, refl, sym, ◌∙◌, ap, subst}
+use Rattle.std.proofs.Common.{◌≡◌, ℕ, Bool, true, List, [], ◌∷◌, None, refl, sym, ◌∙◌, ap, subst}
 use Rattle.dq_lits.specs.Formula.{Dqbf}
 use Rattle.dq_lits.specs.Literal.{Literal}
 use Rattle.hint_log.specs.Deciding.{IsUndecided}
 use Rattle.hint_log.specs.Entries.{Entry, Named, Given, Learned, Answer, Round, Begun, ProofLog}
-use Rattle.hint_log.specs.Growth.{Each, EachOf, Grew}
+use Rattle.hint_log.specs.Growth.{Each, Grew}
 use Rattle.hint_log.specs.Live.{live_numbers, live_formula, formula_of}
 use Rattle.hint_log.specs.ProductiveLog.{MatchesOrigin, RefutesNewRow, FollowsModel, IsNotRepeated, IsProductiveLog}
 use Rattle.hint_log.specs.ProductiveSession.{MatchesLiveOrigin, RefutesNewLiveRow, FollowsLiveModel, IsUndecidedSince}

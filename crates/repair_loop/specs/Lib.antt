@@ -3,5 +3,7 @@ pub mod Desks
 pub mod Changes
 pub mod Stopping
 pub mod Turning
+pub mod Forcing
+pub mod Constants
 pub mod Standing
 pub mod Beginning

@@ -1,9 +1,9 @@
 -- Laws of the loop: what each call leaves of a search that is under way.
-use Rattle.std.specs.Prelude.{◌≡◌, ◌⊎◌, ◌≤◌, ℕ, Bool, true, List, ◌++◌, ◌∷◌, [], length, None}
+use Rattle.std.specs.Prelude.{◌≡◌, ◌⊎◌, ℕ, Bool, true, List, ◌∷◌, None}
 use Rattle.std.specs.List.{Contains}
 use Rattle.dq_lits.specs.Formula.{Dqbf, Existential}
 use Rattle.dq_lits.specs.Skolem.{OutputFunction}
-use Rattle.hint_log.specs.Entries.{Entry, Round, Begun, ProofLog, name_of, with_entry}
+use Rattle.hint_log.specs.Entries.{Entry, Round, ProofLog, name_of}
 use Rattle.hint_log.specs.Growth.{Grew}
 use Rattle.hint_log.specs.Live.{before_beginning}
 use Rattle.hint_log.specs.Naming.{rows_of}
@@ -26,9 +26,9 @@ use Rattle.repair_loop.specs.Turning.{AreFaultsNew, IsUnderWay, IsOpen, IsRoundL
 
 -- whatever came of a call that adds no round: the search goes on, and is as undecided and as whole as
 -- before
-pub record IsLeft (f : Dqbf) (b after : BookState) (c d : Checker) (p : Padoa) (silent : Bool)
+pub record IsLeft (f : Dqbf) (b after : BookState) (c d : Checker) (p : Padoa) (ready : Bool) (silent : Bool)
     (old new : ProofLog) : Type 0 where
-  pub went : HasGoneOn f b after c d p old new
+  pub went : HasGoneOn f b after c d p ready old new
   pub undecided : silent ≡ true → IsUndecidedSince (all_of b) old.entries
       → IsUndecidedSince (all_of b) new.entries
   pub rows : rows_of new.entries ≡ rows_of old.entries
@@ -38,38 +38,39 @@ pub record IsLeft (f : Dqbf) (b after : BookState) (c d : Checker) (p : Padoa) (
 -- questions on definitions and rules
 abbrev pub QuestionsLeaveSearches : Type 0
 QuestionsLeaveSearches =
-    (f : Dqbf) (b : BookState) (c : Checker) (p : Padoa) (old new : ProofLog)
-    → Grew (IsAsked f) old new → IsPadoa f p new.entries → IsUnderWay f b c p old.entries
-    → IsLeft f b b c c p true old new × (fault_groups new.entries ≡ fault_groups old.entries)
+    (f : Dqbf) (b : BookState) (c : Checker) (p : Padoa) (ready : Bool) (old new : ProofLog)
+    → Grew (IsAsked f) old new → (ready ≡ true → IsPadoa f p new.entries)
+    → IsUnderWay f b c p ready old.entries
+    → IsLeft f b b c c p ready true old new × (fault_groups new.entries ≡ fault_groups old.entries)
 
 -- a check of circuits
 abbrev pub TurnsLeaveSearches : Type 0
 TurnsLeaveSearches =
-    (f : Dqbf) (b : BookState) (c d : Checker) (p : Padoa) (silent : Bool) (old new : ProofLog)
-    → HasTurned f c d silent old new → IsUnderWay f b c p old.entries
-    → IsLeft f b b c d p silent old new
+    (f : Dqbf) (b : BookState) (c d : Checker) (p : Padoa) (ready : Bool) (silent : Bool) (old new : ProofLog)
+    → HasTurned f c d silent old new → IsUnderWay f b c p ready old.entries
+    → IsLeft f b b c d p ready silent old new
 
 -- instances that are given, and searches over them
 abbrev pub InstancesLeaveSearches : Type 0
 InstancesLeaveSearches =
-    (f : Dqbf) (b after : BookState) (c : Checker) (p : Padoa) (silent : Bool) (old new : ProofLog)
+    (f : Dqbf) (b after : BookState) (c : Checker) (p : Padoa) (ready : Bool) (silent : Bool) (old new : ProofLog)
     → Grew (IsAddedLive (all_of b) instances (groups_of b) silent old.entries) old new
     → IsBookAfter b after
     → IsBook after new.entries
     → ((n : ℕ) → Contains (groups_of after) n
     → Contains (groups_of b) n ⊎ (name_of old.entries n ≡ None))
-    → IsUnderWay f b c p old.entries
-    → IsLeft f b after c c p silent old new × (fault_groups new.entries ≡ fault_groups old.entries)
+    → IsUnderWay f b c p ready old.entries
+    → IsLeft f b after c c p ready silent old new × (fault_groups new.entries ≡ fault_groups old.entries)
 
 -- candidates that fail have a round in hand
 abbrev pub FailuresAreRounds : Type 0
 FailuresAreRounds =
-    (f : Dqbf) (b : BookState) (c : Checker) (p : Padoa) (entries : List Entry)
+    (f : Dqbf) (b : BookState) (c : Checker) (p : Padoa) (ready : Bool) (entries : List Entry)
     (output : Existential → OutputFunction) (row values : List Bool) (j : ℕ)
-    → IsOpen f b c p entries → AreCandidates f b.table.rows output
+    → IsOpen f b c p ready entries → AreCandidates f b.table.rows output
     → IsFailure f output row values j
     → IsNewFailure f entries row values j × HasModelWith f (rows_of entries) row values
-    × IsRoundLogged f b c p row (Round row values j ∷ entries)
+    × IsRoundLogged f b c p ready row (Round row values j ∷ entries)
 
 -- copies and instances that stand apart are grouped by frames
 abbrev pub DesksAreGrouped : Type 0

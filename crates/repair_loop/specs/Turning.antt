@@ -1,6 +1,6 @@
 -- Words of private contracts: what a turn's calls need of the search, and what they leave of it.
-use Rattle.std.specs.Prelude.{◌≡◌, ◌+◌, ◌≤◌, ◌<◌, ◌++◌, ◌∷◌, [], ℕ, Bool, true, List, length, None, Some, Result, OnErr, IsErrOf}
-use Rattle.std.specs.List.{All, Contains}
+use Rattle.std.specs.Prelude.{◌≡◌, ◌-◌, ◌≤◌, ◌<◌, ◌++◌, ◌∷◌, [], ℕ, Bool, true, List, length, None, Some, Result, OnErr, IsErrOf}
+use Rattle.std.specs.List.{All}
 use Rattle.dq_lits.specs.Formula.{Dqbf, IsWellFormed}
 use Rattle.dq_formula.specs.Prefix.{existential_variables}
 use Rattle.expansion.specs.Table.{TableState, PointState, ArePoints, point_bits}
@@ -38,8 +38,9 @@ AreFaultsNew before (Given (Fault j i leaf) clause ∷ earlier) =
     × AreFaultsNew before earlier
 AreFaultsNew before (_ ∷ earlier) = AreFaultsNew before earlier
 
--- a search over the live clauses began, and is under way
-pub record IsUnderWay (f : Dqbf) (b : BookState) (c : Checker) (p : Padoa)
+-- a search over the live clauses began, and is under way; where it is ready for questions, all of
+-- them have copies
+pub record IsUnderWay (f : Dqbf) (b : BookState) (c : Checker) (p : Padoa) (ready : Bool)
     (entries : List Entry) : Type 0 where
   pub formula : IsWellFormed f
   pub now_is : f ≡ now_of b
@@ -47,30 +48,30 @@ pub record IsUnderWay (f : Dqbf) (b : BookState) (c : Checker) (p : Padoa)
   pub kept : IsKept (all_of b) entries
   pub book : IsBook b entries
   pub checked : IsChecker b.file c entries
-  pub copied : IsPadoa f p entries
+  pub copied : ready ≡ true → IsPadoa f p entries
   pub stored : IsCopyStore (all_of b) (frames_of b) p entries
   pub apart : AreApart b c p
   pub faults : length (fault_groups entries) ≤ fault_room entries
   pub new_faults : AreFaultsNew (before_beginning entries) entries
 
 -- its book has the rows of all rounds, and nothing was decided yet
-pub record IsOpen (f : Dqbf) (b : BookState) (c : Checker) (p : Padoa)
+pub record IsOpen (f : Dqbf) (b : BookState) (c : Checker) (p : Padoa) (ready : Bool)
     (entries : List Entry) : Type 0 where
-  pub way : IsUnderWay f b c p entries
+  pub way : IsUnderWay f b c p ready entries
   pub rows : rows_of entries ≡ b.table.rows
   pub undecided : IsUndecidedSince (all_of b) entries
 
 -- before a turn
-pub record IsSearch (f : Dqbf) (graph : AigGraph) (b : BookState) (c : Checker) (p : Padoa)
+pub record IsSearch (f : Dqbf) (graph : AigGraph) (b : BookState) (c : Checker) (p : Padoa) (ready : Bool)
     (entries : List Entry) : Type 0 where
-  pub here : IsOpen f b c p entries
+  pub here : IsOpen f b c p ready entries
   pub inputs : HasInputs f graph
   pub room : length (fault_groups entries) < fault_room entries
 
 -- after a round, before its row is added
-pub record IsRoundLogged (f : Dqbf) (b : BookState) (c : Checker) (p : Padoa) (row : List Bool)
+pub record IsRoundLogged (f : Dqbf) (b : BookState) (c : Checker) (p : Padoa) (ready : Bool) (row : List Bool)
     (entries : List Entry) : Type 0 where
-  pub way : IsUnderWay f b c p entries
+  pub way : IsUnderWay f b c p ready entries
   pub rows : rows_of entries ≡ b.table.rows ++ row ∷ []
   pub undecided : IsUndecidedSince (all_of b) entries
   pub row_length : length row ≡ length f.universals
@@ -85,9 +86,9 @@ pub record LogGrew (old new : ProofLog) : Type 0 where
   pub limit : new.limit ≡ old.limit
 
 -- whatever came of a call, the search is under way as before
-pub record HasGoneOn (f : Dqbf) (b after : BookState) (c d : Checker) (p : Padoa)
+pub record HasGoneOn (f : Dqbf) (b after : BookState) (c d : Checker) (p : Padoa) (ready : Bool)
     (old new : ProofLog) : Type 0 where
-  pub way : IsUnderWay f after d p new.entries
+  pub way : IsUnderWay f after d p ready new.entries
   pub book : IsBookAfter b after
   pub grew : LogGrew old new
 
@@ -107,9 +108,9 @@ pub record IsStoppedAs {T : Type 0} (f : Dqbf) (b : BookState) (log : ProofLog)
   pub rows : IsErrOf result Limit → rows_of log.entries ≡ b.table.rows
 
 -- a round at this row was logged, which was a step
-pub record IsNewRound (f : Dqbf) (b : BookState) (c : Checker) (p : Padoa) (row : List Bool)
+pub record IsNewRound (f : Dqbf) (b : BookState) (c : Checker) (p : Padoa) (ready : Bool) (row : List Bool)
     (old new : ProofLog) : Type 0 where
-  pub logged : IsRoundLogged f b c p row new.entries
+  pub logged : IsRoundLogged f b c p ready row new.entries
   pub step : steps_of old.entries < steps_of new.entries
   pub within : steps_of old.entries < old.limit
 
@@ -121,8 +122,16 @@ pub record IsModel (f : Dqbf) (t : TableState) (points : PointState) : Type 0 wh
   pub are_points : ArePoints f t.rows (point_bits points)
 
 -- candidates that may be judged
-pub record AreProposed (f : Dqbf) (graph : AigGraph) (b : BookState) (c : Checker) (p : Padoa)
+pub record AreProposed (f : Dqbf) (graph : AigGraph) (b : BookState) (c : Checker) (p : Padoa) (ready : Bool)
     (d : Definitions) (outputs : List Node) (entries : List Entry) : Type 0 where
-  pub search : IsSearch f graph b c p entries
+  pub search : IsSearch f graph b c p ready entries
   pub known : AreKnownIn f graph d
   pub candidates : AreBuilt f graph b.table.rows outputs
+
+-- behind a round without a verdict the next one may come: its row is in the book, and a step was taken
+pub record IsNextRound (f : Dqbf) (graph : AigGraph) (b after : BookState) (c d : Checker) (p : Padoa)
+    (ready : Bool) (known : Definitions) (old new : ProofLog) : Type 0 where
+  pub search : IsSearch f graph after d p ready new.entries
+  pub known_there : AreKnownIn f graph known
+  pub went : HasGoneOn f b after c d p ready old new
+  pub step : new.limit - steps_of new.entries < old.limit - steps_of old.entries

@@ -1,13 +1,15 @@
 //! Candidates from a model of the expansion.
 
-ghost use Rattle.std.specs.Prelude.{◌≡◌, ℕ, true, IsErrOf, Ok};
+ghost use Rattle.std.specs.Prelude.{◌≡◌, ℕ, true, All, IsErrOf, Ok};
 ghost use Rattle.aig_graph.specs.Made.{Extends};
 ghost use Rattle.circuit_cnf.specs.declared.checkers.Checker.{Checker as CheckerState};
 ghost use Rattle.hint_log.specs.Naming.{rows_of};
-ghost use Rattle.known_functions.specs.Forcing.{AreKnownIn};
+ghost use Rattle.dq_formula.specs.Rules.{IsRule};
+ghost use Rattle.known_functions.specs.Forcing.{AreKnownIn, IsModelOf, MayForce};
 ghost use Rattle.oracle.specs.Limits.{IsAtSomeLimit};
 ghost use Rattle.repair_loop.specs.Desks.{IsAnsweredFalse};
 ghost use Rattle.repair_loop.specs.Standing.{IsLeft};
+ghost use Rattle.repair_loop.specs.Forcing.{LeavesForced};
 ghost use Rattle.repair_loop.specs.Turning.{AreProposed, HasGoneOn, IsModel, IsSearch, IsStoppedAs};
 
 use crate::searches::{Known, Search};
@@ -18,7 +20,7 @@ use circuit_cnf::Checker;
 use dq_session::Book;
 use expansion::{Exp, Points};
 use hint_log::{Log, Stop};
-use known_functions::TableModel;
+use known_functions::{Definitions, TableModel};
 use oracle::Oracle;
 
 // Candidates, or the id of the answer that refutes the rows.
@@ -41,20 +43,20 @@ impl<'f, 'p> Search<'f, 'p> {
     ) -> Result<Proposal, Stop>
         requires fit { O.Fits oracle.old log.old }
         requires search { (c : CheckerState)
-            × IsSearch self.now.f.now graph.old book.old c self.now.padoa.now log.old.entries }
+            × IsSearch self.now.f.now graph.old book.old c self.now.padoa.now self.now.may_ask log.old.entries }
         requires known { AreKnownIn self.now.f.now graph.old known.old.definitions }
         ensures fit { O.Fits oracle.new log.new }
         ensures extends { Extends graph.old graph.new }
         ensures went { (c : CheckerState)
-            → IsSearch self.now.f.now graph.old book.old c self.now.padoa.now log.old.entries
-            → HasGoneOn self.now.f.now book.old book.new c c self.now.padoa.now log.old log.new }
+            → IsSearch self.now.f.now graph.old book.old c self.now.padoa.now self.now.may_ask log.old.entries
+            → HasGoneOn self.now.f.now book.old book.new c c self.now.padoa.now self.now.may_ask log.old log.new }
         ensures rows { rows_of log.new.entries ≡ book.new.table.rows }
         ensures refuted { (id : ℕ) → result ≡ Ok (Proposal.Refuted id)
             → IsAnsweredFalse book.new log.new id }
         ensures proposed { (c : CheckerState) (outputs : _)
-            → IsSearch self.now.f.now graph.old book.old c self.now.padoa.now log.old.entries
+            → IsSearch self.now.f.now graph.old book.old c self.now.padoa.now self.now.may_ask log.old.entries
             → result ≡ Ok (Proposal.Candidates outputs)
-            → AreProposed self.now.f.now graph.new book.new c self.now.padoa.now
+            → AreProposed self.now.f.now graph.new book.new c self.now.padoa.now self.now.may_ask
             known.new.definitions outputs log.new.entries }
         ensures stopped { IsStoppedAs self.now.f.now book.new log.new result }
     {
@@ -80,18 +82,18 @@ impl<'f, 'p> Search<'f, 'p> {
     ) -> Result<Outputs, Stop>
         requires fit { O.Fits oracle.old log.old }
         requires search { (c : CheckerState)
-            × IsSearch self.now.f.now graph.old book.now c self.now.padoa.now log.old.entries }
+            × IsSearch self.now.f.now graph.old book.now c self.now.padoa.now self.now.may_ask log.old.entries }
         requires known { AreKnownIn self.now.f.now graph.old known.old.definitions }
         requires model { IsModel self.now.f.now book.now.table points.now }
         ensures fit { O.Fits oracle.new log.new }
         ensures extends { Extends graph.old graph.new }
         ensures left { (c : CheckerState)
-            → IsSearch self.now.f.now graph.old book.now c self.now.padoa.now log.old.entries
-            → IsLeft self.now.f.now book.now book.now c c self.now.padoa.now true log.old log.new }
+            → IsSearch self.now.f.now graph.old book.now c self.now.padoa.now self.now.may_ask log.old.entries
+            → IsLeft self.now.f.now book.now book.now c c self.now.padoa.now self.now.may_ask true log.old log.new }
         ensures proposed { (c : CheckerState) (outputs : _)
-            → IsSearch self.now.f.now graph.old book.now c self.now.padoa.now log.old.entries
+            → IsSearch self.now.f.now graph.old book.now c self.now.padoa.now self.now.may_ask log.old.entries
             → result ≡ Ok outputs
-            → AreProposed self.now.f.now graph.new book.now c self.now.padoa.now
+            → AreProposed self.now.f.now graph.new book.now c self.now.padoa.now self.now.may_ask
             known.new.definitions outputs log.new.entries }
         ensures limit { IsErrOf result Stop.Limit → IsAtSomeLimit log.new }
     {
@@ -101,7 +103,7 @@ impl<'f, 'p> Search<'f, 'p> {
             points,
         };
         let definitions = &mut known.definitions;
-        definitions.force_all(oracle, self.padoa, self.f, &model, log)?;
+        self.force(oracle, definitions, &model, log)?;
         let outputs = build(
             self.alloc,
             self.f,
@@ -116,5 +118,29 @@ impl<'f, 'p> Search<'f, 'p> {
             graph,
         )?;
         Ok(outputs)
+    }
+
+    // Asks what the newest row forces, where questions may be asked.
+    fn force<O: Oracle>(
+        &self,
+        oracle: &mut O,
+        definitions: &mut Definitions,
+        model: &TableModel,
+        log: &mut Log,
+    ) -> Result<(), Stop>
+        requires fit { O.Fits oracle.old log.old }
+        requires may { self.now.may_ask ≡ true
+            → MayForce self.now.f.now definitions.old self.now.padoa.now log.old.entries }
+        requires forced { All (IsRule self.now.f.now) definitions.old.rules.items }
+        requires model { IsModelOf self.now.f.now model.now }
+        ensures fit { O.Fits oracle.new log.new }
+        ensures left { LeavesForced self.now.f.now self.now.padoa.now self.now.may_ask
+            definitions.old definitions.new log.old log.new }
+        ensures limit { IsErrOf result Stop.Limit → IsAtSomeLimit log.new }
+    {
+        if !self.may_ask {
+            return Ok(());
+        }
+        definitions.force_all(oracle, self.padoa, self.f, model, log)
     }
 }

@@ -1,10 +1,11 @@
 //! The desk of a session: what stays from search to search.
 
-ghost use Rattle.std.specs.Prelude.{◌≡◌, ◌⊎◌, ℕ, map, take, ◌≤◌, length, None, IfOk, OnOk, OnErr, IsErrOf, Ok, Err};
+ghost use Rattle.std.specs.Prelude.{◌≡◌, ◌⊎◌, ℕ, true, false, map, take, ◌≤◌, length, None, Some, IfOk, OnOk, OnErr, IsErrOf, Ok, Err};
 ghost use Rattle.dq_lits.specs.Formula.{IsWellFormed};
 ghost use Rattle.hint_log.specs.Deciding.{IsUndecided, KeepsSelectors};
 ghost use Rattle.hint_log.specs.Entries.{Begun, with_entry};
 ghost use Rattle.hint_log.specs.Live.{last_live, live_numbers};
+ghost use Rattle.hint_log.specs.Naming.{rows_of};
 ghost use Rattle.hint_log.specs.ProductiveLog.{IsProductiveLog};
 ghost use Rattle.hint_log.specs.ProductiveSession.{IsProductiveSession, IsUndecidedSince};
 ghost use Rattle.aig_graph.specs.Graph.{AigGraph};
@@ -13,9 +14,11 @@ ghost use Rattle.known_functions.specs.Searching.{HasInputs};
 ghost use Rattle.repair_loop.specs.Desks.{HasBegun, IsAnsweredFalse, IsAnsweredTrue, IsBookAfter, IsFirstBook, IsKept, IsReady};
 ghost use Rattle.repair_loop.specs.Beginning.{HasBegunUndecided, HasStarted};
 ghost use Rattle.repair_loop.specs.Stopping.{IsStoppedAtLimit};
-ghost use Rattle.repair_loop.specs.Turning.{AreFaultsNew, IsSearch};
+ghost use Rattle.repair_loop.specs.Turning.{AreFaultsNew, HasEnded, IsSearch, IsStoppedAs, IsUnderWay};
+ghost use Rattle.repair_loop.specs.Standing.{IsLeft};
 
 use crate::decisions::Verdict;
+use crate::first_copies::{first_copies, is_large};
 use crate::searches::Search;
 use crate::standing::desks_are_grouped;
 use aig_graph::Graph;
@@ -68,7 +71,7 @@ impl Desk {
         engines_leave_stores();
         engines_leave_the_rest();
         plain_logs_are_sessions();
-        let padoa = Padoa::new(alloc, oracle, f, log)?;
+        let padoa = first_copies(alloc, oracle, f, log)?;
         let checker = Checker::new(alloc, oracle, f, log)?;
         Ok(Desk {
             alloc,
@@ -117,16 +120,141 @@ impl Desk {
     {
         desks_are_grouped();
         self.begin(oracle, book, f, log)?;
+        self.search(oracle, graph, book, f, log)
+    }
+
+    // Logs that a search begins over the live clauses. The oracle is lent for the contract alone.
+    fn begin<O: Oracle>(
+        &mut self,
+        oracle: &O,
+        book: &Book,
+        f: &Formula,
+        log: &mut Log,
+    ) -> Result<(), Memory>
+        requires fit { O.Fits oracle.now log.old }
+        requires ready { (graph : AigGraph) × IsReady book.now self.old graph log.old.entries }
+        requires now { f.now ≡ now_of book.now }
+        ensures fit { O.Fits oracle.now log.new }
+        ensures started { HasStarted book.now self.new log.old log.new }
+        ensures begun { OnOk result (HasBegunUndecided book.now log.old log.new) }
+        ensures ready { (graph : AigGraph) → HasInputs f.now graph → OnOk result
+            (IsSearch f.now graph book.now self.new.checker self.new.padoa false log.new.entries) }
+    {
+        beginnings_leave_books();
+        beginnings_leave_stores();
+        self.log_beginning(book, log)
+    }
+
+    // Searches. A large formula has a round before its copies are completed.
+    fn search<O: Oracle>(
+        &mut self,
+        oracle: &mut O,
+        graph: &mut Graph,
+        book: &mut Book,
+        f: &Formula,
+        log: &mut Log,
+    ) -> Result<Verdict, Stop>
+        requires fit { O.Fits oracle.old log.old }
+        requires search { IsSearch f.now graph.old book.old self.old.checker self.old.padoa false
+            log.old.entries }
+        requires begun { self.old.begun.items ≡ live_of book.old }
+        ensures fit { O.Fits oracle.new log.new }
+        ensures inputs { graph.new.inputs ≡ graph.old.inputs }
+        ensures ended { HasEnded book.old book.new log.old log.new }
+        ensures way { (result ≡ Err Stop.Memory → ⊥) → IsUnderWay f.now book.new self.new.checker
+            self.new.padoa false log.new.entries }
+        ensures rows { (result ≡ Err Stop.Memory → ⊥) → rows_of log.new.entries ≡ book.new.table.rows }
+        ensures begun { self.new.begun.items ≡ self.old.begun.items }
+        ensures shown_true { (nodes : _) (id : ℕ) → result ≡ Ok (Verdict.True nodes id)
+            → IsAnsweredTrue f.now graph.new nodes log.new id }
+        ensures shown_false { (id : ℕ) → result ≡ Ok (Verdict.False id)
+            → IsAnsweredFalse book.new log.new id }
+        ensures stopped { IsStoppedAs f.now book.new log.new result }
+    {
+        match self.look_first(oracle, graph, book, f, log)? {
+            Some(verdict) => Ok(verdict),
+            None => self.search_on(oracle, graph, book, f, log),
+        }
+    }
+
+    // A round without questions, where a large formula has no rows yet: its copies would take more
+    // memory than all else, and often it needs none.
+    fn look_first<O: Oracle>(
+        &mut self,
+        oracle: &mut O,
+        graph: &mut Graph,
+        book: &mut Book,
+        f: &Formula,
+        log: &mut Log,
+    ) -> Result<Option<Verdict>, Stop>
+        requires fit { O.Fits oracle.old log.old }
+        requires search { IsSearch f.now graph.old book.old self.old.checker self.old.padoa false
+            log.old.entries }
+        ensures fit { O.Fits oracle.new log.new }
+        ensures inputs { graph.new.inputs ≡ graph.old.inputs }
+        ensures went { HasEnded book.old book.new log.old log.new }
+        ensures way { (result ≡ Err Stop.Memory → ⊥) → IsUnderWay f.now book.new self.new.checker
+            self.new.padoa false log.new.entries }
+        ensures rows { (result ≡ Err Stop.Memory → ⊥) → rows_of log.new.entries ≡ book.new.table.rows }
+        ensures begun { self.new.begun.items ≡ self.old.begun.items }
+        ensures shown_true { (nodes : _) (id : ℕ) → result ≡ Ok (Some (Verdict.True nodes id))
+            → IsAnsweredTrue f.now graph.new nodes log.new id }
+        ensures shown_false { (id : ℕ) → result ≡ Ok (Some (Verdict.False id))
+            → IsAnsweredFalse book.new log.new id }
+        ensures open { result ≡ Ok None → IsSearch f.now graph.new book.new self.new.checker
+            self.new.padoa false log.new.entries }
+        ensures stopped { IsStoppedAs f.now book.new log.new result }
+    {
+        if !is_large(f) || book.table().rows() > 0 {
+            return Ok(None);
+        }
         let search = Search {
             alloc: self.alloc,
             f,
             padoa: &self.padoa,
+            may_ask: false,
+        };
+        search.first_round(oracle, graph, book, &mut self.checker, log)
+    }
+
+    // Searches, with copies of all live clauses.
+    fn search_on<O: Oracle>(
+        &mut self,
+        oracle: &mut O,
+        graph: &mut Graph,
+        book: &mut Book,
+        f: &Formula,
+        log: &mut Log,
+    ) -> Result<Verdict, Stop>
+        requires fit { O.Fits oracle.old log.old }
+        requires search { IsSearch f.now graph.old book.old self.old.checker self.old.padoa false
+            log.old.entries }
+        requires begun { self.old.begun.items ≡ live_of book.old }
+        ensures fit { O.Fits oracle.new log.new }
+        ensures inputs { graph.new.inputs ≡ graph.old.inputs }
+        ensures ended { HasEnded book.old book.new log.old log.new }
+        ensures way { (result ≡ Err Stop.Memory → ⊥) → IsUnderWay f.now book.new self.new.checker
+            self.new.padoa false log.new.entries }
+        ensures rows { (result ≡ Err Stop.Memory → ⊥) → rows_of log.new.entries ≡ book.new.table.rows }
+        ensures begun { self.new.begun.items ≡ self.old.begun.items }
+        ensures shown_true { (nodes : _) (id : ℕ) → result ≡ Ok (Verdict.True nodes id)
+            → IsAnsweredTrue f.now graph.new nodes log.new id }
+        ensures shown_false { (id : ℕ) → result ≡ Ok (Verdict.False id)
+            → IsAnsweredFalse book.new log.new id }
+        ensures stopped { IsStoppedAs f.now book.new log.new result }
+    {
+        self.follow(oracle, book, f, log)?;
+        let search = Search {
+            alloc: self.alloc,
+            f,
+            padoa: &self.padoa,
+            may_ask: true,
         };
         search.run(oracle, graph, book, &mut self.checker, log)
     }
 
-    // Logs that a search begins over the live clauses, and lets the copies follow them.
-    fn begin<O: Oracle>(
+    // Lets the copies follow the live clauses.
+    fn follow<O: Oracle>(
         &mut self,
         oracle: &mut O,
         book: &Book,
@@ -134,20 +262,22 @@ impl Desk {
         log: &mut Log,
     ) -> Result<(), Memory>
         requires fit { O.Fits oracle.old log.old }
-        requires ready { (graph : AigGraph) × IsReady book.now self.old graph log.old.entries }
-        requires now { f.now ≡ now_of book.now }
+        requires search { (graph : AigGraph) × IsSearch f.now graph book.now self.old.checker
+            self.old.padoa false log.old.entries }
+        requires begun { self.old.begun.items ≡ live_of book.now }
         ensures fit { O.Fits oracle.new log.new }
-        ensures started { HasStarted book.now self.new log.old log.new }
-        ensures begun { OnOk result (HasBegunUndecided book.now log.old log.new) }
-        ensures ready { (graph : AigGraph) → HasInputs f.now graph → OnOk result
-            (IsSearch f.now graph book.now self.new.checker self.new.padoa log.new.entries) }
+        ensures checker { self.new.checker ≡ self.old.checker }
+        ensures begun { self.new.begun ≡ self.old.begun }
+        ensures left { IsLeft f.now book.now book.now self.new.checker self.new.checker
+            self.new.padoa false true log.old log.new }
+        ensures search { (graph : AigGraph)
+            → IsSearch f.now graph book.now self.old.checker self.old.padoa false log.old.entries
+            → OnOk result (IsSearch f.now graph book.now self.new.checker self.new.padoa true
+            log.new.entries) }
     {
-        beginnings_leave_books();
-        beginnings_leave_stores();
-        checkers_stay();
         engines_leave_books();
         engines_leave_sessions();
-        self.log_beginning(book, log)?;
+        checkers_stay();
         let frames = live_frames(self.alloc, book.live())?;
         let live = &self.begun;
         self.padoa.set_live(oracle, f, live, &frames, log)

@@ -26,17 +26,17 @@ impl<'f, 'p> Search<'f, 'p> {
     ) -> Result<Option<u64>, Stop>
         requires fit { O.Fits oracle.old log.old }
         requires search { (graph : AigGraph) × (c : CheckerState)
-            × IsSearch self.now.f.now graph book.old c self.now.padoa.now log.old.entries }
+            × IsSearch self.now.f.now graph book.old c self.now.padoa.now self.now.may_ask log.old.entries }
         ensures fit { O.Fits oracle.new log.new }
         ensures went { (graph : AigGraph) (c : CheckerState)
-            → IsSearch self.now.f.now graph book.old c self.now.padoa.now log.old.entries
-            → HasGoneOn self.now.f.now book.old book.new c c self.now.padoa.now log.old log.new }
+            → IsSearch self.now.f.now graph book.old c self.now.padoa.now self.now.may_ask log.old.entries
+            → HasGoneOn self.now.f.now book.old book.new c c self.now.padoa.now self.now.may_ask log.old log.new }
         ensures rows { rows_of log.new.entries ≡ book.new.table.rows }
         ensures refuted { (id : ℕ) → result ≡ Ok (Some id) → IsAnsweredFalse book.new log.new id }
         ensures search { (graph : AigGraph) (c : CheckerState)
-            → IsSearch self.now.f.now graph book.old c self.now.padoa.now log.old.entries
+            → IsSearch self.now.f.now graph book.old c self.now.padoa.now self.now.may_ask log.old.entries
             → result ≡ Ok None
-            → IsSearch self.now.f.now graph book.new c self.now.padoa.now log.new.entries }
+            → IsSearch self.now.f.now graph book.new c self.now.padoa.now self.now.may_ask log.new.entries }
         ensures stopped { IsStoppedAs self.now.f.now book.new log.new result }
     {
         instances_leave_searches();

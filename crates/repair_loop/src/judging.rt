@@ -51,19 +51,19 @@ impl<'f, 'p> Search<'f, 'p> {
     ) -> Result<Judged, Stop>
         requires fit { O.Fits oracle.old log.old }
         requires search { IsSearch self.now.f.now candidates.now.graph.now book.now checker.old
-            self.now.padoa.now log.old.entries }
+            self.now.padoa.now self.now.may_ask log.old.entries }
         requires candidates { AreBuilt self.now.f.now candidates.now.graph.now book.now.table.rows
             candidates.now.outputs.now }
         ensures fit { O.Fits oracle.new log.new }
         ensures went { HasGoneOn self.now.f.now book.now book.now checker.old checker.new
-            self.now.padoa.now log.old log.new }
+            self.now.padoa.now self.now.may_ask log.old log.new }
         ensures hold { (id : ℕ) → result ≡ Ok (Judged.Hold id)
             → IsAnsweredTrue self.now.f.now candidates.now.graph.now candidates.now.outputs.now
             log.new id }
         ensures rows { (id : ℕ) → result ≡ Ok (Judged.Hold id)
             → rows_of log.new.entries ≡ book.now.table.rows }
         ensures fail { (row : List Bool) → result ≡ Ok (Judged.Fail row)
-            → IsNewRound self.now.f.now book.now checker.new self.now.padoa.now row log.old log.new }
+            → IsNewRound self.now.f.now book.now checker.new self.now.padoa.now self.now.may_ask row log.old log.new }
         ensures stopped { IsStoppedAs self.now.f.now book.now log.new result }
     {
         if let Some(failure) = self.known_failure(candidates, known)? {
@@ -111,7 +111,7 @@ impl<'f, 'p> Search<'f, 'p> {
         log: &mut Log,
     ) -> Result<(), Stop>
         requires fit { O.Fits oracle.now log.old }
-        requires here { IsOpen self.now.f.now book.now checker.now self.now.padoa.now
+        requires here { IsOpen self.now.f.now book.now checker.now self.now.padoa.now self.now.may_ask
             log.old.entries }
         requires candidates { AreBuilt self.now.f.now candidates.now.graph.now book.now.table.rows
             candidates.now.outputs.now }
@@ -120,9 +120,9 @@ impl<'f, 'p> Search<'f, 'p> {
             failure.now.row failure.now.values failure.now.j }
         ensures fit { O.Fits oracle.now log.new }
         ensures went { HasGoneOn self.now.f.now book.now book.now checker.now checker.now
-            self.now.padoa.now log.old log.new }
+            self.now.padoa.now self.now.may_ask log.old log.new }
         ensures round { OnOk result (IsNewRound self.now.f.now book.now checker.now
-            self.now.padoa.now failure.now.row log.old log.new) }
+            self.now.padoa.now self.now.may_ask failure.now.row log.old log.new) }
         ensures stopped { IsStoppedAs self.now.f.now book.now log.new result }
     {
         failures_are_rounds();
@@ -144,19 +144,19 @@ impl<'f, 'p> Search<'f, 'p> {
     ) -> Result<Judged, Stop>
         requires fit { O.Fits oracle.old log.old }
         requires search { IsSearch self.now.f.now candidates.now.graph.now book.now checker.old
-            self.now.padoa.now log.old.entries }
+            self.now.padoa.now self.now.may_ask log.old.entries }
         requires candidates { AreBuilt self.now.f.now candidates.now.graph.now book.now.table.rows
             candidates.now.outputs.now }
         ensures fit { O.Fits oracle.new log.new }
         ensures went { HasGoneOn self.now.f.now book.now book.now checker.old checker.new
-            self.now.padoa.now log.old log.new }
+            self.now.padoa.now self.now.may_ask log.old log.new }
         ensures hold { (id : ℕ) → result ≡ Ok (Judged.Hold id)
             → IsAnsweredTrue self.now.f.now candidates.now.graph.now candidates.now.outputs.now
             log.new id }
         ensures rows { (id : ℕ) → result ≡ Ok (Judged.Hold id)
             → rows_of log.new.entries ≡ book.now.table.rows }
         ensures fail { (row : List Bool) → result ≡ Ok (Judged.Fail row)
-            → IsNewRound self.now.f.now book.now checker.new self.now.padoa.now row log.old log.new }
+            → IsNewRound self.now.f.now book.now checker.new self.now.padoa.now self.now.may_ask row log.old log.new }
         ensures stopped { IsStoppedAs self.now.f.now book.now log.new result }
     {
         turns_leave_searches();

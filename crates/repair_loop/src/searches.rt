@@ -1,13 +1,13 @@
 //! The loop that decides a formula.
 
-ghost use Rattle.std.specs.Prelude.{◌≡◌, ℕ, IfOk, IsErrOf, Ok, Err};
+ghost use Rattle.std.specs.Prelude.{◌≡◌, ℕ, true, IfOk, IsErrOf, None, Some, Ok, Err};
 ghost use Rattle.aig_graph.specs.Made.{Extends};
 ghost use Rattle.hint_log.specs.Naming.{rows_of};
 ghost use Rattle.oracle.specs.Limits.{IsAtSomeLimit};
 ghost use Rattle.known_functions.specs.Forcing.{AreKnownIn};
 ghost use Rattle.known_functions.specs.Guessing.{HasAsked, MayAsk};
 ghost use Rattle.repair_loop.specs.Desks.{IsAnsweredFalse, IsAnsweredTrue};
-ghost use Rattle.repair_loop.specs.Turning.{HasEnded, IsSearch, IsStoppedAs, IsUnderWay};
+ghost use Rattle.repair_loop.specs.Turning.{HasEnded, IsNextRound, IsSearch, IsStoppedAs, IsUnderWay};
 
 use crate::candidates::Proposal;
 use crate::decisions::Verdict;
@@ -25,12 +25,14 @@ use oracle::Oracle;
 use padoa_definitions::Padoa;
 use std::alloc::Global;
 
-// What a search is about: the formula of the live clauses, and their copies.
+// What a search is about: the formula of the live clauses, and their copies. Questions may be asked
+// where all the clauses have copies.
 #[derive(Drop)]
 pub(crate) struct Search<'f, 'p> {
     pub alloc: Global,
     pub f: &'f Formula,
     pub padoa: &'p Padoa,
+    pub may_ask: bool,
 }
 
 // What a search knows of the existentials, and their trees.
@@ -53,12 +55,13 @@ impl<'f, 'p> Search<'f, 'p> {
     ) -> Result<Verdict, Stop>
         requires fit { O.Fits oracle.old log.old }
         requires search { IsSearch self.now.f.now graph.old book.old checker.old self.now.padoa.now
-            log.old.entries }
+            self.now.may_ask log.old.entries }
+        requires ready { self.now.may_ask ≡ true }
         ensures fit { O.Fits oracle.new log.new }
         ensures inputs { graph.new.inputs ≡ graph.old.inputs }
         ensures ended { HasEnded book.old book.new log.old log.new }
         ensures way { (result ≡ Err Stop.Memory → ⊥) → IsUnderWay self.now.f.now book.new checker.new
-            self.now.padoa.now log.new.entries }
+            self.now.padoa.now self.now.may_ask log.new.entries }
         ensures rows { (result ≡ Err Stop.Memory → ⊥) → rows_of log.new.entries ≡ book.new.table.rows }
         ensures shown_true { (nodes : _) (id : ℕ) → result ≡ Ok (Verdict.True nodes id)
             → IsAnsweredTrue self.now.f.now graph.new nodes log.new id }
@@ -83,12 +86,13 @@ impl<'f, 'p> Search<'f, 'p> {
     ) -> Result<Verdict, Stop>
         requires fit { O.Fits oracle.old log.old }
         requires search { IsSearch self.now.f.now graph.old book.old checker.old self.now.padoa.now
-            log.old.entries }
+            self.now.may_ask log.old.entries }
+        requires ready { self.now.may_ask ≡ true }
         ensures fit { O.Fits oracle.new log.new }
         ensures inputs { graph.new.inputs ≡ graph.old.inputs }
         ensures ended { HasEnded book.old book.new log.old log.new }
         ensures way { (result ≡ Err Stop.Memory → ⊥) → IsUnderWay self.now.f.now book.new checker.new
-            self.now.padoa.now log.new.entries }
+            self.now.padoa.now self.now.may_ask log.new.entries }
         ensures rows { (result ≡ Err Stop.Memory → ⊥) → rows_of log.new.entries ≡ book.new.table.rows }
         ensures shown_true { (nodes : _) (id : ℕ) → result ≡ Ok (Verdict.True nodes id)
             → IsAnsweredTrue self.now.f.now graph.new nodes log.new id }
@@ -144,8 +148,8 @@ impl<'f, 'p> Search<'f, 'p> {
         }
     }
 
-    // Turns until there is a verdict or a stop.
-    pub(crate) fn all_rounds<O: Oracle>(
+    // Rounds until there is a verdict or a stop.
+    fn all_rounds<O: Oracle>(
         &self,
         oracle: &mut O,
         graph: &mut Graph,
@@ -156,13 +160,13 @@ impl<'f, 'p> Search<'f, 'p> {
     ) -> Result<Verdict, Stop>
         requires fit { O.Fits oracle.old log.old }
         requires search { IsSearch self.now.f.now graph.old book.old checker.old self.now.padoa.now
-            log.old.entries }
+            self.now.may_ask log.old.entries }
         requires known { AreKnownIn self.now.f.now graph.old known.old.definitions }
         ensures fit { O.Fits oracle.new log.new }
         ensures inputs { graph.new.inputs ≡ graph.old.inputs }
         ensures ended { HasEnded book.old book.new log.old log.new }
         ensures way { (result ≡ Err Stop.Memory → ⊥) → IsUnderWay self.now.f.now book.new checker.new
-            self.now.padoa.now log.new.entries }
+            self.now.padoa.now self.now.may_ask log.new.entries }
         ensures rows { (result ≡ Err Stop.Memory → ⊥) → rows_of log.new.entries ≡ book.new.table.rows }
         ensures shown_true { (nodes : _) (id : ℕ) → result ≡ Ok (Verdict.True nodes id)
             → IsAnsweredTrue self.now.f.now graph.new nodes log.new id }
@@ -170,20 +174,57 @@ impl<'f, 'p> Search<'f, 'p> {
             → IsAnsweredFalse book.new log.new id }
         ensures stopped { IsStoppedAs self.now.f.now book.new log.new result }
     {
+        loop {
+            if let Some(verdict) = self.round(oracle, graph, book, checker, known, log)? {
+                return Ok(verdict);
+            }
+        }
+    }
+
+    // Candidates and their check: a verdict, or a row more.
+    pub(crate) fn round<O: Oracle>(
+        &self,
+        oracle: &mut O,
+        graph: &mut Graph,
+        book: &mut Book,
+        checker: &mut Checker,
+        known: &mut Known,
+        log: &mut Log,
+    ) -> Result<Option<Verdict>, Stop>
+        requires fit { O.Fits oracle.old log.old }
+        requires search { IsSearch self.now.f.now graph.old book.old checker.old self.now.padoa.now
+            self.now.may_ask log.old.entries }
+        requires known { AreKnownIn self.now.f.now graph.old known.old.definitions }
+        ensures fit { O.Fits oracle.new log.new }
+        ensures inputs { graph.new.inputs ≡ graph.old.inputs }
+        ensures ended { HasEnded book.old book.new log.old log.new }
+        ensures way { (result ≡ Err Stop.Memory → ⊥) → IsUnderWay self.now.f.now book.new checker.new
+            self.now.padoa.now self.now.may_ask log.new.entries }
+        ensures rows { (result ≡ Err Stop.Memory → ⊥) → rows_of log.new.entries ≡ book.new.table.rows }
+        ensures shown_true { (nodes : _) (id : ℕ) → result ≡ Ok (Some (Verdict.True nodes id))
+            → IsAnsweredTrue self.now.f.now graph.new nodes log.new id }
+        ensures shown_false { (id : ℕ) → result ≡ Ok (Some (Verdict.False id))
+            → IsAnsweredFalse book.new log.new id }
+        ensures open { result ≡ Ok None → IsNextRound self.now.f.now graph.new book.old book.new
+            checker.old checker.new self.now.padoa.now self.now.may_ask known.new.definitions
+            log.old log.new }
+        ensures stopped { IsStoppedAs self.now.f.now book.new log.new result }
+    {
         instances_leave_logs();
         instances_leave_searches();
-        loop {
-            let outputs = match self.find_candidates(oracle, graph, book, known, log)? {
-                Proposal::Candidates(outputs) => outputs,
-                Proposal::Refuted(id) => return Ok(Verdict::False(id)),
-            };
-            let candidates = Candidates {
-                graph,
-                outputs: &outputs,
-            };
-            match self.judge(oracle, &candidates, book, checker, known, log)? {
-                Judged::Hold(id) => return Ok(Verdict::True(outputs, id)),
-                Judged::Fail(row) => book.add_row(oracle, &row, log)?,
+        let outputs = match self.find_candidates(oracle, graph, book, known, log)? {
+            Proposal::Candidates(outputs) => outputs,
+            Proposal::Refuted(id) => return Ok(Some(Verdict::False(id))),
+        };
+        let candidates = Candidates {
+            graph,
+            outputs: &outputs,
+        };
+        match self.judge(oracle, &candidates, book, checker, known, log)? {
+            Judged::Hold(id) => Ok(Some(Verdict::True(outputs, id))),
+            Judged::Fail(row) => {
+                book.add_row(oracle, &row, log)?;
+                Ok(None)
             }
         }
     }

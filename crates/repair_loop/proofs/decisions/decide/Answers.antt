@@ -1,8 +1,6 @@
-use Rattle.std.proofs.Common.{rules, ◌≡◌, ◌∙◌, ◌⊎◌, inl, inr, refl, ap, sym, subst, Result, Ok, Err, OnErr}
-use Rattle.hint_log.specs.Deciding.{IsUndecided}
-use Rattle.hint_log.specs.declared.stops.Stop.TheVariants.{Memory}
+use Rattle.std.proofs.Common.{◌∙◌, refl, ap, sym}
 use Rattle.log_laws.specs.Engines.{instances}
-use Rattle.repair_loop.specs.Desks.{IsFirstBook, HasBegun}
+use Rattle.repair_loop.specs.Desks.{IsFirstBook}
 use Rattle.repair_loop.proofs.FileDecisions.{entries_began, file_productive, file_false, file_stopped}
 use Rattle.repair_loop.proofs.FirstDesks.{empty_has_none}
 use Rattle.repair_loop.proofs.Stops.{on_err}

@@ -1,4 +1,4 @@
-use Rattle.std.proofs.Common.{◌∙◌, inl, [], sym, ap, subst}
+use Rattle.std.proofs.Common.{◌∙◌, false, inl, [], sym, ap, subst}
 use Rattle.std.specs.Option.{unwrap_or}
 use Rattle.dq_session.specs.Books.{live_of}
 use Rattle.known_functions.specs.Searching.{HasInputs}
@@ -17,7 +17,7 @@ returns-in_err-begin-clause-kept g c = c.begin.ensures.started.standing.kept
 
 pub returns-in_err-begin-clause-selectors : goal.returns-in_err-begin-clause-selectors
 returns-in_err-begin-clause-selectors g c =
-    (g.met.O.Oracle.searched c.begin.new.oracle c.begin.new.log c.begin.ensures.fit).kept
+    (g.met.O.Oracle.searched c.args.oracle.now c.begin.new.log c.begin.ensures.fit).kept
 
 pub returns-in_err-begin-clause-limit_same : goal.returns-in_err-begin-clause-limit_same
 returns-in_err-begin-clause-limit_same g c = c.begin.ensures.started.limit
@@ -31,8 +31,8 @@ pub returns-in_err-begin-clause-new_faults : goal.returns-in_err-begin-clause-ne
 returns-in_err-begin-clause-new_faults g c begun =
     start_faults c.args.book.now c.begin.new.self c.args.log.now c.begin.new.log c.begin.ensures.started begun
 
-pub run-requires-clause-search : goal.run-requires-clause-search
-run-requires-clause-search g c =
+pub search-requires-clause-search : goal.search-requires-clause-search
+search-requires-clause-search g c =
     c.in_ok-begin.ensures.ready c.args.graph.now
     (subst (λ f. HasInputs f c.args.graph.now) (sym c.requires.now) c.requires.ready.inputs)
 
@@ -40,26 +40,30 @@ pub returns-clause-ready : goal.returns-clause-ready
 returns-clause-ready g c other =
     let b = c.args.book.now in
     let begun = c.in_ok-begin.ensures.begun.begun in
-    let ended = c.run.ensures.ended in
-    let named = c.begin.ensures.started.named ∙ ap (λ o. unwrap_or o []) begun.named in
-    ready_again c.desks_are_grouped.ensures c.args.f.now b c.run.new.book c.args.self.now _ c.args.graph.now
-    c.run.new.graph c.args.log.now c.run.new.log c.requires.ready
-    (begun_on (live_of b) c.args.log.now c.begin.new.log c.run.new.log begun ended.grew) ended.book
-    (c.run.ensures.way other) (c.run.ensures.rows other)
-    (g.met.O.Oracle.searched c.run.new.oracle c.run.new.log c.run.ensures.fit) named c.run.ensures.inputs
+    let ended = c.search.ensures.ended in
+    let named = c.search.ensures.begun ∙ c.begin.ensures.started.named ∙ ap (λ o. unwrap_or o []) begun.named in
+    ready_again c.desks_are_grouped.ensures c.args.f.now b c.search.new.book c.args.self.now _ false c.args.graph.now
+    c.search.new.graph c.args.log.now c.search.new.log c.requires.ready
+    (begun_on (live_of b) c.args.log.now c.begin.new.log c.search.new.log begun ended.grew) ended.book
+    (c.search.ensures.way other) (c.search.ensures.rows other)
+    (g.met.O.Oracle.searched c.search.new.oracle c.search.new.log c.search.ensures.fit) named c.search.ensures.inputs
 
 pub returns-clause-began : goal.returns-clause-began
 returns-clause-began g c =
-    inl (begun_on (live_of c.args.book.now) c.args.log.now c.begin.new.log c.run.new.log
-    c.in_ok-begin.ensures.begun.begun c.run.ensures.ended.grew)
+    inl (begun_on (live_of c.args.book.now) c.args.log.now c.begin.new.log c.search.new.log
+    c.in_ok-begin.ensures.begun.begun c.search.ensures.ended.grew)
 
 pub returns-clause-shown_false : goal.returns-clause-shown_false
 returns-clause-shown_false g c id e =
-    answered_back c.args.book.now c.run.new.book c.run.new.log id c.run.ensures.ended.book
-    (c.run.ensures.shown_false id e)
+    answered_back c.args.book.now c.search.new.book c.search.new.log id c.search.ensures.ended.book
+    (c.search.ensures.shown_false id e)
 
 pub returns-clause-new_faults : goal.returns-clause-new_faults
 returns-clause-new_faults g c begun =
-    subst (λ es. AreFaultsNew es c.run.new.log.entries)
-    (begun_before (live_of c.args.book.now) c.args.log.now.entries c.run.new.log.entries begun)
-    c.run.ensures.ended.new_faults
+    subst (λ es. AreFaultsNew es c.search.new.log.entries)
+    (begun_before (live_of c.args.book.now) c.args.log.now.entries c.search.new.log.entries begun)
+    c.search.ensures.ended.new_faults
+
+pub search-requires-clause-begun : goal.search-requires-clause-begun
+search-requires-clause-begun g c =
+    c.begin.ensures.started.named ∙ ap (λ o. unwrap_or o []) c.in_ok-begin.ensures.begun.begun.named

@@ -1,27 +1,27 @@
-use Rattle.std.proofs.Common.{ℕ, None, ◌≡◌, ◌∙◌, refl, ap, sym, subst, arith, length}
+use Rattle.std.proofs.Common.{ℕ, None, ◌≡◌, ◌∙◌, refl, ap, subst, arith, length}
 use Rattle.std.specs.List.{Contains}
 use Rattle.std.proofs.lemmas.List.Elements.{All-contains}
 use Rattle.hint_log.specs.Entries.{name_of}
-use Rattle.log_laws.specs.Engines.{circuits, copies}
+use Rattle.log_laws.specs.Engines.{copies}
 use Rattle.padoa_definitions.specs.Copies.{groups_of}
 use Rattle.padoa_definitions.specs.Store.{copy_groups}
 use Rattle.repair_loop.proofs.FirstDesks.{FirstLaws, first_has_none, first_no_faults, first_ready, mid_plain, mid_undecided, mid_none, mid_no_circuits, end_plain, end_undecided, end_none}
 use Rattle.repair_loop.proofs.WholeSearches.{productive}
 use Rattle.repair_loop.proofs.desks.Desk.new.Goals as goal
 
-pub new-requires-clause-none : goal.new-requires-clause-none
-new-requires-clause-none g c =
+pub first_copies-requires-clause-none : goal.first_copies-requires-clause-none
+first_copies-requires-clause-none g c =
     let (b, first) = c.requires.book in
     first_has_none c.args.f.now copies refl b c.args.log.now.entries first
 
-pub new-requires-clause-few : goal.new-requires-clause-few
-new-requires-clause-few g c =
+pub first_copies-requires-clause-few : goal.first_copies-requires-clause-few
+first_copies-requires-clause-few g c =
     let (b, first) = c.requires.book in
     let none = ap length (first_no_faults c.args.f.now b c.args.log.now.entries first) in
     omega (arith, none)
 
 pub returns-in_err-padoa-clause-limit_same : goal.returns-in_err-padoa-clause-limit_same
-returns-in_err-padoa-clause-limit_same g c = (c.new.ensures.grew 0).limit
+returns-in_err-padoa-clause-limit_same g c = (c.first_copies.ensures.grew 0).limit
 
 pub returns-in_err-padoa-clause-productive : goal.returns-in_err-padoa-clause-productive
 returns-in_err-padoa-clause-productive g c =
@@ -35,8 +35,8 @@ returns-in_err-padoa-clause-productive g c =
     } in
     let f = c.args.f.now in
     let (b, first) = c.requires.book in
-    productive f c.new.new.log.entries (mid_plain laws f b c.args.log.now c.new.new.log first c.new.ensures.grew)
-    (g.met.O.Oracle.searched c.new.new.oracle c.new.new.log c.new.ensures.fit)
+    productive f c.first_copies.new.log.entries (mid_plain laws f b c.args.log.now c.first_copies.new.log first c.first_copies.ensures.grew)
+    (g.met.O.Oracle.searched c.first_copies.new.oracle c.first_copies.new.log c.first_copies.ensures.fit)
 
 pub returns-in_err-padoa-clause-undecided : goal.returns-in_err-padoa-clause-undecided
 returns-in_err-padoa-clause-undecided g c =
@@ -50,7 +50,7 @@ returns-in_err-padoa-clause-undecided g c =
     } in
     let f = c.args.f.now in
     let (b, first) = c.requires.book in
-    mid_undecided laws f b c.args.log.now c.new.new.log first c.new.ensures.grew
+    mid_undecided laws f b c.args.log.now c.first_copies.new.log first c.first_copies.ensures.grew
 
 pub returns-in_err-padoa-clause-none : goal.returns-in_err-padoa-clause-none
 returns-in_err-padoa-clause-none g c =
@@ -64,10 +64,10 @@ returns-in_err-padoa-clause-none g c =
     } in
     let f = c.args.f.now in
     let (b, first) = c.requires.book in
-    mid_none laws f b c.args.log.now c.new.new.log first c.new.ensures.grew
+    mid_none laws f b c.args.log.now c.first_copies.new.log first c.first_copies.ensures.grew
 
-pub new-requires-2-clause-none : goal.new-requires-2-clause-none
-new-requires-2-clause-none g c =
+pub new-requires-clause-none : goal.new-requires-clause-none
+new-requires-clause-none g c =
     let laws : FirstLaws = record {
       rest = c.engines_leave_the_rest.ensures;
       sessions = c.engines_leave_sessions.ensures;
@@ -78,10 +78,10 @@ new-requires-2-clause-none g c =
     } in
     let f = c.args.f.now in
     let (b, first) = c.requires.book in
-    mid_no_circuits laws f b c.args.log.now c.new.new.log first c.new.ensures.grew
+    mid_no_circuits laws f b c.args.log.now c.first_copies.new.log first c.first_copies.ensures.grew
 
 pub returns-in_err-checker-clause-limit_same : goal.returns-in_err-checker-clause-limit_same
-returns-in_err-checker-clause-limit_same g c = (c.new-2.ensures.grew 0).limit ∙ (c.new.ensures.grew 0).limit
+returns-in_err-checker-clause-limit_same g c = (c.new.ensures.grew 0).limit ∙ (c.first_copies.ensures.grew 0).limit
 
 pub returns-in_err-checker-clause-productive : goal.returns-in_err-checker-clause-productive
 returns-in_err-checker-clause-productive g c =
@@ -95,9 +95,9 @@ returns-in_err-checker-clause-productive g c =
     } in
     let f = c.args.f.now in
     let (b, first) = c.requires.book in
-    productive f c.new-2.new.log.entries (end_plain laws f c.args.log.now c.new.new.log c.new-2.new.log
-    c.new-2.ensures.grew (mid_plain laws f b c.args.log.now c.new.new.log first c.new.ensures.grew))
-    (g.met.O.Oracle.searched c.new-2.new.oracle c.new-2.new.log c.new-2.ensures.fit)
+    productive f c.new.new.log.entries (end_plain laws f c.args.log.now c.first_copies.new.log c.new.new.log
+    c.new.ensures.grew (mid_plain laws f b c.args.log.now c.first_copies.new.log first c.first_copies.ensures.grew))
+    (g.met.O.Oracle.searched c.new.new.oracle c.new.new.log c.new.ensures.fit)
 
 pub returns-in_err-checker-clause-undecided : goal.returns-in_err-checker-clause-undecided
 returns-in_err-checker-clause-undecided g c =
@@ -111,8 +111,8 @@ returns-in_err-checker-clause-undecided g c =
     } in
     let f = c.args.f.now in
     let (b, first) = c.requires.book in
-    end_undecided laws f c.args.log.now c.new.new.log c.new-2.new.log c.new-2.ensures.grew
-    (mid_undecided laws f b c.args.log.now c.new.new.log first c.new.ensures.grew)
+    end_undecided laws f c.args.log.now c.first_copies.new.log c.new.new.log c.new.ensures.grew
+    (mid_undecided laws f b c.args.log.now c.first_copies.new.log first c.first_copies.ensures.grew)
 
 pub returns-in_err-checker-clause-none : goal.returns-in_err-checker-clause-none
 returns-in_err-checker-clause-none g c =
@@ -126,11 +126,11 @@ returns-in_err-checker-clause-none g c =
     } in
     let f = c.args.f.now in
     let (b, first) = c.requires.book in
-    end_none laws f c.args.log.now c.new.new.log c.new-2.new.log c.new-2.ensures.grew
-    (mid_none laws f b c.args.log.now c.new.new.log first c.new.ensures.grew)
+    end_none laws f c.args.log.now c.first_copies.new.log c.new.new.log c.new.ensures.grew
+    (mid_none laws f b c.args.log.now c.first_copies.new.log first c.first_copies.ensures.grew)
 
 pub returns-clause-limit_same : goal.returns-clause-limit_same
-returns-clause-limit_same g c = (c.new-2.ensures.grew 0).limit ∙ (c.new.ensures.grew 0).limit
+returns-clause-limit_same g c = (c.new.ensures.grew 0).limit ∙ (c.first_copies.ensures.grew 0).limit
 
 pub returns-clause-productive : goal.returns-clause-productive
 returns-clause-productive g c =
@@ -144,9 +144,9 @@ returns-clause-productive g c =
     } in
     let f = c.args.f.now in
     let (b, first) = c.requires.book in
-    productive f c.new-2.new.log.entries (end_plain laws f c.args.log.now c.new.new.log c.new-2.new.log
-    c.new-2.ensures.grew (mid_plain laws f b c.args.log.now c.new.new.log first c.new.ensures.grew))
-    (g.met.O.Oracle.searched c.new-2.new.oracle c.new-2.new.log c.new-2.ensures.fit)
+    productive f c.new.new.log.entries (end_plain laws f c.args.log.now c.first_copies.new.log c.new.new.log
+    c.new.ensures.grew (mid_plain laws f b c.args.log.now c.first_copies.new.log first c.first_copies.ensures.grew))
+    (g.met.O.Oracle.searched c.new.new.oracle c.new.new.log c.new.ensures.fit)
 
 pub returns-clause-undecided : goal.returns-clause-undecided
 returns-clause-undecided g c =
@@ -160,8 +160,8 @@ returns-clause-undecided g c =
     } in
     let f = c.args.f.now in
     let (b, first) = c.requires.book in
-    end_undecided laws f c.args.log.now c.new.new.log c.new-2.new.log c.new-2.ensures.grew
-    (mid_undecided laws f b c.args.log.now c.new.new.log first c.new.ensures.grew)
+    end_undecided laws f c.args.log.now c.first_copies.new.log c.new.new.log c.new.ensures.grew
+    (mid_undecided laws f b c.args.log.now c.first_copies.new.log first c.first_copies.ensures.grew)
 
 pub returns-clause-none : goal.returns-clause-none
 returns-clause-none g c =
@@ -175,8 +175,8 @@ returns-clause-none g c =
     } in
     let f = c.args.f.now in
     let (b, first) = c.requires.book in
-    end_none laws f c.args.log.now c.new.new.log c.new-2.new.log c.new-2.ensures.grew
-    (mid_none laws f b c.args.log.now c.new.new.log first c.new.ensures.grew)
+    end_none laws f c.args.log.now c.first_copies.new.log c.new.new.log c.new.ensures.grew
+    (mid_none laws f b c.args.log.now c.first_copies.new.log first c.first_copies.ensures.grew)
 
 pub returns-clause-ready : goal.returns-clause-ready
 returns-clause-ready g c b graph first inputs =
@@ -194,7 +194,7 @@ returns-clause-ready g c b graph first inputs =
     let new_groups : (n : ℕ) → Contains (copy_groups c.in_ok-padoa.padoa) n → name_of c.args.log.now.entries n ≡ None =
     λ n has. All-contains (λ m. name_of c.args.log.now.entries m ≡ None) (groups_of c.in_ok-padoa.padoa) n p.fresh
     (subst (λ gs. Contains gs n) p.all_active has) in
-    first_ready laws f b c.args.log.now c.new.new.log c.new-2.new.log first c.in_ok-padoa.padoa c.in_ok-checker.checker
-    c.new.ensures.grew p.store new_groups c.new-2.ensures.grew k.made k.fresh c.new-2.ensures.faults
-    (g.met.O.Oracle.searched c.new-2.new.oracle c.new-2.new.log c.new-2.ensures.fit) _ refl refl c.new-3.ensures.items
+    first_ready laws f b c.args.log.now c.first_copies.new.log c.new.new.log first c.in_ok-padoa.padoa c.in_ok-checker.checker
+    c.first_copies.ensures.grew p.store new_groups c.new.ensures.grew k.made k.fresh c.new.ensures.faults
+    (g.met.O.Oracle.searched c.new.new.oracle c.new.new.log c.new.ensures.fit) _ refl refl c.new-2.ensures.items
     graph inputs

@@ -4,14 +4,15 @@ use Rattle.known_functions.specs.Forcing.{AreKnownIn}
 use Rattle.repair_loop.specs.Turning.{HasGoneOn, IsSearch}
 use Rattle.repair_loop.proofs.searches.Search.all_rounds.Given as goal
 
-abbrev pub invariant-loop-outputs : goal.invariant-loop-outputs
-invariant-loop-outputs g l = record {
+abbrev pub invariant-loop-verdict : goal.invariant-loop-verdict
+invariant-loop-verdict g l = record {
   fit : g.O.Oracle.Fits l.oracle l.log;
-  search : IsSearch l.self.f.now l.graph l.book l.checker l.self.padoa.now l.log.entries;
+  search : IsSearch l.self.f.now l.graph l.book l.checker l.self.padoa.now l.self.may_ask l.log.entries;
   known : AreKnownIn l.self.f.now l.graph l.known.definitions;
   inputs : l.graph.inputs ≡ l.initial.graph.inputs;
-  went : HasGoneOn l.self.f.now l.initial.book l.book l.initial.checker l.checker l.self.padoa.now l.initial.log l.log;
+  went : HasGoneOn l.self.f.now l.initial.book l.book l.initial.checker l.checker l.self.padoa.now l.self.may_ask
+      l.initial.log l.log;
 }
 
-abbrev pub decreases-loop-outputs : goal.decreases-loop-outputs
-decreases-loop-outputs g l = l.log.limit - steps_of l.log.entries
+abbrev pub decreases-loop-verdict : goal.decreases-loop-verdict
+decreases-loop-verdict g l = l.log.limit - steps_of l.log.entries

@@ -20,7 +20,7 @@ solve-requires-clause-few g c = c.requires.search.1.here.way.faults
 pub returns-in_err-id-clause-went : goal.returns-in_err-id-clause-went
 returns-in_err-id-clause-went g c checker before =
     let s = c.args.self.now in
-    let left = c.instances_leave_searches.ensures s.f.now c.args.book.now c.solve.new.self checker s.padoa.now
+    let left = c.instances_leave_searches.ensures s.f.now c.args.book.now c.solve.new.self checker s.padoa.now s.may_ask
     (is_silent c.solve.result) c.args.log.now c.solve.new.log c.solve.ensures.grew
     (caught_up_after c.args.book.now c.solve.new.self c.solve.ensures.same) c.solve.ensures.book.book c.solve.ensures.fresh
     before.here.way in
@@ -33,7 +33,7 @@ pub returns-in_err-id-clause-stopped : goal.returns-in_err-id-clause-stopped
 returns-in_err-id-clause-stopped g c =
     let (checker, before) = c.requires.search in
     let s = c.args.self.now in
-    let left = c.instances_leave_searches.ensures s.f.now c.args.book.now c.solve.new.self checker s.padoa.now
+    let left = c.instances_leave_searches.ensures s.f.now c.args.book.now c.solve.new.self checker s.padoa.now s.may_ask
     (is_silent c.solve.result) c.args.log.now c.solve.new.log c.solve.ensures.grew
     (caught_up_after c.args.book.now c.solve.new.self c.solve.ensures.same) c.solve.ensures.book.book c.solve.ensures.fresh
     before.here.way in
@@ -50,7 +50,7 @@ returns-in_err-id-clause-stopped g c =
 pub returns-in-Refuted-clause-went : goal.returns-in-Refuted-clause-went
 returns-in-Refuted-clause-went g c checker before =
     let s = c.args.self.now in
-    let left = c.instances_leave_searches.ensures s.f.now c.args.book.now c.solve.new.self checker s.padoa.now
+    let left = c.instances_leave_searches.ensures s.f.now c.args.book.now c.solve.new.self checker s.padoa.now s.may_ask
     (is_silent c.solve.result) c.args.log.now c.solve.new.log c.solve.ensures.grew
     (caught_up_after c.args.book.now c.solve.new.self c.solve.ensures.same) c.solve.ensures.book.book c.solve.ensures.fresh
     before.here.way in
@@ -74,13 +74,13 @@ pub propose-requires-clause-search : goal.propose-requires-clause-search
 propose-requires-clause-search g c =
     let (checker, before) = c.requires.search in
     let s = c.args.self.now in
-    let left = c.instances_leave_searches.ensures s.f.now c.args.book.now c.solve.new.self checker s.padoa.now
+    let left = c.instances_leave_searches.ensures s.f.now c.args.book.now c.solve.new.self checker s.padoa.now s.may_ask
     (is_silent c.solve.result) c.args.log.now c.solve.new.log c.solve.ensures.grew
     (caught_up_after c.args.book.now c.solve.new.self c.solve.ensures.same) c.solve.ensures.book.book c.solve.ensures.fresh
     before.here.way in (
       checker,
       left_search s.f.now c.args.graph.now c.args.graph.now c.args.book.now c.solve.new.self checker checker
-          s.padoa.now (is_silent c.solve.result) c.args.log.now c.solve.new.log
+          s.padoa.now s.may_ask (is_silent c.solve.result) c.args.log.now c.solve.new.log
           (ap is_silent (c.in_ok-id.was ∙ ap Ok c.in-Model.is)) left.0 left.1 c.solve.ensures.book.rows refl before,
     )
 
@@ -89,33 +89,33 @@ propose-requires-clause-model g c =
     let (checker, before) = c.requires.search in
     let was = c.in_ok-id.was ∙ ap Ok c.in-Model.is in
     model_of c.args.self.now.f.now c.args.book.now c.solve.new.self c.in-Model.points c.args.log.now.entries
-    checker c.args.self.now.padoa.now before.here.way c.solve.ensures.same (c.solve.ensures.point_variables c.in-Model.points was)
+    checker c.args.self.now.padoa.now c.args.self.now.may_ask before.here.way c.solve.ensures.same (c.solve.ensures.point_variables c.in-Model.points was)
     (c.solve.ensures.point_rows c.in-Model.points was) (c.solve.ensures.model c.in-Model.points was)
 
 pub returns-in_err-outputs-in-Model-clause-went : goal.returns-in_err-outputs-in-Model-clause-went
 returns-in_err-outputs-in-Model-clause-went g c checker before =
     let s = c.args.self.now in
-    let left = c.instances_leave_searches.ensures s.f.now c.args.book.now c.solve.new.self checker s.padoa.now
+    let left = c.instances_leave_searches.ensures s.f.now c.args.book.now c.solve.new.self checker s.padoa.now s.may_ask
     (is_silent c.solve.result) c.args.log.now c.solve.new.log c.solve.ensures.grew
     (caught_up_after c.args.book.now c.solve.new.self c.solve.ensures.same) c.solve.ensures.book.book c.solve.ensures.fresh
     before.here.way in
     let next = left_search s.f.now c.args.graph.now c.args.graph.now c.args.book.now c.solve.new.self checker checker
-    s.padoa.now (is_silent c.solve.result) c.args.log.now c.solve.new.log
+    s.padoa.now s.may_ask (is_silent c.solve.result) c.args.log.now c.solve.new.log
     (ap is_silent (c.in_ok-id.was ∙ ap Ok c.in-Model.is)) left.0 left.1 c.solve.ensures.book.rows refl before in
     let more = c.propose.ensures.left checker next in
-    went_then s.f.now c.args.book.now c.solve.new.self c.solve.new.self checker checker checker s.padoa.now
+    went_then s.f.now c.args.book.now c.solve.new.self c.solve.new.self checker checker checker s.padoa.now s.may_ask
     c.args.log.now c.solve.new.log c.propose.new.log left.0.went more.went
 
 pub returns-in_err-outputs-in-Model-clause-rows : goal.returns-in_err-outputs-in-Model-clause-rows
 returns-in_err-outputs-in-Model-clause-rows g c =
     let (checker, before) = c.requires.search in
     let s = c.args.self.now in
-    let left = c.instances_leave_searches.ensures s.f.now c.args.book.now c.solve.new.self checker s.padoa.now
+    let left = c.instances_leave_searches.ensures s.f.now c.args.book.now c.solve.new.self checker s.padoa.now s.may_ask
     (is_silent c.solve.result) c.args.log.now c.solve.new.log c.solve.ensures.grew
     (caught_up_after c.args.book.now c.solve.new.self c.solve.ensures.same) c.solve.ensures.book.book c.solve.ensures.fresh
     before.here.way in
     let next = left_search s.f.now c.args.graph.now c.args.graph.now c.args.book.now c.solve.new.self checker checker
-    s.padoa.now (is_silent c.solve.result) c.args.log.now c.solve.new.log
+    s.padoa.now s.may_ask (is_silent c.solve.result) c.args.log.now c.solve.new.log
     (ap is_silent (c.in_ok-id.was ∙ ap Ok c.in-Model.is)) left.0 left.1 c.solve.ensures.book.rows refl before in
     let more = c.propose.ensures.left checker next in
     more.rows ∙ c.solve.ensures.book.rows
@@ -124,12 +124,12 @@ pub returns-in_err-outputs-in-Model-clause-stopped : goal.returns-in_err-outputs
 returns-in_err-outputs-in-Model-clause-stopped g c =
     let (checker, before) = c.requires.search in
     let s = c.args.self.now in
-    let left = c.instances_leave_searches.ensures s.f.now c.args.book.now c.solve.new.self checker s.padoa.now
+    let left = c.instances_leave_searches.ensures s.f.now c.args.book.now c.solve.new.self checker s.padoa.now s.may_ask
     (is_silent c.solve.result) c.args.log.now c.solve.new.log c.solve.ensures.grew
     (caught_up_after c.args.book.now c.solve.new.self c.solve.ensures.same) c.solve.ensures.book.book c.solve.ensures.fresh
     before.here.way in
     let next = left_search s.f.now c.args.graph.now c.args.graph.now c.args.book.now c.solve.new.self checker checker
-    s.padoa.now (is_silent c.solve.result) c.args.log.now c.solve.new.log
+    s.padoa.now s.may_ask (is_silent c.solve.result) c.args.log.now c.solve.new.log
     (ap is_silent (c.in_ok-id.was ∙ ap Ok c.in-Model.is)) left.0 left.1 c.solve.ensures.book.rows refl before in
     let more = c.propose.ensures.left checker next in
     record {
@@ -144,27 +144,27 @@ returns-in_err-outputs-in-Model-clause-stopped g c =
 pub returns-in_ok-outputs-in-Model-clause-went : goal.returns-in_ok-outputs-in-Model-clause-went
 returns-in_ok-outputs-in-Model-clause-went g c checker before =
     let s = c.args.self.now in
-    let left = c.instances_leave_searches.ensures s.f.now c.args.book.now c.solve.new.self checker s.padoa.now
+    let left = c.instances_leave_searches.ensures s.f.now c.args.book.now c.solve.new.self checker s.padoa.now s.may_ask
     (is_silent c.solve.result) c.args.log.now c.solve.new.log c.solve.ensures.grew
     (caught_up_after c.args.book.now c.solve.new.self c.solve.ensures.same) c.solve.ensures.book.book c.solve.ensures.fresh
     before.here.way in
     let next = left_search s.f.now c.args.graph.now c.args.graph.now c.args.book.now c.solve.new.self checker checker
-    s.padoa.now (is_silent c.solve.result) c.args.log.now c.solve.new.log
+    s.padoa.now s.may_ask (is_silent c.solve.result) c.args.log.now c.solve.new.log
     (ap is_silent (c.in_ok-id.was ∙ ap Ok c.in-Model.is)) left.0 left.1 c.solve.ensures.book.rows refl before in
     let more = c.propose.ensures.left checker next in
-    went_then s.f.now c.args.book.now c.solve.new.self c.solve.new.self checker checker checker s.padoa.now
+    went_then s.f.now c.args.book.now c.solve.new.self c.solve.new.self checker checker checker s.padoa.now s.may_ask
     c.args.log.now c.solve.new.log c.propose.new.log left.0.went more.went
 
 pub returns-in_ok-outputs-in-Model-clause-rows : goal.returns-in_ok-outputs-in-Model-clause-rows
 returns-in_ok-outputs-in-Model-clause-rows g c =
     let (checker, before) = c.requires.search in
     let s = c.args.self.now in
-    let left = c.instances_leave_searches.ensures s.f.now c.args.book.now c.solve.new.self checker s.padoa.now
+    let left = c.instances_leave_searches.ensures s.f.now c.args.book.now c.solve.new.self checker s.padoa.now s.may_ask
     (is_silent c.solve.result) c.args.log.now c.solve.new.log c.solve.ensures.grew
     (caught_up_after c.args.book.now c.solve.new.self c.solve.ensures.same) c.solve.ensures.book.book c.solve.ensures.fresh
     before.here.way in
     let next = left_search s.f.now c.args.graph.now c.args.graph.now c.args.book.now c.solve.new.self checker checker
-    s.padoa.now (is_silent c.solve.result) c.args.log.now c.solve.new.log
+    s.padoa.now s.may_ask (is_silent c.solve.result) c.args.log.now c.solve.new.log
     (ap is_silent (c.in_ok-id.was ∙ ap Ok c.in-Model.is)) left.0 left.1 c.solve.ensures.book.rows refl before in
     let more = c.propose.ensures.left checker next in
     more.rows ∙ c.solve.ensures.book.rows
@@ -172,15 +172,15 @@ returns-in_ok-outputs-in-Model-clause-rows g c =
 pub returns-in_ok-outputs-in-Model-clause-proposed : goal.returns-in_ok-outputs-in-Model-clause-proposed
 returns-in_ok-outputs-in-Model-clause-proposed g c checker outputs before e =
     let s = c.args.self.now in
-    let left = c.instances_leave_searches.ensures s.f.now c.args.book.now c.solve.new.self checker s.padoa.now
+    let left = c.instances_leave_searches.ensures s.f.now c.args.book.now c.solve.new.self checker s.padoa.now s.may_ask
     (is_silent c.solve.result) c.args.log.now c.solve.new.log c.solve.ensures.grew
     (caught_up_after c.args.book.now c.solve.new.self c.solve.ensures.same) c.solve.ensures.book.book c.solve.ensures.fresh
     before.here.way in
     let next = left_search s.f.now c.args.graph.now c.args.graph.now c.args.book.now c.solve.new.self checker checker
-    s.padoa.now (is_silent c.solve.result) c.args.log.now c.solve.new.log
+    s.padoa.now s.may_ask (is_silent c.solve.result) c.args.log.now c.solve.new.log
     (ap is_silent (c.in_ok-id.was ∙ ap Ok c.in-Model.is)) left.0 left.1 c.solve.ensures.book.rows refl before in
     let more = c.propose.ensures.left checker next in
     let same : c.in_ok-outputs-in-Model.outputs ≡ outputs = cc in
-    subst (λ o. AreProposed s.f.now c.propose.new.graph c.solve.new.self checker s.padoa.now c.propose.new.known.definitions
+    subst (λ o. AreProposed s.f.now c.propose.new.graph c.solve.new.self checker s.padoa.now s.may_ask c.propose.new.known.definitions
     o c.propose.new.log.entries) same
     (c.propose.ensures.proposed checker c.in_ok-outputs-in-Model.outputs next c.in_ok-outputs-in-Model.was)

@@ -34,14 +34,14 @@ turn-requires-clause-read_universals g c =
 pub returns-in_err-id-clause-went : goal.returns-in_err-id-clause-went
 returns-in_err-id-clause-went g c =
     let s = c.args.self.now in
-    let left = c.turns_leave_searches.ensures s.f.now c.args.book.now c.args.checker.now c.turn.new.self s.padoa.now
+    let left = c.turns_leave_searches.ensures s.f.now c.args.book.now c.args.checker.now c.turn.new.self s.padoa.now s.may_ask
     (is_silent c.turn.result) c.args.log.now c.turn.new.log c.turn.ensures.turned c.requires.search.here.way in
     left.went
 
 pub returns-in_err-id-clause-stopped : goal.returns-in_err-id-clause-stopped
 returns-in_err-id-clause-stopped g c =
     let s = c.args.self.now in
-    let left = c.turns_leave_searches.ensures s.f.now c.args.book.now c.args.checker.now c.turn.new.self s.padoa.now
+    let left = c.turns_leave_searches.ensures s.f.now c.args.book.now c.args.checker.now c.turn.new.self s.padoa.now s.may_ask
     (is_silent c.turn.result) c.args.log.now c.turn.new.log c.turn.ensures.turned c.requires.search.here.way in
     record {
       undecided = on_err _ _ (left.undecided (ap is_silent c.in_err-id.was) c.requires.search.here.undecided);
@@ -55,14 +55,14 @@ returns-in_err-id-clause-stopped g c =
 pub returns-in-Holds-clause-went : goal.returns-in-Holds-clause-went
 returns-in-Holds-clause-went g c =
     let s = c.args.self.now in
-    let left = c.turns_leave_searches.ensures s.f.now c.args.book.now c.args.checker.now c.turn.new.self s.padoa.now
+    let left = c.turns_leave_searches.ensures s.f.now c.args.book.now c.args.checker.now c.turn.new.self s.padoa.now s.may_ask
     (is_silent c.turn.result) c.args.log.now c.turn.new.log c.turn.ensures.turned c.requires.search.here.way in
     left.went
 
 pub returns-in-Holds-clause-hold : goal.returns-in-Holds-clause-hold
 returns-in-Holds-clause-hold g c id e =
     let s = c.args.self.now in
-    let left = c.turns_leave_searches.ensures s.f.now c.args.book.now c.args.checker.now c.turn.new.self s.padoa.now
+    let left = c.turns_leave_searches.ensures s.f.now c.args.book.now c.args.checker.now c.turn.new.self s.padoa.now s.may_ask
     (is_silent c.turn.result) c.args.log.now c.turn.new.log c.turn.ensures.turned c.requires.search.here.way in
     let f = s.f.now in
     let graph = c.args.candidates.now.graph.now in
@@ -80,16 +80,16 @@ returns-in-Holds-clause-hold g c id e =
 pub returns-in-Holds-clause-rows : goal.returns-in-Holds-clause-rows
 returns-in-Holds-clause-rows g c id e =
     let s = c.args.self.now in
-    let left = c.turns_leave_searches.ensures s.f.now c.args.book.now c.args.checker.now c.turn.new.self s.padoa.now
+    let left = c.turns_leave_searches.ensures s.f.now c.args.book.now c.args.checker.now c.turn.new.self s.padoa.now s.may_ask
     (is_silent c.turn.result) c.args.log.now c.turn.new.log c.turn.ensures.turned c.requires.search.here.way in
     left.rows ∙ c.requires.search.here.rows
 
 pub log_failure-requires-clause-here : goal.log_failure-requires-clause-here
 log_failure-requires-clause-here g c =
     let s = c.args.self.now in
-    let left = c.turns_leave_searches.ensures s.f.now c.args.book.now c.args.checker.now c.turn.new.self s.padoa.now
+    let left = c.turns_leave_searches.ensures s.f.now c.args.book.now c.args.checker.now c.turn.new.self s.padoa.now s.may_ask
     (is_silent c.turn.result) c.args.log.now c.turn.new.log c.turn.ensures.turned c.requires.search.here.way in
-    left_open s.f.now c.args.book.now c.args.book.now c.args.checker.now c.turn.new.self s.padoa.now
+    left_open s.f.now c.args.book.now c.args.book.now c.args.checker.now c.turn.new.self s.padoa.now s.may_ask
     (is_silent c.turn.result) c.args.log.now c.turn.new.log (ap is_silent (c.in_ok-id.was ∙ ap Ok c.in-Fails.is)) left
     (left.rows ∙ c.requires.search.here.rows) c.requires.search.here.undecided
 
@@ -103,26 +103,26 @@ find_worse-failure-requires-clause-failure g c =
 pub returns-in_err-log_failure-in-Fails-clause-went : goal.returns-in_err-log_failure-in-Fails-clause-went
 returns-in_err-log_failure-in-Fails-clause-went g c =
     let s = c.args.self.now in
-    let left = c.turns_leave_searches.ensures s.f.now c.args.book.now c.args.checker.now c.turn.new.self s.padoa.now
+    let left = c.turns_leave_searches.ensures s.f.now c.args.book.now c.args.checker.now c.turn.new.self s.padoa.now s.may_ask
     (is_silent c.turn.result) c.args.log.now c.turn.new.log c.turn.ensures.turned c.requires.search.here.way in
     went_then s.f.now c.args.book.now c.args.book.now c.args.book.now c.args.checker.now c.turn.new.self
-    c.turn.new.self s.padoa.now c.args.log.now c.turn.new.log c.log_failure.new.log left.went c.log_failure.ensures.went
+    c.turn.new.self s.padoa.now s.may_ask c.args.log.now c.turn.new.log c.log_failure.new.log left.went c.log_failure.ensures.went
 
 pub returns-in_ok-log_failure-in-Fails-clause-went : goal.returns-in_ok-log_failure-in-Fails-clause-went
 returns-in_ok-log_failure-in-Fails-clause-went g c =
     let s = c.args.self.now in
-    let left = c.turns_leave_searches.ensures s.f.now c.args.book.now c.args.checker.now c.turn.new.self s.padoa.now
+    let left = c.turns_leave_searches.ensures s.f.now c.args.book.now c.args.checker.now c.turn.new.self s.padoa.now s.may_ask
     (is_silent c.turn.result) c.args.log.now c.turn.new.log c.turn.ensures.turned c.requires.search.here.way in
     went_then s.f.now c.args.book.now c.args.book.now c.args.book.now c.args.checker.now c.turn.new.self
-    c.turn.new.self s.padoa.now c.args.log.now c.turn.new.log c.log_failure.new.log left.went c.log_failure.ensures.went
+    c.turn.new.self s.padoa.now s.may_ask c.args.log.now c.turn.new.log c.log_failure.new.log left.went c.log_failure.ensures.went
 
 pub returns-in_ok-log_failure-in-Fails-clause-fail : goal.returns-in_ok-log_failure-in-Fails-clause-fail
 returns-in_ok-log_failure-in-Fails-clause-fail g c row e =
     let s = c.args.self.now in
-    let left = c.turns_leave_searches.ensures s.f.now c.args.book.now c.args.checker.now c.turn.new.self s.padoa.now
+    let left = c.turns_leave_searches.ensures s.f.now c.args.book.now c.args.checker.now c.turn.new.self s.padoa.now s.may_ask
     (is_silent c.turn.result) c.args.log.now c.turn.new.log c.turn.ensures.turned c.requires.search.here.way in
     let same : c.find_worse-failure.result.row ≡ row = cc in
-    round_after s.f.now c.args.book.now c.turn.new.self s.padoa.now c.find_worse-failure.result.row row c.args.log.now
+    round_after s.f.now c.args.book.now c.turn.new.self s.padoa.now s.may_ask c.find_worse-failure.result.row row c.args.log.now
     c.turn.new.log c.log_failure.new.log same left.went.grew c.in_ok-log_failure-in-Fails.ensures.round
 
 pub returns-in_err-log_failure-in-Fails-clause-stopped : goal.returns-in_err-log_failure-in-Fails-clause-stopped

@@ -22,11 +22,11 @@ returns-clause-round g c =
     c.in_ok-round.was in cc in
     let value = c.steps.ensures.value in
     let within = c.steps.ensures.within in
-    let next = c.failures_are_rounds.ensures f c.args.book.now c.args.checker.now s.padoa.now log.entries
+    let next = c.failures_are_rounds.ensures f c.args.book.now c.args.checker.now s.padoa.now s.may_ask log.entries
     (outputs_of f c.args.candidates.now.graph.now c.args.candidates.now.outputs.now) x.row x.values x.j c.requires.here
     c.requires.candidates.candidates c.requires.failure in
     record {
-      logged = subst (λ (l : ProofLog). IsRoundLogged f c.args.book.now c.args.checker.now s.padoa.now x.row l.entries)
+      logged = subst (λ (l : ProofLog). IsRoundLogged f c.args.book.now c.args.checker.now s.padoa.now s.may_ask x.row l.entries)
           (sym c.in_ok-round.ensures.ok) next.2;
       step = round_counts log c.round.new.self x.row x.values x.j c.in_ok-round.ensures.ok;
       within = steps_left log (omega (arith, value, within)) full;
@@ -45,7 +45,7 @@ pub returns-in_err-round-clause-went : goal.returns-in_err-round-clause-went
 returns-in_err-round-clause-went g c =
     let s = c.args.self.now in
     record {
-      way = subst (λ (l : ProofLog). IsUnderWay s.f.now c.args.book.now c.args.checker.now s.padoa.now l.entries)
+      way = subst (λ (l : ProofLog). IsUnderWay s.f.now c.args.book.now c.args.checker.now s.padoa.now s.may_ask l.entries)
           (sym c.in_err-round.ensures.err) c.requires.here.way;
       book = same_book c.args.book.now;
       grew = log_same c.args.log.now c.round.new.self c.in_err-round.ensures.err;
@@ -62,7 +62,7 @@ returns-in_err-round-clause-stopped g c =
       limit = λ is.
           let stop : c.in_err-round.field-0.0 ≡ Limit = search rules in
           subst (IsStoppedAtLimit f) (sym c.in_err-round.ensures.err)
-          (by_round c.failures_are_rounds.ensures f c.args.book.now c.args.checker.now s.padoa.now c.args.log.now
+          (by_round c.failures_are_rounds.ensures f c.args.book.now c.args.checker.now s.padoa.now s.may_ask c.args.log.now
           (outputs_of f c.args.candidates.now.graph.now c.args.candidates.now.outputs.now) c.requires.here
           c.requires.candidates.candidates x.row x.values x.j c.requires.failure
           (c.in_err-round.ensures.limit.0 (ap (λ e. Err e) stop)));

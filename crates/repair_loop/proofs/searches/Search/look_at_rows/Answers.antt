@@ -20,7 +20,7 @@ solve-requires-clause-few g c = c.requires.search.2.here.way.faults
 pub returns-in_err-id-clause-went : goal.returns-in_err-id-clause-went
 returns-in_err-id-clause-went g c graph checker before =
     let s = c.args.self.now in
-    let left = c.instances_leave_searches.ensures s.f.now c.args.book.now c.solve.new.self checker s.padoa.now
+    let left = c.instances_leave_searches.ensures s.f.now c.args.book.now c.solve.new.self checker s.padoa.now s.may_ask
     (is_silent c.solve.result) c.args.log.now c.solve.new.log c.solve.ensures.grew
     (caught_up_after c.args.book.now c.solve.new.self c.solve.ensures.same) c.solve.ensures.book.book c.solve.ensures.fresh
     before.here.way in
@@ -30,7 +30,7 @@ pub returns-in_err-id-clause-stopped : goal.returns-in_err-id-clause-stopped
 returns-in_err-id-clause-stopped g c =
     let (graph, checker, before) = c.requires.search in
     let s = c.args.self.now in
-    let left = c.instances_leave_searches.ensures s.f.now c.args.book.now c.solve.new.self checker s.padoa.now
+    let left = c.instances_leave_searches.ensures s.f.now c.args.book.now c.solve.new.self checker s.padoa.now s.may_ask
     (is_silent c.solve.result) c.args.log.now c.solve.new.log c.solve.ensures.grew
     (caught_up_after c.args.book.now c.solve.new.self c.solve.ensures.same) c.solve.ensures.book.book c.solve.ensures.fresh
     before.here.way in
@@ -47,7 +47,7 @@ returns-in_err-id-clause-stopped g c =
 pub returns-clause-went : goal.returns-clause-went
 returns-clause-went g c graph checker before =
     let s = c.args.self.now in
-    let left = c.instances_leave_searches.ensures s.f.now c.args.book.now c.solve.new.self checker s.padoa.now
+    let left = c.instances_leave_searches.ensures s.f.now c.args.book.now c.solve.new.self checker s.padoa.now s.may_ask
     (is_silent c.solve.result) c.args.log.now c.solve.new.log c.solve.ensures.grew
     (caught_up_after c.args.book.now c.solve.new.self c.solve.ensures.same) c.solve.ensures.book.book c.solve.ensures.fresh
     before.here.way in
@@ -71,13 +71,13 @@ returns-clause-refuted g c id e =
 pub returns-clause-search : goal.returns-clause-search
 returns-clause-search g c graph checker before e =
     let s = c.args.self.now in
-    let left = c.instances_leave_searches.ensures s.f.now c.args.book.now c.solve.new.self checker s.padoa.now
+    let left = c.instances_leave_searches.ensures s.f.now c.args.book.now c.solve.new.self checker s.padoa.now s.may_ask
     (is_silent c.solve.result) c.args.log.now c.solve.new.log c.solve.ensures.grew
     (caught_up_after c.args.book.now c.solve.new.self c.solve.ensures.same) c.solve.ensures.book.book c.solve.ensures.fresh
     before.here.way in
     elim c.match-branch-2.branch [
       | in-Refuted w ↦ cc
-      | in-Model w ↦ left_search s.f.now graph graph c.args.book.now c.solve.new.self checker checker s.padoa.now
+      | in-Model w ↦ left_search s.f.now graph graph c.args.book.now c.solve.new.self checker checker s.padoa.now s.may_ask
           (is_silent c.solve.result) c.args.log.now c.solve.new.log (ap is_silent (c.in_ok-id.was ∙ ap Ok w.in-Model.is))
           left.0 left.1 c.solve.ensures.book.rows refl before
     ]

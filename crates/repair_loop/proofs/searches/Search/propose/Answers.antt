@@ -8,18 +8,18 @@ use Rattle.repair_loop.specs.Searching.{AreBuilt}
 use Rattle.repair_loop.proofs.Turned.{left_search}
 use Rattle.repair_loop.proofs.searches.Search.propose.Goals as goal
 
-pub force_all-requires-clause-may : goal.force_all-requires-clause-may
-force_all-requires-clause-may g c =
+pub force-requires-clause-may : goal.force-requires-clause-may
+force-requires-clause-may g c on =
     let (checker, before) = c.requires.search in
     record {
       formula = before.here.way.formula;
-      copied = before.here.way.copied;
+      copied = before.here.way.copied on;
       one_each = c.requires.known.one_each;
       forced = c.requires.known.forced;
     }
 
-pub force_all-requires-clause-model : goal.force_all-requires-clause-model
-force_all-requires-clause-model g c =
+pub force-requires-clause-model : goal.force-requires-clause-model
+force-requires-clause-model g c =
     let m = c.requires.model in
     let t = c.table.ensures in
     record {
@@ -29,23 +29,23 @@ force_all-requires-clause-model g c =
       rows = m.rows ∙ ap (λ (x : TableState). length x.rows) (sym t);
     }
 
-pub returns-in_err-force_all-clause-left : goal.returns-in_err-force_all-clause-left
-returns-in_err-force_all-clause-left g c checker before =
+pub returns-in_err-force-clause-left : goal.returns-in_err-force-clause-left
+returns-in_err-force-clause-left g c checker before =
     let s = c.args.self.now in
-    (c.questions_leave_searches.ensures s.f.now c.args.book.now checker s.padoa.now c.args.log.now c.force_all.new.log
-    c.force_all.ensures.forced.grew c.force_all.ensures.forced.copied before.here.way).0
+    (c.questions_leave_searches.ensures s.f.now c.args.book.now checker s.padoa.now s.may_ask c.args.log.now c.force.new.log
+    c.force.ensures.left.grew c.force.ensures.left.copied before.here.way).0
 
 pub returns-in_err-outputs-clause-left : goal.returns-in_err-outputs-clause-left
 returns-in_err-outputs-clause-left g c checker before =
     let s = c.args.self.now in
-    (c.questions_leave_searches.ensures s.f.now c.args.book.now checker s.padoa.now c.args.log.now c.force_all.new.log
-    c.force_all.ensures.forced.grew c.force_all.ensures.forced.copied before.here.way).0
+    (c.questions_leave_searches.ensures s.f.now c.args.book.now checker s.padoa.now s.may_ask c.args.log.now c.force.new.log
+    c.force.ensures.left.grew c.force.ensures.left.copied before.here.way).0
 
 pub returns-clause-left : goal.returns-clause-left
 returns-clause-left g c checker before =
     let s = c.args.self.now in
-    (c.questions_leave_searches.ensures s.f.now c.args.book.now checker s.padoa.now c.args.log.now c.force_all.new.log
-    c.force_all.ensures.forced.grew c.force_all.ensures.forced.copied before.here.way).0
+    (c.questions_leave_searches.ensures s.f.now c.args.book.now checker s.padoa.now s.may_ask c.args.log.now c.force.new.log
+    c.force.ensures.left.grew c.force.ensures.left.copied before.here.way).0
 
 pub build-requires-clause-inputs : goal.build-requires-clause-inputs
 build-requires-clause-inputs g c = c.requires.search.1.inputs
@@ -54,15 +54,15 @@ pub returns-clause-proposed : goal.returns-clause-proposed
 returns-clause-proposed g c checker outputs before e =
     let s = c.args.self.now in
     let f = s.f.now in
-    let forced = c.force_all.ensures.forced in
-    let left = c.questions_leave_searches.ensures f c.args.book.now checker s.padoa.now c.args.log.now c.force_all.new.log
+    let forced = c.force.ensures.left in
+    let left = c.questions_leave_searches.ensures f c.args.book.now checker s.padoa.now s.may_ask c.args.log.now c.force.new.log
     forced.grew forced.copied before.here.way in
-    let next = left_search f c.args.graph.now c.build.new.graph c.args.book.now c.args.book.now checker checker s.padoa.now
-    true c.args.log.now c.force_all.new.log refl left.0 left.1 (left.0.rows ∙ before.here.rows)
+    let next = left_search f c.args.graph.now c.build.new.graph c.args.book.now c.args.book.now checker checker s.padoa.now s.may_ask
+    true c.args.log.now c.force.new.log refl left.0 left.1 (left.0.rows ∙ before.here.rows)
     c.build.ensures.extends.inputs before in
     let built = c.in_ok-outputs.ensures in
     let same : c.in_ok-outputs.outputs ≡ outputs = cc in
-    let definitions = c.force_all.new.self in
+    let definitions = c.force.new.definitions in
     record {
       search = next;
       known = known_stays f definitions.ranks.items c.args.graph.now c.build.new.graph definitions.nodes.items
@@ -90,7 +90,7 @@ returns-clause-proposed g c checker outputs before e =
 pub build-requires-clause-definitions : goal.build-requires-clause-definitions
 build-requires-clause-definitions g c =
     let f = c.args.self.now.f.now in
-    let forced = c.force_all.ensures.forced in
+    let forced = c.force.ensures.left in
     subst (λ rs. AreDefinitions f rs c.args.graph.now c.deref-3.result.now)
     (sym forced.ranks ∙ sym c.deref-2.ensures.value)
     (subst (AreDefinitions f c.args.known.now.definitions.ranks.items c.args.graph.now)
@@ -98,5 +98,5 @@ build-requires-clause-definitions g c =
 
 pub build-requires-clause-guesses : goal.build-requires-clause-guesses
 build-requires-clause-guesses g c =
-    subst (AreGuesses c.args.self.now.f.now c.args.graph.now) (sym c.force_all.ensures.forced.guesses
+    subst (AreGuesses c.args.self.now.f.now c.args.graph.now) (sym c.force.ensures.left.guesses
     ∙ sym c.deref-4.ensures.value) c.requires.known.guessed

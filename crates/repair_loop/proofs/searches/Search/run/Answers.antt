@@ -6,7 +6,7 @@ use Rattle.repair_loop.proofs.searches.Search.run.Goals as goal
 pub returns-in_err-id-clause-ended : goal.returns-in_err-id-clause-ended
 returns-in_err-id-clause-ended g c =
     let s = c.args.self.now in
-    ended_by s.f.now c.args.book.now c.look_at_rows.new.book c.args.checker.now c.args.checker.now s.padoa.now
+    ended_by s.f.now c.args.book.now c.look_at_rows.new.book c.args.checker.now c.args.checker.now s.padoa.now s.may_ask
     c.args.log.now c.look_at_rows.new.log
     (c.look_at_rows.ensures.went c.args.graph.now c.args.checker.now c.requires.search)
 
@@ -22,7 +22,7 @@ run_on-requires-clause-search g c =
 pub returns-in-Some-clause-ended : goal.returns-in-Some-clause-ended
 returns-in-Some-clause-ended g c =
     let s = c.args.self.now in
-    ended_by s.f.now c.args.book.now c.look_at_rows.new.book c.args.checker.now c.args.checker.now s.padoa.now
+    ended_by s.f.now c.args.book.now c.look_at_rows.new.book c.args.checker.now c.args.checker.now s.padoa.now s.may_ask
     c.args.log.now c.look_at_rows.new.log
     (c.look_at_rows.ensures.went c.args.graph.now c.args.checker.now c.requires.search)
 
@@ -40,5 +40,5 @@ pub returns-in-None-clause-ended : goal.returns-in-None-clause-ended
 returns-in-None-clause-ended g c =
     let s = c.args.self.now in
     ended_then s.f.now c.args.book.now c.look_at_rows.new.book c.run_on.new.book c.args.checker.now c.args.checker.now
-    s.padoa.now c.args.log.now c.look_at_rows.new.log c.run_on.new.log
+    s.padoa.now s.may_ask c.args.log.now c.look_at_rows.new.log c.run_on.new.log
     (c.look_at_rows.ensures.went c.args.graph.now c.args.checker.now c.requires.search) c.run_on.ensures.ended

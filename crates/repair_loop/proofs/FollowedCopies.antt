@@ -1,0 +1,130 @@
+-- What stands of a search when the copies followed its clauses.
+use Rattle.std.proofs.Common.{◌≡◌, ◌≢◌, ◌⊎◌, inl, inr, ℕ, Bool, true, false, List, length, None, refl, ◌∙◌, ap, subst, arith}
+use Rattle.std.specs.List.{Contains}
+use Rattle.dq_lits.specs.Formula.{Dqbf}
+use Rattle.hint_log.specs.Entries.{Entry, ProofLog, name_of}
+use Rattle.hint_log.specs.Growth.{Grew}
+use Rattle.log_laws.specs.Engines.{copies}
+use Rattle.log_laws.specs.Sessions.{IsAddedLive, EnginesLeaveSessions}
+use Rattle.aig_graph.specs.Graph.{AigGraph}
+use Rattle.circuit_cnf.specs.declared.checkers.Checker.{Checker}
+use Rattle.circuit_cnf.specs.Checking.{CheckersStay, group_of}
+use Rattle.dq_session.specs.Books.{BookState, all_of, frames_of}
+use Rattle.dq_session.specs.Changes.{groups_of}
+use Rattle.dq_session.specs.Standing.{EnginesLeaveBooks}
+use Rattle.padoa_definitions.specs.Copies.{IsPadoa}
+use Rattle.padoa_definitions.specs.Following.{AreOldOrNew}
+use Rattle.padoa_definitions.specs.Store.{IsCopyStore, copy_groups, store_of}
+use Rattle.padoa_definitions.specs.declared.padoa.Padoa.{Padoa}
+use Rattle.repair_loop.specs.Desks.{AreApart}
+use Rattle.repair_loop.specs.Standing.{IsLeft}
+use Rattle.repair_loop.specs.Turning.{IsSearch, IsUnderWay}
+use Rattle.repair_loop.proofs.LiveBooks.{book_named}
+use Rattle.repair_loop.proofs.LiveGrowth.{checker_left, same_prefix, same_faults, same_room}
+use Rattle.repair_loop.proofs.LogGrowth.{log_grew}
+use Rattle.repair_loop.proofs.NewFaults.{others_new}
+use Rattle.repair_loop.proofs.Stages.{same_book, still_kept}
+
+-- whether questions may be asked is nothing that a desk at rest needs
+pub at_rest : (f : Dqbf) (b : BookState) (c : Checker) (p : Padoa) (ready : Bool) (es : List Entry) →
+    IsUnderWay f b c p ready es → IsUnderWay f b c p false es
+at_rest f b c p ready es way = record {
+  formula = way.formula;
+  now_is = way.now_is;
+  live = way.live;
+  kept = way.kept;
+  book = way.book;
+  checked = way.checked;
+  copied = λ on. cc;
+  stored = way.stored;
+  apart = way.apart;
+  faults = way.faults;
+  new_faults = way.new_faults;
+}
+
+module _ (law : EnginesLeaveSessions) (books : EnginesLeaveBooks) (stay : CheckersStay) (f : Dqbf) (graph : AigGraph)
+    (b : BookState) (c : Checker) (p q : Padoa) (old new : ProofLog) (s : IsSearch f graph b c p false old.entries)
+    (grew : Grew (IsAddedLive (all_of b) copies (copy_groups p) true old.entries) old new)
+    (stored : IsCopyStore (all_of b) (frames_of b) q new.entries)
+    (fresh : AreOldOrNew (store_of p) (store_of q) old.entries) where
+  abbrev all : Dqbf
+  all = all_of b
+
+  abbrev mine : List ℕ
+  mine = copy_groups p
+
+  way : IsUnderWay f b c p false old.entries
+  way = s.here.way
+
+  off : (g h : ℕ) → Contains (groups_of b) g → Contains mine h → g ≢ h
+  off g h here there same = way.apart.copies h there (subst (Contains (groups_of b)) same here)
+
+  still_apart : AreApart b c q
+  still_apart = record {
+    gates = way.apart.gates;
+    copies = λ g has here. off_book g (fresh g has) here;
+    copies_gates = λ has. off_gates (fresh (group_of c) has);
+  }
+    where
+      off_book : (g : ℕ) → Contains mine g ⊎ (name_of old.entries g ≡ None) → Contains (groups_of b) g → ⊥
+      off_book g (inl before) here = way.apart.copies g before here
+      off_book g (inr none) here = book_named b old.entries way.book g here none
+
+      off_gates : Contains mine (group_of c) ⊎ (name_of old.entries (group_of c) ≡ None) → ⊥
+      off_gates (inl before) = way.apart.copies_gates before
+      off_gates (inr none) = let is = way.checked.gates.made.named in cc
+
+  new_way : (ready : Bool) → (ready ≡ true → IsPadoa f q new.entries) → IsUnderWay f b c q ready new.entries
+  new_way ready copied =
+      let left = law all copies mine true old new grew in
+      let few = s.room in
+      let many = ap length (same_faults all copies mine true old new refl grew) in
+      let room = same_room all copies mine true old new grew in
+      record {
+        formula = way.formula;
+        now_is = way.now_is;
+        live = left.live ∙ way.live;
+        kept = still_kept law all copies mine true old new grew way.kept;
+        book = (books all b copies mine true old new grew refl off).0 way.book;
+        checked = same_prefix b.file all.matrix b.file.matrix c new.entries
+            (checker_left stay all copies mine true c old new refl way.apart.copies_gates grew
+            (same_prefix b.file b.file.matrix all.matrix c old.entries way.checked));
+        copied = copied;
+        stored = stored;
+        apart = still_apart;
+        faults = omega (arith, few, many, room);
+        new_faults = others_new all copies mine true old new refl grew left.before way.new_faults;
+      }
+
+  pub copies_left : IsLeft f b b c c q false true old new
+  copies_left =
+      let left = law all copies mine true old new grew in
+      record {
+        went = record {
+          way = new_way false (λ on. cc);
+          book = same_book b;
+          grew = log_grew all copies mine true old.entries old new grew;
+        };
+        undecided = left.decisions;
+        rows = left.rows;
+        room = same_room all copies mine true old new grew;
+        before = left.before;
+      }
+
+  -- questions may be asked now
+  pub copies_search : IsPadoa f q new.entries → (more : AigGraph) → more.inputs ≡ graph.inputs →
+      IsSearch f more b c q true new.entries
+  copies_search copied more same =
+      let left = law all copies mine true old new grew in
+      let few = s.room in
+      let many = ap length (same_faults all copies mine true old new refl grew) in
+      let room = same_room all copies mine true old new grew in
+      record {
+        here = record {
+          way = new_way true (λ on. copied);
+          rows = left.rows ∙ s.here.rows;
+          undecided = left.decisions refl s.here.undecided;
+        };
+        inputs = same ∙ s.inputs;
+        room = omega (arith, few, many, room);
+      }

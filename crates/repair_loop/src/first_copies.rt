@@ -1,0 +1,56 @@
+//! The copies that a desk begins with.
+
+ghost use Rattle.std.specs.Prelude.{◌≡◌, ℕ, true, length, replicate, None, All, IfOk};
+ghost use Rattle.dq_lits.specs.Formula.{IsWellFormed};
+ghost use Rattle.hint_log.specs.Entries.{name_of};
+ghost use Rattle.hint_log.specs.Growth.{Grew};
+ghost use Rattle.log_laws.specs.Engines.{copies, HasNone, IsAddedBy};
+ghost use Rattle.padoa_definitions.specs.Copies.{groups_of};
+ghost use Rattle.padoa_definitions.specs.Growing.{HasFewFaults};
+ghost use Rattle.padoa_definitions.specs.Store.{IsCopyStore, copy_groups};
+
+use copied_prefixes::copy_prefix;
+use dq_formula::Formula;
+use dq_lits::Memory;
+use hint_log::Log;
+use oracle::Oracle;
+use padoa_definitions::Padoa;
+use padoa_definitions::laws::added_clauses_leave_stores;
+use std::alloc::Global;
+
+// From so many clauses on a formula is large.
+const LARGE: usize = 1 << 16;
+
+/// Whether a formula has so many clauses that copies of them are given only where a question is left.
+pub(crate) fn is_large(f: &Formula) -> bool {
+    f.clauses() >= LARGE
+}
+
+/// Copies of all clauses; of a large formula those of existentials alone, and what its clauses need
+/// is given with their copies.
+pub(crate) fn first_copies<O: Oracle>(
+    alloc: Global,
+    oracle: &mut O,
+    f: &Formula,
+    log: &mut Log,
+) -> Result<Padoa, Memory>
+    requires fit { O.Fits oracle.old log.old }
+    requires formula { IsWellFormed f.now }
+    requires none { HasNone copies log.old.entries }
+    requires few { HasFewFaults log.old.entries }
+    ensures fit { O.Fits oracle.new log.new }
+    ensures grew { (group : ℕ)
+        → Grew (IsAddedBy f.now copies group true log.old.entries) log.old log.new }
+    ensures fresh { IfOk result
+        (λ p. All (λ g. name_of log.old.entries g ≡ None) (groups_of p)) }
+    ensures all_active { IfOk result (λ p. copy_groups p ≡ groups_of p) }
+    ensures store { IfOk result (λ p.
+        IsCopyStore f.now (replicate (length f.now.matrix) 0) p log.new.entries) }
+{
+    added_clauses_leave_stores();
+    if !is_large(f) {
+        return Padoa::new(alloc, oracle, f, log);
+    }
+    let prefix = copy_prefix(alloc, f)?;
+    Padoa::new(alloc, oracle, &prefix, log)
+}

@@ -1,0 +1,176 @@
+//! A round before any question: the candidates are constants, and where they hold there is nothing
+//! to ask.
+
+ghost use Rattle.std.specs.Prelude.{◌≡◌, ℕ, IfOk, IfSome, None, Some, Ok, Err};
+ghost use Rattle.aig_graph.specs.Made.{Extends};
+ghost use Rattle.hint_log.specs.Naming.{rows_of};
+ghost use Rattle.known_functions.specs.Forcing.{AreKnownIn};
+ghost use Rattle.known_functions.specs.Searching.{HasInputs};
+ghost use Rattle.repair_loop.specs.Desks.{IsAnsweredFalse, IsAnsweredTrue};
+ghost use Rattle.repair_loop.specs.Turning.{HasEnded, HasGoneOn, IsSearch, IsStoppedAs, IsUnderWay};
+
+use crate::decisions::Verdict;
+use crate::false_rows::find_false_row;
+use crate::searches::{Known, Search};
+use crate::signs::Signs;
+use aig_graph::Graph;
+use candidate_functions::Trees;
+use circuit_cnf::Checker;
+use dq_lits::{Memory, Row};
+use dq_session::Book;
+use hint_log::{Log, Stop};
+use known_functions::Definitions;
+use oracle::Oracle;
+
+// A gate has some three clauses: where gates have more than half of all, most clauses are theirs.
+const GATE_CLAUSES: usize = 6;
+
+impl<'f, 'p> Search<'f, 'p> {
+    /// A round from constants, and a look at its row's instances: a verdict, if it comes to one.
+    pub(crate) fn first_round<O: Oracle>(
+        &self,
+        oracle: &mut O,
+        graph: &mut Graph,
+        book: &mut Book,
+        checker: &mut Checker,
+        log: &mut Log,
+    ) -> Result<Option<Verdict>, Stop>
+        requires fit { O.Fits oracle.old log.old }
+        requires search { IsSearch self.now.f.now graph.old book.old checker.old self.now.padoa.now
+            self.now.may_ask log.old.entries }
+        ensures fit { O.Fits oracle.new log.new }
+        ensures inputs { graph.new.inputs ≡ graph.old.inputs }
+        ensures ended { HasEnded book.old book.new log.old log.new }
+        ensures way { (result ≡ Err Stop.Memory → ⊥) → IsUnderWay self.now.f.now book.new checker.new
+            self.now.padoa.now self.now.may_ask log.new.entries }
+        ensures rows { (result ≡ Err Stop.Memory → ⊥) → rows_of log.new.entries ≡ book.new.table.rows }
+        ensures shown_true { (nodes : _) (id : ℕ) → result ≡ Ok (Some (Verdict.True nodes id))
+            → IsAnsweredTrue self.now.f.now graph.new nodes log.new id }
+        ensures shown_false { (id : ℕ) → result ≡ Ok (Some (Verdict.False id))
+            → IsAnsweredFalse book.new log.new id }
+        ensures open { result ≡ Ok None → IsSearch self.now.f.now graph.new book.new checker.new
+            self.now.padoa.now self.now.may_ask log.new.entries }
+        ensures stopped { IsStoppedAs self.now.f.now book.new log.new result }
+    {
+        match self.first_known(graph)? {
+            Some(mut known) => self.try_known(oracle, graph, book, checker, &mut known, log),
+            None => Ok(None),
+        }
+    }
+
+    // The same, from what is to be tried.
+    fn try_known<O: Oracle>(
+        &self,
+        oracle: &mut O,
+        graph: &mut Graph,
+        book: &mut Book,
+        checker: &mut Checker,
+        known: &mut Known,
+        log: &mut Log,
+    ) -> Result<Option<Verdict>, Stop>
+        requires fit { O.Fits oracle.old log.old }
+        requires search { IsSearch self.now.f.now graph.old book.old checker.old self.now.padoa.now
+            self.now.may_ask log.old.entries }
+        requires known { AreKnownIn self.now.f.now graph.old known.old.definitions }
+        ensures fit { O.Fits oracle.new log.new }
+        ensures inputs { graph.new.inputs ≡ graph.old.inputs }
+        ensures ended { HasEnded book.old book.new log.old log.new }
+        ensures way { (result ≡ Err Stop.Memory → ⊥) → IsUnderWay self.now.f.now book.new checker.new
+            self.now.padoa.now self.now.may_ask log.new.entries }
+        ensures rows { (result ≡ Err Stop.Memory → ⊥) → rows_of log.new.entries ≡ book.new.table.rows }
+        ensures shown_true { (nodes : _) (id : ℕ) → result ≡ Ok (Some (Verdict.True nodes id))
+            → IsAnsweredTrue self.now.f.now graph.new nodes log.new id }
+        ensures shown_false { (id : ℕ) → result ≡ Ok (Some (Verdict.False id))
+            → IsAnsweredFalse book.new log.new id }
+        ensures open { result ≡ Ok None → IsSearch self.now.f.now graph.new book.new checker.new
+            self.now.padoa.now self.now.may_ask log.new.entries }
+        ensures stopped { IsStoppedAs self.now.f.now book.new log.new result }
+    {
+        match self.round(oracle, graph, book, checker, known, log)? {
+            Some(verdict) => Ok(Some(verdict)),
+            None => self.look_again(oracle, graph, book, checker, log),
+        }
+    }
+
+    // What the instances of the row tell that was found.
+    fn look_again<O: Oracle>(
+        &self,
+        oracle: &mut O,
+        graph: &Graph,
+        book: &mut Book,
+        checker: &Checker,
+        log: &mut Log,
+    ) -> Result<Option<Verdict>, Stop>
+        requires fit { O.Fits oracle.old log.old }
+        requires search { IsSearch self.now.f.now graph.now book.old checker.now self.now.padoa.now
+            self.now.may_ask log.old.entries }
+        ensures fit { O.Fits oracle.new log.new }
+        ensures went { HasGoneOn self.now.f.now book.old book.new checker.now checker.now
+            self.now.padoa.now self.now.may_ask log.old log.new }
+        ensures rows { rows_of log.new.entries ≡ book.new.table.rows }
+        ensures none_true { (nodes : _) (id : ℕ) → result ≡ Ok (Some (Verdict.True nodes id)) → ⊥ }
+        ensures shown_false { (id : ℕ) → result ≡ Ok (Some (Verdict.False id))
+            → IsAnsweredFalse book.new log.new id }
+        ensures open { result ≡ Ok None → IsSearch self.now.f.now graph.now book.new checker.now
+            self.now.padoa.now self.now.may_ask log.new.entries }
+        ensures stopped { IsStoppedAs self.now.f.now book.new log.new result }
+    {
+        match self.look_at_rows(oracle, book, log)? {
+            Some(id) => Ok(Some(Verdict::False(id))),
+            None => Ok(None),
+        }
+    }
+
+    // What is tried before any question, if something is worth it: constants that make all clauses true
+    // at the row that is tried first; else the gates that the clauses state, where each existential has
+    // one; else the constants again, unless most clauses are gates, whose instances would cost more
+    // than they tell.
+    fn first_known(&self, graph: &mut Graph) -> Result<Option<Known>, Memory>
+        requires { HasInputs self.now.f.now graph.old }
+        ensures extends { Extends graph.old graph.new }
+        ensures known { IfOk result
+            (λ found. IfSome found (λ k. AreKnownIn self.now.f.now graph.new k.definitions)) }
+    {
+        let signs = Signs::of(self.alloc, self.f)?;
+        if signs.agree(self.f) {
+            return self.known_constants(&signs);
+        }
+        let gates = Definitions::stated(self.alloc, graph, self.f)?;
+        let stated = gates.nodes.iter().filter(|node| node.is_some()).count();
+        if stated == gates.nodes.len() {
+            return Ok(Some(self.known(gates)));
+        }
+        if stated.saturating_mul(GATE_CLAUSES) > self.f.clauses() {
+            return Ok(None);
+        }
+        self.known_constants(&signs)
+    }
+
+    // A row at which clauses are likely to be false, and a constant for each existential.
+    fn known_constants(&self, signs: &Signs) -> Result<Option<Known>, Memory>
+        ensures { (graph : _) → IfOk result
+            (λ found. IfSome found (λ k. AreKnownIn self.now.f.now graph k.definitions)) }
+    {
+        let row = self.first_row(signs)?;
+        let mut definitions = Definitions::refuted(self.alloc, self.f, row)?;
+        definitions.guesses = signs.constants(self.alloc)?;
+        Ok(Some(self.known(definitions)))
+    }
+
+    fn known(&self, definitions: Definitions) -> Known
+        ensures { result.definitions ≡ definitions }
+    {
+        Known {
+            definitions,
+            trees: Trees::new(self.alloc),
+        }
+    }
+
+    // The row that is tried first.
+    fn first_row(&self, signs: &Signs) -> Result<Row, Memory> {
+        match find_false_row(self.alloc, self.f)? {
+            Some(row) => Ok(row),
+            None => signs.row(self.alloc),
+        }
+    }
+}
