@@ -53,7 +53,11 @@ impl<'f, 'p> Search<'f, 'p> {
         ensures stopped { IsStoppedAs self.now.f.now book.new log.new result }
     {
         match self.first_known(graph)? {
-            Some(mut known) => self.try_known(oracle, graph, book, checker, &mut known, log),
+            Some(mut known) => {
+                let found = self.try_known(oracle, graph, book, checker, &mut known, log);
+                drop(known);
+                found
+            }
             None => Ok(None),
         }
     }
@@ -140,6 +144,7 @@ impl<'f, 'p> Search<'f, 'p> {
         if stated == gates.nodes.len() {
             return Ok(Some(self.known(gates)));
         }
+        drop(gates);
         if stated.saturating_mul(GATE_CLAUSES) > self.f.clauses() {
             return Ok(None);
         }

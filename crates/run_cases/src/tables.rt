@@ -2,7 +2,8 @@
 //!
 //! `formula`, `certificate`, `specification`, `implementation` and `script` give the files' texts, whose lines
 //! are parted by ` / ` and each end with LF, but that a `\` at the end takes the last LF away; `\r`
-//! is a CR, and `\x0a` the byte with these two digits. `absent` takes the files away. `words` gives
+//! is a CR, and `\x0a` the byte with these two digits. `more` adds lines to the formula, the number
+//! of times that stands before them. `absent` takes the files away. `words` gives
 //! the words behind the program's name, `reads` the most bytes of a read and the numbers of the
 //! calls that fail, `writes` the same of the sink. `run` runs the program under a name, and then
 //! words, reads and writes are as at the start; the checker has to say the same under reads of 1, 2,
@@ -36,6 +37,7 @@ pub fn take_line(
     match word {
         "" | "#" => Ok(None),
         "formula" => set_formula(alloc, settings, rest),
+        "more" => add_lines(alloc, settings, rest),
         "certificate" => set_certificate(alloc, settings, rest),
         "specification" => set_specification(alloc, settings, rest),
         "implementation" => set_implementation(alloc, settings, rest),
@@ -60,6 +62,22 @@ pub fn take_line(
 
 fn set_formula(alloc: Global, settings: &mut Settings, rest: &str) -> Result<Option<String>> {
     settings.formula = Some(texts::text_of(alloc, rest)?);
+    Ok(None)
+}
+
+// Adds lines to the formula's text, so many times.
+fn add_lines(alloc: Global, settings: &mut Settings, rest: &str) -> Result<Option<String>> {
+    let Some((times, spelled)) = rest.split_once(' ') else {
+        return Err(anyhow!("no lines: {rest}"));
+    };
+    let lines = texts::text_of(alloc, spelled)?;
+    let Some(text) = &mut settings.formula else {
+        return Err(anyhow!("no formula"));
+    };
+    let times: u64 = times.parse()?;
+    for _ in 0..times {
+        text.extend_from_slice(&lines)?;
+    }
     Ok(None)
 }
 
