@@ -8,6 +8,7 @@ use Rattle.std.proofs.lemmas.List.{length-set, take_more, get_or_default, get_or
 use Rattle.std.proofs.lemmas.List.Elements.{All-cons, All-append, All-nil}
 use Rattle.std.proofs.lemmas.Map.Steps.{length-le_from_distinct_below}
 use Rattle.dq_lits.specs.Literal.{Literal, positive, negative, variable_of}
+use Rattle.short_numbers.specs.Numbers.{Numbers}
 use Rattle.cdcl_core.specs.declared.watches.Watches.{Watches}
 use Rattle.cdcl_core.specs.Chains.{chain_length, watch_at, place_of, has, IsChain, AreOnce, AreLinked, IsLinked, IsTaken, AddsLists}
 
@@ -116,6 +117,52 @@ chain_counted (suc n) nexts start (x ∷ xs) c few =
     (ne_eqb start 0 (λ e. omega (arith, e, is, low)))
     ∙ ap (λ k. suc (chain_length n nexts k)) (sym same)
     ∙ ap suc (chain_counted n nexts (get_or nexts (x - 1) 0) xs c.3 (omega (arith, few)))
+
+chain_start : (nexts : List ℕ) (start : ℕ) (xs : List ℕ) → IsChain nexts start xs → start ≤ length nexts
+chain_start nexts start [] c = omega (arith, c)
+chain_start nexts start (x ∷ xs) c = let is = c.0 in let high = c.2 in omega (arith, is, high)
+
+-- lists that are linked begin with ids that there are
+pub linked_in : (w : Watches) (heads nexts : List ℕ) (literals : List Literal) (left : ℕ) (rest : List ℕ) →
+    w.heads.items ≡ heads → w.nexts.items ≡ nexts → w.literals.items ≡ literals → length nexts ≤ w.heads.most →
+    length nexts ≤ w.nexts.most → AreLinked heads nexts literals left rest → IsLinked w left rest
+linked_in w heads nexts literals left rest heads_are nexts_are literals_are fit fit' k = record {
+  links = subst (λ hs. AreLinked hs w.nexts.items w.literals.items left rest) (sym heads_are)
+      (subst (λ ns. AreLinked heads ns w.literals.items left rest) (sym nexts_are)
+      (subst (λ ls. AreLinked heads nexts ls left rest) (sym literals_are) k));
+  fits = record {
+    begin = λ p. omega (
+      arith,
+      chain_start nexts (get_or heads p 0) (k.lists p) (k.chains p),
+      ap (λ hs. get_or hs p 0) heads_are,
+      ap length nexts_are,
+    );
+    heads = omega (arith, fit, ap length nexts_are);
+    nexts = omega (arith, fit', ap length nexts_are);
+  };
+}
+
+-- empty lists are added, and larger numbers fit
+pub linked_longer : (v w : Watches) (left : ℕ) (rest : List ℕ) → IsLinked v left rest →
+    ((p : ℕ) → get_or w.heads.items p 0 ≡ get_or v.heads.items p 0) → w.nexts.items ≡ v.nexts.items →
+    w.literals.items ≡ v.literals.items → v.heads.most ≤ w.heads.most → v.nexts.most ≤ w.nexts.most →
+    IsLinked w left rest
+linked_longer v w left rest k same nexts_are literals_are fit fit' =
+    let links = k.links in
+    let heads_fit = k.fits.heads in
+    let nexts_fit = k.fits.nexts in
+    linked_in w w.heads.items v.nexts.items v.literals.items left rest refl nexts_are literals_are
+    (omega (arith, fit, heads_fit)) (omega (arith, fit', nexts_fit)) (record {
+      count = links.count;
+      lists = links.lists;
+      chains = λ p. subst (λ s. IsChain v.nexts.items s (links.lists p)) (sym (same p)) (links.chains p);
+      once = links.once;
+      on_list = links.on_list;
+      rest_chain = links.rest_chain;
+      rest_once = links.rest_once;
+      rest_apart = links.rest_apart;
+      whole = links.whole;
+    })
 
 -- one list changes
 abbrev put : (ℕ → List ℕ) → ℕ → List ℕ → ℕ → List ℕ
@@ -271,15 +318,14 @@ linked_taken heads nexts literals q lt k =
 pub taken_list : (heads nexts : List ℕ) (literals : List Literal) (w : Watches) (l : Literal) →
     place_of l < length heads → (k : AreLinked heads nexts literals 0 [])
     → w.heads.items ≡ set heads (place_of l) 0 → w.nexts.items ≡ nexts → w.literals.items ≡ literals →
+    length nexts ≤ w.heads.most → length nexts ≤ w.nexts.most →
     IsTaken w l (get_or heads (place_of l) 0)
-taken_list heads nexts literals w l lt k heads_are nexts_are literals_are =
+taken_list heads nexts literals w l lt k heads_are nexts_are literals_are fit fit' =
     let q = place_of l in
     record {
       rest = k.lists q;
-      linked = subst (λ hs. AreLinked hs w.nexts.items w.literals.items (get_or heads q 0) (k.lists q)) (sym heads_are)
-          (subst (λ ns. AreLinked (set heads q 0) ns w.literals.items (get_or heads q 0) (k.lists q)) (sym nexts_are)
-          (subst (λ ls. AreLinked (set heads q 0) nexts ls (get_or heads q 0) (k.lists q)) (sym literals_are)
-          (linked_taken heads nexts literals q lt k)));
+      linked = linked_in w (set heads q 0) nexts literals (get_or heads q 0) (k.lists q) heads_are nexts_are literals_are
+          fit fit' (linked_taken heads nexts literals q lt k);
       watched = λ x h. ap (λ ls. watch_at ls (x - 1)) literals_are ∙ place_of-one (watch_at literals (x - 1)) l
           (k.on_list q x h);
       whole = λ x low up at.
@@ -292,13 +338,14 @@ taken_list heads nexts literals w l lt k heads_are nexts_are literals_are =
     }
 
 pub taken_none : (w : Watches) (l : Literal) → length w.heads.items ≤ place_of l → IsLinked w 0 [] → IsTaken w l 0
-taken_none w l past k =
+taken_none w l past linked =
+    let k = linked.links in
     let none : k.lists (place_of l) ≡ [] = chain_none w.nexts.items (k.lists (place_of l))
     (subst (λ s. IsChain w.nexts.items s (k.lists (place_of l))) (get_or_past w.heads.items (place_of l) 0 past)
     (k.chains (place_of l))) in
     record {
       rest = [];
-      linked = k;
+      linked = linked;
       watched = λ x h. absurd (false≢true h);
       whole = λ x low up at. elim (k.whole x low up) [
         | inl t ↦ ap (λ xs. has xs x) (sym none) ∙ subst (λ m. has (k.lists (place_of m)) x ≡ true) at t
@@ -402,11 +449,11 @@ linked_none = record {
   whole = λ x low up. absurd (omega (arith, low, up));
 }
 
-pub added_both : (a b c : List ℕ) → AddsLists a b → AddsLists b c → AddsLists a c
+pub added_both : (a b c : Numbers) → AddsLists a b → AddsLists b c → AddsLists a c
 added_both a b c f g = record {
   more = let m = f.more in let n = g.more in omega (arith, m, n);
-  same =
-      λ p. g.same p ∙ f.same p;
+  same = λ p. g.same p ∙ f.same p;
+  most = g.most ∙ f.most;
 }
 
 pub listed_more : (n m : ℕ) (lits : List Literal) (l : Literal) (i : ℕ) → i < length lits → get_or lits i l ≡ l →

@@ -225,26 +225,26 @@ pub record IsFirstLeft (w : Watches) (at : ℕ) (rest : List ℕ) : Type 0 where
   pub is_id : at ≤ length w.nexts.items
 
 pub first_left : (w : Watches) (at : ℕ) (rest : List ℕ) → IsLinked w at rest → at ≢ 0 → IsFirstLeft w at rest
-first_left w at [] k n = absurd (n k.rest_chain)
+first_left w at [] k n = absurd (n k.links.rest_chain)
 first_left w at (id ∷ later) k n =
-    let c = k.rest_chain in
+    let c = k.links.rest_chain in
     let e = c.0 in
     let high = c.2 in
     record { later = later; is = ap (λ x. x ∷ later) (sym e); is_id = omega (arith, e, high) }
 
 pub none_left : (w : Watches) (at : ℕ) (rest : List ℕ) → IsLinked w at rest → at ≡ 0 → rest ≡ []
 none_left w at [] k e = refl
-none_left w at (id ∷ later) k e = let c = k.rest_chain in let s = c.0 in let low = c.1 in
+none_left w at (id ∷ later) k e = let c = k.links.rest_chain in let s = c.0 in let low = c.1 in
     absurd (omega (arith, s, low, e))
 
 pub linked_end : (w : Watches) (at : ℕ) (rest : List ℕ) → IsLinked w at rest → at ≡ 0 → IsLinked w 0 []
 linked_end w at rest k e = subst (λ xs. IsLinked w 0 xs) (none_left w at rest k e) (subst (λ n. IsLinked w n rest) e k)
 
 pub left_short : (w : Watches) (at : ℕ) (rest : List ℕ) → IsLinked w at rest → length rest ≤ length w.nexts.items
-left_short w at rest k = chain_short w.nexts.items at rest k.rest_chain k.rest_once
+left_short w at rest k = chain_short w.nexts.items at rest k.links.rest_chain k.links.rest_once
 
 pub left_range : (w : Watches) (at : ℕ) (rest : List ℕ) (id : ℕ) → IsLinked w at rest → has rest id ≡ true → 1 ≤ id
-left_range w at rest id k h = (chain_range w.nexts.items at id rest k.rest_chain h).0
+left_range w at rest id k h = (chain_range w.nexts.items at id rest k.links.rest_chain h).0
 
 -- clauses are put back
 pub putting_first : (w : Watches) (at : ℕ) (l : Literal) → IsLeft w at l → IsPuttingBack w w l at 0
@@ -291,7 +291,7 @@ pub visiting_first : (clauses : List (List Literal)) (trail : Trailed) (was now 
 visiting_first clauses trail was now others l at v taken same lists =
     let count = v.count in
     let other_count = v.other_count in
-    let nexts : length now.nexts.items ≡ length clauses = sym taken.linked.count ∙ ap length same ∙ count in
+    let nexts : length now.nexts.items ≡ length clauses = sym taken.linked.links.count ∙ ap length same ∙ count in
     record {
       visitable = visitable_next clauses trail trail was now others v refl v.sound v.few
           (subst (λ ls. AreWatched clauses ls others.literals.items) (sym same) v.watched) (ap length same) lists;
@@ -357,7 +357,7 @@ module _ (clauses : List (List Literal)) (old now_trail new_trail : Trailed) (wa
   one_later : (j : ℕ) → has f.later j ≡ true → 1 ≤ at → (1 ≤ j) → (j - 1 ≡ at - 1) → ⊥
   one_later j h low low' e =
       let same : j ≡ at = omega (arith, low, low', e) in
-      false≢true (sym before.rest_once.0 ∙ ap (has f.later) (sym same) ∙ h)
+      false≢true (sym before.links.rest_once.0 ∙ ap (has f.later) (sym same) ∙ h)
 
   pub visiting_next : (next : ℕ) → found ≡ Some next → IsVisiting clauses old new_trail was new others l next
   visiting_next next is =
@@ -366,7 +366,7 @@ module _ (clauses : List (List Literal)) (old now_trail new_trail : Trailed) (wa
       (λ _. IsDone (literals_of new_trail.steps) new.literals.items others.literals.items l (at - 1))) is s.ended in
       let after : IsLinked new next f.later = subst (λ (o : Option ℕ). MatchOption o (IsLinked new at (at ∷ f.later))
       (λ n. IsLinked new n f.later)) is (s.linked f.later before) in
-      let low = before.rest_chain.1 in
+      let low = before.links.rest_chain.1 in
       record {
         visitable = s.visitable;
         room = s.room ∙ p.room;
@@ -403,9 +403,9 @@ module _ (clauses : List (List Literal)) (old now_trail new_trail : Trailed) (wa
   fewer_left next is =
       let after : IsLinked new next f.later = subst (λ (o : Option ℕ). MatchOption o (IsLinked new at (at ∷ f.later))
       (λ n. IsLinked new n f.later)) is (s.linked f.later before) in
-      let here = chain_counted (length now.nexts.items) now.nexts.items at (at ∷ f.later) before.rest_chain
+      let here = chain_counted (length now.nexts.items) now.nexts.items at (at ∷ f.later) before.links.rest_chain
       (left_short now at (at ∷ f.later) before) in
-      let there = chain_counted (length new.nexts.items) new.nexts.items next f.later after.rest_chain
+      let there = chain_counted (length new.nexts.items) new.nexts.items next f.later after.links.rest_chain
       (left_short new next f.later after) in
       omega (arith, here, there)
 

@@ -1,5 +1,5 @@
 -- How clauses are kept, flat.
-use Rattle.std.specs.Prelude.{◌≡◌, ℕ, ◌+◌, ◌≤◌, List, length, vec_capacity}
+use Rattle.std.specs.Prelude.{◌≡◌, ℕ, ◌+◌, ◌≤◌, ◌<◌, List, length, vec_capacity}
 use Rattle.dq_lits.specs.Literal.{Literal}
 use Rattle.learning_trail.specs.Pieces.{pieces, AreEnds}
 use Rattle.cdcl_core.specs.Runs.{AreStarts}
@@ -16,8 +16,10 @@ arranged_in s = record { clauses = pieces s.literals.items 0 s.ends.items; spare
 
 pub record HasArenaRoom (s : Inside) : Type 0 where
   pub literals : length s.literals.items + s.spare ≤ vec_capacity s.literals + 1
-  pub ends : length s.ends.items + 1 ≤ vec_capacity s.ends
-  pub starts : length s.starts.items + 1 ≤ vec_capacity s.starts
+  pub ends : length s.ends.items < s.ends.capacity
+  pub ends_fit : length s.literals.items + s.spare ≤ s.ends.most + 1
+  pub starts : length s.starts.items < s.starts.capacity
+  pub starts_fit : length s.ends.items ≤ s.starts.most
 
 pub record IsArranged (s : Inside) : Type 0 where
   pub ends : AreEnds 0 s.ends.items (length s.literals.items)

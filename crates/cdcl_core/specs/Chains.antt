@@ -1,8 +1,9 @@
 -- Lists of clauses, linked: where each list begins, and what stands behind each clause. An id is
 -- from 1 on, and 0 ends a list.
-use Rattle.std.specs.Prelude.{◌≡◌, ℕ, zero, suc, ◌+◌, ◌-◌, ◌*◌, ◌≤◌, ◌==◌, Bool, true, false, List, [], ◌∷◌, length, slice_index_or, if◌then◌else◌, ◌⊎◌}
+use Rattle.std.specs.Prelude.{◌≡◌, ℕ, zero, suc, ◌+◌, ◌-◌, ◌*◌, ◌≤◌, ◌<◌, ◌==◌, Bool, true, false, List, [], ◌∷◌, length, slice_index_or, vec_capacity, if◌then◌else◌, ◌⊎◌}
 use Rattle.std.specs.List.{list_any}
 use Rattle.dq_lits.specs.Literal.{Literal, positive, variable_of, is_negative}
+use Rattle.short_numbers.specs.Numbers.{Numbers}
 use Rattle.cdcl_core.specs.declared.watches.Watches.{Watches}
 
 -- the literal at a place
@@ -48,8 +49,22 @@ pub record AreLinked (heads nexts : List ℕ) (literals : List Literal) (left : 
   pub whole : (id : ℕ) → 1 ≤ id → id ≤ length nexts
       → (has (lists (place_of (watch_at literals (id - 1)))) id ≡ true) ⊎ (has rest id ≡ true)
 
-abbrev pub IsLinked : Watches → ℕ → List ℕ → Type 0
-IsLinked w left rest = AreLinked w.heads.items w.nexts.items w.literals.items left rest
+-- each id that there is can stand at each place of the lists, without memory
+pub record FitIds (w : Watches) : Type 0 where
+  pub begin : (p : ℕ) → slice_index_or w.heads.items p 0 ≤ length w.nexts.items
+  pub heads : length w.nexts.items ≤ w.heads.most
+  pub nexts : length w.nexts.items ≤ w.nexts.most
+
+pub record IsLinked (w : Watches) (left : ℕ) (rest : List ℕ) : Type 0 where
+  pub links : AreLinked w.heads.items w.nexts.items w.literals.items left rest
+  pub fits : FitIds w
+
+-- one clause more can be linked without memory
+pub record HasNextRoom (w : Watches) : Type 0 where
+  pub literals : length w.literals.items < vec_capacity w.literals
+  pub nexts : length w.nexts.items < w.nexts.capacity
+  pub heads_fit : length w.nexts.items < w.heads.most
+  pub nexts_fit : length w.nexts.items < w.nexts.most
 
 -- a literal has a list
 abbrev pub HasList : Watches → Literal → Type 0
@@ -71,9 +86,10 @@ pub record IsLeft (w : Watches) (at : ℕ) (l : Literal) : Type 0 where
   pub watched : (id : ℕ) → has rest id ≡ true → watch_at w.literals.items (id - 1) ≡ l
 
 -- empty lists were added
-pub record AddsLists (old new : List ℕ) : Type 0 where
-  pub more : length old ≤ length new
-  pub same : (p : ℕ) → slice_index_or new p 0 ≡ slice_index_or old p 0
+pub record AddsLists (old new : Numbers) : Type 0 where
+  pub more : length old.items ≤ length new.items
+  pub same : (p : ℕ) → slice_index_or new.items p 0 ≡ slice_index_or old.items p 0
+  pub most : new.most ≡ old.most
 
 -- how many clauses are left to visit, from one on
 abbrev pub left_to_visit : Watches → ℕ → ℕ

@@ -2,8 +2,7 @@
 use Rattle.std.specs.Prelude.{◌≡◌, ℕ, ◌+◌, ◌<◌, ◌≤◌, List, [], ◌∷◌, ◌++◌, length, vec_capacity, All}
 use Rattle.dq_lits.specs.Literal.{Literal, positive}
 use Rattle.cdcl_core.specs.declared.clauses.ClauseStore.TheInside.{Inside}
-use Rattle.cdcl_core.specs.declared.watches.Watches.{Watches}
-use Rattle.cdcl_core.specs.Chains.{place_of, IsLinked}
+use Rattle.cdcl_core.specs.Chains.{place_of, IsLinked, HasNextRoom}
 use Rattle.cdcl_core.specs.Watching.{AreWatched, AreShort}
 use Rattle.cdcl_core.specs.Visits.{AreListed}
 
@@ -37,15 +36,10 @@ pub record HasLists (s : Stored) (clause : List Literal) : Type 0 where
   pub some : IsListed s (positive 1)
   pub all : All (λ l. IsListed s l) clause
 
-abbrev pub HasWatchRoom : Watches → Type 0
-HasWatchRoom w =
-    (length w.literals.items < vec_capacity w.literals)
-    × (length w.nexts.items < vec_capacity w.nexts)
-
 pub record HasSpare (s : Inside) : Type 0 where
   pub arena : s.spare ≤ s.arena.spare
-  pub first : HasWatchRoom s.first
-  pub second : HasWatchRoom s.second
+  pub first : HasNextRoom s.first
+  pub second : HasNextRoom s.second
   pub short : length s.short.items < vec_capacity s.short
 
 pub record IsStored (s : Inside) : Type 0 where

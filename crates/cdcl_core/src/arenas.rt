@@ -8,6 +8,7 @@ ghost use Rattle.cdcl_core.specs.Runs.{BeginAlike, BeginsAlike, IsNextStart};
 
 use dq_lits::{Lit, Memory};
 use learning_trail::Code;
+use short_numbers::ShortNumbers;
 use std::alloc::Global;
 use std::marker::Model;
 
@@ -17,9 +18,9 @@ pub(crate) struct Arena {
     // The literals of all clauses, in order.
     literals: Vec<Code>,
     // Where the literals of each clause end.
-    ends: Vec<usize>,
+    ends: ShortNumbers,
     // Up to which id all clauses up to each one begin as this one does.
-    starts: Vec<u64>,
+    starts: ShortNumbers,
     // How many literals one clause more may have; there is no room for a clause where it is 0.
     spare: usize,
 }
@@ -41,8 +42,8 @@ impl Arena {
     {
         Arena {
             literals: Vec::new(alloc),
-            ends: Vec::new(alloc),
-            starts: Vec::new(alloc),
+            ends: ShortNumbers::new(alloc),
+            starts: ShortNumbers::new(alloc),
             spare: 0,
         }
     }
@@ -71,7 +72,7 @@ impl Arena {
         ensures before { result < id }
         ensures same { BeginAlike self.now.clauses result id }
     {
-        self.starts[id as usize - 1]
+        self.starts.get(id as usize - 1)
     }
 
     /// Makes room for a clause of these literals.
@@ -81,8 +82,8 @@ impl Arena {
     {
         self.spare = 0;
         self.literals.reserve(lits.len())?;
-        self.ends.reserve(1)?;
-        self.starts.reserve(1)?;
+        make_fit(&mut self.ends, (self.literals.len() + lits.len()) as u64)?;
+        make_fit(&mut self.starts, self.ends.len() as u64)?;
         self.spare = lits.len() + 1;
         Ok(())
     }
@@ -107,27 +108,44 @@ impl Arena {
         let start = self.next_start(lits);
         self.spare = 0;
         append(&mut self.literals, lits);
-        put_end(&mut self.ends, self.literals.len());
-        put_start(&mut self.starts, start);
+        self.ends.push(self.literals.len() as u64);
+        self.starts.push(start);
     }
 }
 
+/// Makes room for one number more, and lets numbers up to one fit.
+pub(crate) fn make_fit(numbers: &mut ShortNumbers, most: u64) -> Result<(), Memory>
+    ensures items { numbers.new.items ≡ numbers.old.items }
+    ensures more { numbers.old.most ≤ numbers.new.most }
+    ensures room { OnOk result (length numbers.new.items < numbers.new.capacity) }
+    ensures fits { OnOk result (most ≤ numbers.new.most) }
+{
+    numbers.reserve()?;
+    numbers.fit(most)?;
+    Ok(())
+}
+
 // The piece at a place.
-fn piece<'a>(literals: &'a [Code], ends: &[usize], at: usize) -> &'a [Code]
-    requires ends { AreEnds 0 ends.now (length literals.now) }
-    requires at { at < length ends.now }
-    ensures { slice_get (pieces literals.now 0 ends.now) at ≡ Some result.now }
+fn piece<'a>(literals: &'a [Code], ends: &ShortNumbers, at: usize) -> &'a [Code]
+    requires ends { AreEnds 0 ends.now.items (length literals.now) }
+    requires at { at < length ends.now.items }
+    ensures { slice_get (pieces literals.now 0 ends.now.items) at ≡ Some result.now }
 {
     let start = start_of(ends, at);
-    &literals[start..ends[at]]
+    let end = ends.get(at) as usize;
+    &literals[start..end]
 }
 
 // Where the piece at a place begins.
-fn start_of(ends: &[usize], at: usize) -> usize
-    requires { at < length ends.now }
-    ensures { result ≡ start_of 0 ends.now at }
+fn start_of(ends: &ShortNumbers, at: usize) -> usize
+    requires { at < length ends.now.items }
+    ensures { result ≡ start_of 0 ends.now.items at }
 {
-    if at == 0 { 0 } else { ends[at - 1] }
+    if at == 0 {
+        0
+    } else {
+        ends.get(at - 1) as usize
+    }
 }
 
 fn append(literals: &mut Vec<Code>, lits: &[Lit])
@@ -138,24 +156,6 @@ fn append(literals: &mut Vec<Code>, lits: &[Lit])
         if literals.push(Code::of(*l)).is_err() {
             unreachable!();
         }
-    }
-}
-
-fn put_end(ends: &mut Vec<usize>, end: usize)
-    requires { length ends.old.items < vec_capacity ends.old }
-    ensures { ends.new.items ≡ ends.old.items ++ end ∷ [] }
-{
-    if ends.push(end).is_err() {
-        unreachable!();
-    }
-}
-
-fn put_start(starts: &mut Vec<u64>, start: u64)
-    requires { length starts.old.items < vec_capacity starts.old }
-    ensures { starts.new.items ≡ starts.old.items ++ start ∷ [] }
-{
-    if starts.push(start).is_err() {
-        unreachable!();
     }
 }
 

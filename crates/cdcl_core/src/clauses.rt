@@ -137,6 +137,7 @@ impl ClauseStore {
         ensures first { self.new.first ≡ self.old.first }
         ensures second { self.new.second ≡ self.old.second }
     {
+        self.spare = 0;
         make_lists(&mut self.first, variable)?;
         make_lists(&mut self.second, variable)?;
         Ok(())

@@ -15,7 +15,7 @@ ghost use Rattle.oracle.specs.Fit.{live_in};
 ghost use Rattle.learning_trail.specs.Steps.{literals_of, Grown};
 ghost use Rattle.learning_trail.specs.Sound.{IsSound};
 ghost use Rattle.learning_trail.specs.Passes.{AreWithin};
-ghost use Rattle.cdcl_core.specs.Chains.{watch_at, IsLinked, HasList, IsLeft};
+ghost use Rattle.cdcl_core.specs.Chains.{watch_at, IsLinked, HasList, FitIds, IsLeft};
 ghost use Rattle.cdcl_core.specs.Watching.{AreShort, IsReady, AreSame};
 ghost use Rattle.cdcl_core.specs.Visits.{IsOtherAt, IsVisitable, IsLooked, IsOther, AreOthersFalse, IsVisited, IsListVisited, AreVisited, IsTrailVisited, IsProcessed};
 
@@ -214,6 +214,7 @@ fn visit(
     requires is_id { id ≤ length arena.now.clauses }
     requires nexts { length these.old.nexts.items ≡ length arena.now.clauses }
     requires list { HasList these.old l }
+    requires fits { FitIds these.old }
     requires in_range { variable_of l ≤ trail.old.room }
     requires watched { watch_at these.old.literals.items (id - 1) ≡ l }
     requires false_now { holds (literals_of trail.old.steps) (opposite l) ≡ true }

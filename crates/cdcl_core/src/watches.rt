@@ -4,23 +4,25 @@
 //! A visit takes a whole list away, and puts its clauses back one by one, on the same list or on
 //! others.
 
-ghost use Rattle.std.specs.Prelude.{◌≡◌, ◌≤◌, ◌<◌, ◌+◌, ◌*◌, ◌-◌, ◌^◌, ◌++◌, ◌∷◌, [], ℕ, List, true, length, set, All, OnOk, vec_capacity};
+ghost use Rattle.std.specs.Prelude.{◌≡◌, ◌≤◌, ◌<◌, ◌+◌, ◌*◌, ◌-◌, ◌^◌, ◌++◌, ◌∷◌, [], ℕ, List, true, length, set, All, OnOk};
 ghost use Rattle.dq_lits.specs.Literal.{positive};
-ghost use Rattle.cdcl_core.specs.Chains.{watch_at, place_of, has, IsLinked, HasList, IsTaken, AddsLists};
+ghost use Rattle.cdcl_core.specs.Chains.{watch_at, place_of, has, IsLinked, HasList, HasNextRoom, FitIds, IsTaken, AddsLists};
 
+use crate::arenas::make_fit;
 use dq_lits::{Lit, Memory};
 use learning_trail::Code;
+use short_numbers::ShortNumbers;
 use std::alloc::Global;
 
 /// One of the two literals that each clause is watched at.
 #[derive(Drop)]
 pub(crate) struct Watches {
     /// The id of the first clause on each literal's list; 0, where there is none.
-    pub(crate) heads: Vec<u64>,
+    pub(crate) heads: ShortNumbers,
     /// The literal of the clause with id i at place i - 1.
     pub(crate) literals: Vec<Code>,
     /// The id of the clause behind it on its list; 0, where there is none.
-    pub(crate) nexts: Vec<u64>,
+    pub(crate) nexts: ShortNumbers,
 }
 
 /// No clauses. It takes no memory.
@@ -29,9 +31,9 @@ pub(crate) fn no_watches(alloc: Global) -> Watches
     ensures literals { result.literals.items ≡ [] }
 {
     Watches {
-        heads: Vec::new(alloc),
+        heads: ShortNumbers::new(alloc),
         literals: Vec::new(alloc),
-        nexts: Vec::new(alloc),
+        nexts: ShortNumbers::new(alloc),
     }
 }
 
@@ -56,21 +58,20 @@ pub(crate) fn make_room(watches: &mut Watches, lits: &[Lit]) -> Result<(), Memor
     ensures literals { watches.new.literals.items ≡ watches.old.literals.items }
     ensures some { OnOk result (HasList watches.new (positive 1)) }
     ensures lists { OnOk result (All (λ l. HasList watches.new l) lits.now) }
-    ensures room { OnOk result
-        (length watches.new.literals.items < vec_capacity watches.new.literals) }
-    ensures nexts_room { OnOk result
-        (length watches.new.nexts.items < vec_capacity watches.new.nexts) }
+    ensures room { OnOk result (HasNextRoom watches.new) }
 {
     extend(&mut watches.heads, 3)?;
     add_lists(&mut watches.heads, lits)?;
     watches.literals.reserve(1)?;
-    watches.nexts.reserve(1)?;
+    let id = watches.nexts.len() as u64 + 1;
+    watches.heads.fit(id)?;
+    make_fit(&mut watches.nexts, id)?;
     Ok(())
 }
 
 // Lists for the literals' variables, and for all smaller ones.
-fn add_lists(heads: &mut Vec<u64>, lits: &[Lit]) -> Result<(), Memory>
-    ensures added { AddsLists heads.old.items heads.new.items }
+fn add_lists(heads: &mut ShortNumbers, lits: &[Lit]) -> Result<(), Memory>
+    ensures added { AddsLists heads.old heads.new }
     ensures lists { OnOk result (All (λ l. place_of l + 1 ≤ length heads.new.items) lits.now) }
 {
     for l in lits {
@@ -79,12 +80,13 @@ fn add_lists(heads: &mut Vec<u64>, lits: &[Lit]) -> Result<(), Memory>
     Ok(())
 }
 
-fn extend(heads: &mut Vec<u64>, wanted: usize) -> Result<(), Memory>
-    ensures added { AddsLists heads.old.items heads.new.items }
+fn extend(heads: &mut ShortNumbers, wanted: usize) -> Result<(), Memory>
+    ensures added { AddsLists heads.old heads.new }
     ensures lists { OnOk result (wanted ≤ length heads.new.items) }
 {
     while heads.len() < wanted {
-        heads.push(0)?;
+        heads.reserve()?;
+        heads.push(0);
     }
     Ok(())
 }
@@ -93,21 +95,18 @@ fn extend(heads: &mut Vec<u64>, wanted: usize) -> Result<(), Memory>
 pub(crate) fn add_watch(watches: &mut Watches, l: Code)
     requires linked { IsLinked watches.old 0 [] }
     requires list { HasList watches.old l }
-    requires room { length watches.old.literals.items < vec_capacity watches.old.literals }
-    requires nexts_room { length watches.old.nexts.items < vec_capacity watches.old.nexts }
+    requires room { HasNextRoom watches.old }
     ensures linked { IsLinked watches.new 0 [] }
     ensures literals { watches.new.literals.items ≡ watches.old.literals.items ++ l ∷ [] }
     ensures lists { length watches.new.heads.items ≡ length watches.old.heads.items }
 {
     let place = l.place();
-    let next = watches.heads[place];
+    let next = watches.heads.get(place);
     if watches.literals.push(l).is_err() {
         unreachable!();
     }
-    if watches.nexts.push(next).is_err() {
-        unreachable!();
-    }
-    watches.heads[place] = watches.nexts.len() as u64;
+    watches.nexts.push(next);
+    watches.heads.set(place, watches.nexts.len() as u64);
 }
 
 /// Takes a literal's list away, and gives its first clause.
@@ -121,8 +120,8 @@ pub(crate) fn take(watches: &mut Watches, l: Code) -> u64
     if place >= watches.heads.len() {
         return 0;
     }
-    let first = watches.heads[place];
-    watches.heads[place] = 0;
+    let first = watches.heads.get(place);
+    watches.heads.set(place, 0);
     first
 }
 
@@ -132,6 +131,7 @@ pub(crate) fn put_back(watches: &mut Watches, id: u64, l: Code) -> u64
     requires from_one { 1 ≤ id }
     requires is_id { id ≤ length watches.old.nexts.items }
     requires list { HasList watches.old l }
+    requires fits { FitIds watches.old }
     requires watched { watch_at watches.old.literals.items (id - 1) ≡ l }
     ensures linked { (rest : List ℕ) → IsLinked watches.old id (id ∷ rest)
         → IsLinked watches.new result rest }
@@ -141,10 +141,7 @@ pub(crate) fn put_back(watches: &mut Watches, id: u64, l: Code) -> u64
 {
     let at = id as usize - 1;
     let place = l.place();
-    let next = watches.nexts[at];
-    watches.nexts[at] = watches.heads[place];
-    watches.heads[place] = id;
-    next
+    watches.nexts.rotate(at, &mut watches.heads, place, id)
 }
 
 /// Puts the first of the clauses that are left to visit on another literal's list, and gives the
@@ -153,6 +150,7 @@ pub(crate) fn put_elsewhere(watches: &mut Watches, id: u64, l: Code) -> u64
     requires from_one { 1 ≤ id }
     requires is_id { id ≤ length watches.old.nexts.items }
     requires list { HasList watches.old l }
+    requires fits { FitIds watches.old }
     requires count { length watches.old.literals.items ≡ length watches.old.nexts.items }
     ensures linked { (rest : List ℕ) → IsLinked watches.old id (id ∷ rest)
         → IsLinked watches.new result rest }

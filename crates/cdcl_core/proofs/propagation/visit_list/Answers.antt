@@ -23,7 +23,7 @@ visit-requires-clause-is_id c =
     let p = c.visits.invariant in
     let f = first_left c.visits.these c.visits.at p.rest p.linked c.if-at-eq0.false in
     let high = f.is_id in
-    omega (arith, high, p.linked.count, p.visitable.count)
+    omega (arith, high, p.linked.links.count, p.visitable.count)
 
 pub visit-requires-clause-watched : goal.visit-requires-clause-watched
 visit-requires-clause-watched c =

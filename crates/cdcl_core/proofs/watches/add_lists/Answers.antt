@@ -7,7 +7,7 @@ use Rattle.cdcl_core.proofs.watches.add_lists.Goals as goal
 
 pub loop-l-preserved : goal.loop-l-preserved
 loop-l-preserved c = record {
-  added = added_both c.args.heads.now.items c.loop-l.heads.items c.extend.new.heads.items c.loop-l.invariant.added
+  added = added_both c.args.heads.now c.loop-l.heads c.extend.new.heads c.loop-l.invariant.added
       c.extend.ensures.added;
   lists = listed_more (length c.loop-l.heads.items) (length c.extend.new.heads.items) c.args.lits.now c.l-item.result
       c.loop-l.l-index c.loop-l-test.true (sym c.l-item.is)

@@ -6,5 +6,5 @@ use Rattle.cdcl_core.proofs.arenas.Arena.len.Goals as goal
 pub returns : goal.returns
 returns c =
     let s = c.self.inside in
-    c.len.ensures ∙ s.ends.ok.0 ∙ sym (pieces-length s.literals.items 0 s.ends.items) ∙ ap
+    c.len.ensures.value ∙ sym (pieces-length s.literals.items 0 s.ends.items) ∙ ap
     (λ (v : Arranged). length v.clauses) c.self.view_is

@@ -11,7 +11,6 @@ piece-requires-clause-at c =
       arith,
       n,
       ap (λ (v : Arranged). length v.clauses) c.self.view_is,
-      ap length c.deref-2.ensures.value,
       c.requires.from_one,
       c.requires.is_id,
     )

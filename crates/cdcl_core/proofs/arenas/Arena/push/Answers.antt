@@ -1,11 +1,26 @@
-use Rattle.std.proofs.Common.{◌≡◌, ◌∷◌, ◌++◌, [], sym, ◌∙◌, ap, subst, List, length, length-append, arith, ℕ}
+use Rattle.std.proofs.Common.{◌≡◌, ◌≤◌, ◌∷◌, ◌++◌, [], sym, ◌∙◌, ap, subst, List, length, length-append, arith, ℕ}
 use Rattle.dq_lits.specs.Literal.{Literal}
 use Rattle.learning_trail.specs.Pieces.{AreEnds, pieces}
+use Rattle.short_numbers.specs.Numbers.{Numbers}
 use Rattle.cdcl_core.specs.ArenaInside.{Arranged}
 use Rattle.cdcl_core.specs.Runs.{IsNextStart, AreStarts}
 use Rattle.cdcl_core.proofs.EqualHeads.{starts_more}
 use Rattle.learning_trail.proofs.ClausePieces.{pieces-length, pieces_more, ends_more}
 use Rattle.cdcl_core.proofs.arenas.Arena.push.Goals as goal
+
+pub push-requires-2-clause-fits : goal.push-requires-2-clause-fits
+push-requires-2-clause-fits c =
+    let s = c.self.inside in
+    let some : 1 ≤ s.spare = omega (arith, c.requires, ap (λ (v : Arranged). v.spare) c.self.view_is) in
+    let fit = (c.self.invariant.spare some).starts_fit in
+    let within = c.next_start-start.ensures.within in
+    omega (
+      arith,
+      fit,
+      within,
+      pieces-length s.literals.items 0 s.ends.items,
+      ap (λ (v : Arranged). length v.clauses) c.self.view_is,
+    )
 
 pub invariant_of-self : goal.invariant_of-self
 invariant_of-self c =
@@ -14,10 +29,11 @@ invariant_of-self c =
     let lits = c.args.lits.now in
     let old = pieces s.literals.items 0 s.ends.items in
     let total : c.len.result ≡ length all = omega (arith, c.len.ensures, c.append.new.literals.ok.0) in
-    let ends : c.put_end.new.ends.items ≡ s.ends.items ++ c.len.result ∷ [] = c.put_end.ensures in
-    let starts : c.put_start.new.starts.items ≡ s.starts.items ++ c.next_start-start.result ∷ [] =
-    c.put_start.ensures in
-    let more : pieces all 0 c.put_end.new.ends.items ≡ old ++ lits ∷ [] =
+    let ends : c.push.new.self.items ≡ s.ends.items ++ c.len.result ∷ [] =
+    ap (λ (v : Numbers). v.items) c.push.ensures in
+    let starts : c.push-2.new.self.items ≡ s.starts.items ++ c.next_start-start.result ∷ [] =
+    ap (λ (v : Numbers). v.items) c.push-2.ensures in
+    let more : pieces all 0 c.push.new.self.items ≡ old ++ lits ∷ [] =
     ap (pieces all 0) ends ∙ pieces_more s.literals.items lits all s.ends.items c.len.result c.self.invariant.ends
     c.append.ensures total in
     let next : IsNextStart old lits c.next_start-start.result =
@@ -38,7 +54,7 @@ invariant_of-self c =
             length-append s.ends.items (c.len.result ∷ []),
             length-append s.starts.items (c.next_start-start.result ∷ []),
           );
-      starts = subst (λ (cs : List (List Literal)). AreStarts cs c.put_start.new.starts.items) (sym more)
+      starts = subst (λ (cs : List (List Literal)). AreStarts cs c.push-2.new.self.items) (sym more)
           (subst (λ (xs : List ℕ). AreStarts (old ++ lits ∷ []) xs) (sym starts) begin);
       spare = λ h. absurd (omega (arith, h));
     }
@@ -48,7 +64,8 @@ returns c =
     let s = c.self.inside in
     let all = c.append.new.literals.items in
     let total : c.len.result ≡ length all = omega (arith, c.len.ensures, c.append.new.literals.ok.0) in
-    let ends : c.put_end.new.ends.items ≡ s.ends.items ++ c.len.result ∷ [] = c.put_end.ensures in
+    let ends : c.push.new.self.items ≡ s.ends.items ++ c.len.result ∷ [] =
+    ap (λ (v : Numbers). v.items) c.push.ensures in
     ap (pieces all 0) ends ∙ pieces_more s.literals.items c.args.lits.now all s.ends.items c.len.result
     c.self.invariant.ends c.append.ensures total
     ∙ ap (λ (v : Arranged). v.clauses ++ c.args.lits.now ∷ []) c.self.view_is

@@ -10,24 +10,24 @@ invariant_of-self c =
     s.starts.items c.reserve.ensures.items refl refl i.ends i.count i.starts in
     record { ends = a.are_ends; count = a.count; starts = a.are_starts; spare = λ h. absurd (omega (arith, h)) }
 
-pub invariant_of-self-in_err-reserve-2 : goal.invariant_of-self-in_err-reserve-2
-invariant_of-self-in_err-reserve-2 c =
+pub invariant_of-self-in_err-make_fit : goal.invariant_of-self-in_err-make_fit
+invariant_of-self-in_err-make_fit c =
     let s = c.self.inside in
     let i = c.self.invariant in
     let a =
-    arranged_same s.literals.items c.reserve.new.self.items s.ends.items c.reserve-2.new.self.items s.starts.items
-    s.starts.items c.reserve.ensures.items c.reserve-2.ensures.items refl i.ends i.count
+    arranged_same s.literals.items c.reserve.new.self.items s.ends.items c.make_fit.new.numbers.items s.starts.items
+    s.starts.items c.reserve.ensures.items c.make_fit.ensures.items refl i.ends i.count
     i.starts in
     record { ends = a.are_ends; count = a.count; starts = a.are_starts; spare = λ h. absurd (omega (arith, h)) }
 
-pub invariant_of-self-in_err-reserve-3 : goal.invariant_of-self-in_err-reserve-3
-invariant_of-self-in_err-reserve-3 c =
+pub invariant_of-self-in_err-make_fit-2 : goal.invariant_of-self-in_err-make_fit-2
+invariant_of-self-in_err-make_fit-2 c =
     let s = c.self.inside in
     let i = c.self.invariant in
     let a =
-    arranged_same s.literals.items c.reserve.new.self.items s.ends.items c.reserve-2.new.self.items s.starts.items
-    c.reserve-3.new.self.items c.reserve.ensures.items c.reserve-2.ensures.items
-    c.reserve-3.ensures.items i.ends i.count i.starts in
+    arranged_same s.literals.items c.reserve.new.self.items s.ends.items c.make_fit.new.numbers.items s.starts.items
+    c.make_fit-2.new.numbers.items c.reserve.ensures.items c.make_fit.ensures.items
+    c.make_fit-2.ensures.items i.ends i.count i.starts in
     record { ends = a.are_ends; count = a.count; starts = a.are_starts; spare = λ h. absurd (omega (arith, h)) }
 
 pub invariant_of-self-2 : goal.invariant_of-self-2
@@ -35,16 +35,18 @@ invariant_of-self-2 c =
     let s = c.self.inside in
     let i = c.self.invariant in
     let a =
-    arranged_same s.literals.items c.reserve.new.self.items s.ends.items c.reserve-2.new.self.items s.starts.items
-    c.reserve-3.new.self.items c.reserve.ensures.items c.reserve-2.ensures.items
-    c.reserve-3.ensures.items i.ends i.count i.starts in
+    arranged_same s.literals.items c.reserve.new.self.items s.ends.items c.make_fit.new.numbers.items s.starts.items
+    c.make_fit-2.new.numbers.items c.reserve.ensures.items c.make_fit.ensures.items
+    c.make_fit-2.ensures.items i.ends i.count i.starts in
     record {
       ends = a.are_ends;
       count = a.count;
       starts = a.are_starts;
       spare = λ h. record {
         literals = omega (arith, c.in_ok-reserve.ensures.ok, ap length c.reserve.ensures.items);
-        ends = omega (arith, c.in_ok-reserve-2.ensures.ok, ap length c.reserve-2.ensures.items);
-        starts = omega (arith, c.in_ok-reserve-3.ensures.ok, ap length c.reserve-3.ensures.items);
+        ends = c.in_ok-make_fit.ensures.room;
+        ends_fit = omega (arith, c.in_ok-make_fit.ensures.fits, c.len.ensures, c.reserve.new.self.ok.0);
+        starts = c.in_ok-make_fit-2.ensures.room;
+        starts_fit = omega (arith, c.in_ok-make_fit-2.ensures.fits, c.len-2.ensures.value);
       };
     }

@@ -1,13 +1,12 @@
-use Rattle.std.proofs.Common.{◌≤◌, ◌≡◌, ◌-◌, length, get_or, ap, subst, refl, arith}
+use Rattle.std.proofs.Common.{◌≤◌, ◌≡◌, ◌-◌, length, get_or, ap, subst, arith}
 use Rattle.cdcl_core.specs.ArenaInside.{Arranged}
 use Rattle.cdcl_core.specs.Runs.{BeginAlike}
 use Rattle.cdcl_core.proofs.EqualHeads.{start_at}
-use Rattle.cdcl_core.proofs.LinkedLists.{read_zero}
 use Rattle.learning_trail.proofs.ClausePieces.{pieces-length}
 use Rattle.cdcl_core.proofs.arenas.Arena.start.Goals as goal
 
-pub index-requires : goal.index-requires
-index-requires c =
+pub get-requires : goal.get-requires
+get-requires c =
     let s = c.self.inside in
     let n = pieces-length s.literals.items 0 s.ends.items in
     omega (
@@ -15,7 +14,6 @@ index-requires c =
       n,
       c.self.invariant.count,
       ap (λ (v : Arranged). length v.clauses) c.self.view_is,
-      s.starts.ok.0,
       c.requires.from_one,
       c.requires.is_id,
     )
@@ -31,10 +29,9 @@ returns-clause-before c =
       ap (λ (v : Arranged). length v.clauses) c.self.view_is,
       c.requires.is_id,
     ) in
-    let read : c.index.result.now ≡ get_or s.starts.items (c.args.id - 1) 0 =
-    read_zero s.starts.items (c.args.id - 1) (c.args.id - 1) c.index.result.now c.index.ensures refl
-    (omega (arith, high, c.requires.from_one)) in
-    (start_at _ s.starts.items c.args.id c.index.result.now c.self.invariant.starts c.requires.from_one high read).0
+    let read : c.get.result ≡ get_or s.starts.items (c.args.id - 1) 0 =
+    c.get.ensures in
+    (start_at _ s.starts.items c.args.id c.get.result c.self.invariant.starts c.requires.from_one high read).0
 
 pub returns-clause-same : goal.returns-clause-same
 returns-clause-same c =
@@ -47,8 +44,7 @@ returns-clause-same c =
       ap (λ (v : Arranged). length v.clauses) c.self.view_is,
       c.requires.is_id,
     ) in
-    let read : c.index.result.now ≡ get_or s.starts.items (c.args.id - 1) 0 =
-    read_zero s.starts.items (c.args.id - 1) (c.args.id - 1) c.index.result.now c.index.ensures refl
-    (omega (arith, high, c.requires.from_one)) in
-    subst (λ (v : Arranged). BeginAlike v.clauses c.index.result.now c.args.id) c.self.view_is
-    (start_at _ s.starts.items c.args.id c.index.result.now c.self.invariant.starts c.requires.from_one high read).1
+    let read : c.get.result ≡ get_or s.starts.items (c.args.id - 1) 0 =
+    c.get.ensures in
+    subst (λ (v : Arranged). BeginAlike v.clauses c.get.result c.args.id) c.self.view_is
+    (start_at _ s.starts.items c.args.id c.get.result c.self.invariant.starts c.requires.from_one high read).1
