@@ -4,7 +4,7 @@ use Rattle.std.specs.List.{AllByRecursion, IsDistinct}
 use Rattle.std.proofs.Math.Dec.{eqb}
 use Rattle.std.proofs.Math.Seq.{get_or-append_seam}
 use Rattle.std.proofs.lemmas.Bool.{cases_Bool, cases_eq, false≢true, or_cases, or_left, or_right, or_parts, eq-eqb, ne_eqb, eqb-true}
-use Rattle.std.proofs.lemmas.List.{length-set, take_more, get_or_default, get_or_past, get_or_append_left}
+use Rattle.std.proofs.lemmas.List.{length-set, take_more, get_or_past, get_or_append_left}
 use Rattle.std.proofs.lemmas.List.Elements.{All-cons, All-append, All-nil}
 use Rattle.std.proofs.lemmas.Map.Steps.{length-le_from_distinct_below}
 use Rattle.dq_lits.specs.Literal.{Literal, positive, negative, variable_of}
@@ -469,6 +469,3 @@ listed_more n m lits l i lt at wide le all =
     low_place : (l : Literal) → variable_of l * 2 + 2 ≤ m → place_of l + 1 ≤ m
     low_place (positive v) h = omega (arith, h)
     low_place (negative v) h = omega (arith, h)
-
-pub read_zero : (xs : List ℕ) (i j x : ℕ) → x ≡ get_or xs i x → i ≡ j → j < length xs → x ≡ get_or xs j 0
-read_zero xs i j x is e lt = is ∙ ap (λ n. get_or xs n x) e ∙ get_or_default xs j x 0 lt
