@@ -1,12 +1,12 @@
 //! Runs the solver on a table of cases, or on a formula in DIMACS.
 //!
-//! Without a word behind the program's name it reads the table `cases`, a command a line, and
-//! prints what each case gives by watched literals, and whether it gives the same by scans;
-//! `tables` says which commands there are. With a file's name it reads that file, a CNF, and prints
-//! its answer: `s SATISFIABLE` with a line of values, or `s UNSATISFIABLE` with the lines of a
-//! refutation, each with its id, its literals and its hints; and how many clauses were learned. A
-//! number behind the name is how many may be: where one more would have to be learned, the answer
-//! is `s UNKNOWN`.
+//! Without a word behind the program's name it reads the table `cases`, a command a line, and prints
+//! what each case gives by watched literals, and whether it gives the same by scans; `tables` says
+//! which commands there are; and then what a list gives of numbers beyond 32 bits. With a file's
+//! name it reads that file, a CNF, and prints its answer: `s SATISFIABLE` with a line of values, or
+//! `s UNSATISFIABLE` with the lines of a refutation, each with its id, its literals and its hints;
+//! and how many clauses were learned. A number behind the name is how many may be: where one more
+//! would have to be learned, the answer is `s UNKNOWN`.
 #![tactic(auto)]
 
 mod calls;
@@ -15,6 +15,7 @@ mod forms;
 mod judging;
 mod numbers;
 mod tables;
+mod wide;
 
 use anyhow::Result;
 use dq_io::{RealFiles, read_all};
@@ -39,6 +40,8 @@ fn main(rt: HostRuntime) -> Result<()> {
             let table = str::from_utf8(&table)?;
             let answers = forms::answers(alloc, table)?;
             print!(rt; "{answers}")?;
+            let wide = wide::answer(alloc)?;
+            println!(rt; "{wide}")?;
         }
     }
     Ok(())
