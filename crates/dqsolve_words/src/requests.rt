@@ -1,11 +1,11 @@
 //! What the words ask for.
 
 ghost use Rattle.std.specs.Prelude.{◌≡◌, false, map, string_bytes, Option, Some, None, MatchOption, option_map, option_and_then, codes, IfOk};
-ghost use Rattle.clap.specs.Simple.{app_of, shape_of, subcommand_rows_of};
+ghost use Rattle.clap.specs.Simple.{app_of, shape_of, subcommand_rows_of, with_subcommand, Shape};
 ghost use Rattle.clap.specs.Walk.{rows_of, rule_of, first_of};
 ghost use Rattle.clap.specs.Matches.{found_of};
 ghost use Rattle.clap.specs.declared.builder.command.Command.TheViews.{out-Command};
-ghost use Rattle.dqsolve_words.specs.Command.{solve, demo, pec, encode, defined, session, command_of, command_in, asked_of, formula_app, circuit_app, solver_app, writing_options, solve_options, solve_shape, demo_shape, pec_shape, encode_shape, defined_shape, session_shape, required_word, value_option, flag, solve_in, demo_in, circuits_in, pec_in, defined_in, session_in, steps_in, number_in, has_flag, options_in, most_seed, least_size, most_size};
+ghost use Rattle.dqsolve_words.specs.Command.{solve, demo, pec, encode, defined, session, command_of, command_in, asked_of, bare_app, formula_app, circuit_app, solver_app, writing_options, solve_options, solve_shape, demo_shape, pec_shape, encode_shape, defined_shape, session_shape, required_word, value_option, flag, solve_in, demo_in, circuits_in, pec_in, defined_in, session_in, steps_in, number_in, has_flag, options_in, most_seed, least_size, most_size};
 ghost use Rattle.dqsolve_words.specs.Words.{options_of, search_of, planting_of, circuits_of, comparison_of, defining_of, session_of, command_said};
 
 use clap::error::ErrorKind;
@@ -129,15 +129,12 @@ fn writing_options<'a>(alloc: Global) -> Result<Command<'a>, AllocError>
         (λ command. shape_of command ≡ record solve_shape { rules = writing_options }) }
     ensures local { IfOk result (λ command. (out-Command command).has_globals ≡ false) }
 {
-    let steps = option_argument(alloc, "steps");
-    let bare = flag_argument(alloc, "bare");
-    let deletes = flag_argument(alloc, "v2");
     Command::new(alloc, "solve")
         .disable_help_flag(true)
         .disable_version_flag(true)
-        .arg(steps)?
-        .arg(bare)?
-        .arg(deletes)
+        .arg(option_argument(alloc, "steps"))?
+        .arg(flag_argument(alloc, "bare"))?
+        .arg(flag_argument(alloc, "v2"))
 }
 
 // `solve [--steps N] [--bare] [--v2] [--prep] [--binary]`.
@@ -146,9 +143,9 @@ fn solve_options<'a>(alloc: Global) -> Result<Command<'a>, AllocError>
         (λ command. shape_of command ≡ record solve_shape { rules = solve_options }) }
     ensures local { IfOk result (λ command. (out-Command command).has_globals ≡ false) }
 {
-    let prepares = flag_argument(alloc, "prep");
-    let binary = flag_argument(alloc, "binary");
-    writing_options(alloc)?.arg(prepares)?.arg(binary)
+    writing_options(alloc)?
+        .arg(flag_argument(alloc, "prep"))?
+        .arg(flag_argument(alloc, "binary"))
 }
 
 // `solve [--steps N] [--bare] [--v2] [--prep] [--binary] FILE`.
@@ -156,8 +153,7 @@ fn solve_command<'a>(alloc: Global) -> Result<Command<'a>, AllocError>
     ensures shape { IfOk result (λ command. shape_of command ≡ solve_shape) }
     ensures local { IfOk result (λ command. (out-Command command).has_globals ≡ false) }
 {
-    let file = word_argument(alloc, "FILE");
-    solve_options(alloc)?.arg(file)
+    solve_options(alloc)?.arg(word_argument(alloc, "FILE"))
 }
 
 // `demo SEED SIZE`.
@@ -165,13 +161,11 @@ fn demo_command<'a>(alloc: Global) -> Result<Command<'a>, AllocError>
     ensures shape { IfOk result (λ command. shape_of command ≡ demo_shape) }
     ensures local { IfOk result (λ command. (out-Command command).has_globals ≡ false) }
 {
-    let seed = word_argument(alloc, "SEED");
-    let size = word_argument(alloc, "SIZE");
     Command::new(alloc, "demo")
         .disable_help_flag(true)
         .disable_version_flag(true)
-        .arg(seed)?
-        .arg(size)
+        .arg(word_argument(alloc, "SEED"))?
+        .arg(word_argument(alloc, "SIZE"))
 }
 
 // `pec [--steps N] SPEC IMPL`.
@@ -179,15 +173,12 @@ fn pec_command<'a>(alloc: Global) -> Result<Command<'a>, AllocError>
     ensures shape { IfOk result (λ command. shape_of command ≡ pec_shape) }
     ensures local { IfOk result (λ command. (out-Command command).has_globals ≡ false) }
 {
-    let steps = option_argument(alloc, "steps");
-    let spec = word_argument(alloc, "SPEC");
-    let imp = word_argument(alloc, "IMPL");
     Command::new(alloc, "pec")
         .disable_help_flag(true)
         .disable_version_flag(true)
-        .arg(steps)?
-        .arg(spec)?
-        .arg(imp)
+        .arg(option_argument(alloc, "steps"))?
+        .arg(word_argument(alloc, "SPEC"))?
+        .arg(word_argument(alloc, "IMPL"))
 }
 
 // `encode SPEC IMPL`.
@@ -195,13 +186,11 @@ fn encode_command<'a>(alloc: Global) -> Result<Command<'a>, AllocError>
     ensures shape { IfOk result (λ command. shape_of command ≡ encode_shape) }
     ensures local { IfOk result (λ command. (out-Command command).has_globals ≡ false) }
 {
-    let spec = word_argument(alloc, "SPEC");
-    let imp = word_argument(alloc, "IMPL");
     Command::new(alloc, "encode")
         .disable_help_flag(true)
         .disable_version_flag(true)
-        .arg(spec)?
-        .arg(imp)
+        .arg(word_argument(alloc, "SPEC"))?
+        .arg(word_argument(alloc, "IMPL"))
 }
 
 // `defined [--steps N] FILE`.
@@ -209,13 +198,11 @@ fn defined_command<'a>(alloc: Global) -> Result<Command<'a>, AllocError>
     ensures shape { IfOk result (λ command. shape_of command ≡ defined_shape) }
     ensures local { IfOk result (λ command. (out-Command command).has_globals ≡ false) }
 {
-    let steps = option_argument(alloc, "steps");
-    let file = word_argument(alloc, "FILE");
     Command::new(alloc, "defined")
         .disable_help_flag(true)
         .disable_version_flag(true)
-        .arg(steps)?
-        .arg(file)
+        .arg(option_argument(alloc, "steps"))?
+        .arg(word_argument(alloc, "FILE"))
 }
 
 // `session [--steps N] FILE SCRIPT`.
@@ -223,49 +210,69 @@ fn session_command<'a>(alloc: Global) -> Result<Command<'a>, AllocError>
     ensures shape { IfOk result (λ command. shape_of command ≡ session_shape) }
     ensures local { IfOk result (λ command. (out-Command command).has_globals ≡ false) }
 {
-    let steps = option_argument(alloc, "steps");
-    let file = word_argument(alloc, "FILE");
-    let script = word_argument(alloc, "SCRIPT");
     Command::new(alloc, "session")
         .disable_help_flag(true)
         .disable_version_flag(true)
-        .arg(steps)?
-        .arg(file)?
-        .arg(script)
+        .arg(option_argument(alloc, "steps"))?
+        .arg(word_argument(alloc, "FILE"))?
+        .arg(word_argument(alloc, "SCRIPT"))
+}
+
+// A command with one more subcommand, if there was memory for that. What is built so far is let go
+// here alone, by a call: each `?` behind which a command goes out of scope costs the prover more than
+// all else that a function here does.
+fn with_subcommand<'a>(
+    command: Command<'a>,
+    added: Result<Command<'a>, AllocError>,
+) -> Result<Command<'a>, AllocError>
+    ensures { (shape : Shape)
+        → IfOk added.entry (λ sub. shape_of sub ≡ shape)
+        → IfOk added.entry (λ sub. (out-Command sub).has_globals ≡ false)
+        → IfOk result (λ new. app_of new ≡ with_subcommand (app_of command.entry) shape) }
+{
+    match added {
+        Ok(sub) => command.subcommand(sub),
+        Err(error) => {
+            drop(command);
+            Err(error)
+        }
+    }
+}
+
+// `dqsolve` without subcommands, not even `help`.
+fn bare_command<'a>(alloc: Global) -> Command<'a>
+    ensures { app_of result ≡ bare_app }
+{
+    Command::new(alloc, "dqsolve")
+        .disable_help_flag(true)
+        .disable_version_flag(true)
+        .disable_help_subcommand(true)
 }
 
 // `dqsolve`, with the subcommands on formulas.
 fn formula_command<'a>(alloc: Global) -> Result<Command<'a>, AllocError>
     ensures { IfOk result (λ command. app_of command ≡ formula_app) }
 {
-    let solve = solve_command(alloc)?;
-    let demo = demo_command(alloc)?;
-    Command::new(alloc, "dqsolve")
-        .disable_help_flag(true)
-        .disable_version_flag(true)
-        .disable_help_subcommand(true)
-        .subcommand(solve)?
-        .subcommand(demo)
+    let command = with_subcommand(bare_command(alloc), solve_command(alloc))?;
+    with_subcommand(command, demo_command(alloc))
 }
 
 // `dqsolve`, with those on circuits too.
 fn circuit_command<'a>(alloc: Global) -> Result<Command<'a>, AllocError>
     ensures { IfOk result (λ command. app_of command ≡ circuit_app) }
 {
-    let pec = pec_command(alloc)?;
-    let encode = encode_command(alloc)?;
-    formula_command(alloc)?.subcommand(pec)?.subcommand(encode)
+    let formulas = formula_command(alloc)?;
+    let command = with_subcommand(formulas, pec_command(alloc))?;
+    with_subcommand(command, encode_command(alloc))
 }
 
 // `dqsolve`, with its subcommands.
 fn solver_command<'a>(alloc: Global) -> Result<Command<'a>, AllocError>
     ensures { IfOk result (λ command. app_of command ≡ solver_app) }
 {
-    let defined = defined_command(alloc)?;
-    let session = session_command(alloc)?;
-    circuit_command(alloc)?
-        .subcommand(defined)?
-        .subcommand(session)
+    let circuits = circuit_command(alloc)?;
+    let command = with_subcommand(circuits, defined_command(alloc))?;
+    with_subcommand(command, session_command(alloc))
 }
 
 // A number in a range.
