@@ -1,11 +1,11 @@
 //! What the words ask for.
 
-ghost use Rattle.std.specs.Prelude.{◌≡◌, false, map, string_bytes, Option, Some, None, MatchOption, option_map, option_and_then, codes, IfOk};
-ghost use Rattle.clap.specs.Simple.{app_of, shape_of, subcommand_rows_of, with_subcommand, Shape};
+ghost use Rattle.std.specs.Prelude.{◌≡◌, [], ◌∷◌, ◌++◌, false, map, string_bytes, Option, Some, None, MatchOption, option_map, option_and_then, codes, IfOk};
+ghost use Rattle.clap.specs.Simple.{app_of, shape_of, subcommand_rows_of, with_subcommand, new_shape, Shape};
 ghost use Rattle.clap.specs.Walk.{rows_of, rule_of, first_of};
 ghost use Rattle.clap.specs.Matches.{found_of};
 ghost use Rattle.clap.specs.declared.builder.command.Command.TheViews.{out-Command};
-ghost use Rattle.dqsolve_words.specs.Command.{solve, demo, pec, encode, defined, session, command_of, command_in, asked_of, bare_app, formula_app, circuit_app, solver_app, writing_options, solve_options, solve_shape, demo_shape, pec_shape, encode_shape, defined_shape, session_shape, required_word, value_option, flag, solve_in, demo_in, circuits_in, pec_in, defined_in, session_in, steps_in, number_in, has_flag, options_in, most_seed, least_size, most_size};
+ghost use Rattle.dqsolve_words.specs.Command.{solve, demo, pec, encode, defined, session, command_of, command_in, asked_of, bare_app, formula_app, circuit_app, solver_app, writing_options, solve_options, without_flags, solve_shape, demo_shape, pec_shape, encode_shape, defined_shape, session_shape, required_word, value_option, flag, solve_in, demo_in, circuits_in, pec_in, defined_in, session_in, steps_in, number_in, has_flag, options_in, most_seed, least_size, most_size};
 ghost use Rattle.dqsolve_words.specs.Words.{options_of, search_of, planting_of, circuits_of, comparison_of, defining_of, session_of, command_said};
 
 use clap::error::ErrorKind;
@@ -123,18 +123,39 @@ fn flag_argument<'a>(alloc: Global, id: &'a str) -> Arg<'a>
     Arg::new(alloc, id).long(id).action(ArgAction::SetTrue)
 }
 
+// A command without flags of clap's own.
+fn plain_command<'a>(alloc: Global, name: &'a str) -> Command<'a>
+    ensures shape { shape_of result ≡ without_flags (new_shape name.entry.now) }
+    ensures local { (out-Command result).has_globals ≡ false }
+{
+    Command::new(alloc, name)
+        .disable_help_flag(true)
+        .disable_version_flag(true)
+}
+
+// A command with one more argument. It says no more of clap's command than is needed here, since each
+// caller's proof is searched for among all that is said.
+fn with_argument<'a>(command: Command<'a>, argument: Arg<'a>) -> Result<Command<'a>, AllocError>
+    requires { argument.global ≡ false }
+    ensures shape { IfOk result (λ new. shape_of new ≡ record (shape_of command.entry) {
+      rules = (shape_of command.entry).rules ++ rule_of argument.entry ∷ [];
+    }) }
+    ensures local { IfOk result (λ new. (out-Command new).has_globals
+        ≡ (out-Command command.entry).has_globals) }
+{
+    command.arg(argument)
+}
+
 // `solve [--steps N] [--bare] [--v2]`.
 fn writing_options<'a>(alloc: Global) -> Result<Command<'a>, AllocError>
     ensures shape { IfOk result
         (λ command. shape_of command ≡ record solve_shape { rules = writing_options }) }
     ensures local { IfOk result (λ command. (out-Command command).has_globals ≡ false) }
 {
-    Command::new(alloc, "solve")
-        .disable_help_flag(true)
-        .disable_version_flag(true)
-        .arg(option_argument(alloc, "steps"))?
-        .arg(flag_argument(alloc, "bare"))?
-        .arg(flag_argument(alloc, "v2"))
+    let command = plain_command(alloc, "solve");
+    let command = with_argument(command, option_argument(alloc, "steps"))?;
+    let command = with_argument(command, flag_argument(alloc, "bare"))?;
+    with_argument(command, flag_argument(alloc, "v2"))
 }
 
 // `solve [--steps N] [--bare] [--v2] [--prep] [--binary]`.
@@ -143,9 +164,9 @@ fn solve_options<'a>(alloc: Global) -> Result<Command<'a>, AllocError>
         (λ command. shape_of command ≡ record solve_shape { rules = solve_options }) }
     ensures local { IfOk result (λ command. (out-Command command).has_globals ≡ false) }
 {
-    writing_options(alloc)?
-        .arg(flag_argument(alloc, "prep"))?
-        .arg(flag_argument(alloc, "binary"))
+    let command = writing_options(alloc)?;
+    let command = with_argument(command, flag_argument(alloc, "prep"))?;
+    with_argument(command, flag_argument(alloc, "binary"))
 }
 
 // `solve [--steps N] [--bare] [--v2] [--prep] [--binary] FILE`.
@@ -153,7 +174,8 @@ fn solve_command<'a>(alloc: Global) -> Result<Command<'a>, AllocError>
     ensures shape { IfOk result (λ command. shape_of command ≡ solve_shape) }
     ensures local { IfOk result (λ command. (out-Command command).has_globals ≡ false) }
 {
-    solve_options(alloc)?.arg(word_argument(alloc, "FILE"))
+    let command = solve_options(alloc)?;
+    with_argument(command, word_argument(alloc, "FILE"))
 }
 
 // `demo SEED SIZE`.
@@ -161,11 +183,9 @@ fn demo_command<'a>(alloc: Global) -> Result<Command<'a>, AllocError>
     ensures shape { IfOk result (λ command. shape_of command ≡ demo_shape) }
     ensures local { IfOk result (λ command. (out-Command command).has_globals ≡ false) }
 {
-    Command::new(alloc, "demo")
-        .disable_help_flag(true)
-        .disable_version_flag(true)
-        .arg(word_argument(alloc, "SEED"))?
-        .arg(word_argument(alloc, "SIZE"))
+    let command = plain_command(alloc, "demo");
+    let command = with_argument(command, word_argument(alloc, "SEED"))?;
+    with_argument(command, word_argument(alloc, "SIZE"))
 }
 
 // `pec [--steps N] SPEC IMPL`.
@@ -173,12 +193,10 @@ fn pec_command<'a>(alloc: Global) -> Result<Command<'a>, AllocError>
     ensures shape { IfOk result (λ command. shape_of command ≡ pec_shape) }
     ensures local { IfOk result (λ command. (out-Command command).has_globals ≡ false) }
 {
-    Command::new(alloc, "pec")
-        .disable_help_flag(true)
-        .disable_version_flag(true)
-        .arg(option_argument(alloc, "steps"))?
-        .arg(word_argument(alloc, "SPEC"))?
-        .arg(word_argument(alloc, "IMPL"))
+    let command = plain_command(alloc, "pec");
+    let command = with_argument(command, option_argument(alloc, "steps"))?;
+    let command = with_argument(command, word_argument(alloc, "SPEC"))?;
+    with_argument(command, word_argument(alloc, "IMPL"))
 }
 
 // `encode SPEC IMPL`.
@@ -186,11 +204,9 @@ fn encode_command<'a>(alloc: Global) -> Result<Command<'a>, AllocError>
     ensures shape { IfOk result (λ command. shape_of command ≡ encode_shape) }
     ensures local { IfOk result (λ command. (out-Command command).has_globals ≡ false) }
 {
-    Command::new(alloc, "encode")
-        .disable_help_flag(true)
-        .disable_version_flag(true)
-        .arg(word_argument(alloc, "SPEC"))?
-        .arg(word_argument(alloc, "IMPL"))
+    let command = plain_command(alloc, "encode");
+    let command = with_argument(command, word_argument(alloc, "SPEC"))?;
+    with_argument(command, word_argument(alloc, "IMPL"))
 }
 
 // `defined [--steps N] FILE`.
@@ -198,11 +214,9 @@ fn defined_command<'a>(alloc: Global) -> Result<Command<'a>, AllocError>
     ensures shape { IfOk result (λ command. shape_of command ≡ defined_shape) }
     ensures local { IfOk result (λ command. (out-Command command).has_globals ≡ false) }
 {
-    Command::new(alloc, "defined")
-        .disable_help_flag(true)
-        .disable_version_flag(true)
-        .arg(option_argument(alloc, "steps"))?
-        .arg(word_argument(alloc, "FILE"))
+    let command = plain_command(alloc, "defined");
+    let command = with_argument(command, option_argument(alloc, "steps"))?;
+    with_argument(command, word_argument(alloc, "FILE"))
 }
 
 // `session [--steps N] FILE SCRIPT`.
@@ -210,12 +224,10 @@ fn session_command<'a>(alloc: Global) -> Result<Command<'a>, AllocError>
     ensures shape { IfOk result (λ command. shape_of command ≡ session_shape) }
     ensures local { IfOk result (λ command. (out-Command command).has_globals ≡ false) }
 {
-    Command::new(alloc, "session")
-        .disable_help_flag(true)
-        .disable_version_flag(true)
-        .arg(option_argument(alloc, "steps"))?
-        .arg(word_argument(alloc, "FILE"))?
-        .arg(word_argument(alloc, "SCRIPT"))
+    let command = plain_command(alloc, "session");
+    let command = with_argument(command, option_argument(alloc, "steps"))?;
+    let command = with_argument(command, word_argument(alloc, "FILE"))?;
+    with_argument(command, word_argument(alloc, "SCRIPT"))
 }
 
 // A command with one more subcommand, if there was memory for that. What is built so far is let go
