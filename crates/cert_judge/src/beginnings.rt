@@ -90,6 +90,9 @@ fn start_circuit<'f>(alloc: Global, first: u64, header: &[u8]) -> Result<Phase<'
     let mut lines = AagLines::new(alloc, first);
     match lines.line(header) {
         Ok(()) => Ok(Phase::Circuit { first, lines }),
-        Err(stop) => stopped_phase(stop),
+        Err(stop) => {
+            drop(lines);
+            stopped_phase(stop)
+        }
     }
 }

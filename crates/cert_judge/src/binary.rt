@@ -87,13 +87,21 @@ fn judge_bare(
         (candidate_of f.now (listed bare).file.circuit bare.file.symbols)) }
 {
     let read = read_proof(alloc, f, &bare);
-    bare.file.comment = None;
+    drop(bare.file.comment.take());
     match read {
-        Ok(proof) => judge_counted(alloc, f, first, bare, &proof),
+        Ok(proof) => {
+            let answer = judge_counted(alloc, f, first, bare, &proof);
+            drop(proof);
+            answer
+        }
         Err(CertStop::Refused(refusal)) => {
+            drop(bare);
             Ok(refused(refusal.line, CertificateFault::Text(refusal.name)))
         }
-        Err(CertStop::Memory) => Err(Memory),
+        Err(CertStop::Memory) => {
+            drop(bare);
+            Err(Memory)
+        }
     }
 }
 
@@ -116,8 +124,11 @@ fn judge_counted(
         (candidate_of f.now (listed bare).file.circuit bare.file.symbols)) }
 {
     if bare.inputs != f.universals().len() as u64 {
+        drop(bare);
         return Ok(refused(first, CertificateFault::Mapping(MapName::InputCount)));
     }
     let read = list_inputs(bare)?;
-    judge_mapped(alloc, f, Form::Binary, first, &read.file, proof)
+    let answer = judge_mapped(alloc, f, Form::Binary, first, &read.file, proof);
+    drop(read);
+    answer
 }

@@ -131,7 +131,11 @@ pub(crate) fn judge_mapped(
         (candidate_of f.now file.now.circuit file.now.symbols)) }
 {
     match Bench::new(alloc, f, file) {
-        Ok(mut bench) => judge_reads(alloc, f, &mut bench, proof),
+        Ok(mut bench) => {
+            let answer = judge_reads(alloc, f, &mut bench, proof);
+            drop(bench);
+            answer
+        }
         Err(BenchStop::Map(fault)) => {
             mapping_faults_have_places();
             Ok(mapping_refusal(form, first, &file.circuit, fault))

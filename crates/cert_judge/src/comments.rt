@@ -111,14 +111,37 @@ fn begin_comment<'f>(
         return Ok(Phase::FreeText { first, file });
     }
     run_is_fault();
-    match standing_of(alloc, f, first, &file)? {
+    let standing = standing_of(alloc, f, first, &file);
+    let circuit = circuit_in(file);
+    let standing = match standing {
+        Ok(standing) => standing,
+        Err(Memory) => {
+            drop(circuit);
+            return Err(Memory);
+        }
+    };
+    match standing {
         Standing::Found(finding) => {
-            Ok(begin_proof(alloc, f, number, file.circuit, None, Some(finding), line))
+            Ok(begin_proof(alloc, f, number, circuit, None, Some(finding), line))
         }
         Standing::Proving(proving) => {
-            Ok(begin_proof(alloc, f, number, file.circuit, Some(proving), None, line))
+            Ok(begin_proof(alloc, f, number, circuit, Some(proving), None, line))
         }
     }
+}
+
+// The circuit of a file, of which all else is let go.
+fn circuit_in(file: AagFile) -> Circuit
+    ensures { result ≡ file.circuit }
+{
+    let AagFile {
+        circuit,
+        symbols,
+        comment,
+    } = file;
+    drop(symbols);
+    drop(comment);
+    circuit
 }
 
 // Takes the header line of a proof, which has this number.

@@ -1,11 +1,12 @@
 //! What is said of a certificate whose text ends.
 
-ghost use Rattle.std.specs.Prelude.{◌≡◌, [], IfOk};
+ghost use Rattle.std.specs.Prelude.{◌≡◌, [], None, IfOk};
 ghost use Rattle.dq_lits.specs.Formula.{IsWellFormed};
 ghost use Rattle.std.specs.Option.{option_map};
 ghost use Rattle.rup_core.specs.ProofVerdict.{proof_fault_in};
-ghost use Rattle.cert_judge.specs.Judgement.{answer_of_derivation};
-ghost use Rattle.cert_judge.specs.Phases.{found_or_derived, AreLinesFrom, CircuitGives, Gives, IsLawful, ProofGives, RefutationGives};
+ghost use Rattle.skolem_checker.specs.Checks.{candidate_of};
+ghost use Rattle.cert_judge.specs.Judgement.{answer_of_derivation, mapping_line, BehindMapping};
+ghost use Rattle.cert_judge.specs.Phases.{found_or_derived, AreLinesFrom, CircuitGives, Gives, IsJudged, IsLawful, ProofGives, RefutationGives};
 
 use crate::answers::{CertificateFault, Judgement, refused};
 use crate::binary::judge_binary;
@@ -35,7 +36,7 @@ pub(crate) fn finish(alloc: Global, f: &Formula, phase: Phase) -> Result<Judgeme
         Phase::Refutation(refutation) => finish_refutation(refutation),
         Phase::Circuit { first, lines } => finish_circuit(alloc, f, first, lines),
         Phase::Proof { proof, finding } => finish_proof(proof, finding),
-        Phase::FreeText { first, file } => judge_mapped(alloc, f, Form::Ascii, first, &file, &None),
+        Phase::FreeText { first, file } => finish_file(alloc, f, first, file),
         Phase::Binary { first, text } => judge_binary(alloc, f, first, text),
         Phase::Definitions { first, text } => judge_definitions(alloc, f, first, text),
         Phase::Decided(answer) => Ok(answer),
@@ -110,8 +111,20 @@ fn finish_circuit(
                 symbols,
                 comment: None,
             };
-            judge_mapped(alloc, f, Form::Ascii, first, &file, &None)
+            finish_file(alloc, f, first, file)
         }
         Err(stop) => stopped(stop),
     }
+}
+
+// Judges a circuit file that has no proof, and lets it go.
+fn finish_file(alloc: Global, f: &Formula, first: u64, file: AagFile) -> Result<Judgement, Memory>
+    requires well_formed { IsWellFormed f.now }
+    requires judged { IsJudged first file }
+    ensures { IfOk result (BehindMapping (mapping_line first file.circuit) None
+        (candidate_of f.now file.circuit file.symbols)) }
+{
+    let answer = judge_mapped(alloc, f, Form::Ascii, first, &file, &None);
+    drop(file);
+    answer
 }

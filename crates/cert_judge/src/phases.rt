@@ -14,6 +14,7 @@ use cert_text::CertRefusal;
 use dq_formula::Formula;
 use dq_lits::Memory;
 use std::alloc::Global;
+use std::mem;
 
 /// What was read of a certificate, by what comes next.
 #[derive(Drop)]
@@ -105,12 +106,12 @@ fn turn<'f>(phase: &mut Phase<'f>, next: Option<Phase<'f>>)
     }
 }
 
-/// Puts a phase in the place of another. No other function drops one: a drop of all that a phase may
-/// hold costs the prover more than all else that such a function does.
+/// Puts a phase in the place of another, which is let go by a call: where a value goes out of scope
+/// or is written over, the prover sees what becomes of each field that it may have.
 pub(crate) fn put<'f>(phase: &mut Phase<'f>, next: Phase<'f>)
     ensures { phase.new ≡ next.entry }
 {
-    *phase = next;
+    drop(mem::replace(phase, next));
 }
 
 /// Puts a line behind a text.

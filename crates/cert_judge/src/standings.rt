@@ -41,7 +41,11 @@ pub(crate) fn standing_of(
         (candidate_of f.now file.now.circuit file.now.symbols)) }
 {
     match Bench::new(alloc, f, file) {
-        Ok(mut bench) => standing_on(alloc, &mut bench),
+        Ok(mut bench) => {
+            let standing = standing_on(alloc, &mut bench);
+            drop(bench);
+            standing
+        }
         Err(BenchStop::Map(fault)) => {
             mapping_faults_have_places();
             let answer = mapping_refusal(Form::Ascii, first, &file.circuit, fault);

@@ -7,8 +7,8 @@ returns-in-Ok c =
     c.args.header.now c.requires.early c.new-lines.ensures c.requires.one_line c.in-Ok.ensures.line
     c.in-Ok.ensures.going
 
-pub returns : goal.returns
-returns c =
+pub returns-in-Err : goal.returns-in-Err
+returns-in-Err c =
     circuit_refused c.circuit_or_first_fault.ensures.exact c.args.first c.new-lines.result c.line.new.self
     c.args.header.now c.in-Err.stop c.stopped_phase.result c.new-lines.ensures c.requires.one_line
     c.in-Err.ensures.line c.stopped_phase.ensures

@@ -1,5 +1,9 @@
-use Rattle.std.proofs.Common.{rules, ◌≡◌, true, false, None, subst}
+use Rattle.std.proofs.Common.{rules, ◌≡◌, true, false, None, Some, subst, sym}
 use Rattle.skolem_checker.specs.Checks.{candidate_of}
+use Rattle.cert_text.specs.CircuitProof.{first_proof_id}
+use Rattle.cert_text.specs.Numbering.{numbered_from}
+use Rattle.proof_checker.specs.Judging.{run_of, IsJudging}
+use Rattle.cert_judge.specs.CircuitPhases.{BeginsProof}
 use Rattle.cert_judge.specs.Judgement.{mapping_line}
 use Rattle.cert_judge.specs.Standing.{IsStanding}
 use Rattle.cert_judge.proofs.CommentLines.{derived_begins, found_begins, free_text_begins, standing_judges}
@@ -18,22 +22,28 @@ returns-in-Found-clause-begins c =
     found_begins c.args.f.now c.args.first c.args.number file c.args.line.now c.begin_proof.result
     c.begins_proof.result c.requires.one_line c.begins_proof.ensures one c.in-Found.finding None
     (subst (IsStanding (mapping_line c.args.first file.circuit)
-    (candidate_of c.args.f.now file.circuit file.symbols)) c.in-Found.is c.in_ok-finding.ensures)
-    c.begin_proof.ensures.begins
+    (candidate_of c.args.f.now file.circuit file.symbols)) c.in-Found.is c.in-Ok.ensures)
+    (subst (λ net. BeginsProof c.args.f.now net c.args.number (Some c.in-Found.finding) None c.args.line.now
+    c.begin_proof.result) c.circuit_in-circuit.ensures c.begin_proof.ensures.begins)
 
 pub begin_proof-requires-in-Proving-clause-judging : goal.begin_proof-requires-in-Proving-clause-judging
 begin_proof-requires-in-Proving-clause-judging c =
+    let f = c.args.f.now in
     let file = c.args.file in
-    standing_judges c.args.f.now c.args.first file c.in-Proving.proving
+    subst (λ net. IsJudging f net c.in-Proving.proving (numbered_from (first_proof_id f net)))
+    (sym c.circuit_in-circuit.ensures)
+    (standing_judges f c.args.first file c.in-Proving.proving
     (subst (IsStanding (mapping_line c.args.first file.circuit)
-    (candidate_of c.args.f.now file.circuit file.symbols)) c.in-Proving.is c.in_ok-finding.ensures)
+    (candidate_of f file.circuit file.symbols)) c.in-Proving.is c.in-Ok.ensures))
 
-pub returns-clause-begins : goal.returns-clause-begins
-returns-clause-begins c =
+pub returns-in-Proving-clause-begins : goal.returns-in-Proving-clause-begins
+returns-in-Proving-clause-begins c =
     let one : c.begins_proof.result ≡ true = search rules in
+    let f = c.args.f.now in
     let file = c.args.file in
-    derived_begins c.args.f.now c.args.first c.args.number file c.args.line.now c.begin_proof-in-Proving.result
+    derived_begins f c.args.first c.args.number file c.args.line.now c.begin_proof-in-Proving.result
     c.begins_proof.result c.requires.one_line c.begins_proof.ensures one c.run_is_fault.ensures c.in-Proving.proving
     (subst (IsStanding (mapping_line c.args.first file.circuit)
-    (candidate_of c.args.f.now file.circuit file.symbols)) c.in-Proving.is c.in_ok-finding.ensures)
-    c.begin_proof-in-Proving.ensures.begins
+    (candidate_of f file.circuit file.symbols)) c.in-Proving.is c.in-Ok.ensures)
+    (subst (λ net. BeginsProof f net c.args.number None (Some (run_of f net c.in-Proving.proving)) c.args.line.now
+    c.begin_proof-in-Proving.result) c.circuit_in-circuit.ensures c.begin_proof-in-Proving.ensures.begins)
