@@ -6,6 +6,7 @@ ghost use Rattle.hint_log.specs.ProductiveLog.{IsProductiveLog};
 ghost use Rattle.log_laws.specs.Engines.{copies, HasNone};
 ghost use Rattle.oracle.specs.Limits.{IsAtSomeLimit};
 ghost use Rattle.padoa_definitions.specs.Growing.{HasFewFaults};
+ghost use Rattle.definition_search.specs.Searching.{IsSearch};
 ghost use Rattle.definition_search.specs.Texts.{GoesOn, IsTextOfDefinitions};
 
 use crate::searching::Search;
@@ -33,8 +34,28 @@ pub fn write_definitions<O: Oracle>(
     ensures text { IfOk result (λ text. IsTextOfDefinitions f.now text.items) }
     ensures limit { IsErrOf result Stop.Limit → IsAtSomeLimit log.new }
 {
-    f.every_formula_is_lawful();
     let mut search = Search::new(alloc, oracle, f, log)?;
+    text_by(alloc, oracle, f, &mut search, log)
+}
+
+// The text, by a search that wasn't asked for anything. It is lent, since a search that goes out of
+// scope at each `?` costs the prover more than all else here.
+fn text_by<O: Oracle>(
+    alloc: Global,
+    oracle: &mut O,
+    f: &Formula,
+    search: &mut Search,
+    log: &mut Log,
+) -> Result<Vec<u8>, Stop>
+    requires fit { O.Fits oracle.old log.old }
+    requires formula { IsWellFormed f.now }
+    requires search { IsSearch f.now search.old 0 log.old.entries }
+    ensures fit { O.Fits oracle.new log.new }
+    ensures goes_on { GoesOn f.now log.old log.new }
+    ensures text { IfOk result (λ text. IsTextOfDefinitions f.now text.items) }
+    ensures limit { IsErrOf result Stop.Limit → IsAtSomeLimit log.new }
+{
+    f.every_formula_is_lawful();
     let mut text = Vec::new(alloc);
     write_definitions_header(f, &mut text)?;
     for place in 0..f.existentials().len() {
