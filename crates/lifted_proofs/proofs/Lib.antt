@@ -28,3 +28,4 @@ mod CopiedCircuits
 mod NamedClauses
 mod LiftedNames
 mod LiftedCircuits
+mod LiftableCircuits

@@ -12,6 +12,7 @@ ghost use Rattle.skolem_checker.specs.Checks.{candidate_of};
 ghost use Rattle.skolem_checker.specs.SkolemCircuit.{IsComplete, IsSkolemCircuit};
 ghost use Rattle.lifted_proofs.specs.Liftables.{IsLiftable};
 ghost use Rattle.lifted_proofs.specs.LiftedCircuits.{IsLiftedProof, IsLeftProof, AreLiftedLines, IsLifted};
+ghost use Rattle.lifted_proofs.specs.Liftings.{IsLifting, formula_of, units_of};
 ghost use Rattle.lifted_proofs.specs.SettledCircuits.{IsSettledFile};
 ghost use Rattle.lifted_proofs.specs.UnitTables.{IsUnitTable};
 
@@ -59,6 +60,30 @@ pub fn lift_true(
     ensures settled { IfOk result (λ lifted. IsSettledFile f.now trace.now file lifted.0) }
     ensures lifted { IfOk result (λ lifted. IsLiftedProof f.now lifted.0 lifted.1) }
 {
+    let (circuit, proof) = lifted_parts(alloc, &file, p, trace, f, g)?;
+    file.circuit = circuit;
+    Ok((file, proof))
+}
+
+// The circuit and the proof, over the formula.
+fn lifted_parts(
+    alloc: Global,
+    file: &AagFile,
+    p: &Dqp,
+    trace: &Trace,
+    f: &Formula,
+    g: &Formula,
+) -> Result<(Circuit, Dqp), Memory>
+    requires well { IsWellFormed f.now }
+    requires units { AreUnits f.now trace.now }
+    requires left { g.now ≡ simplified_formula f.now trace.now }
+    requires proved { IsProvedCircuit g.now file.now p.now }
+    requires allowed { length p.now.items ≤ max_count → IsDqpOf g.now file.now.circuit p.now }
+    ensures settled { IfOk result (λ parts. IsSettledFile f.now trace.now file.now
+        (record file.now { circuit = parts.0 })) }
+    ensures lifted { IfOk result
+        (λ parts. IsLiftedProof f.now (record file.now { circuit = parts.0 }) parts.1) }
+{
     simplified_formulas_are_well_formed();
     allowed_lines_are_numbered();
     refuted_negation_solves();
@@ -66,9 +91,8 @@ pub fn lift_true(
         return Err(Memory);
     }
     let table = UnitTable::new(alloc, f, trace)?;
-    let (circuit, proof) = lifted(&table, &file, p, g)?;
-    file.circuit = circuit;
-    Ok((file, proof))
+    let (circuit, proof) = lifted(&table, file, p, g)?;
+    Ok((circuit, proof))
 }
 
 // The circuit and the proof.
@@ -79,8 +103,28 @@ fn lifted(table: &UnitTable, file: &AagFile, p: &Dqp, g: &Formula) -> Result<(Ci
     ensures { IfOk result (λ lifted. IsLifted table.now file.now lifted.0 lifted.1) }
 {
     let bench = bench_of(table.alloc, g, file)?;
-    let circuit = settled(table, &bench)?;
-    let steps = lifted_lines(table, &bench, p)?;
+    lifted_on(table, file, g, &bench, p)
+}
+
+// The same, on the circuit with what its inputs and outputs stand for, which is lent, so that it is
+// dropped at one place.
+fn lifted_on(
+    table: &UnitTable,
+    file: &AagFile,
+    g: &Formula,
+    bench: &Bench,
+    p: &Dqp,
+) -> Result<(Circuit, Dqp), Memory>
+    requires right { IsUnitTable table.now }
+    requires well { IsWellFormed g.now }
+    requires left { IsLeftProof table.now file.now g.now p.now }
+    requires bench { candidate_of g.now file.now.circuit file.now.symbols ≡ Ok bench.now }
+    ensures { IfOk result (λ lifted. IsLifted table.now file.now lifted.0 lifted.1) }
+{
+    let _ = file;
+    let _ = g;
+    let circuit = settled(table, bench)?;
+    let steps = lifted_lines(table, bench, p)?;
     let proof = Dqp {
         items: ItemList::of_lines(steps),
     };
@@ -112,6 +156,19 @@ fn lifted_lines(table: &UnitTable, bench: &Bench, p: &Dqp) -> Result<StepList, M
         (AreLiftedLines table.now.formula.now (reverse table.now.units.now) bench.now) }
 {
     let lifting = Lifting::of(table, bench)?;
+    lines_by(&lifting, p)
+}
+
+// The same, by the tables that are read in each step. They are lent, so that they are dropped at one
+// place.
+fn lines_by(lifting: &Lifting, p: &Dqp) -> Result<StepList, Memory>
+    requires lifting { IsLifting lifting.now }
+    requires allowed { IsDqpOf lifting.now.bench.now.formula lifting.now.bench.now.circuit.netlist
+        p.now }
+    requires derives { circuit_proof_fault lifting.now.bench.now p.now.items ≡ None }
+    ensures { IfOk result
+        (AreLiftedLines (formula_of lifting.now) (units_of lifting.now) lifting.now.bench.now) }
+{
     let Named { ids, mut steps } = lifting.names()?;
     let some_false = lifting.base.first + steps.len() as u64;
     lifting.add_some_false(&mut steps)?;
@@ -119,11 +176,11 @@ fn lifted_lines(table: &UnitTable, bench: &Bench, p: &Dqp) -> Result<StepList, M
         gates: lifting.base.gates,
         largest: lifting.base.largest,
         places: &lifting.kept,
-        clauses: table.formula.clauses(),
+        clauses: lifting.table.formula.clauses(),
         ids: &ids,
         some_false,
     };
-    carrying.carry(table.alloc, &p.items, &mut steps)?;
+    carrying.carry(lifting.table.alloc, &p.items, &mut steps)?;
     if steps.len() > MOST_LINES {
         return Err(Memory);
     }

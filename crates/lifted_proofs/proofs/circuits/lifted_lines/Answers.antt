@@ -1,84 +1,24 @@
-use Rattle.std.proofs.Common.{◌≡◌, ◌<◌, ◌+◌, ◌*◌, ◌∙◌, ℕ, List, None, reverse, length, refl, ap, subst, sym, arith}
-use Rattle.std.specs.List.{All}
+use Rattle.std.proofs.Common.{◌≡◌, None, reverse, subst, sym}
+use Rattle.std.specs.Prelude.{IfOk}
 use Rattle.cert_text.specs.ProofGrammar.{IsDqpOf}
 use Rattle.proof_checker.specs.CircuitProof.{circuit_proof_fault}
-use Rattle.lifted_proofs.specs.CarriedProofs.{Carrying}
 use Rattle.lifted_proofs.specs.LiftedCircuits.{AreLiftedLines}
-use Rattle.lifted_proofs.specs.KeptPlaces.{kept_places}
-use Rattle.lifted_proofs.specs.Liftables.{carrying_of}
 use Rattle.lifted_proofs.specs.Liftings.{formula_of, units_of}
-use Rattle.lifted_proofs.proofs.LiftedCircuits.{kept-small, carried-small, all-lines}
 use Rattle.lifted_proofs.proofs.circuits.lifted_lines.Goals as goal
 
-pub carry-requires-clause-can : goal.carry-requires-clause-can
-carry-requires-clause-can c =
-    let l = c.in_ok-lifting.lifting in
-    let it = c.in_ok-lifting.ensures.lifting in
-    record {
-      largest = omega (arith, it.base.few);
-      places = subst (All (λ p. p < 10000000000000000)) (sym c.deref.ensures.value) (kept-small l it);
-      some_false = omega (arith, it.base.small, c.len.ensures.small);
-    }
+pub lines_by-requires-clause-allowed : goal.lines_by-requires-clause-allowed
+lines_by-requires-clause-allowed c =
+    subst (λ b. IsDqpOf b.formula b.circuit.netlist c.args.p.now) (sym c.in_ok-lifting.ensures.bench)
+    c.requires.allowed
 
-pub carry-requires-clause-small : goal.carry-requires-clause-small
-carry-requires-clause-small c =
-    let l = c.in_ok-lifting.lifting in
-    let it = c.in_ok-lifting.ensures in
-    let long = ap (λ (xs : List ℕ). length xs) c.deref-2.ensures.value in
-    carried-small l c.in_ok-ids.field-0
-    (record {
-      gates = l.base.gates;
-      largest = l.base.largest;
-      places = c.deref.result;
-      clauses = c.clauses.result;
-      ids = c.deref-2.result;
-      some_false = l.base.first + c.len.result;
-    })
-    c.args.p.now it.lifting c.in_ok-ids.ensures
-    (subst (λ b. IsDqpOf b.formula b.circuit.netlist c.args.p.now) (sym it.bench) c.requires.allowed) refl
-    c.deref.ensures.value (omega (arith, long, c.deref-2.type_inv.1))
+pub lines_by-requires-clause-derives : goal.lines_by-requires-clause-derives
+lines_by-requires-clause-derives c =
+    subst (λ b. circuit_proof_fault b c.args.p.now.items ≡ None) (sym c.in_ok-lifting.ensures.bench)
+    c.requires.derives
 
 pub returns : goal.returns
 returns c =
     let l = c.in_ok-lifting.lifting in
     let it = c.in_ok-lifting.ensures in
-    let w = c.in_ok-ids.field-0 in
-    let base = it.lifting.base in
-    let Made : ℕ → ℕ → List ℕ → ℕ → List ℕ → ℕ → Carrying = λ gates largest places clauses ids first. record {
-      gates = gates;
-      largest = largest;
-      places = places;
-      clauses = clauses;
-      ids = ids;
-      some_false = first;
-    } in
-    let k : Carrying = Made l.base.gates l.base.largest c.deref.result.now c.clauses.result c.deref-2.result.now
-    (l.base.first + c.len.result) in
-    let same : k ≡ carrying_of (formula_of l) (units_of l) l.bench.now w.ids.items w.steps =
-    ap (λ n. Made n l.base.largest c.deref.result.now c.clauses.result c.deref-2.result.now
-    (l.base.first + c.len.result)) base.gates
-    ∙ ap (λ n. Made (3 * length l.bench.now.circuit.netlist.gates) n c.deref.result.now c.clauses.result
-    c.deref-2.result.now (l.base.first + c.len.result)) base.largest
-    ∙ ap (λ ps. Made (3 * length l.bench.now.circuit.netlist.gates) l.bench.now.circuit.netlist.max_var ps
-    c.clauses.result c.deref-2.result.now (l.base.first + c.len.result)) (c.deref.ensures.value ∙ it.lifting.kept)
-    ∙ ap (λ n. Made (3 * length l.bench.now.circuit.netlist.gates) l.bench.now.circuit.netlist.max_var
-    (kept_places (formula_of l) (units_of l) 0 (formula_of l).matrix) n c.deref-2.result.now
-    (l.base.first + c.len.result))
-    (c.clauses.ensures.value ∙ sym (ap (λ t. length t.formula.now.matrix) it.table))
-    ∙ ap (λ ids. Made (3 * length l.bench.now.circuit.netlist.gates) l.bench.now.circuit.netlist.max_var
-    (kept_places (formula_of l) (units_of l) 0 (formula_of l).matrix) (length (formula_of l).matrix) ids
-    (l.base.first + c.len.result)) c.deref-2.ensures.value
-    ∙ ap (λ n. Made (3 * length l.bench.now.circuit.netlist.gates) l.bench.now.circuit.netlist.max_var
-    (kept_places (formula_of l) (units_of l) 0 (formula_of l).matrix) (length (formula_of l).matrix) w.ids.items
-    (l.base.first + n)) c.len.ensures.value
-    ∙ ap (λ n. Made (3 * length l.bench.now.circuit.netlist.gates) l.bench.now.circuit.netlist.max_var
-    (kept_places (formula_of l) (units_of l) 0 (formula_of l).matrix) (length (formula_of l).matrix) w.ids.items
-    (n + length w.steps)) base.first in
-    subst (λ t. AreLiftedLines t.formula.now (reverse t.units.now) c.args.bench.now c.carry.new.steps) it.table
-    (subst (λ b. AreLiftedLines (formula_of l) (units_of l) b c.carry.new.steps) it.bench
-    (all-lines l w c.add_some_false.new.steps c.carry.new.steps k c.args.p.now it.lifting c.in_ok-ids.ensures
-    c.in_ok-add_some_false.ensures
-    (subst (λ b. IsDqpOf b.formula b.circuit.netlist c.args.p.now) (sym it.bench) c.requires.allowed)
-    (subst (λ b. circuit_proof_fault b c.args.p.now.items ≡ None) (sym it.bench) c.requires.derives)
-    same c.in_ok-carry.ensures
-    (omega (arith, c.if-len-gt-MOST_LINES.false, c.len-2.ensures.value))))
+    subst (λ t. IfOk c.lines_by.result (AreLiftedLines t.formula.now (reverse t.units.now) c.args.bench.now)) it.table
+    (subst (λ b. IfOk c.lines_by.result (AreLiftedLines (formula_of l) (units_of l) b)) it.bench c.lines_by.ensures)

@@ -1,0 +1,75 @@
+use Rattle.std.proofs.Common.{◌≡◌, ◌<◌, ◌+◌, ◌*◌, ◌∙◌, ℕ, List, length, refl, ap, subst, sym, arith}
+use Rattle.std.specs.List.{All}
+use Rattle.lifted_proofs.specs.CarriedProofs.{Carrying}
+use Rattle.lifted_proofs.specs.KeptPlaces.{kept_places}
+use Rattle.lifted_proofs.specs.Liftables.{carrying_of}
+use Rattle.lifted_proofs.specs.Liftings.{formula_of, units_of}
+use Rattle.lifted_proofs.proofs.LiftedCircuits.{kept-small, carried-small, all-lines}
+use Rattle.lifted_proofs.proofs.circuits.lines_by.Goals as goal
+
+pub carry-requires-clause-can : goal.carry-requires-clause-can
+carry-requires-clause-can c =
+    let l = c.args.lifting.now in
+    let it = c.requires.lifting in
+    record {
+      largest = omega (arith, it.base.few);
+      places = subst (All (λ p. p < 10000000000000000)) (sym c.deref.ensures.value) (kept-small l it);
+      some_false = omega (arith, it.base.small, c.len.ensures.small);
+    }
+
+pub carry-requires-clause-small : goal.carry-requires-clause-small
+carry-requires-clause-small c =
+    let l = c.args.lifting.now in
+    let it = c.requires.lifting in
+    let long = ap (λ (xs : List ℕ). length xs) c.deref-2.ensures.value in
+    carried-small l c.in_ok-ids.field-0
+    (record {
+      gates = l.base.gates;
+      largest = l.base.largest;
+      places = c.deref.result;
+      clauses = c.clauses.result;
+      ids = c.deref-2.result;
+      some_false = l.base.first + c.len.result;
+    })
+    c.args.p.now it c.in_ok-ids.ensures c.requires.allowed refl
+    c.deref.ensures.value (omega (arith, long, c.deref-2.type_inv.1))
+
+pub returns : goal.returns
+returns c =
+    let l = c.args.lifting.now in
+    let it = c.requires.lifting in
+    let w = c.in_ok-ids.field-0 in
+    let base = it.base in
+    let Made : ℕ → ℕ → List ℕ → ℕ → List ℕ → ℕ → Carrying = λ gates largest places clauses ids first. record {
+      gates = gates;
+      largest = largest;
+      places = places;
+      clauses = clauses;
+      ids = ids;
+      some_false = first;
+    } in
+    let k : Carrying = Made l.base.gates l.base.largest c.deref.result.now c.clauses.result c.deref-2.result.now
+    (l.base.first + c.len.result) in
+    let same : k ≡ carrying_of (formula_of l) (units_of l) l.bench.now w.ids.items w.steps =
+    ap (λ n. Made n l.base.largest c.deref.result.now c.clauses.result c.deref-2.result.now
+    (l.base.first + c.len.result)) base.gates
+    ∙ ap (λ n. Made (3 * length l.bench.now.circuit.netlist.gates) n c.deref.result.now c.clauses.result
+    c.deref-2.result.now (l.base.first + c.len.result)) base.largest
+    ∙ ap (λ ps. Made (3 * length l.bench.now.circuit.netlist.gates) l.bench.now.circuit.netlist.max_var ps
+    c.clauses.result c.deref-2.result.now (l.base.first + c.len.result)) (c.deref.ensures.value ∙ it.kept)
+    ∙ ap (λ n. Made (3 * length l.bench.now.circuit.netlist.gates) l.bench.now.circuit.netlist.max_var
+    (kept_places (formula_of l) (units_of l) 0 (formula_of l).matrix) n c.deref-2.result.now
+    (l.base.first + c.len.result))
+    c.clauses.ensures.value
+    ∙ ap (λ ids. Made (3 * length l.bench.now.circuit.netlist.gates) l.bench.now.circuit.netlist.max_var
+    (kept_places (formula_of l) (units_of l) 0 (formula_of l).matrix) (length (formula_of l).matrix) ids
+    (l.base.first + c.len.result)) c.deref-2.ensures.value
+    ∙ ap (λ n. Made (3 * length l.bench.now.circuit.netlist.gates) l.bench.now.circuit.netlist.max_var
+    (kept_places (formula_of l) (units_of l) 0 (formula_of l).matrix) (length (formula_of l).matrix) w.ids.items
+    (l.base.first + n)) c.len.ensures.value
+    ∙ ap (λ n. Made (3 * length l.bench.now.circuit.netlist.gates) l.bench.now.circuit.netlist.max_var
+    (kept_places (formula_of l) (units_of l) 0 (formula_of l).matrix) (length (formula_of l).matrix) w.ids.items
+    (n + length w.steps)) base.first in
+    all-lines l w c.add_some_false.new.steps c.carry.new.steps k c.args.p.now it c.in_ok-ids.ensures
+    c.in_ok-add_some_false.ensures c.requires.allowed c.requires.derives same c.in_ok-carry.ensures
+    (omega (arith, c.if-len-gt-MOST_LINES.false, c.len-2.ensures.value))
