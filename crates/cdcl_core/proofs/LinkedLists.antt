@@ -10,7 +10,8 @@ use Rattle.std.proofs.lemmas.Map.Steps.{length-le_from_distinct_below}
 use Rattle.dq_lits.specs.Literal.{Literal, positive, negative, variable_of}
 use Rattle.short_numbers.specs.Numbers.{Numbers}
 use Rattle.cdcl_core.specs.declared.watches.Watches.{Watches}
-use Rattle.cdcl_core.specs.Chains.{chain_length, watch_at, place_of, has, IsChain, AreOnce, AreLinked, IsLinked, IsTaken, AddsLists}
+use Rattle.cdcl_core.specs.declared.watches.OpenList.{OpenList}
+use Rattle.cdcl_core.specs.Chains.{chain_length, watch_at, place_of, has, IsChain, AreOnce, AreLinked, IsLinked, HasList, FitIds, with_open, IsTaken, AddsLists}
 
 pub place_of-one : (k l : Literal) → place_of k ≡ place_of l → k ≡ l
 place_of-one (positive v) (positive w) e = ap positive (omega (arith, e))
@@ -142,27 +143,17 @@ linked_in w heads nexts literals left rest heads_are nexts_are literals_are fit 
   };
 }
 
--- empty lists are added, and larger numbers fit
-pub linked_longer : (v w : Watches) (left : ℕ) (rest : List ℕ) → IsLinked v left rest →
-    ((p : ℕ) → get_or w.heads.items p 0 ≡ get_or v.heads.items p 0) → w.nexts.items ≡ v.nexts.items →
-    w.literals.items ≡ v.literals.items → v.heads.most ≤ w.heads.most → v.nexts.most ≤ w.nexts.most →
-    IsLinked w left rest
-linked_longer v w left rest k same nexts_are literals_are fit fit' =
-    let links = k.links in
-    let heads_fit = k.fits.heads in
-    let nexts_fit = k.fits.nexts in
-    linked_in w w.heads.items v.nexts.items v.literals.items left rest refl nexts_are literals_are
-    (omega (arith, fit, heads_fit)) (omega (arith, fit', nexts_fit)) (record {
-      count = links.count;
-      lists = links.lists;
-      chains = λ p. subst (λ s. IsChain v.nexts.items s (links.lists p)) (sym (same p)) (links.chains p);
-      once = links.once;
-      on_list = links.on_list;
-      rest_chain = links.rest_chain;
-      rest_once = links.rest_once;
-      rest_apart = links.rest_apart;
-      whole = links.whole;
-    })
+-- the first clause of the list that is visited is one that there is
+pub open_first : (w : Watches) (o : OpenList) → HasList w o.literal → FitIds (with_open w o)
+    → o.first ≤ length w.nexts.items
+open_first w o list fits =
+    let q = place_of o.literal in
+    let here = get_or-set_same w.heads.items q o.first 0 (omega (arith, list)) in
+    let begin = fits.begin q in
+    omega (arith, here, begin)
+
+pub open_fits : (w : Watches) (o : OpenList) → HasList w o.literal → FitIds (with_open w o) → o.first ≤ w.heads.most
+open_fits w o list fits = let heads = fits.heads in omega (arith, open_first w o list fits, heads)
 
 -- one list changes
 abbrev put : (ℕ → List ℕ) → ℕ → List ℕ → ℕ → List ℕ
@@ -334,7 +325,6 @@ taken_list heads nexts literals w l lt k heads_are nexts_are literals_are fit fi
             | inl t ↦ subst (λ m. has (k.lists (place_of m)) x ≡ true) here t
             | inr t ↦ absurd (false≢true t)
           ];
-      list = inr (omega (arith, lt, ap length heads_are, length-set heads q 0));
     }
 
 pub taken_none : (w : Watches) (l : Literal) → length w.heads.items ≤ place_of l → IsLinked w 0 [] → IsTaken w l 0
@@ -351,7 +341,6 @@ taken_none w l past linked =
         | inl t ↦ ap (λ xs. has xs x) (sym none) ∙ subst (λ m. has (k.lists (place_of m)) x ≡ true) at t
         | inr t ↦ t
       ];
-      list = inl refl;
     }
 
 -- one clause more

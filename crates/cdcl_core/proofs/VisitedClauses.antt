@@ -10,16 +10,17 @@ use Rattle.oracle.specs.Fit.{live_in}
 use Rattle.cdcl_core.specs.declared.propagation.Look.TheVariants.{Kept, Moved, Falsified}
 use Rattle.learning_trail.specs.declared.trails.Step.{Step}
 use Rattle.cdcl_core.specs.declared.watches.Watches.{Watches}
+use Rattle.cdcl_core.specs.declared.watches.OpenList.{OpenList}
 use Rattle.learning_trail.specs.Steps.{Trailed, literals_of, Grown, IsAt}
 use Rattle.learning_trail.specs.Sound.{IsSound}
 use Rattle.learning_trail.specs.Passes.{AreWithin}
-use Rattle.cdcl_core.specs.Chains.{left_to_visit, watch_at, has, IsLinked, IsTaken, IsLeft}
+use Rattle.cdcl_core.specs.Chains.{left_to_visit, watch_at, place_of, has, IsLinked, HasList, FitIds, with_open, IsTaken, IsLeft}
 use Rattle.cdcl_core.specs.Watching.{IsWatched, AreWatched, AreSame, AreShort, IsGuarded, AreLevelsGuarded, IsMove, AreMoved, IsReady}
 use Rattle.cdcl_core.specs.Visits.{IsVisitable, IsLooked, IsDone, IsVisited, IsListVisited, IsVisiting, AreVisited, IsTrailVisited, IsProcessed, AreOnTrail, IsPuttingBack, IsPassing}
 use Rattle.learning_trail.proofs.ConflictAnalysis.{sound_consistent, contains_none, contains_cases}
 use Rattle.cdcl_core.proofs.GuardedClauses.{Among, among_grown, among_suffix, any_more, same_stuck, same-sym, watched_turned, guarded_moved, guarded_turned, levels_moved, levels_turned, levels_grown, short_kept, short_notes_turned, guards_visited, moved_both}
 use Rattle.truth_values.proofs.HeldLiterals.{any_one, opposite-opposite, holds_first, holds_later, same_literal-sound, same_literal-refl}
-use Rattle.cdcl_core.proofs.LinkedLists.{chain_counted, has_first, has_later, has_cases, chain_short, chain_range}
+use Rattle.cdcl_core.proofs.LinkedLists.{place_of-one, chain_counted, has_first, has_later, has_cases, chain_short, chain_range}
 use Rattle.learning_trail.proofs.LargerTrails.{grown_none, grown_one, grown_both, implied_step, literal_within, live_within}
 use Rattle.learning_trail.proofs.ClauseStatus.{is_falsified, is_unit, implied_from}
 
@@ -246,35 +247,43 @@ left_short w at rest k = chain_short w.nexts.items at rest k.links.rest_chain k.
 pub left_range : (w : Watches) (at : ℕ) (rest : List ℕ) (id : ℕ) → IsLinked w at rest → has rest id ≡ true → 1 ≤ id
 left_range w at rest id k h = (chain_range w.nexts.items at id rest k.links.rest_chain h).0
 
--- clauses are put back
-pub putting_first : (w : Watches) (at : ℕ) (l : Literal) → IsLeft w at l → IsPuttingBack w w l at 0
-putting_first w at l left = record {
-  left = left;
-  few = let s = left_short w at left.rest left.linked in omega (arith, s);
-  literals = refl;
-  lists = refl;
-  len = refl;
-}
+-- one clause fewer is left, where the first one was
+fewer : (now new : Watches) (at next : ℕ) (later : List ℕ) → IsLinked now at (at ∷ later) → IsLinked new next later
+    → left_to_visit new next < left_to_visit now at
+fewer now new at next later before after =
+    let here = chain_counted (length now.nexts.items) now.nexts.items at (at ∷ later) before.links.rest_chain
+    (left_short now at (at ∷ later) before) in
+    let there = chain_counted (length new.nexts.items) new.nexts.items next later after.links.rest_chain
+    (left_short new next later after) in
+    omega (arith, here, there)
 
-pub putting_next : (was now new : Watches) (l : Literal) (at next i : ℕ) → IsPuttingBack was now l at i → at ≢ 0 →
-    ((rest : List ℕ) → IsLinked now at (at ∷ rest) → IsLinked new next rest)
-    → new.literals.items ≡ now.literals.items → length new.heads.items ≡ length now.heads.items →
-    length new.nexts.items ≡ length now.nexts.items → IsPuttingBack was new l next (i + 1)
-putting_next was now new l at next i p n linked literals lists len =
-    let f = first_left now at p.left.rest p.left.linked n in
-    let few = p.few in
-    record {
-      left = record {
-        rest = f.later;
-        linked = linked f.later (subst (λ xs. IsLinked now at xs) f.is p.left.linked);
-        watched = λ id h. ap (λ ls. watch_at ls (id - 1)) literals ∙ p.left.watched id
-            (ap (λ xs. has xs id) f.is ∙ has_later at id f.later h);
-      };
-      few = omega (arith, few, len, ap length f.is);
-      literals = literals ∙ p.literals;
-      lists = lists ∙ p.lists;
-      len = len ∙ p.len;
-    }
+-- clauses are put back
+pub putting_first : (w : Watches) (at : ℕ) (l : Literal) → IsLeft w at l → IsPuttingBack w w l at
+putting_first w at l left = record { left = left; literals = refl; lists = refl }
+
+module _ (was now new : Watches) (l : Literal) (at next : ℕ) (p : IsPuttingBack was now l at) (n : at ≢ 0)
+    (linked : (rest : List ℕ) → IsLinked now at (at ∷ rest) → IsLinked new next rest) where
+  first_back : IsFirstLeft now at p.left.rest
+  first_back = first_left now at p.left.rest p.left.linked n
+
+  was_linked : IsLinked now at (at ∷ first_back.later)
+  was_linked = subst (λ xs. IsLinked now at xs) first_back.is p.left.linked
+
+  pub putting_next : new.literals.items ≡ now.literals.items → length new.heads.items ≡ length now.heads.items
+      → IsPuttingBack was new l next
+  putting_next literals lists = record {
+    left = record {
+      rest = first_back.later;
+      linked = linked first_back.later was_linked;
+      watched = λ id h. ap (λ ls. watch_at ls (id - 1)) literals ∙ p.left.watched id
+          (ap (λ xs. has xs id) first_back.is ∙ has_later at id first_back.later h);
+    };
+    literals = literals ∙ p.literals;
+    lists = lists ∙ p.lists;
+  }
+
+  pub putting_fewer : left_to_visit new next < left_to_visit now at
+  putting_fewer = fewer now new at next first_back.later was_linked (linked first_back.later was_linked)
 
 -- the visits of a list
 pub off_end : (these others : List Literal) (i : ℕ) → length these ≤ i → length others ≤ i →
@@ -312,7 +321,6 @@ visiting_first clauses trail was now others l at v taken same lists =
         | inr past ↦ inr (λ apart e. absurd (off_end now.literals.items others.literals.items i
             (omega (arith, past, count, ap length same)) (omega (arith, past, other_count)) apart))
       ];
-      list = taken.list;
     }
 
 pub visiting_end : (clauses : List (List Literal)) (old new : Trailed) (was now others : Watches) (l : Literal)
@@ -392,10 +400,6 @@ module _ (clauses : List (List Literal)) (old now_trail new_trail : Trailed) (wa
                 (sym (s.elsewhere j n) ∙ e)))
           ]
         ];
-        list = elim p.list [
-          | inl z ↦ absurd (omega (arith, z, low))
-          | inr g ↦ inr (omega (arith, g, s.lists))
-        ];
       }
 
   -- one clause fewer is left
@@ -403,11 +407,7 @@ module _ (clauses : List (List Literal)) (old now_trail new_trail : Trailed) (wa
   fewer_left next is =
       let after : IsLinked new next f.later = subst (λ (o : Option ℕ). MatchOption o (IsLinked new at (at ∷ f.later))
       (λ n. IsLinked new n f.later)) is (s.linked f.later before) in
-      let here = chain_counted (length now.nexts.items) now.nexts.items at (at ∷ f.later) before.links.rest_chain
-      (left_short now at (at ∷ f.later) before) in
-      let there = chain_counted (length new.nexts.items) new.nexts.items next f.later after.links.rest_chain
-      (left_short new next f.later after) in
-      omega (arith, here, there)
+      fewer now new at next f.later before after
 
   pub visiting_conflict : (back : Watches) → found ≡ None → IsLinked back 0 [] →
       back.literals.items ≡ new.literals.items → length back.heads.items ≡ length new.heads.items
@@ -427,6 +427,33 @@ module _ (clauses : List (List Literal)) (old now_trail new_trail : Trailed) (wa
         linked = linked;
         ended = ends.1;
       }
+
+-- a literal has a list, though one is visited
+pub has_open : (w : Watches) (o : OpenList) (k : Literal) → HasList (with_open w o) k → HasList w k
+has_open w o k list = omega (arith, list, length-set w.heads.items (place_of o.literal) o.first)
+
+-- there are as many lists, whichever is visited
+pub kept_lists : (was now : Watches) (o p : OpenList) → length now.heads.items ≡ length was.heads.items
+    → length (with_open now p).heads.items ≡ length (with_open was o).heads.items
+kept_lists was now o p lists =
+    let long = length-set now.heads.items (place_of p.literal) p.first in
+    long ∙ lists ∙ sym (length-set was.heads.items (place_of o.literal) o.first)
+
+-- a literal that isn't false has another list than one that is
+pub apart_lists : (trues : List Literal) (k l : Literal) → holds trues (opposite k) ≡ false
+    → holds trues (opposite l) ≡ true → place_of l ≡ place_of k → ⊥
+apart_lists trues k l not_false is_false e =
+    let same = place_of-one k l (sym e) in
+    false≢true (sym not_false ∙ ap (λ x. holds trues (opposite x)) same ∙ is_false)
+
+-- each list but the one that is visited begins as it did
+pub begin_apart : (w : Watches) (o : OpenList) (k : Literal) → FitIds (with_open w o)
+    → (place_of o.literal ≡ place_of k → ⊥) → get_or w.heads.items (place_of k) 0 ≤ w.nexts.most
+begin_apart w o k fits n =
+    let begin = fits.begin (place_of k) in
+    let most = fits.nexts in
+    let same = get_or-set_other w.heads.items (place_of o.literal) (place_of k) o.first 0 (λ e. n (sym e)) in
+    omega (arith, begin, most, same)
 
 -- both sides
 pub both_conflict : (clauses : List (List Literal)) (old new : Trailed) (was now second : Watches) (l : Literal)

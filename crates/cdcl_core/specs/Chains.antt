@@ -1,10 +1,11 @@
 -- Lists of clauses, linked: where each list begins, and what stands behind each clause. An id is
 -- from 1 on, and 0 ends a list.
-use Rattle.std.specs.Prelude.{◌≡◌, ℕ, zero, suc, ◌+◌, ◌-◌, ◌*◌, ◌≤◌, ◌<◌, ◌==◌, Bool, true, false, List, [], ◌∷◌, length, slice_index_or, vec_capacity, if◌then◌else◌, ◌⊎◌}
+use Rattle.std.specs.Prelude.{◌≡◌, ℕ, zero, suc, ◌+◌, ◌-◌, ◌*◌, ◌≤◌, ◌<◌, ◌==◌, Bool, true, false, List, [], ◌∷◌, length, slice_index_or, vec_capacity, if◌then◌else◌, set, ◌⊎◌}
 use Rattle.std.specs.List.{list_any}
 use Rattle.dq_lits.specs.Literal.{Literal, positive, variable_of, is_negative}
 use Rattle.short_numbers.specs.Numbers.{Numbers}
 use Rattle.cdcl_core.specs.declared.watches.Watches.{Watches}
+use Rattle.cdcl_core.specs.declared.watches.OpenList.{OpenList}
 
 -- the literal at a place
 abbrev pub watch_at : List Literal → ℕ → Literal
@@ -70,6 +71,11 @@ pub record HasNextRoom (w : Watches) : Type 0 where
 abbrev pub HasList : Watches → Literal → Type 0
 HasList w l = (place_of l + 1) ≤ length w.heads.items
 
+-- the watches as they are once the list that is visited is put back
+abbrev pub with_open : Watches → OpenList → Watches
+with_open w o =
+    record w { heads = record w.heads { items = set w.heads.items (place_of o.literal) o.first } }
+
 -- the clauses of a literal's list are left to visit
 pub record IsTaken (w : Watches) (l : Literal) (left : ℕ) : Type 0 where
   pub rest : List ℕ
@@ -77,7 +83,6 @@ pub record IsTaken (w : Watches) (l : Literal) (left : ℕ) : Type 0 where
   pub watched : (id : ℕ) → has rest id ≡ true → watch_at w.literals.items (id - 1) ≡ l
   pub whole : (id : ℕ) → 1 ≤ id → id ≤ length w.nexts.items → watch_at w.literals.items (id - 1) ≡ l
       → has rest id ≡ true
-  pub list : (left ≡ 0) ⊎ HasList w l
 
 -- clauses that are watched at a literal are left to visit, from this one on
 pub record IsLeft (w : Watches) (at : ℕ) (l : Literal) : Type 0 where

@@ -1,5 +1,5 @@
 -- Clauses are visited whose watched literal became false.
-use Rattle.std.specs.Prelude.{◌≡◌, ℕ, suc, ◌+◌, ◌-◌, ◌≤◌, ◌<◌, true, false, List, [], ◌∷◌, ◌++◌, length, Option, Some, MatchOption, slice_get, Contains, ◌⊎◌}
+use Rattle.std.specs.Prelude.{◌≡◌, ℕ, suc, ◌-◌, ◌≤◌, ◌<◌, true, false, List, [], ◌∷◌, ◌++◌, length, Option, Some, MatchOption, slice_get, Contains, ◌⊎◌}
 use Rattle.std.specs.List.{list_any}
 use Rattle.dq_lits.specs.Literal.{Literal, opposite, same_literal}
 use Rattle.dq_lits.specs.Derivation.{holds, status_of, falsified}
@@ -118,7 +118,6 @@ pub record IsVisiting (clauses : List (List Literal)) (old new : Trailed) (was n
   pub done : (i : ℕ)
       → (has rest (suc i) ≡ true)
       ⊎ IsDone (literals_of new.steps) now.literals.items others.literals.items l i
-  pub list : (at ≡ 0) ⊎ HasList now l
 
 -- the notes on short clauses stay right
 abbrev pub KeepsShort : List (List Literal) → Watches → Watches → Watches → Watches → Type 0
@@ -183,12 +182,10 @@ pub record AreOnTrail (clauses : List (List Literal)) (old new : Trailed)
   pub processed : IsProcessed clauses now.literals.items now_second.literals.items new.steps at
 
 -- clauses are put back
-pub record IsPuttingBack (was now : Watches) (l : Literal) (at i : ℕ) : Type 0 where
+pub record IsPuttingBack (was now : Watches) (l : Literal) (at : ℕ) : Type 0 where
   pub left : IsLeft now at l
-  pub few : length left.rest + i ≤ length now.nexts.items
   pub literals : now.literals.items ≡ was.literals.items
   pub lists : length now.heads.items ≡ length was.heads.items
-  pub len : length now.nexts.items ≡ length was.nexts.items
 
 -- the first short clauses were looked at
 pub record IsPassing (clauses : List (List Literal)) (old new : Trailed)

@@ -131,21 +131,8 @@ fn piece<'a>(literals: &'a [Code], ends: &ShortNumbers, at: usize) -> &'a [Code]
     requires at { at < length ends.now.items }
     ensures { slice_get (pieces literals.now 0 ends.now.items) at ≡ Some result.now }
 {
-    let start = start_of(ends, at);
-    let end = ends.get(at) as usize;
-    &literals[start..end]
-}
-
-// Where the piece at a place begins.
-fn start_of(ends: &ShortNumbers, at: usize) -> usize
-    requires { at < length ends.now.items }
-    ensures { result ≡ start_of 0 ends.now.items at }
-{
-    if at == 0 {
-        0
-    } else {
-        ends.get(at - 1) as usize
-    }
+    let (start, end) = ends.span(at);
+    &literals[start as usize..end as usize]
 }
 
 fn append(literals: &mut Vec<Code>, lits: &[Lit])

@@ -15,13 +15,13 @@ ghost use Rattle.oracle.specs.Fit.{live_in};
 ghost use Rattle.learning_trail.specs.Steps.{literals_of, Grown};
 ghost use Rattle.learning_trail.specs.Sound.{IsSound};
 ghost use Rattle.learning_trail.specs.Passes.{AreWithin};
-ghost use Rattle.cdcl_core.specs.Chains.{watch_at, IsLinked, HasList, FitIds, IsLeft};
+ghost use Rattle.cdcl_core.specs.Chains.{watch_at, IsLinked, HasList, FitIds, with_open, IsLeft};
 ghost use Rattle.cdcl_core.specs.Watching.{AreShort, IsReady, AreSame};
 ghost use Rattle.cdcl_core.specs.Visits.{IsOtherAt, IsVisitable, IsLooked, IsOther, AreOthersFalse, IsVisited, IsListVisited, AreVisited, IsTrailVisited, IsProcessed};
 
 use crate::arenas::Arena;
 use crate::cursors::{Cursors, has_place};
-use crate::watches::{Watches, put_back, put_elsewhere, take};
+use crate::watches::{OpenList, Watches, close, first_of, has_list, put_back, put_elsewhere};
 use learning_trail::{Code, Status, Step, Trail, is_false, is_true, status_of};
 use truth_values::TruthValue;
 
@@ -155,36 +155,43 @@ fn visit_list(
     ensures { IsListVisited arena.now.clauses trail.old trail.new these.old these.new others.now l
         result }
 {
-    let mut at = take(these, l);
+    if !has_list(these, l) {
+        return None;
+    }
+    let mut list = OpenList {
+        literal: l,
+        first: 0,
+    };
+    let mut at = first_of(these, l);
     'visits: loop {
         if at == 0 {
+            close(these, list);
             return None;
         }
-        match visit(trail, arena, cursors, these, others, l, at) {
+        match visit(trail, arena, cursors, these, others, &mut list, at) {
             Some(next) => at = next,
             None => {
-                put_all_back(these, at, l);
+                put_all_back(these, list, at);
                 return Some(at);
             }
         }
     }
 }
 
-// Puts the clauses that are left to visit back on their literal's list.
-fn put_all_back(these: &mut Watches, first: u64, l: Code)
-    requires left { IsLeft these.old first l }
-    requires list { HasList these.old l }
+// Puts the clauses that are left to visit back on the list that is visited, and ends its visits.
+fn put_all_back(these: &mut Watches, list: OpenList, first: u64)
+    requires left { IsLeft (with_open these.old list) first list.literal }
+    requires list { HasList these.old list.literal }
     ensures linked { IsLinked these.new 0 [] }
     ensures literals { these.new.literals.items ≡ these.old.literals.items }
     ensures lists { length these.new.heads.items ≡ length these.old.heads.items }
 {
+    let mut kept = list;
     let mut at = first;
-    for _ in 0..these.nexts.len() {
-        if at == 0 {
-            return;
-        }
-        at = put_back(these, at, l);
+    while at != 0 {
+        at = put_back(these, &mut kept, at);
     }
+    close(these, kept);
 }
 
 /// What a look at a clause comes to that is watched at a false literal.
@@ -206,27 +213,29 @@ fn visit(
     cursors: &mut Cursors,
     these: &mut Watches,
     others: &Watches,
-    l: Code,
+    list: &mut OpenList,
     id: u64,
 ) -> Option<u64>
-    requires visitable { IsVisitable arena.now.clauses trail.old these.old others.now }
+    requires visitable { IsVisitable arena.now.clauses trail.old (with_open these.old list.old)
+        others.now }
     requires from_one { 1 ≤ id }
     requires is_id { id ≤ length arena.now.clauses }
     requires nexts { length these.old.nexts.items ≡ length arena.now.clauses }
-    requires list { HasList these.old l }
-    requires fits { FitIds these.old }
-    requires in_range { variable_of l ≤ trail.old.room }
-    requires watched { watch_at these.old.literals.items (id - 1) ≡ l }
-    requires false_now { holds (literals_of trail.old.steps) (opposite l) ≡ true }
-    ensures { IsVisited arena.now.clauses trail.old trail.new these.old these.new others.now l id
-        result }
+    requires list { HasList these.old list.old.literal }
+    requires fits { FitIds (with_open these.old list.old) }
+    requires in_range { variable_of list.old.literal ≤ trail.old.room }
+    requires watched { watch_at these.old.literals.items (id - 1) ≡ list.old.literal }
+    requires false_now { holds (literals_of trail.old.steps) (opposite list.old.literal) ≡ true }
+    ensures visited { IsVisited arena.now.clauses trail.old trail.new (with_open these.old list.old)
+        (with_open these.new list.new) others.now list.old.literal id result }
+    ensures literal { list.new.literal ≡ list.old.literal }
 {
     let other = others.literals[id as usize - 1];
     if is_true(trail, other) {
-        return Some(put_back(these, id, l));
+        return Some(put_back(these, list, id));
     }
     match look_at(trail, arena.lits(id), cursors, other, id) {
-        Look::Kept => Some(put_back(these, id, l)),
+        Look::Kept => Some(put_back(these, list, id)),
         Look::Moved(k) => Some(put_elsewhere(these, id, k)),
         Look::Falsified => None,
     }

@@ -2,11 +2,11 @@
 //! takes no memory.
 //!
 //! A visit takes a whole list away, and puts its clauses back one by one, on the same list or on
-//! others.
+//! others. The list that is visited is put where the others are once, at the end.
 
-ghost use Rattle.std.specs.Prelude.{◌≡◌, ◌≤◌, ◌<◌, ◌+◌, ◌*◌, ◌-◌, ◌^◌, ◌++◌, ◌∷◌, [], ℕ, List, true, length, set, All, OnOk};
+ghost use Rattle.std.specs.Prelude.{◌≡◌, ◌≤◌, ◌<◌, ◌+◌, ◌*◌, ◌-◌, ◌^◌, ◌++◌, ◌∷◌, [], ℕ, List, true, false, length, set, slice_index_or, All, OnOk};
 ghost use Rattle.dq_lits.specs.Literal.{positive};
-ghost use Rattle.cdcl_core.specs.Chains.{watch_at, place_of, has, IsLinked, HasList, HasNextRoom, FitIds, IsTaken, AddsLists};
+ghost use Rattle.cdcl_core.specs.Chains.{watch_at, place_of, IsLinked, HasList, HasNextRoom, FitIds, with_open, IsTaken, AddsLists};
 
 use crate::arenas::make_fit;
 use dq_lits::{Lit, Memory};
@@ -109,39 +109,49 @@ pub(crate) fn add_watch(watches: &mut Watches, l: Code)
     watches.heads.set(place, watches.nexts.len() as u64);
 }
 
-/// Takes a literal's list away, and gives its first clause.
-pub(crate) fn take(watches: &mut Watches, l: Code) -> u64
-    requires { IsLinked watches.old 0 [] }
-    ensures taken { IsTaken watches.new l result }
-    ensures literals { watches.new.literals.items ≡ watches.old.literals.items }
-    ensures lists { length watches.new.heads.items ≡ length watches.old.heads.items }
-{
-    let place = l.place();
-    if place >= watches.heads.len() {
-        return 0;
-    }
-    let first = watches.heads.get(place);
-    watches.heads.set(place, 0);
-    first
+/// A literal's list while its clauses are visited. Its first clause stands here, so that a clause
+/// that stays on it writes nothing to the table of lists.
+#[derive(Clone, Copy)]
+pub(crate) struct OpenList {
+    pub(crate) literal: Code,
+    pub(crate) first: u64,
 }
 
-/// Puts the first of the clauses that are left to visit back on its literal's list, and gives the
-/// next one.
-pub(crate) fn put_back(watches: &mut Watches, id: u64, l: Code) -> u64
+/// Whether a literal has a list.
+pub(crate) fn has_list(watches: &Watches, l: Code) -> bool
+    ensures some { result ≡ true → HasList watches.now l }
+    ensures none { result ≡ false → length watches.now.heads.items ≤ place_of l }
+{
+    l.place() < watches.heads.len()
+}
+
+/// The first clause of a literal's list, all of which are left to visit.
+pub(crate) fn first_of(watches: &Watches, l: Code) -> u64
+    requires linked { IsLinked watches.now 0 [] }
+    requires list { HasList watches.now l }
+    ensures { IsTaken (with_open watches.now (record { literal = l; first = 0 })) l result }
+{
+    watches.heads.get(l.place())
+}
+
+/// Puts the first of the clauses that are left to visit back on the list that is visited, and gives
+/// the next one.
+pub(crate) fn put_back(watches: &mut Watches, list: &mut OpenList, id: u64) -> u64
     requires from_one { 1 ≤ id }
     requires is_id { id ≤ length watches.old.nexts.items }
-    requires list { HasList watches.old l }
-    requires fits { FitIds watches.old }
-    requires watched { watch_at watches.old.literals.items (id - 1) ≡ l }
-    ensures linked { (rest : List ℕ) → IsLinked watches.old id (id ∷ rest)
-        → IsLinked watches.new result rest }
+    requires list { HasList watches.old list.old.literal }
+    requires fits { FitIds (with_open watches.old list.old) }
+    requires watched { watch_at watches.old.literals.items (id - 1) ≡ list.old.literal }
+    ensures linked { (rest : List ℕ) → IsLinked (with_open watches.old list.old) id (id ∷ rest)
+        → IsLinked (with_open watches.new list.new) result rest }
+    ensures literal { list.new.literal ≡ list.old.literal }
     ensures literals { watches.new.literals.items ≡ watches.old.literals.items }
     ensures lists { length watches.new.heads.items ≡ length watches.old.heads.items }
     ensures len { length watches.new.nexts.items ≡ length watches.old.nexts.items }
 {
-    let at = id as usize - 1;
-    let place = l.place();
-    watches.nexts.rotate(at, &mut watches.heads, place, id)
+    let next = watches.nexts.replace(id as usize - 1, list.first);
+    list.first = id;
+    next
 }
 
 /// Puts the first of the clauses that are left to visit on another literal's list, and gives the
@@ -150,14 +160,27 @@ pub(crate) fn put_elsewhere(watches: &mut Watches, id: u64, l: Code) -> u64
     requires from_one { 1 ≤ id }
     requires is_id { id ≤ length watches.old.nexts.items }
     requires list { HasList watches.old l }
-    requires fits { FitIds watches.old }
+    requires begin { slice_index_or watches.old.heads.items (place_of l) 0 ≤ watches.old.nexts.most }
+    requires fits { id ≤ watches.old.heads.most }
     requires count { length watches.old.literals.items ≡ length watches.old.nexts.items }
-    ensures linked { (rest : List ℕ) → IsLinked watches.old id (id ∷ rest)
-        → IsLinked watches.new result rest }
+    ensures linked { (list : OpenList) (rest : List ℕ) → (place_of list.literal ≡ place_of l → ⊥)
+        → IsLinked (with_open watches.old list) id (id ∷ rest)
+        → IsLinked (with_open watches.new list) result rest }
     ensures literals { watches.new.literals.items ≡ set watches.old.literals.items (id - 1) l }
     ensures lists { length watches.new.heads.items ≡ length watches.old.heads.items }
     ensures len { length watches.new.nexts.items ≡ length watches.old.nexts.items }
 {
-    watches.literals[id as usize - 1] = l;
-    put_back(watches, id, l)
+    let at = id as usize - 1;
+    let place = l.place();
+    watches.literals[at] = l;
+    watches.nexts.rotate(at, &mut watches.heads, place, id)
+}
+
+/// Puts a list that was visited where the others are.
+pub(crate) fn close(watches: &mut Watches, list: OpenList)
+    requires list { HasList watches.old list.literal }
+    requires fits { list.first ≤ watches.old.heads.most }
+    ensures { watches.new ≡ with_open watches.old list }
+{
+    watches.heads.set(list.literal.place(), list.first);
 }

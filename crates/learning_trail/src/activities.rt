@@ -52,35 +52,33 @@ impl Activities {
     /// Makes the literals of a clause more active.
     pub fn bump(&mut self, lits: &[Code]) {
         for l in lits {
-            let place = l.place().saturating_sub(2);
-            if !self.has_page(place / PAGE) {
+            let place = l.place() - 2;
+            if !self.bump_at(place) {
                 self.add_page(place / PAGE);
+                self.bump_at(place);
             }
-            self.bump_at(place);
         }
     }
 
-    // Makes the literal at a place more active, if its page is there.
-    fn bump_at(&mut self, place: usize) {
-        if let Some(page) = self.pages.get_mut(place / PAGE)
-            && let Some(score) = page.get_mut(place % PAGE)
-        {
-            *score = Score {
-                value: score.after(self.scaled).saturating_add(self.bonus),
-                scaled: self.scaled,
-            };
-        }
-    }
-
-    fn has_page(&self, page: usize) -> bool {
-        match self.pages.get(page) {
-            Some(scores) => !scores.is_empty(),
-            None => false,
-        }
+    // Makes the literal at a place more active, and tells whether its page is there.
+    fn bump_at(&mut self, place: usize) -> bool {
+        let Some(page) = self.pages.get_mut(place / PAGE) else {
+            return false;
+        };
+        let Some(score) = page.get_mut(place % PAGE) else {
+            return false;
+        };
+        *score = Score {
+            value: score.after(self.scaled).saturating_add(self.bonus),
+            scaled: self.scaled,
+        };
+        true
     }
 
     // Scores on a page, and empty pages up to it. Where memory is refused its literals stay as active
     // as they were.
+    #[cold]
+    #[inline(never)]
     fn add_page(&mut self, page: usize) {
         for _ in self.pages.len()..page.saturating_add(1) {
             if self.pages.push(Vec::new(self.alloc)).is_err() {
@@ -132,6 +130,16 @@ impl Activities {
 impl Score {
     // The score, once all were scaled down so often.
     fn after(&self, scaled: u64) -> u64 {
+        if scaled == self.scaled {
+            return self.value;
+        }
+        self.faded(scaled)
+    }
+
+    // The same of a score that is older, which is rare.
+    #[cold]
+    #[inline(never)]
+    fn faded(&self, scaled: u64) -> u64 {
         match scaled.saturating_sub(self.scaled) {
             0 => self.value,
             1 => self.value >> SCALE,

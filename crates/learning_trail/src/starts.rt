@@ -12,8 +12,8 @@ pub(crate) fn put_start(starts: &mut Vec<usize>, step: &Step, at: usize)
         ≡ (if is_decision step.now then at ∷ reverse starts.old.items else reverse starts.old.items) }
     ensures capacity { vec_capacity starts.old ≤ vec_capacity starts.new }
 {
-    if step.reason.is_none() && starts.push(at).is_err() {
-        unreachable!();
+    if step.reason.is_none() {
+        starts.push_reserved(at);
     }
 }
 

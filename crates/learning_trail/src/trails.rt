@@ -125,9 +125,7 @@ impl Trail {
             .set(place_of(step.literal), truth(!step.literal.is_neg()));
         self.places[place_of(step.literal)] = self.steps.len();
         put_start(&mut self.starts, &step, self.steps.len());
-        if self.steps.push(step).is_err() {
-            unreachable!();
-        }
+        self.steps.push_reserved(step);
     }
 
     /// Takes the newest literal back.

@@ -1,5 +1,5 @@
 -- Numbers in two halves of 32 bits.
-use Rattle.std.specs.Prelude.{◌≡◌, ℕ, ◌+◌, ◌*◌, ◌-◌, ◌^◌, nat_le, Bool, true, false, List, [], ◌∷◌, length, min, vec_capacity, if◌then◌else◌}
+use Rattle.std.specs.Prelude.{◌≡◌, ℕ, zero, suc, ◌+◌, ◌*◌, ◌-◌, ◌^◌, nat_le, Bool, true, false, List, [], ◌∷◌, length, min, slice_index_or, vec_capacity, if◌then◌else◌}
 use Rattle.short_numbers.specs.declared.ShortNumbers.TheInside.{Inside}
 
 -- what a list shows: its numbers, how many of them it has memory for, and the largest number that
@@ -37,3 +37,8 @@ numbers_in s = numbers_of s.is_wide s.low.items s.high.items (vec_capacity s.low
 -- there are two halves, or one
 abbrev pub IsHalved : Inside → Type 0
 IsHalved s = length s.high.items ≡ (if s.is_wide then length s.low.items else 0)
+
+-- the number before a place
+abbrev pub before : List ℕ → ℕ → ℕ
+before items zero = 0
+before items (suc i) = slice_index_or items i 0

@@ -2,7 +2,7 @@
 #![tactic(auto)]
 
 ghost use Rattle.std.specs.Prelude.{◌≡◌, ◌≤◌, ◌<◌, ◌-◌, ◌^◌, ◌++◌, ◌∷◌, ◌⊎◌, [], length, set, slice_index_or, OnOk, OnErr};
-ghost use Rattle.short_numbers.specs.Numbers.{widened};
+ghost use Rattle.short_numbers.specs.Numbers.{widened, before};
 
 use std::alloc::{AllocError, Global};
 use std::marker::Model;
@@ -143,6 +143,61 @@ impl ShortNumbers {
         if self.is_wide {
             self.high[place] = (number / WIDE) as u32;
         }
+    }
+
+    /// The number before a place, 0 at the first one, and the number at it: so whether the numbers
+    /// are short is asked once.
+    pub fn span(&self, place: usize) -> (u64, u64)
+        requires { place < length self.now.items }
+        ensures start { result.0 ≡ before self.now.items place }
+        ensures end { result.1 ≡ slice_index_or self.now.items place 0 }
+    {
+        if self.is_wide {
+            return self.wide_span(place);
+        }
+        let start = if place == 0 { 0 } else { self.low[place - 1] };
+        (start as u64, self.low[place] as u64)
+    }
+
+    // The same of numbers with two halves, which are rare.
+    #[cold]
+    #[inline(never)]
+    fn wide_span(&self, place: usize) -> (u64, u64)
+        requires { place < length self.now.items }
+        ensures start { result.0 ≡ before self.now.items place }
+        ensures end { result.1 ≡ slice_index_or self.now.items place 0 }
+    {
+        let start = if place == 0 { 0 } else { self.get(place - 1) };
+        (start, self.get(place))
+    }
+
+    /// Puts a number that there is room for at a place, from 0, and answers what stood there.
+    pub fn replace(&mut self, place: usize, number: u64) -> u64
+        requires within { place < length self.old.items }
+        requires fits { number ≤ self.old.most }
+        ensures value { result ≡ slice_index_or self.old.items place 0 }
+        ensures these { self.new ≡ record self.old { items = set self.old.items place number } }
+    {
+        if self.is_wide {
+            return self.replace_wide(place, number);
+        }
+        let old = self.low[place];
+        self.low[place] = (number % WIDE) as u32;
+        old as u64
+    }
+
+    // The same of numbers with two halves, which are rare.
+    #[cold]
+    #[inline(never)]
+    fn replace_wide(&mut self, place: usize, number: u64) -> u64
+        requires within { place < length self.old.items }
+        requires fits { number ≤ self.old.most }
+        ensures value { result ≡ slice_index_or self.old.items place 0 }
+        ensures these { self.new ≡ record self.old { items = set self.old.items place number } }
+    {
+        let old = self.get(place);
+        self.set(place, number);
+        old
     }
 
     /// Puts a number at a place of others, what stood there at a place of these, and answers what

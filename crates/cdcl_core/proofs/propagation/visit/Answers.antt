@@ -1,5 +1,7 @@
 use Rattle.std.proofs.Common.{inl, refl, ◌-◌, ◌<◌, length, arith}
-use Rattle.cdcl_core.proofs.VisitedClauses.{read_watch, some_clause, other_within, visited_kept, visited_moved, visited_falsified}
+use Rattle.learning_trail.specs.Steps.{literals_of}
+use Rattle.cdcl_core.specs.Chains.{with_open}
+use Rattle.cdcl_core.proofs.VisitedClauses.{at_id, read_watch, some_clause, kept_lists, has_open, apart_lists, begin_apart, other_within, visited_kept, visited_moved, visited_falsified}
 use Rattle.cdcl_core.proofs.propagation.visit.Goals as goal
 
 pub is_true-requires : goal.is_true-requires
@@ -10,22 +12,26 @@ is_true-requires c =
     omega (arith, c.requires.from_one, c.requires.is_id, v.other_count) in
     let beside = read_watch a.others.now.literals.items (a.id - 1) c.index-other.result.now lt c.index-other.ensures in
     let some = some_clause a.arena.now.clauses a.id c.requires.from_one c.requires.is_id in
-    other_within a.arena.now.clauses a.trail.now a.these.now a.others.now a.l c.index-other.result.now a.id some.0 v
+    other_within a.arena.now.clauses a.trail.now (with_open a.these.now a.list.now) a.others.now a.list.now.literal
+    c.index-other.result.now a.id some.0 v
     some.1 c.requires.watched beside c.requires.false_now c.requires.in_range
 
-pub returns-then-is_true : goal.returns-then-is_true
-returns-then-is_true c =
+pub returns-then-is_true-clause-visited : goal.returns-then-is_true-clause-visited
+returns-then-is_true-clause-visited c =
     let a = c.args in
     let v = c.requires.visitable in
+    let o = a.list.now in
     let lt : a.id - 1 < length a.others.now.literals.items =
     omega (arith, c.requires.from_one, c.requires.is_id, v.other_count) in
     let beside = read_watch a.others.now.literals.items (a.id - 1) c.index-other.result.now lt c.index-other.ensures in
     let some = some_clause a.arena.now.clauses a.id c.requires.from_one c.requires.is_id in
-    visited_kept a.arena.now.clauses a.trail.now a.these.now a.others.now a.l c.index-other.result.now a.id some.0 v
+    let back = c.put_back in
+    visited_kept a.arena.now.clauses a.trail.now (with_open a.these.now o) a.others.now o.literal
+    c.index-other.result.now a.id some.0 v
     some.1 c.requires.watched beside c.requires.false_now
-    a.trail.now c.put_back.new.watches c.put_back.result v.few
-    (inl (refl, c.is_true.ensures c.if-is_true.true)) c.put_back.ensures.literals
-    c.put_back.ensures.lists c.put_back.ensures.linked
+    a.trail.now (with_open back.new.watches back.new.list) back.result v.few
+    (inl (refl, c.is_true.ensures c.if-is_true.true)) back.ensures.literals
+    (kept_lists a.these.now back.new.watches o back.new.list back.ensures.lists) back.ensures.linked
 
 pub look_at-requires-clause-other_in_range : goal.look_at-requires-clause-other_in_range
 look_at-requires-clause-other_in_range c =
@@ -34,42 +40,71 @@ look_at-requires-clause-other_in_range c =
     let lt : a.id - 1 < length a.others.now.literals.items =
     omega (arith, c.requires.from_one, c.requires.is_id, v.other_count) in
     let beside = read_watch a.others.now.literals.items (a.id - 1) c.index-other.result.now lt c.index-other.ensures in
-    other_within a.arena.now.clauses a.trail.now a.these.now a.others.now a.l c.index-other.result.now a.id
+    other_within a.arena.now.clauses a.trail.now (with_open a.these.now a.list.now) a.others.now a.list.now.literal
+    c.index-other.result.now a.id
     c.lits.result.now v c.lits.ensures c.requires.watched beside c.requires.false_now c.requires.in_range
 
-pub returns-in-Kept : goal.returns-in-Kept
-returns-in-Kept c =
+pub returns-in-Kept-clause-visited : goal.returns-in-Kept-clause-visited
+returns-in-Kept-clause-visited c =
     let a = c.args in
     let v = c.requires.visitable in
+    let o = a.list.now in
     let lt : a.id - 1 < length a.others.now.literals.items =
     omega (arith, c.requires.from_one, c.requires.is_id, v.other_count) in
     let beside = read_watch a.others.now.literals.items (a.id - 1) c.index-other.result.now lt c.index-other.ensures in
-    visited_kept a.arena.now.clauses a.trail.now a.these.now a.others.now a.l c.index-other.result.now a.id
+    let back = c.put_back-in-Kept in
+    visited_kept a.arena.now.clauses a.trail.now (with_open a.these.now o) a.others.now o.literal
+    c.index-other.result.now a.id
     c.lits.result.now v c.lits.ensures c.requires.watched beside c.requires.false_now
-    c.look_at.new.trail c.put_back-in-Kept.new.watches c.put_back-in-Kept.result c.in-Kept.ensures.few
-    c.in-Kept.ensures.looked c.put_back-in-Kept.ensures.literals c.put_back-in-Kept.ensures.lists
-    c.put_back-in-Kept.ensures.linked
+    c.look_at.new.trail (with_open back.new.watches back.new.list) back.result c.in-Kept.ensures.few
+    c.in-Kept.ensures.looked back.ensures.literals
+    (kept_lists a.these.now back.new.watches o back.new.list back.ensures.lists) back.ensures.linked
 
-pub returns-in-Moved : goal.returns-in-Moved
-returns-in-Moved c =
+pub put_elsewhere-requires-clause-list : goal.put_elsewhere-requires-clause-list
+put_elsewhere-requires-clause-list c =
+    let a = c.args in
+    has_open a.these.now a.list.now c.in-Moved.k (c.requires.visitable.listed (a.id - 1) c.lits.result.now c.in-Moved.k
+    (at_id a.arena.now.clauses a.id c.lits.result.now c.lits.ensures) c.in-Moved.ensures.looked.1.among)
+
+pub put_elsewhere-requires-clause-begin : goal.put_elsewhere-requires-clause-begin
+put_elsewhere-requires-clause-begin c =
+    let a = c.args in
+    begin_apart a.these.now a.list.now c.in-Moved.k c.requires.fits
+    (apart_lists (literals_of a.trail.now.steps) c.in-Moved.k a.list.now.literal
+    c.in-Moved.ensures.looked.1.not_false c.requires.false_now)
+
+pub put_elsewhere-requires-clause-fits : goal.put_elsewhere-requires-clause-fits
+put_elsewhere-requires-clause-fits c =
+    let heads = c.requires.fits.heads in
+    omega (arith, heads, c.requires.is_id, c.requires.nexts)
+
+pub returns-in-Moved-clause-visited : goal.returns-in-Moved-clause-visited
+returns-in-Moved-clause-visited c =
     let a = c.args in
     let v = c.requires.visitable in
+    let o = a.list.now in
     let lt : a.id - 1 < length a.others.now.literals.items =
     omega (arith, c.requires.from_one, c.requires.is_id, v.other_count) in
     let beside = read_watch a.others.now.literals.items (a.id - 1) c.index-other.result.now lt c.index-other.ensures in
-    visited_moved a.arena.now.clauses a.trail.now a.these.now a.others.now a.l c.index-other.result.now a.id
+    let moved = c.put_elsewhere in
+    let apart = apart_lists (literals_of a.trail.now.steps) c.in-Moved.k o.literal
+    c.in-Moved.ensures.looked.1.not_false c.requires.false_now in
+    visited_moved a.arena.now.clauses a.trail.now (with_open a.these.now o) a.others.now o.literal
+    c.index-other.result.now a.id
     c.lits.result.now v c.lits.ensures c.requires.watched beside c.requires.false_now
-    c.look_at.new.trail c.put_elsewhere.new.watches c.in-Moved.k c.put_elsewhere.result c.in-Moved.ensures.few
+    c.look_at.new.trail (with_open moved.new.watches o) c.in-Moved.k moved.result c.in-Moved.ensures.few
     c.in-Moved.ensures.looked c.requires.from_one c.requires.is_id
-    c.put_elsewhere.ensures.literals c.put_elsewhere.ensures.lists c.put_elsewhere.ensures.linked
+    moved.ensures.literals (kept_lists a.these.now moved.new.watches o o moved.ensures.lists)
+    (λ rest k. moved.ensures.linked o rest apart k)
 
-pub returns-in-Falsified : goal.returns-in-Falsified
-returns-in-Falsified c =
+pub returns-in-Falsified-clause-visited : goal.returns-in-Falsified-clause-visited
+returns-in-Falsified-clause-visited c =
     let a = c.args in
     let v = c.requires.visitable in
     let lt : a.id - 1 < length a.others.now.literals.items =
     omega (arith, c.requires.from_one, c.requires.is_id, v.other_count) in
     let beside = read_watch a.others.now.literals.items (a.id - 1) c.index-other.result.now lt c.index-other.ensures in
-    visited_falsified a.arena.now.clauses a.trail.now a.these.now a.others.now a.l c.index-other.result.now a.id
+    visited_falsified a.arena.now.clauses a.trail.now (with_open a.these.now a.list.now) a.others.now a.list.now.literal
+    c.index-other.result.now a.id
     c.lits.result.now v c.lits.ensures c.requires.watched beside c.requires.false_now
     c.look_at.new.trail c.in-Falsified.ensures.few c.in-Falsified.ensures.looked

@@ -1,6 +1,4 @@
 use Rattle.std.proofs.Common.{◌≡◌, ◌<◌, ◌++◌, ◌∷◌, [], suc, not, cond, reverse, length, set, sym, subst, ap, ◌∙◌, arith, List, ℕ}
-use Rattle.std.specs.Result.{is_ok}
-use Rattle.std.proofs.lemmas.Bool.{both_ways}
 use Rattle.std.proofs.lemmas.List.{length-set, length-reverse}
 use Rattle.dq_lits.specs.Literal.{variable_of}
 use Rattle.learning_trail.specs.Steps.{Trailed, literals_of, is_decision, starts_of}
@@ -15,8 +13,8 @@ use Rattle.learning_trail.proofs.LevelStarts.{few_starts}
 use Rattle.learning_trail.proofs.PlacedSteps.{placed_pushed}
 use Rattle.learning_trail.proofs.trails.Trail.push.Goals as goal
 
-pub unreachable-requires : goal.unreachable-requires
-unreachable-requires c =
+pub push_reserved-requires : goal.push_reserved-requires
+push_reserved-requires c =
     let inside = c.self.inside in
     let place = c.place_of.result in
     let at : variable_of c.args.step.literal ≡ suc place = omega (arith, c.place_of.ensures) in
@@ -27,14 +25,7 @@ unreachable-requires c =
     (sym c.self.view_is) c.requires.free in
     let all = kept_pushed inside.values (reverse inside.steps.items) c.args.step place at in_range free
     c.self.invariant.kept in
-    let pushed = c.push.ensures.succeeds (omega (
-      arith,
-      all.1,
-      length-reverse inside.steps.items,
-      c.self.invariant.room,
-      inside.steps.ok.0,
-    )) in
-    both_ways (is_ok c.push.result) (c.is_err.ensures.negation ∙ ap not c.if-is_err.true) pushed
+    omega (arith, all.1, length-reverse inside.steps.items, c.self.invariant.room)
 
 pub put_start-requires : goal.put_start-requires
 put_start-requires c =
@@ -62,7 +53,7 @@ invariant_of-self c =
     let inside = c.self.inside in
     let place = c.place_of.result in
     let step = c.args.step in
-    let more = c.push.new.self.items in
+    let more = c.push_reserved.new.self.items in
     let at : variable_of step.literal ≡ suc place = omega (arith, c.place_of.ensures) in
     let in_range : place < length inside.values = omega
     (arith, ap (λ t. t.room) c.self.view_is, at, c.requires.in_range) in
@@ -74,8 +65,7 @@ invariant_of-self c =
     let value : c.truth.result ≡ value_where_true step.literal =
     c.truth.ensures ∙ ap (λ b. cond (not b) True False) c.is_neg.ensures in
     let longer : more ≡ inside.steps.items ++ step ∷ [] =
-    c.push.ensures.items ∙ ap (λ b. cond b (inside.steps.items ++ step ∷ []) inside.steps.items)
-    (c.is_err.ensures.negation ∙ ap not c.if-is_err.false) in
+    c.push_reserved.ensures.items in
     let again : variable_of step.literal ≡ suc c.place_of-2.result = omega (arith, c.place_of-2.ensures) in
     let in_range_again : c.place_of-2.result < length inside.places.items = let n = c.self.invariant.places in
     omega (arith, n, at, again, in_range) in
@@ -104,7 +94,7 @@ invariant_of-self c =
         length-set inside.values place c.truth.result,
         ap length c.set.ensures,
         c.self.invariant.room,
-        c.push.ensures.capacity,
+        c.push_reserved.ensures.capacity,
       );
       placed = subst (λ (xs : List Step). ArePlaced (set inside.places.items c.place_of-2.result c.len.result) xs)
           (sym (ap reverse longer ∙ newest inside.steps.items step))
@@ -134,9 +124,8 @@ returns-clause-few c =
     (sym c.self.view_is) c.requires.free in
     let all = kept_pushed inside.values (reverse inside.steps.items) step place at in_range free
     c.self.invariant.kept in
-    let longer : c.push.new.self.items ≡ inside.steps.items ++ step ∷ [] =
-    c.push.ensures.items ∙ ap (λ b. cond b (inside.steps.items ++ step ∷ []) inside.steps.items)
-    (c.is_err.ensures.negation ∙ ap not c.if-is_err.false) in
+    let longer : c.push_reserved.new.self.items ≡ inside.steps.items ++ step ∷ [] =
+    c.push_reserved.ensures.items in
     omega (
       arith,
       ap length (ap reverse longer ∙ newest inside.steps.items step),
