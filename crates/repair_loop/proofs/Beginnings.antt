@@ -1,6 +1,5 @@
 -- What stands when a search has begun.
-use Rattle.std.proofs.Common.{◌≡◌, ◌⊎◌, inl, inr, ◌+◌, ◌-◌, ◌≤◌, ◌<◌, ℕ, zero, suc, false, List, [], ◌∷◌, ◌++◌, length, map, take, drop, slice_get, Some, OnOk, OnErr, Result, Ok, Err, refl, sym, ◌∙◌, ap, subst, arith}
-use Rattle.std.proofs.lemmas.List.{take_all}
+use Rattle.std.proofs.Common.{◌≡◌, ◌⊎◌, inl, inr, ◌+◌, ◌<◌, ℕ, zero, suc, false, List, [], ◌∷◌, ◌++◌, length, map, take, slice_get, Some, OnOk, OnErr, Result, Ok, Err, refl, sym, ◌∙◌, ap, subst, arith}
 use Rattle.dq_lits.specs.Formula.{Dqbf, IsWellFormed}
 use Rattle.hint_log.specs.Entries.{Entry, Begun, ProofLog, with_entry}
 use Rattle.hint_log.specs.Live.{last_live, live_numbers, before_beginning}
@@ -31,22 +30,6 @@ pub mapped_more : {A B : Type 0} (f : A → B) (xs : List A) (i : ℕ) (x : A) �
 mapped_more f xs i x is =
     let same : suc i ≡ i + 1 = omega arith in
     mapped_one f xs i x is ∙ ap (λ n. map f (take n xs)) same
-
--- the numbers that two lists have in common, and the rest of one, are that one
-split_whole : (xs : List ℕ) (i : ℕ) → i ≤ length xs → take i xs ++ take (length xs - i) (drop i xs) ≡ xs
-split_whole xs zero within =
-    let all : length xs - 0 ≡ length xs = omega arith in
-    ap (λ n. take n xs) all ∙ take_all (length xs) xs (omega arith)
-split_whole [] (suc i) within = absurd (omega (arith, within))
-split_whole (x ∷ xs) (suc i) within =
-    let less : suc (length xs) - suc i ≡ length xs - i = omega arith in
-    ap (λ n. x ∷ (take i xs ++ take n (drop i xs))) less
-    ∙ ap (λ ys. x ∷ ys) (split_whole xs i (omega (arith, within)))
-
-pub joined_whole : (xs ys : List ℕ) (i : ℕ) → i ≤ length ys → take i xs ≡ take i ys →
-    take i xs ++ take (length ys - i) (drop i ys) ≡ ys
-joined_whole xs ys i within same =
-    ap (λ zs. zs ++ take (length ys - i) (drop i ys)) same ∙ split_whole ys i within
 
 pub ready_standing : (b : BookState) (d : Desk) (graph : AigGraph) (es : List Entry) → IsReady b d graph es →
     IsStanding b d.checker d.padoa es
@@ -207,11 +190,3 @@ start_faults b after old new s begun = by s.began
     by (inl began) = started_faults b old new began
     by (inr same) = absurd (not_begun (live_of b) old.entries new.entries
         (ap (λ (l : ProofLog). l.entries) same) begun)
-
-pub start_began : (b : BookState) (after : Desk) (old new : ProofLog) (P : Type 0) → P → HasStarted b after old new →
-    HasBegun (live_of b) old.entries new.entries ⊎ (P × (new ≡ old))
-start_began b after old new P p s = by s.began
-  where
-    by : HasBegunUndecided b old new ⊎ (new ≡ old) → HasBegun (live_of b) old.entries new.entries ⊎ (P × (new ≡ old))
-    by (inl began) = inl began.begun
-    by (inr same) = inr (p, same)

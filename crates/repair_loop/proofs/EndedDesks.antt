@@ -55,9 +55,6 @@ module _ (grouped : DesksAreGrouped) (f : Dqbf) (b after : BookState) (d e : Des
     groups_are_frames = grouped after e.checker e.padoa new.entries way.book way.stored way.apart;
   }
 
-  pub same_session : IsProductiveSession (all_of b) (frames_of b) new.entries
-  same_session = subst (λ (x : BookState). IsProductiveSession (all_of x) (frames_of x) new.entries) same.same session
-
   pub ready_again : IsReady after e more new.entries
   ready_again =
       let few = way.faults in

@@ -2,7 +2,7 @@
 use Rattle.std.proofs.Common.{◌≡◌, ◌≢◌, ◌⊎◌, inl, inr, ℕ, Bool, true, false, List, length, None, refl, ◌∙◌, ap, subst, arith}
 use Rattle.std.specs.List.{Contains}
 use Rattle.dq_lits.specs.Formula.{Dqbf}
-use Rattle.hint_log.specs.Entries.{Entry, ProofLog, name_of}
+use Rattle.hint_log.specs.Entries.{ProofLog, name_of}
 use Rattle.hint_log.specs.Growth.{Grew}
 use Rattle.log_laws.specs.Engines.{copies}
 use Rattle.log_laws.specs.Sessions.{IsAddedLive, EnginesLeaveSessions}
@@ -24,23 +24,6 @@ use Rattle.repair_loop.proofs.LiveGrowth.{checker_left, same_prefix, same_faults
 use Rattle.repair_loop.proofs.LogGrowth.{log_grew}
 use Rattle.repair_loop.proofs.NewFaults.{others_new}
 use Rattle.repair_loop.proofs.Stages.{same_book, still_kept}
-
--- whether questions may be asked is nothing that a desk at rest needs
-pub at_rest : (f : Dqbf) (b : BookState) (c : Checker) (p : Padoa) (ready : Bool) (es : List Entry) →
-    IsUnderWay f b c p ready es → IsUnderWay f b c p false es
-at_rest f b c p ready es way = record {
-  formula = way.formula;
-  now_is = way.now_is;
-  live = way.live;
-  kept = way.kept;
-  book = way.book;
-  checked = way.checked;
-  copied = λ on. cc;
-  stored = way.stored;
-  apart = way.apart;
-  faults = way.faults;
-  new_faults = way.new_faults;
-}
 
 module _ (law : EnginesLeaveSessions) (books : EnginesLeaveBooks) (stay : CheckersStay) (f : Dqbf) (graph : AigGraph)
     (b : BookState) (c : Checker) (p q : Padoa) (old new : ProofLog) (s : IsSearch f graph b c p false old.entries)

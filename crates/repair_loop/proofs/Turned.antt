@@ -1,5 +1,5 @@
 -- What a turn's calls leave, one behind the other.
-use Rattle.std.proofs.Common.{◌≡◌, ◌∙◌, inl, ◌∷◌, arith, ap, sym, subst, refl, ℕ, Bool, true, List, length, None, Result, Err, OnErr, slice_index_or}
+use Rattle.std.proofs.Common.{◌≡◌, ◌∙◌, inl, ◌∷◌, arith, ap, sym, subst, refl, ℕ, Bool, true, List, length, None, slice_index_or}
 use Rattle.std.specs.List.{All, Contains, filter_map}
 use Rattle.std.specs.Option.{option_map}
 use Rattle.dq_lits.specs.Expansion.{IsExpansionUnsatisfiable}
@@ -18,8 +18,6 @@ use Rattle.hint_log.specs.Live.{before_beginning}
 use Rattle.hint_log.specs.Naming.{rows_of}
 use Rattle.hint_log.specs.ProductiveLog.{fault_groups}
 use Rattle.hint_log.specs.ProductiveSession.{IsUndecidedSince}
-use Rattle.hint_log.specs.declared.stops.Stop.{Stop}
-use Rattle.hint_log.specs.declared.stops.Stop.TheVariants.{Limit}
 use Rattle.log_laws.specs.Engines.{instances}
 use Rattle.log_laws.specs.Sessions.{IsAddedLive}
 use Rattle.dq_session.specs.Books.{BookState, number_of, all_of, live_of, now_of, IsFullBook}
@@ -30,7 +28,7 @@ use Rattle.known_functions.specs.Searching.{HasInputs}
 use Rattle.repair_loop.specs.Desks.{IsKept, IsBookAfter, IsAnsweredFalse, IsAnsweredTrue}
 use Rattle.repair_loop.specs.Searching.{AreBuilt}
 use Rattle.repair_loop.specs.Standing.{IsLeft, InstancesLeaveLogs, InstancesLeaveSearches}
-use Rattle.repair_loop.specs.Turning.{LogGrew, IsModel, IsUnderWay, IsOpen, IsSearch, IsRoundLogged, HasEnded, HasGoneOn, IsNewRound, IsStoppedAs}
+use Rattle.repair_loop.specs.Turning.{LogGrew, IsModel, IsUnderWay, IsOpen, IsSearch, IsRoundLogged, HasEnded, HasGoneOn, IsNewRound}
 use Rattle.repair_loop.proofs.LogGrowth.{log_then, log_same}
 use Rattle.repair_loop.proofs.Stages.{book_then, same_book}
 use Rattle.repair_loop.proofs.UnnamedBefore.{unnamed_since}
@@ -125,15 +123,6 @@ round_after f b c p ready row here old mid new same grew round =
       step = omega (arith, steps, more);
       within = omega (arith, steps, limit, within);
     }
-
--- a call that stopped as another one did
-pub stopped_on : {T U : Type 0} (f : Dqbf) (b : BookState) (log : ProofLog) (r : Result T Stop) (e : Stop) →
-    r ≡ Err e → IsStoppedAs f b log r → IsStoppedAs {T = U} f b log (Err e)
-stopped_on f b log r e was s = record {
-  undecided = subst (λ (x : Result _ Stop). OnErr x (IsUndecidedSince (all_of b) log.entries)) was s.undecided;
-  limit = λ is. let same : e ≡ Limit = cc in s.limit (was ∙ ap (λ x. Err x) same);
-  rows = λ is. let same : e ≡ Limit = cc in s.rows (was ∙ ap (λ x. Err x) same);
-}
 
 -- with its row a book is whole again
 pub row_search : InstancesLeaveSearches → (f : Dqbf) (graph : AigGraph) (b after : BookState) (c : Checker) (p : Padoa) (ready : Bool)
