@@ -1,6 +1,6 @@
 //! Numbers that are still to be looked at, the greatest first.
 
-ghost use Rattle.std.specs.Prelude.{◌≡◌, ◌==◌, ℕ, if◌then◌else◌, ◌<◌, ◌⊎◌, ◌↔◌, true, false, IfSome, IfNone, IfOk, OnOk, Contains};
+ghost use Rattle.std.specs.Prelude.{◌≡◌, ◌==◌, ℕ, if◌then◌else◌, ◌<◌, ◌⊎◌, ◌↔◌, true, false, IfSome, IfNone, OnErr, OnOk, Contains};
 ghost use Rattle.hint_log.specs.Pending.{is_pending, Takes};
 
 use dq_lits::Memory;
@@ -32,25 +32,25 @@ impl Pending {
         self.numbers.pop_last()
     }
 
-    /// Adds a number. The only error is want of memory.
+    /// Adds a number. The only error is want of memory, and leaves the set as it was.
     pub fn insert(&mut self, number: u64) -> Result<(), Memory>
-        ensures { OnOk result
+        ensures ok { OnOk result
             ((n : ℕ)
             → is_pending self.new n ≡ (if number == n then true else is_pending self.old n)) }
+        ensures err { OnErr result ((n : ℕ) → is_pending self.new n ≡ is_pending self.old n) }
     {
         self.numbers.insert(number)?;
         Ok(())
     }
 
-    /// Adds these numbers. The only error is want of memory.
+    /// Adds these numbers. The only error is want of memory; it may leave some of them added, and
+    /// takes none away.
     pub fn insert_all(&mut self, numbers: &[u64]) -> Result<(), Memory>
-        ensures kept { OnOk result
-            ((n : ℕ) → is_pending self.old n ≡ true → is_pending self.new n ≡ true) }
+        ensures kept { (n : ℕ) → is_pending self.old n ≡ true → is_pending self.new n ≡ true }
         ensures added { OnOk result
             ((n : ℕ) → Contains numbers.now n → is_pending self.new n ≡ true) }
-        ensures only { OnOk result
-            ((n : ℕ) → is_pending self.new n ≡ true
-            → (is_pending self.old n ≡ true) ⊎ Contains numbers.now n) }
+        ensures only { (n : ℕ) → is_pending self.new n ≡ true
+            → (is_pending self.old n ≡ true) ⊎ Contains numbers.now n }
     {
         for number in numbers {
             self.insert(*number)?;

@@ -9,7 +9,7 @@ loop-at-init c =
     subst (AreReachedSoFar c.args.self.now.entries c.args.id c.insert.new.self)
     (ap reverse (sym c.new-reached.ensures.items))
     (first_pending c.args.self.now.entries c.args.id c.new-pending.result c.insert.new.self
-    c.new-pending.ensures c.in_ok-insert.ensures)
+    c.new-pending.ensures c.in_ok-insert.ensures.ok)
 
 pub hints-requires : goal.hints-requires
 hints-requires c =

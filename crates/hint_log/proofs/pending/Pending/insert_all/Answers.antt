@@ -12,7 +12,7 @@ loop-number-preserved c =
     let i = c.loop-number.number-index in
     subst (IsWith c.args.self.now c.insert.new.self) (sym (take_more ids i 0 c.loop-number-test.true))
     (with_one_more c.args.self.now c.loop-number.self c.insert.new.self (take i ids)
-    (get_or ids i 0) c.loop-number.invariant c.in_ok-insert.ensures)
+    (get_or ids i 0) c.loop-number.invariant c.in_ok-insert.ensures.ok)
 
 pub returns-clause-kept : goal.returns-clause-kept
 returns-clause-kept c = c.loop-number.invariant.kept
