@@ -497,6 +497,22 @@ def tables(rng, size):
     return formula, "TRUE"
 
 
+def cubes(rng, size):
+    """Two existentials that see two universals more than the size, and clauses that say their values on so many random cubes of four literals
+    for each bit, and nothing else of them. True."""
+    formula = Formula()
+    universals = formula.word(size + 2)
+    for _ in range(2):
+        output, said = formula.existential(), {1: [], -1: []}
+        while min(len(said[1]), len(said[-1])) < size:
+            sign = rng.choice((1, -1))
+            cube = [rng.choice((1, -1)) * x for x in rng.sample(universals, 4)]
+            if len(said[sign]) < size and all(any(-l in cube for l in other) for other in said[-sign]):
+                said[sign].append(cube)
+                formula.clauses.append([*(-l for l in cube), sign * output])
+    return formula, "TRUE"
+
+
 def multiplexer(rng, size):
     """A box that sees copies of so many selects and of the word that they select from, against a multiplexer. True."""
     formula = Formula()
@@ -583,7 +599,7 @@ FAMILIES |= {"region": (region, 1), "region-reached": (lambda rng, size: region(
 FAMILIES |= {"injection": (injection, 1), "injection-short": (lambda rng, size: injection(rng, size, True), 1)}
 FAMILIES |= {"lookups": (lookups, 5), "triple-parities": (triple_parities, 5)}
 FAMILIES |= {"implications": (implications, 100), "unseen": (unseen, 100), "long-clauses": (long_clauses, 50)}
-FAMILIES |= {"half-free": (half_free, 100), "one-set": (one_set, 50)}
+FAMILIES |= {"half-free": (half_free, 100), "one-set": (one_set, 50), "cubes": (cubes, 4)}
 
 
 def formula_of(family, size, seed, form):
