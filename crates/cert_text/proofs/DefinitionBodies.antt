@@ -3,9 +3,10 @@ use Rattle.std.proofs.Common.{◌≡◌, ℕ, ◌+◌, List, Result, Ok, Err, su
 use Rattle.dq_lits.specs.Formula.{Dqbf}
 use Rattle.dq_text.specs.Line.{LineCursor, lines_from}
 use Rattle.circuit_plain.specs.declared.circuits.Gate.{Gate}
+use Rattle.cert_text.specs.AllowedDefinitions.{first_definition_id}
 use Rattle.cert_text.specs.DefinitionLine.{definition_gates}
 use Rattle.cert_text.specs.DefinitionsRead.{IsStop}
-use Rattle.cert_text.specs.DefinitionText.{first_definition_id, read_definition}
+use Rattle.cert_text.specs.DefinitionText.{read_definition}
 use Rattle.cert_text.specs.ItemLine.{step_lines}
 use Rattle.cert_text.specs.Lines.{IsReadingUpTo, LinesRead, read_from, read_up_to}
 use Rattle.cert_text.specs.Variables.{is_up_to}

@@ -3,6 +3,7 @@ pub mod ReadBodies
 pub mod CanonicalLines
 pub mod CanonicalProof
 pub mod Checks
+pub mod SpelledBlocks
 pub mod SpelledHeaders
 pub mod Integers
 pub mod SpelledKinds
@@ -29,8 +30,9 @@ pub mod SpelledItems
 pub mod KeptItems
 pub mod StepsAlone
 pub mod DefinitionParts
-pub mod AllowedDefinitions
+pub mod SpelledDefinitions
 pub mod DefinitionBodies
 pub mod Marks
 mod WrittenBlocks
-mod ReadWrittenBlocks
+mod WrittenDefinitions
+pub mod TakenDefinitions

@@ -29,7 +29,7 @@ use Rattle.cert_text.proofs.SpelledProofs.{numbered_first}
 use Rattle.cert_text.proofs.Parts.{pair_positive, universals_positive}
 
 -- lines of blanks
-blanks_read : (n : ℕ) (lines : List TextLine) → by_tokens lines ≡ replicate n [] → blank_lines lines ≡ Ok tt
+pub blanks_read : (n : ℕ) (lines : List TextLine) → by_tokens lines ≡ replicate n [] → blank_lines lines ≡ Ok tt
 blanks_read n [] are = refl
 blanks_read zero (line ∷ lines) are = cc
 blanks_read (suc n) (line ∷ lines) are =
@@ -38,9 +38,9 @@ blanks_read (suc n) (line ∷ lines) are =
     ap (λ tokens. cond (has_no_token tokens) (blank_lines lines) (Err (refusal line.number BadLine))) here
     ∙ blanks_read n lines rest
 
-record AreBlank (lines : List TextLine) : Type 0 where
-  blanks : ℕ
-  are : by_tokens lines ≡ replicate blanks []
+pub record AreBlank (lines : List TextLine) : Type 0 where
+  pub blanks : ℕ
+  pub are : by_tokens lines ≡ replicate blanks []
 
 one_blank : (line : TextLine) (lines : List TextLine) (tokens : Tokens) → line_tokens line.text ≡ tokens →
     (blank_lines lines ≡ Ok tt → AreBlank lines) →
@@ -50,7 +50,7 @@ one_blank line lines [] is others h =
     record { blanks = suc rest.blanks; are = ap₂ (λ t ts. t ∷ ts) is rest.are }
 one_blank line lines (t ∷ ts) is others h = cc
 
-blanks_spelled : (lines : List TextLine) → blank_lines lines ≡ Ok tt → AreBlank lines
+pub blanks_spelled : (lines : List TextLine) → blank_lines lines ≡ Ok tt → AreBlank lines
 blanks_spelled [] h = record { blanks = 0; are = refl }
 blanks_spelled (line ∷ lines) h = one_blank line lines (line_tokens line.text) refl (blanks_spelled lines) h
 

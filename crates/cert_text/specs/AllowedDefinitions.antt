@@ -1,14 +1,23 @@
 -- What a text of definitions can hold for a formula.
-use Rattle.std.specs.Prelude.{◌≡◌, ℕ, ◌+◌, ◌<◌, ◌≤◌, true, List, [], ◌∷◌, length}
+use Rattle.std.specs.Prelude.{◌≡◌, ℕ, ◌+◌, ◌*◌, ◌<◌, ◌≤◌, ◌==◌, nat_lt, nat_le, Bool, true, ◌&&◌, ◌||◌, List, [], ◌∷◌, length}
 use Rattle.dq_lits.specs.Formula.{Dqbf}
-use Rattle.circuit_plain.specs.Netlist.{left_variable, right_variable}
+use Rattle.dq_formula.specs.Prefix.{is_declared}
+use Rattle.circuit_plain.specs.Netlist.{left_variable, literal_variable, right_variable}
 use Rattle.circuit_plain.specs.declared.circuits.Gate.{Gate}
 use Rattle.cert_text.specs.DefinitionBlocks.{Definition, Valuation, DefinitionBlock, defined, free}
-use Rattle.cert_text.specs.DefinitionLine.{is_output, is_readable}
-use Rattle.cert_text.specs.DefinitionText.{first_definition_id}
 use Rattle.cert_text.specs.Grammar.{AreSteps}
 use Rattle.cert_text.specs.Header.{max_count}
 use Rattle.cert_text.specs.Variables.{is_up_to}
+
+-- a constant, or a literal on a variable that the formula declares or that lies behind its own
+abbrev pub is_readable : Dqbf → ℕ → Bool
+is_readable f l =
+    (literal_variable l == 0)
+    || (nat_lt f.variables (literal_variable l) || is_declared f (literal_variable l))
+
+-- such a literal on none behind the variables of so many gates
+abbrev pub is_output : Dqbf → ℕ → ℕ → Bool
+is_output f gates l = is_readable f l && nat_le (literal_variable l) (f.variables + gates)
 
 -- a gate with this variable, which reads what is readable and lies before it
 pub record IsGateAt (f : Dqbf) (variable : ℕ) (g : Gate) : Type 0 where
@@ -22,6 +31,11 @@ pub record IsGateAt (f : Dqbf) (variable : ℕ) (g : Gate) : Type 0 where
 abbrev pub AreGatesFrom : Dqbf → ℕ → List Gate → Type 0
 AreGatesFrom f variable [] = Unit {0}
 AreGatesFrom f variable (g ∷ gates) = IsGateAt f variable g × AreGatesFrom f (variable + 1) gates
+
+-- the matrix, three clauses for each gate, and two for the existential and the output have the ids
+-- before the first step's
+abbrev pub first_definition_id : Dqbf → ℕ → ℕ
+first_definition_id f gates = length f.matrix + 3 * gates + 3
 
 -- gates behind the formula's variables, an output on one of these variables or a constant, and steps
 -- over these variables
@@ -48,3 +62,12 @@ AreBlocksOf f [] [] = Unit {0}
 AreBlocksOf f [] (_ ∷ _) = ⊥
 AreBlocksOf f (_ ∷ _) [] = ⊥
 AreBlocksOf f (y ∷ ys) (block ∷ blocks) = IsBlockOf f y block × AreBlocksOf f ys blocks
+
+-- a proof's lines are within their limit
+abbrev pub HasFewSteps : DefinitionBlock → Type 0
+HasFewSteps (defined d) = length d.steps ≤ max_count
+HasFewSteps (free p) = Unit {0}
+
+abbrev pub HaveFewSteps : List DefinitionBlock → Type 0
+HaveFewSteps [] = Unit {0}
+HaveFewSteps (block ∷ blocks) = HasFewSteps block × HaveFewSteps blocks

@@ -1,15 +1,15 @@
 -- The canonical text of definitions: one space between tokens, and LF at the end of each line.
-use Rattle.std.specs.Prelude.{◌≡◌, ◌≤◌, ℕ, ◌+◌, ◌*◌, Bool, List, [], ◌∷◌, ◌++◌, length, codes, Ok}
+use Rattle.std.specs.Prelude.{◌≡◌, ℕ, ◌*◌, Bool, List, ◌++◌, length, codes, Ok}
 use Rattle.std.specs.List.{flat_map, zip}
 use Rattle.dq_lits.specs.Formula.{Dqbf}
 use Rattle.dq_formula.specs.Prefix.{IsLawful, existential_variables}
 use Rattle.dq_text.specs.Written.{number_text, number_line, line_end}
 use Rattle.circuit_plain.specs.declared.circuits.Gate.{Gate}
-use Rattle.cert_text.specs.AllowedDefinitions.{AreBlocksOf}
+use Rattle.cert_text.specs.AllowedDefinitions.{AreBlocksOf, HaveFewSteps}
 use Rattle.cert_text.specs.Canonical.{row_text, signed_text, step_text}
 use Rattle.cert_text.specs.DefinitionBlocks.{Definition, DefinitionBlock, FreePair, Valuation, defined, free}
+use Rattle.cert_text.specs.DefinitionGrammar.{SpellsDefinitions}
 use Rattle.cert_text.specs.DefinitionText.{definitions_of}
-use Rattle.cert_text.specs.Header.{max_count}
 
 -- how many existentials the formula has
 abbrev pub definitions_header_text : ℕ → List ℕ
@@ -48,16 +48,13 @@ abbrev pub definitions_text : Dqbf → List DefinitionBlock → List ℕ
 definitions_text f blocks =
     definitions_header_text (length f.existentials) ++ flat_map (block_text f) blocks
 
--- a proof's lines are within their limit
-abbrev pub HasFewSteps : DefinitionBlock → Type 0
-HasFewSteps (defined d) = length d.steps ≤ max_count
-HasFewSteps (free p) = Unit {0}
+-- what is written is spelled, and read back
+abbrev pub WrittenDefinitionsSpell : Type 0
+WrittenDefinitionsSpell =
+    (f : Dqbf) (blocks : List DefinitionBlock) → IsLawful f
+    → AreBlocksOf f (existential_variables f) blocks → HaveFewSteps blocks
+    → SpellsDefinitions (definitions_text f blocks) f blocks
 
-abbrev pub HaveFewSteps : List DefinitionBlock → Type 0
-HaveFewSteps [] = Unit {0}
-HaveFewSteps (block ∷ blocks) = HasFewSteps block × HaveFewSteps blocks
-
--- what is written is read back
 abbrev pub WrittenDefinitionsAreRead : Type 0
 WrittenDefinitionsAreRead =
     (f : Dqbf) (blocks : List DefinitionBlock) (first : ℕ) → IsLawful f

@@ -4,9 +4,8 @@ use Rattle.std.specs.Prelude.{ℕ, ◌+◌, ◌*◌, ◌^◌, ◌==◌, nat_lt, 
 use Rattle.std.specs.Str.{bytes_eq}
 use Rattle.dq_lits.specs.Formula.{Dqbf}
 use Rattle.dq_text.specs.Number.{natural_of}
-use Rattle.dq_formula.specs.Prefix.{is_declared}
-use Rattle.circuit_plain.specs.Netlist.{literal_variable}
 use Rattle.circuit_plain.specs.declared.circuits.Gate.{Gate}
+use Rattle.cert_text.specs.AllowedDefinitions.{is_output, is_readable}
 use Rattle.cert_text.specs.Header.{max_count}
 use Rattle.cert_text.specs.LineStop.{and_then}
 use Rattle.cert_text.specs.Lines.{Format}
@@ -34,16 +33,6 @@ definitions_header f _ = Err BadHeader
 -- numbers of 10^18 or more
 abbrev pub is_large : ℕ → Bool
 is_large n = nat_le (10 ^ 18) n
-
--- a constant, or a literal on a variable that the formula declares or that lies behind its own
-abbrev pub is_readable : Dqbf → ℕ → Bool
-is_readable f l =
-    (literal_variable l == 0)
-    || (nat_lt f.variables (literal_variable l) || is_declared f (literal_variable l))
-
--- such a literal on none behind the variables of so many gates
-abbrev pub is_output : Dqbf → ℕ → ℕ → Bool
-is_output f gates l = is_readable f l && nat_le (literal_variable l) (f.variables + gates)
 
 abbrev pub checked_head : Dqbf → ℕ → ℕ → DefinedHead → Result BlockHead CertFault
 checked_head f next y head =

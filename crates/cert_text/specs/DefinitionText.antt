@@ -1,8 +1,9 @@
 -- The first fault of a text of definitions, line by line, or its blocks: this project's own format.
-use Rattle.std.specs.Prelude.{ℕ, ◌+◌, ◌*◌, List, [], ◌∷◌, length, Result, Ok, Err, codes}
+use Rattle.std.specs.Prelude.{ℕ, ◌+◌, List, [], ◌∷◌, Result, Ok, Err, codes}
 use Rattle.dq_lits.specs.Formula.{Dqbf}
 use Rattle.dq_text.specs.Line.{TextLine, LineCursor, line_tokens, lines_from}
 use Rattle.dq_formula.specs.Prefix.{existential_variables}
+use Rattle.cert_text.specs.AllowedDefinitions.{first_definition_id}
 use Rattle.cert_text.specs.DefinitionBlocks.{Definition, Valuation, FreePair, DefinitionBlock, defined, free}
 use Rattle.cert_text.specs.DefinitionLine.{definitions_header, definition_gates, head_line, signs_line}
 use Rattle.cert_text.specs.ItemLine.{step_lines}
@@ -30,11 +31,6 @@ next_line read [] number = Err (refusal number Truncated)
 next_line read (line ∷ lines) number =
     and_read (at_line line.number (read (line_tokens line.text)))
     (λ part. Ok (record { part = part; rest = lines; number = line.number + 1 }))
-
--- the matrix, three clauses for each gate, and two for the existential and the output have the ids
--- before the first step's
-abbrev pub first_definition_id : Dqbf → ℕ → ℕ
-first_definition_id f gates = length f.matrix + 3 * gates + 3
 
 -- `gates` lines of gates and `steps` lines of steps
 abbrev pub read_definition : Dqbf → ℕ → DefinedHead → List TextLine → ℕ

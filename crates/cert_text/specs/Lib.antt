@@ -3,6 +3,7 @@ pub mod Beginning
 pub mod Canonical
 pub mod CircuitProof
 pub mod DefinitionBlocks
+pub mod DefinitionGrammar
 pub mod DefinitionLine
 pub mod DefinitionText
 pub mod DefinitionsRead

@@ -3,7 +3,8 @@
 ghost use Rattle.std.specs.Prelude.{◌≡◌, ◌*◌, ◌≤◌, ◌<◌, ◌^◌, length, IfOk};
 ghost use Rattle.circuit_plain.specs.declared.circuits.Gate.{Gate};
 ghost use Rattle.dq_text.specs.Line.{line_tokens};
-ghost use Rattle.cert_text.specs.DefinitionLine.{checked_gate, checked_head, counted, defined_head, definition_gate, definitions_header, free_head, free_of, gate_of, head_line, head_of, is_large, is_output, is_readable, signs_line};
+ghost use Rattle.cert_text.specs.AllowedDefinitions.{is_readable, is_output};
+ghost use Rattle.cert_text.specs.DefinitionLine.{checked_gate, checked_head, counted, defined_head, definition_gate, definitions_header, free_head, free_of, gate_of, head_line, head_of, is_large, signs_line};
 ghost use Rattle.cert_text.specs.DefinitionsRead.{IsSmallHead};
 ghost use Rattle.cert_text.specs.LineStop.{IsLineOf};
 

@@ -3,8 +3,9 @@
 ghost use Rattle.std.specs.Prelude.{◌≡◌, ◌+◌, ◌*◌, ◌≤◌, ◌<◌, ◌^◌, ◌++◌, ◌∷◌, [], length, IfOk, OnOk};
 ghost use Rattle.circuit_plain.specs.declared.circuits.Gate.{Gate};
 ghost use Rattle.dq_text.specs.Line.{lines_from};
+ghost use Rattle.cert_text.specs.AllowedDefinitions.{first_definition_id};
 ghost use Rattle.cert_text.specs.DefinitionLine.{definition_gates, head_line, signs_line};
-ghost use Rattle.cert_text.specs.DefinitionText.{first_definition_id, next_line, read_behind_head, read_block, read_definition, read_pair, read_valuation};
+ghost use Rattle.cert_text.specs.DefinitionText.{next_line, read_behind_head, read_block, read_definition, read_pair, read_valuation};
 ghost use Rattle.cert_text.specs.DefinitionsRead.{AreGatesRead, IsPartRead, IsSmallHead, block_seen, definition_seen, itself, pair_seen, valuation_seen};
 ghost use Rattle.cert_text.specs.ItemLine.{step_lines};
 ghost use Rattle.cert_text.specs.Lines.{IsReadInto, IsReadingUpTo, put_behind, read_from};

@@ -1,4 +1,5 @@
-//! The negated matrix, held against a small formula with two circuits.
+//! The negated matrix, held against a small formula with two circuits, and the grammar of definitions,
+//! held against a small text.
 //!
 //! A definition can't be run; these theorems show that it says what it is to say.
 
@@ -6,7 +7,8 @@ ghost use Rattle.std.specs.Prelude.{◌≡◌, [], ◌∷◌, Some, None, map};
 ghost use Rattle.dq_lits.specs.Literal.{positive, negative};
 ghost use Rattle.dq_lits.specs.Derivation.{Derives};
 ghost use Rattle.cert_text.specs.CircuitProof.{first_proof_id};
-ghost use Rattle.cert_text.specs.Examples.{conjunction, gate_circuit, false_circuit, literal_with_output, conjunction_proof};
+ghost use Rattle.cert_text.specs.DefinitionGrammar.{SpellsDefinitions};
+ghost use Rattle.cert_text.specs.Examples.{conjunction, conjunction_beside, conjunction_definitions, conjunction_definitions_text, gate_circuit, false_circuit, literal_with_output, conjunction_proof};
 ghost use Rattle.cert_text.specs.NegatedMatrix.{negated_matrix};
 
 /// A gate that is the conjunction: the clauses of the gate, those of each clause of the formula,
@@ -37,4 +39,10 @@ pub fn constants_are_put_in()
         (5 ∷ 6 ∷ [])
         ≡ None ∷ Some (negative 5 ∷ positive 1 ∷ []) ∷ [] }
     ensures next { first_proof_id conjunction false_circuit ≡ 9 }
+{}
+
+/// A gate with its proof in two lines, and two assignments that differ on the existential alone.
+pub fn definitions_are_spelled()
+    ensures { SpellsDefinitions conjunction_definitions_text conjunction_beside
+        conjunction_definitions }
 {}

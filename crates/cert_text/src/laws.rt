@@ -11,9 +11,10 @@ ghost use Rattle.rup_core.specs.Items.{ProofItem, derived};
 ghost use Rattle.cert_text.specs.AllowedDefinitions.{AreBlocksOf, IsBlockOf};
 ghost use Rattle.cert_text.specs.Beginning.{Begins};
 ghost use Rattle.cert_text.specs.Canonical.{canonical, canonical_proof, version_for};
-ghost use Rattle.cert_text.specs.CanonicalDefinitions.{WrittenDefinitionsAreRead};
+ghost use Rattle.cert_text.specs.CanonicalDefinitions.{WrittenDefinitionsAreRead, WrittenDefinitionsSpell};
 ghost use Rattle.cert_text.specs.CircuitProof.{circuit_proof_of};
 ghost use Rattle.cert_text.specs.DefinitionBlocks.{DefinitionBlock};
+ghost use Rattle.cert_text.specs.DefinitionGrammar.{SpellsDefinitions};
 ghost use Rattle.cert_text.specs.DefinitionText.{PartRead, definitions_of, read_block};
 ghost use Rattle.cert_text.specs.Grammar.{AreItems, AreSteps, IsDqrOf, IsItem, IsPairNumber, SpellsRefutation};
 ghost use Rattle.cert_text.specs.ItemLine.{as_items, item_line, item_lines, step_lines};
@@ -118,6 +119,22 @@ pub fn version_one_has_steps_alone()
     ensures written { (steps : List ProofStep) → version_for (map derived steps) ≡ One }
 {}
 
+/// A text spells definitions for a formula in one way, or it has a first fault, and never both. The
+/// number of its first line says only which line a fault names. Every formula is lawful
+/// (`Formula::every_formula_is_lawful`).
+pub fn definitions_or_first_fault()
+    ensures exact { (text : List ℕ) (first : ℕ) (f : Dqbf) (blocks : List DefinitionBlock)
+        → IsLawful f
+        → SpellsDefinitions text f blocks ↔ (definitions_of f text first ≡ Ok blocks) }
+    ensures spelled { (text : List ℕ) (first : ℕ) (f : Dqbf) (blocks : List DefinitionBlock)
+        → definitions_of f text first ≡ Ok blocks → SpellsDefinitions text f blocks }
+    ensures unique { (text : List ℕ) (f : Dqbf) (a b : List DefinitionBlock) → IsLawful f
+        → SpellsDefinitions text f a → SpellsDefinitions text f b → a ≡ b }
+    ensures either { (text : List ℕ) (first : ℕ) (f : Dqbf)
+        → ((blocks : List DefinitionBlock) × SpellsDefinitions text f blocks)
+        ⊎ ((fault : CertRefusal) × (definitions_of f text first ≡ Err fault)) }
+{}
+
 /// What is read as a text of definitions may stand there: a block for each existential, in order.
 pub fn definitions_are_lawful()
     ensures block { (f : Dqbf) (y : ℕ) (lines : List TextLine) (number : ℕ)
@@ -128,7 +145,8 @@ pub fn definitions_are_lawful()
         → AreBlocksOf f (existential_variables f) blocks }
 {}
 
-/// Blocks that may stand there are read back from their canonical text.
+/// The canonical text of blocks that may stand there spells them, so that reading it gives them back.
 pub fn written_definitions_are_read()
-    ensures { WrittenDefinitionsAreRead }
+    ensures spells { WrittenDefinitionsSpell }
+    ensures reads_back { WrittenDefinitionsAreRead }
 {}

@@ -7,9 +7,8 @@ use Rattle.dq_lits.specs.Formula.{Existential, Dqbf}
 use Rattle.circuit_plain.specs.Netlist.{Netlist, gate_value, left_variable, right_variable, literal_variable, signed_bit}
 use Rattle.circuit_plain.specs.Reach.{Reaches, itself, left, right}
 use Rattle.circuit_plain.specs.declared.circuits.Gate.{Gate}
-use Rattle.cert_text.specs.AllowedDefinitions.{AreGatesFrom, IsDefinitionOf}
+use Rattle.cert_text.specs.AllowedDefinitions.{AreGatesFrom, IsDefinitionOf, is_readable}
 use Rattle.cert_text.specs.DefinitionBlocks.{Definition}
-use Rattle.cert_text.specs.DefinitionLine.{is_readable}
 use Rattle.defined_checker.specs.DefinitionReads.{definition_netlist}
 use Rattle.defined_checker.specs.Forced.{definition_value, with_bit, with_gates}
 use Rattle.defined_checker.specs.FreePairs.{AreAlike}

@@ -5,9 +5,8 @@ use Rattle.std.proofs.lemmas.Bool.{and_parts, leb-true}
 use Rattle.dq_lits.specs.Formula.{Dqbf}
 use Rattle.circuit_plain.specs.Netlist.{left_variable, right_variable, literal_variable}
 use Rattle.circuit_plain.specs.declared.circuits.Gate.{Gate}
-use Rattle.cert_text.specs.AllowedDefinitions.{AreGatesFrom, IsDefinitionOf, IsGateAt}
+use Rattle.cert_text.specs.AllowedDefinitions.{AreGatesFrom, IsDefinitionOf, IsGateAt, is_readable}
 use Rattle.cert_text.specs.DefinitionBlocks.{Definition}
-use Rattle.cert_text.specs.DefinitionLine.{is_readable}
 use Rattle.cert_text.specs.NegatedMatrix.{gate_clauses}
 use Rattle.defined_checker.specs.Bases.{IsSmallGate}
 

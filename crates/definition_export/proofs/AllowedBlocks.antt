@@ -18,10 +18,8 @@ use Rattle.hint_log.specs.declared.origins.Leaf.TheVariants.{Constant, Literal a
 use Rattle.circuit_plain.specs.Netlist.{Netlist, left_variable, right_variable, literal_variable}
 use Rattle.circuit_plain.specs.Reach.{Reaches, itself, left, right}
 use Rattle.circuit_plain.specs.declared.circuits.Gate.{Gate}
-use Rattle.cert_text.specs.AllowedDefinitions.{IsGateAt, AreGatesFrom, IsDefinitionOf}
+use Rattle.cert_text.specs.AllowedDefinitions.{IsGateAt, AreGatesFrom, IsDefinitionOf, is_readable, is_output, first_definition_id}
 use Rattle.cert_text.specs.DefinitionBlocks.{Definition}
-use Rattle.cert_text.specs.DefinitionLine.{is_output, is_readable}
-use Rattle.cert_text.specs.DefinitionText.{first_definition_id}
 use Rattle.cert_text.specs.Grammar.{AreSteps}
 use Rattle.cert_text.specs.Header.{max_count}
 use Rattle.cert_text.specs.Variables.{is_up_to}

@@ -18,8 +18,8 @@ use Rattle.hint_log.specs.declared.origins.Leaf.{Leaf}
 use Rattle.hint_log.specs.declared.origins.Leaf.TheVariants.{Literal as LeafLiteral}
 use Rattle.hint_log.specs.declared.origins.Origin.{Origin}
 use Rattle.hint_log.specs.declared.origins.Origin.TheVariants.{Instance, Gate as GateOf, Fault, Copy, Link, TermGate, Differ}
+use Rattle.cert_text.specs.AllowedDefinitions.{first_definition_id}
 use Rattle.cert_text.specs.DefinitionBlocks.{Definition}
-use Rattle.cert_text.specs.DefinitionText.{first_definition_id}
 use Rattle.cert_text.specs.Variables.{is_up_to}
 use Rattle.cert_text.specs.Grammar.{AreSteps}
 use Rattle.defined_checker.specs.DefinitionBase.{definition_base}

@@ -4,8 +4,8 @@ use Rattle.dq_lits.specs.Formula.{Dqbf}
 use Rattle.dq_formula.specs.Prefix.{IsLawful, existential_variables}
 use Rattle.hint_log.specs.Entries.{ProofLog, rounds_of}
 use Rattle.hint_log.specs.ProductiveLog.{IsProductiveLog}
-use Rattle.cert_text.specs.AllowedDefinitions.{AreBlocksOf}
-use Rattle.cert_text.specs.CanonicalDefinitions.{HaveFewSteps, definitions_text}
+use Rattle.cert_text.specs.AllowedDefinitions.{AreBlocksOf, HaveFewSteps}
+use Rattle.cert_text.specs.CanonicalDefinitions.{definitions_text}
 use Rattle.cert_text.specs.DefinitionBlocks.{DefinitionBlock}
 use Rattle.defined_checker.specs.Judging.{AreJudged, IsChecked, counts_of, no_counts}
 

@@ -1,5 +1,12 @@
-use Rattle.cert_text.proofs.ReadWrittenBlocks.{written_definitions_are_read}
+use Rattle.cert_text.specs.CanonicalDefinitions.{definitions_text}
+use Rattle.cert_text.proofs.TakenDefinitions.{spelled_is_read}
+use Rattle.cert_text.proofs.WrittenDefinitions.{written_definitions_spell}
 use Rattle.cert_text.proofs.laws.written_definitions_are_read.Goals as goal
 
-pub returns : goal.returns
-returns c f blocks first lawful are few = written_definitions_are_read f blocks first lawful are few
+pub returns-clause-spells : goal.returns-clause-spells
+returns-clause-spells c f blocks lawful are few = written_definitions_spell f blocks lawful are few
+
+pub returns-clause-reads_back : goal.returns-clause-reads_back
+returns-clause-reads_back c f blocks first lawful are few =
+    spelled_is_read (definitions_text f blocks) first f blocks lawful
+    (written_definitions_spell f blocks lawful are few)

@@ -1,5 +1,5 @@
 use Rattle.std.proofs.Common.{◌+◌, length, arith}
-use Rattle.cert_text.specs.DefinitionText.{first_definition_id}
+use Rattle.cert_text.specs.AllowedDefinitions.{first_definition_id}
 use Rattle.cert_text.specs.Variables.{is_up_to}
 use Rattle.defined_checker.proofs.JudgedSteps.{numbered}
 use Rattle.defined_checker.proofs.steps.steps_fault.Goals as goal

@@ -7,7 +7,7 @@ returns c f text first lawful is = (
   is.blocks,
   (
     ap (λ t. definitions_of f t first) is.written
-        ∙ c.written_definitions_are_read.ensures f is.blocks first lawful is.right.each is.right.few,
+        ∙ c.written_definitions_are_read.ensures.reads_back f is.blocks first lawful is.right.each is.right.few,
     (is.right.judged, refl),
   ),
 )
