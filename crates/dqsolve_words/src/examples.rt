@@ -1,7 +1,8 @@
 //! Command lines that are written out, and what they ask for.
 
 ghost use Rattle.std.specs.Prelude.{◌≡◌, true, false, [], ◌∷◌, Some, None, codes};
-ghost use Rattle.dqsolve_words.specs.Command.{command_of, default_steps};
+ghost use Rattle.dqsolve_words.specs.Command.{default_steps};
+ghost use Rattle.dqsolve_words.specs.Spelling.{spelled_command};
 ghost use Rattle.dqsolve_words.specs.Examples.{default_options, solving, solving_with, planting, comparing, encoding, defining, conversing, dqsolve};
 
 /// Options stand before or behind the name, the number of steps also behind `=`.
@@ -120,7 +121,7 @@ pub fn sessions_are_taken()
 
 /// Other words are refused, not even those of most programs are taken.
 pub fn other_words_are_refused()
-    ensures no_words { command_of [] ≡ None }
+    ensures no_words { spelled_command [] ≡ None }
     ensures nothing { dqsolve [] ≡ None }
     ensures no_name { dqsolve (codes "solve" ∷ []) ≡ None }
     ensures two_names { dqsolve (codes "solve" ∷ codes "f" ∷ codes "g" ∷ []) ≡ None }
