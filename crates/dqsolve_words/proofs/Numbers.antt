@@ -68,16 +68,7 @@ module _ (least most : ℕ) (text : Text) (small : most < 2 ^ 64) where
   go_refused true is none = absurd (none refl)
   go_refused false is none = sym (by_test false is)
 
-  -- another number isn't
-  pub number_outside : {E : Type 0} (r : Result ℕ E) (n : ℕ) → ParsesUnsigned 64 10 text r → r ≡ Ok n →
-      (least ≤ n → n ≤ most → ⊥) → None ≡ number_in least most text
-  number_outside r n parsed is outside =
-      go_refused (is_unsigned_in least most text) refl (λ yes.
-      let (parts, same) = OkIff-at_ok r _ (value text) n parsed is in
-      let (numeral, fits, low, high) = accepts-Accepts false (vp.Unsigned least most) text yes in
-      outside (omega (arith, low, same)) (omega (arith, high, same)))
-
-  -- and nothing else
+  -- what is no number isn't
   pub no_number : {E : Type 0} (r : Result ℕ E) (e : E) → ParsesUnsigned 64 10 text r → r ≡ Err e →
       None ≡ number_in least most text
   no_number (Ok n) e parsed is = cc

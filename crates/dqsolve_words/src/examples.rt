@@ -132,3 +132,24 @@ pub fn other_words_are_refused()
     ensures help_option { dqsolve (codes "solve" ∷ codes "--help" ∷ []) ≡ None }
     ensures version { dqsolve (codes "--version" ∷ []) ≡ None }
 {}
+
+/// A minus alone and an empty word are names, and behind `--` each word is one; an option is no value
+/// of another one, has its whole name, and is given once.
+pub fn odd_words_are_read()
+    ensures minus { dqsolve (codes "solve" ∷ codes "-" ∷ [])
+        ≡ Some (solving default_steps false (codes "-")) }
+    ensures empty { dqsolve (codes "solve" ∷ codes "" ∷ [])
+        ≡ Some (solving default_steps false (codes "")) }
+    ensures behind { dqsolve (codes "session" ∷ codes "f" ∷ codes "--" ∷ codes "--" ∷ [])
+        ≡ Some (conversing default_steps (codes "f") (codes "--")) }
+    ensures before { dqsolve (codes "--" ∷ codes "solve" ∷ codes "f" ∷ []) ≡ None }
+    ensures negative { dqsolve (codes "solve" ∷ codes "--steps" ∷ codes "-7" ∷ codes "f" ∷ [])
+        ≡ None }
+    ensures separator { dqsolve
+        (codes "solve" ∷ codes "--steps" ∷ codes "--" ∷ codes "7" ∷ codes "f" ∷ []) ≡ None }
+    ensures no_value { dqsolve (codes "solve" ∷ codes "--steps=" ∷ codes "f" ∷ []) ≡ None }
+    ensures valued { dqsolve (codes "solve" ∷ codes "--bare=true" ∷ codes "f" ∷ []) ≡ None }
+    ensures shortened { dqsolve (codes "solve" ∷ codes "--step=7" ∷ codes "f" ∷ []) ≡ None }
+    ensures twice { dqsolve (codes "solve" ∷ codes "--bare" ∷ codes "--bare" ∷ codes "f" ∷ [])
+        ≡ None }
+{}
