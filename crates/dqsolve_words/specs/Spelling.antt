@@ -17,12 +17,13 @@ pub record Usage : Type 0 where
 abbrev pub usage : Bool → List (List ℕ) → List (List ℕ) → Usage
 usage steps flags places = record { steps = steps; flags = flags; places = places }
 
+abbrev pub solve_flags : List (List ℕ)
+solve_flags = codes "bare" ∷ codes "v2" ∷ codes "prep" ∷ codes "binary" ∷ []
+
 -- the subcommands
 abbrev pub usages : List (List ℕ × Usage)
-usages = (
-  codes "solve",
-  usage true (codes "bare" ∷ codes "v2" ∷ codes "prep" ∷ codes "binary" ∷ []) (codes "FILE" ∷ []),
-)
+usages =
+    (codes "solve", usage true solve_flags (codes "FILE" ∷ []))
     ∷ (codes "demo", usage false [] (codes "SEED" ∷ codes "SIZE" ∷ []))
     ∷ (codes "pec", usage true [] (codes "SPEC" ∷ codes "IMPL" ∷ []))
     ∷ (codes "encode", usage false [] (codes "SPEC" ∷ codes "IMPL" ∷ []))
