@@ -9,7 +9,7 @@ ghost use Rattle.dq_runs.specs.Sinks.{sink_of};
 ghost use Rattle.cert_judge.specs.Judgement.{IsJudgement};
 ghost use Rattle.cert_judge.specs.Streams.{StandsFor};
 ghost use Rattle.cert_judge.specs.declared.answers.Judgement.{Judgement};
-ghost use Rattle.dqcheck_words.specs.Command.{command_of};
+ghost use Rattle.dqcheck_words.specs.Spelling.{spelled_command};
 ghost use Rattle.dqcheck_core.specs.Outputs.{IsReported, IsReportedBehind};
 ghost use Rattle.dqcheck_core.specs.Report.{judged, printed_report};
 ghost use Rattle.dqcheck_core.specs.Running.{IsDue};
@@ -34,11 +34,12 @@ const PIECE: usize = 65536;
 
 /// Judges the certificate in one file for the formula in another, and writes one line.
 ///
-/// The words are the program's name and the files' names, as clap reads them. The status is 0 where
-/// the certificate is accepted, 1 where the words are others, 2 where the formula's text has a
-/// fault, 3 where a file can't be read, 4 where the line can't be written, 5 for want of memory, 6
-/// where a file is too long, 7 where the certificate's text has a fault, 8 where the certificate is
-/// wrong, and 9 where it has no proof and there are too many universals to try all rows.
+/// The words are the program's name and the files' names, spelled as `spelled_command` of
+/// `dqcheck_words` says. The status is 0 where the certificate is accepted, 1 where the words are
+/// others, 2 where the formula's text has a fault, 3 where a file can't be read, 4 where the line
+/// can't be written, 5 for want of memory, 6 where a file is too long, 7 where the certificate's text
+/// has a fault, 8 where the certificate is wrong, and 9 where it has no proof and there are too many
+/// universals to try all rows.
 pub fn dqcheck_run<F: Files, K: Sink>(
     alloc: Global,
     words: &[String],
@@ -48,17 +49,17 @@ pub fn dqcheck_run<F: Files, K: Sink>(
     // What is written is the line that is due, and the status is that line's.
     ensures ends { Ends
         (IsDue (state_of F.Files files.old) (state_of F.Files files.new)
-        (command_of (map string_bytes words.now)))
+        (spelled_command (map string_bytes words.now)))
         (sink_of K.Sink out.old) (sink_of K.Sink out.new) result }
 
     // Over files that are told: what is accepted is right, and where nothing failed, the
     // certificate is judged.
     ensures told { JudgesTold (state_of F.Files files.old) (state_of F.Files files.new)
-        (command_of (map string_bytes words.now))
+        (spelled_command (map string_bytes words.now))
         (sink_of K.Sink out.old) (sink_of K.Sink out.new) result }
 
     // Each refusal has its cause, and no fault is passed over, over all files and sinks.
-    ensures causes { HasCauses (command_of (map string_bytes words.now))
+    ensures causes { HasCauses (spelled_command (map string_bytes words.now))
         (state_of F.Files files.old) (state_of F.Files files.new)
         (sink_of K.Sink out.old) (sink_of K.Sink out.new) result }
 {
@@ -73,7 +74,7 @@ pub fn dqcheck_run<F: Files, K: Sink>(
 fn report<F: Files>(alloc: Global, words: &[String], files: &mut F) -> Result<Output, Memory>
     ensures reported { IfOk result
         (IsReported (state_of F.Files files.old) (state_of F.Files files.new)
-        (command_of (map string_bytes words.now))) }
+        (spelled_command (map string_bytes words.now))) }
     ensures held { F.held files.new ≡ F.held files.old }
 {
     match file_names(alloc, words)? {

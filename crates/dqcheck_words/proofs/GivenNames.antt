@@ -9,7 +9,7 @@ use Rattle.clap.specs.Faults.{fault_of, is_simple_and_free}
 use Rattle.clap.specs.Takes.{takes}
 use Rattle.clap.specs.declared.parser.matches.Found.{Found}
 use Rattle.clap.proofs.WalkLemmas.{first_value-rows}
-use Rattle.dqcheck_words.specs.Command.{HasNames, checker_app, command_of, given_to, named_by}
+use Rattle.dqcheck_words.specs.Parsed.{HasNames, checker_app, command_of, given_to, named_by}
 use Rattle.dqcheck_words.proofs.Spelled.{AreNames, names_without_fault, rows_of_names}
 
 -- where an argument was given a name, the getter finds one

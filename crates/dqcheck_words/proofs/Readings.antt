@@ -6,10 +6,10 @@ use Rattle.std.specs.Str.{IsUtf8, chars, encode_utf8_all}
 use Rattle.std.specs.Char.{encode_utf8}
 use Rattle.std.proofs.lemmas.Str.{encodes-chars}
 use Rattle.clap.specs.Walk.{Text}
-use Rattle.dqcheck_words.specs.Command.{Command, command_of}
-use Rattle.dqcheck_words.specs.Spelling.{command_named, is_option, is_separator, names_among}
+use Rattle.dqcheck_words.specs.Command.{Command}
+use Rattle.dqcheck_words.specs.Spelling.{command_named, is_option, is_separator, names_among, spelled_command}
 use Rattle.dqcheck_words.proofs.Words.{kind_of_word, ordinary, refused, separator}
-use Rattle.dqcheck_words.proofs.Spelled.{among_ordinary, among_refused, command_is_spelled}
+use Rattle.dqcheck_words.proofs.Spelled.{among_ordinary, among_refused}
 
 abbrev pub AreNoOptions : List Text → Type 0
 AreNoOptions names = All (λ name. is_option name ≡ false) names
@@ -51,24 +51,24 @@ abbrev named : Option (List Text) → Option Command
 named = option_and_then command_named
 
 pub names_taken : (program : Text) (names : List Text) → AreNoOptions names →
-    command_of (program ∷ names) ≡ command_named names
-names_taken program names all = command_is_spelled (program ∷ names)
-    ∙ ap (λ words. named (names_among words)) (sym (append-nil names)) ∙ ap named (among_names names [] all)
+    spelled_command (program ∷ names) ≡ command_named names
+unfolding spelled_command
+names_taken program names all = ap (λ words. named (names_among words)) (sym (append-nil names)) ∙ ap named (among_names names [] all)
     ∙ ap command_named (append-nil names)
 
 pub names_behind_separator : (program word : Text) (before names : List Text) → AreNoOptions before →
     is_separator word ≡ true
-    → command_of (program ∷ before ++ word ∷ names) ≡ command_named (before ++ names)
-names_behind_separator program word before names all dashes = command_is_spelled (program ∷ before ++ word ∷ names)
-    ∙ ap named (among_names before (word ∷ names) all)
+    → spelled_command (program ∷ before ++ word ∷ names) ≡ command_named (before ++ names)
+unfolding spelled_command
+names_behind_separator program word before names all dashes = ap named (among_names before (word ∷ names) all)
     ∙ ap (λ b. named (option_map (λ more. before ++ more) (cond b (Some names)
     (cond (is_option word) None (option_map (λ more. word ∷ more) (names_among names)))))) dashes
 
 pub option_refused : (program word : Text) (before behind : List Text) → AreNoOptions before → is_option word ≡ true →
     is_separator word ≡ false
-    → command_of (program ∷ before ++ word ∷ behind) ≡ None
-option_refused program word before behind all minus dashes = command_is_spelled (program ∷ before ++ word ∷ behind)
-    ∙ ap named (among_names before (word ∷ behind) all)
+    → spelled_command (program ∷ before ++ word ∷ behind) ≡ None
+unfolding spelled_command
+option_refused program word before behind all minus dashes = ap named (among_names before (word ∷ behind) all)
     ∙ ap (λ o. named (option_map (λ more. before ++ more) o)) (among_refused word behind dashes minus)
 
 -- a text that isn't empty has a character

@@ -10,7 +10,8 @@ use Rattle.clap.specs.Takes.{default_passes, entered_passes, is_valid, settle_pa
 use Rattle.clap.specs.declared.builder.value_parser.Reading.TheVariants as reading
 use Rattle.clap.specs.declared.parser.matches.ValueSource.TheVariants.{CommandLine}
 use Rattle.clap.proofs.OnLiterals.{clap_on_literals}
-use Rattle.dqcheck_words.specs.Command.{Command, checker_app, command_of, named_by}
+use Rattle.dqcheck_words.specs.Command.{Command}
+use Rattle.dqcheck_words.specs.Parsed.{checker_app, command_of, named_by}
 use Rattle.dqcheck_words.specs.Spelling.{command_named, is_option, is_separator, names_among, spelled_command}
 use Rattle.dqcheck_words.proofs.Words.{IsPlain, IsRefused, kind_of_word, ordinary, refused, rules, separator, top, unknown}
 
@@ -257,6 +258,7 @@ at_begun (word ∷ words) = elim (kind_of_word word) [
 
 words_give : (words : List Text) → Gives (fault_of checker_app words) (takes checker_app words)
     (matches_of checker_app words) (spelled_command words)
+unfolding spelled_command
 words_give [] = at_begun []
 words_give (program ∷ words) = at_begun words
 

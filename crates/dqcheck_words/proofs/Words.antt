@@ -10,7 +10,7 @@ use Rattle.clap.specs.Kinds.{Kinds}
 use Rattle.clap.specs.Faults.{bundle_fault, bundle_step_fault, flag_word_fault, flags_fault, word_fault}
 use Rattle.clap.specs.Takes.{bundle_passes, bundle_step_passes, flag_word_passes, flags_pass, word_passes}
 use Rattle.clap.specs.declared.error.kind.ErrorKind.TheVariants as kind
-use Rattle.dqcheck_words.specs.Command.{checker_app}
+use Rattle.dqcheck_words.specs.Parsed.{checker_app}
 use Rattle.dqcheck_words.specs.Spelling.{is_option, is_separator}
 
 -- the command as clap builds it

@@ -1,3 +1,4 @@
 pub mod Command
 pub mod Examples
+pub mod Parsed
 pub mod Spelling

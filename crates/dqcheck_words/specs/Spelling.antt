@@ -1,4 +1,5 @@
--- How a command line is spelled, in plain words, beside the meaning that clap gives it.
+-- How a command line is spelled. Words are texts in UTF-8: where one isn't, the program can't take
+-- it, and says how it is used.
 use Rattle.std.specs.Prelude.{ℕ, ◌==◌, ◌&&◌, Bool, false, List, [], ◌∷◌, Option, None, Some, is_some, slice_get, option_map, option_and_then, if◌then◌else◌}
 use Rattle.std.specs.Str.{bytes_eq, chars}
 use Rattle.dqcheck_words.specs.Command.{Command}
@@ -24,7 +25,8 @@ command_named (formula ∷ certificate ∷ []) =
     Some (record { formula = formula; certificate = certificate })
 command_named _ = None
 
--- what the words spell, behind the program's own name
-abbrev pub spelled_command : List (List ℕ) → Option Command
+-- what the words ask for, of which the first is the program's own name; what callers need of it
+-- stands in the laws, so it doesn't unfold in their proofs
+unfoldable pub spelled_command : List (List ℕ) → Option Command
 spelled_command [] = None
 spelled_command (_ ∷ words) = option_and_then command_named (names_among words)

@@ -1,7 +1,7 @@
 //! Command lines that are written out, and what they ask for.
 
 ghost use Rattle.std.specs.Prelude.{◌≡◌, [], ◌∷◌, Some, None, codes};
-ghost use Rattle.dqcheck_words.specs.Command.{command_of};
+ghost use Rattle.dqcheck_words.specs.Spelling.{spelled_command};
 ghost use Rattle.dqcheck_words.specs.Examples.{files, dqcheck};
 
 /// Two names are taken, also a minus alone and an empty word.
@@ -13,7 +13,7 @@ pub fn two_names_are_taken()
 
 /// Another number of names is refused, and so are no words at all.
 pub fn other_numbers_are_refused()
-    ensures no_words { command_of [] ≡ None }
+    ensures no_words { spelled_command [] ≡ None }
     ensures no_name { dqcheck [] ≡ None }
     ensures one { dqcheck (codes "f" ∷ []) ≡ None }
     ensures three { dqcheck (codes "f" ∷ codes "c" ∷ codes "g" ∷ []) ≡ None }

@@ -2,7 +2,8 @@
 
 ghost use Rattle.std.specs.Prelude.{◌≡◌, false, map, string_bytes, Some, None, MatchOption, IfOk};
 ghost use Rattle.clap.specs.Words.{app_of, found_of, rows_of, rule_of};
-ghost use Rattle.dqcheck_words.specs.Command.{command_of, checker_app, required_file, HasNames, named_by};
+ghost use Rattle.dqcheck_words.specs.Parsed.{checker_app, required_file, HasNames, named_by};
+ghost use Rattle.dqcheck_words.specs.Spelling.{spelled_command};
 
 use clap::error::ErrorKind;
 use clap::{Arg, ArgAction, ArgMatches, Command};
@@ -56,8 +57,8 @@ fn names_in<'a>(matches: &ArgMatches<'a>) -> FileNames<'a>
 /// program's own name.
 pub fn file_names<'a>(alloc: Global, words: &'a [String]) -> Result<Option<FileNames<'a>>, Memory>
     ensures { IfOk result
-        (λ answer. MatchOption answer (command_of (map string_bytes words.now) ≡ None)
-        (λ names. command_of (map string_bytes words.now)
+        (λ answer. MatchOption answer (spelled_command (map string_bytes words.now) ≡ None)
+        (λ names. spelled_command (map string_bytes words.now)
         ≡ Some (record { formula = names.formula.now; certificate = names.certificate.now }))) }
 {
     let command = checker_command(alloc)?;

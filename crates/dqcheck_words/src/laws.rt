@@ -1,13 +1,13 @@
-//! What `command_of` means, in plain words.
+//! What `spelled_command` means.
 //!
 //! Each law is the contract of a function without parameters and with an empty body: it holds of
-//! all words, and a caller that needs it calls the function. The first says all; the others read
-//! it.
+//! all words, and a caller that needs it calls the function. The first says that it is what clap
+//! makes of the words; the others read it.
 
 ghost use Rattle.std.specs.Prelude.{◌≡◌, ℕ, true, false, List, [], ◌∷◌, ◌++◌, None};
 ghost use Rattle.std.specs.List.{All};
 ghost use Rattle.std.specs.Str.{IsUtf8};
-ghost use Rattle.dqcheck_words.specs.Command.{command_of};
+ghost use Rattle.dqcheck_words.specs.Parsed.{command_of};
 ghost use Rattle.dqcheck_words.specs.Spelling.{command_named, is_option, is_separator, spelled_command};
 
 /// Behind the program's name stand two names, the formula's first. An option is refused, and `--`
@@ -20,7 +20,7 @@ pub fn words_are_spelled()
 pub fn names_are_taken()
     ensures { (program : List ℕ) (names : List (List ℕ))
         → All (λ name. is_option name ≡ false) names
-        → command_of (program ∷ names) ≡ command_named names }
+        → spelled_command (program ∷ names) ≡ command_named names }
 {}
 
 /// Behind `--` each word is a name, whatever it begins with.
@@ -28,7 +28,7 @@ pub fn names_behind_separator_are_taken()
     ensures { (program separator : List ℕ) (before names : List (List ℕ))
         → All (λ name. is_option name ≡ false) before
         → is_separator separator ≡ true
-        → command_of (program ∷ before ++ separator ∷ names) ≡ command_named (before ++ names) }
+        → spelled_command (program ∷ before ++ separator ∷ names) ≡ command_named (before ++ names) }
 {}
 
 /// An option that no `--` stands before is refused, also `--help`, whatever follows it.
@@ -36,7 +36,7 @@ pub fn options_are_refused()
     ensures { (program option : List ℕ) (before behind : List (List ℕ))
         → All (λ name. is_option name ≡ false) before
         → is_option option ≡ true → is_separator option ≡ false
-        → command_of (program ∷ before ++ option ∷ behind) ≡ None }
+        → spelled_command (program ∷ before ++ option ∷ behind) ≡ None }
 {}
 
 /// In text, what begins with a minus and isn't the minus alone is an option.

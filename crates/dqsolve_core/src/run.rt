@@ -8,7 +8,8 @@ ghost use Rattle.hint_log.specs.ProductiveLog.{IsProductiveLog};
 ghost use Rattle.planted_formulas.specs.Planted.{planted_formula};
 ghost use Rattle.dq_runs.specs.Ending.{Ends, HasCauses};
 ghost use Rattle.dq_runs.specs.Sinks.{sink_of};
-ghost use Rattle.dqsolve_words.specs.Command.{Command, solve, pec, defined, session, command_of, most_seed, least_size, most_size, default_steps};
+ghost use Rattle.dqsolve_words.specs.Command.{Command, solve, pec, defined, session, most_seed, least_size, most_size, default_steps};
+ghost use Rattle.dqsolve_words.specs.Spelling.{spelled_command};
 ghost use Rattle.dqsolve_words.specs.Words.{options_of, search_of, planting_of, comparison_of, defining_of, session_of};
 ghost use Rattle.dqsolve_core.specs.Outputs.{IsReported, IsSolveOutput, IsSolveLog, IsDemoOutput};
 ghost use Rattle.dqsolve_core.specs.Report.{form_of};
@@ -53,13 +54,13 @@ const COMMANDS: &str = concat!(
 /// writes the definitions of the existentials of the formula in a file; or decides it once for each
 /// search that a script asks for, with the clauses that the script has added by then.
 ///
-/// The words are the program's name and those of one command, as clap reads them (`COMMANDS`). The
-/// log is emptied first, and then has the search's entries. The status is 10 where the formula is
-/// true, 20 where it is false, 30 where definitions were written, 0 where the steps didn't suffice,
-/// the formula was written or a script's searches were made, 1 where the words are others, 2 where
-/// the formula's text has a fault, 3 where a file can't be read, 4 where the text can't be written,
-/// 5 for want of memory, 6 where a file is too long, and 7 where a circuit, its boxes or a script are
-/// refused.
+/// The words are the program's name and those of one command (`COMMANDS`), spelled as
+/// `spelled_command` of `dqsolve_words` says. The log is emptied first, and then has the search's
+/// entries. The status is 10 where the formula is true, 20 where it is false, 30 where definitions
+/// were written, 0 where the steps didn't suffice, the formula was written or a script's searches
+/// were made, 1 where the words are others, 2 where the formula's text has a fault, 3 where a file
+/// can't be read, 4 where the text can't be written, 5 for want of memory, 6 where a file is too
+/// long, and 7 where a circuit, its boxes or a script are refused.
 pub fn dqsolve_run<F: Files, K: Sink>(
     alloc: Global,
     words: &[String],
@@ -70,23 +71,23 @@ pub fn dqsolve_run<F: Files, K: Sink>(
     // What is written is the text that is due, and the status is that text's.
     ensures ends { Ends
         (IsDue (state_of F.Files files.old) (state_of F.Files files.new) log.new
-        (command_of (map string_bytes words.now)))
+        (spelled_command (map string_bytes words.now)))
         (sink_of K.Sink out.old) (sink_of K.Sink out.new) result }
 
     // The log is the run's own.
-    ensures log { IsOwnLog (state_of F.Files files.old) (command_of (map string_bytes words.now))
-        log.new result }
+    ensures log { IsOwnLog (state_of F.Files files.old)
+        (spelled_command (map string_bytes words.now)) log.new result }
 
     // Over files that are told, what is written is right, and where nothing failed, there is an
     // answer: a verdict on a formula, a line on a planted one, a verdict on the boxes of a design or
     // its formula, the first refusal of two circuits, the definitions of a formula, or a verdict for
     // each search of a script.
     ensures told { ShowsTold (state_of F.Files files.old) (state_of F.Files files.new)
-        (command_of (map string_bytes words.now)) log.new
+        (spelled_command (map string_bytes words.now)) log.new
         (sink_of K.Sink out.old) (sink_of K.Sink out.new) result }
 
     // Each refusal has its cause, and no fault is passed over, over all files and sinks.
-    ensures causes { HasCauses (command_of (map string_bytes words.now))
+    ensures causes { HasCauses (spelled_command (map string_bytes words.now))
         (state_of F.Files files.old) (state_of F.Files files.new)
         (sink_of K.Sink out.old) (sink_of K.Sink out.new) result }
 {
@@ -106,11 +107,11 @@ fn report<F: Files>(
 ) -> Result<Output, Memory>
     ensures reported { IfOk result
         (IsReported (state_of F.Files files.old) (state_of F.Files files.new)
-        (command_of (map string_bytes words.now)) log.new) }
-    ensures log { IsRunLog (state_of F.Files files.old) (command_of (map string_bytes words.now))
-        log.new }
+        (spelled_command (map string_bytes words.now)) log.new) }
+    ensures log { IsRunLog (state_of F.Files files.old)
+        (spelled_command (map string_bytes words.now)) log.new }
     ensures limit { IfOk result (λ _. (c : Command)
-        → command_of (map string_bytes words.now) ≡ Some c → log.new.limit ≡ steps_asked c) }
+        → spelled_command (map string_bytes words.now) ≡ Some c → log.new.limit ≡ steps_asked c) }
     ensures held { F.held files.new ≡ F.held files.old }
 {
     numbers_are_in_range();

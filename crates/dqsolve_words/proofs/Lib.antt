@@ -1,3 +1,10 @@
 pub mod Numbers
 pub mod Matches
 pub mod Subcommands
+pub mod Rows
+pub mod Tables
+pub mod WordKinds
+pub mod Walked
+pub mod Usages
+pub mod Ends
+pub mod Spelled

@@ -10,7 +10,8 @@ use Rattle.clap.specs.Walk.{Row, Text, first_of, rows_of}
 use Rattle.clap.specs.declared.parser.matches.Found.{Found}
 use Rattle.clap.specs.declared.error.kind.ErrorKind.{ErrorKind}
 use Rattle.clap.proofs.WalkLemmas.{first_value-rows}
-use Rattle.dqsolve_words.specs.Command.{Options, Search, Circuits, Comparison, Defining, Session, Command, command_of, command_in, solve_in, circuits_in, pec_in, defined_in, session_in, steps_in, number_in, has_flag, options_in, without_fault, solver_app, least_steps, most_steps, default_steps}
+use Rattle.dqsolve_words.specs.Command.{Options, Search, Circuits, Comparison, Defining, Session, Command, solve_in, circuits_in, pec_in, defined_in, session_in, steps_in, number_in, has_flag, options_in, least_steps, most_steps, default_steps}
+use Rattle.dqsolve_words.specs.Parsed.{command_of, command_in, given_in, without_fault, solver_app}
 
 -- what a getter finds is the first value in the rows
 pub value_found : (f : Found) (id : Text) (value : Option Text) → value ≡ first_value f id →
@@ -18,18 +19,18 @@ pub value_found : (f : Found) (id : Text) (value : Option Text) → value ≡ fi
 value_found f id value is = is ∙ first_value-rows f id
 
 pub steps_found : (f : Found) (value : Option Text) → value ≡ first_value f (codes "steps") →
-    option_map_or (number_in least_steps most_steps) value (Some default_steps) ≡ steps_in (rows_of f)
+    option_map_or (number_in least_steps most_steps) value (Some default_steps) ≡ steps_in (given_in (rows_of f))
 steps_found f value is = ap (λ o. option_map_or (number_in least_steps most_steps) o (Some default_steps))
     (value_found f (codes "steps") value is)
 
 pub flag_found : (f : Found) (id : Text) (value : Option Text) → value ≡ first_value f id →
-    option_map_or (λ v. bytes_eq v (codes "true")) value false ≡ has_flag id (rows_of f)
+    option_map_or (λ v. bytes_eq v (codes "true")) value false ≡ has_flag id (given_in (rows_of f))
 flag_found f id value is = ap (λ o. option_map_or (λ v. bytes_eq v (codes "true")) o false) (value_found f id value is)
 
-abbrev comparison : ℕ → Circuits → Comparison
+abbrev pub comparison : ℕ → Circuits → Comparison
 comparison steps circuits = record { steps = steps; circuits = circuits }
 
-abbrev search : ℕ → Options → Text → Search
+abbrev pub search : ℕ → Options → Text → Search
 search steps options file = record { steps = steps; options = options; file = file }
 
 pub number_found : (f : Found) (id : Text) (least most : ℕ) (value : Option Text) → value ≡ first_value f id
@@ -37,30 +38,30 @@ pub number_found : (f : Found) (id : Text) (least most : ℕ) (value : Option Te
 number_found f id least most value is = ap (option_and_then (number_in least most)) (value_found f id value is)
 
 pub solve_found : (f : Found) (file : Option Text) (steps : Option ℕ) (options : Options) →
-    file ≡ first_value f (codes "FILE") → steps ≡ steps_in (rows_of f)
-    → options ≡ options_in (rows_of f)
-    → option_and_then (λ (name : Text). option_map (λ (n : ℕ). search n options name) steps) file ≡ solve_in (rows_of f)
+    file ≡ first_value f (codes "FILE") → steps ≡ steps_in (given_in (rows_of f))
+    → options ≡ options_in (given_in (rows_of f))
+    → option_and_then (λ (name : Text). option_map (λ (n : ℕ). search n options name) steps) file ≡ solve_in (given_in (rows_of f))
 solve_found f file steps options is_file is_steps is_options =
     ap (λ (a : Option Text). option_and_then (λ (name : Text). option_map (λ (n : ℕ). search n options name) steps) a)
     (value_found f (codes "FILE") file is_file)
     ∙ ap (λ (b : Option ℕ). option_and_then (λ (name : Text). option_map (λ (n : ℕ). search n options name) b)
     (first_of (codes "FILE") (rows_of f))) is_steps
     ∙ ap (λ (c : Options). option_and_then (λ (name : Text). option_map (λ (n : ℕ). search n c name)
-    (steps_in (rows_of f))) (first_of (codes "FILE") (rows_of f))) is_options
+    (steps_in (given_in (rows_of f)))) (first_of (codes "FILE") (rows_of f))) is_options
 
-abbrev defining : ℕ → Text → Defining
+abbrev pub defining : ℕ → Text → Defining
 defining steps file = record { steps = steps; file = file }
 
 pub defined_found : (f : Found) (file : Option Text) (steps : Option ℕ) → file ≡ first_value f (codes "FILE") →
-    steps ≡ steps_in (rows_of f)
-    → option_and_then (λ (name : Text). option_map (λ (n : ℕ). defining n name) steps) file ≡ defined_in (rows_of f)
+    steps ≡ steps_in (given_in (rows_of f))
+    → option_and_then (λ (name : Text). option_map (λ (n : ℕ). defining n name) steps) file ≡ defined_in (given_in (rows_of f))
 defined_found f file steps is_file is_steps =
     ap (λ (a : Option Text). option_and_then (λ (name : Text). option_map (λ (n : ℕ). defining n name) steps) a)
     (value_found f (codes "FILE") file is_file)
     ∙ ap (λ (b : Option ℕ). option_and_then (λ (name : Text). option_map (λ (n : ℕ). defining n name) b)
     (first_of (codes "FILE") (rows_of f))) is_steps
 
-abbrev conversing : ℕ → Text → Text → Session
+abbrev pub conversing : ℕ → Text → Text → Session
 conversing steps file script = record { steps = steps; file = file; script = script }
 
 -- a session's names behind its formula's
@@ -69,8 +70,8 @@ behind_file script steps file =
     option_and_then (λ (s : Text). option_map (λ (n : ℕ). conversing n file s) steps) script
 
 pub session_found : (f : Found) (file script : Option Text) (steps : Option ℕ) → file ≡ first_value f (codes "FILE") →
-    script ≡ first_value f (codes "SCRIPT") → steps ≡ steps_in (rows_of f)
-    → option_and_then (behind_file script steps) file ≡ session_in (rows_of f)
+    script ≡ first_value f (codes "SCRIPT") → steps ≡ steps_in (given_in (rows_of f))
+    → option_and_then (behind_file script steps) file ≡ session_in (given_in (rows_of f))
 session_found f file script steps is_file is_script is_steps =
     ap (λ (a : Option Text). option_and_then (behind_file script steps) a)
     (value_found f (codes "FILE") file is_file)
@@ -79,12 +80,12 @@ session_found f file script steps is_file is_script is_steps =
     ∙ ap (λ (n : Option ℕ). option_and_then (behind_file (first_of (codes "SCRIPT") (rows_of f)) n)
     (first_of (codes "FILE") (rows_of f))) is_steps
 
-abbrev pair : Text → Text → Circuits
+abbrev pub pair : Text → Text → Circuits
 pair spec imp = record { specification = spec; implementation = imp }
 
 pub circuits_found : (f : Found) (spec imp : Option Text) → spec ≡ first_value f (codes "SPEC") →
     imp ≡ first_value f (codes "IMPL")
-    → option_and_then (λ (s : Text). option_map (λ (i : Text). pair s i) imp) spec ≡ circuits_in (rows_of f)
+    → option_and_then (λ (s : Text). option_map (λ (i : Text). pair s i) imp) spec ≡ circuits_in (given_in (rows_of f))
 circuits_found f spec imp is_spec is_imp =
     ap (λ (a : Option Text). option_and_then (λ (s : Text). option_map (λ (i : Text). pair s i) imp) a)
     (value_found f (codes "SPEC") spec is_spec)
@@ -93,13 +94,13 @@ circuits_found f spec imp is_spec is_imp =
     (value_found f (codes "IMPL") imp is_imp)
 
 pub comparison_found : (f : Found) (circuits : Option Circuits) (steps : Option ℕ) →
-    circuits ≡ circuits_in (rows_of f) → steps ≡ steps_in (rows_of f)
-    → option_and_then (λ (two : Circuits). option_map (λ (n : ℕ). comparison n two) steps) circuits ≡ pec_in (rows_of f)
+    circuits ≡ circuits_in (given_in (rows_of f)) → steps ≡ steps_in (given_in (rows_of f))
+    → option_and_then (λ (two : Circuits). option_map (λ (n : ℕ). comparison n two) steps) circuits ≡ pec_in (given_in (rows_of f))
 comparison_found f circuits steps is_circuits is_steps =
     ap (λ (a : Option Circuits). option_and_then (λ (two : Circuits). option_map (λ (n : ℕ). comparison n two) steps) a)
     is_circuits
     ∙ ap (λ (b : Option ℕ). option_and_then (λ (two : Circuits). option_map (λ (n : ℕ). comparison n two) b)
-    (circuits_in (rows_of f))) is_steps
+    (circuits_in (given_in (rows_of f)))) is_steps
 
 -- what a parse without fault gives
 pub parse_gives : (a : App) (words : List Text) (sub : Option (Text × List Row)) → a ≡ solver_app →

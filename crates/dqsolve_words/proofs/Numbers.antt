@@ -1,17 +1,19 @@
 -- Numbers as they are read, and their ranges.
-use Rattle.std.proofs.Common.{◌≡◌, ◌∙◌, ◌≤◌, ℕ, Bool, cond, true, false, refl, sym, ap, subst, arith, List, [], ◌∷◌, Option, Some, None, Result, Ok, Err, option_map, codes}
+use Rattle.std.proofs.Common.{◌≡◌, ◌∙◌, ◌≤◌, ◌<◌, ◌^◌, ◌&&◌, nat_le, nat_lt, ℕ, Bool, cond, true, false, refl, sym, ap, subst, arith, List, [], ◌∷◌, Option, Some, None, Result, Ok, Err, option_map, codes}
 use Rattle.std.specs.Option.{option_map_or, option_and_then}
 use Rattle.clap.specs.Faults.{fault_of}
 use Rattle.clap.specs.Kinds.{Kinds}
 use Rattle.clap.specs.Simple.{subcommand_of}
 use Rattle.std.specs.Str.Parse.{ParsesUnsigned, digits_value, without_leading_plus}
+use Rattle.std.proofs.lemmas.Bool.Decides.{nat_tests}
 use Rattle.std.proofs.lemmas.Result.{OkIff-at_ok}
 use Rattle.clap.specs.ValueTests.{is_unsigned_in}
-use Rattle.clap.specs.Walk.{Row, Text, first_of}
+use Rattle.clap.specs.Walk.{Row, Text}
 use Rattle.clap.specs.declared.builder.value_parser.ValueParser.TheVariants as vp
 use Rattle.clap.proofs.ValueTestLemmas.{accepts-Accepts, Accepts-accepts}
 use Rattle.std.specs.Str.{bytes_eq}
-use Rattle.dqsolve_words.specs.Command.{Options, Search, Planting, Circuits, Comparison, Defining, Session, Command, solve, demo, pec, encode, defined, session, IsInRange, number_in, steps_in, solve_in, demo_in, circuits_in, pec_in, defined_in, session_in, command_in, options_in, without_fault, command_of, solver_app, least_steps, most_steps, default_steps, most_seed, least_size, most_size}
+use Rattle.dqsolve_words.specs.Command.{Options, Search, Planting, Circuits, Comparison, Defining, Session, Command, Given, solve, demo, pec, encode, defined, session, IsInRange, is_numeral, number_in, steps_in, solve_in, demo_in, circuits_in, pec_in, defined_in, session_in, options_in, least_steps, most_steps, default_steps, most_seed, least_size, most_size}
+use Rattle.dqsolve_words.specs.Parsed.{command_in, command_of, given_in, solver_app, without_fault}
 
 abbrev search : ℕ → Options → Text → Search
 search steps options file = record { steps = steps; options = options; file = file }
@@ -31,10 +33,27 @@ conversing steps file script = record { steps = steps; file = file; script = scr
 abbrev value : Text → ℕ
 value text = digits_value 10 (without_leading_plus text)
 
-module _ (least most : ℕ) (text : Text) where
+no_and : (a : Bool) → false ≡ (a && false)
+no_and true = refl
+no_and false = refl
+
+-- a number in a range of 64 bits has 64 bits
+fits_by : (least most n : ℕ) → most < 2 ^ 64 →
+    (nat_lt n (2 ^ 64) && (nat_le least n && nat_le n most)) ≡ (nat_le least n && nat_le n most)
+fits_by least most n small = go (nat_lt n (2 ^ 64)) refl
+  where
+    go : (b : Bool) → nat_lt n (2 ^ 64) ≡ b
+        → (b && (nat_le least n && nat_le n most)) ≡ (nat_le least n && nat_le n most)
+    go true is = refl
+    go false is =
+        let over : nat_le n most ≡ false = grind (arith, nat_tests) in
+        no_and (nat_le least n) ∙ ap (λ b. nat_le least n && b) (sym over)
+
+module _ (least most : ℕ) (text : Text) (small : most < 2 ^ 64) where
   by_test : (b : Bool) → is_unsigned_in least most text ≡ b →
       number_in least most text ≡ cond b (Some (value text)) None
-  by_test b is = ap (λ x. cond x (Some (value text)) None) is
+  by_test b is = ap (λ x. cond x (Some (value text)) None)
+      (ap (λ x. is_numeral (without_leading_plus text) && x) (sym (fits_by least most (value text) small)) ∙ is)
 
   -- a number in the range is taken
   pub number_taken : {E : Type 0} (r : Result ℕ E) (n : ℕ) → ParsesUnsigned 64 10 text r → r ≡ Ok n → least ≤ n →
@@ -49,16 +68,7 @@ module _ (least most : ℕ) (text : Text) where
   go_refused true is none = absurd (none refl)
   go_refused false is none = sym (by_test false is)
 
-  -- another number isn't
-  pub number_outside : {E : Type 0} (r : Result ℕ E) (n : ℕ) → ParsesUnsigned 64 10 text r → r ≡ Ok n →
-      (least ≤ n → n ≤ most → ⊥) → None ≡ number_in least most text
-  number_outside r n parsed is outside =
-      go_refused (is_unsigned_in least most text) refl (λ yes.
-      let (parts, same) = OkIff-at_ok r _ (value text) n parsed is in
-      let (numeral, fits, low, high) = accepts-Accepts false (vp.Unsigned least most) text yes in
-      outside (omega (arith, low, same)) (omega (arith, high, same)))
-
-  -- and nothing else
+  -- what is no number isn't
   pub no_number : {E : Type 0} (r : Result ℕ E) (e : E) → ParsesUnsigned 64 10 text r → r ≡ Err e →
       None ≡ number_in least most text
   no_number (Ok n) e parsed is = cc
@@ -77,18 +87,18 @@ module _ (least most : ℕ) (text : Text) where
 
 -- ---- the ranges
 
-found_range : (least most : ℕ) (o : Option Text) (n : ℕ) → option_and_then (number_in least most) o ≡ Some n →
-    (least ≤ n) × (n ≤ most)
-found_range least most None n same = cc
-found_range least most (Some text) n same = in_range_by least most text (is_unsigned_in least most text) refl n same
+found_range : (least most : ℕ) → most < 2 ^ 64 → (o : Option Text) (n : ℕ) →
+    option_and_then (number_in least most) o ≡ Some n → (least ≤ n) × (n ≤ most)
+found_range least most small None n same = cc
+found_range least most small (Some text) n same = in_range_by least most text small (is_unsigned_in least most text) refl n
+    (sym (by_test least most text small (is_unsigned_in least most text) refl) ∙ same)
 
 steps_range : (o : Option Text) (n : ℕ) → option_map_or (number_in least_steps most_steps) o (Some default_steps)
     ≡ Some n → (least_steps ≤ n) × (n ≤ most_steps)
 steps_range None n same =
     let one : default_steps ≡ n = ap (λ (o : Option ℕ). option_map_or (λ x. x) o 0) same in
     (omega (arith, one), omega (arith, one))
-steps_range (Some text) n same = in_range_by least_steps most_steps text
-    (is_unsigned_in least_steps most_steps text) refl n same
+steps_range (Some text) n same = found_range least_steps most_steps (omega arith) (Some text) n same
 
 same_command : (a c : Command) → Some a ≡ Some c → a ≡ c
 same_command a c is = ap (λ (o : Option Command). option_map_or (λ x. x) o a) is
@@ -142,32 +152,32 @@ session_by (Some f) (Some s) None range c is = cc
 session_by (Some f) (Some s) (Some n) range c is =
     subst IsInRange (same_command (session (conversing n f s)) c is) (range n refl)
 
-asked_by : (rows : List Row) (b p e d s : Bool) (c : Command)
-    → cond b (option_map demo (demo_in rows)) (cond p (option_map pec (pec_in rows))
-    (cond e (option_map encode (circuits_in rows)) (cond d (option_map defined (defined_in rows))
-    (cond s (option_map session (session_in rows)) (option_map solve (solve_in rows)))))) ≡ Some c
+asked_by : (given : Given) (b p e d s : Bool) (c : Command)
+    → cond b (option_map demo (demo_in given)) (cond p (option_map pec (pec_in given))
+    (cond e (option_map encode (circuits_in given)) (cond d (option_map defined (defined_in given))
+    (cond s (option_map session (session_in given)) (option_map solve (solve_in given)))))) ≡ Some c
     → IsInRange c
-asked_by rows true p e d s c is =
-    demo_by (option_and_then (number_in 0 most_seed) (first_of (codes "SEED") rows))
-    (option_and_then (number_in least_size most_size) (first_of (codes "SIZE") rows))
-    (found_range 0 most_seed (first_of (codes "SEED") rows))
-    (found_range least_size most_size (first_of (codes "SIZE") rows)) c is
-asked_by rows false true e d s c is =
-    pec_by (circuits_in rows) (steps_in rows) (steps_range (first_of (codes "steps") rows)) c is
-asked_by rows false false true d s c is = encode_by (circuits_in rows) c is
-asked_by rows false false false true s c is =
-    defined_by (first_of (codes "FILE") rows) (steps_in rows) (steps_range (first_of (codes "steps") rows)) c is
-asked_by rows false false false false true c is =
-    session_by (first_of (codes "FILE") rows) (first_of (codes "SCRIPT") rows) (steps_in rows)
-    (steps_range (first_of (codes "steps") rows)) c is
-asked_by rows false false false false false c is =
-    solve_by (first_of (codes "FILE") rows) (steps_in rows) (options_in rows)
-    (steps_range (first_of (codes "steps") rows)) c is
+asked_by given true p e d s c is =
+    demo_by (option_and_then (number_in 0 most_seed) (given (codes "SEED")))
+    (option_and_then (number_in least_size most_size) (given (codes "SIZE")))
+    (found_range 0 most_seed (omega arith) (given (codes "SEED")))
+    (found_range least_size most_size (omega arith) (given (codes "SIZE"))) c is
+asked_by given false true e d s c is =
+    pec_by (circuits_in given) (steps_in given) (steps_range (given (codes "steps"))) c is
+asked_by given false false true d s c is = encode_by (circuits_in given) c is
+asked_by given false false false true s c is =
+    defined_by (given (codes "FILE")) (steps_in given) (steps_range (given (codes "steps"))) c is
+asked_by given false false false false true c is =
+    session_by (given (codes "FILE")) (given (codes "SCRIPT")) (steps_in given)
+    (steps_range (given (codes "steps"))) c is
+asked_by given false false false false false c is =
+    solve_by (given (codes "FILE")) (steps_in given) (options_in given)
+    (steps_range (given (codes "steps"))) c is
 
 command_range : (sub : Option (Text × List Row)) (c : Command) → command_in sub ≡ Some c → IsInRange c
 command_range None c is = cc
 command_range (Some p) c is =
-    asked_by p.1 (bytes_eq p.0 (codes "demo")) (bytes_eq p.0 (codes "pec")) (bytes_eq p.0 (codes "encode"))
+    asked_by (given_in p.1) (bytes_eq p.0 (codes "demo")) (bytes_eq p.0 (codes "pec")) (bytes_eq p.0 (codes "encode"))
     (bytes_eq p.0 (codes "defined")) (bytes_eq p.0 (codes "session")) c is
 
 by_fault : (kinds : Kinds) (given : Option Command) → ((c : Command) → given ≡ Some c → IsInRange c) → (c : Command) →

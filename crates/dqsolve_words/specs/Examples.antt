@@ -1,6 +1,7 @@
 -- Short words for command lines that are written out.
 use Rattle.std.specs.Prelude.{ℕ, Bool, false, List, ◌∷◌, Option, codes}
-use Rattle.dqsolve_words.specs.Command.{Options, Command, solve, demo, pec, encode, defined, session, command_of}
+use Rattle.dqsolve_words.specs.Command.{Options, Command, solve, demo, pec, encode, defined, session}
+use Rattle.dqsolve_words.specs.Spelling.{spelled_command}
 
 abbrev pub solving_with : ℕ → Options → List ℕ → Command
 solving_with steps options file =
@@ -31,4 +32,4 @@ conversing steps file script = session (record { steps = steps; file = file; scr
 
 -- what is asked for by `dqsolve` with these words
 abbrev pub dqsolve : List (List ℕ) → Option Command
-dqsolve words = command_of (codes "dqsolve" ∷ words)
+dqsolve words = spelled_command (codes "dqsolve" ∷ words)

@@ -1,7 +1,8 @@
 //! Command lines that are written out, and what they ask for.
 
 ghost use Rattle.std.specs.Prelude.{◌≡◌, true, false, [], ◌∷◌, Some, None, codes};
-ghost use Rattle.dqsolve_words.specs.Command.{command_of, default_steps};
+ghost use Rattle.dqsolve_words.specs.Command.{default_steps};
+ghost use Rattle.dqsolve_words.specs.Spelling.{spelled_command};
 ghost use Rattle.dqsolve_words.specs.Examples.{default_options, solving, solving_with, planting, comparing, encoding, defining, conversing, dqsolve};
 
 /// Options stand before or behind the name, the number of steps also behind `=`.
@@ -120,7 +121,7 @@ pub fn sessions_are_taken()
 
 /// Other words are refused, not even those of most programs are taken.
 pub fn other_words_are_refused()
-    ensures no_words { command_of [] ≡ None }
+    ensures no_words { spelled_command [] ≡ None }
     ensures nothing { dqsolve [] ≡ None }
     ensures no_name { dqsolve (codes "solve" ∷ []) ≡ None }
     ensures two_names { dqsolve (codes "solve" ∷ codes "f" ∷ codes "g" ∷ []) ≡ None }
@@ -130,4 +131,25 @@ pub fn other_words_are_refused()
     ensures help_command { dqsolve (codes "help" ∷ []) ≡ None }
     ensures help_option { dqsolve (codes "solve" ∷ codes "--help" ∷ []) ≡ None }
     ensures version { dqsolve (codes "--version" ∷ []) ≡ None }
+{}
+
+/// A minus alone and an empty word are names, and behind `--` each word is one; an option is no value
+/// of another one, has its whole name, and is given once.
+pub fn odd_words_are_read()
+    ensures minus { dqsolve (codes "solve" ∷ codes "-" ∷ [])
+        ≡ Some (solving default_steps false (codes "-")) }
+    ensures empty { dqsolve (codes "solve" ∷ codes "" ∷ [])
+        ≡ Some (solving default_steps false (codes "")) }
+    ensures behind { dqsolve (codes "session" ∷ codes "f" ∷ codes "--" ∷ codes "--" ∷ [])
+        ≡ Some (conversing default_steps (codes "f") (codes "--")) }
+    ensures before { dqsolve (codes "--" ∷ codes "solve" ∷ codes "f" ∷ []) ≡ None }
+    ensures negative { dqsolve (codes "solve" ∷ codes "--steps" ∷ codes "-7" ∷ codes "f" ∷ [])
+        ≡ None }
+    ensures separator { dqsolve
+        (codes "solve" ∷ codes "--steps" ∷ codes "--" ∷ codes "7" ∷ codes "f" ∷ []) ≡ None }
+    ensures no_value { dqsolve (codes "solve" ∷ codes "--steps=" ∷ codes "f" ∷ []) ≡ None }
+    ensures valued { dqsolve (codes "solve" ∷ codes "--bare=true" ∷ codes "f" ∷ []) ≡ None }
+    ensures shortened { dqsolve (codes "solve" ∷ codes "--step=7" ∷ codes "f" ∷ []) ≡ None }
+    ensures twice { dqsolve (codes "solve" ∷ codes "--bare" ∷ codes "--bare" ∷ codes "f" ∷ [])
+        ≡ None }
 {}

@@ -2,9 +2,10 @@
 //!
 //! `command_words` gives what `dqsolve solve [--steps N] [--bare] [--v2] [--prep] [--binary] FILE`,
 //! `dqsolve demo SEED SIZE`, `dqsolve pec [--steps N] SPEC IMPL`, `dqsolve encode SPEC IMPL`,
-//! `dqsolve defined [--steps N] FILE` or `dqsolve session [--steps N] FILE SCRIPT` asks for. What
-//! the words mean is clap's own meaning of a command with subcommands; `examples` says it of command
-//! lines that are written out.
+//! `dqsolve defined [--steps N] FILE` or `dqsolve session [--steps N] FILE SCRIPT` asks for, as
+//! `spelled_command` says (`specs/Spelling.antt`). That this is clap's own meaning of the command,
+//! at all words, is a law in `laws`; `examples` says what it is of command lines that are written
+//! out.
 #![tactic(auto)]
 
 pub use requests::{

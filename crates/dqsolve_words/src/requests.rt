@@ -2,10 +2,12 @@
 
 ghost use Rattle.std.specs.Prelude.{◌≡◌, [], ◌∷◌, ◌++◌, false, map, string_bytes, Option, Some, None, MatchOption, option_map, option_and_then, codes, IfOk};
 ghost use Rattle.clap.specs.Simple.{app_of, shape_of, subcommand_rows_of, with_subcommand, new_shape, Shape};
-ghost use Rattle.clap.specs.Walk.{rows_of, rule_of, first_of};
+ghost use Rattle.clap.specs.Walk.{rows_of, rule_of};
 ghost use Rattle.clap.specs.Matches.{found_of};
 ghost use Rattle.clap.specs.declared.builder.command.Command.TheViews.{out-Command};
-ghost use Rattle.dqsolve_words.specs.Command.{solve, demo, pec, encode, defined, session, command_of, command_in, asked_of, bare_app, formula_app, circuit_app, solver_app, writing_options, solve_options, without_flags, solve_shape, demo_shape, pec_shape, encode_shape, defined_shape, session_shape, required_word, value_option, flag, solve_in, demo_in, circuits_in, pec_in, defined_in, session_in, steps_in, number_in, has_flag, options_in, most_seed, least_size, most_size};
+ghost use Rattle.dqsolve_words.specs.Command.{solve, demo, pec, encode, defined, session, asked_of, solve_in, demo_in, circuits_in, pec_in, defined_in, session_in, steps_in, number_in, has_flag, options_in, most_seed, least_size, most_size};
+ghost use Rattle.dqsolve_words.specs.Parsed.{command_in, given_in, bare_app, formula_app, circuit_app, solver_app, writing_options, solve_options, without_flags, solve_shape, demo_shape, pec_shape, encode_shape, defined_shape, session_shape, required_word, value_option, flag};
+ghost use Rattle.dqsolve_words.specs.Spelling.{spelled_command};
 ghost use Rattle.dqsolve_words.specs.Words.{options_of, search_of, planting_of, circuits_of, comparison_of, defining_of, session_of, command_said};
 
 use clap::error::ErrorKind;
@@ -303,7 +305,7 @@ fn number_in(text: &str, least: u64, most: u64) -> Option<u64>
 
 // How many steps the matches ask for.
 fn steps_in<'a>(matches: &ArgMatches<'a>) -> Option<u64>
-    ensures { result ≡ steps_in (rows_of (found_of matches.now)) }
+    ensures { result ≡ steps_in (given_in (rows_of (found_of matches.now))) }
 {
     match matches.get_str("steps") {
         Some(text) => number_in(text, LEAST_STEPS, MOST_STEPS),
@@ -313,7 +315,7 @@ fn steps_in<'a>(matches: &ArgMatches<'a>) -> Option<u64>
 
 // Whether the matches have a flag.
 fn has_flag<'a>(matches: &ArgMatches<'a>, id: &str) -> bool
-    ensures { result ≡ has_flag id.now (rows_of (found_of matches.now)) }
+    ensures { result ≡ has_flag id.now (given_in (rows_of (found_of matches.now))) }
 {
     match matches.get_str(id) {
         Some(value) => value == "true",
@@ -323,7 +325,7 @@ fn has_flag<'a>(matches: &ArgMatches<'a>, id: &str) -> bool
 
 // The flags that the matches have.
 fn options_in<'a>(matches: &ArgMatches<'a>) -> SolveOptions
-    ensures { options_of result ≡ options_in (rows_of (found_of matches.now)) }
+    ensures { options_of result ≡ options_in (given_in (rows_of (found_of matches.now))) }
 {
     SolveOptions {
         bare: has_flag(matches, "bare"),
@@ -335,7 +337,7 @@ fn options_in<'a>(matches: &ArgMatches<'a>) -> SolveOptions
 
 // What the matches of `solve` ask for.
 fn solve_in<'a>(matches: &ArgMatches<'a>) -> Option<SolveWords<'a>>
-    ensures { option_map search_of result ≡ solve_in (rows_of (found_of matches.now)) }
+    ensures { option_map search_of result ≡ solve_in (given_in (rows_of (found_of matches.now))) }
 {
     let Some(file) = matches.get_str("FILE") else {
         return None;
@@ -355,7 +357,7 @@ fn solve_in<'a>(matches: &ArgMatches<'a>) -> Option<SolveWords<'a>>
 fn named_number<'a>(matches: &ArgMatches<'a>, id: &str, least: u64, most: u64) -> Option<u64>
     ensures { result
         ≡ option_and_then (number_in least most)
-        (first_of id.now (rows_of (found_of matches.now))) }
+        (given_in (rows_of (found_of matches.now)) id.now) }
 {
     match matches.get_str(id) {
         Some(text) => number_in(text, least, most),
@@ -365,7 +367,7 @@ fn named_number<'a>(matches: &ArgMatches<'a>, id: &str, least: u64, most: u64) -
 
 // What the matches of `demo` ask for.
 fn demo_in<'a>(matches: &ArgMatches<'a>) -> Option<DemoWords>
-    ensures { option_map planting_of result ≡ demo_in (rows_of (found_of matches.now)) }
+    ensures { option_map planting_of result ≡ demo_in (given_in (rows_of (found_of matches.now))) }
 {
     let Some(seed) = named_number(matches, "SEED", 0, MOST_SEED) else {
         return None;
@@ -378,7 +380,7 @@ fn demo_in<'a>(matches: &ArgMatches<'a>) -> Option<DemoWords>
 
 // The files that the matches name.
 fn circuits_in<'a>(matches: &ArgMatches<'a>) -> Option<CircuitWords<'a>>
-    ensures { option_map circuits_of result ≡ circuits_in (rows_of (found_of matches.now)) }
+    ensures { option_map circuits_of result ≡ circuits_in (given_in (rows_of (found_of matches.now))) }
 {
     let Some(spec) = matches.get_str("SPEC") else {
         return None;
@@ -391,7 +393,7 @@ fn circuits_in<'a>(matches: &ArgMatches<'a>) -> Option<CircuitWords<'a>>
 
 // What the matches of `pec` ask for.
 fn pec_in<'a>(matches: &ArgMatches<'a>) -> Option<PecWords<'a>>
-    ensures { option_map comparison_of result ≡ pec_in (rows_of (found_of matches.now)) }
+    ensures { option_map comparison_of result ≡ pec_in (given_in (rows_of (found_of matches.now))) }
 {
     let Some(circuits) = circuits_in(matches) else {
         return None;
@@ -404,7 +406,7 @@ fn pec_in<'a>(matches: &ArgMatches<'a>) -> Option<PecWords<'a>>
 
 // What the matches of `defined` ask for.
 fn defined_in<'a>(matches: &ArgMatches<'a>) -> Option<DefiningWords<'a>>
-    ensures { option_map defining_of result ≡ defined_in (rows_of (found_of matches.now)) }
+    ensures { option_map defining_of result ≡ defined_in (given_in (rows_of (found_of matches.now))) }
 {
     let Some(file) = matches.get_str("FILE") else {
         return None;
@@ -417,7 +419,7 @@ fn defined_in<'a>(matches: &ArgMatches<'a>) -> Option<DefiningWords<'a>>
 
 // What the matches of `session` ask for.
 fn session_in<'a>(matches: &ArgMatches<'a>) -> Option<SessionWords<'a>>
-    ensures { option_map session_of result ≡ session_in (rows_of (found_of matches.now)) }
+    ensures { option_map session_of result ≡ session_in (given_in (rows_of (found_of matches.now))) }
 {
     let Some(file) = matches.get_str("FILE") else {
         return None;
@@ -438,7 +440,7 @@ fn session_in<'a>(matches: &ArgMatches<'a>) -> Option<SessionWords<'a>>
 // What the matches of `solve` ask for, as a command.
 fn solve_asked<'a>(matches: &ArgMatches<'a>) -> Option<CommandWords<'a>>
     ensures { option_map command_said result
-        ≡ option_map solve (solve_in (rows_of (found_of matches.now))) }
+        ≡ option_map solve (solve_in (given_in (rows_of (found_of matches.now)))) }
 {
     match solve_in(matches) {
         Some(search) => Some(CommandWords::Solve(search)),
@@ -449,7 +451,7 @@ fn solve_asked<'a>(matches: &ArgMatches<'a>) -> Option<CommandWords<'a>>
 // What the matches of `demo` ask for, as a command.
 fn demo_asked<'a>(matches: &ArgMatches<'a>) -> Option<CommandWords<'a>>
     ensures { option_map command_said result
-        ≡ option_map demo (demo_in (rows_of (found_of matches.now))) }
+        ≡ option_map demo (demo_in (given_in (rows_of (found_of matches.now)))) }
 {
     match demo_in(matches) {
         Some(planting) => Some(CommandWords::Demo(planting)),
@@ -460,7 +462,7 @@ fn demo_asked<'a>(matches: &ArgMatches<'a>) -> Option<CommandWords<'a>>
 // What the matches of `pec` ask for, as a command.
 fn pec_asked<'a>(matches: &ArgMatches<'a>) -> Option<CommandWords<'a>>
     ensures { option_map command_said result
-        ≡ option_map pec (pec_in (rows_of (found_of matches.now))) }
+        ≡ option_map pec (pec_in (given_in (rows_of (found_of matches.now)))) }
 {
     match pec_in(matches) {
         Some(comparison) => Some(CommandWords::Pec(comparison)),
@@ -471,7 +473,7 @@ fn pec_asked<'a>(matches: &ArgMatches<'a>) -> Option<CommandWords<'a>>
 // What the matches of `encode` ask for, as a command.
 fn encode_asked<'a>(matches: &ArgMatches<'a>) -> Option<CommandWords<'a>>
     ensures { option_map command_said result
-        ≡ option_map encode (circuits_in (rows_of (found_of matches.now))) }
+        ≡ option_map encode (circuits_in (given_in (rows_of (found_of matches.now)))) }
 {
     match circuits_in(matches) {
         Some(circuits) => Some(CommandWords::Encode(circuits)),
@@ -482,7 +484,7 @@ fn encode_asked<'a>(matches: &ArgMatches<'a>) -> Option<CommandWords<'a>>
 // What the matches of `defined` ask for, as a command.
 fn defined_asked<'a>(matches: &ArgMatches<'a>) -> Option<CommandWords<'a>>
     ensures { option_map command_said result
-        ≡ option_map defined (defined_in (rows_of (found_of matches.now))) }
+        ≡ option_map defined (defined_in (given_in (rows_of (found_of matches.now)))) }
 {
     match defined_in(matches) {
         Some(defining) => Some(CommandWords::Defined(defining)),
@@ -493,7 +495,7 @@ fn defined_asked<'a>(matches: &ArgMatches<'a>) -> Option<CommandWords<'a>>
 // What the matches of `session` ask for, as a command.
 fn session_asked<'a>(matches: &ArgMatches<'a>) -> Option<CommandWords<'a>>
     ensures { option_map command_said result
-        ≡ option_map session (session_in (rows_of (found_of matches.now))) }
+        ≡ option_map session (session_in (given_in (rows_of (found_of matches.now)))) }
 {
     match session_in(matches) {
         Some(asked) => Some(CommandWords::Session(asked)),
@@ -503,7 +505,7 @@ fn session_asked<'a>(matches: &ArgMatches<'a>) -> Option<CommandWords<'a>>
 
 // What the matches ask of the subcommand of a name.
 fn asked_of<'a>(name: &str, matches: &ArgMatches<'a>) -> Option<CommandWords<'a>>
-    ensures { option_map command_said result ≡ asked_of name.now (rows_of (found_of matches.now)) }
+    ensures { option_map command_said result ≡ asked_of name.now (given_in (rows_of (found_of matches.now))) }
 {
     if name == "demo" {
         return demo_asked(matches);
@@ -539,7 +541,7 @@ pub fn command_words<'a>(
     words: &'a [String],
 ) -> Result<Option<CommandWords<'a>>, Memory>
     ensures { IfOk result
-        (λ answer. option_map command_said answer ≡ command_of (map string_bytes words.now)) }
+        (λ answer. option_map command_said answer ≡ spelled_command (map string_bytes words.now)) }
 {
     let command = solver_command(alloc)?;
     match command.try_get_matches_from(words) {

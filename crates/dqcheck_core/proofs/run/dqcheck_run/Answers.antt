@@ -1,7 +1,7 @@
 use Rattle.std.proofs.Common.{map, string_bytes}
 use Rattle.dq_io.specs.State.{state_of}
 use Rattle.dq_runs.specs.Sinks.{sink_of}
-use Rattle.dqcheck_words.specs.Command.{command_of}
+use Rattle.dqcheck_words.specs.Spelling.{spelled_command}
 use Rattle.dqcheck_core.proofs.Runs.{ends, causes}
 use Rattle.dqcheck_core.proofs.ToldFiles.{judges_told}
 use Rattle.dqcheck_core.proofs.run.dqcheck_run.Goals as goal
@@ -9,7 +9,7 @@ use Rattle.dqcheck_core.proofs.run.dqcheck_run.Goals as goal
 pub returns-clause-ends : goal.returns-clause-ends
 returns-clause-ends g c =
     ends (state_of g.F.Files c.args.files.now) (state_of g.F.Files c.report-output.new.files)
-    (command_of (map string_bytes c.args.words.now))
+    (spelled_command (map string_bytes c.args.words.now))
     (sink_of g.K.Sink c.args.out.now) (sink_of g.K.Sink c.deliver.new.out) c.report-output.result c.deliver.result
     c.report-output.ensures.reported c.deliver.ensures
 
@@ -27,13 +27,13 @@ returns-clause-told g c =
       definitions = c.acceptance_is_sound.ensures.definitions;
     })
     (state_of g.F.Files c.args.files.now) (state_of g.F.Files c.report-output.new.files)
-    (command_of (map string_bytes c.args.words.now))
+    (spelled_command (map string_bytes c.args.words.now))
     (sink_of g.K.Sink c.args.out.now) (sink_of g.K.Sink c.deliver.new.out) c.report-output.result c.deliver.result
     c.report-output.ensures.reported c.deliver.ensures
 
 pub returns-clause-causes : goal.returns-clause-causes
 returns-clause-causes g c =
     causes (state_of g.F.Files c.args.files.now) (state_of g.F.Files c.report-output.new.files)
-    (command_of (map string_bytes c.args.words.now))
+    (spelled_command (map string_bytes c.args.words.now))
     (sink_of g.K.Sink c.args.out.now) (sink_of g.K.Sink c.deliver.new.out) c.report-output.result c.deliver.result
     c.report-output.ensures.held c.report-output.ensures.reported c.deliver.ensures

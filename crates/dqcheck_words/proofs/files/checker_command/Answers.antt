@@ -3,7 +3,7 @@ use Rattle.std.proofs.lemmas.Result.{IfOk-weaker}
 use Rattle.clap.specs.Simple.{Shape, app_of, app_of_fields, on_top, with_rule}
 use Rattle.clap.specs.declared.builder.command.Command.{Command}
 use Rattle.clap.specs.declared.builder.command.Command.TheOpen.{Command-F}
-use Rattle.dqcheck_words.specs.Command.{flagless}
+use Rattle.dqcheck_words.specs.Parsed.{flagless}
 use Rattle.dqcheck_words.proofs.files.checker_command.Goals as goal
 
 pub returns : goal.returns

@@ -1,7 +1,7 @@
 use Rattle.std.proofs.Common.{map, string_bytes}
 use Rattle.dq_io.specs.State.{state_of}
 use Rattle.dq_runs.specs.Sinks.{sink_of}
-use Rattle.dqsolve_words.specs.Command.{command_of}
+use Rattle.dqsolve_words.specs.Spelling.{spelled_command}
 use Rattle.dqsolve_core.proofs.Runs.{ends, causes, own_log}
 use Rattle.dqsolve_core.proofs.DefinedRuns.{defines_told}
 use Rattle.dqsolve_core.proofs.SessionRuns.{converses_told}
@@ -12,14 +12,14 @@ use Rattle.dqsolve_core.proofs.run.dqsolve_run.Goals as goal
 pub returns-clause-ends : goal.returns-clause-ends
 returns-clause-ends g c =
     ends (state_of g.F.Files c.args.files.now) (state_of g.F.Files c.report-output.new.files)
-    (command_of (map string_bytes c.args.words.now)) c.report-output.new.log
+    (spelled_command (map string_bytes c.args.words.now)) c.report-output.new.log
     (sink_of g.K.Sink c.args.out.now) (sink_of g.K.Sink c.deliver.new.out) c.report-output.result c.deliver.result
     c.report-output.ensures.reported c.deliver.ensures
 
 pub returns-clause-log : goal.returns-clause-log
 returns-clause-log g c =
     own_log (state_of g.F.Files c.args.files.now) (state_of g.F.Files c.report-output.new.files)
-    (command_of (map string_bytes c.args.words.now)) c.report-output.new.log
+    (spelled_command (map string_bytes c.args.words.now)) c.report-output.new.log
     (sink_of g.K.Sink c.args.out.now) (sink_of g.K.Sink c.deliver.new.out) c.report-output.result c.deliver.result
     c.report-output.ensures.reported c.report-output.ensures.limit c.report-output.ensures.log c.deliver.ensures
 
@@ -27,7 +27,7 @@ pub returns-clause-told : goal.returns-clause-told
 returns-clause-told g c =
     let before = state_of g.F.Files c.args.files.now in
     let now = state_of g.F.Files c.report-output.new.files in
-    let asked = command_of (map string_bytes c.args.words.now) in
+    let asked = spelled_command (map string_bytes c.args.words.now) in
     let sink = sink_of g.K.Sink c.args.out.now in
     let sink_now = sink_of g.K.Sink c.deliver.new.out in
     record {
@@ -64,6 +64,6 @@ returns-clause-told g c =
 pub returns-clause-causes : goal.returns-clause-causes
 returns-clause-causes g c =
     causes (state_of g.F.Files c.args.files.now) (state_of g.F.Files c.report-output.new.files)
-    (command_of (map string_bytes c.args.words.now)) c.report-output.new.log
+    (spelled_command (map string_bytes c.args.words.now)) c.report-output.new.log
     (sink_of g.K.Sink c.args.out.now) (sink_of g.K.Sink c.deliver.new.out) c.report-output.result c.deliver.result
     c.report-output.ensures.held c.report-output.ensures.reported c.deliver.ensures

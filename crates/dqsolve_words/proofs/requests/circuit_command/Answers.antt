@@ -1,4 +1,4 @@
-use Rattle.dqsolve_words.specs.Command.{encode_shape, formula_app, pec_shape}
+use Rattle.dqsolve_words.specs.Parsed.{encode_shape, formula_app, pec_shape}
 use Rattle.dqsolve_words.proofs.Subcommands.{two_added}
 use Rattle.dqsolve_words.proofs.requests.circuit_command.Goals as goal
 

@@ -1,4 +1,4 @@
-use Rattle.dqsolve_words.specs.Command.{bare_app, demo_shape, solve_shape}
+use Rattle.dqsolve_words.specs.Parsed.{bare_app, demo_shape, solve_shape}
 use Rattle.dqsolve_words.proofs.Subcommands.{two_added}
 use Rattle.dqsolve_words.proofs.requests.formula_command.Goals as goal
 

@@ -1,4 +1,4 @@
-use Rattle.dqsolve_words.specs.Command.{circuit_app, defined_shape, session_shape}
+use Rattle.dqsolve_words.specs.Parsed.{circuit_app, defined_shape, session_shape}
 use Rattle.dqsolve_words.proofs.Subcommands.{two_added}
 use Rattle.dqsolve_words.proofs.requests.solver_command.Goals as goal
 
