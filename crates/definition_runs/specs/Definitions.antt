@@ -7,7 +7,8 @@ use Rattle.cert_text.specs.CanonicalDefinitions.{definitions_text}
 use Rattle.cert_text.specs.DefinitionBlocks.{DefinitionBlock}
 use Rattle.dq_runs.specs.Printed.{Printed, printed, line}
 use Rattle.dq_runs.specs.declared.outputs.Output.{Output}
-use Rattle.hint_log.specs.Entries.{ProofLog, steps_of}
+use Rattle.hint_log.specs.Deciding.{IsUndecided}
+use Rattle.hint_log.specs.Entries.{ProofLog, rounds_of, steps_of}
 use Rattle.oracle.specs.Limits.{IsAtSomeLimit}
 use Rattle.definition_search.specs.Texts.{AreRightBlocks}
 
@@ -26,10 +27,17 @@ printed_definitions f (cut_off learned) = record {
       line (codes "s UNKNOWN") ++ line (codes "c rounds 0 learned " ++ decimal learned);
 }
 
--- no block is at fault; where the limit came first, no step was left, and one could be taken
+-- every step was a learned clause, none is left while one could be taken, and nothing decides
+pub record IsOutOfSteps (f : Dqbf) (log : ProofLog) (learned : ℕ) : Type 0 where
+  pub steps : learned ≡ steps_of log.entries
+  pub rounds : rounds_of log.entries ≡ 0
+  pub limit : IsAtSomeLimit log
+  pub undecided : IsUndecided f log.entries
+
+-- no block is at fault, or the limit came first
 abbrev pub AreDefinitions : Dqbf → ProofLog → Definitions → Type 0
 AreDefinitions f log (written blocks) = AreRightBlocks f (existential_variables f) blocks
-AreDefinitions f log (cut_off learned) = (learned ≡ steps_of log.entries) × IsAtSomeLimit log
+AreDefinitions f log (cut_off learned) = IsOutOfSteps f log learned
 
 -- the output of what was found
 pub record IsDefinitionsOutput (f : Dqbf) (log : ProofLog) (output : Output) : Type 0 where

@@ -154,20 +154,29 @@ later_search f s place entries before = record {
 
 -- the log goes on
 pub on_same : (f : Dqbf) (log : ProofLog) → IsProductiveLog f log.entries → GoesOn f log log
-on_same f log productive = record { productive = productive; limit = refl; rounds = refl }
+on_same f log productive = record {
+  productive = productive;
+  limit = refl;
+  rounds = refl;
+  undecided = λ was. was;
+}
 
 pub on_then : (f : Dqbf) (a b c : ProofLog) → GoesOn f a b → GoesOn f b c → GoesOn f a c
 on_then f a b c first second = record {
   productive = second.productive;
   limit = second.limit ∙ first.limit;
   rounds = second.rounds ∙ first.rounds;
+  undecided = λ was. second.undecided (first.undecided was);
 }
 
 pub on_by : EnginesLeaveRest → (f : Dqbf) (group : ℕ) (old new : ProofLog) →
     Grew (IsAddedBy f copies group true old.entries) old new → IsSearched new.entries →
     IsProductiveLog f old.entries → GoesOn f old new
-on_by law f group old new grew searched productive = record {
-  productive = still_productive law f group old new grew searched productive;
-  limit = grew.limit;
-  rounds = (law f copies group true old new grew).rounds;
-}
+on_by law f group old new grew searched productive =
+    let rest = law f copies group true old new grew in
+    record {
+      productive = still_productive law f group old new grew searched productive;
+      limit = grew.limit;
+      rounds = rest.rounds;
+      undecided = rest.decisions refl;
+    }

@@ -2,6 +2,7 @@
 use Rattle.std.specs.Prelude.{◌≡◌, ℕ, List, None, Ok}
 use Rattle.dq_lits.specs.Formula.{Dqbf}
 use Rattle.dq_formula.specs.Prefix.{IsLawful, existential_variables}
+use Rattle.hint_log.specs.Deciding.{IsUndecided}
 use Rattle.hint_log.specs.Entries.{ProofLog, rounds_of}
 use Rattle.hint_log.specs.ProductiveLog.{IsProductiveLog}
 use Rattle.cert_text.specs.AllowedDefinitions.{AreBlocksOf, HaveFewSteps}
@@ -9,11 +10,13 @@ use Rattle.cert_text.specs.CanonicalDefinitions.{definitions_text}
 use Rattle.cert_text.specs.DefinitionBlocks.{DefinitionBlock}
 use Rattle.defined_checker.specs.Judging.{AreJudged, IsChecked, counts_of, no_counts}
 
--- the log is of productive work for the formula still, within the same limit, and no round was added
+-- the log is of productive work for the formula still, within the same limit, and neither a round
+-- nor an answer that decides was added
 pub record GoesOn (f : Dqbf) (old new : ProofLog) : Type 0 where
   pub productive : IsProductiveLog f new.entries
   pub limit : new.limit ≡ old.limit
   pub rounds : rounds_of new.entries ≡ rounds_of old.entries
+  pub undecided : IsUndecided f old.entries → IsUndecided f new.entries
 
 -- a block for each of these existentials, in order: each can be read back, and none is at fault
 pub record AreRightBlocks (f : Dqbf) (ys : List ℕ) (blocks : List DefinitionBlock) : Type 0 where

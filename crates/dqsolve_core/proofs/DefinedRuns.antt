@@ -95,7 +95,7 @@ defined_reasons before now log c p (inr due) =
 found_steps : (log : ProofLog) (f : Dqbf) (found : Definitions) → AreDefinitions f log found →
     (printed_definitions f found).status ≡ 0 → steps_of log.entries ≡ log.limit
 found_steps log f (written blocks) are zero = absurd (omega (arith, zero))
-found_steps log f (cut_off learned) are zero = are.1.1.reached
+found_steps log f (cut_off learned) are zero = are.limit.1.reached
 
 some_status : (said : NoFormula) → (formula_line said).status ≡ 0 → ⊥
 some_status Unreadable zero = omega (arith, zero)
