@@ -3,6 +3,7 @@ use Rattle.std.proofs.Common.{◌≡◌, ℕ, List, Option, None, Some, Result, 
 use Rattle.std.specs.Prelude.{drop}
 use Rattle.dq_lits.specs.Formula.{Dqbf, IsWellFormed}
 use Rattle.cert_text.specs.DefinitionBlocks.{DefinitionBlock}
+use Rattle.cert_text.specs.DefinitionGrammar.{SpellsDefinitions}
 use Rattle.cert_text.specs.DefinitionText.{definitions_of}
 use Rattle.cert_text.specs.Kind.{certificate_kind}
 use Rattle.cert_text.specs.declared.faults.CertRefusal.{CertRefusal}
@@ -13,7 +14,7 @@ use Rattle.defined_checker.specs.declared.checks.Counts.{Counts}
 use Rattle.defined_checker.specs.declared.faults.DefStop.{DefStop}
 use Rattle.defined_checker.specs.declared.faults.DefStop.TheVariants.{Refused as RefusedText, Invalid, Memory as NoMemory}
 use Rattle.defined_checker.specs.declared.faults.DefinitionFault.{DefinitionFault}
-use Rattle.cert_judge.specs.Judgement.{answer_of_blocks, HasBlocks, HoldsRightDefinitions, IsDefinitionsAnswer}
+use Rattle.cert_judge.specs.Judgement.{answer_of_blocks, HoldsRightDefinitions, IsDefinitionsAnswer, SpellsBlocks}
 use Rattle.cert_judge.specs.declared.answers.Judgement.{Judgement}
 use Rattle.cert_judge.specs.declared.answers.Judgement.TheVariants.{Refused, NoEmptyClause, ValidTrue, ValidFalse, BadBlock, ValidDefinitions}
 use Rattle.cert_judge.specs.declared.answers.CertificateFault.TheVariants.{Text}
@@ -115,23 +116,30 @@ by_counts f blocks None counts judged same =
     let counted : counts ≡ counts_of no_counts blocks = cc in (judged, counted)
 by_counts f blocks (Some fault) counts judged same = cc
 
-right_of : AcceptedTextsAreRight → (f : Dqbf) (text : List ℕ) (at h : ℕ) (counts : Counts)
+-- what the grammar's law gives
+abbrev pub ReadTextsAreSpelled : Type 0
+ReadTextsAreSpelled =
+    (text : List ℕ) (first : ℕ) (f : Dqbf) (blocks : List DefinitionBlock) → definitions_of f text first ≡ Ok blocks
+    → SpellsDefinitions text f blocks
+
+right_of : ReadTextsAreSpelled → AcceptedTextsAreRight → (f : Dqbf) (text : List ℕ) (at h : ℕ) (counts : Counts)
     (read : Result (List DefinitionBlock) CertRefusal) → IsWellFormed f →
     certificate_kind text ≡ Ok (Definitions at h) → definitions_of f (drop at text) h ≡ read →
     IsDefinitionsAnswer f read (ValidDefinitions counts) → HoldsRightDefinitions f text counts
-right_of law f text at h counts (Ok blocks) formed kind read says =
+right_of grammar law f text at h counts (Ok blocks) formed kind read says =
     let accepted = by_counts f blocks says.0 counts says.1.0 says.1.1 in
+    let spelled = grammar (drop at text) h f blocks read in
     record {
       blocks = blocks;
-      read = subst (λ k. HasBlocks f text k blocks) (sym kind) read;
+      spelled = subst (λ k. SpellsBlocks f text k blocks) (sym kind) spelled;
       counted = accepted.1;
-      right = law f (drop at text) h blocks formed read accepted.0;
+      right = law f (drop at text) blocks formed spelled accepted.0;
     }
-right_of law f text at h counts (Err refusal) formed kind read says = cc
+right_of grammar law f text at h counts (Err refusal) formed kind read says = cc
 
-pub accepted_blocks : AcceptedTextsAreRight → (f : Dqbf) (text : List ℕ) (at h : ℕ) (counts : Counts) →
-    IsWellFormed f → certificate_kind text ≡ Ok (Definitions at h) →
+pub accepted_blocks : ReadTextsAreSpelled → AcceptedTextsAreRight → (f : Dqbf) (text : List ℕ) (at h : ℕ)
+    (counts : Counts) → IsWellFormed f → certificate_kind text ≡ Ok (Definitions at h) →
     IsDefinitionsAnswer f (definitions_of f (drop at text) h) (ValidDefinitions counts) →
     HoldsRightDefinitions f text counts
-accepted_blocks law f text at h counts formed kind says =
-    right_of law f text at h counts (definitions_of f (drop at text) h) formed kind refl says
+accepted_blocks grammar law f text at h counts formed kind says =
+    right_of grammar law f text at h counts (definitions_of f (drop at text) h) formed kind refl says

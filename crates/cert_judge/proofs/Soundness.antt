@@ -37,7 +37,7 @@ use Rattle.cert_judge.specs.declared.answers.Judgement.TheVariants.{Refused, Und
 use Rattle.cert_judge.specs.declared.answers.CertificateFault.{CertificateFault}
 use Rattle.cert_judge.specs.declared.answers.CertificateFault.TheVariants.{Text, Circuit, Mapping as BadMapping}
 use Rattle.cert_judge.proofs.Certificates.{meaning_grounded, spelled_complete}
-use Rattle.cert_judge.proofs.DefinitionAnswers.{accepted_blocks, never_false, never_true}
+use Rattle.cert_judge.proofs.DefinitionAnswers.{ReadTextsAreSpelled, accepted_blocks, never_false, never_true}
 
 -- what the laws of the circuits' tests and proofs give
 pub record TestsLaw : Type 0 where
@@ -301,20 +301,22 @@ counts_are_no_refutation f counts (Ok d) same = counts_are_no_derivation counts 
 counts_are_no_refutation f counts (Err refusal) same =
     counts_are_no_refusal counts refusal.line (Text refusal.name) same
 
-blocks_by_kind : AcceptedTextsAreRight → (kind : Result Kind CertRefusal) (f : Dqbf) (text : List ℕ) (counts : Counts) →
-    certificate_kind text ≡ kind → IsWellFormed f → IsJudgementOf f text kind (ValidDefinitions counts) →
-    HoldsRightDefinitions f text counts
-blocks_by_kind law (Ok (CircuitText at h)) f text counts is formed r =
+blocks_by_kind : ReadTextsAreSpelled → AcceptedTextsAreRight → (kind : Result Kind CertRefusal) (f : Dqbf)
+    (text : List ℕ) (counts : Counts) → certificate_kind text ≡ kind → IsWellFormed f →
+    IsJudgementOf f text kind (ValidDefinitions counts) → HoldsRightDefinitions f text counts
+blocks_by_kind grammar law (Ok (CircuitText at h)) f text counts is formed r =
     absurd (foreign_by_file (ValidDefinitions counts) (counts_are_foreign counts) f h (drop at text) r)
-blocks_by_kind law (Ok (BinaryText at h)) f text counts is formed r =
+blocks_by_kind grammar law (Ok (BinaryText at h)) f text counts is formed r =
     absurd (foreign_by_scan (ValidDefinitions counts) (counts_are_foreign counts) f h (scan_binary (drop at text) h) r)
-blocks_by_kind law (Ok (Refutation at h)) f text counts is formed r =
+blocks_by_kind grammar law (Ok (Refutation at h)) f text counts is formed r =
     absurd (counts_are_no_refutation f counts (refutation_of f (drop at text) h) r)
-blocks_by_kind law (Ok (Definitions at h)) f text counts is formed r =
-    accepted_blocks law f text at h counts formed is r
-blocks_by_kind law (Err refusal) f text counts is formed r =
+blocks_by_kind grammar law (Ok (Definitions at h)) f text counts is formed r =
+    accepted_blocks grammar law f text at h counts formed is r
+blocks_by_kind grammar law (Err refusal) f text counts is formed r =
     absurd (counts_are_no_refusal counts refusal.line (Text refusal.name) r)
 
-pub accepted_definitions : AcceptedTextsAreRight → (f : Dqbf) (text : List ℕ) (counts : Counts) → IsWellFormed f →
-    IsJudgement f text (ValidDefinitions counts) → HoldsRightDefinitions f text counts
-accepted_definitions law f text counts formed r = blocks_by_kind law (certificate_kind text) f text counts refl formed r
+pub accepted_definitions : ReadTextsAreSpelled → AcceptedTextsAreRight → (f : Dqbf) (text : List ℕ)
+    (counts : Counts) → IsWellFormed f → IsJudgement f text (ValidDefinitions counts) →
+    HoldsRightDefinitions f text counts
+accepted_definitions grammar law f text counts formed r =
+    blocks_by_kind grammar law (certificate_kind text) f text counts refl formed r

@@ -16,6 +16,7 @@ use Rattle.aig_binary.specs.Grammar.{SpellsBinary}
 use Rattle.aig_binary.specs.Scan.{scan_binary}
 use Rattle.cert_text.specs.CircuitProof.{circuit_proof_of}
 use Rattle.cert_text.specs.DefinitionBlocks.{DefinitionBlock}
+use Rattle.cert_text.specs.DefinitionGrammar.{SpellsDefinitions}
 use Rattle.cert_text.specs.DefinitionText.{definitions_of}
 use Rattle.cert_text.specs.Header.{proof_word}
 use Rattle.cert_text.specs.Kind.{certificate_kind}
@@ -228,15 +229,15 @@ pub record HoldsSkolemCircuit (f : Dqbf) (text : List ℕ) : Type 0 where
   pub spelled : SpellsFile text (certificate_kind text) file
   pub skolem : IsSkolemCircuit f file.circuit file.symbols
 
--- the blocks of a certificate that is a text of definitions by its first lines
-abbrev pub HasBlocks : Dqbf → List ℕ → Result Kind CertRefusal → List DefinitionBlock → Type 0
-HasBlocks f text (Ok (Definitions at h)) blocks = definitions_of f (drop at text) h ≡ Ok blocks
-HasBlocks f text (Ok _) blocks = ⊥
-HasBlocks f text (Err refusal) blocks = ⊥
+-- the text is one of definitions by its first lines, and spells these blocks
+abbrev pub SpellsBlocks : Dqbf → List ℕ → Result Kind CertRefusal → List DefinitionBlock → Type 0
+SpellsBlocks f text (Ok (Definitions at h)) blocks = SpellsDefinitions (drop at text) f blocks
+SpellsBlocks f text (Ok _) blocks = ⊥
+SpellsBlocks f text (Err refusal) blocks = ⊥
 
--- the text has a block for each existential, so many of each kind, and what they say is right
+-- the text spells a block for each existential, so many of each kind, and what they say is right
 pub record HoldsRightDefinitions (f : Dqbf) (text : List ℕ) (counts : Counts) : Type 0 where
   pub blocks : List DefinitionBlock
-  pub read : HasBlocks f text (certificate_kind text) blocks
+  pub spelled : SpellsBlocks f text (certificate_kind text) blocks
   pub counted : counts ≡ counts_of no_counts blocks
   pub right : AreRight f blocks

@@ -11,6 +11,7 @@ ghost use Rattle.cert_judge.specs.declared.answers.Judgement.TheVariants.{ValidT
 
 use aig_binary::laws::{binary_circuit_or_first_fault, binary_circuits_are_lawful};
 use aiger_text::laws::circuit_or_first_fault;
+use cert_text::laws::definitions_or_first_fault;
 use defined_checker::laws::{accepted_texts_are_right, texts_are_judged_once};
 use proof_checker::laws::proved_circuit_is_skolem;
 use refutation_checker::laws::refutation_shows_false;
@@ -43,5 +44,6 @@ pub fn acceptance_is_sound()
     proved_circuit_is_skolem();
     tested_circuit_is_skolem();
     skolem_circuit_shows_true();
+    definitions_or_first_fault();
     accepted_texts_are_right();
 }

@@ -4,11 +4,13 @@ use Rattle.dq_lits.specs.Derivation.{ProofFault, underived, unfinished}
 use Rattle.dq_lits.specs.Formula.{Existential, Dqbf, IsWellFormed, existential_of}
 use Rattle.cert_text.specs.AllowedDefinitions.{AreBlocksOf}
 use Rattle.cert_text.specs.DefinitionBlocks.{Definition, DefinitionBlock, defined, free}
+use Rattle.cert_text.specs.DefinitionGrammar.{SpellsDefinitions}
+use Rattle.cert_text.specs.DefinitionText.{definitions_of}
 use Rattle.cert_text.specs.declared.faults.CertRefusal.{CertRefusal}
 use Rattle.defined_checker.specs.DefinitionReads.{IsFirstForeign}
 use Rattle.defined_checker.specs.Forced.{AcceptedDefinitionsAreForced, AcceptedPairsAreFree, AreRight, IsRight}
 use Rattle.defined_checker.specs.FreePairs.{IsFreePair}
-use Rattle.defined_checker.specs.Judging.{AreJudged, IsChecked, IsJudged, ReadsItsOwn, counts_of, defines, no_counts, open_end, pair, reads, separates, step}
+use Rattle.defined_checker.specs.Judging.{AcceptsFaultless, AreJudged, IsChecked, IsJudged, ReadsItsOwn, SpellsFaultless, counts_of, defines, no_counts, open_end, pair, reads, separates, step}
 use Rattle.defined_checker.specs.declared.checks.Counts.{Counts}
 use Rattle.defined_checker.specs.declared.faults.DefStop.{DefStop}
 use Rattle.defined_checker.specs.declared.faults.DefStop.TheVariants.{Refused, Invalid, Memory}
@@ -177,3 +179,42 @@ checked_once f text first (Err Memory) b p q some more = absurd (some refl)
 checked_once f text first (Ok c) (Err Memory) p q some more = absurd (more refl)
 checked_once f text first (Err (Refused r)) (Err Memory) p q some more = absurd (more refl)
 checked_once f text first (Err (Invalid x)) (Err Memory) p q some more = absurd (more refl)
+
+-- what is accepted, by the grammar
+abbrev HadMemory : Result Counts DefStop → Type 0
+HadMemory result = result ≡ Err Memory → ⊥
+
+ok_had_memory : (counts : Counts) → HadMemory (Ok counts)
+ok_had_memory counts h = cc
+
+refused_had_memory : (refusal : CertRefusal) → HadMemory (Err (Refused refusal))
+refused_had_memory refusal h = cc
+
+invalid_had_memory : (fault : DefinitionFault) → HadMemory (Err (Invalid fault))
+invalid_had_memory fault h = cc
+
+not_accepted : (stop : DefStop) (counts : Counts) → ◌≡◌ {A = Result Counts DefStop} (Err stop) (Ok counts) → ⊥
+not_accepted stop counts h = cc
+
+module _ (f : Dqbf) (text : List ℕ) (first : ℕ)
+    (taken : (blocks : List DefinitionBlock) → SpellsDefinitions text f blocks → definitions_of f text first ≡ Ok blocks)
+    (spelled : (blocks : List DefinitionBlock) → definitions_of f text first ≡ Ok blocks → SpellsDefinitions text f blocks)
+  where
+    none_faultless : (stop : DefStop) → IsChecked f text first (Err stop) → HadMemory (Err stop) → (counts : Counts) →
+        SpellsFaultless f text counts → ⊥
+    none_faultless stop checked some counts is =
+        not_accepted stop counts (checked_once f text first (Err stop) (Ok counts) checked
+        (is.blocks, (taken is.blocks is.spelled, (is.judged, is.counted))) some (ok_had_memory counts))
+
+    pub accepts_faultless : (result : Result Counts DefStop) → IsChecked f text first result →
+        AcceptsFaultless f text result
+    accepts_faultless (Ok counts) checked = record {
+      blocks = checked.0;
+      spelled = spelled checked.0 checked.1.0;
+      judged = checked.1.1.0;
+      counted = checked.1.1.1;
+    }
+    accepts_faultless (Err (Refused refusal)) checked =
+        none_faultless (Refused refusal) checked (refused_had_memory refusal)
+    accepts_faultless (Err (Invalid fault)) checked = none_faultless (Invalid fault) checked (invalid_had_memory fault)
+    accepts_faultless (Err Memory) checked = tt

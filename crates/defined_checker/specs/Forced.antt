@@ -1,6 +1,6 @@
 -- What an accepted block says: that every assignment which makes the matrix true has the definition's
 -- value, and that no function of what a definition may read has it.
-use Rattle.std.specs.Prelude.{◌≡◌, ℕ, ◌==◌, Bool, false, List, [], ◌∷◌, None, Some, Result, Ok, Err, if◌then◌else◌}
+use Rattle.std.specs.Prelude.{◌≡◌, ℕ, ◌==◌, Bool, false, List, [], ◌∷◌, None, Some, Result, Err, if◌then◌else◌}
 use Rattle.dq_lits.specs.Formula.{Existential, Dqbf, IsWellFormed, existential_of}
 use Rattle.dq_lits.specs.Henkin.{MatrixHolds}
 use Rattle.dq_lits.specs.Literal.{Assignment}
@@ -8,7 +8,7 @@ use Rattle.circuit_plain.specs.Netlist.{gate_value, left_variable, right_variabl
 use Rattle.circuit_plain.specs.declared.circuits.Gate.{Gate}
 use Rattle.cert_text.specs.AllowedDefinitions.{IsDefinitionOf}
 use Rattle.cert_text.specs.DefinitionBlocks.{Definition, DefinitionBlock, FreePair, defined, free}
-use Rattle.cert_text.specs.DefinitionText.{definitions_of}
+use Rattle.cert_text.specs.DefinitionGrammar.{SpellsDefinitions}
 use Rattle.defined_checker.specs.FreePairs.{AreAlike}
 use Rattle.defined_checker.specs.Judging.{AreJudged, IsChecked, IsJudged}
 use Rattle.defined_checker.specs.declared.checks.Counts.{Counts}
@@ -63,8 +63,8 @@ AreRight f (block ∷ blocks) = IsRight f block × AreRight f blocks
 
 abbrev pub AcceptedTextsAreRight : Type 0
 AcceptedTextsAreRight =
-    (f : Dqbf) (text : List ℕ) (first : ℕ) (blocks : List DefinitionBlock) → IsWellFormed f
-    → definitions_of f text first ≡ Ok blocks → AreJudged f blocks None → AreRight f blocks
+    (f : Dqbf) (text : List ℕ) (blocks : List DefinitionBlock) → IsWellFormed f
+    → SpellsDefinitions text f blocks → AreJudged f blocks None → AreRight f blocks
 
 -- a text is judged in one way, if there is memory
 abbrev pub TextsAreJudgedOnce : Type 0

@@ -3,6 +3,7 @@ use Rattle.std.specs.Prelude.{◌≡◌, ℕ, ◌+◌, ◌⊎◌, List, [], ◌�
 use Rattle.dq_lits.specs.Derivation.{proof_fault, underived, unfinished}
 use Rattle.dq_lits.specs.Formula.{Existential, Dqbf, existential_of}
 use Rattle.cert_text.specs.DefinitionBlocks.{Definition, FreePair, DefinitionBlock, defined, free}
+use Rattle.cert_text.specs.DefinitionGrammar.{SpellsDefinitions}
 use Rattle.cert_text.specs.DefinitionText.{definitions_of}
 use Rattle.defined_checker.specs.DefinitionBase.{definition_base}
 use Rattle.defined_checker.specs.DefinitionReads.{IsForeign, IsFirstForeign}
@@ -68,3 +69,17 @@ IsChecked f text first (Err (Invalid fault)) =
     (blocks : List DefinitionBlock) × ((definitions_of f text first ≡ Ok blocks)
     × AreJudged f blocks (Some fault))
 IsChecked f text first (Err Memory) = Unit {0}
+
+-- the text spells blocks of which none is at fault, so many of each kind
+pub record SpellsFaultless (f : Dqbf) (text : List ℕ) (counts : Counts) : Type 0 where
+  pub blocks : List DefinitionBlock
+  pub spelled : SpellsDefinitions text f blocks
+  pub judged : AreJudged f blocks None
+  pub counted : counts ≡ counts_of no_counts blocks
+
+-- such texts alone are accepted, with these counts, if there is memory
+abbrev pub AcceptsFaultless : Dqbf → List ℕ → Result Counts DefStop → Type 0
+AcceptsFaultless f text (Ok counts) = SpellsFaultless f text counts
+AcceptsFaultless f text (Err (Refused _)) = (counts : Counts) → SpellsFaultless f text counts → ⊥
+AcceptsFaultless f text (Err (Invalid _)) = (counts : Counts) → SpellsFaultless f text counts → ⊥
+AcceptsFaultless f text (Err Memory) = Unit {0}

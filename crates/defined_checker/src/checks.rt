@@ -7,13 +7,13 @@ ghost use Rattle.cert_text.specs.DefinitionText.{read_block, read_blocks};
 ghost use Rattle.cert_text.specs.DefinitionsRead.{block_seen};
 ghost use Rattle.dq_lits.specs.Formula.{existential_of};
 ghost use Rattle.cert_text.specs.AllowedDefinitions.{IsBlockOf};
-ghost use Rattle.defined_checker.specs.Judging.{IsChecked, counted, no_counts};
+ghost use Rattle.defined_checker.specs.Judging.{AcceptsFaultless, IsChecked, counted, no_counts};
 ghost use Rattle.defined_checker.specs.Tallies.{AreTaken, AreTallied, IsOneMore, IsTaken, IsTallied, IsTalliedWith, concluded};
 ghost use Rattle.defined_checker.specs.Answers.{IsFaultWith};
 
 use crate::faults::{DefStop, DefinitionFault, text_stop};
 use crate::judging::judge_block;
-use cert_text::laws::definitions_are_lawful;
+use cert_text::laws::{definitions_are_lawful, definitions_or_first_fault};
 use cert_text::{
     CertFault, CertRefusal, DefinitionBlock, read_blank_lines, read_block, read_definitions_header,
 };
@@ -40,6 +40,17 @@ pub(crate) struct Tally {
 /// blocks of each kind it has where none is at fault, or the first refusal of the text, or else the
 /// first fault of a block.
 pub fn check(alloc: Global, f: &Formula, bytes: &[u8], first: u64) -> Result<Counts, DefStop>
+    requires { first + length bytes.now < 2 ^ 64 }
+    ensures checked { IsChecked f.now bytes.now first result }
+    ensures accepted { AcceptsFaultless f.now bytes.now result }
+{
+    definitions_or_first_fault();
+    f.every_formula_is_lawful();
+    check_text(alloc, f, bytes, first)
+}
+
+// The same, by the readers of its lines.
+fn check_text(alloc: Global, f: &Formula, bytes: &[u8], first: u64) -> Result<Counts, DefStop>
     requires { first + length bytes.now < 2 ^ 64 }
     ensures { IsChecked f.now bytes.now first result }
 {

@@ -2,7 +2,6 @@
 
 ghost use Rattle.defined_checker.specs.Forced.{AcceptedDefinitionsAreForced, AcceptedPairsAreFree, AcceptedTextsAreRight, TextsAreJudgedOnce};
 
-use cert_text::laws::definitions_are_lawful;
 use proof_checker::laws::circuit_clauses_hold;
 use rup_core::laws::{deleting_derivation_is_sound, lines_alone};
 
@@ -28,7 +27,6 @@ pub fn accepted_texts_are_right()
 {
     accepted_definitions_are_forced();
     accepted_pairs_are_free();
-    definitions_are_lawful();
 }
 
 /// A text is judged in one way, if there is memory for it.

@@ -19,7 +19,8 @@ pub returns-clause-is_false : goal.returns-clause-is_false
 returns-clause-is_false c = accepted_is_false c.refutation_shows_false.ensures
 
 pub returns-clause-definitions : goal.returns-clause-definitions
-returns-clause-definitions c = accepted_definitions c.accepted_texts_are_right.ensures
+returns-clause-definitions c =
+    accepted_definitions c.definitions_or_first_fault.ensures.spelled c.accepted_texts_are_right.ensures
 
 pub returns-clause-circuit : goal.returns-clause-circuit
 returns-clause-circuit c =
