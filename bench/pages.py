@@ -1,8 +1,8 @@
 #!/usr/bin/env python3
 """pages.py: runs the commands that README and the pages show, as written, in a folder of their own, and compares statuses and first lines with
 what stands here. Commands of the pages that aren't listed here, and the other way round, are differences too,
-and so is a launcher's usage line that isn't its program's. DQCHECK and DQSOLVE may name
-built programs.
+and so is a launcher's usage line that isn't its program's, and a table or a count of what has to be believed that
+tools/believed.py doesn't print. DQCHECK and DQSOLVE may name built programs.
 """
 
 import os
@@ -12,6 +12,9 @@ import sys
 import tempfile
 
 TOP = os.path.dirname(os.path.dirname(os.path.abspath(__file__)))
+sys.path.insert(0, os.path.join(TOP, "tools"))
+
+import believed
 PAGES = ("README.md", "docs/SOLVING.md", "docs/BLACK_BOX.md", "docs/FORMATS.md")
 
 # What each command ends with, and the first line that it prints, or None where nothing is printed or the line says little.
@@ -66,11 +69,30 @@ def run(command, folder):
     return done.returncode, done.stdout.decode(errors="replace").split("\n")[0]
 
 
+def text_of(page):
+    with open(os.path.join(TOP, page), encoding="utf-8") as file:
+        return file.read()
+
+
+def wrong_counts():
+    """The pages that say otherwise than tools/believed.py how much has to be believed."""
+    rows = believed.table(believed.Repository())
+    lines = dict(re.findall(r"^\| (.*?) \| ([0-9,]+) \|", rows, re.MULTILINE))
+    first, last = believed.TABLE
+    if text_of("docs/PROVED.md").split(first)[-1].split(last)[0].strip() != rows:
+        yield "docs/PROVED.md: its table isn't what tools/believed.py prints"
+    if not re.search(rf"\b{lines[believed.WHOLE]}\s+lines\s+of\s+definitions", text_of("README.md")):
+        yield f"README.md: {lines[believed.WHOLE]} lines of definitions have to be believed"
+
+
 def main(words):
     if words:
         print(__doc__.strip())
         return 0 if words == ["--help"] else 1
     differences, seen = 0, set()
+    for difference in wrong_counts():
+        print(difference)
+        differences += 1
     for page in PAGES:
         with tempfile.TemporaryDirectory() as folder:
             prepare(folder)
