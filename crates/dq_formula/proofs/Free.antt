@@ -78,19 +78,6 @@ occurs-push : (clauses : List (List Literal)) (c : List Literal) (v : ℕ) →
     occurs (clauses ++ c ∷ []) v ≡ (occurs clauses v || (list_any (λ l. eqb (variable_of l) v) c || false))
 occurs-push clauses c v = list_any-append (list_any (λ l. eqb (variable_of l) v)) clauses (c ∷ [])
 
-pub empty_clause_undeclared : (f : Dqbf) (clauses : List (List Literal)) (vs : List ℕ) → AreUndeclaredIn f clauses vs →
-    AreUndeclaredIn f (clauses ++ [] ∷ []) vs
-empty_clause_undeclared f clauses vs are = record {
-  distinct = are.distinct;
-  in_range = are.in_range;
-  complete = λ v. are.complete v ∙ ap (λ b. not (is_declared f v) && b)
-      (sym (occurs-push clauses [] v ∙ or-false (occurs clauses v)));
-}
-  where
-    or-false : (b : Bool) → (b || (false || false)) ≡ b
-    or-false true = refl
-    or-false false = refl
-
 -- a literal more in the last clause
 occurs-literal : (clauses : List (List Literal)) (c : List Literal) (l : Literal) (v : ℕ) →
     occurs (clauses ++ (c ++ l ∷ []) ∷ []) v ≡ (occurs (clauses ++ c ∷ []) v || eqb (variable_of l) v)

@@ -1,6 +1,5 @@
 mod TokenCuts
 mod FirstLine
-mod JoinedLines
 mod KeptBytes
 pub mod LineWords
 mod LongestRuns
