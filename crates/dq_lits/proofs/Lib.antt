@@ -7,3 +7,7 @@ pub mod Refutations
 pub mod Skolem
 pub mod Truth
 pub mod WellFormed
+pub mod HeldLiterals
+pub mod SignedLiterals
+pub mod FormulaVariables
+pub mod TrueClauses
