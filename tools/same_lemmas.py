@@ -21,6 +21,7 @@ import re
 import sys
 
 ROOT = pathlib.Path(__file__).resolve().parent.parent
+TYPE = re.compile(r"(?m)^(?:pub )*(?:record|data) ([^\s:(){}]+)")
 SIGNATURE = re.compile(r"^((?:abbrev |pub |unfoldable )*)([^\s:(){}\[\],=]+) :(?= |$)")
 USE = re.compile(r"^(?:pub )?use (Rattle\.[^{]*)\.\{(.*)\}$", re.S)
 TOKEN = re.compile(r"\[\]|[(){}\[\],]|[^\s(){}\[\],]+")
@@ -304,7 +305,7 @@ def parsed():
     for crate, kind, path, module, text in files():
         found = declarations(crate, path, text)
         names = imports(text)
-        names.update({it.name: f"{module}.{it.name}" for it in found})
+        names.update({name: f"{module}.{name}" for name in [it.name for it in found] + TYPE.findall(text)})
         read.append((kind, module, found, names))
     for _, module, found, names in read:
         for it in found:

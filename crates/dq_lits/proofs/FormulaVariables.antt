@@ -1,20 +1,13 @@
 -- Lemmas on a formula's variables.
-use Rattle.std.proofs.Common.{◌≡◌, ℕ, ◌+◌, ◌≤◌, ◌<◌, true, length, arith, eqb, suc, Bool, false, ◌||◌, List, [], ◌∷◌, refl, sym, ◌==◌, cond, Some, ◌∙◌, ap, IfSome, subst}
+use Rattle.std.proofs.Common.{◌≡◌, ℕ, ◌+◌, ◌≤◌, ◌<◌, true, length, arith, eqb, suc, Bool, false, List, [], ◌∷◌, refl, sym, ◌==◌, cond, Some, ◌∙◌, ap, IfSome, subst}
 use Rattle.std.specs.List.{list_any, Contains, find}
 use Rattle.std.proofs.lemmas.Bool.Decides.{Decides-eqb}
 use Rattle.std.proofs.lemmas.List.Elements.{All-contains}
 use Rattle.std.proofs.lemmas.Map.Made.{IsDistinct-from_AllPairs}
 use Rattle.std.proofs.lemmas.Map.Steps.{length-le_from_distinct_below}
 use Rattle.std.proofs.lemmas.Bool.{eqb-true}
+use Rattle.list_laws.proofs.Members.{contains_found}
 use Rattle.dq_lits.specs.Formula.{Dqbf, HasLawfulPrefix, declared, Existential, existential_of}
-
-any_inside : (q : ℕ) (xs : List ℕ) → list_any (eqb q) xs ≡ true → Contains xs q
-any_inside q [] h = cc
-any_inside q (x ∷ xs) h = by_bit (any_inside q xs) (eqb q x) refl h where
-  by_bit : (list_any (eqb q) xs ≡ true → Contains xs q) → (b : Bool) → eqb q x ≡ b → (b || list_any (eqb q) xs) ≡ true →
-      Contains (x ∷ xs) q
-  by_bit later true e k = (0, omega arith, sym (eqb-true q x e))
-  by_bit later false e k = let r = later k in let low = r.1 in (suc r.0, omega (arith, low), r.2)
 
 -- a formula declares at most as many variables as it has
 pub few_declared : (f : Dqbf) → HasLawfulPrefix f → length (declared f) ≤ f.variables + 1
@@ -23,7 +16,7 @@ few_declared f prefix = length-le_from_distinct_below (declared f) (f.variables 
       below : (q : ℕ) → list_any (eqb q) (declared f) ≡ true → q < f.variables + 1
       below q h =
           let range = All-contains (λ v. (1 ≤ v) × (v ≤ f.variables)) (declared f) q prefix.in_range
-          (any_inside q (declared f) h) in
+          (contains_found q (declared f) h) in
           let most = range.1 in omega (arith, most)
 
 abbrev pub variable : Existential → ℕ

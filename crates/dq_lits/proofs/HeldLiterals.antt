@@ -1,11 +1,11 @@
 -- Lemmas on which literals a list holds.
 use Rattle.std.proofs.Common.{◌≡◌, Bool, true, inl, inr, List, [], ◌∷◌, sym, ◌∙◌, ap, refl, false, ◌||◌, cond, not, ℕ, Option, subst, map, ◌++◌, Some, Contains, zero, ◌+◌, arith, suc, slice_get, ◌⊎◌}
 use Rattle.std.specs.List.{list_any, All, filter}
-use Rattle.std.proofs.lemmas.Bool.{or_cases, or_left, or_right, eq-eqb, true≢false, cases_Bool, false≢true}
+use Rattle.std.proofs.lemmas.Bool.{or_cases, or_left, or_right, true≢false, cases_Bool, false≢true}
 use Rattle.std.proofs.lemmas.List.Elements.{All-cons, All-nil, All-head, All-tail, Contains-append_right}
 use Rattle.std.proofs.lemmas.List.Folds.{list_any-append}
 use Rattle.std.proofs.lemmas.Option.{same_Some}
-use Rattle.dq_lits.specs.Literal.{Literal, same_literal, positive, negative, opposite}
+use Rattle.dq_lits.specs.Literal.{Literal, same_literal, opposite}
 use Rattle.dq_lits.specs.Derivation.{holds, Status, falsified, unit, stuck, fault_by, LiveClauses, is_tautology, IsDerived, status_of, hint_fault}
 use Rattle.dq_lits.proofs.Truth.{same_literal-sound}
 use Rattle.dq_lits.proofs.SignedLiterals.{same_literal-refl, opposite-opposite, same_opposite}
@@ -19,16 +19,12 @@ any_one p (x ∷ xs) l here passes = elim (or_cases (same_literal l x) (holds xs
   | inr later ↦ or_right (p x) (list_any p xs) (any_one p xs l later passes)
 ]
 
-same_itself : (l : Literal) → same_literal l l ≡ true
-same_itself (positive v) = eq-eqb v v refl
-same_itself (negative v) = eq-eqb v v refl
-
 -- a literal that passes
 pub any_gives : (p : Literal → Bool) (xs : List Literal) → list_any p xs ≡ true →
     (l : Literal) × (holds xs l ≡ true) × (p l ≡ true)
 any_gives p [] some = cc
 any_gives p (x ∷ xs) some = elim (or_cases (p x) (list_any p xs) some) [
-  | inl here ↦ (x, or_left (same_literal x x) (holds xs x) (same_itself x), here)
+  | inl here ↦ (x, or_left (same_literal x x) (holds xs x) (same_literal-refl x), here)
   | inr later ↦ (let r = any_gives p xs later in (r.0, or_right (same_literal r.0 x) (holds xs r.0) r.1, r.2))
 ]
 
@@ -44,11 +40,11 @@ all_held P (l ∷ ls) each = All-cons P l ls (each l (or_left (same_literal l l)
       or_right true b h = refl
       or_right false b h = h
 
-first_held : (x : Literal) (xs : List Literal) → holds (x ∷ xs) x ≡ true
-first_held x xs = or_left (same_literal x x) (holds xs x) (same_literal-refl x)
+pub holds_here : (l : Literal) (rest : List Literal) → holds (l ∷ rest) l ≡ true
+holds_here l rest = or_left (same_literal l l) (holds rest l) (same_literal-refl l)
 
-later_held : (x : Literal) (xs : List Literal) (l : Literal) → holds xs l ≡ true → holds (x ∷ xs) l ≡ true
-later_held x xs l h = or_right (same_literal l x) (holds xs l) h
+pub holds_later : (x : Literal) (xs : List Literal) (l : Literal) → holds xs l ≡ true → holds (x ∷ xs) l ≡ true
+holds_later x xs l h = or_right (same_literal l x) (holds xs l) h
 
 abbrev pub not_false : List Literal → List Literal → List Literal
 not_false trues clause = filter (λ l. not (holds trues (opposite l))) clause
@@ -62,15 +58,15 @@ left_among trues (x ∷ c) l h =
       | inl e ↦
           let r = left_among trues c l (sym (ap (λ b. holds (cond (not b) (x ∷ not_false trues c) (not_false trues c))
           l) e) ∙ h) in
-          (later_held x c l r.0, r.1)
+          (holds_later x c l r.0, r.1)
       | inr e ↦
           let k : holds (x ∷ not_false trues c) l ≡ true = sym
           (ap (λ b. holds (cond (not b) (x ∷ not_false trues c) (not_false trues c)) l) e) ∙ h in
           elim (or_cases (same_literal l x) (holds (not_false trues c) l) k) [
             | inl s ↦
                 let q = same_literal-sound l x s in
-                (ap (holds (x ∷ c)) q ∙ first_held x c, ap (λ y. holds trues (opposite y)) q ∙ e)
-            | inr later ↦ let r = left_among trues c l later in (later_held x c l r.0, r.1)
+                (ap (holds (x ∷ c)) q ∙ holds_here x c, ap (λ y. holds trues (opposite y)) q ∙ e)
+            | inr later ↦ let r = left_among trues c l later in (holds_later x c l r.0, r.1)
           ]
     ]
 
@@ -166,9 +162,3 @@ pub holds_cases : (x : Literal) (xs : List Literal) (l : Literal) → holds (x �
     (l ≡ x) ⊎ (holds xs l ≡ true)
 holds_cases x xs l h = elim (or_cases (same_literal l x) (holds xs l) h)
     [ inl same ↦ inl (same_literal-sound l x same) | inr later ↦ inr later ]
-
-pub holds_here : (l : Literal) (rest : List Literal) → holds (l ∷ rest) l ≡ true
-holds_here l rest = or_left (same_literal l l) (holds rest l) (same_literal-refl l)
-
-pub holds_later : (x : Literal) (xs : List Literal) (l : Literal) → holds xs l ≡ true → holds (x ∷ xs) l ≡ true
-holds_later x xs l h = or_right (same_literal l x) (holds xs l) h

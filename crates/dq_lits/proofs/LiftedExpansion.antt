@@ -1,5 +1,5 @@
 -- An unsatisfiable expansion shows that no choice solves the formula.
-use Rattle.std.proofs.Common.{◌≡◌, ℕ, suc, ◌+◌, ◌-◌, ◌/◌, ◌%◌, ◌<◌, ◌≤◌, ◌==◌, Bool, true, false, not, cond, inl, inr, List, [], ◌∷◌, map, length, get_or, Option, Some, None, refl, sym, ◌∙◌, ap, arith}
+use Rattle.std.proofs.Common.{◌≡◌, ◌+◌, ◌-◌, ◌/◌, ◌%◌, ◌<◌, ◌≤◌, ◌==◌, Bool, true, false, not, cond, inl, inr, List, [], ◌∷◌, map, length, get_or, Option, Some, None, refl, sym, ◌∙◌, ap}
 use Rattle.std.specs.List.{All, Contains, list_any, filter_map, cons_option, position_or_len}
 use Rattle.std.specs.Option.{option_map}
 use Rattle.std.proofs.lemmas.Bool.{true≢false, eq-eqb, or_cases, or_parts, or_left, or_right, and_from}
@@ -25,11 +25,6 @@ abbrev pair_value : Dqbf → List (List Bool) → HenkinChoice → Assignment
 pair_value f rows choice n =
     value_of choice (row_assignment f (get_or rows ((n - 1) / f.variables) []))
     (existential_of f ((n - 1) % f.variables + 1))
-
-first_or_later : (p : List Bool → Bool) (b : Bool) (row : List Bool) (rows : List (List Bool)) (n : ℕ) → p row ≡ b →
-    (b ≡ false → p (get_or rows n []) ≡ true) → p (get_or (row ∷ rows) (cond (not b) (1 + n) 0) []) ≡ true
-first_or_later p true row rows n here later = here
-first_or_later p false row rows n here later = let next : 1 + n ≡ suc n = omega arith in rw next (later refl)
 
 -- the bit of a pair is what the choice gives the existential under each of the pair's rows
 pair_value-pair_number : (f : Dqbf) (rows : List (List Bool)) (choice : HenkinChoice) (row : List Bool)

@@ -1,10 +1,7 @@
 -- Lemmas on the truth of literals and clauses.
-use Rattle.std.proofs.Common.{◌≡◌, true, false, not, ap, Bool, true≢false, refl, sym, ℕ}
+use Rattle.std.proofs.Common.{◌≡◌, true, false, not, ap, true≢false, sym, ℕ}
+use Rattle.list_laws.proofs.Truths.{not_true}
 use Rattle.dq_lits.specs.Literal.{Assignment, Literal, positive, negative, opposite, literal_true, variable_of, is_negative, on_variable}
-
-not_true : (c : Bool) → not c ≡ true → c ≡ false
-not_true false h = refl
-not_true true h = absurd (true≢false (sym h))
 
 pub opposite-false : (m : Assignment) (l : Literal) → literal_true m (opposite l) ≡ true → literal_true m l ≡ false
 opposite-false m (positive v) h = not_true (m v) h
@@ -17,7 +14,6 @@ same_sign a m p (positive v) (negative w) e h = absurd (true≢false (sym e))
 same_sign a m p (negative v) (positive w) e h = absurd (true≢false e)
 same_sign a m p (negative v) (negative w) e h = ap not h
 
--- the groups of open frames are active
 pub positive_true : (values : Assignment) (l : Literal) → is_negative l ≡ false → literal_true values l ≡ true →
     values (variable_of l) ≡ true
 positive_true values (positive v) plain on = on

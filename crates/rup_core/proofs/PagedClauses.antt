@@ -1,10 +1,11 @@
 -- Clauses that lie among the literals of a page.
-use Rattle.std.proofs.Common.{◌≡◌, ℕ, zero, suc, ◌+◌, ◌-◌, ◌<◌, ◌≤◌, ◌==◌, nat_lt, Bool, true, false, cond, inl, inr, List, [], ◌∷◌, ◌++◌, map, take, drop, set, length, get_or, Option, None, Some, IsSome, Result, Ok, Err, OnErr, refl, sym, ◌∙◌, ap, subst, arith, length-append, length-drop, eq-eqb}
+use Rattle.std.proofs.Common.{◌≡◌, ℕ, zero, suc, ◌+◌, ◌-◌, ◌<◌, ◌≤◌, ◌==◌, nat_lt, Bool, true, false, cond, inl, inr, List, [], ◌∷◌, ◌++◌, map, take, drop, set, length, get_or, Option, None, Some, IsSome, Result, Ok, Err, OnErr, refl, sym, ◌∙◌, ap, subst, arith, length-append, eq-eqb}
 use Rattle.std.specs.List.{All, count_by}
 use Rattle.std.proofs.lemmas.Bool.{cases_Bool, cases_eq, cases_lt, leb-true, le-leb, ne_eqb}
-use Rattle.std.proofs.lemmas.List.{get_or-set_same, get_or-set_other, get_or_past, get_or_default, length-map, take_all, drop_at, take-append-le, drop-append-le}
+use Rattle.std.proofs.lemmas.List.{get_or-set_same, get_or-set_other, get_or_past, get_or_default, length-map, take_all, drop_at}
 use Rattle.std.proofs.lemmas.List.Elements.{All-get_or, All-set}
 use Rattle.std.proofs.lemmas.List.Sums.{sum_by-cons, sum_by-set}
+use Rattle.list_laws.proofs.Sequences.{take-inside}
 use Rattle.dq_lits.specs.Literal.{Literal}
 use Rattle.dq_lits.specs.declared.memory.Memory.{Memory}
 use Rattle.rup_core.specs.Paging.{Clauses, clause_at, AreSameClauses, Sets}
@@ -17,12 +18,6 @@ pub clause_of_span : (literals : List Literal) (spans : List Span) (k : ℕ) →
 clause_of_span literals [] k = refl
 clause_of_span literals (s ∷ spans) zero = refl
 clause_of_span literals (s ∷ spans) (suc k) = clause_of_span literals spans k
-
--- more literals behind the others leave a clause as it is
-take-inside : (s n : ℕ) (xs ys : List Literal) → s ≤ length xs → s + n ≤ length xs →
-    take n (drop s (xs ++ ys)) ≡ take n (drop s xs)
-take-inside s n xs ys a b = rw (drop-append-le s xs ys a) (let e : n ≤ length (drop s xs) =
-    omega (arith, length-drop s xs) in take-append-le n (drop s xs) ys e)
 
 clause_stays : (literals more : List Literal) (s : Span) → s.end ≤ length literals →
     clause_in (literals ++ more) s ≡ clause_in literals s
