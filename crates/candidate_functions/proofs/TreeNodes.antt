@@ -140,14 +140,6 @@ guess_is_node f lawful g guesses p n are below is = let (_, cases) = slice_get_c
   | inr past ↦ let (least, _) = past in absurd (omega (arith, below, least))
 ]
 
--- a constant reads nothing
-pub unruled_constant : (f : Dqbf) (g : AigGraph) (y : Existential) (b : Bool) → IsByRules f g [] y (Constant b)
-unruled_constant f g y b = record {
-  is_node = tt;
-  value = λ m bit first. absurd (none_is bit first);
-  reads = λ k d below. absurd (omega (arith, below));
-}
-
 -- the nodes of the first existentials
 pub record NodesSoFar (f : Dqbf) (old new : AigGraph) (count : ℕ) (nodes : List Node) : Type 0 where
   pub grown : Extends old new

@@ -1,11 +1,11 @@
 -- Where another literal of a clause isn't false: behind a place, and before it.
-use Rattle.std.proofs.Common.{◌≡◌, ◌≢◌, ◌==◌, ◌||◌, ℕ, zero, suc, ◌+◌, ◌≤◌, ◌<◌, Bool, true, false, List, [], ◌∷◌, ◌++◌, take, drop, length, inl, inr, Option, None, Some, MatchOption, refl, sym, ◌∙◌, ap, arith}
-use Rattle.std.proofs.lemmas.Bool.{false≢true, eqb-true, eqb-false, or_cases, or_left, or_right}
+use Rattle.std.proofs.Common.{◌≡◌, ◌≢◌, ◌==◌, ◌||◌, ℕ, suc, ◌+◌, ◌≤◌, ◌<◌, Bool, true, false, List, [], ◌∷◌, ◌++◌, take, drop, length, inl, inr, Option, None, Some, MatchOption, refl, sym, ◌∙◌, ap, arith}
+use Rattle.std.proofs.lemmas.Bool.{false≢true, eqb-true, eqb-false, or_cases, or_left}
 use Rattle.std.proofs.lemmas.List.{get_or-drop, length-drop, take-append-drop}
 use Rattle.std.proofs.lemmas.List.Folds.{list_any-append}
 use Rattle.dq_lits.specs.Literal.{Literal, positive, opposite, same_literal}
 use Rattle.dq_lits.specs.Derivation.{holds}
-use Rattle.truth_values.proofs.HeldLiterals.{same_literal-refl, same_literal-sound}
+use Rattle.truth_values.proofs.HeldLiterals.{same_literal-sound}
 use Rattle.cdcl_core.specs.Chains.{watch_at}
 use Rattle.cdcl_core.specs.Visits.{AreOthersFalse, IsOther}
 
@@ -22,12 +22,6 @@ index_of (x ∷ xs) k h = elim (or_cases (same_literal k x) (holds xs k) h) [
   | inl e ↦ (0, omega arith, e)
   | inr t ↦ (let r = index_of xs k t in let low = r.1 in (suc r.0, omega (arith, low), r.2))
 ]
-
-pub holds_at : (xs : List Literal) (i : ℕ) → i < length xs → holds xs (watch_at xs i) ≡ true
-holds_at [] i below = absurd (omega (arith, below))
-holds_at (x ∷ xs) zero below = or_left (same_literal x x) (holds xs x) (same_literal-refl x)
-holds_at (x ∷ xs) (suc i) below = or_right (same_literal (watch_at xs i) x) (holds xs (watch_at xs i))
-    (holds_at xs i (omega (arith, below)))
 
 -- none was looked at yet
 pub none_between : (trues lits : List Literal) (other : Literal) (from at : ℕ) → at ≤ from →

@@ -4,7 +4,7 @@ use Rattle.std.specs.List.{All, Contains, cons_option}
 use Rattle.std.specs.Option.{option_map, option_and_then}
 use Rattle.std.proofs.lemmas.Bool.{true≢false}
 use Rattle.std.proofs.lemmas.List.{take_all, take_more}
-use Rattle.std.proofs.lemmas.List.Elements.{All-nil, All-push, All-head, All-tail}
+use Rattle.std.proofs.lemmas.List.Elements.{All-push, All-head, All-tail}
 use Rattle.dq_lits.specs.Literal.{Literal, variable_of, on_variable}
 use Rattle.hint_log.specs.Entries.{Entry, Named, Given, Learned, Answer, Round, Begun, has_id, numbered, clause_of, clause_at, origin_of, origin_at}
 use Rattle.hint_log.specs.declared.origins.Origin.{Origin}
@@ -40,15 +40,6 @@ pub record NamedSoFar (target old new : Renaming) (done : List Literal) : Type 0
   pub kept : IsPartOf old new
   pub right : IsPartOf new target
   pub named : All (IsNamed target new) done
-
-pub none_named : (target r : Renaming) (done : List Literal) → done ≡ [] → IsPartOf r target →
-    NamedSoFar target r r done
-none_named target r done is right = record {
-  kept = λ v x h. h;
-  right = right;
-  named =
-      subst (All (IsNamed target r)) (sym is) (All-nil (IsNamed target r));
-}
 
 pub one_named : (target old mid new : Renaming) (lits : List Literal) (i : ℕ) (l : Literal) →
     NamedSoFar target old mid (take i lits) →

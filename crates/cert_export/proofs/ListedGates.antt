@@ -44,9 +44,6 @@ pub record AreVariablesSoFar (entries : List Entry) (places variables : List ℕ
   pub at : (k : ℕ) → k < i → (name : Name)
       × (slice_get (names_of entries) (slice_index places k) ≡ Some (slice_index variables k, name))
 
-pub no_variables : (entries : List Entry) (places : List ℕ) → AreVariablesSoFar entries places [] 0
-no_variables entries places = record { long = refl; at = λ k below. absurd (omega (arith, below)) }
-
 pub one_variable_more : (entries : List Entry) (places variables : List ℕ) (i v : ℕ) (name : Name) →
     AreVariablesSoFar entries places variables i →
     slice_get (names_of entries) (slice_index places i) ≡ Some (v, name) →

@@ -135,12 +135,6 @@ all_came f body number no_rows no_items =
 some_left : (n : ℕ) → 0 < n → n ≡ suc (n - 1)
 some_left n some = omega (arith, some)
 
--- where a row is missing
-pub rows_missing : (f : Dqbf) (body : RefutationBody) (number : ℕ) → 0 < body.rows_left →
-    rows_of (body_gives f body [] number) ≡ Err (refusal number Truncated)
-rows_missing f body number some =
-    ap (λ n. rows_of (body_gives f (record body { rows_left = n }) [] number)) (some_left body.rows_left some)
-
 -- where a line of the proof is missing
 pub items_missing : (f : Dqbf) (body : RefutationBody) (number : ℕ) → body.rows_left ≡ 0 → 0 < body.items_left →
     rows_of (body_gives f body [] number) ≡ Err (refusal number Truncated)

@@ -1,5 +1,5 @@
 -- Items that are kept as steps.
-use Rattle.std.proofs.Common.{◌≡◌, ℕ, zero, suc, ◌+◌, ◌≤◌, false, ◌||◌, cond, List, [], ◌∷◌, ◌++◌, map, length, drop, Some, refl, sym, ◌∙◌, ap, ap₂, arith, append_assoc}
+use Rattle.std.proofs.Common.{◌≡◌, ℕ, zero, suc, ◌+◌, ◌≤◌, ◌||◌, cond, List, [], ◌∷◌, ◌++◌, map, drop, Some, refl, sym, ◌∙◌, ap, ap₂, arith, append_assoc}
 use Rattle.std.specs.List.{AllByRecursion, flat_map, list_any, slice_get}
 use Rattle.std.proofs.lemmas.Bool.{ne_eqb}
 use Rattle.dq_lits.specs.Derivation.{ProofStep}
@@ -15,12 +15,6 @@ pub lines_kept : (steps : List ProofStep) → AllByRecursion (λ step. 1 ≤ ste
     map kept_item steps ≡ map derived steps
 lines_kept [] some = refl
 lines_kept (step ∷ steps) some = ap₂ (λ item items. item ∷ items) (line_kept step some.0) (lines_kept steps some.1)
-
-pub item_at : (steps : List ProofStep) (k : ℕ) (step : ProofStep) → slice_get steps k ≡ Some step →
-    slice_get (map kept_item steps) k ≡ Some (kept_item step)
-item_at [] k step h = cc
-item_at (s ∷ steps) zero step h = let same : s ≡ step = cc in ap (λ x. Some (kept_item x)) same
-item_at (s ∷ steps) (suc k) step h = item_at steps k step h
 
 got : {X : Type 0} (xs : List X) (k : ℕ) (x : X) → slice_get xs k ≡ Some x → drop k xs ≡ x ∷ drop (suc k) xs
 got [] k x h = cc
@@ -51,9 +45,3 @@ deletion_at items k item is =
     let next : suc k ≡ k + 1 = omega arith in
     ap (list_any is_deletion) (got items k item is) ∙ ap (λ n. is_deletion item || list_any is_deletion
     (drop n items)) next
-
-pub none_left : (items : List ProofItem) (k : ℕ) → length items ≤ k → list_any is_deletion (drop k items) ≡ false
-none_left [] zero le = refl
-none_left [] (suc k) le = refl
-none_left (item ∷ items) zero le = absurd (omega (arith, le))
-none_left (item ∷ items) (suc k) le = none_left items k (omega (arith, le))

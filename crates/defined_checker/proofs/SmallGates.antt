@@ -1,13 +1,11 @@
 -- A definition's gates by their places, and that their numbers are small.
-use Rattle.std.proofs.Common.{◌≡◌, ℕ, zero, suc, ◌+◌, ◌-◌, ◌*◌, ◌/◌, ◌%◌, ◌^◌, ◌≤◌, ◌<◌, nat_le, List, [], ◌∷◌, ◌++◌, length, get_or, slice_get, refl, sym, ap, ◌∙◌, subst, arith}
+use Rattle.std.proofs.Common.{◌≡◌, ℕ, zero, suc, ◌+◌, ◌-◌, ◌*◌, ◌/◌, ◌%◌, ◌≤◌, ◌<◌, List, [], ◌∷◌, ◌++◌, length, get_or, slice_get, refl, sym, ap, ◌∙◌, subst, arith}
 use Rattle.std.specs.List.{flat_map}
-use Rattle.std.proofs.lemmas.Bool.{and_parts, leb-true}
 use Rattle.dq_lits.specs.Formula.{Dqbf}
-use Rattle.circuit_plain.specs.Netlist.{left_variable, right_variable, literal_variable}
+use Rattle.circuit_plain.specs.Netlist.{left_variable, right_variable}
 use Rattle.circuit_plain.specs.declared.circuits.Gate.{Gate}
 use Rattle.cert_text.specs.AllowedDefinitions.{AreGatesFrom, IsDefinitionOf, IsGateAt}
 use Rattle.cert_text.specs.DefinitionBlocks.{Definition}
-use Rattle.cert_text.specs.DefinitionLine.{is_readable}
 use Rattle.cert_text.specs.NegatedMatrix.{gate_clauses}
 use Rattle.defined_checker.specs.Bases.{IsSmallGate}
 
@@ -34,14 +32,6 @@ small_gate f d lawful few k g e below is =
       left = omega (arith, low, many, below, few);
       right = omega (arith, high, many, below, few);
     }
-
-pub small_output : (f : Dqbf) (d : Definition) → IsDefinitionOf f d → f.variables ≤ 1000000 → d.output < 2 ^ 62
-small_output f d lawful few =
-    let parts = and_parts (is_readable f d.output)
-    (nat_le (literal_variable d.output) (f.variables + length d.gates)) lawful.output in
-    let low = leb-true (literal_variable d.output) (f.variables + length d.gates) parts.1 in
-    let many : length d.gates ≤ 1000000000 = lawful.few in
-    omega (arith, low, many, few)
 
 gates_length : (gates : List Gate) → length (flat_map gate_clauses gates) ≡ 3 * length gates
 gates_length [] = refl

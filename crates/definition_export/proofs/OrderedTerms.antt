@@ -75,9 +75,6 @@ at_inside : (xs : List ℕ) (p v : ℕ) → slice_get xs p ≡ Some v → Contai
 at_inside xs p v h =
     (p, slice_get_within xs p v h, get_or_from_slice_get xs p v _ h)
 
-pub inside_at : (xs : List ℕ) (v : ℕ) (i : Contains xs v) → slice_get xs i.0 ≡ Some v
-inside_at xs v i = slice_get-get_or xs i.0 v i.1 ∙ ap Some i.2
-
 abbrev IsOrdered : List Entry → Type 0
 IsOrdered es = (p q v : ℕ) (a b l : Literal) → slice_get (terms_over es) p ≡ Some v →
     name_of es v ≡ Some (Term a b) → (l ≡ a) ⊎ (l ≡ b) → slice_get (terms_over es) q ≡ Some (variable_of l) → q < p

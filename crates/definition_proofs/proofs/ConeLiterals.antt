@@ -23,7 +23,7 @@ use Rattle.definition_proofs.specs.Terms.{AreTerms, GrewByProof}
 use Rattle.definition_proofs.specs.Leaves.{StandsFor, gate, HasLiteral, IsKnown, AreSidesKnown, HasGate}
 use Rattle.definition_proofs.specs.Shown.{ReadDeclaredCopies}
 use Rattle.definition_proofs.specs.declared.terms.Terms.{Terms}
-use Rattle.definition_proofs.proofs.GrownProofs.{no_formula, names_stay, proof_same, proof_then}
+use Rattle.definition_proofs.proofs.GrownProofs.{no_formula, names_stay, proof_then}
 use Rattle.definition_proofs.proofs.NodeLiterals.{stands_still}
 
 some_is : {X : Type 0} {x y : X} → Some x ≡ Some y → x ≡ y
@@ -178,19 +178,6 @@ module _ (f : Dqbf) (graph : AigGraph) (node : Node) (gates : List ℕ) (first :
             found = updates.2 h (apart h (others k h later there)) ∙ before.found;
             stands = before.stands;
           }
-
--- before the first, and behind the last
-pub no_literals : (f : Dqbf) (graph : AigGraph) (gates : List ℕ) (terms : Terms) (log : ProofLog)
-    (literals : BTreeMap ℕ Literal) (at : ℕ) → at ≡ length gates → AreTerms terms log.entries →
-    AreLiteralsFrom f graph gates terms log terms log literals at
-no_literals f graph gates terms log literals at all known = record {
-  grew = λ h y. proof_same h (group_variable terms.group) y log log refl;
-  group = refl;
-  terms_known = known;
-  sides = λ before. before;
-  within = omega (arith, all);
-  each = λ k g past there. (let below = slice_get_within gates k g there in absurd (omega (arith, below, past, all)));
-}
 
 pub node_known : (f : Dqbf) (graph : AigGraph) (node : Node) (gates : List ℕ) (first : Terms) (old : ProofLog)
     (terms : Terms) (log : ProofLog) (literals : BTreeMap ℕ Literal) (at : ℕ) → at ≡ 0 →

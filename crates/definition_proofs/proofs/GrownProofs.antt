@@ -12,7 +12,7 @@ use Rattle.hint_log.specs.declared.names.Name.TheVariants.{Term}
 use Rattle.hint_log.specs.declared.origins.Origin.{Origin}
 use Rattle.hint_log.specs.declared.origins.Origin.TheVariants.{Instance, Gate, Fault, Copy, Link, TermGate, Differ}
 use Rattle.log_laws.specs.Engines.{copies, IsAddedBy}
-use Rattle.log_laws.proofs.LargerLogs.{leaves_rest, grown_by, grown_by_none, grown_then}
+use Rattle.log_laws.proofs.LargerLogs.{leaves_rest, grown_by, grown_then}
 use Rattle.log_laws.proofs.Kept.{NamesStay}
 use Rattle.padoa_definitions.specs.Copies.{IsPadoa, groups_of}
 use Rattle.padoa_definitions.specs.Growing.{Gives, HasFewFaults}
@@ -47,12 +47,6 @@ module _ (f : Dqbf) (group y : ℕ) (old new : ProofLog) (grew : GrewByProof f g
 
   pub padoa_still : (p : Padoa) → All (λ g. g ≢ group) (groups_of p) → IsPadoa f p old.entries → IsPadoa f p new.entries
   padoa_still p apart padoa = engines_leave f p copies group true old new own_growth apart padoa
-
-pub proof_same : (f : Dqbf) (group y : ℕ) (old new : ProofLog) → new ≡ old → GrewByProof f group y old new
-proof_same f group y old new is = record {
-  grew = λ start names. grown_by_none (IsAddedBy f copies group true start) old new is;
-  givens = λ o c inside. inl (subst (λ (l : ProofLog). Contains l.entries (Given o c)) is inside);
-}
 
 pub proof_then : (f : Dqbf) (group y : ℕ) (a b c : ProofLog) → GrewByProof f group y a b → GrewByProof f group y b c →
     GrewByProof f group y a c

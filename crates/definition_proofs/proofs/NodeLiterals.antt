@@ -1,15 +1,14 @@
 -- Literals that stand for nodes: they stay as names do, stand on first copies or gates over them, and reach what the
 -- node reads.
-use Rattle.std.proofs.Common.{◌≡◌, ◌≢◌, ◌<◌, ℕ, zero, suc, Bool, true, false, ◌⊎◌, inl, inr, List, [], ◌∷◌, ◌++◌, map, length, Some, None, slice_get, refl, sym, ◌∙◌, ap, subst, arith}
+use Rattle.std.proofs.Common.{◌≡◌, ◌<◌, ℕ, zero, suc, Bool, true, false, ◌⊎◌, inl, inr, List, [], ◌∷◌, ◌++◌, map, length, Some, slice_get, refl, sym, ◌∙◌, ap, subst, arith}
 use Rattle.std.specs.List.{Contains}
 use Rattle.std.proofs.lemmas.List.Elements.{Contains-append_left, Contains-append_right}
 use Rattle.std.proofs.lemmas.Option.{slice_get-get_or}
 use Rattle.dq_lits.specs.Literal.{Literal, positive, negative, variable_of, opposite}
 use Rattle.dq_lits.specs.Formula.{Dqbf, declared}
 use Rattle.aig_graph.specs.declared.nodes.Node.{Node}
-use Rattle.aig_graph.specs.declared.nodes.Node.TheVariants.{Constant, Input, Gate}
-use Rattle.aig_graph.specs.Graph.{AigGraph, gate_support, node_support, place_of}
-use Rattle.aig_graph.specs.Joining.{IsInner}
+use Rattle.aig_graph.specs.declared.nodes.Node.TheVariants.{Input, Gate}
+use Rattle.aig_graph.specs.Graph.{AigGraph, gate_support, node_support}
 use Rattle.aig_graph.proofs.LargerGraphs.{gate_support_in}
 use Rattle.defining_nodes.specs.Definitions.{input_variable}
 use Rattle.hint_log.specs.Conditions.{is_term_name}
@@ -145,9 +144,3 @@ pub gate_signed : (f : Dqbf) (graph : AigGraph) (es : List Entry) (g : ℕ) (l :
     StandsFor f graph es (Gate g false) l → StandsFor f graph es (Gate g negated) (negated_by negated l)
 gate_signed f graph es g l false stands = stands
 gate_signed f graph es g l true stands = not_gate g l stands
-
--- a side of a gate isn't constant
-pub side_inner : (inputs : ℕ) (n : Node) → place_of inputs n ≢ None → IsInner n
-side_inner inputs (Constant b) inner = absurd (inner refl)
-side_inner inputs (Input i negated) inner = tt
-side_inner inputs (Gate g negated) inner = tt

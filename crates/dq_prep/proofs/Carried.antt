@@ -4,7 +4,7 @@ use Rattle.std.specs.List.{All, list_all, filter}
 use Rattle.std.proofs.lemmas.Bool.{true≢false, eq-eqb, or_cases, or_left, or_right, and_parts}
 use Rattle.std.proofs.lemmas.List.Elements.{All-head, All-tail, filter_passes}
 use Rattle.dq_lits.specs.Literal.{Literal, positive, negative, opposite, same_literal}
-use Rattle.dq_lits.specs.Derivation.{LiveClauses, Status, falsified, unit, stuck, holds, status_by, status_of, fault_by, hint_fault, is_tautology}
+use Rattle.dq_lits.specs.Derivation.{LiveClauses, falsified, unit, stuck, holds, status_by, status_of, fault_by, hint_fault, is_tautology}
 use Rattle.dq_prep.proofs.Reduction.{true-or-false}
 use Rattle.dq_prep.specs.Lifted.{IsCarried, LinesAreCarried, AreFalsifying, FalsifyingDerives}
 use Rattle.dq_prep.proofs.SignedLiterals.{not-true, same_literal-sound, not-same, opposite-opposite, pair-in, pair-any}
@@ -48,10 +48,6 @@ derives live literals units last plain are =
 -- no literal stands beside its negation
 abbrev IsConsistent : List Literal → Type 0
 IsConsistent trues = (l : Literal) → holds trues l ≡ true → holds trues (opposite l) ≡ false
-
--- what a hint that goes on tells of its status
-abbrev Goes : LiveClauses → List Literal → ℕ → List ℕ → Status → Type 0
-Goes live trues place hints s = fault_by s place hints (λ l. hint_fault live (l ∷ trues) (place + 1) hints) ≡ None
 
 member-open : (trues clause : List Literal) (l : Literal) → holds clause l ≡ true → holds trues (opposite l) ≡ false
     → holds (filter (λ k. not (holds trues (opposite k))) clause) l ≡ true

@@ -10,7 +10,7 @@ use Rattle.clap.specs.Walk.{Row, Text, first_of, rows_of}
 use Rattle.clap.specs.declared.parser.matches.Found.{Found}
 use Rattle.clap.specs.declared.error.kind.ErrorKind.{ErrorKind}
 use Rattle.clap.proofs.WalkLemmas.{first_value-rows}
-use Rattle.dqsolve_words.specs.Command.{Options, Search, Circuits, Comparison, Defining, Session, Command, command_of, command_in, solve_in, circuits_in, pec_in, defined_in, session_in, steps_in, number_in, has_flag, options_in, without_fault, solver_app, least_steps, most_steps, default_steps}
+use Rattle.dqsolve_words.specs.Command.{Options, Search, Circuits, Defining, Session, Command, command_of, command_in, solve_in, circuits_in, defined_in, session_in, steps_in, number_in, has_flag, options_in, without_fault, solver_app, least_steps, most_steps, default_steps}
 
 -- what a getter finds is the first value in the rows
 pub value_found : (f : Found) (id : Text) (value : Option Text) → value ≡ first_value f id →
@@ -25,9 +25,6 @@ steps_found f value is = ap (λ o. option_map_or (number_in least_steps most_ste
 pub flag_found : (f : Found) (id : Text) (value : Option Text) → value ≡ first_value f id →
     option_map_or (λ v. bytes_eq v (codes "true")) value false ≡ has_flag id (rows_of f)
 flag_found f id value is = ap (λ o. option_map_or (λ v. bytes_eq v (codes "true")) o false) (value_found f id value is)
-
-abbrev comparison : ℕ → Circuits → Comparison
-comparison steps circuits = record { steps = steps; circuits = circuits }
 
 abbrev search : ℕ → Options → Text → Search
 search steps options file = record { steps = steps; options = options; file = file }
@@ -91,15 +88,6 @@ circuits_found f spec imp is_spec is_imp =
     ∙ ap (λ (b : Option Text). option_and_then (λ (s : Text). option_map (λ (i : Text). pair s i) b)
     (first_of (codes "SPEC") (rows_of f)))
     (value_found f (codes "IMPL") imp is_imp)
-
-pub comparison_found : (f : Found) (circuits : Option Circuits) (steps : Option ℕ) →
-    circuits ≡ circuits_in (rows_of f) → steps ≡ steps_in (rows_of f)
-    → option_and_then (λ (two : Circuits). option_map (λ (n : ℕ). comparison n two) steps) circuits ≡ pec_in (rows_of f)
-comparison_found f circuits steps is_circuits is_steps =
-    ap (λ (a : Option Circuits). option_and_then (λ (two : Circuits). option_map (λ (n : ℕ). comparison n two) steps) a)
-    is_circuits
-    ∙ ap (λ (b : Option ℕ). option_and_then (λ (two : Circuits). option_map (λ (n : ℕ). comparison n two) b)
-    (circuits_in (rows_of f))) is_steps
 
 -- what a parse without fault gives
 pub parse_gives : (a : App) (words : List Text) (sub : Option (Text × List Row)) → a ≡ solver_app →

@@ -3,7 +3,7 @@ use Rattle.std.proofs.Common.{◌≡◌, ◌⊎◌, ℕ, zero, suc, ◌+◌, ◌
 use Rattle.std.specs.List.Sorted.{IsNonDecreasing}
 use Rattle.std.proofs.lemmas.Bool.{cases_lt, false≢true, false_from_ne_true}
 use Rattle.std.proofs.lemmas.List.{take_more, take_all, get_or-take, get_or_default, length-take-le}
-use Rattle.std.proofs.lemmas.List.Elements.{Contains-append_left, Contains-append_right, Contains-append_cases}
+use Rattle.std.proofs.lemmas.List.Elements.{Contains-append_right, Contains-append_cases}
 use Rattle.dq_lits.specs.Literal.{Literal, variable_of}
 use Rattle.dq_lits.specs.Derivation.{LiveClauses}
 use Rattle.learning_trail.specs.declared.trails.Step.{Step}
@@ -54,10 +54,6 @@ listed_next steps marks touched old new i v lt here kept one listed at w k h sam
 pub contains_put : (old new : List ℕ) (p : ℕ) → new ≡ old ++ p ∷ [] → Contains new p
 contains_put old new p put = subst (λ (xs : List ℕ). Contains xs p) (sym put)
     (Contains-append_right old (p ∷ []) p (zero, omega arith, refl))
-
-pub contains_kept : (old new : List ℕ) (p at : ℕ) → new ≡ old ++ p ∷ [] → Contains old at → Contains new at
-contains_kept old new p at put c = subst (λ (xs : List ℕ). Contains xs at) (sym put)
-    (Contains-append_left old (p ∷ []) at c)
 
 pub listed_all : (steps : List Step) (marks : List Mark) (touched places : List ℕ) → AreTouched marks touched →
     AreListed steps marks touched places (length touched)
@@ -155,16 +151,6 @@ place_cases places at i some within c =
     one_more places (at - 1) (get_or places (at - 1) 0) i lt
     (get_or_default places (at - 1) (get_or places (at - 1) 0) 0 lt)
     (subst (λ (n : ℕ). Contains (take n places) i) (sym one_is) c)
-
--- the place isn't below the end
-pub below_past : (marks : List Bool) (items : List Step) (places : List ℕ) (at end : ℕ) → 0 < at → at ≤ length places →
-    end ≤ get_or places (at - 1) 0
-    → AreBelow marks items places at end → AreBelow marks items places (at - 1) end
-below_past marks items places at end some within far below i s lt in_items here on =
-    elim (place_cases places at i some within (below i s lt in_items here on)) [
-      | inl before ↦ before
-      | inr e ↦ absurd (omega (arith, e, lt, far))
-    ]
 
 -- the place is below the end, and the next one
 pub below_next : (marks : List Bool) (items : List Step) (places : List ℕ) (at end p : ℕ) → 0 < at →

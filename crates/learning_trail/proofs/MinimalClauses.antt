@@ -1,5 +1,5 @@
 -- Literals of a learned clause that rest on the others are dropped.
-use Rattle.std.proofs.Common.{◌≡◌, ◌≢◌, ℕ, ◌==◌, true, false, not, ◌||◌, ◌&&◌, ◌⊎◌, inl, inr, List, [], ◌∷◌, ◌++◌, length, reverse, take, get_or, ◌-◌, IfSome, Option, None, Some, refl, sym, ◌∙◌, ap, subst, arith, ◌<◌, ◌+◌, ◌≤◌}
+use Rattle.std.proofs.Common.{◌≡◌, ◌≢◌, ℕ, ◌==◌, true, false, not, ◌||◌, ◌&&◌, ◌⊎◌, inl, inr, List, [], ◌∷◌, ◌++◌, length, IfSome, Option, None, Some, refl, sym, ◌∙◌, ap, subst, ◌≤◌}
 use Rattle.std.proofs.lemmas.Bool.{false≢true, or_left, or_right, or_cases, and_parts, eq-eqb, ne_eqb, eqb-true}
 use Rattle.std.proofs.lemmas.List.{append_assoc}
 use Rattle.dq_lits.specs.Literal.{Literal, variable_of, opposite}
@@ -14,7 +14,6 @@ use Rattle.learning_trail.specs.Backing.{IsTrimmed, IsRedundant}
 use Rattle.truth_values.proofs.HeldLiterals.{holds_cases, holds_first, holds-append, opposite-opposite, opposite-variable, free_variable, any_gives}
 use Rattle.learning_trail.proofs.Lessons.{sound_later}
 use Rattle.learning_trail.proofs.BacktrackSteps.{leads_past_step, leads_resolved, leads_noted, reason_of, reason_at}
-use Rattle.learning_trail.proofs.SetMarks.{turned}
 
 literals-append : (a b : List Step) → literals_of (a ++ b) ≡ literals_of a ++ literals_of b
 literals-append [] b = refl
@@ -191,30 +190,6 @@ trimmed_resolved clauses steps rest was now after s id sound inv status mark red
       ];
       analysis = leads_resolved clauses steps rest was now after s id inv.analysis sound_here status mark hints literals
           marks_are;
-    }
-
--- one step further down
-pub record IsTrimStep (clauses : List (List Literal)) (steps : List Step) (items : List Step) (at : ℕ) (was now : Noted)
-    (s : Step) : Type 0 where
-  pub below : at - 1 ≤ length items
-  pub trimmed : IsTrimmed (live_in clauses) steps (s ∷ reverse (take (at - 1) items)) was now
-  pub sound : IsSound (live_in clauses) (s ∷ reverse (take (at - 1) items))
-
-pub trim_step : (clauses : List (List Literal)) (steps items : List Step) (at : ℕ) (was now : Noted) (s : Step) →
-    0 < at → at ≤ length items → get_or items (at - 1) s ≡ s
-    → IsSound (live_in clauses) steps → IsTrimmed (live_in clauses) steps (reverse (take at items)) was now →
-    IsTrimStep clauses steps items at was now s
-trim_step clauses steps items at was now s some within is sound inv =
-    let lt : at - 1 < length items = omega (arith, some, within) in
-    let one : at - 1 + 1 ≡ at = omega (arith, some) in
-    let down : reverse (take at items) ≡ s ∷ reverse (take (at - 1) items) =
-    ap (λ n. reverse (take n items)) (sym one) ∙ turned items (at - 1) s lt is in
-    let here = subst (λ (xs : List Step). IsTrimmed (live_in clauses) steps xs was now) down inv in
-    record {
-      below = omega (arith, within);
-      trimmed = here;
-      sound = sound_later (live_in clauses) here.done (s ∷ reverse (take (at - 1) items))
-          (subst (IsSound (live_in clauses)) here.split sound);
     }
 
 pub reason_known : (clauses : List (List Literal)) (rest : List Step) (s : Step) →

@@ -124,9 +124,6 @@ none-snoc p done l h =
     let parts = or-false (list_any p done) (list_any p (l ∷ [])) (sym (list_any-append p done (l ∷ [])) ∙ h) in
     (parts.0, (or-false (p l) false parts.1).0)
 
-pub falsified-none : (f : Dqbf) (row : List Bool) → IsFalsified f row [] row
-falsified-none f row = record { none_true = λ l h. absurd (true≢false (sym h)); same = λ x h. refl }
-
 pub falsified-more : (f : Dqbf) (row low : List Bool) (done : List Literal) (l : Literal) (p : ℕ)
     → length low ≡ length f.universals → position (λ u. u == variable_of l) f.universals ≡ Some p
     → holds done (opposite l) ≡ false → IsFalsified f row done low

@@ -1,5 +1,5 @@
 -- Clauses of literals that are named one after another.
-use Rattle.std.proofs.Common.{◌≡◌, ◌≢◌, ℕ, zero, suc, ◌+◌, ◌<◌, ◌≤◌, Bool, true, false, ◌||◌, List, [], ◌∷◌, ◌++◌, take, drop, length, reverse, Option, Some, None, is_some, slice_get, refl, sym, ◌∙◌, ap, subst, arith}
+use Rattle.std.proofs.Common.{◌≡◌, ◌≢◌, ℕ, zero, suc, ◌+◌, ◌<◌, ◌≤◌, true, false, List, [], ◌∷◌, ◌++◌, take, drop, length, reverse, Option, Some, None, is_some, slice_get, refl, sym, ◌∙◌, ap, subst, arith}
 use Rattle.std.specs.Prelude.{slice_index, slice_index_or}
 use Rattle.std.specs.List.{cons_option}
 use Rattle.std.proofs.lemmas.Bool.{true≢false, or_left, or_right}
@@ -177,9 +177,6 @@ none-dropped [] k none = omega arith
 none-dropped (x ∷ xs) zero none = cc
 none-dropped (x ∷ xs) (suc k) none = omega (arith, none-dropped xs k none)
 
-pub part-starts : (left clause : List Literal) → IsPart left clause → IsPart (drop 0 left) (drop 0 clause)
-part-starts left clause part = part
-
 -- the next literal is left, or not
 pub part-found : (left clause : List Literal) (k q : ℕ) (l : Literal) → IsPart (drop k left) (drop q clause)
     → slice_get left k ≡ Some l → slice_get clause q ≡ Some l → IsPart (drop (k + 1) left) (drop (q + 1) clause)
@@ -265,20 +262,3 @@ gone-place f units dropped k is below =
       satisfied = ap (is_satisfied (taken_literals units)) (get_or_from_slice_get f.matrix p it.clause [] clause-at')
           ∙ dropped-true f units p it.clause it.dropped;
     }
-
--- no literal of the first ones is true, nor is the next
-pub none-more : (trues clause : List Literal) (k : ℕ) (l : Literal) → slice_get clause k ≡ Some l
-    → is_satisfied trues (take k clause) ≡ false → holds trues l ≡ false → is_satisfied trues (take (k + 1) clause) ≡ false
-none-more trues [] k l at none other = cc
-none-more trues (x ∷ xs) zero l at none other =
-    ap (λ b. b || false) (ap (holds trues) (same_Some x l at) ∙ other)
-none-more trues (x ∷ xs) (suc k) l at none other =
-    let next : suc k + 1 ≡ suc (k + 1) = omega arith in
-    let parts = both-false (holds trues x) (is_satisfied trues (take k xs)) none in
-    ap (λ n. is_satisfied trues (take n (x ∷ xs))) next
-    ∙ ap (λ b. b || is_satisfied trues (take (k + 1) xs)) parts.0
-    ∙ none-more trues xs k l at parts.1 other
-  where
-    both-false : (a b : Bool) → (a || b) ≡ false → (a ≡ false) × (b ≡ false)
-    both-false true b h = absurd (true≢false h)
-    both-false false b h = (refl, h)

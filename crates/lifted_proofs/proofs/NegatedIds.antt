@@ -181,9 +181,6 @@ opposite-free x free = by (x % 2 == 1) refl
     by true e = omega (arith, eqb-true (x % 2) 1 e, free)
     by false e = omega (arith, free)
 
-abbrev named : ℕ → Literal
-named bad = negative bad
-
 negated-number : (bad : ℕ) → as_literal (2 * bad + 1) ≡ negative bad
 negated-number bad =
     let odd : (2 * bad + 1) % 2 ≡ 1 = omega arith in

@@ -1,5 +1,5 @@
 -- Reasons that are found.
-use Rattle.std.proofs.Common.{◌≡◌, ◌≢◌, ℕ, suc, ◌+◌, ◌<◌, ◌≤◌, ◌==◌, Bool, true, false, not, inl, inr, List, [], ◌∷◌, ◌++◌, take, length, get_or, slice_get, reverse, Option, Some, None, refl, sym, ◌∙◌, ap, subst, arith}
+use Rattle.std.proofs.Common.{◌≡◌, ◌≢◌, ℕ, suc, ◌+◌, ◌<◌, ◌≤◌, ◌==◌, Bool, true, false, inl, inr, List, [], ◌∷◌, ◌++◌, take, length, get_or, slice_get, reverse, Option, Some, None, refl, sym, ◌∙◌, ap, subst, arith}
 use Rattle.std.specs.List.{All, AllZip, Contains, list_any}
 use Rattle.std.proofs.lemmas.Bool.{true≢false, or_cases, or_left, or_right, cases_Bool, cond-true, cond-false, eqb-true, eq-eqb}
 use Rattle.std.proofs.lemmas.Option.{slice_get_within, slice_get-get_or, slice_get_read, same_Some}
@@ -17,7 +17,7 @@ use Rattle.dq_prep.specs.Units.{AreUnits}
 use Rattle.dq_prep.proofs.SignedLiterals.{same_literal-refl, opposite-opposite}
 use Rattle.lifted_proofs.specs.UnitTables.{first_literals, IsFalseBy}
 use Rattle.cert_text.specs.Header.{max_count}
-use Rattle.lifted_proofs.specs.Goals.{clause_at, left_by, IsGoal, IsLowered, IsAsked, IsReason, IsPlan, MakesFalse, HasFalse, AreFalseUnits, Keeps, Grows, GrowsGoals}
+use Rattle.lifted_proofs.specs.Goals.{clause_at, left_by, IsGoal, IsLowered, IsAsked, IsReason, IsPlan, MakesFalse, HasFalse, AreFalseUnits, Keeps, GrowsGoals}
 use Rattle.lifted_proofs.specs.FalsifiedRows.{IsFalsified}
 use Rattle.lifted_proofs.specs.declared.goals.Goal.{Goal}
 use Rattle.lifted_proofs.specs.declared.goals.Reason.{Reason}
@@ -25,12 +25,6 @@ use Rattle.lifted_proofs.specs.declared.goals.Plan.{Plan}
 use Rattle.lifted_proofs.proofs.TakenUnits.{first-are-units}
 use Rattle.lifted_proofs.proofs.LowRows.{serves-falsified, serves-itself, holds-snoc}
 use Rattle.lifted_proofs.proofs.AskedGoals.{keeps-itself, keeps-more, last-or-before, last-at, plan-grows, all-asked-grow}
-
-pub grows-itself : (p : Plan) → GrowsGoals p p
-grows-itself p = record {
-  grows = record { rows = keeps-itself p.rows; goals = keeps-itself p.goals.items };
-  reasons = refl;
-}
 
 pub grows-on : (p q r : Plan) → GrowsGoals p q → GrowsGoals q r → GrowsGoals p r
 grows-on p q r a b = record {
@@ -41,19 +35,9 @@ grows-on p q r a b = record {
   reasons = b.reasons ∙ a.reasons;
 }
 
-pub all-grow : (p q r : Plan) → Grows p q → Grows q r → Grows p r
-all-grow p q r a b = record {
-  rows = λ k x at. b.rows k x (a.rows k x at);
-  goals = λ k x at. b.goals k x (a.goals k x at);
-}
-
 pub keeps-within : {X : Type 0} (xs ys : List X) (k : ℕ) (d : X) → Keeps xs ys → k < length xs → k < length ys
 keeps-within xs ys k d keeps within =
     slice_get_within ys k (get_or xs k d) (keeps k (get_or xs k d) (slice_get-get_or xs k d within))
-
-not-false : (b : Bool) → not b ≡ true → b ≡ false
-not-false true h = sym h
-not-false false h = refl
 
 -- the row itself serves
 pub lowered-itself : (f : Dqbf) (units : List Taken) (rows : List (List Bool)) (g : Goal) (row : List Bool) (b : Bool)
@@ -160,13 +144,6 @@ reason-made f units p q g lowered r places grows low are asked same = record {
   places = places;
   false_units = are;
   asked = subst (λ n. AllZip (IsAsked f units q.rows q.goals.items n) places r.hints.items) (sym same) asked;
-}
-
-pub no-places : (units : List Taken) (count : ℕ) → AreFalseUnits units count [] []
-no-places units count = record {
-  distinct = λ i j d before within. absurd (omega (arith, within));
-  each = λ k d below. absurd (omega (arith, below));
-  all = λ l h held. absurd (true≢false (sym h));
 }
 
 holds-before : (done : List Literal) (l k : Literal) → holds done k ≡ true → holds (done ++ l ∷ []) k ≡ true
@@ -280,13 +257,6 @@ next-goal f units p g k plan left is at =
     slice_get_read p.goals.items (length p.goals.items) (length p.reasons.items) g refl left
     (at ∙ ap (λ n. get_or p.goals.items n g) is) in
     (here, plan.goals (length p.reasons.items) g here)
-
-pub places-within : (units : List Taken) (count : ℕ) (clause : List Literal) (places seen : List ℕ)
-    → AreFalseUnits units count clause places → seen ≡ places → All (λ j. j < length units) seen
-places-within units count clause places seen are is =
-    subst (All (λ j. j < length units)) (sym is) (λ k d below.
-    let it = are.each k d below in
-    slice_get_within units (get_or places k d) it.unit it.unit_at)
 
 pub step-false : (units : List Taken) (count j : ℕ) (clause own : List Literal) (i : ℕ) (l : Literal) (o : Option ℕ)
     (places new : List ℕ) → clause ≡ own → i < length clause → l ≡ get_or clause i l → IsFalseBy units count l o

@@ -1,6 +1,6 @@
 -- Units by their places.
-use Rattle.std.proofs.Common.{◌≡◌, ◌≢◌, ℕ, zero, suc, ◌+◌, ◌<◌, ◌==◌, Bool, true, false, inl, inr, List, [], ◌∷◌, ◌++◌, take, drop, reverse, length, get_or, slice_get, Option, Some, None, is_some, refl, sym, ◌∙◌, ap, subst, arith}
-use Rattle.std.specs.Prelude.{slice_set, slice_index_or, replicate}
+use Rattle.std.proofs.Common.{◌≡◌, ◌≢◌, ℕ, suc, ◌+◌, ◌<◌, ◌==◌, Bool, true, false, inl, inr, List, [], ◌∷◌, ◌++◌, take, drop, reverse, length, get_or, slice_get, Option, Some, None, is_some, refl, sym, ◌∙◌, ap, subst, arith}
+use Rattle.std.specs.Prelude.{slice_set, slice_index_or}
 use Rattle.std.specs.List.{Contains, position}
 use Rattle.std.proofs.lemmas.Bool.{true≢false, or_cases, or_left, cases_lt, cases_eq, cases_Bool, eqb-true}
 use Rattle.std.proofs.lemmas.Option.{slice_get_within, get_or_from_slice_get, slice_get-get_or, same_Some}
@@ -260,18 +260,6 @@ table-stays f units j u on at none told v p at-v =
     none-some : None ≡ Some p → ⊥
     none-some e = cc
 
-abbrev nothing : Option ℕ
-nothing = None
-
-pub table-none : (f : Dqbf) (units : List Taken) (n : ℕ) → TellUnits f units 0 (replicate n None)
-table-none f units n v p at-v =
-    subst (TellsUnit units 0 v) (sym (all-none n p)) (λ j u below there same. absurd (omega (arith, below)))
-  where
-    all-none : (n p : ℕ) → get_or (replicate n nothing) p nothing ≡ nothing
-    all-none zero p = refl
-    all-none (suc n) zero = refl
-    all-none (suc n) (suc p) = all-none n p
-
 pub unit-some : (f : Dqbf) (units : List Taken) (j : ℕ) (u : Taken) (v : ℕ) → IsWellFormed f
     → AreUnits f (reverse units) → slice_get units j ≡ Some u → v ≡ variable_of u.literal
     → is_some (existential_of f v) ≡ true
@@ -326,11 +314,6 @@ here-false units j l k u false at is other = λ w there same.
     let one : u ≡ w = same_Some u w (sym at ∙ there) in
     true≢false (sym (same_literal-refl k)
     ∙ ap (λ x. same_literal x k) (is ∙ sym same ∙ ap (λ x. x.literal) (sym one)) ∙ sym other)
-
-pub false-here : (units : List Taken) (count j : ℕ) (l : Literal) (b : Bool) → j < count → IsFalseAt units j l b
-    → b ≡ true → IsFalseBy units count l (Some j)
-false-here units count j l true before it is = (before, it)
-false-here units count j l false before it is = absurd (true≢false (sym is))
 
 pub not-false-here : (units : List Taken) (j : ℕ) (l : Literal) (b : Bool) → IsFalseAt units j l b → b ≡ false
     → (u : Taken) → slice_get units j ≡ Some u → u.literal ≡ opposite l → ⊥

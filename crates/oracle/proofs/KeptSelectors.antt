@@ -218,10 +218,6 @@ given_to_selectors (Answer c hs ∷ es) logged grouped = given_more es (Answer c
 given_to_selectors (Round r vs j ∷ es) logged grouped = given_to_selectors es logged.1 grouped.1
 given_to_selectors (Begun live ∷ es) logged grouped = given_to_selectors es logged.1 grouped.1
 
-held_at : (es : List Entry) (at : ℕ) (c d : List Literal) (l : Literal) → clause_at es at ≡ Some c →
-    clause_at es at ≡ Some d → holds d l ≡ true → holds c l ≡ true
-held_at es at c d l is also m = ap (λ x. holds x l) (some_same c d (sym is ∙ also)) ∙ m
-
 -- an entry that holds the selectors of what it hints holds those of whatever it reaches
 pub holds_reached : (es : List Entry) (c : List Literal) (hs : List ℕ) → AreLogged es → Each IsGivenToGroup es →
     Each KeepsHintedSelectors es → HoldsHintedSelectors es c hs → HoldsSelectors es c hs

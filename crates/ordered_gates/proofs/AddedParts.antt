@@ -114,11 +114,3 @@ gate_added net place g old new below is old_is new_is =
 
 abbrev pub with_outputs : Netlist → ℕ → Netlist
 with_outputs net place = record net { outputs = take place net.outputs }
-
-pub output_added : (net : Netlist) (place l : ℕ) (old new : Netlist) → place < length net.outputs →
-    get_or net.outputs place l ≡ l → old ≡ with_outputs net place →
-    new ≡ record old { outputs = old.outputs ++ l ∷ [] } → new ≡ with_outputs net (place + 1)
-output_added net place l old new below is old_is new_is =
-    new_is ∙ ap (λ (o : Netlist). record o { outputs = o.outputs ++ l ∷ [] }) old_is
-    ∙ ap (λ os. record net { outputs = os })
-    (ap (λ k. take place net.outputs ++ k ∷ []) (sym is) ∙ sym (take_more net.outputs place l below))

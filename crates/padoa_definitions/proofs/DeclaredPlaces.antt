@@ -188,9 +188,3 @@ pub shared_within : (f : Dqbf) (ranks : List ℕ) (y : Existential) (shared : Li
 shared_within f ranks y shared are k d lt =
     let z = (are (get_or shared k d)).0 (k, lt, get_or_default shared k (get_or shared k d) d lt) in
     slice_get_within f.existentials (get_or shared k d) z.0 z.1
-
-pub places_in : (variables : List ℕ) (set : ℕ → Type 0) (places : List ℕ) → ArePlaces variables set places →
-    All (λ k. k < length variables) places
-places_in variables set places are k d lt =
-    let x = are.sound (get_or places k d) (k, lt, get_or_default places k (get_or places k d) d lt) in
-    slice_get_within variables (get_or places k d) x.0 x.1

@@ -1,5 +1,5 @@
 -- Flags of the universals that stand in clauses, as they are set.
-use Rattle.std.proofs.Common.{◌≡◌, ℕ, zero, suc, ◌+◌, ◌<◌, ◌≤◌, Bool, true, inl, inr, List, [], ◌∷◌, set, length, get_or, slice_get, replicate, Some, refl, sym, ◌∙◌, ap, subst, arith}
+use Rattle.std.proofs.Common.{◌≡◌, ℕ, zero, suc, ◌+◌, ◌<◌, ◌≤◌, Bool, true, inl, inr, List, [], ◌∷◌, set, length, get_or, slice_get, Some, refl, sym, ◌∙◌, ap, subst, arith}
 use Rattle.std.specs.List.{All, Contains}
 use Rattle.std.proofs.lemmas.Bool.{cases_lt}
 use Rattle.std.proofs.lemmas.List.{length-set}
@@ -112,8 +112,3 @@ literals_more f clause i old new more before here k d less within = elim (cases_
       let same : k ≡ i = omega (arith, less, late) in
       subst (λ j. IsCopied f new (variable_of (get_or clause j d))) (sym same) (here d (omega (arith, within, same))))
 ]
-
-pub all_set : (n k : ℕ) → is_copied_at (replicate n true) k ≡ true
-all_set zero k = refl
-all_set (suc n) zero = refl
-all_set (suc n) (suc k) = all_set n k

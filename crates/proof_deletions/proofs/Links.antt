@@ -42,18 +42,6 @@ used_more table k p h this =
     used_step table k p h
     ∙ ap (λ b. cond b (k ∷ used_at table (k + 1) p) (used_at table (k + 1) p)) (eq-eqb (get_or table k 0) (p + 1) this)
 
--- a place that is used nowhere
-pub not_linked : (table heads nexts : List ℕ) (k : ℕ) → k < length table → get_or table k 0 ≡ 0 →
-    AreChained table (k + 1) heads nexts → AreChained table k heads nexts
-not_linked table heads nexts k h none are = record {
-  heads_are_many = are.heads_are_many;
-  nexts_are_many = are.nexts_are_many;
-  behind = λ p below. let b = are.behind p below in omega (arith, b);
-  chains = λ p below. subst (IsChain nexts (get_or heads p 0))
-      (sym (used_kept table k p h (λ e. absurd (omega (arith, none, e)))))
-      (are.chains p below);
-}
-
 -- a place that is used last at the line at a place
 pub linked : (table heads nexts : List ℕ) (k last : ℕ) → k < length table → last < length table →
     get_or table k 0 ≡ last + 1 →

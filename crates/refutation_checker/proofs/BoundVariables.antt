@@ -115,16 +115,6 @@ leader_set f sets of place leader c q are is same =
     let b = subst (IsBinding f sets leader) is (are.each leader) in
     record { within = b.1; sees = b.2 ∙ same; few = are.few c b.1 }
 
-pub one_more_place : (f : Dqbf) (sets : List DependencySet) (of : List Binding) (place : ℕ) →
-    AreBindings f sets of place → AreBindings f sets of (place + 1)
-one_more_place f sets of place are = record {
-  each = are.each;
-  apart = are.apart;
-  led = are.led;
-  few_sets = (let h = are.few_sets in omega (arith, h));
-  few = λ c lt. let h = are.few c lt in omega (arith, h);
-}
-
 set_before : (sets : List DependencySet) (s : DependencySet) (c : ℕ) → c < length sets →
     set_at (sets ++ s ∷ []) c ≡ set_at sets c
 set_before sets s c lt = get_or_append_left sets (s ∷ []) (record { leader = 0; size = 0 }) c lt

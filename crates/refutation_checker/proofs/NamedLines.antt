@@ -60,9 +60,6 @@ named_later x n m literals named whole extends are = record {
   known = known_later x n m literals whole extends are.known;
 }
 
-pub none_named : (x : Frame) (n : Names) → AreNamed x n [] []
-none_named x n = record { named_are = refl; known = tt }
-
 on_twice : (v w : ℕ) (l : Literal) → on_variable v (on_variable w l) ≡ on_variable v l
 on_twice v w (positive u) = refl
 on_twice v w (negative u) = refl

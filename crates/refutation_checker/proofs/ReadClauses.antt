@@ -22,7 +22,7 @@ use Rattle.refutation_checker.specs.Pairs.{pair_of, existential_part}
 use Rattle.refutation_checker.specs.Refutation.{normal_number, normal_literal}
 use Rattle.refutation_checker.specs.Rows.{row_of}
 use Rattle.refutation_checker.proofs.BoundVariables.{not_universal, not_existential}
-use Rattle.refutation_checker.proofs.NamedLines.{named_later, none_named, one_named_more, named_from_base}
+use Rattle.refutation_checker.proofs.NamedLines.{named_later, one_named_more, named_from_base}
 use Rattle.refutation_checker.proofs.PairNumbers.{instance_part}
 
 pub drop_at : {X : Type 0} (xs : List X) (i : ℕ) (d : X) → i < length xs → drop i xs ≡ get_or xs i d ∷ drop (i + 1) xs
@@ -63,14 +63,6 @@ pub record AreRead (x : Frame) (n : Names) (row : List Bool) (clause named : Lis
   pub none_true : list_any (universal_literal_true x.formula row) (drop i clause) ≡ list_any
       (universal_literal_true x.formula row) clause
   pub named_are : AreNamed x n (pair_part x row (take i clause)) named
-
-pub none_read : (x : Frame) (n : Names) (row : List Bool) (clause named : List Literal) → named ≡ [] →
-    AreRead x n row clause named 0
-none_read x n row clause named none = record {
-  none_true = refl;
-  named_are =
-      subst (AreNamed x n []) (sym none) (none_named x n);
-}
 
 pub read_more : (x : Frame) (n m : Names) (row : List Bool) (clause named now : List Literal) (i : ℕ) (l : Literal)
     (b : Bool)

@@ -33,10 +33,6 @@ agree_second f sees r s t h = ap (λ bits. same_bits bits (map (row_assignment f
 pub agree_itself : (f : Dqbf) (sees : List ℕ) (r : List Bool) → agree_over f sees r r ≡ true
 agree_itself f sees r = same_bits-itself (map (row_assignment f r) sees)
 
-pub agree_turned : (f : Dqbf) (sees : List ℕ) (r s : List Bool) → agree_over f sees r s ≡ true →
-    agree_over f sees s r ≡ true
-agree_turned f sees r s h = sym (agree_second f sees r s r h) ∙ agree_itself f sees r
-
 next_same : (f : Dqbf) (rows : List (List Bool)) (sees : List ℕ) (node : Node) (r s : List Bool) →
     IsKeyNode f rows sees node
     → length r ≡ length f.universals → length s ≡ length f.universals → agree_over f sees r s ≡ true →
@@ -85,23 +81,6 @@ numbered_already f rows sees nodes row number tree whole is r r_whole =
           ∙ sym (ap (λ b. cond b (Some number) (found f rows sees nodes r)) agree)
       | inr apart ↦ sym (ap (λ b. cond b (Some number) (found f rows sees nodes r)) apart)
     ]
-
--- the first row of a tree
-pub first_leaf : (f : Dqbf) (rows : List (List Bool)) (sees : List ℕ) (k number : ℕ) →
-    AreNumbered f rows sees [] (Leaf k number ∷ []) (row_of rows k) number
-first_leaf f rows sees k number r whole = refl
-
-pub first_tree : (f : Dqbf) (rows : List (List Bool)) (sees : List ℕ) (k number : ℕ) → k < length rows →
-    IsTree f rows sees (Leaf k number ∷ [])
-first_tree f rows sees k number within = record {
-  ordered = λ j lt. at j lt (λ node. IsOrderedNode 1 j node) tt;
-  keyed = λ j lt. at j lt (λ node. IsKeyNode f rows sees node) within;
-}
-  where
-    at : (j : ℕ) → j < length (Leaf k number ∷ []) → (P : Node → Type 0) → P (Leaf k number) →
-        P (node_at (Leaf k number ∷ []) j)
-    at zero lt P h = h
-    at (suc j) lt P h = absurd (omega (arith, lt))
 
 -- a leaf that becomes a test
 module _ (f : Dqbf) (rows : List (List Bool)) (sees : List ℕ) (old new : List Node)
@@ -280,15 +259,6 @@ module _ (f : Dqbf) (rows : List (List Bool)) (sees : List ℕ) (old new : List 
               | inr differ ↦ same ∙ sym (ap (λ b. cond b (Some number) (found f rows sees old r)) differ)
             ]
       ]
-
--- the leaf that a row comes to
-pub leaf_agrees : (f : Dqbf) (rows : List (List Bool)) (sees : List ℕ) (nodes : List Node) (row : List Bool)
-    (at k own : ℕ) → at ≡ reached nodes row
-    → node_at nodes at ≡ Leaf k own → agree_over f sees (row_of rows k) row ≡ true →
-    found f rows sees nodes row ≡ Some own
-leaf_agrees f rows sees nodes row at k own came leaf agree =
-    ap (λ j. number_by f rows sees row (node_at nodes j)) (sym came) ∙ ap (number_by f rows sees row) leaf ∙ ap
-    (λ b. cond b (Some own) None) agree
 
 pub leaf_differs : (f : Dqbf) (rows : List (List Bool)) (sees : List ℕ) (nodes : List Node) (row : List Bool)
     (at k own : ℕ) → at ≡ reached nodes row
