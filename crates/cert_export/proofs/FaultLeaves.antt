@@ -4,6 +4,7 @@ use Rattle.std.specs.List.{Contains}
 use Rattle.std.specs.Prelude.{slice_index_or}
 use Rattle.std.specs.Option.{option_map}
 use Rattle.std.proofs.lemmas.List.{take_all, take_more}
+use Rattle.list_laws.proofs.Members.{last_or_inside}
 use Rattle.dq_lits.specs.Formula.{Dqbf}
 use Rattle.dq_lits.specs.Literal.{negative}
 use Rattle.hint_log.specs.Entries.{Entry, origin_at}
@@ -13,7 +14,6 @@ use Rattle.hint_log.specs.declared.origins.Origin.TheVariants.{Fault}
 use Rattle.number_tables.specs.Numbers.{has_number, place_of}
 use Rattle.number_tables.proofs.NumberPlaces.{placed}
 use Rattle.cert_export.specs.FaultLeaves.{LeafTable, leaf_of, IsLeafAt, AreLeavesAmong, HasLeavesAmong, BeginsGroup, IsFaultOfGroup, AreOfGroup}
-use Rattle.cert_export.proofs.GivenNames.{Contains-append_either}
 
 pub has_leaf : (t : LeafTable) (v : ℕ) → has_number t.variables v ≡ true → IsSome (leaf_of t v)
 has_leaf t v there = by_option (place_of t.variables v) (placed t.variables v ∙ there) where
@@ -45,7 +45,7 @@ one_leaf_more f entries ids s t i id below id_is so_far kept there only = record
     | inl before ↦ so_far.sound v out before
     | inr here ↦ record { id = id; among = (i, below, sym id_is); at = here }
   ];
-  whole = λ v out h. elim (Contains-append_either (take i ids) (get_or ids i id) h.id
+  whole = λ v out h. elim (last_or_inside (take i ids) (get_or ids i id) h.id
       (subst (λ xs. Contains xs h.id) (take_more ids i id below) h.among)) [
         | inl before ↦ kept_some s t kept v (so_far.whole v out (record { id = h.id; among = before; at = h.at }))
         | inr same ↦ there v out (subst (λ n. IsLeafAt f entries n v out) (sym (id_is ∙ same)) h.at)

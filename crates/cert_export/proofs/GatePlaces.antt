@@ -5,6 +5,7 @@ use Rattle.std.proofs.lemmas.Bool.{eqb-true, eq-eqb}
 use Rattle.std.proofs.lemmas.List.{get_or-reverse, length-reverse, reverse-append, reverse-reverse}
 use Rattle.std.proofs.lemmas.List.Elements.{All-contains, All-push, Contains-append_left, Contains-push, Contains-push_cases}
 use Rattle.std.proofs.lemmas.List.Quantifiers.{all_pairs_push}
+use Rattle.list_laws.proofs.Elements.{place_within}
 use Rattle.dq_lits.specs.Literal.{Literal, variable_of}
 use Rattle.hint_log.specs.Conditions.{MayFollow}
 use Rattle.hint_log.specs.Entries.{Entry, name_of, names_of}
@@ -14,7 +15,6 @@ use Rattle.hint_log.specs.declared.names.Name.{Name}
 use Rattle.hint_log.specs.declared.names.Name.TheVariants.{And}
 use Rattle.hint_log.specs.declared.pending.Pending.{Pending}
 use Rattle.cert_export.specs.Needed.{is_and, HasGate, IsGatePlace, IsWanted, Wants, WantsSides}
-use Rattle.cert_export.proofs.PairNames.{small_place}
 use Rattle.cert_export.proofs.NamePlaces.{named_at, same_pair, side_before}
 
 -- the same list from its end on
@@ -174,5 +174,5 @@ fewer_left entries roots pending places more place so_far was is =
             (reversed_contains (reverse places) q inside)
 
       before : (up : List ℕ) → ((q : ℕ) → Contains up q → place < q) → place < get_or up 0 (length (names_of entries))
-      before [] low = let g = so_far.pending_gates place was in small_place (names_of entries) place (g.0, g.1.0) g.1.1
+      before [] low = let g = so_far.pending_gates place was in place_within (names_of entries) place (g.0, g.1.0) g.1.1
       before (q ∷ up) low = low q (0, omega arith, refl)

@@ -5,6 +5,7 @@ use Rattle.std.specs.Option.{option_map, option_and_then}
 use Rattle.std.proofs.lemmas.List.{get_or-append-add, get_or_default, take-append-drop, length-map, map-append, take_more}
 use Rattle.std.proofs.lemmas.List.Elements.{All-nil, All-cons, All-contains, All-head, All-tail, Contains-get_or, filter-append}
 use Rattle.std.proofs.lemmas.List.Kept.{AllPairs-from_increasing}
+use Rattle.list_laws.proofs.Elements.{place_within, index_of}
 use Rattle.dq_lits.specs.Literal.{Literal, opposite}
 use Rattle.dq_lits.specs.Derivation.{is_tautology, ProofStep}
 use Rattle.hint_log.specs.Conditions.{IsId}
@@ -15,7 +16,6 @@ use Rattle.cert_export.specs.Renaming.{Renaming, renamed_clause, cut_hints}
 use Rattle.cert_export.specs.Written.{WrittenLines, place_in, needed_places, with_line, IsWritten, CanBeWritten}
 use Rattle.cert_export.proofs.Allowed.{place_of, cut_all, mapped_all}
 use Rattle.cert_export.proofs.DerivedLines.{clause_there}
-use Rattle.cert_export.proofs.PairNames.{small_place}
 use Rattle.cert_export.proofs.CutHints.{cut_by_ids}
 use Rattle.cert_export.proofs.Numbers.{rising_filter}
 use Rattle.cert_export.proofs.ReachedLines.{rising_of, Rising}
@@ -87,11 +87,6 @@ mapped_at g (x ∷ ids) zero p h less most is = absurd (omega (arith, less))
 mapped_at g (x ∷ ids) (suc i) zero h less most is = ap (λ y. Some (g y)) is
 mapped_at g (x ∷ ids) (suc i) (suc p) h less most is = mapped_at g ids i p h (omega (arith, less))
     (omega (arith, most)) is
-
-index_of : (xs : List ℕ) (p x : ℕ) → slice_get xs p ≡ Some x → slice_index xs p ≡ x
-index_of [] p x h = cc
-index_of (y ∷ ys) zero x h = let same : y ≡ x = cc in same
-index_of (y ∷ ys) (suc p) x h = index_of ys p x h
 
 mapped_twice : (g to k : ℕ → ℕ) (xs : List ℕ) → All (λ x. g (to x) ≡ k x) xs → map g (map to xs) ≡ map k xs
 mapped_twice g to k [] h = refl
@@ -173,7 +168,7 @@ module _ (r : Renaming) (base_id : Origin → ℕ) (knows : Origin → Type 0) (
     -- the places of hints are before
     pub places_before : All (λ p. p < length w.numbers) (map (place_in ids) hints)
     places_before = mapped_all (λ p. p < length w.numbers) (place_in ids) hints
-        (λ k d b. small_place w.numbers (place_in ids (get_or hints k d))
+        (λ k d b. place_within w.numbers (place_in ids (get_or hints k d))
         (new_number base_id entries number (get_or hints k d))
         (number_at_place (get_or hints k d) (hint_earlier k d b)))
 

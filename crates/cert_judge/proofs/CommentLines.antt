@@ -39,6 +39,7 @@ use Rattle.skolem_checker.specs.Mapping.{Mapping, mapping_of}
 use Rattle.skolem_checker.specs.SkolemCircuit.{IsComplete}
 use Rattle.skolem_checker.specs.declared.mapping.MapError.{MapError}
 use Rattle.skolem_checker.specs.declared.mapping.MapPlace.{MapPlace}
+use Rattle.skolem_checker.proofs.LiteralNumbers.{spelled_complete}
 use Rattle.cert_judge.specs.CircuitPhases.{BeginsComment, BeginsProof, FollowsLine, IsWholeCircuit}
 use Rattle.cert_judge.specs.Judgement.{as_proof, begins_proof, begins_with, comment_line, first_line, line_ends, mapping_line, proof_in, proof_on, BehindMapping, BehindProof, IsTested}
 use Rattle.cert_judge.specs.Phases.{found_or_derived, line_end, AnswersFile, AreLinesFrom, CircuitGives, HasNoEnd, IsJudged, IsLastUnless, ProofGives, SaysProof}
@@ -48,7 +49,6 @@ use Rattle.cert_judge.specs.declared.answers.Judgement.{Judgement}
 use Rattle.cert_judge.specs.declared.phases.Phase.{Phase}
 use Rattle.cert_judge.specs.declared.phases.Phase.TheVariants.{FreeText}
 use Rattle.cert_judge.specs.declared.standings.Standing.TheVariants.{Found, Proving}
-use Rattle.cert_judge.proofs.Certificates.{spelled_complete}
 use Rattle.cert_judge.proofs.LinesToCome.{first_is, line_of}
 use Rattle.cert_judge.proofs.Places.{spelled_few}
 

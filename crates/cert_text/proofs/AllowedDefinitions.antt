@@ -3,6 +3,7 @@ use Rattle.std.proofs.Common.{◌≡◌, ℕ, ◌+◌, ◌*◌, ◌/◌, ◌<◌
 use Rattle.std.specs.Str.{bytes_eq}
 use Rattle.std.proofs.lemmas.Bool.{and_parts, eqb-true, ltb-true, ltb-false}
 use Rattle.std.proofs.lemmas.List.{length-map}
+use Rattle.list_laws.proofs.Truths.{unnot}
 use Rattle.dq_lits.specs.Formula.{Dqbf}
 use Rattle.dq_text.specs.Line.{TextLine, line_tokens}
 use Rattle.dq_text.specs.Number.{natural_of}
@@ -57,11 +58,6 @@ line_of read (line ∷ lines) number r h =
     let same : b.part ≡ r.part = cc in
     (line_tokens line.text, at_ok line.number (read (line_tokens line.text)) b.part b.first_is ∙ ap Ok same)
 
--- gates
-negated : (b : Bool) → not b ≡ false → b ≡ true
-negated true h = refl
-negated false h = cc
-
 gate_tests : (a b c d : Bool) (made g : Gate) →
     cond a (Err TooBig) (cond b (Err BadGate) (cond c (Err BadGate) (cond d (Err BadGate) (Ok made)))) ≡ Ok g →
     (b ≡ false) × ((c ≡ false) × ((d ≡ false) × (made ≡ g)))
@@ -80,11 +76,11 @@ checked f variable lhs made g numbered h =
     let t = gate_tests (is_large lhs || (is_large made.left || is_large made.right)) (not (lhs == 2 * variable))
     (not (nat_lt made.left lhs && nat_lt made.right lhs))
     (not (is_readable f made.left && is_readable f made.right)) made g h in
-    let wanted : lhs ≡ 2 * variable = eqb-true lhs (2 * variable) (negated (lhs == 2 * variable) t.0) in
+    let wanted : lhs ≡ 2 * variable = eqb-true lhs (2 * variable) (unnot (lhs == 2 * variable) t.0) in
     let before = and_parts (nat_lt made.left lhs) (nat_lt made.right lhs)
-    (negated (nat_lt made.left lhs && nat_lt made.right lhs) t.1.0) in
+    (unnot (nat_lt made.left lhs && nat_lt made.right lhs) t.1.0) in
     let readable = and_parts (is_readable f made.left) (is_readable f made.right)
-    (negated (is_readable f made.left && is_readable f made.right) t.1.1.0) in
+    (unnot (is_readable f made.left && is_readable f made.right) t.1.1.0) in
     subst (IsGateAt f variable) t.1.1.1 (record {
       numbered = numbered;
       left_before = half_below made.left variable (subst (λ n. made.left < n) wanted (ltb-true made.left lhs before.0));
@@ -151,7 +147,7 @@ head_numbers f next (Some y) (Some output) (Some gates) (Some steps) head h =
     (nat_lt max_count gates || nat_lt max_count steps) (not (is_output f gates output)) made head h in
     subst (IsGoodHead f) t.1.1 (record {
       few = not_more max_count gates (nat_lt max_count steps) t.0;
-      output = negated (is_output f gates output) t.1.0;
+      output = unnot (is_output f gates output) t.1.0;
     })
 
 head_tokens : (f : Dqbf) (next : ℕ) (tokens : Tokens) (head : DefinedHead) →

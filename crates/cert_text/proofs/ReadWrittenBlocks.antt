@@ -1,14 +1,17 @@
 -- A text of definitions that was written is read back.
-use Rattle.std.proofs.Common.{◌≡◌, nat_lt, nat_le, ℕ, zero, suc, ◌+◌, ◌*◌, ◌^◌, ◌≤◌, ◌<◌, ◌==◌, ◌||◌, ◌&&◌, not, Bool, true, false, cond, List, [], ◌∷◌, ◌++◌, map, length, length-append, codes, Option, Some, Result, Ok, Err, refl, sym, ◌∙◌, ap, ap₂, arith, subst, eqb}
+use Rattle.std.proofs.Common.{◌≡◌, nat_lt, nat_le, ℕ, zero, ◌+◌, ◌*◌, ◌^◌, ◌≤◌, ◌<◌, ◌==◌, ◌||◌, ◌&&◌, not, Bool, true, false, cond, List, [], ◌∷◌, ◌++◌, map, length, length-append, codes, Option, Some, Result, Ok, Err, refl, sym, ◌∙◌, ap, ap₂, arith, subst, eqb}
 use Rattle.std.specs.Fmt.{decimal}
-use Rattle.std.specs.List.{AllByRecursion, Contains, flat_map, list_any, zip}
+use Rattle.std.specs.List.{AllByRecursion, flat_map, list_any, zip}
 use Rattle.std.proofs.Math.Nat.{div-lt_iff_lt-mul}
-use Rattle.std.proofs.lemmas.Bool.{and_from, and_parts, eq-eqb, eqb-true, lt-ltb, le-ltb, lt-leb, leb-true}
+use Rattle.std.proofs.lemmas.Bool.{and_from, and_parts, eq-eqb, lt-ltb, le-ltb, lt-leb, leb-true}
 use Rattle.std.proofs.lemmas.Bool.Decides.{Decides-eqb}
 use Rattle.std.proofs.lemmas.Map.Steps.{length-le_from_distinct_below}
 use Rattle.std.proofs.lemmas.List.{length-map}
 use Rattle.std.proofs.lemmas.List.Elements.{All-contains, recursion_from_All}
 use Rattle.std.proofs.lemmas.Map.Made.{IsDistinct-from_AllPairs}
+use Rattle.list_laws.proofs.Members.{contains_found}
+use Rattle.list_laws.proofs.Sequences.{all_behind, positive}
+use Rattle.list_laws.proofs.Truths.{both_false}
 use Rattle.dq_lits.specs.Derivation.{ProofStep}
 use Rattle.dq_lits.specs.Formula.{Dqbf, declared}
 use Rattle.dq_lits.specs.Literal.{Literal, variable_of}
@@ -208,11 +211,6 @@ chosen_head false false many output head a b c d = cc
 chosen_head false true true output head a b c d = cc
 chosen_head false true false false head a b c d = cc
 
-neither : (a b : Bool) → a ≡ false → b ≡ false → (a || b) ≡ false
-neither false false p q = refl
-neither true b p q = cc
-neither false true p q = cc
-
 abbrev head_for : Definition → DefinedHead
 head_for d = record { output = d.output; gates = length d.gates; steps = length d.steps }
 
@@ -230,10 +228,10 @@ head_taken f d small is few =
     ∙ chosen_head (is_large y || (is_large d.output || (is_large g || is_large n))) (y == y)
     (nat_lt max_count g || nat_lt max_count n) (is_output f g d.output) (Defined (head_for d))
     (none_of (is_large y) (is_large d.output) (is_large g || is_large n) (not_large y small.existential)
-    (not_large d.output small.output) (neither (is_large g) (is_large n) (not_large g small.few_gates)
+    (not_large d.output small.output) (both_false (is_large g) (is_large n) (not_large g small.few_gates)
     (not_large n small.few_steps)))
     (eq-eqb y y refl)
-    (neither (nat_lt max_count g) (nat_lt max_count n) (le-ltb max_count g (omega (arith, few_gates)))
+    (both_false (nat_lt max_count g) (nat_lt max_count n) (le-ltb max_count g (omega (arith, few_gates)))
     (le-ltb max_count n (omega (arith, few))))
     is.output
 
@@ -402,26 +400,10 @@ module _ (f : Dqbf) (us : AllByRecursion IsSpellable f.universals) (some_us : Ar
       ∙ ap (λ r. and_read r (λ bs. Ok (first.found.part ∷ bs))) later
       ∙ ap (λ b. Ok (b ∷ blocks)) first.part_is
 
-back : {X : Type 0} (P : X → Type 0) (xs ys : List X) → AllByRecursion P (xs ++ ys) → AllByRecursion P ys
-back P [] ys all = all
-back P (x ∷ xs) ys all = back P xs ys all.1
-
-positive_part : (variables : ℕ) (xs : List ℕ) → AllByRecursion (λ v. (1 ≤ v) × (v ≤ variables)) xs → ArePositive xs
-positive_part variables [] all = tt
-positive_part variables (x ∷ xs) all = (all.0.0, positive_part variables xs all.1)
-
 low_part : (variables : ℕ) (xs : List ℕ) → AllByRecursion (λ v. (1 ≤ v) × (v ≤ variables)) xs →
     AllByRecursion (λ v. v ≤ variables) xs
 low_part variables [] all = tt
 low_part variables (x ∷ xs) all = (all.0.1, low_part variables xs all.1)
-
-any_inside : (q : ℕ) (xs : List ℕ) → list_any (eqb q) xs ≡ true → Contains xs q
-any_inside q [] h = cc
-any_inside q (x ∷ xs) h = by_bit (any_inside q xs) (eqb q x) refl h where
-  by_bit : (list_any (eqb q) xs ≡ true → Contains xs q) → (b : Bool) → eqb q x ≡ b → (b || list_any (eqb q) xs) ≡ true →
-      Contains (x ∷ xs) q
-  by_bit later true e k = (0, omega arith, sym (eqb-true q x e))
-  by_bit later false e k = let r = later k in let low = r.1 in (suc r.0, omega (arith, low), r.2)
 
 few_existentials : (f : Dqbf) → IsLawful f → length f.existentials ≤ max_count
 few_existentials f lawful =
@@ -434,7 +416,7 @@ few_existentials f lawful =
       below : (q : ℕ) → list_any (eqb q) (declared f) ≡ true → q < f.variables + 1
       below q h =
           let range = All-contains (λ v. (1 ≤ v) × (v ≤ f.variables)) (declared f) q lawful.prefix.in_range
-          (any_inside q (declared f) h) in
+          (contains_found q (declared f) h) in
           let most = range.1 in omega (arith, most)
 
 header_taken : (f : Dqbf) → length f.existentials ≤ max_count →
@@ -452,7 +434,7 @@ text_read f blocks lines number lawful are few is = by_lines lines (is
     ∙ header_line (length f.existentials) (flat_map (block_text f) blocks)
     (let n = few_existentials f lawful in omega (arith, n))) where
       all : AllByRecursion (λ v. (1 ≤ v) × (v ≤ f.variables)) (existential_variables f)
-      all = back (λ v. (1 ≤ v) × (v ≤ f.variables)) f.universals (existential_variables f)
+      all = all_behind (λ v. (1 ≤ v) × (v ≤ f.variables)) f.universals (existential_variables f)
           (recursion_from_All (λ v. (1 ≤ v) × (v ≤ f.variables)) (declared f) lawful.prefix.in_range)
 
       small : f.variables < 10 ^ 18
@@ -470,9 +452,9 @@ text_read f blocks lines number lawful are few is = by_lines lines (is
           ap (λ r. and_read (at_line line.number r) (λ _. read_blocks f (existential_variables f) ls (line.number + 1)))
           head
           ∙ blocks_read f (spellable f.variables f.universals small (universals_in_range f lawful))
-          (positive_part f.variables f.universals (universals_in_range f lawful))
+          (positive f.variables f.universals (universals_in_range f lawful))
           (spellable f.variables (existential_variables f) small all)
-          (positive_part f.variables (existential_variables f) all) lawful.few_variables lawful.few_clauses
+          (positive f.variables (existential_variables f) all) lawful.few_variables lawful.few_clauses
           (existential_variables f) blocks ls (line.number + 1) (low_part f.variables (existential_variables f) all)
           are few rest
 

@@ -4,6 +4,7 @@ use Rattle.std.specs.List.{list_any}
 use Rattle.std.specs.Option.{option_map}
 use Rattle.std.proofs.lemmas.List.{get_or_default}
 use Rattle.std.proofs.lemmas.Bool.{eq-eqb}
+use Rattle.list_laws.proofs.Members.{contains_later, contains_cases}
 use Rattle.dq_lits.specs.Literal.{Literal, negative, variable_of, same_literal}
 use Rattle.dq_lits.specs.Formula.{Dqbf}
 use Rattle.hint_log.specs.Entries.{Entry}
@@ -17,7 +18,6 @@ use Rattle.hint_log.specs.Origins.{matrix_literal, IsLeafOf}
 use Rattle.log_laws.proofs.Found.{slice_get_at}
 use Rattle.hint_log.specs.ProductiveLog.{fault_groups, with_group, fault_room}
 use Rattle.circuit_cnf.specs.Faults.{HasFault, HaveOneLeaf, AreFewWith}
-use Rattle.circuit_cnf.proofs.GivenGates.{contains_cases, contains_more}
 
 -- a group counts once
 group_twice : (group : ℕ) (r s : List Literal) (groups : List ℕ) →
@@ -42,7 +42,7 @@ fault_stays group bad j i l out e es (inl none) = inl none
 fault_stays group bad j i l out e es (inr some) = inr (
   some.0,
   some.1,
-  contains_more e (Given (Fault j i out) (negative group ∷ negative bad ∷ some.0)) es some.2,
+  contains_later e (Given (Fault j i out) (negative group ∷ negative bad ∷ some.0)) es some.2,
 )
 
 pub one_leaf_more : (f : Dqbf) (group j place : ℕ) (leaf : ℕ → Leaf) (l : Literal) (rest : List Literal)

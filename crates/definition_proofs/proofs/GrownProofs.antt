@@ -2,6 +2,7 @@
 use Rattle.std.proofs.Common.{◌≡◌, ◌≢◌, ◌≤◌, ℕ, true, inl, inr, List, [], ◌∷◌, length, None, refl, sym, ◌∙◌, subst}
 use Rattle.std.specs.List.{All, Contains}
 use Rattle.std.proofs.lemmas.Bool.{eqb-true}
+use Rattle.list_laws.proofs.Members.{contains_cases}
 use Rattle.dq_lits.specs.Literal.{Literal}
 use Rattle.dq_lits.specs.Formula.{Dqbf}
 use Rattle.hint_log.specs.Entries.{Entry, Named, Given, ProofLog, with_entry, name_of}
@@ -18,7 +19,7 @@ use Rattle.padoa_definitions.specs.Copies.{IsPadoa, groups_of}
 use Rattle.padoa_definitions.specs.Growing.{Gives, HasFewFaults}
 use Rattle.padoa_definitions.specs.declared.padoa.Padoa.{Padoa}
 use Rattle.padoa_definitions.proofs.GivenClauses.{unnamed_back}
-use Rattle.padoa_definitions.proofs.KeptCopies.{Keeps, IsNamed, keeps_by_engine, contains_cases}
+use Rattle.padoa_definitions.proofs.KeptCopies.{Keeps, IsNamed, keeps_by_engine}
 use Rattle.padoa_definitions.proofs.StandingCopies.{engines_leave}
 use Rattle.definition_proofs.specs.Terms.{is_term_gate, is_gate_of, is_proof_origin, GrewByProof}
 

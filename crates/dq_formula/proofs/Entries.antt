@@ -1,18 +1,15 @@
 -- The existentials of a formula against the entries of the map that holds them.
-use Rattle.std.proofs.Common.{◌≡◌, ℕ, Bool, true, false, ◌||◌, List, [], ◌∷◌, map, refl, ap, sym, ◌∙◌, arith, cond, eqb, Some, is_some}
+use Rattle.std.proofs.Common.{◌≡◌, ℕ, Bool, true, false, ◌||◌, List, [], ◌∷◌, map, refl, ap, sym, ◌∙◌, cond, eqb, Some, is_some}
 use Rattle.std.proofs.lemmas.Bool.{eqb-true}
-use Rattle.std.proofs.lemmas.Bool.Decides.{nat_tests}
 use Rattle.std.proofs.lemmas.List.Folds.{list_any-append}
 use Rattle.std.specs.List.{find, list_any}
 use Rattle.std.specs.Map.{keys_of, lookup}
 use Rattle.std.specs.Option.{option_map}
+use Rattle.list_laws.proofs.Numbers.{eqb-flip}
 use Rattle.dq_lits.specs.Formula.{Existential, Dqbf, is_universal, existential_of}
 use Rattle.dq_formula.specs.declared.dependencies.Deps.{Deps}
 use Rattle.dq_formula.specs.Layout.{existential}
 use Rattle.dq_formula.specs.Prefix.{is_declared}
-
-pub eqb-flip : (a b : ℕ) → eqb a b ≡ eqb b a
-eqb-flip a b = grind (arith, nat_tests)
 
 module _ (universals : List ℕ) where
   pub map-variable : (entries : List (ℕ × Deps)) → map (λ (y : Existential). y.variable)

@@ -10,10 +10,10 @@ use Rattle.std.specs.List.Sorted.{IsPermutation, IsSorted}
 use Rattle.std.specs.Ordering.{nat_cmp}
 use Rattle.std.proofs.lemmas.Bool.{eqb-true}
 use Rattle.std.proofs.lemmas.Cmp.{nat_eq_equiv}
+use Rattle.list_laws.proofs.Numbers.{eqb-flip}
 use Rattle.number_tables.specs.Numbers.{with_number}
 use Rattle.dq_lits.specs.Formula.{Dqbf}
 use Rattle.dq_formula.specs.Prefix.{occurs, is_declared, free_variables, AreUndeclaredIn}
-use Rattle.dq_formula.proofs.Entries.{eqb-flip}
 use Rattle.dq_lits.specs.Literal.{Literal, variable_of}
 use Rattle.dq_formula.proofs.Places.{has, flip, Rise, at, at-filter, ne-false}
 use Rattle.dq_formula.proofs.Sorted.{Rise-from_increasing}

@@ -53,7 +53,7 @@ natural_begins bytes left n b =
     (digits_number b.digits n b.small (digits_of bytes left n b))
     ∙ ap (λ tokens. Int (pos n) ∷ map number_of tokens) (sym b.same)
 
-minus_word : (ds : List ℕ) → IsWord ds → IsWord (45 ∷ ds)
+pub minus_word : (ds : List ℕ) → IsWord ds → IsWord (45 ∷ ds)
 minus_word [] is = absurd is
 minus_word (d ∷ ds) is = (refl, is)
 

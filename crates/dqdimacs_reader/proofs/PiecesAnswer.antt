@@ -1,6 +1,7 @@
 -- What is read of a text that comes in pieces.
 use Rattle.std.proofs.Common.{◌≡◌, ℕ, ◌==◌, ◌&&◌, Bool, true, false, List, [], ◌∷◌, map, codes, Result, refl, sym, ◌∙◌, ap}
 use Rattle.std.specs.Str.{bytes_eq}
+use Rattle.list_laws.proofs.Truths.{and-false}
 use Rattle.dq_lits.specs.Formula.{Dqbf}
 use Rattle.dq_text.specs.Number.{begins_with_minus, number_of}
 use Rattle.dq_text.specs.Pieces.{SummarizedToken, summarized}
@@ -13,13 +14,8 @@ use Rattle.dqdimacs_reader.specs.declared.faults.ReadStop.{ReadStop}
 use Rattle.dqdimacs_reader.specs.declared.lexemes.Lexeme.{Lexeme}
 use Rattle.dqdimacs_reader.proofs.NumberWords.{no_letter}
 
--- no word of the grammar has more than three bytes
-never : (b : Bool) → (b && false) ≡ false
-never true = refl
-never false = refl
-
 not_cnf : (p q r : Bool) → (p && (q && (r && false))) ≡ false
-not_cnf true true r = never r
+not_cnf true true r = and-false r
 not_cnf true false r = refl
 not_cnf false q r = refl
 
@@ -28,8 +24,8 @@ longer_word a b c d bytes rest =
     let text = a ∷ b ∷ c ∷ d ∷ bytes in
     no_letter (bytes_eq text (codes "p")) (bytes_eq text (codes "cnf")) (bytes_eq text (codes "a"))
     (bytes_eq text (codes "d")) (bytes_eq text (codes "e")) (bytes_eq text (codes "x")) rest
-    (never (a == 112)) (not_cnf (a == 99) (b == 110) (c == 102)) (never (a == 97)) (never (a == 100)) (never (a == 101))
-    (never (a == 120))
+    (and-false (a == 112)) (not_cnf (a == 99) (b == 110) (c == 102)) (and-false (a == 97)) (and-false (a == 100)) (and-false (a == 101))
+    (and-false (a == 120))
 
 head_word : (text : List ℕ) (rest : Lexeme) → head_or (head_of text) rest ≡ word_or text rest
 head_word [] rest = refl

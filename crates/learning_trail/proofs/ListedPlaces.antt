@@ -4,6 +4,7 @@ use Rattle.std.specs.List.Sorted.{IsNonDecreasing}
 use Rattle.std.proofs.lemmas.Bool.{cases_lt, false≢true, false_from_ne_true}
 use Rattle.std.proofs.lemmas.List.{take_more, take_all, get_or-take, get_or_default, length-take-le}
 use Rattle.std.proofs.lemmas.List.Elements.{Contains-append_right, Contains-append_cases}
+use Rattle.list_laws.proofs.Members.{no_element}
 use Rattle.dq_lits.specs.Literal.{Literal, variable_of}
 use Rattle.dq_lits.specs.Derivation.{LiveClauses}
 use Rattle.learning_trail.specs.declared.trails.Step.{Step}
@@ -13,7 +14,7 @@ use Rattle.learning_trail.specs.Steps.{IsAt}
 use Rattle.learning_trail.specs.Marks.{marked}
 use Rattle.learning_trail.specs.Noting.{Noted, is_marked, AreTouched}
 use Rattle.learning_trail.specs.Backing.{IsTrimmed}
-use Rattle.learning_trail.proofs.ConflictAnalysis.{contains_none, contains_cases}
+use Rattle.learning_trail.proofs.ConflictAnalysis.{contains_cases}
 use Rattle.learning_trail.proofs.TouchedMarks.{touched_from}
 use Rattle.learning_trail.proofs.AssignedLiterals.{at_place}
 use Rattle.learning_trail.proofs.SetMarks.{turned}
@@ -33,7 +34,7 @@ one_more touched i v w lt at h =
       | inl a ↦ inl a
       | inr b ↦ elim (contains_cases v [] w b) [
         | inl e ↦ inr e
-        | inr none ↦ absurd (contains_none w none)
+        | inr none ↦ absurd (no_element w none)
       ]
     ]
 
@@ -186,4 +187,4 @@ trimmed_rest live steps items was now places at end none long below inv =
     trimmed_skip live steps items was now 0 end long (omega arith) (λ i k above under read.
     false_from_ne_true (marked now.marks (variable_of k.literal)) (λ on.
     let c = below i k under (omega (arith, under, long)) read (inv.fewer (variable_of k.literal) on) in
-    contains_none i (subst (λ (n : ℕ). Contains (take n places) i) none c))) inv
+    no_element i (subst (λ (n : ℕ). Contains (take n places) i) none c))) inv

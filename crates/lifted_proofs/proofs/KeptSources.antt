@@ -5,21 +5,22 @@ use Rattle.std.proofs.lemmas.Bool.{cond-true, cond-false, ne_eqb}
 use Rattle.std.proofs.lemmas.Option.{slice_get_within, slice_get-get_or, get_or_from_slice_get}
 use Rattle.std.proofs.lemmas.List.{length-append, length-take, take_more, take_all, append-nil}
 use Rattle.std.proofs.lemmas.List.Sorted.{Contains-permutation, IsPermutation-reverse, IsPermutation-sym}
+use Rattle.list_laws.proofs.Elements.{last_or_before, last_there}
 use Rattle.dq_lits.specs.Literal.{Literal, opposite}
 use Rattle.dq_lits.specs.Formula.{Dqbf}
 use Rattle.dq_lits.specs.Derivation.{holds}
+use Rattle.dq_lits.proofs.SignedLiterals.{opposite-opposite}
 use Rattle.dq_prep.specs.declared.traces.Taken.{Taken}
 use Rattle.dq_prep.specs.Units.{AreUnits, taken_literals, is_satisfied, left_of}
 use Rattle.dq_prep.specs.Simplified.{taken_at, kept_clause, kept_clauses}
 use Rattle.dq_prep.proofs.Units.{get-at, unit-taken}
-use Rattle.dq_prep.proofs.SignedLiterals.{opposite-opposite}
 use Rattle.lifted_proofs.specs.UnitTables.{first_literals, IsFalseBy}
 use Rattle.lifted_proofs.specs.Goals.{clause_at, IsSource, left_by}
 use Rattle.lifted_proofs.specs.Carried.{AreSources}
 use Rattle.lifted_proofs.specs.Sources.{TellsTaken, IsSourceAt}
 use Rattle.lifted_proofs.specs.declared.goals.Source.{Source}
 use Rattle.lifted_proofs.proofs.TakenUnits.{unit-at, first-holds}
-use Rattle.lifted_proofs.proofs.AskedGoals.{last-or-before, last-at, keeps-more}
+use Rattle.lifted_proofs.proofs.AskedGoals.{keeps-more}
 
 pub taken-by : (units : List Taken) (l k : Literal) (o : Option ℕ) → k ≡ opposite l
     → IsFalseBy units (length units) k o → (o ≡ None → holds (first_literals units (length units)) l ≡ false)
@@ -130,13 +131,13 @@ sources-more f units place s sources new within at was more =
     subst (AreSources f units (kept_first f units (place + 1))) (sym more)
     (subst (λ ks. AreSources f units ks (sources ++ s ∷ [])) (sym next) (record {
       many = length-append sources (s ∷ []) ∙ ap (λ n. n + 1) was.many ∙ sym (length-append front (left ∷ []));
-      each = λ j k there. elim (last-or-before sources s j k there) [
+      each = λ j k there. elim (last_or_before sources s j k there) [
         | inl before ↦
             let it = was.each j k before in
             (it.0, keeps-more front (left ∷ []) j (left_by f units k) it.1)
         | inr last ↦ (
           subst (IsSource f units) last.1 at.0,
-          ap (slice_get (front ++ left ∷ [])) (last.0 ∙ was.many) ∙ last-at front left
+          ap (slice_get (front ++ left ∷ [])) (last.0 ∙ was.many) ∙ last_there front left
               ∙ ap (λ x. Some (left_by f units x)) last.1,
         )
       ];

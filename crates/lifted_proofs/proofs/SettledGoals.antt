@@ -7,14 +7,15 @@ use Rattle.std.proofs.lemmas.List.{length-append, take_more}
 use Rattle.std.proofs.lemmas.List.Elements.{all_zip_more, All-push, Contains-push, Contains-append_left}
 use Rattle.std.proofs.lemmas.List.Quantifiers.{all_pairs_push}
 use Rattle.std.proofs.lemmas.List.Folds.{list_any-append, list_any_at}
+use Rattle.list_laws.proofs.Elements.{last_or_before, last_there}
 use Rattle.number_tables.specs.Numbers.{has_number, with_number}
 use Rattle.dq_lits.specs.Literal.{Literal, opposite, same_literal}
 use Rattle.dq_lits.specs.Formula.{Dqbf, IsWellFormed}
 use Rattle.dq_lits.specs.Derivation.{holds}
 use Rattle.dq_lits.specs.Expansion.{universal_literal_true}
+use Rattle.dq_lits.proofs.SignedLiterals.{same_literal-refl, opposite-opposite}
 use Rattle.dq_prep.specs.declared.traces.Taken.{Taken}
 use Rattle.dq_prep.specs.Units.{AreUnits}
-use Rattle.dq_prep.proofs.SignedLiterals.{same_literal-refl, opposite-opposite}
 use Rattle.lifted_proofs.specs.UnitTables.{first_literals, IsFalseBy}
 use Rattle.cert_text.specs.Header.{max_count}
 use Rattle.lifted_proofs.specs.Goals.{clause_at, left_by, IsGoal, IsLowered, IsAsked, IsReason, IsPlan, MakesFalse, HasFalse, AreFalseUnits, Keeps, GrowsGoals}
@@ -24,7 +25,7 @@ use Rattle.lifted_proofs.specs.declared.goals.Reason.{Reason}
 use Rattle.lifted_proofs.specs.declared.goals.Plan.{Plan}
 use Rattle.lifted_proofs.proofs.TakenUnits.{first-are-units}
 use Rattle.lifted_proofs.proofs.LowRows.{serves-falsified, serves-itself, holds-snoc}
-use Rattle.lifted_proofs.proofs.AskedGoals.{keeps-itself, keeps-more, last-or-before, last-at, plan-grows, all-asked-grow}
+use Rattle.lifted_proofs.proofs.AskedGoals.{keeps-itself, keeps-more, plan-grows, all-asked-grow}
 
 pub grows-on : (p q r : Plan) → GrowsGoals p q → GrowsGoals q r → GrowsGoals p r
 grows-on p q r a b = record {
@@ -83,7 +84,7 @@ row-added f units p q g row low clause well are plan goal at clause-is falsified
         row = row;
         low = low;
         row_at = kept-rows g.row row at;
-        low_at = ap (λ xs. slice_get xs (length p.rows)) rows ∙ last-at p.rows low;
+        low_at = ap (λ xs. slice_get xs (length p.rows)) rows ∙ last_there p.rows low;
         serves = serves-falsified f units g.source row low well (first-are-units f units g.source.taken are)
             goal.source.unsatisfied goal.plain
             (subst (λ r. list_any (universal_literal_true f r)
@@ -108,7 +109,7 @@ plan-reasoned f units p q g r plan at reason left rows goals reasons room =
           let here' : slice_get p.goals.items k ≡ Some w = ap (λ xs. slice_get xs k) (sym same-goals) ∙ here in
           subst (λ rs. IsReason f units rs q.goals.items w s) (sym rows)
           (subst (λ gs. IsReason f units p.rows gs w s) (sym same-goals)
-          (elim (last-or-before p.reasons.items r k s (ap (λ xs. slice_get xs k) (sym reasons) ∙ why)) [
+          (elim (last_or_before p.reasons.items r k s (ap (λ xs. slice_get xs k) (sym reasons) ∙ why)) [
             | inl before ↦ plan.reasons k w s here' before
             | inr last ↦
                 let same : g ≡ w = same_Some g w (sym at ∙ ap (slice_get p.goals.items) (sym last.0) ∙ here') in

@@ -7,23 +7,20 @@ use Rattle.std.proofs.lemmas.Option.{slice_get_within, get_or_from_slice_get, sl
 use Rattle.std.proofs.lemmas.List.{take-append-drop, reverse-append, take_more, get_or-take, length-take, length-map, length-set, get_or_default, get_or-set_same, get_or-set_other}
 use Rattle.std.proofs.lemmas.List.Quantifiers.{position-Some}
 use Rattle.std.proofs.lemmas.List.Sorted.{Contains-permutation, IsPermutation-reverse, IsPermutation-sym}
-use Rattle.dq_lits.specs.Literal.{Literal, positive, negative, variable_of, opposite, same_literal}
+use Rattle.list_laws.proofs.Members.{tested_inside}
+use Rattle.dq_lits.specs.Literal.{Literal, variable_of, opposite, same_literal}
 use Rattle.dq_lits.specs.Formula.{Dqbf, existential_of, IsWellFormed}
 use Rattle.dq_lits.specs.Derivation.{holds}
+use Rattle.dq_lits.proofs.Truth.{same_literal-sound}
+use Rattle.dq_lits.proofs.SignedLiterals.{same_literal-refl, opposite_variable, one_variable}
 use Rattle.dq_formula.specs.Prefix.{existential_variables}
 use Rattle.dq_formula.proofs.Entries.{is_some-find, list_any-map}
 use Rattle.dq_formula.proofs.Subsets.{none_contained}
-use Rattle.dq_prep.proofs.SeenUniversals.{contained-any}
 use Rattle.dq_prep.specs.declared.traces.Taken.{Taken}
 use Rattle.dq_prep.specs.Units.{AreUnits, IsUnit, taken_literals}
 use Rattle.dq_prep.proofs.Units.{taken-holds, left-holds, satisfied-by}
-use Rattle.dq_prep.proofs.ToldValues.{unit-fresh, unit-existential, two-literals}
-use Rattle.dq_prep.proofs.SignedLiterals.{same_literal-sound, same_literal-refl}
+use Rattle.dq_prep.proofs.ToldValues.{unit-fresh, unit-existential}
 use Rattle.lifted_proofs.specs.UnitTables.{first_units, first_literals, TellsUnit, TellUnits, IsFalseBy, IsFalseAt}
-
-pub opposite-variable : (l : Literal) → variable_of (opposite l) ≡ variable_of l
-opposite-variable (positive v) = refl
-opposite-variable (negative v) = refl
 
 later-units : (f : Dqbf) (xs ys : List Taken) → AreUnits f (xs ++ ys) → AreUnits f ys
 later-units f [] ys are = are
@@ -113,7 +110,7 @@ units-apart f units i j u w are before at-i at-j same =
     let it = unit-at f units j w are at-j in
     let trues = first_literals units j in
     let held = first-holds units j i u before at-i in
-    elim (two-literals u.literal w.literal same) [
+    elim (one_variable u.literal w.literal same) [
       | inl is ↦
           let inside : holds it.clause w.literal ≡ true =
           left-holds f w.literal trues it.clause
@@ -147,7 +144,7 @@ none-false f units count l well are none =
           let first = held-first units count (opposite l) held in
           let it = unit-at f units first.place first.unit are first.at in
           let there = unit-existential f (first_units units first.place) first.unit well it in
-          let same : variable_of first.unit.literal ≡ variable_of l = ap variable_of first.is ∙ opposite-variable l in
+          let same : variable_of first.unit.literal ≡ variable_of l = ap variable_of first.is ∙ opposite_variable l in
           absurd (none_contained (existential_variables f) (variable_of l) none
           (subst (Contains (existential_variables f)) same there))
     ]
@@ -160,7 +157,7 @@ untold-false units count l none =
       | inl held ↦
           let first = held-first units count (opposite l) held in
           absurd (none first.place first.unit (slice_get_within units first.place first.unit first.at) first.at
-          (ap variable_of first.is ∙ opposite-variable l))
+          (ap variable_of first.is ∙ opposite_variable l))
     ]
 
 pub other-false : (units : List Taken) (count : ℕ) (l : Literal) (j : ℕ)
@@ -173,7 +170,7 @@ other-false units count l j told none =
       | inl held ↦
           let first = held-first units count (opposite l) held in
           let is = told.1 first.place first.unit (slice_get_within units first.place first.unit first.at) first.at
-          (ap variable_of first.is ∙ opposite-variable l) in
+          (ap variable_of first.is ∙ opposite_variable l) in
           absurd (none first.unit (ap (slice_get units) (sym is) ∙ first.at)
           (subst (λ n. n < count) is first.before) first.is)
     ]
@@ -268,7 +265,7 @@ unit-some f units j u v well are at is =
     ap (λ w. is_some (existential_of f w)) is
     ∙ is_some-find (λ y. y.variable == variable_of u.literal) f.existentials
     ∙ sym (list_any-map (λ x. x == variable_of u.literal) (λ y. y.variable) f.existentials)
-    ∙ contained-any (existential_variables f) (variable_of u.literal) there
+    ∙ tested_inside (existential_variables f) (variable_of u.literal) there
 
 -- the table's answers
 pub place-none : (f : Dqbf) (units : List Taken) (count : ℕ) (l : Literal) (v : ℕ) (o : Option ℕ) → IsWellFormed f

@@ -28,7 +28,7 @@ use Rattle.log_laws.proofs.ReachedClauses.{name_stays}
 use Rattle.log_laws.proofs.Refuted.{IsInstanceAmong, refuted_among}
 
 -- the prefix is that of all
-same_universals : (all : Dqbf) (o : Option (List ℕ)) → length (formula_by all o).universals ≡ length all.universals
+pub same_universals : (all : Dqbf) (o : Option (List ℕ)) → length (formula_by all o).universals ≡ length all.universals
 same_universals all None = refl
 same_universals all (Some live) = refl
 

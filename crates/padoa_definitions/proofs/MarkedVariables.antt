@@ -4,13 +4,14 @@ use Rattle.std.specs.List.{All, Contains}
 use Rattle.std.proofs.lemmas.Bool.{cases_lt}
 use Rattle.std.proofs.lemmas.List.{length-set}
 use Rattle.std.proofs.lemmas.Option.{slice_get-get_or, slice_get_within}
+use Rattle.list_laws.proofs.Quantified.{one_place}
 use Rattle.dq_lits.specs.Formula.{Dqbf, HasLawfulPrefix}
 use Rattle.dq_lits.specs.Literal.{Literal, variable_of}
 use Rattle.dq_formula.specs.Prefix.{existential_variables}
 use Rattle.padoa_definitions.specs.Copies.{IsCopied, is_copied_at}
 use Rattle.padoa_definitions.specs.Standing.{AreMarked, IsMarkedMore}
 use Rattle.padoa_definitions.proofs.GivenClauses.{universals_distinct}
-use Rattle.padoa_definitions.proofs.KeptPlaces.{declared_cases, flag_past, one_place}
+use Rattle.padoa_definitions.proofs.KeptPlaces.{declared_cases, flag_past}
 
 -- a flag that is set, and the others
 set_flag : (flags : List Bool) (i : ℕ) → i < length flags → is_copied_at (set flags i true) i ≡ true

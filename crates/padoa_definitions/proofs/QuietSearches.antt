@@ -3,6 +3,7 @@
 use Rattle.std.proofs.Common.{◌≡◌, ℕ, Bool, cond, List, [], ◌∷◌, ◌++◌, Some, None, refl, sym, ◌∙◌, ap, subst}
 use Rattle.std.proofs.lemmas.Bool.{eq-eqb}
 use Rattle.std.proofs.lemmas.List.Elements.{Contains-append_right}
+use Rattle.list_laws.proofs.Members.{contains_later, contains_first}
 use Rattle.dq_lits.specs.Literal.{Literal}
 use Rattle.dq_lits.specs.Formula.{Dqbf}
 use Rattle.hint_log.specs.Deciding.{DecidesTrue}
@@ -17,7 +18,6 @@ use Rattle.log_laws.proofs.LargerLogs.{name_kept}
 use Rattle.padoa_definitions.specs.Growing.{HasSameGivens}
 use Rattle.padoa_definitions.specs.Store.{StoreState, IsStore}
 use Rattle.padoa_definitions.proofs.GivenClauses.{no_fault}
-use Rattle.padoa_definitions.proofs.KeptCopies.{contains_first, contains_later}
 use Rattle.padoa_definitions.proofs.StandingStores.{store_stands}
 
 -- learned or answered

@@ -5,11 +5,11 @@ use Rattle.std.proofs.lemmas.Bool.{true≢false, eqb-true, eq-eqb}
 use Rattle.std.proofs.lemmas.List.{get_or-set_same, get_or-set_other}
 use Rattle.std.proofs.lemmas.List.Elements.{All-from_recursion, recursion_from_All}
 use Rattle.std.proofs.lemmas.List.Quantifiers.{position-Some}
+use Rattle.list_laws.proofs.Sequences.{all_behind, all_before}
 use Rattle.number_tables.specs.Numbers.{place_of}
 use Rattle.pec_front.specs.Boxes.{BlackBox, driven}
 use Rattle.pec_front.specs.Copies.{no_span, span_at}
 use Rattle.pec_front.specs.declared.copies.Span.{Span}
-use Rattle.pec_front.proofs.Encoded.{left-part, right-part}
 
 -- one place is written
 pub span-set : (variables : List ℕ) (spans : List Span) (variable place : ℕ) (span : Span)
@@ -51,5 +51,5 @@ each-drives P boxes k d below all =
     parts : (bs : List BlackBox) (i : ℕ) → i < length bs → AllByRecursion P (driven bs)
         → AllByRecursion P (get_or bs i d).outs
     parts [] i low each = absurd (omega (arith, low))
-    parts (b ∷ bs) zero low each = left-part P b.outs (driven bs) each
-    parts (b ∷ bs) (suc i) low each = parts bs i (omega (arith, low)) (right-part P b.outs (driven bs) each)
+    parts (b ∷ bs) zero low each = all_before P b.outs (driven bs) each
+    parts (b ∷ bs) (suc i) low each = parts bs i (omega (arith, low)) (all_behind P b.outs (driven bs) each)

@@ -1,26 +1,26 @@
 -- The numbers that trees of rows give.
-use Rattle.std.proofs.Common.{◌≡◌, ◌≢◌, ℕ, zero, suc, ◌+◌, ◌<◌, ◌≤◌, ◌==◌, Bool, true, false, cond, ◌&&◌, inl, inr, List, [], ◌∷◌, map, drop, length, get_or, Option, None, Some, refl, sym, ◌∙◌, ap, subst, arith, add-one}
+use Rattle.std.proofs.Common.{◌≡◌, ◌≢◌, ℕ, zero, suc, ◌+◌, ◌<◌, ◌≤◌, ◌==◌, Bool, true, false, cond, ◌&&◌, inl, inr, List, [], map, drop, length, get_or, Option, None, Some, refl, sym, ◌∙◌, ap, subst, arith}
 use Rattle.std.specs.List.{All, position_or_len}
-use Rattle.std.proofs.Math.Seq.{drop-cons}
 use Rattle.std.proofs.lemmas.List.{get_or-map, get_or_past}
 use Rattle.std.proofs.lemmas.Bool.{cases_Bool, cases_lt, cases_eq, eqb-true, eq-eqb, both_ways}
+use Rattle.list_laws.proofs.Elements.{drop_at}
 use Rattle.dq_lits.specs.Expansion.{row_assignment}
 use Rattle.dq_lits.specs.Formula.{Dqbf}
 use Rattle.dq_lits.specs.Henkin.{same_bit, same_bits}
 use Rattle.dq_lits.specs.Row.{bit_of}
+use Rattle.dq_lits.proofs.Choices.{same_bits-sound, same_bits-refl}
 use Rattle.dq_formula.proofs.Restrictions.{assignment_of-place}
 use Rattle.refutation_checker.specs.Rows.{agree_over, row_of}
 use Rattle.refutation_checker.specs.RowTrees.{node_at, next_of, walk_by, walk, reached, number_by, found, IsSeenPlace, Differ, IsOrderedNode, IsOrdered, IsKeyNode, IsTree, IsNodeSplit, AreNumbered, IsStanding}
 use Rattle.refutation_checker.specs.declared.row_trees.Node.{Node}
 use Rattle.refutation_checker.specs.declared.row_trees.Node.TheVariants.{Leaf, Test}
 use Rattle.refutation_checker.specs.declared.row_trees.Standing.TheVariants.{Differs}
-use Rattle.refutation_checker.proofs.PairNames.{same_bits-equal, same_bits-itself}
 use Rattle.refutation_checker.proofs.RowTrees.{steps_on, enough, walk_stops, walk_ends, walks_alike}
 
 -- rows that agree on a set can't be told apart by it
 agree_bits : (f : Dqbf) (sees : List ℕ) (r s : List Bool) → agree_over f sees r s ≡ true →
     map (row_assignment f r) sees ≡ map (row_assignment f s) sees
-agree_bits f sees r s h = same_bits-equal (map (row_assignment f r) sees) (map (row_assignment f s) sees) h
+agree_bits f sees r s h = same_bits-sound (map (row_assignment f r) sees) (map (row_assignment f s) sees) h
 
 pub agree_first : (f : Dqbf) (sees : List ℕ) (r s t : List Bool) → agree_over f sees r s ≡ true →
     agree_over f sees t r ≡ agree_over f sees t s
@@ -31,7 +31,7 @@ pub agree_second : (f : Dqbf) (sees : List ℕ) (r s t : List Bool) → agree_ov
 agree_second f sees r s t h = ap (λ bits. same_bits bits (map (row_assignment f t) sees)) (agree_bits f sees r s h)
 
 pub agree_itself : (f : Dqbf) (sees : List ℕ) (r : List Bool) → agree_over f sees r r ≡ true
-agree_itself f sees r = same_bits-itself (map (row_assignment f r) sees)
+agree_itself f sees r = same_bits-refl (map (row_assignment f r) sees)
 
 next_same : (f : Dqbf) (rows : List (List Bool)) (sees : List ℕ) (node : Node) (r s : List Bool) →
     IsKeyNode f rows sees node
@@ -275,9 +275,6 @@ differ_apart f sees r s place r_whole s_whole seen apart =
       | inl agree ↦ absurd (apart (seen r s r_whole s_whole agree))
       | inr none ↦ none
     ]
-
-drop_at : {X : Type 0} (xs : List X) (i : ℕ) (d : X) → i < length xs → drop i xs ≡ get_or xs i d ∷ drop (i + 1) xs
-drop_at xs i d lt = rw (add-one) (drop-cons xs i d lt)
 
 -- the bits of a set's universals
 bit_at_place : (f : Dqbf) (row : List Bool) (v at : ℕ) → length row ≡ length f.universals →
