@@ -11,6 +11,7 @@ use Rattle.aiger_text.specs.declared.faults.AagFault.TheVariants.{BadHeader}
 use Rattle.aiger_text.specs.declared.files.ReadCircuit.{ReadCircuit}
 use Rattle.aiger_text.specs.declared.headers.Header.{Header}
 use Rattle.aiger_text.proofs.SpelledHeaders.{header_from, header_is}
+use Rattle.aiger_text.proofs.ReadIsSpelled.{no_names}
 use Rattle.aig_binary.specs.Deltas.{and_then}
 use Rattle.aig_binary.specs.Gates.{read_gates, SpellsGates}
 use Rattle.aig_binary.specs.Grammar.{SpellsBinary}
@@ -71,12 +72,6 @@ header_read_is text h read =
     if_ok : (b : Bool) (x y : Header) → cond b (Ok x) (Err BadHeader) ≡ Ok y → (b ≡ true) × (x ≡ y)
     if_ok true x y h = let same : x ≡ y = cc in (refl, same)
     if_ok false x y h = cc
-
-no_names : (count : ℕ) → AreNames count []
-no_names count = record {
-  placed = λ k d below. absurd (omega arith);
-  once = λ i j d before below. absurd (omega arith);
-}
 
 body_is_spelled : (text : List ℕ) (first : ℕ) (line : TextLine) (others : List TextLine) (h : Header)
     (read : ReadCircuit) → lines_from first text ≡ line ∷ others → SpellsHeader (codes "aig") line.text h →

@@ -7,7 +7,6 @@ use Rattle.dq_text.specs.Line.{TextLine, line_tokens, lines_from}
 use Rattle.aiger_text.specs.Lines.{numbers_of, with_output, with_gate, output_line}
 use Rattle.aiger_text.specs.Scan.{LineFault}
 use Rattle.aiger_text.specs.declared.faults.AagFault.{AagFault}
-use Rattle.aiger_text.specs.declared.faults.AagFault.TheVariants.{Truncated}
 use Rattle.aiger_text.proofs.ReadNetlist.{output_number, reads_output}
 use Rattle.aig_binary.specs.BareReading.{AreNumbered}
 use Rattle.aig_binary.specs.Deltas.{and_then}
@@ -35,19 +34,6 @@ pub one_output : (more number : ℕ) (net made : Netlist) (bytes : List ℕ) (li
 one_output more number net made bytes line others lines read =
     ap (λ ls. first_output number net ls (outputs_on more number)) lines
     ∙ ap (λ r. on_line number r (λ n. outputs_on more number n line.behind)) read
-
-pub output_stops : (more number : ℕ) (net : Netlist) (bytes : List ℕ) (line : TextLine) (others : List TextLine)
-    (name : AagFault) → lines_from number bytes ≡ line ∷ others →
-    output_line net (numbers_of (line_tokens line.text)) ≡ Err name →
-    read_outputs (suc more) net number bytes ≡ Err (record { line = number; name = name })
-output_stops more number net bytes line others name lines read =
-    ap (λ ls. first_output number net ls (outputs_on more number)) lines
-    ∙ ap (λ r. on_line number r (λ n. outputs_on more number n line.behind)) read
-
-pub output_missing : (more number : ℕ) (net : Netlist) (bytes : List ℕ) → bytes ≡ [] →
-    read_outputs (suc more) net number bytes ≡ Err (record { line = number; name = Truncated })
-output_missing more number net bytes none =
-    ap (λ bs. first_output number net (lines_from number bs) (outputs_on more number)) none
 
 -- an output's line that is read adds one
 pub output_added : (net made : Netlist) (found : Option (List ℕ)) → output_line net found ≡ Ok made →

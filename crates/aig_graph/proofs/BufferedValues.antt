@@ -1,11 +1,12 @@
 -- Values that a buffer has.
 use Rattle.std.proofs.Common.{◌≡◌, ◌≢◌, ℕ, ◌+◌, ◌<◌, Bool, false, ◌&&◌, inl, inr, ◌⊎◌, List, length, refl, sym, ◌∙◌, ap, subst, arith, set, get_or-set_same, get_or-set_other, length-set, Some}
+use Rattle.list_laws.proofs.Numbers.{below_or_here}
 use Rattle.dq_lits.specs.Row.{bit_of}
 use Rattle.aig_graph.specs.declared.nodes.Node.{Node}
 use Rattle.aig_graph.specs.declared.nodes.Node.TheVariants.{Constant, Input, Gate}
 use Rattle.aig_graph.specs.declared.nodes.Sides.{Sides}
 use Rattle.aig_graph.specs.Graph.{AigGraph, with_sign, value_by, gate_value, IsEarlierNode, IsGraph, AreSides, gate_at, size_of}
-use Rattle.aig_graph.proofs.LargerGraphs.{gate_value_at, below_or_here}
+use Rattle.aig_graph.proofs.LargerGraphs.{gate_value_at}
 
 -- the first gates have their values
 pub record AreValues (graph : AigGraph) (old row buf : List Bool) (count : ℕ) : Type 0 where

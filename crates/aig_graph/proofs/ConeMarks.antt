@@ -5,6 +5,7 @@ use Rattle.std.specs.List.{Contains}
 use Rattle.std.proofs.lemmas.Bool.{false≢true, cases_Bool, eqb-true, eq-eqb}
 use Rattle.std.proofs.lemmas.List.{take_more}
 use Rattle.std.proofs.lemmas.List.Elements.{Contains-append_left, Contains-push, Contains-append_cases}
+use Rattle.list_laws.proofs.Options.{some_is}
 use Rattle.dq_lits.specs.Row.{bit_of}
 use Rattle.aig_graph.specs.declared.nodes.Node.{Node}
 use Rattle.aig_graph.specs.declared.nodes.Node.TheVariants.{Constant, Input, Gate}
@@ -13,9 +14,6 @@ use Rattle.aig_graph.specs.Graph.{AigGraph, IsEarlierNode, IsGraph, AreSides, ga
 use Rattle.aig_graph.specs.Marking.{IsInCone, root, left, right, AreRoots, HandsOn}
 use Rattle.aig_graph.proofs.Numbered.{gate_there, sides_are}
 use Rattle.aig_graph.proofs.LargerGraphs.{number_of}
-
-some_is : {X : Type 0} {x y : X} → Some x ≡ Some y → x ≡ y
-some_is e = cc
 
 abbrev IsSidePlace : AigGraph → Sides → ℕ → Type 0
 IsSidePlace graph s p = (place_of graph.inputs s.left ≡ Some p) ⊎ (place_of graph.inputs s.right ≡ Some p)

@@ -8,6 +8,7 @@ use Rattle.std.proofs.lemmas.Bool.{false≢true, cases_lt}
 use Rattle.std.proofs.lemmas.List.{get_or_push, get_or_past, length_push}
 use Rattle.std.proofs.lemmas.List.Elements.{All-push, Contains-push, Contains-append_left, Contains-append_cases, Contains-get_or}
 use Rattle.std.proofs.lemmas.List.Quantifiers.{all_pairs_push}
+use Rattle.list_laws.proofs.Options.{some_is}
 use Rattle.aig_graph.specs.declared.nodes.Node.{Node}
 use Rattle.aig_graph.specs.declared.nodes.Node.TheVariants.{Constant, Input, Gate}
 use Rattle.aig_graph.specs.declared.nodes.Sides.{Sides}
@@ -33,9 +34,6 @@ lowest gates count = get_or gates (length gates - 1) count
 
 abbrev pub IsAdded : Node → BTreeSet ℕ → BTreeSet ℕ → Type 0
 IsAdded node old new = (q : ℕ) → (Has new q ↔ (Has old q ⊎ (gate_of node ≡ Some q)))
-
-some_is : {X : Type 0} {x y : X} → Some x ≡ Some y → x ≡ y
-some_is e = cc
 
 pub gate_earlier : (inputs count g : ℕ) (node : Node) → IsEarlierNode inputs count node → gate_of node ≡ Some g →
     g < count

@@ -1,17 +1,15 @@
 -- What the nodes of a graph are worth and read, and that this stays as it grows.
-use Rattle.std.proofs.Common.{◌≡◌, ◌≢◌, ℕ, suc, ◌+◌, ◌≤◌, ◌<◌, ◌==◌, Bool, true, false, cond, ◌&&◌, inl, inr, ◌⊎◌, List, [], ◌∷◌, ◌++◌, length, Some, refl, sym, ◌∙◌, ap, subst, arith, append_assoc}
+use Rattle.std.proofs.Common.{◌≡◌, ℕ, suc, ◌≤◌, ◌<◌, ◌==◌, Bool, true, false, cond, ◌&&◌, inl, inr, List, [], ◌∷◌, ◌++◌, length, Some, refl, sym, ◌∙◌, ap, subst, arith, append_assoc}
 use Rattle.std.specs.List.{Contains}
-use Rattle.std.proofs.lemmas.Bool.{eqb-true, eq-eqb, ne_eqb, cond-false, false≢true}
+use Rattle.std.proofs.lemmas.Bool.{eqb-true, cond-false}
 use Rattle.std.proofs.lemmas.List.Elements.{Contains-append_cases}
+use Rattle.list_laws.proofs.Folds.{below-differs}
 use Rattle.aig_graph.specs.declared.nodes.Node.{Node}
 use Rattle.aig_graph.specs.declared.nodes.Node.TheVariants.{Constant, Input, Gate}
 use Rattle.aig_graph.specs.declared.nodes.Sides.{Sides}
-use Rattle.aig_graph.specs.Graph.{AigGraph, with_sign, value_by, gate_value, node_value, support_by, gate_support, node_support, IsEarlierNode, IsNode, AreSides, AreGates, IsGraph, AreSides, gate_at}
+use Rattle.aig_graph.specs.Graph.{AigGraph, with_sign, value_by, gate_value, node_value, support_by, gate_support, node_support, IsEarlierNode, IsNode, AreSides, AreGates, IsGraph, gate_at}
 use Rattle.aig_graph.proofs.Numbered.{sides_are}
 use Rattle.aig_graph.specs.Made.{Extends, HasMore, IsMade, sides_of}
-
-later_number : (g count : ℕ) → g < count → (g == count) ≡ false
-later_number g count below = ne_eqb g count (λ is. omega (arith, below, is))
 
 value_before : (m : ℕ → Bool) (inputs : ℕ) (s : Sides) (gates : List Sides) (n : Node) →
     IsEarlierNode inputs (length gates) n → value_by m (gate_value m (s ∷ gates)) n ≡ value_by m (gate_value m gates) n
@@ -19,7 +17,7 @@ value_before m inputs s gates (Constant b) earlier = refl
 value_before m inputs s gates (Input i negated) earlier = refl
 value_before m inputs s gates (Gate g negated) earlier =
     ap (with_sign negated) (cond-false (g == length gates) (value_by m (gate_value m gates) s.left && value_by m
-    (gate_value m gates) s.right) (gate_value m gates g) (later_number g (length gates) earlier))
+    (gate_value m gates) s.right) (gate_value m gates g) (below-differs g (length gates) earlier))
 
 support_before : (inputs : ℕ) (s : Sides) (gates : List Sides) (n : Node) → IsEarlierNode inputs (length gates) n →
     support_by (gate_support (s ∷ gates)) n ≡ support_by (gate_support gates) n
@@ -27,7 +25,7 @@ support_before inputs s gates (Constant b) earlier = refl
 support_before inputs s gates (Input i negated) earlier = refl
 support_before inputs s gates (Gate g negated) earlier =
     cond-false (g == length gates) (support_by (gate_support gates) s.left ++ support_by (gate_support gates) s.right)
-    (gate_support gates g) (later_number g (length gates) earlier)
+    (gate_support gates g) (below-differs g (length gates) earlier)
 
 pub more_earlier : (inputs count more : ℕ) → count ≤ more → (n : Node) → IsEarlierNode inputs count n →
     IsEarlierNode inputs more n
@@ -178,9 +176,13 @@ made_swapped old new a b n made = record {
   and_swapped false true = refl
   and_swapped false false = refl
 
--- below a number and one more
-pub below_or_here : (h g : ℕ) → h < g + 1 → (h < g) ⊎ (h ≡ g)
-below_or_here h g below = by (h == g) refl where
-  by : (b : Bool) → (h == g) ≡ b → (h < g) ⊎ (h ≡ g)
-  by true e = inr (eqb-true h g e)
-  by false e = let differ : h ≢ g = λ is. false≢true (sym e ∙ eq-eqb h g is) in inl (omega (arith, below, differ))
+pub grown_twice : (a b c : AigGraph) → Extends a b → Extends b c → Extends a c
+grown_twice a b c h k = record {
+  inputs = k.inputs ∙ h.inputs;
+  nodes = λ n is. k.nodes n (h.nodes n is);
+  values = λ n is m. k.values n (h.nodes n is) m ∙ h.values n is m;
+  supports = λ n is. k.supports n (h.nodes n is) ∙ h.supports n is;
+}
+
+pub extends-refl : (g : AigGraph) → Extends g g
+extends-refl g = record { inputs = refl; nodes = λ n is. is; values = λ n is inputs. refl; supports = λ n is. refl }

@@ -7,6 +7,6 @@ pub mod Supported
 mod ConeMarks
 mod Sides
 pub mod WrittenBits
-mod GatheredCones
+pub mod GatheredCones
 mod PutInNodes
 mod MadeGates

@@ -7,6 +7,7 @@ use Rattle.std.proofs.lemmas.Bool.{cases_lt, cases_eq, lt-ltb, le-ltb, ne_eqb}
 use Rattle.std.proofs.lemmas.List.{get_or_default}
 use Rattle.std.proofs.lemmas.Option.{slice_get-get_or, slice_get_within, get_or_from_slice_get}
 use Rattle.std.specs.declared.cmp.Ordering.TheVariants.{Less, Equal, Greater}
+use Rattle.list_laws.proofs.Options.{some_is}
 use Rattle.aig_graph.specs.declared.nodes.Node.{Node}
 use Rattle.aig_graph.specs.declared.nodes.Node.TheVariants.{Gate}
 use Rattle.aig_graph.specs.declared.nodes.Sides.{Sides}
@@ -24,9 +25,6 @@ pub record ArePutInFrom (old mid : AigGraph) (subs : List Node) (gates : List �
   pub grown : HasMore old mid
   pub within : at ≤ length gates
   pub each : (k g : ℕ) → at ≤ k → slice_get gates k ≡ Some g → HasPutIn mid subs made g
-
-some_is : {X : Type 0} {x y : X} → Some x ≡ Some y → x ≡ y
-some_is e = cc
 
 gate_before : (more gates : List Sides) (g : ℕ) (s : Sides) → gate_at gates g ≡ Some s →
     gate_at (more ++ gates) g ≡ Some s

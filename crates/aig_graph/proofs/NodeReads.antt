@@ -3,13 +3,15 @@ use Rattle.std.proofs.Common.{◌≡◌, ℕ, zero, suc, ◌+◌, ◌≤◌, ◌
 use Rattle.std.specs.Prelude.{◌↔◌}
 use Rattle.std.proofs.lemmas.Bool.{false≢true}
 use Rattle.std.proofs.lemmas.List.Elements.{Contains-append_cases, Contains-append_left, Contains-append_right}
+use Rattle.list_laws.proofs.Numbers.{below_or_here}
+use Rattle.list_laws.proofs.Options.{some_is}
 use Rattle.dq_lits.specs.Row.{bit_of}
 use Rattle.aig_graph.specs.declared.nodes.Node.{Node}
 use Rattle.aig_graph.specs.declared.nodes.Node.TheVariants.{Constant, Input, Gate}
 use Rattle.aig_graph.specs.declared.nodes.Sides.{Sides}
 use Rattle.aig_graph.specs.Graph.{AigGraph, node_support, gate_support, IsEarlierNode, IsNode, IsGraph, AreSides, gate_at, place_of, gate_count}
 use Rattle.aig_graph.specs.Marking.{IsReadFrom, IsReached}
-use Rattle.aig_graph.proofs.LargerGraphs.{gate_support_at, more_earlier, below_or_here}
+use Rattle.aig_graph.proofs.LargerGraphs.{gate_support_at, more_earlier}
 
 -- the node reads the inputs that are reached
 pub record AreMarks (graph : AigGraph) (n : Node) (old marks : List Bool) (count : ℕ) : Type 0 where
@@ -20,9 +22,6 @@ pub record AreMarks (graph : AigGraph) (n : Node) (old marks : List Bool) (count
 abbrev pub IsMarkedBy : AigGraph → List Bool → List Bool → Node → Type 0
 IsMarkedBy graph old new n = (p : ℕ) → ((bit_of new p ≡ true) ↔
     ((bit_of old p ≡ true) ⊎ (place_of graph.inputs n ≡ Some p)))
-
-some_is : {X : Type 0} {x y : X} → Some x ≡ Some y → x ≡ y
-some_is e = cc
 
 -- an input on its place, or a marked gate, that the node reads
 node_reaches : (graph : AigGraph) (count : ℕ) (marks : List Bool) (n : Node) → IsEarlierNode graph.inputs count n →

@@ -1,6 +1,7 @@
 -- A gate beside one of its sides.
 use Rattle.std.proofs.Common.{◌≡◌, ℕ, Bool, true, false, not, ◌&&◌, inl, inr, Option, None, Some, refl, sym, ◌∙◌, ap, subst, arith}
 use Rattle.std.specs.Prelude.{IfSome}
+use Rattle.list_laws.proofs.Truths.{and_turned}
 use Rattle.aig_graph.specs.declared.nodes.Node.{Node}
 use Rattle.aig_graph.specs.declared.nodes.Node.TheVariants.{Constant, Input, Gate}
 use Rattle.aig_graph.specs.declared.nodes.Sides.{Sides}
@@ -69,12 +70,6 @@ by_side_made graph g true part b rest is_gate is_b value Opposite is = record {
   reads = λ i has. inr has;
 }
 by_side_made graph g true part b rest is_gate is_b value Apart is = tt
-
-and_turned : (x y : Bool) → (x && y) ≡ (y && x)
-and_turned true true = refl
-and_turned true false = refl
-and_turned false true = refl
-and_turned false false = refl
 
 pub by_left : (graph : AigGraph) (g : ℕ) (negated : Bool) (s : Sides) (b : Node) → IsGraph graph →
     gate_at graph.gates g ≡ Some s → IsNode graph b → (side : Beside) → IsBeside s.left b side →

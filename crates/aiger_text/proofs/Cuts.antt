@@ -2,8 +2,9 @@
 use Rattle.std.proofs.Common.{◌≡◌, ◌≢◌, ℕ, ◌<◌, ◌≤◌, nat_lt, get_or, Bool, true, false, not, cond, List, [], ◌∷◌, ◌++◌, length, Some, None, refl, ◌∙◌, ap, arith, inl, inr}
 use Rattle.std.specs.List.{position, position_or_len}
 use Rattle.std.specs.Option.{unwrap_or}
-use Rattle.std.proofs.lemmas.Bool.{ne_eqb, ltb-false, lt-ltb, le-ltb, cases_Bool}
+use Rattle.std.proofs.lemmas.Bool.{ne_eqb, lt-ltb, le-ltb, cases_Bool}
 use Rattle.std.proofs.lemmas.List.Sums.{position_or_len_is}
+use Rattle.list_laws.proofs.Sequences.{position_chosen}
 use Rattle.aiger_text.specs.Lines.{keep_byte, without_end_crs}
 
 pub without_end_crs-push : (xs : List ℕ) → without_end_crs (xs ++ 13 ∷ []) ≡ without_end_crs xs
@@ -26,14 +27,8 @@ position-le p (x ∷ xs) =
       | inr none ↦ rw none (omega arith)
     ]
 
-choose : (p : ℕ → Bool) (xs : List ℕ) (b : Bool) → nat_lt (position_or_len p xs) (length xs) ≡ b →
-    position_or_len p xs ≤ length xs →
-    unwrap_or (cond b (Some (position_or_len p xs)) None) (length xs) ≡ position_or_len p xs
-choose p xs true found within = refl
-choose p xs false past within = let far = ltb-false (position_or_len p xs) (length xs) past in omega arith
-
 pub unwrap_position : (p : ℕ → Bool) (xs : List ℕ) → unwrap_or (position p xs) (length xs) ≡ position_or_len p xs
-unwrap_position p xs = choose p xs (nat_lt (position_or_len p xs) (length xs)) refl (position-le p xs)
+unwrap_position p xs = position_chosen p xs (nat_lt (position_or_len p xs) (length xs)) refl (position-le p xs)
 
 found : {X : Type 0} (p : X → Bool) (xs : List X) (i : ℕ) → position_or_len p xs ≡ i → (b : Bool) →
     nat_lt i (length xs) ≡ b →

@@ -8,7 +8,7 @@ mod LineNumbers
 mod NamedPlaces
 pub mod NaturalTokens
 mod NumberNames
-mod ReadIsSpelled
+pub mod ReadIsSpelled
 pub mod ReadNetlist
 pub mod ReadSymbols
 pub mod RemainingLines

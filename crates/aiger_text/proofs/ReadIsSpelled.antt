@@ -27,7 +27,7 @@ no_netlist h few = record {
   apart = λ k d below. absurd (omega arith);
 }
 
-no_names : (count : ℕ) → AreNames count []
+pub no_names : (count : ℕ) → AreNames count []
 no_names count = record {
   placed = λ k d below. absurd (omega arith);
   once =

@@ -3,6 +3,7 @@ use Rattle.std.proofs.Common.{◌≡◌, ℕ, ◌+◌, ◌==◌, Bool, false, no
 use Rattle.std.specs.List.{All, AllByRecursion, AllZip}
 use Rattle.std.proofs.lemmas.Bool.{cases_Bool, cond-true, cond-false, eqb-false}
 use Rattle.std.proofs.lemmas.List.Elements.{All-from_recursion}
+use Rattle.list_laws.proofs.Sequences.{all_behind, all_before}
 use Rattle.dq_text.specs.Line.{TextLine, extend_line, lines_from}
 use Rattle.dq_text.proofs.LineWords.{AreNoFeed}
 use Rattle.aiger_text.specs.Grammar.{names, SpellsSymbol, SpellSymbols, SpellsCircuit}
@@ -31,14 +32,6 @@ lines_no_feed n (byte ∷ bytes) =
       | inl feed ↦ subst Cut (sym feed) (tt, lines_no_feed (n + 1) bytes)
       | inr other ↦ subst Cut (sym other) (extended byte n (lines_from n bytes) other (lines_no_feed n bytes))
     ]
-
-behind_front : {X : Type 0} (P : X → Type 0) (xs ys : List X) → AllByRecursion P (xs ++ ys) → AllByRecursion P ys
-behind_front P [] ys all = all
-behind_front P (x ∷ xs) ys all = behind_front P xs ys all.1
-
-before_back : {X : Type 0} (P : X → Type 0) (xs ys : List X) → AllByRecursion P (xs ++ ys) → AllByRecursion P xs
-before_back P [] ys all = tt
-before_back P (x ∷ xs) ys all = (all.0, before_back P xs ys all.1)
 
 -- a name without the CRs at its end
 kept_no_feed : (byte : ℕ) (bytes : List ℕ) → (byte == 10) ≡ false → AreNoFeed bytes → AreNoFeed (keep_byte byte bytes)
@@ -69,7 +62,7 @@ cut_twice (byte ∷ bytes) = kept_twice byte (without_end_crs bytes) (cut_twice 
 symbol_named : (text : List ℕ) (s : SymbolLine) → AreNoFeed text → SpellsSymbol text s → IsName s.name
 symbol_named text s none spells =
     let whole = subst AreNoFeed spells.spelling none in
-    let rest = (behind_front (λ byte. (byte == 10) ≡ false) spells.digits (spells.separator ∷ spells.rest) whole.1).1 in
+    let rest = (all_behind (λ byte. (byte == 10) ≡ false) spells.digits (spells.separator ∷ spells.rest) whole.1).1 in
     let name = subst AreNoFeed (sym spells.name) (name_no_feed spells.rest rest) in
     record {
       some = spells.named;
@@ -109,9 +102,9 @@ pub spelled_is_spellable : (text : List ℕ) (file : AagFile) → SpellsCircuit 
 spelled_is_spellable text file spells =
     let P : TextLine → Type 0 = λ (l : TextLine). AreNoFeed l.text in
     let all = subst AreLines spells.lines (lines_no_feed 1 text) in
-    let behind = behind_front P spells.netlist_lines (spells.symbol_lines ++ spells.comment_lines) all.1 in
+    let behind = all_behind P spells.netlist_lines (spells.symbol_lines ++ spells.comment_lines) all.1 in
     let named = symbols_named spells.symbol_lines spells.symbols
-    (before_back P spells.symbol_lines spells.comment_lines behind) spells.symbols_spelled in
+    (all_before P spells.symbol_lines spells.comment_lines behind) spells.symbols_spelled in
     let inputs = All-from_recursion (λ x. IsName x.1) (names (λ s. s.of_input) spells.symbols)
     (names_named (λ s. s.of_input) spells.symbols named) in
     let outputs = All-from_recursion (λ x. IsName x.1) (names (λ s. not s.of_input) spells.symbols)

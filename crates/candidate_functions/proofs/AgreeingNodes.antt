@@ -6,6 +6,8 @@ use Rattle.std.proofs.lemmas.List.{get_or_past}
 use Rattle.std.proofs.lemmas.List.Elements.{All-contains, All-head, All-tail}
 use Rattle.std.proofs.lemmas.List.Folds.{list_any_at}
 use Rattle.std.proofs.lemmas.Option.{slice_get_within, get_or_from_slice_get}
+use Rattle.list_laws.proofs.Members.{mapped_from, all_from_contains, one_mapped}
+use Rattle.list_laws.proofs.Truths.{both_true}
 use Rattle.dq_lits.specs.Literal.{Assignment}
 use Rattle.dq_lits.specs.Formula.{Existential, Dqbf}
 use Rattle.dq_lits.specs.Henkin.{same_bit, same_bits, restriction}
@@ -26,8 +28,7 @@ use Rattle.candidate_functions.specs.Candidates.{SeesRow, AgreesAtPairs, Follows
 use Rattle.candidate_functions.specs.Pairs.{agrees, universal_places, has_bit, at_pair, IsPair, IsReadByPair, IsPatched, IsByRules, IsCandidate}
 use Rattle.candidate_functions.specs.Differing.{HasOwnPoint, HasPairOf, IsCovered}
 use Rattle.candidate_functions.specs.declared.cubes.Pair.{Pair}
-use Rattle.candidate_functions.proofs.RowCubes.{mapped_from}
-use Rattle.candidate_functions.proofs.DeclaredPlaces.{is_found, all_from_contains, all_mapped, one_mapped}
+use Rattle.candidate_functions.proofs.DeclaredPlaces.{is_found, all_mapped}
 use Rattle.candidate_functions.proofs.DefinedPoints.{same_bits_seen, none_at_zero}
 
 same_from : (a b : Bool) → same_bit a b ≡ true → b ≡ a
@@ -39,10 +40,6 @@ same_to : (a b : Bool) → b ≡ a → same_bit a b ≡ true
 same_to true b h = h
 same_to false true h = cc
 same_to false false h = refl
-
-both : (a b : Bool) → a ≡ true → b ≡ true → (a && b) ≡ true
-both true b h k = k
-both false b h k = cc
 
 cons_same : (a b : Bool) (as' bs : List Bool) → (a ∷ as') ≡ (b ∷ bs) → (a ≡ b) × (as' ≡ bs)
 cons_same a b as' bs h = (cc, cc)
@@ -71,7 +68,7 @@ module _ (f : Dqbf) (row : List Bool) (whole : length row ≡ length f.universal
   agreed (x ∷ xs) among h =
       let parts = cons_same (m x) (row_assignment f row x) (map m xs) (map (row_assignment f row) xs) h in
       let here = at x (All-head (Contains f.universals) x xs among) ∙ parts.0 ∙ sym (bit_is x) in
-      both (same_bit (bit_of row (place f.universals x)) (inputs (place f.universals x)))
+      both_true (same_bit (bit_of row (place f.universals x)) (inputs (place f.universals x)))
       (agrees (universal_places f xs) row inputs)
       (same_to (bit_of row (place f.universals x)) (inputs (place f.universals x)) here)
       (agreed xs (All-tail (Contains f.universals) x xs among) parts.1)
@@ -207,7 +204,7 @@ module _ (f : Dqbf) (rows : List (List Bool)) (points : PointBits) (y : Existent
           at_pair g (has_bit b points y.variable) pairs inputs ≡ true
       bit_there h b is =
           one_passes (λ q. has_bit b points y.variable q.round && node_value g inputs q.cube) pairs h.pair h.among
-          (both (has_bit b points y.variable h.pair.round) (node_value g inputs h.pair.cube)
+          (both_true (has_bit b points y.variable h.pair.round) (node_value g inputs h.pair.cube)
           (same_to b (points h.pair.round y.variable) (ap (λ r. points r y.variable) h.is ∙ first_bit ∙ is))
           (pair_holds h))
 

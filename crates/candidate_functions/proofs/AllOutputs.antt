@@ -6,6 +6,7 @@ use Rattle.std.proofs.lemmas.List.{get_or_push, length_push, get_or_default}
 use Rattle.std.proofs.Math.ListN.{get_or-append}
 use Rattle.std.proofs.lemmas.List.Elements.{All-contains, All-weaker}
 use Rattle.std.proofs.lemmas.Option.{slice_get-get_or}
+use Rattle.list_laws.proofs.Members.{element_at}
 use Rattle.dq_lits.specs.Literal.{Assignment}
 use Rattle.dq_lits.specs.Formula.{Existential, Dqbf}
 use Rattle.dq_formula.specs.Prefix.{IsLawful}
@@ -16,13 +17,14 @@ use Rattle.aig_graph.specs.Made.{Extends}
 use Rattle.aig_graph.specs.Outputs.{node_output, output_node, outputs_of, ReadDeclared}
 use Rattle.aig_graph.specs.declared.nodes.Node.{Node}
 use Rattle.aig_graph.specs.declared.nodes.Node.TheVariants.{Constant}
+use Rattle.aig_graph.proofs.LargerGraphs.{grown_twice}
 use Rattle.expansion.specs.Table.{PointBits}
 use Rattle.candidate_functions.specs.Candidates.{definition_of, AreDefinitions, AgreesAtPairs, FollowsRules, AgreeAtPairs, FollowRules}
 use Rattle.candidate_functions.specs.Pairs.{IsClass, IsByRules, AreByRules, IsFirstOutput, AreFirstOutputs}
 use Rattle.candidate_functions.specs.Settling.{HaveValues, IsOutput, AreOutputs}
 use Rattle.candidate_functions.specs.declared.classes.Class.{Class}
-use Rattle.definition_order.proofs.Declared.{contained_at, existential_at}
-use Rattle.candidate_functions.proofs.LargerGraphs.{extends-trans, rule_node_stays, first_output_stays}
+use Rattle.definition_order.proofs.Declared.{existential_at}
+use Rattle.candidate_functions.proofs.LargerGraphs.{rule_node_stays, first_output_stays}
 
 pub definition_there : (f : Dqbf) (ranks : List ℕ) → IsLawful f →
     (g : AigGraph) (definitions : List (Option Node)) (p : ℕ) (y : Existential) (node : Node) →
@@ -30,7 +32,7 @@ pub definition_there : (f : Dqbf) (ranks : List ℕ) → IsLawful f →
     → slice_get f.existentials p ≡ Some y → get_or definitions p None ≡ Some node → IsDefinition f ranks g y node
 definition_there f ranks lawful g definitions p y node are at is =
     All-contains (λ z. (n : Node) → definition_of f definitions z ≡ Some n → IsDefinition f ranks g z n) f.existentials
-    y are (contained_at f.existentials p y at) node
+    y are (element_at f.existentials p y at) node
     (ap (λ k. get_or definitions k None) (existential_at f lawful.prefix p y at) ∙ is)
 
 -- how far a walk over the existentials has come
@@ -52,7 +54,7 @@ pub output_added : (f : Dqbf) (rows : List (List Bool)) (points : PointBits) (de
     → OutputsSoFar f rows points definitions others old new after (nodes ++ node ∷ []) (count + 1)
 output_added f rows points definitions others old mid new classes after nodes count other node far grown are is
     candidate = record {
-      grown = extends-trans old mid new far.grown grown;
+      grown = grown_twice old mid new far.grown grown;
       are_classes = are;
       outputs = λ rules by.
           let before = far.outputs rules by in
@@ -130,7 +132,7 @@ module _ (f : Dqbf) (ranks : List ℕ) (lawful : IsLawful f) (rows : List (List 
     have_values : (y : Existential) → HaveValues f ranks g nodes y m
     have_values y q z at shared =
         All-contains (λ e. m e.variable ≡ (outputs_of f g nodes e).value m) f.existentials z same
-        (contained_at f.existentials q z at)
+        (element_at f.existentials q z at)
         ∙ ap (λ p. (node_output f g (get_or nodes p (Constant false))).value m) (existential_at f lawful.prefix q z at)
 
     pub are_defined : All (λ y. (node : Node) → definition_of f definitions y ≡ Some node →

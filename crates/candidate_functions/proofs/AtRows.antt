@@ -1,22 +1,19 @@
 -- Under a row of the table, with a model's bits at its pairs, a clause is true where its instance holds.
-use Rattle.std.proofs.Common.{◌≡◌, ℕ, suc, ◌+◌, ◌==◌, Bool, true, false, cond, not, List, [], ◌∷◌, ◌++◌, map, length, get_or, Option, None, Some, sym, ◌∙◌, ap, inl, inr, arith, refl, length-append}
+use Rattle.std.proofs.Common.{◌≡◌, ℕ, ◌+◌, Bool, true, false, cond, List, [], ◌∷◌, ◌++◌, map, length, get_or, Option, None, Some, sym, ◌∙◌, ap, inl, inr, arith, refl, length-append}
 use Rattle.std.specs.List.{Contains, list_any, filter_map, cons_option}
 use Rattle.std.specs.Option.{option_map}
 use Rattle.std.proofs.Math.ListN.{get_or-append}
-use Rattle.std.proofs.lemmas.Bool.{or_cases, or_left, or_right, and_parts, eqb-true}
+use Rattle.std.proofs.lemmas.Bool.{or_cases, or_left, or_right, and_parts}
 use Rattle.std.proofs.lemmas.List.{get_or-append-add, get_or-map, get_or_default, length-map}
-use Rattle.dq_lits.specs.Literal.{Assignment, Literal, positive, negative, variable_of, on_variable, literal_true, clause_true}
+use Rattle.list_laws.proofs.Members.{contains_listed}
+use Rattle.dq_lits.specs.Literal.{Assignment, Literal, variable_of, on_variable, literal_true, clause_true}
 use Rattle.dq_lits.specs.Formula.{Existential, Dqbf, is_universal, existential_of, HasLawfulPrefix}
 use Rattle.dq_lits.specs.Expansion.{row_assignment, pair_number, pair_literal, universal_literal_true, instance_clause, InstanceHolds}
-use Rattle.definition_order.proofs.Declared.{variable, find_sound}
+use Rattle.dq_lits.proofs.LiftedExpansion.{literal_true-agree}
+use Rattle.dq_lits.proofs.FormulaVariables.{find_sound}
+use Rattle.dq_lits.proofs.Truth.{literal_true-on_variable}
+use Rattle.definition_order.proofs.Declared.{variable}
 use Rattle.candidate_functions.specs.AtRow.{IsAtRow}
-
-any_is : (v : ℕ) (xs : List ℕ) → list_any (λ x. x == v) xs ≡ true → Contains xs v
-any_is v [] h = cc
-any_is v (x ∷ xs) h = elim (or_cases (x == v) (list_any (λ z. z == v) xs) h) [
-  | inl here ↦ (0, omega arith, eqb-true x v here)
-  | inr later ↦ (let r = any_is v xs later in let b = r.1 in (suc r.0, omega arith, r.2))
-]
 
 pub contains_mapped : (ys : List Existential) (y : Existential) → Contains ys y → Contains (map variable ys) y.variable
 contains_mapped ys y (k, below, is) = (
@@ -32,23 +29,13 @@ apart f lawful v y found universal =
     let us = f.universals in
     let es = map variable f.existentials in
     let own = find_sound v f.existentials y found in
-    let u = any_is v us universal in
+    let u = contains_listed v us universal in
     let e = contains_mapped f.existentials y own.0 in
     let left : get_or (us ++ es) u.0 0 ≡ v = get_or-append us es 0 u.0 u.1 ∙ get_or_default us u.0 0 v u.1 ∙ u.2 in
     let right : get_or (us ++ es) (length us + e.0) 0 ≡ y.variable =
     get_or-append-add us es e.0 0 ∙ get_or_default es e.0 0 y.variable e.1 ∙ e.2 in
     lawful.declared_once u.0 (length us + e.0) 0 (let a = u.1 in omega arith)
     (let b = e.1 in omega (arith, length-append us es)) (left ∙ sym own.1 ∙ sym right)
-
-literal_true-on : (m n : Assignment) (p : ℕ) (l : Literal) → m p ≡ n (variable_of l) →
-    literal_true m (on_variable p l) ≡ literal_true n l
-literal_true-on m n p (positive v) h = h
-literal_true-on m n p (negative v) h = ap not h
-
-literal_true-same : (m n : Assignment) (l : Literal) → m (variable_of l) ≡ n (variable_of l) →
-    literal_true m l ≡ literal_true n l
-literal_true-same m n (positive v) h = h
-literal_true-same m n (negative v) h = ap not h
 
 -- what is fixed while a row of the table is looked at
 abbrev pub AtRow : Dqbf → List (List Bool) → List Bool → Assignment → Assignment → Type 0
@@ -62,7 +49,7 @@ module _ (f : Dqbf) (rows : List (List Bool)) (row : List Bool) (m n : Assignmen
       (list_any (universal_literal_true f row) ls) h) [
         | inl here ↦ (
             let parts = and_parts (is_universal f (variable_of l)) (literal_true (row_assignment f row) l) here in
-            or_left (literal_true n l) (clause_true n ls) (literal_true-same n (row_assignment f row) l
+            or_left (literal_true n l) (clause_true n ls) (literal_true-agree n (row_assignment f row) l
             (t.universal (variable_of l) parts.0) ∙ parts.1))
         | inr later ↦ or_right (literal_true n l) (clause_true n ls) (by_universal ls later)
       ]
@@ -76,7 +63,7 @@ module _ (f : Dqbf) (rows : List (List Bool)) (row : List Bool) (m n : Assignmen
       elim (or_cases (literal_true m (on_variable (pair_number f rows row y) l))
       (clause_true m (filter_map (pair_literal f rows row) ls)) h) [
         | inl here ↦ or_left (literal_true n l) (clause_true n ls)
-            (sym (literal_true-on m n (pair_number f rows row y) l
+            (sym (literal_true-on_variable m n (pair_number f rows row y) l
             (sym (t.existential (variable_of l) y found))) ∙ here)
         | inr later ↦ or_right (literal_true n l) (clause_true n ls) (rest later)
       ]

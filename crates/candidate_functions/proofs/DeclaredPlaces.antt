@@ -1,10 +1,11 @@
 -- Each declared variable stands at one place, and what is read is read through the universals' places.
-use Rattle.std.proofs.Common.{◌≡◌, ℕ, ◌<◌, ◌==◌, true, List, map, length, get_or, slice_get, None, Some, position, sym, ◌∙◌, ap, subst, eq-eqb}
+use Rattle.std.proofs.Common.{◌≡◌, ℕ, ◌<◌, ◌==◌, true, List, map, length, get_or, slice_get, None, Some, position, sym, ◌∙◌, ap, eq-eqb}
 use Rattle.std.specs.List.{All, Contains}
 use Rattle.std.proofs.lemmas.List.{get_or-map, length-map}
-use Rattle.std.proofs.lemmas.List.Elements.{All-map, Contains-get_or}
+use Rattle.std.proofs.lemmas.List.Elements.{All-map}
 use Rattle.std.proofs.lemmas.List.Folds.{list_any_at}
 use Rattle.std.proofs.lemmas.Option.{slice_get_within, get_or_from_slice_get}
+use Rattle.list_laws.proofs.Members.{all_from_contains}
 use Rattle.dq_lits.specs.Formula.{Existential}
 use Rattle.dq_formula.proofs.Places.{has}
 use Rattle.definition_order.proofs.Declared.{variable, none_contained}
@@ -12,16 +13,8 @@ use Rattle.definition_order.proofs.Declared.{variable, none_contained}
 pub is_found : (xs : List ℕ) (v : ℕ) → Contains xs v → has xs v ≡ true
 is_found xs v (k, lt, at) = list_any_at (λ x. x == v) xs k v lt (eq-eqb (get_or xs k v) v at)
 
-pub all_from_contains : (P : ℕ → Type 0) (xs : List ℕ) → ((i : ℕ) → Contains xs i → P i) → All P xs
-all_from_contains P xs each k d lt = each (get_or xs k d) (Contains-get_or xs k d lt)
-
 pub all_mapped : (P : ℕ → Type 0) (g : ℕ → ℕ) (xs : List ℕ) → ((i : ℕ) → Contains xs i → P (g i)) → All P (map g xs)
 all_mapped P g xs each = All-map P g xs (all_from_contains (λ i. P (g i)) xs each)
-
-pub one_mapped : (P : ℕ → Type 0) (g : ℕ → ℕ) (xs : List ℕ) (i : ℕ) → All P (map g xs) → Contains xs i → P (g i)
-one_mapped P g xs i all (k, lt, at) =
-    let there : get_or (map g xs) k (g i) ≡ g i = get_or-map g xs k i (g i) lt ∙ ap g at in
-    subst P there (all k (g i) (rw (length-map xs g) lt))
 
 pub unplaced : (ys : List Existential) (w p : ℕ) (y : Existential) → position (λ v. v == w) (map variable ys) ≡ None →
     slice_get ys p ≡ Some y → w ≡ y.variable → ⊥

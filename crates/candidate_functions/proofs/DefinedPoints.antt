@@ -6,10 +6,12 @@ use Rattle.std.proofs.lemmas.Bool.{cases_Bool, cases_lt, lt-ltb, le-ltb}
 use Rattle.std.proofs.lemmas.List.{get_or-append-add, get_or-map, get_or_past, length-map}
 use Rattle.std.proofs.lemmas.List.Elements.{All-contains, Contains-get_or, Contains-append_left, Contains-append_right}
 use Rattle.std.proofs.lemmas.Option.{slice_get_within, get_or_from_slice_get, slice_get-get_or}
+use Rattle.list_laws.proofs.Members.{element_at, all_from_contains, one_mapped}
 use Rattle.dq_lits.specs.Literal.{Assignment}
 use Rattle.dq_lits.specs.Formula.{Existential, Dqbf, is_universal, existential_of, HasLawfulPrefix}
 use Rattle.dq_lits.specs.Henkin.{MatrixHolds}
 use Rattle.dq_lits.specs.Expansion.{row_assignment, pair_number, instance_clause, InstanceHolds}
+use Rattle.dq_lits.proofs.FormulaVariables.{find_sound}
 use Rattle.dq_formula.specs.Prefix.{IsLawful}
 use Rattle.aig_graph.specs.Graph.{AigGraph, node_value, node_support}
 use Rattle.aig_graph.specs.Outputs.{node_output}
@@ -18,8 +20,8 @@ use Rattle.expansion.specs.Table.{PointBits, ArePoints}
 use Rattle.candidate_functions.specs.AtRow.{IsAtRow}
 use Rattle.candidate_functions.specs.Candidates.{SeesRow, AgreesAtPairs}
 use Rattle.candidate_functions.proofs.AtRows.{contains_mapped, apart, AtRow, clause_holds}
-use Rattle.candidate_functions.proofs.DeclaredPlaces.{is_found, all_from_contains, all_mapped, one_mapped}
-use Rattle.definition_order.proofs.Declared.{variable, contained_at, find_sound, sees_universals}
+use Rattle.candidate_functions.proofs.DeclaredPlaces.{is_found, all_mapped}
+use Rattle.definition_order.proofs.Declared.{variable, sees_universals}
 use Rattle.defining_nodes.specs.Definitions.{input_variable, defining_output, IsDefinition}
 use Rattle.definition_order.specs.Order.{IsShared, MayRead}
 use Rattle.aig_graph.proofs.Supported.{node_same}
@@ -132,7 +134,7 @@ module _ (f : Dqbf) (ranks : List ℕ) (lawful : IsLawful f) (y : Existential)
   existential_read k z at may = by (subst (MayRead f ranks y) (last_variable k z at) may) where
     known : existential_of f z.variable ≡ Some z
     known = All-contains (λ e. existential_of f e.variable ≡ Some e) f.existentials z lawful.named
-        (contained_at f.existentials k z at)
+        (element_at f.existentials k z at)
 
     by : MayRead f ranks y z.variable → IsShared f ranks y z
     by (inl seen) = absurd (apart f lawful.prefix z.variable z known
@@ -275,6 +277,6 @@ module _ (f : Dqbf) (ranks : List ℕ) (lawful : IsLawful f) (y : Existential)
             n z.variable ≡ (node_output f g (output q)).value m
         shared q z there is_shared =
             let known = All-contains (λ e. existential_of f e.variable ≡ Some e) f.existentials z lawful.named
-            (contained_at f.existentials q z there) in
-            t.existential z.variable z known ∙ sym (point z (contained_at f.existentials q z there)) ∙ sym
+            (element_at f.existentials q z there) in
+            t.existential z.variable z known ∙ sym (point z (element_at f.existentials q z there)) ∙ sym
             (agree q z there is_shared k row m at (sees_row_too f y z row m is_shared.sees_no_more sees))

@@ -1,5 +1,5 @@
 -- What stays as a graph grows.
-use Rattle.std.proofs.Common.{ℕ, Bool, List, Option, map, refl, sym, ◌∙◌, subst, slice_index, get_or}
+use Rattle.std.proofs.Common.{ℕ, Bool, List, Option, map, sym, ◌∙◌, subst, slice_index, get_or}
 use Rattle.std.specs.List.{All, Contains}
 use Rattle.std.proofs.lemmas.List.Elements.{All-weaker}
 use Rattle.dq_lits.specs.Formula.{Existential, Dqbf}
@@ -15,22 +15,6 @@ use Rattle.candidate_functions.specs.Candidates.{AreDefinitions, IsGuess, AreGue
 use Rattle.candidate_functions.specs.Pairs.{IsRowCube, IsPair, universal_places, IsPlacedClass, IsClass, IsByRules, IsCandidate, IsFirstOutput}
 use Rattle.candidate_functions.specs.declared.classes.Class.{Class}
 use Rattle.candidate_functions.specs.declared.cubes.Pair.{Pair}
-
-pub extends-refl : (g : AigGraph) → Extends g g
-extends-refl g = record {
-  inputs = refl;
-  nodes = λ n h. h;
-  values = λ n h m. refl;
-  supports = λ n h. refl;
-}
-
-pub extends-trans : (a b c : AigGraph) → Extends a b → Extends b c → Extends a c
-extends-trans a b c h k = record {
-  inputs = k.inputs ∙ h.inputs;
-  nodes = λ n is. k.nodes n (h.nodes n is);
-  values = λ n is m. k.values n (h.nodes n is) m ∙ h.values n is m;
-  supports = λ n is. k.supports n (h.nodes n is) ∙ h.supports n is;
-}
 
 module _ (old new : AigGraph) (h : Extends old new) where
   pub cube_stays : (places : List ℕ) (row : List Bool) (n : Node) → IsRowCube old places row n →

@@ -7,10 +7,10 @@ use Rattle.std.proofs.lemmas.List.Elements.{Contains-append_left, Contains-push}
 use Rattle.aig_graph.specs.Graph.{AigGraph, node_value, node_support, IsNode}
 use Rattle.aig_graph.specs.Made.{Extends, IsMade}
 use Rattle.aig_graph.specs.declared.nodes.Node.{Node}
+use Rattle.aig_graph.proofs.LargerGraphs.{grown_twice}
 use Rattle.expansion.specs.Table.{PointBits}
 use Rattle.candidate_functions.specs.Pairs.{at_pair, has_bit, IsReadByPair, IsWith, IsAtPair, IsMasked, IsPatched}
 use Rattle.candidate_functions.specs.declared.cubes.Pair.{Pair}
-use Rattle.candidate_functions.proofs.LargerGraphs.{extends-trans}
 
 pub with_one : (old new : AigGraph) (made : Node) (bit : Bool) (cube node : Node) → bit ≡ true →
     IsMade (λ x y. x || y) old new made cube node → IsWith old new made bit cube node
@@ -45,7 +45,7 @@ one_pair_more old mid new bits pairs i d made node bit below cube is far grown w
     let p = get_or pairs i d in
     let here : take (i + 1) pairs ≡ take i pairs ++ p ∷ [] = take_more pairs i d below in
     record {
-      grown = extends-trans old mid new far.grown grown;
+      grown = grown_twice old mid new far.grown grown;
       at = record {
         is_node = with.is_node;
         value = λ inputs.

@@ -1,10 +1,11 @@
 -- The pairs at which a node is patched, and the cubes of a class.
-use Rattle.std.proofs.Common.{◌≡◌, ℕ, zero, suc, ◌+◌, ◌-◌, ◌<◌, ◌≤◌, Bool, List, [], ◌∷◌, ◌++◌, length, take, get_or, set, slice_get, slice_index, Option, None, Some, sym, ◌∙◌, ap, subst, inl, inr, ◌⊎◌, arith}
+use Rattle.std.proofs.Common.{◌≡◌, ℕ, ◌+◌, ◌-◌, ◌<◌, ◌≤◌, Bool, List, [], ◌∷◌, ◌++◌, length, take, get_or, set, slice_get, slice_index, Option, None, Some, sym, ◌∙◌, ap, subst, inl, inr, arith}
 use Rattle.std.specs.List.{All, Contains}
 use Rattle.std.proofs.lemmas.Bool.{cases_eq}
 use Rattle.std.proofs.lemmas.List.{take_more, get_or-set_same, get_or-set_other, length-set, get_or_default}
 use Rattle.std.proofs.lemmas.List.Elements.{All-push, All-weaker, Contains-append_left, Contains-push}
 use Rattle.std.proofs.lemmas.Option.{slice_get_within, get_or_from_slice_get, slice_get-get_or}
+use Rattle.list_laws.proofs.Members.{last_or_inside}
 use Rattle.aig_graph.specs.Graph.{AigGraph, IsNode}
 use Rattle.aig_graph.specs.Made.{Extends}
 use Rattle.aig_graph.specs.declared.nodes.Node.{Node}
@@ -14,15 +15,6 @@ use Rattle.candidate_functions.specs.Pairs.{IsRowCube, IsPair, AreRounds, ArePai
 use Rattle.candidate_functions.specs.declared.classes.Class.{Class}
 use Rattle.candidate_functions.specs.declared.cubes.Pair.{Pair}
 use Rattle.candidate_functions.proofs.LargerGraphs.{pairs_stay, placed_stays}
-
-one_of : (xs : List ℕ) (x z : ℕ) → Contains (xs ++ x ∷ []) z → Contains xs z ⊎ (x ≡ z)
-one_of [] x z (zero, below, is) = inr is
-one_of [] x z (suc k, below, is) = absurd (omega (arith, below))
-one_of (w ∷ xs) x z (zero, below, is) = inl (0, omega arith, is)
-one_of (w ∷ xs) x z (suc k, below, is) = elim (one_of xs x z (k, omega (arith, below), is)) [
-  | inl there ↦ inl (let (j, b, at) = there in (suc j, omega (arith, b), at))
-  | inr last ↦ inr last
-]
 
 -- the cube of a round's row
 pub own_cube : (rows : List (List Bool)) (g : AigGraph) (places rounds : List ℕ) (i round : ℕ) (first row : List Bool)
@@ -108,7 +100,7 @@ module _ (rows values : List (List Bool)) (points : PointBits) (places : List �
       → ArePatches rows values points g places y place (take (i + 1) rounds) pairs
   one_known g pairs are known = record {
     each = are.each;
-    others = λ r has. elim (one_of (take i rounds) here r (subst (λ rs. Contains rs r) taken has)) [
+    others = λ r has. elim (last_or_inside (take i rounds) here r (subst (λ rs. Contains rs r) taken has)) [
       | inl before ↦ are.others r before
       | inr own ↦ inr (subst (HasKnownPoint values points y place) own known)
     ];
@@ -129,7 +121,7 @@ module _ (rows values : List (List Bool)) (points : PointBits) (places : List �
       (pairs ++ p ∷ [])
   one_patched old new pairs p grown are round is = record {
     each = All-push (IsPair rows new places) pairs p (pairs_stay old new grown rows places pairs are.each) is;
-    others = λ r has. elim (one_of (take i rounds) here r (subst (λ rs. Contains rs r) taken has)) [
+    others = λ r has. elim (last_or_inside (take i rounds) here r (subst (λ rs. Contains rs r) taken has)) [
       | inl before ↦ (elim (are.others r before) [
         | inl pair ↦ inl (more pairs p r pair)
         | inr known ↦ inr known

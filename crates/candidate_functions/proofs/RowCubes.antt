@@ -1,28 +1,15 @@
 -- Cubes of rows.
-use Rattle.std.proofs.Common.{◌≡◌, ℕ, zero, suc, ◌<◌, Bool, true, false, not, ◌&&◌, List, [], ◌∷◌, map, Some, refl, sym, ◌∙◌, ap, subst, arith, slice_get}
+use Rattle.std.proofs.Common.{◌≡◌, ℕ, ◌<◌, Bool, true, false, not, ◌&&◌, List, [], ◌∷◌, map, Some, refl, sym, ◌∙◌, ap, subst, slice_get}
 use Rattle.std.specs.List.{All, Contains, list_all}
 use Rattle.std.proofs.lemmas.List.Elements.{All-map}
 use Rattle.std.proofs.lemmas.Option.{slice_get_within, get_or_from_slice_get}
+use Rattle.list_laws.proofs.Members.{mapped_from, only_one}
 use Rattle.dq_lits.specs.Henkin.{same_bit}
 use Rattle.dq_lits.specs.Row.{bit_of}
 use Rattle.aig_graph.specs.Graph.{AigGraph, with_sign, node_value, node_support, IsNode}
 use Rattle.aig_graph.specs.Made.{IsCube}
 use Rattle.aig_graph.specs.declared.nodes.Node.{Node}
 use Rattle.candidate_functions.specs.Pairs.{agrees, row_literal, IsRowCube}
-
--- an element of a mapped list comes from one of the list
-pub mapped_from : {X Y : Type 0} (f : X → Y) (xs : List X) (y : Y) → Contains (map f xs) y →
-    (x : X) × Contains xs x × (f x ≡ y)
-mapped_from f [] y (k, below, is) = absurd (omega (arith, below))
-mapped_from f (x ∷ xs) y (zero, below, is) = (x, (0, omega arith, refl), is)
-mapped_from f (x ∷ xs) y (suc k, below, is) =
-    let r = mapped_from f xs y (k, omega (arith, below), is) in
-    let c = r.1 in
-    (r.0, (suc c.0, (let b = c.1 in omega (arith, b)), c.2), r.2)
-
-pub only_one : (p i : ℕ) → Contains (p ∷ []) i → p ≡ i
-only_one p i (zero, below, is) = is
-only_one p i (suc k, below, is) = absurd (omega (arith, below))
 
 signed : (b x : Bool) → with_sign (not b) x ≡ same_bit b x
 signed true x = refl

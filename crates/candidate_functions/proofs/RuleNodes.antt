@@ -7,6 +7,7 @@ use Rattle.std.proofs.lemmas.Bool.{cases_eq, ne_eqb}
 use Rattle.std.proofs.lemmas.List.{get_or-set_same, get_or-set_other, get_or_default}
 use Rattle.std.proofs.lemmas.List.Elements.{All-contains}
 use Rattle.std.proofs.lemmas.Option.{slice_get_within, get_or_from_slice_get}
+use Rattle.list_laws.proofs.Members.{mapped_from, only_one, one_mapped}
 use Rattle.dq_lits.specs.Literal.{Assignment, Literal, positive, negative, variable_of, literal_true}
 use Rattle.dq_lits.specs.Formula.{Existential, Dqbf, existential_of}
 use Rattle.dq_formula.specs.Prefix.{IsLawful, existential_variables}
@@ -18,11 +19,11 @@ use Rattle.aig_graph.specs.Graph.{AigGraph, node_value, node_support, IsNode}
 use Rattle.aig_graph.specs.Made.{Extends, IsCube, IsChosen}
 use Rattle.aig_graph.specs.declared.nodes.Node.{Node}
 use Rattle.aig_graph.specs.declared.nodes.Node.TheVariants.{Constant}
+use Rattle.aig_graph.proofs.LargerGraphs.{grown_twice}
 use Rattle.candidate_functions.specs.Pairs.{input_literal, IsCubeNode, IsByRules, AreByRules}
-use Rattle.candidate_functions.proofs.RowCubes.{mapped_from, only_one}
-use Rattle.candidate_functions.proofs.DeclaredPlaces.{is_found, all_mapped, one_mapped, unplaced}
+use Rattle.candidate_functions.proofs.DeclaredPlaces.{is_found, all_mapped, unplaced}
 use Rattle.definition_order.proofs.Declared.{one_place, placed}
-use Rattle.candidate_functions.proofs.LargerGraphs.{extends-trans, rule_node_stays}
+use Rattle.candidate_functions.proofs.LargerGraphs.{rule_node_stays}
 
 pub input_literal_is_node : (f : Dqbf) (g : AigGraph) (l : Literal) → length f.universals ≤ g.inputs →
     Contains f.universals (variable_of l) → IsNode g (input_literal f l)
@@ -144,7 +145,7 @@ rule_put f old mid new rule later nodes p cube node lawful is found grown more m
         let d = placed f.existentials rule.y p y found in
         let apart : rule.y ≡ y.variable → ⊥ = λ same. other (one_place f lawful.prefix q p y d.0 at d.1
         (sym same ∙ sym d.2)) in
-        let before = rule_node_stays old new (extends-trans old mid new grown more) f later y
+        let before = rule_node_stays old new (grown_twice old mid new grown more) f later y
         (get_or nodes q (Constant false)) (are.each q y at) in
         subst (IsByRules f new (rule ∷ later) y) (sym (get_or-set_other nodes p q node (Constant false) other))
         (by_other_rule f new rule later y (get_or nodes q (Constant false)) apart before))

@@ -5,6 +5,7 @@ use Rattle.std.proofs.lemmas.Bool.{cases_eq}
 use Rattle.std.proofs.lemmas.List.{length-set, length-take, take_more, take_all, get_or_default, get_or-set_same, get_or-set_other}
 use Rattle.std.proofs.lemmas.List.Elements.{Contains-append_cases}
 use Rattle.std.proofs.lemmas.Option.{slice_get_within, get_or_from_slice_get, slice_get-get_or}
+use Rattle.list_laws.proofs.Members.{element_at}
 use Rattle.dq_lits.specs.Literal.{Assignment}
 use Rattle.dq_lits.specs.Formula.{Existential, Dqbf, existential_of}
 use Rattle.dq_formula.specs.Prefix.{IsLawful}
@@ -14,7 +15,8 @@ use Rattle.aig_graph.specs.Made.{Extends}
 use Rattle.aig_graph.specs.Outputs.{node_output}
 use Rattle.aig_graph.specs.declared.nodes.Node.{Node}
 use Rattle.aig_graph.specs.declared.nodes.Node.TheVariants.{Constant}
-use Rattle.definition_order.proofs.Declared.{contained_at, named_at}
+use Rattle.aig_graph.proofs.LargerGraphs.{grown_twice}
+use Rattle.definition_order.proofs.Declared.{named_at}
 use Rattle.defining_nodes.specs.Definitions.{input_variable, defining_output, IsDefinition}
 use Rattle.definition_order.specs.Order.{ComesBefore, IsShared, AreInOrder}
 use Rattle.expansion.specs.Table.{PointBits, ArePoints}
@@ -23,7 +25,7 @@ use Rattle.candidate_functions.specs.Pairs.{AreFirstOutputs}
 use Rattle.candidate_functions.specs.Settling.{HasPutAt, IsPutAt, HaveValues, IsOutput, IsSettled, AreSettled, AreOutputs}
 use Rattle.candidate_functions.proofs.AllOutputs.{definition_there}
 use Rattle.candidate_functions.proofs.DefinedPoints.{value_put_in, made_reads, made_at_pairs}
-use Rattle.candidate_functions.proofs.LargerGraphs.{extends-trans, definitions_stay, support_stays}
+use Rattle.candidate_functions.proofs.LargerGraphs.{definitions_stay, support_stays}
 
 -- how far the order was gone through
 pub record AreSettledSoFar (f : Dqbf) (ranks : List ℕ) (definitions : List (Option Node)) (old mid : AigGraph)
@@ -148,7 +150,7 @@ module _ (f : Dqbf) (ranks : List ℕ) (lawful : IsLawful f) (definitions : List
           (λ r z at_r shared. (output r z at_r shared).reads));
       at_pairs = λ k row m at_k sees. ap (λ n. (node_output f h n).value m) here
           ∙ made_at_pairs f ranks lawful y own g d nodes def inputs long h there.node there.put_in
-          (λ r z at_r shared. (output r z at_r shared).reads) rows points model (contained_at f.existentials q y at)
+          (λ r z at_r shared. (output r z at_r shared).reads) rows points model (element_at f.existentials q y at)
           (λ r z at_r shared. (output r z at_r shared).at_pairs) k row m at_k sees;
       by_rules = λ none. absurd (let e : None ≡ Some d = sym none ∙ is in cc);
       defined = λ e is_e m have.
@@ -228,7 +230,7 @@ module _ (f : Dqbf) (ranks : List ℕ) (lawful : IsLawful f) (definitions : List
 
 pub order_within : (f : Dqbf) (ranks : List ℕ) (order : List ℕ) (at q : ℕ) → AreInOrder f ranks order →
     slice_get order at ≡ Some q → q < length f.existentials
-order_within f ranks order at q are here = (are.each q).0 (contained_at order at q here)
+order_within f ranks order at q are here = (are.each q).0 (element_at order at q here)
 
 -- one place more of the order
 pub settled_more : (f : Dqbf) (ranks : List ℕ) → IsLawful f →
@@ -241,7 +243,7 @@ pub settled_more : (f : Dqbf) (ranks : List ℕ) → IsLawful f →
     → AreSettledSoFar f ranks definitions old new before after (take (at + 1) order)
 settled_more f ranks lawful definitions old mid new before nodes after order at q are inputs in_order here far grown put
     = record {
-      grown = extends-trans old mid new far.grown grown;
+      grown = grown_twice old mid new far.grown grown;
       one_each = after_long f ranks lawful definitions mid new nodes after
           (take at order) q grown are_mid inputs_mid far.one_each far.are_nodes closed fresh put ∙ far.one_each;
       are_nodes = after_nodes f ranks lawful definitions mid new nodes after

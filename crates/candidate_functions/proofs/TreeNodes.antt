@@ -1,11 +1,12 @@
 -- Nodes over what an existential sees.
-use Rattle.std.proofs.Common.{◌≡◌, ℕ, ◌+◌, ◌-◌, ◌<◌, ◌≤◌, Bool, false, List, [], ◌∷◌, ◌++◌, length, get_or, set, slice_get, slice_index, Option, None, Some, IfSome, sym, ◌∙◌, ap, subst, inl, inr, arith}
+use Rattle.std.proofs.Common.{◌≡◌, ℕ, ◌+◌, ◌-◌, ◌<◌, ◌≤◌, Bool, false, List, [], ◌∷◌, ◌++◌, length, get_or, set, slice_get, slice_index, Option, None, Some, sym, ◌∙◌, ap, subst, inl, inr, arith}
 use Rattle.std.specs.List.{All, Contains}
 use Rattle.std.proofs.lemmas.Bool.{cases_lt}
 use Rattle.std.proofs.lemmas.List.{get_or_past, get_or-map, length-map, length-set, length_push, get_or_push}
 use Rattle.std.proofs.Math.ListN.{get_or-append}
 use Rattle.std.proofs.lemmas.List.Elements.{All-set, All-contains}
 use Rattle.std.proofs.lemmas.Option.{slice_get_within, slice_get_cases}
+use Rattle.list_laws.proofs.Members.{mapped_from, element_at, only_one}
 use Rattle.dq_lits.specs.Formula.{Existential, Dqbf, existential_of}
 use Rattle.dq_formula.specs.Prefix.{IsLawful}
 use Rattle.dq_formula.proofs.Places.{place}
@@ -14,13 +15,13 @@ use Rattle.aig_graph.specs.Graph.{AigGraph, IsNode, node_support}
 use Rattle.aig_graph.specs.Made.{Extends, IsChosen}
 use Rattle.aig_graph.specs.declared.nodes.Node.{Node}
 use Rattle.aig_graph.specs.declared.nodes.Node.TheVariants.{Constant, Input}
-use Rattle.definition_order.proofs.Declared.{contained_at, existential_at, sees_universals}
+use Rattle.aig_graph.proofs.LargerGraphs.{grown_twice}
+use Rattle.definition_order.proofs.Declared.{existential_at, sees_universals}
 use Rattle.candidate_functions.specs.Candidates.{definition_of, IsGuess, AreGuesses}
 use Rattle.candidate_functions.specs.Pairs.{universal_places, IsByRules, AreByRules}
 use Rattle.candidate_functions.specs.Trees.{IsOver}
-use Rattle.candidate_functions.proofs.RowCubes.{only_one, mapped_from}
 use Rattle.candidate_functions.proofs.DeclaredPlaces.{is_found, all_mapped}
-use Rattle.candidate_functions.proofs.LargerGraphs.{extends-trans, rule_node_stays}
+use Rattle.candidate_functions.proofs.LargerGraphs.{rule_node_stays}
 
 pub over_stays : (old new : AigGraph) → Extends old new → (places : List ℕ) (n : Node) → IsOver old places n →
     IsOver new places n
@@ -90,17 +91,13 @@ pub tree_more : (old mid new : AigGraph) (places : List ℕ) (at : ℕ) (nodes :
     TreeSoFar old mid places at nodes → Extends mid new → IsOver new places n
     → TreeSoFar old new places (at - 1) (set nodes (at - 1) n)
 tree_more old mid new places at nodes n some far grown is = record {
-  grown = extends-trans old mid new far.grown grown;
+  grown = grown_twice old mid new far.grown grown;
   within = (let w = far.within in let s = length-set nodes (at - 1) n in omega arith);
   over = put_over new places nodes (at - 1) n (all_over_stay mid new grown places nodes far.over) is;
 }
 
 none_is : {X : Type 0} (x : X) → None ≡ Some x → ⊥
 none_is x e = cc
-
-pub seen_told : (f : Dqbf) (v : ℕ) (seen : List ℕ) → IfSome (existential_of f v) (λ e. seen ≡ e.sees) →
-    (e : Existential) → existential_of f v ≡ Some e → seen ≡ e.sees
-seen_told f v seen told e found = subst (λ o. IfSome o (λ z. seen ≡ z.sees)) found told
 
 -- without rules nothing is said of its values
 pub unruled : (f : Dqbf) → IsLawful f → (v : ℕ) (y : Existential) → existential_of f v ≡ Some y →
@@ -129,7 +126,7 @@ guess_there f lawful g guesses p y n are at is = record {
 } where
   guess : IsGuess f g y n
   guess = All-contains (λ z. (m : Node) → definition_of f guesses z ≡ Some m → IsGuess f g z m) f.existentials y are
-      (contained_at f.existentials p y at) n
+      (element_at f.existentials p y at) n
       (ap (λ k. get_or guesses k None) (existential_at f lawful.prefix p y at) ∙ is)
 
 -- the guess of an existential is a node
@@ -139,14 +136,6 @@ guess_is_node f lawful g guesses p n are below is = let (_, cases) = slice_get_c
   | inl found ↦ let (y, _, at, _) = found in (guess_there f lawful g guesses p y n are at is).is_node
   | inr past ↦ let (least, _) = past in absurd (omega (arith, below, least))
 ]
-
--- a constant reads nothing
-pub unruled_constant : (f : Dqbf) (g : AigGraph) (y : Existential) (b : Bool) → IsByRules f g [] y (Constant b)
-unruled_constant f g y b = record {
-  is_node = tt;
-  value = λ m bit first. absurd (none_is bit first);
-  reads = λ k d below. absurd (omega (arith, below));
-}
 
 -- the nodes of the first existentials
 pub record NodesSoFar (f : Dqbf) (old new : AigGraph) (count : ℕ) (nodes : List Node) : Type 0 where
@@ -160,7 +149,7 @@ pub node_more : (f : Dqbf) (old mid new : AigGraph) (count : ℕ) (nodes : List 
     → ((y : Existential) → slice_get f.existentials count ≡ Some y → IsByRules f new [] y n) →
     NodesSoFar f old new (count + 1) (nodes ++ n ∷ [])
 node_more f old mid new count nodes n far grown is = record {
-  grown = extends-trans old mid new far.grown grown;
+  grown = grown_twice old mid new far.grown grown;
   one_each = length_push nodes n ∙ ap (λ k. k + 1) far.one_each;
   each = λ p y below at. elim (cases_lt p count) [
     | inl early ↦ subst (IsByRules f new [] y) (sym (get_or-append nodes (n ∷ []) (Constant false) p

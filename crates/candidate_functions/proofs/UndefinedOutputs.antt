@@ -2,7 +2,9 @@
 use Rattle.std.proofs.Common.{◌≡◌, ℕ, ◌+◌, ◌-◌, ◌<◌, Bool, true, false, not, ◌&&◌, ◌||◌, List, [], length, slice_get, Some, Result, Ok, Err, OnOk, refl, sym, subst, inl, inr, arith}
 use Rattle.std.specs.List.{All}
 use Rattle.std.proofs.lemmas.Option.{slice_get_within}
+use Rattle.list_laws.proofs.Members.{place_of}
 use Rattle.dq_lits.specs.Formula.{Existential, Dqbf, existential_of}
+use Rattle.dq_lits.proofs.FormulaVariables.{find_sound}
 use Rattle.dq_formula.specs.Prefix.{IsLawful}
 use Rattle.dq_formula.specs.declared.rules.Rule.{Rule}
 use Rattle.aig_graph.specs.Graph.{AigGraph, IsNode, node_value}
@@ -13,7 +15,7 @@ use Rattle.candidate_functions.specs.Pairs.{universal_places, ArePairRounds, IsP
 use Rattle.candidate_functions.specs.Differing.{HasKnownPoint, HasOwnPoint, IsKnownRightly, HasPairOf, ArePatches, IsCovered}
 use Rattle.candidate_functions.specs.declared.cubes.Pair.{Pair}
 use Rattle.candidate_functions.proofs.AgreeingNodes.{AtExistential, same_point, patched_is_candidate}
-use Rattle.definition_order.proofs.Declared.{at_contained, find_sound, sees_universals}
+use Rattle.definition_order.proofs.Declared.{sees_universals}
 use Rattle.candidate_functions.proofs.LargerGraphs.{rule_node_stays}
 use Rattle.candidate_functions.proofs.KnownPoints.{known_stays}
 use Rattle.candidate_functions.proofs.RowCubes.{agrees-refl}
@@ -22,7 +24,7 @@ at_existential : (f : Dqbf) → IsLawful f → (rows : List (List Bool)) (points
     All (λ row. length row ≡ length f.universals) rows → ArePoints f rows points
     → (v : ℕ) (y : Existential) → existential_of f v ≡ Some y → AtExistential f rows points y
 at_existential f lawful rows points whole are v y found =
-    let own = at_contained f.existentials y (find_sound v f.existentials y found).0 in
+    let own = place_of f.existentials y (find_sound v f.existentials y found).0 in
     record {
       among = sees_universals f lawful v y found;
       whole = whole;

@@ -6,12 +6,12 @@ use Rattle.std.proofs.lemmas.List.{get_or_append_left}
 use Rattle.std.proofs.lemmas.Option.{slice_get_within}
 use Rattle.dq_lits.specs.Literal.{Literal, positive, same_literal}
 use Rattle.dq_lits.specs.Derivation.{holds}
+use Rattle.dq_lits.proofs.HeldLiterals.{held_of_all}
 use Rattle.cdcl_core.specs.declared.watches.Watches.{Watches}
 use Rattle.cdcl_core.specs.Chains.{watch_at, place_of}
 use Rattle.cdcl_core.specs.Watching.{IsWatched, AreWatched, AreShort, NotesShort}
 use Rattle.cdcl_core.specs.Visits.{AreListed}
 use Rattle.cdcl_core.specs.Storage.{Stored, IsListed, HasLists}
-use Rattle.learning_trail.proofs.FoundModels.{of_all}
 use Rattle.learning_trail.proofs.Lessons.{live_more}
 use Rattle.cdcl_core.proofs.VisitedClauses.{contains_last}
 
@@ -121,9 +121,9 @@ short_more clauses first second old new c k l id notes count count' last noted =
 -- of all literals of the clause there is a list
 pub list_of : (n : ℕ) (c : List Literal) → All (λ l. place_of l + 1 ≤ n) c → (l : Literal) → holds c l ≡ true →
     place_of l + 1 ≤ n
-list_of n c all l h = of_all (λ k. place_of k + 1 ≤ n) c all l h
+list_of n c all l h = held_of_all (λ k. place_of k + 1 ≤ n) c all l h
 
 pub listed_one : (s : Stored) (c : List Literal) (l : Literal) → HasLists s c → (l ≡ positive 1) ⊎ (holds c l ≡ true) →
     IsListed s l
 listed_one s c l lists (inl e) = subst (IsListed s) (sym e) lists.some
-listed_one s c l lists (inr h) = of_all (λ k. IsListed s k) c lists.all l h
+listed_one s c l lists (inr h) = held_of_all (λ k. IsListed s k) c lists.all l h

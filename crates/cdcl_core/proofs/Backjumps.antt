@@ -3,6 +3,9 @@ use Rattle.std.proofs.Common.{◌≡◌, ℕ, suc, ◌≤◌, Bool, true, false,
 use Rattle.std.proofs.lemmas.Bool.{cases_Bool, cases_eq, cases_lt, false≢true, or_parts}
 use Rattle.dq_lits.specs.Literal.{Literal, opposite, same_literal, variable_of}
 use Rattle.dq_lits.specs.Derivation.{LiveClauses, holds}
+use Rattle.dq_lits.proofs.Truth.{same_literal-sound}
+use Rattle.dq_lits.proofs.SignedLiterals.{opposite-opposite, same_opposite}
+use Rattle.dq_lits.proofs.HeldLiterals.{holds_cases, holds_here, holds_later}
 use Rattle.learning_trail.specs.declared.trails.Step.{Step}
 use Rattle.learning_trail.specs.Steps.{Trailed, literals_of, level_of, is_decision, Shrunk}
 use Rattle.truth_values.specs.Truth.{IsFree}
@@ -13,7 +16,6 @@ use Rattle.cdcl_core.specs.Watching.{Guards, AreShortTrue, IsGuarded, AreLevelsG
 use Rattle.cdcl_core.specs.Storage.{Stored, IsHeldWatched}
 use Rattle.learning_trail.specs.Lessons.{LandsInLevel, landed}
 use Rattle.cdcl_core.proofs.GuardedClauses.{among_suffix, guarded_grown, levels_later}
-use Rattle.truth_values.proofs.HeldLiterals.{holds_first, holds_later, holds_cases, opposite-opposite, same_opposite, same_literal-sound}
 use Rattle.learning_trail.proofs.Lessons.{live_more, free_suffix, sound_later}
 use Rattle.cdcl_core.proofs.AddedClauses.{watch_old, watch_new}
 use Rattle.cdcl_core.proofs.VisitedClauses.{off_end}
@@ -135,12 +137,12 @@ level_among (s ∷ earlier) l h = by (is_decision s) (level_among earlier l) h
         holds (s.literal ∷ cond b [] (level_of earlier)) l ≡ true → holds (s.literal ∷ literals_of earlier) l ≡ true
     by true rest h = elim (holds_cases s.literal [] l h) [
       | inl q ↦
-          ap (holds (s.literal ∷ literals_of earlier)) q ∙ holds_first s.literal (literals_of earlier)
+          ap (holds (s.literal ∷ literals_of earlier)) q ∙ holds_here s.literal (literals_of earlier)
       | inr n ↦
           absurd (false≢true n)
     ]
     by false rest h = elim (holds_cases s.literal (level_of earlier) l h) [
-      | inl q ↦ ap (holds (s.literal ∷ literals_of earlier)) q ∙ holds_first s.literal (literals_of earlier)
+      | inl q ↦ ap (holds (s.literal ∷ literals_of earlier)) q ∙ holds_here s.literal (literals_of earlier)
       | inr t ↦
           holds_later s.literal (literals_of earlier) l (rest t)
     ]
@@ -204,7 +206,7 @@ module _ (old : Stored) (live : LiveClauses) (steps : List Step) (mid : Trailed)
               (k ∷ literals_of back) c k l watched.count watched.second_count watches_apart
               (guarded_grown old.clauses old.first old.second (literals_of back) (literals_of back)
               (k ∷ literals_of back) (λ x h. holds_later k (literals_of back) x h) (above.0 u.decided))
-              (λ h. absurd (false≢true (sym k_off ∙ h))) (λ h. holds_first k (literals_of back));
+              (λ h. absurd (false≢true (sym k_off ∙ h))) (λ h. holds_here k (literals_of back));
         } in
         rw (held, watched.first, watched.second, now_steps) ready
 

@@ -4,26 +4,21 @@ use Rattle.std.specs.List.{list_any}
 use Rattle.std.proofs.lemmas.Bool.{cases_lt, false≢true}
 use Rattle.std.proofs.lemmas.Option.{slice_get_within}
 use Rattle.std.proofs.lemmas.List.{get_or_append_left, get_or-append-add}
+use Rattle.list_laws.proofs.Options.{some_same}
+use Rattle.list_laws.proofs.Elements.{last_there}
 use Rattle.dq_lits.specs.Literal.{Literal}
 use Rattle.dq_lits.specs.Derivation.{holds}
+use Rattle.dq_lits.proofs.HeldLiterals.{any_one, holds_here}
 use Rattle.oracle.specs.Fit.{live_in}
 use Rattle.cdcl_core.specs.Passes.{AreTrueWithin}
 use Rattle.learning_trail.specs.Pieces.{pieces, AreEnds}
 use Rattle.cdcl_core.specs.Runs.{head_of, BeginsAlike, BeginsTrue, BeginAlike, IsNextStart, AreStarts}
-use Rattle.truth_values.proofs.HeldLiterals.{holds_first, any_one}
 
 get_front : (cs : List (List Literal)) (c : List Literal) (i : ℕ) → i < length cs →
     slice_get (cs ++ c ∷ []) i ≡ slice_get cs i
 get_front [] c i lt = absurd (omega (arith, lt))
 get_front (x ∷ cs) c zero lt = refl
 get_front (x ∷ cs) c (suc i) lt = get_front cs c i (omega (arith, lt))
-
-get_last : (cs : List (List Literal)) (c : List Literal) → slice_get (cs ++ c ∷ []) (length cs) ≡ Some c
-get_last [] c = refl
-get_last (x ∷ cs) c = get_last cs c
-
-same_some : {A : Type 0} (a b : A) → Some a ≡ Some b → a ≡ b
-same_some a b e = cc
 
 -- behind all others
 pub start_behind : (clauses : List (List Literal)) (clause : List Literal) (start : ℕ) → start ≡ length clauses →
@@ -70,15 +65,15 @@ starts_more clauses starts clause start count are next i lt =
           let within = next.within in (
             omega (arith, within, read, same, count),
             λ k c d l from before at here head.
-                let is : d ≡ clause = same_some d clause (sym here ∙ ap (slice_get (clauses ++ clause ∷ []))
-                (omega (arith, same, count)) ∙ get_last clauses clause) in
+                let is : d ≡ clause = some_same d clause (sym here ∙ ap (slice_get (clauses ++ clause ∷ []))
+                (omega (arith, same, count)) ∙ last_there clauses clause) in
                 elim (cases_lt k (length clauses)) [
                   | inl older ↦ next.alike k c l (omega (arith, from, read))
                       (sym (get_front clauses clause k older) ∙ at) (ap head_of (sym is) ∙ head)
                   | inr newest ↦
-                      let e : c ≡ clause = same_some c clause
+                      let e : c ≡ clause = some_same c clause
                       (sym at ∙ ap (slice_get (clauses ++ clause ∷ [])) (omega (arith, newest, before, same, count))
-                      ∙ get_last clauses clause) in
+                      ∙ last_there clauses clause) in
                       ap head_of (e ∙ sym is) ∙ head
                 ],
           )
@@ -86,7 +81,7 @@ starts_more clauses starts clause start count are next i lt =
 
 head_among : (c : List Literal) (l : Literal) → head_of c ≡ Some l → holds c l ≡ true
 head_among [] l is = let n : None ≡ Some l = is in cc
-head_among (x ∷ c) l is = subst (λ k. holds (x ∷ c) k ≡ true) (same_some x l is) (holds_first x c)
+head_among (x ∷ c) l is = subst (λ k. holds (x ∷ c) k ≡ true) (some_same x l is) (holds_here x c)
 
 -- a clause that begins as a clause does that begins with a true literal has a true literal
 pub true_alike : (clauses : List (List Literal)) (trues d : List Literal) (start id : ℕ) → live_in clauses id ≡ Some d →

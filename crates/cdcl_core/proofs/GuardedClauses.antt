@@ -5,6 +5,9 @@ use Rattle.std.proofs.lemmas.Bool.{cases_Bool, false≢true}
 use Rattle.std.proofs.lemmas.List.Elements.{All-head, All-tail}
 use Rattle.dq_lits.specs.Literal.{Literal, opposite, same_literal}
 use Rattle.dq_lits.specs.Derivation.{stuck, falsified, unit, holds, status_of}
+use Rattle.dq_lits.proofs.Truth.{same_literal-sound}
+use Rattle.dq_lits.proofs.HeldLiterals.{any_one, any_gives, holds_cases, holds_here, holds_later}
+use Rattle.dq_lits.proofs.SignedLiterals.{same_literal-refl, opposite-opposite, same_literal-differs}
 use Rattle.hint_log.specs.ProductiveLog.{IsClosed}
 use Rattle.oracle.specs.Fit.{live_in}
 use Rattle.learning_trail.specs.declared.trails.Step.{Step}
@@ -12,7 +15,7 @@ use Rattle.learning_trail.specs.Steps.{literals_of, is_decision, Grown}
 use Rattle.cdcl_core.specs.Chains.{watch_at}
 use Rattle.cdcl_core.specs.Watching.{AreWatched, AreSame, AreShort, Guards, AreShortTrue, IsGuarded, AreLevelsGuarded, IsMove, AreMoved}
 use Rattle.learning_trail.proofs.ConflictAnalysis.{AreConsistent}
-use Rattle.truth_values.proofs.HeldLiterals.{any_gives, any_one, holds_first, holds_later, holds_cases, same_literal-sound, same_literal-refl, same_literal-sym, opposite-opposite}
+use Rattle.truth_values.proofs.HeldLiterals.{same_literal-sym}
 use Rattle.learning_trail.proofs.ClauseStatus.{is_falsified, is_unit, stuck_from_true, stuck_from_two}
 
 abbrev pub Among : List Literal → List Literal → Type 0
@@ -26,12 +29,6 @@ among_suffix (s ∷ popped) steps t h = holds_later s.literal (literals_of (popp
 pub among_grown : (old new : List Step) → Grown old new → Among (literals_of old) (literals_of new)
 among_grown old new grown t h = ap (λ xs. holds (literals_of xs) t) grown.is ∙ among_suffix grown.more old t h
 
-pub same-sym : (k l : Literal) → same_literal k l ≡ false → same_literal l k ≡ false
-same-sym k l h = elim (cases_Bool (same_literal l k)) [
-  | inl t ↦ absurd (false≢true (sym h ∙ same_literal-sym l k t))
-  | inr f ↦ f
-]
-
 pub any_more : (few many c : List Literal) → Among few many → list_any (holds few) c ≡ true →
     list_any (holds many) c ≡ true
 any_more few many c among h = let g = any_gives (holds few) c h in any_one (holds many) c g.0 g.1 (among g.0 g.2)
@@ -39,7 +36,7 @@ any_more few many c among h = let g = any_gives (holds few) c h in any_one (hold
 pub watched_turned : (clauses : List (List Literal)) (these others : List Literal) → AreWatched clauses these others →
     AreWatched clauses others these
 watched_turned clauses these others w i c at = record {
-  two = λ n. let h = (w i c at).two (same-sym (watch_at others i) (watch_at these i) n) in (h.1, h.0);
+  two = λ n. let h = (w i c at).two (same_literal-differs (watch_at others i) (watch_at these i) n) in (h.1, h.0);
   one = λ s x m.
       let e : watch_at others i ≡ watch_at these i = same_literal-sound (watch_at others i) (watch_at these i) s in
       (w i c at).one (same_literal-sym (watch_at others i) (watch_at these i) s) x m ∙ sym e;
@@ -66,7 +63,7 @@ guards_beside trues old_trues new_trues processed old new others moved consisten
           let h = grown (watch_at old i) (guards i (ap (same_literal (watch_at others i)) (sym e) ∙ apart) is_false) in
           ap (holds new_trues) e ∙ h
       | inr m ↦
-          let h = inside (watch_at old i) (guards i (same-sym (watch_at old i) (watch_at others i) m.was_apart)
+          let h = inside (watch_at old i) (guards i (same_literal-differs (watch_at old i) (watch_at others i) m.was_apart)
           is_false) in
           absurd (consistent (watch_at old i) h m.was_false)
     ]
@@ -184,15 +181,15 @@ pub same_stuck : (trues c : List Literal) → AreSame c → status_of trues (Som
     list_any (holds trues) c ≡ true
 same_stuck trues [] same h = let n : falsified ≡ stuck = h in cc
 same_stuck trues (x ∷ c) same h = elim (cases_Bool (holds trues x)) [
-  | inl on ↦ any_one (holds trues) (x ∷ c) x (holds_first x c) on
+  | inl on ↦ any_one (holds trues) (x ∷ c) x (holds_here x c) on
   | inr off ↦ elim (cases_Bool (holds trues (opposite x))) [
     | inl is_false ↦
-        let f = is_falsified trues (x ∷ c) (λ l m. ap (λ k. holds trues (opposite k)) (same l x m (holds_first x c))
+        let f = is_falsified trues (x ∷ c) (λ l m. ap (λ k. holds trues (opposite k)) (same l x m (holds_here x c))
         ∙ is_false) in
         let clash : falsified ≡ stuck = sym f ∙ h in
         cc
     | inr free ↦
-        let u = is_unit trues (x ∷ c) x (holds_first x c) (λ l m n. absurd (n (same l x m (holds_first x c))))
+        let u = is_unit trues (x ∷ c) x (holds_here x c) (λ l m n. absurd (n (same l x m (holds_here x c))))
         (off, free) in
         let clash : unit x ≡ stuck = sym u ∙ h in
         cc
@@ -222,7 +219,7 @@ guarded_closed clauses first second trues watched consistent g (suc i) = by (sli
               elim (cases_Bool (holds trues (opposite k))) [
                 | inl f ↦ let on = g.first_guards i apart f in stuck_from_true trues c l two.1 on (off l on)
                 | inr kf ↦ elim (cases_Bool (holds trues (opposite l))) [
-                  | inl f ↦ let on = g.second_guards i (same-sym k l apart) f in
+                  | inl f ↦ let on = g.second_guards i (same_literal-differs k l apart) f in
                       stuck_from_true trues c k two.0 on (off k on)
                   | inr lf ↦ stuck_from_two trues c k l two.0 two.1
                       (λ e. false≢true (sym apart ∙ ap (same_literal k) (sym e) ∙ same_literal-refl k)) kf lf

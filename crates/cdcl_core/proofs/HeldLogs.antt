@@ -1,18 +1,17 @@
 -- What a solver holds of its log, where a variable gets a name, and where groups are put to rest or wake.
-use Rattle.std.proofs.Common.{◌≡◌, ℕ, ◌+◌, ◌-◌, ◌≤◌, Bool, true, cond, ◌&&◌, ◌⊎◌, inl, inr, List, [], ◌∷◌, length, Some, None, is_some, Ok, Err, OnOk, Result, All, refl, sym, ◌∙◌, ap, subst, arith, length-append}
+use Rattle.std.proofs.Common.{◌≡◌, ℕ, ◌+◌, ◌-◌, ◌≤◌, Bool, true, cond, ◌&&◌, ◌⊎◌, inl, inr, List, [], ◌∷◌, length, Some, None, is_some, All, refl, sym, ◌∙◌, ap, subst, arith, length-append}
 use Rattle.std.specs.List.{list_any}
 use Rattle.std.proofs.lemmas.Bool.{cases_eq, false≢true, false_from_ne_true, ne_eqb, or_parts, and_parts}
 use Rattle.dq_lits.specs.Literal.{Literal, positive, negative, variable_of, is_negative}
 use Rattle.dq_lits.specs.Derivation.{holds}
+use Rattle.dq_lits.proofs.HeldLiterals.{any_gives, held_of_all, holds_cases}
 use Rattle.hint_log.specs.declared.names.Name.{Name}
 use Rattle.hint_log.specs.Entries.{Entry, Named, clause_at, name_of}
 use Rattle.hint_log.specs.Naming.{is_selector_name}
 use Rattle.oracle.specs.declared.groups.Group.{Group}
 use Rattle.oracle.specs.Fit.{Fit, live_in}
 use Rattle.oracle.specs.Calls.{IsPlain, assumed}
-use Rattle.truth_values.proofs.HeldLiterals.{holds_cases, any_gives}
 use Rattle.learning_trail.specs.Resting.{rests, IsPlaceholder, IsPut, HeldFit, AreAwake}
-use Rattle.learning_trail.proofs.FoundModels.{of_all}
 use Rattle.learning_trail.proofs.Lessons.{live_more}
 use Rattle.cdcl_core.specs.Waking.{AreSelectors, AreActiveAwake, HoldsPut, IsPutAs}
 
@@ -29,10 +28,6 @@ held_named held resting variables v es name fit longer unnamed = record {
     | inr n ↦ ap (λ b. cond b (Some name) (name_of es w)) (ne_eqb w v n) ∙ fit.selectors w on
   ];
 }
-
-pub on_ok : {X E : Type 0} {P Q : Type 0} (r : Result X E) → (P → Q) → OnOk r P → OnOk r Q
-on_ok (Ok x) f p = f p
-on_ok (Err e) f p = tt
 
 pub more_put : (resting : List Bool) (es : List Entry) (old new : List (List Literal)) (id : ℕ) →
     HoldsPut resting es old (id - 1) → 1 ≤ id → IsPutAs resting es id old new → HoldsPut resting es new (id + 1 - 1)
@@ -82,7 +77,7 @@ pub assumed_awake : (es : List Entry) (resting : List Bool) (active : List Group
     AreAwake resting (assumed active assume)
 assumed_awake es resting [] assume selectors awake plain v on =
     false_from_ne_true (holds assume (positive v)) (λ h.
-    let p = of_all (IsPlain es) assume plain (positive v) h in
+    let p = held_of_all (IsPlain es) assume plain (positive v) h in
     false≢true (sym p.no_selector ∙ ap is_selector_name (selectors v on)))
 assumed_awake es resting (g ∷ active) assume selectors awake plain v on =
     false_from_ne_true (holds (assumed (g ∷ active) assume) (positive v)) (λ h.

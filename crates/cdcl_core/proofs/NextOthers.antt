@@ -1,11 +1,11 @@
 -- Where another literal of a clause isn't false: behind a place, and before it.
-use Rattle.std.proofs.Common.{◌≡◌, ◌≢◌, ◌==◌, ◌||◌, ℕ, zero, suc, ◌+◌, ◌≤◌, ◌<◌, Bool, true, false, List, [], ◌∷◌, ◌++◌, take, drop, length, inl, inr, Option, None, Some, MatchOption, refl, sym, ◌∙◌, ap, arith}
-use Rattle.std.proofs.lemmas.Bool.{false≢true, eqb-true, eqb-false, or_cases, or_left, or_right}
+use Rattle.std.proofs.Common.{◌≡◌, ◌≢◌, ◌==◌, ℕ, suc, ◌+◌, ◌≤◌, ◌<◌, Bool, true, false, List, [], ◌∷◌, take, drop, length, inl, inr, Option, None, Some, MatchOption, refl, sym, ◌∙◌, ap, arith}
+use Rattle.std.proofs.lemmas.Bool.{false≢true, eqb-true, eqb-false, or_cases, or_left}
 use Rattle.std.proofs.lemmas.List.{get_or-drop, length-drop, take-append-drop}
-use Rattle.std.proofs.lemmas.List.Folds.{list_any-append}
 use Rattle.dq_lits.specs.Literal.{Literal, positive, opposite, same_literal}
 use Rattle.dq_lits.specs.Derivation.{holds}
-use Rattle.truth_values.proofs.HeldLiterals.{same_literal-refl, same_literal-sound}
+use Rattle.dq_lits.proofs.Truth.{same_literal-sound}
+use Rattle.dq_lits.proofs.HeldLiterals.{holds-append}
 use Rattle.cdcl_core.specs.Chains.{watch_at}
 use Rattle.cdcl_core.specs.Visits.{AreOthersFalse, IsOther}
 
@@ -22,12 +22,6 @@ index_of (x ∷ xs) k h = elim (or_cases (same_literal k x) (holds xs k) h) [
   | inl e ↦ (0, omega arith, e)
   | inr t ↦ (let r = index_of xs k t in let low = r.1 in (suc r.0, omega (arith, low), r.2))
 ]
-
-pub holds_at : (xs : List Literal) (i : ℕ) → i < length xs → holds xs (watch_at xs i) ≡ true
-holds_at [] i below = absurd (omega (arith, below))
-holds_at (x ∷ xs) zero below = or_left (same_literal x x) (holds xs x) (same_literal-refl x)
-holds_at (x ∷ xs) (suc i) below = or_right (same_literal (watch_at xs i) x) (holds xs (watch_at xs i))
-    (holds_at xs i (omega (arith, below)))
 
 -- none was looked at yet
 pub none_between : (trues lits : List Literal) (other : Literal) (from at : ℕ) → at ≤ from →
@@ -62,16 +56,13 @@ none_behind trues lits other from at past so_far k among apart =
     ∙ so_far (from + r.0) (omega arith) (omega (arith, past, small, long))
     (ap (λ x. same_literal x other) (sym is) ∙ apart)
 
-holds_both : (xs ys : List Literal) (k : Literal) → holds (xs ++ ys) k ≡ (holds xs k || holds ys k)
-holds_both xs ys k = list_any-append (same_literal k) xs ys
-
 -- behind it and before it
 pub all_others : (trues lits : List Literal) (other : Literal) (from : ℕ) →
     AreOthersFalse trues (take from lits) other → AreOthersFalse trues (drop from lits) other →
     AreOthersFalse trues lits other
 all_others trues lits other from before behind k among apart =
     elim (or_cases (holds (take from lits) k) (holds (drop from lits) k)
-    (sym (holds_both (take from lits) (drop from lits) k) ∙ ap (λ xs. holds xs k) (take-append-drop from lits) ∙ among)) [
+    (sym (holds-append (take from lits) (drop from lits) k) ∙ ap (λ xs. holds xs k) (take-append-drop from lits) ∙ among)) [
       | inl h ↦ before k h apart
       | inr h ↦ behind k h apart
     ]
@@ -80,7 +71,7 @@ all_others trues lits other from before behind k among apart =
 pub other_among : (trues lits : List Literal) (other : Literal) (from : ℕ) (k : Literal) →
     IsOther trues (take from lits) other k → IsOther trues lits other k
 other_among trues lits other from k found = record {
-  among = ap (λ xs. holds xs k) (sym (take-append-drop from lits)) ∙ holds_both (take from lits) (drop from lits) k
+  among = ap (λ xs. holds xs k) (sym (take-append-drop from lits)) ∙ holds-append (take from lits) (drop from lits) k
       ∙ or_left (holds (take from lits) k) (holds (drop from lits) k) found.among;
   apart = found.apart;
   not_false = found.not_false;

@@ -4,8 +4,12 @@ use Rattle.std.specs.List.{list_any}
 use Rattle.std.proofs.lemmas.Bool.{cases_Bool, cases_eq, cases_lt, false≢true}
 use Rattle.std.proofs.lemmas.List.{length-set, get_or_past, get_or_default, append_assoc, append-nil, take_more}
 use Rattle.std.proofs.lemmas.Option.{slice_get_within, slice_get-get_or}
+use Rattle.list_laws.proofs.Members.{no_element}
 use Rattle.dq_lits.specs.Literal.{Literal, positive, opposite, variable_of, same_literal}
 use Rattle.dq_lits.specs.Derivation.{unit, falsified, stuck, holds, status_of}
+use Rattle.dq_lits.proofs.Truth.{same_literal-sound}
+use Rattle.dq_lits.proofs.HeldLiterals.{any_one, holds_here, holds_later}
+use Rattle.dq_lits.proofs.SignedLiterals.{same_literal-refl, opposite-opposite, same_literal-differs}
 use Rattle.oracle.specs.Fit.{live_in}
 use Rattle.cdcl_core.specs.declared.propagation.Look.TheVariants.{Kept, Moved, Falsified}
 use Rattle.learning_trail.specs.declared.trails.Step.{Step}
@@ -17,9 +21,8 @@ use Rattle.learning_trail.specs.Passes.{AreWithin}
 use Rattle.cdcl_core.specs.Chains.{left_to_visit, watch_at, place_of, has, IsLinked, HasList, FitIds, with_open, IsTaken, IsLeft}
 use Rattle.cdcl_core.specs.Watching.{IsWatched, AreWatched, AreSame, AreShort, IsGuarded, AreLevelsGuarded, IsMove, AreMoved, IsReady}
 use Rattle.cdcl_core.specs.Visits.{IsVisitable, IsLooked, IsDone, IsVisited, IsListVisited, IsVisiting, AreVisited, IsTrailVisited, IsProcessed, AreOnTrail, IsPuttingBack, IsPassing}
-use Rattle.learning_trail.proofs.ConflictAnalysis.{sound_consistent, contains_none, contains_cases}
-use Rattle.cdcl_core.proofs.GuardedClauses.{Among, among_grown, among_suffix, any_more, same_stuck, same-sym, watched_turned, guarded_moved, guarded_turned, levels_moved, levels_turned, levels_grown, short_kept, short_notes_turned, guards_visited, moved_both}
-use Rattle.truth_values.proofs.HeldLiterals.{any_one, opposite-opposite, holds_first, holds_later, same_literal-sound, same_literal-refl}
+use Rattle.learning_trail.proofs.ConflictAnalysis.{sound_consistent, contains_cases}
+use Rattle.cdcl_core.proofs.GuardedClauses.{Among, among_grown, among_suffix, any_more, same_stuck, watched_turned, guarded_moved, guarded_turned, levels_moved, levels_turned, levels_grown, short_kept, short_notes_turned, guards_visited, moved_both}
 use Rattle.cdcl_core.proofs.LinkedLists.{place_of-one, chain_counted, has_first, has_later, has_cases, chain_short, chain_range}
 use Rattle.learning_trail.proofs.LargerTrails.{grown_none, grown_one, grown_both, implied_step, literal_within, live_within}
 use Rattle.learning_trail.proofs.ClauseStatus.{is_falsified, is_unit, implied_from}
@@ -119,7 +122,7 @@ module _ (clauses : List (List Literal)) (old : Trailed) (was others : Watches) 
             v.sound,
           ),
           grown_one old.steps old.steps other id (grown_none old.steps),
-          holds_first other (literals_of old.steps),
+          holds_here other (literals_of old.steps),
         )
       ] in
       record {
@@ -524,7 +527,7 @@ both_visited clauses old mid new was now was_second now_second l found sound p q
           ap (holds (literals_of new.steps)) s ∙ among_grown mid.steps new.steps q.grown
           (watch_at was_second.literals.items i) h
       | inr m ↦
-          let h = p.ended i (same-sym (watch_at was_second.literals.items i)
+          let h = p.ended i (same_literal-differs (watch_at was_second.literals.items i)
           (watch_at now.literals.items i) m.was_apart) e in
           absurd (sound_consistent (live_in clauses) mid.steps p.visitable.sound
           (watch_at was_second.literals.items i) h m.was_false)
@@ -694,7 +697,7 @@ contains_later : (y : ℕ) (xs : List ℕ) (x : ℕ) → Contains xs x → Conta
 contains_later y xs x c = let lt = c.1 in (suc c.0, omega (arith, lt), c.2)
 
 pub contains_last : (xs : List ℕ) (y x : ℕ) → Contains (xs ++ y ∷ []) x → Contains xs x ⊎ (x ≡ y)
-contains_last [] y x h = elim (contains_cases y [] x h) [ inl e ↦ inr e | inr n ↦ absurd (contains_none x n) ]
+contains_last [] y x h = elim (contains_cases y [] x h) [ inl e ↦ inr e | inr n ↦ absurd (no_element x n) ]
 contains_last (z ∷ xs) y x h = elim (contains_cases z (xs ++ y ∷ []) x h) [
   | inl e ↦ inl (subst (Contains (z ∷ xs)) (sym e) (contains_first z xs))
   | inr t ↦ elim (contains_last xs y x t) [
@@ -720,7 +723,7 @@ passing_unit clauses old now new short i id c l lt at is p status pushed few =
       (record { free = imp.free; reasoned = ap (status_of (literals_of now.steps)) is ∙ status }, p.sound),
       grown_one old.steps now.steps l id p.grown,
       (λ t h. holds_later l (literals_of now.steps) t h),
-      holds_first l (literals_of now.steps),
+      holds_here l (literals_of now.steps),
     ) in
     record {
       room = all.0;
@@ -771,4 +774,4 @@ at_holds steps at l k turned here =
     ap (holds (literals_of steps)) (ap opposite turned ∙ opposite-opposite l ∙ sym here.literal)
     ∙ ap (λ xs. holds (literals_of xs) here.step.literal) here.is
     ∙ among_suffix here.newer (here.step ∷ here.older) here.step.literal
-    (holds_first here.step.literal (literals_of here.older))
+    (holds_here here.step.literal (literals_of here.older))

@@ -202,12 +202,3 @@ propagating_more live old now new inv room sound grown few = record {
 pub live_read : (clauses : List (List Literal)) (at : ℕ) (c : List Literal) → live_in clauses (at + 1) ≡ Some c →
     live_in clauses (suc at) ≡ Some c
 live_read clauses at c is = let one : suc at ≡ at + 1 = omega arith in ap (live_in clauses) one ∙ is
-
-pub live_within : (clauses : List (List Literal)) (room id : ℕ) (c : List Literal) → live_in clauses id ≡ Some c →
-    AreWithin room clauses → All (λ l. variable_of l ≤ room) c
-live_within clauses room zero c is within = let n : None ≡ Some c = is in cc
-live_within clauses room (suc i) c is within =
-    let lt = slice_get_within clauses i c is in
-    let s : Some (get_or clauses i c) ≡ Some c = sym (slice_get-get_or clauses i c lt) ∙ is in
-    let e : get_or clauses i c ≡ c = cc in
-    clause_within clauses room i c lt e within

@@ -7,10 +7,11 @@ use Rattle.std.proofs.lemmas.Bool.{and_from, lt-ltb, ne_eqb}
 use Rattle.std.proofs.lemmas.List.{length-map}
 use Rattle.std.proofs.lemmas.List.Kept.{AllPairs-from_increasing}
 use Rattle.std.proofs.lemmas.Nat.{div-mul-add, mod-mul-add}
-use Rattle.dq_lits.specs.Literal.{Literal, positive, negative, variable_of, on_variable, opposite}
+use Rattle.dq_lits.specs.Literal.{Literal, variable_of, on_variable, opposite}
 use Rattle.dq_lits.specs.Formula.{Dqbf, existential_of, IsWellFormed}
 use Rattle.dq_lits.specs.Expansion.{agree_on, instance_at}
 use Rattle.dq_lits.specs.Derivation.{ProofStep, is_empty}
+use Rattle.dq_lits.proofs.SignedLiterals.{variable_of-on, on-on}
 use Rattle.hint_log.specs.Entries.{has_id, numbered, last_id, name_of, clause_at}
 use Rattle.hint_log.specs.Reached.{Reaches, AreReached}
 use Rattle.hint_log.specs.declared.origins.Origin.{Origin}
@@ -45,15 +46,6 @@ use Rattle.cert_export.proofs.Instances.{instances_are_expansion}
 use Rattle.cert_export.proofs.Answers.{answer_there, selectors_dropped}
 use Rattle.cert_export.proofs.DerivedLines.{lines_are_derived}
 use Rattle.cert_export.proofs.ReachedLines.{rising_of, are_lines, are_finished}
-use Rattle.log_laws.proofs.Found.{find_sound}
-
-variable_of-on : (x : ℕ) (l : Literal) → variable_of (on_variable x l) ≡ x
-variable_of-on x (positive v) = refl
-variable_of-on x (negative v) = refl
-
-on-on : (x y : ℕ) (l : Literal) → on_variable x (on_variable y l) ≡ on_variable x l
-on-on x y (positive v) = refl
-on-on x y (negative v) = refl
 
 module _ (f : Dqbf) (rows : List (List Bool)) (r : Renaming) where
   abbrev named : Renaming

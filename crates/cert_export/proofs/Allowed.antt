@@ -4,8 +4,9 @@ use Rattle.std.specs.List.{All, Contains, cons_option, position_or_len}
 use Rattle.std.specs.Option.{option_map}
 use Rattle.std.proofs.lemmas.Bool.{eq-eqb, ne_eqb}
 use Rattle.std.proofs.lemmas.List.Elements.{All-nil, All-cons, Contains-get_or}
-use Rattle.dq_lits.specs.Literal.{Literal, positive, negative, variable_of, on_variable, opposite}
+use Rattle.dq_lits.specs.Literal.{Literal, variable_of, on_variable, opposite}
 use Rattle.dq_lits.specs.Derivation.{LiveClauses, Status, falsified, unit, stuck, status_of}
+use Rattle.dq_lits.proofs.SignedLiterals.{variable_of-on}
 use Rattle.hint_log.specs.Entries.{has_id, numbered}
 use Rattle.hint_log.specs.Entries.{Entry}
 use Rattle.hint_log.specs.declared.origins.Origin.{Origin}
@@ -65,10 +66,6 @@ module _ (P : ℕ → Type 0) where
   mapped_all g [] h = All-nil P
   mapped_all g (x ∷ xs) h = All-cons P (g x) (map g xs) (h 0 x (omega arith))
       (mapped_all g xs (λ k d below. h (suc k) d (omega arith)))
-
-variable_of-on : (x : ℕ) (l : Literal) → variable_of (on_variable x l) ≡ x
-variable_of-on x (positive v) = refl
-variable_of-on x (negative v) = refl
 
 -- the base is renamed by names that may be made of the lines' own
 module _ (r named : Renaming) (base_id : Origin → ℕ) (usable : Origin → List Literal → Type 0) (first : LiveClauses)

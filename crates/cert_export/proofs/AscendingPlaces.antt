@@ -7,15 +7,13 @@ use Rattle.std.specs.declared.cmp.Ordering.TheVariants.{Less, Equal, Greater}
 use Rattle.std.proofs.lemmas.Bool.{cases_lt}
 use Rattle.std.proofs.lemmas.Bool.Decides.{nat_tests}
 use Rattle.std.proofs.lemmas.List.Kept.{AllPairs-from_increasing}
+use Rattle.list_laws.proofs.Numbers.{nat_cmp-same}
 use Rattle.cert_export.specs.Written.{place_in}
 use Rattle.cert_export.proofs.Allowed.{place_of}
 use Rattle.cert_export.proofs.ReachedLines.{rising_of}
 
 same_at : (a b : ℕ) → nat_cmp a b ≡ Equal → a ≡ b
 same_at a b e = grind (arith, nat_tests)
-
-equal_at : (a : ℕ) → nat_cmp a a ≡ Equal
-equal_at a = grind (arith, nat_tests)
 
 index_rises : (a b p : ℕ) → a ≤ b → ordering_index (nat_cmp a p) ≤ ordering_index (nat_cmp b p)
 index_rises a b p le = grind (arith, nat_tests)
@@ -40,7 +38,7 @@ found_there ids id i ascending m result =
             omega (arith, e)
 
       at_member : nat_cmp (get_or ids m.0 id) id ≡ Equal
-      at_member = rw m.2 (equal_at id)
+      at_member = rw m.2 (nat_cmp-same id)
 
       no : AllWithin (λ y. nat_cmp y id ≡ Less) ids 0 i × AllWithin (λ y. nat_cmp y id ≡ Greater) ids i (length ids) → ⊥
       no parts = ⊎_elim (λ l. let a = parts.0 m.0 id (omega arith) l in let b = at_member in cc)

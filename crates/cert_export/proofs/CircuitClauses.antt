@@ -1,15 +1,20 @@
 -- The given clauses that an answer rests on, renamed, are those of the exported circuit's negated
 -- matrix, under its ids.
-use Rattle.std.proofs.Common.{◌≡◌, ℕ, zero, suc, ◌+◌, ◌-◌, ◌*◌, ◌≤◌, ◌<◌, ◌==◌, Bool, true, false, cond, not, inl, inr, List, [], ◌∷◌, ◌++◌, map, take, length, get_or, slice_get, slice_index, Option, None, Some, refl, sym, ◌∙◌, ap, subst, arith, append_assoc, length-append}
+use Rattle.std.proofs.Common.{◌≡◌, ℕ, zero, suc, ◌+◌, ◌-◌, ◌*◌, ◌≤◌, ◌<◌, ◌==◌, Bool, true, false, cond, not, inl, inr, List, [], ◌∷◌, ◌++◌, map, take, length, get_or, slice_get, slice_index, Option, None, Some, refl, sym, ◌∙◌, ap, subst, arith, append_assoc}
 use Rattle.std.specs.List.{All, sum_by, Contains, list_any, find, flat_map, cons_option, range_with_len, position_or_len}
 use Rattle.std.specs.Option.{option_map, option_and_then}
 use Rattle.std.proofs.lemmas.Bool.{cases_Bool, true≢false, eq-eqb, cond-true, cond-false}
 use Rattle.std.proofs.lemmas.List.{length-map}
 use Rattle.std.proofs.lemmas.List.Sums.{sum_by-cons}
 use Rattle.std.proofs.lemmas.List.Elements.{All-contains, Contains-append_cases}
+use Rattle.list_laws.proofs.Elements.{kept_there, place_within, mapped_at}
+use Rattle.list_laws.proofs.Members.{tested_inside}
+use Rattle.list_laws.proofs.Sequences.{sum-none, sum-taken}
 use Rattle.dq_lits.specs.Literal.{Literal, positive, negative, variable_of, is_negative, opposite, on_variable}
 use Rattle.dq_lits.specs.Formula.{Dqbf, Existential, declared, is_universal, existential_of, IsWellFormed}
 use Rattle.dq_lits.specs.Derivation.{LiveClauses}
+use Rattle.dq_lits.proofs.SignedLiterals.{opposite-opposite}
+use Rattle.dq_lits.proofs.FormulaVariables.{find_sound}
 use Rattle.hint_log.specs.Conditions.{is_circuit_name, MayFollow}
 use Rattle.hint_log.specs.Entries.{name_of, Entry, Given}
 use Rattle.hint_log.specs.declared.names.Name.{Name}
@@ -21,6 +26,7 @@ use Rattle.hint_log.specs.declared.origins.Origin.TheVariants.{Instance, Gate as
 use Rattle.circuit_plain.specs.Netlist.{Netlist}
 use Rattle.circuit_plain.specs.declared.circuits.Gate.{Gate}
 use Rattle.cert_text.specs.NegatedMatrix.{opposite_of, gate_clauses, literal_under, falsity_clauses, all_falsity_clauses, some_clause_false, as_literal, without_constants}
+use Rattle.cert_text.proofs.NegatedClauses.{falsity_counted, gates_counted}
 use Rattle.proof_checker.specs.CircuitProof.{circuit_literal, negated_candidate}
 use Rattle.skolem_checker.specs.SkolemCircuit.{MappedCircuit}
 use Rattle.hint_log.specs.Growth.{Each}
@@ -31,27 +37,17 @@ use Rattle.cert_export.specs.Renaming.{Renaming, renamed_clause}
 use Rattle.cert_export.specs.CircuitPart.{CircuitPart, max_number, circuit_number, circuit_renaming, or_zero, literal_code, leaf_code, gate_of, exported_netlist, exported_mapping, exported_candidate, last_base_id, circuit_id, IsOwnLeaf, IsCircuitClause, IsLeafInFile, IsCircuitPart}
 use Rattle.cert_export.specs.ExportedCircuit.{CircuitClausesAreNegatedMatrix}
 use Rattle.cert_export.proofs.Codes.{opposite_even, as_even, as_odd, AreVariables, no_constants, false_behind}
-use Rattle.cert_export.proofs.CircuitNumbers.{IsPlace, position_is, among, HasNumber, circuit_numbered, as_code, code_big, opposite_code, opposite_number, renamed_is, clause_codes}
+use Rattle.cert_export.proofs.CircuitNumbers.{IsPlace, position_is, HasNumber, circuit_numbered, as_code, code_big, opposite_code, opposite_number, renamed_is, clause_codes}
 use Rattle.log_laws.proofs.ReachedClauses.{name_stays}
-use Rattle.log_laws.proofs.Found.{named_variable, find_there, numbered_among, split_at, variable, find_sound}
+use Rattle.log_laws.proofs.Found.{named_variable, find_there, numbered_among, split_at, variable}
 use Rattle.log_laws.proofs.Solved.{split_literal, sides}
-use Rattle.cert_export.proofs.PairNames.{small_place, from_one}
+use Rattle.cert_export.proofs.PairNames.{from_one}
 use Rattle.cert_export.proofs.Instances.{same_on}
-
-pub front : {X : Type 0} (xs ys : List X) (i : ℕ) (x : X) → slice_get xs i ≡ Some x → slice_get (xs ++ ys) i ≡ Some x
-front [] ys i x h = cc
-front (y ∷ xs) ys zero x h = h
-front (y ∷ xs) ys (suc i) x h = front xs ys i x h
 
 pub behind : {X : Type 0} (xs ys : List X) (n k : ℕ) → n ≡ length xs → slice_get (xs ++ ys) (n + k) ≡ slice_get ys k
 behind [] ys n k h = let e : n + k ≡ k = omega (arith, h) in ap (slice_get ys) e
 behind (x ∷ xs) ys n k h = let e : n + k ≡ suc (length xs + k) = omega (arith, h) in
     ap (slice_get (x ∷ (xs ++ ys))) e ∙ behind xs ys (length xs) k refl
-
--- the clauses of the gates
-pub gates_length : (gs : List Gate) → length (flat_map gate_clauses gs) ≡ 3 * length gs
-gates_length [] = omega arith
-gates_length (g ∷ gs) = let r = gates_length gs in omega (arith, r)
 
 pub gate_at : (g : ℕ → Gate) (vs : List ℕ) (rest : List (List ℕ)) (p k : ℕ) (c : List ℕ) → p < length vs →
     slice_get (gate_clauses (g (get_or vs p 0))) k ≡ Some c →
@@ -60,34 +56,11 @@ gate_at g [] rest p k c below h = absurd (omega arith)
 gate_at g (v ∷ vs) rest zero k c below h =
     let e : 3 * zero + k ≡ k = omega arith in
     ap (slice_get (flat_map gate_clauses (map g (v ∷ vs)) ++ rest)) e
-    ∙ front (gate_clauses (g v) ++ flat_map gate_clauses (map g vs)) rest k c
-    (front (gate_clauses (g v)) (flat_map gate_clauses (map g vs)) k c h)
+    ∙ kept_there (gate_clauses (g v) ++ flat_map gate_clauses (map g vs)) rest k c
+    (kept_there (gate_clauses (g v)) (flat_map gate_clauses (map g vs)) k c h)
 gate_at g (v ∷ vs) rest (suc p) k c below h =
     let e : 3 * suc p + k ≡ suc (suc (suc (3 * p + k))) = omega arith in
     ap (slice_get (flat_map gate_clauses (map g (v ∷ vs)) ++ rest)) e ∙ gate_at g vs rest p k c (omega arith) h
-
--- the clauses of 'clause j is false'
-falsity_length : (cl : ℕ → ℕ) (bad : ℕ) (matrix : List (List Literal)) →
-    length (all_falsity_clauses cl bad matrix) ≡ sum_by length matrix
-falsity_length cl bad [] = refl
-falsity_length cl bad (c ∷ cs) =
-    length-append (falsity_clauses cl bad c) (all_falsity_clauses cl (bad + 1) cs)
-    ∙ ap (λ n. n + length (all_falsity_clauses cl (bad + 1) cs))
-    (length-map c (λ l. opposite_of (2 * bad) ∷ opposite_of (literal_under cl l) ∷ []))
-    ∙ ap (λ n. length c + n) (falsity_length cl (bad + 1) cs) ∙ sym (sum_by-cons length c cs)
-
-none_before : (matrix : List (List Literal)) → sum_by length (take 0 matrix) ≡ 0
-none_before matrix = refl
-
-more_before : (c : List Literal) (cs : List (List Literal)) (j : ℕ) →
-    sum_by length (take (suc j) (c ∷ cs)) ≡ length c + sum_by length (take j cs)
-more_before c cs j = sum_by-cons length c (take j cs)
-
-mapped_at : {X Y : Type 0} (g : X → Y) (xs : List X) (i : ℕ) (x : X) → slice_get xs i ≡ Some x →
-    slice_get (map g xs) i ≡ Some (g x)
-mapped_at g [] i x h = cc
-mapped_at g (y ∷ xs) zero x h = let same : y ≡ x = cc in ap (λ z. Some (g z)) same
-mapped_at g (y ∷ xs) (suc i) x h = mapped_at g xs i x h
 
 abbrev falsity : (ℕ → ℕ) → ℕ → Literal → List ℕ
 falsity cl bad l = opposite_of (2 * bad) ∷ opposite_of (literal_under cl l) ∷ []
@@ -99,16 +72,16 @@ falsity_at : (cl : ℕ → ℕ) (bad : ℕ) (matrix : List (List Literal)) (rest
 falsity_at cl bad [] rest j i clause l h k = cc
 falsity_at cl bad (c ∷ cs) rest zero i clause l h k =
     let same : c ≡ clause = cc in
-    let none = none_before (c ∷ cs) in
+    let none = sum-none (c ∷ cs) in
     let e : sum_by length (take 0 (c ∷ cs)) + i ≡ i = omega (arith, none) in
     let b : bad ≡ bad + 0 = omega arith in
     let there = mapped_at (falsity cl bad) c i l (ap (λ x. slice_get x i) same ∙ k) in
     ap (slice_get (all_falsity_clauses cl bad (c ∷ cs) ++ rest)) e
-    ∙ front (falsity_clauses cl bad c ++ all_falsity_clauses cl (bad + 1) cs) rest i (falsity cl bad l)
-    (front (falsity_clauses cl bad c) (all_falsity_clauses cl (bad + 1) cs) i (falsity cl bad l) there)
+    ∙ kept_there (falsity_clauses cl bad c ++ all_falsity_clauses cl (bad + 1) cs) rest i (falsity cl bad l)
+    (kept_there (falsity_clauses cl bad c) (all_falsity_clauses cl (bad + 1) cs) i (falsity cl bad l) there)
     ∙ ap (λ n. Some (falsity cl n l)) b
 falsity_at cl bad (c ∷ cs) rest (suc j) i clause l h k =
-    let more = more_before c cs j in
+    let more = sum-taken c cs j in
     let e : sum_by length (take (suc j) (c ∷ cs)) + i ≡ length c + (sum_by length (take j cs) + i) =
     omega (arith, more) in
     let long : length c ≡ length (falsity_clauses cl bad c) = sym (length-map c (falsity cl bad)) in
@@ -128,12 +101,12 @@ before_below (c ∷ cs) zero i clause h k =
     let same : c ≡ clause = cc in
     let long : length c ≡ length clause = ap length same in
     let all = sum_by-cons length c cs in
-    let none = none_before (c ∷ cs) in
+    let none = sum-none (c ∷ cs) in
     omega (arith, long, k, all, none)
 before_below (c ∷ cs) (suc j) i clause h k =
     let r = before_below cs j i clause h k in
     let all = sum_by-cons length c cs in
-    let more = more_before c cs j in
+    let more = sum-taken c cs j in
     omega (arith, r, all, more)
 
 -- the literals of inputs and outputs
@@ -156,10 +129,6 @@ output_at g (z ∷ zs) v y h = by_bit (z.variable == v) (output_at g zs v y) h w
       let n = position_or_len (λ x. x == v) (map variable zs) in
       let e : 1 + n ≡ suc n = omega arith in
       ap (slice_index (g z ∷ map g zs)) e ∙ later h
-
-pub opposite_twice : (l : Literal) → opposite (opposite l) ≡ l
-opposite_twice (positive v) = refl
-opposite_twice (negative v) = refl
 
 module _ (r : Renaming) where
   abbrev IsNumberedLeaf : Leaf → Type 0
@@ -207,7 +176,7 @@ module _ (r : Renaming) where
   fault_codes cl bad (negative v) (LeafLiteral k) tail one code h t =
       let is : k ∷ [] ≡ tail = cc in
       let twice = ap (λ n. opposite_of (opposite_of n)) code ∙ ap opposite_of (opposite_code r k) ∙ opposite_code r
-      (opposite k) ∙ ap (literal_code r) (opposite_twice k) in
+      (opposite k) ∙ ap (literal_code r) (opposite-opposite k) in
       ap (λ n. without_constants (opposite_of (2 * bad) ∷ n ∷ [])) twice
       ∙ literal_behind bad k one h ∙ ap (λ qs. Some (negative bad ∷ renamed_clause r qs)) is
 
@@ -284,7 +253,7 @@ module _ (f : Dqbf) (all : List Entry) (e : CircuitPart) (well : IsWellFormed f)
   gate_count = length e.gates
 
   gates_are : length (flat_map gate_clauses net.gates) ≡ 3 * gate_count
-  gates_are = gates_length net.gates ∙ ap (λ n. 3 * n) (length-map e.gates (λ v. gate_of r v (name_of all v)))
+  gates_are = gates_counted net.gates ∙ ap (λ n. 3 * n) (length-map e.gates (λ v. gate_of r v (name_of all v)))
 
   -- a selector has no number
   dropped : (g : ℕ) (rest : List Literal) → name_of all g ≡ Some (Selector g) →
@@ -304,7 +273,7 @@ module _ (f : Dqbf) (all : List Entry) (e : CircuitPart) (well : IsWellFormed f)
       named = stays v (And g.left g.right) g.named
 
       place : IsPlace e.gates v (position_or_len (λ x. x == v) e.gates + 1)
-      place = position_is e.gates v (among e.gates v inside)
+      place = position_is e.gates v (tested_inside e.gates v inside)
 
       own : HasNumber r (positive v)
       own = circuit_numbered f all e given (positive v) (ap is_circuit_name named) (λ a b h. inside)
@@ -333,7 +302,7 @@ module _ (f : Dqbf) (all : List Entry) (e : CircuitPart) (well : IsWellFormed f)
           ≡ Some codes.0 =
           ap (λ w. slice_get (gate_clauses (gate_of r w (name_of all w))) k) place.there ∙ ap
           (λ o. slice_get (gate_clauses (gate_of r v o)) k) named ∙ codes.1 in
-          let small : k < 3 = small_place (gate_clauses (gate_of r v (Some (And g.left g.right)))) k codes.0 codes.1 in
+          let small : k < 3 = place_within (gate_clauses (gate_of r v (Some (And g.left g.right)))) k codes.0 codes.1 in
           let at = gate_at (λ w. gate_of r w (name_of all w)) e.gates
           (all_falsity_clauses cl (net.max_var + 1) f.matrix ++ some_clause_false net f.matrix ∷ []) p k codes.0
           below here in
@@ -374,7 +343,7 @@ module _ (f : Dqbf) (all : List Entry) (e : CircuitPart) (well : IsWellFormed f)
           existential_of f (variable_of l) ≡ o → (cl (variable_of l) ≡ leaf_code r out) × IsNumberedLeaf r out
       by_option other None none = absurd (elim (Contains-append_cases f.universals (map variable f.existentials)
           (variable_of l) bound) [
-            | inl universal ↦ true≢false (sym (among f.universals (variable_of l) universal) ∙ other)
+            | inl universal ↦ true≢false (sym (tested_inside f.universals (variable_of l) universal) ∙ other)
             | inr existential ↦ find_there f.existentials (variable_of l) existential none
           ])
       by_option other (Some y) found =
@@ -431,7 +400,7 @@ module _ (f : Dqbf) (all : List Entry) (e : CircuitPart) (well : IsWellFormed f)
         let renamed : renamed_clause r rest ≡ negative bad ∷ renamed_clause r fault.tail =
         ap (renamed_clause r) fault.rest_is ∙ ap (λ o. cons_option
         (option_map (λ w. on_variable w (negative fault.bad)) o) (renamed_clause r fault.tail)) number in
-        let small = before_below f.matrix j (i - 1) clause clause_there (small_place clause (i - 1) l literal_at.1) in (
+        let small = before_below f.matrix j (i - 1) clause clause_there (place_within clause (i - 1) l literal_at.1) in (
           ap live id ∙ ap (option_and_then without_constants) (place ∙ at) ∙ codes ∙ ap Some (sym renamed),
           omega (arith, id, small),
         )
@@ -472,7 +441,7 @@ module _ (f : Dqbf) (all : List Entry) (e : CircuitPart) (well : IsWellFormed f)
         let place = behind (flat_map gate_clauses net.gates) (all_falsity_clauses cl (net.max_var + 1) f.matrix ++ last)
         (3 * gate_count) (total + 0) (sym gates_are) in
         let at = behind (all_falsity_clauses cl (net.max_var + 1) f.matrix) last total 0
-        (sym (falsity_length cl (net.max_var + 1) f.matrix)) in
+        (sym (falsity_counted cl (net.max_var + 1) f.matrix)) in
         let codes = no_constants (some_clause_false net f.matrix) (bads_big (M + 1) C (omega arith)) ∙ ap Some
         (bads_are (range_with_len (M + 1) C)) in
         let renamed = bads_renamed rest 1 C (omega arith) (omega arith) some.1 in

@@ -1,11 +1,10 @@
 -- Numbers of the exported circuit's variables, and the codes of its literals.
-use Rattle.std.proofs.Common.{◌≡◌, ℕ, zero, suc, ◌+◌, ◌*◌, ◌≤◌, ◌<◌, ◌==◌, Bool, true, false, cond, not, ◌||◌, ◌⊎◌, inl, inr, List, [], ◌∷◌, map, length, get_or, Option, None, Some, refl, sym, ◌∙◌, ap, subst, arith}
+use Rattle.std.proofs.Common.{◌≡◌, ℕ, suc, ◌+◌, ◌*◌, ◌≤◌, ◌<◌, ◌==◌, Bool, true, false, cond, not, ◌||◌, ◌⊎◌, inl, inr, List, [], ◌∷◌, map, length, get_or, Option, None, Some, refl, sym, ◌∙◌, ap, subst, arith}
 use Rattle.std.specs.List.{Contains, list_any, cons_option, position_or_len}
 use Rattle.std.specs.Option.{option_map}
-use Rattle.std.proofs.lemmas.Bool.{false≢true, eqb-true, eq-eqb, cond-true}
-use Rattle.std.proofs.lemmas.List.{get_or_default}
-use Rattle.std.proofs.lemmas.List.Folds.{list_any_at}
+use Rattle.std.proofs.lemmas.Bool.{false≢true, eqb-true, cond-true}
 use Rattle.std.proofs.lemmas.List.Sums.{passes_at_first}
+use Rattle.list_laws.proofs.Members.{tested_inside}
 use Rattle.dq_lits.specs.Literal.{Literal, positive, negative, variable_of, is_negative, opposite, on_variable}
 use Rattle.dq_lits.specs.Formula.{Dqbf}
 use Rattle.hint_log.specs.Conditions.{is_circuit_name, MayFollow}
@@ -20,8 +19,9 @@ use Rattle.cert_export.specs.Renaming.{Renaming, renamed_clause}
 use Rattle.cert_export.specs.CircuitPart.{CircuitPart, place_from_one, max_number, circuit_number, circuit_renaming, or_zero, aiger_literal, literal_code, IsInFile}
 use Rattle.cert_export.specs.ExportedCircuit.{CircuitNumbersAreInjective}
 use Rattle.hint_log.specs.ProductiveLog.{MatchesOrigin, IsRightlyNamed}
+use Rattle.hint_log.proofs.Lawful.{names_are_unique_lem}
+use Rattle.hint_log.proofs.NamedEntries.{number_below}
 use Rattle.cert_export.proofs.Codes.{opposite_even, opposite_odd, as_even, as_odd, AreVariables, no_constants}
-use Rattle.cert_export.proofs.PairNames.{same_name}
 
 pub position_below : (v : ℕ) (xs : List ℕ) → list_any (λ x. x == v) xs ≡ true →
     position_or_len (λ x. x == v) xs < length xs
@@ -61,25 +61,10 @@ place_parts xs v n h = by_bit (list_any (λ x. x == v) xs) refl h where
       subst (IsPlace xs v) same (position_is xs v e)
   by_bit false e h = cc
 
-pub among : (xs : List ℕ) (v : ℕ) → Contains xs v → list_any (λ x. x == v) xs ≡ true
-among xs v inside = list_any_at (λ x. x == v) xs inside.0 v inside.1 (eq-eqb (get_or xs inside.0 v) v inside.2)
-
-pub inside_of : (xs : List ℕ) (v : ℕ) → list_any (λ x. x == v) xs ≡ true → Contains xs v
-inside_of xs v h =
-    let p = position_is xs v h in (p.place, p.below, sym (get_or_default xs p.place 0 v p.below) ∙ p.there)
-
 pub place_there : (xs : List ℕ) (v : ℕ) → Contains xs v → place_from_one xs v ≡ Some
     (position_or_len (λ x. x == v) xs + 1)
 place_there xs v inside = cond-true (list_any (λ x. x == v) xs) (Some (position_or_len (λ x. x == v) xs + 1)) None
-    (among xs v inside)
-
-pub number_below : {X : Type 0} (xs : List X) (j : ℕ) (x : X) → numbered_from_one xs j ≡ Some x →
-    (1 ≤ j) × (j ≤ length xs)
-number_below xs zero x h = cc
-number_below [] (suc j) x h = cc
-number_below (y ∷ ys) (suc zero) x h = (omega arith, omega arith)
-number_below (y ∷ ys) (suc (suc j)) x h = let r = number_below ys (suc j) x h in let s = r.1 in
-    (omega arith, omega arith)
+    (tested_inside xs v inside)
 
 module _ (f : Dqbf) (e : CircuitPart) where
   abbrev pub IsInputNumber : Option Name → ℕ → Type 0
@@ -142,7 +127,7 @@ module _ (f : Dqbf) (e : CircuitPart) where
 
   module _ (entries : List Entry) (lawful : Each MayFollow entries) (v w x : ℕ) where
     one_name : (n m : Name) → n ≡ m → name_of entries v ≡ Some n → name_of entries w ≡ Some m → v ≡ w
-    one_name n m same h k = same_name entries v w n lawful h (k ∙ ap Some (sym same))
+    one_name n m same h k = names_are_unique_lem entries v w n lawful h (k ∙ ap Some (sym same))
 
     by_cases : IsNumbered v (name_of entries v) x → IsNumbered w (name_of entries w) x → v ≡ w
     by_cases (inl i) (inl k) = one_name (Input i.0) (Input k.0)

@@ -1,5 +1,5 @@
 -- What an answer reaches can be exported.
-use Rattle.std.proofs.Common.{◌≡◌, ℕ, ◌+◌, ◌*◌, ◌≤◌, mul-le-mul_right, Bool, map, true, false, List, [], ◌∷◌, length, get_or, Option, None, Some, Result, Ok, Err, IfOk, refl, sym, ◌∙◌, ap, subst, arith}
+use Rattle.std.proofs.Common.{◌≡◌, ℕ, ◌+◌, ◌*◌, ◌≤◌, Bool, map, true, false, List, [], ◌∷◌, length, get_or, Option, None, Some, Result, Ok, Err, IfOk, refl, sym, ◌∙◌, ap, subst, arith}
 use Rattle.std.specs.List.{All, Contains}
 use Rattle.std.specs.Option.{option_map, option_and_then}
 use Rattle.dq_lits.specs.Derivation.{is_tautology, IsDerived, ProofStep}
@@ -39,11 +39,6 @@ use Rattle.cert_export.proofs.RoundRows.{few_used, rows_stay, used_are_rounds}
 use Rattle.cert_export.proofs.UsedRounds.{kept_clause, used_ascend}
 use Rattle.cert_export.proofs.PairNames.{pairs_are_injective}
 use Rattle.cert_export.proofs.Renamings.{renamed_consistent}
-
--- a product of few rounds and few clauses
-pub few_instances : (r c : ℕ) → r ≤ 1000000000 → c ≤ 10000000 → r * c ≤ 10000000000000000
-few_instances r c few_r few_c = let most : r * c ≤ 1000000000 * c = mul-le-mul_right c few_r in
-    omega (arith, most, few_c)
 
 module _ (f : Dqbf) (live : List ℕ) (entries : List Entry) (ids : List ℕ) (e : AreExportable f live entries ids) where
   abbrev rounds : List ℕ

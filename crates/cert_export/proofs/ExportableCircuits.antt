@@ -8,6 +8,7 @@ use Rattle.std.proofs.lemmas.List.Elements.{All-nil, All-cons, Contains-get_or}
 use Rattle.dq_lits.specs.Derivation.{is_tautology, IsDerived, ProofStep}
 use Rattle.dq_lits.specs.Formula.{Dqbf, IsWellFormed, HasLawfulPrefix}
 use Rattle.dq_lits.specs.Literal.{Literal, variable_of}
+use Rattle.dq_lits.proofs.FormulaVariables.{few_declared}
 use Rattle.hint_log.specs.Conditions.{IsId, AreLogged, AreNamed}
 use Rattle.hint_log.specs.Entries.{Entry, Named, Given, Learned, Answer, Round, Begun, ProofLog, has_id, numbered, clause_of, clause_at, last_id, count, name_of}
 use Rattle.hint_log.specs.Growth.{Each}
@@ -18,6 +19,7 @@ use Rattle.hint_log.specs.Reached.{Reaches, by_hint, AreReached}
 use Rattle.hint_log.specs.declared.origins.Leaf.{Leaf}
 use Rattle.hint_log.specs.declared.origins.Origin.{Origin}
 use Rattle.hint_log.specs.declared.origins.Origin.TheVariants.{Instance, Gate, Fault, Copy, Link, TermGate, Differ}
+use Rattle.hint_log.proofs.NamedEntries.{number_below}
 use Rattle.log_laws.proofs.Found.{each_at, split_at}
 use Rattle.log_laws.proofs.Solved.{split_literal}
 use Rattle.cert_text.specs.CircuitProof.{is_proof_variable, first_proof_id}
@@ -41,12 +43,11 @@ use Rattle.cert_export.specs.declared.parts.Part.{Part}
 use Rattle.cert_export.specs.Renaming.{Renaming, IsInjective, renamed_clause}
 use Rattle.cert_export.specs.Written.{CanBeWritten}
 use Rattle.cert_export.proofs.CircuitClauses.{circuit_clauses_are_negated_matrix}
-use Rattle.cert_export.proofs.CircuitNumbers.{circuit_numbers_are_injective, number_below}
+use Rattle.cert_export.proofs.CircuitNumbers.{circuit_numbers_are_injective}
 use Rattle.cert_export.proofs.LineCounts.{lines_few}
 use Rattle.cert_export.proofs.ExportedAnswers.{usable, exported_proof_is_allowed}
 use Rattle.cert_export.proofs.ExportedCircuits.{exported_circuit_is_netlist}
 use Rattle.cert_export.proofs.Renamings.{renamed_consistent}
-use Rattle.cert_export.proofs.SmallNumbers.{few_declared}
 
 abbrev gate_at : Dqbf → List Entry → CircuitPart → ℕ → FileGate
 gate_at f entries e v = gate_of (circuit_renaming f entries e) v (name_of entries v)

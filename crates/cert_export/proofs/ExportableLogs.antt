@@ -1,11 +1,13 @@
 -- Answers that decide can be exported, in a log of productive work and in a session.
-use Rattle.std.proofs.Common.{◌≡◌, ℕ, zero, suc, ◌+◌, ◌-◌, ◌≤◌, ◌==◌, Bool, true, false, not, cond, List, [], ◌∷◌, ◌++◌, length, get_or, slice_get, Option, None, Some, refl, sym, ◌∙◌, ap, subst, arith}
+use Rattle.std.proofs.Common.{◌≡◌, ℕ, zero, suc, ◌+◌, ◌-◌, ◌≤◌, ◌==◌, Bool, true, false, not, cond, List, [], ◌∷◌, ◌++◌, length, get_or, slice_get, Some, refl, sym, ◌∙◌, ap, subst, arith}
 use Rattle.std.specs.List.{All, Contains, filter_map, cons_option, position_or_len, range_with_len}
 use Rattle.std.specs.List.Sorted.{IsStrictlyIncreasing}
 use Rattle.std.proofs.lemmas.Bool.{eq-eqb, ne_eqb, eqb-true, false≢true}
 use Rattle.std.proofs.lemmas.List.FromFn.{length-range_with_len, get_or-range_with_len}
 use Rattle.std.proofs.lemmas.List.Sums.{position_or_len_is}
 use Rattle.std.proofs.lemmas.List.Elements.{All-nil, All-head, All-tail, All-push}
+use Rattle.list_laws.proofs.Elements.{place_within as small_place}
+use Rattle.list_laws.proofs.Members.{contains-range_from_one}
 use Rattle.dq_lits.specs.Literal.{Literal}
 use Rattle.dq_lits.specs.Formula.{Dqbf}
 use Rattle.hint_log.specs.Conditions.{MayFollow}
@@ -22,9 +24,10 @@ use Rattle.hint_log.specs.declared.names.Name.TheVariants.{Input}
 use Rattle.hint_log.specs.declared.origins.Leaf.{Leaf}
 use Rattle.hint_log.specs.declared.origins.Origin.{Origin}
 use Rattle.hint_log.specs.declared.origins.Origin.TheVariants.{Instance, Gate, Fault, Copy, Link, TermGate, Differ}
+use Rattle.hint_log.proofs.NamedEntries.{live_are_numbers}
 use Rattle.log_laws.specs.Meaning.{IsSoundAnswer}
 use Rattle.log_laws.proofs.Found.{each_at, split_at}
-use Rattle.log_laws.proofs.LiveAnswers.{live_sound}
+use Rattle.log_laws.proofs.LiveAnswers.{live_sound, same_universals}
 use Rattle.expansion.specs.Table.{IsRefutedBy}
 use Rattle.cert_export.specs.Expansion.{number_among, IsInstanceClause}
 use Rattle.cert_export.specs.Exported.{CanExportFalse}
@@ -34,8 +37,7 @@ use Rattle.cert_export.proofs.Answers.{reached_given}
 use Rattle.cert_export.proofs.CircuitNumbers.{input_universal}
 use Rattle.cert_export.proofs.CircuitClauses.{range_at, there_is}
 use Rattle.cert_export.proofs.ExportableAnswers.{rows_whole}
-use Rattle.cert_export.proofs.ExportedCircuits.{in_range}
-use Rattle.cert_export.proofs.PairNames.{from_one, small_place}
+use Rattle.cert_export.proofs.PairNames.{from_one}
 
 -- where all clauses are live, each has its own number
 own_number : (n j : ℕ) → 1 ≤ j → j ≤ n → number_among (range_with_len 1 n) j ≡ j
@@ -55,10 +57,6 @@ all_ascend n k below =
     let here = range_at 1 n k (omega (arith, below, long)) in
     let next = range_at 1 n (k + 1) (omega (arith, below, long)) in
     omega (arith, here, next)
-
-all_live : (n j : ℕ) → 1 ≤ j → j ≤ n → Contains (range_with_len 1 n) j
-all_live n j one last = subst (Contains (range_with_len 1 n)) (let e : 1 + (j - 1) ≡ j = omega (arith, one) in e)
-    (in_range 1 n (j - 1) (omega (arith, one, last)))
 
 -- a given clause that the last answer reaches is reached by its hints
 reached_here : (entries earlier : List Entry) (id : ℕ) (clause : List Literal) (hints : List ℕ) →
@@ -103,7 +101,7 @@ module _ (f : Dqbf) (entries : List Entry) (id : ℕ) (lawful : Each MayFollow e
   instance_clause h (Instance k j) c mine at =
       let place = split_at entries h (Given (Instance k j) c) at in
       let number = instance_number f place.1 k j c (own_origin (Instance k j) c place.0 place.1 place.2) in (
-        all_live (length f.matrix) j number.0 number.1,
+        contains-range_from_one (length f.matrix) j number.0 number.1,
         λ more before is. subst (λ i. IsOriginsClause f before (Instance k i) c)
             (sym (own_number (length f.matrix) j number.0 number.1)) (own_origin (Instance k j) c more before is),
       )
@@ -146,23 +144,6 @@ input_live all (Learned c hints ∷ es) v x given h = input_live all es v x give
 input_live all (Answer c hints ∷ es) v x given h = input_live all es v x given.1 h
 input_live all (Round row values j ∷ es) v x given h = input_live all es v x given.1 h
 input_live all (Begun live ∷ es) v x given h = input_live all es v x given.1 h
-
--- the live numbers are those of clauses
-live_are_numbers : (all : Dqbf) (es : List Entry) (live : List ℕ) → Each (MatchesLiveOrigin all) es →
-    live_numbers es ≡ Some live → AreNumbers all live
-live_are_numbers all [] live given h = cc
-live_are_numbers all (Named v n ∷ es) live given h = live_are_numbers all es live given.1 h
-live_are_numbers all (Given origin c ∷ es) live given h = live_are_numbers all es live given.1 h
-live_are_numbers all (Learned c hints ∷ es) live given h = live_are_numbers all es live given.1 h
-live_are_numbers all (Answer c hints ∷ es) live given h = live_are_numbers all es live given.1 h
-live_are_numbers all (Round row values j ∷ es) live given h = live_are_numbers all es live given.1 h
-live_are_numbers all (Begun numbers ∷ es) live given h = let same : numbers ≡ live = cc in
-    subst (AreNumbers all) same given.0
-
--- rows are whole by the prefix, which all searches share
-same_universals : (all : Dqbf) (o : Option (List ℕ)) → length (formula_by all o).universals ≡ length all.universals
-same_universals all None = refl
-same_universals all (Some live) = refl
 
 live_rows_whole : (all : Dqbf) (es : List Entry) → Each (RefutesNewLiveRow all) es →
     All (λ row. length row ≡ length all.universals) (rows_of es)

@@ -5,6 +5,7 @@ use Rattle.std.proofs.lemmas.Bool.{cond-true, cases_lt, true≢false}
 use Rattle.std.proofs.lemmas.List.{get_or-map, get_or-append-add, length-map}
 use Rattle.std.proofs.lemmas.List.Elements.{All-contains, All-nil, All-cons, All-map, Contains-get_or}
 use Rattle.std.proofs.lemmas.List.FromFn.{length-range_with_len}
+use Rattle.list_laws.proofs.Members.{contains_map, mapped_from, place_within}
 use Rattle.dq_lits.specs.Literal.{Literal, positive, negative, variable_of, is_negative}
 use Rattle.dq_lits.specs.Formula.{Dqbf, Existential, IsWellFormed}
 use Rattle.hint_log.specs.Conditions.{is_circuit_name, HasSides, MayFollow}
@@ -35,31 +36,6 @@ use Rattle.log_laws.proofs.Found.{variable}
 pub variable_of_code : (r : Renaming) (l : Literal) (h : HasNumber r l) → literal_variable (literal_code r l) ≡ h.number
 variable_of_code r (positive v) h = ap (λ o. literal_variable (2 * or_zero o)) h.is ∙ half_even h.number
 variable_of_code r (negative v) h = ap (λ o. literal_variable (2 * or_zero o + 1)) h.is ∙ half_odd h.number
-
-pub mapped_inside : {X Y : Type 0} (g : X → Y) (xs : List X) (x : X) → Contains xs x → Contains (map g xs) (g x)
-mapped_inside g xs x inside =
-    let below = inside.1 in
-    let long = length-map xs g in
-    (inside.0, omega (arith, long), get_or-map g xs inside.0 x (g x) inside.1 ∙ ap g inside.2)
-
--- the element that a mapped one comes from
-pub mapped_from : {X Y : Type 0} (g : X → Y) (xs : List X) (y : Y) → Contains (map g xs) y →
-    (x : X) × Contains xs x × (g x ≡ y)
-mapped_from g [] y (k, below, is) = absurd (omega arith)
-mapped_from g (x ∷ xs) y (zero, below, is) = (x, (0, omega arith, refl), is)
-mapped_from g (x ∷ xs) y (suc k, below, is) =
-    let r = mapped_from g xs y (k, (let b : k < length (map g xs) = omega arith in b), is) in
-    let b = r.1.1 in
-    (r.0, (suc r.1.0, omega arith, r.1.2), r.2)
-
-pub in_range : (a n p : ℕ) → p < n → Contains (range_with_len a n) (a + p)
-in_range a zero p h = absurd (omega arith)
-in_range a (suc n) zero h = (0, omega arith, omega arith)
-in_range a (suc n) (suc p) h =
-    let e : a + 1 + p ≡ a + suc p = omega arith in
-    let r = subst (Contains (range_with_len (a + 1) n)) e (in_range (a + 1) n p (omega arith)) in
-    let b = r.1 in
-    (suc r.0, omega arith, r.2)
 
 module _ (f : Dqbf) (all : List Entry) (e : CircuitPart) (lawful : Each MayFollow all)
     (given : HasUniversalInputs f all) (part : IsCircuitPart f all e) where
@@ -191,7 +167,7 @@ module _ (f : Dqbf) (all : List Entry) (e : CircuitPart) (lawful : Each MayFollo
               by_case (inl i) =
                   let place = i.2.number in
                   let n_is : 1 + i.2.place ≡ n = omega (arith, place) in
-                  subst (IsGrounded net) n_is (input (in_range 1 (length f.universals) i.2.place i.2.below))
+                  subst (IsGrounded net) n_is (input (place_within 1 (length f.universals) i.2.place i.2.below))
               by_case (inr (inl g)) =
                   let q = file_gate_of (variable_of l) (let p = g.1 in let c =
                   Contains-get_or e.gates p.place 0 p.below in
@@ -211,7 +187,7 @@ module _ (f : Dqbf) (all : List Entry) (e : CircuitPart) (lawful : Each MayFollo
             (ap (λ k. r (variable_of k)) b_is ∙ q.right_number.is) in
             let own_is : q.own.number ≡ n = let two : Some q.own.number ≡ Some n = sym q.own.is ∙ number in cc in
             subst (IsGrounded net) (q.variable_is ∙ own_is)
-            (gate (file_gate (variable_of l)) (mapped_inside file_gate e.gates (variable_of l) inside)
+            (gate (file_gate (variable_of l)) (contains_map file_gate e.gates (variable_of l) inside)
             (subst (IsGrounded net) (sym q.left_is) left_ground)
             (subst (IsGrounded net) (sym q.right_is) right_ground))
         by_name later (Bad g j) s c at = cc

@@ -1,22 +1,19 @@
 -- Leaves of the variables in faults.
-use Rattle.std.proofs.Common.{◌≡◌, ℕ, ◌+◌, ◌-◌, ◌≤◌, ◌<◌, ◌⊎◌, inl, inr, true, false, List, ◌∷◌, take, length, get_or, Option, None, Some, IsSome, is_some, refl, sym, ◌∙◌, ap, subst, arith}
+use Rattle.std.proofs.Common.{◌≡◌, ℕ, ◌+◌, ◌≤◌, ◌<◌, ◌⊎◌, inl, inr, true, false, List, ◌∷◌, take, length, get_or, Option, None, Some, IsSome, is_some, refl, sym, ◌∙◌, ap, subst}
 use Rattle.std.specs.List.{Contains}
-use Rattle.std.specs.Prelude.{slice_get, slice_index_or}
-use Rattle.std.specs.Option.{option_map, option_and_then}
+use Rattle.std.specs.Prelude.{slice_index_or}
+use Rattle.std.specs.Option.{option_map}
 use Rattle.std.proofs.lemmas.List.{take_all, take_more}
+use Rattle.list_laws.proofs.Members.{last_or_inside}
 use Rattle.dq_lits.specs.Formula.{Dqbf}
-use Rattle.dq_lits.specs.Literal.{Literal, negative}
+use Rattle.dq_lits.specs.Literal.{negative}
 use Rattle.hint_log.specs.Entries.{Entry, origin_at}
-use Rattle.hint_log.specs.Naming.{numbered_from_one}
 use Rattle.hint_log.specs.declared.origins.Leaf.{Leaf}
 use Rattle.hint_log.specs.declared.origins.Leaf.TheVariants.{Constant}
 use Rattle.hint_log.specs.declared.origins.Origin.TheVariants.{Fault}
 use Rattle.number_tables.specs.Numbers.{has_number, place_of}
 use Rattle.number_tables.proofs.NumberPlaces.{placed}
 use Rattle.cert_export.specs.FaultLeaves.{LeafTable, leaf_of, IsLeafAt, AreLeavesAmong, HasLeavesAmong, BeginsGroup, IsFaultOfGroup, AreOfGroup}
-use Rattle.log_laws.proofs.Found.{slice_get_at}
-use Rattle.cert_export.proofs.GivenNames.{Contains-append_either}
-use Rattle.cert_export.proofs.PairNames.{from_one, small_place}
 
 pub has_leaf : (t : LeafTable) (v : ℕ) → has_number t.variables v ≡ true → IsSome (leaf_of t v)
 has_leaf t v there = by_option (place_of t.variables v) (placed t.variables v ∙ there) where
@@ -25,58 +22,10 @@ has_leaf t v there = by_option (place_of t.variables v) (placed t.variables v �
   by_option None h = cc
   by_option (Some p) h = refl
 
--- the clause of a literal, and its place there
-pub record IsLiteralPlace (matrix : List (List Literal)) (j i : ℕ) : Type 0 where
-  pub clause : List Literal
-  pub j_from_one : 1 ≤ j
-  pub j_below : j - 1 < length matrix
-  pub clause_is : slice_get matrix (j - 1) ≡ Some clause
-  pub i_from_one : 1 ≤ i
-  pub i_below : i - 1 < length clause
-  pub is : (d : Literal) → option_and_then (λ c. numbered_from_one c i) (numbered_from_one matrix j) ≡ Some
-      (get_or clause (i - 1) d)
-
-some_at : {X : Type 0} (xs : List X) (i : ℕ) → IsSome (numbered_from_one xs i) →
-    (x : X) × (numbered_from_one xs i ≡ Some x)
-some_at xs i h = by_option (numbered_from_one xs i) refl h where
-  by_option : {X : Type 0} {n : Option X} (o : Option X) → n ≡ o → IsSome o → (x : X) × (n ≡ Some x)
-  by_option None e h = cc
-  by_option (Some x) e h = (x, e)
-
-pub literal_place : (matrix : List (List Literal)) (j i : ℕ) →
-    IsSome (option_and_then (λ clause. numbered_from_one clause i) (numbered_from_one matrix j)) →
-    IsLiteralPlace matrix j i
-literal_place matrix j i h = by_option (numbered_from_one matrix j) refl h where
-  by_option : (o : Option (List Literal)) → numbered_from_one matrix j ≡ o →
-      IsSome (option_and_then (λ clause. numbered_from_one clause i) o) → IsLiteralPlace matrix j i
-  by_option None e h = cc
-  by_option (Some clause) e h =
-      let l = some_at clause i h in
-      let cj = from_one matrix j clause e in
-      let ci = from_one clause i l.0 l.1 in
-      let low = small_place clause (i - 1) l.0 ci.1 in
-      record {
-        clause = clause;
-        j_from_one = cj.0;
-        j_below = small_place matrix (j - 1) clause cj.1;
-        clause_is = cj.1;
-        i_from_one = ci.0;
-        i_below = low;
-        is = λ d. ap (option_and_then (λ c. numbered_from_one c i)) e ∙ l.1 ∙ sym ci.1 ∙ slice_get_at clause
-            (i - 1) d low;
-      }
-
 -- leaves of the first so many ids
 pub record LeavesSoFar (f : Dqbf) (entries : List Entry) (ids : List ℕ) (t : LeafTable) (i : ℕ) : Type 0 where
   pub sound : AreLeavesAmong f entries ids t
   pub whole : HasLeavesAmong f entries (take i ids) t
-
-pub no_leaves : (f : Dqbf) (entries : List Entry) (ids : List ℕ) (t : LeafTable) → ((v : ℕ) → leaf_of t v ≡ None) →
-    LeavesSoFar f entries ids t 0
-no_leaves f entries ids t none = record {
-  sound = λ v out is. let both : None ≡ Some out = sym (none v) ∙ is in cc;
-  whole = λ v out h. absurd (let b = h.among.1 in omega (arith, b));
-}
 
 kept_some : (s t : LeafTable) → ((v : ℕ) (out : Leaf) → leaf_of s v ≡ Some out → leaf_of t v ≡ Some out) → (v : ℕ) →
     IsSome (leaf_of s v) → IsSome (leaf_of t v)
@@ -96,7 +45,7 @@ one_leaf_more f entries ids s t i id below id_is so_far kept there only = record
     | inl before ↦ so_far.sound v out before
     | inr here ↦ record { id = id; among = (i, below, sym id_is); at = here }
   ];
-  whole = λ v out h. elim (Contains-append_either (take i ids) (get_or ids i id) h.id
+  whole = λ v out h. elim (last_or_inside (take i ids) (get_or ids i id) h.id
       (subst (λ xs. Contains xs h.id) (take_more ids i id below) h.among)) [
         | inl before ↦ kept_some s t kept v (so_far.whole v out (record { id = h.id; among = before; at = h.at }))
         | inr same ↦ there v out (subst (λ n. IsLeafAt f entries n v out) (sym (id_is ∙ same)) h.at)
@@ -111,18 +60,6 @@ all_leaves f entries ids t i past so_far v out h =
       among = subst (λ xs. Contains xs h.id) (sym (take_all i ids past)) h.among;
       at = h.at;
     })
-
--- no fault among the first so many ids, and one id more
-pub no_fault_more : (entries : List Entry) (ids : List ℕ) (i id : ℕ) → i < length ids → id ≡ get_or ids i id →
-    ((h j k : ℕ) (out : Leaf) → Contains (take i ids) h → origin_at entries h ≡ Some (Fault j k out) → ⊥)
-    → ((j k : ℕ) (out : Leaf) → origin_at entries id ≡ Some (Fault j k out) → ⊥) → (h j k : ℕ) (out : Leaf) →
-    Contains (take (i + 1) ids) h → origin_at entries h ≡ Some (Fault j k out) → ⊥
-no_fault_more entries ids i id below id_is so_far none h j k out inside at =
-    elim (Contains-append_either (take i ids) (get_or ids i id) h
-    (subst (λ xs. Contains xs h) (take_more ids i id below) inside)) [
-      | inl before ↦ so_far h j k out before at
-      | inr same ↦ none j k out (ap (origin_at entries) (id_is ∙ same) ∙ at)
-    ]
 
 -- a clause begins with one literal
 same_group : (entries : List Entry) (id g h : ℕ) → BeginsGroup entries id g → BeginsGroup entries id h → g ≡ h

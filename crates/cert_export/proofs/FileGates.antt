@@ -1,9 +1,9 @@
 -- The exported circuit is made gate by gate and output by output.
-use Rattle.std.proofs.Common.{◌≡◌, ◌≢◌, ℕ, zero, suc, ◌+◌, ◌*◌, ◌/◌, ◌<◌, true, inl, inr, List, [], ◌∷◌, ◌++◌, map, take, length, length-take, get_or, get_or-take, Option, None, Some, IsSome, is_some, refl, sym, ◌∙◌, ap, subst, arith}
-use Rattle.std.specs.List.{All, Contains, range_with_len}
+use Rattle.std.proofs.Common.{◌≡◌, ℕ, zero, suc, ◌+◌, ◌*◌, ◌/◌, ◌<◌, true, inl, inr, List, [], ◌∷◌, ◌++◌, map, take, length, get_or, Option, None, Some, IsSome, is_some, refl, sym, ◌∙◌, ap, subst, arith}
+use Rattle.std.specs.List.{Contains, range_with_len}
 use Rattle.std.specs.Prelude.{slice_index}
 use Rattle.std.proofs.lemmas.List.{get_or-map, length-map, take_more, get_or_default}
-use Rattle.std.proofs.lemmas.List.Elements.{All-contains}
+use Rattle.list_laws.proofs.Numbers.{range_more}
 use Rattle.dq_lits.specs.Literal.{Literal, variable_of}
 use Rattle.dq_lits.specs.Formula.{Dqbf, Existential}
 use Rattle.dq_formula.specs.Prefix.{existential_variables}
@@ -13,14 +13,13 @@ use Rattle.hint_log.specs.declared.names.Name.{Name}
 use Rattle.hint_log.specs.declared.names.Name.TheVariants.{And}
 use Rattle.hint_log.specs.declared.origins.Leaf.{Leaf}
 use Rattle.hint_log.specs.declared.origins.Leaf.TheVariants.{Constant, Literal as LeafLiteral}
-use Rattle.circuit_plain.specs.Netlist.{Netlist, IsNetlist, IsVariable, IsLiteral, IsDefined, IsGate, variable_of_gate}
+use Rattle.circuit_plain.specs.Netlist.{Netlist, IsDefined, variable_of_gate}
 use Rattle.circuit_plain.specs.declared.circuits.Gate.{Gate}
 use Rattle.log_laws.proofs.Solved.{sides}
 use Rattle.cert_export.specs.CircuitPart.{CircuitPart, IsCircuitPart, IsLeafInFile, circuit_renaming, gate_of, leaf_code, exported_netlist}
 use Rattle.cert_export.specs.FaultLeaves.{LeafTable, leaf_of, or_false, output_leaf}
 use Rattle.cert_export.specs.Netlists.{IsLeafNamed}
 use Rattle.cert_export.proofs.Codes.{half_even}
-use Rattle.cert_export.proofs.ExportedCircuits.{mapped_from}
 
 -- inputs and gates are named
 pub circuit_named : (o : Option Name) → is_circuit_name o ≡ true → IsSome o
@@ -45,50 +44,6 @@ pub sides_named : (entries : List Entry) (v : ℕ) (a b : Literal) → AreLogged
 sides_named entries v a b logged named =
     let both = sides entries v a b logged named in
     (circuit_named (name_of entries (variable_of a)) both.0, circuit_named (name_of entries (variable_of b)) both.1)
-
--- a gate that may be added at its place
-pub record MayBeAdded (net : Netlist) (p lhs left right : ℕ) : Type 0 where
-  pub variable : IsVariable net.max_var (lhs / 2)
-  pub undefined : IsDefined (record {
-    max_var = net.max_var;
-    inputs = net.inputs;
-    outputs = [];
-    gates =
-        take p net.gates;
-  }) (lhs / 2) → ⊥
-  pub left_fits : IsLiteral net.max_var left
-  pub right_fits : IsLiteral net.max_var right
-
-pub may_be_added : (net : Netlist) → IsNetlist net → (p : ℕ) (g : Gate) → p < length net.gates →
-    get_or net.gates p g ≡ g → MayBeAdded net p (2 * g.variable) g.left g.right
-may_be_added net lawful p g below is =
-    let fits : IsGate net.max_var g = subst (IsGate net.max_var) is (lawful.gates_fit p g below) in
-    let half : 2 * g.variable / 2 ≡ g.variable = half_even g.variable in
-    record {
-      variable = subst (IsVariable net.max_var) (sym half) fits.variable;
-      undefined = λ defined. new (subst (IsDefined (record {
-        max_var = net.max_var;
-        inputs = net.inputs;
-        outputs = [];
-        gates = take p net.gates;
-      })) half defined);
-      left_fits = fits.left;
-      right_fits = fits.right;
-    } where
-      new : IsDefined (record { max_var = net.max_var; inputs = net.inputs; outputs = []; gates = take p net.gates })
-          g.variable → ⊥
-      new (inl inside) = All-contains (λ x. All (λ h. x ≢ h.variable) net.gates) net.inputs g.variable lawful.apart
-          inside p g below (sym (ap (λ h. h.variable) is))
-      new (inr inside) =
-          let h = mapped_from variable_of_gate (take p net.gates) g.variable inside in
-          let k = h.1.0 in
-          let low = h.1.1 in
-          let long = length-take p net.gates in
-          let k_low : k < p = omega (arith, low, long) in
-          let at : get_or net.gates k h.0 ≡ h.0 = sym (get_or-take p net.gates k h.0 k_low) ∙ h.1.2 in
-          let at' : get_or net.gates k g ≡ h.0 = sym (get_or_default net.gates k h.0 g
-          (omega (arith, k_low, below))) ∙ at in
-          lawful.gates_once k p g k_low below (ap (λ x. x.variable) at' ∙ h.2 ∙ sym (ap (λ x. x.variable) is))
 
 pub gate_added : (net : Netlist) (p : ℕ) (g : Gate) (old new : Netlist) → p < length net.gates →
     get_or net.gates p g ≡ g → old ≡ record net { outputs = []; gates = take p net.gates } →
@@ -201,12 +156,6 @@ next_input net i inputs gates (inl inside) = let b = in_range_below 1 i (i + 1)
 next_input net i inputs gates (inr inside) =
     let none : Contains {X = ℕ} [] (i + 1) = subst (λ gs. Contains (map variable_of_gate gs) (i + 1)) gates inside in
     let b = none.1 in omega (arith, b)
-
--- one number more
-pub range_more : (a n : ℕ) → range_with_len a (suc n) ≡ range_with_len a n ++ (a + n) ∷ []
-range_more a zero = ap (λ x. x ∷ []) (let e : a ≡ a + 0 = omega arith in e)
-range_more a (suc n) = ap (λ xs. a ∷ xs) (range_more (a + 1) n ∙ ap (λ x. range_with_len (a + 1) n ++ x ∷ [])
-    (let e : a + 1 + n ≡ a + suc n = omega arith in e))
 
 pub input_added : (old first new : Netlist) (i : ℕ) → old ≡ record first { inputs = range_with_len 1 i } →
     new ≡ record old { inputs = old.inputs ++ (i + 1) ∷ [] } → new ≡ record first { inputs = range_with_len 1 (i + 1) }

@@ -1,10 +1,11 @@
 -- The places of the needed gates: what is looked at, and what is still to be.
-use Rattle.std.proofs.Common.{◌≡◌, ℕ, ◌-◌, ◌<◌, ◌==◌, ◌⊎◌, inl, inr, Bool, true, false, cond, true≢false, List, [], ◌∷◌, ◌++◌, length, get_or, reverse, slice_get, None, Some, refl, sym, ◌∙◌, ap, subst, arith}
+use Rattle.std.proofs.Common.{◌≡◌, ℕ, ◌-◌, ◌<◌, ◌==◌, ◌⊎◌, inl, inr, Bool, true, false, true≢false, List, [], ◌∷◌, ◌++◌, length, get_or, reverse, slice_get, Some, refl, sym, ◌∙◌, ap, subst, arith}
 use Rattle.std.specs.List.{All, AllPairs, Contains}
 use Rattle.std.proofs.lemmas.Bool.{eqb-true, eq-eqb}
 use Rattle.std.proofs.lemmas.List.{get_or-reverse, length-reverse, reverse-append, reverse-reverse}
-use Rattle.std.proofs.lemmas.List.Elements.{All-contains, All-nil, All-push, Contains-append_left, Contains-push, Contains-push_cases}
+use Rattle.std.proofs.lemmas.List.Elements.{All-contains, All-push, Contains-append_left, Contains-push, Contains-push_cases}
 use Rattle.std.proofs.lemmas.List.Quantifiers.{all_pairs_push}
+use Rattle.list_laws.proofs.Elements.{place_within}
 use Rattle.dq_lits.specs.Literal.{Literal, variable_of}
 use Rattle.hint_log.specs.Conditions.{MayFollow}
 use Rattle.hint_log.specs.Entries.{Entry, name_of, names_of}
@@ -13,8 +14,7 @@ use Rattle.hint_log.specs.Pending.{is_pending, Takes}
 use Rattle.hint_log.specs.declared.names.Name.{Name}
 use Rattle.hint_log.specs.declared.names.Name.TheVariants.{And}
 use Rattle.hint_log.specs.declared.pending.Pending.{Pending}
-use Rattle.cert_export.specs.Needed.{is_and, HasGate, IsGatePlace, IsWanted, Wants, WantsSides, IsListed, AreGatePlaces}
-use Rattle.cert_export.proofs.PairNames.{small_place}
+use Rattle.cert_export.specs.Needed.{is_and, HasGate, IsGatePlace, IsWanted, Wants, WantsSides}
 use Rattle.cert_export.proofs.NamePlaces.{named_at, same_pair, side_before}
 
 -- the same list from its end on
@@ -37,10 +37,6 @@ nothing_wanted entries v pending none = record {
   only = λ p h. inl h;
 }
 
-pub no_name : (entries : List Entry) (v : ℕ) → name_of entries v ≡ None → (a b : Literal) → name_of entries v
-    ≡ Some (And a b) → ⊥
-no_name entries v none a b named = cc
-
 -- the same place's name
 pub named_so : (names : List (ℕ × Name)) (p v : ℕ) (n : Name) (r : ℕ × Name) → slice_get names p ≡ Some (v, n) →
     slice_get names p ≡ Some r → slice_get names p ≡ Some (v, r.1)
@@ -54,27 +50,6 @@ no_gate entries v p n lawful at none a b named =
     let mine = named_at entries p v n lawful at in
     let same : n ≡ And a b = cc in
     true≢false (sym (ap is_and same) ∙ none)
-
-abbrev IsWith : Pending → Pending → ℕ → Type 0
-IsWith old new place = (n : ℕ) → is_pending new n ≡ cond (place == n) true (is_pending old n)
-
--- a gate's place is added
-pub gate_wanted : (entries : List Entry) (v p : ℕ) (n : Name) (old new : Pending) →
-    slice_get (names_of entries) p ≡ Some (v, n) → is_and n ≡ true → IsWith old new p → Wants entries v old new
-gate_wanted entries v p n old new at is one = record {
-  kept = λ q h. kept q h (p == q) (one q);
-  there = λ a b named. (p, (n, at, is), one p ∙ ap (λ b. cond b true (is_pending old p)) (eq-eqb p p refl));
-  only = λ q h. back q (p == q) refl (sym (one q) ∙ h);
-} where
-  kept : (q : ℕ) → is_pending old q ≡ true → (b : Bool) → is_pending new q ≡ cond b true (is_pending old q) →
-      is_pending new q ≡ true
-  kept q h true e = e
-  kept q h false e = e ∙ h
-
-  back : (q : ℕ) (b : Bool) → (p == q) ≡ b → cond b true (is_pending old q) ≡ true →
-      (is_pending old q ≡ true) ⊎ HasGate entries v q
-  back q true same h = inr (n, ap (slice_get (names_of entries)) (sym (eqb-true p q same)) ∙ at, is)
-  back q false other h = inl h
 
 pub still_wanted : (entries : List Entry) (v : ℕ) (old new : Pending) → ((p : ℕ) → is_pending old p ≡ true →
     is_pending new p ≡ true) → IsWanted entries old v → IsWanted entries new v
@@ -122,17 +97,6 @@ pub record AreLookedAt (entries : List Entry) (roots pending : Pending) (places 
   pub roots_there : (p : ℕ) → is_pending roots p ≡ true → (is_pending pending p ≡ true) ⊎ Contains places p
   pub closed : (p v : ℕ) (a b : Literal) → Contains places p → slice_get (names_of entries) p ≡ Some (v, And a b) →
       IsReached entries pending places (variable_of a) × IsReached entries pending places (variable_of b)
-
-pub none_looked_at : (entries : List Entry) (roots : Pending) → ((p : ℕ) → is_pending roots p ≡ true →
-    IsGatePlace entries p) → AreLookedAt entries roots roots []
-none_looked_at entries roots gates = record {
-  descending = λ i j d low high. absurd (omega (arith, high));
-  gates = All-nil (IsGatePlace entries);
-  pending_gates = gates;
-  before = λ p h. All-nil (λ q. p < q);
-  roots_there = λ p h. inl h;
-  closed = λ p v a b (k, below, is). absurd (omega (arith, below));
-}
 
 module _ (entries : List Entry) (roots old taken new : Pending) (place : ℕ) (places : List ℕ)
     (so_far : AreLookedAt entries roots old places) (takes : Takes old taken place)
@@ -193,23 +157,6 @@ module _ (entries : List Entry) (roots old taken new : Pending) (place : ℕ) (p
     ];
   }
 
-pub all_looked_at : (entries : List Entry) (roots pending : Pending) (places : List ℕ) →
-    AreLookedAt entries roots pending places → ((n : ℕ) → is_pending pending n ≡ false) →
-    AreGatePlaces entries roots places
-all_looked_at entries roots pending places so_far none = record {
-  descending = so_far.descending;
-  gates = so_far.gates;
-  roots_there = λ p h. there p (so_far.roots_there p h);
-  closed = λ p v a b inside at. let both = so_far.closed p v a b inside at in
-      (listed (variable_of a) both.0, listed (variable_of b) both.1);
-} where
-  there : (p : ℕ) → (is_pending pending p ≡ true) ⊎ Contains places p → Contains places p
-  there p (inl h) = absurd (true≢false (sym h ∙ none p))
-  there p (inr inside) = inside
-
-  listed : (v : ℕ) → IsReached entries pending places v → IsListed entries places v
-  listed v reached a b named = let r = reached a b named in (r.0, r.1, there r.0 r.2)
-
 -- what was looked at last, or the end of the names, comes behind what is still to be
 pub fewer_left : (entries : List Entry) (roots pending : Pending) (places more : List ℕ) (place : ℕ) →
     AreLookedAt entries roots pending places → is_pending pending place ≡ true → more ≡ places ++ place ∷ [] →
@@ -227,5 +174,5 @@ fewer_left entries roots pending places more place so_far was is =
             (reversed_contains (reverse places) q inside)
 
       before : (up : List ℕ) → ((q : ℕ) → Contains up q → place < q) → place < get_or up 0 (length (names_of entries))
-      before [] low = let g = so_far.pending_gates place was in small_place (names_of entries) place (g.0, g.1.0) g.1.1
+      before [] low = let g = so_far.pending_gates place was in place_within (names_of entries) place (g.0, g.1.0) g.1.1
       before (q ∷ up) low = low q (0, omega arith, refl)

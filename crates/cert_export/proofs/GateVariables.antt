@@ -6,6 +6,7 @@ use Rattle.std.proofs.lemmas.Bool.{cases_order}
 use Rattle.std.proofs.lemmas.List.{ext_get_or, get_or-map, length-map}
 use Rattle.std.proofs.lemmas.List.Elements.{Contains-get_or}
 use Rattle.std.proofs.lemmas.List.FromFn.{get_or-range_with_len, length-range_with_len}
+use Rattle.list_laws.proofs.Members.{tested_inside}
 use Rattle.dq_lits.specs.Formula.{Dqbf}
 use Rattle.hint_log.specs.Entries.{Entry, name_of}
 use Rattle.hint_log.specs.declared.names.Name.{Name}
@@ -16,14 +17,14 @@ use Rattle.circuit_plain.specs.declared.circuits.Gate.{Gate}
 use Rattle.cert_export.specs.CircuitPart.{CircuitPart, IsCircuitPart, circuit_number, circuit_renaming, exported_netlist, gate_of, or_zero}
 use Rattle.cert_export.specs.ExportedCircuit.{HasSmallerSides, IsNumberedFile}
 use Rattle.cert_export.specs.Parts.{IsExportedCircuit}
-use Rattle.cert_export.proofs.CircuitNumbers.{IsPlace, among, place_there, position_is}
+use Rattle.cert_export.proofs.CircuitNumbers.{IsPlace, place_there, position_is}
 use Rattle.cert_export.proofs.SmallerSides.{smaller_sides}
 
 -- of numbers that differ, each stands first at its own place
 own_place : (xs : List ℕ) (i : ℕ) → AllPairs (λ v w. v ≢ w) xs → i < length xs →
     position_or_len (λ x. x == get_or xs i 0) xs ≡ i
 own_place xs i distinct below = placed (position_is xs (get_or xs i 0)
-    (among xs (get_or xs i 0) (Contains-get_or xs i 0 below))) where
+    (tested_inside xs (get_or xs i 0) (Contains-get_or xs i 0 below))) where
       placed : IsPlace xs (get_or xs i 0) (position_or_len (λ x. x == get_or xs i 0) xs + 1) →
           position_or_len (λ x. x == get_or xs i 0) xs ≡ i
       placed p = by_order (cases_order p.place i) where

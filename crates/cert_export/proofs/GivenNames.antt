@@ -1,10 +1,11 @@
 -- Variables of given clauses get their names.
-use Rattle.std.proofs.Common.{◌≡◌, ℕ, zero, suc, ◌++◌, true, false, is_some, ◌+◌, ◌≤◌, ◌<◌, ◌⊎◌, inl, inr, List, [], ◌∷◌, take, length, get_or, Option, None, Some, IsSome, refl, sym, ◌∙◌, ap, subst, arith}
+use Rattle.std.proofs.Common.{◌≡◌, ℕ, ◌++◌, true, false, is_some, ◌+◌, ◌≤◌, ◌<◌, ◌⊎◌, inl, inr, List, [], ◌∷◌, take, length, get_or, Option, None, Some, IsSome, refl, sym, ◌∙◌, ap, subst, arith}
 use Rattle.std.specs.List.{All, Contains, cons_option}
 use Rattle.std.specs.Option.{option_map, option_and_then}
 use Rattle.std.proofs.lemmas.Bool.{true≢false}
 use Rattle.std.proofs.lemmas.List.{take_all, take_more}
-use Rattle.std.proofs.lemmas.List.Elements.{All-nil, All-push, All-head, All-tail}
+use Rattle.std.proofs.lemmas.List.Elements.{All-push, All-head, All-tail}
+use Rattle.list_laws.proofs.Members.{last_or_inside}
 use Rattle.dq_lits.specs.Literal.{Literal, variable_of, on_variable}
 use Rattle.hint_log.specs.Entries.{Entry, Named, Given, Learned, Answer, Round, Begun, has_id, numbered, clause_of, clause_at, origin_of, origin_at}
 use Rattle.hint_log.specs.declared.origins.Origin.{Origin}
@@ -41,15 +42,6 @@ pub record NamedSoFar (target old new : Renaming) (done : List Literal) : Type 0
   pub right : IsPartOf new target
   pub named : All (IsNamed target new) done
 
-pub none_named : (target r : Renaming) (done : List Literal) → done ≡ [] → IsPartOf r target →
-    NamedSoFar target r r done
-none_named target r done is right = record {
-  kept = λ v x h. h;
-  right = right;
-  named =
-      subst (All (IsNamed target r)) (sym is) (All-nil (IsNamed target r));
-}
-
 pub one_named : (target old mid new : Renaming) (lits : List Literal) (i : ℕ) (l : Literal) →
     NamedSoFar target old mid (take i lits) →
     IsPartOf mid new → IsPartOf new target → IsNamed target new l → i < length lits → l ≡ get_or lits i l →
@@ -80,16 +72,6 @@ renamed_as target r (l ∷ ls) named =
     ap (λ o. cons_option (option_map (λ w. on_variable w l) o) (renamed_clause r ls)) (All-head P l ls named)
     ∙ ap (λ rest. cons_option (renamed_literal target l) rest) (renamed_as target r ls (All-tail P l ls named))
 
-pub Contains-append_either : (xs : List ℕ) (x h : ℕ) → Contains (xs ++ x ∷ []) h → Contains xs h ⊎ (x ≡ h)
-Contains-append_either [] x h (zero, low, is) = inr is
-Contains-append_either [] x h (suc k, low, is) = absurd (omega arith)
-Contains-append_either (y ∷ ys) x h (zero, low, is) = inl (0, omega arith, is)
-Contains-append_either (y ∷ ys) x h (suc k, low, is) = elim (Contains-append_either ys x h
-    (k, (let b : k < length (ys ++ x ∷ []) = omega arith in b), is)) [
-      | inl m ↦ inl (let b = m.1 in (suc m.0, omega arith, m.2))
-      | inr e ↦ inr e
-    ]
-
 -- the given clauses among the first so many ids are named
 pub record GivenNamed (target : Renaming) (entries : List Entry) (r : Renaming) (done : List ℕ) : Type 0 where
   pub right : IsPartOf r target
@@ -119,7 +101,7 @@ one_given target entries old new ids i id so_far kept right below id_is here = r
 
   by_place : (h : ℕ) (origin : Origin) (c : List Literal) → numbered has_id entries h ≡ Some (Given origin c) →
       Contains (take i ids ++ get_or ids i id ∷ []) h → All (IsNamed target new) c
-  by_place h origin c at inside = elim (Contains-append_either (take i ids) (get_or ids i id) h inside) [
+  by_place h origin c at inside = elim (last_or_inside (take i ids) (get_or ids i id) h inside) [
     | inl before ↦ λ k d less. named_still target old new (get_or c k d) kept right
         (so_far.named h origin c before at k d less)
     | inr same ↦ here origin c (ap (numbered has_id entries) (id_is ∙ same) ∙ at)

@@ -8,6 +8,7 @@ use Rattle.std.proofs.lemmas.List.{length-map}
 use Rattle.std.proofs.lemmas.List.Sums.{passes_at_first}
 use Rattle.std.proofs.lemmas.Nat.{div-mul-add, mod-mul-add}
 use Rattle.std.proofs.lemmas.List.Elements.{All-nil, All-cons, Contains-append_left}
+use Rattle.list_laws.proofs.Elements.{place_within}
 use Rattle.dq_lits.specs.Literal.{Literal, positive, negative, variable_of, is_negative, on_variable}
 use Rattle.dq_lits.specs.Formula.{Existential, Dqbf, existential_of, IsWellFormed}
 use Rattle.dq_lits.specs.Expansion.{agree_on, pair_number, pair_literal, universal_literal_true, instance_clause, instance_at}
@@ -29,10 +30,13 @@ use Rattle.cert_export.specs.Pairing.{IsNameAt, HasNameAt, AreNamedAt}
 use Rattle.cert_export.specs.Expansion.{row_of_round, rows_among, kept_pair, pair_of, pair_renaming, number_among, instance_id, IsInstanceClause, IsKeptClause, InstancesAreExpansion}
 use Rattle.hint_log.specs.Conditions.{MayFollow}
 use Rattle.log_laws.proofs.ReachedClauses.{name_stays}
-use Rattle.log_laws.proofs.Found.{named_variable, position_append, position_small, same_bits-refl, split_at, find_sound, slice_get_at}
-use Rattle.cert_export.proofs.PairNames.{in_range, same_bits-sound, alike, same_places, same_numbers, rows_more, row_contained, from_one, small_place}
+use Rattle.log_laws.proofs.Found.{named_variable, position_append, position_small, split_at, slice_get_at}
+use Rattle.log_laws.proofs.Refuted.{row_contained, rows_more}
+use Rattle.cert_export.proofs.PairNames.{in_range, alike, same_places, same_numbers, from_one}
 use Rattle.dq_lits.specs.Henkin.{restriction, same_bits}
 use Rattle.dq_lits.specs.Expansion.{row_assignment}
+use Rattle.dq_lits.proofs.Choices.{same_bits-refl}
+use Rattle.dq_lits.proofs.FormulaVariables.{find_sound}
 
 -- the row of a round is at its place
 pub rounds_are : (es : List Entry) → length (rows_of es) ≡ rounds_of es
@@ -195,7 +199,7 @@ module _ (f : Dqbf) (well : IsWellFormed f) (all : List Entry) (ks : List ℕ) (
         let rem : (x - 1) % V ≡ y.variable - 1 = ap (λ n. n % V) less ∙ mod-mul-add place V (y.variable - 1)
         (omega arith) in
         let back : (x - 1) % V + 1 ≡ y.variable = omega arith in
-        let small = small_place kept place row at_kept in
+        let small = place_within kept place row at_kept in
         let q_small : (x - 1) / V < length kept = omega (arith, quotient, small) in
         let own_there : existential_of f ((x - 1) % V + 1) ≡ Some y = ap (existential_of f) back ∙ own in
         and_from (not (V == 0)) (not (x == 0) && (nat_lt ((x - 1) / V) (length kept) && is_some
@@ -316,9 +320,9 @@ module _ (f : Dqbf) (well : IsWellFormed f) (all : List Entry) (ks : List ℕ) (
         let clause_there = from_one f.matrix i rest.clause rest.clause_is in
         let C = length f.matrix in
         let i1 = clause_there.0 in
-        let row_small = small_place kept p rest.row row_there in
+        let row_small = place_within kept p rest.row row_there in
         let many : length kept ≡ length ks = length-map ks (row_of_round all) in
-        let clause_small = small_place f.matrix (i - 1) rest.clause clause_there.1 in
+        let clause_small = place_within f.matrix (i - 1) rest.clause clause_there.1 in
         let next : p * C + i ≡ suc (p * C + (i - 1)) = omega arith in
         let rem = mod-mul-add p C (i - 1) clause_small in
         let quotient = div-mul-add p C (i - 1) clause_small in
@@ -408,7 +412,7 @@ round_below f live entries id k j c mine at =
     let o = mine.1 s.0 s.1 s.2 in
     let rest : IsInstanceRest f s.1 k (number_among live j) o.rest = o.rest_is in
     let place = row_place s.1 k rest.row rest.row_is in
-    let small = small_place (rows_of s.1) (k - 1) rest.row place.1 in
+    let small = place_within (rows_of s.1) (k - 1) rest.row place.1 in
     let later = rows_more (s.0 ++ Given (Instance k j) c ∷ []) s.1 in
     let is' : entries ≡ (s.0 ++ Given (Instance k j) c ∷ []) ++ s.1 =
     s.2 ∙ sym (append_assoc s.0 (Given (Instance k j) c ∷ []) s.1) in

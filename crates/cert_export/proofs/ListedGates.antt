@@ -5,6 +5,7 @@ use Rattle.std.specs.List.{All, AllPairs, Contains, position_or_len}
 use Rattle.std.proofs.lemmas.Bool.{cases_lt}
 use Rattle.std.proofs.lemmas.List.{get_or_append_left, get_or_default, get_or_push, get_or-reverse, length-reverse}
 use Rattle.std.proofs.lemmas.List.Elements.{All-contains_itself}
+use Rattle.list_laws.proofs.Members.{tested_inside}
 use Rattle.dq_lits.specs.Literal.{Literal, variable_of}
 use Rattle.hint_log.specs.Conditions.{MayFollow}
 use Rattle.hint_log.specs.Entries.{Entry, count, name_of, names_of}
@@ -17,7 +18,7 @@ use Rattle.hint_log.specs.declared.pending.Pending.{Pending}
 use Rattle.cert_export.specs.CircuitPart.{IsSideBefore}
 use Rattle.cert_export.specs.ExportedCircuit.{is_gate_name}
 use Rattle.cert_export.specs.Needed.{is_and, HasGate, IsGatePlace, IsWanted, IsLeafWanted, HasRoots, IsListed, AreGatePlaces, AreVariablesAt, IsGateAmong, IsLeafAmongGates, AreNeededGates}
-use Rattle.cert_export.proofs.CircuitNumbers.{among, position_is}
+use Rattle.cert_export.proofs.CircuitNumbers.{position_is}
 use Rattle.cert_export.proofs.GatePlaces.{reversed_contains}
 use Rattle.cert_export.proofs.NamePlaces.{gate_sides, named_at, one_place, same_pair, side_before, few_places, IsSide}
 
@@ -43,9 +44,6 @@ pub record AreVariablesSoFar (entries : List Entry) (places variables : List ℕ
   pub long : length variables ≡ i
   pub at : (k : ℕ) → k < i → (name : Name)
       × (slice_get (names_of entries) (slice_index places k) ≡ Some (slice_index variables k, name))
-
-pub no_variables : (entries : List Entry) (places : List ℕ) → AreVariablesSoFar entries places [] 0
-no_variables entries places = record { long = refl; at = λ k below. absurd (omega (arith, below)) }
 
 pub one_variable_more : (entries : List Entry) (places variables : List ℕ) (i v : ℕ) (name : Name) →
     AreVariablesSoFar entries places variables i →
@@ -173,7 +171,7 @@ module _ (entries : List Entry) (lawful : Each MayFollow entries) (roots : Pendi
   -- the place of a gate in the list, and its place in the log
   at_position : (v : ℕ) → Contains gates v → IsGateOf (position_or_len (λ x. x == v) gates) v
   at_position v inside =
-      let p = position_is gates v (among gates v inside) in
+      let p = position_is gates v (tested_inside gates v inside) in
       let long = listed.long in
       let below = p.below in
       let first = p.first in

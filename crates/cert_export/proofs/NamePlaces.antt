@@ -1,8 +1,9 @@
 -- Places of names in a log: a variable has one, and a gate's sides have earlier ones.
-use Rattle.std.proofs.Common.{◌≡◌, ℕ, zero, suc, ◌+◌, ◌≤◌, ◌<◌, ◌==◌, ◌⊎◌, inl, inr, Bool, true, false, cond, true≢false, List, [], ◌∷◌, ◌++◌, length, slice_get, Option, None, Some, refl, sym, ◌∙◌, ap, subst, arith}
+use Rattle.std.proofs.Common.{◌≡◌, ℕ, zero, suc, ◌+◌, ◌≤◌, ◌<◌, ◌==◌, ◌⊎◌, inl, inr, Bool, true, false, cond, true≢false, List, [], ◌∷◌, length, slice_get, Option, None, Some, refl, sym, ◌∙◌, ap, subst, arith}
 use Rattle.std.specs.List.{All, AllPairs}
 use Rattle.std.proofs.lemmas.Bool.{cond-true, eq-eqb}
 use Rattle.std.proofs.lemmas.List.Elements.{All-head, All-tail}
+use Rattle.list_laws.proofs.Elements.{old_or_last, place_within}
 use Rattle.dq_lits.specs.Literal.{Literal, variable_of}
 use Rattle.hint_log.specs.Conditions.{is_circuit_name, HasSides, MayFollow}
 use Rattle.hint_log.specs.Entries.{Entry, Named, Given, Learned, Answer, Round, Begun, count, name_of, names_of}
@@ -13,7 +14,6 @@ use Rattle.log_laws.proofs.ReachedClauses.{name_stays}
 use Rattle.log_laws.proofs.Solved.{sides}
 use Rattle.cert_export.specs.ExportedCircuit.{is_gate_name}
 use Rattle.cert_export.specs.Needed.{is_and, IsGatePlace}
-use Rattle.cert_export.proofs.PairNames.{small_place}
 
 -- a name that is a gate's
 pub gate_sides : (n : Name) → is_and n ≡ true → (a : Literal) × (b : Literal) × (n ≡ And a b)
@@ -30,21 +30,10 @@ pub same_pair : (v w : ℕ) (n m : Name) → ◌≡◌ {A = Option (ℕ × Name)
 same_pair v w n m same =
     let pair : ◌≡◌ {A = ℕ × Name} (v, n) (w, m) = cc in (ap (λ x. x.0) pair, ap (λ x. x.1) pair)
 
--- an element more behind
-at_push : {X : Type 0} (xs : List X) (y x : X) (p : ℕ) → slice_get (xs ++ y ∷ []) p ≡ Some x →
-    (slice_get xs p ≡ Some x) ⊎ ((p ≡ length xs) × (y ≡ x))
-at_push [] y x zero at = inr (refl, cc)
-at_push [] y x (suc p) at = cc
-at_push (z ∷ xs) y x zero at = inl at
-at_push (z ∷ xs) y x (suc p) at = elim (at_push xs y x p at) [
-  | inl before ↦ inl before
-  | inr last ↦ inr (ap suc last.0, last.1)
-]
-
 pub named_at : (es : List Entry) (p v : ℕ) (n : Name) → Each MayFollow es → slice_get (names_of es) p ≡ Some (v, n) →
     name_of es v ≡ Some n
 named_at [] p v n lawful at = cc
-named_at (Named w m ∷ es) p v n lawful at = elim (at_push (names_of es) (w, m) (v, n) p at) [
+named_at (Named w m ∷ es) p v n lawful at = elim (old_or_last (names_of es) (w, m) (v, n) p at) [
   | inl before ↦ name_stays (Named w m ∷ []) es v n lawful (named_at es p v n lawful.1 before)
   | inr last ↦ (
       let same : v ≡ w = sym (ap (λ x. x.0) last.1) in
@@ -67,12 +56,12 @@ none_before w m es p v n lawful at same =
 pub one_place : (es : List Entry) (p q v : ℕ) (n m : Name) → Each MayFollow es →
     slice_get (names_of es) p ≡ Some (v, n) → slice_get (names_of es) q ≡ Some (v, m) → p ≡ q
 one_place [] p q v n m lawful at other = cc
-one_place (Named w k ∷ es) p q v n m lawful at other = elim (at_push (names_of es) (w, k) (v, n) p at) [
-  | inl before ↦ elim (at_push (names_of es) (w, k) (v, m) q other) [
+one_place (Named w k ∷ es) p q v n m lawful at other = elim (old_or_last (names_of es) (w, k) (v, n) p at) [
+  | inl before ↦ elim (old_or_last (names_of es) (w, k) (v, m) q other) [
     | inl earlier ↦ one_place es p q v n m lawful.1 before earlier
     | inr last ↦ absurd (none_before w k es p v n lawful before (ap (λ x. x.0) last.1))
   ]
-  | inr here ↦ elim (at_push (names_of es) (w, k) (v, m) q other) [
+  | inr here ↦ elim (old_or_last (names_of es) (w, k) (v, m) q other) [
     | inl earlier ↦ absurd (none_before w k es q v m lawful earlier (ap (λ x. x.0) here.1))
     | inr last ↦ here.0 ∙ sym last.0
   ]
@@ -104,15 +93,15 @@ pub side_before : (es : List Entry) (p q v : ℕ) (a b l : Literal) (m : Name) �
     q < p
 side_before [] p q v a b l m lawful at side other = cc
 side_before (Named w k ∷ es) p q v a b l m lawful at side other =
-    elim (at_push (names_of es) (w, k) (v, And a b) p at) [
-      | inl before ↦ elim (at_push (names_of es) (w, k) (variable_of l, m) q other) [
+    elim (old_or_last (names_of es) (w, k) (v, And a b) p at) [
+      | inl before ↦ elim (old_or_last (names_of es) (w, k) (variable_of l, m) q other) [
         | inl earlier ↦ side_before es p q v a b l m lawful.1 before side earlier
         | inr last ↦ absurd (no_side w k es a b l lawful
             (sides es v a b lawful.1 (named_at es p v (And a b) lawful.1 before)) side (ap (λ x. x.0) last.1))
       ]
-      | inr here ↦ elim (at_push (names_of es) (w, k) (variable_of l, m) q other) [
+      | inr here ↦ elim (old_or_last (names_of es) (w, k) (variable_of l, m) q other) [
         | inl earlier ↦ (
-            let below = small_place (names_of es) q (variable_of l, m) earlier in
+            let below = place_within (names_of es) q (variable_of l, m) earlier in
             let last = here.0 in
             omega (arith, below, last))
         | inr last ↦ absurd (no_side w k es a b l lawful
@@ -136,7 +125,7 @@ gate_name w m h = let g = gate_sides m h in ap (λ n. is_gate_name (Named w n)) 
 
 older_gate : (w : ℕ) (m : Name) (es : List Entry) (q : ℕ) → q < length (names_of es) →
     IsGatePlace (Named w m ∷ es) q → IsGatePlace es q
-older_gate w m es q below (v, (n, at, is)) = elim (at_push (names_of es) (w, m) (v, n) q at) [
+older_gate w m es q below (v, (n, at, is)) = elim (old_or_last (names_of es) (w, m) (v, n) q at) [
   | inl before ↦ (v, (n, before, is))
   | inr last ↦ (let same = last.0 in absurd (omega (arith, same, below)))
 ]
@@ -157,9 +146,9 @@ few_places es [] descending gates = omega arith
 few_places [] (p ∷ ps) descending gates = let g = All-head (IsGatePlace []) p ps gates in let at = g.1.1 in cc
 few_places (Named w m ∷ es) (p ∷ ps) descending gates =
     let g = All-head (IsGatePlace (Named w m ∷ es)) p ps gates in
-    elim (at_push (names_of es) (w, m) (g.0, g.1.0) p g.1.1) [
+    elim (old_or_last (names_of es) (w, m) (g.0, g.1.0) p g.1.1) [
       | inl before ↦ (
-          let below = small_place (names_of es) p (g.0, g.1.0) before in
+          let below = place_within (names_of es) p (g.0, g.1.0) before in
           let all : All (λ q. q < length (names_of es)) (p ∷ ps) = all_below below in
           let r = few_places es (p ∷ ps) descending (older_gates w m es (p ∷ ps) all gates) in
           let more = more_gates (Named w m) es in

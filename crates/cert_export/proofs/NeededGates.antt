@@ -10,17 +10,8 @@ use Rattle.hint_log.specs.declared.origins.Leaf.{Leaf}
 use Rattle.hint_log.specs.declared.origins.Leaf.TheVariants.{Constant, Literal as LeafLiteral}
 use Rattle.hint_log.specs.declared.pending.Pending.{Pending}
 use Rattle.dq_lits.specs.Literal.{variable_of}
-use Rattle.cert_export.specs.Needed.{Wants, WantsGates, IsLeafWanted, IsIdWanted, HasRoots}
+use Rattle.cert_export.specs.Needed.{WantsGates, IsLeafWanted, IsIdWanted, HasRoots}
 use Rattle.cert_export.proofs.GatePlaces.{still_wanted}
-
-pub nothing_added : (entries : List Entry) (pending : Pending) → WantsGates entries pending pending
-nothing_added entries pending = record { kept = λ p h. h; only = λ p h. inl h }
-
-pub one_gate : (entries : List Entry) (v : ℕ) (old new : Pending) → Wants entries v old new → WantsGates entries old new
-one_gate entries v old new wants = record {
-  kept = wants.kept;
-  only = λ p h. elim (wants.only p h) [ inl before ↦ inl before | inr gate ↦ inr (v, gate) ];
-}
 
 pub both_added : (entries : List Entry) (old mid new : Pending) → WantsGates entries old mid →
     WantsGates entries mid new → WantsGates entries old new

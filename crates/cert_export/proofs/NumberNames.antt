@@ -2,6 +2,7 @@
 use Rattle.std.proofs.Common.{◌≡◌, nat_eq, ℕ, zero, suc, ◌+◌, ◌≤◌, ◌<◌, List, [], ◌∷◌, ◌++◌, take, length, get_or, None, Some, refl, sym, ◌∙◌, ap, arith}
 use Rattle.std.specs.Fmt.{decimal}
 use Rattle.std.proofs.lemmas.Bool.{ne_eqb, cond-false}
+use Rattle.list_laws.proofs.Sequences.{take-few}
 use Rattle.aiger_text.specs.Symbol.{SymbolTable, name_at}
 use Rattle.cert_export.specs.ExportedCircuit.{number_names}
 
@@ -25,15 +26,10 @@ one_more from (v ∷ vs) (suc i) d below =
     (one_more (from + 1) vs i d (omega (arith, below)))
     ∙ ap (λ k. (from, decimal v) ∷ (number_names (from + 1) (take i vs) ++ (k, decimal (get_or vs i d)) ∷ [])) n
 
-short : (i : ℕ) (vs : List ℕ) → length (take i vs) ≤ i
-short zero vs = omega arith
-short (suc i) [] = omega arith
-short (suc i) (v ∷ vs) = let r = short i vs in omega (arith, r)
-
 -- the next place has no name yet
 pub next_unnamed : (names : List (ℕ × List ℕ)) (vs : List ℕ) (i : ℕ) → names ≡ number_names 0 (take i vs) →
     name_at names i ≡ None
-next_unnamed names vs i is = let few = short i vs in ap (λ ns. name_at ns i) is ∙ unnamed 0 (take i vs) i
+next_unnamed names vs i is = let few = take-few i vs in ap (λ ns. name_at ns i) is ∙ unnamed 0 (take i vs) i
     (omega (arith, few))
 
 -- with its name there is one more

@@ -1,16 +1,15 @@
 -- Pairs have names of their own.
-use Rattle.std.proofs.Common.{◌≡◌, ℕ, zero, suc, ◌+◌, ◌-◌, ◌*◌, ◌/◌, ◌%◌, ◌≤◌, ◌<◌, ◌==◌, ◌&&◌, Bool, true, false, not, cond, ◌||◌, List, [], ◌∷◌, ◌++◌, map, length, get_or, slice_get, Option, None, Some, refl, sym, ◌∙◌, ap, subst, arith, append_assoc}
+use Rattle.std.proofs.Common.{◌≡◌, ℕ, zero, suc, ◌+◌, ◌-◌, ◌*◌, ◌/◌, ◌%◌, ◌≤◌, ◌==◌, ◌&&◌, Bool, true, false, cond, List, [], map, get_or, slice_get, Option, None, Some, refl, sym, ◌∙◌, ap, arith}
 use Rattle.std.specs.List.{Contains, list_any, position_or_len}
-use Rattle.std.specs.Option.{option_and_then}
 use Rattle.std.proofs.lemmas.Bool.{and_parts, eqb-true}
 use Rattle.std.proofs.lemmas.List.{get_or-map, length-map}
 use Rattle.std.proofs.lemmas.Nat.{div-mul-add, mod-mul-add}
-use Rattle.std.proofs.lemmas.List.Elements.{Contains-push, All-contains, Contains-append_right, Contains-append_left}
+use Rattle.std.proofs.lemmas.List.Elements.{All-contains, Contains-append_right}
+use Rattle.list_laws.proofs.Folds.{first_holds}
 use Rattle.dq_lits.specs.Formula.{Existential, Dqbf, declared, existential_of, IsWellFormed}
 use Rattle.dq_lits.specs.Expansion.{agree_on, pair_number}
-use Rattle.hint_log.specs.Entries.{is_round, row_of, row_at, count, numbered, name_of}
+use Rattle.hint_log.specs.Entries.{name_of}
 use Rattle.hint_log.specs.Entries.{Entry}
-use Rattle.hint_log.specs.Entries.{Named, Given, Learned, Answer, Round, Begun}
 use Rattle.hint_log.specs.declared.names.Name.{Name}
 use Rattle.hint_log.specs.declared.names.Name.TheVariants.{Selector, Pair, Input, And, Bad, Copy as CopyOf, Term}
 use Rattle.hint_log.specs.Growth.{Each}
@@ -18,10 +17,12 @@ use Rattle.hint_log.specs.Naming.{numbered_from_one, rows_of}
 use Rattle.cert_export.specs.Renaming.{IsInjective}
 use Rattle.cert_export.specs.Expansion.{rows_among, kept_pair, pair_of, pair_renaming}
 use Rattle.hint_log.specs.Conditions.{MayFollow}
-use Rattle.log_laws.proofs.Found.{variable, find_sound}
+use Rattle.hint_log.proofs.Lawful.{names_are_unique_lem}
+use Rattle.log_laws.proofs.Found.{variable}
 use Rattle.dq_lits.specs.Henkin.{restriction, same_bits}
 use Rattle.dq_lits.specs.Expansion.{row_assignment}
-use Rattle.std.proofs.lemmas.List.Sums.{passes_at_first}
+use Rattle.dq_lits.proofs.Choices.{same_bits-sound}
+use Rattle.dq_lits.proofs.FormulaVariables.{find_sound}
 
 pub contains_mapped : (ys : List Existential) (y : Existential) → Contains ys y → Contains (map variable ys) y.variable
 contains_mapped ys y (k, below, is) = (
@@ -29,24 +30,6 @@ contains_mapped ys y (k, below, is) = (
   rw (length-map ys variable) below,
   get_or-map variable ys k y y.variable below ∙ ap variable is,
 )
-
--- no two variables have one name
-pub same_name : (es : List Entry) (v w : ℕ) (n : Name) → Each MayFollow es → name_of es v ≡ Some n →
-    name_of es w ≡ Some n → v ≡ w
-same_name [] v w n lawful h k = cc
-same_name (Named u m ∷ es) v w n lawful h k = by_bits (same_name es v w n lawful.1) (v == u)
-    (w == u) refl refl h k where
-      by_bits : (name_of es v ≡ Some n → name_of es w ≡ Some n → v ≡ w) → (b c : Bool) → (v == u) ≡ b → (w == u) ≡ c →
-          cond b (Some m) (name_of es v) ≡ Some n → cond c (Some m) (name_of es w) ≡ Some n → v ≡ w
-      by_bits later true true e g h k = eqb-true v u e ∙ sym (eqb-true w u g)
-      by_bits later true false e g h k = let is : m ≡ n = cc in absurd (lawful.0.fresh w (k ∙ ap Some (sym is)))
-      by_bits later false true e g h k = let is : m ≡ n = cc in absurd (lawful.0.fresh v (h ∙ ap Some (sym is)))
-      by_bits later false false e g h k = later h k
-same_name (Given origin c ∷ es) v w n lawful h k = same_name es v w n lawful.1 h k
-same_name (Learned c hints ∷ es) v w n lawful h k = same_name es v w n lawful.1 h k
-same_name (Answer c hints ∷ es) v w n lawful h k = same_name es v w n lawful.1 h k
-same_name (Round row values j ∷ es) v w n lawful h k = same_name es v w n lawful.1 h k
-same_name (Begun live ∷ es) v w n lawful h k = same_name es v w n lawful.1 h k
 
 pub record IsPair (f : Dqbf) (rows kept : List (List Bool)) (o : Option Name) (x : ℕ) : Type 0 where
   pub k : ℕ
@@ -116,25 +99,6 @@ pair_back vars a b y z y1 y2 z1 z2 h =
     let rest = sym low ∙ ap (λ n. n % vars) same ∙ low' in
     (sym left ∙ ap (λ n. n / vars) same ∙ right, omega (arith, rest))
 
-pub same_bits-sound : (xs ys : List Bool) → same_bits xs ys ≡ true → xs ≡ ys
-same_bits-sound [] [] h = refl
-same_bits-sound [] (y ∷ ys) h = cc
-same_bits-sound (x ∷ xs) [] h = cc
-same_bits-sound (true ∷ xs) (true ∷ ys) h = ap (λ zs. true ∷ zs) (same_bits-sound xs ys h)
-same_bits-sound (true ∷ xs) (false ∷ ys) h = cc
-same_bits-sound (false ∷ xs) (true ∷ ys) h = cc
-same_bits-sound (false ∷ xs) (false ∷ ys) h = ap (λ zs. false ∷ zs) (same_bits-sound xs ys h)
-
--- a row that passes stands below the end
-any_below : (p : List Bool → Bool) (rows : List (List Bool)) → list_any p rows ≡ true →
-    position_or_len p rows < length rows
-any_below p [] h = cc
-any_below p (x ∷ xs) h = by_bit (any_below p xs) (p x) h where
-  by_bit : (list_any p xs ≡ true → position_or_len p xs < length xs) → (b : Bool) → (b || list_any p xs) ≡ true →
-      cond (not b) (1 + position_or_len p xs) 0 < suc (length xs)
-  by_bit later true h = omega arith
-  by_bit later false h = let r = later h in omega (arith, r)
-
 -- rows that agree with one row agree with one another
 module _ (f : Dqbf) (y : Existential) where
   abbrev seen : List Bool → List Bool
@@ -150,11 +114,6 @@ module _ (f : Dqbf) (y : Existential) where
   pub same_numbers : (rows : List (List Bool)) (row other : List Bool) → seen row ≡ seen other →
       pair_number f rows row y ≡ pair_number f rows other y
   same_numbers rows row other h = ap (λ n. n * f.variables + y.variable) (same_places rows row other h)
-
--- the first row that passes
-pub first_passing : (p : List Bool → Bool) (rows : List (List Bool)) → list_any p rows ≡ true →
-    p (get_or rows (position_or_len p rows) []) ≡ true
-first_passing p rows h = passes_at_first p rows [] (any_below p rows h)
 
 pub pairs_are_injective : (f : Dqbf) → IsWellFormed f → (all : List Entry) (rounds : List ℕ) → Each MayFollow all →
     IsInjective (pair_renaming f all rounds)
@@ -175,51 +134,18 @@ pairs_are_injective f well all rounds lawful v w x h k =
     let both : Some p.existential ≡ Some q.existential = sym p.own ∙ ap (existential_of f) ys ∙ q.own in
     let e : p.existential ≡ q.existential = cc in
     let first : agree_on f p.existential p.row (get_or kept a []) ≡ true =
-    first_passing (agree_on f p.existential p.row) kept p.there in
+    first_holds (agree_on f p.existential p.row) kept p.there in
     let second : agree_on f p.existential q.row (get_or kept a []) ≡ true =
     ap (λ n. agree_on f p.existential q.row (get_or kept n [])) back.0 ∙ ap
-    (λ z. agree_on f z q.row (get_or kept b [])) e ∙ first_passing (agree_on f q.existential q.row) kept q.there in
+    (λ z. agree_on f z q.row (get_or kept b [])) e ∙ first_holds (agree_on f q.existential q.row) kept q.there in
     let same = alike f p.existential p.row (get_or kept a []) first ∙ sym
     (alike f p.existential q.row (get_or kept a []) second) in
     let ks : p.k ≡ q.k = sym p.place ∙ ap (λ n. n + 1) (same_places f p.existential rows p.row q.row same) ∙ ap
     (λ z. position_or_len (agree_on f z q.row) rows + 1) e ∙ q.place in
     let named : Pair p.k p.y ≡ Pair q.k q.y = ap (λ n. Pair n p.y) ks ∙ ap (Pair q.k) ys in
-    same_name all v w (Pair p.k p.y) lawful p.named (q.named ∙ ap Some (sym named))
-
-pub small_place : {X : Type 0} (xs : List X) (i : ℕ) (x : X) → slice_get xs i ≡ Some x → i < length xs
-small_place [] i x h = cc
-small_place (y ∷ ys) zero x h = omega arith
-small_place (y ∷ ys) (suc i) x h = let r = small_place ys i x h in omega arith
+    names_are_unique_lem all v w (Pair p.k p.y) lawful p.named (q.named ∙ ap Some (sym named))
 
 pub from_one : {X : Type 0} (xs : List X) (j : ℕ) (x : X) → numbered_from_one xs j ≡ Some x →
     (1 ≤ j) × (slice_get xs (j - 1) ≡ Some x)
 from_one xs zero x h = cc
 from_one xs (suc j) x h = let e : suc j - 1 ≡ j = omega arith in (omega arith, ap (slice_get xs) e ∙ h)
-
-pub rows_more : (more es : List Entry) → (later : List (List Bool)) × (rows_of (more ++ es) ≡ rows_of es ++ later)
-rows_more [] es = ([], sym (append-nil' (rows_of es))) where
-  append-nil' : (xs : List (List Bool)) → xs ++ [] ≡ xs
-  append-nil' [] = refl
-  append-nil' (x ∷ xs) = ap (λ ys. x ∷ ys) (append-nil' xs)
-rows_more (Named v n ∷ more) es = rows_more more es
-rows_more (Given origin c ∷ more) es = rows_more more es
-rows_more (Learned c hints ∷ more) es = rows_more more es
-rows_more (Answer c hints ∷ more) es = rows_more more es
-rows_more (Round row values j ∷ more) es = let r = rows_more more es in
-    (r.0 ++ row ∷ [], ap (λ rows. rows ++ row ∷ []) r.1 ∙ append_assoc (rows_of es) r.0 (row ∷ []))
-rows_more (Begun live ∷ more) es = rows_more more es
-
-pub row_contained : (es : List Entry) (k : ℕ) (row : List Bool) → row_at es k ≡ Some row → Contains (rows_of es) row
-row_contained [] k row h = cc
-row_contained (Named v n ∷ es) k row h = row_contained es k row h
-row_contained (Given origin c ∷ es) k row h = row_contained es k row h
-row_contained (Learned c hints ∷ es) k row h = row_contained es k row h
-row_contained (Answer c hints ∷ es) k row h = row_contained es k row h
-row_contained (Round r values j ∷ es) k row h = by_bit (row_contained es k row) (k == count is_round es + 1) h where
-  by_bit : (row_at es k ≡ Some row → Contains (rows_of es) row) → (b : Bool) →
-      option_and_then row_of (cond b (Some (Round r values j)) (numbered is_round es k)) ≡ Some row →
-      Contains (rows_of es ++ r ∷ []) row
-  by_bit before true h = let same : r ≡ row = cc in subst (λ x. Contains (rows_of es ++ x ∷ []) row) (sym same)
-      (Contains-push (rows_of es) row)
-  by_bit before false h = Contains-append_left (rows_of es) (r ∷ []) row (before h)
-row_contained (Begun live ∷ es) k row h = row_contained es k row h

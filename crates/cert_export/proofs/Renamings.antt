@@ -5,23 +5,12 @@ use Rattle.std.specs.Option.{option_map}
 use Rattle.std.specs.List.{All}
 use Rattle.std.proofs.lemmas.List.Elements.{All-head, All-tail}
 use Rattle.std.proofs.lemmas.Bool.{cases_Bool, and_parts, eqb-true, eq-eqb, ne_eqb, eqb-false, false≢true, or_cases, or_left, or_right, cond-false}
+use Rattle.list_laws.proofs.Options.{cond-none}
 use Rattle.dq_lits.specs.Literal.{Literal, positive, negative, variable_of, on_variable, opposite, same_literal}
 use Rattle.dq_lits.specs.Derivation.{LiveClauses, Status, falsified, unit, stuck, holds, status_by, status_of, fault_by, hint_fault, is_tautology, IsDerived}
+use Rattle.dq_lits.proofs.Truth.{same_literal-sound}
+use Rattle.dq_lits.proofs.SignedLiterals.{same_literal-refl, opposite_variable}
 use Rattle.cert_export.specs.Renaming.{Renaming, IsInjective, renamed_literal, renamed_clause, cut_by, cut_hints, IsRenamedAt, RenamedLinesAreDerived}
-
-pub same_literal-refl : (l : Literal) → same_literal l l ≡ true
-same_literal-refl (positive v) = eq-eqb v v refl
-same_literal-refl (negative v) = eq-eqb v v refl
-
-pub same_literal-sound : (k l : Literal) → same_literal k l ≡ true → k ≡ l
-same_literal-sound (positive v) (positive w) h = ap positive (eqb-true v w h)
-same_literal-sound (positive v) (negative w) h = cc
-same_literal-sound (negative v) (positive w) h = cc
-same_literal-sound (negative v) (negative w) h = ap negative (eqb-true v w h)
-
-variable_of-opposite : (l : Literal) → variable_of (opposite l) ≡ variable_of l
-variable_of-opposite (positive v) = refl
-variable_of-opposite (negative v) = refl
 
 on_variable-opposite : (w : ℕ) (l : Literal) → on_variable w (opposite l) ≡ opposite (on_variable w l)
 on_variable-opposite w (positive v) = refl
@@ -37,7 +26,7 @@ module _ (r : Renaming) (injective : IsInjective r) where
   opposite_by (Some w) l = ap Some (on_variable-opposite w l)
 
   ren_opposite : (l : Literal) → ren (opposite l) ≡ option_map opposite (ren l)
-  ren_opposite l = ap (λ v. option_map (λ w. on_variable w (opposite l)) (r v)) (variable_of-opposite l) ∙ opposite_by
+  ren_opposite l = ap (λ v. option_map (λ w. on_variable w (opposite l)) (r v)) (opposite_variable l) ∙ opposite_by
       (r (variable_of l)) l
 
   same_by : (k l : Literal) (v w : ℕ) → r (variable_of k) ≡ Some v → r (variable_of l) ≡ Some w →
@@ -261,13 +250,9 @@ module _ (r : Renaming) (injective : IsInjective r) where
           | inr rest ↦ or_right (holds xs (opposite l)) (list_any (λ k. holds xs (opposite k)) ls) (later rest)
         ]
 
-pub no_fault : (b : Bool) (o : Option ℕ) → cond b (Some 0) o ≡ None → (b ≡ false) × (o ≡ None)
-no_fault true o h = cc
-no_fault false o h = (refl, h)
-
 pub renamed_lines_are_derived : RenamedLinesAreDerived
 renamed_lines_are_derived r to live renamed injective literals hints are derived =
-    let parts = no_fault (is_tautology literals) (hint_fault live (map opposite literals) 1 hints) derived in
+    let parts = cond-none (is_tautology literals) (hint_fault live (map opposite literals) 1 hints) derived in
     let no_tautology : is_tautology (renamed_clause r literals) ≡ false =
     elim (cases_Bool (is_tautology (renamed_clause r literals))) [
       | inl is ↦ absurd (false≢true (sym parts.0 ∙ tautology_renamed r injective literals literals is))
@@ -283,7 +268,7 @@ pub renamed_consistent : (r : Renaming) (live : LiveClauses) → IsInjective r �
     (literals : List Literal) (hints : List ℕ) → IsDerived live literals hints →
     is_tautology (renamed_clause r literals) ≡ false
 renamed_consistent r live injective literals hints derived =
-    let parts = no_fault (is_tautology literals) (hint_fault live (map opposite literals) 1 hints) derived in
+    let parts = cond-none (is_tautology literals) (hint_fault live (map opposite literals) 1 hints) derived in
     elim (cases_Bool (is_tautology (renamed_clause r literals))) [
       | inl is ↦ absurd (false≢true (sym parts.0 ∙ tautology_renamed r injective literals literals is))
       | inr none ↦ none

@@ -1,9 +1,11 @@
 -- The rows of some rounds, in their order.
-use Rattle.std.proofs.Common.{◌≡◌, ℕ, zero, suc, ◌+◌, ◌-◌, ◌≤◌, ◌<◌, Bool, true, false, cond, List, [], ◌∷◌, ◌++◌, map, take, length, get_or, slice_get, Some, refl, sym, ◌∙◌, ap, subst, arith}
-use Rattle.std.specs.List.{All, Contains, filter, range_with_len}
+use Rattle.std.proofs.Common.{◌≡◌, ℕ, zero, suc, ◌+◌, ◌-◌, ◌≤◌, ◌<◌, Bool, List, [], ◌∷◌, ◌++◌, map, take, length, get_or, slice_get, Some, sym, ◌∙◌, ap, subst, arith}
+use Rattle.std.specs.List.{All, Contains, range_with_len}
 use Rattle.std.proofs.lemmas.List.FromFn.{length-range_with_len}
 use Rattle.std.proofs.lemmas.List.{map-append, take_more}
 use Rattle.std.proofs.lemmas.List.Elements.{All-nil, All-cons, All-head, All-tail, All-contains}
+use Rattle.list_laws.proofs.Folds.{filter-shorter}
+use Rattle.list_laws.proofs.Members.{all_from_contains}
 use Rattle.hint_log.specs.Entries.{Entry, row_at, rounds_of}
 use Rattle.hint_log.specs.Naming.{rows_of}
 use Rattle.cert_export.specs.Expansion.{has_instance, row_of_round, rows_among, used_rounds, used_rows}
@@ -31,28 +33,14 @@ range_rounds (suc n) start k (suc i, below, is) =
     (i, (let b : i < length (range_with_len (start + 1) n) = omega arith in b), is) in
     let low = r.0 in let high = r.1 in (omega (arith, low), omega (arith, high))
 
-all_of : (P : ℕ → Type 0) (xs : List ℕ) → ((k : ℕ) → Contains xs k → P k) → All P xs
-all_of P [] h = All-nil P
-all_of P (x ∷ xs) h = All-cons P x xs (h x (0, omega arith, refl)) (all_of P xs (λ k inside. h k
-    (let b = inside.1 in (suc inside.0, omega arith, inside.2))))
-
 pub used_are_rounds : (es : List Entry) (ids : List ℕ) → AreRounds es (used_rounds es ids)
-used_are_rounds es ids = all_of (λ k. (1 ≤ k) × (k ≤ rounds_of es)) (used_rounds es ids)
+used_are_rounds es ids = all_from_contains (λ k. (1 ≤ k) × (k ≤ rounds_of es)) (used_rounds es ids)
     (λ k inside. let r = range_rounds (rounds_of es) 1 k (of_filter (has_instance es ids)
     (range_with_len 1 (rounds_of es)) k inside) in let low = r.0 in let high = r.1 in (low, omega (arith, high)))
 
--- no more rounds are used than there are
-filter_shorter : (p : ℕ → Bool) (xs : List ℕ) → length (filter p xs) ≤ length xs
-filter_shorter p [] = omega arith
-filter_shorter p (x ∷ xs) = by_bit (p x) (filter_shorter p xs) where
-  by_bit : (b : Bool) → length (filter p xs) ≤ length xs → length (cond b (x ∷ filter p xs) (filter p xs)) ≤ suc
-      (length xs)
-  by_bit true h = omega (arith, h)
-  by_bit false h = omega (arith, h)
-
 pub few_used : (es : List Entry) (ids : List ℕ) → length (used_rounds es ids) ≤ rounds_of es
 few_used es ids =
-    let h = filter_shorter (has_instance es ids) (range_with_len 1 (rounds_of es)) in
+    let h = filter-shorter (has_instance es ids) (range_with_len 1 (rounds_of es)) in
     let n = length-range_with_len 1 (rounds_of es) in omega (arith, h, n)
 
 -- whole rows stay whole

@@ -1,38 +1,18 @@
 -- The numbers of an exported circuit are few.
-use Rattle.std.proofs.Common.{◌≡◌, nat_lt, ℕ, suc, ◌+◌, ◌≤◌, ◌<◌, ◌==◌, Bool, true, false, cond, ◌||◌, inl, inr, List, [], ◌∷◌, length, get_or, Option, None, Some, IfSome, position, refl, sym, ◌∙◌, arith, eqb}
-use Rattle.std.specs.List.{Contains, list_any, position_or_len}
+use Rattle.std.proofs.Common.{◌≡◌, nat_lt, ℕ, ◌+◌, ◌≤◌, ◌==◌, Bool, true, false, cond, inl, inr, List, length, get_or, Option, None, Some, IfSome, position, refl, sym, ◌∙◌, arith}
+use Rattle.std.specs.List.{list_any, position_or_len}
 use Rattle.std.specs.Option.{option_map}
 use Rattle.std.proofs.lemmas.Bool.{eqb-true, lt-ltb, ltb-true, true≢false}
-use Rattle.std.proofs.lemmas.Bool.Decides.{Decides-eqb}
 use Rattle.std.proofs.lemmas.List.{get_or_default}
-use Rattle.std.proofs.lemmas.List.Elements.{All-contains}
 use Rattle.std.proofs.lemmas.List.Sums.{passes_at_first}
-use Rattle.std.proofs.lemmas.Map.Made.{IsDistinct-from_AllPairs}
-use Rattle.std.proofs.lemmas.Map.Steps.{length-le_from_distinct_below}
-use Rattle.dq_lits.specs.Formula.{Dqbf, HasLawfulPrefix, declared}
+use Rattle.list_laws.proofs.Members.{tested_inside}
+use Rattle.dq_lits.specs.Formula.{Dqbf}
 use Rattle.hint_log.specs.Naming.{numbered_from_one}
 use Rattle.hint_log.specs.declared.names.Name.{Name}
+use Rattle.hint_log.proofs.NamedEntries.{number_below}
 use Rattle.cert_export.specs.CircuitPart.{CircuitPart, place_from_one, circuit_number}
 use Rattle.cert_export.specs.Parts.{IsSmall}
-use Rattle.cert_export.proofs.CircuitNumbers.{position_below, among, number_below, IsNumbered, number_cases, number_from_one}
-
-any_inside : (q : ℕ) (xs : List ℕ) → list_any (eqb q) xs ≡ true → Contains xs q
-any_inside q [] h = cc
-any_inside q (x ∷ xs) h = by_bit (any_inside q xs) (eqb q x) refl h where
-  by_bit : (list_any (eqb q) xs ≡ true → Contains xs q) → (b : Bool) → eqb q x ≡ b → (b || list_any (eqb q) xs) ≡ true →
-      Contains (x ∷ xs) q
-  by_bit later true e k = (0, omega arith, sym (eqb-true q x e))
-  by_bit later false e k = let r = later k in let low = r.1 in (suc r.0, omega (arith, low), r.2)
-
--- a formula declares at most as many variables as it has
-pub few_declared : (f : Dqbf) → HasLawfulPrefix f → length (declared f) ≤ f.variables + 1
-few_declared f prefix = length-le_from_distinct_below (declared f) (f.variables + 1)
-    (IsDistinct-from_AllPairs Decides-eqb (declared f) prefix.declared_once) below where
-      below : (q : ℕ) → list_any (eqb q) (declared f) ≡ true → q < f.variables + 1
-      below q h =
-          let range = All-contains (λ v. (1 ≤ v) × (v ≤ f.variables)) (declared f) q prefix.in_range
-          (any_inside q (declared f) h) in
-          let most = range.1 in omega (arith, most)
+use Rattle.cert_export.proofs.CircuitNumbers.{position_below, IsNumbered, number_cases, number_from_one}
 
 -- a place from one is the place, counted from 0, and one more
 pub place_one : (xs : List ℕ) (v : ℕ) → place_from_one xs v ≡ option_map (λ p. p + 1) (position (λ x. x == v) xs)
@@ -49,7 +29,7 @@ place_one xs v = by_bits (list_any (λ x. x == v) xs) (nat_lt (position_or_len (
       by_bits false true h k =
           let below = ltb-true place (length xs) k in
           let there = eqb-true (get_or xs place 0) v (passes_at_first (λ x. x == v) xs 0 below) in
-          absurd (true≢false (sym (among xs v (place, below, get_or_default xs place v 0 below ∙ there)) ∙ h))
+          absurd (true≢false (sym (tested_inside xs v (place, below, get_or_default xs place v 0 below ∙ there)) ∙ h))
 
 -- the numbers are few
 pub number_small : (f : Dqbf) (e : CircuitPart) (v n : ℕ) (o : Option Name) → IsSmall f e.gates →

@@ -3,6 +3,7 @@ use Rattle.std.proofs.Common.{◌≡◌, ℕ, ◌+◌, ◌*◌, ◌<◌, ◌==�
 use Rattle.std.specs.List.{All, Contains, position_or_len}
 use Rattle.std.specs.Option.{option_map}
 use Rattle.std.proofs.lemmas.List.Elements.{All-map, Contains-get_or}
+use Rattle.list_laws.proofs.Members.{tested_inside}
 use Rattle.dq_lits.specs.Formula.{Dqbf}
 use Rattle.dq_lits.specs.Literal.{Literal, variable_of, is_negative}
 use Rattle.hint_log.specs.Conditions.{AreLogged, is_circuit_name}
@@ -13,7 +14,7 @@ use Rattle.log_laws.proofs.Solved.{sides}
 use Rattle.cert_export.specs.CircuitPart.{CircuitPart, IsCircuitPart, IsInFile, IsSideBefore, AreGatesInOrder, aiger_literal, circuit_number, circuit_renaming, exported_netlist, gate_of, literal_code, or_zero}
 use Rattle.cert_export.specs.ExportedCircuit.{HasSmallerSides}
 use Rattle.cert_export.specs.Given.{HasUniversalInputs}
-use Rattle.cert_export.proofs.CircuitNumbers.{among, place_there, position_below}
+use Rattle.cert_export.proofs.CircuitNumbers.{place_there, position_below}
 
 by_sign : (b : Bool) (n m : ℕ) → n < m → aiger_literal b n < 2 * m
 by_sign true n m low = omega (arith, low)
@@ -41,7 +42,7 @@ module _ (f : Dqbf) (entries : List Entry) (e : CircuitPart) (logged : AreLogged
     by_option (Some (Pair k y)) is h = cc
     by_option (Some (Input x)) is h =
         let there = given (variable_of l) x is in
-        let below = position_below x f.universals (among f.universals x there) in
+        let below = position_below x f.universals (tested_inside f.universals x there) in
         code_below l (position_or_len (λ z. z == x) f.universals + 1) (number v)
         (ap (circuit_number f e (variable_of l)) is ∙ place_there f.universals x there) (omega (arith, below))
     by_option (Some (And a b)) is h =

@@ -7,6 +7,7 @@ use Rattle.std.proofs.lemmas.List.{length-map}
 use Rattle.std.proofs.lemmas.List.Elements.{All-nil, All-cons, All-contains, Contains-get_or, Contains-append_left, Contains-append_right}
 use Rattle.std.proofs.lemmas.List.FromFn.{length-range_with_len}
 use Rattle.std.proofs.lemmas.List.Kept.{AllPairs-cons}
+use Rattle.list_laws.proofs.Members.{contains_map}
 use Rattle.dq_lits.specs.Formula.{Dqbf, declared, HasLawfulPrefix}
 use Rattle.dq_formula.specs.Prefix.{existential_variables}
 use Rattle.hint_log.specs.Conditions.{AreLogged}
@@ -20,7 +21,7 @@ use Rattle.aiger_text.specs.Symbol.{name_at}
 use Rattle.aiger_text.specs.declared.files.AagFile.{AagFile}
 use Rattle.cert_export.specs.CircuitPart.{CircuitPart, IsCircuitPart, circuit_renaming, exported_netlist, gate_of, leaf_code, max_number}
 use Rattle.cert_export.specs.ExportedCircuit.{number_names, number_symbols, WrittenSymbolsAreNumbers}
-use Rattle.cert_export.proofs.ExportedCircuits.{mapped_inside, exported_circuit_is_complete, exported_circuit_is_netlist, sides_grounded}
+use Rattle.cert_export.proofs.ExportedCircuits.{exported_circuit_is_complete, exported_circuit_is_netlist, sides_grounded}
 
 -- the name of a place
 named_at : (from : ℕ) (vs : List ℕ) (p : ℕ) → p < length vs →
@@ -79,7 +80,7 @@ named from (v ∷ vs) names =
 meant : (net : Netlist) (n : ℕ) → IsGrounded net n → (n ≡ 0) ⊎ IsDefined net n
 meant net n constant = inl refl
 meant net n (input inside) = inr (inl inside)
-meant net n (gate g inside on_left on_right) = inr (inr (mapped_inside variable_of_gate net.gates g inside))
+meant net n (gate g inside on_left on_right) = inr (inr (contains_map variable_of_gate net.gates g inside))
 
 module _ (f : Dqbf) (entries : List Entry) (e : CircuitPart) (prefix : HasLawfulPrefix f)
     (small : f.variables < 10 ^ 18) (lawful : AreLogged entries)

@@ -2,9 +2,10 @@
 use Rattle.std.proofs.Common.{◌≡◌, Result, Ok, Err, OnOk, IfOk, ℕ, zero, suc, ◌+◌, ◌≤◌, ◌<◌, ◌==◌, ◌⊎◌, inl, inr, Bool, true, false, cond, List, [], ◌∷◌, ◌++◌, map, take, drop, append_assoc, length, get_or, slice_get, slice_index, Option, None, Some, refl, sym, ◌∙◌, ap, subst, arith, length-append}
 use Rattle.std.specs.List.{All, Contains, filter, position_or_len}
 use Rattle.std.specs.Option.{option_map, option_and_then}
-use Rattle.std.proofs.lemmas.List.{get_or-append-add, get_or_default, take-append-drop, length-map, map-append, append-nil, take_more}
+use Rattle.std.proofs.lemmas.List.{get_or-append-add, get_or_default, take-append-drop, length-map, map-append, take_more}
 use Rattle.std.proofs.lemmas.List.Elements.{All-nil, All-cons, All-contains, All-head, All-tail, Contains-get_or, filter-append}
 use Rattle.std.proofs.lemmas.List.Kept.{AllPairs-from_increasing}
+use Rattle.list_laws.proofs.Elements.{place_within, index_of}
 use Rattle.dq_lits.specs.Literal.{Literal, opposite}
 use Rattle.dq_lits.specs.Derivation.{is_tautology, ProofStep}
 use Rattle.hint_log.specs.Conditions.{IsId}
@@ -12,10 +13,9 @@ use Rattle.hint_log.specs.Entries.{Entry, Named, Given, Learned, Answer, Round, 
 use Rattle.hint_log.specs.declared.origins.Origin.{Origin}
 use Rattle.cert_export.specs.Lines.{clause_or_empty, hints_or_none, is_derived, derived_ids, line_number, number_by, new_number, renamed_clauses, line_clause, line_hints, line_step, line_steps}
 use Rattle.cert_export.specs.Renaming.{Renaming, renamed_clause, cut_hints}
-use Rattle.cert_export.specs.Written.{WrittenLines, place_in, needed_places, with_given, with_line, no_lines, IsWritten, CanBeWritten}
+use Rattle.cert_export.specs.Written.{WrittenLines, place_in, needed_places, with_line, IsWritten, CanBeWritten}
 use Rattle.cert_export.proofs.Allowed.{place_of, cut_all, mapped_all}
 use Rattle.cert_export.proofs.DerivedLines.{clause_there}
-use Rattle.cert_export.proofs.PairNames.{small_place}
 use Rattle.cert_export.proofs.CutHints.{cut_by_ids}
 use Rattle.cert_export.proofs.Numbers.{rising_filter}
 use Rattle.cert_export.proofs.ReachedLines.{rising_of, Rising}
@@ -37,19 +37,6 @@ ids_from_one r base_id entries last lines (id ∷ ids) =
     All-cons (λ (s : ProofStep). 1 ≤ s.id) (line_step r base_id entries (line_number last lines) id)
     (line_steps r base_id entries (line_number last lines) ids)
     (omega arith) (ids_from_one r base_id entries last lines ids)
-
--- what an id's entry is, by what the log tells of it
-pub given_entry : (o : Option Entry) (origin : Origin) (clause : List Literal) →
-    option_and_then origin_of o ≡ Some origin → option_and_then clause_of o ≡ Some clause →
-    o ≡ Some (Given origin clause)
-given_entry None origin clause h k = cc
-given_entry (Some (Named v n)) origin clause h k = cc
-given_entry (Some (Given o c)) origin clause h k = let a : o ≡ origin = cc in let b : c ≡ clause = cc in
-    ap (λ x. Some (Given x c)) a ∙ ap (λ y. Some (Given origin y)) b
-given_entry (Some (Learned c hints)) origin clause h k = cc
-given_entry (Some (Answer c hints)) origin clause h k = cc
-given_entry (Some (Round row values j)) origin clause h k = cc
-given_entry (Some (Begun live)) origin clause h k = cc
 
 pub record IsDerivedEntry (o : Option Entry) (clause : List Literal) (hints : List ℕ) : Type 0 where
   pub derived : is_derived o ≡ true
@@ -101,47 +88,12 @@ mapped_at g (x ∷ ids) (suc i) zero h less most is = ap (λ y. Some (g y)) is
 mapped_at g (x ∷ ids) (suc i) (suc p) h less most is = mapped_at g ids i p h (omega (arith, less))
     (omega (arith, most)) is
 
-index_of : (xs : List ℕ) (p x : ℕ) → slice_get xs p ≡ Some x → slice_index xs p ≡ x
-index_of [] p x h = cc
-index_of (y ∷ ys) zero x h = let same : y ≡ x = cc in same
-index_of (y ∷ ys) (suc p) x h = index_of ys p x h
-
 mapped_twice : (g to k : ℕ → ℕ) (xs : List ℕ) → All (λ x. g (to x) ≡ k x) xs → map g (map to xs) ≡ map k xs
 mapped_twice g to k [] h = refl
 mapped_twice g to k (x ∷ xs) h =
     let P : ℕ → Type 0 = λ y. g (to y) ≡ k y in
     ap (λ y. y ∷ map g (map to xs)) (All-head P x xs h) ∙ ap (λ ys. k x ∷ ys)
     (mapped_twice g to k xs (All-tail P x xs h))
-
-pub nothing_written : (r : Renaming) (base_id : Origin → ℕ) (entries : List Entry) (number : ℕ → ℕ) (ids : List ℕ) →
-    ids ≡ [] → IsWritten r base_id entries number ids no_lines
-nothing_written r base_id entries number ids is = record {
-  clauses = sym (ap (map (line_clause r entries)) is);
-  numbers = sym (ap (map (new_number base_id entries number)) is);
-  steps = sym (ap (λ xs. line_steps r base_id entries number (derived_ids entries xs)) is);
-}
-
-pub written_given : (r : Renaming) (base_id : Origin → ℕ) (entries : List Entry) (number : ℕ → ℕ) (ids : List ℕ)
-    (i id : ℕ) (w : WrittenLines) (origin : Origin) (c clause : List Literal) (n : ℕ) →
-    IsWritten r base_id entries number (take i ids) w → i < length ids → id ≡ get_or ids i id →
-    origin_at entries id ≡ Some origin → clause_at entries id ≡ Some c →
-    clause ≡ renamed_clause r c → n ≡ base_id origin → IsWritten r base_id entries number (take (i + 1) ids)
-    (with_given w clause n)
-written_given r base_id entries number ids i id w origin c clause n so_far below is given there renamed n_is =
-    let entry = given_entry (numbered has_id entries id) origin c given there in
-    record {
-      clauses = ap (λ xs. xs ++ clause ∷ []) so_far.clauses
-          ∙ ap (λ x. map (line_clause r entries) (take i ids) ++ x ∷ [])
-          (renamed ∙ ap (renamed_clause r) (sym (clause_is (numbered has_id entries id) c there)))
-          ∙ sym (map_more (line_clause r entries) ids i id below is);
-      numbers = ap (λ xs. xs ++ n ∷ []) so_far.numbers
-          ∙ ap (λ x. map (new_number base_id entries number) (take i ids) ++ x ∷ [])
-          (n_is ∙ sym (ap (number_by base_id (number id)) entry))
-          ∙ sym (map_more (new_number base_id entries number) ids i id below is);
-      steps = so_far.steps ∙ ap (line_steps r base_id entries number)
-          (sym (derived_more entries ids i id false below is (ap is_derived entry) ∙ append-nil
-          (derived_ids entries (take i ids))));
-    }
 
 module _ (r : Renaming) (base_id : Origin → ℕ) (knows : Origin → Type 0) (entries : List Entry) (ids : List ℕ)
     (can : CanBeWritten r knows entries ids)
@@ -216,7 +168,7 @@ module _ (r : Renaming) (base_id : Origin → ℕ) (knows : Origin → Type 0) (
     -- the places of hints are before
     pub places_before : All (λ p. p < length w.numbers) (map (place_in ids) hints)
     places_before = mapped_all (λ p. p < length w.numbers) (place_in ids) hints
-        (λ k d b. small_place w.numbers (place_in ids (get_or hints k d))
+        (λ k d b. place_within w.numbers (place_in ids (get_or hints k d))
         (new_number base_id entries number (get_or hints k d))
         (number_at_place (get_or hints k d) (hint_earlier k d b)))
 

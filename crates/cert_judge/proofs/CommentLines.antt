@@ -39,16 +39,16 @@ use Rattle.skolem_checker.specs.Mapping.{Mapping, mapping_of}
 use Rattle.skolem_checker.specs.SkolemCircuit.{IsComplete}
 use Rattle.skolem_checker.specs.declared.mapping.MapError.{MapError}
 use Rattle.skolem_checker.specs.declared.mapping.MapPlace.{MapPlace}
-use Rattle.cert_judge.specs.CircuitPhases.{BeginsComment, BeginsProof, FollowsLine, IsStoppedPhase, IsWholeCircuit}
+use Rattle.skolem_checker.proofs.LiteralNumbers.{spelled_complete}
+use Rattle.cert_judge.specs.CircuitPhases.{BeginsComment, BeginsProof, FollowsLine, IsWholeCircuit}
 use Rattle.cert_judge.specs.Judgement.{as_proof, begins_proof, begins_with, comment_line, first_line, line_ends, mapping_line, proof_in, proof_on, BehindMapping, BehindProof, IsTested}
-use Rattle.cert_judge.specs.Phases.{found_or_derived, line_end, AnswersFile, AreLinesFrom, CircuitGives, Gives, HasNoEnd, IsJudged, IsLastUnless, IsLawful, ProofGives, SaysProof}
+use Rattle.cert_judge.specs.Phases.{found_or_derived, line_end, AnswersFile, AreLinesFrom, CircuitGives, HasNoEnd, IsJudged, IsLastUnless, ProofGives, SaysProof}
 use Rattle.cert_judge.specs.Places.{AnswersStop, HasFewLines}
 use Rattle.cert_judge.specs.Standing.{IsStanding, SaysRead}
 use Rattle.cert_judge.specs.declared.answers.Judgement.{Judgement}
 use Rattle.cert_judge.specs.declared.phases.Phase.{Phase}
 use Rattle.cert_judge.specs.declared.phases.Phase.TheVariants.{FreeText}
 use Rattle.cert_judge.specs.declared.standings.Standing.TheVariants.{Found, Proving}
-use Rattle.cert_judge.proofs.Certificates.{spelled_complete}
 use Rattle.cert_judge.proofs.LinesToCome.{first_is, line_of}
 use Rattle.cert_judge.proofs.Places.{spelled_few}
 
@@ -124,30 +124,6 @@ commented_stop h bytes true (Ok file) (RefusedFile line name) is = is
 commented_stop h bytes true (Ok file) NoFile is = tt
 commented_stop h bytes true (Err fault) stop is = is
 commented_stop h bytes false read stop is = is
-
--- the circuit is refused where its text ends
-pub stop_follows : (f : Dqbf) (l : CircuitLines) (text : List ℕ) (stop : AagStop) (r : Result Phase Memory) →
-    IsWholeCircuit l → l.stopped ≡ None →
-    IfNone l.stopped (IsAagReading (header_line l) (lines_give l []) (Err stop)) →
-    IfOk r (IsStoppedPhase stop) → IfOk r (FollowsLine f l text)
-stop_follows f l text (RefusedFile line name) (Ok phase) whole none reading is = λ ended behind answer last says.
-    let bytes = text ++ (line_end ended ++ behind) in
-    record {
-      reading = Err (RefusedFile line name);
-      is_reading = commented_stop (header_line l) bytes l.in_comment (lines_give l (lines_from l.number bytes))
-          (RefusedFile line name)
-          (subst (λ r. IsAagReading (header_line l) r (Err (RefusedFile line name))) (sym (same_file l whole bytes))
-          (subst (λ o. IfNone o (IsAagReading (header_line l) (lines_give l []) (Err (RefusedFile line name)))) none
-          reading));
-      answers = subst (λ p. Gives f p behind answer) is says;
-    }
-stop_follows f l text NoFile (Ok phase) whole none reading is = absurd is
-stop_follows f l text stop (Err _) whole none reading is = tt
-
-pub stop_lawful : (stop : AagStop) (r : Result Phase Memory) → IfOk r (IsStoppedPhase stop) → IfOk r IsLawful
-stop_lawful (RefusedFile line name) (Ok phase) is = subst IsLawful (sym is) tt
-stop_lawful NoFile (Ok phase) is = absurd is
-stop_lawful stop (Err _) is = tt
 
 abbrev bare_file : Netlist → SymbolTable → AagFile
 bare_file net symbols = record { circuit = net; symbols = symbols; comment = None }

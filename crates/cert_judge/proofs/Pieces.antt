@@ -1,5 +1,5 @@
 -- A certificate that comes in pieces.
-use Rattle.std.proofs.Common.{◌≡◌, ◌<◌, ℕ, List, [], ◌∷◌, ◌++◌, length, Result, Ok, Err, sym, ◌∙◌, ap, subst, arith, append_assoc, append-nil, length-append}
+use Rattle.std.proofs.Common.{◌≡◌, ℕ, List, [], ◌∷◌, ◌++◌, Result, Ok, Err, sym, ◌∙◌, ap, subst, append_assoc, append-nil}
 use Rattle.std.specs.Prelude.{IfOk}
 use Rattle.dq_lits.specs.Formula.{Dqbf}
 use Rattle.dq_lits.specs.declared.memory.Memory.{Memory}
@@ -8,9 +8,6 @@ use Rattle.cert_judge.specs.Phases.{Gives}
 use Rattle.cert_judge.specs.Streams.{IsCut, IsTaken, MayAnswer, StandsFor, StreamState}
 use Rattle.cert_judge.specs.declared.answers.Judgement.{Judgement}
 use Rattle.cert_judge.specs.declared.phases.Phase.{Phase}
-
-pub shorter : (rest line behind : List ℕ) → IsCut rest line behind → length behind < length rest
-shorter rest line behind cut = omega (arith, ap length cut.parts, length-append line (10 ∷ behind))
 
 -- a line of the piece, which may have begun before
 pub line_back : (f : Dqbf) (old new : Phase) (before rest line behind bytes : List ℕ) (answer : Judgement) →

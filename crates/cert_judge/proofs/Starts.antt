@@ -1,12 +1,11 @@
 -- The header line of a certificate of each kind.
-use Rattle.std.proofs.Common.{◌≡◌, ◌⊎◌, ℕ, ◌+◌, ◌≤◌, Bool, true, false, inl, inr, List, [], ◌∷◌, ◌++◌, Option, None, Some, Result, Ok, Err, refl, sym, ◌∙◌, ap, subst, append_assoc}
+use Rattle.std.proofs.Common.{◌≡◌, ◌⊎◌, ℕ, ◌+◌, ◌≤◌, Bool, true, false, inl, inr, List, [], ◌∷◌, ◌++◌, Option, None, Some, Result, Ok, Err, refl, sym, ◌∙◌, ap, subst}
 use Rattle.std.specs.Prelude.{IfNone, IfOk}
 use Rattle.dq_lits.specs.Derivation.{ProofFault}
 use Rattle.dq_lits.specs.Formula.{Dqbf}
 use Rattle.dq_lits.specs.declared.memory.Memory.{Memory}
 use Rattle.dq_text.specs.Line.{TextLine, lines_from}
 use Rattle.aag_lines.specs.CircuitLines.{CircuitLines, GoesOn, ReadsLine, no_lines}
-use Rattle.aig_binary.specs.Scan.{scan_binary}
 use Rattle.aiger_text.specs.FirstFault.{IsFirstFault}
 use Rattle.aiger_text.specs.Scan.{IsAagReading, LineFault, scan}
 use Rattle.aiger_text.specs.declared.faults.AagFault.{AagFault}
@@ -25,7 +24,7 @@ use Rattle.refutation_checker.specs.Refutation.{refutation_fault}
 use Rattle.cert_text.specs.declared.kinds.Kind.TheVariants.{Circuit as CircuitText}
 use Rattle.cert_judge.specs.CircuitPhases.{IsStoppedPhase}
 use Rattle.cert_judge.specs.Beginnings.{IsJudgementFrom, StartsCircuit}
-use Rattle.cert_judge.specs.Judgement.{answer_of_derivation, answer_of_refutation, IsBinaryJudgement, IsCircuitAnswer, IsCircuitRefusal}
+use Rattle.cert_judge.specs.Judgement.{answer_of_derivation, answer_of_refutation, IsCircuitAnswer, IsCircuitRefusal}
 use Rattle.cert_judge.specs.Phases.{line_end, AnswersFile, AreLinesFrom, CircuitGives, HasNoEnd, IsLastUnless, RefutationGives, SaysRefutation}
 use Rattle.cert_judge.specs.declared.answers.Judgement.{Judgement}
 use Rattle.cert_judge.specs.declared.answers.Judgement.TheVariants.{ValidFalse}
@@ -158,13 +157,3 @@ circuit_refused law first old new text stop (Ok phase) is free reads stopped =
           ((stop_taken f fresh text new stop phase free refl refl reads_fresh stopped).1 ended behind answer last says);
     }
 circuit_refused law first old new text stop (Err _) is free reads stopped = tt
-
--- a binary text, put together line by line
-pub binary_takes : (f : Dqbf) (first : ℕ) (before text behind after : List ℕ) (ended : Bool) (answer : Judgement) →
-    after ≡ (before ++ text) ++ line_end ended →
-    IsBinaryJudgement f first (scan_binary (after ++ behind) first) answer →
-    IsBinaryJudgement f first (scan_binary (before ++ (text ++ (line_end ended ++ behind))) first) answer
-binary_takes f first before text behind after ended answer is says =
-    subst (λ t. IsBinaryJudgement f first (scan_binary t first) answer)
-    (append_assoc (before ++ text) (line_end ended) behind ∙ append_assoc before text (line_end ended ++ behind))
-    (subst (λ a. IsBinaryJudgement f first (scan_binary (a ++ behind) first) answer) is says)

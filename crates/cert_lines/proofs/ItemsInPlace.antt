@@ -1,5 +1,5 @@
 -- Items that came stand where they may, and the ids go on.
-use Rattle.std.proofs.Common.{◌≡◌, ℕ, suc, ◌-◌, ◌≤◌, ◌<◌, nat_lt, Bool, true, false, cond, List, [], ◌∷◌, Option, None, Some, Result, Ok, Err, refl, ◌∙◌, ap, arith, subst, append-nil}
+use Rattle.std.proofs.Common.{◌≡◌, ℕ, suc, ◌-◌, ◌≤◌, ◌<◌, nat_lt, Bool, true, false, cond, List, [], Option, None, Some, Result, Ok, Err, refl, ◌∙◌, ap, arith, subst, append-nil}
 use Rattle.std.specs.Prelude.{IfSome}
 use Rattle.std.proofs.lemmas.Bool.{ltb-false}
 use Rattle.dq_lits.specs.Formula.{Dqbf}
@@ -11,7 +11,7 @@ use Rattle.cert_text.specs.Header.{header_of, proof_header}
 use Rattle.cert_text.specs.ItemLine.{item_line}
 use Rattle.cert_text.specs.Kind.{refusal}
 use Rattle.cert_text.specs.LineStop.{and_then}
-use Rattle.cert_text.specs.Numbering.{Numbering, behind_item, without, without_all}
+use Rattle.cert_text.specs.Numbering.{Numbering, behind_item}
 use Rattle.cert_text.specs.Pairs.{is_pair_number}
 use Rattle.cert_text.specs.RowLine.{row_line}
 use Rattle.cert_text.specs.Variables.{is_up_to}
@@ -20,17 +20,13 @@ use Rattle.cert_text.specs.declared.faults.CertFault.TheVariants.{BadLine, Trunc
 use Rattle.cert_text.specs.declared.headers.Counts.{Counts}
 use Rattle.cert_text.specs.declared.headers.ItemCount.{ItemCount}
 use Rattle.cert_text.specs.declared.versions.Version.{Version}
+use Rattle.cert_text.proofs.Numberings.{next_kept}
 use Rattle.cert_lines.specs.ProofLines as Proof
 use Rattle.cert_lines.specs.RefutationLines.{BodyRead, MayCome, RefutationBody, body_behind, body_gives, line_read, rows_of, with_item_read, with_row, without_item}
 
--- ids that go don't change which comes next
-none_comes : (n : Numbering) (ids : List ℕ) → (without_all n ids).next ≡ n.next
-none_comes n [] = refl
-none_comes n (id ∷ ids) = none_comes (without n id) ids
-
 pub goes_on : (n : Numbering) (item : ProofItem) → n.next ≤ (behind_item n item).next
 goes_on n (derived step) = omega arith
-goes_on n (gone ids) = omega (arith, none_comes n ids)
+goes_on n (gone ids) = omega (arith, next_kept n ids)
 
 -- what a line of a proof is read as may stand there
 abbrev pub AreLawful : Type 0
@@ -134,12 +130,6 @@ all_came f body number no_rows no_items =
 
 some_left : (n : ℕ) → 0 < n → n ≡ suc (n - 1)
 some_left n some = omega (arith, some)
-
--- where a row is missing
-pub rows_missing : (f : Dqbf) (body : RefutationBody) (number : ℕ) → 0 < body.rows_left →
-    rows_of (body_gives f body [] number) ≡ Err (refusal number Truncated)
-rows_missing f body number some =
-    ap (λ n. rows_of (body_gives f (record body { rows_left = n }) [] number)) (some_left body.rows_left some)
 
 -- where a line of the proof is missing
 pub items_missing : (f : Dqbf) (body : RefutationBody) (number : ℕ) → body.rows_left ≡ 0 → 0 < body.items_left →

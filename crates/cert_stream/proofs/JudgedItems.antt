@@ -17,7 +17,7 @@ use Rattle.refutation_checker.specs.Refutation.{normal_item}
 use Rattle.refutation_checker.specs.declared.proving.RefutationProving.{RefutationProving}
 use Rattle.cert_stream.specs.RefutationInside.{GoesOn, HasRun, IsBehindLine}
 use Rattle.cert_stream.specs.RefutationState.{HasJudged, IsFresh, IsRunOf, StandsFor, run_behind}
-use Rattle.cert_stream.proofs.JudgedLines.{may_be, none_step}
+use Rattle.cert_stream.proofs.JudgedLines.{may_be}
 use Rattle.cert_stream.proofs.LineSteps.{LineStep, header_step, row_step, item_step, blank_step, step_of}
 
 -- an item came behind what was read
@@ -63,13 +63,6 @@ pub came : (old : RefutationLines) (new : KeptLines) (item : ProofItem) → new.
 came old new item is behind lawful same =
     come old (seen new) item (step_of old (seen new) behind.text behind.read) is behind.may_come
     (subst (λ f. IfSome (seen new).body (IsBody f)) (sym same) lawful)
-
--- a line that is no item
-pub no_item_goes_on : (new : KeptLines) (proving : Option RefutationProving) → new.item ≡ None →
-    GoesOn new proving proving
-no_item_goes_on new proving none old run behind is =
-    subst (λ i. IsRunOf (seen new) proving (run_behind old.formula (rows_so_far (seen new).body) run i)) (sym none)
-    (none_step old (seen new) proving run (step_of old (seen new) behind.text behind.read) none is)
 
 -- what judging an item ensures
 abbrev pub Judges : Dqbf → List (List Bool) → RefutationProving → RefutationProving → ProofItem → Type 0

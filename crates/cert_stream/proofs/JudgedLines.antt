@@ -1,7 +1,6 @@
 -- What is judged of lines, line by line.
-use Rattle.std.proofs.Common.{◌≡◌, ℕ, nat_lt, Bool, true, List, [], ◌∷◌, ◌++◌, map, Option, None, Some, Result, Ok, Err, refl, sym, ◌∙◌, ap, subst, arith, append-nil}
+use Rattle.std.proofs.Common.{◌≡◌, ℕ, Bool, List, [], ◌∷◌, ◌++◌, map, Option, Some, Result, Ok, Err, refl, sym, ◌∙◌, ap, subst, append-nil}
 use Rattle.std.specs.Prelude.{IfSome}
-use Rattle.std.proofs.lemmas.Bool.{ltb-true}
 use Rattle.dq_lits.specs.Formula.{Dqbf}
 use Rattle.dq_text.specs.Line.{TextLine}
 use Rattle.rup_core.specs.Items.{ProofItem}
@@ -14,8 +13,7 @@ use Rattle.cert_text.specs.declared.faults.CertRefusal.{CertRefusal}
 use Rattle.cert_text.specs.declared.refutations.Dqr.{Dqr}
 use Rattle.cert_lines.specs.RefutationLines.{IsNextItem, MayCome, RefutationBody, RefutationLines, body_gives, in_front, lines_give, rows_so_far, with_item_read}
 use Rattle.refutation_checker.specs.Refutation.{normal_item}
-use Rattle.refutation_checker.specs.declared.proving.RefutationProving.{RefutationProving}
-use Rattle.cert_stream.specs.RefutationState.{HasJudged, IsFresh, IsRunOf, StandsFor, fault_behind, judged, run_behind, run_or_start}
+use Rattle.cert_stream.specs.RefutationState.{fault_behind, judged, run_behind, run_or_start}
 use Rattle.cert_stream.proofs.LineSteps.{LineStep, header_step, row_step, item_step, blank_step}
 
 -- where all rows came, the rows are those that came
@@ -69,24 +67,3 @@ judged_step r next run line lines (item_step body item there) may law =
     ap (λ l. and_read l (λ d. Ok (fault_behind r.formula run d))) law
     ∙ item_judged r.formula body.rows run item (lines_give next lines)
     (λ d is. rows_kept r.formula (with_item_read body item).body lines next.number d came.rows is)
-
-none_left : (n : ℕ) → n ≡ 0 → nat_lt 0 n ≡ true → ⊥
-none_left n none some = let more = ltb-true 0 n some in omega (arith, none, more)
-
--- a line that is no item leaves the run
-pub none_step : (r next : RefutationLines) (proving : Option RefutationProving) (run : Option Run) →
-    LineStep r next → next.item ≡ None → IsRunOf r proving run → IsRunOf next proving run
-none_step r next None None (header_step counts none) no_item fresh = refl
-none_step r next None None (row_step body row there more) no_item fresh = subst (IsFresh r.formula) there fresh
-none_step r next None None (blank_step body there) no_item fresh = subst (IsFresh r.formula) there fresh
-none_step r next None None (item_step body item there) no_item fresh = cc
-none_step r next None (Some run) step no_item is = absurd is
-none_step r next (Some p) None step no_item is = absurd is
-none_step r next (Some p) (Some run) (header_step counts none) no_item is =
-    absurd (subst (λ o. StandsFor r.formula o p run) none is)
-none_step r next (Some p) (Some run) (row_step body row there more) no_item is =
-    let has : HasJudged r.formula body p run = subst (λ o. StandsFor r.formula o p run) there is in
-    absurd (none_left body.rows_left has.rows more)
-none_step r next (Some p) (Some run) (blank_step body there) no_item is =
-    subst (λ o. StandsFor r.formula o p run) there is
-none_step r next (Some p) (Some run) (item_step body item there) no_item is = cc

@@ -1,5 +1,5 @@
 -- What a line of a refutation may be.
-use Rattle.std.proofs.Common.{◌≡◌, ℕ, ◌+◌, nat_lt, Bool, true, false, cond, List, Option, None, Some, Result, Ok, Err, refl, subst}
+use Rattle.std.proofs.Common.{◌≡◌, ℕ, nat_lt, Bool, true, false, cond, List, Option, None, Some, Result, Ok, Err, refl, subst}
 use Rattle.dq_text.specs.BlankLine.{is_blank_line}
 use Rattle.dq_text.specs.Line.{line_tokens}
 use Rattle.rup_core.specs.Items.{ProofItem}
@@ -64,10 +64,3 @@ module _ (r next : RefutationLines) where
 
   pub step_of : (text : List ℕ) → with_line r text ≡ Ok next → LineStep r next
   step_of text read = by_body r.body text refl read
-
--- the number of the next line
-pub counted : (r next : RefutationLines) → LineStep r next → next.number ≡ r.number + 1
-counted r next (header_step counts none) = refl
-counted r next (row_step body row there more) = refl
-counted r next (item_step body item there) = refl
-counted r next (blank_step body there) = refl

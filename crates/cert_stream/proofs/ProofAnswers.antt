@@ -75,13 +75,6 @@ stopped_back law old run text new stop None fresh ended behind lines answer is =
 stopped_back law old run text new stop (Some s) fresh ended behind lines answer is =
     let same : stop ≡ s = cc in is ∙ ap Err same
 
--- memory wanted
-pub memory_back : (old : KeptProofLines) (run : Option Run) → old.stopped ≡ None → (lines : List TextLine)
-    (answer : Answer) → answer ≡ Err Memory → AnswersLines (proof_seen old) run old.stopped lines answer
-memory_back old run none lines answer is =
-    subst (λ o. AnswersLines (proof_seen old) run o lines answer) (sym none)
-    (subst (λ a. IsReading (judged (proof_seen old) run lines) a) (sym is) tt)
-
 -- before the first line
 given : (f : Dqbf) (net : Netlist) (first : ℕ) (lines : List TextLine) →
     lines_give (no_lines f net first) lines ≡ read_proof f net lines first

@@ -1,5 +1,5 @@
 -- What a line of a circuit's proof does, and what is judged of lines, line by line.
-use Rattle.std.proofs.Common.{◌≡◌, ℕ, ◌+◌, nat_lt, Bool, true, false, cond, List, ◌∷◌, Option, None, Some, Result, Ok, Err, refl, sym, ◌∙◌, ap, subst}
+use Rattle.std.proofs.Common.{◌≡◌, ℕ, nat_lt, Bool, true, false, cond, List, ◌∷◌, Option, None, Some, Result, Ok, Err, refl, sym, ◌∙◌, ap, subst}
 use Rattle.dq_text.specs.Line.{TextLine, line_tokens}
 use Rattle.rup_core.specs.Items.{ProofItem}
 use Rattle.rup_core.specs.Runs.{Run}
@@ -120,7 +120,3 @@ judged_step law r next run line lines numbered read =
     (law r line lines numbered
     ∙ ap (λ w. and_read (at_line line.number w) (λ n. in_front n.item (lines_give n lines))) read)
     ∙ item_judged next.item run (lines_give next lines)
-
--- the number of the next line
-pub counted : (r next : ProofLines) (text : List ℕ) → IsStep r next text → next.number ≡ r.number + 1
-counted r next text step = ap (λ (n : ProofLines). n.number) step.next_is

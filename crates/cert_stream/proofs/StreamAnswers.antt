@@ -66,14 +66,6 @@ read_on law old new before after text none read may goes behind lines answer say
     (by_run (run_behind r.formula (rows_so_far next.body) run next.item)
     (goes r run (record { text = text; read = read; item_is = refl; may_come = may }) run_is)))
 
--- memory wanted
-pub memory_back : (old : KeptLines) (before : Option RefutationProving) → old.stopped ≡ None →
-    (lines : List TextLine) (answer : Answer) → answer ≡ Err Memory →
-    AnswersLines (seen old) before old.stopped lines answer
-memory_back old before none lines answer is =
-    subst (λ o. AnswersLines (seen old) before o lines answer) (sym none) (λ run run_is.
-    subst (λ a. IsReading (judged (seen old) run lines) a) (sym is) tt)
-
 refused_lines : ReadsByLine → (old : KeptLines) (text : List ℕ) (new : RefutationLines) (stop : CertStop) →
     IsLineAnswer (with_line (seen old) text) old.number (Err stop) new → (run : Option Run) (behind : List ℕ)
     (lines : List TextLine) → IsReading (judged (seen old) run (line_of text old.number behind ∷ lines)) (Err stop)
@@ -119,21 +111,6 @@ no_items : (f : Dqbf) (body : Option RefutationBody) (number : ℕ) (d : Dqr) �
 no_items f None number d is = cc
 no_items f (Some b) number d is =
     nothing_left f b.version b.row_count b.rows b.rows_left b.numbering b.items_left number d is
-
-end_stopped : (say : Dqr → Option ProofFault) (stop : CertStop) (read : Result Dqr CertRefusal) →
-    IsReading (rows_of read) (Err stop) → IsReading (and_read read (λ d. Ok (say d))) (Err stop)
-end_stopped say (Refused fault) (Ok d) is = cc
-end_stopped say (Refused fault) (Err first) is = let same : first ≡ fault = cc in ap Err same
-end_stopped say Memory read is = tt
-
--- the end is refused
-pub ended_refused : (lines : KeptLines) (proving : Option RefutationProving) (stop : CertStop)
-    (o : Option CertStop) → IfNone o (IsReading (rows_of (lines_give (seen lines) [])) (Err stop)) →
-    IfSome o (λ s. (λ (r : Result (List (List Bool)) CertStop). r) (Err stop) ≡ Err s) →
-    AnswersLines (seen lines) proving o [] (Err stop)
-ended_refused lines proving stop None fresh ended =
-    λ run run_is. end_stopped (fault_behind lines.formula run) stop (lines_give (seen lines) []) fresh
-ended_refused lines proving stop (Some s) fresh ended = let same : stop ≡ s = cc in ap Err same
 
 run_says : (r : RefutationLines) (proving : Option RefutationProving) (fault : Option SaidFault) (run : Option Run)
     (rows : List (List Bool)) → IsFaultOf proving fault → IsRunOf r proving run →

@@ -23,11 +23,6 @@ pub stop_behind : {A B : Type 0} (first : Result A CertRefusal) (next : A → Re
 stop_behind first next (Refused fault) is = ap (λ r. and_read r next) is
 stop_behind first next Memory is = tt
 
--- behind a part that was read, what stands behind it decides
-pub read_behind : {A B : Type 0} (first : Result A CertRefusal) (next : A → Result B CertRefusal) (part : A) →
-    first ≡ Ok part → and_read first next ≡ next part
-read_behind first next part is = ap (λ r. and_read r next) is
-
 pub stop_of_rest : {A B : Type 0} (first : Result A CertRefusal) (next : A → Result B CertRefusal) (part : A)
     (stop : CertStop) → first ≡ Ok part → IsStop (next part) stop → IsStop (and_read first next) stop
 stop_of_rest first next part stop is rest = subst (λ r. IsStop (and_read r next) stop) (sym is) rest

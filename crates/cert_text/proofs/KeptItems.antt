@@ -1,7 +1,8 @@
 -- Items that are kept as steps.
-use Rattle.std.proofs.Common.{◌≡◌, ℕ, zero, suc, ◌+◌, ◌≤◌, false, ◌||◌, cond, List, [], ◌∷◌, ◌++◌, map, length, drop, Some, refl, sym, ◌∙◌, ap, ap₂, arith, append_assoc}
+use Rattle.std.proofs.Common.{◌≡◌, ℕ, suc, ◌+◌, ◌≤◌, ◌||◌, cond, List, [], ◌∷◌, ◌++◌, map, drop, Some, refl, sym, ◌∙◌, ap, ap₂, arith, append_assoc}
 use Rattle.std.specs.List.{AllByRecursion, flat_map, list_any, slice_get}
 use Rattle.std.proofs.lemmas.Bool.{ne_eqb}
+use Rattle.list_laws.proofs.Elements.{drop-at}
 use Rattle.dq_lits.specs.Derivation.{ProofStep}
 use Rattle.rup_core.specs.Items.{ProofItem, derived, gone}
 use Rattle.cert_text.specs.Canonical.{item_text}
@@ -16,17 +17,6 @@ pub lines_kept : (steps : List ProofStep) → AllByRecursion (λ step. 1 ≤ ste
 lines_kept [] some = refl
 lines_kept (step ∷ steps) some = ap₂ (λ item items. item ∷ items) (line_kept step some.0) (lines_kept steps some.1)
 
-pub item_at : (steps : List ProofStep) (k : ℕ) (step : ProofStep) → slice_get steps k ≡ Some step →
-    slice_get (map kept_item steps) k ≡ Some (kept_item step)
-item_at [] k step h = cc
-item_at (s ∷ steps) zero step h = let same : s ≡ step = cc in ap (λ x. Some (kept_item x)) same
-item_at (s ∷ steps) (suc k) step h = item_at steps k step h
-
-got : {X : Type 0} (xs : List X) (k : ℕ) (x : X) → slice_get xs k ≡ Some x → drop k xs ≡ x ∷ drop (suc k) xs
-got [] k x h = cc
-got (y ∷ ys) zero x h = let same : y ≡ x = cc in ap (λ z. z ∷ ys) same
-got (y ∷ ys) (suc k) x h = got ys k x h
-
 -- one of them more is written
 pub one_written : {X : Type 0} (written_as : X → List ℕ) (items : List X) (k : ℕ) (item : X)
     (text more start : List ℕ) → slice_get items k ≡ Some item → more ≡ text ++ written_as item →
@@ -35,7 +25,7 @@ one_written written_as items k item text more start is written so_far =
     let next : k + 1 ≡ suc k = omega arith in
     ap₂ (λ a n. a ++ flat_map written_as (drop n items)) written next
     ∙ append_assoc text (written_as item) (flat_map written_as (drop (suc k) items))
-    ∙ ap (λ rest. text ++ flat_map written_as rest) (sym (got items k item is))
+    ∙ ap (λ rest. text ++ flat_map written_as rest) (sym (drop-at items k item is))
     ∙ so_far
 
 pub item_written : (items : List ProofItem) (k : ℕ) (item : ProofItem) (text more start : List ℕ) →
@@ -49,11 +39,5 @@ pub deletion_at : (items : List ProofItem) (k : ℕ) (item : ProofItem) → slic
     list_any is_deletion (drop k items) ≡ is_deletion item || list_any is_deletion (drop (k + 1) items)
 deletion_at items k item is =
     let next : suc k ≡ k + 1 = omega arith in
-    ap (list_any is_deletion) (got items k item is) ∙ ap (λ n. is_deletion item || list_any is_deletion
+    ap (list_any is_deletion) (drop-at items k item is) ∙ ap (λ n. is_deletion item || list_any is_deletion
     (drop n items)) next
-
-pub none_left : (items : List ProofItem) (k : ℕ) → length items ≤ k → list_any is_deletion (drop k items) ≡ false
-none_left [] zero le = refl
-none_left [] (suc k) le = refl
-none_left (item ∷ items) zero le = absurd (omega (arith, le))
-none_left (item ∷ items) (suc k) le = none_left items k (omega (arith, le))

@@ -9,11 +9,11 @@ use Rattle.circuit_plain.specs.Netlist.{Netlist}
 use Rattle.circuit_plain.specs.declared.circuits.Gate.{Gate}
 use Rattle.cert_text.specs.NegatedMatrix.{gate_clauses, opposite_of, literal_under, falsity_clauses, all_falsity_clauses, some_clause_false, negated_clauses, negated_clause_count}
 
-gates_counted : (gates : List Gate) → length (flat_map gate_clauses gates) ≡ 3 * length gates
+pub gates_counted : (gates : List Gate) → length (flat_map gate_clauses gates) ≡ 3 * length gates
 gates_counted [] = refl
 gates_counted (g ∷ gates) = omega (arith, gates_counted gates)
 
-falsity_counted : (circuit_literal : ℕ → ℕ) (bad : ℕ) (clauses : List (List Literal)) →
+pub falsity_counted : (circuit_literal : ℕ → ℕ) (bad : ℕ) (clauses : List (List Literal)) →
     length (all_falsity_clauses circuit_literal bad clauses) ≡ sum_by length clauses
 falsity_counted circuit_literal bad [] = refl
 falsity_counted circuit_literal bad (clause ∷ clauses) =

@@ -1,10 +1,11 @@
 -- What the words of a written number are as numbers.
-use Rattle.std.proofs.Common.{◌≡◌, ℕ, zero, suc, ◌^◌, ◌≤◌, ◌<◌, Bool, true, false, List, [], ◌∷◌, refl, arith}
+use Rattle.std.proofs.Common.{◌≡◌, ℕ, zero, suc, ◌^◌, ◌≤◌, ◌<◌, Bool, true, false, List, ◌∷◌, arith}
 use Rattle.std.specs.Fmt.{decimal}
 use Rattle.dq_text.proofs.LineWords.{IsWord, natural_is_word}
 use Rattle.dq_text.proofs.Numerals.{natural_is_read, negative_is_read}
 use Rattle.dq_text.specs.Number.{number_of}
 use Rattle.dq_text.specs.declared.numbers.Number.TheVariants.{Int}
+use Rattle.dq_text.proofs.ShortNumbers.{minus_word}
 use Rattle.cert_text.specs.Grammar.{signed}
 
 -- a variable behind its sign
@@ -15,10 +16,6 @@ signed_word false v = 45 ∷ decimal v
 -- a variable that a text can spell
 abbrev pub IsSpellable : ℕ → Type 0
 IsSpellable v = (1 ≤ v) × (v < 10 ^ 18)
-
-minus_word : (word : List ℕ) → IsWord word → IsWord (45 ∷ word)
-minus_word [] is = absurd is
-minus_word (d ∷ ds) is = (refl, is)
 
 pub signed_is_word : (b : Bool) (v : ℕ) → IsSpellable v → IsWord (signed_word b v)
 signed_is_word true v is = natural_is_word v is.1

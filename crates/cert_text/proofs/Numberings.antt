@@ -1,8 +1,8 @@
 -- Ids of lines before, and what holds of those that are live.
-use Rattle.std.proofs.Common.{◌≡◌, ℕ, zero, suc, ◌+◌, ◌-◌, ◌==◌, ◌≤◌, ◌<◌, nat_le, Bool, true, false, not, ◌&&◌, ◌||◌, List, [], ◌∷◌, ◌++◌, length, get_or, set, refl, sym, ◌∙◌, ap, ap₂, arith, subst, length-append, length-set}
+use Rattle.std.proofs.Common.{◌≡◌, ℕ, zero, suc, ◌+◌, ◌-◌, ◌==◌, ◌≤◌, nat_le, Bool, true, false, not, ◌&&◌, ◌||◌, List, [], ◌∷◌, ◌++◌, length, get_or, refl, sym, ◌∙◌, ap, ap₂, arith, subst, length-append}
 use mathlib.Core.Path.{fun_ext}
 use Rattle.std.specs.List.{AllByRecursion}
-use Rattle.std.proofs.lemmas.Bool.{and_parts, eqb-true, eq-eqb, ne_eqb, leb-true, le-leb, lt-leb}
+use Rattle.std.proofs.lemmas.Bool.{and_parts, eqb-true, eq-eqb, ne_eqb, leb-true, le-leb}
 use Rattle.rup_core.specs.Items.{ProofItem, derived, gone}
 use Rattle.cert_text.specs.LineIds.{is_marked, numbering_by}
 use Rattle.cert_text.specs.Numbering.{Numbering, are_live, behind_item, numbered_from, with_next, without, without_all}
@@ -74,25 +74,6 @@ mark_put : (marks : List Bool) (k : ℕ) (b : Bool) → (k == length marks) ≡ 
 mark_put marks k true is = ap (λ j. get_or (marks ++ true ∷ []) j false) (eqb-true k (length marks) is) ∙ put_here marks
 mark_put marks k false is = put_elsewhere marks k (λ e. apart (sym is ∙ eq-eqb k (length marks) e))
 
-taken_here : (marks : List Bool) (place : ℕ) → get_or (set marks place false) place false ≡ false
-taken_here [] place = refl
-taken_here (m ∷ marks) zero = refl
-taken_here (m ∷ marks) (suc place) = taken_here marks place
-
-taken_elsewhere : (marks : List Bool) (place k : ℕ) → (k ≡ place → ⊥) →
-    get_or (set marks place false) k false ≡ get_or marks k false
-taken_elsewhere [] place k other = refl
-taken_elsewhere (m ∷ marks) zero zero other = absurd (other refl)
-taken_elsewhere (m ∷ marks) zero (suc k) other = refl
-taken_elsewhere (m ∷ marks) (suc place) zero other = refl
-taken_elsewhere (m ∷ marks) (suc place) (suc k) other = taken_elsewhere marks place k (λ e. other (ap suc e))
-
-mark_taken : (marks : List Bool) (place k : ℕ) (b : Bool) → (k == place) ≡ b →
-    get_or (set marks place false) k false ≡ not b && get_or marks k false
-mark_taken marks place k true is = ap (λ j. get_or (set marks place false) j false) (eqb-true k place is)
-    ∙ taken_here marks place
-mark_taken marks place k false is = taken_elsewhere marks place k (λ e. apart (sym is ∙ eq-eqb k place e))
-
 -- as numbers from the first id on
 far : (le : Bool) (first id place : ℕ) → nat_le first id ≡ le → (le ≡ true → first ≤ id) →
     (id == first + place) ≡ le && (id - first == place)
@@ -115,10 +96,6 @@ put_as : (le here mark there : Bool) → there ≡ here || mark → le && there 
 put_as true here mark there is = is
 put_as false here mark there is = refl
 
-taken_as : (le here mark there : Bool) → there ≡ not here && mark → le && there ≡ not (le && here) && (le && mark)
-taken_as true here mark there is = is
-taken_as false here mark there is = refl
-
 pub line_marked : (first : ℕ) (marks more : List Bool) → more ≡ marks ++ true ∷ [] →
     numbering_by first more ≡ with_next (numbering_by first marks)
 line_marked first marks more pushed =
@@ -130,42 +107,3 @@ line_marked first marks more pushed =
     (get_or (marks ++ true ∷ []) (id - first) false) (mark_put marks (id - first) (id - first == length marks) refl)
     ∙ ap (λ b. b || is_marked first marks id) (sym (far (nat_le first id) first id (length marks) refl
     (leb-true first id)))))
-
-pub mark_deleted : (first : ℕ) (marks less : List Bool) (id place : ℕ) → less ≡ set marks place false →
-    id ≡ first + place →
-    numbering_by first less ≡ without (numbering_by first marks) id
-mark_deleted first marks less id place taken is =
-    ap (numbering_by first) taken
-    ∙ ap₂ (λ (next : ℕ) (live : ℕ → Bool). record { next = next; live = live })
-    (ap (λ k. first + k) (length-set marks place false))
-    (fun_ext (λ i.
-    taken_as (nat_le first i) (i - first == place) (get_or marks (i - first) false)
-    (get_or (set marks place false) (i - first) false) (mark_taken marks place (i - first)
-    (i - first == place) refl)
-    ∙ ap (λ b. not b && is_marked first marks i) (sym (far (nat_le first i) first i place refl (leb-true first i)) ∙ ap
-    (λ j. i == j) (sym is))))
-
--- where an id has a place
-pub mark_is : (first : ℕ) (marks : List Bool) (id place : ℕ) → id ≡ first + place →
-    is_marked first marks id ≡ get_or marks place false
-mark_is first marks id place is =
-    let inside : nat_le first id ≡ true = le-leb first id (omega (arith, is)) in
-    let there : id - first ≡ place = omega (arith, is) in
-    ap₂ (λ b k. b && get_or marks k false) inside there
-
-pub mark_before : (first : ℕ) (marks : List Bool) (id : ℕ) → id < first → is_marked first marks id ≡ false
-mark_before first marks id before = ap (λ b. b && get_or marks (id - first) false) (lt-leb first id before)
-
-past : (marks : List Bool) (k : ℕ) → length marks ≤ k → get_or marks k false ≡ false
-past [] k le = refl
-past (m ∷ marks) zero le = absurd (omega (arith, le))
-past (m ∷ marks) (suc k) le = past marks k (omega (arith, le))
-
-nothing : (b mark : Bool) → mark ≡ false → b && mark ≡ false
-nothing true mark h = h
-nothing false mark h = refl
-
-pub mark_behind : (first : ℕ) (marks : List Bool) (id : ℕ) → first + length marks ≤ id →
-    is_marked first marks id ≡ false
-mark_behind first marks id behind = nothing (nat_le first id) (get_or marks (id - first) false)
-    (past marks (id - first) (omega (arith, behind)))

@@ -1,10 +1,12 @@
 -- The numbers of pairs: one for each row and existential.
-use Rattle.std.proofs.Common.{◌≡◌, ℕ, zero, suc, ◌+◌, ◌-◌, ◌*◌, ◌/◌, ◌%◌, ◌==◌, ◌≤◌, ◌<◌, ◌^◌, nat_lt, true, not, cond, inl, inr, ◌&&◌, List, [], ◌∷◌, ◌++◌, map, Option, Some, None, is_some, IsSome, refl, ◌∙◌, ap, arith, subst}
+use Rattle.std.proofs.Common.{◌≡◌, ℕ, zero, suc, ◌+◌, ◌-◌, ◌*◌, ◌/◌, ◌%◌, ◌==◌, ◌≤◌, ◌<◌, ◌^◌, nat_lt, true, not, cond, inl, inr, ◌&&◌, List, [], ◌∷◌, map, Option, Some, None, is_some, IsSome, refl, ◌∙◌, ap, arith, subst}
 use Rattle.std.specs.List.{AllByRecursion, find}
 use Rattle.std.proofs.Math.Nat.{div-add-mod, mod-eq_of_lt, mul-add-mod_self_right, mul-le-mul_left}
 use Rattle.std.proofs.lemmas.Bool.{and_from, and_parts, eqb-true, lt-ltb, ltb-true, ne_eqb, not_from_false, cases_Bool}
 use Rattle.std.proofs.lemmas.List.Elements.{recursion_from_All}
 use Rattle.std.proofs.lemmas.Nat.{div-mul-add}
+use Rattle.list_laws.proofs.Sequences.{all_behind}
+use Rattle.list_laws.proofs.Truths.{nonzero}
 use Rattle.dq_lits.specs.Formula.{Dqbf, Existential, declared, existential_of}
 use Rattle.dq_formula.specs.Prefix.{IsLawful}
 use Rattle.cert_text.specs.Grammar.{IsPairNumber}
@@ -13,10 +15,6 @@ use Rattle.cert_text.specs.Pairs.{is_pair_number}
 
 abbrev IsVariable : ℕ → ℕ → Type 0
 IsVariable variables v = (1 ≤ v) × (v ≤ variables)
-
-behind : {X : Type 0} (P : X → Type 0) (xs ys : List X) → AllByRecursion P (xs ++ ys) → AllByRecursion P ys
-behind P [] ys all = all
-behind P (x ∷ xs) ys all = behind P xs ys all.1
 
 found_in_range : (variables y : ℕ) (es : List Existential) →
     AllByRecursion (IsVariable variables) (map (λ e. e.variable) es) →
@@ -32,12 +30,8 @@ found_in_range variables y (e ∷ es) all some =
 pub existential_in_range : (f : Dqbf) (y : ℕ) → IsLawful f → IsSome (existential_of f y) → IsVariable f.variables y
 existential_in_range f y lawful some =
     found_in_range f.variables y f.existentials
-    (behind (IsVariable f.variables) f.universals (map (λ e. e.variable) f.existentials)
+    (all_behind (IsVariable f.variables) f.universals (map (λ e. e.variable) f.existentials)
     (recursion_from_All (IsVariable f.variables) (declared f) lawful.prefix.in_range)) some
-
-nonzero : (n : ℕ) → not (n == 0) ≡ true → 1 ≤ n
-nonzero zero h = cc
-nonzero (suc n) h = omega arith
 
 record HasParts (f : Dqbf) (rows number : ℕ) : Type 0 where
   variables : 1 ≤ f.variables

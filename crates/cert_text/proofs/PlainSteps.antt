@@ -1,23 +1,18 @@
 -- Steps that are read from left to right.
-use Rattle.std.proofs.Common.{◌≡◌, ℕ, ◌<◌, ◌≤◌, ◌^◌, ℤ, pos, negsuc, nat_abs, w64, to_z, of_z, Bool, true, List, [], ◌∷◌, ◌++◌, map, refl, sym, ◌∙◌, ap, arith, append_assoc, append-nil, Result, Ok, Err, subst, Option, Some, None, IfSome}
+use Rattle.std.proofs.Common.{◌≡◌, ℕ, ◌<◌, ◌≤◌, ◌^◌, ℤ, pos, negsuc, nat_abs, w64, to_z, of_z, Bool, true, List, [], ◌∷◌, ◌++◌, map, refl, sym, ◌∙◌, ap, arith, append_assoc, Ok, subst, Option, Some, None, IfSome}
 use Rattle.std.specs.List.{All}
 use Rattle.std.proofs.lemmas.Int.{to_z-of_z}
 use Rattle.std.proofs.lemmas.List.{map-append}
 use Rattle.std.proofs.lemmas.List.Elements.{All-append, All-from_recursion}
 use Rattle.std.proofs.lemmas.Bool.{and_parts, leb-true}
-use Rattle.dq_lits.specs.Derivation.{ProofStep}
 use Rattle.dq_lits.specs.Literal.{Literal, dimacs_literal, dimacs_number, variable_of}
 use Rattle.dq_text.specs.Number.{number_of}
 use Rattle.dq_text.specs.declared.numbers.Number.TheVariants.{Int}
 use Rattle.cert_text.specs.Grammar.{Tokens, integers, SpellsStep, IsStep}
-use Rattle.cert_text.specs.LineStop.{IsLineOf}
-use Rattle.cert_text.specs.PlainStep.{read_step, LiteralsTaken, HintsTaken, IsStepOf}
+use Rattle.cert_text.specs.PlainStep.{read_step}
 use Rattle.cert_text.specs.StepLine.{step_line}
 use Rattle.cert_text.specs.StepNumbers.{IsLiteralNumber}
 use Rattle.cert_text.specs.Variables.{is_variable}
-use Rattle.cert_text.specs.declared.faults.CertFault.{CertFault}
-use Rattle.cert_text.specs.declared.faults.LineStop.{LineStop}
-use Rattle.cert_text.specs.declared.faults.LineStop.TheVariants.{Fault, Memory}
 use Rattle.cert_text.specs.declared.variables.Variables.{Variables}
 use Rattle.cert_text.specs.declared.variables.Variables.TheVariants.{Pairs, UpTo}
 use Rattle.cert_text.proofs.Parts.{pair_positive}
@@ -75,29 +70,6 @@ literal_taken p start tokens left old new n first pushed holds so_far all =
           ∙ ap (λ ns. ns ++ map number_of left) (sym grown),
       subst (All P) (sym pushed) (All-append P old (l ∷ []) all (All-from_recursion P (l ∷ []) (holds, tt))),
     )
-
--- the parts of a line are its numbers
-pub parts_spell : (p : ℕ → Bool) (tokens first second third : Tokens) (id : ℕ) (ls : List Literal) (hs : List ℕ) →
-    map number_of tokens ≡ Int (pos id) ∷ map number_of first → LiteralsTaken p first second ls →
-    HintsTaken id second third hs → third ≡ [] →
-    SpellsStep tokens (read_step id ls hs)
-parts_spell p tokens first second third id ls hs start literals hints end =
-    let a = map dimacs_number ls in
-    let b = map (λ (hint : ℕ). pos hint) hs in
-    let behind : map number_of second ≡ integers (b ++ pos 0 ∷ []) =
-    hints.numbers ∙ ap (λ t. integers (b ++ pos 0 ∷ []) ++ map number_of t) end ∙ append-nil
-    (integers (b ++ pos 0 ∷ [])) in
-    start
-    ∙ ap (λ ns. Int (pos id) ∷ ns) (literals.numbers
-    ∙ ap (λ ns. integers (a ++ pos 0 ∷ []) ++ ns) behind
-    ∙ sym (integers-append (a ++ pos 0 ∷ []) (b ++ pos 0 ∷ []))
-    ∙ ap integers (append_assoc a (pos 0 ∷ []) (b ++ pos 0 ∷ [])))
-
--- a line's stop
-pub step_stop : (line : Result ProofStep CertFault) (stop : LineStop) (ls : List Literal) (hs : List ℕ) →
-    IsStepOf line (Err stop) ls hs → IsLineOf line (Err stop)
-step_stop line (Fault name) ls hs is = is
-step_stop line Memory ls hs is = tt
 
 pub if_some : {A : Type 0} (o : Option A) (x : A) (P : A → Type 0) → o ≡ Some x → IfSome o P → P x
 if_some None x P is h = cc

@@ -18,16 +18,6 @@ use Rattle.cert_text.proofs.Integers.{integers_taken}
 use Rattle.cert_text.proofs.PlainSteps.{first_small, integers-append, wide}
 use Rattle.cert_text.proofs.SpelledRows.{chosen}
 
-pub no_signs : (universals : List ℕ) (tokens : Tokens) (row : List Bool) → length row ≡ length universals →
-    SignsTaken universals tokens tokens row 0
-no_signs universals tokens row whole = record {
-  numbers = [];
-  spelled = refl;
-  named = refl;
-  whole = whole;
-  bits = λ k below. absurd (omega (arith, below));
-}
-
 -- one sign more
 pub one_sign : (universals : List ℕ) (start tokens left : Tokens) (row : List Bool) (i : ℕ) (n : ℤ) (d : ℕ) →
     SignsTaken universals start tokens row i →

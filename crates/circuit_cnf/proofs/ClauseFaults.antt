@@ -1,9 +1,10 @@
 -- Faults of a clause, one literal after the other.
-use Rattle.std.proofs.Common.{◌≡◌, ℕ, suc, ◌+◌, ◌≤◌, ◌<◌, Bool, true, false, cond, ◌||◌, inl, inr, List, [], ◌∷◌, length, get_or, slice_get, Some, refl, sym, ◌∙◌, ap, subst, arith}
+use Rattle.std.proofs.Common.{◌≡◌, ℕ, ◌≤◌, ◌<◌, Bool, true, false, cond, ◌||◌, inl, inr, List, ◌∷◌, length, get_or, slice_get, Some, refl, sym, ◌∙◌, ap, subst}
 use Rattle.std.specs.List.{list_any}
-use Rattle.std.specs.Option.{option_map, option_and_then}
+use Rattle.std.specs.Option.{option_map}
 use Rattle.std.proofs.lemmas.List.{get_or_default}
 use Rattle.std.proofs.lemmas.Bool.{eq-eqb}
+use Rattle.list_laws.proofs.Members.{contains_later, contains_cases}
 use Rattle.dq_lits.specs.Literal.{Literal, negative, variable_of, same_literal}
 use Rattle.dq_lits.specs.Formula.{Dqbf}
 use Rattle.hint_log.specs.Entries.{Entry}
@@ -17,7 +18,6 @@ use Rattle.hint_log.specs.Origins.{matrix_literal, IsLeafOf}
 use Rattle.log_laws.proofs.Found.{slice_get_at}
 use Rattle.hint_log.specs.ProductiveLog.{fault_groups, with_group, fault_room}
 use Rattle.circuit_cnf.specs.Faults.{HasFault, HaveOneLeaf, AreFewWith}
-use Rattle.circuit_cnf.proofs.GivenGates.{contains_cases, contains_more}
 
 -- a group counts once
 group_twice : (group : ℕ) (r s : List Literal) (groups : List ℕ) →
@@ -42,7 +42,7 @@ fault_stays group bad j i l out e es (inl none) = inl none
 fault_stays group bad j i l out e es (inr some) = inr (
   some.0,
   some.1,
-  contains_more e (Given (Fault j i out) (negative group ∷ negative bad ∷ some.0)) es some.2,
+  contains_later e (Given (Fault j i out) (negative group ∷ negative bad ∷ some.0)) es some.2,
 )
 
 pub one_leaf_more : (f : Dqbf) (group j place : ℕ) (leaf : ℕ → Leaf) (l : Literal) (rest : List Literal)
@@ -71,15 +71,6 @@ literal_there clause i l below is = slice_get_at clause i l below ∙ ap Some (s
 pub same_element : (clause : List Literal) (i : ℕ) (k l : Literal) → i < length clause → k ≡ get_or clause i k →
     l ≡ get_or clause i l → k ≡ l
 same_element clause i k l below is is' = is ∙ get_or_default clause i k l below ∙ sym is'
-
-pub matrix_at : (f : Dqbf) (j i : ℕ) (clause : List Literal) (l : Literal) → j < length f.matrix →
-    clause ≡ get_or f.matrix j [] → slice_get clause i ≡ Some l → matrix_literal f (j + 1) (i + 1) ≡ Some l
-matrix_at f j i clause l below is at =
-    let one : j + 1 ≡ suc j = omega arith in
-    let two : i + 1 ≡ suc i = omega arith in
-    ap (λ k. matrix_literal f k (i + 1)) one ∙ ap (λ k. matrix_literal f (suc j) k) two
-    ∙ ap (option_and_then (λ (c : List Literal). slice_get c i))
-    (slice_get_at f.matrix j [] below ∙ ap Some (sym is)) ∙ at
 
 -- a leaf stays one where names are as they were
 pub leaf_stays_leaf : (f : Dqbf) (old new : List Entry) (v : ℕ) (out : Leaf) →

@@ -10,6 +10,7 @@ use Rattle.hint_log.specs.declared.origins.Origin.{Origin}
 use Rattle.hint_log.specs.Entries.{name_of}
 use Rattle.hint_log.specs.Growth.{Each}
 use Rattle.log_laws.specs.Engines.{IsInGroup}
+use Rattle.log_laws.proofs.Found.{each_weaker}
 use Rattle.oracle.specs.Searched.{IsGivenToGroup, IsOfGroup}
 use Rattle.circuit_cnf.specs.Gates.{IsGateGiven}
 
@@ -51,11 +52,6 @@ not_given_there group [] unused origin rest (k, below, is) = absurd (omega arith
 not_given_there group (e ∷ es) unused origin rest (zero, below, is) = subst (IsUnused group es) is unused.0 (rest, refl)
 not_given_there group (e ∷ es) unused origin rest (suc k, below, is) =
     not_given_there group es unused.1 origin rest (k, (let b : k < length es = omega arith in b), is)
-
-pub each_weaker : (P Q : List Entry → Entry → Type 0) → ((earlier : List Entry) (e : Entry) → P earlier e → Q earlier e)
-    → (es : List Entry) → Each P es → Each Q es
-each_weaker P Q weaker [] h = tt
-each_weaker P Q weaker (e ∷ es) h = (weaker es e h.0, each_weaker P Q weaker es h.1)
 
 no_gate_given : (group : ℕ) (earlier : List Entry) (e : Entry) → IsUnused group earlier e → IsGateGiven group earlier e
 no_gate_given group earlier (Named v n) h = tt

@@ -1,12 +1,16 @@
 -- Values that make the clauses of a turn true falsify a clause of the matrix.
-use Rattle.std.proofs.Common.{◌≡◌, ℕ, zero, suc, ◌+◌, ◌≤◌, ◌<◌, ◌==◌, Bool, true, false, not, cond, ◌||◌, ◌&&◌, inl, inr, List, [], ◌∷◌, length, get_or, slice_get, Some, None, refl, sym, ◌∙◌, ap, subst, arith}
+use Rattle.std.proofs.Common.{◌≡◌, ℕ, suc, ◌+◌, ◌≤◌, ◌<◌, ◌==◌, Bool, true, false, not, cond, ◌||◌, ◌&&◌, inl, inr, List, [], ◌∷◌, length, get_or, slice_get, Some, None, refl, sym, ◌∙◌, ap, subst, arith}
 use Rattle.std.specs.List.{Contains}
 use Rattle.std.specs.Option.{option_and_then}
 use Rattle.std.proofs.lemmas.Bool.{false≢true, eqb-true, eq-eqb}
 use Rattle.std.proofs.lemmas.List.Elements.{Contains-append_right}
+use Rattle.list_laws.proofs.Truths.{gate_bit}
+use Rattle.list_laws.proofs.Elements.{place_within}
+use Rattle.list_laws.proofs.Members.{contains_cases}
 use Rattle.dq_lits.specs.Literal.{Assignment, Literal, positive, negative, variable_of, is_negative, opposite, literal_true, clause_true}
 use Rattle.dq_lits.specs.Formula.{Dqbf}
 use Rattle.dq_lits.specs.Derivation.{LiveClauses, MakesTrue}
+use Rattle.dq_lits.proofs.Truth.{literal_true-opposite}
 use Rattle.hint_log.specs.Entries.{Entry}
 use Rattle.hint_log.specs.Entries.{Given}
 use Rattle.hint_log.specs.declared.names.Name.TheVariants.{And}
@@ -24,7 +28,6 @@ use Rattle.circuit_cnf.specs.declared.gates.Gates.{Gates}
 use Rattle.circuit_cnf.specs.Faults.{AreGiven, HasFault, IsFaulted}
 use Rattle.circuit_cnf.specs.Gates.{HasGateClauses, AreKnown}
 use Rattle.circuit_cnf.specs.Turning.{NamesAreKept, AreFailing}
-use Rattle.circuit_cnf.proofs.GivenGates.{contains_cases}
 
 -- a given clause has an id
 given_id : (es : List Entry) (o : Origin) (c : List Literal) → Contains es (Given o c) →
@@ -65,23 +68,6 @@ rest_true : (values : Assignment) (group : ℕ) (rest : List Literal) → values
     clause_true values (negative group ∷ rest) ≡ true → clause_true values rest ≡ true
 rest_true values group rest on is = ap (λ b. not b || clause_true values rest) (sym on) ∙ is
 
-opposite_true : (values : Assignment) (l : Literal) → literal_true values (opposite l) ≡ not (literal_true values l)
-opposite_true values (positive v) = refl
-opposite_true values (negative v) = twice (values v) where
-  twice : (b : Bool) → b ≡ not (not b)
-  twice true = refl
-  twice false = refl
-
--- a gate's three clauses give it its value
-gate_bit : (v a b : Bool) → (not v || (a || false)) ≡ true → (not v || (b || false)) ≡ true →
-    (v || (not a || (not b || false))) ≡ true → v ≡ (a && b)
-gate_bit true true true h k l = refl
-gate_bit true true false h k l = absurd (false≢true k)
-gate_bit true false b h k l = absurd (false≢true h)
-gate_bit false true true h k l = absurd (false≢true l)
-gate_bit false true false h k l = refl
-gate_bit false false b h k l = refl
-
 -- a true clause has a true literal
 true_literal : (values : Assignment) (ls : List Literal) (d : Literal) → clause_true values ls ≡ true →
     (k : ℕ) × (k < length ls) × (literal_true values (get_or ls k d) ≡ true)
@@ -99,17 +85,12 @@ all_false values [] each = refl
 all_false values (l ∷ ls) each = ap (λ b. b || clause_true values ls) (each 0 l refl) ∙ all_false values ls
     (λ i k at. each (suc i) k at)
 
-pub in_range : {X : Type 0} (xs : List X) (i : ℕ) (x : X) → slice_get xs i ≡ Some x → i < length xs
-in_range [] i x h = cc
-in_range (y ∷ ys) zero x h = omega arith
-in_range (y ∷ ys) (suc i) x h = let below = in_range ys i x h in omega (arith, below)
-
 -- a literal, by its variable's leaf
 signed_leaf_value : (values : Assignment) (s : Bool) (leaf : Leaf) →
     leaf_value values (leaf_with_sign s leaf) ≡ cond s (not (leaf_value values leaf)) (leaf_value values leaf)
 signed_leaf_value values false leaf = refl
 signed_leaf_value values true (Constant b) = refl
-signed_leaf_value values true (LeafLiteral l) = opposite_true values l
+signed_leaf_value values true (LeafLiteral l) = literal_true-opposite values l
 
 under_leaf : (values : Assignment) (leaf : ℕ → Leaf) (l : Literal) →
     literal_true (λ v. leaf_value values (leaf v)) l ≡ not (leaf_value values
@@ -177,8 +158,8 @@ are_failing f gates leaf sel values old log new learned model gates_on sel_on kn
         (true_there (Gate v 3) (negative g ∷ positive v ∷ opposite a ∷ opposite b ∷ [])
         (have 3 (positive v ∷ opposite a ∷ opposite b ∷ []) (omega arith) refl)) in
         gate_bit (values v) (literal_true values a) (literal_true values b) one two
-        (ap (λ x. values v || (x || (not (literal_true values b) || false))) (sym (opposite_true values a))
-        ∙ ap (λ x. values v || (literal_true values (opposite a) || (x || false))) (sym (opposite_true values b))
+        (ap (λ x. values v || (x || (not (literal_true values b) || false))) (sym (literal_true-opposite values a))
+        ∙ ap (λ x. values v || (literal_true values (opposite a) || (x || false))) (sym (literal_true-opposite values b))
         ∙ three)
 
   some : (k : ℕ) × (k < length given.bads) × (literal_true values (get_or given.bads k (positive 0)) ≡ true)
@@ -217,7 +198,7 @@ are_failing f gates leaf sel values old log new learned model gates_on sel_on kn
   by : IsFaulted f sel (variable_of bad) (some.0 + 1) leaf (get_or f.matrix some.0 []) log.entries →
       clause_true (λ v. leaf_value values (leaf v)) (get_or f.matrix some.0 []) ≡ false
   by (inl have) = all_false (λ v. leaf_value values (leaf v)) (get_or f.matrix some.0 []) (λ i l at. one_false i l at
-      (have i l (in_range (get_or f.matrix some.0 []) i l at) at))
+      (have i l (place_within (get_or f.matrix some.0 []) i l at) at))
   by (inr never) =
       let whole = rest_true values sel (negative (variable_of bad) ∷ []) sel_on
       (true_there never.0 (negative sel ∷ negative (variable_of bad) ∷ []) never.1) in

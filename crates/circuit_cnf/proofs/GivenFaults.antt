@@ -5,6 +5,7 @@ use Rattle.std.specs.Option.{option_map}
 use Rattle.std.proofs.lemmas.Bool.{false≢true}
 use Rattle.dq_lits.specs.Literal.{Literal, negative, variable_of, is_negative, opposite}
 use Rattle.dq_lits.specs.Formula.{Dqbf}
+use Rattle.dq_lits.proofs.SignedLiterals.{negated-positive}
 use Rattle.hint_log.specs.Entries.{Entry}
 use Rattle.hint_log.specs.Entries.{Given}
 use Rattle.hint_log.specs.declared.names.Name.TheVariants.{Selector, Bad}
@@ -16,7 +17,6 @@ use Rattle.hint_log.specs.Origins.{leaf_with_sign, leaf_clause, matrix_literal, 
 use Rattle.hint_log.specs.ProductiveLog.{fault_groups, fault_room}
 use Rattle.log_laws.specs.Engines.{circuits, IsGivenBy, IsAddedBy}
 use Rattle.log_laws.proofs.LargerLogs.{grown_by}
-use Rattle.circuit_cnf.proofs.GivenGates.{selector_is}
 
 -- what is asked of a fault
 pub record IsFaultReady (f : Dqbf) (es : List Entry) (group bad : ℕ) (literal : Literal) (output : Leaf)
@@ -72,9 +72,6 @@ fault_added f standing start es group bad literal output clause place tail ready
     rest_is = refl;
   }
 
-negated_bad : (bad : Literal) → is_negative bad ≡ false → opposite bad ≡ negative (variable_of bad)
-negated_bad = selector_is
-
 pub fault_grown : (f : Dqbf) (standing : ℕ) (start : List Entry) (g bad literal : Literal) (output : Leaf)
     (clause place : ℕ) (lits tail : List Literal) (log new : ProofLog) → is_negative g ≡ false →
     is_negative bad ≡ false →
@@ -85,8 +82,8 @@ pub fault_grown : (f : Dqbf) (standing : ℕ) (start : List Entry) (g bad litera
 fault_grown f standing start g bad literal output clause place lits tail log new g_plain bad_plain ready tail_is
     lits_are added unnamed =
     let whole : opposite g ∷ lits ≡ negative (variable_of g) ∷ negative (variable_of bad) ∷ tail =
-    ap (λ l. l ∷ lits) (selector_is g g_plain) ∙ ap (λ ls. negative (variable_of g) ∷ ls)
-    (lits_are ∙ ap (λ l. l ∷ tail) (negated_bad bad bad_plain)) in
+    ap (λ l. l ∷ lits) (negated-positive g g_plain) ∙ ap (λ ls. negative (variable_of g) ∷ ls)
+    (lits_are ∙ ap (λ l. l ∷ tail) (negated-positive bad bad_plain)) in
     grown_by (IsAddedBy f circuits standing true start) log new
     (Given (Fault clause place output) (negative (variable_of g) ∷ negative (variable_of bad) ∷ tail))
     (added ∙ ap (λ c. with_entry log (Given (Fault clause place output) c)) whole)

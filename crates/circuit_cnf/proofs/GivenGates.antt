@@ -1,7 +1,7 @@
 -- Gates that are given to a group.
-use Rattle.std.proofs.Common.{◌≡◌, ℕ, zero, suc, ◌≤◌, ◌<◌, false, inl, inr, ◌⊎◌, List, ◌∷◌, length, Some, refl, arith}
+use Rattle.std.proofs.Common.{◌≡◌, ℕ, ◌≤◌, inl, List, ◌∷◌, length, Some, refl, arith}
 use Rattle.std.specs.List.{Contains}
-use Rattle.dq_lits.specs.Literal.{Literal, positive, negative, variable_of, is_negative, opposite}
+use Rattle.dq_lits.specs.Literal.{Literal, negative}
 use Rattle.dq_lits.specs.Formula.{Dqbf}
 use Rattle.hint_log.specs.Entries.{Entry}
 use Rattle.hint_log.specs.Entries.{Given}
@@ -19,16 +19,6 @@ pub record IsReady (group v : ℕ) (a b : Literal) (part : ℕ) (es : List Entry
   pub fresh : (i : ℕ) (c : List Literal) → part ≤ i → Contains es (Given (Gate v i) c) → ⊥
   pub few : length (fault_groups es) ≤ fault_room es
 
-pub contains_cases : (e x : Entry) (es : List Entry) → Contains (e ∷ es) x → (e ≡ x) ⊎ Contains es x
-contains_cases e x es (zero, below, is) = inl is
-contains_cases e x es (suc k, below, is) = inr (k, (let b : k < length es = omega arith in b), is)
-
-pub contains_more : (e x : Entry) (es : List Entry) → Contains es x → Contains (e ∷ es) x
-contains_more e x es (k, below, is) = (suc k, (let b : suc k < suc (length es) = omega arith in b), is)
-
-pub contains_first : (e : Entry) (es : List Entry) → Contains (e ∷ es) e
-contains_first e es = (0, omega arith, refl)
-
 pub gate_added : (f : Dqbf) (old es : List Entry) (group v part : ℕ) (a b : Literal) (rest : List Literal) →
     IsReady group v a b part es → gate_rest v a b part ≡ Some rest →
     IsGivenBy f circuits group old es (Gate v part) (negative group ∷ rest)
@@ -45,7 +35,3 @@ gate_added f old es group v part a b rest ready is = record {
   };
   not_repeated = record { first = λ h c inside. ready.fresh part c (omega arith) inside; groups = ready.few };
 }
-
-pub selector_is : (g : Literal) → is_negative g ≡ false → opposite g ≡ negative (variable_of g)
-selector_is (positive v) h = refl
-selector_is (negative v) h = cc

@@ -3,6 +3,7 @@ use Rattle.std.proofs.Common.{◌≡◌, ℕ, zero, suc, ◌+◌, ◌≤◌, ◌
 use Rattle.std.specs.List.{range_with_len}
 use Rattle.std.specs.Option.{option_map}
 use Rattle.std.proofs.lemmas.Bool.{false≢true}
+use Rattle.list_laws.proofs.Members.{contains_later, contains_first, contains_cases}
 use Rattle.dq_lits.specs.Literal.{Literal, positive, negative, variable_of, is_negative}
 use Rattle.dq_lits.specs.Formula.{Dqbf}
 use Rattle.hint_log.specs.Entries.{Entry}
@@ -26,7 +27,6 @@ use Rattle.oracle.specs.Calls.{IsMade}
 use Rattle.oracle.specs.declared.groups.Group.{Group}
 use Rattle.circuit_cnf.specs.Faults.{HaveOneLeaf, AreFewWith, IsBadAt, HaveAllFaults, IsFaulted, IsNamingBads, AreGiven, AreGivenUpTo, AreNamedAndSaid, AreSaid}
 use Rattle.circuit_cnf.proofs.NamedBads.{bad_name}
-use Rattle.circuit_cnf.proofs.GivenGates.{contains_cases, contains_first, contains_more}
 use Rattle.circuit_cnf.proofs.ClauseFaults.{fault_stays}
 
 pub after_bads : (f : Dqbf) (group : ℕ) (leaf : ℕ → Leaf) (old new : ProofLog) →
@@ -153,7 +153,7 @@ given_up_to f group leaf bads count log new all is =
           (i + 1) l (leaf (variable_of l)) e log.entries (have i l small at))
       by j (inr never) = inr (
         never.0,
-        contains_more e (Given never.0
+        contains_later e (Given never.0
             (negative group ∷ negative (variable_of (get_or bads j (positive 0))) ∷ [])) log.entries never.1,
       )
 

@@ -1,11 +1,14 @@
 -- An answer to the gates' group and the faults' group.
-use Rattle.std.proofs.Common.{◌≡◌, ℕ, Bool, true, false, ◌||◌, inl, inr, ◌⊎◌, List, [], ◌∷◌, ◌++◌, Some, refl, sym, ◌∙◌, ap, subst}
-use Rattle.std.specs.List.{All, Contains}
-use Rattle.std.proofs.lemmas.Bool.{true≢false, or_cases, eq-eqb}
-use Rattle.std.proofs.lemmas.List.Elements.{All-cons, All-nil, Contains-append_right}
+use Rattle.std.proofs.Common.{◌≡◌, ℕ, true, false, inl, inr, ◌⊎◌, List, [], ◌∷◌, ◌++◌, Some, refl, sym, ◌∙◌, ap, subst}
+use Rattle.std.specs.List.{Contains}
+use Rattle.std.proofs.lemmas.Bool.{true≢false, or_cases}
+use Rattle.std.proofs.lemmas.List.Elements.{Contains-append_right}
+use Rattle.list_laws.proofs.Members.{contains_first, contains_cases}
 use Rattle.dq_lits.specs.Literal.{Literal, positive, negative, variable_of, opposite, same_literal}
 use Rattle.dq_lits.specs.Formula.{Dqbf, Existential}
 use Rattle.dq_lits.specs.Derivation.{holds}
+use Rattle.dq_lits.proofs.Truth.{same_literal-sound}
+use Rattle.dq_lits.proofs.HeldLiterals.{all_held}
 use Rattle.hint_log.specs.Entries.{Entry}
 use Rattle.hint_log.specs.Entries.{Named, Given, Learned, Answer, Round, Begun}
 use Rattle.hint_log.specs.declared.names.Name.TheVariants.{Selector}
@@ -16,15 +19,14 @@ use Rattle.hint_log.specs.Deciding.{ReachesGiven, IsCircuitGiven, IsFaultLeaf}
 use Rattle.hint_log.specs.Entries.{ProofLog, name_of}
 use Rattle.hint_log.specs.Growth.{Each, EachOf, Grew}
 use Rattle.hint_log.specs.Origins.{IsOriginsClause}
+use Rattle.hint_log.proofs.NamedEntries.{is_selector_here}
 use Rattle.log_laws.specs.Engines.{circuits, origin_engine, IsInGroup, IsOwnGiven}
 use Rattle.log_laws.proofs.Found.{split_at, each_at}
 use Rattle.log_laws.proofs.LargerLogs.{each_grown}
 use Rattle.oracle.specs.Calls.{IsLearnedEntry, IsRefutedUnder}
 use Rattle.oracle.specs.Searched.{IsSearched, IsGivenToGroup, IsOfGroup}
-use Rattle.oracle.proofs.ExcludedAssignments.{same-sound}
 use Rattle.circuit_cnf.specs.Gates.{IsGateClause, IsGateGiven}
 use Rattle.circuit_cnf.specs.Turning.{AreTwoGroups, IsHeldBy}
-use Rattle.circuit_cnf.proofs.GivenGates.{contains_cases, contains_first}
 
 -- a literal whose opposite is one of two selectors
 only_selectors : (g h : ℕ) (l : Literal) → holds (positive g ∷ positive h ∷ []) (opposite l) ≡ true →
@@ -32,36 +34,14 @@ only_selectors : (g h : ℕ) (l : Literal) → holds (positive g ∷ positive h 
 only_selectors g h (positive v) held = cc
 only_selectors g h (negative v) held = elim (or_cases (same_literal (positive v) (positive g))
     (holds (positive h ∷ []) (positive v)) held) [
-      | inl e ↦ (let same : positive v ≡ positive g = same-sound (positive v) (positive g) e in let is : v ≡ g = cc in
+      | inl e ↦ (let same : positive v ≡ positive g = same_literal-sound (positive v) (positive g) e in let is : v ≡ g = cc in
           inl (ap negative is))
       | inr later ↦ elim (or_cases (same_literal (positive v) (positive h)) false later) [
-        | inl e ↦ (let same : positive v ≡ positive h = same-sound (positive v) (positive h) e in let is : v ≡ h = cc in
+        | inl e ↦ (let same : positive v ≡ positive h = same_literal-sound (positive v) (positive h) e in let is : v ≡ h = cc in
             inr (ap negative is))
         | inr e ↦ absurd (true≢false (sym e))
       ]
     ]
-
-refl_literal : (l : Literal) → same_literal l l ≡ true
-refl_literal (positive v) = eq-eqb v v refl
-refl_literal (negative v) = eq-eqb v v refl
-
-all_held : (P : Literal → Type 0) (clause : List Literal) → ((l : Literal) → holds clause l ≡ true → P l) → All P clause
-all_held P [] each = All-nil P
-all_held P (l ∷ ls) each = All-cons P l ls (each l (or_left (same_literal l l) (holds ls l) (refl_literal l)))
-    (all_held P ls (λ k h. each k (or_right (same_literal k l) (holds ls k) h))) where
-      or_left : (a b : Bool) → a ≡ true → (a || b) ≡ true
-      or_left true b h = refl
-      or_left false b h = absurd (true≢false (sym h))
-
-      or_right : (a b : Bool) → b ≡ true → (a || b) ≡ true
-      or_right true b h = refl
-      or_right false b h = h
-
-is_selector_here : (es : List Entry) (g : ℕ) (l : Literal) → name_of es g ≡ Some (Selector g) → l ≡ negative g →
-    (l ≡ negative (variable_of l)) × (name_of es (variable_of l) ≡ Some (Selector (variable_of l)))
-is_selector_here es g l named h =
-    let v : variable_of l ≡ g = ap variable_of h in
-    (h ∙ ap negative (sym v), ap (name_of es) v ∙ named ∙ ap (λ w. Some (Selector w)) (sym v))
 
 -- what was learned gives nothing
 pub learned_givens : (more old : List Entry) → EachOf IsLearnedEntry more old → (origin : Origin) (c : List Literal) →

@@ -1,5 +1,5 @@
 -- What is known of gates, with one gate more.
-use Rattle.std.proofs.Common.{◌≡◌, ◌≤◌, ℕ, suc, ◌+◌, ◌<◌, ◌==◌, Bool, true, false, cond, inl, inr, ◌⊎◌, List, [], ◌∷◌, Option, Some, None, IsSome, refl, sym, ◌∙◌, ap, subst, arith, nat_lt}
+use Rattle.std.proofs.Common.{◌≡◌, ◌≤◌, ℕ, ◌+◌, ◌<◌, ◌==◌, Bool, true, false, cond, inl, inr, ◌⊎◌, List, [], ◌∷◌, Option, Some, None, IsSome, refl, sym, ◌∙◌, ap, subst, arith}
 use Rattle.std.specs.List.{Contains}
 use Rattle.std.proofs.Common.{BTreeMap}
 use Rattle.std.specs.BTreeMap.{get, is_at}
@@ -7,7 +7,10 @@ use Rattle.std.specs.Map.{lookup}
 use Rattle.std.specs.Ordering.{nat_cmp, ordering_then, is_eq}
 use Rattle.std.specs.declared.cmp.Ordering.{Ordering}
 use Rattle.std.specs.declared.cmp.Ordering.TheVariants.{Less, Equal, Greater}
-use Rattle.std.proofs.lemmas.Bool.{eqb-true, eq-eqb, false≢true, cond-true, cond-false, leb-true}
+use Rattle.std.proofs.lemmas.Bool.{eqb-true, eq-eqb, false≢true, cond-true, cond-false}
+use Rattle.list_laws.proofs.Numbers.{below_or_here, nat_cmp-same}
+use Rattle.list_laws.proofs.Members.{contains_later, contains_first, contains_cases}
+use Rattle.list_laws.proofs.Truths.{equal_numbers}
 use Rattle.dq_lits.specs.Literal.{Literal, positive, negative, variable_of}
 use Rattle.hint_log.specs.Entries.{Entry}
 use Rattle.hint_log.specs.Entries.{Named, Given, Learned, Answer, Round, Begun}
@@ -21,11 +24,9 @@ use Rattle.oracle.specs.declared.groups.Group.{Group}
 use Rattle.hint_log.specs.Growth.{Each}
 use Rattle.hint_log.specs.Origins.{gate_rest}
 use Rattle.log_laws.proofs.Kept.{NamesStay, name_stays_by, name_cases}
-use Rattle.aig_graph.proofs.LargerGraphs.{below_or_here}
 use Rattle.circuit_cnf.specs.declared.gates.Gates.{Gates}
 use Rattle.circuit_cnf.specs.declared.gates.Unfinished.{Unfinished}
 use Rattle.circuit_cnf.specs.Gates.{literal_code, pair_cmp, HasGateClauses, IsGateClause, IsGateGiven, IsUnfinished, AreKnown}
-use Rattle.circuit_cnf.proofs.GivenGates.{contains_cases, contains_more, contains_first}
 
 -- literals have codes of their own
 pub same_code : (a b : Literal) → literal_code a ≡ literal_code b → a ≡ b
@@ -33,13 +34,6 @@ same_code (positive v) (positive w) h = let e : v ≡ w = omega (arith, h) in ap
 same_code (positive v) (negative w) h = absurd (omega (arith, h))
 same_code (negative v) (positive w) h = absurd (omega (arith, h))
 same_code (negative v) (negative w) h = let e : v ≡ w = omega (arith, h) in ap negative e
-
-equal_numbers : (x y : ℕ) → is_eq (nat_cmp x y) ≡ true → x ≡ y
-equal_numbers x y h = by (nat_lt x y) (x == y) refl h where
-  by : (b d : Bool) → (x == y) ≡ d → is_eq (cond b Less (cond d Equal Greater)) ≡ true → x ≡ y
-  by true d e h = cc
-  by false true e h = eqb-true x y e
-  by false false e h = cc
 
 pub equal_pairs : (p q : ℕ × ℕ) → is_eq (pair_cmp p q) ≡ true → (p.0 ≡ q.0) × (p.1 ≡ q.1)
 equal_pairs p q h = by (nat_cmp p.0 q.0) refl h where
@@ -49,14 +43,8 @@ equal_pairs p q h = by (nat_cmp p.0 q.0) refl h where
   by Equal e h = (equal_numbers p.0 q.0 (ap is_eq e), equal_numbers p.1 q.1 h)
   by Greater e h = cc
 
-same_number : (x : ℕ) → nat_cmp x x ≡ Equal
-same_number x = by (nat_lt x x) refl where
-  by : (b : Bool) → nat_lt x x ≡ b → cond b Less (cond (x == x) Equal Greater) ≡ Equal
-  by true e = absurd (let below : x < x = leb-true (suc x) x e in omega (arith, below))
-  by false e = cond-true (x == x) Equal Greater (eq-eqb x x refl)
-
 pub same_pair : (p : ℕ × ℕ) → is_eq (pair_cmp p p) ≡ true
-same_pair p = ap (λ o. is_eq (ordering_then o (nat_cmp p.1 p.1))) (same_number p.0) ∙ ap is_eq (same_number p.1)
+same_pair p = ap (λ o. is_eq (ordering_then o (nat_cmp p.1 p.1))) (nat_cmp-same p.0) ∙ ap is_eq (nat_cmp-same p.1)
 
 not_some : (o : Option Name) → o ≡ None → IsSome o → ⊥
 not_some None none some = absurd (false≢true some)
@@ -131,7 +119,7 @@ named_more gates es v a b before ready unnamed none = record {
   stay = name_stays_by es v (And a b) unnamed
 
   more : (x : Entry) → Contains es x → Contains (Named v (And a b) ∷ es) x
-  more x inside = contains_more (Named v (And a b)) x es inside
+  more x inside = contains_later (Named v (And a b)) x es inside
 
 gate_clause : (gates : Gates) (es : List Entry) (gate : Unfinished) (part : ℕ) (rest : List Literal) →
     AreKnown gates es → name_of es gate.variable ≡ Some (And gate.left gate.right) →
@@ -194,7 +182,7 @@ part_more gates es gate parts rest before is_last below rest_is = record {
   here = before.last (record gate { parts = parts }) is_last
 
   more : (x : Entry) → Contains es x → Contains (e ∷ es) x
-  more x inside = contains_more e x es inside
+  more x inside = contains_later e x es inside
 
   given : (i : ℕ) (tail : List Literal) → gate_rest gate.variable gate.left gate.right i ≡ Some tail →
       (i < parts + 1) ⊎ (i ≡ parts + 1) → Contains (e ∷ es) (Given (Gate gate.variable i) (negative group ∷ tail))

@@ -1,7 +1,8 @@
 -- A log's leaf of a node has the node's value, and reads inputs of its cone alone.
-use Rattle.std.proofs.Common.{◌≡◌, ℕ, zero, suc, Bool, true, false, not, ◌&&◌, ◌⊎◌, inl, inr, List, [], ◌∷◌, ◌++◌, map, slice_get, slice_index, Option, Some, refl, sym, ◌∙◌, ap, subst, arith}
+use Rattle.std.proofs.Common.{◌≡◌, ℕ, Bool, true, false, not, ◌&&◌, ◌⊎◌, inl, inr, List, [], ◌∷◌, ◌++◌, map, slice_index, Option, Some, refl, sym, ◌∙◌, ap, subst, arith}
 use Rattle.std.specs.List.{Contains}
 use Rattle.std.proofs.lemmas.List.Elements.{Contains-append_left, Contains-append_right}
+use Rattle.list_laws.proofs.Elements.{index_of}
 use Rattle.dq_lits.specs.Literal.{Assignment, Literal, positive, negative, variable_of}
 use Rattle.dq_lits.specs.Formula.{Dqbf}
 use Rattle.hint_log.specs.Entries.{name_of}
@@ -25,15 +26,10 @@ use Rattle.log_laws.proofs.Solved.{gate_value_is, value_is}
 and_same : (a b c d : Bool) → a ≡ c → b ≡ d → (a && b) ≡ (c && d)
 and_same a b c d h k = ap (λ x. x && b) h ∙ ap (λ x. c && x) k
 
-signed_leaf : (a : Assignment) (negated : Bool) (v : ℕ) (b : Bool) → b ≡ a v →
+pub signed_leaf : (a : Assignment) (negated : Bool) (v : ℕ) (b : Bool) → b ≡ a v →
     with_sign negated b ≡ leaf_value a (leaf_with_sign negated (LeafLiteral (positive v)))
 signed_leaf a false v b h = h
 signed_leaf a true v b h = ap not h
-
-place_is : (xs : List ℕ) (i x : ℕ) → slice_get xs i ≡ Some x → slice_index xs i ≡ x
-place_is [] i x h = cc
-place_is (y ∷ xs) zero x h = cc
-place_is (y ∷ xs) (suc i) x h = place_is xs i x h
 
 module _ (f : Dqbf) (graph : AigGraph) (entries : List Entry) where
   module _ (lawful : AreLogged entries) (m : Assignment) (bad : ℕ → Bool) where
@@ -45,7 +41,7 @@ module _ (f : Dqbf) (graph : AigGraph) (entries : List Entry) where
     value_is_node node leaf (constant b) = refl
     value_is_node node leaf (input i x v negated place named) =
         signed_leaf (value_in m bad entries) negated v (inputs i)
-        (ap m (place_is f.universals i x place) ∙ sym (value_is m bad entries v (InputName x) (m x) named refl))
+        (ap m (index_of f.universals i x place) ∙ sym (value_is m bad entries v (InputName x) (m x) named refl))
     value_is_node node leaf (gate g v sides negated a b at are_sides on_left on_right named) =
         signed_leaf (value_in m bad entries) negated v (gate_value inputs graph.gates g)
         (gate_value_in inputs graph.inputs graph.gates g sides are_sides at
@@ -88,7 +84,7 @@ module _ (f : Dqbf) (graph : AigGraph) (entries : List Entry) where
   reads_cone node leaf (input i y v negated place named) x r = by_case (read_of negated v x r) where
     by_case : IsRead (name_of entries v) x → Contains (cone (Input i negated)) x
     by_case (inl h) = let both : Some (InputName y) ≡ Some (InputName x) = sym named ∙ h in let same : y ≡ x = cc in
-        (0, omega arith, place_is f.universals i y place ∙ same)
+        (0, omega arith, index_of f.universals i y place ∙ same)
     by_case (inr h) = let both : Some (InputName y) ≡ Some (And h.0 h.1) = sym named ∙ h.2 in cc
   reads_cone node leaf (gate g v sides negated a b at are_sides on_left on_right named) x r =
       by_case (reads_cone sides.left (LeafLiteral a) on_left x) (reads_cone sides.right (LeafLiteral b) on_right x)

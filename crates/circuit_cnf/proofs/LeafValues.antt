@@ -1,24 +1,22 @@
 -- From the values of leaves to those of the outputs at a row.
-use Rattle.std.proofs.Common.{◌≡◌, ℕ, zero, suc, ◌<◌, ◌==◌, Bool, true, false, not, cond, ◌||◌, ◌&&◌, List, [], ◌∷◌, map, length, get_or, slice_get, position, Some, refl, sym, ◌∙◌, ap, arith}
-use Rattle.std.proofs.lemmas.Bool.{eqb-true}
+use Rattle.std.proofs.Common.{◌≡◌, ℕ, zero, suc, ◌<◌, ◌==◌, Bool, false, not, ◌||◌, ◌&&◌, List, [], ◌∷◌, map, length, get_or, slice_get, position, Some, refl, sym, ◌∙◌, ap, arith}
 use Rattle.std.proofs.lemmas.List.{get_or-map}
+use Rattle.list_laws.proofs.Sequences.{mapped_long}
 use Rattle.dq_lits.specs.Literal.{Assignment, Literal, positive, negative, variable_of, literal_true, clause_true}
 use Rattle.dq_lits.specs.Formula.{Dqbf, Existential}
 use Rattle.dq_lits.specs.Row.{bit_of}
 use Rattle.aig_graph.specs.declared.nodes.Node.{Node}
 use Rattle.aig_graph.specs.declared.nodes.Node.TheVariants.{Constant}
-use Rattle.aig_graph.specs.Graph.{AigGraph, with_sign, gate_value, node_value}
+use Rattle.aig_graph.specs.Graph.{AigGraph, gate_value, node_value}
 use Rattle.aig_graph.proofs.LargerGraphs.{gate_value_in}
 use Rattle.hint_log.specs.Entries.{Entry}
-use Rattle.hint_log.specs.Entries.{Named, Given, Learned, Answer, Round, Begun}
-use Rattle.hint_log.specs.declared.names.Name.{Name}
 use Rattle.hint_log.specs.declared.names.Name.TheVariants.{Input as InputName, And}
 use Rattle.hint_log.specs.declared.origins.Leaf.{Leaf}
 use Rattle.hint_log.specs.declared.origins.Leaf.TheVariants.{Constant as LeafConstant, Literal as LeafLiteral}
 use Rattle.hint_log.specs.Conditions.{AreLogged}
 use Rattle.hint_log.specs.Entries.{name_of}
 use Rattle.hint_log.specs.Naming.{round_assignment}
-use Rattle.hint_log.specs.Origins.{leaf_with_sign}
+use Rattle.hint_log.proofs.Lawful.{names_are_unique_lem}
 use Rattle.log_laws.specs.Circuits.{leaf_value}
 use Rattle.log_laws.proofs.Found.{slice_get_at}
 use Rattle.circuit_cnf.specs.Checking.{AreInputs}
@@ -28,30 +26,7 @@ use Rattle.circuit_cnf.specs.Leaves.{HasLeaf, constant, input, gate}
 use Rattle.circuit_cnf.specs.Turning.{AreLeavesOf, AreFailing}
 use Rattle.circuit_cnf.proofs.PrefixPlaces.{round_is, leaf_is, same_at_places}
 use Rattle.circuit_cnf.proofs.SideLeaves.{input_at}
-use Rattle.circuit_cnf.proofs.OutputValues.{mapped_long}
-
--- a name is one variable's
-pub name_once : (es : List Entry) (v w : ℕ) (n : Name) → AreLogged es → name_of es v ≡ Some n →
-    name_of es w ≡ Some n → v ≡ w
-name_once [] v w n logged at at' = cc
-name_once (Named u m ∷ es) v w n logged at at' = by (v == u) (w == u) refl refl
-    (name_once es v w n logged.1) at at' where
-      by : (a b : Bool) → (v == u) ≡ a → (w == u) ≡ b → (name_of es v ≡ Some n → name_of es w ≡ Some n → v ≡ w) →
-          cond a (Some m) (name_of es v) ≡ Some n → cond b (Some m) (name_of es w) ≡ Some n → v ≡ w
-      by true true e d later h k = eqb-true v u e ∙ sym (eqb-true w u d)
-      by true false e d later h k = let same : m ≡ n = cc in absurd (logged.0.fresh w (k ∙ ap Some (sym same)))
-      by false true e d later h k = let same : m ≡ n = cc in absurd (logged.0.fresh v (h ∙ ap Some (sym same)))
-      by false false e d later h k = later h k
-name_once (Given o c ∷ es) v w n logged at at' = name_once es v w n logged.1 at at'
-name_once (Learned c h ∷ es) v w n logged at at' = name_once es v w n logged.1 at at'
-name_once (Answer c h ∷ es) v w n logged at at' = name_once es v w n logged.1 at at'
-name_once (Round r b j ∷ es) v w n logged at at' = name_once es v w n logged.1 at at'
-name_once (Begun live ∷ es) v w n logged at at' = name_once es v w n logged.1 at at'
-
-signed : (values : Assignment) (negated : Bool) (v : ℕ) (b : Bool) → b ≡ values v →
-    with_sign negated b ≡ leaf_value values (leaf_with_sign negated (LeafLiteral (positive v)))
-signed values false v b h = h
-signed values true v b h = ap not h
+use Rattle.circuit_cnf.proofs.LeafNodes.{signed_leaf}
 
 get_at : {X : Type 0} (xs : List X) (k : ℕ) (x d : X) → slice_get xs k ≡ Some x → (k < length xs) × (get_or xs k d ≡ x)
 get_at [] k x d h = cc
@@ -78,7 +53,7 @@ module _ (f : Dqbf) (graph : AigGraph) (es : List Entry) (inputs : List Literal)
       name_of es v ≡ Some (InputName x) → bit_of row i ≡ values v
   input_bit i below x v is named =
       let at = input_at es f.universals inputs i are below in
-      let same : at.0 ≡ v = name_once es at.0 v (InputName x) logged (at.2 ∙ ap (λ u. Some (InputName u)) is) named in
+      let same : at.0 ≡ v = names_are_unique_lem es at.0 v (InputName x) logged (at.2 ∙ ap (λ u. Some (InputName u)) is) named in
       get_or-map (λ l. values (variable_of l)) inputs i (positive 0) false
       (let inside : i < length inputs = omega (arith, below, count) in inside)
       ∙ ap (λ l. values (variable_of l)) at.1 ∙ ap values same
@@ -88,9 +63,9 @@ module _ (f : Dqbf) (graph : AigGraph) (es : List Entry) (inputs : List Literal)
   node_is_leaf node leaf (constant b) = refl
   node_is_leaf node leaf (input i x v negated place named) =
       let at = get_at f.universals i x 0 place in
-      signed values negated v (bit_of row i) (input_bit i at.0 x v at.1 named)
+      signed_leaf values negated v (bit_of row i) (input_bit i at.0 x v at.1 named)
   node_is_leaf node leaf (gate g v sides negated a b at are_sides on_left on_right named) =
-      signed values negated v (gate_value (bit_of row) graph.gates g)
+      signed_leaf values negated v (gate_value (bit_of row) graph.gates g)
       (gate_value_in (bit_of row) graph.inputs graph.gates g sides are_sides at
       ∙ ap (λ x. x && node_value graph (bit_of row) sides.right) (node_is_leaf sides.left (LeafLiteral a) on_left)
       ∙ ap (λ x. literal_true values a && x) (node_is_leaf sides.right (LeafLiteral b) on_right)

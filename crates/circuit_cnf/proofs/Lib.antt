@@ -1,4 +1,4 @@
-mod LeafNodes
+pub mod LeafNodes
 mod ShownOutputs
 mod GivenGates
 mod StandingNames

@@ -4,6 +4,7 @@ use Rattle.std.specs.Prelude.{◌↔◌}
 use Rattle.std.specs.List.{All, Contains}
 use Rattle.std.proofs.lemmas.List.{get_or_default}
 use Rattle.std.proofs.lemmas.List.Elements.{All-contains, Contains-append_left, Contains-append_right}
+use Rattle.list_laws.proofs.Options.{some_is}
 use Rattle.dq_lits.specs.Formula.{Dqbf}
 use Rattle.dq_lits.specs.Row.{bit_of}
 use Rattle.aig_graph.specs.declared.nodes.Node.{Node}
@@ -16,9 +17,6 @@ use Rattle.aig_graph.specs.Outputs.{ReadsUniversals}
 use Rattle.aig_graph.proofs.Numbered.{sides_are}
 use Rattle.aig_graph.proofs.LargerGraphs.{gate_support_at, more_earlier, number_of}
 use Rattle.circuit_cnf.specs.Leaves.{AreClosed, AreMarkedUniversals}
-
-some_is : {X : Type 0} {x y : X} → Some x ≡ Some y → x ≡ y
-some_is e = cc
 
 -- nodes on one place read the same
 same_support : (graph : AigGraph) (a b : Node) (p : ℕ) → IsNode graph a → IsNode graph b →

@@ -1,9 +1,11 @@
 -- Names of a group's clauses, one after the other.
-use Rattle.std.proofs.Common.{◌≡◌, ℕ, zero, suc, ◌+◌, ◌≤◌, ◌==◌, true, false, inl, inr, List, [], ◌∷◌, ◌++◌, map, Some, None, refl, sym, ◌∙◌, ap, subst, arith}
+use Rattle.std.proofs.Common.{◌≡◌, ℕ, suc, ◌+◌, ◌≤◌, ◌==◌, true, false, inl, inr, List, [], ◌∷◌, ◌++◌, map, Some, None, refl, sym, ◌∙◌, ap, subst, arith}
 use Rattle.std.specs.List.{range_with_len}
 use Rattle.std.specs.Option.{option_map}
 use Rattle.std.proofs.lemmas.Bool.{eq-eqb, cond-true}
 use Rattle.std.proofs.lemmas.List.{map-append}
+use Rattle.list_laws.proofs.Numbers.{range_more}
+use Rattle.list_laws.proofs.Members.{contains_cases}
 use Rattle.dq_lits.specs.Literal.{Literal, positive}
 use Rattle.dq_lits.specs.Formula.{Dqbf}
 use Rattle.hint_log.specs.Entries.{Entry}
@@ -17,7 +19,6 @@ use Rattle.log_laws.specs.Engines.{circuits, IsAddedBy}
 use Rattle.log_laws.proofs.LargerLogs.{grown_by, grown_by_none, grown_then}
 use Rattle.log_laws.proofs.Kept.{named_stay, name_stays_by, name_cases}
 use Rattle.circuit_cnf.specs.Faults.{IsNamingBads}
-use Rattle.circuit_cnf.proofs.GivenGates.{contains_cases}
 
 abbrev pub bad_name : ℕ → ℕ → NamedLiteral
 bad_name group j = named_literal (Bad group j) false
@@ -39,12 +40,6 @@ no_bads group old fresh = record {
   named = refl;
   names = λ v j is. absurd (fresh v j is);
 }
-
-range_more : (from count : ℕ) → range_with_len from (suc count) ≡ range_with_len from count ++ (from + count) ∷ []
-range_more from zero = let e : from ≡ from + 0 = omega arith in ap (λ x. x ∷ []) e
-range_more from (suc count) =
-    let e : from + 1 + count ≡ from + suc count = omega arith in
-    ap (λ xs. from ∷ xs) (range_more (from + 1) count) ∙ ap (λ x. from ∷ range_with_len (from + 1) count ++ x ∷ []) e
 
 pub bad_more : (group : ℕ) (old log new : ProofLog) (bads : List Literal) (i v : ℕ) → BadsSoFar group old log bads i →
     name_of log.entries v ≡ None → new ≡ with_entry log (Named v (Bad group (i + 1))) →

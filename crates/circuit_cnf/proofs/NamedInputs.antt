@@ -7,6 +7,7 @@ use Rattle.std.specs.Option.{option_map}
 use Rattle.std.proofs.lemmas.Bool.{eq-eqb, cond-true}
 use Rattle.std.proofs.lemmas.List.{take_more, map-append, get_or-take, length-take, get_or_default, length-append, get_or_append_left}
 use Rattle.std.proofs.lemmas.List.Elements.{Contains-append_left, Contains-push, Contains-get_or}
+use Rattle.list_laws.proofs.Members.{contains_cases}
 use Rattle.dq_lits.specs.Literal.{Literal, positive, variable_of}
 use Rattle.dq_lits.specs.Formula.{Dqbf, HasLawfulPrefix}
 use Rattle.hint_log.specs.Entries.{Entry, Named, Given}
@@ -18,6 +19,7 @@ use Rattle.hint_log.specs.Entries.{ProofLog, with_entry, name_of}
 use Rattle.hint_log.specs.Growth.{Each, Grew}
 use Rattle.oracle.specs.Searched.{IsGivenToGroup}
 use Rattle.hint_log.specs.Naming.{NamedLiteral, named_literal, name_literal}
+use Rattle.hint_log.proofs.NamedEntries.{named_contains}
 use Rattle.log_laws.specs.Engines.{circuits, IsAddedBy, HasNone}
 use Rattle.log_laws.proofs.LargerLogs.{grown_by, grown_by_none, grown_then}
 use Rattle.log_laws.proofs.Kept.{named_stay, name_stays_by, name_cases}
@@ -27,8 +29,6 @@ use Rattle.circuit_cnf.specs.Checking.{AreInputs, IsChecker}
 use Rattle.circuit_cnf.specs.Gates.{literal_code, pair_cmp, IsGateGiven, AreKnown}
 use Rattle.circuit_cnf.proofs.EmptyGroups.{no_gates_given}
 use Rattle.circuit_cnf.specs.Inputs.{HasNoGates, AreInputsOf}
-use Rattle.circuit_cnf.proofs.GivenGates.{contains_cases}
-use Rattle.circuit_cnf.proofs.StandingNames.{named_contains}
 
 -- the first universals have inputs
 pub record InputsSoFar (f : Dqbf) (old log : ProofLog) (inputs : List Literal) (i : ℕ) : Type 0 where

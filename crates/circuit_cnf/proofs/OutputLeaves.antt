@@ -1,8 +1,9 @@
 -- The leaves of outputs.
-use Rattle.std.proofs.Common.{◌≡◌, ℕ, zero, suc, ◌+◌, ◌≤◌, ◌<◌, Bool, true, false, inl, inr, List, [], ◌∷◌, map, length, slice_get, Some, refl, sym, ◌∙◌, ap, subst, arith}
+use Rattle.std.proofs.Common.{◌≡◌, ℕ, zero, suc, ◌+◌, ◌≤◌, ◌<◌, Bool, true, false, inl, inr, List, [], ◌∷◌, map, length, slice_get, Some, sym, ◌∙◌, ap, subst, arith}
 use Rattle.std.specs.Prelude.{◌↔◌}
 use Rattle.std.specs.List.{All, Contains}
 use Rattle.std.proofs.lemmas.List.Elements.{All-contains}
+use Rattle.list_laws.proofs.Sequences.{mapped_long}
 use Rattle.dq_lits.specs.Literal.{Literal}
 use Rattle.dq_lits.specs.Formula.{Dqbf}
 use Rattle.dq_lits.specs.Row.{bit_of}
@@ -70,17 +71,13 @@ mapped h [] k x y at is = cc
 mapped h (z ∷ zs) zero x y at is = let same : z ≡ x = cc in let here : h z ≡ y = cc in sym here ∙ ap h same
 mapped h (z ∷ zs) (suc k) x y at is = mapped h zs k x y at is
 
-long : {X Y : Type 0} (h : X → Y) (xs : List X) → length (map h xs) ≡ length xs
-long h [] = refl
-long h (x ∷ xs) = let e = long h xs in omega (arith, e)
-
 pub are_leaves : (f : Dqbf) (graph : AigGraph) (es : List Entry) (inputs literals : List Literal) (marks : List Bool)
     (nodes : List Node) (leaves : List Leaf) → AreMarkedUniversals f graph marks → AreInputs f.universals inputs es →
     HaveLeaves f graph marks literals es → ((p : ℕ) → ((bit_of marks p ≡ true) ↔ IsInCone graph nodes p)) →
     All (IsEarlierNode graph.inputs (length literals)) nodes → leaves ≡ map (leaf_by inputs literals) nodes →
     AreLeavesOf f graph es nodes leaves
 are_leaves f graph es inputs literals marks nodes leaves low are have exact earlier is = record {
-  count = ap length is ∙ long (leaf_by inputs literals) nodes;
+  count = ap length is ∙ mapped_long (leaf_by inputs literals) nodes;
   each = λ k node leaf at leaf_at.
       let inside : Contains nodes node = numbered_among nodes (suc k) node at in
       let same = mapped (leaf_by inputs literals) nodes k node leaf at (ap (λ ls. slice_get ls k) (sym is) ∙ leaf_at) in

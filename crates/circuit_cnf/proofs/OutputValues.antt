@@ -4,6 +4,7 @@ use Rattle.std.specs.List.{position_or_len}
 use Rattle.std.proofs.lemmas.Bool.{false≢true, eq-eqb, ne_eqb, leb-true, ltb-false}
 use Rattle.std.proofs.lemmas.List.{ext_get_or, get_or-map, length-append, get_or_append_left, get_or-append-add}
 use Rattle.std.proofs.lemmas.Option.{slice_get_within, slice_get-get_or}
+use Rattle.list_laws.proofs.Sequences.{mapped_long}
 use Rattle.dq_lits.specs.Formula.{Dqbf, Existential, HasLawfulPrefix, declared}
 use Rattle.dq_lits.specs.Literal.{Literal, clause_true}
 use Rattle.hint_log.specs.Naming.{round_assignment}
@@ -164,10 +165,6 @@ module _ (f : Dqbf) (i : ℕ) (lawful : HasLawfulPrefix f) (below : i < length f
       (omega (arith, below, whole, count)) in
       ne_eqb (get_or us k 0) v (λ same. apart (get_or_append_left us vs 0 k inside ∙ same ∙ sym
       (variable_at i below)))))
-
-pub mapped_long : {X Y : Type 0} (h : X → Y) (xs : List X) → length (map h xs) ≡ length xs
-mapped_long h [] = refl
-mapped_long h (x ∷ xs) = let e = mapped_long h xs in omega (arith, e)
 
 pub output_values : (f : Dqbf) (graph : AigGraph) (nodes : List Node) (row : List Bool) → HasLawfulPrefix f →
     length nodes ≡ length f.existentials → length row ≡ length f.universals →

@@ -2,8 +2,10 @@
 use Rattle.std.proofs.Common.{◌≡◌, ℕ, ◌+◌, ◌≤◌, ◌<◌, true, false, inl, inr, ◌⊎◌, not, List, [], ◌∷◌, ◌++◌, length, get_or, slice_get, Some, None, refl, sym, ◌∙◌, ap, subst}
 use Rattle.std.specs.List.{Contains}
 use Rattle.std.proofs.lemmas.List.Elements.{Contains-append_right}
+use Rattle.list_laws.proofs.Numbers.{below_or_here}
 use Rattle.dq_lits.specs.Literal.{Literal, positive, negative, variable_of, is_negative, opposite}
 use Rattle.dq_lits.specs.Formula.{Dqbf, declared}
+use Rattle.dq_lits.proofs.SignedLiterals.{negated-positive}
 use Rattle.hint_log.specs.Entries.{Entry, Given, ProofLog, name_of, with_entry}
 use Rattle.hint_log.specs.declared.names.Name.TheVariants.{Bad}
 use Rattle.hint_log.specs.declared.origins.Leaf.{Leaf}
@@ -12,13 +14,11 @@ use Rattle.hint_log.specs.declared.origins.Origin.TheVariants.{Fault}
 use Rattle.hint_log.specs.Origins.{matrix_literal, leaf_clause, leaf_with_sign, IsLeafOf}
 use Rattle.log_laws.specs.Engines.{circuits, IsAddedBy}
 use Rattle.log_laws.proofs.LargerLogs.{grown_then}
-use Rattle.aig_graph.proofs.LargerGraphs.{below_or_here}
 use Rattle.circuit_cnf.specs.Faults.{AreSaid, HasFault, HaveFaults, HaveAllFaults, IsFaulted, IsNeverBad, AreFewWith, HaveOneLeaf, AreBads}
 use Rattle.circuit_cnf.specs.Saying.{MaySay, leaf_in, selector_in}
 use Rattle.circuit_cnf.specs.declared.fault_clauses.Faults.{Faults}
 use Rattle.circuit_cnf.proofs.ClauseFaults.{few_more, one_leaf_more, leaf_stays_leaf}
 use Rattle.circuit_cnf.proofs.GivenFaults.{IsFaultReady, fault_grown}
-use Rattle.circuit_cnf.proofs.GivenGates.{selector_is}
 use Rattle.circuit_cnf.proofs.GroupFaults.{some_leaf_more}
 use Rattle.circuit_cnf.proofs.SomeFault.{some_grown}
 
@@ -173,7 +173,7 @@ module _ (s : Faults) (log : ProofLog) (may : MaySay s log.entries) where
       let e : new.entries ≡ Given (Fault clause place (leaf_in s (variable_of literal)))
       (negative (selector_in s) ∷ lits) ∷ log.entries =
       ap (λ (l : ProofLog). l.entries) added ∙ ap (λ l. Given (Fault clause place out) (l ∷ lits) ∷ log.entries)
-      (selector_is sel may.made.positive)
+      (negated-positive sel may.made.positive)
       ∙ ap (λ o. Given (Fault clause place o) (negative (selector_in s) ∷ lits) ∷ log.entries) leaf_is in
       record {
         grew = λ standing start unnamed. fault_grown s.f.now standing start sel bad literal out clause place lits tail
@@ -194,7 +194,7 @@ module _ (s : Faults) (log : ProofLog) (may : MaySay s log.entries) where
       let sel = s.group.now.selector in
       let e : new.entries ≡ Given (Fault 0 0 (Constant false)) (negative (selector_in s) ∷ bads) ∷ log.entries =
       ap (λ (l : ProofLog). l.entries) added ∙ ap (λ l. Given (Fault 0 0 (Constant false)) (l ∷ bads) ∷ log.entries)
-      (selector_is sel may.made.positive) in
+      (negated-positive sel may.made.positive) in
       record {
         grew = λ standing start unnamed. some_grown s.f.now standing start sel bads log new may.made.positive
             may.made.named named may.few added unnamed;

@@ -1,8 +1,9 @@
 -- Leaves of a gate's sides.
 use Rattle.std.proofs.Common.{◌≡◌, ℕ, zero, suc, ◌+◌, ◌<◌, Bool, true, false, inl, inr, List, [], ◌∷◌, length, get_or, Some, refl, sym, ◌∙◌, ap, subst, arith}
-use Rattle.dq_lits.specs.Literal.{Literal, positive, negative, variable_of, is_negative}
+use Rattle.dq_lits.specs.Literal.{Literal, positive, negative, variable_of}
 use Rattle.dq_lits.specs.Formula.{Dqbf}
 use Rattle.dq_lits.specs.Row.{bit_of}
+use Rattle.dq_lits.proofs.SignedLiterals.{as_positive}
 use Rattle.aig_graph.specs.declared.nodes.Node.{Node}
 use Rattle.aig_graph.specs.declared.nodes.Node.TheVariants.{Constant, Input, Gate}
 use Rattle.aig_graph.specs.declared.nodes.Sides.{Sides}
@@ -30,10 +31,6 @@ leaf_stays f graph old new stay _ _ (gate g v sides negated a b at are on_left o
     gate g v sides negated a b at are (leaf_stays f graph old new stay sides.left (LeafLiteral a) on_left)
     (leaf_stays f graph old new stay sides.right (LeafLiteral b) on_right) (stay v (And a b) named)
 
-positive_is : (l : Literal) → is_negative l ≡ false → l ≡ positive (variable_of l)
-positive_is (positive v) h = refl
-positive_is (negative v) h = cc
-
 -- the input of a place
 pub input_at : (es : List Entry) (us : List ℕ) (inputs : List Literal) (i : ℕ) → AreInputs us inputs es →
     i < length us →
@@ -43,7 +40,7 @@ input_at es (u ∷ us) [] i h below = cc
 input_at es (u ∷ us) (l ∷ ls) zero h below =
     let here : name_literal es l ≡ Some (named_literal (InputName u) false) = cc in
     let n = named_variable es l (InputName u) false (name_of es (variable_of l)) refl here in
-    (variable_of l, positive_is l n.1, n.0)
+    (variable_of l, as_positive l n.1, n.0)
 input_at es (u ∷ us) (l ∷ ls) (suc i) h below =
     let later : AreInputs us ls es = cc in
     let small : i < length us = omega arith in

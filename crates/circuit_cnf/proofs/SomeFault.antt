@@ -6,6 +6,7 @@ use Rattle.std.proofs.lemmas.Bool.{false≢true}
 use Rattle.std.proofs.lemmas.List.Elements.{All-from_recursion}
 use Rattle.dq_lits.specs.Literal.{Literal, negative, variable_of, is_negative, opposite}
 use Rattle.dq_lits.specs.Formula.{Dqbf}
+use Rattle.dq_lits.proofs.SignedLiterals.{negated-positive}
 use Rattle.hint_log.specs.Entries.{Entry}
 use Rattle.hint_log.specs.Entries.{Given}
 use Rattle.hint_log.specs.declared.names.Name.TheVariants.{Selector, Bad}
@@ -21,7 +22,6 @@ use Rattle.log_laws.proofs.LargerLogs.{grown_by}
 use Rattle.oracle.specs.Calls.{IsPlain}
 use Rattle.circuit_cnf.specs.Faults.{AreFewWith}
 use Rattle.circuit_cnf.proofs.NamedBads.{bad_name}
-use Rattle.circuit_cnf.proofs.GivenGates.{selector_is}
 
 plain_each : (es : List Entry) (group : ℕ) (ls : List Literal) (js : List ℕ) →
     AreNamedAs es ls (map (bad_name group) js) → AllByRecursion (IsPlain es) ls
@@ -71,5 +71,5 @@ pub some_grown : (f : Dqbf) (standing : ℕ) (start : List Entry) (g : Literal) 
 some_grown f standing start g bads log new plain is_group named few added unnamed =
     grown_by (IsAddedBy f circuits standing true start) log new
     (Given (Fault 0 0 (Constant false)) (negative (variable_of g) ∷ bads))
-    (added ∙ ap (λ l. with_entry log (Given (Fault 0 0 (Constant false)) (l ∷ bads))) (selector_is g plain))
+    (added ∙ ap (λ l. with_entry log (Given (Fault 0 0 (Constant false)) (l ∷ bads))) (negated-positive g plain))
     (some_added f standing start log.entries (variable_of g) bads is_group named few unnamed)

@@ -2,6 +2,7 @@
 use Rattle.std.proofs.Common.{◌≡◌, ℕ, ◌<◌, ◌==◌, true, false, inl, inr, List, [], ◌∷◌, map, length, get_or, position, Option, Some, None, IsSome, refl, sym, ◌∙◌, ap, subst, arith}
 use Rattle.std.proofs.lemmas.Bool.{true≢false, eqb-true}
 use Rattle.std.proofs.lemmas.List.{get_or_default}
+use Rattle.list_laws.proofs.Sequences.{mapped_long}
 use Rattle.dq_lits.specs.Literal.{Literal, positive, variable_of}
 use Rattle.dq_lits.specs.Formula.{Dqbf, Existential, IsWellFormed, is_universal}
 use Rattle.aig_graph.specs.declared.nodes.Node.{Node}
@@ -24,7 +25,7 @@ use Rattle.circuit_cnf.specs.Shown.{HoldEverywhere, ShowsOutputs, IsShownBy, IsS
 use Rattle.circuit_cnf.specs.Turning.{AreLeavesOf, IsHeldBy}
 use Rattle.circuit_cnf.proofs.PrefixPlaces.{position_cases, some_place}
 use Rattle.circuit_cnf.proofs.SideLeaves.{input_at, leaf_is_circuit, leaf_stays}
-use Rattle.circuit_cnf.proofs.OutputValues.{mapped_long, nobody, node_at, existential_place, no_universal}
+use Rattle.circuit_cnf.proofs.OutputValues.{nobody, node_at, existential_place, no_universal}
 
 -- how many inputs there are
 pub inputs_count : (es : List Entry) (us : List ℕ) (inputs : List Literal) → AreInputs us inputs es →

@@ -1,6 +1,6 @@
 -- A turn's stages: its group, the group's clauses, and the search.
 use Rattle.std.proofs.Common.{◌≡◌, ◌≢◌, ℕ, ◌<◌, Bool, true, false, List, ◌∷◌, length, Some, None, IsSome, refl, sym, ◌∙◌, ap, subst}
-use Rattle.dq_lits.specs.Literal.{Literal, positive, negative, variable_of, is_negative}
+use Rattle.dq_lits.specs.Literal.{Literal, positive, negative, variable_of}
 use Rattle.dq_lits.specs.Formula.{Dqbf}
 use Rattle.hint_log.specs.Entries.{Entry}
 use Rattle.hint_log.specs.Entries.{Named, Given, Learned, Answer, Round, Begun}
@@ -13,12 +13,13 @@ use Rattle.hint_log.specs.ProductiveLog.{fault_groups, fault_room}
 use Rattle.log_laws.specs.Engines.{circuits, IsOwnGiven, IsAddedBy}
 use Rattle.log_laws.proofs.LargerLogs.{each_grown, grown_then}
 use Rattle.log_laws.proofs.Kept.{NamesStay, name_stays_by}
+use Rattle.log_laws.proofs.Found.{each_weaker}
 use Rattle.oracle.specs.Calls.{IsMade, IsLearnedEntry, IsRefutedUnder}
 use Rattle.oracle.specs.declared.groups.Group.{Group}
 use Rattle.circuit_cnf.specs.declared.checkers.Checker.{Checker}
 use Rattle.circuit_cnf.specs.Checking.{AreInputs, group_of, IsChecker}
 use Rattle.circuit_cnf.specs.Faults.{HaveOneLeaf, AreNamedAndSaid}
-use Rattle.circuit_cnf.proofs.EmptyGroups.{IsUnused, group_is_unused, not_given_there, each_weaker}
+use Rattle.circuit_cnf.proofs.EmptyGroups.{IsUnused, group_is_unused, not_given_there}
 use Rattle.circuit_cnf.specs.Turning.{AreTwoGroups, HasTurned, IsGroupMade}
 use Rattle.circuit_cnf.proofs.UnchangedCheckers.{checker_stays, leaves_elsewhere, group_leaves, learned_leaves, leaves_then}
 use Rattle.std.specs.List.{Contains}
@@ -190,8 +191,3 @@ noted_turned f before after noted silent old new gates inputs turned = record {
   grew = turned.grew;
   few = turned.few;
 }
-
--- the literal that switches a group on
-pub switch_is : (l : Literal) → is_negative l ≡ false → l ≡ positive (variable_of l)
-switch_is (positive v) plain = refl
-switch_is (negative v) plain = cc

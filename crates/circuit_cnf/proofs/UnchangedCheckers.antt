@@ -3,6 +3,7 @@ use Rattle.std.proofs.Common.{◌≡◌, ◌≢◌, ℕ, Bool, false, inl, inr, 
 use Rattle.std.specs.List.{Contains}
 use Rattle.std.proofs.lemmas.Bool.{false≢true}
 use Rattle.std.proofs.lemmas.List.Elements.{Contains-append_right}
+use Rattle.list_laws.proofs.Members.{contains_later, contains_cases}
 use Rattle.dq_lits.specs.Literal.{Literal, negative, variable_of}
 use Rattle.dq_lits.specs.Formula.{Dqbf}
 use Rattle.hint_log.specs.Entries.{Entry}
@@ -24,7 +25,6 @@ use Rattle.circuit_cnf.specs.declared.gates.Gates.{Gates}
 use Rattle.circuit_cnf.specs.Checking.{group_of, IsChecker, CheckersStay}
 use Rattle.circuit_cnf.specs.Faults.{NamesBadsAlone}
 use Rattle.circuit_cnf.specs.Gates.{IsGateGiven}
-use Rattle.circuit_cnf.proofs.GivenGates.{contains_cases, contains_more}
 use Rattle.circuit_cnf.proofs.KnownGates.{LeavesGates, known_stay, some_stays}
 
 pub checker_stays : (f : Dqbf) (checker : Checker) (old new : List Entry) → LeavesGates checker.gates old new →
@@ -92,7 +92,7 @@ leaves_plain gates es e names no_given own = record {
   stay = λ v n is. names v ∙ is;
   ands = λ v a b is. sym (names v) ∙ is;
   bads = λ v group j is. inl (sym (names v) ∙ is);
-  more = λ x inside. contains_more e x es inside;
+  more = λ x inside. contains_later e x es inside;
   origins = λ v i c inside. inl (only v i c inside);
   own = own;
   missing = λ gate is i c inside. only gate.variable i c inside;
@@ -109,7 +109,7 @@ leaves_elsewhere gates es (Named v n) h = record {
       [ inl here ↦ absurd (false≢true (sym h.1 ∙ ap (λ x. is_own circuits (Named v x)) here.1)) | inr old ↦ old ];
   bads = λ w group j is. elim (name_cases es v w n (Bad group j) is)
       [ inl here ↦ absurd (false≢true (sym h.1 ∙ ap (λ x. is_own circuits (Named v x)) here.1)) | inr old ↦ inl old ];
-  more = λ x inside. contains_more (Named v n) x es inside;
+  more = λ x inside. contains_later (Named v n) x es inside;
   origins = λ w i c inside. inl (only w i c inside);
   own = λ own. (tt, own);
   missing = λ gate is i c inside. only gate.variable i c inside;
@@ -122,7 +122,7 @@ leaves_elsewhere gates es (Given origin d) h = record {
   stay = λ v n is. is;
   ands = λ v a b is. is;
   bads = λ v group j is. inl is;
-  more = λ x inside. contains_more (Given origin d) x es inside;
+  more = λ x inside. contains_later (Given origin d) x es inside;
   origins = λ v i c inside. inl (only v i c inside);
   own = λ own. ((λ inside. absurd (h.1 inside)), own);
   missing = λ gate is i c inside. only gate.variable i c inside;

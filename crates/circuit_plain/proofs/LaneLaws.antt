@@ -1,8 +1,9 @@
 -- Bits of lanes.
-use Rattle.std.proofs.Common.{◌≡◌, ℕ, zero, suc, ◌+◌, ◌*◌, ◌%◌, ◌<◌, ◌==◌, ◌⊎◌, inl, inr, not, ◌&&◌, ◌||◌, if◌then◌else◌, List, length, replicate, get_or, min, max, refl, ap, ◌∙◌, arith, bit_and, bit_or, bit_xor}
+use Rattle.std.proofs.Common.{◌≡◌, ℕ, zero, suc, ◌+◌, ◌*◌, ◌%◌, ◌<◌, ◌==◌, ◌⊎◌, inl, inr, not, ◌&&◌, ◌||◌, if◌then◌else◌, List, length, replicate, get_or, min, refl, ap, ◌∙◌, arith, bit_and, bit_or, bit_xor}
 use Rattle.std.specs.Int.{bit_at}
 use Rattle.std.proofs.lemmas.Nat.Bits.{bit_at_and, bit_at_or, bit_at_xor, bit_at-lt, bit_at-zero, bit_at_ones}
 use Rattle.std.proofs.lemmas.Simd.{get_or-zip2, get_or-replicate}
+use Rattle.list_laws.proofs.Numbers.{most_bit}
 use lib.Lanes.{zip2}
 use Rattle.circuit_plain.specs.Blocks.{lane_bit}
 use Rattle.circuit_plain.specs.Netlist.{signed_bit}
@@ -27,13 +28,6 @@ both_bits x y l b x_four y_four below =
     ap (λ w. bit_at w b == 1) (get_or-zip2 bit_and x y l 0 0 0 (omega arith) (omega arith))
     ∙ ap (λ w. w == 1) (bit_at_and p q b)
     ∙ least_bit (bit_at p b) (bit_at q b) (bit_at-lt p b) (bit_at-lt q b)
-
-most_bit : (p q : ℕ) → p < 2 → q < 2 → (max p q == 1) ≡ ((p == 1) || (q == 1))
-most_bit p q p_bit q_bit =
-    elim (is_bit p p_bit) [
-      | inl e ↦ elim (is_bit q q_bit) [ inl d ↦ rw (e, d) refl | inr d ↦ rw (e, d) refl ]
-      | inr e ↦ elim (is_bit q q_bit) [ inl d ↦ rw (e, d) refl | inr d ↦ rw (e, d) refl ]
-    ]
 
 pub either_bits : (x y : List ℕ) (l b : ℕ) → length x ≡ 4 → length y ≡ 4 → l < 4
     → lane_bit (zip2 bit_or x y) l b ≡ (lane_bit x l b || lane_bit y l b)

@@ -9,3 +9,4 @@ pub mod WalkSteps
 pub mod LaneLaws
 pub mod PatternLaws
 pub mod BlockLaws
+pub mod NetlistParts

@@ -1,17 +1,14 @@
 -- Words of marks.
-use Rattle.std.proofs.Common.{◌≡◌, ℕ, ◌<◌, ◌==◌, inl, inr, Bool, true, false, ◌&&◌, ◌||◌, List, length, get_or, set, max, bit_or, refl, sym, ap, ◌∙◌, arith, eq-eqb}
+use Rattle.std.proofs.Common.{◌≡◌, ℕ, ◌<◌, ◌==◌, inl, inr, Bool, true, false, ◌&&◌, ◌||◌, List, length, get_or, set, bit_or, refl, sym, ap, ◌∙◌, eq-eqb}
 use Rattle.std.specs.Int.{bit_at}
 use Rattle.std.proofs.Math.Bool.{or-false}
 use Rattle.std.proofs.lemmas.Bool.{cases_eq, ne_eqb, or_left, or_right, or_cases, and_parts, and_from, eqb-true}
-use Rattle.std.proofs.lemmas.Bool.Decides.{nat_tests}
 use Rattle.std.proofs.lemmas.List.{get_or-set_same, get_or-set_other}
 use Rattle.std.proofs.lemmas.Nat.Bits.{bit_at_or, bit_at-lt}
+use Rattle.list_laws.proofs.Numbers.{most_bit}
 use Rattle.circuit_plain.specs.Steps.{IsSpread}
 use Rattle.circuit_plain.specs.Words.{marked}
 use Rattle.circuit_plain.proofs.ReachLaws.{Spreads}
-
-either_bit : (a b : ℕ) → a < 2 → b < 2 → (max a b == 1) ≡ ((a == 1) || (b == 1))
-either_bit a b a_bit b_bit = grind (arith, nat_tests)
 
 -- one word takes the marks of another
 marks_added : (words : List ℕ) (at word i v : ℕ) → at < length words
@@ -23,7 +20,7 @@ marks_added words at word i v below =
           ap (λ w. bit_at (get_or (set words at (bit_or (get_or words at 0) word)) w 0) i == 1) same
           ∙ ap (λ w. bit_at w i == 1) (get_or-set_same words at (bit_or (get_or words at 0) word) 0 below)
           ∙ ap (λ n. n == 1) (bit_at_or (get_or words at 0) word i)
-          ∙ either_bit (bit_at (get_or words at 0) i) (bit_at word i) (bit_at-lt (get_or words at 0) i)
+          ∙ most_bit (bit_at (get_or words at 0) i) (bit_at word i) (bit_at-lt (get_or words at 0) i)
           (bit_at-lt word i)
           ∙ ap (λ w. marked words i w || (bit_at word i == 1)) (sym same)
           ∙ ap (λ b. marked words i v || b) (sym (and_true (bit_at word i == 1)) ∙ ap (λ b. (bit_at word i == 1) && b)

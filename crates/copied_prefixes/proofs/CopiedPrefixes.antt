@@ -1,9 +1,10 @@
 -- A prefix that is copied, variable by variable.
-use Rattle.std.proofs.Common.{Result, Ok, Err, OnOk, cond, ◌≡◌, ◌≢◌, ℕ, zero, suc, ◌+◌, ◌-◌, ◌<◌, ◌≤◌, ◌==◌, max, Bool, true, false, inl, inr, List, [], ◌∷◌, ◌++◌, take, length, get_or, slice_get, Option, Some, None, IfSome, is_some, refl, sym, ◌∙◌, ap, subst, arith}
+use Rattle.std.proofs.Common.{◌≡◌, ◌≢◌, ℕ, zero, suc, ◌+◌, ◌-◌, ◌<◌, ◌≤◌, ◌==◌, max, Bool, true, false, inl, inr, List, [], ◌∷◌, ◌++◌, take, length, get_or, slice_get, Option, Some, None, IfSome, is_some, refl, sym, ◌∙◌, ap, subst, arith}
 use Rattle.std.specs.List.{All, AllPairs, Contains, list_any, filter}
-use Rattle.std.proofs.lemmas.Bool.{true≢false, cases_lt, cases_Bool}
+use Rattle.std.proofs.lemmas.Bool.{cases_lt, cases_Bool}
 use Rattle.std.proofs.lemmas.List.{get_or_default, take_more, take-map, length-take-le, get_or-take, length-map, length-append, get_or-map, get_or-append_right, get_or_append_left}
 use Rattle.std.proofs.lemmas.List.Elements.{All-push, All-contains, Contains-append_cases}
+use Rattle.list_laws.proofs.Folds.{filter-wider}
 use Rattle.dq_lits.specs.Formula.{Existential, Dqbf, declared, is_universal, existential_of}
 use Rattle.dq_formula.specs.Dependencies.{listed_universals}
 use Rattle.dq_formula.specs.Prefix.{IsLawful, is_declared, existential_variables}
@@ -11,24 +12,6 @@ use Rattle.dq_formula.proofs.Lawful.{take-filter}
 use Rattle.dq_formula.proofs.Places.{contains-has, has-contains}
 use Rattle.dq_formula.proofs.Subsets.{distinct_universals}
 use Rattle.copied_prefixes.specs.Prefixes.{begun, IsBegun, IsAt, SeesAmong}
-
-pub on_ok : {X E P Q : Type 0} (r : Result X E) → (P → Q) → OnOk r P → OnOk r Q
-on_ok (Ok x) step h = step h
-on_ok (Err e) step h = h
-
--- a test that lets through all that another one does
-filter-wider : {X : Type 0} (p q : X → Bool) (xs : List X) → ((l : X) → p l ≡ true → q l ≡ true)
-    → filter p (filter q xs) ≡ filter p xs
-filter-wider p q [] wider = refl
-filter-wider p q (x ∷ xs) wider = by (q x) (p x) (wider x) (filter-wider p q xs wider) refl
-  where
-    by : (b a : Bool) → (a ≡ true → b ≡ true) → filter p (filter q xs) ≡ filter p xs
-        → p x ≡ a → filter p (cond b (x ∷ filter q xs) (filter q xs)) ≡ cond a (x ∷ filter p xs) (filter p xs)
-    by true a w h e =
-        ap (λ c. cond c (x ∷ filter p (filter q xs)) (filter p (filter q xs))) e
-        ∙ ap (λ ls. cond a (x ∷ ls) ls) h
-    by false true w h e = absurd (true≢false (sym (w refl)))
-    by false false w h e = h
 
 -- an element at a place is among the first ones
 among : (us : List ℕ) (p end x : ℕ) → slice_get us p ≡ Some x → p < end → Contains (take end us) x
@@ -264,20 +247,6 @@ next-fresh f g y lawful is below at =
     existential-fresh f g (length g.existentials) y lawful is refl below
     (sym at.named ∙ ap (λ e. e.variable) (sym at.stands)
     ∙ sym (get_or-map (λ z. z.variable) f.existentials (length g.existentials) at.existential y below))
-
--- the next existential, with the first universals as its set
-pub first-next : (f g h : Dqbf) (y : ℕ) → IsBegun f g → (at : IsAt f (length g.existentials) y)
-    → length g.existentials < length f.existentials
-    → IfSome (existential_of f y) (λ e. e.sees ≡ take (length g.universals) f.universals)
-    → h ≡ record g { existentials = g.existentials ++ record { variable = y; sees = g.universals } ∷ [] }
-    → IsBegun f h × (length h.existentials ≡ length g.existentials + 1)
-first-next f g h y is at below first made =
-    let e = at.existential in
-    let Added : Existential → Dqbf = λ x. record g { existentials = g.existentials ++ x ∷ [] } in
-    let sees = the-one (existential_of f y) e
-    (λ x. x.sees ≡ take (length g.universals) f.universals) at.found first in
-    let same = same-existential e y g.universals at.named (ap (λ q. q.universals) is.same ∙ sym sees) in
-    begun-more f g h (length g.existentials) e is refl below at.stands (made ∙ ap Added same)
 
 -- or with a list
 pub listed-next : (f g h : Dqbf) (y : ℕ) (xs : List ℕ) → IsLawful f → IsBegun f g

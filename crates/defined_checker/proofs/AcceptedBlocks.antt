@@ -1,8 +1,9 @@
 -- What accepted blocks say.
-use Rattle.std.proofs.Common.{◌≡◌, ℕ, suc, ◌==◌, arith, inl, inr, Bool, List, ◌∷◌, [], map, Option, None, Some, IsSome, refl, sym, ◌∙◌, subst}
+use Rattle.std.proofs.Common.{◌≡◌, ℕ, suc, ◌==◌, arith, inl, inr, Bool, List, ◌∷◌, [], map, None, Some, sym, ◌∙◌, subst}
 use Rattle.std.specs.List.{Contains, find}
 use Rattle.std.proofs.lemmas.Bool.{cases_Bool, eqb-true}
 use Rattle.std.proofs.lemmas.List.Elements.{Contains-append_right}
+use Rattle.list_laws.proofs.Options.{some_same}
 use Rattle.dq_lits.specs.Literal.{Assignment}
 use Rattle.dq_lits.specs.Formula.{Existential, Dqbf, declared, existential_of}
 use Rattle.dq_lits.specs.Henkin.{MatrixHolds}
@@ -11,9 +12,6 @@ use Rattle.cert_text.specs.DefinitionBlocks.{Definition, FreePair, defined, free
 use Rattle.defined_checker.specs.DefinitionBase.{definition_base}
 use Rattle.defined_checker.specs.FreePairs.{AreAlike, IsFreePair, valuation_assignment}
 use Rattle.defined_checker.specs.Judging.{IsJudged, ReadsItsOwn, defines, separates}
-
-pub one : (a b : Existential) → Some a ≡ Some b → a ≡ b
-one a b h = cc
 
 -- an existential is declared
 pub declared_existential : (f : Dqbf) (v : ℕ) (y : Existential) → existential_of f v ≡ Some y → Contains (declared f) v
@@ -54,15 +52,10 @@ pub pair_is_free : (f : Dqbf) (p : FreePair) (y : Existential) → existential_o
     ((m : Assignment) → MatrixHolds f m → m p.existential ≡ value m) → ⊥
 pair_is_free f p y is judged value alike forced =
     let a = accepted_pair f p judged in
-    let same : a.y ≡ y = one a.y y (sym a.is ∙ is) in
+    let same : a.y ≡ y = some_same a.y y (sym a.is ∙ is) in
     let first = valuation_assignment f p.first in
     let second = valuation_assignment f p.second in
     a.pair.apart
     (forced first a.pair.first
     ∙ alike first second (subst (λ z. AreAlike f z first second) same a.pair.alike)
     ∙ sym (forced second a.pair.second))
-
--- the one that is there
-pub there_is : (o : Option Existential) → IsSome o → (y : Existential) × (o ≡ Some y)
-there_is None some = cc
-there_is (Some y) some = (y, refl)

@@ -1,9 +1,8 @@
 -- Steps that are judged one after the other.
-use Rattle.std.proofs.Common.{◌≡◌, ℕ, zero, suc, ◌+◌, ◌≤◌, ◌<◌, Bool, true, false, List, [], ◌∷◌, drop, map, get_or, slice_get, Option, None, Some, sym, ap, ◌∙◌, subst, arith, add-one}
+use Rattle.std.proofs.Common.{◌≡◌, ℕ, zero, suc, ◌+◌, ◌≤◌, ◌<◌, Bool, true, false, List, [], ◌∷◌, drop, map, get_or, slice_get, Option, None, Some, sym, ap, ◌∙◌, subst, arith}
 use Rattle.std.specs.List.{All}
-use Rattle.std.proofs.Math.Seq.{drop-cons}
 use Rattle.std.proofs.lemmas.List.Elements.{All-append, All-cons}
-use Rattle.std.proofs.lemmas.Option.{get_or_from_slice_get, slice_get_within}
+use Rattle.list_laws.proofs.Elements.{drop-next}
 use Rattle.dq_lits.specs.Derivation.{LiveClauses, ProofStep}
 use Rattle.dq_lits.specs.Literal.{Literal}
 use Rattle.rup_core.specs.Items.{derived}
@@ -57,12 +56,6 @@ lines_behind is_derived id literals p new first k is here low =
     wider : (j : ℕ) (d : Line) → (get_or p.lines j d).0 < first + k → (get_or p.lines j d).0 < first + (k + 1)
     wider j d less = omega (arith, less)
 
-pub one_dropped : (steps : List ProofStep) (k : ℕ) (s : ProofStep) → slice_get steps k ≡ Some s →
-    drop k steps ≡ s ∷ drop (k + 1) steps
-one_dropped steps k s is =
-    rw (add-one) (drop-cons steps k s (slice_get_within steps k s is))
-    ∙ ap (λ x. x ∷ drop (k + 1) steps) (get_or_from_slice_get steps k s s is)
-
 -- one more step is judged
 pub step_judged : (live : LiveClauses) (steps : List ProofStep) (k : ℕ) (s : ProofStep) (old new : Run) →
     slice_get steps k ≡ Some s → new ≡ with_item old (derived s) →
@@ -70,4 +63,4 @@ pub step_judged : (live : LiveClauses) (steps : List ProofStep) (k : ℕ) (s : P
     ≡ run_fault (with_items old (map derived (drop k steps)))
 step_judged live steps k s old new there is =
     ap (λ r. run_fault (with_items r (map derived (drop (k + 1) steps)))) is
-    ∙ sym (ap (λ rest. run_fault (with_items old (map derived rest))) (one_dropped steps k s there))
+    ∙ sym (ap (λ rest. run_fault (with_items old (map derived rest))) (drop-next steps k s there))

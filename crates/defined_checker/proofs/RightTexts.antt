@@ -1,5 +1,6 @@
 -- Accepted texts are right, and a text is judged in one way.
 use Rattle.std.proofs.Common.{◌≡◌, ℕ, inl, inr, List, [], ◌∷◌, Option, None, Some, Result, Ok, Err, refl, sym, ap, ◌∙◌, subst, arith}
+use Rattle.list_laws.proofs.Options.{some_same}
 use Rattle.dq_lits.specs.Derivation.{ProofFault, underived, unfinished}
 use Rattle.dq_lits.specs.Formula.{Existential, Dqbf, IsWellFormed, existential_of}
 use Rattle.cert_text.specs.AllowedDefinitions.{AreBlocksOf}
@@ -16,7 +17,6 @@ use Rattle.defined_checker.specs.declared.faults.DefStop.{DefStop}
 use Rattle.defined_checker.specs.declared.faults.DefStop.TheVariants.{Refused, Invalid, Memory}
 use Rattle.defined_checker.specs.declared.faults.DefinitionFault.{DefinitionFault}
 use Rattle.defined_checker.specs.declared.faults.DefinitionFault.TheVariants.{Reads, Step}
-use Rattle.defined_checker.proofs.AcceptedBlocks.{one}
 
 block_right : AcceptedDefinitionsAreForced → AcceptedPairsAreFree → (f : Dqbf) (y : ℕ) (block : DefinitionBlock) →
     IsWellFormed f → AreBlocksOf f (y ∷ []) (block ∷ []) → IsJudged f block None → IsRight f block
@@ -52,7 +52,7 @@ least_once f y d v w a b =
 module _ (f : Dqbf) where
   own_for : (d : Definition) (y z : Existential) → existential_of f d.existential ≡ Some y →
       existential_of f d.existential ≡ Some z → y ≡ z
-  own_for d y z a b = one y z (sym a ∙ b)
+  own_for d y z a b = some_same y z (sym a ∙ b)
 
   fault_once : (o : Option ProofFault) (a b : ProofFault) → o ≡ Some a → o ≡ Some b → a ≡ b
   fault_once o a b is same = inner (sym is ∙ same)
@@ -107,9 +107,9 @@ module _ (f : Dqbf) where
   judged_once (defined d) _ _ (defines is own fault) (defines same other again) = refl
   judged_once (free p) _ _ (pair is none) (pair same other) = refl
   judged_once (free p) _ _ (pair {y = y} is none) (separates {y = z} same other) =
-      absurd (none (subst (λ e. IsFreePair f e p) (one z y (sym same ∙ is)) other))
+      absurd (none (subst (λ e. IsFreePair f e p) (some_same z y (sym same ∙ is)) other))
   judged_once (free p) _ _ (separates {y = y} is own) (pair {y = z} same other) =
-      absurd (other (subst (λ e. IsFreePair f e p) (one y z (sym is ∙ same)) own))
+      absurd (other (subst (λ e. IsFreePair f e p) (some_same y z (sym is ∙ same)) own))
   judged_once (free p) _ _ (separates is own) (separates same other) = refl
 
   pub all_judged_once : (blocks : List DefinitionBlock) (a b : Option DefinitionFault) → AreJudged f blocks a →

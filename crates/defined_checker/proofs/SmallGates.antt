@@ -1,13 +1,14 @@
 -- A definition's gates by their places, and that their numbers are small.
-use Rattle.std.proofs.Common.{◌≡◌, ℕ, zero, suc, ◌+◌, ◌-◌, ◌*◌, ◌/◌, ◌%◌, ◌^◌, ◌≤◌, ◌<◌, nat_le, List, [], ◌∷◌, ◌++◌, length, get_or, slice_get, refl, sym, ap, ◌∙◌, subst, arith}
+use Rattle.std.proofs.Common.{◌≡◌, ℕ, zero, suc, ◌+◌, ◌-◌, ◌*◌, ◌/◌, ◌≤◌, ◌<◌, List, [], ◌∷◌, ◌++◌, length, get_or, slice_get, sym, ap, ◌∙◌, subst, arith}
 use Rattle.std.specs.List.{flat_map}
-use Rattle.std.proofs.lemmas.Bool.{and_parts, leb-true}
+use Rattle.list_laws.proofs.Elements.{get-append_left, get-append_right}
 use Rattle.dq_lits.specs.Formula.{Dqbf}
-use Rattle.circuit_plain.specs.Netlist.{left_variable, right_variable, literal_variable}
+use Rattle.circuit_plain.specs.Netlist.{left_variable, right_variable}
 use Rattle.circuit_plain.specs.declared.circuits.Gate.{Gate}
 use Rattle.cert_text.specs.AllowedDefinitions.{AreGatesFrom, IsDefinitionOf, IsGateAt, is_readable}
 use Rattle.cert_text.specs.DefinitionBlocks.{Definition}
 use Rattle.cert_text.specs.NegatedMatrix.{gate_clauses}
+use Rattle.cert_text.proofs.NegatedClauses.{gates_counted}
 use Rattle.defined_checker.specs.Bases.{IsSmallGate}
 
 pub gate_at : (f : Dqbf) (at : ℕ) (gates : List Gate) → AreGatesFrom f at gates → (k : ℕ) (g d : Gate) →
@@ -34,53 +35,17 @@ small_gate f d lawful few k g e below is =
       right = omega (arith, high, many, below, few);
     }
 
-pub small_output : (f : Dqbf) (d : Definition) → IsDefinitionOf f d → f.variables ≤ 1000000 → d.output < 2 ^ 62
-small_output f d lawful few =
-    let parts = and_parts (is_readable f d.output)
-    (nat_le (literal_variable d.output) (f.variables + length d.gates)) lawful.output in
-    let low = leb-true (literal_variable d.output) (f.variables + length d.gates) parts.1 in
-    let many : length d.gates ≤ 1000000000 = lawful.few in
-    omega (arith, low, many, few)
-
-gates_length : (gates : List Gate) → length (flat_map gate_clauses gates) ≡ 3 * length gates
-gates_length [] = refl
-gates_length (g ∷ gates) = omega (arith, gates_length gates)
-
-pub gate_found : (gates : List Gate) (i : ℕ) (d : Gate) → i / 3 < length gates →
-    slice_get (flat_map gate_clauses gates) i ≡ slice_get (gate_clauses (get_or gates (i / 3) d)) (i % 3)
-gate_found [] i d below = absurd (omega (arith, below))
-gate_found (g ∷ gates) zero d below = refl
-gate_found (g ∷ gates) (suc zero) d below = refl
-gate_found (g ∷ gates) (suc (suc zero)) d below = refl
-gate_found (g ∷ gates) (suc (suc (suc i))) d below =
-    let half : suc (suc (suc i)) / 3 ≡ suc (i / 3) = omega arith in
-    let rest : suc (suc (suc i)) % 3 ≡ i % 3 = omega arith in
-    gate_found gates i d (omega (arith, below, half))
-    ∙ sym (ap (λ p. slice_get (gate_clauses (get_or (g ∷ gates) p d)) (suc (suc (suc i)) % 3)) half
-    ∙ ap (slice_get (gate_clauses (get_or gates (i / 3) d))) rest)
-
-append_left : {X : Type 0} (xs ys : List X) (i : ℕ) → i < length xs → slice_get (xs ++ ys) i ≡ slice_get xs i
-append_left [] ys i below = absurd (omega (arith, below))
-append_left (x ∷ xs) ys zero below = refl
-append_left (x ∷ xs) ys (suc i) below = append_left xs ys i (omega (arith, below))
-
-append_right : {X : Type 0} (xs ys : List X) (i : ℕ) → slice_get (xs ++ ys) (length xs + i) ≡ slice_get ys i
-append_right [] ys i = let same : 0 + i ≡ i = omega arith in ap (slice_get ys) same
-append_right (x ∷ xs) ys i =
-    let next : suc (length xs) + i ≡ suc (length xs + i) = omega arith in
-    ap (slice_get (x ∷ (xs ++ ys))) next ∙ append_right xs ys i
-
 -- the clauses of the gates stand before the others
 pub of_gates : (gates : List Gate) (others : List (List ℕ)) (i : ℕ) → i / 3 < length gates →
     slice_get (flat_map gate_clauses gates ++ others) i ≡ slice_get (flat_map gate_clauses gates) i
 of_gates gates others i below =
-    let long = gates_length gates in
-    append_left (flat_map gate_clauses gates) others i (omega (arith, long, below))
+    let long = gates_counted gates in
+    get-append_left (flat_map gate_clauses gates) others i (omega (arith, long, below))
 
 pub behind_gates : (gates : List Gate) (others : List (List ℕ)) (i : ℕ) → length gates ≤ i / 3 →
     slice_get (flat_map gate_clauses gates ++ others) i ≡ slice_get others (i - 3 * length gates)
 behind_gates gates others i behind =
-    let long = gates_length gates in
+    let long = gates_counted gates in
     let at : i ≡ length (flat_map gate_clauses gates) + (i - 3 * length gates) = omega (arith, long, behind) in
     ap (slice_get (flat_map gate_clauses gates ++ others)) at
-    ∙ append_right (flat_map gate_clauses gates) others (i - 3 * length gates)
+    ∙ get-append_right (flat_map gate_clauses gates) others (i - 3 * length gates)

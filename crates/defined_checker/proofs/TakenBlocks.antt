@@ -1,7 +1,6 @@
 -- Blocks that are taken one after the other.
-use Rattle.std.proofs.Common.{◌≡◌, ℕ, zero, suc, ◌+◌, ◌<◌, List, [], ◌∷◌, ◌++◌, drop, map, length, get_or, inl, inr, Option, None, Some, IsSome, is_some, Result, Ok, Err, refl, sym, ap, ◌∙◌, subst, arith, add-one, append_assoc, append-nil}
+use Rattle.std.proofs.Common.{◌≡◌, ℕ, zero, suc, ◌<◌, List, [], ◌∷◌, ◌++◌, map, length, get_or, inl, inr, Option, None, Some, IsSome, is_some, Result, Ok, Err, refl, sym, ap, ◌∙◌, subst, arith, append_assoc, append-nil}
 use Rattle.std.specs.List.{All, AllByRecursion}
-use Rattle.std.proofs.Math.Seq.{drop-cons}
 use Rattle.std.proofs.lemmas.List.Elements.{recursion_from_All}
 use Rattle.dq_lits.specs.Formula.{Existential, Dqbf, existential_of}
 use Rattle.dq_formula.specs.Prefix.{existential_variables}
@@ -13,11 +12,8 @@ use Rattle.cert_text.specs.Scan.{blank_lines}
 use Rattle.cert_text.specs.declared.faults.CertRefusal.{CertRefusal}
 use Rattle.defined_checker.specs.Judging.{AreJudged, IsJudged, counted, counts_of, no_counts}
 use Rattle.defined_checker.specs.Answers.{IsFaultWith}
-use Rattle.defined_checker.specs.Tallies.{AreTaken, IsTaken, IsTallied, IsTalliedWith}
+use Rattle.defined_checker.specs.Tallies.{IsTalliedWith}
 use Rattle.defined_checker.specs.declared.checks.Counts.{Counts}
-use Rattle.defined_checker.specs.declared.checks.Tally.{Tally}
-use Rattle.defined_checker.specs.declared.faults.DefStop.{DefStop}
-use Rattle.defined_checker.specs.declared.faults.DefStop.TheVariants.{Refused, Invalid, Memory}
 use Rattle.defined_checker.specs.declared.faults.DefinitionFault.{DefinitionFault}
 
 abbrev pub Read : Type 0
@@ -111,9 +107,6 @@ tallied_later f block counts others name is blocks before = record {
   counts = is ∙ ap (counted block) before.counts ∙ sym (counts_behind no_counts blocks block);
 }
 
-pub nothing_tallied : (f : Dqbf) → IsTallied f [] (record { counts = no_counts; fault = None })
-nothing_tallied f = record { judged = refl; counts = refl }
-
 pub tallied_by : (f : Dqbf) (block : DefinitionBlock) (fault : Option DefinitionFault) (counts others : Counts)
     (new : Option DefinitionFault) → IsFaultWith f block fault new → others ≡ counted block counts →
     IsTalliedWith f block (record { counts = counts; fault = fault }) (record { counts = others; fault = new })
@@ -132,16 +125,3 @@ is_existential f k named below = by f.existentials (recursion_from_All _ f.exist
     by [] all k below = absurd (omega (arith, below))
     by (y ∷ es) all zero below = ap is_some all.0
     by (y ∷ es) all (suc k) below = by es all.1 k (omega (arith, below))
-
-pub next_variable : (ys : List ℕ) (k : ℕ) → k < length ys → drop k ys ≡ get_or ys k 0 ∷ drop (k + 1) ys
-next_variable ys k below = rw (add-one) (drop-cons ys k 0 below)
-
--- the next block stops the reading
-pub stopped : (f : Dqbf) (left : LineCursor) (before : List DefinitionBlock) (y : ℕ) (ys : List ℕ) (whole : Read)
-    (old new tally : Tally) (stop : DefStop) (after : LineCursor) →
-    whole ≡ put_behind before (to_read f left (y ∷ ys)) → IsTaken f (block_to_read f left y) old (Err stop) new after →
-    AreTaken f whole (Err stop) tally after
-stopped f left before y ys whole old new tally (Refused refusal) after is taken =
-    is ∙ block_refused f left before y ys refusal taken
-stopped f left before y ys whole old new tally (Invalid fault) after is taken = taken
-stopped f left before y ys whole old new tally Memory after is taken = tt

@@ -4,6 +4,7 @@ use Rattle.std.specs.List.{Contains, position_or_len}
 use Rattle.std.proofs.lemmas.Bool.{and_from, le-leb, lt-ltb, eq-eqb, ne_eqb}
 use Rattle.std.proofs.lemmas.List.{length-map, get_or_default}
 use Rattle.std.proofs.lemmas.List.Sums.{position_or_len_is}
+use Rattle.list_laws.proofs.Members.{tested_inside}
 use Rattle.dq_lits.specs.Derivation.{ProofStep}
 use Rattle.dq_lits.specs.Formula.{Dqbf}
 use Rattle.dq_lits.specs.Literal.{Literal, positive, variable_of, is_negative}
@@ -27,7 +28,7 @@ use Rattle.defined_checker.specs.DefinitionReads.{definition_netlist, IsRead}
 use Rattle.definition_proofs.specs.Shown.{ReadsCopy, itself as reads_itself, left as reads_left, right as reads_right, TermLeafReads}
 use Rattle.cert_export.specs.CircuitPart.{aiger_literal, leaf_code, literal_code, or_zero}
 use Rattle.cert_export.specs.Renaming.{Renaming}
-use Rattle.cert_export.proofs.CircuitNumbers.{among, position_below, HasNumber, code_at}
+use Rattle.cert_export.proofs.CircuitNumbers.{position_below, HasNumber, code_at}
 use Rattle.cert_export.proofs.Codes.{half_even, half_odd}
 use Rattle.definition_export.specs.ExportedDefinition.{definition_renaming, exported_definition, exported_gates, term_gate}
 use Rattle.definition_proofs.specs.Shown.{IsDeclaredCopy, IsLeafDeclared}
@@ -120,7 +121,7 @@ module _ (f : Dqbf) (entries : List Entry) (id : ℕ) (ids : List ℕ) (y : ℕ)
   side_small l n (copy named declared_is) = let b = in_range f n d.well_formed declared_is in let c = b.1 in
       omega (arith, c)
   side_small l n (gate a b named number inside) =
-      let below = position_below (variable_of l) gates (among gates (variable_of l) inside) in
+      let below = position_below (variable_of l) gates (tested_inside gates (variable_of l) inside) in
       omega (arith, number, below)
 
   side_before : (l : Literal) (n v : ℕ) → IsTermBefore entries gates v l → IsSide l n →

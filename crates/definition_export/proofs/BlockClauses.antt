@@ -5,6 +5,8 @@ use Rattle.std.specs.Option.{option_map, option_and_then}
 use Rattle.std.proofs.lemmas.Bool.{cond-true, cond-false, lt-ltb, le-ltb}
 use Rattle.std.proofs.lemmas.List.{length-map}
 use Rattle.std.proofs.lemmas.List.Elements.{All-contains}
+use Rattle.list_laws.proofs.Members.{tested_inside}
+use Rattle.list_laws.proofs.Elements.{place_within}
 use Rattle.dq_lits.specs.Literal.{Literal, positive, negative, variable_of, is_negative, opposite, on_variable}
 use Rattle.dq_lits.specs.Derivation.{ProofStep, LiveClauses}
 use Rattle.dq_lits.specs.Formula.{Dqbf, declared, existential_of, IsWellFormed}
@@ -23,16 +25,17 @@ use Rattle.hint_log.specs.declared.origins.Origin.TheVariants.{Instance, Gate as
 use Rattle.circuit_plain.specs.declared.circuits.Gate.{Gate}
 use Rattle.cert_text.specs.DefinitionBlocks.{Definition}
 use Rattle.cert_text.specs.NegatedMatrix.{opposite_of, gate_clauses, as_literal, without_constants}
+use Rattle.cert_text.proofs.NegatedClauses.{gates_counted}
 use Rattle.defined_checker.specs.DefinitionBase.{definition_base, definition_clauses}
 use Rattle.log_laws.proofs.Found.{named_variable, numbered_among}
 use Rattle.log_laws.proofs.ReachedClauses.{name_stays}
 use Rattle.cert_export.specs.CircuitPart.{leaf_code, literal_code}
 use Rattle.cert_export.specs.Renaming.{Renaming, renamed_clause}
-use Rattle.cert_export.proofs.CircuitClauses.{behind, gates_length, gate_at, gate_codes}
-use Rattle.cert_export.proofs.CircuitNumbers.{IsPlace, position_is, among, HasNumber, code_at, clause_codes, opposite_code, opposite_number, renamed_is}
+use Rattle.cert_export.proofs.CircuitClauses.{behind, gate_at, gate_codes}
+use Rattle.cert_export.proofs.CircuitNumbers.{IsPlace, position_is, HasNumber, code_at, clause_codes, opposite_code, opposite_number, renamed_is}
 use Rattle.cert_export.proofs.Codes.{opposite_even, opposite_odd, as_even, as_odd, false_behind}
 use Rattle.cert_export.proofs.Instances.{same_on}
-use Rattle.cert_export.proofs.PairNames.{small_place, from_one}
+use Rattle.cert_export.proofs.PairNames.{from_one}
 use Rattle.definition_export.specs.ExportedDefinition.{definition_number, definition_renaming, definition_id, last_definition_id, exported_definition, exported_gates, term_gate}
 use Rattle.definition_proofs.specs.Shown.{IsDeclaredCopy, ReadDeclaredCopies, IsLeafDeclared}
 use Rattle.definition_export.specs.Exporting.{IsLeafListed, IsTermBefore}
@@ -53,7 +56,7 @@ module _ (f : Dqbf) (d : Definition) where
       let at = from_one f.matrix (suc i) clause h in
       let e : suc i - 1 ≡ i = omega arith in
       let there : slice_get f.matrix i ≡ Some clause = ap (slice_get f.matrix) (sym e) ∙ at.1 in
-      let below = small_place f.matrix i clause there in (
+      let below = place_within f.matrix i clause there in (
         cond-true (nat_lt i (length f.matrix)) (slice_get f.matrix i)
             (option_and_then without_constants (slice_get (definition_clauses d) (i - length f.matrix)))
             (lt-ltb i (length f.matrix) below) ∙ there,
@@ -142,7 +145,7 @@ module _ (f : Dqbf) (all : List Entry) (y : ℕ) (leaf : Leaf) (gates : List ℕ
         let bound = All-contains (λ c. (k : ℕ) (d : Literal) → k < length c → Contains (declared f) (variable_of
         (get_or c k d))) f.matrix h.clause well.bound among_matrix in
         let same = copied rest h.clause h.named (λ l inside.
-        among (declared f) (variable_of l) (subst (λ q. Contains (declared f) (variable_of q)) inside.2
+        tested_inside (declared f) (variable_of l) (subst (λ q. Contains (declared f) (variable_of q)) inside.2
         (bound inside.0 l inside.1))) in
         let low = at.1 in
         (at.0 ∙ ap Some (sym same), omega (arith, low))
@@ -155,7 +158,7 @@ module _ (f : Dqbf) (all : List Entry) (y : ℕ) (leaf : Leaf) (gates : List ℕ
       named = stays v (Term g.left g.right) g.named
 
       place : IsPlace gates v (position_or_len (λ x. x == v) gates + 1)
-      place = position_is gates v (among gates v inside)
+      place = position_is gates v (tested_inside gates v inside)
 
       own_number : HasNumber r (positive v)
       own_number = record {
@@ -190,7 +193,7 @@ module _ (f : Dqbf) (all : List Entry) (y : ℕ) (leaf : Leaf) (gates : List ℕ
           ≡ Some codes.0 =
           ap (λ w. slice_get (gate_clauses (term_gate r w (name_of all w))) k) place.there ∙ ap
           (λ o. slice_get (gate_clauses (term_gate r v o)) k) named ∙ codes.1 in
-          let small : k < 3 = small_place (gate_clauses (term_gate r v (Some (Term g.left g.right)))) k codes.0
+          let small : k < 3 = place_within (gate_clauses (term_gate r v (Some (Term g.left g.right)))) k codes.0
           codes.1 in
           let at = gate_at (λ w. term_gate r w (name_of all w)) gates last p k codes.0 below here in (
             ap live id ∙ behind_matrix f block (3 * p + k) ∙ ap (option_and_then without_constants) at ∙ codes.2,
@@ -262,7 +265,7 @@ module _ (f : Dqbf) (all : List Entry) (y : ℕ) (leaf : Leaf) (gates : List ℕ
         slice_get (definition_clauses block) (3 * length gates + k) ≡ Some c
     differ_at k small c at =
         let count = gate_count in
-        let long = gates_length block.gates in
+        let long = gates_counted block.gates in
         behind (flat_map gate_clauses block.gates) last (3 * length gates) k (omega (arith, long, count)) ∙ at
 
     pub differ_right : (part : ℕ) (rest : List Literal) → (part ≡ 1) ⊎ (part ≡ 2) → IsDifferRest f es y part leaf rest →

@@ -1,11 +1,10 @@
 -- Needed gates by their places: the greatest is taken out, and what its gate reads is added, until none waits.
-use Rattle.std.proofs.Common.{◌≡◌, ℕ, zero, suc, ◌+◌, ◌<◌, ◌==◌, ◌⊎◌, Bool, true, false, true≢false, cond, List, [], ◌∷◌, ◌++◌, length, get_or, slice_get, slice_index, OnOk, Result, Ok, Err, Option, None, Some, Contains, inl, inr, refl, sym, ap, ◌∙◌, subst, arith}
+use Rattle.std.proofs.Common.{◌≡◌, ℕ, zero, suc, ◌+◌, ◌<◌, ◌==◌, ◌⊎◌, Bool, true, false, true≢false, cond, List, [], ◌∷◌, ◌++◌, length, get_or, slice_get, slice_index, OnOk, Result, Ok, Err, Option, Some, Contains, inl, inr, refl, sym, ap, ◌∙◌, subst, arith}
 use Rattle.std.specs.List.{All}
 use Rattle.std.specs.List.Sorted.{IsStrictlyIncreasing}
 use Rattle.std.proofs.lemmas.Bool.{cases_Bool, eqb-true, eqb-false, eq-eqb}
 use Rattle.std.proofs.lemmas.List.{get_or_default}
-use Rattle.std.proofs.lemmas.List.Elements.{All-nil, All-push}
-use Rattle.std.proofs.lemmas.List.Quantifiers.{position-Some}
+use Rattle.std.proofs.lemmas.List.Elements.{All-push}
 use Rattle.std.proofs.lemmas.Option.{slice_get-get_or}
 use Rattle.dq_lits.specs.Literal.{Literal, variable_of}
 use Rattle.dq_lits.specs.declared.memory.Memory.{Memory}
@@ -35,14 +34,6 @@ module _ (terms : List ℕ) (variable place : ℕ) (old new : PlaceSet)
         (is_waiting old p ≡ true) ⊎ IsPlaceOf terms variable p
     by_bit p true e h = inr (at ∙ ap Some (eqb-true place p e))
     by_bit p false e h = inl h
-
-pub no_place : (terms : List ℕ) (variable : ℕ) (set : PlaceSet) → place_of terms variable ≡ None →
-    IsWithPlace terms variable set set
-no_place terms variable set none = record {
-  kept = λ p h. h;
-  there = λ p h. let both : None ≡ Some p = sym none ∙ h in cc;
-  only = λ p h. inl h;
-}
 
 -- both sides of a gate were added
 pub sides_added : (entries : List Entry) (terms : List ℕ) (place v : ℕ) (a b : Literal) (old mid new : PlaceSet) →
@@ -108,14 +99,6 @@ term_there entries terms items place names is small =
     let own : get_or terms place (get_or items place 0) ≡ get_or items place 0 =
     get_or_default terms place (get_or items place 0) 0 small ∙ at in
     names.named (get_or items place 0) (place, small, own)
-
--- a place more stays within the gates
-pub within_with : (terms : List ℕ) (variable : ℕ) (old new : PlaceSet) → IsWithPlace terms variable old new →
-    AreWithin terms old → AreWithin terms new
-within_with terms variable old new added within p h = elim (added.only p h) [
-  | inl before ↦ within p before
-  | inr is ↦ (position-Some (λ x. x == variable) terms p 0 is).0
-]
 
 -- what was taken out, least first, and what waits
 pub record IsClosing (entries : List Entry) (terms : List ℕ) (first now : PlaceSet) (up : List ℕ) : Type 0 where
@@ -211,13 +194,6 @@ pub record AreUsedSoFar (entries : List Entry) (terms ids : List ℕ) (old new :
   pub within : AreWithin terms old → AreWithin terms new
   pub kept : (p : ℕ) → is_waiting old p ≡ true → is_waiting new p ≡ true
   pub there : All (IsGateWaiting entries terms new) ids
-
-pub none_used : (entries : List Entry) (terms : List ℕ) (set : PlaceSet) → AreUsedSoFar entries terms [] set set
-none_used entries terms set = record {
-  within = λ h. h;
-  kept = λ p h. h;
-  there = All-nil (IsGateWaiting entries terms set);
-}
 
 pub one_used : (entries : List Entry) (terms ids : List ℕ) (id : ℕ) (old mid new : PlaceSet) →
     AreUsedSoFar entries terms ids old mid → (AreWithin terms mid → AreWithin terms new) →

@@ -20,6 +20,7 @@ use Rattle.hint_log.specs.declared.names.Name.TheVariants.{Term}
 use Rattle.hint_log.specs.declared.origins.Leaf.{Leaf}
 use Rattle.hint_log.specs.declared.origins.Origin.{Origin}
 use Rattle.hint_log.specs.declared.origins.Origin.TheVariants.{Instance, Gate as GateOf, Fault, Copy, Link, TermGate, Differ}
+use Rattle.hint_log.proofs.NamedEntries.{number_below}
 use Rattle.cert_text.specs.DefinitionBlocks.{Definition}
 use Rattle.circuit_plain.specs.declared.circuits.Gate.{Gate}
 use Rattle.log_laws.proofs.Found.{each_at, split_at}
@@ -28,7 +29,6 @@ use Rattle.cert_export.specs.CircuitPart.{leaf_code}
 use Rattle.cert_export.specs.Lines.{derived_ids, line_number, line_steps}
 use Rattle.cert_export.specs.Renaming.{Renaming, IsRenamingOf}
 use Rattle.cert_export.specs.Written.{CanBeWritten}
-use Rattle.cert_export.proofs.CircuitNumbers.{number_below}
 use Rattle.cert_export.proofs.ExportableCircuits.{derived_consistent}
 use Rattle.cert_export.proofs.LineCounts.{lines_few}
 use Rattle.definition_export.specs.ExportedDefinition.{definition_id, definition_renaming, exported_definition, exported_gates, last_definition_id, term_gate}

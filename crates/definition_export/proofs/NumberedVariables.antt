@@ -4,6 +4,7 @@ use Rattle.std.specs.List.{Contains, position_or_len}
 use Rattle.std.specs.Option.{option_map}
 use Rattle.std.proofs.lemmas.Bool.{eqb-true, and_from, and_parts, eq-eqb, cond-true}
 use Rattle.std.proofs.lemmas.List.Elements.{All-contains}
+use Rattle.list_laws.proofs.Members.{contains_tested}
 use Rattle.dq_lits.specs.Literal.{Literal, variable_of}
 use Rattle.dq_lits.specs.Formula.{Dqbf, declared, IsWellFormed}
 use Rattle.dq_formula.specs.Prefix.{is_declared, IsLawful}
@@ -12,23 +13,23 @@ use Rattle.hint_log.specs.Entries.{Entry, name_of}
 use Rattle.hint_log.specs.Growth.{Each}
 use Rattle.hint_log.specs.declared.names.Name.{Name}
 use Rattle.hint_log.specs.declared.names.Name.TheVariants.{Selector, Pair, Input, And, Bad, Copy as CopyOf, Term}
+use Rattle.hint_log.proofs.Lawful.{names_are_unique_lem}
 use Rattle.cert_export.specs.CircuitPart.{place_from_one}
 use Rattle.cert_export.specs.Renaming.{IsInjective}
-use Rattle.cert_export.proofs.CircuitNumbers.{IsPlace, inside_of, place_parts, place_there, HasNumber}
-use Rattle.cert_export.proofs.PairNames.{same_name}
+use Rattle.cert_export.proofs.CircuitNumbers.{IsPlace, place_parts, place_there, HasNumber}
 use Rattle.definition_export.specs.ExportedDefinition.{definition_number, definition_renaming}
 use Rattle.definition_proofs.specs.Shown.{IsDeclaredCopy}
 
 -- a declared variable's number is in range
 pub in_range : (f : Dqbf) (x : ℕ) → IsWellFormed f → is_declared f x ≡ true → (1 ≤ x) × (x ≤ f.variables)
 in_range f x well declared_is = All-contains (λ v. (1 ≤ v) × (v ≤ f.variables)) (declared f) x well.prefix.in_range
-    (inside_of (declared f) x declared_is)
+    (contains_tested (declared f) x declared_is)
 
 -- and small
 pub lawful_range : (f : Dqbf) (x : ℕ) → IsLawful f → is_declared f x ≡ true → (1 ≤ x) × (x < 2 ^ 62)
 lawful_range f x lawful declared_is =
     let r = All-contains (λ v. (1 ≤ v) × (v ≤ f.variables)) (declared f) x lawful.prefix.in_range
-    (inside_of (declared f) x declared_is) in
+    (contains_tested (declared f) x declared_is) in
     let one = r.0 in
     let low = r.1 in
     let few : f.variables ≤ 1000000 = lawful.few_variables in
@@ -87,7 +88,7 @@ module _ (f : Dqbf) (gates : List ℕ) where
         sym p.there ∙ ap (λ k. get_or gates k 0) same ∙ q.there
 
     by_cases : (v w x : ℕ) → IsNumbered v (name_of entries v) x → IsNumbered w (name_of entries w) x → v ≡ w
-    by_cases v w x (inl c) (inl d) = same_name entries v w (CopyOf 1 x) lawful c.0 d.0
+    by_cases v w x (inl c) (inl d) = names_are_unique_lem entries v w (CopyOf 1 x) lawful c.0 d.0
     by_cases v w x (inl c) (inr g) =
         let r = in_range f x well c.1 in let low = r.1 in let n = g.1.number in let is = g.2 in
         absurd (omega (arith, low, n, is))

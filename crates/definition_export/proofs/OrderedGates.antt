@@ -4,14 +4,17 @@ use Rattle.std.specs.List.{All, AllPairs, Contains, position_or_len}
 use Rattle.std.specs.Option.{option_and_then}
 use Rattle.std.specs.List.Sorted.{IsStrictlyIncreasing}
 use Rattle.std.proofs.lemmas.Bool.{eq-eqb, ne_eqb, eqb-true, eqb-false, ltb-true, ltb-false}
-use Rattle.std.proofs.lemmas.List.{length-map, get_or_default, length-take, get_or-take, map-append, take_more}
+use Rattle.std.proofs.lemmas.List.{length-map, get_or_default, get_or-take, map-append, take_more}
 use Rattle.std.proofs.lemmas.List.Kept.{AllPairs-from_increasing}
 use Rattle.std.proofs.lemmas.List.Sums.{position_or_len_is, passes_at_first}
 use Rattle.std.proofs.lemmas.List.Elements.{All-contains, Contains-append_right}
 use Rattle.std.proofs.lemmas.Option.{slice_get-get_or, slice_get_within, get_or_from_slice_get, slice_get-map}
+use Rattle.list_laws.proofs.Members.{tested_inside}
+use Rattle.list_laws.proofs.Sequences.{take-few}
 use Rattle.dq_lits.specs.Literal.{Literal, variable_of}
 use Rattle.dq_lits.specs.declared.memory.Memory.{Memory}
 use Rattle.dq_lits.specs.Formula.{Dqbf, Existential, declared, existential_of}
+use Rattle.dq_lits.proofs.FormulaVariables.{find_sound}
 use Rattle.dq_formula.specs.Prefix.{is_declared}
 use Rattle.hint_log.specs.Entries.{Entry, Given, count, has_id, name_of, numbered, origin_at, origin_of}
 use Rattle.hint_log.specs.Reached.{Reaches, AreReached}
@@ -19,9 +22,8 @@ use Rattle.hint_log.specs.declared.names.Name.TheVariants.{Term}
 use Rattle.hint_log.specs.declared.origins.Leaf.{Leaf}
 use Rattle.hint_log.specs.declared.origins.Leaf.TheVariants.{Constant, Literal as LeafLiteral}
 use Rattle.hint_log.specs.declared.origins.Origin.TheVariants.{TermGate}
-use Rattle.log_laws.proofs.Found.{find_sound}
 use Rattle.number_tables.specs.Numbers.{has_number, place_of}
-use Rattle.cert_export.proofs.CircuitNumbers.{among, position_below}
+use Rattle.cert_export.proofs.CircuitNumbers.{position_below}
 use Rattle.definition_export.specs.Closing.{is_waiting, IsLeafWaiting, IsGateWaiting, AreClosed, AreTermNames, IsSidePlace}
 use Rattle.definition_export.specs.Exporting.{AreBlockGates, IsTermBefore, IsLeafListed, is_term_entry}
 use Rattle.definition_export.specs.Parts.{AreNamedTerms}
@@ -36,7 +38,7 @@ existential_declared f y there = by_option (existential_of f y) refl there where
   by_option None is h = cc
   by_option (Some e) is h =
       let found = find_sound y f.existentials e is in
-      among (declared f) y (Contains-append_right f.universals (map (λ x. x.variable) f.existentials) y
+      tested_inside (declared f) y (Contains-append_right f.universals (map (λ x. x.variable) f.existentials) y
       (of_map f.existentials e y found.0 found.1)) where
         of_map : (ys : List Existential) (e : Existential) (v : ℕ) → Contains ys e → e.variable ≡ v →
             Contains (map (λ x. x.variable) ys) v
@@ -50,7 +52,7 @@ existential_declared f y there = by_option (existential_of f y) refl there where
 pub listed_before : (xs : List ℕ) (v w : ℕ) → Contains xs v →
     position_or_len (λ x. x == w) xs < position_or_len (λ x. x == v) xs → Contains xs w
 listed_before xs v w inside before =
-    let top = position_below v xs (among xs v inside) in
+    let top = position_below v xs (tested_inside xs v inside) in
     let below : position_or_len (λ x. x == w) xs < length xs = omega (arith, before, top) in
     (position_or_len (λ x. x == w) xs, below, eqb-true _ w (passes_at_first (λ x. x == w) xs w below))
 
@@ -157,7 +159,7 @@ module _ (entries : List Entry) (terms : List ℕ) (up : List ℕ) (names : AreT
   pub listed_gate : (v : ℕ) → Contains terms v → ((q : ℕ) → place_of terms v ≡ Some q → Contains up q) →
       Contains gates v
   listed_gate v inside listed =
-      let p = has_place terms v (among terms v inside) in
+      let p = has_place terms v (tested_inside terms v inside) in
       inside_of_at v (at_place_of v p.0 p.1 (listed p.0 p.1))
 
   pub gates_named : (v : ℕ) → Contains gates v → (a : Literal) × (b : Literal) × (name_of entries v ≡ Some (Term a b))
@@ -176,7 +178,7 @@ module _ (entries : List Entry) (terms : List ℕ) (up : List ℕ) (names : AreT
         let here = at_of v inside in
         let p = slice_index up here.index in
         let small = place_within here.index here.below in
-        let q = has_place terms (variable_of l) (among terms (variable_of l) (names.there (variable_of l) x y side)) in
+        let q = has_place terms (variable_of l) (tested_inside terms (variable_of l) (names.there (variable_of l) x y side)) in
         let place : IsSidePlace entries terms p q.0 = record {
           variable = v;
           left = a;
@@ -201,9 +203,6 @@ module _ (entries : List Entry) (terms : List ℕ) (up : List ℕ) (names : AreT
         IsTermBefore entries gates v a × IsTermBefore entries gates v b
     gates_in_order v a b inside named = (before v a b a inside named (inl refl), before v a b b inside named (inr refl))
 
-length-take_few : (i : ℕ) (xs : List ℕ) → length (take i xs) ≤ i
-length-take_few i xs = let long = length-take i xs in omega (arith, long)
-
 -- gates that are listed one after the other
 pub not_listed : (terms items up : List ℕ) (i v : ℕ) → AllPairs (λ v w. v ≡ w → ⊥) terms → IsStrictlyIncreasing up →
     ((p : ℕ) → Contains up p → p < length terms) → items ≡ terms → i < length up → v ≡ get_or items (get_or up i 0) 0 →
@@ -212,7 +211,7 @@ not_listed terms items up i v distinct rising within is below v_is inside =
     let long = length-map (take i up) (slice_index terms) in
     let small = inside.1 in
     let k = inside.0 in
-    let low : k < i = let few = length-take_few i up in omega (arith, small, long, few) in
+    let low : k < i = let few = take-few i up in omega (arith, small, long, few) in
     let here : get_or (map (slice_index terms) (take i up)) k v ≡ slice_index terms (get_or (take i up) k 0) =
     picked (slice_index terms) (take i up) k v (omega (arith, small, long)) in
     let same : get_or (take i up) k 0 ≡ get_or up k 0 = get_or-take i up k 0 low in

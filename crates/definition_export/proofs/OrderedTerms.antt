@@ -1,10 +1,12 @@
 -- The gates over first copies in the order of naming: each once, and behind those that it reads.
-use Rattle.std.proofs.Common.{◌≡◌, ◌≢◌, ℕ, zero, suc, ◌+◌, ◌≤◌, ◌<◌, ◌==◌, ◌⊎◌, inl, inr, Bool, true, false, cond, List, [], ◌∷◌, ◌++◌, length, length-append, get_or, slice_get, Option, None, Some, IsSome, is_some, refl, sym, ◌∙◌, ap, subst, arith}
+use Rattle.std.proofs.Common.{◌≡◌, ◌≢◌, ℕ, ◌+◌, ◌≤◌, ◌<◌, ◌==◌, ◌⊎◌, inl, inr, Bool, true, false, cond, List, [], ◌∷◌, ◌++◌, length, length-append, get_or, slice_get, Option, None, Some, IsSome, is_some, refl, sym, ◌∙◌, ap, subst, arith}
 use Rattle.std.specs.List.{AllPairs, Contains}
 use Rattle.std.proofs.lemmas.Bool.{eqb-true, eq-eqb, cond-true, cond-false}
 use Rattle.std.proofs.lemmas.List.Quantifiers.{all_pairs_push, position-Some}
 use Rattle.std.proofs.lemmas.List.Elements.{Contains-append_left, Contains-push}
 use Rattle.std.proofs.lemmas.Option.{slice_get-get_or, slice_get_within, get_or_from_slice_get}
+use Rattle.list_laws.proofs.Members.{contains_tested, last_or_inside}
+use Rattle.list_laws.proofs.Elements.{last_or_before}
 use Rattle.dq_lits.specs.Literal.{Literal, variable_of}
 use Rattle.hint_log.specs.Conditions.{is_term_name, HasSides, MayFollow}
 use Rattle.hint_log.specs.Entries.{Entry, Named, Given, Learned, Answer, Round, Begun, count, name_of, names_of}
@@ -13,8 +15,6 @@ use Rattle.hint_log.specs.declared.names.Name.{Name}
 use Rattle.hint_log.specs.declared.names.Name.TheVariants.{Selector, Pair, Input, And, Bad, Copy as CopyOf, Term}
 use Rattle.log_laws.proofs.ReachedClauses.{name_stays}
 use Rattle.number_tables.specs.Numbers.{has_number, place_of, with_number}
-use Rattle.cert_export.proofs.CircuitNumbers.{among, inside_of}
-use Rattle.cert_export.proofs.GivenNames.{Contains-append_either}
 use Rattle.definition_export.specs.Closing.{IsSidePlace, AreTermNames}
 use Rattle.definition_export.specs.Exporting.{is_term_entry}
 use Rattle.definition_export.specs.TermOrder.{with_term, with_terms}
@@ -60,23 +60,9 @@ next old u (CopyOf side x) new = other refl (λ y z e. cc)
 abbrev IsTermName : List Entry → ℕ → Type 0
 IsTermName es v = (a : Literal) × (b : Literal) × (name_of es v ≡ Some (Term a b))
 
--- what stands in a list with one element more
-snoc_at : {X : Type 0} (xs : List X) (y : X) (p : ℕ) (v : X) → slice_get (xs ++ y ∷ []) p ≡ Some v →
-    (slice_get xs p ≡ Some v) ⊎ ((p ≡ length xs) × (y ≡ v))
-snoc_at [] y zero v h = let same : y ≡ v = cc in inr (refl, same)
-snoc_at [] y (suc p) v h = cc
-snoc_at (x ∷ xs) y zero v h = inl h
-snoc_at (x ∷ xs) y (suc p) v h = elim (snoc_at xs y p v h) [
-  | inl before ↦ inl before
-  | inr here ↦ inr (ap suc here.0, here.1)
-]
-
 at_inside : (xs : List ℕ) (p v : ℕ) → slice_get xs p ≡ Some v → Contains xs v
 at_inside xs p v h =
     (p, slice_get_within xs p v h, get_or_from_slice_get xs p v _ h)
-
-pub inside_at : (xs : List ℕ) (v : ℕ) (i : Contains xs v) → slice_get xs i.0 ≡ Some v
-inside_at xs v i = slice_get-get_or xs i.0 v i.1 ∙ ap Some i.2
 
 abbrev IsOrdered : List Entry → Type 0
 IsOrdered es = (p q v : ℕ) (a b l : Literal) → slice_get (terms_over es) p ≡ Some v →
@@ -142,7 +128,7 @@ module _ (u : ℕ) (n : Name) (es : List Entry) (lawful : Each MayFollow (Named 
   is_new : has_number old u ≡ false
   is_new = by_bit (has_number old u) refl where
     by_bit : (b : Bool) → has_number old u ≡ b → has_number old u ≡ false
-    by_bit true e = let t = h.named u (inside_of old u e) in
+    by_bit true e = let t = h.named u (contains_tested old u e) in
         let both : None ≡ Some (Term t.0 t.1) = sym lawful.0.unnamed ∙ t.2 in cc
     by_bit false e = e
 
@@ -189,7 +175,7 @@ module _ (u : ℕ) (n : Name) (es : List Entry) (lawful : Each MayFollow (Named 
 
   listed_term : (x y : Literal) → n ≡ Term x y → new ≡ old ++ u ∷ [] → IsListed (Named u n ∷ es)
   listed_term x y n_is is = record {
-    named = λ v inside. elim (Contains-append_either old u v (subst (λ xs. Contains xs v) is inside)) [
+    named = λ v inside. elim (last_or_inside old u v (subst (λ xs. Contains xs v) is inside)) [
       | inl before ↦ (let t = h.named v before in (t.0, t.1, kept_name v (Term t.0 t.1) t.2))
       | inr same ↦ (x, y, ap (name_of (Named u n ∷ es)) (sym same) ∙ own_name ∙ ap Some n_is)
     ];
@@ -214,11 +200,11 @@ module _ (u : ℕ) (n : Name) (es : List Entry) (lawful : Each MayFollow (Named 
     in_order : (p q v : ℕ) (a b l : Literal) → slice_get (old ++ u ∷ []) p ≡ Some v →
         name_of (Named u n ∷ es) v ≡ Some (Term a b) → (l ≡ a) ⊎ (l ≡ b) →
         slice_get (old ++ u ∷ []) q ≡ Some (variable_of l) → q < p
-    in_order p q v a b l at named either side = elim (snoc_at old u p v at) [
+    in_order p q v a b l at named either side = elim (last_or_before old u p v at) [
       | inl before ↦ (
           let named' = old_name v (at_inside old p v before) (Term a b) named in
           let there = side_named es v a b l lawful.1 named' either in
-          elim (snoc_at old u q (variable_of l) side) [
+          elim (last_or_before old u q (variable_of l) side) [
             | inl old_side ↦ h.ordered p q v a b l before named' either old_side
             | inr last ↦ absurd (not_named (variable_of l) there last.1)
           ])
@@ -232,7 +218,7 @@ module _ (u : ℕ) (n : Name) (es : List Entry) (lawful : Each MayFollow (Named 
             | inr right ↦ some (name_of es (variable_of l)) (ap (λ k. is_term_name (name_of es (variable_of k))) right
                 ∙ both.1)
           ] in
-          elim (snoc_at old u q (variable_of l) side) [
+          elim (last_or_before old u q (variable_of l) side) [
             | inl old_side ↦ (let below = slice_get_within old q (variable_of l) old_side in
                 let last = here.0 in omega (arith, below, last))
             | inr last ↦ absurd (not_named (variable_of l) there last.1)

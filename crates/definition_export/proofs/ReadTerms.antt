@@ -1,10 +1,10 @@
 -- Names that were read, one after the other.
-use Rattle.std.proofs.Common.{◌≡◌, ℕ, ◌+◌, ◌≤◌, ◌<◌, List, [], ◌∷◌, ◌++◌, take, length, get_or, slice_get, Some, sym, ◌∙◌, ap, subst, arith}
-use Rattle.std.proofs.lemmas.List.{take_all, take_more}
+use Rattle.std.proofs.Common.{◌≡◌, ℕ, ◌+◌, ◌<◌, List, [], ◌∷◌, ◌++◌, take, get_or, slice_get, Some, sym, ◌∙◌, ap, subst, arith}
+use Rattle.std.proofs.lemmas.List.{take_more}
 use Rattle.std.proofs.lemmas.Option.{get_or_from_slice_get, slice_get_within}
 use Rattle.hint_log.specs.Entries.{Entry, names_of}
 use Rattle.hint_log.specs.declared.names.Name.{Name}
-use Rattle.definition_export.specs.TermOrder.{with_term, with_terms, HasRead, IsTermOrder}
+use Rattle.definition_export.specs.TermOrder.{with_term, with_terms, HasRead}
 use Rattle.definition_export.specs.declared.terms.TermOrder.{TermOrder}
 use Rattle.definition_export.proofs.OrderedTerms.{with_terms_snoc}
 
@@ -33,9 +33,3 @@ one_read old new entries place named so_far at terms read =
             ∙ with_terms_snoc [] (take place names) named);
       };
     }
-
-pub all_read : (order : TermOrder) (entries : List Entry) (place : ℕ) → IsReadTo order entries place →
-    length (names_of entries) ≤ place → IsTermOrder order entries
-all_read order entries place so_far past =
-    so_far.read.terms ∙ ap (λ n. with_terms [] (take n (names_of entries))) so_far.at
-    ∙ ap (with_terms []) (take_all place (names_of entries) past)

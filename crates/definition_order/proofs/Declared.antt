@@ -1,37 +1,21 @@
 -- Existentials by their variables and by their places.
-use Rattle.std.proofs.Common.{◌≡◌, ℕ, suc, ◌+◌, ◌<◌, ◌==◌, Bool, true, false, cond, List, [], ◌∷◌, ◌++◌, map, length, get_or, slice_get, Option, None, Some, IsSome, position, refl, sym, ◌∙◌, ap, subst, inl, inr, arith, eq-eqb, length-append}
-use Rattle.std.specs.List.{All, Contains, find, position_or_len}
+use Rattle.std.proofs.Common.{◌≡◌, ℕ, ◌+◌, ◌<◌, ◌==◌, List, [], ◌++◌, map, length, get_or, slice_get, Option, None, Some, IsSome, position, refl, sym, ◌∙◌, ap, subst, inl, inr, arith, eq-eqb, length-append}
+use Rattle.std.specs.List.{All, Contains, position_or_len}
 use Rattle.std.proofs.lemmas.Bool.{cases_lt, eqb-true, ne_eqb}
 use Rattle.std.proofs.lemmas.List.{get_or-append-add, get_or-map, length-map}
 use Rattle.std.proofs.lemmas.List.Elements.{All-contains}
 use Rattle.std.proofs.lemmas.List.Quantifiers.{position-Some}
 use Rattle.std.proofs.lemmas.List.Sums.{position_or_len_is}
 use Rattle.std.proofs.lemmas.Option.{slice_get_within, get_or_from_slice_get, slice_get-get_or}
+use Rattle.list_laws.proofs.Members.{element_at}
 use Rattle.dq_lits.specs.Formula.{Existential, Dqbf, existential_of, HasLawfulPrefix}
+use Rattle.dq_lits.proofs.FormulaVariables.{find_sound}
 use Rattle.dq_formula.specs.Prefix.{IsLawful, existential_variables}
 use Rattle.dq_formula.proofs.Places.{has-contains, place-absent}
 use Rattle.dq_formula.proofs.Sorted.{place-below}
 
 abbrev pub variable : Existential → ℕ
 variable y = y.variable
-
-pub contained_at : {X : Type 0} (xs : List X) (p : ℕ) (x : X) → slice_get xs p ≡ Some x → Contains xs x
-contained_at xs p x at = (p, slice_get_within xs p x at, get_or_from_slice_get xs p x x at)
-
-pub at_contained : {X : Type 0} (xs : List X) (x : X) → Contains xs x → (p : ℕ) × (slice_get xs p ≡ Some x)
-at_contained xs x (k, below, is) = (k, slice_get-get_or xs k x below ∙ ap Some is)
-
--- what is found is an element that passes
-pub find_sound : (v : ℕ) (ys : List Existential) (y : Existential) → find (λ z. z.variable == v) ys ≡ Some y →
-    Contains ys y × (y.variable ≡ v)
-find_sound v [] y h = cc
-find_sound v (x ∷ xs) y h = by_bit (find_sound v xs y) (x.variable == v) refl h where
-  by_bit : (find (λ z. z.variable == v) xs ≡ Some y → Contains xs y × (y.variable ≡ v)) → (b : Bool) →
-      (x.variable == v) ≡ b
-      → cond b (Some x) (find (λ z. z.variable == v) xs) ≡ Some y → Contains (x ∷ xs) y × (y.variable ≡ v)
-  by_bit later true e h = let same : x ≡ y = cc in let is = eqb-true x.variable v e in
-      ((0, omega arith, same), sym (ap variable same) ∙ is)
-  by_bit later false e h = let r = later h in let b = r.0.1 in ((suc r.0.0, omega arith, r.0.2), r.1)
 
 pub some_existential : (f : Dqbf) (v : ℕ) (P : Type 0) → IsSome (existential_of f v) →
     ((y : Existential) → existential_of f v ≡ Some y → P) → P
@@ -49,7 +33,7 @@ sees_universals f lawful v y found = All-contains (λ z. All (Contains f.univers
 pub named_at : (f : Dqbf) → IsLawful f → (p : ℕ) (y : Existential) → slice_get f.existentials p ≡ Some y →
     existential_of f y.variable ≡ Some y
 named_at f lawful p y at = All-contains (λ z. existential_of f z.variable ≡ Some z) f.existentials y lawful.named
-    (contained_at f.existentials p y at)
+    (element_at f.existentials p y at)
 
 pub known_at : (f : Dqbf) → IsLawful f → (vs : List ℕ) (p : ℕ) (y : Existential) → vs ≡ existential_variables f →
     slice_get f.existentials p ≡ Some y → existential_of f (get_or vs p 0) ≡ Some y

@@ -10,12 +10,13 @@ use Rattle.std.proofs.lemmas.List.Elements.{All-nil, All-cons, All-contains, All
 use Rattle.std.proofs.lemmas.List.Kept.{IsNonDecreasingBy-filter}
 use Rattle.std.proofs.lemmas.Map.Made.{IsDistinct-from_AllPairs}
 use Rattle.dq_lits.specs.Formula.{Existential, Dqbf, existential_of, HasLawfulPrefix}
+use Rattle.dq_lits.proofs.FormulaVariables.{find_sound}
 use Rattle.dq_formula.specs.Prefix.{IsLawful, existential_variables}
 use Rattle.dq_formula.specs.Dependencies.{listed_universals}
 use Rattle.dq_formula.proofs.Places.{place, has, has-contains, contains-has, place-found, place-get_or, place-rises}
 use Rattle.dq_formula.proofs.Search.{Kept, All-kept}
 use Rattle.dq_formula.proofs.Sorted.{get_or-place, place-below}
-use Rattle.definition_order.proofs.Declared.{find_sound, none_contained}
+use Rattle.definition_order.proofs.Declared.{none_contained}
 use Rattle.definition_order.proofs.SeenUniversals.{first_within}
 
 pub universals_apart : (f : Dqbf) → HasLawfulPrefix f → AllPairs (λ v w. v ≢ w) f.universals

@@ -1,8 +1,7 @@
 -- Which universals are seen.
-use Rattle.std.proofs.Common.{◌≡◌, ℕ, ◌≤◌, ◌<◌, List, length, take, get_or, Some, IfSome, sym, ◌∙◌, subst, arith, get_or-take}
+use Rattle.std.proofs.Common.{ℕ, ◌≤◌, ◌<◌, List, length, take, get_or, sym, ◌∙◌, arith, get_or-take}
 use Rattle.std.specs.List.{All, Contains}
 use Rattle.std.proofs.lemmas.List.{length-take, get_or_default}
-use Rattle.dq_lits.specs.Formula.{Existential, Dqbf, existential_of}
 
 -- the first ones are among more first ones
 pub first_within : (us : List ℕ) (m n : ℕ) → m ≤ n → All (Contains (take n us)) (take m us)
@@ -18,8 +17,3 @@ first_within us m n few k d below =
       get_or-take n us k x more ∙ get_or_default us k x d within ∙ sym
           (get_or-take m us k d inside),
     )
-
--- the universals that are seen, by the sets
-pub seen_as : (f : Dqbf) (y : ℕ) (xs : List ℕ) → IfSome (existential_of f y) (λ z. xs ≡ z.sees) → (e : Existential) →
-    existential_of f y ≡ Some e → xs ≡ e.sees
-seen_as f y xs h e known = subst (λ o. IfSome o (λ z. xs ≡ z.sees)) known h

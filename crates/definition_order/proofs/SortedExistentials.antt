@@ -10,7 +10,7 @@ use Rattle.std.proofs.lemmas.Bool.{false≢true, cases_lt, lt-ltb}
 use Rattle.std.proofs.lemmas.Bool.Decides.{nat_tests, Decides-eqb}
 use Rattle.std.proofs.lemmas.Map.Keys.{IsDistinct-IsPermutation}
 use Rattle.std.proofs.lemmas.Map.Made.{AllPairs-from_IsDistinct, IsDistinct-from_AllPairs}
-use Rattle.dq_formula.proofs.Entries.{eqb-flip}
+use Rattle.list_laws.proofs.Numbers.{below_or_here, eqb-flip}
 use Rattle.std.proofs.lemmas.Cmp.{then_total, on_total, nat_cmp_total}
 use Rattle.std.proofs.lemmas.List.{length-map, get_or-map, length-take}
 use Rattle.std.proofs.lemmas.List.Elements.{All-map, Contains-push, Contains-append_left, Contains-append_cases}
@@ -28,9 +28,6 @@ pub record AreSharedSoFar (f : Dqbf) (ranks : List ℕ) (y : ℕ) (places : List
   pub each : (e : Existential) → existential_of f y ≡ Some e → (p : ℕ) →
       (Contains places p ↔ ((p < count) × ((z : Existential) ×
       (slice_get f.existentials p ≡ Some z) × IsShared f ranks e z)))
-
-below_or_at : (p count : ℕ) → p < count + 1 → (p < count) ⊎ (p ≡ count)
-below_or_at p count below = elim (cases_lt p count) [ inl early ↦ inl early | inr late ↦ inr (omega arith) ]
 
 module _ (f : Dqbf) (ranks : List ℕ) (y : ℕ) (places : List ℕ) (count : ℕ) (shared : Bool)
     (before : AreSharedSoFar f ranks y places count) (within : count < length f.existentials)
@@ -57,7 +54,7 @@ module _ (f : Dqbf) (ranks : List ℕ) (y : ℕ) (places : List ℕ) (count : �
 
     back : (e : Existential) → existential_of f y ≡ Some e → (p : ℕ) → (p < count + 1) × IsOne e p →
         Contains (places ++ count ∷ []) p
-    back e known p (below, one) = elim (below_or_at p count below) [
+    back e known p (below, one) = elim (below_or_here p count below) [
       | inl early ↦ Contains-append_left places (count ∷ []) p ((before.each e known p).1 (early, one))
       | inr at ↦ subst (Contains (places ++ count ∷ [])) (sym at) (Contains-push places count)
     ]
@@ -71,7 +68,7 @@ module _ (f : Dqbf) (ranks : List ℕ) (y : ℕ) (places : List ℕ) (count : �
     );
   } where
     back : (e : Existential) → existential_of f y ≡ Some e → (p : ℕ) → (p < count + 1) × IsOne e p → Contains places p
-    back e known p (below, (z, at, is)) = elim (below_or_at p count below) [
+    back e known p (below, (z, at, is)) = elim (below_or_here p count below) [
       | inl early ↦ (before.each e known p).1 (early, (z, at, is))
       | inr same ↦ absurd (false≢true (sym isnt ∙ (tells e z known
           (subst (λ q. slice_get f.existentials q ≡ Some z) same at)).1 is))

@@ -7,14 +7,16 @@ use Rattle.std.specs.declared.cmp.Ordering.TheVariants.{Less, Equal, Greater}
 use Rattle.std.proofs.lemmas.Bool.{cases_lt, cases_eq, lt-ltb, le-ltb, ne_eqb}
 use Rattle.std.proofs.lemmas.List.{get_or_default}
 use Rattle.std.proofs.lemmas.Option.{slice_get-get_or, slice_get_within, get_or_from_slice_get}
+use Rattle.list_laws.proofs.Options.{some_is}
 use Rattle.dq_lits.specs.Literal.{Literal, positive}
 use Rattle.dq_lits.specs.Formula.{Dqbf}
 use Rattle.aig_graph.specs.declared.nodes.Node.{Node}
-use Rattle.aig_graph.specs.declared.nodes.Node.TheVariants.{Constant, Input, Gate}
+use Rattle.aig_graph.specs.declared.nodes.Node.TheVariants.{Gate}
 use Rattle.aig_graph.specs.declared.nodes.Look.TheVariants.{Gate as LookGate}
-use Rattle.aig_graph.specs.Graph.{AigGraph, IsEarlierNode, IsGraph, IsGateLook, AreSides}
-use Rattle.aig_graph.specs.Putting.{gate_of, AreConeGates}
+use Rattle.aig_graph.specs.Graph.{AigGraph, IsGraph, IsGateLook, AreSides}
+use Rattle.aig_graph.specs.Putting.{AreConeGates}
 use Rattle.aig_graph.proofs.Numbered.{sides_are}
+use Rattle.aig_graph.proofs.GatheredCones.{gate_earlier}
 use Rattle.hint_log.specs.Entries.{Entry, ProofLog, name_of}
 use Rattle.hint_log.specs.declared.names.Name.TheVariants.{Term}
 use Rattle.log_laws.proofs.Kept.{NamesStay}
@@ -23,11 +25,8 @@ use Rattle.definition_proofs.specs.Terms.{AreTerms, GrewByProof}
 use Rattle.definition_proofs.specs.Leaves.{StandsFor, gate, HasLiteral, IsKnown, AreSidesKnown, HasGate}
 use Rattle.definition_proofs.specs.Shown.{ReadDeclaredCopies}
 use Rattle.definition_proofs.specs.declared.terms.Terms.{Terms}
-use Rattle.definition_proofs.proofs.GrownProofs.{no_formula, names_stay, proof_same, proof_then}
+use Rattle.definition_proofs.proofs.GrownProofs.{no_formula, names_stay, proof_then}
 use Rattle.definition_proofs.proofs.NodeLiterals.{stands_still}
-
-some_is : {X : Type 0} {x y : X} → Some x ≡ Some y → x ≡ y
-some_is e = cc
 
 -- a literal that is known is found, and what is found stands for the gate
 module _ (f : Dqbf) (graph : AigGraph) (es : List Entry) (literals : BTreeMap ℕ Literal) where
@@ -71,11 +70,6 @@ module _ (f : Dqbf) (graph : AigGraph) (es : List Entry) (literals : BTreeMap �
         (stands_still f graph es new stay look.sides.left a (subst (λ k. StandsFor f graph es k a) left_is on_left))
         (stands_still f graph es new stay look.sides.right b (subst (λ k. StandsFor f graph es k b) right_is on_right))
         named.2)
-
-gate_below : (inputs count g : ℕ) (n : Node) → IsEarlierNode inputs count n → gate_of n ≡ Some g → g < count
-gate_below inputs count g (Constant b) earlier is = cc
-gate_below inputs count g (Input i negated) earlier is = cc
-gate_below inputs count g (Gate h negated) earlier is = let same = some_is is in omega (arith, same, earlier)
 
 -- the gates from a place on have their literals
 pub record AreLiteralsFrom (f : Dqbf) (graph : AigGraph) (gates : List ℕ) (first : Terms) (old : ProofLog)
@@ -123,8 +117,8 @@ module _ (f : Dqbf) (graph : AigGraph) (node : Node) (gates : List ℕ) (first :
   sides_known s there =
       let sides : AreSides graph.inputs g s = sides_are graph.inputs graph.gates g s lawful.gates there in
       let closed = cone.closed g s (at, slice_get_within gates at g here, at_here g) there in (
-        (λ h is. earlier_known h (closed.0 h is) (gate_below graph.inputs g h s.left sides.left is)),
-        (λ h is. earlier_known h (closed.1 h is) (gate_below graph.inputs g h s.right sides.right is)),
+        (λ h is. earlier_known h (closed.0 h is) (gate_earlier graph.inputs g h s.left sides.left is)),
+        (λ h is. earlier_known h (closed.1 h is) (gate_earlier graph.inputs g h s.right sides.right is)),
       )
 
   module _ (next : Terms) (new : ProofLog) (grew : (h : Dqbf) (y : ℕ) → GrewByProof h (group_variable terms.group) y log
@@ -178,19 +172,6 @@ module _ (f : Dqbf) (graph : AigGraph) (node : Node) (gates : List ℕ) (first :
             found = updates.2 h (apart h (others k h later there)) ∙ before.found;
             stands = before.stands;
           }
-
--- before the first, and behind the last
-pub no_literals : (f : Dqbf) (graph : AigGraph) (gates : List ℕ) (terms : Terms) (log : ProofLog)
-    (literals : BTreeMap ℕ Literal) (at : ℕ) → at ≡ length gates → AreTerms terms log.entries →
-    AreLiteralsFrom f graph gates terms log terms log literals at
-no_literals f graph gates terms log literals at all known = record {
-  grew = λ h y. proof_same h (group_variable terms.group) y log log refl;
-  group = refl;
-  terms_known = known;
-  sides = λ before. before;
-  within = omega (arith, all);
-  each = λ k g past there. (let below = slice_get_within gates k g there in absurd (omega (arith, below, past, all)));
-}
 
 pub node_known : (f : Dqbf) (graph : AigGraph) (node : Node) (gates : List ℕ) (first : Terms) (old : ProofLog)
     (terms : Terms) (log : ProofLog) (literals : BTreeMap ℕ Literal) (at : ℕ) → at ≡ 0 →

@@ -5,6 +5,7 @@ use Rattle.std.proofs.lemmas.Bool.{eq-eqb}
 use Rattle.std.proofs.lemmas.List.Folds.{list_any_at}
 use Rattle.dq_lits.specs.Literal.{Literal, positive, variable_of}
 use Rattle.dq_lits.specs.Formula.{Dqbf, declared}
+use Rattle.dq_lits.proofs.SignedLiterals.{opposite_variable}
 use Rattle.dq_formula.specs.Prefix.{is_declared}
 use Rattle.aig_graph.specs.declared.nodes.Node.{Node}
 use Rattle.aig_graph.specs.declared.nodes.Node.TheVariants.{Constant, Input, Gate}
@@ -20,7 +21,6 @@ use Rattle.definition_proofs.specs.Differing.{LeavesTerms}
 use Rattle.definition_proofs.specs.Leaves.{StandsFor, IsLeafFor, input, gate, not_input, not_gate}
 use Rattle.definition_proofs.specs.Shown.{IsDeclaredCopy, ReadDeclaredCopies, IsLeafDeclared}
 use Rattle.definition_proofs.specs.Terms.{HasNoTerms}
-use Rattle.definition_proofs.proofs.NodeLiterals.{opposite_variable}
 
 input_declared : (f : Dqbf) (i : ℕ) → i < length (declared f) → is_declared f (input_variable f i) ≡ true
 input_declared f i within =

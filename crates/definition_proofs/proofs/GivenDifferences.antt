@@ -3,6 +3,7 @@ use Rattle.std.proofs.Common.{◌≡◌, ◌≢◌, ◌⊎◌, ℕ, true, false,
 use Rattle.std.specs.List.{Contains}
 use Rattle.std.specs.Option.{option_map}
 use Rattle.std.proofs.lemmas.Bool.{eq-eqb}
+use Rattle.list_laws.proofs.Members.{contains_later, contains_cases}
 use Rattle.dq_lits.specs.Literal.{Literal, negative, variable_of}
 use Rattle.dq_lits.specs.Formula.{Dqbf}
 use Rattle.hint_log.specs.Conditions.{AreLogged, is_term_name}
@@ -22,7 +23,6 @@ use Rattle.oracle.specs.declared.groups.Group.{Group}
 use Rattle.padoa_definitions.specs.Copies.{group_variable}
 use Rattle.padoa_definitions.specs.Growing.{HasFewFaults}
 use Rattle.padoa_definitions.proofs.GivenClauses.{in_by, in_same, in_then}
-use Rattle.padoa_definitions.proofs.KeptCopies.{contains_later, contains_cases}
 use Rattle.definition_proofs.specs.Terms.{is_proof_origin, GrewByProof}
 use Rattle.definition_proofs.specs.Differing.{differing, IsPut, IsDifferenceOf, IsDifference, IsExistential, AreUndiffered, HasDifferenceAlone, LeavesTerms, AreDiffering}
 use Rattle.definition_proofs.specs.declared.differing.Difference.{Difference}

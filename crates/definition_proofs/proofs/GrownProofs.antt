@@ -2,6 +2,7 @@
 use Rattle.std.proofs.Common.{◌≡◌, ◌≢◌, ◌≤◌, ℕ, true, inl, inr, List, [], ◌∷◌, length, None, refl, sym, ◌∙◌, subst}
 use Rattle.std.specs.List.{All, Contains}
 use Rattle.std.proofs.lemmas.Bool.{eqb-true}
+use Rattle.list_laws.proofs.Members.{contains_cases}
 use Rattle.dq_lits.specs.Literal.{Literal}
 use Rattle.dq_lits.specs.Formula.{Dqbf}
 use Rattle.hint_log.specs.Entries.{Entry, Named, Given, ProofLog, with_entry, name_of}
@@ -12,13 +13,13 @@ use Rattle.hint_log.specs.declared.names.Name.TheVariants.{Term}
 use Rattle.hint_log.specs.declared.origins.Origin.{Origin}
 use Rattle.hint_log.specs.declared.origins.Origin.TheVariants.{Instance, Gate, Fault, Copy, Link, TermGate, Differ}
 use Rattle.log_laws.specs.Engines.{copies, IsAddedBy}
-use Rattle.log_laws.proofs.LargerLogs.{leaves_rest, grown_by, grown_by_none, grown_then}
+use Rattle.log_laws.proofs.LargerLogs.{leaves_rest, grown_by, grown_then}
 use Rattle.log_laws.proofs.Kept.{NamesStay}
 use Rattle.padoa_definitions.specs.Copies.{IsPadoa, groups_of}
 use Rattle.padoa_definitions.specs.Growing.{Gives, HasFewFaults}
 use Rattle.padoa_definitions.specs.declared.padoa.Padoa.{Padoa}
 use Rattle.padoa_definitions.proofs.GivenClauses.{unnamed_back}
-use Rattle.padoa_definitions.proofs.KeptCopies.{Keeps, IsNamed, keeps_by_engine, contains_cases}
+use Rattle.padoa_definitions.proofs.KeptCopies.{Keeps, IsNamed, keeps_by_engine}
 use Rattle.padoa_definitions.proofs.StandingCopies.{engines_leave}
 use Rattle.definition_proofs.specs.Terms.{is_term_gate, is_gate_of, is_proof_origin, GrewByProof}
 
@@ -47,12 +48,6 @@ module _ (f : Dqbf) (group y : ℕ) (old new : ProofLog) (grew : GrewByProof f g
 
   pub padoa_still : (p : Padoa) → All (λ g. g ≢ group) (groups_of p) → IsPadoa f p old.entries → IsPadoa f p new.entries
   padoa_still p apart padoa = engines_leave f p copies group true old new own_growth apart padoa
-
-pub proof_same : (f : Dqbf) (group y : ℕ) (old new : ProofLog) → new ≡ old → GrewByProof f group y old new
-proof_same f group y old new is = record {
-  grew = λ start names. grown_by_none (IsAddedBy f copies group true start) old new is;
-  givens = λ o c inside. inl (subst (λ (l : ProofLog). Contains l.entries (Given o c)) is inside);
-}
 
 pub proof_then : (f : Dqbf) (group y : ℕ) (a b c : ProofLog) → GrewByProof f group y a b → GrewByProof f group y b c →
     GrewByProof f group y a c

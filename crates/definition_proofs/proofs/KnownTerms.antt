@@ -1,28 +1,31 @@
 -- What is known of gates over first copies, with one gate more, and as others add to the log.
-use Rattle.std.proofs.Common.{◌≡◌, ◌⊎◌, ℕ, zero, suc, ◌<◌, ◌==◌, Bool, true, false, cond, inl, inr, List, [], ◌∷◌, Option, Some, None, IsSome, refl, sym, ◌∙◌, ap, subst, arith, nat_lt}
+use Rattle.std.proofs.Common.{◌≡◌, ◌⊎◌, ℕ, true, false, cond, inl, inr, List, ◌∷◌, Option, Some, None, IsSome, refl, sym, ◌∙◌, ap, subst, arith}
 use Rattle.std.proofs.Common.{BTreeMap}
 use Rattle.std.specs.List.{Contains}
 use Rattle.std.specs.BTreeMap.{get}
 use Rattle.std.specs.Ordering.{nat_cmp, ordering_then, is_eq}
 use Rattle.std.specs.declared.cmp.Ordering.{Ordering}
 use Rattle.std.specs.declared.cmp.Ordering.TheVariants.{Less, Equal, Greater}
-use Rattle.std.proofs.lemmas.Bool.{false≢true, eqb-true, eq-eqb, cases_Bool, leb-true}
+use Rattle.std.proofs.lemmas.Bool.{false≢true, eq-eqb, cases_Bool}
+use Rattle.list_laws.proofs.Numbers.{nat_cmp-same}
+use Rattle.list_laws.proofs.Members.{contains_later}
+use Rattle.list_laws.proofs.Truths.{equal_numbers}
 use Rattle.dq_lits.specs.Literal.{Literal, positive, negative}
 use Rattle.dq_lits.specs.Formula.{Dqbf}
 use Rattle.hint_log.specs.Conditions.{AreLogged}
 use Rattle.hint_log.specs.Entries.{Entry, Named, Given, ProofLog, with_entry, name_of}
-use Rattle.hint_log.specs.Growth.{Each}
 use Rattle.hint_log.specs.declared.names.Name.{Name}
 use Rattle.hint_log.specs.declared.names.Name.TheVariants.{Selector, Term}
 use Rattle.hint_log.specs.declared.origins.Origin.{Origin}
 use Rattle.hint_log.specs.declared.origins.Origin.TheVariants.{TermGate}
+use Rattle.hint_log.proofs.NamedEntries.{each_one}
 use Rattle.log_laws.proofs.Kept.{NamesStay, name_stays_by, name_cases}
 use Rattle.oracle.specs.Calls.{IsMade}
 use Rattle.padoa_definitions.specs.Copies.{IsPadoa, IsWhole, IsGroupGiven, group_variable}
 use Rattle.padoa_definitions.specs.Growing.{Gives, HasFewFaults}
 use Rattle.padoa_definitions.specs.declared.padoa.Padoa.{Padoa}
 use Rattle.padoa_definitions.proofs.GivenClauses.{fresh_group}
-use Rattle.padoa_definitions.proofs.KeptCopies.{contains_later, made_stays, keeps_entry, padoa_stays}
+use Rattle.padoa_definitions.proofs.KeptCopies.{made_stays, keeps_entry, padoa_stays}
 use Rattle.padoa_definitions.proofs.StandingCopies.{groups_named}
 use Rattle.definition_proofs.specs.Terms.{literal_number, by_both, is_gate_of, HasTermClauses, HasNoTerms, AreTerms}
 use Rattle.definition_proofs.specs.Differing.{LeavesTerms}
@@ -38,29 +41,16 @@ same_literals (positive v) (negative w) h = absurd (omega (arith, h))
 same_literals (negative v) (positive w) h = absurd (omega (arith, h))
 same_literals (negative v) (negative w) h = let e : v ≡ w = omega (arith, h) in ap negative e
 
-equal_by : (x y : ℕ) → is_eq (nat_cmp x y) ≡ true → x ≡ y
-equal_by x y h = by (nat_lt x y) (x == y) refl h where
-  by : (b d : Bool) → (x == y) ≡ d → is_eq (cond b Less (cond d Equal Greater)) ≡ true → x ≡ y
-  by true d e h = cc
-  by false true e h = eqb-true x y e
-  by false false e h = cc
-
 equal_by_both : (p q : ℕ × ℕ) → is_eq (by_both p q) ≡ true → (p.0 ≡ q.0) × (p.1 ≡ q.1)
 equal_by_both p q h = by (nat_cmp p.0 q.0) refl h where
   by : (o : Ordering) → nat_cmp p.0 q.0 ≡ o → is_eq (ordering_then o (nat_cmp p.1 q.1)) ≡ true →
       (p.0 ≡ q.0) × (p.1 ≡ q.1)
   by Less e h = cc
-  by Equal e h = (equal_by p.0 q.0 (ap is_eq e), equal_by p.1 q.1 h)
+  by Equal e h = (equal_numbers p.0 q.0 (ap is_eq e), equal_numbers p.1 q.1 h)
   by Greater e h = cc
 
-itself_by : (x : ℕ) → nat_cmp x x ≡ Equal
-itself_by x = by (nat_lt x x) refl where
-  by : (b : Bool) → nat_lt x x ≡ b → cond b Less (cond (x == x) Equal Greater) ≡ Equal
-  by true e = absurd (let below : x < x = leb-true (suc x) x e in omega (arith, below))
-  by false e = ap (λ b. cond b Equal Greater) (eq-eqb x x refl)
-
 itself_by_both : (p : ℕ × ℕ) → is_eq (by_both p p) ≡ true
-itself_by_both p = ap (λ o. is_eq (ordering_then o (nat_cmp p.1 p.1))) (itself_by p.0) ∙ ap is_eq (itself_by p.1)
+itself_by_both p = ap (λ o. is_eq (ordering_then o (nat_cmp p.1 p.1))) (nat_cmp-same p.0) ∙ ap is_eq (nat_cmp-same p.1)
 
 abbrev pub key_of : Literal → Literal → ℕ × ℕ
 key_of a b = (literal_number a, literal_number b)
@@ -95,13 +85,6 @@ none_yet t old new v a b before unnamed is i c inside =
     (subst (λ es. Contains es (Given (TermGate v i) c)) is inside))) in
     let both : None ≡ Some some.0 = sym unnamed ∙ some.1 in
     cc
-
--- a fact of each entry is one of this entry
-pub each_one : (P : List Entry → Entry → Type 0) (es : List Entry) (e : Entry) → Each P es → Contains es e →
-    (earlier : List Entry) × P earlier e
-each_one P [] e each (k, lt, at) = absurd (omega (arith, lt))
-each_one P (x ∷ es) e each (zero, lt, at) = (es, subst (P es) at each.0)
-each_one P (x ∷ es) e each (suc k, lt, at) = each_one P es e each.1 (k, omega (arith, lt), at)
 
 -- no clause was given to a group before it was made
 pub none_in_new : (es : List Entry) (g : ℕ) (o : Origin) (rest : List Literal) → AreLogged es → name_of es g ≡ None →

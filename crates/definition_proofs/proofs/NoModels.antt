@@ -2,10 +2,13 @@
 use Rattle.std.proofs.Common.{◌≡◌, ℕ, Bool, true, false, not, ◌||◌, ◌&&◌, List, [], ◌∷◌, Some, refl, sym, ◌∙◌, ap, subst}
 use Rattle.std.specs.List.{Contains}
 use Rattle.std.proofs.lemmas.List.Elements.{Contains-get_or}
+use Rattle.list_laws.proofs.Truths.{gate_bit}
 use Rattle.dq_lits.specs.Literal.{Assignment, Literal, positive, negative, variable_of, opposite, literal_true, clause_true}
 use Rattle.dq_lits.specs.Derivation.{MakesTrue}
 use Rattle.dq_lits.specs.Formula.{Dqbf, IsWellFormed, declared}
 use Rattle.dq_lits.specs.Henkin.{MatrixHolds}
+use Rattle.dq_lits.proofs.Truth.{literal_true-opposite}
+use Rattle.dq_lits.proofs.SignedLiterals.{as_positive}
 use Rattle.aig_graph.specs.declared.nodes.Node.{Node}
 use Rattle.aig_graph.specs.declared.nodes.Node.TheVariants.{Constant, Input, Gate}
 use Rattle.aig_graph.specs.Graph.{AigGraph, node_value}
@@ -25,7 +28,6 @@ use Rattle.padoa_definitions.specs.Copies.{group_variable, IsPadoa, IsWhole}
 use Rattle.oracle.specs.declared.groups.Group.{Group}
 use Rattle.padoa_definitions.specs.Dividing.{values_at}
 use Rattle.padoa_definitions.specs.declared.padoa.Padoa.{Padoa}
-use Rattle.padoa_definitions.proofs.DividedAnswers.{as_positive}
 use Rattle.padoa_definitions.proofs.FreePairs.{bits_of_values, given_id, copied_value, matrix_holds}
 use Rattle.padoa_definitions.proofs.SearchAnswers.{found_declared, found_variable}
 use Rattle.definition_proofs.specs.Differing.{part_number, differing, IsDifference, HasDifference}
@@ -34,23 +36,6 @@ use Rattle.definition_proofs.specs.Proving.{IsDefinedBy}
 use Rattle.definition_proofs.specs.Terms.{AreTerms}
 use Rattle.definition_proofs.specs.declared.differing.Difference.{Difference}
 use Rattle.definition_proofs.specs.declared.terms.Terms.{Terms}
-
--- what the clauses of a gate say
-both_sides : (v a b : Bool) → (not v || (a || false)) ≡ true → (not v || (b || false)) ≡ true →
-    (v || (not a || (not b || false))) ≡ true → v ≡ (a && b)
-both_sides true true true one two three = refl
-both_sides true true false one two three = cc
-both_sides true false b one two three = cc
-both_sides false true true one two three = cc
-both_sides false true false one two three = refl
-both_sides false false b one two three = refl
-
-negated_value : (values : Assignment) (l : Literal) → literal_true values (opposite l) ≡ not (literal_true values l)
-negated_value values (positive v) = refl
-negated_value values (negative v) = twice (values v) where
-  twice : (b : Bool) → b ≡ not (not b)
-  twice true = refl
-  twice false = refl
 
 not_both : (b : Bool) → (b || (b || false)) ≡ true → (not b || (not b || false)) ≡ true → ⊥
 not_both true one two = cc
@@ -75,7 +60,7 @@ same_breaks values copy (LeafLiteral l) same parts =
     parts true (negative copy ∷ opposite l ∷ []) refl in
     not_both b (ap (λ x. x || (b || false)) (sym same) ∙ one)
     (ap (λ x. not x || (not b || false)) (sym same) ∙ ap (λ x. not (values copy) || (x || false))
-    (sym (negated_value values l)) ∙ two)
+    (sym (literal_true-opposite values l)) ∙ two)
 
 module _ (f : Dqbf) (graph : AigGraph) (p : Padoa) (terms : Terms) (es : List Entry) (values : Assignment)
     (formula : IsWellFormed f)
@@ -123,9 +108,9 @@ module _ (f : Dqbf) (graph : AigGraph) (p : Padoa) (terms : Terms) (es : List En
       true =
       given_true (TermGate v 3) g (positive v ∷ opposite a ∷ opposite b ∷ []) terms_on
       (clauses 3 (positive v ∷ opposite a ∷ opposite b ∷ []) refl) in
-      both_sides (values v) (literal_true values a) (literal_true values b) one two
-      (ap (λ x. values v || (x || (not (literal_true values b) || false))) (sym (negated_value values a))
-      ∙ ap (λ x. values v || (literal_true values (opposite a) || (x || false))) (sym (negated_value values b)) ∙ three)
+      gate_bit (values v) (literal_true values a) (literal_true values b) one two
+      (ap (λ x. values v || (x || (not (literal_true values b) || false))) (sym (literal_true-opposite values a))
+      ∙ ap (λ x. values v || (literal_true values (opposite a) || (x || false))) (sym (literal_true-opposite values b)) ∙ three)
 
   literal_value : (n : Node) (l : Literal) → StandsFor f graph es n l →
       literal_true values l ≡ node_value graph inputs n
@@ -139,9 +124,9 @@ module _ (f : Dqbf) (graph : AigGraph) (p : Padoa) (terms : Terms) (es : List En
       ∙ ap (λ x. node_value graph inputs sides.left && x) (literal_value sides.right b on_right)
       ∙ sym (gate_value_in inputs graph.inputs graph.gates g sides are at)
   literal_value _ _ (not_input i l stands) =
-      negated_value values l ∙ ap not (literal_value (Input i false) l stands)
+      literal_true-opposite values l ∙ ap not (literal_value (Input i false) l stands)
   literal_value _ _ (not_gate g l stands) =
-      negated_value values l ∙ ap not (literal_value (Gate g false) l stands)
+      literal_true-opposite values l ∙ ap not (literal_value (Gate g false) l stands)
 
   leaf_is_value : (n : Node) (leaf : Leaf) → IsLeafFor f graph es n leaf →
       leaf_value values leaf ≡ node_value graph inputs n

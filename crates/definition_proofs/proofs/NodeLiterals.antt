@@ -1,15 +1,16 @@
 -- Literals that stand for nodes: they stay as names do, stand on first copies or gates over them, and reach what the
 -- node reads.
-use Rattle.std.proofs.Common.{◌≡◌, ◌≢◌, ◌<◌, ℕ, zero, suc, Bool, true, false, ◌⊎◌, inl, inr, List, [], ◌∷◌, ◌++◌, map, length, Some, None, slice_get, refl, sym, ◌∙◌, ap, subst, arith}
+use Rattle.std.proofs.Common.{◌≡◌, ◌<◌, ℕ, Bool, true, false, ◌⊎◌, inl, inr, List, ◌++◌, map, length, Some, slice_get, refl, sym, ◌∙◌, ap, subst, arith}
 use Rattle.std.specs.List.{Contains}
 use Rattle.std.proofs.lemmas.List.Elements.{Contains-append_left, Contains-append_right}
 use Rattle.std.proofs.lemmas.Option.{slice_get-get_or}
-use Rattle.dq_lits.specs.Literal.{Literal, positive, negative, variable_of, opposite}
+use Rattle.list_laws.proofs.Members.{contains_mapped}
+use Rattle.dq_lits.specs.Literal.{Literal, positive, variable_of, opposite}
 use Rattle.dq_lits.specs.Formula.{Dqbf, declared}
+use Rattle.dq_lits.proofs.SignedLiterals.{opposite_variable}
 use Rattle.aig_graph.specs.declared.nodes.Node.{Node}
-use Rattle.aig_graph.specs.declared.nodes.Node.TheVariants.{Constant, Input, Gate}
-use Rattle.aig_graph.specs.Graph.{AigGraph, gate_support, node_support, place_of}
-use Rattle.aig_graph.specs.Joining.{IsInner}
+use Rattle.aig_graph.specs.declared.nodes.Node.TheVariants.{Input, Gate}
+use Rattle.aig_graph.specs.Graph.{AigGraph, gate_support, node_support}
 use Rattle.aig_graph.proofs.LargerGraphs.{gate_support_in}
 use Rattle.defining_nodes.specs.Definitions.{input_variable}
 use Rattle.hint_log.specs.Conditions.{is_term_name}
@@ -35,10 +36,6 @@ stands_still f graph old new stay _ _ (not_input i l stands) =
 stands_still f graph old new stay _ _ (not_gate g l stands) =
     not_gate g l (stands_still f graph old new stay (Gate g false) l stands)
 
-pub opposite_variable : (l : Literal) → variable_of (opposite l) ≡ variable_of l
-opposite_variable (positive v) = refl
-opposite_variable (negative v) = refl
-
 copy_named : (f : Dqbf) (es : List Entry) (i : ℕ) (l : Literal) →
     name_literal es l ≡ Some (named_literal (CopyOf 1 (input_variable f i)) false) →
     name_of es (variable_of l) ≡ Some (CopyOf 1 (input_variable f i))
@@ -61,14 +58,6 @@ same_reads : (es : List Entry) (k l : Literal) (x : ℕ) → variable_of k ≡ v
 same_reads es k l x same (itself _ _ named) = itself l x (ap (name_of es) (sym same) ∙ named)
 same_reads es k l x same (left _ a b _ named reads) = left l a b x (ap (name_of es) (sym same) ∙ named) reads
 same_reads es k l x same (right _ a b _ named reads) = right l a b x (ap (name_of es) (sym same) ∙ named) reads
-
-mapped : (h : ℕ → ℕ) (xs : List ℕ) (i : ℕ) → Contains xs i → Contains (map h xs) (h i)
-mapped h [] i (k, lt, at) = absurd (omega (arith, lt))
-mapped h (x ∷ xs) i (zero, lt, at) = (0, omega arith, ap h at)
-mapped h (x ∷ xs) i (suc k, lt, at) =
-    let r = mapped h xs i (k, omega (arith, lt), at) in
-    let below = r.1 in
-    (suc r.0, omega (arith, below), r.2)
 
 abbrev IsReadFrom : Dqbf → List ℕ → ℕ → Type 0
 IsReadFrom f support x = (i : ℕ) × (x ≡ input_variable f i) × Contains support i
@@ -125,7 +114,7 @@ pub reads_support : (f : Dqbf) (graph : AigGraph) (es : List Entry) (n : Node) (
 reads_support f graph es n l stands x reads =
     let r = reads_inputs f graph es n l stands x reads in
     subst (Contains (map (input_variable f) (node_support graph n))) (sym r.1)
-    (mapped (input_variable f) (node_support graph n) r.0 r.2)
+    (contains_mapped (input_variable f) (node_support graph n) r.0 r.2)
 
 -- a copy of a declared variable stands for its input
 pub input_stands : (f : Dqbf) (graph : AigGraph) (es : List Entry) (copies : List Literal) (i : ℕ) (l : Literal) →
@@ -145,9 +134,3 @@ pub gate_signed : (f : Dqbf) (graph : AigGraph) (es : List Entry) (g : ℕ) (l :
     StandsFor f graph es (Gate g false) l → StandsFor f graph es (Gate g negated) (negated_by negated l)
 gate_signed f graph es g l false stands = stands
 gate_signed f graph es g l true stands = not_gate g l stands
-
--- a side of a gate isn't constant
-pub side_inner : (inputs : ℕ) (n : Node) → place_of inputs n ≢ None → IsInner n
-side_inner inputs (Constant b) inner = absurd (inner refl)
-side_inner inputs (Input i negated) inner = tt
-side_inner inputs (Gate g negated) inner = tt

@@ -5,6 +5,8 @@ use Rattle.std.proofs.lemmas.Bool.{eqb-true}
 use Rattle.std.proofs.lemmas.List.Elements.{All-contains, Contains-get_or, Contains-append_cases, Contains-append_left, Contains-append_right}
 use Rattle.dq_lits.specs.Literal.{Literal, negative, variable_of, literal_true}
 use Rattle.dq_lits.specs.Formula.{Dqbf, IsWellFormed, declared}
+use Rattle.dq_lits.proofs.SignedLiterals.{as_positive}
+use Rattle.dq_lits.proofs.TrueClauses.{positive_true}
 use Rattle.aig_graph.specs.declared.nodes.Node.{Node}
 use Rattle.aig_graph.specs.declared.nodes.Node.TheVariants.{Constant, Input, Gate}
 use Rattle.aig_graph.specs.Graph.{AigGraph, node_support}
@@ -18,6 +20,7 @@ use Rattle.hint_log.specs.declared.names.Name.TheVariants.{Selector, Copy as Cop
 use Rattle.hint_log.specs.declared.origins.Leaf.{Leaf}
 use Rattle.hint_log.specs.declared.origins.Origin.{Origin}
 use Rattle.hint_log.specs.declared.origins.Origin.TheVariants.{Instance, Gate as GateOrigin, Fault, Copy, Link, TermGate, Differ}
+use Rattle.hint_log.proofs.NamedEntries.{each_one}
 use Rattle.log_laws.proofs.Found.{named_variable}
 use Rattle.log_laws.proofs.Kept.{NamesStay}
 use Rattle.oracle.specs.Calls.{IsMade}
@@ -25,8 +28,7 @@ use Rattle.oracle.specs.declared.groups.Group.{Group}
 use Rattle.padoa_definitions.specs.Copies.{group_variable, groups_of, is_copy_of, IsSideGiven, IsPadoa}
 use Rattle.padoa_definitions.specs.Growing.{HasFewFaults}
 use Rattle.padoa_definitions.specs.declared.padoa.Padoa.{Padoa}
-use Rattle.padoa_definitions.proofs.DividedAnswers.{as_positive}
-use Rattle.padoa_definitions.proofs.FreePairs.{all_there, groups_on, positive_true}
+use Rattle.padoa_definitions.proofs.FreePairs.{all_there, groups_on}
 use Rattle.padoa_definitions.proofs.SearchAnswers.{padoa_learned, found_declared, found_variable}
 use Rattle.definition_proofs.specs.Differing.{IsDifferenceOf, IsDifference, IsExistential, AreUndiffered, HasDifference, HasDifferenceAlone, LeavesTerms}
 use Rattle.definition_proofs.specs.Leaves.{IsLeafFor}
@@ -39,7 +41,7 @@ use Rattle.definition_proofs.specs.declared.differing.Difference.{Difference}
 use Rattle.definition_proofs.specs.declared.terms.Terms.{Terms}
 use Rattle.definition_proofs.proofs.GivenDifferences.{difference_stays, term_leaf_stays}
 use Rattle.definition_proofs.proofs.GrownProofs.{names_stay, few_still, padoa_still, proof_then}
-use Rattle.definition_proofs.proofs.KnownTerms.{each_one, terms_stay}
+use Rattle.definition_proofs.proofs.KnownTerms.{terms_stay}
 use Rattle.definition_proofs.proofs.NodeLiterals.{stands_still, on_term, reads_support}
 use Rattle.definition_proofs.proofs.NoModels.{no_values}
 use Rattle.padoa_definitions.proofs.SameGivens.{learned_same}

@@ -1,12 +1,14 @@
 -- What a search in some groups leaves and shows.
 use Rattle.std.proofs.Common.{◌≡◌, ℕ, suc, true, inl, inr, List, [], ◌∷◌, ◌++◌, get_or, Some, refl, sym, ◌∙◌, ap, subst, arith}
 use Rattle.std.specs.List.{Contains}
-use Rattle.std.proofs.lemmas.Bool.{eq-eqb}
 use Rattle.std.proofs.lemmas.List.Elements.{All-contains, Contains-append_right}
 use Rattle.std.proofs.lemmas.List.Folds.{list_any_at}
+use Rattle.list_laws.proofs.Members.{contains_first}
 use Rattle.dq_lits.specs.Literal.{Literal, positive, negative, variable_of, opposite, same_literal}
 use Rattle.dq_lits.specs.Derivation.{holds}
 use Rattle.dq_lits.specs.Formula.{Dqbf}
+use Rattle.dq_lits.proofs.SignedLiterals.{same_literal-refl, as_positive}
+use Rattle.dq_lits.proofs.HeldLiterals.{holds_cases}
 use Rattle.hint_log.specs.Deciding.{ReachesGiven, AreNegatedSelectors}
 use Rattle.hint_log.specs.Entries.{Entry, Named, Given, Learned, Answer, Round, Begun, ProofLog, name_of}
 use Rattle.hint_log.specs.Growth.{EachOf, Grew}
@@ -21,8 +23,7 @@ use Rattle.oracle.specs.Calls.{IsMade, IsLearnedEntry, IsRefutedUnder, assumed}
 use Rattle.oracle.specs.Searched.{IsSearched}
 use Rattle.oracle.specs.declared.groups.Group.{Group}
 use Rattle.padoa_definitions.specs.Copies.{group_variable}
-use Rattle.padoa_definitions.proofs.DividedAnswers.{holds_cases, as_positive, same_variable}
-use Rattle.padoa_definitions.proofs.KeptCopies.{contains_first, contains_later, contains_cases}
+use Rattle.padoa_definitions.proofs.DividedAnswers.{same_variable}
 use Rattle.padoa_definitions.proofs.Reached.{LinesAreImplied, of_answer, undecided_answer}
 use Rattle.definition_proofs.specs.Differing.{LeavesTerms}
 use Rattle.padoa_definitions.specs.Growing.{HasSameGivens}
@@ -76,10 +77,6 @@ selector_among (g ∷ gs) l h = elim (holds_cases g.selector (assumed gs []) l h
       let below = r.1.1 in
       (r.0, (suc r.1.0, omega (arith, below), r.1.2), r.2))
 ]
-
-same_itself : (l : Literal) → same_literal l l ≡ true
-same_itself (positive v) = eq-eqb v v refl
-same_itself (negative v) = eq-eqb v v refl
 
 negated_is : (l : Literal) (v : ℕ) → opposite l ≡ positive v → l ≡ negative v
 negated_is (positive w) v is = cc
@@ -150,7 +147,7 @@ module _ (implied : LinesAreImplied) (y : ℕ) (leaf : Leaf) (active : List Grou
   selectors : AreNegatedSelectors r.before.entries r.clause
   selectors k d lt =
       let l = get_or r.clause k d in
-      let there = list_any_at (same_literal l) r.clause k d lt (same_itself l) in
+      let there = list_any_at (same_literal l) r.clause k d lt (same_literal-refl l) in
       let s = selector_among active (opposite l) (r.negated l there) in
       let made = All-contains (IsMade old.entries) active s.0 premises.made s.1 in
       let v = group_variable s.0 in

@@ -2,8 +2,10 @@
 use Rattle.std.proofs.Common.{◌≡◌, ◌⊎◌, ℕ, zero, suc, ◌+◌, ◌≤◌, ◌<◌, inl, inr, List, [], ◌∷◌, Some, refl, sym, ◌∙◌, ap, subst, arith}
 use Rattle.std.specs.List.{Contains}
 use Rattle.std.proofs.lemmas.Bool.{cases_lt, eq-eqb}
+use Rattle.list_laws.proofs.Members.{contains_later, contains_first, contains_cases}
 use Rattle.dq_lits.specs.Literal.{Literal, positive, negative, opposite}
 use Rattle.dq_lits.specs.Formula.{Dqbf}
+use Rattle.dq_lits.proofs.SignedLiterals.{negated-positive}
 use Rattle.hint_log.specs.Entries.{Entry, Given, ProofLog, with_entry, name_of}
 use Rattle.hint_log.specs.Origins.{gate_rest, IsRestOf}
 use Rattle.hint_log.specs.declared.names.Name.TheVariants.{Selector, Term}
@@ -13,8 +15,7 @@ use Rattle.oracle.specs.Calls.{IsMade}
 use Rattle.oracle.specs.declared.groups.Group.{Group}
 use Rattle.padoa_definitions.specs.Copies.{group_variable}
 use Rattle.padoa_definitions.specs.Growing.{HasFewFaults}
-use Rattle.padoa_definitions.proofs.KeptCopies.{contains_first, contains_later, contains_cases}
-use Rattle.padoa_definitions.proofs.GivenClauses.{in_by, few_more, switch_off, gives_none, gives_more}
+use Rattle.padoa_definitions.proofs.GivenClauses.{in_by, few_more, gives_none, gives_more}
 use Rattle.definition_proofs.specs.Terms.{is_gate_of, HasTermClauses, AreParts}
 
 pub no_parts : (f : Dqbf) (group v : ℕ) (a b : Literal) (log : ProofLog) → HasFewFaults log.entries →
@@ -94,7 +95,7 @@ module _ (f : Dqbf) (group : Group) (v : ℕ) (a b : Literal) (old : ProofLog) (
   put n log new o ls rest origin same is = is
       ∙ ap (λ x. with_entry log (Given x (opposite group.selector ∷ ls))) origin
       ∙ ap (λ xs. with_entry log (Given (TermGate v n) (opposite group.selector ∷ xs))) same
-      ∙ ap (λ s. with_entry log (Given (TermGate v n) (s ∷ rest))) (switch_off group.selector made.positive)
+      ∙ ap (λ s. with_entry log (Given (TermGate v n) (s ∷ rest))) (negated-positive group.selector made.positive)
 
   pub start : Parts 0 old
   start = no_parts f g v a b old few none

@@ -153,14 +153,6 @@ later_search f s place entries before = record {
 }
 
 -- the log goes on
-pub on_same : (f : Dqbf) (log : ProofLog) → IsProductiveLog f log.entries → GoesOn f log log
-on_same f log productive = record {
-  productive = productive;
-  limit = refl;
-  rounds = refl;
-  undecided = λ was. was;
-}
-
 pub on_then : (f : Dqbf) (a b c : ProofLog) → GoesOn f a b → GoesOn f b c → GoesOn f a c
 on_then f a b c first second = record {
   productive = second.productive;

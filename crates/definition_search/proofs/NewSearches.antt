@@ -6,11 +6,11 @@ use Rattle.hint_log.specs.Growth.{Grew}
 use Rattle.hint_log.specs.ProductiveLog.{IsProductiveLog}
 use Rattle.hint_log.specs.declared.names.Name.TheVariants.{Selector, Term}
 use Rattle.hint_log.specs.declared.origins.Origin.TheVariants.{TermGate, Differ}
+use Rattle.hint_log.proofs.NamedEntries.{named_contains}
 use Rattle.log_laws.specs.Engines.{copies, IsAddedBy, EnginesLeaveRest, HasNone}
 use Rattle.oracle.specs.Searched.{IsSearched}
 use Rattle.padoa_definitions.specs.Copies.{group_variable}
 use Rattle.padoa_definitions.specs.Growing.{HasCopied}
-use Rattle.padoa_definitions.proofs.MadeCopies.{named_contains}
 use Rattle.definition_export.specs.TermOrder.{HasRead}
 use Rattle.definition_proofs.specs.Differing.{AreUndiffered}
 use Rattle.definition_proofs.specs.Proving.{AreBeside}

@@ -27,10 +27,7 @@ use Rattle.definition_proofs.specs.Shown.{TermLeafReads}
 use Rattle.definition_export.specs.Exporting.{IsExportedDefinition}
 use Rattle.definition_search.specs.Texts.{AreRightBlocks}
 
--- blocks more
-pub no_blocks : (f : Dqbf) → AreRightBlocks f [] []
-no_blocks f = record { each = tt; few = tt; judged = refl }
-
+-- a block more
 pub block_more : (f : Dqbf) (ys : List ℕ) (y : ℕ) (blocks : List DefinitionBlock) (block : DefinitionBlock) →
     AreRightBlocks f ys blocks → AreRightBlocks f (y ∷ []) (block ∷ []) →
     AreRightBlocks f (ys ++ y ∷ []) (blocks ++ block ∷ [])

@@ -9,21 +9,13 @@ use Rattle.cert_text.specs.CanonicalDefinitions.{block_text, definitions_header_
 use Rattle.cert_text.specs.DefinitionBlocks.{DefinitionBlock}
 use Rattle.definition_order.proofs.Declared.{variable}
 use Rattle.definition_search.specs.Texts.{AreRightBlocks, IsTextOfDefinitions}
-use Rattle.definition_search.proofs.RightBlocks.{no_blocks, block_more}
+use Rattle.definition_search.proofs.RightBlocks.{block_more}
 
 -- the blocks of the first existentials were written
 pub record IsWritten (f : Dqbf) (place : ℕ) (text : List ℕ) : Type 0 where
   pub blocks : List DefinitionBlock
   pub right : AreRightBlocks f (take place (existential_variables f)) blocks
   pub written : text ≡ definitions_text f blocks
-
-pub none_written : (f : Dqbf) (text : List ℕ) → text ≡ definitions_header_text (length f.existentials) →
-    IsWritten f 0 text
-none_written f text is = record {
-  blocks = [];
-  right = no_blocks f;
-  written = is ∙ sym (append-nil (definitions_header_text (length f.existentials)));
-}
 
 flat_map_more : (f : Dqbf) (blocks : List DefinitionBlock) (block : DefinitionBlock) →
     flat_map (block_text f) (blocks ++ block ∷ []) ≡ flat_map (block_text f) blocks ++ block_text f block

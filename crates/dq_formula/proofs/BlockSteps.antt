@@ -1,5 +1,5 @@
 -- Steps on clauses in blocks: a new block, a clause more.
-use Rattle.std.proofs.Common.{◌≡◌, ◌≢◌, ℕ, ◌+◌, ◌≤◌, ◌<◌, false, true≢false, eqb, List, [], ◌∷◌, ◌++◌, length, map, refl, ap, sym, ◌∙◌, arith, vec_capacity, append-nil, append_assoc, length-append}
+use Rattle.std.proofs.Common.{◌≡◌, ◌≢◌, ℕ, ◌+◌, ◌≤◌, ◌<◌, false, true≢false, eqb, List, [], ◌∷◌, ◌++◌, length, map, refl, ap, sym, ◌∙◌, arith, vec_capacity, append_assoc, length-append}
 use Rattle.std.proofs.lemmas.List.{map_push, length_push}
 use Rattle.std.proofs.lemmas.Bool.{eq-eqb}
 use Rattle.dq_lits.specs.Literal.{Literal}
@@ -63,18 +63,7 @@ are_put old new clause place is arranged = record {
 pub some-left : (n : ℕ) (items : List Literal) → n ≡ length items → eqb n 0 ≡ false → items ≢ []
 some-left n items same e none = true≢false (sym (eq-eqb n 0 (same ∙ ap length none)) ∙ e)
 
--- nothing, one list of clauses behind another, and into more room
-pub put_none : (b : Blocks) → AreArranged b → ArePut b b [] 0
-put_none b arranged = record {
-  clauses = sym (append-nil (clauses_of b));
-  arranged = arranged;
-  room = λ more most before had. record {
-    places = omega (arith, had.places);
-    literals = omega (arith, had.literals);
-    starts = omega (arith, had.starts);
-  };
-}
-
+-- one list of clauses behind another, and into more room
 pub put_both : (a b c : Blocks) (xs ys : List (List Literal)) (s t : ℕ) → ArePut a b xs s → ArePut b c ys t →
     ArePut a c (xs ++ ys) (s + t)
 put_both a b c xs ys s t first second = record {

@@ -1,8 +1,9 @@
 -- Clauses in blocks.
-use Rattle.std.proofs.Common.{◌≡◌, ◌≢◌, ℕ, zero, suc, ◌+◌, ◌-◌, ◌≤◌, ◌<◌, Bool, true, false, List, [], ◌∷◌, ◌++◌, length, take, drop, get_or, refl, ap, sym, ◌∙◌, arith, cond, eqb, ◌⊎◌, inl, inr, ⊎_elim, length-append, length-drop}
+use Rattle.std.proofs.Common.{◌≡◌, ◌≢◌, ℕ, zero, suc, ◌+◌, ◌-◌, ◌≤◌, ◌<◌, Bool, true, false, List, [], ◌∷◌, ◌++◌, length, take, drop, get_or, refl, ap, sym, ◌∙◌, arith, cond, eqb, ◌⊎◌, inl, inr, ⊎_elim, length-append}
 use Rattle.std.proofs.lemmas.Bool.{cases_lt}
 use Rattle.std.proofs.lemmas.Bool.Decides.{nat_tests}
-use Rattle.std.proofs.lemmas.List.{get_or_append_left, get_or-append_right, take_all, drop_at, take-append-le, drop-append-le}
+use Rattle.std.proofs.lemmas.List.{get_or_append_left, get_or-append_right, take_all, drop_at}
+use Rattle.list_laws.proofs.Sequences.{take-inside}
 use Rattle.dq_lits.specs.Literal.{Literal}
 use Rattle.dq_formula.specs.declared.blocks.Place.{Place}
 use Rattle.dq_formula.specs.Blocks.{block_at, end_of, clause_in, clauses_at, IsNext, ArePlaces}
@@ -84,12 +85,6 @@ block_at-before fs x b l = get_or_append_left fs (x ∷ []) [] b l
 
 size : (fs : List (List Literal)) (x : List Literal) → length (fs ++ x ∷ []) ≡ length fs + 1
 size fs x = length-append fs (x ∷ [])
-
--- literals behind a clause's end
-take-inside : (s n : ℕ) (xs ys : List Literal) → s ≤ length xs → s + n ≤ length xs →
-    take n (drop s (xs ++ ys)) ≡ take n (drop s xs)
-take-inside s n xs ys a b = rw (drop-append-le s xs ys a) (let e : n ≤ length (drop s xs) =
-    omega (arith, length-drop s xs) in take-append-le n (drop s xs) ys e)
 
 -- a block that comes after p's: the clause at p stays
 later_block : (fs : List (List Literal)) (x y : List Literal) (p : Place) (later : List Place) → p.block < length fs

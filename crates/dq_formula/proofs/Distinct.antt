@@ -7,10 +7,11 @@ use Rattle.std.proofs.lemmas.Map.Keys.{apart_from_distinct}
 use Rattle.std.specs.List.{All, AllPairs, IsDistinct}
 use Rattle.std.specs.List.Sorted.{IsBinarySearchResult, IsSearchInRange}
 use Rattle.std.specs.Ordering.{nat_cmp}
+use Rattle.list_laws.proofs.Folds.{filter-shorter}
 use Rattle.dq_formula.specs.declared.dependencies.Deps.{Deps}
 use Rattle.dq_formula.specs.declared.dependencies.Deps.TheVariants.{FirstOf, Listed}
 use Rattle.dq_formula.specs.Dependencies.{dependencies, dependency_count, listed_universals, IsDependencySet}
-use Rattle.dq_formula.proofs.Places.{place, has, has-contains, flip, place-absent, place-found, place-get_or, length-filter-le}
+use Rattle.dq_formula.proofs.Places.{place, has, has-contains, flip, place-absent, place-found, place-get_or}
 use Rattle.dq_formula.proofs.Sorted.{get_or-place, place-below}
 use Rattle.dq_formula.proofs.Search.{All-kept, found}
 
@@ -84,7 +85,7 @@ length-dependencies us (Listed vs) form = refl
 
 pub dependency_count-le : (us : List ℕ) (deps : Deps) → IsDependencySet us deps → dependency_count deps ≤ length us
 dependency_count-le us (FirstOf n) form = form
-dependency_count-le us (Listed vs) form = omega (arith, ap length form, length-filter-le (has vs) us)
+dependency_count-le us (Listed vs) form = omega (arith, ap length form, filter-shorter (has vs) us)
 
 found-at : (us : List ℕ) (x i : ℕ) → position (eqb x) us ≡ Some i → (place us x ≡ i) × (has us x ≡ true)
 found-at us x i h = place-found us x i (sym (ap (λ p. position p us) (flip x)) ∙ h)

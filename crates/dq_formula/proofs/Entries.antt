@@ -1,18 +1,15 @@
 -- The existentials of a formula against the entries of the map that holds them.
-use Rattle.std.proofs.Common.{◌≡◌, ℕ, Bool, true, false, ◌||◌, List, [], ◌∷◌, map, refl, ap, sym, ◌∙◌, arith, cond, eqb, Option, None, Some, is_some}
+use Rattle.std.proofs.Common.{◌≡◌, ℕ, Bool, true, false, ◌||◌, List, [], ◌∷◌, map, refl, ap, sym, ◌∙◌, cond, eqb, Some, is_some}
 use Rattle.std.proofs.lemmas.Bool.{eqb-true}
-use Rattle.std.proofs.lemmas.Bool.Decides.{nat_tests}
 use Rattle.std.proofs.lemmas.List.Folds.{list_any-append}
 use Rattle.std.specs.List.{find, list_any}
 use Rattle.std.specs.Map.{keys_of, lookup}
 use Rattle.std.specs.Option.{option_map}
+use Rattle.list_laws.proofs.Numbers.{eqb-flip}
 use Rattle.dq_lits.specs.Formula.{Existential, Dqbf, is_universal, existential_of}
 use Rattle.dq_formula.specs.declared.dependencies.Deps.{Deps}
 use Rattle.dq_formula.specs.Layout.{existential}
 use Rattle.dq_formula.specs.Prefix.{is_declared}
-
-pub eqb-flip : (a b : ℕ) → eqb a b ≡ eqb b a
-eqb-flip a b = grind (arith, nat_tests)
 
 module _ (universals : List ℕ) where
   pub map-variable : (entries : List (ℕ × Deps)) → map (λ (y : Existential). y.variable)
@@ -49,10 +46,6 @@ pub list_any-map : {X Y : Type 0} (p : Y → Bool) (f : X → Y) (xs : List X) �
     list_any p (map f xs) ≡ list_any (λ x. p (f x)) xs
 list_any-map p f [] = refl
 list_any-map p f (x ∷ xs) = ap (λ b. p (f x) || b) (list_any-map p f xs)
-
-pub is_some-option_map : {X Y : Type 0} (f : X → Y) (o : Option X) → is_some (option_map f o) ≡ is_some o
-is_some-option_map f None = refl
-is_some-option_map f (Some x) = refl
 
 -- a variable is declared where it is a universal or an existential
 pub is_declared-parts : (f : Dqbf) (v : ℕ) → is_declared f v ≡ (is_universal f v || is_some (existential_of f v))

@@ -7,12 +7,12 @@ use Rattle.std.proofs.lemmas.List.{length-map}
 use Rattle.std.specs.List.{zip, position_or_len, IsDistinct, AllByRecursion}
 use Rattle.std.specs.Option.{IfSome}
 use Rattle.std.specs.Map.{keys_of, values_of, lookup}
+use Rattle.list_laws.proofs.Numbers.{eqb-flip}
 use Rattle.number_tables.specs.Numbers.{has_number, with_number}
 use Rattle.dq_formula.specs.declared.dependencies.Deps.{Deps}
 use Rattle.dq_formula.specs.declared.dependencies.Deps.TheVariants.{FirstOf}
 use Rattle.dq_formula.specs.Dependencies.{dependencies}
 use Rattle.dq_formula.specs.Layout.{existential, unseeing_entry}
-use Rattle.dq_formula.proofs.Entries.{eqb-flip}
 
 pub keys : (ks : List ℕ) (vs : List Deps) → length vs ≡ length ks → keys_of (zip ks vs) ≡ ks
 keys ks vs as_many = keys_of-zip ks vs as_many

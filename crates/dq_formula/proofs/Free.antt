@@ -10,10 +10,10 @@ use Rattle.std.specs.List.Sorted.{IsPermutation, IsSorted}
 use Rattle.std.specs.Ordering.{nat_cmp}
 use Rattle.std.proofs.lemmas.Bool.{eqb-true}
 use Rattle.std.proofs.lemmas.Cmp.{nat_eq_equiv}
+use Rattle.list_laws.proofs.Numbers.{eqb-flip}
 use Rattle.number_tables.specs.Numbers.{with_number}
 use Rattle.dq_lits.specs.Formula.{Dqbf}
 use Rattle.dq_formula.specs.Prefix.{occurs, is_declared, free_variables, AreUndeclaredIn}
-use Rattle.dq_formula.proofs.Entries.{eqb-flip}
 use Rattle.dq_lits.specs.Literal.{Literal, variable_of}
 use Rattle.dq_formula.proofs.Places.{has, flip, Rise, at, at-filter, ne-false}
 use Rattle.dq_formula.proofs.Sorted.{Rise-from_increasing}
@@ -77,19 +77,6 @@ none_undeclared f = record {
 occurs-push : (clauses : List (List Literal)) (c : List Literal) (v : ℕ) →
     occurs (clauses ++ c ∷ []) v ≡ (occurs clauses v || (list_any (λ l. eqb (variable_of l) v) c || false))
 occurs-push clauses c v = list_any-append (list_any (λ l. eqb (variable_of l) v)) clauses (c ∷ [])
-
-pub empty_clause_undeclared : (f : Dqbf) (clauses : List (List Literal)) (vs : List ℕ) → AreUndeclaredIn f clauses vs →
-    AreUndeclaredIn f (clauses ++ [] ∷ []) vs
-empty_clause_undeclared f clauses vs are = record {
-  distinct = are.distinct;
-  in_range = are.in_range;
-  complete = λ v. are.complete v ∙ ap (λ b. not (is_declared f v) && b)
-      (sym (occurs-push clauses [] v ∙ or-false (occurs clauses v)));
-}
-  where
-    or-false : (b : Bool) → (b || (false || false)) ≡ b
-    or-false true = refl
-    or-false false = refl
 
 -- a literal more in the last clause
 occurs-literal : (clauses : List (List Literal)) (c : List Literal) (l : Literal) (v : ℕ) →

@@ -1,10 +1,11 @@
 -- What every formula keeps, when a variable is declared or a clause is added.
-use Rattle.std.proofs.Common.{◌≡◌, ℕ, ◌+◌, ◌≤◌, ◌≢◌, Bool, true, false, ◌||◌, List, [], ◌∷◌, ◌++◌, length, map, get_or, refl, ap, sym, ◌∙◌, subst, arith, eqb, filter, true≢false, Contains, append-nil, length-append}
+use Rattle.std.proofs.Common.{◌≡◌, ℕ, ◌+◌, ◌≤◌, ◌≢◌, Bool, true, false, List, [], ◌∷◌, ◌++◌, length, map, get_or, refl, ap, sym, ◌∙◌, subst, arith, eqb, filter, true≢false, Contains, append-nil, length-append}
 use Rattle.std.proofs.lemmas.List.{take-append-le, map_push, length_push}
 use Rattle.std.proofs.lemmas.List.Elements.{Contains-get_or, All-head, All-tail, All-push, All-append, All-contains, filter-append}
 use Rattle.std.proofs.lemmas.List.Folds.{list_any-append}
 use Rattle.std.specs.List.{All, IsDistinct, list_any}
 use Rattle.std.specs.Map.{keys_of, values_of}
+use Rattle.list_laws.proofs.Truths.{neither}
 use Rattle.dq_lits.specs.Literal.{Literal, variable_of}
 use Rattle.dq_formula.specs.declared.formula.TheConstants.{MAX_VARIABLES, MAX_CLAUSES}
 use Rattle.dq_formula.specs.declared.dependencies.Deps.{Deps}
@@ -18,10 +19,6 @@ use Rattle.dq_formula.specs.Prefix.{is_declared}
 use Rattle.dq_formula.proofs.Entries.{map-variable}
 use Rattle.dq_formula.proofs.Places.{has, flip, contains-has, has-contains, ne-false}
 use Rattle.dq_formula.proofs.Search.{All-kept}
-
-neither : (a b : Bool) → (a || b) ≡ false → (a ≡ false) × (b ≡ false)
-neither true b h = absurd (true≢false h)
-neither false b h = (refl, h)
 
 -- a formula that declares nothing keeps it
 pub IsKept-nothing : (variables : ℕ) → variables ≤ MAX_VARIABLES → IsKept variables [] [] []

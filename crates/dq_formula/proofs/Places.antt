@@ -1,5 +1,5 @@
 -- Places of distinct numbers in a list, and the elements at rising places.
-use Rattle.std.proofs.Common.{◌≡◌, ℕ, suc, ◌+◌, ◌-◌, ◌≤◌, ◌<◌, ◌≢◌, Bool, true, false, not, List, [], ◌∷◌, length, map, get_or, refl, ap, sym, ◌∙◌, subst, arith, cond, eqb, None, Some, filter, Contains, true≢false, ltb, position, ⊎_elim}
+use Rattle.std.proofs.Common.{◌≡◌, ℕ, suc, ◌+◌, ◌-◌, ◌≤◌, ◌<◌, ◌≢◌, Bool, true, false, not, List, [], ◌∷◌, length, map, get_or, refl, ap, sym, ◌∙◌, subst, arith, eqb, None, Some, filter, Contains, true≢false, ltb, position, ⊎_elim}
 use Rattle.std.proofs.lemmas.Bool.{eqb-true, eq-eqb, lt-ltb, cases_lt}
 use Rattle.std.proofs.lemmas.Bool.Decides.{nat_tests}
 use Rattle.std.proofs.lemmas.List.{get_or_default}
@@ -10,7 +10,7 @@ use Rattle.std.proofs.lemmas.List.Sums.{position_or_len_is, prefix_len-le-length
 use Rattle.std.proofs.lemmas.List.Elements.{All-from_recursion}
 use Rattle.std.specs.List.{list_any, AllByRecursion, IsDistinct, position_or_len}
 use Rattle.std.specs.List.Sorted.{IsNonDecreasingBy}
-use Rattle.dq_formula.proofs.Entries.{eqb-flip}
+use Rattle.list_laws.proofs.Numbers.{eqb-flip}
 
 abbrev pub place : List ℕ → ℕ → ℕ
 place xs x = position_or_len (λ u. eqb u x) xs
@@ -137,15 +137,6 @@ at-filter (u ∷ us) low (p ∷ ps) d h = by (eqb p low) refl (at-filter us (low
         (IsDistinct-head eqb u us d) rise) in
         let kept : at us (low + 1) (p ∷ ps) ≡ filter (has (at us (low + 1) (p ∷ ps))) (u ∷ us) = rw none (later rise) in
         subst (λ vs. vs ≡ filter (has vs) (u ∷ us)) (sym shift) kept
-
-pub length-filter-le : (p : ℕ → Bool) (xs : List ℕ) → length (filter p xs) ≤ length xs
-length-filter-le p [] = omega arith
-length-filter-le p (x ∷ xs) = by (length-filter-le p xs) (p x) refl
-  where
-    by : length (filter p xs) ≤ length xs → (b : Bool) → p x ≡ b →
-        length (cond (p x) (x ∷ filter p xs) (filter p xs)) ≤ length (x ∷ xs)
-    by rest true e = rw e (omega (arith, rest))
-    by rest false e = rw e (omega (arith, rest))
 
 pub has-contains : (us : List ℕ) (x : ℕ) → Contains us x → has us x ≡ true
 has-contains us x h = list_any-from_Any (λ u. eqb u x) us (h.0, x, h.1, h.2, eq-eqb x x refl)

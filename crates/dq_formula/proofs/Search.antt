@@ -8,6 +8,7 @@ use Rattle.std.specs.List.{All, AllWithin, IsDistinct}
 use Rattle.std.specs.List.Sorted.{IsNonDecreasingBy, IsBinarySearchResult, IsSearchInRange}
 use Rattle.std.specs.Ordering.{nat_cmp, ordering_index}
 use Rattle.std.specs.declared.cmp.Ordering.TheVariants.{Less, Equal, Greater}
+use Rattle.list_laws.proofs.Numbers.{nat_cmp-same}
 use Rattle.dq_formula.proofs.Places.{place, has, has-contains, place-rises}
 use Rattle.dq_formula.proofs.Sorted.{get_or-place}
 
@@ -16,9 +17,6 @@ index-rises a b p le = grind (arith, nat_tests)
 
 same-from_equal : (a b : ℕ) → nat_cmp a b ≡ Equal → a ≡ b
 same-from_equal a b e = grind (arith, nat_tests)
-
-equal-from_same : (a : ℕ) → nat_cmp a a ≡ Equal
-equal-from_same a = grind (arith, nat_tests)
 
 -- the elements stand in the order of the list
 abbrev pub Kept : List ℕ → List ℕ → Type 0
@@ -47,7 +45,7 @@ found us vs x (Err i) distinct kept among range result =
     ((λ h. absurd (true≢false (sym h))), (λ m. absurd (no m parts)))
   where
     at-member : (m : Contains vs x) → nat_cmp (place us (get_or vs m.0 x)) (place us x) ≡ Equal
-    at-member m = rw m.2 (equal-from_same (place us x))
+    at-member m = rw m.2 (nat_cmp-same (place us x))
 
     no : Contains vs x → AllWithin (λ y. nat_cmp (place us y) (place us x) ≡ Less) vs 0 i × AllWithin
         (λ y. nat_cmp (place us y) (place us x) ≡ Greater) vs i (length vs) → ⊥

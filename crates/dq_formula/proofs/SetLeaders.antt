@@ -3,12 +3,9 @@ use Rattle.std.proofs.Common.{◌≡◌, ℕ, ◌+◌, ◌-◌, ◌<◌, true, B
 use Rattle.std.specs.List.{All}
 use Rattle.std.specs.Option.{option_map}
 use Rattle.std.proofs.lemmas.Bool.{cases_lt}
-use Rattle.std.proofs.lemmas.List.{length-map, get_or-map, get_or_append_left, get_or-append_right}
+use Rattle.std.proofs.lemmas.List.{get_or-map, get_or_append_left, get_or-append_right}
 use Rattle.std.proofs.lemmas.Option.{slice_get-get_or, get_or_from_slice_get}
 use Rattle.dq_lits.specs.Formula.{Dqbf, Existential, existential_of}
-use Rattle.std.specs.Map.{values_of}
-use Rattle.dq_formula.specs.declared.dependencies.Deps.{Deps}
-use Rattle.dq_formula.specs.declared.dependencies.Deps.TheVariants.{FirstOf}
 use Rattle.dq_formula.specs.Prefix.{existential_variables}
 use Rattle.dq_formula.specs.Sets.{IsLeader}
 
@@ -65,15 +62,3 @@ leaders_more f leaders leader each last k below = ⊎_elim
     at-end : get_or (leaders ++ leader ∷ []) (length leaders) 0 ≡ leader
     at-end = get_or-append_right leaders (leader ∷ []) (length leaders) (length leaders) 0 refl (omega arith) ∙
         (let e : length leaders - length leaders ≡ 0 = omega arith in rw e refl)
-
--- what holds of all dependency sets holds of the one at a place
-pub set_at : (P : Deps → Type 0) (entries : List (ℕ × Deps)) (place : ℕ) (entry : ℕ × Deps) →
-    slice_get entries place ≡ Some entry
-    → place < length entries → All P (values_of entries) → P entry.1
-set_at P entries place entry is below all =
-    let none : ℕ × Deps = (0, FirstOf 0) in
-    let size = length-map entries (λ (e : ℕ × Deps). e.1) in
-    subst P
-    (get_or-map (λ (e : ℕ × Deps). e.1) entries place none (FirstOf 0) below ∙ ap (λ (e : ℕ × Deps). e.1)
-    (get_or_from_slice_get entries place entry none is))
-    (all place (FirstOf 0) (omega (arith, size, below)))

@@ -1,11 +1,10 @@
 -- Places of universals, and lists of numbers that ascend.
 use Rattle.std.proofs.Common.{◌≡◌, ℕ, suc, ◌+◌, ◌≤◌, ◌<◌, ◌==◌, List, ◌++◌, length, map, take, get_or, slice_get, position, Some, None, Contains, eqb, sym, ◌∙◌, ap, subst, arith, ⊎_elim}
 use Rattle.std.proofs.Math.Seq.{take-suc}
-use Rattle.std.proofs.lemmas.Bool.{eqb-true, cases_lt}
+use Rattle.std.proofs.lemmas.Bool.{cases_lt}
 use Rattle.std.proofs.lemmas.List.{get_or_default, get_or_append_left, get_or-map, length-map, length-append}
 use Rattle.std.proofs.lemmas.List.Elements.{All-push}
 use Rattle.std.proofs.lemmas.List.Kept.{IsNonDecreasingBy-filter}
-use Rattle.std.proofs.lemmas.List.Quantifiers.{position-Some}
 use Rattle.std.proofs.lemmas.Option.{slice_get-get_or, slice_get_within, get_or_from_slice_get}
 use Rattle.std.specs.List.{All, IsDistinct}
 use Rattle.std.specs.List.Sorted.{IsNonDecreasing, IsNonDecreasingBy}
@@ -14,11 +13,6 @@ use Rattle.dq_lits.specs.Formula.{Dqbf, Existential, HasLawfulPrefix}
 use Rattle.dq_formula.proofs.Places.{place, ne-false, has, place-absent, place-rises, has-contains}
 use Rattle.dq_formula.proofs.Search.{Kept}
 use Rattle.dq_formula.proofs.Sorted.{place-below}
-
-pub place_holds : (xs : List ℕ) (v i : ℕ) → position (λ u. u == v) xs ≡ Some i → slice_get xs i ≡ Some v
-place_holds xs v i found =
-    let h = position-Some (λ u. u == v) xs i 0 found in
-    slice_get-get_or xs i 0 h.0 ∙ ap Some (eqb-true (get_or xs i 0) v h.1)
 
 pub none_contained : (xs : List ℕ) (v : ℕ) → position (λ u. u == v) xs ≡ None → Contains xs v → ⊥
 none_contained xs v none among =

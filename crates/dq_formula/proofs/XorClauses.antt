@@ -5,28 +5,14 @@ use Rattle.std.proofs.lemmas.List.{map-append, length-map}
 use Rattle.std.proofs.lemmas.List.{reverse-append}
 use Rattle.std.proofs.Math.Seq.{take-suc}
 use Rattle.std.proofs.lemmas.List.Elements.{All-append, All-push, All-nil, All-cons, All-map, All-head, All-tail}
+use Rattle.list_laws.proofs.Truths.{last, or_true, or_assoc}
 use Rattle.dq_lits.specs.Literal.{Assignment, Literal, positive, negative, variable_of, opposite, literal_true, clause_true}
+use Rattle.dq_lits.proofs.Truth.{literal_true-opposite}
 use Rattle.dq_formula.specs.Xor.{differ, xor_true, parity_clauses, first_parity_clauses, xor_clauses, all_true, XorIsItsClauses}
 
 regroup : (a b c : Bool) → (a && (b && c)) ≡ ((a && b) && c)
 regroup true b c = refl
 regroup false b c = refl
-
-regroup_or : (a b c : Bool) → (a || (b || c)) ≡ ((a || b) || c)
-regroup_or true b c = refl
-regroup_or false b c = refl
-
-last : (b : Bool) → (b || false) ≡ b
-last true = refl
-last false = refl
-
-or_true : (b : Bool) → (b || true) ≡ true
-or_true true = refl
-or_true false = refl
-
-twice : (b : Bool) → not (not b) ≡ b
-twice true = refl
-twice false = refl
 
 spread : (b c d : Bool) → ((c || b) && (b || d)) ≡ (b || (c && d))
 spread true true d = refl
@@ -47,7 +33,7 @@ both_lists m (x ∷ xs) ys = ap (λ b. clause_true m x && b) (both_lists m xs ys
 longer : (m : Assignment) (clause : List Literal) (l : Literal) →
     clause_true m (clause ++ l ∷ []) ≡ (clause_true m clause || literal_true m l)
 longer m [] l = last (literal_true m l)
-longer m (k ∷ ks) l = ap (λ b. literal_true m k || b) (longer m ks l) ∙ regroup_or (literal_true m k) (clause_true m ks)
+longer m (k ∷ ks) l = ap (λ b. literal_true m k || b) (longer m ks l) ∙ or_assoc (literal_true m k) (clause_true m ks)
     (literal_true m l)
 
 with_last : (m : Assignment) (l : Literal) (b : Bool) → literal_true m l ≡ b → (clauses : List (List Literal)) →
@@ -74,10 +60,6 @@ two_parts false true false = refl
 two_parts false false true = refl
 two_parts false false false = refl
 
-negated : (m : Assignment) (l : Literal) → literal_true m (opposite l) ≡ not (literal_true m l)
-negated m (positive v) = refl
-negated m (negative v) = sym (twice (m v))
-
 parity_step : (m : Assignment) (l : Literal) (before : List Literal) (even : Bool) →
     all_true m (parity_clauses even before) ≡ same_bit even (xor_true m before) →
     all_true m (parity_clauses (not even) before) ≡ same_bit (not even) (xor_true m before) →
@@ -90,7 +72,7 @@ parity_step m l before even h k =
     (map (λ clause. clause ++ opposite l ∷ []) (parity_clauses (not even) before))
     ∙ ap₂ (λ x y. x && y)
     (with_last m l b refl (parity_clauses even before) ∙ ap (λ v. b || v) h)
-    (with_last m (opposite l) (not b) (negated m l) (parity_clauses (not even) before) ∙ ap (λ v. not b || v) k)
+    (with_last m (opposite l) (not b) (literal_true-opposite m l) (parity_clauses (not even) before) ∙ ap (λ v. not b || v) k)
     ∙ two_parts b even (xor_true m before)
 
 -- the clauses are all true exactly where the number of true literals is odd, or even

@@ -3,6 +3,7 @@ use Rattle.std.proofs.Common.{◌≡◌, ℕ, zero, suc, Bool, true, false, cond
 use Rattle.std.proofs.lemmas.List.{length-map}
 use Rattle.std.specs.List.{list_any, filter}
 use Rattle.std.proofs.lemmas.List.Folds.{list_any-append}
+use Rattle.list_laws.proofs.Truths.{or_true}
 use Rattle.dq_lits.specs.Literal.{Assignment}
 use Rattle.dq_lits.specs.Formula.{Existential}
 use Rattle.dq_lits.specs.Henkin.{same_bits, restriction, HenkinChoice, choice_value}
@@ -33,10 +34,6 @@ same_under b bits [] = refl
 same_under true bits (x ∷ xs) = ap (λ r. same_bits bits x || r) (same_under true bits xs)
 same_under false bits (x ∷ xs) = ap (λ r. same_bits bits x || r) (same_under false bits xs)
 
-or-true : (b : Bool) → (b || true) ≡ true
-or-true true = refl
-or-true false = refl
-
 all_bits-complete : (bits : List Bool) → list_any (same_bits bits) (all_bits (length bits)) ≡ true
 all_bits-complete [] = refl
 all_bits-complete (true ∷ bits) =
@@ -49,7 +46,7 @@ all_bits-complete (false ∷ bits) =
     list_any-append (same_bits (false ∷ bits)) (map (λ zs. true ∷ zs) rest) (map (λ zs. false ∷ zs) rest)
     ∙ ap (λ r. list_any (same_bits (false ∷ bits)) (map (λ zs. true ∷ zs) rest) || r)
     (same_under false bits rest ∙ all_bits-complete bits)
-    ∙ or-true _
+    ∙ or_true _
 
 list_any-cond : (p : List Bool → Bool) (b : Bool) (x : List Bool) (xs : List (List Bool)) →
     list_any p (cond b (x ∷ xs) xs) ≡ cond b (p x || list_any p xs) (list_any p xs)

@@ -75,7 +75,7 @@ derived_line_true live literals hints derived m truth =
           (no_tautology (is_tautology literals) (hint_fault live (map opposite literals) 1 hints) derived))
     ]
 
-one_of_two : (m : Assignment) (b : Bool) (clause c : List Literal) (other : Option (List Literal)) →
+pub one_of_two : (m : Assignment) (b : Bool) (clause c : List Literal) (other : Option (List Literal)) →
     clause_true m clause ≡ true →
     (other ≡ Some c → clause_true m c ≡ true) → cond b (Some clause) other ≡ Some c → clause_true m c ≡ true
 one_of_two m true clause c other here there h = let same : clause ≡ c = cc in ap (clause_true m) (sym same) ∙ here
@@ -85,16 +85,16 @@ with_clause-true : (m : Assignment) (live : LiveClauses) → MakesTrue m live �
     clause_true m clause ≡ true → MakesTrue m (with_clause live id clause)
 with_clause-true m live truth id clause here i c h = one_of_two m (i == id) clause c (live i) here (truth i c) h
 
-no_step_fault : (o : Option ℕ) (id : ℕ) (rest : Option ProofFault) → fault_of_step o id rest ≡ None →
+pub no_step_fault : (o : Option ℕ) (id : ℕ) (rest : Option ProofFault) → fault_of_step o id rest ≡ None →
     (o ≡ None) × (rest ≡ None)
 no_step_fault (Some _) id rest h = cc
 no_step_fault None id rest h = (refl, h)
 
-end_fault : (finished : Bool) → cond finished None (Some unfinished) ≡ None → finished ≡ true
+pub end_fault : (finished : Bool) → cond finished None (Some unfinished) ≡ None → finished ≡ true
 end_fault true h = refl
 end_fault false h = cc
 
-empty_is_false : (m : Assignment) (clause : List Literal) → clause_true m clause ≡ true → is_empty clause ≡ true → ⊥
+pub empty_is_false : (m : Assignment) (clause : List Literal) → clause_true m clause ≡ true → is_empty clause ≡ true → ⊥
 empty_is_false m [] truth h = cc
 empty_is_false m (l ∷ ls) truth h = cc
 

@@ -1,9 +1,13 @@
-mod Choices
-mod Derivations
-mod Followers
-mod LiftedExpansion
-mod Packed
-mod Refutations
-mod Skolem
-mod Truth
-mod WellFormed
+pub mod Choices
+pub mod Derivations
+pub mod Followers
+pub mod LiftedExpansion
+pub mod Packed
+pub mod Refutations
+pub mod Skolem
+pub mod Truth
+pub mod WellFormed
+pub mod HeldLiterals
+pub mod SignedLiterals
+pub mod FormulaVariables
+pub mod TrueClauses

@@ -1,13 +1,13 @@
 -- An unsatisfiable expansion shows that no choice solves the formula.
-use Rattle.std.proofs.Common.{◌≡◌, ℕ, suc, ◌+◌, ◌-◌, ◌*◌, ◌/◌, ◌%◌, ◌<◌, ◌≤◌, ◌==◌, Bool, true, false, not, cond, ◌||◌, inl, inr, List, [], ◌∷◌, map, length, get_or, Option, Some, None, refl, sym, ◌∙◌, ap, arith}
+use Rattle.std.proofs.Common.{◌≡◌, ◌+◌, ◌-◌, ◌/◌, ◌%◌, ◌<◌, ◌≤◌, ◌==◌, Bool, true, false, not, cond, inl, inr, List, [], ◌∷◌, map, length, get_or, Option, Some, None, refl, sym, ◌∙◌, ap}
 use Rattle.std.specs.List.{All, Contains, list_any, filter_map, cons_option, position_or_len}
 use Rattle.std.specs.Option.{option_map}
 use Rattle.std.proofs.lemmas.Bool.{true≢false, eq-eqb, or_cases, or_parts, or_left, or_right, and_from}
-use Rattle.std.proofs.lemmas.Nat.{div-mul-add}
-use Rattle.std.proofs.Math.Nat.{mod-eq-sub-div-mul}
 use Rattle.std.proofs.lemmas.List.{get_or-map, length-map}
 use Rattle.std.proofs.lemmas.List.Elements.{All-contains, All-head, All-tail, Contains-append_cases, Contains-append_right}
 use Rattle.std.proofs.lemmas.List.Folds.{list_any_at}
+use Rattle.list_laws.proofs.Numbers.{pair_variable, pair_row}
+use Rattle.list_laws.proofs.Folds.{first_holds}
 use Rattle.dq_lits.specs.Literal.{Assignment, Literal, positive, negative, variable_of, on_variable, literal_true, clause_true}
 use Rattle.dq_lits.specs.Formula.{Existential, Dqbf, declared, is_universal, existential_of, HasLawfulPrefix, IsWellFormed}
 use Rattle.dq_lits.specs.Henkin.{restriction, same_bits, HenkinChoice, choice_value, IsFalseFormula}
@@ -15,19 +15,6 @@ use Rattle.dq_lits.specs.Expansion.{row_assignment, agree_on, pair_number, pair_
 use Rattle.dq_lits.proofs.Choices.{same_bits-refl, same_bits-sound}
 use Rattle.dq_lits.proofs.Followers.{variable, find_own, existentials_once, value_or, follower, follower_keeps_universals, follower_follows}
 use Rattle.dq_lits.proofs.Truth.{literal_true-on_variable}
-
--- a pair's number gives back the place of its row and its existential
-pair_row : (place v w : ℕ) → 1 ≤ w → w ≤ v → (place * v + w - 1) / v ≡ place
-pair_row place v w low high =
-    let same : place * v + w - 1 ≡ place * v + (w - 1) = omega arith in
-    ap (λ n. n / v) same ∙ div-mul-add place v (w - 1) (omega arith)
-
-pair_variable : (place v w : ℕ) → 1 ≤ w → w ≤ v → (place * v + w - 1) % v + 1 ≡ w
-pair_variable place v w low high =
-    let row = pair_row place v w low high in
-    let is = mod-eq-sub-div-mul (place * v + w - 1) v in
-    let times : (place * v + w - 1) / v * v ≡ place * v = ap (λ n. n * v) row in
-    omega (arith, is, times)
 
 abbrev value_of : HenkinChoice → Assignment → Option Existential → Bool
 value_of choice m None = false
@@ -38,18 +25,6 @@ abbrev pair_value : Dqbf → List (List Bool) → HenkinChoice → Assignment
 pair_value f rows choice n =
     value_of choice (row_assignment f (get_or rows ((n - 1) / f.variables) []))
     (existential_of f ((n - 1) % f.variables + 1))
-
-first_or_later : (p : List Bool → Bool) (b : Bool) (row : List Bool) (rows : List (List Bool)) (n : ℕ) → p row ≡ b →
-    (b ≡ false → p (get_or rows n []) ≡ true) → p (get_or (row ∷ rows) (cond (not b) (1 + n) 0) []) ≡ true
-first_or_later p true row rows n here later = here
-first_or_later p false row rows n here later = let next : 1 + n ≡ suc n = omega arith in rw next (later refl)
-
-first_holds : (p : List Bool → Bool) (rows : List (List Bool)) → list_any p rows ≡ true →
-    p (get_or rows (position_or_len p rows) []) ≡ true
-first_holds p [] h = cc
-first_holds p (row ∷ rows) h =
-    first_or_later p (p row) row rows (position_or_len p rows) refl
-    (λ not_here. first_holds p rows (ap (λ b. b || list_any p rows) (sym not_here) ∙ h))
 
 -- the bit of a pair is what the choice gives the existential under each of the pair's rows
 pair_value-pair_number : (f : Dqbf) (rows : List (List Bool)) (choice : HenkinChoice) (row : List Bool)
@@ -70,7 +45,7 @@ pair_value-pair_number f rows choice row y own low high found =
     ∙ ap (value_of choice (row_assignment f first)) own
     ∙ ap (λ bits. list_any (same_bits bits) (choice y)) (sym alike)
 
-literal_true-agree : (m n : Assignment) (l : Literal) → m (variable_of l) ≡ n (variable_of l) →
+pub literal_true-agree : (m n : Assignment) (l : Literal) → m (variable_of l) ≡ n (variable_of l) →
     literal_true m l ≡ literal_true n l
 literal_true-agree m n (positive v) h = h
 literal_true-agree m n (negative v) h = ap not h

@@ -1,15 +1,16 @@
 -- A derivation of the empty clause from the instances shows that no choice solves the formula.
-use Rattle.std.proofs.Common.{◌≡◌, ℕ, zero, suc, ◌/◌, ◌%◌, Bool, true, List, length, Option, Some, None, refl, sym, ◌∙◌, ap, subst}
+use Rattle.std.proofs.Common.{◌≡◌, ℕ, zero, suc, ◌/◌, ◌%◌, Bool, true, List, length, Option, Some, None, sym, ◌∙◌, ap, subst}
 use Rattle.std.proofs.lemmas.Option.{slice_get_within, get_or_from_slice_get}
 use Rattle.std.specs.List.{All, slice_get}
 use Rattle.std.specs.Option.{option_and_then}
+use Rattle.list_laws.proofs.Options.{then_some}
 use Rattle.dq_lits.specs.Literal.{Assignment, Literal, clause_true}
 use Rattle.dq_lits.specs.Formula.{Dqbf}
 use Rattle.dq_lits.specs.Expansion.{instance_clause, instance_at, InstanceHolds, IsExpansionModel, IsExpansionUnsatisfiable}
 use Rattle.dq_lits.specs.Derivation.{ProofStep, MakesTrue, Derives}
 use Rattle.dq_lits.proofs.Derivations.{derivation_refutes}
 
-clause_holds : (m : Assignment) (o : Option (List Literal)) (clause : List Literal) → InstanceHolds m o →
+pub clause_holds : (m : Assignment) (o : Option (List Literal)) (clause : List Literal) → InstanceHolds m o →
     o ≡ Some clause → clause_true m clause ≡ true
 clause_holds m None clause h is = cc
 clause_holds m (Some c) clause h is = let same : c ≡ clause = cc in ap (clause_true m) (sym same) ∙ h
@@ -18,13 +19,8 @@ clause_holds m (Some c) clause h is = let same : c ≡ clause = cc in ap (clause
 found_holds : {X : Type 0} (P : X → Type 0) (xs : List X) (i : ℕ) (x : X) → All P xs → slice_get xs i ≡ Some x → P x
 found_holds P xs i x all is = subst P (get_or_from_slice_get xs i x x is) (all i x (slice_get_within xs i x is))
 
-then_some : {X Y : Type 0} (f : X → Option Y) (o : Option X) (y : Y) → option_and_then f o ≡ Some y →
-    (x : X) × (o ≡ Some x) × (f x ≡ Some y)
-then_some f None y h = cc
-then_some f (Some x) y h = (x, refl, h)
-
 -- a model of the expansion makes every instance true
-model_makes_true : (f : Dqbf) (rows : List (List Bool)) (m : Assignment) → IsExpansionModel f rows m →
+pub model_makes_true : (f : Dqbf) (rows : List (List Bool)) (m : Assignment) → IsExpansionModel f rows m →
     MakesTrue m (instance_at f rows)
 model_makes_true f rows m model zero clause is = cc
 model_makes_true f rows m model (suc i) clause is =

@@ -1,24 +1,13 @@
 -- Well-formed formulas, by a test.
 use Rattle.std.proofs.Common.{◌≡◌, ℕ, ◌==◌, ◌≤◌, Bool, true, false, not, ◌&&◌, List, [], ◌∷◌, nat_le}
-use Rattle.std.specs.List.{All, Contains, list_any, list_all, IsDistinct, AllByRecursion}
+use Rattle.std.specs.List.{All, Contains, list_any, list_all, IsDistinct}
 use Rattle.std.proofs.lemmas.Bool.{and_parts, leb-true, not-true, eqb-true}
 use Rattle.std.proofs.lemmas.Bool.Decides.{Decides-eqb}
-use Rattle.std.proofs.lemmas.List.Elements.{All-from_recursion}
 use Rattle.std.proofs.lemmas.Map.Made.{AllPairs-from_IsDistinct}
 use Rattle.std.proofs.lemmas.Map.Views.{Contains-from_any}
+use Rattle.list_laws.proofs.Folds.{each, all_passing}
 use Rattle.dq_lits.specs.Literal.{variable_of}
 use Rattle.dq_lits.specs.Formula.{Dqbf, declared, IsWellFormed}
-
--- what a test shows of each element
-each : {X : Type 0} (p : X → Bool) (P : X → Type 0) → ((x : X) → p x ≡ true → P x) → (xs : List X) →
-    list_all p xs ≡ true → AllByRecursion P xs
-each p P shows [] h = tt
-each p P shows (x ∷ xs) h = let parts = and_parts (p x) (list_all p xs) h in
-    (shows x parts.0, each p P shows xs parts.1)
-
-all : {X : Type 0} (p : X → Bool) (P : X → Type 0) → ((x : X) → p x ≡ true → P x) → (xs : List X) →
-    list_all p xs ≡ true → All P xs
-all p P shows xs h = All-from_recursion P xs (each p P shows xs h)
 
 abbrev is_declared : List ℕ → ℕ → Bool
 is_declared xs v = list_any (λ x. v == x) xs
@@ -51,20 +40,20 @@ well_formed_by f h =
     let seen = and_parts (list_all (λ y. list_all (is_declared f.universals) y.sees) f.existentials) _ once.1 in
     record {
       prefix = record {
-        in_range = all (in_range f) (λ v. (1 ≤ v) × (v ≤ f.variables))
+        in_range = all_passing (in_range f) (λ v. (1 ≤ v) × (v ≤ f.variables))
             (λ v test. let parts = and_parts (nat_le 1 v) (nat_le v f.variables) test in
             (leb-true 1 v parts.0, leb-true v f.variables parts.1))
             (declared f) range.0;
         declared_once = AllPairs-from_IsDistinct Decides-eqb (declared f) (distinct_by (declared f) once.0);
-        sees_universals = all (λ y. list_all (is_declared f.universals) y.sees)
+        sees_universals = all_passing (λ y. list_all (is_declared f.universals) y.sees)
             (λ y. All (Contains f.universals) y.sees)
-            (λ y. all (is_declared f.universals) (Contains f.universals)
+            (λ y. all_passing (is_declared f.universals) (Contains f.universals)
             (λ x. Contains-from_any eqb-true x f.universals) y.sees)
             f.existentials seen.0;
       };
-      bound = all (λ clause. list_all (λ l. is_declared (declared f) (variable_of l)) clause)
+      bound = all_passing (λ clause. list_all (λ l. is_declared (declared f) (variable_of l)) clause)
           (All (λ l. Contains (declared f) (variable_of l)))
-          (λ clause. all (λ l. is_declared (declared f) (variable_of l)) (λ l. Contains (declared f) (variable_of l))
+          (λ clause. all_passing (λ l. is_declared (declared f) (variable_of l)) (λ l. Contains (declared f) (variable_of l))
           (λ l. Contains-from_any eqb-true (variable_of l) (declared f)) clause)
           f.matrix seen.1;
     }

@@ -3,11 +3,16 @@ use Rattle.std.proofs.Common.{◌≡◌, ℕ, ◌+◌, Bool, true, false, not, c
 use Rattle.std.specs.List.{All, list_all, filter}
 use Rattle.std.proofs.lemmas.Bool.{true≢false, eq-eqb, or_cases, or_left, or_right, and_parts}
 use Rattle.std.proofs.lemmas.List.Elements.{All-head, All-tail, filter_passes}
+use Rattle.list_laws.proofs.Truths.{not_true}
+use Rattle.list_laws.proofs.Options.{cond-none}
 use Rattle.dq_lits.specs.Literal.{Literal, positive, negative, opposite, same_literal}
-use Rattle.dq_lits.specs.Derivation.{LiveClauses, Status, falsified, unit, stuck, holds, status_by, status_of, fault_by, hint_fault, is_tautology}
+use Rattle.dq_lits.specs.Derivation.{LiveClauses, falsified, unit, stuck, holds, status_by, status_of, fault_by, hint_fault, is_tautology}
+use Rattle.dq_lits.proofs.Truth.{same_literal-sound}
+use Rattle.dq_lits.proofs.SignedLiterals.{opposite-opposite}
+use Rattle.dq_lits.proofs.HeldLiterals.{holds-opposites}
 use Rattle.dq_prep.proofs.Reduction.{true-or-false}
 use Rattle.dq_prep.specs.Lifted.{IsCarried, LinesAreCarried, AreFalsifying, FalsifyingDerives}
-use Rattle.dq_prep.proofs.SignedLiterals.{not-true, same_literal-sound, not-same, opposite-opposite, pair-in, pair-any}
+use Rattle.dq_prep.proofs.SignedLiterals.{not-same, pair-in, pair-any}
 
 -- a clause whose literals are all false is falsified
 none-left : (trues clause : List Literal) → All (λ l. holds trues (opposite l) ≡ true) clause
@@ -48,10 +53,6 @@ derives live literals units last plain are =
 -- no literal stands beside its negation
 abbrev IsConsistent : List Literal → Type 0
 IsConsistent trues = (l : Literal) → holds trues l ≡ true → holds trues (opposite l) ≡ false
-
--- what a hint that goes on tells of its status
-abbrev Goes : LiveClauses → List Literal → ℕ → List ℕ → Status → Type 0
-Goes live trues place hints s = fault_by s place hints (λ l. hint_fault live (l ∷ trues) (place + 1) hints) ≡ None
 
 member-open : (trues clause : List Literal) (l : Literal) → holds clause l ≡ true → holds trues (opposite l) ≡ false
     → holds (filter (λ k. not (holds trues (opposite k))) clause) l ≡ true
@@ -104,7 +105,7 @@ moves-by trues (l ∷ rest) free = by (list_all (same_literal l) rest && not (ho
     by false e = absurd (free (ap (λ b. cond b (unit l) stuck) e))
     by true e =
         let parts = and_parts (list_all (same_literal l) rest) (not (holds trues l)) e in
-        one_left l rest refl parts.0 (not-true (holds trues l) parts.1)
+        one_left l rest refl parts.0 (not_true (holds trues l) parts.1)
 
 two-open : (trues open' : List Literal) (p : Literal) → Moves trues open' → holds open' p ≡ true
     → holds open' (opposite p) ≡ true → ⊥
@@ -202,7 +203,7 @@ carry to live other (x ∷ xs) trues place consistent all h =
         ∙ ap (λ b. cond (not b) (unit l) stuck) none in
         let at0 : get_or (open-part trues c) 0 l ≡ l = ap (λ o. get_or o 0 l) e in
         let long : length (open-part trues c) ≡ length (l ∷ rest) = ap (λ o. length o) e in
-        let fresh = not-true (holds trues (opposite l))
+        let fresh = not_true (holds trues (opposite l))
         (ap (λ k. not (holds trues (opposite k))) (sym at0) ∙ passes 0 l (omega (arith, long))) in
         ap (λ s. fault_by s place (map to xs) (λ k. hint_fault other (k ∷ trues) (place + 1) (map to xs))) is-unit
         ∙ later l (more-consistent trues l consistent fresh)
@@ -228,31 +229,16 @@ carry to live other (x ∷ xs) trues place consistent all h =
         stuck-stops : Some place ≡ None → ⊥
         stuck-stops w = cc
 
-negated-holds : (ls : List Literal) (l : Literal) → holds (map opposite ls) l ≡ holds ls (opposite l)
-negated-holds [] l = refl
-negated-holds (k ∷ ks) l = ap (λ b. b || holds (map opposite ks) l) (turned l k)
-    ∙ ap (λ b. same_literal (opposite l) k || b) (negated-holds ks l)
-  where
-    turned : (l k : Literal) → same_literal l (opposite k) ≡ same_literal (opposite l) k
-    turned (positive v) (positive w) = refl
-    turned (positive v) (negative w) = refl
-    turned (negative v) (positive w) = refl
-    turned (negative v) (negative w) = refl
-
 start-consistent : (ls : List Literal) → is_tautology ls ≡ false → IsConsistent (map opposite ls)
 start-consistent ls plain l h =
-    let inside : holds ls (opposite l) ≡ true = sym (negated-holds ls l) ∙ h in
+    let inside : holds ls (opposite l) ≡ true = sym (holds-opposites ls l) ∙ h in
     elim (true-or-false (holds ls (opposite (opposite l)))) [
       | inl both ↦ absurd (true≢false (sym (pair-any ls ls (opposite l) inside both) ∙ plain))
-      | inr none ↦ negated-holds ls (opposite l) ∙ none
+      | inr none ↦ holds-opposites ls (opposite l) ∙ none
     ]
-
-tautology-or : (b : Bool) (rest : Option ℕ) → cond b (Some 0) rest ≡ None → (b ≡ false) × (rest ≡ None)
-tautology-or true rest h = cc
-tautology-or false rest h = (refl, h)
 
 pub carries : LinesAreCarried
 carries to live other literals hints all derived =
-    let parts = tautology-or (is_tautology literals) (hint_fault live (map opposite literals) 1 hints) derived in
+    let parts = cond-none (is_tautology literals) (hint_fault live (map opposite literals) 1 hints) derived in
     ap (λ b. cond b (Some 0) (hint_fault other (map opposite literals) 1 (map to hints))) parts.0
     ∙ carry to live other hints (map opposite literals) 1 (start-consistent literals parts.0) all parts.1

@@ -40,7 +40,7 @@ kept-append f units place (c ∷ cs) clause =
     (kept_clause f units p clause))
     (omega arith)
 
-kept-few : (f : Dqbf) (units : List Taken) (place : ℕ) (clauses : List (List Literal))
+pub kept-few : (f : Dqbf) (units : List Taken) (place : ℕ) (clauses : List (List Literal))
     → length (kept_clauses f units place clauses) ≤ length clauses
 kept-few f units place [] = omega arith
 kept-few f units place (c ∷ cs) = by (kept_clause f units place c) (kept-few f units (suc place) cs)

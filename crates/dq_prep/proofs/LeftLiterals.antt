@@ -1,17 +1,20 @@
 -- What is left of a clause, by its open literals.
 use Rattle.std.proofs.Common.{◌≡◌, ℕ, Bool, true, false, not, cond, ◌||◌, ◌&&◌, inl, inr, List, [], ◌∷◌, get_or, None, refl, sym, ◌∙◌, ap}
 use Rattle.std.specs.List.{All, list_any, filter}
-use Rattle.std.proofs.lemmas.Bool.{true≢false, or_cases, or_left, or_right, cases_Bool, cond-false}
+use Rattle.std.proofs.lemmas.Bool.{true≢false, or_left, or_right, cases_Bool, cond-false}
 use Rattle.std.proofs.lemmas.List.Elements.{All-filter}
-use Rattle.dq_lits.specs.Literal.{Literal, positive, negative, variable_of, opposite, same_literal}
+use Rattle.list_laws.proofs.Folds.{filter-wider}
+use Rattle.dq_lits.specs.Literal.{Literal, positive, negative, variable_of, opposite}
 use Rattle.dq_lits.specs.Formula.{Dqbf, is_universal, existential_of}
 use Rattle.dq_lits.specs.Derivation.{holds, is_tautology}
+use Rattle.dq_lits.proofs.HeldLiterals.{filter-holds}
+use Rattle.dq_lits.proofs.SignedLiterals.{opposite-opposite}
 use Rattle.dq_prep.specs.Reduction.{sees_in, is_seen, stays}
 use Rattle.dq_prep.specs.Units.{is_satisfied, without_false, left_of}
 use Rattle.dq_prep.specs.Roles.{open_literals}
 use Rattle.dq_prep.proofs.Units.{satisfied-by, part-holds}
 use Rattle.dq_prep.proofs.SeenUniversals.{same-test, filters-agree}
-use Rattle.dq_prep.proofs.SignedLiterals.{same_literal-sound, opposite-opposite, pair-in, pair-any}
+use Rattle.dq_prep.proofs.SignedLiterals.{pair-in, pair-any}
 
 -- a test on what another test lets through
 filter-twice : {X : Type 0} (p q : X → Bool) (xs : List X) → filter p (filter q xs) ≡ filter (λ l. p l && q l) xs
@@ -26,16 +29,6 @@ filter-twice p q (x ∷ xs) = by (q x) (p x) (filter-twice p q xs) refl
     by false true h e = h
     by false false h e = h
 
-pub filter-wider : {X : Type 0} (p q : X → Bool) (xs : List X) → ((l : X) → p l ≡ true → q l ≡ true)
-    → filter p (filter q xs) ≡ filter p xs
-filter-wider p q xs wider =
-    filter-twice p q xs ∙ filters-agree (λ l. p l && q l) p xs
-    (λ k d below. narrow (p (get_or xs k d)) (q (get_or xs k d)) (wider (get_or xs k d)))
-  where
-    narrow : (a b : Bool) → (a ≡ true → b ≡ true) → (a && b) ≡ a
-    narrow true b h = h refl
-    narrow false b h = refl
-
 any-wider : (p q : Literal → Bool) (xs : List Literal) → ((l : Literal) → p l ≡ true → q l ≡ true)
     → list_any p (filter q xs) ≡ list_any p xs
 any-wider p q [] wider = refl
@@ -46,21 +39,6 @@ any-wider p q (x ∷ xs) wider = by (q x) (p x) (wider x) (any-wider p q xs wide
     by true a w h e = ap (λ c. c || list_any p (filter q xs)) e ∙ ap (λ c. a || c) h
     by false true w h e = absurd (true≢false (sym (w refl)))
     by false false w h e = h
-
-pub passing-holds : (g : Literal → Bool) (xs : List Literal) (l : Literal) → holds xs l ≡ true → g l ≡ true
-    → holds (filter g xs) l ≡ true
-passing-holds g [] l here passes = here
-passing-holds g (x ∷ xs) l here passes = elim (or_cases (same_literal l x) (holds xs l) here) [
-  | inl same ↦
-      let it : g x ≡ true = ap g (sym (same_literal-sound l x same)) ∙ passes in
-      ap (λ b. holds (cond b (x ∷ filter g xs) (filter g xs)) l) it
-      ∙ or_left (same_literal l x) (holds (filter g xs) l) same
-  | inr later ↦ behind (g x) (passing-holds g xs l later passes)
-]
-  where
-    behind : (b : Bool) → holds (filter g xs) l ≡ true → holds (cond b (x ∷ filter g xs) (filter g xs)) l ≡ true
-    behind true h = or_right (same_literal l x) (holds (filter g xs) l) h
-    behind false h = h
 
 -- a literal of a clause that isn't satisfied was not taken
 unsatisfied-false : (trues clause : List Literal) (l : Literal) → is_satisfied trues clause ≡ false
@@ -95,8 +73,8 @@ tautology-stays trues clause unsatisfied = same-test (is_tautology rest) (is_tau
         let second : open-test (opposite l) ≡ true =
         ap (λ k. not (holds trues k)) (opposite-opposite l)
         ∙ ap not (unsatisfied-false trues clause l unsatisfied r.1) in
-        pair-any rest rest l (passing-holds open-test clause l r.1 first)
-        (passing-holds open-test clause (opposite l) r.2 second)
+        pair-any rest rest l (filter-holds open-test clause l r.1 first)
+        (filter-holds open-test clause (opposite l) r.2 second)
 
 -- a literal alone is no tautology
 pub alone-plain : (l : Literal) → is_tautology (l ∷ []) ≡ false
@@ -176,11 +154,11 @@ seen-left f trues clause l nothing inside none seen = by (is_tautology rest)
     rest = without_false trues clause
 
     in-rest : holds rest l ≡ true
-    in-rest = passing-holds (λ k. not (holds trues (opposite k))) clause l inside (ap not none)
+    in-rest = filter-holds (λ k. not (holds trues (opposite k))) clause l inside (ap not none)
 
     by : (b : Bool) → holds (cond b rest (filter (stays f rest) rest)) l ≡ true
     by true = in-rest
     by false =
-        passing-holds (stays f rest) rest l in-rest
+        filter-holds (stays f rest) rest l in-rest
         (or_right (is_existential f l) (is_seen f rest (variable_of l))
         (seen-by-open f trues clause (variable_of l) nothing ∙ seen))

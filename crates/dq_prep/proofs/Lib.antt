@@ -2,7 +2,7 @@ pub mod Carried
 mod Emptied
 mod FewUnits
 mod Kept
-mod KeptSoFar
+pub mod KeptSoFar
 pub mod LeftLiterals
 pub mod LiteralRoles
 pub mod LoweredRows

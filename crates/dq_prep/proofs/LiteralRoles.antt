@@ -1,11 +1,12 @@
 -- The role of a literal, by its existential's place.
-use Rattle.std.proofs.Common.{◌≡◌, IsSome, subst, ◌≢◌, ℕ, suc, ◌+◌, ◌-◌, ◌<◌, ◌==◌, Bool, true, false, not, cond, inl, inr, List, [], ◌∷◌, ◌++◌, map, length, get_or, Option, Some, None, refl, sym, ◌∙◌, ap, arith}
+use Rattle.std.proofs.Common.{◌≡◌, IsSome, subst, ℕ, suc, ◌<◌, ◌==◌, Bool, true, false, not, cond, inl, inr, List, [], ◌∷◌, map, length, get_or, Option, Some, None, refl, sym, ◌∙◌, ap, arith}
 use Rattle.std.specs.Prelude.{slice_index_or}
-use Rattle.std.specs.List.{All, AllPairs, Contains, find, position}
+use Rattle.std.specs.List.{All, Contains, find, position}
 use Rattle.std.proofs.lemmas.Bool.{true≢false, eqb-true, cases_Bool, and_parts, cond-false, cond-true}
-use Rattle.std.proofs.lemmas.List.{get_or-append_right, get_or_append_left, length-append, length-map, get_or-map}
+use Rattle.std.proofs.lemmas.List.{length-map, get_or-map}
 use Rattle.std.proofs.lemmas.List.Elements.{Contains-append_cases, All-contains, All-filter, filter_passes}
 use Rattle.std.proofs.lemmas.List.Quantifiers.{position-Some}
+use Rattle.list_laws.proofs.Members.{contains_tested, tested_inside, in_one_part}
 use Rattle.dq_lits.specs.Literal.{Literal, variable_of, opposite, is_negative}
 use Rattle.dq_lits.specs.Formula.{Existential, Dqbf, declared, is_universal, existential_of, IsWellFormed}
 use Rattle.dq_lits.specs.Derivation.{holds}
@@ -17,30 +18,19 @@ use Rattle.dq_prep.specs.declared.roles.Role.{Role}
 use Rattle.dq_prep.specs.declared.roles.Role.TheVariants.{Universal}
 use Rattle.dq_prep.specs.Roles.{role_by, role_of, truth_role, is_open, open_literals}
 use Rattle.dq_prep.specs.Takings.{ValuesTell}
-use Rattle.dq_prep.proofs.Reduction.{universal-contained}
 use Rattle.dq_prep.specs.Reduction.{sees_in}
-use Rattle.dq_prep.proofs.SeenUniversals.{contained-any}
 use Rattle.dq_prep.proofs.LeftLiterals.{UniversalsSeeNothing}
 use Rattle.dq_prep.proofs.Standings.{UniversalsAreSeen, Looked, clause-at}
 use Rattle.dq_prep.specs.declared.traces.Taken.{Taken}
 use Rattle.dq_prep.specs.Units.{AreUnits}
-
--- what is declared once isn't in both parts
-apart : (us vs : List ℕ) (v : ℕ) → AllPairs (λ x y. x ≢ y) (us ++ vs) → Contains us v → Contains vs v → ⊥
-apart us vs v once (i, i-in, i-is) (j, j-in, j-is) =
-    let left : get_or (us ++ vs) i v ≡ v = get_or_append_left us vs v i i-in ∙ i-is in
-    let moved : get_or (us ++ vs) (length us + j) v ≡ get_or vs (length us + j - length us) v =
-    get_or-append_right us vs (length us) (length us + j) v refl (omega arith) in
-    let right : get_or (us ++ vs) (length us + j) v ≡ v = moved ∙ ap (λ n. get_or vs n v) (omega arith) ∙ j-is in
-    once i (length us + j) v (omega arith) (omega (arith, length-append us vs)) (left ∙ sym right)
 
 -- an existential is no universal
 pub existential-apart : (f : Dqbf) (v : ℕ) → IsWellFormed f → Contains (existential_variables f) v
     → is_universal f v ≡ false
 existential-apart f v well inside = elim (cases_Bool (is_universal f v)) [
   | inl universal ↦
-      absurd (apart f.universals (existential_variables f) v well.prefix.declared_once
-      (universal-contained f.universals v universal) inside)
+      absurd (in_one_part f.universals (existential_variables f) v well.prefix.declared_once
+      (contains_tested f.universals v universal) inside)
   | inr other ↦ other
 ]
 
@@ -65,7 +55,7 @@ role-of-unplaced f trues l bound none =
     let v = variable_of l in
     elim (Contains-append_cases f.universals (existential_variables f) v bound) [
       | inl universal ↦ sym
-          (cond-true (is_universal f v) Universal (truth_role trues l) (contained-any f.universals v universal))
+          (cond-true (is_universal f v) Universal (truth_role trues l) (tested_inside f.universals v universal))
       | inr existential ↦ absurd (none_contained (existential_variables f) v none existential)
     ]
 
@@ -111,10 +101,10 @@ universals-are-seen f well y x sees = by (existential_of f y) refl sees
     by None e h = cc
     by (Some z) e h =
         let found = find-Some (λ q. q.variable == y) f.existentials z e in
-        contained-any f.universals x
+        tested_inside f.universals x
         (All-contains (Contains f.universals) z.sees x
         (All-contains (λ q. All (Contains f.universals) q.sees) f.existentials z well.prefix.sees_universals found.0)
-        (universal-contained z.sees x h))
+        (contains_tested z.sees x h))
 
 -- an open literal of a clause is on an existential
 pub open-existential : (f : Dqbf) (trues clause : List Literal) (l : Literal) → IsWellFormed f
@@ -130,11 +120,11 @@ open-existential f trues clause l well bound open' =
     let there = subst Bound at (All-filter (is_open f trues) Bound clause bound 0 l inside) in
     let not-universal = (and_parts (not (is_universal f v)) (not (holds trues (opposite l))) passes).0 in
     elim (Contains-append_cases f.universals (existential_variables f) v there) [
-      | inl universal ↦ absurd (true≢false (sym not-universal ∙ ap not (contained-any f.universals v universal)))
+      | inl universal ↦ absurd (true≢false (sym not-universal ∙ ap not (tested_inside f.universals v universal)))
       | inr existential ↦
           is_some-find (λ y. y.variable == v) f.existentials
           ∙ sym (list_any-map (λ x. x == v) (λ y. y.variable) f.existentials)
-          ∙ contained-any (existential_variables f) v existential
+          ∙ tested_inside (existential_variables f) v existential
     ]
 
 -- a clause of the matrix is looked at

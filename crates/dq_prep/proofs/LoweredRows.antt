@@ -1,29 +1,26 @@
 -- A row with the universal literals false that universal reduction takes.
 use Rattle.std.proofs.Common.{◌≡◌, ℕ, ◌==◌, Bool, true, false, not, ◌&&◌, ◌||◌, cond, inl, inr, List, [], ◌∷◌, map, get_or, Some, refl, sym, ◌∙◌, ap}
 use Rattle.std.specs.List.{All, Contains, list_any, filter}
-use Rattle.std.proofs.lemmas.Bool.{true≢false, or_cases, or_left, or_right, cases_Bool, cond-true, cond-false, eq-eqb, eqb-true}
+use Rattle.std.proofs.lemmas.Bool.{true≢false, cases_Bool, cond-true, cond-false, eq-eqb, eqb-true}
 use Rattle.std.proofs.lemmas.List.Elements.{All-contains}
 use Rattle.std.proofs.lemmas.List.Folds.{list_any_none, list_any_at}
-use Rattle.dq_lits.specs.Literal.{Assignment, Literal, positive, negative, variable_of, opposite, same_literal, literal_true}
+use Rattle.list_laws.proofs.Members.{contains_tested, tested_inside}
+use Rattle.dq_lits.specs.Literal.{Assignment, Literal, positive, negative, variable_of, opposite, literal_true}
 use Rattle.dq_lits.specs.Formula.{Existential, Dqbf, is_universal, existential_of, IsWellFormed}
 use Rattle.dq_lits.specs.Henkin.{same_bits}
 use Rattle.dq_lits.specs.Derivation.{holds, is_tautology}
 use Rattle.dq_lits.specs.Expansion.{row_assignment, universal_literal_true, agree_on}
 use Rattle.dq_lits.specs.Row.{assignment_of}
+use Rattle.dq_lits.proofs.HeldLiterals.{any_one, filter-holds}
+use Rattle.dq_lits.proofs.Choices.{same_bits-refl}
 use Rattle.dq_prep.specs.Reduction.{sees_in, is_seen, stays}
 use Rattle.dq_prep.specs.Units.{taken_literals, without_false, left_of}
 use Rattle.dq_prep.specs.LoweredRows.{is_lost, lowered, lowered_row, LoweredRowsServe}
-use Rattle.dq_prep.proofs.SignedLiterals.{same_literal-sound, pair-any}
-use Rattle.dq_prep.proofs.Reduction.{universal-contained, lost_false, literal-agree, unlost, unlost_value, kept_by, map-agree, holds-at}
-use Rattle.dq_prep.proofs.SeenUniversals.{contained-any}
+use Rattle.dq_prep.proofs.SignedLiterals.{pair-any}
+use Rattle.dq_prep.proofs.Reduction.{lost_false, literal-agree, unlost, unlost_value, kept_by, map-agree, holds-at}
 use Rattle.dq_prep.proofs.OpenLiterals.{none-universal}
-use Rattle.dq_prep.proofs.LeftLiterals.{passing-holds, tautology-stays}
+use Rattle.dq_prep.proofs.LeftLiterals.{tautology-stays}
 use Rattle.dq_prep.proofs.LiteralRoles.{find-Some}
-
-pub same_bits-refl : (bits : List Bool) → same_bits bits bits ≡ true
-same_bits-refl [] = refl
-same_bits-refl (true ∷ bits) = same_bits-refl bits
-same_bits-refl (false ∷ bits) = same_bits-refl bits
 
 -- a variable of a row that is made of an assignment
 made-bit : (xs : List ℕ) (m : Assignment) (x : ℕ) → list_any (λ z. z == x) xs ≡ true
@@ -41,22 +38,13 @@ made-bit (z ∷ zs) m x h = elim (cases_Bool (z == x)) [
 low-bit : (f : Dqbf) (clause : List Literal) (row : List Bool) (x : ℕ) → Contains f.universals x
     → row_assignment f (lowered_row f clause row) x ≡ lowered f clause (row_assignment f row) x
 low-bit f clause row x inside =
-    made-bit f.universals (lowered f clause (row_assignment f row)) x (contained-any f.universals x inside)
-
--- a literal that is held and passes
-pub any-held : (p : Literal → Bool) (xs : List Literal) (l : Literal) → holds xs l ≡ true → p l ≡ true
-    → list_any p xs ≡ true
-any-held p [] l here passes = here
-any-held p (x ∷ xs) l here passes = elim (or_cases (same_literal l x) (holds xs l) here) [
-  | inl same ↦ or_left (p x) (list_any p xs) (ap p (sym (same_literal-sound l x same)) ∙ passes)
-  | inr later ↦ or_right (p x) (list_any p xs) (any-held p xs l later passes)
-]
+    made-bit f.universals (lowered f clause (row_assignment f row)) x (tested_inside f.universals x inside)
 
 -- none that is held passes
 pub none-held : (p : Literal → Bool) (xs : List Literal) (l : Literal) → list_any p xs ≡ false → holds xs l ≡ true
     → p l ≡ false
 none-held p xs l none here = elim (cases_Bool (p l)) [
-  | inl passes ↦ absurd (true≢false (sym (any-held p xs l here passes) ∙ none))
+  | inl passes ↦ absurd (true≢false (sym (any_one p xs l here passes) ∙ none))
   | inr fails ↦ fails
 ]
 
@@ -75,7 +63,7 @@ same-view f rest row l y well here own =
     let sees : sees_in x (existential_of f (variable_of l)) ≡ true =
     ap (sees_in x) own ∙ list_any_at (λ z. z == x) y.sees k d below (eq-eqb x x refl) in
     let seen : is_seen f rest x ≡ true =
-    any-held (λ q. sees_in x (existential_of f (variable_of q))) rest l here sees in
+    any_one (λ q. sees_in x (existential_of f (variable_of q))) rest l here sees in
     sym (low-bit f rest row x (universal k d below) ∙ unlost f rest m x seen) in
     ap (same_bits (map m y.sees)) (sym (map-agree m n y.sees same)) ∙ same_bits-refl (map m y.sees)
 
@@ -89,7 +77,7 @@ low-false f trues clause row l here plain none universal =
     let rest = without_false trues clause in
     let m = row_assignment f row in
     let v = variable_of l in
-    let bit = low-bit f rest row v (universal-contained f.universals v universal) in
+    let bit = low-bit f rest row v (contains_tested f.universals v universal) in
     elim (cases_Bool (is_lost f rest v)) [
       | inl lost ↦
           literal-agree (lowered f rest m) (row_assignment f (lowered_row f rest row)) l bit
@@ -115,7 +103,7 @@ low-false f trues clause row l here plain none universal =
     in-left stay =
         ap (λ b. holds (cond b (without_false trues clause)
         (filter (stays f (without_false trues clause)) (without_false trues clause))) l) plain
-        ∙ passing-holds (stays f (without_false trues clause)) (without_false trues clause) l here stay
+        ∙ filter-holds (stays f (without_false trues clause)) (without_false trues clause) l here stay
 
     false-left : stays f (without_false trues clause) l ≡ true → literal_true (row_assignment f row) l ≡ false
     false-left stay =
@@ -135,7 +123,7 @@ serve f units clause row well are unsatisfied plain none =
                 let free : holds trues (opposite l) ≡ false =
                 none-universal f units (opposite l) are (turned l universal) in
                 let here : holds rest l ≡ true =
-                passing-holds (λ q. not (holds trues (opposite q))) clause l (holds-at clause k d below)
+                filter-holds (λ q. not (holds trues (opposite q))) clause l (holds-at clause k d below)
                 (ap not free) in
                 ap (λ b. b && literal_true (row_assignment f low) l) universal
                 ∙ low-false f trues clause row l here (tautology-stays trues clause unsatisfied ∙ plain) none universal

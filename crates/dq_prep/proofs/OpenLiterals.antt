@@ -7,6 +7,7 @@ use Rattle.std.proofs.lemmas.List.Folds.{list_any-append}
 use Rattle.dq_lits.specs.Literal.{Literal, positive, negative, variable_of, opposite, same_literal}
 use Rattle.dq_lits.specs.Formula.{Dqbf, is_universal}
 use Rattle.dq_lits.specs.Derivation.{holds}
+use Rattle.dq_lits.proofs.Truth.{same_literal-sound}
 use Rattle.dq_prep.specs.declared.traces.Taken.{Taken}
 use Rattle.dq_prep.specs.declared.roles.Role.{Role}
 use Rattle.dq_prep.specs.declared.roles.Role.TheVariants.{Universal, True, False, Open}
@@ -14,7 +15,6 @@ use Rattle.dq_prep.specs.declared.roles.Opens.{Opens}
 use Rattle.dq_prep.specs.declared.roles.Opens.TheVariants.{Satisfied, Nothing, One, More}
 use Rattle.dq_prep.specs.Units.{taken_literals, is_satisfied, AreUnits}
 use Rattle.dq_prep.specs.Roles.{is_true_role, is_false_role, role_of, is_open, open_literals, IsOpening, AreOpen, with_role}
-use Rattle.dq_prep.proofs.SignedLiterals.{same_literal-sound}
 
 -- no literal that was taken is on a universal
 pub none-universal : (f : Dqbf) (units : List Taken) (l : Literal) → AreUnits f units

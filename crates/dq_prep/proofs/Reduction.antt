@@ -1,18 +1,19 @@
 -- Universal reduction keeps what a choice makes true.
-use Rattle.std.proofs.Common.{◌≡◌, ℕ, suc, ◌<◌, ◌==◌, Bool, true, false, not, cond, ◌&&◌, ◌||◌, ◌⊎◌, inl, inr, List, [], ◌∷◌, map, length, get_or, Some, refl, sym, ◌∙◌, ap, arith}
+use Rattle.std.proofs.Common.{◌≡◌, ℕ, ◌<◌, ◌==◌, Bool, true, false, not, cond, ◌&&◌, ◌||◌, ◌⊎◌, inl, inr, List, [], ◌∷◌, map, length, get_or, Some, refl, sym, ◌∙◌, ap}
 use Rattle.std.specs.List.{All, Contains, list_any, filter}
-use Rattle.std.proofs.lemmas.Bool.{true≢false, eq-eqb, eqb-true, or_cases, or_left, or_right, and_parts}
+use Rattle.std.proofs.lemmas.Bool.{true≢false, eq-eqb, or_cases, or_left, or_right, and_parts}
 use Rattle.std.proofs.lemmas.List.{get_or-map, length-map}
 use Rattle.std.proofs.lemmas.List.Elements.{All-contains, All-head, All-tail, Contains-append_cases}
 use Rattle.std.proofs.lemmas.List.Folds.{list_any_at}
+use Rattle.list_laws.proofs.Members.{contains_tested}
 use Rattle.dq_lits.specs.Literal.{Assignment, Literal, positive, negative, variable_of, opposite, same_literal, literal_true, clause_true}
 use Rattle.dq_lits.specs.Formula.{Existential, Dqbf, declared, is_universal, existential_of, HasLawfulPrefix}
 use Rattle.dq_lits.specs.Henkin.{same_bits, HenkinChoice, Follows}
 use Rattle.dq_lits.specs.Derivation.{holds, is_tautology}
+use Rattle.dq_lits.proofs.SignedLiterals.{same_literal-refl}
 use Rattle.dq_formula.specs.Prefix.{IsLawful}
 use Rattle.dq_prep.specs.Reduction.{sees_in, is_seen, stays, reduced}
 use Rattle.dq_prep.specs.LoweredRows.{is_lost, lowered}
-use Rattle.dq_prep.proofs.SignedLiterals.{same_literal-refl}
 
 any-cond : (q : Literal → Bool) (b : Bool) (x : Literal) (xs : List Literal) → list_any q xs ≡ true
     → list_any q (cond b (x ∷ xs) xs) ≡ true
@@ -37,14 +38,6 @@ pub holds-at : (clause : List Literal) (k : ℕ) (d : Literal) → k < length cl
     → holds clause (get_or clause k d) ≡ true
 holds-at clause k d below =
     list_any_at (same_literal (get_or clause k d)) clause k d below (same_literal-refl (get_or clause k d))
-
-pub universal-contained : (xs : List ℕ) (v : ℕ) → list_any (λ x. x == v) xs ≡ true → Contains xs v
-universal-contained [] v h = absurd (true≢false (sym h))
-universal-contained (x ∷ xs) v h =
-    elim (or_cases (x == v) (list_any (λ z. z == v) xs) h) [
-      | inl here ↦ (0, omega arith, eqb-true x v here)
-      | inr later ↦ let at = universal-contained xs v later in (suc at.0, omega (arith, at.1), at.2)
-    ]
 
 pub map-agree : (m n : Assignment) (xs : List ℕ) → All (λ x. m x ≡ n x) xs → map m xs ≡ map n xs
 map-agree m n [] h = refl
@@ -181,7 +174,7 @@ literal_stays s k d below truth =
     elim (true-or-false (is_lost f s.clause v)) [
       | inl lost ↦
           let universal = (and_parts (is_universal f v) (not (is_seen f s.clause v)) lost).0 in
-          let there = universal_same s v (universal-contained f.universals v universal) in
+          let there = universal_same s v (contains_tested f.universals v universal) in
           let low = lost_false f s.clause s.m l (holds-at s.clause k d below)
           (no_opposite s.clause k d below s.plain) lost in
           absurd (true≢false (sym truth ∙ literal-agree (lowered f s.clause s.m) s.n l there ∙ low))

@@ -1,35 +1,28 @@
 -- What existentials depend on, by tests.
-use Rattle.std.proofs.Common.{Result, Ok, Err, OnOk, ◌≡◌, ℕ, zero, suc, ◌+◌, ◌<◌, ◌≤◌, ◌==◌, ◌↔◌, nat_lt, max, Bool, true, false, not, cond, ◌||◌, List, [], ◌∷◌, map, take, length, get_or, Option, Some, None, IsSome, IfSome, inl, inr, refl, sym, ◌∙◌, ap, arith}
+use Rattle.std.proofs.Common.{◌≡◌, ℕ, zero, suc, ◌+◌, ◌<◌, ◌≤◌, ◌==◌, ◌↔◌, nat_lt, max, Bool, true, false, not, cond, ◌||◌, List, [], ◌∷◌, map, take, length, get_or, Option, Some, None, IsSome, IfSome, inl, inr, refl, sym, ◌∙◌, ap, arith}
 use Rattle.std.specs.Prelude.{IsTrue}
 use Rattle.std.specs.List.{All, Contains, list_any, filter, position_or_len}
 use Rattle.std.proofs.lemmas.Bool.{lt-ltb, ltb-true, or_left, or_right, or_cases, cases_Bool, cases_lt}
 use Rattle.std.proofs.lemmas.List.Elements.{All-head, All-tail}
-use Rattle.std.proofs.lemmas.List.Folds.{list_any_at}
+use Rattle.list_laws.proofs.Members.{contains_tested, tested_inside}
 use Rattle.number_tables.specs.Numbers.{has_number}
 use Rattle.dq_lits.specs.Literal.{Literal, variable_of}
 use Rattle.dq_lits.specs.Formula.{Existential, Dqbf, is_universal}
 use Rattle.dq_prep.specs.declared.sights.Sight.{Sight}
 use Rattle.dq_prep.specs.Reduction.{sees_in, stays, is_seen}
 use Rattle.dq_prep.specs.Sights.{is_within, keeps, AreWithin}
-use Rattle.dq_prep.proofs.Reduction.{universal-contained}
 
 pub same-test : (a b : Bool) → (a ≡ true → b ≡ true) → (b ≡ true → a ≡ true) → a ≡ b
 same-test true b f g = sym (f refl)
 same-test false true f g = g refl
 same-test false false f g = refl
 
-pub contained-any : (xs : List ℕ) (v : ℕ) → Contains xs v → list_any (λ z. z == v) xs ≡ true
-contained-any xs v (k, below, is) = list_any_at (λ z. z == v) xs k v below (ap (λ z. z == v) is ∙ eq-self v)
-  where
-    eq-self : (n : ℕ) → (n == n) ≡ true
-    eq-self n = grind arith
-
 pub sees-by : (x : ℕ) (o : Option Existential) (r : Bool) → IsSome o
     → IfSome o (λ e. IsTrue r ↔ Contains e.sees x) → r ≡ sees_in x o
 sees-by x None r some iff = cc
 sees-by x (Some e) r some iff =
-    same-test r (list_any (λ z. z == x) e.sees) (λ h. contained-any e.sees x (iff.0 h))
-    (λ h. iff.1 (universal-contained e.sees x h))
+    same-test r (list_any (λ z. z == x) e.sees) (λ h. tested_inside e.sees x (iff.0 h))
+    (λ h. iff.1 (contains_tested e.sees x h))
 
 later-both : (p n : ℕ) → nat_lt p n ≡ nat_lt (1 + p) (suc n)
 later-both p n =
@@ -129,7 +122,3 @@ keeps-stays f s clause within = filters-agree (keeps f s) (stays f clause) claus
       | inr other ↦
           ap (λ b. not b || is_within f s v) other ∙ ap (λ b. not b || is_seen f clause v) (sym other)
     ])
-
-pub on_ok : {X E P Q : Type 0} (r : Result X E) → (P → Q) → OnOk r P → OnOk r Q
-on_ok (Ok x) step h = step h
-on_ok (Err e) step h = h

@@ -1,31 +1,15 @@
 -- Literals and their negations.
-use Rattle.std.proofs.Common.{◌≡◌, Bool, true, false, not, inl, inr, List, [], ◌∷◌, refl, sym, ◌∙◌, ap}
+use Rattle.std.proofs.Common.{◌≡◌, true, false, inl, inr, List, [], ◌∷◌, refl, sym, ◌∙◌, ap}
 use Rattle.std.specs.List.{list_any}
-use Rattle.std.proofs.lemmas.Bool.{eq-eqb, eqb-true, or_cases, or_left, or_right}
+use Rattle.std.proofs.lemmas.Bool.{or_cases, or_left, or_right}
 use Rattle.dq_lits.specs.Literal.{Literal, positive, negative, opposite, same_literal}
 use Rattle.dq_lits.specs.Derivation.{holds}
-
-pub not-true : (b : Bool) → not b ≡ true → b ≡ false
-not-true true h = sym h
-not-true false h = refl
-
-pub same_literal-sound : (k l : Literal) → same_literal k l ≡ true → k ≡ l
-same_literal-sound (positive v) (positive w) h = ap positive (eqb-true v w h)
-same_literal-sound (positive v) (negative w) h = cc
-same_literal-sound (negative v) (positive w) h = cc
-same_literal-sound (negative v) (negative w) h = ap negative (eqb-true v w h)
-
-pub same_literal-refl : (l : Literal) → same_literal l l ≡ true
-same_literal-refl (positive v) = eq-eqb v v refl
-same_literal-refl (negative v) = eq-eqb v v refl
+use Rattle.dq_lits.proofs.Truth.{same_literal-sound}
+use Rattle.dq_lits.proofs.SignedLiterals.{same_literal-refl}
 
 pub not-same : (l : Literal) → same_literal (opposite l) l ≡ false
 not-same (positive v) = refl
 not-same (negative v) = refl
-
-pub opposite-opposite : (l : Literal) → opposite (opposite l) ≡ l
-opposite-opposite (positive v) = refl
-opposite-opposite (negative v) = refl
 
 -- a literal of one list whose negation is in another
 pub pair-in : (xs ys : List Literal) → list_any (λ l. holds ys (opposite l)) xs ≡ true

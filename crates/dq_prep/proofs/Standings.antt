@@ -5,9 +5,12 @@ use Rattle.std.specs.List.{All, list_any, filter}
 use Rattle.std.proofs.lemmas.Bool.{true≢false, or_cases, or_left, or_right, or_parts, and_parts}
 use Rattle.std.proofs.lemmas.List.{get_or-map}
 use Rattle.std.proofs.lemmas.List.Elements.{filter_passes}
+use Rattle.list_laws.proofs.Truths.{not_true}
 use Rattle.dq_lits.specs.Literal.{Literal, positive, negative, variable_of, opposite, same_literal}
 use Rattle.dq_lits.specs.Formula.{Dqbf, is_universal, existential_of}
 use Rattle.dq_lits.specs.Derivation.{holds, is_tautology}
+use Rattle.dq_lits.proofs.Truth.{same_literal-sound}
+use Rattle.dq_lits.proofs.SignedLiterals.{same_literal-refl}
 use Rattle.dq_prep.specs.declared.traces.Taken.{Taken}
 use Rattle.dq_prep.specs.declared.roles.Opens.TheVariants.{Nothing, One}
 use Rattle.dq_prep.specs.Reduction.{sees_in, is_seen, stays, reduced}
@@ -17,7 +20,6 @@ use Rattle.dq_prep.specs.Takings.{IsNoUnit, IsStanding, standing_of_none, standi
 use Rattle.dq_prep.proofs.Units.{some-same}
 use Rattle.dq_prep.proofs.OpenLiterals.{none-universal}
 use Rattle.dq_prep.proofs.LeftLiterals.{UniversalsSeeNothing, left-opens, left-is-open, seen-left, tautology-stays, alone-plain}
-use Rattle.dq_prep.proofs.SignedLiterals.{not-true, same_literal-sound, same_literal-refl}
 
 -- what an existential sees is a universal
 abbrev pub UniversalsAreSeen : Dqbf → Type 0
@@ -158,7 +160,7 @@ one-stands f units place clause l false false looked seen is says open' =
       unsatisfied = open'.0;
       left = left-is-open f trues clause looked.nothing open'.0 (sym is) unseen ∙ open'.1;
       existential =
-          not-true (is_universal f (variable_of l))
+          not_true (is_universal f (variable_of l))
           (and_parts (not (is_universal f (variable_of l))) (not (holds trues (opposite l))) passes).0;
     }
   where

@@ -1,14 +1,17 @@
 -- What a unit's taking changes.
-use Rattle.std.proofs.Common.{◌≡◌, ◌≢◌, ℕ, ◌<◌, ◌==◌, Bool, true, false, not, cond, ◌||◌, ◌⊎◌, inl, inr, List, [], ◌∷◌, length, get_or, set, Some, refl, sym, ◌∙◌, ap, subst, arith}
+use Rattle.std.proofs.Common.{◌≡◌, ◌≢◌, ℕ, ◌<◌, ◌==◌, Bool, true, false, not, cond, ◌||◌, inl, inr, List, [], ◌∷◌, length, get_or, set, Some, refl, sym, ◌∙◌, ap, subst, arith}
 use Rattle.std.specs.Prelude.{slice_set}
 use Rattle.std.specs.List.{All, Contains, filter, position}
 use Rattle.std.proofs.lemmas.Bool.{true≢false, eqb-true, ne_eqb, or_left, cases_eq, cond-true, cond-false}
 use Rattle.std.proofs.lemmas.List.{get_or-set_same, get_or-set_other}
 use Rattle.std.proofs.lemmas.List.Elements.{All-filter, filter_passes, Contains-append_cases}
 use Rattle.std.proofs.lemmas.List.Quantifiers.{position-Some}
+use Rattle.list_laws.proofs.Members.{tested_inside}
+use Rattle.list_laws.proofs.Truths.{not_true}
 use Rattle.dq_lits.specs.Literal.{Literal, positive, negative, variable_of, opposite, is_negative, same_literal}
 use Rattle.dq_lits.specs.Formula.{Dqbf, IsWellFormed}
 use Rattle.dq_lits.specs.Derivation.{holds, is_tautology}
+use Rattle.dq_lits.proofs.SignedLiterals.{same_literal-refl, opposite-opposite, one_variable}
 use Rattle.dq_formula.specs.Prefix.{existential_variables}
 use Rattle.truth_values.specs.declared.values.TruthValue.{TruthValue}
 use Rattle.truth_values.specs.declared.values.TruthValue.TheVariants.{True as TrueValue, False as FalseValue}
@@ -19,10 +22,9 @@ use Rattle.dq_prep.specs.Reduction.{stays}
 use Rattle.dq_prep.specs.Units.{taken_literals, without_false, left_of, IsUnit}
 use Rattle.dq_prep.specs.Roles.{role_by, truth_role}
 use Rattle.dq_prep.specs.Takings.{ValuesTell}
-use Rattle.dq_prep.proofs.SeenUniversals.{contained-any}
 use Rattle.dq_prep.proofs.Units.{get-at}
 use Rattle.dq_prep.proofs.WellFormed.{IsBound, all-left}
-use Rattle.dq_prep.proofs.SignedLiterals.{not-true, same_literal-refl, not-same, opposite-opposite}
+use Rattle.dq_prep.proofs.SignedLiterals.{not-same}
 
 abbrev IsKept : List Literal → Literal → Type 0
 IsKept trues l = not (holds trues (opposite l)) ≡ true
@@ -47,7 +49,7 @@ unit-fresh f earlier u it =
     let trues = taken_literals earlier in
     let all : All (IsKept trues) (u.literal ∷ []) =
     subst (All (IsKept trues)) it.left (left-passes f trues it.clause) in
-    not-true (holds trues (opposite u.literal)) (all 0 u.literal (omega arith))
+    not_true (holds trues (opposite u.literal)) (all 0 u.literal (omega arith))
 
 -- a unit's literal is on an existential
 pub unit-existential : (f : Dqbf) (earlier : List Taken) (u : Taken) → IsWellFormed f → IsUnit f earlier u
@@ -60,18 +62,12 @@ unit-existential f earlier u well it =
     let all : All (IsBound f) (u.literal ∷ []) =
     subst (All (IsBound f)) it.left (all-left f (IsBound f) trues it.clause bound) in
     elim (Contains-append_cases f.universals (existential_variables f) v (all 0 u.literal (omega arith))) [
-      | inl universal ↦ absurd (true≢false (sym (contained-any f.universals v universal) ∙ it.existential))
+      | inl universal ↦ absurd (true≢false (sym (tested_inside f.universals v universal) ∙ it.existential))
       | inr existential ↦ existential
     ]
 
 abbrev pub value_of : Literal → TruthValue
 value_of l = cond (not (is_negative l)) TrueValue FalseValue
-
-pub two-literals : (k l : Literal) → variable_of k ≡ variable_of l → (k ≡ l) ⊎ (k ≡ opposite l)
-two-literals (positive v) (positive w) same = inl (ap positive same)
-two-literals (positive v) (negative w) same = inr (ap positive same)
-two-literals (negative v) (positive w) same = inr (ap negative same)
-two-literals (negative v) (negative w) same = inl (ap negative same)
 
 own-role : (l : Literal) → role_by (value_of l) (is_negative l) ≡ True
 own-role (positive v) = refl
@@ -87,7 +83,7 @@ on-variable : (trues : List Literal) (k l : Literal) → variable_of k ≡ varia
     → role_by (value_of l) (is_negative k) ≡ truth_role (l ∷ trues) k
 on-variable trues k l same fresh =
     let Told : Literal → Type 0 = λ q. role_by (value_of l) (is_negative q) ≡ truth_role (l ∷ trues) q in
-    elim (two-literals k l same) [
+    elim (one_variable k l same) [
       | inl is ↦ subst Told (sym is) own
       | inr is ↦ subst Told (sym is) other
     ]

@@ -4,39 +4,24 @@ use Rattle.std.proofs.Common.{◌≡◌, ◌≢◌, ℕ, zero, suc, ◌<◌, ◌
 use Rattle.std.specs.List.{All, Contains, filter}
 use Rattle.std.proofs.lemmas.Bool.{true≢false, eq-eqb, ne_eqb, cond-true, cond-false, or_cases, or_left, or_right}
 use Rattle.std.proofs.lemmas.List.Elements.{All-filter}
-use Rattle.dq_lits.specs.Literal.{Assignment, Literal, positive, negative, variable_of, opposite, same_literal, literal_true, clause_true}
+use Rattle.dq_lits.specs.Literal.{Assignment, Literal, variable_of, opposite, same_literal, literal_true, clause_true}
 use Rattle.dq_lits.specs.Formula.{Dqbf, declared, IsWellFormed}
 use Rattle.dq_lits.specs.Henkin.{HenkinChoice, Follows, Solves}
 use Rattle.dq_lits.specs.Derivation.{holds, is_tautology}
+use Rattle.dq_lits.proofs.Truth.{same_literal-sound, holds-true}
+use Rattle.dq_lits.proofs.SignedLiterals.{same_literal-refl}
+use Rattle.dq_lits.proofs.TrueClauses.{opposite-false}
 use Rattle.dq_formula.specs.Prefix.{IsLawful}
 use Rattle.dq_prep.specs.declared.traces.Taken.{Taken}
 use Rattle.dq_prep.specs.Reduction.{stays}
 use Rattle.dq_prep.specs.Units.{taken_literals, AreUnits, is_satisfied, without_false, left_of}
 use Rattle.dq_prep.specs.Simplified.{taken_at}
 use Rattle.dq_prep.proofs.Reduction.{Extending, reduced-true, any-kept, true-or-false}
-use Rattle.dq_prep.proofs.SignedLiterals.{same_literal-sound, same_literal-refl}
 
 -- each literal that was taken is true
 abbrev pub AllTrue : Assignment → List Literal → Type 0
 AllTrue m [] = Unit {0}
 AllTrue m (l ∷ ls) = (literal_true m l ≡ true) × AllTrue m ls
-
-opposite-false : (m : Assignment) (l : Literal) → literal_true m (opposite l) ≡ true → literal_true m l ≡ false
-opposite-false m (positive v) h = by (m v) h
-  where
-    by : (b : Bool) → not b ≡ true → b ≡ false
-    by true h = absurd (true≢false (sym h))
-    by false h = refl
-opposite-false m (negative v) h = ap not h
-
-holds-true : (m : Assignment) (trues : List Literal) (l : Literal) → AllTrue m trues → holds trues l ≡ true
-    → literal_true m l ≡ true
-holds-true m [] l all h = cc
-holds-true m (t ∷ ts) l all h =
-    elim (or_cases (same_literal l t) (holds ts l) h) [
-      | inl same ↦ ap (literal_true m) (same_literal-sound l t same) ∙ all.0
-      | inr later ↦ holds-true m ts l all.1 later
-    ]
 
 -- false literals may go
 without_false-true : (m : Assignment) (trues clause : List Literal) → AllTrue m trues → clause_true m clause ≡ true

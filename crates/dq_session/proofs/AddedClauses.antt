@@ -5,12 +5,14 @@ use Rattle.std.proofs.lemmas.Bool.{cases_lt}
 use Rattle.std.proofs.lemmas.List.{length-append, length-replicate, get_or_append_left}
 use Rattle.std.proofs.lemmas.List.Elements.{All-append, All-cons, All-nil}
 use Rattle.std.proofs.lemmas.Option.{slice_get_within}
+use Rattle.list_laws.proofs.Elements.{old_or_last, kept_there}
 use Rattle.dq_lits.specs.Literal.{Literal, variable_of}
 use Rattle.dq_lits.specs.Formula.{declared}
 use Rattle.dq_lits.specs.Expansion.{universal_literal_true}
 use Rattle.hint_log.specs.Entries.{Entry}
 use Rattle.hint_log.specs.Naming.{numbered_from_one}
 use Rattle.hint_log.specs.ProductiveSession.{frame_of}
+use Rattle.hint_log.proofs.NamedEntries.{numbered_low}
 use Rattle.log_laws.specs.Engines.{instances, part}
 use Rattle.oracle.specs.declared.groups.Group.{Group}
 use Rattle.expansion.specs.Table.{HasInstance}
@@ -18,17 +20,12 @@ use Rattle.dq_session.specs.Books.{BookState, frames_of, number_at, frame_at, gi
 use Rattle.dq_session.specs.Changes.{newest, with_clause}
 use Rattle.dq_session.specs.Changing.{ClausesCome}
 use Rattle.dq_session.proofs.GrownBooks.{IsGrown, entries_same}
-use Rattle.dq_session.proofs.Stacks.{old_or_last, get_more, clause_added, same_frame}
+use Rattle.dq_session.proofs.Stacks.{clause_added, same_frame}
 
 pub numbered_more : (xs ys : List (List Literal)) (j : ℕ) (c : List Literal) → numbered_from_one xs j ≡ Some c →
     numbered_from_one (xs ++ ys) j ≡ Some c
 numbered_more xs ys zero c is = cc
-numbered_more xs ys (suc i) c is = get_more xs ys i c is
-
-pub numbered_within : (xs : List (List Literal)) (j : ℕ) (c : List Literal) → numbered_from_one xs j ≡ Some c →
-    (1 ≤ j) × (j ≤ length xs)
-numbered_within xs zero c is = cc
-numbered_within xs (suc i) c is = let below = slice_get_within xs i c is in (omega arith, omega (arith, below))
+numbered_more xs ys (suc i) c is = kept_there xs ys i c is
 
 zero_behind : (xs : List ℕ) (p : ℕ) → length xs ≤ p → get_or (xs ++ 0 ∷ []) p 0 ≡ 0
 zero_behind [] zero past = refl
@@ -61,7 +58,7 @@ module _ (b : BookState) (clause : List Literal) (entries : List Entry) (some_op
   frame_stays : (j : ℕ) (c : List Literal) → numbered_from_one (matrix ++ b.added) j ≡ Some c →
       frame_of (frames_of after) j ≡ frame_of (frames_of b) j
   frame_stays j c is =
-      let inside = numbered_within (matrix ++ b.added) j c is in
+      let inside = numbered_low (matrix ++ b.added) j c is in
       let few = many in
       let low = inside.0 in
       let high = inside.1 in
@@ -79,7 +76,7 @@ module _ (b : BookState) (clause : List Literal) (entries : List Entry) (some_op
     clauses = λ j c is. subst (λ m. numbered_from_one m j ≡ Some c) (sym longer)
         (numbered_more (matrix ++ b.added) (clause ∷ []) j c is);
     same_frames = frame_stays;
-    more_given = λ place c is. let inside = numbered_within (matrix ++ b.added) (number_at b place) c is in
+    more_given = λ place c is. let inside = numbered_low (matrix ++ b.added) (number_at b place) c is in
         let high = inside.1 in let long = length-append matrix b.added in
         let same = given_stays place (omega (arith, high, long)) in omega (arith, same);
     kept_groups = λ frame g has. has;

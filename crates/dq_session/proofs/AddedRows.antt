@@ -12,6 +12,7 @@ use Rattle.hint_log.specs.ProductiveSession.{frame_of}
 use Rattle.hint_log.specs.declared.names.Name.{Name}
 use Rattle.hint_log.specs.declared.names.Name.TheVariants.{Selector, Pair, Input, And, Bad, Copy as CopyOf, Term}
 use Rattle.hint_log.specs.declared.origins.Origin.TheVariants.{Instance, Gate, Fault, Copy, Link, TermGate, Differ}
+use Rattle.hint_log.proofs.NamedEntries.{numbered_low}
 use Rattle.log_laws.specs.Engines.{circuits, instances, copies, same_engine, origin_engine, name_engine, is_engine, part, IsInGroup}
 use Rattle.log_laws.specs.Sessions.{IsAddedLive}
 use Rattle.log_laws.proofs.Kept.{NamesStay, each_of_weaker, name_stays_by}
@@ -19,10 +20,10 @@ use Rattle.log_laws.proofs.LargerLogs.{each_grown}
 use Rattle.expansion.specs.Adding.{IsRowEntry}
 use Rattle.expansion.specs.Table.{TableState, HasInstance, IsFullTable}
 use Rattle.expansion.proofs.AddedRows.{instance_behind}
-use Rattle.expansion.proofs.TableGrowth.{KeepsNames, KeepsEntries, named_keeps, more_keeps, unnamed_own, instance_kept}
+use Rattle.expansion.proofs.TableGrowth.{KeepsNames, KeepsEntries, more_keeps, unnamed_own, instance_kept}
 use Rattle.dq_session.specs.Books.{BookState, all_of, frames_of, number_of, IsStack, IsBookEntry, HasDoneInstances, IsBook, IsFullBook}
 use Rattle.dq_session.specs.Changes.{groups_of}
-use Rattle.dq_session.proofs.AddedClauses.{numbered_more, numbered_within}
+use Rattle.dq_session.proofs.AddedClauses.{numbered_more}
 use Rattle.dq_session.proofs.GrownBooks.{instance_by, entries_same}
 use Rattle.dq_session.proofs.LiveModels.{left_of}
 
@@ -40,7 +41,7 @@ module _ (f : Dqbf) (group : ℕ) (es : List Entry) (logged : AreLogged es) wher
   )
     where
       names : (t : Bool) → KeepsNames mine (cond t (Named v n ∷ mine) mine)
-      names true = named_keeps mine v n (unnamed_own es v logged h.unnamed)
+      names true = name_stays_by mine v n (unnamed_own es v logged h.unnamed)
       names false = λ u m is. is
 
       entries : (t : Bool) → KeepsEntries mine (cond t (Named v n ∷ mine) mine)
@@ -146,7 +147,7 @@ module _ (b : BookState) (t : TableState) (row : List Bool) (old : List Entry) (
       IsBookEntry after earlier e
   row_entry earlier (Named v n) h = tt
   row_entry earlier (Given (Instance k j) c) h =
-      let inside = numbered_within b.file.matrix j h.matches_origin.rest_is.clause h.matches_origin.rest_is.clause_is in
+      let inside = numbered_low b.file.matrix j h.matches_origin.rest_is.clause h.matches_origin.rest_is.clause_is in
       let high = inside.1 in
       record {
         right = instance_by b.file (b.file.matrix ++ b.added) earlier k j c

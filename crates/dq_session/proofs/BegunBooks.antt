@@ -5,6 +5,7 @@ use Rattle.std.proofs.lemmas.List.{append-nil, length-map}
 use Rattle.std.proofs.lemmas.List.FromFn.{get_or-map-range_with_len, length-map-range_with_len}
 use Rattle.std.proofs.lemmas.Option.{slice_get-get_or, slice_get_within, get_or_from_slice_get, slice_get-map}
 use Rattle.std.specs.Option.{option_map}
+use Rattle.list_laws.proofs.Members.{element_at, place_of}
 use Rattle.dq_lits.specs.Literal.{Literal}
 use Rattle.dq_lits.specs.Formula.{Dqbf, IsWellFormed}
 use Rattle.hint_log.specs.Entries.{Entry, Named, Given, Learned, Answer, Round, Begun, ProofLog, with_entry, name_of}
@@ -22,7 +23,6 @@ use Rattle.dq_session.specs.Books.{BookState, HasGroup, IsStack, IsBookEntry, Is
 use Rattle.dq_session.specs.Changes.{begun, file_live}
 use Rattle.dq_session.specs.declared.live.Live.{Live}
 use Rattle.dq_session.specs.declared.live.OpenFrame.{OpenFrame}
-use Rattle.dq_session.proofs.Stacks.{place_of, contains_at}
 
 live_is : (n m : ℕ) (l : Live) → slice_get (map file_live (range_with_len 1 n)) m ≡ Some l →
     (m < n) × (l ≡ file_live (m + 1))
@@ -46,7 +46,7 @@ number_live n j low high =
     slice_get-get_or live (j - 1) (file_live j) (omega (arith, low, high, long))
     ∙ ap Some (get_or-map-range_with_len file_live 1 n (j - 1) j (file_live j) (omega (arith, low, high))
     (omega (arith, low))) in
-    contains_at (map (λ (l : Live). l.clause) live) (j - 1) j
+    element_at (map (λ (l : Live). l.clause) live) (j - 1) j
     (slice_get-map (λ (l : Live). l.clause) live (j - 1) ∙ ap (option_map (λ (l : Live). l.clause)) here)
 
 begun_stack : (f : Dqbf) (t : TableState) → IsStack (begun f t)

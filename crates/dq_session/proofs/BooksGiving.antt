@@ -4,12 +4,14 @@ use Rattle.std.specs.List.{Contains, filter_map}
 use Rattle.std.specs.Option.{option_map}
 use Rattle.std.proofs.lemmas.List.{length-set}
 use Rattle.std.proofs.lemmas.Option.{slice_get-get_or}
+use Rattle.list_laws.proofs.Members.{filter_map-from, place_of}
 use Rattle.dq_lits.specs.Literal.{Literal, is_negative}
 use Rattle.hint_log.specs.Conditions.{AreLogged}
 use Rattle.hint_log.specs.Entries.{Entry, Named, Given, Learned, Answer, Round, Begun, ProofLog, with_entry, name_of}
 use Rattle.hint_log.specs.Growth.{Grew}
 use Rattle.hint_log.specs.ProductiveLog.{fault_groups, fault_room}
 use Rattle.hint_log.specs.declared.names.Name.TheVariants.{Selector}
+use Rattle.hint_log.proofs.NamedEntries.{unnamed_before}
 use Rattle.log_laws.specs.Engines.{instances}
 use Rattle.log_laws.specs.Sessions.{IsInOneOf, IsAddedLive}
 use Rattle.log_laws.proofs.Kept.{each_of_weaker}
@@ -21,11 +23,8 @@ use Rattle.dq_session.specs.Changes.{groups_of, IsCaughtUp}
 use Rattle.dq_session.specs.Changing.{with_group}
 use Rattle.dq_session.specs.Giving.{IsGiving}
 use Rattle.dq_session.specs.Shown.{IsRefutedLive}
-use Rattle.dq_session.proofs.GrownBooks.{unnamed_before}
-use Rattle.dq_session.proofs.LiveModels.{passed_by}
 use Rattle.dq_session.proofs.MadeGroups.{kept, new_or_old, group_book}
 use Rattle.dq_session.proofs.StandingBooks.{has_number}
-use Rattle.dq_session.proofs.Stacks.{place_of}
 
 pub giving_none : (b : BookState) (log new : ProofLog) → IsFullBook b log.entries
     → length (fault_groups log.entries) ≤ fault_room log.entries → new ≡ log → IsGiving b log b new
@@ -39,10 +38,10 @@ giving_none b log new full few same = subst (IsGiving b log b) (sym same) (recor
 })
 
 -- a group among the frames' is some frame's
-group_in : (groups : List (Option Group)) (v : ℕ) → Contains (filter_map (option_map number_of) groups) v →
+pub group_in : (groups : List (Option Group)) (v : ℕ) → Contains (filter_map (option_map number_of) groups) v →
     (frame : ℕ) × (g : Group) × (slice_get groups frame ≡ Some (Some g)) × (number_of g ≡ v)
 group_in groups v has =
-    let p = passed_by (option_map number_of) groups v has in
+    let p = filter_map-from (option_map number_of) groups v has in
     let at = place_of groups p.0 p.1 in
     by p.0 at.0 at.1 p.2
   where

@@ -1,15 +1,16 @@
 -- A book whose frames change.
 use Rattle.std.proofs.Common.{◌≡◌, ℕ, ◌⊎◌, inl, inr, [], ◌∷◌, ◌++◌, length, slice_get, Some, None, refl, arith}
+use Rattle.list_laws.proofs.Elements.{old_or_last, kept_there}
 use Rattle.oracle.specs.declared.groups.Group.{Group}
 use Rattle.dq_session.specs.Books.{BookState, HasGroup}
 use Rattle.dq_session.specs.Changes.{with_frame, without_frame}
 use Rattle.dq_session.specs.Changing.{FramesOpen, FramesClose}
 use Rattle.dq_session.proofs.GrownBooks.{entries_same}
-use Rattle.dq_session.proofs.Stacks.{old_or_last, get_more, frame_opened, frame_closed}
+use Rattle.dq_session.proofs.Stacks.{frame_opened, frame_closed}
 
 -- a frame that is opened has no group yet
 kept_group : (b : BookState) (frame : ℕ) (g : Group) → HasGroup b frame g → HasGroup (with_frame b) frame g
-kept_group b frame g has = get_more b.groups (None ∷ []) frame (Some g) has
+kept_group b frame g has = kept_there b.groups (None ∷ []) frame (Some g) has
 
 old_group : (b : BookState) (frame : ℕ) (g : Group) → HasGroup (with_frame b) frame g → HasGroup b frame g
 old_group b frame g has = by (old_or_last b.groups None (Some g) frame has)
@@ -43,7 +44,7 @@ frames_open b es book = record {
   done = book.done;
   instances = λ k place row clause row_is clause_is less live.
       let r = book.instances k place row clause row_is clause_is less live in
-      (r.0, get_more b.groups (None ∷ []) _ (Some r.0) r.1, r.2);
+      (r.0, kept_there b.groups (None ∷ []) _ (Some r.0) r.1, r.2);
 }
 
 pub frames_close : FramesClose

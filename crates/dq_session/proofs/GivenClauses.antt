@@ -5,6 +5,7 @@ use Rattle.std.specs.Option.{option_and_then}
 use Rattle.std.proofs.lemmas.Bool.{cases_lt, eqb-true, eq-eqb, ne_eqb}
 use Rattle.std.proofs.lemmas.List.{length-set, get_or_default, get_or-set_same, get_or-set_other}
 use Rattle.std.proofs.lemmas.Option.{slice_get-get_or, slice_get_within}
+use Rattle.list_laws.proofs.Elements.{old_or_last}
 use Rattle.dq_lits.specs.Literal.{Literal, negative}
 use Rattle.dq_lits.specs.Expansion.{universal_literal_true}
 use Rattle.hint_log.specs.Conditions.{AreLogged}
@@ -14,24 +15,24 @@ use Rattle.hint_log.specs.Naming.{numbered_from_one, AreNamedAs, on_arbiter, row
 use Rattle.hint_log.specs.Origins.{IsOriginsClause}
 use Rattle.hint_log.specs.ProductiveLog.{fault_groups, fault_room}
 use Rattle.hint_log.specs.declared.origins.Origin.TheVariants.{Instance}
+use Rattle.hint_log.proofs.NamedEntries.{each_one}
 use Rattle.log_laws.specs.Engines.{instances, part}
 use Rattle.log_laws.specs.Sessions.{IsAddedLive}
 use Rattle.log_laws.proofs.LargerLogs.{grown_by, grown_by_none}
+use Rattle.log_laws.proofs.Kept.{named_stay}
 use Rattle.oracle.specs.Calls.{IsMade}
 use Rattle.oracle.specs.declared.groups.Group.{Group}
 use Rattle.expansion.specs.Giving.{IsGivenInstance}
 use Rattle.expansion.specs.Table.{HasInstance, IsTable}
 use Rattle.expansion.proofs.GivenInstances.{rounds_are_rows}
 use Rattle.expansion.proofs.InstanceModels.{own_name, head_or_tail}
-use Rattle.expansion.proofs.TableGrowth.{KeepsNames, KeepsEntries, more_keeps, literals_kept, instance_kept}
+use Rattle.expansion.proofs.TableGrowth.{KeepsNames, KeepsEntries, more_keeps, instance_kept}
 use Rattle.dq_session.specs.Books.{BookState, all_of, number_at, frame_at, given_at, HasGroup, number_of, IsStack, IsFrameInstance, IsBookEntry, AreFrameGroups, HasDoneInstances, IsBook, IsFullBook}
 use Rattle.dq_session.specs.Changes.{groups_of, IsCaughtUp}
 use Rattle.dq_session.specs.Giving.{IsGiving}
 use Rattle.dq_session.proofs.GrownBooks.{entries_same}
-use Rattle.dq_session.proofs.GroupedFrames.{each_contained}
 use Rattle.dq_session.proofs.LiveRefutations.{frame_of_added}
 use Rattle.dq_session.proofs.StandingBooks.{in_one_group, has_number}
-use Rattle.dq_session.proofs.Stacks.{old_or_last}
 
 -- the row of a round, by its number
 pub row_there : (es : List Entry) (k : ℕ) (row : List Bool) → slice_get (rows_of es) k ≡ Some row →
@@ -213,7 +214,7 @@ module _ (b : BookState) (place k : ℕ) (g : Group) (row : List Bool) (clause :
     right =
         let plus_one : number_at b place ≡ suc (length b.file.matrix + place) = omega arith in
         let in_log : AreNamedAs es rest (filter_map (on_arbiter b.file b.table.rows row) clause) =
-        literals_kept mine es (λ v n is. own_name instances es v n logged is) rest
+        named_stay mine es (λ v n is. own_name instances es v n logged is) rest
         (filter_map (on_arbiter b.file b.table.rows row) clause) named in
         record {
           group = number_of g;
@@ -246,7 +247,7 @@ module _ (b : BookState) (place k : ℕ) (g : Group) (row : List Bool) (clause :
 
     not_yet : (d : List Literal) → Contains es (Given (Instance k (number_at b place)) d) → ⊥
     not_yet d there =
-        let entry = each_contained (IsBookEntry b) es (Given (Instance k (number_at b place)) d) book.givens there in
+        let entry = each_one (IsBookEntry b) es (Given (Instance k (number_at b place)) d) book.givens there in
         let before = entry.1.done place refl in
         omega (arith, before, next)
 
@@ -287,7 +288,7 @@ module _ (b : BookState) (place k : ℕ) (g : Group) (row : List Bool) (clause :
       instances = instances_in (e ∷ mine) (λ v n is. is) (more_keeps mine e) (λ still. record {
         rest = rest;
         given = (0, omega arith, ap (λ n. Given (Instance n (number_at b place)) c) (sym back));
-        named = literals_kept mine (e ∷ mine) (λ v n is. is) rest
+        named = named_stay mine (e ∷ mine) (λ v n is. is) rest
             (filter_map (on_arbiter b.file b.table.rows row) clause) named;
       });
     }

@@ -1,27 +1,20 @@
 -- Instances have one group where their clauses are of one frame.
-use Rattle.std.proofs.Common.{◌≡◌, ℕ, zero, suc, inl, inr, List, [], ◌∷◌, slice_get, Some, refl, sym, ◌∙◌, ap, subst, arith}
+use Rattle.std.proofs.Common.{◌≡◌, ℕ, inl, inr, List, ◌∷◌, slice_get, Some, refl, sym, ◌∙◌, ap, arith}
 use Rattle.std.specs.List.{Contains}
 use Rattle.dq_lits.specs.Literal.{Literal, negative}
 use Rattle.hint_log.specs.Entries.{Entry, Given}
-use Rattle.hint_log.specs.Growth.{Each}
 use Rattle.hint_log.specs.ProductiveSession.{frame_of}
 use Rattle.hint_log.specs.declared.origins.Origin.TheVariants.{Instance}
+use Rattle.hint_log.proofs.NamedEntries.{each_one}
 use Rattle.dq_session.specs.Books.{BookState, frames_of, number_of, IsInFrame, IsBookEntry, IsBook}
 use Rattle.dq_session.specs.Grouped.{InstancesAreGrouped}
 use Rattle.dq_session.proofs.StandingBooks.{in_one_group}
-
--- a fact of each entry, at one of them
-pub each_contained : (P : List Entry → Entry → Type 0) (es : List Entry) (e : Entry) → Each P es → Contains es e →
-    (earlier : List Entry) × P earlier e
-each_contained P [] e each (k, below, is) = absurd (omega (arith, below))
-each_contained P (x ∷ es) e each (zero, below, is) = (es, subst (P es) is each.0)
-each_contained P (x ∷ es) e each (suc k, below, is) = each_contained P es e each.1 (k, omega (arith, below), is)
 
 module _ (b : BookState) (es : List Entry) (book : IsBook b es) where
   pub frame_group : (k j group : ℕ) (rest : List Literal) → Contains es (Given (Instance k j) (negative group ∷ rest)) →
       IsInFrame b (frame_of (frames_of b) j) (negative group ∷ rest)
   frame_group k j group rest has =
-      (each_contained (IsBookEntry b) es (Given (Instance k j) (negative group ∷ rest)) book.givens has).1.in_frame
+      (each_one (IsBookEntry b) es (Given (Instance k j) (negative group ∷ rest)) book.givens has).1.in_frame
 
   same_frame : (F G group group' : ℕ) (rest rest' : List Literal) → IsInFrame b F (negative group ∷ rest) →
       IsInFrame b G (negative group' ∷ rest') → group ≡ group' → F ≡ G

@@ -1,5 +1,5 @@
 -- What was given stays right where a book gets further clauses, groups and rows.
-use Rattle.std.proofs.Common.{◌≡◌, ℕ, ◌≤◌, ◌==◌, Bool, true, false, cond, ◌⊎◌, inl, inr, List, [], ◌∷◌, Option, Some, None, IsSome, sym, subst, arith}
+use Rattle.std.proofs.Common.{◌≡◌, ℕ, ◌≤◌, ◌⊎◌, inl, inr, List, [], ◌∷◌, Option, Some, None, IsSome, sym, subst, arith}
 use Rattle.dq_lits.specs.Literal.{Literal, negative}
 use Rattle.dq_lits.specs.Formula.{Dqbf}
 use Rattle.hint_log.specs.Conditions.{AreNamed, MayFollow}
@@ -11,6 +11,7 @@ use Rattle.hint_log.specs.Origins.{IsOriginsClause}
 use Rattle.hint_log.specs.ProductiveSession.{frame_of}
 use Rattle.hint_log.specs.declared.origins.Origin.{Origin}
 use Rattle.hint_log.specs.declared.origins.Origin.TheVariants.{Instance, Gate, Fault, Copy, Link, TermGate, Differ}
+use Rattle.hint_log.proofs.NamedEntries.{unnamed_before}
 use Rattle.log_laws.specs.Engines.{IsInGroup}
 use Rattle.oracle.specs.declared.groups.Group.{Group}
 use Rattle.expansion.specs.Table.{TableState}
@@ -38,19 +39,6 @@ instance_by f matrix earlier k j c same o = record {
   };
   one_leaf = λ v a i a' i' leaf leaf' rest' is. cc;
 }
-
--- what has no name had none before
-pub unnamed_before : (e : Entry) (es : List Entry) (v : ℕ) → name_of (e ∷ es) v ≡ None → name_of es v ≡ None
-unnamed_before (Named w n) es v none = by (v == w) none
-  where
-    by : (b : Bool) → cond b (Some n) (name_of es v) ≡ None → name_of es v ≡ None
-    by true is = cc
-    by false is = is
-unnamed_before (Given o c) es v none = none
-unnamed_before (Learned c hs) es v none = none
-unnamed_before (Answer c hs) es v none = none
-unnamed_before (Round r b j) es v none = none
-unnamed_before (Begun live) es v none = none
 
 -- a clause of a group stands on the group's variable, which has a name
 pub in_unnamed : (es : List Entry) (g : ℕ) (c : List Literal) → AreNamed es c → name_of es g ≡ None → IsInGroup g c → ⊥

@@ -8,7 +8,7 @@ mod LiveRefutations
 pub mod GroupedFrames
 mod MadeGroups
 mod GivenClauses
-mod BooksGiving
+pub mod BooksGiving
 pub mod FreshGroups
 mod BegunBooks
 mod AddedRows

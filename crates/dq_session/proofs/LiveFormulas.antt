@@ -4,6 +4,7 @@ use Rattle.std.specs.List.{All, Contains, filter_map, cons_option}
 use Rattle.std.proofs.lemmas.List.{length-append}
 use Rattle.std.proofs.lemmas.List.Elements.{All-contains}
 use Rattle.std.proofs.lemmas.Option.{slice_get-get_or}
+use Rattle.list_laws.proofs.Members.{element_at}
 use Rattle.dq_lits.specs.Literal.{Literal, variable_of}
 use Rattle.dq_lits.specs.Formula.{declared}
 use Rattle.hint_log.specs.Entries.{Entry}
@@ -13,7 +14,6 @@ use Rattle.dq_session.specs.Books.{BookState, all_of, number_at, frame_at, IsOpe
 use Rattle.dq_session.specs.declared.live.Live.{Live}
 use Rattle.dq_session.proofs.LivePlaces.{number_above}
 use Rattle.dq_session.proofs.Searches.{taken_more}
-use Rattle.dq_session.proofs.Stacks.{contains_at}
 
 -- the clauses of the first so many live ones
 abbrev pub first_clauses : BookState → ℕ → List (List Literal)
@@ -45,7 +45,7 @@ pub live_within : (b : BookState) (es : List Entry) → IsBook b es → (i : ℕ
     (i < l.clause) × (l.clause ≤ length (all_of b).matrix)
 live_within b es book i l is =
     let up = number_above b book.stack i l is in
-    (omega (arith, up), by (book.stack.frames l (contains_at b.live i l is)))
+    (omega (arith, up), by (book.stack.frames l (element_at b.live i l is)))
   where
     by : ((1 ≤ l.clause) × (l.clause ≤ length b.file.matrix) × (l.frame ≡ 0))
         ⊎ ((place : ℕ) × (l.clause ≡ number_at b place) × (place < length b.added)

@@ -1,15 +1,17 @@
 -- The points of a search over the groups of open frames.
 use Rattle.std.proofs.Common.{◌≡◌, ℕ, zero, suc, ◌+◌, ◌-◌, ◌≤◌, ◌<◌, ◌⊎◌, inl, inr, Bool, true, false, not, ◌||◌, cond, List, [], ◌∷◌, ◌++◌, map, length, slice_get, slice_index_or, Option, Some, None, refl, sym, ◌∙◌, ap, subst, arith}
-use Rattle.std.specs.List.{All, Contains, list_any, filter_map, cons_option}
+use Rattle.std.specs.List.{All, Contains, list_any, filter_map}
 use Rattle.std.specs.Option.{option_map}
 use Rattle.std.proofs.lemmas.List.{get_or_default}
 use Rattle.std.proofs.lemmas.List.Elements.{All-contains}
 use Rattle.std.proofs.lemmas.Option.{slice_get-get_or, slice_get_within, get_or_from_slice_get, slice_get-map}
-use Rattle.dq_lits.specs.Literal.{Literal, Assignment, positive, negative, variable_of, is_negative, literal_true, clause_true}
+use Rattle.list_laws.proofs.Members.{contains_map, contains-filter_map, filter_map-from, element_at}
+use Rattle.dq_lits.specs.Literal.{Literal, Assignment, positive, negative, variable_of, literal_true, clause_true}
 use Rattle.dq_lits.specs.Derivation.{MakesTrue}
 use Rattle.dq_lits.specs.Row.{assignment_of}
 use Rattle.dq_lits.specs.Formula.{Dqbf, declared, IsWellFormed}
 use Rattle.dq_lits.specs.Expansion.{universal_literal_true, pair_literal, InstanceHolds, IsExpansionModel, pair_number}
+use Rattle.dq_lits.proofs.TrueClauses.{positive_true}
 use Rattle.hint_log.specs.Conditions.{AreLogged}
 use Rattle.hint_log.specs.Entries.{Entry, Given, Learned, Answer, Named, Round, Begun, clause_at}
 use Rattle.hint_log.specs.Growth.{EachOf}
@@ -29,36 +31,7 @@ use Rattle.dq_session.specs.Giving.{IsWhole}
 use Rattle.dq_session.specs.Searching.{SearchesLeaveBooks, FoundPointsAreLive}
 use Rattle.dq_session.specs.declared.live.Live.{Live}
 use Rattle.dq_session.proofs.StandingBooks.{IsForeign, books_stand}
-use Rattle.dq_session.proofs.Stacks.{live_at, contains_at}
-
-behind : {Y : Type 0} (o : Option Y) (ys : List Y) (y : Y) → Contains ys y → Contains (cons_option o ys) y
-behind None ys y has = has
-behind (Some z) ys y (k, below, at) = (suc k, omega (arith, below), at)
-
-first_or_behind : {Y : Type 0} (o : Option Y) (ys : List Y) (y : Y) → Contains (cons_option o ys) y →
-    (o ≡ Some y) ⊎ Contains ys y
-first_or_behind None ys y has = inr has
-first_or_behind (Some z) ys y (zero, below, at) = inl (ap Some at)
-first_or_behind (Some z) ys y (suc k, below, at) = inr (k, omega (arith, below), at)
-
--- what passes, and from what
-pub passed_by : {X Y : Type 0} (h : X → Option Y) (xs : List X) (y : Y) → Contains (filter_map h xs) y →
-    (x : X) × Contains xs x × (h x ≡ Some y)
-passed_by h [] y (k, below, is) = absurd (omega (arith, below))
-passed_by h (x ∷ xs) y has =
-    elim (first_or_behind (h x) (filter_map h xs) y has) [
-      | inl here ↦ (x, (0, omega arith, refl), here)
-      | inr later ↦ (let r = passed_by h xs y later in let k = r.1.0 in let below = r.1.1 in
-          (r.0, (suc k, omega (arith, below), r.1.2), r.2))
-    ]
-
-pub kept_by : {X Y : Type 0} (h : X → Option Y) (xs : List X) (x : X) (y : Y) → Contains xs x → h x ≡ Some y →
-    Contains (filter_map h xs) y
-kept_by h [] x y (k, below, is) passes = absurd (omega (arith, below))
-kept_by h (z ∷ xs) x y (zero, below, is) passes =
-    subst (λ o. Contains (cons_option o (filter_map h xs)) y) (sym (ap h is ∙ passes)) (0, omega arith, refl)
-kept_by h (z ∷ xs) x y (suc k, below, is) passes =
-    behind (h z) (filter_map h xs) y (kept_by h xs x y (k, omega (arith, below), is) passes)
+use Rattle.dq_session.proofs.Stacks.{live_at}
 
 pub left_of : {X : Type 0} (xs ys : List X) (i : ℕ) (x : X) → i < length xs → slice_get (xs ++ ys) i ≡ Some x →
     slice_get xs i ≡ Some x
@@ -108,7 +81,7 @@ module _ (b : BookState) (es : List Entry) (book : IsBook b es) (whole : IsWhole
     };
     bound = λ k d below.
         let c = slice_index_or now.matrix k d in
-        let p = passed_by (numbered_from_one (all_of b).matrix) (live_of b) c
+        let p = filter_map-from (numbered_from_one (all_of b).matrix) (live_of b) c
         (k, below, get_or_default now.matrix k c d below) in
         All-contains (All (λ l. Contains (declared b.file) (variable_of l))) (all_of b).matrix c book.well_formed.bound
         (numbered_among (all_of b).matrix p.0 c p.2);
@@ -127,9 +100,9 @@ module _ (b : BookState) (es : List Entry) (book : IsBook b es) (whole : IsWhole
       Contains now.matrix clause → list_any (universal_literal_true now row) clause ≡ false
       → clause_true model (filter_map (pair_literal now rows row) clause) ≡ true
   live_true k row clause row_is has open_row =
-      let p = passed_by (numbered_from_one (all_of b).matrix) (live_of b) clause has in
+      let p = filter_map-from (numbered_from_one (all_of b).matrix) (live_of b) clause has in
       let at = live_at b.live p.0 p.1 in
-      by p.0 at.1 p.1 p.2 at.3 (book.stack.frames at.1 (contains_at b.live at.0 at.1 at.2))
+      by p.0 at.1 p.1 p.2 at.3 (book.stack.frames at.1 (element_at b.live at.0 at.1 at.2))
     where
       by : (j : ℕ) (l : Live) → Contains (live_of b) j → numbered_from_one (all_of b).matrix j ≡ Some clause →
           l.clause ≡ j → ((1 ≤ l.clause) × (l.clause ≤ length b.file.matrix) × (l.frame ≡ 0))
@@ -192,24 +165,10 @@ module _ (b : BookState) (es : List Entry) (book : IsBook b es) (whole : IsWhole
           rw is (row_bits now formula es logged rows values row variables vs
           (variables_are ∙ book.table.existentials) (book.table.own.arbiters k row vs row_is pairs_are))
 
--- the groups of open frames are active
-literal_on : (values : Assignment) (l : Literal) → is_negative l ≡ false → literal_true values l ≡ true →
-    values (variable_of l) ≡ true
-literal_on values (positive v) plain on = on
-literal_on values (negative v) plain on = cc
-
-contains_map : {X Y : Type 0} (h : X → Y) (xs : List X) (x : X) → Contains xs x → Contains (map h xs) (h x)
-contains_map h [] x (k, below, is) = absurd (omega (arith, below))
-contains_map h (z ∷ xs) x (zero, below, is) = (0, omega arith, ap h is)
-contains_map h (z ∷ xs) x (suc k, below, is) =
-    let r = contains_map h xs x (k, omega (arith, below), is) in
-    let less = r.1 in
-    (suc r.0, omega (arith, less), r.2)
-
 pub open_group : (b : BookState) (frame : ℕ) (g : Group) → IsOpen b frame → HasGroup b frame g →
     Contains (open_groups b) g
 open_group b frame g (o, has, is) group_is =
-    kept_by (λ x. slice_index_or b.groups x.number None) b.open_frames o g has
+    contains-filter_map (λ x. slice_index_or b.groups x.number None) b.open_frames o g has
     (ap (λ n. slice_index_or b.groups n None) is ∙ get_or_from_slice_get b.groups frame (Some g) None group_is)
 
 pub found_live : FoundPointsAreLive
@@ -222,7 +181,7 @@ found_live b es points book whole logged found =
     (λ frame g is_open has.
     let r = contains_map (λ (x : Group). x.selector) (open_groups b) g (open_group b frame g is_open has) in
     let less = r.1 in
-    literal_on found.values g.selector (book.groups.made frame g has).positive
+    positive_true found.values g.selector (book.groups.made frame g has).positive
     (on g.selector (suc r.0, omega (arith, less), r.2)))
     points.variables points.rows found.variables found.bits
 

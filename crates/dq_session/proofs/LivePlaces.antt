@@ -3,12 +3,13 @@ use Rattle.std.proofs.Common.{◌≡◌, ℕ, zero, suc, ◌+◌, ◌≤◌, ◌
 use Rattle.std.specs.List.{Contains}
 use Rattle.std.proofs.lemmas.Bool.{cases_lt}
 use Rattle.std.proofs.lemmas.Option.{slice_get-get_or, slice_get_within}
+use Rattle.list_laws.proofs.Members.{element_at}
 use Rattle.hint_log.specs.Entries.{ProofLog}
 use Rattle.dq_session.specs.Books.{BookState, number_at, frame_at, given_at, IsOpen, IsStack}
 use Rattle.dq_session.specs.Changes.{IsCaughtUp}
 use Rattle.dq_session.specs.Giving.{IsGiving, IsWhole}
 use Rattle.dq_session.specs.declared.live.Live.{Live}
-use Rattle.dq_session.proofs.Stacks.{live_at, contains_at}
+use Rattle.dq_session.proofs.Stacks.{live_at}
 
 module _ (b : BookState) (s : IsStack b) where
   abbrev n : ℕ
@@ -25,7 +26,7 @@ module _ (b : BookState) (s : IsStack b) where
 
   -- a place is below its clause's number
   pub number_above : (i : ℕ) (l : Live) → slice_get b.live i ≡ Some l → i + 1 ≤ l.clause
-  number_above zero l is = let low = from_one l (contains_at b.live zero l is) in omega (arith, low)
+  number_above zero l is = let low = from_one l (element_at b.live zero l is) in omega (arith, low)
   number_above (suc i) l is =
       let below = slice_get_within b.live (suc i) l is in
       let before = slice_get-get_or b.live i l (omega (arith, below)) in
@@ -83,7 +84,7 @@ module _ (b : BookState) (s : IsStack b) where
   -- which one stands there
   pub added_at : (i : ℕ) (l : Live) → slice_get b.live i ≡ Some l → n ≤ i →
       (place : ℕ) × (l.clause ≡ number_at b place) × (place < length b.added)
-  added_at i l is past = by (s.frames l (contains_at b.live i l is))
+  added_at i l is past = by (s.frames l (element_at b.live i l is))
     where
       by : ((1 ≤ l.clause) × (l.clause ≤ length b.file.matrix) × (l.frame ≡ 0))
           ⊎ ((place : ℕ) × (l.clause ≡ number_at b place) × (place < length b.added)

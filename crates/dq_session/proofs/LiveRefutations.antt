@@ -4,6 +4,7 @@ use Rattle.std.specs.List.{All, Contains}
 use Rattle.std.proofs.lemmas.Bool.{cases_lt}
 use Rattle.std.proofs.lemmas.List.{length-append, length-replicate, get_or_append_left, get_or_default, get_or-append-add}
 use Rattle.std.proofs.lemmas.Option.{slice_get-get_or}
+use Rattle.list_laws.proofs.Members.{contains-filter_map, filter_map-from, place_of}
 use Rattle.dq_lits.specs.Literal.{Literal, positive, variable_of}
 use Rattle.dq_lits.specs.Formula.{declared, IsWellFormed}
 use Rattle.dq_lits.specs.Expansion.{IsExpansionUnsatisfiable}
@@ -16,6 +17,7 @@ use Rattle.hint_log.specs.Origins.{IsOriginsClause}
 use Rattle.hint_log.specs.ProductiveSession.{frame_of}
 use Rattle.hint_log.specs.declared.origins.Origin.{Origin}
 use Rattle.hint_log.specs.declared.origins.Origin.TheVariants.{Instance, Gate, Fault, Copy, Link, TermGate, Differ}
+use Rattle.hint_log.proofs.NamedEntries.{numbered_low}
 use Rattle.log_laws.specs.Engines.{IsInGroup}
 use Rattle.log_laws.proofs.Found.{split_at, each_at}
 use Rattle.log_laws.proofs.Implied.{LinesAreImplied}
@@ -31,16 +33,14 @@ use Rattle.dq_session.specs.Books.{BookState, all_of, frames_of, live_of, now_of
 use Rattle.dq_session.specs.Changes.{open_groups}
 use Rattle.dq_session.specs.Shown.{IsRefutedLive}
 use Rattle.dq_session.specs.Searching.{LiveAnswersRefute}
-use Rattle.dq_session.proofs.AddedClauses.{numbered_within}
-use Rattle.dq_session.proofs.LiveModels.{passed_by, kept_by, books_searched}
+use Rattle.dq_session.proofs.LiveModels.{books_searched}
 use Rattle.dq_session.proofs.StandingBooks.{in_one_group}
-use Rattle.dq_session.proofs.Stacks.{place_of}
 
 -- a group that is open is an open frame's
 pub group_open : (b : BookState) (es : List Entry) → IsBook b es → (g : Group) → Contains (open_groups b) g →
     (frame : ℕ) × IsOpen b frame × HasGroup b frame g
 group_open b es book g has =
-    let p = passed_by (λ o. slice_index_or b.groups o.number None) b.open_frames g has in
+    let p = filter_map-from (λ o. slice_index_or b.groups o.number None) b.open_frames g has in
     let at = place_of b.open_frames p.0 p.1 in
     let known = (book.stack.known at.0 p.0 at.1).1 in
     (p.0.number, (p.0, p.1, refl), slice_get-get_or b.groups p.0.number None known ∙ ap Some p.2)
@@ -60,7 +60,7 @@ pub live_by_frame : (b : BookState) (es : List Entry) → IsBook b es → (j : �
 live_by_frame b es book j c at where_it_is = by (cases_lt (length b.file.matrix) j)
   where
     inside : (1 ≤ j) × (j ≤ length (b.file.matrix ++ b.added))
-    inside = numbered_within (b.file.matrix ++ b.added) j c at
+    inside = numbered_low (b.file.matrix ++ b.added) j c at
 
     by : (length b.file.matrix < j) ⊎ (j ≤ length b.file.matrix) → Contains (live_of b) j
     by (inr few) = book.stack.file_live j inside.0 few
@@ -93,7 +93,7 @@ module _ (b : BookState) (es : List Entry) (book : IsBook b es) (earlier : List 
       (IsInGroup b.table.group c → IsInstance (Instance k j) × IsOriginsClause b.file earlier (Instance k j) c)
       → IsOpen b (frame_of (frames_of b) j) ⊎ (j ≤ length b.file.matrix)
   open_frame k j entry (inl inside) own =
-      inr (numbered_within b.file.matrix j (own inside).1.rest_is.clause (own inside).1.rest_is.clause_is).1
+      inr (numbered_low b.file.matrix j (own inside).1.rest_is.clause (own inside).1.rest_is.clause_is).1
   open_frame k j entry (inr (frame, g, is_open, has, inside)) own = by entry.in_frame
     where
       by : IsInFrame b (frame_of (frames_of b) j) c →
@@ -149,7 +149,7 @@ is_right b earlier c (Differ y leaf i) h = absurd h
 is_among : (b : BookState) (earlier : List Entry) (c : List Literal) (origin : Origin) →
     IsLiveInstance b earlier c origin → IsInstanceAmong (all_of b) (now_of b).matrix origin
 is_among b earlier c (Instance k j) h = λ clause at.
-    kept_by (numbered_from_one (all_of b).matrix) (live_of b) j clause h.1 at
+    contains-filter_map (numbered_from_one (all_of b).matrix) (live_of b) j clause h.1 at
 is_among b earlier c (Gate v i) h = absurd h
 is_among b earlier c (Fault j i leaf) h = absurd h
 is_among b earlier c (Copy side j) h = absurd h

@@ -9,7 +9,7 @@ use Rattle.oracle.specs.Calls.{IsMade}
 use Rattle.oracle.specs.declared.groups.Group.{Group}
 use Rattle.dq_lits.specs.Literal.{is_negative}
 use Rattle.dq_session.specs.Books.{BookState, HasGroup, number_of, IsStack, IsBook}
-use Rattle.dq_session.specs.Changing.{with_group, GroupsCome}
+use Rattle.dq_session.specs.Changing.{with_group}
 use Rattle.dq_session.proofs.GrownBooks.{entries_kept}
 use Rattle.dq_session.proofs.StandingBooks.{name_more, book_stands}
 
@@ -158,6 +158,3 @@ module _ (b : BookState) (frame : ℕ) (g : Group) (es : List Entry) (one : 1 �
           HasGroup b F h ⊎ (name_of es (number_of h) ≡ None)
       fresh F h (inl (here, same)) = inr (ap (λ x. name_of es (number_of x)) (sym same) ∙ unnamed)
       fresh F h (inr old) = inl old
-
-pub groups_come : GroupsCome
-groups_come b frame g es one free logged plain unnamed book = group_book b frame g es one free logged plain unnamed book

@@ -7,6 +7,7 @@ use Rattle.hint_log.specs.Entries.{Entry, Named, Given, Learned, Answer, Round, 
 use Rattle.hint_log.specs.Growth.{Grew}
 use Rattle.hint_log.specs.declared.origins.Origin.{Origin}
 use Rattle.hint_log.specs.declared.origins.Origin.TheVariants.{Instance, Gate, Fault, Copy, Link, TermGate, Differ}
+use Rattle.hint_log.proofs.NamedEntries.{each_one}
 use Rattle.log_laws.specs.Engines.{instances}
 use Rattle.log_laws.specs.Sessions.{IsAddedLive}
 use Rattle.log_laws.proofs.Kept.{each_of_weaker}
@@ -15,7 +16,6 @@ use Rattle.expansion.specs.Searches.{HoldInstances, IsSearchEntry}
 use Rattle.expansion.specs.Table.{TableState}
 use Rattle.dq_session.specs.Books.{BookState, HasGroup, IsBookEntry, IsBook, IsFullBook}
 use Rattle.dq_session.specs.Changes.{open_groups}
-use Rattle.dq_session.proofs.GroupedFrames.{each_contained}
 use Rattle.dq_session.proofs.LiveRefutations.{group_open}
 
 search_added : (all : Dqbf) (groups : List ℕ) (silent : Bool) (first earlier : List Entry) (e : Entry) →
@@ -42,7 +42,7 @@ module _ (b : BookState) (es : List Entry) (book : IsBook b es) where
   pub open_hold : HoldInstances (open_groups b) es
   open_hold g origin c has given inside =
       let at = group_open b es book g has in
-      let entry = each_contained (IsBookEntry b) es (Given origin c) book.givens given in
+      let entry = each_one (IsBookEntry b) es (Given origin c) book.givens given in
       by origin at.0 at.2 entry.0 entry.1
     where
       by : (o : Origin) (frame : ℕ) → HasGroup b frame g → (earlier : List Entry) →

@@ -4,29 +4,13 @@ use Rattle.std.specs.List.{Contains}
 use Rattle.std.proofs.lemmas.List.{length-append, length-take-le, get_or_append_left}
 use Rattle.std.proofs.lemmas.Bool.{cases_lt}
 use Rattle.std.proofs.lemmas.Option.{slice_get-get_or, slice_get_within, get_or_from_slice_get}
+use Rattle.list_laws.proofs.Elements.{old_or_last, kept_there, last_there}
+use Rattle.list_laws.proofs.Members.{element_at, place_of}
 use Rattle.dq_lits.specs.Literal.{Literal}
 use Rattle.dq_session.specs.Books.{BookState, live_of, number_at, frame_at, IsOpen, IsStack}
 use Rattle.dq_session.specs.Changes.{newest, with_frame, with_clause, without_frame}
 use Rattle.dq_session.specs.declared.live.Live.{Live}
 use Rattle.dq_session.specs.declared.live.OpenFrame.{OpenFrame}
-
-pub old_or_last : {X : Type 0} (xs : List X) (x y : X) (k : ℕ) → slice_get (xs ++ x ∷ []) k ≡ Some y →
-    (slice_get xs k ≡ Some y) ⊎ ((k ≡ length xs) × (x ≡ y))
-old_or_last [] x y zero is = inr (refl, cc)
-old_or_last [] x y (suc k) is = cc
-old_or_last (z ∷ xs) x y zero is = inl is
-old_or_last (z ∷ xs) x y (suc k) is = by (old_or_last xs x y k is)
-  where
-    by : (slice_get xs k ≡ Some y) ⊎ ((k ≡ length xs) × (x ≡ y)) →
-        (slice_get xs k ≡ Some y) ⊎ ((suc k ≡ suc (length xs)) × (x ≡ y))
-    by (inl old) = inl old
-    by (inr (place, same)) = inr (ap suc place, same)
-
-pub get_more : {X : Type 0} (xs ys : List X) (k : ℕ) (x : X) → slice_get xs k ≡ Some x →
-    slice_get (xs ++ ys) k ≡ Some x
-get_more [] ys k x is = cc
-get_more (z ∷ xs) ys zero x is = is
-get_more (z ∷ xs) ys (suc k) x is = get_more xs ys k x is
 
 pub contains_more : {X : Type 0} (xs ys : List X) (x : X) → Contains xs x → Contains (xs ++ ys) x
 contains_more [] ys x (k, below, is) = absurd (omega (arith, below))
@@ -35,12 +19,6 @@ contains_more (z ∷ xs) ys x (suc k, below, is) =
     let r = contains_more xs ys x (k, omega (arith, below), is) in
     let less = r.1 in
     (suc r.0, omega (arith, less), r.2)
-
-pub contains_at : {X : Type 0} (xs : List X) (i : ℕ) (x : X) → slice_get xs i ≡ Some x → Contains xs x
-contains_at xs i x is = (i, slice_get_within xs i x is, get_or_from_slice_get xs i x x is)
-
-pub place_of : {X : Type 0} (xs : List X) (x : X) → Contains xs x → (i : ℕ) × (slice_get xs i ≡ Some x)
-place_of xs x (i, below, is) = (i, slice_get-get_or xs i x below ∙ ap Some is)
 
 take_there : {X : Type 0} (n : ℕ) (xs : List X) (i : ℕ) (x : X) → slice_get (take n xs) i ≡ Some x →
     (i < n) × (slice_get xs i ≡ Some x)
@@ -89,7 +67,7 @@ frame_opened b s = record {
       where
         by : {i : ℕ} → (slice_get b.open_frames i ≡ Some o) ⊎ ((i ≡ length b.open_frames) × (fresh ≡ o)) →
             IsOpen b (frame_at b place)
-        by {i} (inl old) = (o, contains_at b.open_frames i o old, is)
+        by {i} (inl old) = (o, element_at b.open_frames i o old, is)
         by (inr (here, same)) =
             let less = (s.numbered place below).1 in
             let number : length b.groups ≡ o.number = ap (λ (x : OpenFrame). x.number) same in
@@ -137,7 +115,7 @@ frame_opened b s = record {
         let inside = slice_get_within b.live n l l_is in
         let number : length b.groups ≡ o.number = ap (λ (x : OpenFrame). x.number) same in
         let start : length b.live ≡ o.start = ap (λ (x : OpenFrame). x.start) same in
-        let frame = small (s.frames l (contains_at b.live n l l_is)) in
+        let frame = small (s.frames l (element_at b.live n l l_is)) in
         ((λ before. omega (arith, frame, number)), (λ behind. absurd (omega (arith, behind, start, inside))))
       where
         small : ((1 ≤ l.clause) × (l.clause ≤ length b.file.matrix) × (l.frame ≡ 0))
@@ -164,10 +142,6 @@ live_there (x ∷ xs) (suc n) l is =
     let r = live_there xs n l is in
     let below = r.1 in
     (suc r.0, omega (arith, below), r.2)
-
-pub last_there : {X : Type 0} (xs : List X) (x : X) → slice_get (xs ++ x ∷ []) (length xs) ≡ Some x
-last_there [] x = refl
-last_there (z ∷ xs) x = last_there xs x
 
 module _ (b : BookState) (clause : List Literal) (s : IsStack b) (some_open : 1 ≤ length b.open_frames) where
   abbrev o : OpenFrame
@@ -214,7 +188,7 @@ module _ (b : BookState) (clause : List Literal) (s : IsStack b) (some_open : 1 
   old_live : (j : ℕ) → Contains (live_of b) j → Contains (live_of after) j
   old_live j has =
       let r = live_at b.live j has in
-      subst (Contains (live_of after)) r.3 (live_there (b.live ++ fresh ∷ []) r.0 r.1 (get_more b.live (fresh ∷ []) r.0
+      subst (Contains (live_of after)) r.3 (live_there (b.live ++ fresh ∷ []) r.0 r.1 (kept_there b.live (fresh ∷ []) r.0
       r.1 r.2))
 
   new_live : Contains (live_of after) number
@@ -261,7 +235,7 @@ module _ (b : BookState) (clause : List Literal) (s : IsStack b) (some_open : 1 
           → (slice_get b.live n ≡ Some k) ⊎ ((n ≡ length b.live) × (fresh ≡ k)) → l.clause < k.clause
       rising m n l k less (inl l_is) (inl k_is) = s.ascending_live m n l k less l_is k_is
       rising m n l k less (inl l_is) (inr (here, same)) =
-          subst (λ (x : Live). l.clause < x.clause) same (below_new l (contains_at b.live m l l_is))
+          subst (λ (x : Live). l.clause < x.clause) same (below_new l (element_at b.live m l l_is))
       rising m n l k less (inr (here, same)) (inl k_is) =
           let below = slice_get_within b.live n k k_is in absurd (omega (arith, less, here, below))
       rising m n l k less (inr (here, same)) (inr (here', same')) = absurd (omega (arith, less, here, here'))
@@ -276,7 +250,7 @@ module _ (b : BookState) (clause : List Literal) (s : IsStack b) (some_open : 1 
           ((1 ≤ l.clause) × (l.clause ≤ length b.file.matrix) × (l.frame ≡ 0))
           ⊎ ((place : ℕ) × (l.clause ≡ number_at b place) × (place < length (b.added ++ clause ∷ []))
           × (l.frame ≡ frame_at after place) × IsOpen b l.frame)
-      framed l n (inl is) = wider (s.frames l (contains_at b.live n l is))
+      framed l n (inl is) = wider (s.frames l (element_at b.live n l is))
         where
           wider : ((1 ≤ l.clause) × (l.clause ≤ length b.file.matrix) × (l.frame ≡ 0))
               ⊎ ((place : ℕ) × (l.clause ≡ number_at b place) × (place < length b.added)
@@ -298,7 +272,7 @@ module _ (b : BookState) (clause : List Literal) (s : IsStack b) (some_open : 1 
             refl,
             omega (arith, more),
             sym new_frame,
-            (o, contains_at b.open_frames (length b.open_frames - 1) o o_is, refl),
+            (o, element_at b.open_frames (length b.open_frames - 1) o o_is, refl),
           ))
 
       lasts : (i n : ℕ) (p : OpenFrame) (l : Live) → slice_get b.open_frames i ≡ Some p
@@ -355,7 +329,7 @@ module _ (b : BookState) (s : IsStack b) (some_open : 1 ≤ length b.open_frames
     where
       by : (i : ℕ) → slice_get b.open_frames i ≡ Some p → (i < top) ⊎ (top ≤ i) → IsOpen (without_frame b) frame
       by i p_is (inl before) =
-          (p, contains_at (take top b.open_frames) i p (there_take top b.open_frames i p before p_is), is)
+          (p, element_at (take top b.open_frames) i p (there_take top b.open_frames i p before p_is), is)
       by i p_is (inr past) =
           let below = slice_get_within b.open_frames i p p_is in
           let here : i ≡ top = omega (arith, past, below) in
@@ -378,7 +352,7 @@ module _ (b : BookState) (s : IsStack b) (some_open : 1 ≤ length b.open_frames
         (live_at b.live (number_at b place) (s.open_live place below (was_open (frame_at b place) is_open)));
     frames = λ l has. let at = place_of (take closing.start b.live) l has in
         let there = take_there closing.start b.live at.0 l at.1 in
-        framed l at.0 there.0 there.1 (s.frames l (contains_at b.live at.0 l there.1));
+        framed l at.0 there.0 there.1 (s.frames l (element_at b.live at.0 l there.1));
     known = λ i p is. let at = take_there top b.open_frames i p is in let h = s.known i p at.1 in
         let start = (lower i p is).1 in let closed = (s.known top closing closing_is).2 in
         let many = length-take-le closing.start b.live closed in
@@ -392,7 +366,7 @@ module _ (b : BookState) (s : IsStack b) (some_open : 1 ≤ length b.open_frames
       was_open : (frame : ℕ) → IsOpen (without_frame b) frame → IsOpen b frame
       was_open frame (p, has, is) =
           let at = place_of (take top b.open_frames) p has in
-          (p, contains_at b.open_frames at.0 p (take_there top b.open_frames at.0 p at.1).1, is)
+          (p, element_at b.open_frames at.0 p (take_there top b.open_frames at.0 p at.1).1, is)
 
       below_closing : (frame : ℕ) → IsOpen (without_frame b) frame → frame < closing.number
       below_closing frame (p, has, is) =
@@ -408,7 +382,7 @@ module _ (b : BookState) (s : IsStack b) (some_open : 1 ≤ length b.open_frames
 
       of_file : (j : ℕ) → (n : ℕ) × (l : Live) × (slice_get b.live n ≡ Some l) × (l.clause ≡ j) →
           j ≤ length b.file.matrix → Contains (live_of (without_frame b)) j
-      of_file j (n, l, l_is, is) high = by (s.frames l (contains_at b.live n l l_is))
+      of_file j (n, l, l_is, is) high = by (s.frames l (element_at b.live n l l_is))
         where
           by : ((1 ≤ l.clause) × (l.clause ≤ length b.file.matrix) × (l.frame ≡ 0))
               ⊎ ((place : ℕ) × (l.clause ≡ number_at b place) × (place < length b.added)
@@ -421,7 +395,7 @@ module _ (b : BookState) (s : IsStack b) (some_open : 1 ≤ length b.open_frames
       of_open : (place : ℕ) → place < length b.added → IsOpen (without_frame b) (frame_at b place) →
           (n : ℕ) × (l : Live) × (slice_get b.live n ≡ Some l) × (l.clause ≡ number_at b place)
           → Contains (live_of (without_frame b)) (number_at b place)
-      of_open place below is_open (n, l, l_is, is) = by (s.frames l (contains_at b.live n l l_is))
+      of_open place below is_open (n, l, l_is, is) = by (s.frames l (element_at b.live n l l_is))
         where
           by : ((1 ≤ l.clause) × (l.clause ≤ length b.file.matrix) × (l.frame ≡ 0))
               ⊎ ((place' : ℕ) × (l.clause ≡ number_at b place') × (place' < length b.added)

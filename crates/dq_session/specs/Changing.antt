@@ -1,13 +1,11 @@
 -- A book stands where frames are opened and closed, and clauses added.
-use Rattle.std.specs.Prelude.{◌≡◌, ℕ, ◌≤◌, false, List, ◌∷◌, length, None, Some, slice_get, slice_set}
+use Rattle.std.specs.Prelude.{ℕ, ◌≤◌, List, length, Some, slice_set}
 use Rattle.std.specs.List.{All, Contains}
-use Rattle.dq_lits.specs.Literal.{Literal, variable_of, is_negative}
+use Rattle.dq_lits.specs.Literal.{Literal, variable_of}
 use Rattle.dq_lits.specs.Formula.{declared}
-use Rattle.hint_log.specs.Conditions.{AreLogged}
-use Rattle.hint_log.specs.Entries.{Entry, Named, name_of}
-use Rattle.hint_log.specs.declared.names.Name.TheVariants.{Selector}
+use Rattle.hint_log.specs.Entries.{Entry}
 use Rattle.oracle.specs.declared.groups.Group.{Group}
-use Rattle.dq_session.specs.Books.{BookState, number_of, IsBook}
+use Rattle.dq_session.specs.Books.{BookState, IsBook}
 use Rattle.dq_session.specs.Changes.{with_frame, with_clause, without_frame}
 
 abbrev pub FramesOpen : Type 0
@@ -27,12 +25,3 @@ FramesClose =
 -- the frame gets this group
 abbrev pub with_group : BookState → ℕ → Group → BookState
 with_group b frame g = record b { groups = slice_set b.groups frame (Some g) }
-
--- a group that is made for a frame that has none
-abbrev pub GroupsCome : Type 0
-GroupsCome =
-    (b : BookState) (frame : ℕ) (g : Group) (entries : List Entry) → 1 ≤ frame
-    → slice_get b.groups frame ≡ Some None → AreLogged entries
-    → is_negative g.selector ≡ false → name_of entries (number_of g) ≡ None
-    → IsBook b entries
-    → IsBook (with_group b frame g) (Named (number_of g) (Selector (number_of g)) ∷ entries)

@@ -1,11 +1,8 @@
 //! What leaves a book as it stands. Each law is the contract of a function without parameters.
 
-ghost use Rattle.dq_session.specs.Changing.{FramesOpen, FramesClose, ClausesCome, GroupsCome};
+ghost use Rattle.dq_session.specs.Changing.{FramesOpen, FramesClose, ClausesCome};
 ghost use Rattle.dq_session.specs.Grouped.{InstancesAreGrouped};
-ghost use Rattle.dq_session.specs.Searching.{SearchesLeaveBooks, FoundPointsAreLive, LiveAnswersRefute};
 ghost use Rattle.dq_session.specs.Standing.{EnginesLeaveBooks, RoundsLeaveBooks, BeginningsLeaveBooks};
-
-use dq_lits::laws::derived_line_is_implied;
 
 /// What another engine adds to the log, in groups of its own, leaves a book as it stands.
 pub fn engines_leave_books()
@@ -37,29 +34,7 @@ pub fn added_clauses_leave_books()
     ensures { ClausesCome }
 {}
 
-/// What a search adds to the log leaves a book as it stands.
-pub fn searches_leave_books()
-    ensures { SearchesLeaveBooks }
-{}
-
-/// Values under which the instances of all open frames are true are points of the formula of now.
-pub fn found_points_are_live()
-    ensures { FoundPointsAreLive }
-{}
-
-/// An answer to the groups of open frames refutes the formula of now.
-pub fn live_answers_refute()
-    ensures { LiveAnswersRefute }
-{
-    derived_line_is_implied();
-}
-
 /// Instances have one group where their clauses are of one frame, and nowhere else.
 pub fn instances_are_grouped()
     ensures { InstancesAreGrouped }
-{}
-
-/// A group that is made for a frame leaves a book's instances as they stand.
-pub fn made_groups_leave_books()
-    ensures { GroupsCome }
 {}

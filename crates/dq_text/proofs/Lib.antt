@@ -1,6 +1,5 @@
 mod TokenCuts
 mod FirstLine
-mod JoinedLines
 mod KeptBytes
 pub mod LineWords
 mod LongestRuns
@@ -8,7 +7,7 @@ pub mod Naturals
 pub mod Numerals
 mod PiecedLines
 mod PiecedTokens
-mod ShortNumbers
+pub mod ShortNumbers
 mod SkippedBytes
-mod TokenLines
+pub mod TokenLines
 mod WholeTokens

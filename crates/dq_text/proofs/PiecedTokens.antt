@@ -146,12 +146,6 @@ pieced_tokens text = same text 0 [] LineStart 1 tt
 
 -- Where a token stands whole in a piece.
 
-visible_goes_on : (kind : ByteKind) → is_separator kind ≡ false → is_in_token kind InLine ≡ true
-visible_goes_on Blank h = cc
-visible_goes_on LineFeed h = cc
-visible_goes_on LetterC h = refl
-visible_goes_on Other h = refl
-
 in_line_step : (kind : ByteKind) (token : TokenSummary) (line byte : ℕ)
     (next : TokenSummary → LinePlace → ℕ → List SummarizedToken) →
     is_separator kind ≡ false → tokens_by kind token InLine line byte next ≡ next (grown token byte) InLine line

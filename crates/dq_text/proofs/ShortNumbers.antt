@@ -1,6 +1,6 @@
 -- Numbers that begin a line.
 use Rattle.std.proofs.Common.{◌≡◌, ℕ, zero, suc, ◌+◌, ◌*◌, ◌-◌, ◌≤◌, ◌<◌, ◌^◌, pos, negsuc, neg_ℤ, true, false, not, min, Some, None, if◌then◌else◌, ℤ, w64, to_z, of_z, List, [], ◌∷◌, ◌++◌, length, take, drop, map, length-drop, refl, ◌∙◌, ap, arith, sym}
-use Rattle.std.proofs.Math.Nat.{pow-le-pow_right, pow-suc}
+use Rattle.std.proofs.Math.Nat.{pow-le-pow_right}
 use Rattle.std.specs.Char.{is_ascii_digit}
 use Rattle.std.specs.List.{list_all}
 use Rattle.std.proofs.lemmas.Int.{to_z-of_z}
@@ -18,13 +18,6 @@ use Rattle.dq_text.proofs.Numerals.{AreOther, AreDigitsOf, digits_number, negati
 -- so many digits have a value below 10^18
 pub digits_small : (i v : ℕ) → i ≤ 18 → v < 10 ^ i → v < 10 ^ 18
 digits_small i v few below = let e : 10 ^ i ≤ 10 ^ 18 = pow-le-pow_right (omega arith) few in omega (arith, below, e)
-
--- one digit more
-pub digit_below : (i v d : ℕ) → v < 10 ^ i → d ≤ 9 → v * 10 + d < 10 ^ (i + 1)
-digit_below i v d below digit =
-    let one : i + 1 ≡ suc i = omega arith in
-    let step = pow-suc 10 i in
-    rw (one, step) (omega (arith, below, digit))
 
 pub digit_fits : (i v d : ℕ) → i < 18 → v < 10 ^ i → d ≤ 9 → v * 10 + d < 2 ^ 64
 digit_fits i v d few below digit =
@@ -60,7 +53,7 @@ natural_begins bytes left n b =
     (digits_number b.digits n b.small (digits_of bytes left n b))
     ∙ ap (λ tokens. Int (pos n) ∷ map number_of tokens) (sym b.same)
 
-minus_word : (ds : List ℕ) → IsWord ds → IsWord (45 ∷ ds)
+pub minus_word : (ds : List ℕ) → IsWord ds → IsWord (45 ∷ ds)
 minus_word [] is = absurd is
 minus_word (d ∷ ds) is = (refl, is)
 
@@ -125,17 +118,6 @@ negated_inside (suc v) small = to_z-of_z w64 (negsuc v) (omega (arith, small))
 
 pub above_limit : (n : ℤ) (v : ℕ) → v < 10 ^ 18 → n ≡ neg_ℤ (pos v) → to_z w64 (of_z w64 n) ≡ neg_ℤ (pos v)
 above_limit n v small is = ap (λ k. to_z w64 (of_z w64 k)) is ∙ negated_inside v small
-
--- the first bytes are digits, and these are all
-pub whole_value : (bytes : List ℕ) (value count : ℕ) → IsLeadingValue bytes value count → 0 < count →
-    count ≡ length bytes → AreFewDigits bytes value
-whole_value bytes value count leading some whole =
-    let all : take count bytes ≡ bytes = take_all count bytes (omega (arith, whole)) in
-    record {
-      are = are_some bytes (omega (arith, some, whole)) (ap (list_all is_ascii_digit) (sym all) ∙ leading.are);
-      value_is = leading.value_is ∙ ap decimal_value all;
-      small = leading.small;
-    }
 
 pub capped : (digits : List ℕ) (value : ℕ) → AreFewDigits digits value →
     Some value ≡ (if are_digits digits then Some (min (decimal_value digits) (10 ^ 18)) else None)

@@ -1,10 +1,11 @@
 -- A token is cut off at the first separator.
 use Rattle.std.proofs.Common.{◌≡◌, ℕ, suc, ◌+◌, ◌≤◌, ◌==◌, Bool, true, false, not, cond, List, [], ◌∷◌, take, drop, length, refl, sym, ◌∙◌, ap, arith, inl, inr, ◌≢◌}
-use Rattle.std.proofs.lemmas.Bool.{cases_Bool, cases_eq, not-true, ne_eqb, true≢false, ltb-false}
+use Rattle.std.proofs.lemmas.Bool.{cases_Bool, cases_eq, not-true, ne_eqb, true≢false}
 use Rattle.std.specs.List.{position, position_or_len}
 use Rattle.std.specs.Option.{unwrap_or}
 use Rattle.std.proofs.lemmas.List.Sums.{sum_by-cons}
-use Rattle.std.proofs.Common.{Some, None, nat_lt}
+use Rattle.std.proofs.Common.{nat_lt}
+use Rattle.list_laws.proofs.Sequences.{position_chosen}
 use Rattle.dq_text.specs.Bytes.{kind_of}
 use Rattle.dq_text.specs.Token.{TextToken, is_separator, is_in_token, place_after, line_after, goes_on, extend, put_byte, tokens_from, line_feeds}
 use Rattle.dq_text.specs.Line.{extend_token, line_tokens}
@@ -136,16 +137,10 @@ line_feeds-cut (byte ∷ bytes) =
           ∙ sym (sum_by-cons (λ b. cond (b == 10) 1 0) byte bytes)
     ]
 
-choose : (p : ℕ → Bool) (xs : List ℕ) (b : Bool) → nat_lt (position_or_len p xs) (length xs) ≡ b →
-    position_or_len p xs ≤ length xs →
-    unwrap_or (cond b (Some (position_or_len p xs)) None) (length xs) ≡ position_or_len p xs
-choose p xs true found within = refl
-choose p xs false past within = let far = ltb-false (position_or_len p xs) (length xs) past in omega arith
-
 -- the place found, or the end
 pub unwrap_position : (bytes : List ℕ) → unwrap_or (position (λ byte. is_separator (kind_of byte)) bytes) (length bytes)
     ≡ run bytes
-unwrap_position bytes = choose (λ byte. is_separator (kind_of byte)) bytes (nat_lt (run bytes) (length bytes)) refl
+unwrap_position bytes = position_chosen (λ byte. is_separator (kind_of byte)) bytes (nat_lt (run bytes) (length bytes)) refl
     (run-le bytes)
 
 -- the same, for the parts that a split gives

@@ -48,7 +48,7 @@ either_head : (feed : Bool) (byte n : ℕ) (l : TextLine) (others lines : List T
 either_head true byte n l others lines h = h
 either_head false byte n l others lines h = extended_head byte n lines
 
-line_head : (n : ℕ) (bytes : List ℕ) → HeadIs n (lines_from n bytes)
+pub line_head : (n : ℕ) (bytes : List ℕ) → HeadIs n (lines_from n bytes)
 line_head n [] = tt
 line_head n (byte ∷ bytes) =
     either_head (byte == 10) byte n (record { text = []; number = n; behind = bytes }) (lines_from (n + 1) bytes)

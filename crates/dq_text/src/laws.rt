@@ -1,11 +1,10 @@
 //! What the definitions of `specs/` prove about one another. A law is the contract of a function
 //! without parameters and with an empty body.
 
-ghost use Rattle.std.specs.Prelude.{◌≡◌, ℕ, ◌^◌, ◌<◌, ◌≤◌, pos, neg_ℤ, List, [], ◌∷◌, map};
+ghost use Rattle.std.specs.Prelude.{◌≡◌, ℕ, ◌^◌, ◌<◌, ◌≤◌, pos, neg_ℤ, List, ◌∷◌, map};
 ghost use Rattle.std.specs.Fmt.{decimal};
 ghost use Rattle.std.specs.List.{flat_map};
-ghost use Rattle.dq_text.specs.Line.{TextLine, lines_from, line_tokens};
-ghost use Rattle.dq_text.specs.LinePieces.{lines_to_come};
+ghost use Rattle.dq_text.specs.Line.{lines_from, line_tokens};
 ghost use Rattle.dq_text.specs.LongestRuns.{AreLongestRuns};
 ghost use Rattle.dq_text.specs.Number.{begins_with_minus, number_of};
 ghost use Rattle.dq_text.specs.declared.numbers.Number.TheVariants.{Int};
@@ -48,10 +47,4 @@ pub fn pieces_have_the_tokens()
     ensures tokens { (text : List ℕ)
         → tokens_to_come no_pieces text ≡ map summarized (tokens_of text) }
     ensures last_line { (text : List ℕ) → last_line_to_come no_pieces text ≡ last_line_of text }
-{}
-
-/// Wherever a text is cut, its lines are those of the whole.
-pub fn pieces_have_the_lines()
-    ensures { (text : List ℕ) (first : ℕ)
-        → lines_to_come [] text ≡ map (λ (line : TextLine). line.text) (lines_from first text) }
 {}

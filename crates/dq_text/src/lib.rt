@@ -4,7 +4,6 @@
 #![tactic(auto)]
 
 pub use cursors::LinePlace;
-pub use line_pieces::{LinePieces, TakesLines};
 pub use lines::{Line, LineTokens, Lines};
 pub use numbers::{
     Number, TOO_BIG, has_minus, natural, push_all_spaced, push_last, push_natural, push_number,
@@ -19,7 +18,6 @@ pub use words::{is_blank, is_word, push_word};
 mod bytes;
 mod cursors;
 pub mod laws;
-mod line_pieces;
 mod lines;
 mod numbers;
 mod short_numbers;

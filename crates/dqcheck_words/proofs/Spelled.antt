@@ -2,6 +2,7 @@
 use Rattle.std.proofs.Common.{◌≡◌, ◌∙◌, ◌&&◌, ℕ, Bool, cond, true, false, refl, sym, ap, ap₂, subst, List, [], ◌∷◌, Option, Some, None, is_some, codes, option_map}
 use Rattle.std.specs.Prelude.{option_and_then}
 use Rattle.std.specs.List.{fold, list_all}
+use Rattle.list_laws.proofs.Truths.{and-false}
 use Rattle.clap.specs.Walk.{Held, Row, Step, Text, Walk, after_step, arg_by_index, finished, idle, nothing_held, settled, to_positional, value, walked, word_met}
 use Rattle.clap.specs.Simple.{App, built, entered, matches_of}
 use Rattle.clap.specs.Kinds.{Kinds, or_else}
@@ -82,10 +83,6 @@ step w after word words given fault passes is h =
     (end_of (walked rules [] w word) words)) passes ∙ ap (λ v. passes_at v words) is)
     (ap (λ v. rows_at v words) is) h
 
-fails_anyway : (a : Bool) → (a && false) ≡ false
-fails_anyway true = refl
-fails_anyway false = refl
-
 -- a word that is refused
 stop : (w : Walk) (word : Text) (words : List Text) → turn_fault top [] w word ≡ unknown →
     turn_passes top [] w word ≡ false → GivesAt w (word ∷ words) None
@@ -96,7 +93,7 @@ stop w word words fault passes = (
       (end_of (walked rules [] w word) words)) fault in cc,
   ap (λ b. passes_from (b && walk_passes top [] (walked rules [] w word) words)
       (end_of (walked rules [] w word) words)) passes
-      ∙ fails_anyway (entered_passes app (end_of (walked rules [] w word) words).stopped),
+      ∙ and-false (entered_passes app (end_of (walked rules [] w word) words).stopped),
 )
 
 -- ---- the places of the walk

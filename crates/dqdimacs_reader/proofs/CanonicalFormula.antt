@@ -1,11 +1,17 @@
 -- A formula that some text may spell is spelled by its canonical text.
-use Rattle.std.proofs.Common.{◌≡◌, ◌≢◌, ℕ, zero, suc, ◌^◌, ◌==◌, ◌<◌, ◌≤◌, ◌||◌, ◌&&◌, Bool, true, false, not, true≢false, if◌then◌else◌, List, [], ◌∷◌, ◌++◌, map, length, get_or, refl, sym, ◌∙◌, ap, subst, arith, append_assoc, append-nil, length-append, Contains, inl, inr}
+use Rattle.std.proofs.Common.{◌≡◌, ◌≢◌, ℕ, zero, suc, ◌^◌, ◌==◌, ◌<◌, ◌||◌, ◌&&◌, Bool, true, false, not, true≢false, if◌then◌else◌, List, [], ◌∷◌, ◌++◌, map, length, get_or, refl, sym, ◌∙◌, ap, subst, arith, append_assoc, append-nil, length-append, Contains, inl, inr}
 use Rattle.std.specs.List.{All, AllPairs, AllByRecursion, list_any, filter, flat_map, fold, range_with_len}
-use Rattle.std.proofs.lemmas.Bool.{cases_Bool, ne_eqb, eqb-true, eq-eqb}
+use Rattle.std.proofs.lemmas.Bool.{cases_Bool, ne_eqb}
 use Rattle.std.proofs.lemmas.List.{length-map}
 use Rattle.std.proofs.lemmas.List.Elements.{All-contains}
-use Rattle.dq_lits.specs.Literal.{Literal, positive, negative, variable_of, same_literal}
+use Rattle.list_laws.proofs.Members.{tested_inside}
+use Rattle.list_laws.proofs.Folds.{filter-shorter}
+use Rattle.list_laws.proofs.Sequences.{all_behind, all_before}
+use Rattle.list_laws.proofs.Truths.{false_unless}
+use Rattle.list_laws.proofs.Elements.{at_front}
+use Rattle.dq_lits.specs.Literal.{Literal, variable_of, same_literal}
 use Rattle.dq_lits.specs.Formula.{Existential, Dqbf, declared}
+use Rattle.dq_lits.proofs.Truth.{same_literal-sound}
 use Rattle.dq_formula.specs.Dependencies.{listed_universals}
 use Rattle.dq_formula.specs.Prefix.{is_declared, occurs, free_variables, unseeing}
 use Rattle.dqdimacs_reader.specs.Building.{empty_formula, add_literal, add_clause, with_free}
@@ -28,26 +34,11 @@ pub each : {X : Type 0} (P Q : X → Type 0) → ((x : X) → P x → Q x) → (
 each P Q step [] all = tt
 each P Q step (x ∷ xs) all = (step x all.0, each P Q step xs all.1)
 
--- a distinct list of literals is its own list of distinct literals
-same_literal-sound : (k l : Literal) → same_literal k l ≡ true → k ≡ l
-same_literal-sound (positive v) (positive w) h = ap positive (eqb-true v w h)
-same_literal-sound (positive v) (negative w) h = cc
-same_literal-sound (negative v) (positive w) h = cc
-same_literal-sound (negative v) (negative w) h = ap negative (eqb-true v w h)
-
 abbrev pub AreDifferent : List Literal → Type 0
 AreDifferent ls = AllPairs (λ k l. k ≢ l) ls
 
 tail_different : (l : Literal) (ls : List Literal) → AreDifferent (l ∷ ls) → AreDifferent ls
 tail_different l ls pairs i j d before below = pairs (suc i) (suc j) d (omega arith) (omega arith)
-
-at_front : (front back : List Literal) (l d : Literal) → get_or (front ++ l ∷ back) (length front) d ≡ l
-at_front [] back l d = refl
-at_front (k ∷ front) back l d = at_front front back l d
-
-not_same : (b : Bool) → (b ≡ true → ⊥) → b ≡ false
-not_same true h = absurd (h refl)
-not_same false h = refl
 
 no_earlier_literal : (front back : List Literal) (l : Literal) → AreDifferent (front ++ l ∷ back) →
     list_any (same_literal l) front ≡ false
@@ -56,7 +47,7 @@ no_earlier_literal (k ∷ front) back l pairs =
     let differs : k ≢ l = λ h.
     pairs 0 (suc (length front)) l (omega arith) (omega (arith, length-append front (l ∷ back)))
     (h ∙ sym (at_front front back l l)) in
-    ap (λ b. b || list_any (same_literal l) front) (not_same (same_literal l k)
+    ap (λ b. b || list_any (same_literal l) front) (false_unless (same_literal l k)
     (λ h. differs (sym (same_literal-sound l k h))))
     ∙ no_earlier_literal front back l (tail_different k (front ++ l ∷ back) pairs)
 
@@ -85,31 +76,12 @@ plain_lawful : (variables : ℕ) (clauses : List (List Literal)) →
 plain_lawful variables [] are = tt
 plain_lawful variables (ls ∷ clauses) are = (are.0, plain_lawful variables clauses are.1)
 
--- a formula whose literals stand on declared variables has no free ones
-contains_any : (xs : List ℕ) (v : ℕ) → Contains xs v → list_any (λ x. x == v) xs ≡ true
-contains_any xs v is = All-contains (λ w. list_any (λ x. x == w) xs ≡ true) xs v (each_found xs) is
-  where
-    found_more : (x w : ℕ) (ys : List ℕ) → list_any (λ y. y == w) ys ≡ true → list_any (λ y. y == w) (x ∷ ys) ≡ true
-    found_more x w ys h = or_right (x == w) (list_any (λ y. y == w) ys) h
-      where
-        or_right : (a b : Bool) → b ≡ true → (a || b) ≡ true
-        or_right true b h = refl
-        or_right false b h = h
-
-    found : (ys : List ℕ) (k d : ℕ) → k < length ys → list_any (λ y. y == get_or ys k d) ys ≡ true
-    found [] k d below = absurd (omega (arith, below))
-    found (y ∷ ys) zero d below = ap (λ b. b || list_any (λ x. x == y) ys) (eq-eqb y y refl)
-    found (y ∷ ys) (suc k) d below = found_more y (get_or ys k d) ys (found ys k d (omega (arith, below)))
-
-    each_found : (ys : List ℕ) → All (λ w. list_any (λ x. x == w) ys ≡ true) ys
-    each_found ys k d below = found ys k d below
-
 literal_elsewhere : (ds : List ℕ) (v : ℕ) (ls : List Literal) → list_any (λ x. x == v) ds ≡ false →
     AllByRecursion (λ l. Contains ds (variable_of l)) ls → list_any (λ l. variable_of l == v) ls ≡ false
 literal_elsewhere ds v [] undeclared are = refl
 literal_elsewhere ds v (l ∷ ls) undeclared are =
     let differs : variable_of l ≢ v = λ h.
-    true≢false (sym (contains_any ds (variable_of l) are.0) ∙ ap (λ w. list_any (λ x. x == w) ds) h ∙ undeclared) in
+    true≢false (sym (tested_inside ds (variable_of l) are.0) ∙ ap (λ w. list_any (λ x. x == w) ds) h ∙ undeclared) in
     ap (λ b. b || list_any (λ k. variable_of k == v) ls) (ne_eqb (variable_of l) v differs)
     ∙ literal_elsewhere ds v ls undeclared are.1
 
@@ -136,14 +108,6 @@ none_free f are =
     (λ v. free_no (is_declared f v) f v refl (λ undeclared. clause_elsewhere (declared f) v f.matrix undeclared are))
     (range_with_len 1 f.variables)
 
--- a set that is as large as the universals is all of them
-shorter : (p : ℕ → Bool) (us : List ℕ) → length (filter p us) ≤ length us
-shorter p [] = omega arith
-shorter p (u ∷ us) = elim (cases_Bool (p u)) [
-  | inl passes ↦ omega (arith, shorter p us, ap (λ b. length (if b then u ∷ filter p us else filter p us)) passes)
-  | inr fails ↦ omega (arith, shorter p us, ap (λ b. length (if b then u ∷ filter p us else filter p us)) fails)
-]
-
 all_pass : (p : ℕ → Bool) (us : List ℕ) → length (filter p us) ≡ length us → filter p us ≡ us
 all_pass p [] same = refl
 all_pass p (u ∷ us) same = elim (cases_Bool (p u)) [
@@ -152,16 +116,8 @@ all_pass p (u ∷ us) same = elim (cases_Bool (p u)) [
       kept ∙ ap (λ vs. u ∷ vs) (all_pass p us (omega (arith, same, ap length kept)))
   | inr fails ↦
       let lost = ap (λ b. if b then u ∷ filter p us else filter p us) fails in
-      absurd (omega (arith, same, ap length lost, shorter p us))
+      absurd (omega (arith, same, ap length lost, filter-shorter p us))
 ]
-
-front_of : {X : Type 0} (Q : X → Type 0) (xs ys : List X) → AllByRecursion Q (xs ++ ys) → AllByRecursion Q xs
-front_of Q [] ys all = tt
-front_of Q (x ∷ xs) ys all = (all.0, front_of Q xs ys all.1)
-
-back_of : {X : Type 0} (Q : X → Type 0) (xs ys : List X) → AllByRecursion Q (xs ++ ys) → AllByRecursion Q ys
-back_of Q [] ys all = all
-back_of Q (x ∷ xs) ys all = back_of Q xs ys all.1
 
 of_variables : (Q : ℕ → Type 0) (es : List Existential) → AllByRecursion Q (map variable es) →
     AllByRecursion (λ y. Q y.variable) es
@@ -173,18 +129,18 @@ module _ (f : Dqbf) (is : IsSpellable f) where
   in_range = by_recursion (IsVariable f.variables) (declared f) is.lawful.prefix.in_range
 
   universals_in_range : AllByRecursion (IsVariable f.variables) f.universals
-  universals_in_range = front_of (IsVariable f.variables) f.universals (map variable f.existentials) in_range
+  universals_in_range = all_before (IsVariable f.variables) f.universals (map variable f.existentials) in_range
 
   existentials_in_range : AllByRecursion (λ y. IsVariable f.variables y.variable) f.existentials
   existentials_in_range =
-      of_variables (IsVariable f.variables) f.existentials (back_of (IsVariable f.variables) f.universals
+      of_variables (IsVariable f.variables) f.existentials (all_behind (IsVariable f.variables) f.universals
       (map variable f.existentials) in_range)
 
   known : (x : ℕ) → Contains f.universals x → IsKnown f.variables f.universals x
   known x among =
       let range = All-contains (IsVariable f.variables) f.universals x
       (all_of f.universals universals_in_range) among in
-      (range.0, range.1, contains_any f.universals x among)
+      (range.0, range.1, tested_inside f.universals x among)
     where
       all_of : (xs : List ℕ) → AllByRecursion (IsVariable f.variables) xs → All (IsVariable f.variables) xs
       all_of [] are k d below = absurd (omega (arith, below))

@@ -23,7 +23,7 @@ use Rattle.dqdimacs_reader.specs.declared.lexemes.Lexeme.{Lexeme}
 use Rattle.dqdimacs_reader.specs.declared.lexemes.Lexeme.TheVariants.{P, Cnf, A, D, E, X, Natural, Negative, Large, NegativeLarge, Other}
 use Rattle.dqdimacs_reader.proofs.SpelledIsRead.{declare-keeps, constraint_keeps_variables}
 use Rattle.dqdimacs_reader.specs.MachineState.{IsXorLine}
-use Rattle.dqdimacs_reader.proofs.XorLines.{Goes, goes, stays_apart}
+use Rattle.dqdimacs_reader.proofs.XorLines.{no_fault_parts, Goes, goes, stays_apart}
 use Rattle.dqdimacs_reader.proofs.Runs.{formula_or_none, run, run_step, lexemes_of}
 
 -- parts, and clauses and XOR lines, that complete a reading to a formula; behind one of the latter no
@@ -112,11 +112,6 @@ IsCounted (at_dependent r) = IsWithin r
 IsCounted (in_dependencies r _ _) = IsWithin r
 IsCounted (in_clause r _) = IsDue r
 IsCounted (in_xor r literals) = IsDue r × IsXorLine literals
-
-pub no_fault_parts : (b : Bool) (name : FormulaFault) (rest : Option FormulaFault) → fault_if b name rest ≡ None →
-    (b ≡ false) × (rest ≡ None)
-no_fault_parts true name rest h = cc
-no_fault_parts false name rest h = (refl, h)
 
 in_range_is : (r : Reading) (v : ℕ) (rest : Option FormulaFault) → check_range r v rest ≡ None →
     (v ≤ r.formula.variables) × (rest ≡ None)

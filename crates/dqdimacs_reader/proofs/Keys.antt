@@ -2,6 +2,7 @@
 use Rattle.std.proofs.Common.{◌≡◌, ℕ, Result, Ok, Err, IfOk, OnOk, ◌+◌, ◌*◌, ◌==◌, Bool, true, false, not, cond, ◌||◌, inl, inr, List, [], ◌∷◌, ◌++◌, map, refl, sym, ◌∙◌, ap, arith}
 use Rattle.std.specs.List.{list_any}
 use Rattle.std.proofs.lemmas.Bool.{false≢true, cases_eq, eq-eqb, ne_eqb}
+use Rattle.list_laws.proofs.Truths.{last, or_assoc}
 use Rattle.dq_lits.specs.Literal.{Literal, positive, negative, same_literal}
 use Rattle.dqdimacs_reader.specs.Building.{add_literal}
 use Rattle.number_tables.specs.Numbers.{has_number}
@@ -27,18 +28,10 @@ keys_tell l (k ∷ literals) =
     ap (λ b. b || list_any (λ j. j == literal_key l) (map literal_key literals)) (key_same k l)
     ∙ ap (λ b. same_literal l k || b) (keys_tell l literals)
 
-or_false : (b : Bool) → (b || false) ≡ b
-or_false true = refl
-or_false false = refl
-
-or_assoc : (a b c : Bool) → (a || (b || c)) ≡ ((a || b) || c)
-or_assoc true b c = refl
-or_assoc false b c = refl
-
 one_more : (l : Literal) (literals : List Literal) (n : ℕ)
     → has_number (map literal_key (literals ++ l ∷ [])) n ≡ (has_number (map literal_key literals) n ||
     (literal_key l == n))
-one_more l [] n = or_false (literal_key l == n)
+one_more l [] n = last (literal_key l == n)
 one_more l (k ∷ literals) n =
     ap (λ b. (literal_key k == n) || b) (one_more l literals n)
     ∙ or_assoc (literal_key k == n) (has_number (map literal_key literals) n) (literal_key l == n)
@@ -49,7 +42,7 @@ none_more l literals n there =
     elim (cases_eq (literal_key l) n) [
       | inl same ↦ held (has_number (map literal_key literals) n) (literal_key l == n)
           (ap (has_number (map literal_key literals)) (sym same) ∙ keys_tell l literals ∙ there)
-      | inr other ↦ sym (or_false (has_number (map literal_key literals) n))
+      | inr other ↦ sym (last (has_number (map literal_key literals) n))
           ∙ ap (λ b. has_number (map literal_key literals) n || b) (sym (ne_eqb (literal_key l) n other))
     ]
   where

@@ -1,6 +1,6 @@
 mod Keys
-mod ReadIsSpelled
-mod CompletedReadings
+pub mod ReadIsSpelled
+pub mod CompletedReadings
 mod PiecesAnswer
 mod Runs
 pub mod SpelledClauses

@@ -1,6 +1,7 @@
 -- What is read of a text that comes in pieces.
-use Rattle.std.proofs.Common.{◌≡◌, ℕ, ◌==◌, ◌&&◌, Bool, true, false, List, [], ◌∷◌, map, codes, Result, Err, refl, sym, ◌∙◌, ap, subst}
+use Rattle.std.proofs.Common.{◌≡◌, ℕ, ◌==◌, ◌&&◌, Bool, true, false, List, [], ◌∷◌, map, codes, Result, refl, sym, ◌∙◌, ap}
 use Rattle.std.specs.Str.{bytes_eq}
+use Rattle.list_laws.proofs.Truths.{and-false}
 use Rattle.dq_lits.specs.Formula.{Dqbf}
 use Rattle.dq_text.specs.Number.{begins_with_minus, number_of}
 use Rattle.dq_text.specs.Pieces.{SummarizedToken, summarized}
@@ -8,20 +9,13 @@ use Rattle.dq_text.specs.Summary.{head_of, summary_of, summary_number}
 use Rattle.dq_text.specs.Token.{TextToken, tokens_of, last_line_of}
 use Rattle.dqdimacs_reader.specs.Lexeme.{number_lexeme, word_or, lexeme_of, head_or, summary_lexeme}
 use Rattle.dqdimacs_reader.specs.Machine.{State, before_header, check, advance, unless_fault, read_from, reading}
-use Rattle.dqdimacs_reader.specs.Progress.{Progress, goes_on, has_stopped, has_ended, goes_to, may_answer, read_summaries}
-use Rattle.dqdimacs_reader.specs.Reading.{IsReading}
+use Rattle.dqdimacs_reader.specs.Progress.{Progress, goes_on, has_stopped, has_ended, may_answer, read_summaries}
 use Rattle.dqdimacs_reader.specs.declared.faults.ReadStop.{ReadStop}
-use Rattle.dqdimacs_reader.specs.declared.faults.ReadStop.TheVariants.{Refused, Memory}
 use Rattle.dqdimacs_reader.specs.declared.lexemes.Lexeme.{Lexeme}
 use Rattle.dqdimacs_reader.proofs.NumberWords.{no_letter}
 
--- no word of the grammar has more than three bytes
-never : (b : Bool) → (b && false) ≡ false
-never true = refl
-never false = refl
-
 not_cnf : (p q r : Bool) → (p && (q && (r && false))) ≡ false
-not_cnf true true r = never r
+not_cnf true true r = and-false r
 not_cnf true false r = refl
 not_cnf false q r = refl
 
@@ -30,8 +24,8 @@ longer_word a b c d bytes rest =
     let text = a ∷ b ∷ c ∷ d ∷ bytes in
     no_letter (bytes_eq text (codes "p")) (bytes_eq text (codes "cnf")) (bytes_eq text (codes "a"))
     (bytes_eq text (codes "d")) (bytes_eq text (codes "e")) (bytes_eq text (codes "x")) rest
-    (never (a == 112)) (not_cnf (a == 99) (b == 110) (c == 102)) (never (a == 97)) (never (a == 100)) (never (a == 101))
-    (never (a == 120))
+    (and-false (a == 112)) (not_cnf (a == 99) (b == 110) (c == 102)) (and-false (a == 97)) (and-false (a == 100)) (and-false (a == 101))
+    (and-false (a == 120))
 
 head_word : (text : List ℕ) (rest : Lexeme) → head_or (head_of text) rest ≡ word_or text rest
 head_word [] rest = refl
@@ -71,33 +65,6 @@ whole_is_read tells text tokens last_line same ends =
     ap (λ ts. read_summaries before_header ts last_line) same
     ∙ ap (read_summaries before_header (map summarized (tokens_of text))) ends
     ∙ read_tokens tells (tokens_of text) before_header (last_line_of text)
-
--- a step backwards: what may be answered behind a token may be answered before it
-pub before_token : (state : State) (lexeme : Lexeme) (line : ℕ) (next : Progress) → goes_to state lexeme line next →
-    (token : SummarizedToken) (tokens : List SummarizedToken) (last : ℕ) (answer : Result Dqbf ReadStop) →
-    summary_lexeme token.summary ≡ lexeme → token.line ≡ line → may_answer next tokens last answer →
-    may_answer (goes_on state) (token ∷ tokens) last answer
-before_token state lexeme line (goes_on following) goes token tokens last answer is at may =
-    let l = summary_lexeme token.summary in
-    let same : unless_fault (check state l) token.line (read_summaries (advance state l) tokens last)
-    ≡ read_summaries following tokens last =
-    ap (λ k. unless_fault (check state k) token.line (read_summaries (advance state k) tokens last)) is
-    ∙ ap (λ o. unless_fault o token.line (read_summaries (advance state lexeme) tokens last)) goes.0
-    ∙ ap (λ s. read_summaries s tokens last) (sym goes.1) in
-    subst (λ r. IsReading r answer) (sym same) may
-before_token state lexeme line (has_stopped (Refused number name)) goes token tokens last answer is at may =
-    let l = summary_lexeme token.summary in
-    let same : unless_fault (check state l) token.line (read_summaries (advance state l) tokens last) ≡ Err
-    (record { line = number; name = name }) =
-    ap (λ k. unless_fault (check state k) token.line (read_summaries (advance state k) tokens last)) is
-    ∙ ap (λ o. unless_fault o token.line (read_summaries (advance state lexeme) tokens last)) goes.0
-    ∙ ap (λ n. Err (record { line = n; name = name })) (at ∙ sym goes.1) in
-    subst (λ a. IsReading (unless_fault (check state l) token.line (read_summaries (advance state l) tokens last)) a)
-    (sym may) same
-before_token state lexeme line (has_stopped Memory) goes token tokens last answer is at may =
-    let l = summary_lexeme token.summary in
-    subst (λ a. IsReading (unless_fault (check state l) token.line (read_summaries (advance state l) tokens last)) a)
-    (sym may) tt
 
 -- once it has stopped, its answer rests on no token
 pub stays : (progress : Progress) → has_ended progress ≡ true →

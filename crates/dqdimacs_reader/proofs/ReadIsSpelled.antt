@@ -12,7 +12,8 @@ use Rattle.dqdimacs_reader.specs.declared.lexemes.Lexeme.{Lexeme}
 use Rattle.dqdimacs_reader.specs.declared.lexemes.Lexeme.TheVariants.{P, Cnf, A, D, E, X, Natural, Negative, Large, NegativeLarge, Other}
 use Rattle.dqdimacs_reader.proofs.SpelledIsRead.{declares-keep, constraint_keeps_variables}
 use Rattle.dqdimacs_reader.proofs.Runs.{run, run_step, run_from_reading, lexemes_of}
-use Rattle.dqdimacs_reader.proofs.CompletedReadings.{Completes, IsLexeme, are_lexemes, completes, natural_is, no_fault_parts}
+use Rattle.dqdimacs_reader.proofs.CompletedReadings.{Completes, IsLexeme, are_lexemes, completes, natural_is}
+use Rattle.dqdimacs_reader.proofs.XorLines.{no_fault_parts}
 
 wanted_is : (b : Bool) → wanted b ≡ None → b ≡ true
 wanted_is true h = refl
@@ -126,7 +127,7 @@ header_completes lexemes f are h =
       completed = clauses.4;
     }
 
-constraints_keep_variables : (constraints : List Constraint) (g : Dqbf) →
+pub constraints_keep_variables : (constraints : List Constraint) (g : Dqbf) →
     (fold add_constraint g constraints).variables ≡ g.variables
 constraints_keep_variables [] g = refl
 constraints_keep_variables (c ∷ cs) g = constraints_keep_variables cs (add_constraint g c)

@@ -1,25 +1,23 @@
 -- The clauses of a spelled formula are bound and distinct.
 use Rattle.std.proofs.Common.{◌≡◌, ◌≢◌, ℕ, zero, suc, ◌||◌, ◌+◌, ◌<◌, ◌≤◌, ◌==◌, Bool, true, false, not, cond, ◌&&◌, inl, inr, List, [], ◌∷◌, ◌++◌, map, length, get_or, refl, sym, ◌∙◌, ap, arith, append_assoc, subst}
 use Rattle.std.specs.List.{All, AllPairs, AllByRecursion, Contains, flat_map, fold, filter, list_any, range_with_len}
-use Rattle.std.proofs.lemmas.Bool.{cases_Bool, cases_eq, ne_eqb, or_left, or_right, eqb-true, eq-eqb, and_from, true≢false}
+use Rattle.std.proofs.lemmas.Bool.{cases_Bool, cases_eq, ne_eqb, or_left, or_right, eq-eqb, and_from, true≢false}
 use Rattle.std.proofs.lemmas.List.Elements.{All-nil, All-push, All-append, All-weaker, All-from_recursion}
 use Rattle.std.proofs.lemmas.List.{append-nil, map-append}
 use Rattle.std.proofs.lemmas.List.Folds.{list_any_at, list_any-append}
 use Rattle.std.proofs.lemmas.List.Quantifiers.{all_pairs_push}
-use Rattle.std.proofs.lemmas.Map.Views.{Contains-from_any}
-use Rattle.dq_lits.specs.Literal.{Literal, positive, negative, variable_of, same_literal}
+use Rattle.list_laws.proofs.Members.{contains_tested}
+use Rattle.dq_lits.specs.Literal.{Literal, variable_of, same_literal}
 use Rattle.dq_lits.specs.Formula.{Dqbf, declared}
+use Rattle.dq_lits.proofs.SignedLiterals.{same_literal-refl}
 use Rattle.dq_formula.specs.Prefix.{is_declared, free_variables, unseeing, occurs}
 use Rattle.dqdimacs_reader.specs.Building.{empty_formula, add_literal, with_free}
 use Rattle.dqdimacs_reader.specs.Grammar.{Constraint, plain, xor, declare, InRange, IsLawfulConstraint, AreLawfulConstraints, add_constraint, SpellsFormula}
 use Rattle.dqdimacs_reader.specs.Reading.{HasDistinctClauses}
 use Rattle.dq_formula.specs.Xor.{xor_clauses}
-use Rattle.dqdimacs_reader.proofs.SpelledIsRead.{declares-keep, clauses_of, with_clauses, constraint_keeps_variables}
+use Rattle.dqdimacs_reader.proofs.SpelledIsRead.{declares-keep, clauses_of, with_clauses}
 use Rattle.dqdimacs_reader.proofs.XorLines.{variables, xor_over, same_range, same_apart}
-
-same_literal-refl : (l : Literal) → same_literal l l ≡ true
-same_literal-refl (positive v) = eq-eqb v v refl
-same_literal-refl (negative v) = eq-eqb v v refl
+use Rattle.dqdimacs_reader.proofs.ReadIsSpelled.{constraints_keep_variables}
 
 -- what a literal that is added keeps
 pub grown : (Q : List Literal → Type 0) (b : Bool) (more less : List Literal) → (b ≡ false → Q more) → Q less →
@@ -115,9 +113,6 @@ spelled_is_distinct text f s =
     All-weaker (IsLawfulClause f.variables) (AllPairs (λ k l. k ≢ l)) (λ c lawful. lawful.distinct) f.matrix
     (spelled_is_lawful text f s)
 
-contains_listed : (xs : List ℕ) (v : ℕ) → list_any (λ x. x == v) xs ≡ true → Contains xs v
-contains_listed xs v h = Contains-from_any {eq = λ a b. b == a} (λ a b e. sym (eqb-true b a e)) v xs h
-
 kept_by_filter : (p : ℕ → Bool) (xs : List ℕ) (v : ℕ) → list_any (λ x. x == v) xs ≡ true → p v ≡ true →
     list_any (λ x. x == v) (filter p xs) ≡ true
 kept_by_filter p [] v listed passes = listed
@@ -171,13 +166,7 @@ declared_with_free g v low high occurring =
           (in_range_listed g.variables 1 v low (omega arith))
           (and_from (not (is_declared g v)) (occurs g.matrix v) (ap not undeclared) occurring))
     ] in
-    rw all_is (contains_listed (us ++ (es ++ free)) v listed)
-
-constraints_keep_variables : (constraints : List Constraint) (g : Dqbf) →
-    (fold add_constraint g constraints).variables ≡ g.variables
-constraints_keep_variables [] g = refl
-constraints_keep_variables (c ∷ cs) g = constraints_keep_variables cs (add_constraint g c)
-    ∙ constraint_keeps_variables g c
+    rw all_is (contains_tested (us ++ (es ++ free)) v listed)
 
 literal_bound : (g : Dqbf) → All (All (InRange g.variables)) g.matrix →
     All (All (λ l. Contains (declared (with_free g)) (variable_of l))) g.matrix

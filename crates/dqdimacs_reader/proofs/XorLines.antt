@@ -6,13 +6,21 @@ use Rattle.std.proofs.lemmas.Bool.{ne_eqb, eqb-false, eq-eqb, ltb-true, ltb-fals
 use Rattle.std.proofs.lemmas.List.{map-append, length-map, get_or-map, reverse-append, reverse-reverse}
 use Rattle.std.proofs.lemmas.List.Folds.{list_any_at}
 use Rattle.std.proofs.lemmas.List.Quantifiers.{all_pairs_push}
+use Rattle.list_laws.proofs.Truths.{neither}
+use Rattle.list_laws.proofs.Elements.{at_front}
 use Rattle.dq_lits.specs.Literal.{Literal, positive, negative, variable_of, opposite, same_literal}
+use Rattle.dq_lits.proofs.SignedLiterals.{opposite_variable}
 use Rattle.dq_formula.specs.Xor.{parity_clauses, xor_clauses}
 use Rattle.dqdimacs_reader.specs.Building.{add_literal}
 use Rattle.dqdimacs_reader.specs.Grammar.{InRange}
 use Rattle.dqdimacs_reader.specs.Machine.{Reading, fault_if, check_xor_literal, stands_on, max_xor}
 use Rattle.dqdimacs_reader.specs.declared.faults.FormulaFault.{FormulaFault}
 use Rattle.dqdimacs_reader.specs.declared.faults.FormulaFault.TheVariants.{VarRange, XorSize, XorRepeat}
+
+pub no_fault_parts : (b : Bool) (name : FormulaFault) (rest : Option FormulaFault) → fault_if b name rest ≡ None →
+    (b ≡ false) × (rest ≡ None)
+no_fault_parts true name rest h = cc
+no_fault_parts false name rest h = (refl, h)
 
 pub of_one : (ls : List Literal) → length ls ≡ 1 → 1 ≡ length (xor_clauses ls)
 of_one [] h = absurd (omega (arith, h))
@@ -53,10 +61,6 @@ of_five (a ∷ b ∷ c ∷ d ∷ e ∷ f ∷ ls) h = absurd (omega (arith, h))
 abbrev pub variables : List Literal → List ℕ
 variables ls = map variable_of ls
 
-opposite_stands : (l : Literal) → variable_of (opposite l) ≡ variable_of l
-opposite_stands (positive v) = refl
-opposite_stands (negative v) = refl
-
 abbrev AreOver : List ℕ → List (List Literal) → Type 0
 AreOver vs clauses = AllByRecursion (λ c. variables c ≡ vs) clauses
 
@@ -90,7 +94,7 @@ parity_step even l before here there =
     (both (vs ++ v ∷ []) (map (λ c. c ++ l ∷ []) (parity_clauses even before))
     (map (λ c. c ++ opposite l ∷ []) (parity_clauses (not even) before))
     (with_last vs v l refl (parity_clauses even before) here)
-    (with_last vs v (opposite l) (opposite_stands l) (parity_clauses (not even) before) there))
+    (with_last vs v (opposite l) (opposite_variable l) (parity_clauses (not even) before) there))
 
 parity_over : (even : Bool) (before : List Literal) → AreOver (variables (reverse before)) (parity_clauses even before)
 parity_over true [] = (refl, tt)
@@ -140,15 +144,11 @@ same_stands (positive v) (negative w) apart = refl
 same_stands (negative v) (positive w) apart = refl
 same_stands (negative v) (negative w) apart = ne_eqb w v (λ e. apart (sym e))
 
-or_false : (a b : Bool) → (a || b) ≡ false → (a ≡ false) × (b ≡ false)
-or_false true b h = cc
-or_false false b h = (refl, h)
-
 none_same : (ls : List Literal) (l : Literal) → list_any (stands_on (variable_of l)) ls ≡ false →
     list_any (same_literal l) ls ≡ false
 none_same [] l none = refl
 none_same (k ∷ ks) l none =
-    let parts = or_false (variable_of k == variable_of l) (list_any (stands_on (variable_of l)) ks) none in
+    let parts = neither (variable_of k == variable_of l) (list_any (stands_on (variable_of l)) ks) none in
     ap (λ b. b || list_any (same_literal l) ks) (same_stands k l (eqb-false (variable_of k) (variable_of l) parts.0))
     ∙ none_same ks l parts.1
 
@@ -166,10 +166,6 @@ pub stays_apart : (ls : List Literal) (l : Literal) → AreApart ls → list_any
     AreApart (ls ++ l ∷ [])
 stays_apart ls l apart none = all_pairs_push (λ k m. variable_of k ≢ variable_of m) ls l apart (apart_from ls l none)
 
-at_front : (front back : List Literal) (l d : Literal) → get_or (front ++ l ∷ back) (length front) d ≡ l
-at_front [] back l d = refl
-at_front (k ∷ front) back l d = at_front front back l d
-
 pub none_before : (front back : List Literal) (l : Literal) → AreApart (front ++ l ∷ back) →
     list_any (stands_on (variable_of l)) front ≡ false
 none_before [] back l apart = refl
@@ -186,19 +182,14 @@ pub record Goes (r : Reading) (ls : List Literal) (v : ℕ) : Type 0 where
   pub room : length ls < max_xor
   pub none : list_any (stands_on v) ls ≡ false
 
-checked : (b : Bool) (name : FormulaFault) (rest : Option FormulaFault) → fault_if b name rest ≡ None →
-    (b ≡ false) × (rest ≡ None)
-checked true name rest h = cc
-checked false name rest h = (refl, h)
-
 pub goes : (r : Reading) (ls : List Literal) (v : ℕ) → check_xor_literal r ls v ≡ None → Goes r ls v
 goes r ls v passed =
     let repeat = fault_if (list_any (stands_on v) ls) XorRepeat None in
     let size = fault_if (not (nat_lt (length ls) max_xor)) XorSize repeat in
-    let range = checked (nat_lt r.formula.variables v) VarRange size passed in
-    let few = checked (not (nat_lt (length ls) max_xor)) XorSize repeat range.1 in
+    let range = no_fault_parts (nat_lt r.formula.variables v) VarRange size passed in
+    let few = no_fault_parts (not (nat_lt (length ls) max_xor)) XorSize repeat range.1 in
     record {
       in_range = ltb-false r.formula.variables v range.0;
       room = ltb-true (length ls) max_xor (not-false (nat_lt (length ls) max_xor) few.0);
-      none = (checked (list_any (stands_on v) ls) XorRepeat None few.1).0;
+      none = (no_fault_parts (list_any (stands_on v) ls) XorRepeat None few.1).0;
     }

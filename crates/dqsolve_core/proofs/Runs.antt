@@ -1,12 +1,11 @@
 -- From what a run's parts answer to what is due, and why.
-use Rattle.std.proofs.Common.{◌≡◌, ◌≢◌, ◌⊎◌, inl, inr, ℕ, Bool, true, false, [], Option, None, Some, Result, Ok, Err, refl, sym, ap, ◌∙◌, subst, arith}
+use Rattle.std.proofs.Common.{◌≡◌, ◌≢◌, inl, inr, ℕ, Bool, true, false, Option, None, Some, Result, Ok, Err, refl, sym, ap, ◌∙◌, subst, arith}
 use Rattle.std.specs.Prelude.{IfOk, option_map}
 use Rattle.dq_io.specs.State.{FilesState}
 use Rattle.dq_lits.specs.Formula.{Dqbf}
 use Rattle.dq_lits.specs.declared.memory.Memory.{Memory}
 use Rattle.hint_log.specs.Entries.{ProofLog, steps_of}
 use Rattle.hint_log.specs.ProductiveLog.{IsProductiveLog}
-use Rattle.planted_formulas.specs.Planted.{planted_formula}
 use Rattle.dq_runs.specs.Ending.{IsEnd, Ends, HasCauses}
 use Rattle.dq_runs.specs.FileTexts.{PickedOnce}
 use Rattle.dq_runs.specs.FormulaFiles.{IsFormulaOf, IsNoFormula}
@@ -125,22 +124,6 @@ demo_reported files log p (Ok output) limit d = record {
   unfaulted = λ _. refl;
 }
 demo_reported files log p (Err _) limit d = tt
-
-pub demo_log : (files : FilesState) (log : ProofLog) (p : Planting) → log.limit ≡ default_steps
-    → (log.entries ≡ []) ⊎ IsProductiveLog (planted_formula p.seed p.size) log.entries →
-    IsRunLog files (Some (demo p)) log
-demo_log files log p limit (inl none) = inl none
-demo_log files log p limit (inr productive) =
-    inr (inl (record {
-      command = demo p;
-      is = refl;
-      limit = limit;
-      f = planted_formula p.seed p.size;
-      formula = refl;
-      searched = planted_formula p.seed p.size;
-      is_searched = refl;
-      productive = productive;
-    }))
 
 -- the log of a search with these options
 pub search_log : (files : FilesState) (log : ProofLog) (c : Search) (f : Dqbf) → IsFormulaOf (files.held c.file) f

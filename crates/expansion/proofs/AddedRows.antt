@@ -1,9 +1,10 @@
 -- A table to which a row is added: how it begins, and what stands at its end.
-use Rattle.std.proofs.Common.{◌≡◌, ℕ, zero, suc, ◌+◌, ◌≤◌, ◌⊎◌, inl, inr, Bool, false, List, [], ◌∷◌, ◌++◌, length, get_or, slice_get, Some, Result, Ok, Err, OnOk, refl, sym, ◌∙◌, ap, subst, arith}
+use Rattle.std.proofs.Common.{◌≡◌, ℕ, ◌+◌, ◌≤◌, ◌⊎◌, inl, inr, Bool, false, List, [], ◌∷◌, ◌++◌, length, get_or, slice_get, Some, Result, Ok, Err, OnOk, refl, sym, ◌∙◌, ap, subst, arith}
 use Rattle.std.specs.List.{list_any}
 use Rattle.std.proofs.lemmas.List.{length-append}
 use Rattle.std.proofs.lemmas.List.Elements.{All-append, All-cons, All-nil}
 use Rattle.std.proofs.lemmas.Option.{slice_get_within}
+use Rattle.list_laws.proofs.Elements.{old_or_last, kept_there, last_there}
 use Rattle.dq_lits.specs.Literal.{Literal}
 use Rattle.dq_lits.specs.Formula.{Dqbf, IsWellFormed}
 use Rattle.dq_lits.specs.Expansion.{universal_literal_true}
@@ -61,29 +62,6 @@ begin f t row es table rows whole few = record {
     complete_so_far = λ j clause lt clause_is live. absurd (omega (arith, lt));
   };
 }
-
--- the elements of a longer list
-kept_there : {X : Type 0} (xs ys : List X) (k : ℕ) (x : X) → slice_get xs k ≡ Some x → slice_get (xs ++ ys) k ≡ Some x
-kept_there [] ys k x is = cc
-kept_there (z ∷ xs) ys zero x is = is
-kept_there (z ∷ xs) ys (suc k) x is = kept_there xs ys k x is
-
-last_there : {X : Type 0} (xs : List X) (x : X) → slice_get (xs ++ x ∷ []) (length xs) ≡ Some x
-last_there [] x = refl
-last_there (z ∷ xs) x = last_there xs x
-
--- an element of a longer list is an old one or the last
-old_or_last : {X : Type 0} (xs : List X) (x y : X) (k : ℕ) → slice_get (xs ++ x ∷ []) k ≡ Some y →
-    (slice_get xs k ≡ Some y) ⊎ ((k ≡ length xs) × (x ≡ y))
-old_or_last [] x y zero is = inr (refl, cc)
-old_or_last [] x y (suc k) is = cc
-old_or_last (z ∷ xs) x y zero is = inl is
-old_or_last (z ∷ xs) x y (suc k) is = by (old_or_last xs x y k is)
-  where
-    by : (slice_get xs k ≡ Some y) ⊎ ((k ≡ length xs) × (x ≡ y)) →
-        (slice_get xs k ≡ Some y) ⊎ ((suc k ≡ suc (length xs)) × (x ≡ y))
-    by (inl old) = inl old
-    by (inr (place, same)) = inr (ap suc place, same)
 
 module _ (f : Dqbf) (t : TableState) (row : List Bool) (vs : List ℕ) (es : List Entry)
     (adding : IsAdding f t row (length f.existentials) (length f.matrix) es)

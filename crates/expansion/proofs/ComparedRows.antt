@@ -7,15 +7,15 @@ use Rattle.std.specs.Cmp.Lexicographic.{lists_total}
 use Rattle.std.specs.Ordering.{bool_cmp, ordering_then}
 use Rattle.std.specs.declared.cmp.Ordering.TheVariants.{Equal}
 use Rattle.std.proofs.lemmas.Bool.Decides.{Decides-eqb}
-use Rattle.std.proofs.lemmas.List.{length-append, get_or_past}
+use Rattle.std.proofs.lemmas.List.{get_or_past}
 use Rattle.std.proofs.lemmas.Map.Made.{IsDistinct-from_AllPairs}
-use Rattle.std.proofs.Math.ListN.{get_or-append}
+use Rattle.list_laws.proofs.Quantified.{left-distinct}
 use Rattle.dq_lits.specs.Formula.{Dqbf, Existential}
 use Rattle.dq_lits.specs.Expansion.{row_assignment}
+use Rattle.dq_lits.proofs.Choices.{same_bits-sound}
 use Rattle.dq_formula.proofs.Places.{place-absent, place-found}
 use Rattle.dq_formula.proofs.Restrictions.{assignment_of-place, same_bits-from_places}
 use Rattle.expansion.specs.FirstRows.{sees_of, bits_cmp}
-use Rattle.expansion.proofs.Firsts.{same_bits-sound}
 
 -- a universal's bit, by its place
 pub bit_there : (f : Dqbf) (row : List Bool) (x at : ℕ) (bit : Bool) → length row ≡ length f.universals →
@@ -31,15 +31,8 @@ bit_nowhere f row x whole none =
     sym (get_or_past row (position_or_len (λ u. u == x) f.universals) false (omega (arith, end, whole)))
     ∙ assignment_of-place f.universals row x whole
 
--- the universals are distinct
-first_part_distinct : (us vs : List ℕ) → AllPairs (λ v w. v ≢ w) (us ++ vs) → AllPairs (λ v w. v ≢ w) us
-first_part_distinct us vs once i j d order inside e =
-    let more = length-append us vs in
-    once i j d order (omega (arith, inside, more)) (get_or-append us vs d i (omega (arith, order, inside)) ∙ e ∙ sym
-    (get_or-append us vs d j inside))
-
 pub distinct_universals : (us vs : List ℕ) → AllPairs (λ v w. v ≢ w) (us ++ vs) → IsDistinct eqb us
-distinct_universals us vs once = IsDistinct-from_AllPairs Decides-eqb us (first_part_distinct us vs once)
+distinct_universals us vs once = IsDistinct-from_AllPairs Decides-eqb us (left-distinct us vs once)
 
 -- the set that an existential's form stands for
 pub set_is : (o : Option Existential) (xs : List ℕ) → IsSome o → IfSome o (λ e. xs ≡ e.sees) → xs ≡ sees_of o

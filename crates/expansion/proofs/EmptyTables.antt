@@ -1,5 +1,5 @@
 -- A table without rows.
-use Rattle.std.proofs.Common.{◌≡◌, ℕ, suc, ◌==◌, Bool, true, false, cond, List, [], ◌∷◌, map, Option, None, Some, IsSome, refl, sym, ◌∙◌, ap, subst, arith, inl, inr}
+use Rattle.std.proofs.Common.{◌≡◌, ℕ, suc, ◌==◌, true, cond, List, [], ◌∷◌, map, Option, None, Some, IsSome, refl, sym, ◌∙◌, ap, subst, arith, inl, inr}
 use Rattle.std.specs.List.{All, Contains}
 use Rattle.std.proofs.lemmas.Bool.{cases_Bool, eq-eqb}
 use Rattle.std.proofs.lemmas.List.Elements.{All-head}
@@ -10,13 +10,10 @@ use Rattle.hint_log.specs.Entries.{Entry, Named, Given, Learned, Answer, Round, 
 use Rattle.hint_log.specs.declared.names.Name.{Name}
 use Rattle.hint_log.specs.declared.names.Name.TheVariants.{Selector}
 use Rattle.hint_log.specs.Growth.{Each, Grew}
+use Rattle.hint_log.proofs.NamedEntries.{none_below}
 use Rattle.log_laws.specs.Engines.{Engine, instances, IsOwnGiven, IsAddedBy, HasNone, is_own, part}
 use Rattle.expansion.specs.FirstRows.{RowIndex, IsRowIndex}
 use Rattle.expansion.specs.Table.{TableState, IsTablePart, IsTable}
-
-none_below : (b : Bool) (n : Name) (o : Option Name) → cond b (Some n) o ≡ None → o ≡ None
-none_below true n o h = cc
-none_below false n o h = h
 
 -- a group without a name has no clause
 not_given : (f : Dqbf) (engine : Engine) (g : ℕ) (es : List Entry) → AreLogged es → name_of es g ≡ None →

@@ -1,5 +1,5 @@
 -- The first row that agrees with another on what an existential sees.
-use Rattle.std.proofs.Common.{◌≡◌, ℕ, zero, suc, not, ◌+◌, ◌<◌, ◌≤◌, ◌⊎◌, inl, inr, Bool, true, false, cond, List, [], ◌∷◌, ◌++◌, map, length, get_or, slice_get, Option, Some, None, refl, sym, ◌∙◌, ap, arith}
+use Rattle.std.proofs.Common.{◌≡◌, ℕ, suc, not, ◌+◌, ◌<◌, ◌≤◌, Bool, true, false, cond, List, [], ◌∷◌, ◌++◌, map, length, get_or, slice_get, Option, Some, None, refl, sym, ◌∙◌, ap, arith}
 use Rattle.std.specs.List.{position_or_len, filter_map, cons_option}
 use Rattle.std.specs.Option.{option_map}
 use Rattle.std.proofs.lemmas.List.Folds.{position_or_len_push}
@@ -10,29 +10,11 @@ use Rattle.dq_lits.specs.Literal.{Literal, variable_of, is_negative}
 use Rattle.dq_lits.specs.Formula.{Dqbf, Existential, existential_of}
 use Rattle.dq_lits.specs.Henkin.{restriction, same_bits}
 use Rattle.dq_lits.specs.Expansion.{row_assignment, agree_on}
+use Rattle.dq_lits.proofs.Choices.{same_bits-sound, same_bits-refl}
 use Rattle.hint_log.specs.Naming.{NamedLiteral, named_literal, arbiter}
 use Rattle.hint_log.specs.declared.names.Name.{Name}
 use Rattle.hint_log.specs.declared.names.Name.TheVariants.{Pair}
-use Rattle.log_laws.proofs.Found.{same_bits-refl, position_small, position_append}
-
-pub below_or_here : (j n : ℕ) → j < n + 1 → (j < n) ⊎ (j ≡ n)
-below_or_here zero zero lt = inr refl
-below_or_here zero (suc n) lt = inl (omega arith)
-below_or_here (suc j) zero lt = absurd (omega (arith, lt))
-below_or_here (suc j) (suc n) lt = further (below_or_here j n (omega (arith, lt)))
-  where
-    further : (j < n) ⊎ (j ≡ n) → (suc j < suc n) ⊎ (suc j ≡ suc n)
-    further (inl below) = inl (omega (arith, below))
-    further (inr here) = inr (ap suc here)
-
-pub same_bits-sound : (xs ys : List Bool) → same_bits xs ys ≡ true → xs ≡ ys
-same_bits-sound [] [] h = refl
-same_bits-sound [] (y ∷ ys) h = cc
-same_bits-sound (x ∷ xs) [] h = cc
-same_bits-sound (true ∷ xs) (true ∷ ys) h = ap (λ zs. true ∷ zs) (same_bits-sound xs ys h)
-same_bits-sound (true ∷ xs) (false ∷ ys) h = cc
-same_bits-sound (false ∷ xs) (true ∷ ys) h = cc
-same_bits-sound (false ∷ xs) (false ∷ ys) h = ap (λ zs. false ∷ zs) (same_bits-sound xs ys h)
+use Rattle.log_laws.proofs.Found.{position_small, position_append}
 
 -- a row agrees with itself, so that rows behind it don't matter
 pub same_arbiter : (f : Dqbf) (rows more : List (List Bool)) (k : ℕ) (row : List Bool) (y : Existential) →
@@ -73,14 +55,6 @@ first_or_later : (p : List Bool → Bool) (r : List Bool) (rs : List (List Bool)
 first_or_later p r rs n true here later h = here
 first_or_later p r rs n false here later h = let next : 1 + n ≡ suc n = omega arith in
     rw next (later (omega (arith, h)))
-
-pub position_within : (p : List Bool → Bool) (rs : List (List Bool)) → position_or_len p rs ≤ length rs
-position_within p [] = omega arith
-position_within p (r ∷ rs) = by (p r) (position_within p rs)
-  where
-    by : (b : Bool) → position_or_len p rs ≤ length rs → cond (not b) (1 + position_or_len p rs) 0 ≤ suc (length rs)
-    by true le = omega arith
-    by false le = omega (arith, le)
 
 -- the first row that passes a test passes it
 pub passes_there : (p : List Bool → Bool) (rs : List (List Bool)) → position_or_len p rs < length rs →

@@ -1,5 +1,5 @@
 -- The points that a search found, and that they make every instance true.
-use Rattle.std.proofs.Common.{◌≡◌, ◌≢◌, ℕ, zero, suc, ◌+◌, ◌-◌, ◌≤◌, ◌<◌, ◌==◌, Bool, true, false, true≢false, cond, not, ◌||◌, List, [], ◌∷◌, ◌++◌, map, length, get_or, slice_get, slice_index_or, Option, Some, None, refl, sym, ◌∙◌, ap, subst, arith}
+use Rattle.std.proofs.Common.{◌≡◌, ◌≢◌, ℕ, zero, suc, ◌+◌, ◌-◌, ◌≤◌, ◌<◌, ◌==◌, Bool, true, false, cond, not, ◌||◌, List, [], ◌∷◌, ◌++◌, map, length, get_or, slice_get, slice_index_or, Option, Some, None, refl, sym, ◌∙◌, ap, subst, arith}
 use Rattle.std.specs.List.{All, AllPairs, Contains, list_any, filter_map, cons_option, find}
 use Rattle.std.specs.Option.{option_map}
 use Rattle.std.proofs.lemmas.Bool.{eq-eqb, ne_eqb, cond-true, cond-false}
@@ -7,26 +7,21 @@ use Rattle.std.proofs.lemmas.List.{length-append, length-map, get_or-map, get_or
 use Rattle.std.proofs.lemmas.List.Elements.{All-contains, Contains-append_right}
 use Rattle.std.proofs.lemmas.Option.{slice_get-map, slice_get-get_or, slice_get_within}
 use Rattle.std.proofs.Math.Seq.{get_or-append-add}
-use Rattle.dq_lits.specs.Literal.{Assignment, Literal, positive, negative, variable_of, is_negative, on_variable, literal_true, clause_true}
+use Rattle.dq_lits.specs.Literal.{Assignment, Literal, negative, variable_of, is_negative, on_variable, literal_true, clause_true}
 use Rattle.dq_lits.specs.Formula.{Dqbf, Existential, existential_of, declared, IsWellFormed}
 use Rattle.dq_lits.specs.Derivation.{MakesTrue}
 use Rattle.dq_lits.specs.Row.{assignment_of}
 use Rattle.dq_lits.specs.Expansion.{pair_number, pair_literal, universal_literal_true, InstanceHolds, IsExpansionModel}
+use Rattle.dq_lits.proofs.FormulaVariables.{find_sound}
+use Rattle.dq_lits.proofs.TrueClauses.{same_sign}
 use Rattle.hint_log.specs.Conditions.{AreLogged}
 use Rattle.hint_log.specs.Entries.{Entry, Given, clause_at, name_of}
 use Rattle.hint_log.specs.declared.origins.Origin.TheVariants.{Instance}
 use Rattle.hint_log.specs.Naming.{named_literal, name_literal, arbiter, on_arbiter}
 use Rattle.log_laws.specs.Engines.{instances, part}
-use Rattle.log_laws.proofs.Found.{variable, find_sound, named_variable}
+use Rattle.log_laws.proofs.Found.{variable, named_variable}
 use Rattle.expansion.specs.Table.{TableState, AreArbiters, HasInstance, IsTablePart, IsTable, ArePoints}
 use Rattle.expansion.proofs.InstanceModels.{own_name, own_entry, given_id, pair_values, arbiter_value}
-
-same_sign : (a m : Assignment) (p : ℕ) (r l : Literal) → is_negative r ≡ is_negative l → a (variable_of r) ≡ m p →
-    literal_true a r ≡ literal_true m (on_variable p l)
-same_sign a m p (positive v) (positive w) e h = h
-same_sign a m p (positive v) (negative w) e h = absurd (true≢false (sym e))
-same_sign a m p (negative v) (positive w) e h = absurd (true≢false e)
-same_sign a m p (negative v) (negative w) e h = ap not h
 
 pub find_own : (ys : List Existential) (k : ℕ) (d : Existential) → k < length ys →
     AllPairs (λ v w. v ≢ w) (map variable ys) →

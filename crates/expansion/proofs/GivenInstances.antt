@@ -6,6 +6,7 @@ use Rattle.std.proofs.lemmas.Bool.{eqb-true, eq-eqb}
 use Rattle.std.proofs.lemmas.List.{length-append, length-map, get_or_default}
 use Rattle.std.proofs.lemmas.List.Elements.{All-cons}
 use Rattle.std.proofs.lemmas.Option.{slice_get-get_or}
+use Rattle.list_laws.proofs.Numbers.{below_or_here}
 use Rattle.dq_lits.specs.Literal.{Literal, positive, negative, variable_of, is_negative, opposite}
 use Rattle.dq_lits.specs.Formula.{Dqbf, Existential, existential_of}
 use Rattle.dq_lits.specs.Expansion.{universal_literal_true}
@@ -19,13 +20,13 @@ use Rattle.hint_log.specs.declared.origins.Origin.TheVariants.{Instance}
 use Rattle.log_laws.specs.Engines.{instances, is_own, part}
 use Rattle.log_laws.proofs.Found.{named_variable}
 use Rattle.log_laws.proofs.LargerLogs.{grown_by, grown_by_none, grown_then}
+use Rattle.log_laws.proofs.Kept.{named_stay}
 use Rattle.oracle.specs.Calls.{IsPlain}
 use Rattle.expansion.specs.Giving.{IsGivenInstance}
 use Rattle.expansion.specs.Table.{TableState, AreArbiters, HasInstance, IsTable}
 use Rattle.expansion.specs.Adding.{with_row, IsRowEntry, IsAddingPart, IsAdding, AreNewArbiters, AreInRange, IsGivenNext}
-use Rattle.expansion.proofs.TableGrowth.{KeepsNames, more_keeps, literals_kept, instance_kept, one_more_done}
+use Rattle.expansion.proofs.TableGrowth.{KeepsNames, more_keeps, instance_kept, one_more_done}
 use Rattle.expansion.proofs.NamedArbiters.{as_many}
-use Rattle.expansion.proofs.Firsts.{below_or_here}
 use Rattle.expansion.proofs.InstanceModels.{own_name, head_or_tail, later}
 use Rattle.expansion.proofs.Told.{switch_is}
 
@@ -287,7 +288,7 @@ module _ (f : Dqbf) (t : TableState) (row : List Bool) (j : ℕ) (log : ProofLog
       let keeps : KeepsNames mine log.entries = λ v m is. own_name instances log.entries v m logged is in
       let in_log : AreNamedAs log.entries lits (filter_map (on_arbiter f (rows_of log.entries) row) clause) =
       subst (λ rs. AreNamedAs log.entries lits (filter_map (on_arbiter f rs row) clause)) (sym adding.rows)
-      (literals_kept mine log.entries keeps lits (filter_map (on_arbiter f (with_row t row) row) clause) named) in
+      (named_stay mine log.entries keeps lits (filter_map (on_arbiter f (with_row t row) row) clause) named) in
       let plus_one : j + 1 ≡ suc j = omega arith in
       let matches : IsOriginsClause f log.entries (Instance n (j + 1)) c = record {
         group = t.group;
@@ -310,7 +311,7 @@ module _ (f : Dqbf) (t : TableState) (row : List Bool) (j : ℕ) (log : ProofLog
       let here : HasInstance f t.group (with_row t row) (e ∷ mine) (length t.rows) j row clause = record {
         rest = lits;
         given = (0, omega arith, refl);
-        named = literals_kept mine (e ∷ mine) (λ v m is. is) lits
+        named = named_stay mine (e ∷ mine) (λ v m is. is) lits
             (filter_map (on_arbiter f (with_row t row) row) clause) named;
       } in
       subst (IsGivenNext f t row j log) (sym entry) (record {

@@ -1,10 +1,9 @@
 -- The values that a search found, as a model of the instances.
-use Rattle.std.proofs.Common.{◌≡◌, ℕ, zero, suc, ◌+◌, ◌-◌, ◌*◌, ◌/◌, ◌%◌, ◌≤◌, ◌==◌, Bool, true, false, true≢false, cond, ◌&&◌, ◌⊎◌, inl, inr, List, [], ◌∷◌, None, Some, refl, sym, ◌∙◌, ap, subst, arith}
+use Rattle.std.proofs.Common.{◌≡◌, ℕ, zero, suc, ◌+◌, ◌-◌, ◌/◌, ◌%◌, ◌≤◌, ◌==◌, Bool, true, false, true≢false, cond, ◌&&◌, ◌⊎◌, inl, inr, List, [], ◌∷◌, None, Some, refl, sym, ◌∙◌, ap, subst, arith}
 use Rattle.std.specs.List.{Contains, position_or_len}
 use Rattle.std.specs.Option.{option_and_then}
-use Rattle.std.proofs.Math.Nat.{mod-eq-sub-div-mul}
-use Rattle.std.proofs.lemmas.Nat.{div-mul-add}
 use Rattle.std.proofs.lemmas.Bool.{eqb-true, eq-eqb, and_parts}
+use Rattle.list_laws.proofs.Numbers.{pair_variable, pair_row}
 use Rattle.dq_lits.specs.Literal.{Assignment, Literal}
 use Rattle.dq_lits.specs.Formula.{Dqbf, Existential}
 use Rattle.dq_lits.specs.Expansion.{agree_on, pair_number}
@@ -138,19 +137,6 @@ found_variable (Learned _ _ ∷ es) v k y logged h = found_variable es v k y log
 found_variable (Answer _ _ ∷ es) v k y logged h = found_variable es v k y logged.1 h
 found_variable (Round _ _ _ ∷ es) v k y logged h = found_variable es v k y logged.1 h
 found_variable (Begun _ ∷ es) v k y logged h = found_variable es v k y logged.1 h
-
--- a pair's number gives back the place of its row and its existential
-pair_row : (place v w : ℕ) → 1 ≤ w → w ≤ v → (place * v + w - 1) / v ≡ place
-pair_row place v w low high =
-    let same : place * v + w - 1 ≡ place * v + (w - 1) = omega arith in
-    ap (λ n. n / v) same ∙ div-mul-add place v (w - 1) (omega arith)
-
-pair_variable : (place v w : ℕ) → 1 ≤ w → w ≤ v → (place * v + w - 1) % v + 1 ≡ w
-pair_variable place v w low high =
-    let row = pair_row place v w low high in
-    let is = mod-eq-sub-div-mul (place * v + w - 1) v in
-    let times : (place * v + w - 1) / v * v ≡ place * v = ap (λ n. n * v) row in
-    omega (arith, is, times)
 
 -- the bits of the pairs, by the values of their arbiters
 abbrev pub pair_values : Assignment → List Entry → ℕ → Assignment

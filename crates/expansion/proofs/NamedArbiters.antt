@@ -4,6 +4,7 @@ use Rattle.std.specs.List.{AllPairs, position_or_len}
 use Rattle.std.proofs.lemmas.Bool.{eq-eqb}
 use Rattle.std.proofs.lemmas.List.{length-map, get_or-map, get_or_default, map-append, take_more}
 use Rattle.std.proofs.lemmas.Option.{slice_get-get_or, slice_get_within, get_or_from_slice_get}
+use Rattle.list_laws.proofs.Sequences.{position_most}
 use Rattle.dq_lits.specs.Formula.{Dqbf, Existential, IsWellFormed}
 use Rattle.dq_lits.specs.Expansion.{agree_on}
 use Rattle.hint_log.specs.Conditions.{AreLogged}
@@ -14,11 +15,12 @@ use Rattle.hint_log.specs.declared.names.Name.{Name}
 use Rattle.hint_log.specs.declared.names.Name.TheVariants.{Selector, Pair}
 use Rattle.log_laws.specs.Engines.{instances, part}
 use Rattle.log_laws.proofs.LargerLogs.{grown_by, grown_by_none, grown_then}
+use Rattle.log_laws.proofs.Kept.{name_stays_by}
 use Rattle.expansion.specs.Table.{TableState, AreArbiters, IsOfPairs}
 use Rattle.expansion.specs.FirstRows.{IsFirstRow}
 use Rattle.expansion.specs.Adding.{with_row, IsRowEntry, IsNewPair, AreFirstArbiters, IsAddingPart, IsAdding, IsNamedNext}
-use Rattle.expansion.proofs.TableGrowth.{pair_own, unnamed_own, named_keeps, names_kept, KeepsNames, one_more_named, new_named}
-use Rattle.expansion.proofs.Firsts.{arbiter_of_first, arbiter_of_new, passes_there, position_within}
+use Rattle.expansion.proofs.TableGrowth.{pair_own, unnamed_own, names_kept, KeepsNames, one_more_named, new_named}
+use Rattle.expansion.proofs.Firsts.{arbiter_of_first, arbiter_of_new, passes_there}
 use Rattle.expansion.proofs.FoundPoints.{existentials_once}
 
 abbrev pub nobody : Existential
@@ -175,15 +177,15 @@ module _ (f : Dqbf) (t : TableState) (row : List Bool) (place first : ℕ) (log 
       let place_is : first ≡ position_or_len (agree_on f here row) t.rows = first_is here here_is in
       let arbiter_is : arbiter f (with_row t row) row here ≡ n =
       arbiter_of_new f t.rows row here first place_is past (subst (λ k. k ≤ length t.rows) (sym place_is)
-      (position_within (agree_on f here row) t.rows)) in
-      let keeps : KeepsNames mine (Named v n ∷ mine) = named_keeps mine v n unnamed_there in
+      (position_most (agree_on f here row) t.rows)) in
+      let keeps : KeepsNames mine (Named v n ∷ mine) = name_stays_by mine v n unnamed_there in
       let named : name_of (Named v n ∷ mine) v ≡ Some (arbiter f (with_row t row) row here) =
       ap (λ b. cond b (Some n) (name_of mine v)) (eq-eqb v v refl) ∙ ap Some (sym arbiter_is) in
       subst (IsNamedNext f t row place v log) (sym entry) (record {
         grew = grown_by (IsRowEntry f t.group) log (with_entry log (Named v n))
             (Named v n) refl (record { unnamed = unnamed; own = inr refl; rightly = tt });
         adding = record {
-          group = named_keeps log.entries v n unnamed t.group (Selector t.group) adding.group;
+          group = name_stays_by log.entries v n unnamed t.group (Selector t.group) adding.group;
           existentials = adding.existentials;
           own_group = (tt, adding.own_group);
           rows = adding.rows;

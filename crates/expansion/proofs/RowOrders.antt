@@ -11,12 +11,14 @@ use Rattle.std.proofs.lemmas.List.Edits.{length-insert, get_or-insert_below, get
 use Rattle.std.proofs.lemmas.List.Sorted.{searchable_from_sorted, IsPermutation-insert, IsPermutation-sym, Contains-permutation}
 use Rattle.std.proofs.lemmas.Option.{slice_get-get_or}
 use Rattle.std.proofs.Math.ListN.{get_or-append}
+use Rattle.list_laws.proofs.Numbers.{below_or_here}
 use Rattle.dq_lits.specs.Formula.{Dqbf}
 use Rattle.dq_lits.specs.Henkin.{same_bits}
-use Rattle.log_laws.proofs.Found.{same_bits-refl, position_append}
+use Rattle.dq_lits.proofs.Choices.{same_bits-sound, same_bits-refl}
+use Rattle.log_laws.proofs.Found.{position_append}
 use Rattle.expansion.specs.FirstRows.{RowOrder, RowIndex, no_order, IsRowOrder, IsRowIndex, seen_by, row_at, bits_cmp, found_cmp}
 use Rattle.expansion.proofs.ComparedRows.{bits_total, cmp_self, cmp_equal}
-use Rattle.expansion.proofs.Firsts.{below_or_here, same_bits-sound, first_is, none_is}
+use Rattle.expansion.proofs.Firsts.{first_is, none_is}
 use Rattle.expansion.proofs.InstanceModels.{head_or_tail, later}
 
 in_list : {X : Type 0} (xs : List X) (i : ℕ) (d : X) → i < length xs → Contains xs (get_or xs i d)

@@ -1,13 +1,16 @@
 -- The table's search, by what the solver's ensures.
-use Rattle.std.proofs.Common.{◌≡◌, ℕ, zero, suc, Bool, true, false, true≢false, ◌||◌, inl, inr, List, [], ◌∷◌, ◌++◌, map, Some, refl, sym, ◌∙◌, ap, subst, arith}
+use Rattle.std.proofs.Common.{◌≡◌, ℕ, zero, suc, Bool, true, false, true≢false, inl, inr, List, [], ◌∷◌, ◌++◌, map, Some, refl, sym, ◌∙◌, ap, subst, arith}
 use Rattle.std.specs.List.{All, Contains}
-use Rattle.std.proofs.lemmas.Bool.{or_cases, eq-eqb}
+use Rattle.std.proofs.lemmas.Bool.{or_cases}
 use Rattle.std.proofs.lemmas.List.{append-nil}
-use Rattle.std.proofs.lemmas.List.Elements.{All-cons, All-nil, All-tail, All-contains, Contains-append_right}
+use Rattle.std.proofs.lemmas.List.Elements.{All-nil, All-tail, All-contains, Contains-append_right}
+use Rattle.list_laws.proofs.Members.{mapped_from}
 use Rattle.dq_lits.specs.Literal.{Literal, positive, negative, variable_of, opposite, same_literal}
 use Rattle.dq_lits.specs.Formula.{Dqbf}
 use Rattle.dq_lits.specs.Derivation.{holds}
 use Rattle.dq_lits.specs.Expansion.{IsExpansionUnsatisfiable}
+use Rattle.dq_lits.proofs.Truth.{same_literal-sound}
+use Rattle.dq_lits.proofs.HeldLiterals.{all_held}
 use Rattle.hint_log.specs.Entries.{Entry, Named, Given, Learned, Answer, Round, Begun, ProofLog, name_of}
 use Rattle.hint_log.specs.declared.names.Name.TheVariants.{Selector}
 use Rattle.hint_log.specs.declared.origins.Origin.{Origin}
@@ -16,13 +19,13 @@ use Rattle.hint_log.specs.Deciding.{ReachesGiven, IsInstance, AreNegatedSelector
 use Rattle.hint_log.specs.Growth.{Each, EachOf, Grew}
 use Rattle.hint_log.specs.Naming.{rows_of}
 use Rattle.hint_log.specs.Origins.{IsOriginsClause}
+use Rattle.hint_log.proofs.NamedEntries.{is_selector_here}
 use Rattle.log_laws.specs.Engines.{Engine, instances, origin_engine, is_own, IsInGroup, IsOwnGiven, IsAddedBy}
 use Rattle.log_laws.specs.Meaning.{InstancesHaveNoModel}
 use Rattle.log_laws.proofs.Found.{split_at, each_at}
 use Rattle.oracle.specs.Calls.{IsMade, assumed, IsLearnedEntry, IsRefutedUnder}
 use Rattle.oracle.specs.declared.groups.Group.{Group}
 use Rattle.oracle.specs.Searched.{IsSearched, IsGivenToGroup, IsOfGroup}
-use Rattle.oracle.proofs.ExcludedAssignments.{same-sound}
 use Rattle.expansion.specs.Searches.{switches, HoldInstances, IsSearchEntry}
 use Rattle.expansion.specs.Table.{TableState, IsTable, IsFullTable, IsRefutedBy}
 use Rattle.expansion.proofs.InstanceModels.{head_or_tail, later}
@@ -154,7 +157,7 @@ full_searched silent f t old new g full = record {
 only_selector : (g : ℕ) (l : Literal) → same_literal (opposite l) (positive g) ≡ true → l ≡ negative g
 only_selector g (positive v) h = cc
 only_selector g (negative v) h =
-    let same : positive v ≡ positive g = same-sound (positive v) (positive g) h in
+    let same : positive v ≡ positive g = same_literal-sound (positive v) (positive g) h in
     let is : v ≡ g = cc in
     ap negative is
 
@@ -167,13 +170,6 @@ one_of_groups (g ∷ gs) l h =
       | inr behind ↦ (let r = one_of_groups gs l behind in (r.0, later r.0 g gs r.1, r.2))
     ]
 
-is_selector_here : (entries : List Entry) (g : ℕ) (l : Literal) → name_of entries g ≡ Some (Selector g) →
-    l ≡ negative g →
-    (l ≡ negative (variable_of l)) × (name_of entries (variable_of l) ≡ Some (Selector (variable_of l)))
-is_selector_here entries g l named h =
-    let v : variable_of l ≡ g = ap variable_of h in
-    (h ∙ ap negative (sym v), ap (name_of entries) v ∙ named ∙ ap (λ w. Some (Selector w)) (sym v))
-
 instance_of : (origin : Origin) → origin_engine origin ≡ instances → IsInstance origin
 instance_of (Instance k j) h = tt
 instance_of (Gate v i) h = cc
@@ -182,31 +178,6 @@ instance_of (Copy side j) h = cc
 instance_of (Link v i) h = cc
 instance_of (TermGate v i) h = cc
 instance_of (Differ y leaf part) h = cc
-
-refl_literal : (l : Literal) → same_literal l l ≡ true
-refl_literal (positive v) = eq-eqb v v refl
-refl_literal (negative v) = eq-eqb v v refl
-
-all_held : (P : Literal → Type 0) (clause : List Literal) → ((l : Literal) → holds clause l ≡ true → P l) → All P clause
-all_held P [] each = All-nil P
-all_held P (l ∷ ls) each = All-cons P l ls (each l (or_left (same_literal l l) (holds ls l) (refl_literal l)))
-    (all_held P ls (λ k h. each k (or_right (same_literal k l) (holds ls k) h)))
-  where
-    or_left : (a b : Bool) → a ≡ true → (a || b) ≡ true
-    or_left true b h = refl
-    or_left false b h = absurd (true≢false (sym h))
-
-    or_right : (a b : Bool) → b ≡ true → (a || b) ≡ true
-    or_right true b h = refl
-    or_right false b h = h
-
-contains_map : {X Y : Type 0} (f : X → Y) (xs : List X) (y : Y) → Contains (map f xs) y →
-    (x : X) × Contains xs x × (f x ≡ y)
-contains_map f [] y (k, below, is) = absurd (omega (arith, below))
-contains_map f (x ∷ xs) y (zero, below, is) = (x, (0, omega arith, refl), is)
-contains_map f (x ∷ xs) y (suc k, below, is) =
-    let r = contains_map f xs y (k, omega (arith, below), is) in
-    (r.0, later r.0 x xs r.1, r.2)
 
 -- the literals that switch groups on, by the groups' numbers
 pub switches_are : (t : TableState) (more : List Group) (entries : List Entry) → All (IsMade entries) more →
@@ -297,7 +268,7 @@ module _ (f : Dqbf) (t : TableState) (more : List Group) (old new : ProofLog) (i
       ]
     where
       among : Contains (map (λ h. variable_of h.selector) more) g → name_of old.entries g ≡ Some (Selector g)
-      among has' = let m = contains_map (λ h. variable_of h.selector) more g has' in
+      among has' = let m = mapped_from (λ h. variable_of h.selector) more g has' in
           subst (λ v. name_of old.entries v ≡ Some (Selector v)) m.2 (All-contains (IsMade old.entries) more m.0 made m.1).named
 
   pub own_instance : (origin : Origin) (c : List Literal) →
@@ -323,7 +294,7 @@ module _ (f : Dqbf) (t : TableState) (more : List Group) (old new : ProofLog) (i
             | inl here ↦ (own_instance origin c reached
                 (subst (λ g. IsInGroup g c) (sym here) one.2) place.0 place.1 place.2).0
             | inr behind ↦
-                (let m = contains_map (λ h. variable_of h.selector) more one.0 behind in
+                (let m = mapped_from (λ h. variable_of h.selector) more one.0 behind in
                 hold m.0 origin c m.1 (given_before active old new id searched_new active_named by_numbers origin c
                 reached) (subst (λ g. IsInGroup g c) (sym m.2) one.2))
           ]

@@ -1,21 +1,20 @@
 -- How a table's part of the log grows by an arbiter's name or by an instance.
 use Rattle.std.proofs.Common.{◌≡◌, ℕ, zero, suc, ◌+◌, ◌<◌, ◌≤◌, ◌==◌, ◌⊎◌, inl, inr, Bool, true, false, cond, List, [], ◌∷◌, map, length, slice_get, Option, Some, None, refl, sym, ◌∙◌, ap, subst, arith}
 use Rattle.std.specs.List.{Contains, list_any, filter_map}
-use Rattle.std.specs.Option.{option_map}
-use Rattle.std.proofs.lemmas.Bool.{eqb-true}
-use Rattle.dq_lits.specs.Literal.{Literal, negative, variable_of, is_negative}
+use Rattle.list_laws.proofs.Numbers.{below_or_here}
+use Rattle.dq_lits.specs.Literal.{Literal, negative}
 use Rattle.dq_lits.specs.Formula.{Dqbf, Existential}
 use Rattle.dq_lits.specs.Expansion.{universal_literal_true}
 use Rattle.hint_log.specs.Conditions.{AreLogged}
 use Rattle.hint_log.specs.Entries.{Entry, Named, Given, Learned, Answer, Round, Begun, name_of}
-use Rattle.hint_log.specs.Naming.{NamedLiteral, named_literal, name_literal, AreNamedAs, arbiter, on_arbiter}
+use Rattle.hint_log.specs.Naming.{arbiter, on_arbiter}
 use Rattle.hint_log.specs.declared.names.Name.{Name}
 use Rattle.hint_log.specs.declared.names.Name.TheVariants.{Pair}
 use Rattle.hint_log.specs.declared.origins.Origin.TheVariants.{Instance}
 use Rattle.log_laws.specs.Engines.{instances, is_own, is_engine, name_engine, part}
+use Rattle.log_laws.proofs.Kept.{named_stay, name_stays_by}
 use Rattle.expansion.specs.Table.{TableState, HasInstance, IsOfPairs}
 use Rattle.expansion.specs.Adding.{with_row, IsNewPair, IsAddingPart}
-use Rattle.expansion.proofs.Firsts.{below_or_here}
 use Rattle.expansion.proofs.InstanceModels.{own_name}
 
 -- an arbiter's name is of the table's part
@@ -70,14 +69,6 @@ KeepsNames own after = (v : ℕ) (n : Name) → name_of own v ≡ Some n → nam
 abbrev pub KeepsEntries : List Entry → List Entry → Type 0
 KeepsEntries own after = (e : Entry) → Contains own e → Contains after e
 
-pub named_keeps : (own : List Entry) (v : ℕ) (n : Name) → name_of own v ≡ None → KeepsNames own (Named v n ∷ own)
-named_keeps own v n none u m is = by_bit (u == v) refl
-  where
-    by_bit : (b : Bool) → (u == v) ≡ b → cond b (Some n) (name_of own u) ≡ Some m
-    by_bit true e = let same : u ≡ v = eqb-true u v e in let gone : name_of own u ≡ None =
-        ap (name_of own) same ∙ none in cc
-    by_bit false e = is
-
 pub more_keeps : (own : List Entry) (e : Entry) → KeepsEntries own (e ∷ own)
 more_keeps own e x (k, lt, at) = (suc k, omega (arith, lt), at)
 
@@ -92,30 +83,13 @@ names_kept own after g keeps (v ∷ vs) (y ∷ ys) is =
     let first = keeps v (g y) head in
     let rest = names_kept own after g keeps vs ys tail in cc
 
-literal_kept : (own after : List Entry) → KeepsNames own after → (l : Literal) (n : NamedLiteral) (o : Option Name) →
-    name_of own (variable_of l) ≡ o
-    → option_map (λ m. named_literal m (is_negative l)) o ≡ Some n → name_literal after l ≡ Some n
-literal_kept own after keeps l n None named is = cc
-literal_kept own after keeps l n (Some m) named is = ap (option_map (λ k. named_literal k (is_negative l)))
-    (keeps (variable_of l) m named) ∙ is
-
-pub literals_kept : (own after : List Entry) → KeepsNames own after → (ls : List Literal) (ns : List NamedLiteral) →
-    AreNamedAs own ls ns → AreNamedAs after ls ns
-literals_kept own after keeps [] ns is = is
-literals_kept own after keeps (l ∷ ls) [] is = cc
-literals_kept own after keeps (l ∷ ls) (n ∷ ns) is =
-    let head : name_literal own l ≡ Some n = cc in
-    let tail : map (name_literal own) ls ≡ map Some ns = cc in
-    let first = literal_kept own after keeps l n (name_of own (variable_of l)) refl head in
-    let rest = literals_kept own after keeps ls ns tail in cc
-
 pub instance_kept : (f : Dqbf) (group : ℕ) (rows : List (List Bool)) (own after : List Entry) → KeepsNames own after →
     KeepsEntries own after → (k j : ℕ) (row : List Bool) (clause : List Literal)
     → HasInstance f group rows own k j row clause → HasInstance f group rows after k j row clause
 instance_kept f group rows own after names entries k j row clause h = record {
   rest = h.rest;
   given = entries (Given (Instance (k + 1) (j + 1)) (negative group ∷ h.rest)) h.given;
-  named = literals_kept own after names h.rest (filter_map (on_arbiter f rows row) clause) h.named;
+  named = named_stay own after names h.rest (filter_map (on_arbiter f rows row) clause) h.named;
 }
 
 -- an existential more has its arbiter's name, which may be an old one
@@ -161,7 +135,7 @@ new_named f t row named given own v y e none e_is first p = record {
     after = Named v P ∷ own
 
     keeps : KeepsNames own after
-    keeps = named_keeps own v P none
+    keeps = name_stays_by own v P none
 
     inside : (k j : ℕ) (c : List Literal) → Contains after (Given (Instance k j) c) →
         Contains own (Given (Instance k j) c)

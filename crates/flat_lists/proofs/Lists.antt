@@ -1,6 +1,7 @@
 -- The lists that lie end to end in one list.
-use Rattle.std.proofs.Common.{◌≡◌, ℕ, zero, suc, ◌+◌, ◌-◌, ◌≤◌, ◌<◌, List, [], ◌∷◌, ◌++◌, length, take, drop, get_or, refl, ap, sym, ◌∙◌, arith, length-append, length-drop}
-use Rattle.std.proofs.lemmas.List.{take_all, drop_at, take-append-le, drop-append-le, take-append-drop, length-take-le}
+use Rattle.std.proofs.Common.{◌≡◌, ℕ, zero, suc, ◌-◌, ◌≤◌, ◌<◌, List, [], ◌∷◌, ◌++◌, length, take, drop, get_or, refl, ap, sym, ◌∙◌, arith, length-append}
+use Rattle.std.proofs.lemmas.List.{take_all, drop_at, take-append-drop, length-take-le}
+use Rattle.list_laws.proofs.Sequences.{take-inside}
 use Rattle.flat_lists.specs.Layout.{lists_at, start_of, AreEnds}
 
 -- there are as many lists as ends
@@ -18,11 +19,6 @@ pub AreEnds-push : (start : ℕ) (ends : List ℕ) (n m : ℕ) → n ≤ m → A
     AreEnds start (ends ++ m ∷ []) m
 AreEnds-push start [] n m le h = (omega arith, refl)
 AreEnds-push start (end ∷ ends) n m le h = (h.0, AreEnds-push end ends n m le h.1)
-
-take-inside : {X : Type 0} (s n : ℕ) (xs ys : List X) → s ≤ length xs → s + n ≤ length xs →
-    take n (drop s (xs ++ ys)) ≡ take n (drop s xs)
-take-inside s n xs ys a b = rw (drop-append-le s xs ys a) (let e : n ≤ length (drop s xs) =
-    omega (arith, length-drop s xs) in take-append-le n (drop s xs) ys e)
 
 -- items behind the last list leave the lists as they are, and one more end makes them a list
 pub lists_at-push : {X : Type 0} (start : ℕ) (ends : List ℕ) (items more : List X) (m : ℕ) →

@@ -1,11 +1,14 @@
 -- Nodes of decision trees.
 use Rattle.std.proofs.Common.{◌≡◌, ℕ, ◌+◌, ◌&&◌, Bool, true, false, not, inl, inr, List, [], ◌∷◌, map, length, get_or, Some, All, Contains, refl, sym, ◌∙◌, ap, subst, arith, if◌then◌else◌}
 use Rattle.std.proofs.lemmas.Bool.{cases_Bool}
-use Rattle.std.proofs.lemmas.List.{get_or-map, length-map}
 use Rattle.std.proofs.lemmas.List.Elements.{All-map, Contains-get_or}
+use Rattle.list_laws.proofs.Truths.{not_true}
+use Rattle.list_laws.proofs.Members.{one_mapped}
 use Rattle.dq_lits.specs.Literal.{Literal, positive, negative, opposite, variable_of, literal_true}
 use Rattle.dq_lits.specs.Formula.{Existential, Dqbf, existential_of}
 use Rattle.dq_lits.specs.Henkin.{MatrixHolds}
+use Rattle.dq_lits.proofs.Truth.{literal_true-opposite}
+use Rattle.dq_lits.proofs.FormulaVariables.{find_sound}
 use Rattle.dq_formula.specs.Prefix.{IsLawful}
 use Rattle.dq_formula.specs.Rules.{cube_true}
 use Rattle.aig_graph.specs.declared.nodes.Node.{Node}
@@ -14,10 +17,8 @@ use Rattle.aig_graph.specs.Graph.{AigGraph, node_value, node_support}
 use Rattle.aig_graph.specs.Made.{Extends, IsChosen}
 use Rattle.definition_order.specs.Order.{MayRead}
 use Rattle.defining_nodes.specs.Definitions.{IsDefinition, input_variable}
-use Rattle.definition_order.proofs.Declared.{find_sound}
 use Rattle.gate_definitions.specs.Stating.{Implies, literal_node}
 use Rattle.gate_definitions.specs.Branches.{IsDefinitionUnder}
-use Rattle.gate_definitions.proofs.ImpliedLiterals.{literal_true-opposite}
 use Rattle.gate_definitions.proofs.GateNodes.{read_is_declared, literal_value, literal_reads}
 
 -- a node stays one where the graph grows
@@ -31,14 +32,6 @@ later f ranks old new path e node more under = record {
       (λ i. m (input_variable f i)));
 }
 
-pub grown_twice : (old mid new : AigGraph) → Extends old mid → Extends mid new → Extends old new
-grown_twice old mid new first second = record {
-  inputs = second.inputs ∙ first.inputs;
-  nodes = λ n is. second.nodes n (first.nodes n is);
-  values = λ n is inputs. second.values n (first.nodes n is) inputs ∙ first.values n is inputs;
-  supports = λ n is. second.supports n (first.nodes n is) ∙ first.supports n is;
-}
-
 pub whole : (f : Dqbf) (ranks : List ℕ) (graph : AigGraph) (e : Existential) (node : Node) →
     IsDefinitionUnder f ranks graph [] e node → IsDefinition f ranks graph e node
 whole f ranks graph e node under = record {
@@ -47,16 +40,6 @@ whole f ranks graph e node under = record {
   defines =
       λ m holds. under.defines m holds refl;
 }
-
--- what holds of all that a node reads holds of each of its inputs
-one_mapped : (P : ℕ → Type 0) (g : ℕ → ℕ) (xs : List ℕ) (i : ℕ) → All P (map g xs) → Contains xs i → P (g i)
-one_mapped P g xs i all (k, lt, at) =
-    let there : get_or (map g xs) k (g i) ≡ g i = get_or-map g xs k i (g i) lt ∙ ap g at in
-    subst P there (all k (g i) (rw (length-map xs g) lt))
-
-not_true : (b : Bool) → not b ≡ true → b ≡ false
-not_true true h = sym h
-not_true false h = refl
 
 module _ (f : Dqbf) (ranks : List ℕ) (y : ℕ) (e : Existential) (known : existential_of f y ≡ Some e)
     (path : List Literal) where

@@ -3,11 +3,11 @@ use Rattle.std.proofs.Common.{◌≡◌, ℕ, Bool, true, false, not, inl, inr, 
 use Rattle.std.proofs.lemmas.Bool.{cases_Bool}
 use Rattle.dq_lits.specs.Literal.{opposite, same_literal, literal_true}
 use Rattle.dq_lits.specs.Formula.{Existential, Dqbf, existential_of}
-use Rattle.definition_order.proofs.Declared.{find_sound}
+use Rattle.dq_lits.proofs.Truth.{same_literal-sound, literal_true-opposite}
+use Rattle.dq_lits.proofs.FormulaVariables.{find_sound}
 use Rattle.gate_definitions.specs.Stating.{IsHalf, IsChoice, AreReadable, choice_literals}
 use Rattle.gate_definitions.specs.declared.choices.Choice.{Choice}
 use Rattle.gate_definitions.specs.declared.choices.Half.{Half}
-use Rattle.gate_definitions.proofs.ImpliedLiterals.{literal_true-opposite, same_literal-sound}
 
 pub is_same : (r b : Bool) → r ≡ not b → r ≡ false → b ≡ true
 is_same r true e h = refl

@@ -1,5 +1,5 @@
 -- Where declared variables stand.
-use Rattle.std.proofs.Common.{◌≡◌, ℕ, ◌+◌, ◌≤◌, ◌<◌, ◌==◌, true, false, not, cond, List, ◌++◌, length, Some, IsSome, None, position, sym, ◌∙◌, ap, inl, inr, arith, eqb, Contains}
+use Rattle.std.proofs.Common.{◌≡◌, ℕ, ◌+◌, ◌≤◌, ◌==◌, true, false, not, cond, List, ◌++◌, length, Some, IsSome, None, position, sym, ◌∙◌, ap, inl, inr, arith, eqb, Contains}
 use Rattle.std.specs.List.{position_or_len}
 use Rattle.std.proofs.lemmas.Bool.{eq-eqb, ne_eqb}
 use Rattle.std.proofs.lemmas.List.Elements.{All-contains, Contains-append_cases, Contains-append_right}
@@ -35,10 +35,6 @@ placed_nowhere us vs v none none' among = elim (Contains-append_cases us vs v am
   | inl first ↦ none_contained us v none first
   | inr second ↦ none_contained vs v none' second
 ]
-
-pub placed_below : (vs : List ℕ) (v p : ℕ) → position (λ w. w == v) vs ≡ Some p → p < length vs
-placed_below vs v p found = let at = place-found vs v p found in let below = place-below vs v at.1 in let same = at.0 in
-    omega (arith, below, same)
 
 pub number_range : (f : Dqbf) → IsLawful f → (y : ℕ) → IsSome (existential_of f y) → (1 ≤ y) × (y ≤ 1000000)
 number_range f lawful y is =

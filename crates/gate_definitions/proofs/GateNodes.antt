@@ -6,6 +6,7 @@ use Rattle.std.proofs.lemmas.List.Elements.{All-contains, All-head, All-tail, Al
 use Rattle.dq_lits.specs.Literal.{Assignment, Literal, positive, negative, variable_of, is_negative, literal_true}
 use Rattle.dq_lits.specs.Formula.{Existential, Dqbf, declared, existential_of}
 use Rattle.dq_lits.specs.Henkin.{MatrixHolds}
+use Rattle.dq_lits.proofs.FormulaVariables.{find_sound}
 use Rattle.dq_formula.specs.Prefix.{IsLawful, existential_variables}
 use Rattle.dq_formula.specs.Rules.{cube_true}
 use Rattle.dq_formula.proofs.Places.{has-contains}
@@ -15,7 +16,7 @@ use Rattle.aig_graph.specs.Graph.{AigGraph, IsNode, node_value, node_support, wi
 use Rattle.aig_graph.specs.Made.{IsCube, IsChosen}
 use Rattle.definition_order.specs.Order.{MayRead}
 use Rattle.defining_nodes.specs.Definitions.{IsDefinition, input_variable}
-use Rattle.definition_order.proofs.Declared.{find_sound, is_variable, sees_universals, some_existential, variable}
+use Rattle.definition_order.proofs.Declared.{is_variable, sees_universals, some_existential, variable}
 use Rattle.gate_definitions.specs.declared.choices.Choice.{Choice}
 use Rattle.gate_definitions.specs.Stating.{AreReadable, IsConjunction, IsChoice, choice_literals, literal_node}
 

@@ -1,31 +1,15 @@
 -- What clauses say of literals.
-use Rattle.std.proofs.Common.{◌≡◌, ℕ, Bool, true, false, not, ◌||◌, ◌&&◌, cond, inl, inr, List, [], ◌∷◌, map, filter, All, refl, sym, ◌∙◌, ap, arith, true≢false}
+use Rattle.std.proofs.Common.{◌≡◌, ℕ, Bool, true, false, not, ◌||◌, ◌&&◌, cond, inl, inr, List, [], ◌∷◌, map, filter, All, refl, sym, ◌∙◌, ap, true≢false}
 use Rattle.std.specs.List.{list_any, list_all}
-use Rattle.std.proofs.lemmas.Bool.{eqb-true, or_cases, and_parts, cases_Bool}
+use Rattle.std.proofs.lemmas.Bool.{or_cases, and_parts, cases_Bool}
 use Rattle.std.proofs.lemmas.List.Elements.{All-head, All-tail}
-use Rattle.dq_lits.specs.Literal.{Assignment, Literal, positive, negative, opposite, same_literal, literal_true, clause_true}
+use Rattle.dq_lits.specs.Literal.{Assignment, Literal, opposite, same_literal, literal_true, clause_true}
 use Rattle.dq_lits.specs.Formula.{Existential, Dqbf}
 use Rattle.dq_lits.specs.Henkin.{MatrixHolds}
+use Rattle.dq_lits.proofs.Truth.{same_literal-sound}
+use Rattle.dq_lits.proofs.TrueClauses.{opposite-false}
 use Rattle.dq_formula.specs.Rules.{cube_true}
 use Rattle.gate_definitions.specs.Stating.{IsImplied, Implies, AreReadable, IsConjunction}
-
-pub literal_true-opposite : (m : Assignment) (l : Literal) → literal_true m (opposite l) ≡ not (literal_true m l)
-literal_true-opposite m (positive v) = refl
-literal_true-opposite m (negative v) = grind arith
-
-pub same_literal-sound : (k l : Literal) → same_literal k l ≡ true → k ≡ l
-same_literal-sound (positive v) (positive w) h = ap positive (eqb-true v w h)
-same_literal-sound (positive v) (negative w) h = cc
-same_literal-sound (negative v) (positive w) h = cc
-same_literal-sound (negative v) (negative w) h = ap negative (eqb-true v w h)
-
--- a literal is false where its negation is true
-false_beside : (m : Assignment) (l : Literal) → literal_true m (opposite l) ≡ true → literal_true m l ≡ false
-false_beside m l h = by (literal_true m l) (sym (literal_true-opposite m l) ∙ h)
-  where
-    by : (b : Bool) → not b ≡ true → b ≡ false
-    by true e = cc
-    by false e = refl
 
 -- a literal of a true cube is true
 true_in_cube : (m : Assignment) (cube : List Literal) (l : Literal) → cube_true m cube ≡ true →
@@ -52,7 +36,7 @@ within_implies f clause cube l implied within m holds all = by clause within (im
         elim (or_cases (literal_true m k) (clause_true m ks) h) [
           | inl here ↦ elim (or_cases (same_literal k l) (list_any (λ c. same_literal c (opposite k)) cube) parts.0) [
             | inl same ↦ ap (literal_true m) (sym (same_literal-sound k l same)) ∙ here
-            | inr denied ↦ absurd (true≢false (sym here ∙ false_beside m k
+            | inr denied ↦ absurd (true≢false (sym here ∙ opposite-false m k
                 (true_in_cube m cube (opposite k) all denied)))
           ]
           | inr later ↦ by ks parts.1 later
@@ -78,7 +62,7 @@ premises_imply f clause l implied m holds all = by clause all (implied m holds)
     step k ks later false e a h =
         let parts = and_parts (literal_true m (opposite k)) (cube_true m (others l ks)) a in
         elim (or_cases (literal_true m k) (clause_true m ks) h) [
-          | inl here ↦ absurd (true≢false (sym here ∙ false_beside m k parts.0))
+          | inl here ↦ absurd (true≢false (sym here ∙ opposite-false m k parts.0))
           | inr there ↦ later parts.1 there
         ]
 

@@ -1,11 +1,10 @@
 -- How an entry more is kept, and how what is kept is found.
-use Rattle.std.proofs.Common.{◌≡◌, ℕ, zero, suc, ◌+◌, ◌-◌, ◌<◌, ◌≤◌, eqb, Bool, true, false, true≢false, if◌then◌else◌, List, [], ◌∷◌, ◌++◌, length, reverse, get_or, take, Option, Some, None, Contains, refl, sym, ap, ◌∙◌, subst, arith}
+use Rattle.std.proofs.Common.{◌≡◌, ℕ, zero, suc, ◌+◌, ◌-◌, ◌<◌, ◌≤◌, eqb, Bool, true, false, if◌then◌else◌, List, [], ◌∷◌, ◌++◌, length, reverse, get_or, take, Option, Some, None, Contains, refl, sym, ap, ◌∙◌, subst, arith}
 use Rattle.std.specs.List.{AllByRecursion}
 use Rattle.std.specs.Map.{lookup}
 use Rattle.std.specs.Option.{option_and_then}
-use Rattle.std.proofs.Math.Seq.{take-append_seam}
 use Rattle.std.proofs.lemmas.List.{reverse-append, length-append, length-reverse, reverse-reverse, get_or_default}
-use Rattle.dq_lits.specs.Literal.{Literal, positive, negative, variable_of, is_negative}
+use Rattle.dq_lits.specs.Literal.{Literal}
 use Rattle.hint_log.specs.Conditions.{IsId, MayFollow, IsNewName, AreLogged}
 use Rattle.hint_log.specs.declared.kinds.EntryKind.{EntryKind}
 use Rattle.hint_log.specs.declared.kinds.EntryKind.TheVariants.{Naming, Clause, Beginning}
@@ -336,17 +335,6 @@ one_beginning_more log limit steps stays more es more_es names ks ls ns rs count
       entries = entries ∙ ap (λ ps. Begun live ∷ ps) same;
       limit_is = ap (λ (p : ProofLog). p.limit) is;
     }
-
--- a literal by its variable and its sign
-pub is_positive_literal : (l : Literal) → is_negative l ≡ false → l ≡ positive (variable_of l)
-is_positive_literal (positive v) is = refl
-is_positive_literal (negative v) is = absurd (true≢false is)
-
--- a list that was added and taken away again
-pub taken_back : {X : Type 0} (xs more : List X) (x : X) → more ≡ xs ++ x ∷ [] → take (length more - 1) more ≡ xs
-taken_back xs more x is =
-    let long : length more - 1 ≡ length xs = omega (arith, ap length is, length-append xs (x ∷ [])) in
-    ap (λ n. take n more) long ∙ ap (take (length xs)) is ∙ take-append_seam xs (x ∷ [])
 
 pub more_log : (e : Entry) (log : ProofLog) (limit steps : ℕ) (es : List EntryKind) (names : List (ℕ × Name))
     (ks : List ClauseKind) (ls : List (List Literal))

@@ -1,8 +1,9 @@
 mod KeptOrder
 mod KeptLives
 mod KeptEntries
-mod Lawful
+pub mod Lawful
 mod Logged
 mod KeptNames
 mod ReachedIds
 mod OrderedNames
+pub mod NamedEntries

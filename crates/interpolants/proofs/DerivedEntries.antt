@@ -4,6 +4,7 @@ use Rattle.std.specs.Option.{option_and_then}
 use Rattle.std.proofs.lemmas.Bool.{cases_Bool}
 use Rattle.dq_lits.specs.Literal.{Literal}
 use Rattle.dq_lits.specs.Derivation.{IsDerived}
+use Rattle.dq_lits.proofs.HeldLiterals.{derived-on}
 use Rattle.hint_log.specs.Conditions.{IsId, AreIds, AreLogged}
 use Rattle.hint_log.specs.Entries.{Entry}
 use Rattle.hint_log.specs.Entries.{Named, Given, Learned, Answer, Round, Begun}
@@ -11,9 +12,8 @@ use Rattle.hint_log.specs.Entries.{has_id, last_id, numbered, clause_of, hints_o
 use Rattle.hint_log.specs.Growth.{Each}
 use Rattle.hint_log.specs.ProductiveLog.{IsDerivedByHints}
 use Rattle.hint_log.specs.Reached.{Reaches, itself, by_hint}
+use Rattle.hint_log.proofs.NamedEntries.{clause_known}
 use Rattle.interpolants.specs.Replay.{AreDerived}
-use Rattle.interpolants.proofs.NumberedClauses.{clause_has_id}
-use Rattle.interpolants.proofs.Replays.{derived-on}
 
 module _ (stays : (e : Entry) (es : List Entry) (id : ℕ) → IsId es id →
     numbered has_id (e ∷ es) id ≡ numbered has_id es id)
@@ -64,7 +64,7 @@ module _ (stays : (e : Entry) (es : List Entry) (id : ℕ) → IsId es id →
             ap (λ b. cond b (Some e) (numbered has_id es id)) later in
             let clause_is : clause_at es id ≡ Some clause = sym (ap (option_and_then clause_of) is) ∙ c in
             let hints_are : hints_at es id ≡ Some hints = sym (ap (option_and_then (λ x. Some (hints_of x))) is) ∙ h in
-            let is_id = clause_has_id es id clause clause_is in
+            let is_id = clause_known es id clause clause_is in
             one_more e es clause hints (λ hint has. reached es id hint logged.1 is_id
             (by_hint id hint hints itself hints_are has))
             (each_derived es logged.1 each.1 id clause hints clause_is

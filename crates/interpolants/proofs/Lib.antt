@@ -1,7 +1,6 @@
 pub mod Truth
 pub mod Sets
 pub mod NodeMaps
-pub mod NumberedClauses
 pub mod Replays
 pub mod DerivedEntries
 pub mod Sided

@@ -1,17 +1,11 @@
 -- Nodes by numbers, the first that is listed for each, as they are collected pair by pair.
-use Rattle.std.proofs.Common.{◌≡◌, ℕ, ◌==◌, ◌<◌, ◌+◌, Bool, true, false, cond, inl, inr, List, [], ◌∷◌, ◌++◌, take, length, get_or, Option, Some, None, refl, sym, ◌∙◌, ap}
+use Rattle.std.proofs.Common.{◌≡◌, ℕ, ◌==◌, ◌<◌, ◌+◌, Bool, true, false, cond, List, [], ◌∷◌, ◌++◌, take, length, get_or, Option, Some, None, refl, sym, ◌∙◌, ap}
 use Rattle.std.specs.Option.{is_some}
-use Rattle.std.proofs.lemmas.Bool.{cases_eq, eqb-true, eq-eqb, ne_eqb}
+use Rattle.std.proofs.lemmas.Bool.{eqb-true}
 use Rattle.std.proofs.lemmas.List.{take_more}
+use Rattle.list_laws.proofs.Numbers.{equal-swap}
 use Rattle.aig_graph.specs.declared.nodes.Node.{Node}
 use Rattle.interpolants.specs.Interpolant.{node_of}
-
-eqb-swap : (a b : ℕ) → (a == b) ≡ (b == a)
-eqb-swap a b =
-    elim (cases_eq a b) [
-      | inl same ↦ eq-eqb a b same ∙ sym (eq-eqb b a (sym same))
-      | inr other ↦ ne_eqb a b other ∙ sym (ne_eqb b a (λ same. other (sym same)))
-    ]
 
 -- an earlier pair goes first
 abbrev pub or_else : Option Node → Option Node → Option Node
@@ -55,7 +49,7 @@ module _ (pairs : List (ℕ × Node)) (i : ℕ) (p : ℕ × Node) (lt : i < leng
   pub listed_now : (o : Option Node) → o ≡ node_of before p.0 → is_some o ≡ false →
       ((n : ℕ) → node_of kept n ≡ cond (p.0 == n) (Some p.1) (node_of before n)) → (n : ℕ) →
       node_of kept n ≡ node_of (take (i + 1) pairs) n
-  listed_now o is some put n = put n ∙ ap (λ b. cond b (Some p.1) (node_of before n)) (eqb-swap p.0 n) ∙ by
+  listed_now o is some put n = put n ∙ ap (λ b. cond b (Some p.1) (node_of before n)) (equal-swap p.0 n) ∙ by
       (n == p.0) refl (node_of before n) refl ∙ sym (one_more n)
     where
       by : (b : Bool) → (n == p.0) ≡ b → (m : Option Node) → node_of before n ≡ m →

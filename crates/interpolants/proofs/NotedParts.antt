@@ -9,10 +9,10 @@ use Rattle.hint_log.specs.Reached.{Reaches, AreReached}
 use Rattle.aig_graph.specs.Graph.{AigGraph}
 use Rattle.aig_graph.specs.Made.{Extends}
 use Rattle.aig_graph.specs.declared.nodes.Node.{Node}
+use Rattle.aig_graph.proofs.LargerGraphs.{grown_twice}
 use Rattle.interpolants.specs.Interpolant.{Partition, node_of, AreNodes}
 use Rattle.interpolants.specs.Parts.{IsPartOf, HasPart, AreNoted}
 use Rattle.interpolants.proofs.PartialInterpolants.{part_kept, nodes_after}
-use Rattle.interpolants.proofs.Steps.{extends_both}
 
 -- those of the first ids
 pub record AreSomeNoted (q : Partition) (local : ℕ → Bool) (initial g : AigGraph) (ids : List ℕ) (i : ℕ)
@@ -65,7 +65,7 @@ pub noted_more : (q : Partition) (local : ℕ → Bool) (initial g new : AigGrap
 noted_more q local initial g new ids i notes more node reached nodes lt noted e part put =
     let now = nodes_after q.shared initial g noted.extends nodes in
     record {
-      extends = extends_both initial g new noted.extends e;
+      extends = grown_twice initial g new noted.extends e;
       parts = λ k less k_lt.
           elim (cases_lt k i) [
             | inl before ↦

@@ -1,10 +1,14 @@
 -- Partial interpolants: leaves, resolution, and the answer's own literals (K. McMillan, 2003).
-use Rattle.std.proofs.Common.{◌≡◌, ◌⊎◌, ℕ, Bool, true, false, true≢false, not, ◌||◌, ◌&&◌, inl, inr, List, [], ◌∷◌, map, Option, Some, None, IsSome, Contains, refl, sym, ◌∙◌, ap, subst, arith}
+use Rattle.std.proofs.Common.{◌≡◌, ◌⊎◌, ℕ, Bool, true, false, true≢false, not, ◌||◌, ◌&&◌, inl, inr, List, ◌∷◌, map, Option, Some, None, IsSome, Contains, refl, sym, ◌∙◌, ap, subst}
 use Rattle.std.specs.Option.{is_some}
 use Rattle.std.specs.List.{list_all}
 use Rattle.std.proofs.lemmas.Bool.{and_parts, or_cases, or_left, or_right, cases_Bool}
+use Rattle.list_laws.proofs.Members.{no_element}
 use Rattle.dq_lits.specs.Literal.{Assignment, Literal, positive, variable_of, opposite, same_literal, literal_true}
 use Rattle.dq_lits.specs.Derivation.{holds}
+use Rattle.dq_lits.proofs.Truth.{same_literal-sound, literal_true-opposite}
+use Rattle.dq_lits.proofs.HeldLiterals.{any_one, any_gives, negated-held, holds-opposites}
+use Rattle.dq_lits.proofs.SignedLiterals.{opposite_variable, opposite-opposite}
 use Rattle.hint_log.specs.Entries.{clause_at}
 use Rattle.aig_graph.specs.Graph.{AigGraph, node_value, IsNode}
 use Rattle.aig_graph.specs.Made.{Extends, IsMade}
@@ -13,7 +17,7 @@ use Rattle.interpolants.specs.Parts.{AreTrueOn, IsPart, is_true_shared, IsShared
 use Rattle.interpolants.specs.Sides.{is_local, AreOfA}
 use Rattle.aig_graph.specs.declared.nodes.Node.{Node}
 use Rattle.aig_graph.specs.declared.nodes.Node.TheVariants.{Constant}
-use Rattle.interpolants.proofs.Truth.{literal_true-opposite, opposite-opposite, variable_of-opposite, same_literal-sound, holds-opposites, any_witness, any_one, all_one, all_from, stands_there}
+use Rattle.interpolants.proofs.Truth.{all_one, all_from, stands_there}
 
 -- what holds of shared nodes as a graph grows
 pub agrees_before : (shared : List (ℕ × Node)) (old new : AigGraph) → Extends old new → AreNodes shared old →
@@ -95,7 +99,7 @@ without_pivot local side m trues clause x t leads pivot l h s =
       | inl is ↦
           let here : l ≡ opposite x = sym (opposite-opposite l) ∙ ap opposite is in
           ap (literal_true m) here ∙ literal_true-opposite m x ∙ ap not
-          (pivot (ap local (sym (ap variable_of here ∙ variable_of-opposite x)) ∙ s))
+          (pivot (ap local (sym (ap variable_of here ∙ opposite_variable x)) ∙ s))
       | inr before ↦ t l (ap (holds trues) (sym (opposite-opposite l)) ∙ before) s
     ]
 
@@ -200,13 +204,6 @@ shared_not_local false s h = refl
 one_of : (m : Assignment) (l : Literal) → literal_true m l ≡ true → literal_true m (opposite l) ≡ true → ⊥
 one_of m l a b = true≢false (sym b ∙ literal_true-opposite m l ∙ ap not a)
 
-negated : (clause : List Literal) (l : Literal) → holds clause l ≡ true →
-    holds (map opposite clause) (opposite l) ≡ true
-negated clause l h = holds-opposites clause (opposite l) ∙ ap (holds clause) (opposite-opposite l) ∙ h
-
-no_element : (i : ℕ) → Contains [] i → ⊥
-no_element i (k, lt, at) = omega (arith, lt)
-
 asked_true : (a s t : Bool) → (a ≡ true → t ≡ true) → (not (a && s) || t) ≡ true
 asked_true true true t h = h refl
 asked_true true false t h = refl
@@ -225,7 +222,7 @@ pub leaf_a : (q : Partition) (variables : List Literal) (g : AigGraph) (at : ℕ
 leaf_a q variables g at clause n of_a given on_a part = record {
   is_node = part.is_node;
   follows = λ inputs m agrees side t.
-      let w = any_witness (literal_true m) clause (side at clause given on_a) in
+      let w = any_gives (literal_true m) clause (side at clause given on_a) in
       let l = w.0 in
       let of : IsOfA q (variable_of l) = inr (record {
         at = at;
@@ -236,21 +233,21 @@ leaf_a q variables g at clause n of_a given on_a part = record {
             stands_there clause l w.1;
       }) in
       part.value inputs m agrees ∙ elim (cases_Bool (is_local q.shared variables (variable_of l))) [
-        | inl local ↦ absurd (one_of m l w.2 (t (opposite l) (negated clause l w.1)
-            (ap (is_local q.shared variables) (variable_of-opposite l) ∙ local)))
+        | inl local ↦ absurd (one_of m l w.2 (t (opposite l) (negated-held clause l w.1)
+            (ap (is_local q.shared variables) (opposite_variable l) ∙ local)))
         | inr other ↦
             any_one (is_true_shared q.shared m) clause l w.1
             (ap (λ b. b && literal_true m l) (other_is_shared q variables of_a (variable_of l) of other) ∙ w.2)
       ];
   contradicts = λ inputs m agrees side t v.
-      let w = any_witness (is_true_shared q.shared m) clause (sym (part.value inputs m agrees) ∙ v) in
+      let w = any_gives (is_true_shared q.shared m) clause (sym (part.value inputs m agrees) ∙ v) in
       let l = w.0 in
       let both = and_parts (is_some (node_of q.shared (variable_of l))) (literal_true m l) w.2 in
       let other : is_local q.shared variables (variable_of l) ≡ false =
       shared_not_local (holds variables (positive (variable_of l)))
       (is_some (node_of q.shared (variable_of l))) both.0 in
-      one_of m l both.1 (t (opposite l) (negated clause l w.1)
-      (ap (is_local q.shared variables) (variable_of-opposite l) ∙ other));
+      one_of m l both.1 (t (opposite l) (negated-held clause l w.1)
+      (ap (is_local q.shared variables) (opposite_variable l) ∙ other));
   reads = part.reads;
 }
 
@@ -263,7 +260,7 @@ leaf_b q variables g at clause of_a shares given on_b = record {
   is_node = tt;
   follows = λ inputs m agrees side t. refl;
   contradicts = λ inputs m agrees side t v.
-      let w = any_witness (literal_true m) clause (side at clause given on_b) in
+      let w = any_gives (literal_true m) clause (side at clause given on_b) in
       let l = w.0 in
       let of : IsOfB q (variable_of l) = inr (record {
         at = at;
@@ -275,8 +272,8 @@ leaf_b q variables g at clause of_a shares given on_b = record {
       }) in
       elim (cases_Bool (is_local q.shared variables (variable_of l))) [
         | inl local ↦ local_not_b q variables of_a shares (variable_of l) local of
-        | inr other ↦ one_of m l w.2 (t (opposite l) (negated clause l w.1)
-            (ap (is_local q.shared variables) (variable_of-opposite l) ∙ other))
+        | inr other ↦ one_of m l w.2 (t (opposite l) (negated-held clause l w.1)
+            (ap (is_local q.shared variables) (opposite_variable l) ∙ other))
       ];
   reads = λ i has. absurd (no_element i has);
 }
@@ -302,7 +299,7 @@ answer_part q variables old new clause p n of_a shares nodes e found part asked 
               record {
                 clause = clause;
                 clause_is = found;
-                negated = sym (holds-opposites clause l) ∙ h;
+                negated-held = sym (holds-opposites clause l) ∙ h;
                 not_a =
                     of_other;
               },
@@ -328,9 +325,9 @@ answer_part q variables old new clause p n of_a shares nodes e found part asked 
             asked_is (holds q.a_side (opposite (opposite l))) (is_some (node_of q.shared (variable_of (opposite l))))
             (literal_true m (opposite (opposite l))) (literal_true m l)
             here (ap (holds q.a_side) (opposite-opposite l) ∙ of_side)
-            (ap (λ w. is_some (node_of q.shared w)) (variable_of-opposite l) ∙ shared)
+            (ap (λ w. is_some (node_of q.shared w)) (opposite_variable l) ∙ shared)
             (ap (literal_true m) (opposite-opposite l))
-        | inr of_other ↦ others l (record { clause = clause; clause_is = found; negated = in_clause; not_a = of_other })
+        | inr of_other ↦ others l (record { clause = clause; clause_is = found; negated-held = in_clause; not_a = of_other })
       ]) both.0;
   reads = asked.reads;
 }

@@ -1,21 +1,17 @@
 -- The replay of a derived line: each hinted clause but the last leads to a pivot, and the last one is false.
-use Rattle.std.proofs.Common.{◌≡◌, ◌⊎◌, ℕ, suc, ◌+◌, ◌<◌, ◌≤◌, Bool, true, false, not, cond, ◌||◌, ◌&&◌, inl, inr, List, [], ◌∷◌, map, drop, length, get_or, Option, None, Some, Contains, refl, sym, ◌∙◌, ap, subst, arith, add-one}
+use Rattle.std.proofs.Common.{◌≡◌, ◌⊎◌, ℕ, suc, ◌+◌, ◌<◌, ◌≤◌, Bool, true, false, not, cond, ◌||◌, ◌&&◌, inl, inr, List, [], ◌∷◌, map, drop, length, get_or, Option, None, Some, Contains, refl, sym, ◌∙◌, ap, subst, add-one}
 use Rattle.std.specs.List.{list_all, filter, find}
 use Rattle.std.proofs.Math.Seq.{drop-cons}
-use Rattle.std.proofs.lemmas.Bool.{cases_Bool, and_parts, or_cases, or_left, or_right}
+use Rattle.std.proofs.lemmas.Bool.{cases_Bool, and_parts, or_cases}
 use Rattle.std.proofs.lemmas.List.{get_or_default, drop_all}
+use Rattle.list_laws.proofs.Folds.{filter-same}
 use Rattle.dq_lits.specs.Literal.{Literal, opposite, same_literal}
-use Rattle.dq_lits.specs.Derivation.{LiveClauses, Status, falsified, unit, stuck, holds, status_by, status_of, fault_by, hint_fault, is_tautology, IsDerived}
+use Rattle.dq_lits.specs.Derivation.{LiveClauses, unit, stuck, holds, status_by, status_of, fault_by, hint_fault, is_tautology, IsDerived}
+use Rattle.dq_lits.proofs.Truth.{same_literal-sound}
+use Rattle.dq_lits.proofs.HeldLiterals.{fault_by-same, filter-holds}
 use Rattle.interpolants.specs.Replay.{trues_of, Leads, IsReplay, AreSame, is_open, IsReplaying}
 use Rattle.interpolants.specs.declared.chains.Link.{Link}
-use Rattle.interpolants.proofs.Truth.{same_literal-sound, all_one}
-
--- propagation depends on the set of true literals alone
-filter-same : (p q : Literal → Bool) → ((l : Literal) → p l ≡ q l) → (xs : List Literal) → filter p xs ≡ filter q xs
-filter-same p q same [] = refl
-filter-same p q same (x ∷ xs) =
-    ap (λ b. cond b (x ∷ filter p xs) (filter p xs)) (same x) ∙ ap (λ ys. cond (q x) (x ∷ ys) ys)
-    (filter-same p q same xs)
+use Rattle.interpolants.proofs.Truth.{all_one}
 
 status_by-same : (xs ys rest : List Literal) → AreSame xs ys → status_by xs rest ≡ status_by ys rest
 status_by-same xs ys [] same = refl
@@ -28,13 +24,6 @@ status_of-same xs ys (Some clause) same =
     ap (status_by xs) (filter-same (λ l. not (holds xs (opposite l))) (λ l. not (holds ys (opposite l)))
     (λ l. ap not (same (opposite l))) clause)
     ∙ status_by-same xs ys (filter (λ l. not (holds ys (opposite l))) clause) same
-
-fault_by-same : (s : Status) (place : ℕ) (hints : List ℕ) (f g : Literal → Option ℕ) → ((l : Literal) → f l ≡ g l) →
-    fault_by s place hints f ≡ fault_by s place hints g
-fault_by-same falsified place [] f g same = refl
-fault_by-same falsified place (_ ∷ _) f g same = refl
-fault_by-same (unit l) place hints f g same = same l
-fault_by-same stuck place hints f g same = refl
 
 pub hint_fault-same : (live : LiveClauses) (hints : List ℕ) (xs ys : List Literal) (place : ℕ) → AreSame xs ys →
     hint_fault live xs place hints ≡ hint_fault live ys place hints
@@ -75,24 +64,6 @@ first_open p (x ∷ xs) l e =
           (r.0, ap (λ b. cond b (x ∷ filter p xs) (filter p xs)) not_here ∙ r.1)
     ]
 
-is_kept : (p : Literal → Bool) (xs : List Literal) (l : Literal) → holds xs l ≡ true → p l ≡ true →
-    holds (filter p xs) l ≡ true
-is_kept p [] l h t = cc
-is_kept p (x ∷ xs) l h t =
-    elim (or_cases (same_literal l x) (holds xs l) h) [
-      | inl same ↦
-          let here : p x ≡ true = ap p (sym (same_literal-sound l x same)) ∙ t in
-          ap (λ b. holds (cond b (x ∷ filter p xs) (filter p xs)) l) here ∙ or_left (same_literal l x)
-          (holds (filter p xs) l) same
-      | inr later ↦
-          elim (cases_Bool (p x)) [
-            | inl here ↦ ap (λ b. holds (cond b (x ∷ filter p xs) (filter p xs)) l) here ∙ or_right (same_literal l x)
-                (holds (filter p xs) l) (is_kept p xs l later t)
-            | inr not_here ↦ ap (λ b. holds (cond b (x ∷ filter p xs) (filter p xs)) l) not_here
-                ∙ is_kept p xs l later t
-          ]
-    ]
-
 open_is : (trues : List Literal) (l : Literal) → is_open trues l ≡ false → holds trues (opposite l) ≡ true
 open_is trues l h = by (holds trues (opposite l)) h
   where
@@ -125,7 +96,7 @@ hint_leads live trues place hint hints clause l found first h =
       λ k is.
           elim (cases_Bool (is_open trues k)) [
             | inl opened ↦
-                let kept : holds (l ∷ f.0) k ≡ true = sym (ap (λ xs. holds xs k) f.1) ∙ is_kept
+                let kept : holds (l ∷ f.0) k ≡ true = sym (ap (λ xs. holds xs k) f.1) ∙ filter-holds
                 (is_open trues) clause k is opened in
                 elim (or_cases (same_literal k l) (holds f.0 k) kept) [
                   | inl this ↦ inl (same_literal-sound k l this)
@@ -207,26 +178,6 @@ derived_starts live clause hints trues derived same =
     no_tautology : (b : Bool) (rest : Option ℕ) → cond b (Some 0) rest ≡ None → rest ≡ None
     no_tautology true rest h = cc
     no_tautology false rest h = h
-
--- propagation depends on the hinted clauses alone
-hint_fault-on : (live other : LiveClauses) (hints : List ℕ) →
-    ((k : ℕ) → k < length hints → live (get_or hints k 0) ≡ other (get_or hints k 0)) →
-    (trues : List Literal) (place : ℕ) → hint_fault live trues place hints ≡ hint_fault other trues place hints
-hint_fault-on live other [] same trues place = refl
-hint_fault-on live other (hint ∷ hints) same trues place =
-    ap (λ o. fault_by (status_of trues o) place hints (λ l. hint_fault live (l ∷ trues) (place + 1) hints))
-    (same 0 (omega arith))
-    ∙ fault_by-same (status_of trues (other hint)) place hints (λ l. hint_fault live (l ∷ trues) (place + 1) hints)
-    (λ l. hint_fault other (l ∷ trues) (place + 1) hints)
-    (λ l. hint_fault-on live other hints (λ k lt. same (suc k) (omega (arith, lt))) (l ∷ trues) (place + 1))
-
-pub derived-on : (live other : LiveClauses) (line : List Literal) (hints : List ℕ) →
-    ((hint : ℕ) → Contains hints hint → live hint ≡ other hint) →
-    IsDerived live line hints → IsDerived other line hints
-derived-on live other line hints same derived =
-    ap (λ fault. cond (is_tautology line) (Some 0) fault)
-    (sym (hint_fault-on live other hints (λ k lt. same (get_or hints k 0)
-    (k, lt, get_or_default hints k (get_or hints k 0) 0 lt)) (map opposite line) 1)) ∙ derived
 
 pub replay_starts : (live : LiveClauses) (clause : List Literal) (hints : List ℕ) (trues : List Literal)
     (links : List Link) → IsDerived live clause hints →

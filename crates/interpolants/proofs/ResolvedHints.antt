@@ -4,6 +4,8 @@ use Rattle.std.specs.Option.{is_some}
 use Rattle.std.proofs.lemmas.Bool.{cases_Bool}
 use Rattle.dq_lits.specs.Literal.{Assignment, Literal, variable_of, is_negative, positive, negative, opposite, literal_true}
 use Rattle.dq_lits.specs.Derivation.{holds}
+use Rattle.dq_lits.proofs.SignedLiterals.{opposite-opposite}
+use Rattle.dq_lits.proofs.HeldLiterals.{holds-opposites}
 use Rattle.hint_log.specs.Entries.{clause_at, hints_at}
 use Rattle.hint_log.specs.Reached.{Reaches, by_hint}
 use Rattle.aig_graph.specs.Graph.{AigGraph, IsNode}
@@ -12,11 +14,10 @@ use Rattle.interpolants.specs.Interpolant.{Partition, node_of, AreNodes}
 use Rattle.interpolants.specs.Parts.{IsPart, IsPartOf, HasPart, HaveParts, AreNoted}
 use Rattle.interpolants.specs.Replay.{trues_of, AreLed, AreHinted, IsReplay}
 use Rattle.aig_graph.specs.declared.nodes.Node.{Node}
+use Rattle.aig_graph.proofs.LargerGraphs.{grown_twice, extends-refl}
 use Rattle.interpolants.specs.declared.chains.Link.{Link}
-use Rattle.interpolants.proofs.Truth.{opposite-opposite, holds-opposites}
 use Rattle.interpolants.proofs.PartialInterpolants.{nodes_after, part_kept, part_weaker, resolve_local, resolve_other}
 use Rattle.interpolants.proofs.Sided.{some_is}
-use Rattle.interpolants.proofs.Steps.{extends_same, extends_both}
 
 pub negated_value : (m : Assignment) (l : Literal) (a b : Bool) → is_negative l ≡ true → a ≡ m (variable_of l) →
     b ≡ not a → b ≡ literal_true m l
@@ -56,7 +57,7 @@ resolving_first q local first hints g links last notes node parts replay is =
     let there = noted_part q local g notes last node (parts last replay.last_hinted) is conflict.clause
     conflict.clause_is in
     record {
-      extends = extends_same g;
+      extends = extends-refl g;
       led = replay.led;
       hinted = replay.hinted;
       part = part_weaker q local g (map opposite conflict.clause) (trues_of first links) node
@@ -99,7 +100,7 @@ resolving_next q local first hints notes initial g new links rest link node r ma
     (noted_part q local initial notes link.hint r (parts link.hint hinted.0) r_is leads.clause leads.clause_is) in
     let now = nodes_after q.shared initial g before.extends nodes in
     record {
-      extends = extends_both initial g new before.extends e;
+      extends = grown_twice initial g new before.extends e;
       led = led.1;
       hinted = hinted.1;
       part =

@@ -6,12 +6,13 @@ use Rattle.std.proofs.lemmas.List.{take_more}
 use Rattle.std.proofs.lemmas.List.Folds.{list_any-append}
 use Rattle.dq_lits.specs.Literal.{Literal, positive, negative, variable_of, is_negative, same_literal}
 use Rattle.dq_lits.specs.Derivation.{holds}
+use Rattle.dq_lits.proofs.Truth.{same_literal-sound}
 use Rattle.hint_log.specs.Entries.{Entry}
 use Rattle.hint_log.specs.Naming.{is_selector}
 use Rattle.interpolants.specs.Interpolant.{stands_on}
 use Rattle.interpolants.specs.Replay.{AreSame}
 use Rattle.interpolants.specs.Sides.{AreSelectors}
-use Rattle.interpolants.proofs.Truth.{same_literal-sound, stands_same}
+use Rattle.interpolants.proofs.Truth.{stands_same}
 
 abbrev pub members : List ℕ → List ℕ → List Literal
 members ps ns = map positive ps ++ map negative ns

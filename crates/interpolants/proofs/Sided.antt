@@ -1,26 +1,21 @@
 -- The variables of the A side, collected clause by clause.
-use Rattle.std.proofs.Common.{◌≡◌, ℕ, zero, suc, ◌<◌, ◌≤◌, true, ◌||◌, ◌&&◌, inl, inr, List, [], ◌∷◌, take, length, get_or, Contains, Some, ◌+◌, sym, ◌∙◌, ap, subst, arith, Option, IsSome}
+use Rattle.std.proofs.Common.{◌≡◌, ℕ, ◌<◌, ◌≤◌, true, ◌||◌, ◌&&◌, inl, inr, List, [], ◌∷◌, take, length, get_or, Contains, Some, ◌+◌, sym, ◌∙◌, ap, subst, Option, IsSome}
 use Rattle.std.specs.List.{list_any}
 use Rattle.std.specs.Option.{is_some}
+use Rattle.list_laws.proofs.Members.{only_one, no_element}
 use Rattle.hint_log.specs.declared.origins.Origin.{Origin}
 use Rattle.std.proofs.lemmas.Bool.{or_cases, or_left, or_right}
 use Rattle.std.proofs.lemmas.List.{get_or_default, take_all, take_more}
 use Rattle.std.proofs.lemmas.List.Elements.{Contains-append_cases}
 use Rattle.dq_lits.specs.Literal.{Literal, positive, variable_of, opposite}
 use Rattle.dq_lits.specs.Derivation.{holds}
+use Rattle.dq_lits.proofs.SignedLiterals.{opposite_variable}
 use Rattle.hint_log.specs.Entries.{clause_at}
 use Rattle.hint_log.specs.Naming.{is_selector}
 use Rattle.hint_log.specs.Reached.{AreReached}
 use Rattle.interpolants.specs.Interpolant.{Partition, is_on_a, IsReachedGiven, stands_on}
 use Rattle.interpolants.specs.Sides.{AreSelectors, AreOfA, AreOfSome}
-use Rattle.interpolants.proofs.Truth.{variable_of-opposite, any_same}
-
-only_one : (y i : ℕ) → Contains (y ∷ []) i → y ≡ i
-only_one y i (zero, lt, at) = at
-only_one y i (suc k, lt, at) = absurd (omega (arith, lt))
-
-no_element : (i : ℕ) → Contains [] i → ⊥
-no_element i (k, lt, at) = omega (arith, lt)
+use Rattle.interpolants.proofs.Truth.{any_same}
 
 pub some_is : (xs ys : List Literal) → Some xs ≡ Some ys → xs ≡ ys
 some_is xs ys e = cc
@@ -51,7 +46,7 @@ on_a_by_selectors q selectors are clause =
     any_same (λ l. holds selectors (opposite l)) (λ l. holds q.a_side (opposite l) && is_selector q.entries
     (variable_of l))
     (λ l. are (opposite l) ∙ ap (λ v. holds q.a_side (opposite l) && is_selector q.entries v)
-    (variable_of-opposite l)) clause
+    (opposite_variable l)) clause
 
 pub some_more : (q : Partition) (ids : List ℕ) (i : ℕ) (variables more clause : List Literal) →
     AreOfSome q (take i ids) variables → i < length ids →

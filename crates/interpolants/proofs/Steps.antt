@@ -3,6 +3,7 @@ use Rattle.std.proofs.Common.{◌≡◌, ℕ, Bool, true, false, not, ◌||◌, 
 use Rattle.std.specs.Option.{is_some}
 use Rattle.std.specs.List.{list_any, list_all}
 use Rattle.std.proofs.lemmas.List.Folds.{list_any-append, list_all-append}
+use Rattle.list_laws.proofs.Truths.{last}
 use Rattle.dq_lits.specs.Literal.{Assignment, Literal, variable_of, opposite, literal_true}
 use Rattle.dq_lits.specs.Derivation.{holds}
 use Rattle.aig_graph.specs.Graph.{AigGraph, node_value, node_support}
@@ -11,21 +12,6 @@ use Rattle.interpolants.specs.Interpolant.{node_of, Agrees, AreNodes, ReadsShare
 use Rattle.interpolants.specs.Parts.{is_true_shared, IsSharedPart, is_asked_true, IsAsked}
 use Rattle.aig_graph.specs.declared.nodes.Node.{Node}
 use Rattle.interpolants.proofs.PartialInterpolants.{agrees_before, reads_made}
-
-pub extends_same : (g : AigGraph) → Extends g g
-extends_same g = record { inputs = refl; nodes = λ n is. is; values = λ n is inputs. refl; supports = λ n is. refl }
-
-pub extends_both : (a b c : AigGraph) → Extends a b → Extends b c → Extends a c
-extends_both a b c x y = record {
-  inputs = y.inputs ∙ x.inputs;
-  nodes = λ n is. y.nodes n (x.nodes n is);
-  values = λ n is inputs. y.values n (x.nodes n is) inputs ∙ x.values n is inputs;
-  supports = λ n is. y.supports n (x.nodes n is) ∙ x.supports n is;
-}
-
-or_false : (b : Bool) → (b || false) ≡ b
-or_false true = refl
-or_false false = refl
 
 and_true : (b : Bool) → (b && true) ≡ b
 and_true true = refl
@@ -70,7 +56,7 @@ shared_more shared old new clause l node n lit made e nodes is or part = record 
       or.value inputs ∙ ap (λ b. b || node_value old inputs lit) (part.value inputs m before)
       ∙ ap (λ b. list_any (is_true_shared shared m) clause || b)
       (literal_value shared old l n lit is inputs m before ∙ sym (ap (λ o. is_some o && literal_true m l) is.node_is)
-      ∙ sym (or_false (is_true_shared shared m l)))
+      ∙ sym (last (is_true_shared shared m l)))
       ∙ sym (list_any-append (is_true_shared shared m) clause (l ∷ []));
   reads = reads_made shared old new (λ x y. x || y) node lit made e nodes part.reads
       (literal_reads shared old l n lit is) or;
@@ -82,7 +68,7 @@ pub shared_past : (shared : List (ℕ × Node)) (g : AigGraph) (clause : List Li
 shared_past shared g clause l node none part = record {
   is_node = part.is_node;
   value = λ inputs m agrees.
-      part.value inputs m agrees ∙ sym (or_false (list_any (is_true_shared shared m) clause))
+      part.value inputs m agrees ∙ sym (last (list_any (is_true_shared shared m) clause))
       ∙ ap (λ b. list_any (is_true_shared shared m) clause || b)
       (sym (ap (λ o. (is_some o && literal_true m l) || false) none))
       ∙ sym (list_any-append (is_true_shared shared m) clause (l ∷ []));

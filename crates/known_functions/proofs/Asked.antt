@@ -2,7 +2,7 @@
 use Rattle.std.proofs.Common.{ℕ, true, refl, ◌∙◌}
 use Rattle.aig_graph.specs.Graph.{AigGraph}
 use Rattle.aig_graph.specs.Made.{Extends}
-use Rattle.candidate_functions.proofs.LargerGraphs.{extends-refl, extends-trans}
+use Rattle.aig_graph.proofs.LargerGraphs.{grown_twice, extends-refl}
 use Rattle.dq_lits.specs.Formula.{Dqbf}
 use Rattle.hint_log.specs.Entries.{ProofLog}
 use Rattle.hint_log.specs.Growth.{Grew}
@@ -37,7 +37,7 @@ pub asked_then : (f : Dqbf) (graph middle grown : AigGraph) (p : Padoa) (old log
 asked_then f graph middle grown p old log new one other = record {
   may = other.may;
   grew = grown_then (IsAsked f) old log new one.grew other.grew;
-  extends = extends-trans graph middle grown one.extends other.extends;
+  extends = grown_twice graph middle grown one.extends other.extends;
 }
 
 pub asked_by : (f : Dqbf) (graph grown : AigGraph) (p : Padoa) (old new : ProofLog) → MayAsk f graph p old.entries →

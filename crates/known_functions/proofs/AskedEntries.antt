@@ -7,12 +7,10 @@ use Rattle.std.proofs.lemmas.List.Elements.{Contains-append_right}
 use Rattle.dq_lits.specs.Formula.{Dqbf}
 use Rattle.hint_log.specs.Entries.{Entry, Named, Given, Learned, Answer, Round, Begun, ProofLog, name_of}
 use Rattle.hint_log.specs.Growth.{EachOf, Grew}
-use Rattle.hint_log.specs.ProductiveLog.{is_fault}
 use Rattle.hint_log.specs.declared.names.Name.{Name}
-use Rattle.hint_log.specs.declared.origins.Origin.{Origin}
-use Rattle.hint_log.specs.declared.origins.Origin.TheVariants.{Instance, Gate, Fault, Copy, Link, TermGate, Differ}
-use Rattle.log_laws.specs.Engines.{copies, origin_engine, IsAddedBy}
+use Rattle.log_laws.specs.Engines.{copies, IsAddedBy}
 use Rattle.padoa_definitions.specs.Growing.{HasSameGivens}
+use Rattle.padoa_definitions.proofs.GivenClauses.{no_fault}
 use Rattle.known_functions.specs.Searching.{IsAsked}
 
 -- what has a name later has no name before only where it was named between
@@ -42,15 +40,6 @@ named_later (e ∷ later) earlier v name none =
 
 first_in : (later : List Entry) (e : Entry) (earlier : List Entry) → Contains (later ++ e ∷ earlier) e
 first_in later e earlier = Contains-append_right later (e ∷ earlier) e (0, omega arith, refl)
-
-no_fault : (origin : Origin) → origin_engine origin ≡ copies → is_fault origin ≡ false
-no_fault (Instance k j) own = refl
-no_fault (Gate v i) own = refl
-no_fault (Fault j i leaf) own = cc
-no_fault (Copy side j) own = refl
-no_fault (Link v i) own = refl
-no_fault (TermGate v i) own = refl
-no_fault (Differ v leaf i) own = refl
 
 asked_each : (f : Dqbf) (old more : List Entry) → HasSameGivens old (more ++ old) → (later rest : List Entry) →
     more ≡ later ++ rest → EachOf (IsAddedBy f copies 0 true old) rest old → EachOf (IsAsked f) rest old

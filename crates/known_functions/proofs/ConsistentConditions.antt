@@ -1,47 +1,20 @@
 -- Conditions that don't contradict one another, one added behind the others.
-use Rattle.std.proofs.Common.{◌≡◌, ◌≢◌, ◌<◌, ◌≤◌, ◌^◌, ℕ, zero, suc, Bool, true, false, true≢false, inl, inr, List, [], ◌∷◌, ◌++◌, length, map, take, get_or, IsSome, refl, sym, ◌∙◌, ap, subst, arith, get_or-take, length-take}
-use Rattle.std.specs.List.{Contains, list_any}
+use Rattle.std.proofs.Common.{◌≡◌, ◌≢◌, ◌<◌, ◌≤◌, ◌^◌, ℕ, zero, suc, true, false, true≢false, inl, inr, List, [], ◌∷◌, ◌++◌, length, map, take, get_or, IsSome, refl, sym, ◌∙◌, ap, subst, arith, get_or-take, length-take}
+use Rattle.std.specs.List.{Contains}
 use Rattle.std.proofs.lemmas.List.{length-append, get_or_append_left}
 use Rattle.std.proofs.lemmas.List.Elements.{All-nil, All-push, Contains-get_or}
-use Rattle.std.proofs.lemmas.Bool.{cases_Bool, or_cases, or_left, or_right, eq-eqb}
+use Rattle.std.proofs.lemmas.Bool.{cases_Bool}
 use Rattle.dq_lits.specs.Derivation.{holds, is_tautology}
 use Rattle.dq_lits.specs.Formula.{Dqbf, declared, existential_of}
-use Rattle.dq_lits.specs.Literal.{Literal, variable_of, positive, negative, opposite, same_literal}
+use Rattle.dq_lits.specs.Literal.{Literal, variable_of, opposite}
+use Rattle.dq_lits.proofs.HeldLiterals.{any_one, any_gives, holds_cases}
+use Rattle.dq_lits.proofs.SignedLiterals.{opposite_variable, opposite-opposite, opposite-other}
 use Rattle.dq_formula.specs.Prefix.{IsLawful, is_declared, existential_variables}
 use Rattle.dq_formula.proofs.Places.{contains-has}
 use Rattle.known_functions.specs.Guessing.{AreConditions}
 use Rattle.definition_order.proofs.Declared.{is_variable}
 use Rattle.padoa_definitions.proofs.KeptPlaces.{universal_differs}
-use Rattle.padoa_definitions.proofs.DividedAnswers.{holds_cases, held_in_either}
-
-opposite-opposite : (l : Literal) → opposite (opposite l) ≡ l
-opposite-opposite (positive v) = refl
-opposite-opposite (negative v) = refl
-
-same_itself : (l : Literal) → same_literal l l ≡ true
-same_itself (positive v) = eq-eqb v v refl
-same_itself (negative v) = eq-eqb v v refl
-
--- a literal that passes
-held_one : (p : Literal → Bool) (xs : List Literal) → list_any p xs ≡ true →
-    (l : Literal) × (holds xs l ≡ true) × (p l ≡ true)
-held_one p [] some = cc
-held_one p (x ∷ xs) some = elim (or_cases (p x) (list_any p xs) some) [
-  | inl here ↦ (x, or_left (same_literal x x) (holds xs x) (same_itself x), here)
-  | inr later ↦ (let r = held_one p xs later in (r.0, or_right (same_literal r.0 x) (holds xs r.0) r.1, r.2))
-]
-
-any_held : (p : Literal → Bool) (xs : List Literal) (l : Literal) → holds xs l ≡ true → p l ≡ true →
-    list_any p xs ≡ true
-any_held p [] l h is = cc
-any_held p (x ∷ xs) l h is = elim (holds_cases x xs l h) [
-  | inl same ↦ or_left (p x) (list_any p xs) (ap p (sym same) ∙ is)
-  | inr later ↦ or_right (p x) (list_any p xs) (any_held p xs l later is)
-]
-
-no_opposite : (l : Literal) → l ≡ opposite l → ⊥
-no_opposite (positive v) same = cc
-no_opposite (negative v) same = cc
+use Rattle.padoa_definitions.proofs.DividedAnswers.{held_in_either}
 
 is_last : (last j : Literal) → holds (last ∷ []) j ≡ true → j ≡ last
 is_last last j held = elim (holds_cases last [] j held) [ inl same ↦ same | inr none ↦ cc ]
@@ -50,7 +23,7 @@ pub consistent_with : (xs : List Literal) (l : Literal) → is_tautology xs ≡ 
     is_tautology (xs ++ l ∷ []) ≡ false
 consistent_with xs l consistent apart = elim (cases_Bool (is_tautology (xs ++ l ∷ []))) [
   | inl some ↦ (
-      let w = held_one (λ k. holds (xs ++ l ∷ []) (opposite k)) (xs ++ l ∷ []) some in
+      let w = any_gives (λ k. holds (xs ++ l ∷ []) (opposite k)) (xs ++ l ∷ []) some in
       absurd (no_pair w.0 w.1 w.2))
   | inr none ↦ none
 ]
@@ -58,13 +31,13 @@ consistent_with xs l consistent apart = elim (cases_Bool (is_tautology (xs ++ l 
     no_pair : (k : Literal) → holds (xs ++ l ∷ []) k ≡ true → holds (xs ++ l ∷ []) (opposite k) ≡ true → ⊥
     no_pair k one other = elim (held_in_either xs (l ∷ []) k one) [
       | inl before ↦ elim (held_in_either xs (l ∷ []) (opposite k) other) [
-        | inl also ↦ true≢false (sym (any_held (λ j. holds xs (opposite j)) xs k before also) ∙ consistent)
+        | inl also ↦ true≢false (sym (any_one (λ j. holds xs (opposite j)) xs k before also) ∙ consistent)
         | inr end ↦ true≢false (sym before ∙ ap (holds xs) (sym (opposite-opposite k) ∙ ap opposite
             (is_last l (opposite k) end)) ∙ apart)
       ]
       | inr end ↦ elim (held_in_either xs (l ∷ []) (opposite k) other) [
         | inl before ↦ true≢false (sym before ∙ ap (λ j. holds xs (opposite j)) (is_last l k end) ∙ apart)
-        | inr also ↦ no_opposite l (sym (is_last l (opposite k) also) ∙ ap opposite (is_last l k end))
+        | inr also ↦ opposite-other l (sym (is_last l (opposite k) also) ∙ ap opposite (is_last l k end))
       ]
     ]
 
@@ -91,10 +64,6 @@ held_variable (x ∷ xs) k held = elim (holds_cases x xs k held) [
   | inl same ↦ (0, omega arith, ap variable_of (sym same))
   | inr later ↦ (let r = held_variable xs k later in (suc r.0, (let lt = r.1 in omega (arith, lt)), r.2))
 ]
-
-opposite_variable : (l : Literal) → variable_of (opposite l) ≡ variable_of l
-opposite_variable (positive v) = refl
-opposite_variable (negative v) = refl
 
 default_free : (xs : List ℕ) (i d e : ℕ) → i < length xs → get_or xs i d ≡ get_or xs i e
 default_free [] i d e lt = absurd (omega (arith, lt))

@@ -1,5 +1,5 @@
 -- What is kept while definitions are asked for: the list of definitions grows.
-use Rattle.std.proofs.Common.{◌≡◌, ◌≢◌, ℕ, zero, suc, ◌<◌, ◌==◌, List, [], ◌++◌, length, get_or, slice_get, replicate, set, Bool, Option, None, Some, IsSome, refl, sym, ◌∙◌, ap, subst, inl, inr, arith, Result, Ok, Err, get_or-set_same, get_or-set_other, length-set}
+use Rattle.std.proofs.Common.{◌≡◌, ◌≢◌, ℕ, zero, suc, ◌<◌, ◌==◌, List, [], ◌++◌, length, get_or, slice_get, replicate, set, Bool, Option, None, Some, refl, sym, ◌∙◌, ap, subst, inl, inr, arith, Result, Ok, Err, get_or-set_same, get_or-set_other, length-set}
 use Rattle.std.specs.List.{All}
 use Rattle.std.specs.Option.{IfSome}
 use Rattle.std.specs.Result.{IfOk}
@@ -155,10 +155,6 @@ pub found_defines : (f : Dqbf) (ranks : List ℕ) (graph : AigGraph) (y : Existe
 found_defines f ranks graph y (Defined own) is node same = subst (IsDefinition f ranks graph y)
     (let e : own ≡ node = cc in e) is
 found_defines f ranks graph y (Free pair) is node same = cc
-
-pub some_existential : (o : Option Existential) → IsSome o → (y : Existential) × (o ≡ Some y)
-some_existential None is = cc
-some_existential (Some y) is = (y, refl)
 
 -- what forces it, where it is forced
 pub forced_rule : (f : Dqbf) (y : Existential) (row : List Bool) (bit : Bool) (forced : Forced) →

@@ -1,10 +1,10 @@
 -- Calls that ask what a row forces, one behind the other.
-use Rattle.std.proofs.Common.{◌≡◌, ◌∙◌, refl, ap, length, true, ℕ}
+use Rattle.std.proofs.Common.{◌≡◌, ◌∙◌, ap, length, true, ℕ}
 use Rattle.dq_lits.specs.Formula.{Dqbf}
 use Rattle.hint_log.specs.Entries.{ProofLog}
 use Rattle.hint_log.specs.Growth.{Grew}
 use Rattle.log_laws.specs.Engines.{copies, IsAddedBy}
-use Rattle.log_laws.proofs.LargerLogs.{grown_by_none, grown_then}
+use Rattle.log_laws.proofs.LargerLogs.{grown_then}
 use Rattle.std.specs.List.{All}
 use Rattle.dq_formula.specs.Rules.{IsRule}
 use Rattle.padoa_definitions.specs.Copies.{IsPadoa}
@@ -14,17 +14,6 @@ use Rattle.known_functions.specs.declared.definitions.Definitions.{Definitions}
 use Rattle.known_functions.specs.Searching.{IsAsked}
 use Rattle.known_functions.specs.Forcing.{MayForce, HasForced}
 use Rattle.known_functions.proofs.AskedEntries.{asked_alone}
-
-pub nothing_forced : (f : Dqbf) (p : Padoa) (d : Definitions) (log : ProofLog) → MayForce f d p log.entries →
-    HasForced f p d d log log
-nothing_forced f p d log may = record {
-  ranks = refl;
-  nodes = refl;
-  guesses = refl;
-  forced = may.forced;
-  copied = may.copied;
-  grew = grown_by_none (IsAsked f) log log refl;
-}
 
 pub forced_then : (f : Dqbf) (p : Padoa) (d e h : Definitions) (a b c : ProofLog) → HasForced f p d e a b →
     HasForced f p e h b c → HasForced f p d h a c
@@ -59,17 +48,4 @@ forced_by f p d e old new ranks nodes guesses rules grew same copied = record {
   forced = rules;
   copied = copied;
   grew = asked_alone f old new (grew 0) same;
-}
-
--- a rule was kept that no step was needed for
-pub rule_kept : (f : Dqbf) (p : Padoa) (d e : Definitions) (log : ProofLog) → MayForce f d p log.entries →
-    e.ranks.items ≡ d.ranks.items → e.nodes.items ≡ d.nodes.items →
-    e.guesses.items ≡ d.guesses.items → All (IsRule f) e.rules.items → HasForced f p d e log log
-rule_kept f p d e log may ranks nodes guesses rules = record {
-  ranks = ranks;
-  nodes = nodes;
-  guesses = guesses;
-  forced = rules;
-  copied = may.copied;
-  grew = grown_by_none (IsAsked f) log log refl;
 }

@@ -1,4 +1,3 @@
-pub mod Standing
 pub mod Defined
 mod AskedEntries
 mod Asked

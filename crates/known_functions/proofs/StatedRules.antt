@@ -1,5 +1,6 @@
 -- The rule that a clause states by itself.
 use Rattle.std.proofs.Common.{◌≡◌, ◌≢◌, ℕ, ◌<◌, ◌+◌, ◌==◌, Bool, true, false, true≢false, not, ◌||◌, List, [], ◌∷◌, ◌++◌, take, get_or, length, Option, None, Some, refl, sym, ◌∙◌, ap, subst, if◌then◌else◌}
+use Rattle.list_laws.proofs.Truths.{not_true}
 use mathlib.Core.Bool.{beq}
 use Rattle.std.specs.Prelude.{IsSome}
 use Rattle.std.specs.List.{All, Contains, list_all, filter_map, cons_option}
@@ -9,6 +10,8 @@ use Rattle.std.proofs.lemmas.List.Elements.{filter_map-append, All-head, All-tai
 use Rattle.dq_lits.specs.Formula.{Dqbf, Existential, existential_of}
 use Rattle.dq_lits.specs.Henkin.{MatrixHolds}
 use Rattle.dq_lits.specs.Literal.{Assignment, Literal, positive, negative, variable_of, is_negative, opposite, literal_true, clause_true}
+use Rattle.dq_lits.proofs.SignedLiterals.{opposite_variable}
+use Rattle.dq_lits.proofs.TrueClauses.{opposite-false}
 use Rattle.dq_formula.specs.Rules.{IsRule, cube_true}
 use Rattle.known_functions.specs.Stating.{FitsRule, rest_literal, rest_cube}
 
@@ -21,10 +24,6 @@ rest_more y xs i l o old new lt at is before pushed =
     pushed ∙ ap (λ ls. ls ++ cons_option o []) before ∙ ap (λ p. rest_cube y (take i xs) ++ cons_option p []) is
     ∙ sym (ap (filter_map (rest_literal y)) (take_more xs i l lt ∙ ap (λ k. take i xs ++ k ∷ []) at) ∙ filter_map-append
     (rest_literal y) (take i xs) (l ∷ []))
-
-opposite_variable : (l : Literal) → variable_of (opposite l) ≡ variable_of l
-opposite_variable (positive v) = refl
-opposite_variable (negative v) = refl
 
 -- the cube is over what the existential sees
 pub rest_seen : (y : ℕ) (e : Existential) (bit : Bool) (ls : List Literal) → All (FitsRule y e bit) ls →
@@ -41,10 +40,6 @@ rest_seen y e bit (l ∷ ls) fits = by (variable_of l == y) refl
           (All-cons (λ l. Contains e.sees (variable_of l)) (opposite l) (rest_cube y ls)
           (subst (Contains e.sees) (sym (opposite_variable l)) ((All-head (FitsRule y e bit) l ls fits).seen is)) later)
 
-not_true : (c : Bool) → not c ≡ true → c ≡ false
-not_true false h = refl
-not_true true h = absurd (true≢false (sym h))
-
 -- a true literal with this sign gives its variable the bit
 own_bit : (m : Assignment) (l : Literal) (bit : Bool) → is_negative l ≡ not bit → literal_true m l ≡ true →
     m (variable_of l) ≡ bit
@@ -52,10 +47,6 @@ own_bit m (positive v) true sign holds = holds
 own_bit m (positive v) false sign holds = absurd (true≢false (sym sign))
 own_bit m (negative v) true sign holds = absurd (true≢false sign)
 own_bit m (negative v) false sign holds = not_true (m v) holds
-
-opposite_false : (m : Assignment) (l : Literal) → literal_true m (opposite l) ≡ true → literal_true m l ≡ false
-opposite_false m (positive v) h = not_true (m v) h
-opposite_false m (negative v) h = ap not h
 
 -- where the cube and the clause are true, the existential has the bit
 pub rest_forces : (y : ℕ) (e : Existential) (bit : Bool) (m : Assignment) (ls : List Literal) →
@@ -82,7 +73,7 @@ rest_forces y e bit m (l ∷ ls) fits cube holds = by (rest_forces y e bit m ls 
       by further false other t is =
           let both = and_parts (literal_true m (opposite l)) (list_all (literal_true m) (rest_cube y ls))
           (spelled false other) in
-          further both.1 (left false (opposite_false m l both.0))
+          further both.1 (left false (opposite-false m l both.0))
 
 -- a clause of the matrix that fits states a rule
 pub states_rule : (f : Dqbf) (y number : ℕ) (bit : Bool) (clause cube : List Literal) → IsSome (existential_of f y) →

@@ -1,44 +1,20 @@
 -- Where the whole trail is taken back, the clause that is noted is derived by the hints, and keeps
 -- the selectors of what they hint.
-use Rattle.std.proofs.Common.{◌≡◌, ℕ, zero, ◌+◌, Bool, true, false, cond, inl, inr, List, [], ◌∷◌, map, Option, Some, None, IsSome, Contains, refl, sym, ◌∙◌, ap, arith}
-use Rattle.std.proofs.lemmas.List.Elements.{Contains-append_right}
+use Rattle.std.proofs.Common.{◌≡◌, ℕ, Bool, true, false, inl, inr, List, [], map, Option, Some, None, IsSome, Contains, refl, sym, ◌∙◌, ap}
 use Rattle.std.proofs.lemmas.Bool.{false≢true}
 use Rattle.dq_lits.specs.Literal.{Literal, variable_of, opposite}
-use Rattle.dq_lits.specs.Derivation.{LiveClauses, Status, falsified, unit, stuck, holds, status_of, fault_by, hint_fault, is_tautology, IsDerived}
+use Rattle.dq_lits.specs.Derivation.{holds, is_tautology, IsDerived}
+use Rattle.dq_lits.proofs.HeldLiterals.{derived-on}
+use Rattle.dq_lits.proofs.SignedLiterals.{opposite-opposite}
 use Rattle.hint_log.specs.Entries.{Entry}
 use Rattle.hint_log.specs.Entries.{clause_at}
 use Rattle.hint_log.specs.Naming.{is_selector}
 use Rattle.oracle.specs.Fit.{live_in, HoldsHintedSelectors}
 use Rattle.learning_trail.specs.Analyses.{IsAnalysis}
-use Rattle.truth_values.proofs.HeldLiterals.{opposite-opposite, holds-map, no_tautology}
+use Rattle.truth_values.proofs.HeldLiterals.{holds-map, no_tautology}
 use Rattle.learning_trail.specs.Resting.{HeldFit, AreAwake}
 use Rattle.learning_trail.proofs.LeadingHints.{leads_line}
 use Rattle.learning_trail.proofs.RestingClauses.{awake_same}
-
--- propagation depends on what the ids stand for alone
-fault_by-same : (s : Status) (place : ℕ) (hints : List ℕ) (f g : Literal → Option ℕ) → ((l : Literal) → f l ≡ g l) →
-    fault_by s place hints f ≡ fault_by s place hints g
-fault_by-same falsified place [] f g same = refl
-fault_by-same falsified place (_ ∷ _) f g same = refl
-fault_by-same (unit l) place hints f g same = same l
-fault_by-same stuck place hints f g same = refl
-
-hint_fault-live : (live other : LiveClauses) (hints : List ℕ) → ((id : ℕ) → Contains hints id → live id ≡ other id) →
-    (trues : List Literal) (place : ℕ) → hint_fault live trues place hints ≡ hint_fault other trues place hints
-hint_fault-live live other [] same trues place = refl
-hint_fault-live live other (h ∷ hints) same trues place =
-    ap (λ c. fault_by (status_of trues c) place hints (λ l. hint_fault live (l ∷ trues) (place + 1) hints))
-    (same h (zero, omega arith, refl))
-    ∙ fault_by-same (status_of trues (other h)) place hints (λ l. hint_fault live (l ∷ trues) (place + 1) hints)
-    (λ l. hint_fault other (l ∷ trues) (place + 1) hints)
-    (λ l. hint_fault-live live other hints (λ id has. same id (Contains-append_right (h ∷ []) hints id has))
-    (l ∷ trues) (place + 1))
-
-pub derived-live : (live other : LiveClauses) (clause : List Literal) (hints : List ℕ) → ((id : ℕ) → Contains hints id →
-    live id ≡ other id) → IsDerived live clause hints → IsDerived other clause hints
-derived-live live other clause hints same derived =
-    ap (λ x. cond (is_tautology clause) (Some 0) x) (sym (hint_fault-live live other hints same
-    (map opposite clause) 1)) ∙ derived
 
 module _ (held : List (List Literal)) (resting : List Bool) (variables : ℕ) (entries : List Entry)
     (assumptions clause : List Literal) (marks : List Bool) (hints : List ℕ)
@@ -75,7 +51,7 @@ module _ (held : List (List Literal)) (resting : List Bool) (variables : ℕ) (e
           (λ l m sel. active l (tied_here h has c e l m sel) sel)
 
   pub concluded_derived : IsDerived (clause_at entries) clause hints
-  concluded_derived = derived-live (live_in held) (clause_at entries) clause hints hint_same
+  concluded_derived = derived-on (live_in held) (clause_at entries) clause hints hint_same
       (leads_line (live_in held) marks [] (map opposite clause) clause hints analysis.leads of_kept
       (λ t on m. absurd (false≢true on)) (λ l h. inl (in_kept l h)) plain_clause)
 

@@ -6,6 +6,8 @@ use Rattle.std.proofs.lemmas.Option.{slice_get_within}
 use Rattle.std.proofs.lemmas.List.Elements.{All-append, All-cons, All-nil, All-head, All-tail}
 use Rattle.dq_lits.specs.Literal.{Literal, variable_of, opposite, same_literal}
 use Rattle.dq_lits.specs.Derivation.{LiveClauses, unit, stuck, holds, status_of}
+use Rattle.dq_lits.proofs.SignedLiterals.{opposite-opposite}
+use Rattle.dq_lits.proofs.HeldLiterals.{holds-append, holds_cases, holds_here, holds_later}
 use Rattle.oracle.specs.Fit.{live_in}
 use Rattle.learning_trail.specs.declared.trails.Step.{Step}
 use Rattle.learning_trail.specs.Steps.{Trailed, literals_of, is_decision, is_none, decision_of, Shrunk}
@@ -14,7 +16,7 @@ use Rattle.learning_trail.specs.Sound.{IsSound, IsReasoned, AreAssumed}
 use Rattle.learning_trail.specs.Analyses.{IsAnalysis}
 use Rattle.learning_trail.specs.Backing.{LeadsOn, IsBacking, IsFirstPoint, IsKeeping}
 use Rattle.learning_trail.specs.Noting.{Noted}
-use Rattle.truth_values.proofs.HeldLiterals.{holds-append, holds_cases, holds_first, holds_later, opposite-opposite, free_variable}
+use Rattle.truth_values.proofs.HeldLiterals.{free_variable}
 use Rattle.learning_trail.proofs.ClauseStatus.{IsImplied, implied_from}
 use Rattle.learning_trail.proofs.ConflictAnalysis.{sound_consistent, analysis_next, analysis_past, analysis_kept}
 
@@ -71,7 +73,7 @@ level_kept before after (s ∷ steps) keeps h =
     (is_level_marked before steps)) h) [
       | inl m ↦ or_left (marked after (variable_of s.literal))
           (cond (is_decision s) false (is_level_marked after steps))
-          (keeps s.literal (holds_first s.literal (literals_of steps)) m)
+          (keeps s.literal (holds_here s.literal (literals_of steps)) m)
       | inr later ↦ or_right (marked after (variable_of s.literal))
           (cond (is_decision s) false (is_level_marked after steps))
           (level_kept_by (is_decision s) (is_level_marked before steps) (is_level_marked after steps)

@@ -4,15 +4,17 @@ use Rattle.std.specs.List.{list_all}
 use Rattle.std.proofs.lemmas.Bool.{cases_Bool, false≢true, and_parts, and_from, not-true}
 use Rattle.dq_lits.specs.Literal.{Literal, opposite, same_literal}
 use Rattle.dq_lits.specs.Derivation.{falsified, unit, stuck, holds, status_by, status_of}
+use Rattle.dq_lits.proofs.Truth.{same_literal-sound}
+use Rattle.dq_lits.proofs.SignedLiterals.{same_literal-refl}
+use Rattle.dq_lits.proofs.HeldLiterals.{left_among, holds_cases, holds_here, holds_later}
 use Rattle.truth_values.specs.Extension.{not_false}
 use Rattle.truth_values.specs.Truth.{IsFree}
-use Rattle.truth_values.proofs.HeldLiterals.{same_literal-sound, same_literal-refl, holds_first, holds_later, holds_cases}
 
 none_left : (trues clause : List Literal) → ((l : Literal) → holds clause l ≡ true → holds trues (opposite l) ≡ true) →
     not_false trues clause ≡ []
 none_left trues [] h = refl
 none_left trues (x ∷ c) h =
-    let e : holds trues (opposite x) ≡ true = h x (holds_first x c) in
+    let e : holds trues (opposite x) ≡ true = h x (holds_here x c) in
     ap (λ b. cond (not b) (x ∷ not_false trues c) (not_false trues c)) e ∙ none_left trues c
     (λ l m. h l (holds_later x c l m))
 
@@ -32,7 +34,7 @@ left_same trues (x ∷ c) q h =
       | inr e ↦
           let same : same_literal q x ≡ true = elim (cases_Bool (same_literal q x)) [
             | inl s ↦ s
-            | inr s ↦ absurd (false≢true (sym e ∙ h x (holds_first x c)
+            | inr s ↦ absurd (false≢true (sym e ∙ h x (holds_here x c)
                 (λ k. false≢true (sym s ∙ ap (λ y. same_literal q y) k ∙ same_literal-refl q))))
           ] in
           ap (λ b. list_all (same_literal q) (cond (not b) (x ∷ not_false trues c) (not_false trues c))) e
@@ -47,7 +49,7 @@ left_holds trues (x ∷ c) q m n =
       | inl e ↦
           let f : holds trues (opposite x) ≡ false = ap (λ y. holds trues (opposite y)) (sym e) ∙ n in
           ap (λ b. holds (cond (not b) (x ∷ not_false trues c) (not_false trues c)) q) f ∙ ap
-          (holds (x ∷ not_false trues c)) e ∙ holds_first x (not_false trues c)
+          (holds (x ∷ not_false trues c)) e ∙ holds_here x (not_false trues c)
       | inr t ↦
           let rest = left_holds trues c q t n in
           elim (cases_Bool (holds trues (opposite x))) [
@@ -74,22 +76,6 @@ pub is_unit : (trues clause : List Literal) (q : Literal) → holds clause q ≡
     → IsFree trues q → status_of trues (Some clause) ≡ unit q
 is_unit trues clause q m others free = only_by trues (not_false trues clause) q (left_same trues clause q others)
     (left_holds trues clause q m free.1) free.0
-
-left_among : (trues clause : List Literal) (l : Literal) → holds (not_false trues clause) l ≡ true →
-    (holds clause l ≡ true) × (holds trues (opposite l) ≡ false)
-left_among trues [] l h = absurd (false≢true h)
-left_among trues (x ∷ c) l h =
-    elim (cases_Bool (holds trues (opposite x))) [
-      | inl e ↦
-          let r = left_among trues c l (sym (ap (λ b. holds (cond (not b) (x ∷ not_false trues c) (not_false trues c))
-          l) e) ∙ h) in
-          (holds_later x c l r.0, r.1)
-      | inr e ↦ elim (holds_cases x (not_false trues c) l (sym
-          (ap (λ b. holds (cond (not b) (x ∷ not_false trues c) (not_false trues c)) l) e) ∙ h)) [
-            | inl s ↦ (ap (holds (x ∷ c)) s ∙ holds_first x c, ap (λ y. holds trues (opposite y)) s ∙ e)
-            | inr t ↦ let r = left_among trues c l t in (holds_later x c l r.0, r.1)
-          ]
-    ]
 
 -- what a unit says of its clause
 pub record IsImplied (trues clause : List Literal) (q : Literal) : Type 0 where
@@ -123,7 +109,7 @@ implied_from trues clause q e = by_left (not_false trues clause) (λ l m n. left
               let h : unit x ≡ unit q = sym (ap (λ b. cond b (unit x) stuck) t) ∙ g in
               let s : x ≡ q = cc in
               let p = and_parts (list_all (same_literal x) xs) (not (holds trues x)) t in
-              let first = among x (holds_first x xs) in
+              let first = among x (holds_here x xs) in
               record {
                 among = ap (holds clause) (sym s) ∙ first.0;
                 others = λ l m n. elim (cases_Bool (holds trues (opposite l))) [

@@ -1,8 +1,12 @@
 -- The analysis of a conflict, as literals are taken back.
 use Rattle.std.proofs.Common.{◌≡◌, ◌≢◌, ℕ, suc, ◌==◌, Bool, true, false, not, ◌||◌, ◌&&◌, ◌⊎◌, inl, inr, List, [], ◌∷◌, Some, is_some, length, get_or, ◌<◌, zero, arith, Contains, refl, sym, ◌∙◌, ap, subst}
 use Rattle.std.proofs.lemmas.Bool.{cases_eq, false≢true, or_left, or_right, or_cases, or_parts, and_parts, false_from_ne_true, eq-eqb, ne_eqb, eqb-true}
+use Rattle.list_laws.proofs.Members.{no_element}
 use Rattle.dq_lits.specs.Literal.{Literal, variable_of, is_negative, opposite, same_literal}
 use Rattle.dq_lits.specs.Derivation.{LiveClauses, holds, status_of, falsified}
+use Rattle.dq_lits.proofs.Truth.{same_literal-sound}
+use Rattle.dq_lits.proofs.HeldLiterals.{any_one, any_gives, holds_cases, holds_here, holds_later}
+use Rattle.dq_lits.proofs.SignedLiterals.{same_literal-refl, opposite_variable, opposite-opposite, opposite-other, one_variable, opposite-negative}
 use Rattle.hint_log.specs.Entries.{Entry}
 use Rattle.hint_log.specs.Naming.{is_selector}
 use Rattle.oracle.specs.Searched.{Stands}
@@ -12,12 +16,8 @@ use Rattle.truth_values.specs.Truth.{IsFree}
 use Rattle.learning_trail.specs.Marks.{marked, stands_on}
 use Rattle.learning_trail.specs.Sound.{IsSound}
 use Rattle.learning_trail.specs.Analyses.{IsAnalysis}
-use Rattle.truth_values.proofs.HeldLiterals.{opposite-opposite, opposite-variable, opposite-other, opposite-negative, same_literal-sound, same_literal-refl, holds_first, holds_later, holds_cases, any_one, any_gives, one_variable}
 use Rattle.learning_trail.proofs.ClauseStatus.{IsImplied, falsified_tells}
 use Rattle.learning_trail.proofs.LeadingHints.{leads_first, leads_next, leads_past, leads_kept}
-
-pub contains_none : (h : ℕ) → Contains [] h → ⊥
-contains_none h c = let lt = c.1 in absurd (omega (arith, lt))
 
 pub contains_cases : (y : ℕ) (ys : List ℕ) (x : ℕ) → Contains (y ∷ ys) x → (x ≡ y) ⊎ Contains ys x
 contains_cases y ys x c = by c.0 c.1 c.2
@@ -59,7 +59,7 @@ sound_consistent live (s ∷ steps) sound = consistent_more s.literal (literals_
 negation_of : (rest : List Literal) (t l : Literal) → AreConsistent rest → holds rest t ≡ true →
     holds rest (opposite l) ≡ true → variable_of l ≡ variable_of t → t ≡ opposite l
 negation_of rest t l consistent ht hl same =
-    elim (one_variable t (opposite l) (sym same ∙ sym (opposite-variable l))) [
+    elim (one_variable t (opposite l) (sym same ∙ sym (opposite_variable l))) [
       | inl e ↦ e
       | inr e ↦ absurd (consistent (opposite l) hl (ap (holds rest) (sym e) ∙ ht))
     ]
@@ -77,7 +77,7 @@ module _ (entries : List Entry) (live : LiveClauses) (before after : List Bool) 
 
   -- q is no selector
   no_selector : is_selector entries (variable_of q) ≡ true → ⊥
-  no_selector sel = false≢true (sym (old.plain q (holds_first q rest) mark sel) ∙ (stand q implied.among).negated sel)
+  no_selector sel = false≢true (sym (old.plain q (holds_here q rest) mark sel) ∙ (stand q implied.among).negated sel)
 
   on_rest : (l : Literal) → holds clause l ≡ true → variable_of l ≢ variable_of q →
       (holds rest (opposite l) ≡ true) × (marked after (variable_of l) ≡ true)
@@ -106,7 +106,7 @@ module _ (entries : List Entry) (live : LiveClauses) (before after : List Bool) 
         | inr t ↦ elim (cases_eq (variable_of l) (variable_of q)) [
           | inl v ↦ absurd (no_selector (ap (is_selector entries) (sym v) ∙ sel))
           | inr n ↦ elim (holds_cases q rest (opposite l) t.0) [
-            | inl e ↦ absurd (n (sym (opposite-variable l) ∙ ap variable_of e))
+            | inl e ↦ absurd (n (sym (opposite_variable l) ∙ ap variable_of e))
             | inr r ↦ inr (
               r,
               other (variable_of l) n ∙ or_left (marked before (variable_of l))
@@ -147,7 +147,7 @@ analysis_past entries live marks rest kept q hints unmarked old = record {
     | inl k ↦ inl k
     | inr t ↦ elim (holds_cases q rest (opposite l) t.0) [
       | inl e ↦ absurd (false≢true (sym unmarked ∙ ap (λ x. marked marks (variable_of x)) (sym e) ∙ ap (marked marks)
-          (opposite-variable l) ∙ t.1))
+          (opposite_variable l) ∙ t.1))
       | inr r ↦ inr (r, t.1)
     ]
   ];
@@ -183,7 +183,7 @@ analysis_kept entries live marks rest kept more q hints free more_is old =
               free_later q rest l g.0,
               false_from_ne_true (holds more (opposite l)) (λ b. elim (only (opposite l) b) [
                 | inl p ↦ false≢true (sym g.1 ∙ p)
-                | inr e ↦ false≢true (sym g.0.1 ∙ ap (holds (q ∷ rest)) e ∙ holds_first q rest)
+                | inr e ↦ false≢true (sym g.0.1 ∙ ap (holds (q ∷ rest)) e ∙ holds_here q rest)
               ]),
             )
         | inr e ↦ (
@@ -191,7 +191,7 @@ analysis_kept entries live marks rest kept more q hints free more_is old =
           false_from_ne_true (holds more (opposite l)) (λ b. elim (only (opposite l) b) [
             | inl p ↦
                 let g = old.gone (opposite l) p in
-                false≢true (sym g.0.1 ∙ ap (holds (q ∷ rest)) (opposite-opposite l ∙ e) ∙ holds_first q rest)
+                false≢true (sym g.0.1 ∙ ap (holds (q ∷ rest)) (opposite-opposite l ∙ e) ∙ holds_here q rest)
             | inr f ↦ opposite-other l (e ∙ sym f)
           ]),
         )
@@ -233,11 +233,11 @@ analysis_first entries live marks trail clause id is false_now stand consistent 
             let same : Some clause ≡ Some d = sym is ∙ ap live (sym e) ∙ at in
             let c : clause ≡ d = cc in
             inr (on l (ap (λ x. holds x l) c ∙ m))
-        | inr none ↦ absurd (contains_none h none)
+        | inr none ↦ absurd (no_element h none)
       ];
       ids = λ h has. elim (contains_cases id [] h has) [
         | inl e ↦ ap is_some (ap live e ∙ is)
-        | inr none ↦ absurd (contains_none h none)
+        | inr none ↦ absurd (no_element h none)
       ];
       gone = λ l k. absurd (false≢true k);
       plain = λ t ht m sel.
@@ -265,10 +265,10 @@ analysis_false entries live marks rest clause a id is implied stand consistent m
             let n : l ≢ opposite a = λ f. opposite-other a (sym e ∙ f) in
             absurd (false≢true (sym free_a.1 ∙ ap (λ x. holds rest (opposite x)) (sym e) ∙ implied.others l m n))
         | inr e ↦ inl (ap (λ x. holds (a ∷ []) (opposite x)) e ∙ ap (holds (a ∷ [])) (opposite-opposite a)
-            ∙ holds_first a [])
+            ∙ holds_here a [])
       ]
       | inr n ↦
-          let h = implied.others l m (λ e. n (ap variable_of e ∙ opposite-variable a)) in
+          let h = implied.others l m (λ e. n (ap variable_of e ∙ opposite_variable a)) in
           inr (
             h,
             marks_are (variable_of l) ∙ ap (λ b. not b && stands_on clause (variable_of l))
@@ -284,11 +284,11 @@ analysis_false entries live marks rest clause a id is implied stand consistent m
             let same : Some clause ≡ Some d = sym is ∙ ap live (sym e) ∙ at in
             let c : clause ≡ d = cc in
             on l (ap (λ x. holds x l) c ∙ m)
-        | inr none ↦ absurd (contains_none h none)
+        | inr none ↦ absurd (no_element h none)
       ];
       ids = λ h has. elim (contains_cases id [] h has) [
         | inl e ↦ ap is_some (ap live e ∙ is)
-        | inr none ↦ absurd (contains_none h none)
+        | inr none ↦ absurd (no_element h none)
       ];
       gone = λ l k. elim (holds_cases a [] l k) [
         | inl e ↦ (
@@ -308,7 +308,7 @@ analysis_false entries live marks rest clause a id is implied stand consistent m
           elim (on r.0 r.1) [
             | inl k ↦ elim (holds_cases a [] (opposite r.0) k) [
               | inl e ↦
-                  let w : variable_of a ≡ variable_of t = ap variable_of (sym e) ∙ opposite-variable r.0 ∙ v in
+                  let w : variable_of a ≡ variable_of t = ap variable_of (sym e) ∙ opposite_variable r.0 ∙ v in
                   absurd (false≢true (sym (ap not (eq-eqb (variable_of a) (variable_of t) w)) ∙ p.0))
               | inr none ↦ absurd (false≢true none)
             ]

@@ -3,8 +3,11 @@ use Rattle.std.proofs.lemmas.Option.{slice_get_past, slice_get_within}
 use Rattle.std.proofs.Common.{zero, is_some, not, ◌≡◌, ◌≢◌, ℕ, suc, ◌+◌, ◌==◌, Bool, true, false, cond, ◌&&◌, ◌⊎◌, inl, inr, List, [], ◌∷◌, ◌++◌, length, Some, None, refl, sym, ◌∙◌, ap, subst, arith, length-append}
 use Rattle.std.specs.Option.{option_and_then}
 use Rattle.std.proofs.lemmas.Bool.{false≢true, cases_eq, eq-eqb, ne_eqb, and_from}
+use Rattle.list_laws.proofs.Elements.{last_there}
 use Rattle.dq_lits.specs.Literal.{Literal, positive, negative, variable_of, is_negative, opposite}
 use Rattle.dq_lits.specs.Derivation.{holds, IsDerived}
+use Rattle.dq_lits.proofs.SignedLiterals.{opposite_variable, opposite-negative}
+use Rattle.dq_lits.proofs.HeldLiterals.{holds_cases}
 use Rattle.hint_log.specs.Entries.{Entry}
 use Rattle.hint_log.specs.Entries.{Given, Learned, Answer}
 use Rattle.hint_log.specs.declared.origins.Origin.{Origin}
@@ -19,8 +22,7 @@ use Rattle.oracle.specs.Fit.{Fit, live_in}
 use Rattle.oracle.specs.Searched.{Stands, IsOfGroup}
 use Rattle.oracle.proofs.KeptSelectors.{holds_reached}
 use Rattle.learning_trail.specs.Resting.{IsPut, HeldFit}
-use Rattle.learning_trail.proofs.Lessons.{live_more, last_clause}
-use Rattle.truth_values.proofs.HeldLiterals.{holds_cases, opposite-variable, opposite-negative}
+use Rattle.learning_trail.proofs.Lessons.{live_more}
 
 module _ (held : List (List Literal)) (c : List Literal) (es : List Entry) (e : Entry) (numbered' : has_id e ≡ true)
     (is : clause_of e ≡ Some c) (count : length held ≡ last_id es) where
@@ -41,7 +43,7 @@ module _ (held : List (List Literal)) (c : List Literal) (es : List Entry) (e : 
   same_more same id = elim (cases_eq id (last_id es + 1)) [
     | inl h ↦
         let at : id ≡ suc (length held) = omega (arith, h, count) in
-        ap (live_in (held ++ c ∷ [])) at ∙ last_clause held c ∙ sym (at_new id h)
+        ap (live_in (held ++ c ∷ [])) at ∙ last_there held c ∙ sym (at_new id h)
     | inr n ↦ elim (live_more held c id) [
       | inl k ↦ k ∙ same id ∙ sym (at_old id n)
       | inr k ↦ absurd (n (omega (arith, k.0, count)))
@@ -135,7 +137,7 @@ module _ (held : List (List Literal)) (resting : List Bool) (variables : ℕ) (e
         let count = fit.count in
         let last : id ≡ suc (length fit.whole) = omega (arith, k.0, count) in
         let first : Some c ≡ Some put = sym k.1 ∙ at' in
-        let second : Some c ≡ Some clause = sym (last_clause fit.whole c) ∙ ap (live_in (fit.whole ++ c ∷ [])) (sym last)
+        let second : Some c ≡ Some clause = sym (last_there fit.whole c) ∙ ap (live_in (fit.whole ++ c ∷ [])) (sym last)
         ∙ at in
         inl cc
   ]
@@ -181,7 +183,7 @@ pub given_stands : (es : List Entry) (g : Group) (lits : List Literal) → IsMad
 given_stands es g lits made plain l h =
     elim (holds_cases (opposite g.selector) lits l h) [
       | inl e ↦ subst (Stands es) (sym e) (record {
-        named = ap (λ v. is_some (name_of es v)) (opposite-variable g.selector) ∙ ap is_some made.named;
+        named = ap (λ v. is_some (name_of es v)) (opposite_variable g.selector) ∙ ap is_some made.named;
         negated = λ sel. opposite-negative g.selector ∙ ap not made.positive;
       })
       | inr later ↦

@@ -2,10 +2,12 @@
 use Rattle.std.proofs.Common.{◌≡◌, ℕ, zero, suc, ◌≤◌, true, false, cond, not, ◌⊎◌, inl, inr, List, [], ◌∷◌, ◌++◌, map, Some, None, IsSome, is_some, All, sym, ◌∙◌, ap, subst}
 use Rattle.std.specs.List.{list_any}
 use Rattle.std.proofs.lemmas.Bool.{false≢true, false_from_ne_true}
-use Rattle.std.proofs.lemmas.List.Elements.{All-cons, All-nil, All-head, All-tail, All-get_or}
+use Rattle.std.proofs.lemmas.List.Elements.{All-head, All-tail, All-get_or}
 use Rattle.std.proofs.lemmas.Option.{slice_get_within, get_or_from_slice_get}
 use Rattle.dq_lits.specs.Literal.{Assignment, Literal, positive, negative, variable_of, is_negative, opposite, literal_true}
 use Rattle.dq_lits.specs.Derivation.{holds, is_tautology}
+use Rattle.dq_lits.proofs.HeldLiterals.{any_one, any_gives, all_held, held_of_all, holds_cases}
+use Rattle.dq_lits.proofs.SignedLiterals.{opposite_variable, opposite-negative}
 use Rattle.hint_log.specs.Entries.{Entry}
 use Rattle.hint_log.specs.declared.names.Name.TheVariants.{Selector}
 use Rattle.hint_log.specs.Entries.{ProofLog, clause_at, name_of}
@@ -20,21 +22,9 @@ use Rattle.learning_trail.specs.Steps.{literals_of}
 use Rattle.truth_values.specs.Truth.{literal_value}
 use Rattle.truth_values.specs.declared.values.TruthValue.TheVariants.{True, False, Unassigned}
 use Rattle.learning_trail.specs.Searching.{Searched, AreAssumptions, IsSatisfied}
-use Rattle.truth_values.proofs.HeldLiterals.{holds_first, holds_later, holds_cases, opposite-variable, opposite-negative, any_one, any_gives, value_true}
+use Rattle.truth_values.proofs.HeldLiterals.{value_true}
 use Rattle.learning_trail.proofs.ConflictAnalysis.{AreConsistent, sound_consistent}
 use Rattle.learning_trail.proofs.SearchTurns.{assumptions_same}
-
-pub all_of : (P : Literal → Type 0) (xs : List Literal) → ((l : Literal) → holds xs l ≡ true → P l) → All P xs
-all_of P [] h = All-nil P
-all_of P (x ∷ xs) h = All-cons P x xs (h x (holds_first x xs)) (all_of P xs (λ l m. h l (holds_later x xs l m)))
-
-pub of_all : (P : Literal → Type 0) (xs : List Literal) → All P xs → (l : Literal) → holds xs l ≡ true → P l
-of_all P [] all l h = absurd (false≢true h)
-of_all P (x ∷ xs) all l h =
-    elim (holds_cases x xs l h) [
-      | inl e ↦ subst P (sym e) (All-head P x xs all)
-      | inr later ↦ of_all P xs (All-tail P x xs all) l later
-    ]
 
 pub clause_of_all : (P : List Literal → Type 0) (clauses : List (List Literal)) → All P clauses →
     (id : ℕ) (c : List Literal) → live_in clauses id ≡ Some c → P c
@@ -68,7 +58,7 @@ pub assumptions_from : (log : ProofLog) (active : List Group) (assume : List Lit
     → AreAssumptions log (assumed active assume)
 assumptions_from log active assume made plain apart =
     let es = log.entries in
-    let plain_one : (l : Literal) → holds assume l ≡ true → IsPlain es l = of_all (IsPlain es) assume plain in
+    let plain_one : (l : Literal) → holds assume l ≡ true → IsPlain es l = held_of_all (IsPlain es) assume plain in
     let split : (l : Literal) → holds (assumed active assume) l ≡ true → IsOn es l ⊎ (holds assume l ≡ true) =
     on_or_plain es active assume made in
     let clash : (l k : Literal) → variable_of l ≡ variable_of k → IsOn es l → holds assume k ≡ true → ⊥ =
@@ -82,10 +72,10 @@ assumptions_from log active assume made plain apart =
       apart = λ l h o. elim (split l h) [
         | inl on ↦ elim (split (opposite l) o) [
           | inl off ↦ false≢true (sym off.positive ∙ opposite-negative l ∙ ap not on.positive)
-          | inr k ↦ clash l (opposite l) (sym (opposite-variable l)) on k
+          | inr k ↦ clash l (opposite l) (sym (opposite_variable l)) on k
         ]
         | inr k ↦ elim (split (opposite l) o) [
-          | inl off ↦ clash (opposite l) l (opposite-variable l) off k
+          | inl off ↦ clash (opposite l) l (opposite_variable l) off k
           | inr m ↦ false≢true (sym apart ∙ any_one (λ x. holds assume (opposite x)) assume l k m)
         ]
       ];
@@ -153,6 +143,6 @@ module _ (assumptions : List Literal) (s : Searched) (values : Assignment) (old 
       record {
         clauses = λ id c at.
             clause_found id c at (kept_as s.clauses s.resting s.variables new.entries fit id c at);
-        assumptions_true = all_of (λ l. literal_true values l ≡ true) assumptions
+        assumptions_true = all_held (λ l. literal_true values l ≡ true) assumptions
             (λ l h. one l (later.named l h) (satisfied.assumed l h));
       }

@@ -8,6 +8,8 @@ use Rattle.std.proofs.lemmas.List.Sums.{sum_by-append}
 use Rattle.std.proofs.Math.Seq.{get_or-append_seam}
 use Rattle.dq_lits.specs.Literal.{Literal, positive, negative, variable_of, opposite}
 use Rattle.dq_lits.specs.Derivation.{holds}
+use Rattle.dq_lits.proofs.SignedLiterals.{opposite_variable}
+use Rattle.dq_lits.proofs.HeldLiterals.{holds_cases}
 use Rattle.learning_trail.specs.declared.trails.Step.{Step}
 use Rattle.learning_trail.specs.Steps.{literals_of}
 use Rattle.truth_values.specs.Truth.{IsFree, literal_value}
@@ -16,7 +18,6 @@ use Rattle.truth_values.specs.Truth.{is_assigned}
 use Rattle.learning_trail.specs.TrailInside.{IsKept}
 use Rattle.truth_values.specs.declared.values.TruthValue.{TruthValue}
 use Rattle.truth_values.specs.declared.values.TruthValue.TheVariants.{True, False, Unassigned}
-use Rattle.truth_values.proofs.HeldLiterals.{holds_cases, opposite-variable}
 use Rattle.learning_trail.proofs.AssignedLiterals.{tells_less, one_more, one_less}
 use Rattle.truth_values.proofs.AssignedLiterals.{value_where_true, tells_more}
 
@@ -43,7 +44,7 @@ far_value n xs l all far =
     false_from_ne_true (holds (literals_of xs) l) (absent n xs l all far) in
     let other : holds (literals_of xs) (opposite l) ≡ false =
     false_from_ne_true (holds (literals_of xs) (opposite l))
-    (absent n xs (opposite l) all (subst (λ (v : ℕ). n < v) (sym (opposite-variable l)) far)) in
+    (absent n xs (opposite l) all (subst (λ (v : ℕ). n < v) (sym (opposite_variable l)) far)) in
     sym (ap (λ b. cond b False (cond (holds (literals_of xs) l) True Unassigned)) other
     ∙ ap (λ b. cond b True Unassigned) none)
 

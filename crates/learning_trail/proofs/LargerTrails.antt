@@ -6,12 +6,12 @@ use Rattle.std.proofs.lemmas.List.Elements.{All-cons, All-append, All-nil, All-g
 use Rattle.std.proofs.lemmas.Option.{slice_get-get_or, slice_get_within}
 use Rattle.dq_lits.specs.Literal.{Literal, variable_of}
 use Rattle.dq_lits.specs.Derivation.{holds}
+use Rattle.dq_lits.proofs.HeldLiterals.{holds_cases}
 use Rattle.oracle.specs.Fit.{live_in}
 use Rattle.learning_trail.specs.declared.trails.Step.{Step}
 use Rattle.learning_trail.specs.Steps.{is_decision, Grown}
 use Rattle.truth_values.specs.Truth.{IsFree}
 use Rattle.learning_trail.specs.Passes.{AreWithin, IsOpening}
-use Rattle.truth_values.proofs.HeldLiterals.{holds_cases}
 
 abbrev pub implied_step : Literal → ℕ → Step
 implied_step l id = record { literal = l; reason = Some id }

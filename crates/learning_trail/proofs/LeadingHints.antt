@@ -3,10 +3,12 @@ use Rattle.std.proofs.Common.{◌≡◌, ◌≢◌, ℕ, ◌+◌, ◌==◌, Bool
 use Rattle.std.proofs.lemmas.Bool.{false≢true, or_left, or_right, false_from_ne_true, eq-eqb}
 use Rattle.dq_lits.specs.Literal.{Literal, variable_of, opposite}
 use Rattle.dq_lits.specs.Derivation.{LiveClauses, falsified, unit, holds, status_of, fault_by, hint_fault, is_tautology, IsDerived}
+use Rattle.dq_lits.proofs.HeldLiterals.{any_one, holds_cases, holds_here, holds_later}
+use Rattle.dq_lits.proofs.SignedLiterals.{opposite_variable, opposite-opposite}
 use Rattle.truth_values.specs.Truth.{IsFree}
 use Rattle.learning_trail.specs.Marks.{marked, stands_on}
 use Rattle.learning_trail.specs.Analyses.{Leads}
-use Rattle.truth_values.proofs.HeldLiterals.{opposite-opposite, opposite-variable, holds-map, holds_first, holds_later, holds_cases, free_variable, any_one}
+use Rattle.truth_values.proofs.HeldLiterals.{holds-map, free_variable}
 use Rattle.learning_trail.proofs.ClauseStatus.{IsImplied, is_falsified, is_unit}
 
 -- a clause that is false by what is kept and marked
@@ -19,7 +21,7 @@ leads_first live marks trail kept clause id is false_by trues place keeps covers
     let s : status_of trues (live id) ≡ falsified = ap (status_of trues) is ∙ is_falsified trues clause (λ l m.
     elim (false_by l m) [
       | inl k ↦ keeps (opposite l) k
-      | inr t ↦ covers (opposite l) t.0 (ap (marked marks) (opposite-variable l) ∙ t.1)
+      | inr t ↦ covers (opposite l) t.0 (ap (marked marks) (opposite_variable l) ∙ t.1)
     ]) in
     ap (λ x. fault_by x place [] (λ l. hint_fault live (l ∷ trues) (place + 1) [])) s
 
@@ -33,36 +35,36 @@ pub leads_next : (live : LiveClauses) (before after : List Bool) (rest kept clau
 leads_next live before after rest kept clause q id hints is implied marks gone leads trues place keeps covers within =
     let fresh : holds trues q ≡ false = false_from_ne_true (holds trues q) (λ t.
     elim (within q t) [
-      | inl k ↦ false≢true (sym (gone q k).0 ∙ holds_first q rest)
+      | inl k ↦ false≢true (sym (gone q k).0 ∙ holds_here q rest)
       | inr r ↦ false≢true (sym implied.free.0 ∙ r)
     ]) in
     let not_false : holds trues (opposite q) ≡ false = false_from_ne_true (holds trues (opposite q)) (λ t.
     elim (within (opposite q) t) [
       | inl k ↦ false≢true (sym (gone (opposite q) k).1 ∙ ap (holds (q ∷ rest)) (opposite-opposite q)
-          ∙ holds_first q rest)
+          ∙ holds_here q rest)
       | inr r ↦ false≢true (sym implied.free.1 ∙ r)
     ]) in
     let s : status_of trues (live id) ≡ unit q = ap (status_of trues) is ∙ is_unit trues clause q implied.among
     (λ l m n.
     let on_rest = implied.others l m n in
     let other : variable_of l ≢ variable_of q = λ e. free_variable rest q (opposite l) implied.free on_rest
-    (opposite-variable l ∙ e) in
+    (opposite_variable l ∙ e) in
     let mark : marked after (variable_of l) ≡ true =
     marks (variable_of l) other ∙ or_right (marked before (variable_of l)) (stands_on clause (variable_of l))
     (any_one (λ k. variable_of k == variable_of l) clause l m (eq-eqb (variable_of l) (variable_of l) refl)) in
-    covers (opposite l) on_rest (ap (marked after) (opposite-variable l) ∙ mark)) (fresh, not_false) in
+    covers (opposite l) on_rest (ap (marked after) (opposite_variable l) ∙ mark)) (fresh, not_false) in
     ap (λ x. fault_by x place hints (λ l. hint_fault live (l ∷ trues) (place + 1) hints)) s
     ∙ leads (q ∷ trues) (place + 1)
     (λ t k. holds_later q trues t (keeps t k))
     (λ t on m. elim (holds_cases q rest t on) [
-      | inl e ↦ ap (holds (q ∷ trues)) e ∙ holds_first q trues
+      | inl e ↦ ap (holds (q ∷ trues)) e ∙ holds_here q trues
       | inr r ↦
           let other : variable_of t ≢ variable_of q = λ e. free_variable rest q t implied.free r e in
           holds_later q trues t (covers t r (marks (variable_of t) other ∙ or_left (marked before (variable_of t))
           (stands_on clause (variable_of t)) m))
     ])
     (λ t m. elim (holds_cases q trues t m) [
-      | inl e ↦ inr (ap (holds (q ∷ rest)) e ∙ holds_first q rest)
+      | inl e ↦ inr (ap (holds (q ∷ rest)) e ∙ holds_here q rest)
       | inr r ↦ elim (within t r) [ inl k ↦ inl k | inr w ↦ inr (holds_later q rest t w) ]
     ])
 
@@ -90,7 +92,7 @@ leads_kept live marks rest kept more q hints still has only leads trues place ke
       | inr r ↦ covers t r m
     ])
     (λ t m. elim (within t m) [
-      | inl k ↦ elim (only t k) [ inl o ↦ inl o | inr e ↦ inr (ap (holds (q ∷ rest)) e ∙ holds_first q rest) ]
+      | inl k ↦ elim (only t k) [ inl o ↦ inl o | inr e ↦ inr (ap (holds (q ∷ rest)) e ∙ holds_here q rest) ]
       | inr r ↦ inr (holds_later q rest t r)
     ])
 

@@ -5,6 +5,8 @@ use Rattle.std.proofs.lemmas.List.{append-nil}
 use Rattle.std.proofs.lemmas.List.Sorted.{list_any-IsPermutation, IsPermutation-reverse}
 use Rattle.dq_lits.specs.Literal.{Literal, variable_of, is_negative, opposite, same_literal}
 use Rattle.dq_lits.specs.Derivation.{LiveClauses, holds}
+use Rattle.dq_lits.proofs.SignedLiterals.{opposite_variable, opposite-opposite, opposite-negative}
+use Rattle.dq_lits.proofs.HeldLiterals.{holds_cases, holds_here, holds_later}
 use Rattle.hint_log.specs.Entries.{Entry}
 use Rattle.hint_log.specs.Naming.{is_selector}
 use Rattle.learning_trail.specs.declared.trails.Step.{Step}
@@ -15,7 +17,7 @@ use Rattle.learning_trail.specs.Noting.{Noted}
 use Rattle.learning_trail.specs.Analyses.{IsAnalysis, AllStand}
 use Rattle.learning_trail.specs.Backing.{IsFirstPoint, IsTrimmed}
 use Rattle.learning_trail.specs.Lessons.{IsLesson}
-use Rattle.truth_values.proofs.HeldLiterals.{opposite-opposite, opposite-variable, opposite-negative, holds_first, holds_later, holds_cases, holds-map}
+use Rattle.truth_values.proofs.HeldLiterals.{holds-map}
 use Rattle.learning_trail.proofs.ConflictAnalysis.{analysis_same}
 use Rattle.learning_trail.proofs.BacktrackSteps.{level_kept, leads_noted}
 
@@ -94,8 +96,8 @@ module _ (live : LiveClauses) (old mid : Trailed) (step : Step) (begun found add
   on_trail l h = elim (only l h) [
     | inl e ↦ (
       ap (λ x. holds (literals_of (step ∷ mid.steps)) (opposite x)) e ∙ ap (holds (literals_of (step ∷ mid.steps)))
-          (opposite-opposite step.literal) ∙ holds_first step.literal (literals_of mid.steps),
-      ap (λ x. marked found.marks (variable_of x)) e ∙ ap (marked found.marks) (opposite-variable step.literal)
+          (opposite-opposite step.literal) ∙ holds_here step.literal (literals_of mid.steps),
+      ap (λ x. marked found.marks (variable_of x)) e ∙ ap (marked found.marks) (opposite_variable step.literal)
           ∙ point.mark,
     )
     | inr r ↦ (holds_later step.literal (literals_of mid.steps) (opposite l) r.0, fewer (variable_of l) r.1)
@@ -110,15 +112,15 @@ module _ (live : LiveClauses) (old mid : Trailed) (step : Step) (begun found add
         (λ t on m. fewer (variable_of t) m) some));
     level = point.level;
     has_first = literals_are (opposite step.literal) ∙ trimmed.keeps (opposite step.literal)
-        (ap (λ ls. holds ls (opposite step.literal)) added_is ∙ holds_first (opposite step.literal) []);
+        (ap (λ ls. holds ls (opposite step.literal)) added_is ∙ holds_here (opposite step.literal) []);
     has_rest = λ t on m. literals_are (opposite t) ∙ trimmed.has t
         (ap (λ xs. holds (literals_of xs) t) (sym done_all) ∙ on) (sym (marks_are (variable_of t)) ∙ m);
     only = only;
     negated = λ entries stand l h sel.
         let t = on_trail l h in
         let plain = (point.analysis entries stand (first_is empty entries stand)).plain (opposite l) t.0
-        (ap (marked found.marks) (opposite-variable l) ∙ t.1)
-        (ap (is_selector entries) (opposite-variable l) ∙ sel) in
+        (ap (marked found.marks) (opposite_variable l) ∙ t.1)
+        (ap (is_selector entries) (opposite_variable l) ∙ sel) in
         negated_back (is_negative l) (sym (opposite-negative l) ∙ plain);
     analysis = λ entries stand. analysis_turned entries live left noted turned
         (trimmed.analysis entries stand (leads_noted live old.steps mid.steps begun found added step point.analysis

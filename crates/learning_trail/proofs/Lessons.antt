@@ -4,8 +4,11 @@ use Rattle.std.proofs.lemmas.Bool.{cases_Bool, cases_eq, cases_lt, false≢true,
 use Rattle.std.proofs.lemmas.List.{get_or_append_left}
 use Rattle.std.proofs.Math.Seq.{get_or-append_seam}
 use Rattle.std.proofs.lemmas.Option.{slice_get-get_or, slice_get_within}
+use Rattle.list_laws.proofs.Elements.{last_there}
 use Rattle.dq_lits.specs.Literal.{Literal, positive, variable_of, is_negative, opposite, same_literal}
 use Rattle.dq_lits.specs.Derivation.{LiveClauses, unit, stuck, holds, status_of, IsDerived}
+use Rattle.dq_lits.proofs.SignedLiterals.{same_literal-refl, opposite_variable, opposite-opposite, opposite-negative}
+use Rattle.dq_lits.proofs.HeldLiterals.{holds_cases, holds_here, holds_later}
 use Rattle.hint_log.specs.Entries.{Entry}
 use Rattle.hint_log.specs.Entries.{clause_at, name_of}
 use Rattle.hint_log.specs.Naming.{is_selector}
@@ -21,7 +24,7 @@ use Rattle.learning_trail.specs.Sound.{IsSound, IsReasoned, IsGuided}
 use Rattle.learning_trail.specs.Analyses.{IsAnalysis, AllStand}
 use Rattle.learning_trail.specs.Lessons.{IsLesson, IsJump}
 use Rattle.learning_trail.specs.Resting.{rests, HeldFit, AreAwake}
-use Rattle.truth_values.proofs.HeldLiterals.{same_literal-refl, opposite-opposite, opposite-variable, opposite-negative, holds_first, holds_later, holds_cases, free_variable}
+use Rattle.truth_values.proofs.HeldLiterals.{free_variable}
 use Rattle.learning_trail.proofs.ClauseStatus.{is_unit, stuck_from_two}
 use Rattle.learning_trail.proofs.AnswerClauses.{concluded_derived, concluded_tied}
 use Rattle.learning_trail.proofs.ConflictAnalysis.{AreConsistent, sound_consistent, free_later}
@@ -176,13 +179,13 @@ module _ (entries : List Entry) (assumptions : List Literal) (clauses : List (Li
   on_trail l h = elim (lesson.only l h) [
     | inl e ↦ ap (λ x. holds (literals_of (step ∷ new.steps)) (opposite x)) e ∙ ap
         (holds (literals_of (step ∷ new.steps))) (opposite-opposite step.literal)
-        ∙ holds_first step.literal (literals_of new.steps)
+        ∙ holds_here step.literal (literals_of new.steps)
     | inr r ↦ holds_later step.literal (literals_of new.steps) (opposite l) r.0
   ]
 
   pub lesson_stands : (l : Literal) → holds clause l ≡ true → Stands entries l
   lesson_stands l h = record {
-    named = ap (λ v. is_some (name_of entries v)) (sym (opposite-variable l)) ∙ trail_named entries assumptions clauses
+    named = ap (λ v. is_some (name_of entries v)) (sym (opposite_variable l)) ∙ trail_named entries assumptions clauses
         (step ∷ new.steps) stand lesson_sound lesson_guided (opposite l) (on_trail l h);
     negated = lesson.negated entries stand l h;
   }
@@ -191,7 +194,7 @@ module _ (entries : List Entry) (assumptions : List Literal) (clauses : List (Li
       holds assumptions (opposite l) ≡ true
   lesson_active l h sel =
       trail_assumed entries assumptions clauses (step ∷ new.steps) stand lesson_sound lesson_guided (opposite l)
-      (on_trail l h) (ap (is_selector entries) (opposite-variable l) ∙ sel)
+      (on_trail l h) (ap (is_selector entries) (opposite_variable l) ∙ sel)
       (opposite-negative l ∙ ap not (lesson.negated entries stand l h sel))
 
   pub lesson_derived : IsDerived (clause_at entries) clause hints
@@ -205,7 +208,7 @@ module _ (entries : List Entry) (assumptions : List Literal) (clauses : List (Li
   pub lesson_no_selector : is_selector entries (variable_of step.literal) ≡ false
   lesson_no_selector = false_from_ne_true (is_selector entries (variable_of step.literal)) (λ sel.
       let negative' = lesson.negated entries stand (opposite step.literal) lesson.has_first
-      (ap (is_selector entries) (opposite-variable step.literal) ∙ sel) in
+      (ap (is_selector entries) (opposite_variable step.literal) ∙ sel) in
       let positive' = turned (is_negative step.literal) (sym (opposite-negative step.literal) ∙ negative') in
       elim (cases_Bool (is_decision step)) [
         | inl was ↦
@@ -269,7 +272,7 @@ module _ (entries : List Entry) (assumptions : List Literal) (clauses : List (Li
       (holds_later step.literal (literals_of new.steps) (opposite l) (below_in (opposite l) o))
 
   no_selector : is_selector entries (variable_of (opposite step.literal)) ≡ false
-  no_selector = ap (is_selector entries) (opposite-variable step.literal) ∙ lesson_no_selector
+  no_selector = ap (is_selector entries) (opposite_variable step.literal) ∙ lesson_no_selector
 
   pub lesson_new : IsNewByPropagation entries clause
   lesson_new = record {
@@ -283,22 +286,17 @@ module _ (entries : List Entry) (assumptions : List Literal) (clauses : List (Li
         (λ h. false≢true (sym lesson_sound.0.free.1 ∙ below_in (opposite step.literal) h)));
     not_false = plain_resting clauses resting variables entries fit (literals_of below) never_on
         (opposite (opposite step.literal))
-        (ap (is_selector entries) (opposite-variable (opposite step.literal)) ∙ no_selector)
+        (ap (is_selector entries) (opposite_variable (opposite step.literal)) ∙ no_selector)
         (false_from_ne_true (holds (literals_of below) (opposite (opposite step.literal)))
         (λ h. false≢true (sym lesson_sound.0.free.0 ∙ ap (holds (literals_of new.steps))
         (sym (opposite-opposite step.literal)) ∙ below_in (opposite (opposite step.literal)) h)));
     rest_false = λ k h n. elim (lesson.only k h) [
       | inl e ↦ absurd (false≢true (sym n ∙ ap (same_literal k) (sym e) ∙ same_literal-refl k))
       | inr r ↦ true_resting clauses resting variables entries fit (literals_of below) never_on (opposite k)
-          (marked_below (opposite k) r.0 (ap (marked marks) (opposite-variable k) ∙ r.1))
+          (marked_below (opposite k) r.0 (ap (marked marks) (opposite_variable k) ∙ r.1))
     ];
     closed = closed_resting clauses resting variables entries fit (literals_of below) never_on below_is_closed;
   }
-
-pub last_clause : (xs : List (List Literal)) (c : List Literal) → slice_get (xs ++ c ∷ []) (length xs) ≡ Some c
-last_clause xs c =
-    let g : length xs < length (xs ++ c ∷ []) = omega (arith, length-append xs (c ∷ [])) in
-    slice_get-get_or (xs ++ c ∷ []) (length xs) c g ∙ ap (λ x. Some x) (get_or-append_seam xs c [] c)
 
 -- a trail that goes with one clause more
 module _ (clauses : List (List Literal)) (clause : List Literal) where
@@ -379,7 +377,7 @@ module _ (clauses : List (List Literal)) (clause : List Literal) where
       let gp = free_later s.literal (literals_of steps) p fp in
       let gu = free_later s.literal (literals_of steps) u fu in (
         (λ _. stuck_from_two (literals_of steps) clause (opposite p) (opposite u) hp hu
-            (λ e. n (sym (opposite-variable p) ∙ ap variable_of e ∙ opposite-variable u))
+            (λ e. n (sym (opposite_variable p) ∙ ap variable_of e ∙ opposite_variable u))
             (ap (holds (literals_of steps)) (opposite-opposite p) ∙ gp.0)
             (ap (holds (literals_of steps)) (opposite-opposite u) ∙ gu.0)),
         all_stuck live steps p u sound.1 hp hu n gp gu,
@@ -411,11 +409,11 @@ module _ (clauses : List (List Literal)) (clause : List Literal) where
       elim (or_cases (marked marks (variable_of s.literal)) (cond (is_decision s) false
       (is_level_marked marks steps)) some) [
         | inl m ↦
-            let hu = has s.literal (holds_first s.literal (literals_of steps)) m in
+            let hu = has s.literal (holds_here s.literal (literals_of steps)) m in
             let n : variable_of p ≢ variable_of s.literal = λ e. free_variable
-            (s.literal ∷ literals_of steps) p s.literal fp (holds_first s.literal (literals_of steps)) (sym e) in (
+            (s.literal ∷ literals_of steps) p s.literal fp (holds_here s.literal (literals_of steps)) (sym e) in (
               (λ _. stuck_from_two (literals_of steps) clause (opposite p) (opposite s.literal) hp hu
-                  (λ e. n (sym (opposite-variable p) ∙ ap variable_of e ∙ opposite-variable s.literal))
+                  (λ e. n (sym (opposite_variable p) ∙ ap variable_of e ∙ opposite_variable s.literal))
                   (ap (holds (literals_of steps)) (opposite-opposite p) ∙ gp.0)
                   (ap (holds (literals_of steps)) (opposite-opposite s.literal) ∙ sound.0.free.0)),
               all_stuck live steps p s.literal sound.1 hp hu n gp sound.0.free,
@@ -461,14 +459,14 @@ lesson_lands clauses old new back step marks clause hints sound lesson jump =
     ] in
     let not_p : IsFree (literals_of back.steps) (opposite p) =
     (free.1, ap (holds (literals_of back.steps)) (opposite-opposite p) ∙ free.0) in
-    let is : live_in (clauses ++ clause ∷ []) (suc (length clauses)) ≡ Some clause = last_clause clauses clause in (
+    let is : live_in (clauses ++ clause ∷ []) (suc (length clauses)) ≡ Some clause = last_there clauses clause in (
       record {
         free = not_p;
         reasoned = ap (status_of (literals_of back.steps)) is ∙ is_unit (literals_of back.steps) clause
             (opposite p) lesson.has_first (λ l h n.
             elim (lesson.only l h) [
               | inl e ↦ absurd (n e)
-              | inr r ↦ jump.kept (opposite l) r.0 (ap (marked marks) (opposite-variable l) ∙ r.1)
+              | inr r ↦ jump.kept (opposite l) r.0 (ap (marked marks) (opposite_variable l) ∙ r.1)
             ]) not_p;
       },
       sound_more clauses clause back.steps sound_back stuck_before,

@@ -4,11 +4,11 @@ use Rattle.std.proofs.lemmas.Bool.{false≢true}
 use Rattle.std.proofs.lemmas.List.{length-append}
 use Rattle.dq_lits.specs.Literal.{Literal, variable_of}
 use Rattle.dq_lits.specs.Derivation.{holds}
+use Rattle.dq_lits.proofs.HeldLiterals.{holds_cases, holds_here, holds_later}
 use Rattle.learning_trail.specs.declared.trails.Step.{Step}
 use Rattle.learning_trail.specs.Steps.{is_decision, level_of, starts_of, level_start, IsAt}
 use Rattle.learning_trail.specs.Marks.{marked, is_level_marked}
 use Rattle.learning_trail.specs.Lessons.{IsMarkedInLevel}
-use Rattle.truth_values.proofs.HeldLiterals.{holds_first, holds_later, holds_cases}
 
 -- no more levels begin than there are steps
 pub few_starts : (steps : List Step) → length (starts_of steps) ≤ length steps
@@ -23,7 +23,7 @@ few_starts (s ∷ steps) = by (is_decision s) (few_starts steps)
 -- from where the newest level begins, steps are of it
 in_level_behind : (newer : List Step) (step : Step) (older : List Step) →
     level_start (newer ++ step ∷ older) ≤ length older → holds (level_of (newer ++ step ∷ older)) step.literal ≡ true
-in_level_behind [] step older h = holds_first step.literal (cond (is_decision step) [] (level_of older))
+in_level_behind [] step older h = holds_here step.literal (cond (is_decision step) [] (level_of older))
 in_level_behind (s ∷ newer) step older h = by (is_decision s) (in_level_behind newer step older) h
   where
     rest : List Step

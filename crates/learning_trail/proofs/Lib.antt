@@ -3,7 +3,6 @@ pub mod AssignedLiterals
 pub mod BacktrackSteps
 pub mod ClausePieces
 pub mod ClauseStatus
-pub mod CodedLiterals
 pub mod ConflictAnalysis
 pub mod FitLogs
 pub mod FoundModels

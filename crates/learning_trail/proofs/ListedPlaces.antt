@@ -3,7 +3,8 @@ use Rattle.std.proofs.Common.{◌≡◌, ◌⊎◌, ℕ, zero, suc, ◌+◌, ◌
 use Rattle.std.specs.List.Sorted.{IsNonDecreasing}
 use Rattle.std.proofs.lemmas.Bool.{cases_lt, false≢true, false_from_ne_true}
 use Rattle.std.proofs.lemmas.List.{take_more, take_all, get_or-take, get_or_default, length-take-le}
-use Rattle.std.proofs.lemmas.List.Elements.{Contains-append_left, Contains-append_right, Contains-append_cases}
+use Rattle.std.proofs.lemmas.List.Elements.{Contains-append_right, Contains-append_cases}
+use Rattle.list_laws.proofs.Members.{no_element}
 use Rattle.dq_lits.specs.Literal.{Literal, variable_of}
 use Rattle.dq_lits.specs.Derivation.{LiveClauses}
 use Rattle.learning_trail.specs.declared.trails.Step.{Step}
@@ -13,7 +14,7 @@ use Rattle.learning_trail.specs.Steps.{IsAt}
 use Rattle.learning_trail.specs.Marks.{marked}
 use Rattle.learning_trail.specs.Noting.{Noted, is_marked, AreTouched}
 use Rattle.learning_trail.specs.Backing.{IsTrimmed}
-use Rattle.learning_trail.proofs.ConflictAnalysis.{contains_none, contains_cases}
+use Rattle.learning_trail.proofs.ConflictAnalysis.{contains_cases}
 use Rattle.learning_trail.proofs.TouchedMarks.{touched_from}
 use Rattle.learning_trail.proofs.AssignedLiterals.{at_place}
 use Rattle.learning_trail.proofs.SetMarks.{turned}
@@ -33,7 +34,7 @@ one_more touched i v w lt at h =
       | inl a ↦ inl a
       | inr b ↦ elim (contains_cases v [] w b) [
         | inl e ↦ inr e
-        | inr none ↦ absurd (contains_none w none)
+        | inr none ↦ absurd (no_element w none)
       ]
     ]
 
@@ -54,10 +55,6 @@ listed_next steps marks touched old new i v lt here kept one listed at w k h sam
 pub contains_put : (old new : List ℕ) (p : ℕ) → new ≡ old ++ p ∷ [] → Contains new p
 contains_put old new p put = subst (λ (xs : List ℕ). Contains xs p) (sym put)
     (Contains-append_right old (p ∷ []) p (zero, omega arith, refl))
-
-pub contains_kept : (old new : List ℕ) (p at : ℕ) → new ≡ old ++ p ∷ [] → Contains old at → Contains new at
-contains_kept old new p at put c = subst (λ (xs : List ℕ). Contains xs at) (sym put)
-    (Contains-append_left old (p ∷ []) at c)
 
 pub listed_all : (steps : List Step) (marks : List Mark) (touched places : List ℕ) → AreTouched marks touched →
     AreListed steps marks touched places (length touched)
@@ -156,16 +153,6 @@ place_cases places at i some within c =
     (get_or_default places (at - 1) (get_or places (at - 1) 0) 0 lt)
     (subst (λ (n : ℕ). Contains (take n places) i) (sym one_is) c)
 
--- the place isn't below the end
-pub below_past : (marks : List Bool) (items : List Step) (places : List ℕ) (at end : ℕ) → 0 < at → at ≤ length places →
-    end ≤ get_or places (at - 1) 0
-    → AreBelow marks items places at end → AreBelow marks items places (at - 1) end
-below_past marks items places at end some within far below i s lt in_items here on =
-    elim (place_cases places at i some within (below i s lt in_items here on)) [
-      | inl before ↦ before
-      | inr e ↦ absurd (omega (arith, e, lt, far))
-    ]
-
 -- the place is below the end, and the next one
 pub below_next : (marks : List Bool) (items : List Step) (places : List ℕ) (at end p : ℕ) → 0 < at →
     at ≤ length places → p ≡ get_or places (at - 1) 0 → p < end
@@ -200,4 +187,4 @@ trimmed_rest live steps items was now places at end none long below inv =
     trimmed_skip live steps items was now 0 end long (omega arith) (λ i k above under read.
     false_from_ne_true (marked now.marks (variable_of k.literal)) (λ on.
     let c = below i k under (omega (arith, under, long)) read (inv.fewer (variable_of k.literal) on) in
-    contains_none i (subst (λ (n : ℕ). Contains (take n places) i) none c))) inv
+    no_element i (subst (λ (n : ℕ). Contains (take n places) i) none c))) inv

@@ -3,6 +3,7 @@ use Rattle.std.proofs.Common.{reverse, subst, ◌≡◌, ℕ, Bool, true, false,
 use Rattle.std.proofs.lemmas.Bool.{false≢true}
 use Rattle.dq_lits.specs.Literal.{Literal, variable_of, is_negative, opposite}
 use Rattle.dq_lits.specs.Derivation.{LiveClauses, holds}
+use Rattle.dq_lits.proofs.SignedLiterals.{opposite_variable, opposite-negative}
 use Rattle.hint_log.specs.Entries.{Answer}
 use Rattle.hint_log.specs.Conditions.{AreNamed, AreIds}
 use Rattle.hint_log.specs.Entries.{ProofLog, with_entry, name_of, last_id}
@@ -19,7 +20,6 @@ use Rattle.learning_trail.specs.Backing.{IsKeeping}
 use Rattle.learning_trail.specs.Analyses.{IsAnalysis, AllStand}
 use Rattle.learning_trail.specs.Resting.{HeldFit, AreAwake}
 use Rattle.learning_trail.specs.Searching.{AreAssumptions}
-use Rattle.truth_values.proofs.HeldLiterals.{opposite-variable, opposite-negative}
 use Rattle.learning_trail.proofs.AnswerClauses.{concluded_derived, concluded_tied}
 use Rattle.learning_trail.proofs.Taught.{all_named, all_ids}
 use Rattle.learning_trail.proofs.FitLogs.{held_answered}
@@ -33,10 +33,10 @@ module _ (assumptions : List Literal) (held : List (List Literal)) (resting : Li
     (analysis : IsAnalysis log.entries (live_in held) [] (map opposite clause) marks hints) where
   pub answer_stands : (l : Literal) → holds clause l ≡ true → Stands log.entries l
   answer_stands l h = record {
-    named = ap (λ v. is_some (name_of log.entries v)) (sym (opposite-variable l)) ∙ assumed.named (opposite l)
+    named = ap (λ v. is_some (name_of log.entries v)) (sym (opposite_variable l)) ∙ assumed.named (opposite l)
         (negated l h);
     negated = λ sel.
-        let n = assumed.switched (opposite l) (negated l h) (ap (is_selector log.entries) (opposite-variable l)
+        let n = assumed.switched (opposite l) (negated l h) (ap (is_selector log.entries) (opposite_variable l)
         ∙ sel) in
         turned (is_negative l) (sym (opposite-negative l) ∙ n);
   }

@@ -1,9 +1,11 @@
 -- Literals of a learned clause that rest on the others are dropped.
-use Rattle.std.proofs.Common.{◌≡◌, ◌≢◌, ℕ, ◌==◌, true, false, not, ◌||◌, ◌&&◌, ◌⊎◌, inl, inr, List, [], ◌∷◌, ◌++◌, length, reverse, take, get_or, ◌-◌, IfSome, Option, None, Some, refl, sym, ◌∙◌, ap, subst, arith, ◌<◌, ◌+◌, ◌≤◌}
+use Rattle.std.proofs.Common.{◌≡◌, ◌≢◌, ℕ, ◌==◌, true, false, not, ◌||◌, ◌&&◌, ◌⊎◌, inl, inr, List, [], ◌∷◌, ◌++◌, length, IfSome, Option, None, Some, refl, sym, ◌∙◌, ap, subst, ◌≤◌}
 use Rattle.std.proofs.lemmas.Bool.{false≢true, or_left, or_right, or_cases, and_parts, eq-eqb, ne_eqb, eqb-true}
 use Rattle.std.proofs.lemmas.List.{append_assoc}
 use Rattle.dq_lits.specs.Literal.{Literal, variable_of, opposite}
 use Rattle.dq_lits.specs.Derivation.{LiveClauses, holds, status_of, unit}
+use Rattle.dq_lits.proofs.HeldLiterals.{any_gives, holds-append, holds_cases, holds_here}
+use Rattle.dq_lits.proofs.SignedLiterals.{opposite_variable, opposite-opposite}
 use Rattle.oracle.specs.Fit.{live_in}
 use Rattle.learning_trail.specs.declared.trails.Step.{Step}
 use Rattle.learning_trail.specs.Steps.{literals_of}
@@ -11,10 +13,9 @@ use Rattle.learning_trail.specs.Marks.{marked, stands_on}
 use Rattle.learning_trail.specs.Sound.{IsSound}
 use Rattle.learning_trail.specs.Noting.{Noted}
 use Rattle.learning_trail.specs.Backing.{IsTrimmed, IsRedundant}
-use Rattle.truth_values.proofs.HeldLiterals.{holds_cases, holds_first, holds-append, opposite-opposite, opposite-variable, free_variable, any_gives}
+use Rattle.truth_values.proofs.HeldLiterals.{free_variable}
 use Rattle.learning_trail.proofs.Lessons.{sound_later}
 use Rattle.learning_trail.proofs.BacktrackSteps.{leads_past_step, leads_resolved, leads_noted, reason_of, reason_at}
-use Rattle.learning_trail.proofs.SetMarks.{turned}
 
 literals-append : (a b : List Step) → literals_of (a ++ b) ≡ literals_of a ++ literals_of b
 literals-append [] b = refl
@@ -44,7 +45,7 @@ done_last : (done : List Step) (s : Step) → holds (literals_of (done ++ s ∷ 
 done_last done s =
     ap (λ xs. holds xs s.literal) (literals-append done (s ∷ [])) ∙ holds-append (literals_of done)
     (s.literal ∷ []) s.literal
-    ∙ or_right (holds (literals_of done) s.literal) (holds (s.literal ∷ []) s.literal) (holds_first s.literal [])
+    ∙ or_right (holds (literals_of done) s.literal) (holds (s.literal ∷ []) s.literal) (holds_here s.literal [])
 
 -- steps stand on different variables
 other_variable : (live : LiveClauses) (done rest : List Step) (s : Step) (t : Literal) →
@@ -56,7 +57,7 @@ other_variable live (d ∷ done) rest s t sound h =
           (ap (λ xs. holds xs s.literal) (literals-append done (s ∷ rest)) ∙ holds-append (literals_of done)
           (literals_of (s ∷ rest)) s.literal
           ∙ or_right (holds (literals_of done) s.literal) (holds (literals_of (s ∷ rest)) s.literal)
-          (holds_first s.literal (literals_of rest)))
+          (holds_here s.literal (literals_of rest)))
           (sym (ap variable_of (sym e) ∙ v))
       | inr later ↦ other_variable live done rest s t sound.1 later
     ]
@@ -114,7 +115,7 @@ trimmed_noted live steps rest was now after s sound inv mark is =
         | inl d ↦ still (opposite t) (inv.has t d (back (variable_of t) m))
         | inr e ↦ more_is (opposite t) ∙ or_right (holds now.literals (opposite t))
             (holds (opposite s.literal ∷ []) (opposite t))
-            (ap (λ x. holds (opposite s.literal ∷ []) (opposite x)) e ∙ holds_first (opposite s.literal) [])
+            (ap (λ x. holds (opposite s.literal ∷ []) (opposite x)) e ∙ holds_here (opposite s.literal) [])
       ];
       only = λ l h. elim (or_cases (holds now.literals l) (holds (opposite s.literal ∷ []) l) (sym (more_is l) ∙ h)) [
         | inl k ↦ elim (inv.only l k) [
@@ -126,7 +127,7 @@ trimmed_noted live steps rest was now after s sound inv mark is =
             ap (λ x. holds (literals_of (inv.done ++ s ∷ [])) (opposite x)) e ∙ ap
                 (holds (literals_of (inv.done ++ s ∷ []))) (opposite-opposite s.literal) ∙ done_last inv.done s,
             ap (λ ms. marked ms (variable_of l)) marks_are ∙ ap (λ x. marked now.marks (variable_of x)) e ∙ ap
-                (marked now.marks) (opposite-variable s.literal) ∙ mark,
+                (marked now.marks) (opposite_variable s.literal) ∙ mark,
           )
           | inr none ↦ absurd (false≢true none)
         ]
@@ -185,36 +186,12 @@ trimmed_resolved clauses steps rest was now after s id sound inv status mark red
         | inl w ↦ inl w
         | inr q ↦ inr (
           done_first inv.done s (opposite l) q.0,
-          ap (marked after.marks) (sym (opposite-variable l)) ∙ stays (opposite l) q.0
-              (ap (marked now.marks) (opposite-variable l) ∙ q.1),
+          ap (marked after.marks) (sym (opposite_variable l)) ∙ stays (opposite l) q.0
+              (ap (marked now.marks) (opposite_variable l) ∙ q.1),
         )
       ];
       analysis = leads_resolved clauses steps rest was now after s id inv.analysis sound_here status mark hints literals
           marks_are;
-    }
-
--- one step further down
-pub record IsTrimStep (clauses : List (List Literal)) (steps : List Step) (items : List Step) (at : ℕ) (was now : Noted)
-    (s : Step) : Type 0 where
-  pub below : at - 1 ≤ length items
-  pub trimmed : IsTrimmed (live_in clauses) steps (s ∷ reverse (take (at - 1) items)) was now
-  pub sound : IsSound (live_in clauses) (s ∷ reverse (take (at - 1) items))
-
-pub trim_step : (clauses : List (List Literal)) (steps items : List Step) (at : ℕ) (was now : Noted) (s : Step) →
-    0 < at → at ≤ length items → get_or items (at - 1) s ≡ s
-    → IsSound (live_in clauses) steps → IsTrimmed (live_in clauses) steps (reverse (take at items)) was now →
-    IsTrimStep clauses steps items at was now s
-trim_step clauses steps items at was now s some within is sound inv =
-    let lt : at - 1 < length items = omega (arith, some, within) in
-    let one : at - 1 + 1 ≡ at = omega (arith, some) in
-    let down : reverse (take at items) ≡ s ∷ reverse (take (at - 1) items) =
-    ap (λ n. reverse (take n items)) (sym one) ∙ turned items (at - 1) s lt is in
-    let here = subst (λ (xs : List Step). IsTrimmed (live_in clauses) steps xs was now) down inv in
-    record {
-      below = omega (arith, within);
-      trimmed = here;
-      sound = sound_later (live_in clauses) here.done (s ∷ reverse (take (at - 1) items))
-          (subst (IsSound (live_in clauses)) here.split sound);
     }
 
 pub reason_known : (clauses : List (List Literal)) (rest : List Step) (s : Step) →

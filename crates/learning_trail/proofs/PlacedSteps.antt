@@ -3,11 +3,12 @@ use Rattle.std.proofs.Common.{◌≡◌, ℕ, zero, suc, ◌-◌, ◌<◌, ◌�
 use Rattle.std.proofs.lemmas.List.Elements.{All-head, All-tail}
 use Rattle.dq_lits.specs.Literal.{Literal, variable_of}
 use Rattle.dq_lits.specs.Derivation.{holds}
+use Rattle.dq_lits.proofs.HeldLiterals.{holds_here, holds_later}
 use Rattle.learning_trail.specs.declared.trails.Step.{Step}
 use Rattle.learning_trail.specs.Steps.{literals_of, IsAt}
 use Rattle.truth_values.specs.Truth.{IsFree}
 use Rattle.learning_trail.specs.TrailInside.{ArePlaced}
-use Rattle.truth_values.proofs.HeldLiterals.{free_variable, holds_first, holds_later}
+use Rattle.truth_values.proofs.HeldLiterals.{free_variable}
 
 -- another variable's place is set
 placed_beside : (places : List ℕ) (xs : List Step) (i n : ℕ) →
@@ -16,7 +17,7 @@ placed_beside : (places : List ℕ) (xs : List Step) (i n : ℕ) →
 placed_beside places [] i n other placed = tt
 placed_beside places (s ∷ xs) i n other placed =
     let one = placed.0.from_one in
-    let apart : variable_of s.literal ≡ suc i → ⊥ = other s.literal (holds_first s.literal (literals_of xs)) in (
+    let apart : variable_of s.literal ≡ suc i → ⊥ = other s.literal (holds_here s.literal (literals_of xs)) in (
       record {
         from_one = one;
         at_place = get_or-set_other places i (variable_of s.literal - 1) n 0 (λ e. apart (omega (arith, e, one)))

@@ -6,13 +6,15 @@ use Rattle.std.proofs.lemmas.Bool.{cases_Bool, false≢true, false_from_ne_true,
 use Rattle.std.proofs.lemmas.Option.{slice_get-get_or, slice_get_within}
 use Rattle.dq_lits.specs.Literal.{Literal, positive, negative, variable_of, is_negative, opposite, same_literal}
 use Rattle.dq_lits.specs.Derivation.{falsified, unit, stuck, holds, status_by, status_of, is_tautology}
+use Rattle.dq_lits.proofs.SignedLiterals.{opposite-opposite}
+use Rattle.dq_lits.proofs.HeldLiterals.{holds-append, holds_cases, holds_here, holds_later}
 use Rattle.hint_log.specs.Entries.{Entry, clause_at}
 use Rattle.hint_log.specs.Naming.{is_selector, is_selector_name}
 use Rattle.hint_log.specs.ProductiveLog.{IsClosed}
 use Rattle.oracle.specs.Fit.{live_in}
 use Rattle.oracle.specs.Searched.{Stands}
 use Rattle.truth_values.specs.Extension.{not_false}
-use Rattle.truth_values.proofs.HeldLiterals.{holds_first, holds_later, holds_cases, holds-append, opposite-opposite, no_tautology}
+use Rattle.truth_values.proofs.HeldLiterals.{no_tautology}
 use Rattle.learning_trail.specs.Analyses.{AllStand}
 use Rattle.learning_trail.specs.Resting.{rests, IsPlaceholder, IsPut, HeldFit, AreAwake}
 use Rattle.learning_trail.proofs.ClauseStatus.{stuck_from_true}
@@ -90,7 +92,7 @@ module _ (held : List (List Literal)) (resting : List Bool) (variables : ℕ) (e
         | inl e ↦ at ∙ ap (λ x. Some x) e ∙ sym r.at
         | inr p ↦
             let q = p.placeholder in
-            let on = assumed (negative q.first) (ap (λ x. holds x (negative q.first)) q.is ∙ holds_first
+            let on = assumed (negative q.first) (ap (λ x. holds x (negative q.first)) q.is ∙ holds_here
             (negative q.first) (negative q.second ∷ [])) (resting_selector q.first q.first_rests) in
             absurd (false≢true (sym (awake q.first q.first_rests) ∙ on))
       ]
@@ -124,7 +126,7 @@ negated_has v [] i on = absurd (false≢true on)
 negated_has v (true ∷ resting) zero on =
     let same : v + zero ≡ v = omega arith in
     ap (λ n. holds (negative v ∷ negated_from (suc v) resting) (negative n)) same
-    ∙ holds_first (negative v) (negated_from (suc v) resting)
+    ∙ holds_here (negative v) (negated_from (suc v) resting)
 negated_has v (false ∷ resting) zero on = absurd (false≢true on)
 negated_has v (true ∷ resting) (suc i) on =
     let same : v + suc i ≡ suc v + i = omega arith in
@@ -163,7 +165,7 @@ same_left more trues [] apart = refl
 same_left more trues (x ∷ clause) apart =
     let rest = same_left more trues clause (λ l h. apart l (holds_later x clause l h)) in
     let same : holds (more ++ trues) (opposite x) ≡ holds trues (opposite x) =
-    holds-append more trues (opposite x) ∙ ap (λ b. b || holds trues (opposite x)) (apart x (holds_first x clause)) in
+    holds-append more trues (opposite x) ∙ ap (λ b. b || holds trues (opposite x)) (apart x (holds_here x clause)) in
     ap (λ b. cond (not b) (x ∷ not_false (more ++ trues) clause) (not_false (more ++ trues) clause)) same
     ∙ ap (λ ls. cond (not (holds trues (opposite x))) (x ∷ ls) ls) rest
 

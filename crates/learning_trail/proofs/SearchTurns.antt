@@ -6,11 +6,14 @@ use Rattle.std.proofs.lemmas.List.Elements.{All-cons, All-nil, All-head, All-tai
 use Rattle.std.proofs.lemmas.Option.{slice_get-get_or}
 use Rattle.dq_lits.specs.Literal.{Literal, positive, variable_of, opposite, same_literal}
 use Rattle.dq_lits.specs.Derivation.{LiveClauses, holds, status_of, unit}
+use Rattle.dq_lits.proofs.HeldLiterals.{holds_cases, holds_here, holds_later}
+use Rattle.dq_lits.proofs.SignedLiterals.{one_variable}
 use Rattle.hint_log.specs.Entries.{Entry}
 use Rattle.hint_log.specs.Entries.{Named, Given, Learned, Answer, Round, Begun}
 use Rattle.hint_log.specs.Entries.{ProofLog, name_of}
 use Rattle.hint_log.specs.Growth.{EachOf}
 use Rattle.hint_log.specs.Naming.{is_selector_name}
+use Rattle.hint_log.proofs.NamedEntries.{each_both}
 use Rattle.oracle.specs.Fit.{live_in}
 use Rattle.learning_trail.specs.Resting.{rests, HeldFit, AreAwake}
 use Rattle.learning_trail.proofs.RestingClauses.{held_stand, resting_selector}
@@ -24,7 +27,6 @@ use Rattle.learning_trail.specs.Steps.{literals_of, is_decision, is_none, decisi
 use Rattle.learning_trail.specs.Sound.{IsSound, IsReasoned, IsGuided, AreAssumed}
 use Rattle.learning_trail.specs.Passes.{AreWithin, IsOpening}
 use Rattle.learning_trail.specs.Searching.{Searched, AreAssumptions, IsAnswered}
-use Rattle.truth_values.proofs.HeldLiterals.{holds_first, holds_later, holds_cases, one_variable}
 use Rattle.learning_trail.proofs.ConflictAnalysis.{sound_consistent}
 use Rattle.learning_trail.proofs.Lessons.{sound_later, guided_later, trail_assumed}
 use Rattle.learning_trail.proofs.LargerTrails.{clause_read}
@@ -90,7 +92,7 @@ clauses_in_room held resting variables room es fit low =
     by : (c : List Literal) → ((l : Literal) → holds c l ≡ true → variable_of l ≤ room) →
         All (λ l. variable_of l ≤ room) c
     by [] h = All-nil (λ (l : Literal). variable_of l ≤ room)
-    by (x ∷ c) h = All-cons (λ (l : Literal). variable_of l ≤ room) x c (h x (holds_first x c))
+    by (x ∷ c) h = All-cons (λ (l : Literal). variable_of l ≤ room) x c (h x (holds_here x c))
         (by c (λ l m. h l (holds_later x c l m)))
 
 -- no group that rests is switched on
@@ -133,14 +135,6 @@ assumptions_same old new assumptions learned first = record {
   switched = λ l h sel. first.switched l h (sym (ap is_selector_name
       (names_same old new learned (variable_of l))) ∙ sel);
 }
-
-pub each_both : (P : List Entry → Entry → Type 0) (more first old : List Entry) → EachOf P more (first ++ old) →
-    EachOf P first old → EachOf P (more ++ first) old
-each_both P [] first old a b = b
-each_both P (e ∷ more) first old a b = (
-  subst (λ es. P es e) (sym (append_assoc more first old)) a.0,
-  each_both P more first old a.1 b,
-)
 
 pub learned_both : (a b c : ProofLog) → HasLearned a b → HasLearned b c → HasLearned a c
 learned_both a b c first second = record {
@@ -200,7 +194,7 @@ module _ (entries : List Entry) (clauses : List (List Literal)) (assumptions : L
   back_literal = elim (one_variable s.literal a same) [
     | inl e ↦
         let consistent = sound_consistent (live_in clauses) (s ∷ new) back_sound in
-        absurd (consistent a (ap (holds (literals_of (s ∷ new))) (sym e) ∙ holds_first s.literal
+        absurd (consistent a (ap (holds (literals_of (s ∷ new))) (sym e) ∙ holds_here s.literal
         (literals_of new)) still)
     | inr e ↦ e
   ]

@@ -3,10 +3,10 @@ use Rattle.std.proofs.Common.{◌≡◌, ℕ, ◌+◌, ◌<◌, Bool, true, fals
 use Rattle.std.proofs.lemmas.List.{take_more, reverse-append}
 use Rattle.dq_lits.specs.Literal.{Literal, variable_of}
 use Rattle.dq_lits.specs.Derivation.{holds}
+use Rattle.dq_lits.proofs.HeldLiterals.{holds_later}
 use Rattle.learning_trail.specs.declared.trails.Step.{Step}
 use Rattle.learning_trail.specs.Steps.{is_decision, level_of}
 use Rattle.learning_trail.specs.Marks.{marked, is_level_marked}
-use Rattle.truth_values.proofs.HeldLiterals.{holds_later}
 
 pub taken : {X : Type 0} (xs : List X) (i : ℕ) (x : X) → i < length xs → get_or xs i x ≡ x →
     take (i + 1) xs ≡ take i xs ++ x ∷ []

@@ -2,6 +2,7 @@
 use Rattle.std.proofs.Common.{◌≡◌, ◌∷◌, ◌++◌, [], ℕ, length, map, reverse, sym, ◌∙◌, ap, subst, arith, List, true, None, Some, not, ◌&&◌, ◌==◌}
 use Rattle.dq_lits.specs.Literal.{Literal, variable_of, opposite}
 use Rattle.dq_lits.specs.Derivation.{holds, status_of, falsified, unit}
+use Rattle.dq_lits.proofs.SignedLiterals.{opposite-opposite}
 use Rattle.hint_log.specs.Conditions.{AreNamed, AreIds}
 use Rattle.hint_log.specs.Entries.{ProofLog, Answer, with_entry, last_id}
 use Rattle.oracle.specs.Calls.{IsRefutedUnder}
@@ -23,7 +24,6 @@ use Rattle.learning_trail.proofs.LoggedAnswers.{IsConcluded, conclude, answer_na
 use Rattle.learning_trail.proofs.SearchTurns.{back_sound, back_guided, back_assumed, back_implied, back_reasoned}
 use Rattle.learning_trail.proofs.TakenLevels.{conflict_of}
 use Rattle.learning_trail.proofs.Taught.{clauses_within}
-use Rattle.truth_values.proofs.HeldLiterals.{opposite-opposite}
 
 module _ (assumptions : List Literal) (held : List (List Literal)) (trail : Trailed) (notes : Noted) (log : ProofLog)
     (sought : IsAnswering assumptions held trail notes log) where

@@ -5,13 +5,13 @@ use Rattle.std.proofs.lemmas.List.{append_assoc}
 use Rattle.std.proofs.lemmas.Option.{slice_get_within}
 use Rattle.dq_lits.specs.Literal.{Literal, variable_of, opposite}
 use Rattle.dq_lits.specs.Derivation.{LiveClauses, falsified, stuck, holds, status_of}
+use Rattle.dq_lits.proofs.SignedLiterals.{opposite_variable}
 use Rattle.oracle.specs.Fit.{live_in}
 use Rattle.learning_trail.specs.declared.trails.Step.{Step}
 use Rattle.learning_trail.specs.Steps.{is_none as reason_none, Trailed, literals_of, is_decision, decision_of, under_level, Shrunk, IsUnder}
 use Rattle.learning_trail.specs.Marks.{marked, is_level_marked}
 use Rattle.learning_trail.specs.Sound.{IsSound}
 use Rattle.learning_trail.specs.Lessons.{IsJump}
-use Rattle.truth_values.proofs.HeldLiterals.{opposite-variable}
 use Rattle.learning_trail.proofs.ClauseStatus.{is_falsified, falsified_tells}
 use Rattle.learning_trail.proofs.Lessons.{below_closed, below_marked}
 
@@ -84,7 +84,7 @@ conflict_marked live steps marks clause id d sound decided is false_now marks_ar
     true_from_ne_false (is_level_marked marks steps) (λ none.
     let below = is_falsified (literals_of (under_level steps)) clause (λ l m.
     below_marked marks steps (opposite l) none (falsified_tells (literals_of steps) clause false_now l m)
-    (ap (marked marks) (opposite-variable l) ∙ marks_are l m)) in
+    (ap (marked marks) (opposite_variable l) ∙ marks_are l m)) in
     let closed = sym (ap (status_of (literals_of (under_level steps))) is)
     ∙ below_closed live steps d sound decided id in
     let clash : falsified ≡ stuck = sym below ∙ closed in
@@ -115,10 +115,6 @@ conflict_of clauses (suc i) trues h = by (slice_get clauses i) refl
           false_now =
               sym (ap (status_of trues) e) ∙ h;
         }
-
-pub is_some_of : {X : Type 0} (o : Option X) → IsSome o → (x : X) × (o ≡ Some x)
-is_some_of None h = absurd (false≢true h)
-is_some_of (Some x) h = (x, refl)
 
 -- levels under one another
 pub under_is : (steps : List Step) → IsSome (decision_of steps) → IsUnder steps (under_level steps)

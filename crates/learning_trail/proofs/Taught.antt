@@ -5,6 +5,7 @@ use Rattle.std.proofs.lemmas.Option.{slice_get-get_or, slice_get_within}
 use Rattle.std.proofs.lemmas.List.Elements.{All-from_get_or, All-cons, All-nil}
 use Rattle.dq_lits.specs.Literal.{Literal, variable_of}
 use Rattle.dq_lits.specs.Derivation.{holds}
+use Rattle.dq_lits.proofs.HeldLiterals.{holds_here, holds_later}
 use Rattle.hint_log.specs.Entries.{Entry}
 use Rattle.hint_log.specs.Entries.{Learned}
 use Rattle.hint_log.specs.Conditions.{AreNamed, AreIds, IsId}
@@ -20,7 +21,6 @@ use Rattle.truth_values.specs.Truth.{IsFree}
 use Rattle.learning_trail.specs.Sound.{IsSound, IsGuided}
 use Rattle.learning_trail.specs.Lessons.{IsLesson, IsJump, IsLanded, landed}
 use Rattle.learning_trail.specs.Searching.{Searched, IsSearching}
-use Rattle.truth_values.proofs.HeldLiterals.{holds_first, holds_later}
 use Rattle.learning_trail.proofs.Lessons.{lesson_derived, lesson_new, lesson_tied, lesson_stands, lesson_active, lesson_sound, lesson_guided, lesson_lands, guided_later, trail_named}
 use Rattle.learning_trail.proofs.FitLogs.{held_learned}
 use Rattle.learning_trail.proofs.RestingClauses.{held_stand}
@@ -37,13 +37,13 @@ clauses_within held resting variables n es fit low =
   where
     by : (c : List Literal) → ((l : Literal) → holds c l ≡ true → variable_of l < n) → All (λ l. variable_of l < n) c
     by [] h = All-nil (λ (l : Literal). variable_of l < n)
-    by (x ∷ c) h = All-cons (λ (l : Literal). variable_of l < n) x c (h x (holds_first x c))
+    by (x ∷ c) h = All-cons (λ (l : Literal). variable_of l < n) x c (h x (holds_here x c))
         (by c (λ l m. h l (holds_later x c l m)))
 
 pub all_named : (es : List Entry) (c : List Literal) → ((l : Literal) → holds c l ≡ true → Stands es l) → AreNamed es c
 all_named es [] h = All-nil (λ (l : Literal). IsSome (name_of es (variable_of l)))
 all_named es (x ∷ c) h = All-cons (λ (l : Literal). IsSome (name_of es (variable_of l))) x c
-    (h x (holds_first x c)).named (all_named es c (λ l m. h l (holds_later x c l m)))
+    (h x (holds_here x c)).named (all_named es c (λ l m. h l (holds_later x c l m)))
 
 pub all_ids : (held : List (List Literal)) (resting : List Bool) (variables : ℕ) (es : List Entry) (hints : List ℕ) →
     HeldFit held resting variables es → ((h : ℕ) → Contains hints h → IsSome (live_in held h)) → AreIds es hints
@@ -95,7 +95,7 @@ module _ (assumptions : List Literal) (s : Searched) (log : ProofLog) (new : Tra
   learn_in_range =
       let named = trail_named log.entries assumptions s.clauses (step ∷ new.steps)
       (held_stand s.clauses s.resting s.variables log.entries searching.fit) sound_here guided_here
-      step.literal (holds_first step.literal (literals_of new.steps)) in
+      step.literal (holds_here step.literal (literals_of new.steps)) in
       (searching.fit.fit.in_range (variable_of step.literal) named).1
 
   pub learn_free : IsFree (literals_of new.steps) step.literal

@@ -4,10 +4,10 @@ use Rattle.std.specs.List.{list_any}
 use Rattle.std.proofs.lemmas.Bool.{false≢true}
 use Rattle.dq_lits.specs.Literal.{Literal, same_literal}
 use Rattle.dq_lits.specs.Derivation.{holds}
+use Rattle.dq_lits.proofs.HeldLiterals.{holds_cases, holds_here, holds_later}
 use Rattle.oracle.specs.declared.groups.Group.{Group}
 use Rattle.oracle.specs.Calls.{assumed}
 use Rattle.learning_trail.specs.Sound.{AreTrue}
-use Rattle.truth_values.proofs.HeldLiterals.{holds_first, holds_later, holds_cases}
 
 pub none_true : (assumptions trues : List Literal) → AreTrue (take 0 assumptions) trues
 none_true [] trues = λ a h. absurd (false≢true h)
@@ -33,7 +33,7 @@ true_next (x ∷ xs) trues zero l at on before =
 true_next (x ∷ xs) trues (suc i) l at on before =
     let rest = true_next xs trues i l at on (λ a h. before a (holds_later x (take i xs) a h)) in
     λ a h. elim (holds_cases x (take (suc i) xs) a h) [
-      | inl e ↦ before a (subst (λ k. holds (x ∷ take i xs) k ≡ true) (sym e) (holds_first x (take i xs)))
+      | inl e ↦ before a (subst (λ k. holds (x ∷ take i xs) k ≡ true) (sym e) (holds_here x (take i xs)))
       | inr later ↦ rest a later
     ]
 
@@ -52,17 +52,9 @@ true_all (x ∷ xs) trues zero at before = let n : Some x ≡ None = at in cc
 true_all (x ∷ xs) trues (suc i) at before =
     let rest = true_all xs trues i at (λ a h. before a (holds_later x (take i xs) a h)) in
     λ a h. elim (holds_cases x xs a h) [
-      | inl e ↦ before a (subst (λ k. holds (x ∷ take i xs) k ≡ true) (sym e) (holds_first x (take i xs)))
+      | inl e ↦ before a (subst (λ k. holds (x ∷ take i xs) k ≡ true) (sym e) (holds_here x (take i xs)))
       | inr later ↦ rest a later
     ]
-
-pub at_holds : (xs : List Literal) (i : ℕ) (l : Literal) → slice_get xs i ≡ Some l → holds xs l ≡ true
-at_holds [] i l at = let n : None ≡ Some l = at in cc
-at_holds (x ∷ xs) zero l at = subst (λ k. holds (x ∷ xs) k ≡ true) (same at) (holds_first x xs)
-  where
-    same : Some x ≡ Some l → x ≡ l
-    same e = cc
-at_holds (x ∷ xs) (suc i) l at = holds_later x xs l (at_holds xs i l at)
 
 pub among_assumed : (active : List Group) (literals : List Literal) (l : Literal) →
     holds (assumed active literals) l ≡ (list_any (λ g. same_literal l g.selector) active || holds literals l)

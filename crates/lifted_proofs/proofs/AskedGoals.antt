@@ -1,19 +1,20 @@
 -- Goals that are asked for.
-use Rattle.std.proofs.Common.{◌≡◌, ℕ, zero, suc, ◌+◌, ◌<◌, ◌≤◌, Bool, true, false, cond, ◌&&◌, ◌||◌, ◌⊎◌, inl, inr, List, [], ◌∷◌, ◌++◌, length, get_or, slice_get, reverse, Option, Some, None, IfSome, refl, sym, ◌∙◌, ap, subst, arith}
+use Rattle.std.proofs.Common.{◌≡◌, ℕ, ◌+◌, ◌<◌, ◌≤◌, Bool, true, false, cond, ◌&&◌, ◌||◌, ◌⊎◌, inl, inr, List, [], ◌∷◌, ◌++◌, length, get_or, slice_get, reverse, Option, Some, None, IfSome, refl, sym, ◌∙◌, ap, subst, arith}
 use Rattle.std.specs.List.{All, AllZip, list_any, filter}
 use Rattle.std.proofs.lemmas.Option.{slice_get_within, slice_get-get_or, slice_get_read, get_or_from_slice_get, same_Some, IfSome_then}
 use Rattle.std.proofs.lemmas.List.{get_or_append_left, length-append}
+use Rattle.list_laws.proofs.Elements.{last_or_before, last_there}
 use Rattle.dq_lits.specs.Literal.{Literal, variable_of, literal_true}
 use Rattle.dq_prep.specs.Reduction.{stays}
 use Rattle.dq_lits.specs.Formula.{Existential, Dqbf, existential_of}
 use Rattle.dq_lits.specs.Henkin.{same_bits, restriction}
 use Rattle.dq_lits.specs.Derivation.{is_tautology}
 use Rattle.dq_lits.specs.Expansion.{agree_on, row_assignment, universal_literal_true}
+use Rattle.dq_lits.proofs.Choices.{same_bits-refl}
 use Rattle.dq_prep.specs.declared.traces.Taken.{Taken}
 use Rattle.dq_prep.specs.Units.{AreUnits, IsUnit, left_of, without_false, is_satisfied}
 use Rattle.dq_prep.proofs.Units.{get-at}
 use Rattle.dq_prep.proofs.LeftLiterals.{tautology-stays, alone-plain}
-use Rattle.dq_prep.proofs.LoweredRows.{same_bits-refl}
 use Rattle.lifted_proofs.specs.UnitTables.{first_units, first_literals}
 use Rattle.lifted_proofs.specs.Goals.{clause_at, IsGoal, IsAsked, IsReason, IsPlan, SeeSameBits, Keeps, GrowsGoals}
 use Rattle.cert_text.specs.Header.{max_count}
@@ -42,21 +43,6 @@ keeps-more xs ys k x at =
     let within = slice_get_within xs k x at in
     slice_get-get_or (xs ++ ys) k x (omega (arith, within, length-append xs ys))
     ∙ ap Some (get_or_append_left xs ys x k within ∙ get_or_from_slice_get xs k x x at)
-
--- the newest element, or an earlier one
-pub last-or-before : {X : Type 0} (xs : List X) (y : X) (k : ℕ) (x : X) → slice_get (xs ++ y ∷ []) k ≡ Some x
-    → (slice_get xs k ≡ Some x) ⊎ ((k ≡ length xs) × (y ≡ x))
-last-or-before [] y zero x at = inr (refl, same_Some y x at)
-last-or-before [] y (suc k) x at = cc
-last-or-before (z ∷ xs) y zero x at = inl at
-last-or-before (z ∷ xs) y (suc k) x at = elim (last-or-before xs y k x at) [
-  | inl before ↦ inl before
-  | inr last ↦ inr (ap suc last.0, last.1)
-]
-
-pub last-at : {X : Type 0} (xs : List X) (y : X) → slice_get (xs ++ y ∷ []) (length xs) ≡ Some y
-last-at [] y = refl
-last-at (x ∷ xs) y = last-at xs y
 
 goal-grows : (f : Dqbf) (units : List Taken) (rows more : List (List Bool)) (g : Goal) → Keeps rows more
     → IsGoal f units rows g → IsGoal f units more g
@@ -187,7 +173,7 @@ asked-itself f units rows goals j row u at within =
     let g : Goal = record { source = record { taken = j; place = u.place }; row = row } in
     let row-at = slice_get-get_or rows row [] within in
     asked-made f units rows (goals ++ g ∷ []) row j (length goals) g u (get_or rows row []) (get_or rows row [])
-    (last-at goals g) at refl refl row-at row-at
+    (last_there goals g) at refl refl row-at row-at
     (record {
       unit = u;
       unit_at = at;
@@ -243,7 +229,7 @@ unit-added f units p q j row u plan are at within rows goals reasons room =
     (omega (arith, plan.few_reasons, more)) in (
       plan-grows f units p q plan kept-rows kept-goals reasons
           (subst (All (λ r. length r ≡ length f.universals)) (sym rows) plan.whole)
-          (λ k w here. elim (last-or-before p.goals.items g k w (ap (λ xs. slice_get xs k) (sym goals) ∙ here)) [
+          (λ k w here. elim (last_or_before p.goals.items g k w (ap (λ xs. slice_get xs k) (sym goals) ∙ here)) [
             | inl before ↦ inl before
             | inr last ↦ inr (omega (arith, last.0), subst (IsGoal f units q.rows) last.1 goal)
           ])

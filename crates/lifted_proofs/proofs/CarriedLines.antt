@@ -5,14 +5,16 @@ use Rattle.std.specs.Option.{option_map}
 use Rattle.std.proofs.lemmas.Bool.{true≢false, cases_eq, cond-true, cond-false, eq-eqb, ne_eqb, ltb-true}
 use Rattle.std.proofs.lemmas.Option.{slice_get-get_or, same_Some}
 use Rattle.std.proofs.lemmas.List.Elements.{All-head, All-tail}
+use Rattle.list_laws.proofs.Sequences.{none-gone}
 use Rattle.dq_lits.specs.Literal.{Literal, variable_of, on_variable}
 use Rattle.dq_lits.specs.Formula.{Existential, Dqbf, existential_of}
 use Rattle.dq_lits.specs.Henkin.{restriction}
-use Rattle.dq_lits.specs.Derivation.{LiveClauses, with_clause, IsDerived, ProofStep, ProofFault, unfinished, line_fault, fault_of_step, is_empty, is_tautology}
+use Rattle.dq_lits.specs.Derivation.{LiveClauses, with_clause, IsDerived, ProofStep, unfinished, line_fault, fault_of_step, is_empty, is_tautology}
 use Rattle.dq_lits.specs.Expansion.{agree_on, row_assignment, pair_number, pair_literal}
+use Rattle.dq_lits.proofs.Choices.{same_bits-refl}
+use Rattle.dq_lits.proofs.Derivations.{no_step_fault}
 use Rattle.dq_prep.specs.Lifted.{IsCarried}
 use Rattle.dq_prep.proofs.Carried.{carries}
-use Rattle.dq_prep.proofs.LoweredRows.{same_bits-refl}
 use Rattle.rup_core.specs.Items.{ProofItem, derived, gone, items_fault, without_clauses, is_among}
 use Rattle.refutation_checker.specs.Refutation.{normal_number, normal_literal, normal_step, normal_item, normal_of}
 use Rattle.cert_text.specs.Pairs.{is_pair_number}
@@ -32,11 +34,6 @@ items-derived finished live (s ∷ ss) all ends =
     ap (λ o. fault_of_step o s.id (items_fault (is_empty s.literals) (with_clause live s.id s.literals)
     (map derived ss))) all.0
     ∙ items-derived (is_empty s.literals) (with_clause live s.id s.literals) ss all.1 ends
-
-step-fault : (o : Option ℕ) (id : ℕ) (rest : Option ProofFault) → fault_of_step o id rest ≡ None
-    → (o ≡ None) × (rest ≡ None)
-step-fault None id rest h = (refl, h)
-step-fault (Some place) id rest h = cc
 
 pub ends-behind : (b : Bool) (xs ys : List ProofStep) → EndsEmpty false ys → EndsEmpty b (xs ++ ys)
 ends-behind b [] [] ends = absurd (true≢false (sym ends))
@@ -76,10 +73,6 @@ abbrev pub AreThere : (ℕ → ℕ) → (ℕ → Type 0) → LiveClauses → Liv
 AreThere to Wanted live other m = (h : ℕ) (clause : List Literal) → Wanted h → live h ≡ Some clause
     → is_tautology clause ≡ false → (other (to h) ≡ Some clause) × (to h < m)
 
-none-gone : (b : Bool) (o : Option (List Literal)) (c : List Literal) → cond b None o ≡ Some c → o ≡ Some c
-none-gone true o c h = cc
-none-gone false o c h = h
-
 pub move-items : (to : ℕ → ℕ) (Wanted : ℕ → Type 0) (finished : Bool) (live other : LiveClauses) (n m : ℕ)
     (items : List ProofItem) (news : List ProofStep) → ((i : ℕ) → to (n + i) ≡ m + i)
     → AreNumbered Wanted n items → AreMoved to (lines_of items) news → AreThere to Wanted live other m
@@ -96,7 +89,7 @@ move-items to Wanted finished live other n m (gone ids ∷ items) news shift num
 move-items to Wanted finished live other n m (derived s ∷ items) [] shift numbered moved there sound = absurd moved
 move-items to Wanted finished live other n m (derived s ∷ items) (t ∷ ts) shift numbered moved there sound =
     let it = moved.0 in
-    let parts = step-fault (line_fault live s.literals s.hints) s.id
+    let parts = no_step_fault (line_fault live s.literals s.hints) s.id
     (items_fault (is_empty s.literals) (with_clause live s.id s.literals) items) sound in
     let to-n : to s.id ≡ m = ap to (omega (arith, numbered.0)) ∙ shift 0 ∙ omega arith in
     let hints : All (IsCarried to live other) s.hints = λ k d below.

@@ -9,12 +9,12 @@ use Rattle.dq_lits.specs.Derivation.{LiveClauses, ProofStep}
 use Rattle.rup_core.specs.Items.{ProofItem, derived, gone, items_fault}
 use Rattle.cert_text.specs.Grammar.{AreSteps, AreItems}
 use Rattle.cert_text.specs.Numbering.{Numbering, with_next, without_all, numbered_from}
+use Rattle.cert_text.proofs.Numberings.{next_kept}
 use Rattle.lifted_proofs.specs.Carried.{lines_of}
 use Rattle.lifted_proofs.specs.CarriedProofs.{Carrying, carried_variable, carried_literal, carried_id, carried_line}
 use Rattle.lifted_proofs.specs.Lines.{behind_steps, AreDerived}
 use Rattle.lifted_proofs.proofs.CarriedLines.{EndsEmpty, AreMoved, AreNumbered, AreThere, move-items, derived-append, ends-behind}
 use Rattle.lifted_proofs.proofs.KeptPlaces.{StandsIn, AreAscending, stands-once}
-use Rattle.lifted_proofs.proofs.LiftedLines.{without-next}
 use Rattle.lifted_proofs.proofs.RenamedLines.{IsOneToOne, renamed, renamed_item, items-renamed}
 
 -- ---- variables
@@ -205,7 +205,7 @@ module _ (old base : LiveClauses) (c : Carrying) (is_variable : ℕ → Bool) (f
       → AreSteps is_variable (first + length steps + i) (map (carried_line c) (lines_of items))
   lines-allowed old_variable [] at i is on are = tt
   lines-allowed old_variable (gone ids ∷ items) at i is on are =
-      lines-allowed old_variable items (without_all at ids) i (without-next at ids ∙ is) on are.1
+      lines-allowed old_variable items (without_all at ids) i (next_kept at ids ∙ is) on are.1
   lines-allowed old_variable (derived s ∷ items) at i is on are = (
     record {
       numbered = ap (carried_id c) (are.0.numbered ∙ is) ∙ shifted i;
@@ -228,7 +228,7 @@ module _ (old base : LiveClauses) (c : Carrying) (is_variable : ℕ → Bool) (f
       → AreItems old_variable at items → AreNumbered (λ h. Unit {0}) n (map (renamed_item number) items)
   renamed-numbered old_variable [] at n is are = tt
   renamed-numbered old_variable (gone ids ∷ items) at n is are =
-      renamed-numbered old_variable items (without_all at ids) n (without-next at ids ∙ is) are.1
+      renamed-numbered old_variable items (without_all at ids) n (next_kept at ids ∙ is) are.1
   renamed-numbered old_variable (derived s ∷ items) at n is are = (
     are.0.numbered ∙ is,
     λ k d below. tt,

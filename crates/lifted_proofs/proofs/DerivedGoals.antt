@@ -1,26 +1,29 @@
 -- A goal's line is derived by its units' lines and the instance of its clause under another row.
-use Rattle.std.proofs.Common.{◌≡◌, ◌≢◌, ℕ, zero, suc, ◌<◌, ◌==◌, Bool, true, false, not, cond, ◌&&◌, ◌||◌, ◌⊎◌, inl, inr, List, [], ◌∷◌, ◌++◌, map, length, get_or, slice_get, Option, Some, None, IfSome, is_some, reverse, refl, sym, ◌∙◌, ap, subst, arith}
-use Rattle.std.specs.List.{All, AllPairs, AllZip, Contains, list_any, filter, filter_map, cons_option}
+use Rattle.std.proofs.Common.{◌≡◌, ◌≢◌, ℕ, zero, suc, ◌<◌, ◌==◌, Bool, true, false, not, ◌&&◌, ◌||◌, ◌⊎◌, inl, inr, List, [], ◌∷◌, ◌++◌, map, length, get_or, slice_get, Option, Some, None, IfSome, is_some, reverse, refl, sym, ◌∙◌, ap, subst, arith}
+use Rattle.std.specs.List.{All, AllPairs, AllZip, Contains, list_any, filter_map, cons_option}
 use Rattle.std.specs.Option.{option_map}
 use Rattle.std.proofs.lemmas.Bool.{true≢false, or_cases, or_left, or_right, cases_Bool, eqb-true, eq-eqb, ne_eqb}
 use Rattle.std.proofs.lemmas.Option.{get_or_from_slice_get, same_Some}
 use Rattle.std.proofs.lemmas.List.Elements.{All-contains, All-map}
+use Rattle.list_laws.proofs.Members.{tested_inside}
+use Rattle.list_laws.proofs.Truths.{both_true}
 use Rattle.dq_lits.specs.Literal.{Literal, variable_of, opposite, on_variable, same_literal}
 use Rattle.dq_lits.specs.Formula.{Existential, Dqbf, is_universal, existential_of, IsWellFormed}
 use Rattle.dq_lits.specs.Derivation.{LiveClauses, holds, is_tautology, IsDerived}
 use Rattle.dq_lits.specs.Expansion.{agree_on, pair_number, pair_literal}
+use Rattle.dq_lits.proofs.Truth.{same_literal-sound}
+use Rattle.dq_lits.proofs.HeldLiterals.{any_one, filter-holds, negated-held, filter-passes}
+use Rattle.dq_lits.proofs.SignedLiterals.{same_literal-refl, opposite_variable, opposite-opposite, variable_of-on, one_variable}
 use Rattle.dq_prep.specs.declared.traces.Taken.{Taken}
 use Rattle.dq_prep.specs.Lifted.{AreFalsifying}
 use Rattle.dq_prep.specs.Units.{AreUnits, left_of}
 use Rattle.dq_prep.specs.Roles.{open_literals, is_open}
 use Rattle.dq_formula.specs.Prefix.{existential_variables}
 use Rattle.dq_formula.proofs.Entries.{is_some-find, list_any-map}
-use Rattle.dq_prep.proofs.LeftLiterals.{passing-holds}
-use Rattle.dq_prep.proofs.SeenUniversals.{contained-any, filters-agree}
-use Rattle.dq_prep.proofs.LoweredRows.{any-held}
+use Rattle.dq_prep.proofs.SeenUniversals.{filters-agree}
 use Rattle.dq_prep.proofs.Reduction.{holds-at}
-use Rattle.dq_prep.proofs.SignedLiterals.{opposite-opposite, same_literal-refl, same_literal-sound, pair-in, pair-any}
-use Rattle.dq_prep.proofs.ToldValues.{unit-existential, two-literals}
+use Rattle.dq_prep.proofs.SignedLiterals.{pair-in, pair-any}
+use Rattle.dq_prep.proofs.ToldValues.{unit-existential}
 use Rattle.dq_prep.proofs.Units.{get-at, satisfied-by, part-holds}
 use Rattle.dq_prep.proofs.WellFormed.{IsBound}
 use Rattle.dq_prep.proofs.Carried.{derives}
@@ -33,7 +36,7 @@ use Rattle.lifted_proofs.specs.Lines.{goal_line, paired}
 use Rattle.lifted_proofs.specs.declared.goals.Goal.{Goal}
 use Rattle.lifted_proofs.specs.declared.goals.Reason.{Reason}
 use Rattle.lifted_proofs.proofs.TakenUnits.{unit-at, one-unit, first-holds}
-use Rattle.lifted_proofs.proofs.PairedLiterals.{variable-on, opposite-var, opposite-paired, left-paired, one-pair, existential-or-universal, pair-variable, bound-range, existential-range, paired-holds, paired-plain}
+use Rattle.lifted_proofs.proofs.PairedLiterals.{opposite-paired, left-paired, one-pair, existential-or-universal, pair-variable, bound-range, existential-range, paired-holds, paired-plain}
 
 -- a literal on one of these variables
 abbrev stands_on : List Literal → ℕ → Bool
@@ -43,7 +46,7 @@ off-holds : (trues : List Literal) (p : Literal) → stands_on trues (variable_o
 off-holds trues p off = elim (cases_Bool (holds trues p)) [
   | inr none ↦ none
   | inl held ↦
-      absurd (true≢false (sym (any-held (λ t. variable_of t == variable_of p) trues p held
+      absurd (true≢false (sym (any_one (λ t. variable_of t == variable_of p) trues p held
       (eq-eqb (variable_of p) (variable_of p) refl)) ∙ off))
 ]
 
@@ -77,7 +80,7 @@ falsify on live last clause turns at trues [] ready covers = (
 falsify on live last clause turns at trues (x ∷ xs) ready covers = (
   ready.0,
   off-holds trues (on x.1) ready.1,
-  off-holds trues (opposite (on x.1)) (ap (stands_on trues) (opposite-var (on x.1)) ∙ ready.1),
+  off-holds trues (opposite (on x.1)) (ap (stands_on trues) (opposite_variable (on x.1)) ∙ ready.1),
   falsify on live last clause turns at (on x.1 ∷ trues) xs ready.2 (λ l inside. elim (covers l inside) [
     | inl here ↦ inl (or_right (same_literal (opposite (on l)) (on x.1)) (holds trues (opposite (on l))) here)
     | inr has ↦ elim has [
@@ -91,18 +94,6 @@ falsify on live last clause turns at trues (x ∷ xs) ready covers = (
     same-itself : (l : Literal) → same_literal l l ≡ true
     same-itself l = same_literal-refl l
 
-negated-holds : (ls : List Literal) (l : Literal) → holds ls l ≡ true → holds (map opposite ls) (opposite l) ≡ true
-negated-holds [] l h = h
-negated-holds (k ∷ ks) l h = elim (or_cases (same_literal l k) (holds ks l) h) [
-  | inl same ↦
-      or_left (same_literal (opposite l) (opposite k)) (holds (map opposite ks) (opposite l))
-      (ap (λ x. same_literal (opposite l) (opposite x)) (sym (same_literal-sound l k same))
-      ∙ same_literal-refl (opposite l))
-  | inr later ↦
-      or_right (same_literal (opposite l) (opposite k)) (holds (map opposite ks) (opposite l))
-      (negated-holds ks l later)
-]
-
 -- what stands on the pairs of some literals, negated
 negated-on : (f : Dqbf) (rows : List (List Bool)) (row : List Bool) (ls : List Literal) (n : ℕ)
     → stands_on (map opposite (map (paired f rows row) ls)) n ≡ true
@@ -114,7 +105,7 @@ negated-on f rows row (l ∷ ls) n h =
       | inl here ↦ (
         l,
         or_left (same_literal l l) (holds ls l) (same_literal-refl l),
-        sym (opposite-var (paired f rows row l) ∙ variable-on (pair_of f rows row (variable_of l)) l)
+        sym (opposite_variable (paired f rows row l) ∙ variable_of-on (pair_of f rows row (variable_of l)) l)
             ∙ eqb-true (variable_of (opposite (paired f rows row l))) n here,
       )
       | inr later ↦
@@ -156,7 +147,7 @@ unit-line f units rows goals lowered j h low u goal well are a low-at unit-is go
     existential-some f v there =
         is_some-find (λ y. y.variable == v) f.existentials
         ∙ sym (list_any-map (λ x. x == v) (λ y. y.variable) f.existentials)
-        ∙ contained-any (existential_variables f) v there
+        ∙ tested_inside (existential_variables f) v there
 
     by : (o : Option Existential) → existential_of f (variable_of a.unit.literal) ≡ o → is_some o ≡ true
         → filter_map (pair_literal f rows a.row) (a.unit.literal ∷ [])
@@ -207,7 +198,7 @@ collect f units rows goals live ids lowered low well are low-at trues (j ∷ js)
     let p = paired f rows low u.literal in
     let first : Contains (j ∷ js) j = (0, omega arith, refl) in
     let off : stands_on trues (variable_of p) ≡ false =
-    ap (stands_on trues) (variable-on (pair_of f rows low (variable_of u.literal)) u.literal)
+    ap (stands_on trues) (variable_of-on (pair_of f rows low (variable_of u.literal)) u.literal)
     ∙ free j u first a.unit_at in
     let line : live (ids h) ≡ Some (p ∷ []) =
     named h a.goal (0, omega arith, refl) a.goal_at
@@ -248,7 +239,7 @@ collect f units rows goals live ids lowered low well are low-at trues (j ∷ js)
         (pair-variable f rows low low (variable_of u.literal) (variable_of w.literal) range-u range-w same) in
         distinct 0 (suc inside.0) k (omega arith) (omega (arith, inside.1)) (one ∙ sym inside.2) in
         ap (λ b. b || stands_on trues n)
-        (ap (λ q. q == n) (variable-on v u.literal) ∙ ne_eqb v n apart)
+        (ap (λ q. q == n) (variable_of-on v u.literal) ∙ ne_eqb v n apart)
         ∙ rest
 
 -- what is fixed of a goal with its reason
@@ -273,21 +264,6 @@ map-within p q (x ∷ xs) same =
 pub and-both : (a b : Bool) → (a && b) ≡ true → (a ≡ true) × (b ≡ true)
 and-both true b h = (refl, h)
 and-both false b h = absurd (true≢false (sym h))
-
-both-and : (a b : Bool) → a ≡ true → b ≡ true → (a && b) ≡ true
-both-and a b p q = ap (λ x. x && b) p ∙ q
-
-pub filter-passes : (p : Literal → Bool) (xs : List Literal) (l : Literal) → holds (filter p xs) l ≡ true → p l ≡ true
-filter-passes p [] l h = absurd (true≢false (sym h))
-filter-passes p (x ∷ xs) l h = by (p x) refl h (filter-passes p xs l)
-  where
-    by : (b : Bool) → p x ≡ b → holds (cond b (x ∷ filter p xs) (filter p xs)) l ≡ true
-        → (holds (filter p xs) l ≡ true → p l ≡ true) → p l ≡ true
-    by true is h rest = elim (or_cases (same_literal l x) (holds (filter p xs) l) h) [
-      | inl same ↦ ap p (same_literal-sound l x same) ∙ is
-      | inr later ↦ rest later
-    ]
-    by false is h rest = rest h
 
 module _ (f : Dqbf) (units : List Taken) (rows : List (List Bool)) (goals : List Goal) (g : Goal) (r : Reason)
     (s : Settled f units rows goals g r) where
@@ -339,7 +315,7 @@ module _ (f : Dqbf) (units : List Taken) (rows : List (List Bool)) (goals : List
       agrees l h None own = tt
       agrees l h (Some y) own =
           s.reason.lowered.serves.same l y
-          (passing-holds (λ k. not (holds (first_literals units g.source.taken) (opposite k)))
+          (filter-holds (λ k. not (holds (first_literals units g.source.taken) (opposite k)))
           (clause_at f g.source.place) l (open-inside l h)
           (and-both (not (is_universal f (variable_of l)))
           (not (holds (first_literals units g.source.taken) (opposite l)))
@@ -374,7 +350,7 @@ module _ (f : Dqbf) (units : List Taken) (rows : List (List Bool)) (goals : List
             let range-l = bound-range f (variable_of n.0) s.well (bound-in n.0 (open-inside n.0 n.1)) in
             let same = pair-variable f rows s.reason.lowered.low s.reason.lowered.low (variable_of n.0)
             (variable_of u.literal) range-l range-u n.2 in
-            absurd (elim (two-literals n.0 u.literal same) [
+            absurd (elim (one_variable n.0 u.literal same) [
               | inl is ↦
                   true≢false (sym (satisfied-by trues clause n.0 (open-inside n.0 n.1) (ap (holds trues) is ∙ taken))
                   ∙ s.goal.source.unsatisfied)
@@ -433,12 +409,12 @@ module _ (f : Dqbf) (units : List Taken) (rows : List (List Bool)) (goals : List
                 ∙ filter-passes (λ k. is_some (existential_of f (variable_of k))) (clause_at f g.source.place) l
                 inside in
                 let is-open' : is_open f trues l ≡ true =
-                both-and (not (is_universal f (variable_of l))) (not (holds trues (opposite l))) existential
+                both_true (not (is_universal f (variable_of l))) (not (holds trues (opposite l))) existential
                 (ap not free) in
-                inl (negated-holds (map (paired f rows s.reason.lowered.low) (open_of f units g))
+                inl (negated-held (map (paired f rows s.reason.lowered.low) (open_of f units g))
                 (paired f rows s.reason.lowered.low l)
                 (paired-holds f rows s.reason.lowered.low (open_of f units g) l
-                (passing-holds (is_open f trues) clause l part is-open')))
+                (filter-holds (is_open f trues) clause l part is-open')))
           ]
 
   -- where no literal is false, the instance says it

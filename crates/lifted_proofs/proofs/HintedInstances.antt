@@ -6,17 +6,21 @@ use Rattle.std.proofs.lemmas.Bool.{true≢false, cases_Bool, cond-false, ne_eqb,
 use Rattle.std.proofs.lemmas.Option.{same_Some, option_and_then_some}
 use Rattle.std.proofs.lemmas.List.{map-id}
 use Rattle.std.proofs.lemmas.List.Elements.{All-cons}
+use Rattle.list_laws.proofs.Sequences.{none-gone}
 use Rattle.dq_lits.specs.Literal.{Literal, positive, negative, variable_of, opposite, same_literal, literal_true}
 use Rattle.dq_lits.specs.Formula.{Dqbf, existential_of, is_universal, IsWellFormed}
-use Rattle.dq_lits.specs.Derivation.{LiveClauses, Status, falsified, unit, stuck, status_of, fault_by, hint_fault, with_clause, IsDerived, ProofStep, ProofFault, line_fault, fault_of_step, is_empty, is_tautology, holds}
+use Rattle.dq_lits.specs.Derivation.{LiveClauses, Status, falsified, unit, stuck, status_of, fault_by, hint_fault, with_clause, IsDerived, ProofStep, line_fault, is_empty, is_tautology, holds}
 use Rattle.dq_lits.specs.Expansion.{instance_at, instance_clause, pair_literal, universal_literal_true, row_assignment}
+use Rattle.dq_lits.proofs.Truth.{same_literal-sound}
+use Rattle.dq_lits.proofs.HeldLiterals.{any_one, filter-holds}
+use Rattle.dq_lits.proofs.SignedLiterals.{opposite_variable}
+use Rattle.dq_lits.proofs.Derivations.{no_step_fault}
 use Rattle.dq_prep.specs.declared.traces.Taken.{Taken}
 use Rattle.dq_prep.specs.Reduction.{stays}
 use Rattle.dq_prep.specs.Units.{without_false}
 use Rattle.dq_prep.proofs.Carried.{carries}
-use Rattle.dq_prep.proofs.LeftLiterals.{tautology-stays, passing-holds}
-use Rattle.dq_prep.proofs.LoweredRows.{any-held}
-use Rattle.dq_prep.proofs.SignedLiterals.{pair-in, pair-any, same_literal-sound}
+use Rattle.dq_prep.proofs.LeftLiterals.{tautology-stays}
+use Rattle.dq_prep.proofs.SignedLiterals.{pair-in, pair-any}
 use Rattle.dq_prep.proofs.WellFormed.{IsBound, all-left}
 use Rattle.rup_core.specs.Items.{ProofItem, derived, gone, items_fault, without_clauses, is_among}
 use Rattle.refutation_checker.specs.Pairs.{existential_part}
@@ -26,7 +30,7 @@ use Rattle.lifted_proofs.specs.Goals.{clause_at, left_by, IsSource}
 use Rattle.lifted_proofs.specs.Carried.{lines_of, IsHinted}
 use Rattle.lifted_proofs.specs.Lines.{paired}
 use Rattle.lifted_proofs.specs.declared.goals.Source.{Source}
-use Rattle.lifted_proofs.proofs.PairedLiterals.{existential-or-universal, paired-holds, opposite-paired, opposite-var}
+use Rattle.lifted_proofs.proofs.PairedLiterals.{existential-or-universal, paired-holds, opposite-paired}
 
 abbrev IsPlainClause : LiveClauses → ℕ → Type 0
 IsPlainClause live h = (c : List Literal) × ((live h ≡ Some c) × (is_tautology c ≡ false))
@@ -98,20 +102,11 @@ derived-hints live literals hints sound =
     only-hints true h = absurd (some-fault 0 h)
     only-hints false h = h
 
-step-fault : (o : Option ℕ) (id : ℕ) (rest : Option ProofFault) → fault_of_step o id rest ≡ None
-    → (o ≡ None) × (rest ≡ None)
-step-fault None id rest h = (refl, h)
-step-fault (Some place) id rest h = cc
-
 -- lines with ids from a number on
 abbrev pub AreFrom : ℕ → List ProofItem → Type 0
 AreFrom n [] = Unit {0}
 AreFrom n (derived s ∷ items) = (n ≤ s.id) × AreFrom n items
 AreFrom n (gone ids ∷ items) = AreFrom n items
-
-none-gone : (b : Bool) (o : Option (List Literal)) (c : List Literal) → cond b None o ≡ Some c → o ≡ Some c
-none-gone true o c h = cc
-none-gone false o c h = h
 
 -- what lines hint at before the first of them is live from the start, and plain
 pub hinted-plain : (finished : Bool) (live : LiveClauses) (n : ℕ) (items : List ProofItem) (h : ℕ)
@@ -122,7 +117,7 @@ hinted-plain finished live n (gone ids ∷ items) h sound from hinted below =
     let it = hinted-plain finished (without_clauses live ids) n items h sound from hinted below in
     (it.0, (none-gone (is_among ids h) (live h) it.0 it.1.0, it.1.1))
 hinted-plain finished live n (derived t ∷ items) h sound from (s, (inside, hint)) below =
-    let parts = step-fault (line_fault live t.literals t.hints) t.id
+    let parts = no_step_fault (line_fault live t.literals t.hints) t.id
     (items_fault (is_empty t.literals) (with_clause live t.id t.literals) items) sound in
     by inside parts.0 (λ later.
     hinted-plain (is_empty t.literals) (with_clause live t.id t.literals) n items h parts.1 from.1
@@ -208,11 +203,11 @@ plain-source f units rows s row well source none plain =
                 let some : is_some (existential_of f (variable_of l)) ≡ true =
                 existential-or-universal f l well (bound-in (left_by f units s) l bound here) ∙ ap not other in
                 let some' : is_some (existential_of f (variable_of (opposite l))) ≡ true =
-                ap (λ v. is_some (existential_of f v)) (opposite-var l) ∙ some in
+                ap (λ v. is_some (existential_of f v)) (opposite_variable l) ∙ some in
                 let a = paired-holds f rows row (existential_part f (left_by f units s)) l
-                (passing-holds (λ k. is_some (existential_of f (variable_of k))) (left_by f units s) l here some) in
+                (filter-holds (λ k. is_some (existential_of f (variable_of k))) (left_by f units s) l here some) in
                 let b = paired-holds f rows row (existential_part f (left_by f units s)) (opposite l)
-                (passing-holds (λ k. is_some (existential_of f (variable_of k))) (left_by f units s) (opposite l) there
+                (filter-holds (λ k. is_some (existential_of f (variable_of k))) (left_by f units s) (opposite l) there
                 some') in
                 let line = map (paired f rows row) (existential_part f (left_by f units s)) in
                 true≢false (sym (pair-any line line (paired f rows row l) a
@@ -237,10 +232,10 @@ plain-source f units rows s row well source none plain =
     one-true : (l : Literal) → is_universal f (variable_of l) ≡ true → holds (left_by f units s) l ≡ true
         → holds (left_by f units s) (opposite l) ≡ true → ⊥
     one-true l universal here there = elim (cases_Bool (literal_true (row_assignment f row) l)) [
-      | inl on ↦ true≢false (sym (any-held (universal_literal_true f row) (left_by f units s) l here
+      | inl on ↦ true≢false (sym (any_one (universal_literal_true f row) (left_by f units s) l here
           (ap (λ b. b && literal_true (row_assignment f row) l) universal ∙ on)) ∙ none)
-      | inr off ↦ true≢false (sym (any-held (universal_literal_true f row) (left_by f units s) (opposite l) there
-          (ap (λ v. is_universal f v && literal_true (row_assignment f row) (opposite l)) (opposite-var l)
+      | inr off ↦ true≢false (sym (any_one (universal_literal_true f row) (left_by f units s) (opposite l) there
+          (ap (λ v. is_universal f v && literal_true (row_assignment f row) (opposite l)) (opposite_variable l)
           ∙ ap (λ b. b && literal_true (row_assignment f row) (opposite l)) universal
           ∙ turned-true l off)) ∙ none)
     ]

@@ -3,16 +3,20 @@ use Rattle.std.proofs.Common.{◌≡◌, ◌≢◌, ℕ, zero, suc, ◌+◌, ◌
 use Rattle.std.specs.List.{cons_option, filter}
 use Rattle.std.proofs.lemmas.Bool.{true≢false, cases_eq, cases_Bool, cond-true, cond-false, eq-eqb, ne_eqb, or_cases, or_left, or_right}
 use Rattle.std.proofs.lemmas.Option.{same_Some}
+use Rattle.list_laws.proofs.Truths.{not_true}
 use Rattle.dq_lits.specs.Literal.{Literal, opposite, same_literal}
 use Rattle.dq_lits.specs.Formula.{Dqbf}
 use Rattle.dq_lits.specs.Derivation.{holds, is_tautology}
+use Rattle.dq_lits.proofs.Truth.{same_literal-sound}
+use Rattle.dq_lits.proofs.SignedLiterals.{same_literal-refl, opposite-opposite}
+use Rattle.dq_lits.proofs.HeldLiterals.{filter-passes}
 use Rattle.dq_prep.specs.declared.traces.Taken.{Taken}
 use Rattle.dq_prep.specs.Reduction.{stays}
 use Rattle.dq_prep.specs.Units.{AreUnits, taken_literals, is_satisfied, left_of, without_false}
 use Rattle.dq_prep.specs.Simplified.{taken_at, kept_clause, kept_clauses}
 use Rattle.dq_prep.proofs.Units.{part-holds}
 use Rattle.dq_prep.proofs.ToldValues.{unit-fresh}
-use Rattle.dq_prep.proofs.SignedLiterals.{not-true, same_literal-sound, same_literal-refl, not-same, opposite-opposite}
+use Rattle.dq_prep.proofs.SignedLiterals.{not-same}
 use Rattle.lifted_proofs.specs.KeptPlaces.{IsPart, all_gone, here, gone_one, kept_place, dropped_place, kept_places, dropped_places}
 
 part-filter : (p : Literal → Bool) (ys : List Literal) → IsPart (filter p ys) ys
@@ -123,17 +127,6 @@ units-agree f (u ∷ us) l are held =
       ]
     ]
 
-filter-passes : (g : Literal → Bool) (xs : List Literal) (l : Literal) → holds (filter g xs) l ≡ true → g l ≡ true
-filter-passes g [] l held = absurd (true≢false (sym held))
-filter-passes g (x ∷ xs) l held = by (filter-passes g xs l) (g x) refl held
-  where
-    by : (holds (filter g xs) l ≡ true → g l ≡ true) → (b : Bool) → g x ≡ b → holds (cond b (x ∷ filter g xs) (filter g xs)) l ≡ true → g l ≡ true
-    by rest true e h = elim (or_cases (same_literal l x) (holds (filter g xs) l) h) [
-      | inl same ↦ ap g (same_literal-sound l x same) ∙ e
-      | inr later ↦ rest later
-    ]
-    by rest false e h = rest h
-
 left-open : (f : Dqbf) (trues clause : List Literal) (l : Literal) → holds (left_of f trues clause) l ≡ true
     → holds trues (opposite l) ≡ false
 left-open f trues clause l held = by (is_tautology rest) held
@@ -142,7 +135,7 @@ left-open f trues clause l held = by (is_tautology rest) held
     rest = without_false trues clause
 
     from : holds rest l ≡ true → holds trues (opposite l) ≡ false
-    from h = not-true (holds trues (opposite l)) (filter-passes (λ k. not (holds trues (opposite k))) clause l h)
+    from h = not_true (holds trues (opposite l)) (filter-passes (λ k. not (holds trues (opposite k))) clause l h)
 
     by : (b : Bool) → holds (cond b rest (filter (stays f rest) rest)) l ≡ true → holds trues (opposite l) ≡ false
     by true h = from h

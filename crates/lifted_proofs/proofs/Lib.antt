@@ -24,7 +24,6 @@ mod SettledCircuits
 mod SettledFiles
 mod LiftedProofs
 mod NegatedBases
-mod CopiedCircuits
 mod NamedClauses
 mod LiftedNames
 mod LiftedCircuits

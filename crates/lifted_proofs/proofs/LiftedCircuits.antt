@@ -20,6 +20,8 @@ use Rattle.cert_text.specs.ProofGrammar.{IsDqpOf}
 use Rattle.cert_text.specs.Variables.{is_up_to}
 use Rattle.cert_text.specs.declared.circuit_proofs.Dqp.{Dqp}
 use Rattle.cert_text.proofs.StepsAlone.{steps_are_items}
+use Rattle.cert_text.proofs.NegatedClauses.{falsity_counted}
+use Rattle.cert_text.proofs.Numberings.{next_kept}
 use Rattle.rup_core.specs.Items.{ProofItem, derived, gone, items_fault}
 use Rattle.dq_prep.specs.declared.traces.Taken.{Taken}
 use Rattle.dq_prep.specs.Simplified.{simplified_formula}
@@ -48,10 +50,8 @@ use Rattle.lifted_proofs.specs.declared.liftings.Lifting.{Lifting}
 use Rattle.lifted_proofs.specs.declared.names.Named.{Named}
 use Rattle.lifted_proofs.specs.declared.units.UnitTable.{UnitTable}
 use Rattle.lifted_proofs.proofs.KeptPlaces.{as-many}
-use Rattle.lifted_proofs.proofs.LiftedLines.{without-next}
 use Rattle.lifted_proofs.proofs.LiftedNames.{kept-in}
 use Rattle.lifted_proofs.proofs.LiftedProofs.{lifted-lines}
-use Rattle.lifted_proofs.proofs.NegatedIds.{falsities-length}
 use Rattle.lifted_proofs.proofs.SettledCircuits.{settled-netlist, settled-complete, settled-reads, settled-maps}
 
 -- the candidate has the formula and the circuit, with its mapping
@@ -260,7 +260,7 @@ pub many-ids : (l : Lifting) (w : Named) → IsLifting l → AreFirstNamed l (le
     → length w.ids.items ≡ sum_by length l.bench.now.formula.matrix
 many-ids l w it named =
     (all-named l w it named).many
-    ∙ falsities-length (circuit_literal l.bench.now.circuit) (l.bench.now.circuit.netlist.max_var + 1)
+    ∙ falsity_counted (circuit_literal l.bench.now.circuit) (l.bench.now.circuit.netlist.max_var + 1)
     l.bench.now.formula.matrix
 
 -- a proof's lines have small numbers
@@ -269,7 +269,7 @@ small-lines : (c : CarryingStruct) (variables : ℕ) (n : Numbering) (items : Li
     → n.next + length items ≤ 2 ^ 62 → All (IsCarriedStep c) (lines_of items)
 small-lines c variables n [] few are small = λ k d below. absurd (omega (arith, below))
 small-lines c variables n (gone ids ∷ items) few are small =
-    small-lines c variables (without_all n ids) items few are.1 (omega (arith, small, without-next n ids))
+    small-lines c variables (without_all n ids) items few are.1 (omega (arith, small, next_kept n ids))
 small-lines c variables n (derived s ∷ items) few are small =
     All-cons (IsCarriedStep c) s (lines_of items)
     (record {

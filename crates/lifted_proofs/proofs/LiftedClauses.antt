@@ -8,6 +8,7 @@ use Rattle.dq_lits.specs.Formula.{Dqbf}
 use Rattle.dq_lits.specs.Derivation.{holds}
 use Rattle.cert_text.specs.CircuitProof.{first_proof_id}
 use Rattle.cert_text.specs.NegatedMatrix.{opposite_of, literal_under, as_literal, without_constants}
+use Rattle.cert_text.proofs.NegatedClauses.{falsity_counted}
 use Rattle.dq_prep.specs.declared.traces.Taken.{Taken}
 use Rattle.dq_prep.specs.Units.{taken_literals}
 use Rattle.skolem_checker.specs.Checks.{Candidate}
@@ -18,7 +19,7 @@ use Rattle.lifted_proofs.specs.Liftables.{falsity, is_false as false_at, IsLiter
 use Rattle.lifted_proofs.specs.SettledCircuits.{settled_candidate}
 use Rattle.lifted_proofs.proofs.CarriedProofs.{carried-circuit, carried-clause}
 use Rattle.lifted_proofs.proofs.KeptPlaces.{units-agree}
-use Rattle.lifted_proofs.proofs.NegatedIds.{Stands, is_false, is_true, is_free, stands-by, at-literal, literal-before, falsity-false, falsity-true, falsity-free, in-gates, in-falsity, in-last, behind-all, last-clause, falsities-length, AreOn, gate-clause-fits, literal-fits, opposite-fits}
+use Rattle.lifted_proofs.proofs.NegatedIds.{Stands, is_false, is_true, is_free, stands-by, at-literal, literal-before, falsity-false, falsity-true, falsity-free, in-gates, in-falsity, in-last, behind-all, last-clause, AreOn, gate-clause-fits, literal-fits, opposite-fits}
 use Rattle.lifted_proofs.proofs.SettledOutputs.{literal-same, literal-settled, unit-output, literal-in-range}
 
 -- a circuit's literals stay
@@ -181,7 +182,7 @@ module _ (f : Dqbf) (units : List Taken) (c : Candidate) (can : IsLiftable f uni
       × (without_constants xs ≡ Some clause)
   literal-there id k clause is below at =
       let fs = left_falsities c c.formula.matrix in
-      let long = falsities-length (circuit_literal c.circuit) (largest + 1) c.formula.matrix in
+      let long = falsity_counted (circuit_literal c.circuit) (largest + 1) c.formula.matrix in
       let xs = get_or fs k [] in
       let there : slice_get fs k ≡ Some xs = slice_get-get_or fs k [] (omega (arith, below, long)) in (
         xs,

@@ -7,6 +7,7 @@ use Rattle.std.proofs.lemmas.Option.{slice_get-get_or, get_or_from_slice_get, sa
 use Rattle.std.proofs.lemmas.List.{length-map, map-append}
 use Rattle.std.proofs.lemmas.List.Elements.{All-map}
 use Rattle.std.proofs.lemmas.List.Quantifiers.{position-Some}
+use Rattle.list_laws.proofs.Members.{contains_tested}
 use Rattle.number_tables.specs.Numbers.{has_number, place_of}
 use Rattle.dq_lits.specs.Literal.{Literal, variable_of}
 use Rattle.dq_lits.specs.Formula.{Dqbf, existential_of}
@@ -14,13 +15,13 @@ use Rattle.dq_lits.specs.Derivation.{ProofStep, is_tautology}
 use Rattle.dq_lits.specs.Expansion.{instance_at, pair_literal, universal_literal_true}
 use Rattle.dq_formula.proofs.Subsets.{none_contained}
 use Rattle.dq_prep.specs.Simplified.{simplified_formula}
-use Rattle.dq_prep.proofs.Reduction.{universal-contained}
 use Rattle.rup_core.specs.Items.{ProofItem, derived, gone, items_fault}
 use Rattle.cert_text.specs.Grammar.{AreSteps, AreItems}
-use Rattle.cert_text.specs.Numbering.{Numbering, without, without_all, with_next, numbered_from}
+use Rattle.cert_text.specs.Numbering.{Numbering, without_all, with_next, numbered_from}
 use Rattle.cert_text.specs.Pairs.{is_pair_number}
 use Rattle.cert_text.specs.Scan.{first_id}
 use Rattle.cert_text.specs.declared.refutations.Dqr.{Dqr}
+use Rattle.cert_text.proofs.Numberings.{next_kept}
 use Rattle.refutation_checker.specs.Refutation.{normal_step, normal_item}
 use Rattle.refutation_checker.proofs.InstanceIds.{no_id}
 use Rattle.lifted_proofs.specs.UnitTables.{IsUnitTable}
@@ -42,10 +43,6 @@ use Rattle.lifted_proofs.proofs.HintedInstances.{AreFrom, hinted-plain, instance
 -- the formula that is left
 abbrev pub left_formula : UnitTable → Dqbf
 left_formula t = simplified_formula t.formula.now (reverse t.units.now)
-
-pub without-next : (n : Numbering) (ids : List ℕ) → (without_all n ids).next ≡ n.next
-without-next n [] = refl
-without-next n (id ∷ ids) = without-next (without n id) ids
 
 hinted-later : (s : ProofStep) (ss : List ProofStep) (h : ℕ) → IsHinted ss h → IsHinted (s ∷ ss) h
 hinted-later s ss h (t, ((k, below, is), hint)) = (t, ((suc k, omega (arith, below), is), hint))
@@ -71,7 +68,7 @@ numbered-items f rows v Wanted n next (derived s ∷ items) is are wanted = (
       (λ h later. wanted h (hinted-later s (lines_of items) h later)),
 )
 numbered-items f rows v Wanted n next (gone ids ∷ items) is are wanted =
-    numbered-items f rows v Wanted (without_all n ids) next items (without-next n ids ∙ is) are.1 wanted
+    numbered-items f rows v Wanted (without_all n ids) next items (next_kept n ids ∙ is) are.1 wanted
 
 from-numbered : (Wanted : ℕ → Type 0) (n m : ℕ) (items : List ProofItem) → m ≤ n → AreNumbered Wanted n items
     → AreFrom m items
@@ -184,7 +181,7 @@ has-place : (xs : List ℕ) (h : ℕ) → has_number xs h ≡ true
 has-place xs h there = by (place_of xs h) refl
   where
     by : (o : Option ℕ) → place_of xs h ≡ o → (k : ℕ) × ((place_of xs h ≡ Some k) × (slice_get xs k ≡ Some h))
-    by None is = absurd (none_contained xs h is (universal-contained xs h there))
+    by None is = absurd (none_contained xs h is (contains_tested xs h there))
     by (Some k) is =
         let at = position-Some (λ n. n == h) xs k 0 is in
         (k, (is, slice_get-get_or xs k 0 at.0 ∙ ap Some (eqb-true (get_or xs k 0) h at.1)))
@@ -341,9 +338,9 @@ allowed-items : (t : UnitTable) (r : Renumbering) (few many : ℕ) (n : Numberin
 allowed-items t r few many n [] low above are ids = tt
 allowed-items t r few many n (gone gs ∷ items) low above are ids =
     subst (λ m. AreSteps (is_pair_number t.formula.now many) (m - r.old_last + r.new_last)
-    (map (carried_step r) (lines_of items))) (without-next n gs)
+    (map (carried_step r) (lines_of items))) (next_kept n gs)
     (allowed-items t r few many (without_all n gs) items low
-    (subst (λ m. r.old_last < m) (sym (without-next n gs)) above) are.1 ids)
+    (subst (λ m. r.old_last < m) (sym (next_kept n gs)) above) are.1 ids)
 allowed-items t r few many n (derived s ∷ items) low above are ids =
     let it = are.0 in
     let id-is : carried_id r s.id ≡ n.next - r.old_last + r.new_last =

@@ -9,13 +9,15 @@ use Rattle.dq_lits.specs.Literal.{Literal, positive, negative, variable_of, same
 use Rattle.dq_lits.specs.declared.memory.Memory.{Memory}
 use Rattle.dq_lits.specs.Formula.{Dqbf}
 use Rattle.dq_lits.specs.Derivation.{LiveClauses, ProofStep, holds}
+use Rattle.dq_lits.proofs.Truth.{same_literal-sound}
+use Rattle.dq_lits.proofs.SignedLiterals.{same_literal-refl}
+use Rattle.dq_lits.proofs.HeldLiterals.{held-at}
 use Rattle.dq_formula.specs.Prefix.{existential_variables}
 use Rattle.cert_text.specs.CircuitProof.{first_proof_id, is_proof_variable}
 use Rattle.cert_text.specs.Grammar.{IsStep}
 use Rattle.cert_text.specs.NegatedMatrix.{falsity_clauses, opposite_of, as_literal}
 use Rattle.circuit_plain.specs.Netlist.{Netlist}
 use Rattle.dq_prep.specs.Units.{taken_literals}
-use Rattle.dq_prep.proofs.SignedLiterals.{same_literal-sound, same_literal-refl}
 use Rattle.skolem_checker.specs.Checks.{Candidate}
 use Rattle.skolem_checker.specs.Mapping.{Mapping}
 use Rattle.skolem_checker.specs.Tables.{IsMapping}
@@ -32,7 +34,7 @@ use Rattle.lifted_proofs.specs.declared.names.Named.{Named}
 use Rattle.lifted_proofs.specs.declared.units.UnitTable.{UnitTable}
 use Rattle.lifted_proofs.proofs.KeptSources.{all-literals}
 use Rattle.lifted_proofs.proofs.LiftedClauses.{base-true, base-names, weaker-names}
-use Rattle.lifted_proofs.proofs.NamedClauses.{IsLeftAt, left-place, gone-place, falsities-more, falsity-more, part-found, part-passed, part-ended, part-whole, held-at}
+use Rattle.lifted_proofs.proofs.NamedClauses.{IsLeftAt, left-place, gone-place, falsities-more, falsity-more, part-found, part-passed, part-ended, part-whole}
 use Rattle.lifted_proofs.proofs.NamedIds.{behind-same, name-more, line-more, line-clause, weaker-derived, two-plain}
 use Rattle.lifted_proofs.proofs.NegatedIds.{literal-fits, opposite-fits, free-variable}
 use Rattle.lifted_proofs.proofs.PairedLiterals.{existential-range}

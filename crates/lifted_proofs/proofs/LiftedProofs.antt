@@ -11,6 +11,7 @@ use Rattle.rup_core.specs.Items.{ProofItem, derived, items_fault}
 use Rattle.cert_text.specs.CircuitProof.{first_proof_id, is_proof_variable}
 use Rattle.cert_text.specs.Grammar.{AreSteps, AreItems, IsStep}
 use Rattle.cert_text.specs.Numbering.{numbered_from}
+use Rattle.cert_text.proofs.NegatedClauses.{falsity_counted}
 use Rattle.dq_prep.specs.declared.traces.Taken.{Taken}
 use Rattle.skolem_checker.specs.Checks.{Candidate}
 use Rattle.proof_checker.specs.CircuitProof.{negated_candidate, circuit_literal}
@@ -25,7 +26,6 @@ use Rattle.lifted_proofs.proofs.CarriedProofs.{IsReady, all-carried, carried-cir
 use Rattle.lifted_proofs.proofs.KeptPlaces.{StandsIn, kept-at, as-many, each-place, not-both, kept-ascend, dropped-ascend}
 use Rattle.lifted_proofs.proofs.LiftedClauses.{base-last, gate-there, literal-there, last-there, none-behind, last-carried}
 use Rattle.lifted_proofs.proofs.NamedIds.{behind-same, line-more, line-clause}
-use Rattle.lifted_proofs.proofs.NegatedIds.{falsities-length}
 use Rattle.lifted_proofs.proofs.SomeFalse.{some-false}
 
 zip-weaker : {X Y : Type 0} (P Q : X → Y → Type 0) (xs : List X) (ys : List Y) → ((x : X) (y : Y) → P x y → Q x y)
@@ -129,7 +129,7 @@ module _ (f : Dqbf) (units : List Taken) (c : Candidate) (can : IsLiftable f uni
 
   many-ids : length ids ≡ sum_by length c.formula.matrix
   many-ids = named.many
-      ∙ falsities-length (circuit_literal c.circuit) (c.circuit.netlist.max_var + 1) c.formula.matrix
+      ∙ falsity_counted (circuit_literal c.circuit) (c.circuit.netlist.max_var + 1) c.formula.matrix
 
   there : (h : ℕ) (clause : List Literal) → negated_candidate c h ≡ Some clause
       → (behind_steps base front (carried_id carrying h) ≡ Some (map (carried_literal carrying) clause))

@@ -1,6 +1,6 @@
 -- A refutation, lifted as a whole.
-use Rattle.std.proofs.Common.{◌≡◌, ℕ, suc, ◌+◌, ◌*◌, ◌^◌, ◌<◌, ◌≤◌, ◌==◌, Bool, true, false, List, [], ◌∷◌, map, length, get_or, reverse, Option, Some, None, refl, sym, ◌∙◌, ap, subst, arith}
-use Rattle.std.specs.List.{All, cons_option}
+use Rattle.std.proofs.Common.{◌≡◌, ℕ, ◌+◌, ◌*◌, ◌^◌, ◌<◌, ◌≤◌, ◌==◌, Bool, true, false, List, [], ◌∷◌, map, length, get_or, reverse, None, refl, sym, ◌∙◌, ap, subst, arith}
+use Rattle.std.specs.List.{All}
 use Rattle.std.proofs.lemmas.Bool.{eq-eqb}
 use Rattle.std.proofs.lemmas.Nat.{mul-le}
 use Rattle.std.proofs.lemmas.Option.{slice_get_within, get_or_from_slice_get}
@@ -8,21 +8,19 @@ use Rattle.std.proofs.lemmas.List.{length-map}
 use Rattle.std.proofs.lemmas.List.Elements.{All-cons}
 use Rattle.std.proofs.lemmas.List.Folds.{list_any_at}
 use Rattle.number_tables.specs.Numbers.{has_number}
-use Rattle.dq_lits.specs.Literal.{Literal}
-use Rattle.dq_lits.specs.Formula.{Dqbf}
 use Rattle.dq_lits.specs.Derivation.{ProofStep}
 use Rattle.dq_lits.specs.Expansion.{instance_at}
-use Rattle.dq_prep.specs.declared.traces.Taken.{Taken}
-use Rattle.dq_prep.specs.Simplified.{kept_clause, kept_clauses}
 use Rattle.rup_core.specs.Items.{ProofItem, derived, gone, items_fault}
-use Rattle.cert_text.specs.Grammar.{AreSteps, AreItems, IsDqrOf}
+use Rattle.cert_text.specs.Grammar.{AreItems, IsDqrOf}
 use Rattle.cert_text.specs.Header.{max_count}
 use Rattle.cert_text.specs.Numbering.{Numbering, with_next, without_all, numbered_from}
 use Rattle.cert_text.specs.Pairs.{is_pair_number}
 use Rattle.cert_text.specs.Scan.{first_id}
 use Rattle.cert_text.specs.declared.refutations.Dqr.{Dqr}
 use Rattle.cert_text.proofs.StepsAlone.{steps_are_items}
+use Rattle.cert_text.proofs.Numberings.{next_kept}
 use Rattle.refutation_checker.specs.Refutation.{refutation_fault, normal_item}
+use Rattle.dq_prep.proofs.KeptSoFar.{kept-few}
 use Rattle.lifted_proofs.specs.UnitTables.{IsUnitTable}
 use Rattle.lifted_proofs.specs.Goals.{IsGoal, IsPlan, Keeps}
 use Rattle.lifted_proofs.specs.Carried.{lines_of, AreSources, AreWanted}
@@ -34,17 +32,7 @@ use Rattle.lifted_proofs.specs.declared.goals.Goal.{Goal}
 use Rattle.lifted_proofs.specs.declared.goals.Plan.{Plan}
 use Rattle.lifted_proofs.specs.declared.units.UnitTable.{UnitTable}
 use Rattle.lifted_proofs.proofs.GatheredHints.{first-back}
-use Rattle.lifted_proofs.proofs.LiftedLines.{left_formula, wanted-plain, wanted-from-one, first-goal-right, count-is, without-next, keeps-length}
-
-kept-few : (f : Dqbf) (units : List Taken) (place : ℕ) (clauses : List (List Literal))
-    → length (kept_clauses f units place clauses) ≤ length clauses
-kept-few f units place [] = omega arith
-kept-few f units place (c ∷ cs) = by (kept_clause f units place c) (kept-few f units (suc place) cs)
-  where
-    by : (o : Option (List Literal)) → length (kept_clauses f units (suc place) cs) ≤ length cs
-        → length (cons_option o (kept_clauses f units (suc place) cs)) ≤ suc (length cs)
-    by None few = omega (arith, few)
-    by (Some x) few = omega (arith, few)
+use Rattle.lifted_proofs.proofs.LiftedLines.{left_formula, wanted-plain, wanted-from-one, first-goal-right, count-is, keeps-length}
 
 -- there are few instances
 pub few-instances : (t : UnitTable) (d : Dqr) (sources : List Source) → IsUnitTable t → Refutes t d
@@ -54,9 +42,6 @@ few-instances t d sources right refutes are =
     let few = kept-few t.formula.now (reverse t.units.now) 0 t.formula.now.matrix in
     mul-le (length d.rows) (length sources) 1000000000 10000000 (omega (arith, refutes.allowed.few_rows))
     (omega (arith, few, are.many, right.lawful.few_clauses))
-
-pub few-rows : (k c : ℕ) → k ≤ 1000000000 → c ≤ 10000000 → k * c ≤ 10000000000000000
-few-rows k c low low-c = mul-le k c 1000000000 10000000 low low-c
 
 pub few-wanted : (sources : List Source) (wanted : List ℕ) (first goals : List Goal)
     → AreFirstGoals sources wanted first → Keeps first goals → length wanted ≤ length goals
@@ -73,7 +58,7 @@ small-items : (v : ℕ → Bool) (n : Numbering) (items : List ProofItem) → Ar
     → n.next + length items ≤ 2 ^ 62 → All IsSmallStep (lines_of items)
 small-items v n [] are small = λ k d below. absurd (omega (arith, below))
 small-items v n (gone ids ∷ items) are small =
-    small-items v (without_all n ids) items are.1 (omega (arith, small, without-next n ids))
+    small-items v (without_all n ids) items are.1 (omega (arith, small, next_kept n ids))
 small-items v n (derived s ∷ items) are small =
     All-cons IsSmallStep s (lines_of items) (
       omega (arith, are.0.numbered, small),
@@ -123,12 +108,6 @@ wanted-goals t d last sources wanted seen right refutes are wanted-are last-is s
     (omega (arith, it.1, last-is, count-is t sources (length d.rows) are)) in
     (first-goal-right t d.rows sources h plain.0 (get_or goals k e) right are (wanted-from-one t d h refutes it.0)
     plain.1.0 plain.1.1 back.1.1).goal
-
-pub steps-from-one : (v : ℕ → Bool) (n : ℕ) (ss : List ProofStep) → 1 ≤ n → AreSteps v n ss → All (λ s. 1 ≤ s.id) ss
-steps-from-one v n [] low are = λ k d below. absurd (omega (arith, below))
-steps-from-one v n (s ∷ ss) low are =
-    All-cons (λ s. 1 ≤ s.id) s ss (omega (arith, are.0.numbered, low))
-    (steps-from-one v (n + 1) ss (omega (arith, low)) are.1)
 
 pub lifted-allowed : (t : UnitTable) (p : Plan) (steps : List ProofStep) (d : Dqr) → IsPlan t.formula.now t.units.now p
     → AreLifted t p.rows steps → length steps ≤ max_count → d.rows ≡ p.rows → d.items ≡ map derived steps

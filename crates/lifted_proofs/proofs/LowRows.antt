@@ -1,5 +1,5 @@
 -- Rows under which the universal literals of a clause are false.
-use Rattle.std.proofs.Common.{◌≡◌, ◌≢◌, ℕ, suc, zero, ◌+◌, ◌<◌, ◌==◌, Bool, true, false, not, cond, ◌||◌, ◌&&◌, ◌⊎◌, inl, inr, List, [], ◌∷◌, ◌++◌, map, take, length, get_or, Option, Some, None, refl, sym, ◌∙◌, ap, subst, arith}
+use Rattle.std.proofs.Common.{◌≡◌, ◌≢◌, ℕ, suc, zero, ◌+◌, ◌<◌, ◌==◌, Bool, true, false, not, cond, ◌&&◌, ◌⊎◌, inl, inr, List, [], ◌∷◌, ◌++◌, map, take, length, get_or, Option, Some, None, refl, sym, ◌∙◌, ap, subst, arith}
 use Rattle.std.specs.Bool.{beq}
 use Rattle.std.specs.Prelude.{slice_set}
 use Rattle.std.specs.List.{All, Contains, list_any, filter, position, position_or_len}
@@ -8,25 +8,29 @@ use Rattle.std.proofs.lemmas.List.{get_or-set_same, get_or-set_other, length-set
 use Rattle.std.proofs.lemmas.List.Elements.{All-contains}
 use Rattle.std.proofs.lemmas.List.Quantifiers.{position-Some}
 use Rattle.std.proofs.lemmas.List.Folds.{list_any_none, list_any_at, list_any-append}
+use Rattle.list_laws.proofs.Members.{contains_tested, tested_inside}
+use Rattle.list_laws.proofs.Truths.{neither}
 use Rattle.dq_lits.specs.Literal.{Assignment, Literal, positive, negative, variable_of, is_negative, opposite, same_literal, literal_true}
 use Rattle.dq_lits.specs.Formula.{Dqbf, is_universal, existential_of, IsWellFormed}
 use Rattle.dq_lits.specs.Henkin.{same_bits}
 use Rattle.dq_lits.specs.Derivation.{holds, is_tautology}
 use Rattle.dq_lits.specs.Expansion.{row_assignment, universal_literal_true}
 use Rattle.dq_lits.specs.Row.{bit_of, assignment_of}
+use Rattle.dq_lits.proofs.Truth.{same_literal-sound}
+use Rattle.dq_lits.proofs.HeldLiterals.{any_one, any_gives, filter-holds}
+use Rattle.dq_lits.proofs.Choices.{same_bits-refl}
+use Rattle.dq_lits.proofs.SignedLiterals.{one_variable}
 use Rattle.dq_formula.proofs.Subsets.{none_contained}
 use Rattle.dq_formula.proofs.Restrictions.{assignment_of-place}
 use Rattle.dq_prep.specs.declared.traces.Taken.{Taken}
 use Rattle.dq_prep.specs.Reduction.{sees_in, is_seen, stays}
 use Rattle.dq_prep.specs.Units.{AreUnits, without_false, is_satisfied}
-use Rattle.dq_prep.proofs.Reduction.{universal-contained, holds-at, map-agree}
-use Rattle.dq_prep.proofs.SeenUniversals.{contained-any}
-use Rattle.dq_prep.proofs.SignedLiterals.{same_literal-sound, same_literal-refl, pair-any}
-use Rattle.dq_prep.proofs.LeftLiterals.{passing-holds, tautology-stays}
+use Rattle.dq_prep.proofs.Reduction.{holds-at, map-agree}
+use Rattle.dq_prep.proofs.SignedLiterals.{pair-any}
+use Rattle.dq_prep.proofs.LeftLiterals.{tautology-stays}
 use Rattle.dq_prep.proofs.LiteralRoles.{find-Some}
-use Rattle.dq_prep.proofs.LoweredRows.{any-held, none-held, same_bits-refl}
+use Rattle.dq_prep.proofs.LoweredRows.{none-held}
 use Rattle.dq_prep.proofs.OpenLiterals.{none-universal}
-use Rattle.dq_prep.proofs.ToldValues.{two-literals}
 use Rattle.lifted_proofs.specs.UnitTables.{first_units, first_literals}
 use Rattle.lifted_proofs.specs.Goals.{clause_at, left_by, Serves}
 use Rattle.lifted_proofs.specs.FalsifiedRows.{IsFalsified}
@@ -76,7 +80,7 @@ universal-placed f v p found =
 
 pub universal-unplaced : (f : Dqbf) (v : ℕ) → position (λ u. u == v) f.universals ≡ None → is_universal f v ≡ false
 universal-unplaced f v none = elim (cases_Bool (is_universal f v)) [
-  | inl there ↦ absurd (none_contained f.universals v none (universal-contained f.universals v there))
+  | inl there ↦ absurd (none_contained f.universals v none (contains_tested f.universals v there))
   | inr other ↦ other
 ]
 
@@ -114,18 +118,11 @@ holds-snoc done l k h =
       ]
     ]
 
-or-false : (a b : Bool) → (a || b) ≡ false → (a ≡ false) × (b ≡ false)
-or-false true b h = absurd (true≢false h)
-or-false false b h = (refl, h)
-
 none-snoc : (p : Literal → Bool) (done : List Literal) (l : Literal) → list_any p (done ++ l ∷ []) ≡ false
     → (list_any p done ≡ false) × (p l ≡ false)
 none-snoc p done l h =
-    let parts = or-false (list_any p done) (list_any p (l ∷ [])) (sym (list_any-append p done (l ∷ [])) ∙ h) in
-    (parts.0, (or-false (p l) false parts.1).0)
-
-pub falsified-none : (f : Dqbf) (row : List Bool) → IsFalsified f row [] row
-falsified-none f row = record { none_true = λ l h. absurd (true≢false (sym h)); same = λ x h. refl }
+    let parts = neither (list_any p done) (list_any p (l ∷ [])) (sym (list_any-append p done (l ∷ [])) ∙ h) in
+    (parts.0, (neither (p l) false parts.1).0)
 
 pub falsified-more : (f : Dqbf) (row low : List Bool) (done : List Literal) (l : Literal) (p : ℕ)
     → length low ≡ length f.universals → position (λ u. u == variable_of l) f.universals ≡ Some p
@@ -133,7 +130,7 @@ pub falsified-more : (f : Dqbf) (row low : List Bool) (done : List Literal) (l :
     → IsFalsified f row (done ++ l ∷ []) (slice_set low p (is_negative l))
 falsified-more f row low done l p whole found alone was = record {
   none_true = λ k h. elim (cases_eq (variable_of l) (variable_of k)) [
-    | inl same ↦ elim (two-literals k l (sym same)) [
+    | inl same ↦ elim (one_variable k l (sym same)) [
       | inl is ↦ ap (universal_literal_true f new) is ∙ own
       | inr is ↦ elim (holds-snoc done l k h) [
         | inl before ↦ absurd (true≢false (sym before ∙ ap (holds done) is ∙ alone))
@@ -213,14 +210,6 @@ alone-before clause i d plain below =
           (take-holds i clause (opposite (get_or clause i d)) both)) ∙ plain))
     ]
 
-any-literal : (p : Literal → Bool) (xs : List Literal) → list_any p xs ≡ true
-    → (k : Literal) × (holds xs k ≡ true) × (p k ≡ true)
-any-literal p [] h = absurd (true≢false (sym h))
-any-literal p (x ∷ xs) h = elim (or_cases (p x) (list_any p xs) h) [
-  | inl here ↦ (x, or_left (same_literal x x) (holds xs x) (same_literal-refl x), here)
-  | inr later ↦ let r = any-literal p xs later in (r.0, or_right (same_literal r.0 x) (holds xs r.0) r.1, r.2)
-]
-
 same-false : (m n : Assignment) (l : Literal) → literal_true m l ≡ false → literal_true n l ≡ false
     → m (variable_of l) ≡ n (variable_of l)
 same-false m n (positive v) a b = a ∙ sym b
@@ -248,13 +237,13 @@ serves-falsified f units s row low well are unsatisfied plain none it = record {
       let sees : sees_in x (existential_of f (variable_of l)) ≡ true =
       ap (sees_in x) own ∙ list_any_at (λ z. z == x) y.sees k d below (eq-eqb x x refl) in
       let seen : is_seen f rest x ≡ true =
-      any-held (λ q. sees_in x (existential_of f (variable_of q))) rest l here sees in
+      any_one (λ q. sees_in x (existential_of f (variable_of q))) rest l here sees in
       elim (cases_Bool (list_any (λ q. variable_of q == x) clause)) [
         | inr off ↦ sym (it.same x off)
         | inl on ↦
-            let r = any-literal (λ q. variable_of q == x) clause on in
+            let r = any_gives (λ q. variable_of q == x) clause on in
             let is : variable_of r.0 ≡ x = eqb-true (variable_of r.0) x r.2 in
-            seen-bit r.0 r.1 x is (contained-any f.universals x (universal k d below)) seen
+            seen-bit r.0 r.1 x is (tested_inside f.universals x (universal k d below)) seen
       ] in
       ap (same_bits (map m y.sees)) (sym (map-agree m n y.sees same)) ∙ same_bits-refl (map m y.sees);
 }
@@ -291,7 +280,7 @@ serves-falsified f units s row low well are unsatisfied plain none it = record {
         let free : holds (first_literals units s.taken) (opposite k) ≡ false =
         none-universal f (first_units units s.taken) (opposite k) are (turned k universal) in
         let in-rest : holds (without_false (first_literals units s.taken) (clause_at f s.place)) k ≡ true =
-        passing-holds (λ q. not (holds (first_literals units s.taken) (opposite q))) (clause_at f s.place) k inside
+        filter-holds (λ q. not (holds (first_literals units s.taken) (opposite q))) (clause_at f s.place) k inside
         (ap not free) in
         let stay : stays f (without_false (first_literals units s.taken) (clause_at f s.place)) k ≡ true =
         or_right (not (is_universal f (variable_of k)))
@@ -302,7 +291,7 @@ serves-falsified f units s row low well are unsatisfied plain none it = record {
         ap (λ b. holds (cond b (without_false (first_literals units s.taken) (clause_at f s.place))
         (filter (stays f (without_false (first_literals units s.taken) (clause_at f s.place)))
         (without_false (first_literals units s.taken) (clause_at f s.place)))) k) plain-rest
-        ∙ passing-holds (stays f (without_false (first_literals units s.taken) (clause_at f s.place)))
+        ∙ filter-holds (stays f (without_false (first_literals units s.taken) (clause_at f s.place)))
         (without_false (first_literals units s.taken) (clause_at f s.place)) k in-rest stay in
         ap (row_assignment f row) (sym is)
         ∙ same-false (row_assignment f row) (row_assignment f low) k

@@ -1,18 +1,18 @@
 -- Clauses of literals that are named one after another.
-use Rattle.std.proofs.Common.{◌≡◌, ◌≢◌, ℕ, zero, suc, ◌+◌, ◌<◌, ◌≤◌, Bool, true, false, ◌||◌, List, [], ◌∷◌, ◌++◌, take, drop, length, reverse, Option, Some, None, is_some, slice_get, refl, sym, ◌∙◌, ap, subst, arith}
+use Rattle.std.proofs.Common.{◌≡◌, ◌≢◌, ℕ, zero, suc, ◌+◌, ◌<◌, ◌≤◌, true, false, List, [], ◌∷◌, ◌++◌, take, drop, length, reverse, Option, Some, None, is_some, slice_get, refl, sym, ◌∙◌, ap, subst, arith}
 use Rattle.std.specs.Prelude.{slice_index, slice_index_or}
 use Rattle.std.specs.List.{cons_option}
-use Rattle.std.proofs.lemmas.Bool.{true≢false, or_left, or_right}
-use Rattle.std.proofs.lemmas.Option.{slice_get-get_or, get_or_from_slice_get, same_Some, slice_get_within}
+use Rattle.std.proofs.lemmas.Bool.{true≢false}
+use Rattle.std.proofs.lemmas.Option.{slice_get-get_or, get_or_from_slice_get, slice_get_within}
 use Rattle.std.proofs.lemmas.List.{append-nil, append_assoc, take_more, length-take, map-append}
-use Rattle.dq_lits.specs.Literal.{Literal, same_literal}
+use Rattle.list_laws.proofs.Elements.{drop-next}
+use Rattle.list_laws.proofs.Sequences.{drop_end}
+use Rattle.dq_lits.specs.Literal.{Literal}
 use Rattle.dq_lits.specs.Formula.{Dqbf}
-use Rattle.dq_lits.specs.Derivation.{holds}
 use Rattle.cert_text.specs.NegatedMatrix.{falsity_clauses, all_falsity_clauses}
 use Rattle.dq_prep.specs.declared.traces.Taken.{Taken}
 use Rattle.dq_prep.specs.Units.{AreUnits, taken_literals, is_satisfied}
 use Rattle.dq_prep.specs.Simplified.{kept_clause, simplified_formula}
-use Rattle.dq_prep.proofs.SignedLiterals.{same_literal-refl}
 use Rattle.lifted_proofs.specs.Goals.{clause_at}
 use Rattle.lifted_proofs.specs.KeptPlaces.{IsPart, all_gone, kept_place, dropped_place, kept_places, dropped_places}
 use Rattle.lifted_proofs.specs.Liftables.{falsity, left_falsities}
@@ -159,26 +159,10 @@ falsity-more lit bad front clause k l at =
     ∙ ap (λ xs. front ++ xs) (map-append (falsity lit bad) (take k clause) (l ∷ []))
     ∙ sym (append_assoc front (falsity_clauses lit bad (take k clause)) (falsity lit bad l ∷ []))
 
-drop-next : {X : Type 0} (xs : List X) (k : ℕ) (x : X) → slice_get xs k ≡ Some x → drop k xs ≡ x ∷ drop (k + 1) xs
-drop-next [] k x at = cc
-drop-next (y ∷ ys) zero x at = ap (λ z. z ∷ ys) (same_Some y x at)
-drop-next (y ∷ ys) (suc k) x at =
-    let next : suc k + 1 ≡ suc (k + 1) = omega arith in
-    drop-next ys k x at ∙ ap (λ n. x ∷ drop n (y ∷ ys)) (sym next)
-
-drop-all : {X : Type 0} (xs : List X) (k : ℕ) → length xs ≤ k → drop k xs ≡ []
-drop-all [] zero past = refl
-drop-all [] (suc k) past = refl
-drop-all (x ∷ xs) zero past = absurd (omega (arith, past))
-drop-all (x ∷ xs) (suc k) past = drop-all xs k (omega (arith, past))
-
 none-dropped : {X : Type 0} (xs : List X) (k : ℕ) → drop k xs ≡ [] → length xs ≤ k
 none-dropped [] k none = omega arith
 none-dropped (x ∷ xs) zero none = cc
 none-dropped (x ∷ xs) (suc k) none = omega (arith, none-dropped xs k none)
-
-pub part-starts : (left clause : List Literal) → IsPart left clause → IsPart (drop 0 left) (drop 0 clause)
-part-starts left clause part = part
 
 -- the next literal is left, or not
 pub part-found : (left clause : List Literal) (k q : ℕ) (l : Literal) → IsPart (drop k left) (drop q clause)
@@ -196,18 +180,12 @@ part-passed left clause k q m l part at-left at apart =
 
 pub part-ended : (left clause : List Literal) (k q : ℕ) → length left ≤ k
     → IsPart (drop k left) (drop (q + 1) clause)
-part-ended left clause k q past = subst (λ xs. IsPart xs (drop (q + 1) clause)) (sym (drop-all left k past)) all_gone
+part-ended left clause k q past = subst (λ xs. IsPart xs (drop (q + 1) clause)) (sym (drop_end left k past)) all_gone
 
 pub part-whole : (left clause : List Literal) (k q : ℕ) → IsPart (drop k left) (drop q clause) → length clause ≤ q
     → length left ≤ k
 part-whole left clause k q part past =
-    none-dropped left k (part-none (subst (λ ys. IsPart (drop k left) ys) (drop-all clause q past) part))
-
-pub held-at : (clause : List Literal) (k : ℕ) (l : Literal) → slice_get clause k ≡ Some l → holds clause l ≡ true
-held-at [] k l at = cc
-held-at (x ∷ xs) zero l at =
-    or_left (same_literal l x) (holds xs l) (ap (λ y. same_literal l y) (same_Some x l at) ∙ same_literal-refl l)
-held-at (x ∷ xs) (suc k) l at = or_right (same_literal l x) (holds xs l) (held-at xs k l at)
+    none-dropped left k (part-none (subst (λ ys. IsPart (drop k left) ys) (drop_end clause q past) part))
 
 -- ---- a kept clause by its places
 
@@ -265,20 +243,3 @@ gone-place f units dropped k is below =
       satisfied = ap (is_satisfied (taken_literals units)) (get_or_from_slice_get f.matrix p it.clause [] clause-at')
           ∙ dropped-true f units p it.clause it.dropped;
     }
-
--- no literal of the first ones is true, nor is the next
-pub none-more : (trues clause : List Literal) (k : ℕ) (l : Literal) → slice_get clause k ≡ Some l
-    → is_satisfied trues (take k clause) ≡ false → holds trues l ≡ false → is_satisfied trues (take (k + 1) clause) ≡ false
-none-more trues [] k l at none other = cc
-none-more trues (x ∷ xs) zero l at none other =
-    ap (λ b. b || false) (ap (holds trues) (same_Some x l at) ∙ other)
-none-more trues (x ∷ xs) (suc k) l at none other =
-    let next : suc k + 1 ≡ suc (k + 1) = omega arith in
-    let parts = both-false (holds trues x) (is_satisfied trues (take k xs)) none in
-    ap (λ n. is_satisfied trues (take n (x ∷ xs))) next
-    ∙ ap (λ b. b || is_satisfied trues (take (k + 1) xs)) parts.0
-    ∙ none-more trues xs k l at parts.1 other
-  where
-    both-false : (a b : Bool) → (a || b) ≡ false → (a ≡ false) × (b ≡ false)
-    both-false true b h = absurd (true≢false h)
-    both-false false b h = (refl, h)

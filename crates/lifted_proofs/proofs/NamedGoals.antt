@@ -8,7 +8,7 @@ use Rattle.std.proofs.lemmas.Nat.{mul-le}
 use Rattle.std.proofs.lemmas.Bool.{cases_eq, cases_lt, cond-true, cond-false, eq-eqb, ne_eqb}
 use Rattle.std.proofs.lemmas.Option.{slice_get_within, same_Some}
 use Rattle.std.proofs.lemmas.List.{length-append, map-append, length-set, get_or-set_same, get_or-set_other, get_or-take, get_or_default, length-take, take_more, take_all}
-use Rattle.std.proofs.lemmas.List.Elements.{All-push, All-map, All-cons, All-contains, Contains-get_or, Contains-push, Contains-push_cases, Contains-append_left}
+use Rattle.std.proofs.lemmas.List.Elements.{All-push, All-map, All-cons, All-contains, Contains-get_or, Contains-push_cases}
 use Rattle.dq_lits.specs.Literal.{Literal, variable_of, opposite}
 use Rattle.dq_lits.specs.Formula.{Dqbf, existential_of, is_universal, IsWellFormed}
 use Rattle.dq_lits.specs.Derivation.{LiveClauses, IsDerived, ProofStep, holds}
@@ -313,22 +313,6 @@ earlier-turn goals turns i t h g are within at there fewer =
           ap (λ x. x.taken) (get_or_default turns k t u place.1 ∙ place.2) in
           absurd (omega (arith, order, first, second, fewer))
     ]
-
-pub turn-more : (goals : List Goal) (q : ℕ) (turns new : List Turn) (g : Goal) (t : Turn) → TurnAll goals q turns
-    → slice_get goals q ≡ Some g → t ≡ turn_of g q → new ≡ turns ++ t ∷ [] → TurnAll goals (q + 1) new
-turn-more goals q turns new g t was at is more =
-    subst (TurnAll goals (q + 1)) (sym more) (record {
-      each = All-push (IsTurn goals) turns t was.each
-          (subst (IsTurn goals) (sym is) (record { goal = g; at = at; taken = refl }));
-      all = λ k w below there. elim (cases_lt k q) [
-        | inl before ↦ Contains-append_left turns (t ∷ []) (turn_of w k) (was.all k w before there)
-        | inr behind ↦
-            let same : k ≡ q = omega (arith, behind, below) in
-            let one : g ≡ w = same_Some g w (sym at ∙ ap (slice_get goals) (sym same) ∙ there) in
-            subst (Contains (turns ++ t ∷ []))
-            (is ∙ ap (λ x. turn_of x q) one ∙ ap (turn_of w) (sym same)) (Contains-push turns t)
-      ];
-    })
 
 pub open-shut : (f : Dqbf) (units : List Taken) (count v : ℕ) (l : Literal) (a : Bool) → IsWellFormed f
     → IsBound f l → v ≡ variable_of l → a ≡ is_some (existential_of f v) → a ≡ false

@@ -2,13 +2,13 @@
 use Rattle.std.proofs.Common.{◌≡◌, ℕ, zero, suc, ◌+◌, ◌<◌, ◌==◌, ◌||◌, Bool, true, false, not, cond, inl, inr, List, [], ◌∷◌, ◌++◌, length, Some, slice_get, refl, sym, ◌∙◌, ap, subst, arith, length-append}
 use Rattle.std.proofs.lemmas.Bool.{cond-true, cond-false, ne_eqb, eq-eqb}
 use Rattle.std.proofs.lemmas.Option.{slice_get_within, same_Some}
+use Rattle.list_laws.proofs.Elements.{last_or_before, last_there}
 use Rattle.dq_lits.specs.Literal.{Literal, positive, negative, variable_of, opposite}
 use Rattle.dq_lits.specs.Derivation.{LiveClauses, with_clause, IsDerived, ProofStep, holds, is_tautology, hint_fault, status_by, status_of, fault_by}
+use Rattle.dq_lits.proofs.SignedLiterals.{same_literal-refl}
 use Rattle.cert_text.specs.Grammar.{AreSteps, IsStep}
-use Rattle.dq_prep.proofs.SignedLiterals.{same_literal-refl}
 use Rattle.lifted_proofs.specs.Lines.{behind_steps}
 use Rattle.lifted_proofs.specs.NamedIds.{HasName, AreNamed}
-use Rattle.lifted_proofs.proofs.AskedGoals.{last-or-before, last-at}
 use Rattle.lifted_proofs.proofs.WrittenLines.{behind-more, derived-more, steps-more}
 
 -- ids below the steps' have the clauses that they had
@@ -33,14 +33,14 @@ module _ (is_variable : ℕ → Bool) (first : ℕ) (to : Literal → Literal) (
     allowed = named.allowed;
     derived = named.derived;
     many = length-append ids (id ∷ []) ∙ ap (λ n. n + 1) named.many ∙ sym (length-append falsities (falsity ∷ []));
-    each = λ k i xs at there. elim (last-or-before ids id k i at) [
+    each = λ k i xs at there. elim (last_or_before ids id k i at) [
       | inl before ↦
           let within = slice_get_within ids k i before in
           named.each k i xs before
           (sym (earlier falsities (falsity ∷ []) k (omega (arith, within, named.many))) ∙ there)
       | inr last ↦
           let same : falsity ≡ xs = same_Some falsity xs
-          (sym (ap (slice_get (falsities ++ falsity ∷ [])) (last.0 ∙ named.many) ∙ last-at falsities falsity) ∙ there) in
+          (sym (ap (slice_get (falsities ++ falsity ∷ [])) (last.0 ∙ named.many) ∙ last_there falsities falsity) ∙ there) in
           subst (λ x. HasName to (behind_steps base steps) (first + length steps) xs x) last.1
           (subst (λ x. HasName to (behind_steps base steps) (first + length steps) x id) same has)
     ];

@@ -6,26 +6,20 @@ use Rattle.std.proofs.lemmas.Bool.{ne_eqb, eq-eqb, eqb-true, cases_eq}
 use Rattle.std.proofs.lemmas.List.{length-map}
 use Rattle.std.proofs.lemmas.List.Sums.{sum_by-cons}
 use Rattle.std.proofs.lemmas.Option.{slice_get_past, same_Some}
+use Rattle.list_laws.proofs.Elements.{place_within, get-append_left}
+use Rattle.list_laws.proofs.Sequences.{sum-none, sum-taken}
 use Rattle.dq_lits.specs.Literal.{Literal, positive, negative, variable_of}
 use Rattle.dq_lits.specs.Formula.{Dqbf}
 use Rattle.circuit_plain.specs.Netlist.{Netlist, IsNetlist, IsGate}
 use Rattle.circuit_plain.specs.declared.circuits.Gate.{Gate}
 use Rattle.cert_text.specs.NegatedMatrix.{opposite_of, gate_clauses, literal_under, falsity_clauses, all_falsity_clauses, some_clause_false, as_literal, without_constants, negated_matrix}
+use Rattle.cert_text.proofs.NegatedClauses.{falsity_counted, gates_counted}
 use Rattle.lifted_proofs.specs.Liftables.{falsity}
-
-append-left : {X : Type 0} (xs ys : List X) (i : ℕ) → i < length xs → slice_get (xs ++ ys) i ≡ slice_get xs i
-append-left [] ys i below = absurd (omega (arith, below))
-append-left (x ∷ xs) ys zero below = refl
-append-left (x ∷ xs) ys (suc i) below = append-left xs ys i (omega (arith, below))
 
 append-right : {X : Type 0} (xs ys : List X) (i k : ℕ) → k ≡ length xs + i → slice_get (xs ++ ys) k ≡ slice_get ys i
 append-right [] ys i k is = ap (slice_get ys) (omega (arith, is))
 append-right (x ∷ xs) ys i zero is = absurd (omega (arith, is))
 append-right (x ∷ xs) ys i (suc k) is = append-right xs ys i k (omega (arith, is))
-
-gates-length : (gates : List Gate) → length (flat_map gate_clauses gates) ≡ 3 * length gates
-gates-length [] = refl
-gates-length (g ∷ gates) = omega (arith, gates-length gates)
 
 in-clause : (lit : ℕ → ℕ) (bad : ℕ) (clause : List Literal) (q : ℕ) (l : Literal) → slice_get clause q ≡ Some l
     → slice_get (falsity_clauses lit bad clause) q ≡ Some (falsity lit bad l)
@@ -33,24 +27,11 @@ in-clause lit bad [] q l at = cc
 in-clause lit bad (k ∷ ks) zero l at = ap (λ x. Some (falsity lit bad x)) (same_Some k l at)
 in-clause lit bad (k ∷ ks) (suc q) l at = in-clause lit bad ks q l at
 
-place-within : {X : Type 0} (xs : List X) (q : ℕ) (x : X) → slice_get xs q ≡ Some x → q < length xs
-place-within [] q x at = cc
-place-within (y ∷ ys) zero x at = omega arith
-place-within (y ∷ ys) (suc q) x at = let h = place-within ys q x at in omega (arith, h)
-
 falsity-length : (lit : ℕ → ℕ) (bad : ℕ) (c : List Literal) → length (falsity_clauses lit bad c) ≡ length c
 falsity-length lit bad c = length-map c (λ x. opposite_of (2 * bad) ∷ opposite_of (literal_under lit x) ∷ [])
 
 sum-first : (c : List Literal) (cs : List (List Literal)) → sum_by length (c ∷ cs) ≡ length c + sum_by length cs
 sum-first c cs = sum_by-cons length c cs
-
-sum-taken : (c : List Literal) (cs : List (List Literal)) (p : ℕ)
-    → sum_by length (take (suc p) (c ∷ cs)) ≡ length c + sum_by length (take p cs)
-sum-taken c cs p = sum_by-cons length c (take p cs)
-
-sum-none : (cs : List (List Literal)) → sum_by length (take 0 cs) ≡ 0
-sum-none [] = refl
-sum-none (c ∷ cs) = refl
 
 in-clauses : (lit : ℕ → ℕ) (bad : ℕ) (clauses : List (List Literal)) (p q k : ℕ) (clause : List Literal) (l : Literal)
     → slice_get clauses p ≡ Some clause → slice_get clause q ≡ Some l
@@ -60,11 +41,11 @@ in-clauses lit bad [] p q k clause l there at is = cc
 in-clauses lit bad (c ∷ cs) zero q k clause l there at is =
     let own : c ≡ clause = same_Some c clause there in
     let here : slice_get c q ≡ Some l = ap (λ x. slice_get x q) own ∙ at in
-    let within = place-within c q l here in
+    let within = place_within c q l here in
     let long = falsity-length lit bad c in
     let same : k ≡ q = omega (arith, is, sum-none (c ∷ cs)) in
     ap (slice_get (all_falsity_clauses lit bad (c ∷ cs))) same
-    ∙ append-left (falsity_clauses lit bad c) (all_falsity_clauses lit (bad + 1) cs) q (omega (arith, within, long))
+    ∙ get-append_left (falsity_clauses lit bad c) (all_falsity_clauses lit (bad + 1) cs) q (omega (arith, within, long))
     ∙ in-clause lit bad c q l here ∙ ap (λ b. Some (falsity lit b l)) (omega arith)
 in-clauses lit bad (c ∷ cs) (suc p) q k clause l there at is =
     let long = falsity-length lit bad c in
@@ -73,15 +54,6 @@ in-clauses lit bad (c ∷ cs) (suc p) q k clause l there at is =
     (omega (arith, is, long, sum-taken c cs p))
     ∙ in-clauses lit (bad + 1) cs p q rest clause l there at refl
     ∙ ap (λ b. Some (falsity lit b l)) (omega arith)
-
-pub falsities-length : (lit : ℕ → ℕ) (bad : ℕ) (clauses : List (List Literal))
-    → length (all_falsity_clauses lit bad clauses) ≡ sum_by length clauses
-falsities-length lit bad [] = refl
-falsities-length lit bad (c ∷ cs) =
-    let long = falsity-length lit bad c in
-    let rest = falsities-length lit (bad + 1) cs in
-    let both = length-append (falsity_clauses lit bad c) (all_falsity_clauses lit (bad + 1) cs) in
-    omega (arith, long, rest, both, sum-first c cs)
 
 module _ (f : Dqbf) (net : Netlist) (lit : ℕ → ℕ) where
   abbrev gate_part : List (List ℕ)
@@ -102,7 +74,7 @@ module _ (f : Dqbf) (net : Netlist) (lit : ℕ → ℕ) where
       → negated_matrix f net lit id ≡ option_and_then without_constants (slice_get (flat_map gate_clauses net.gates) i)
   in-gates id i is below =
       by-id id i (slice_get gate_part i) is
-      (append-left gate_part (falsity_part ++ last_part) i (omega (arith, below, gates-length net.gates)))
+      (get-append_left gate_part (falsity_part ++ last_part) i (omega (arith, below, gates_counted net.gates)))
 
   -- then those of the literals
   pub in-falsity : (id k : ℕ) (o : Option (List ℕ)) → id ≡ 3 * length net.gates + k + 1 → k < sum_by length f.matrix
@@ -111,30 +83,30 @@ module _ (f : Dqbf) (net : Netlist) (lit : ℕ → ℕ) where
   in-falsity id k o is below at =
       by-id id (3 * length net.gates + k) o (omega (arith, is))
       (append-right gate_part (falsity_part ++ last_part) k (3 * length net.gates + k)
-      (omega (arith, gates-length net.gates))
-      ∙ append-left falsity_part last_part k
-      (omega (arith, below, falsities-length lit (net.max_var + 1) f.matrix)) ∙ at)
+      (omega (arith, gates_counted net.gates))
+      ∙ get-append_left falsity_part last_part k
+      (omega (arith, below, falsity_counted lit (net.max_var + 1) f.matrix)) ∙ at)
 
   -- and last that some clause is false
   pub in-last : (id : ℕ) → id ≡ 3 * length net.gates + sum_by length f.matrix + 1
       → negated_matrix f net lit id ≡ without_constants (some_clause_false net f.matrix)
   in-last id is =
       let many = sum_by length f.matrix in
-      let long = falsities-length lit (net.max_var + 1) f.matrix in
+      let long = falsity_counted lit (net.max_var + 1) f.matrix in
       by-id id (3 * length net.gates + many) (Some (some_clause_false net f.matrix)) (omega (arith, is))
       (append-right gate_part (falsity_part ++ last_part) many (3 * length net.gates + many)
-      (omega (arith, gates-length net.gates))
+      (omega (arith, gates_counted net.gates))
       ∙ append-right falsity_part last_part 0 many (omega (arith, long)))
 
   pub behind-all : (id : ℕ) → 3 * length net.gates + sum_by length f.matrix + 1 < id → negated_matrix f net lit id ≡ None
   behind-all zero behind = refl
   behind-all (suc i) behind =
-      let long = falsities-length lit (net.max_var + 1) f.matrix in
+      let long = falsity_counted lit (net.max_var + 1) f.matrix in
       let tail = length-append falsity_part last_part in
       let whole = length-append gate_part (falsity_part ++ last_part) in
       by-id (suc i) i None refl
       (slice_get_past (gate_part ++ (falsity_part ++ last_part)) i
-      (omega (arith, behind, long, tail, whole, gates-length net.gates)))
+      (omega (arith, behind, long, tail, whole, gates_counted net.gates)))
 
 -- the clause of a literal at its place
 pub at-literal : (f : Dqbf) (net : Netlist) (lit : ℕ → ℕ) (p q id : ℕ) (clause : List Literal) (l : Literal)
@@ -180,9 +152,6 @@ opposite-free x free = by (x % 2 == 1) refl
     by : (b : Bool) → (x % 2 == 1) ≡ b → 2 ≤ cond b (x - 1) (x + 1)
     by true e = omega (arith, eqb-true (x % 2) 1 e, free)
     by false e = omega (arith, free)
-
-abbrev named : ℕ → Literal
-named bad = negative bad
 
 negated-number : (bad : ℕ) → as_literal (2 * bad + 1) ≡ negative bad
 negated-number bad =

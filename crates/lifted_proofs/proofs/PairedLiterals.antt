@@ -3,44 +3,39 @@ use Rattle.std.proofs.Common.{◌≡◌, ℕ, ◌+◌, ◌-◌, ◌*◌, ◌%◌
 use Rattle.std.specs.List.{All, Contains, list_any, filter, filter_map, position_or_len}
 use Rattle.std.proofs.lemmas.Bool.{true≢false, or_cases, or_left, or_right, cases_Bool}
 use Rattle.std.proofs.lemmas.List.Elements.{All-contains, Contains-append_cases, Contains-append_right}
+use Rattle.list_laws.proofs.Members.{tested_inside}
+use Rattle.list_laws.proofs.Numbers.{pair_variable}
 use Rattle.dq_lits.specs.Literal.{Literal, positive, negative, variable_of, opposite, on_variable, same_literal}
 use Rattle.dq_lits.specs.Formula.{Existential, Dqbf, declared, is_universal, existential_of, IsWellFormed}
 use Rattle.dq_lits.specs.Henkin.{same_bits, restriction}
 use Rattle.dq_lits.specs.Derivation.{holds, is_tautology}
 use Rattle.dq_lits.specs.Expansion.{row_assignment, agree_on, pair_literal, instance_clause, universal_literal_true}
+use Rattle.dq_lits.proofs.Truth.{same_literal-sound}
+use Rattle.dq_lits.proofs.SignedLiterals.{same_literal-refl, opposite_variable, variable_of-on, one_variable}
+use Rattle.dq_lits.proofs.Choices.{same_bits-sound}
 use Rattle.dq_formula.specs.Prefix.{existential_variables}
 use Rattle.dq_formula.proofs.Entries.{is_some-find, list_any-map}
 use Rattle.dq_prep.specs.Units.{left_of}
 use Rattle.dq_prep.specs.Roles.{open_literals}
 use Rattle.dq_prep.proofs.LeftLiterals.{left-opens}
 use Rattle.dq_prep.proofs.LiteralRoles.{universals-see-nothing}
-use Rattle.dq_prep.proofs.SeenUniversals.{contained-any, filters-agree}
-use Rattle.dq_prep.proofs.SignedLiterals.{same_literal-sound, same_literal-refl, not-same, pair-in, pair-any}
-use Rattle.dq_prep.proofs.ToldValues.{two-literals}
+use Rattle.dq_prep.proofs.SeenUniversals.{filters-agree}
+use Rattle.dq_prep.proofs.SignedLiterals.{not-same, pair-in, pair-any}
 use Rattle.dq_prep.proofs.WellFormed.{IsBound, all-left}
 use Rattle.refutation_checker.specs.Pairs.{pair_of, first_agreeing, existential_part}
-use Rattle.refutation_checker.proofs.PairNames.{variable_is, same_bits-equal}
 use Rattle.refutation_checker.proofs.PairNumbers.{instance_part}
 use Rattle.lifted_proofs.specs.Lines.{paired}
-
-pub variable-on : (n : ℕ) (l : Literal) → variable_of (on_variable n l) ≡ n
-variable-on n (positive v) = refl
-variable-on n (negative v) = refl
 
 pub opposite-on : (n : ℕ) (l : Literal) → opposite (on_variable n l) ≡ on_variable n (opposite l)
 opposite-on n (positive v) = refl
 opposite-on n (negative v) = refl
-
-pub opposite-var : (l : Literal) → variable_of (opposite l) ≡ variable_of l
-opposite-var (positive v) = refl
-opposite-var (negative v) = refl
 
 -- the opposite of a literal on its pair
 pub opposite-paired : (f : Dqbf) (rows : List (List Bool)) (row : List Bool) (l : Literal)
     → opposite (paired f rows row l) ≡ paired f rows row (opposite l)
 opposite-paired f rows row l =
     opposite-on (pair_of f rows row (variable_of l)) l
-    ∙ ap (λ v. on_variable (pair_of f rows row v) (opposite l)) (sym (opposite-var l))
+    ∙ ap (λ v. on_variable (pair_of f rows row v) (opposite l)) (sym (opposite_variable l))
 
 -- a bound variable is an existential's or a universal's
 pub existential-or-universal : (f : Dqbf) (l : Literal) → IsWellFormed f → IsBound f l
@@ -51,11 +46,11 @@ existential-or-universal f l well bound = elim (cases_Bool (is_universal f (vari
   | inr other ↦
       elim (Contains-append_cases f.universals (existential_variables f) (variable_of l) bound) [
         | inl universal ↦
-            absurd (true≢false (sym (contained-any f.universals (variable_of l) universal) ∙ other))
+            absurd (true≢false (sym (tested_inside f.universals (variable_of l) universal) ∙ other))
         | inr existential ↦
             is_some-find (λ y. y.variable == variable_of l) f.existentials
             ∙ sym (list_any-map (λ x. x == variable_of l) (λ y. y.variable) f.existentials)
-            ∙ contained-any (existential_variables f) (variable_of l) existential
+            ∙ tested_inside (existential_variables f) (variable_of l) existential
             ∙ sym (ap not other)
       ]
 ]
@@ -95,7 +90,7 @@ one-pair f rows r s v agrees = by (existential_of f v) agrees
     by (Some y) agrees =
         ap (λ bits. position_or_len (λ row. same_bits bits (restriction y (row_assignment f row))) rows * f.variables
         + v)
-        (same_bits-equal (restriction y (row_assignment f r)) (restriction y (row_assignment f s)) agrees)
+        (same_bits-sound (restriction y (row_assignment f r)) (restriction y (row_assignment f s)) agrees)
 
 abbrev pub InRange : Dqbf → ℕ → Type 0
 InRange f v = (1 ≤ v) × (v ≤ f.variables)
@@ -103,9 +98,9 @@ InRange f v = (1 ≤ v) × (v ≤ f.variables)
 pub pair-variable : (f : Dqbf) (rows : List (List Bool)) (r s : List Bool) (v w : ℕ) → InRange f v → InRange f w
     → pair_of f rows r v ≡ pair_of f rows s w → v ≡ w
 pair-variable f rows r s v w rv rw same =
-    sym (variable_is (first_agreeing f rows (existential_of f v) r) f.variables v rv.0 rv.1)
+    sym (pair_variable (first_agreeing f rows (existential_of f v) r) f.variables v rv.0 rv.1)
     ∙ ap (λ n. (n - 1) % f.variables + 1) same
-    ∙ variable_is (first_agreeing f rows (existential_of f w) s) f.variables w rw.0 rw.1
+    ∙ pair_variable (first_agreeing f rows (existential_of f w) s) f.variables w rw.0 rw.1
 
 pub bound-range : (f : Dqbf) (v : ℕ) → IsWellFormed f → Contains (declared f) v → InRange f v
 bound-range f v well bound = All-contains (InRange f) (declared f) v well.prefix.in_range bound
@@ -156,12 +151,12 @@ paired-plain f rows row ls range plain = elim (cases_Bool (is_tautology (map (pa
       let a = paired-in f rows row ls r.0 r.1 in
       let b = paired-in f rows row ls (opposite r.0) r.2 in
       let first : variable_of r.0 ≡ pair_of f rows row (variable_of a.0) =
-      ap variable_of a.2 ∙ variable-on (pair_of f rows row (variable_of a.0)) a.0 in
+      ap variable_of a.2 ∙ variable_of-on (pair_of f rows row (variable_of a.0)) a.0 in
       let second : variable_of r.0 ≡ pair_of f rows row (variable_of b.0) =
-      sym (opposite-var r.0) ∙ ap variable_of b.2 ∙ variable-on (pair_of f rows row (variable_of b.0)) b.0 in
+      sym (opposite_variable r.0) ∙ ap variable_of b.2 ∙ variable_of-on (pair_of f rows row (variable_of b.0)) b.0 in
       let same = pair-variable f rows row row (variable_of b.0) (variable_of a.0) (range b.0 b.1) (range a.0 a.1)
       (sym second ∙ first) in
-      absurd (elim (two-literals b.0 a.0 same) [
+      absurd (elim (one_variable b.0 a.0 same) [
         | inl is ↦
             let twice : opposite r.0 ≡ r.0 = b.2 ∙ ap (paired f rows row) is ∙ sym a.2 in
             true≢false (sym (same_literal-refl r.0) ∙ ap (λ q. same_literal q r.0) (sym twice) ∙ not-same r.0)

@@ -1,5 +1,5 @@
 -- Reasons that are found.
-use Rattle.std.proofs.Common.{◌≡◌, ◌≢◌, ℕ, suc, ◌+◌, ◌<◌, ◌≤◌, ◌==◌, Bool, true, false, not, inl, inr, List, [], ◌∷◌, ◌++◌, take, length, get_or, slice_get, reverse, Option, Some, None, refl, sym, ◌∙◌, ap, subst, arith}
+use Rattle.std.proofs.Common.{◌≡◌, ◌≢◌, ℕ, suc, ◌+◌, ◌<◌, ◌≤◌, ◌==◌, Bool, true, false, inl, inr, List, [], ◌∷◌, ◌++◌, take, length, get_or, slice_get, reverse, Option, Some, None, refl, sym, ◌∙◌, ap, subst, arith}
 use Rattle.std.specs.List.{All, AllZip, Contains, list_any}
 use Rattle.std.proofs.lemmas.Bool.{true≢false, or_cases, or_left, or_right, cases_Bool, cond-true, cond-false, eqb-true, eq-eqb}
 use Rattle.std.proofs.lemmas.Option.{slice_get_within, slice_get-get_or, slice_get_read, same_Some}
@@ -7,30 +7,25 @@ use Rattle.std.proofs.lemmas.List.{length-append, take_more}
 use Rattle.std.proofs.lemmas.List.Elements.{all_zip_more, All-push, Contains-push, Contains-append_left}
 use Rattle.std.proofs.lemmas.List.Quantifiers.{all_pairs_push}
 use Rattle.std.proofs.lemmas.List.Folds.{list_any-append, list_any_at}
+use Rattle.list_laws.proofs.Elements.{last_or_before, last_there}
 use Rattle.number_tables.specs.Numbers.{has_number, with_number}
 use Rattle.dq_lits.specs.Literal.{Literal, opposite, same_literal}
 use Rattle.dq_lits.specs.Formula.{Dqbf, IsWellFormed}
 use Rattle.dq_lits.specs.Derivation.{holds}
 use Rattle.dq_lits.specs.Expansion.{universal_literal_true}
+use Rattle.dq_lits.proofs.SignedLiterals.{same_literal-refl, opposite-opposite}
 use Rattle.dq_prep.specs.declared.traces.Taken.{Taken}
 use Rattle.dq_prep.specs.Units.{AreUnits}
-use Rattle.dq_prep.proofs.SignedLiterals.{same_literal-refl, opposite-opposite}
 use Rattle.lifted_proofs.specs.UnitTables.{first_literals, IsFalseBy}
 use Rattle.cert_text.specs.Header.{max_count}
-use Rattle.lifted_proofs.specs.Goals.{clause_at, left_by, IsGoal, IsLowered, IsAsked, IsReason, IsPlan, MakesFalse, HasFalse, AreFalseUnits, Keeps, Grows, GrowsGoals}
+use Rattle.lifted_proofs.specs.Goals.{clause_at, left_by, IsGoal, IsLowered, IsAsked, IsReason, IsPlan, MakesFalse, HasFalse, AreFalseUnits, Keeps, GrowsGoals}
 use Rattle.lifted_proofs.specs.FalsifiedRows.{IsFalsified}
 use Rattle.lifted_proofs.specs.declared.goals.Goal.{Goal}
 use Rattle.lifted_proofs.specs.declared.goals.Reason.{Reason}
 use Rattle.lifted_proofs.specs.declared.goals.Plan.{Plan}
 use Rattle.lifted_proofs.proofs.TakenUnits.{first-are-units}
 use Rattle.lifted_proofs.proofs.LowRows.{serves-falsified, serves-itself, holds-snoc}
-use Rattle.lifted_proofs.proofs.AskedGoals.{keeps-itself, keeps-more, last-or-before, last-at, plan-grows, all-asked-grow}
-
-pub grows-itself : (p : Plan) → GrowsGoals p p
-grows-itself p = record {
-  grows = record { rows = keeps-itself p.rows; goals = keeps-itself p.goals.items };
-  reasons = refl;
-}
+use Rattle.lifted_proofs.proofs.AskedGoals.{keeps-itself, keeps-more, plan-grows, all-asked-grow}
 
 pub grows-on : (p q r : Plan) → GrowsGoals p q → GrowsGoals q r → GrowsGoals p r
 grows-on p q r a b = record {
@@ -41,19 +36,9 @@ grows-on p q r a b = record {
   reasons = b.reasons ∙ a.reasons;
 }
 
-pub all-grow : (p q r : Plan) → Grows p q → Grows q r → Grows p r
-all-grow p q r a b = record {
-  rows = λ k x at. b.rows k x (a.rows k x at);
-  goals = λ k x at. b.goals k x (a.goals k x at);
-}
-
 pub keeps-within : {X : Type 0} (xs ys : List X) (k : ℕ) (d : X) → Keeps xs ys → k < length xs → k < length ys
 keeps-within xs ys k d keeps within =
     slice_get_within ys k (get_or xs k d) (keeps k (get_or xs k d) (slice_get-get_or xs k d within))
-
-not-false : (b : Bool) → not b ≡ true → b ≡ false
-not-false true h = sym h
-not-false false h = refl
 
 -- the row itself serves
 pub lowered-itself : (f : Dqbf) (units : List Taken) (rows : List (List Bool)) (g : Goal) (row : List Bool) (b : Bool)
@@ -99,7 +84,7 @@ row-added f units p q g row low clause well are plan goal at clause-is falsified
         row = row;
         low = low;
         row_at = kept-rows g.row row at;
-        low_at = ap (λ xs. slice_get xs (length p.rows)) rows ∙ last-at p.rows low;
+        low_at = ap (λ xs. slice_get xs (length p.rows)) rows ∙ last_there p.rows low;
         serves = serves-falsified f units g.source row low well (first-are-units f units g.source.taken are)
             goal.source.unsatisfied goal.plain
             (subst (λ r. list_any (universal_literal_true f r)
@@ -124,7 +109,7 @@ plan-reasoned f units p q g r plan at reason left rows goals reasons room =
           let here' : slice_get p.goals.items k ≡ Some w = ap (λ xs. slice_get xs k) (sym same-goals) ∙ here in
           subst (λ rs. IsReason f units rs q.goals.items w s) (sym rows)
           (subst (λ gs. IsReason f units p.rows gs w s) (sym same-goals)
-          (elim (last-or-before p.reasons.items r k s (ap (λ xs. slice_get xs k) (sym reasons) ∙ why)) [
+          (elim (last_or_before p.reasons.items r k s (ap (λ xs. slice_get xs k) (sym reasons) ∙ why)) [
             | inl before ↦ plan.reasons k w s here' before
             | inr last ↦
                 let same : g ≡ w = same_Some g w (sym at ∙ ap (slice_get p.goals.items) (sym last.0) ∙ here') in
@@ -160,13 +145,6 @@ reason-made f units p q g lowered r places grows low are asked same = record {
   places = places;
   false_units = are;
   asked = subst (λ n. AllZip (IsAsked f units q.rows q.goals.items n) places r.hints.items) (sym same) asked;
-}
-
-pub no-places : (units : List Taken) (count : ℕ) → AreFalseUnits units count [] []
-no-places units count = record {
-  distinct = λ i j d before within. absurd (omega (arith, within));
-  each = λ k d below. absurd (omega (arith, below));
-  all = λ l h held. absurd (true≢false (sym h));
 }
 
 holds-before : (done : List Literal) (l k : Literal) → holds done k ≡ true → holds (done ++ l ∷ []) k ≡ true
@@ -280,13 +258,6 @@ next-goal f units p g k plan left is at =
     slice_get_read p.goals.items (length p.goals.items) (length p.reasons.items) g refl left
     (at ∙ ap (λ n. get_or p.goals.items n g) is) in
     (here, plan.goals (length p.reasons.items) g here)
-
-pub places-within : (units : List Taken) (count : ℕ) (clause : List Literal) (places seen : List ℕ)
-    → AreFalseUnits units count clause places → seen ≡ places → All (λ j. j < length units) seen
-places-within units count clause places seen are is =
-    subst (All (λ j. j < length units)) (sym is) (λ k d below.
-    let it = are.each k d below in
-    slice_get_within units (get_or places k d) it.unit it.unit_at)
 
 pub step-false : (units : List Taken) (count j : ℕ) (clause own : List Literal) (i : ℕ) (l : Literal) (o : Option ℕ)
     (places new : List ℕ) → clause ≡ own → i < length clause → l ≡ get_or clause i l → IsFalseBy units count l o

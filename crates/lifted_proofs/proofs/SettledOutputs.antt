@@ -8,6 +8,7 @@ use Rattle.std.proofs.lemmas.List.Elements.{All-contains}
 use Rattle.dq_lits.specs.Literal.{Literal, positive, negative, variable_of, opposite, same_literal}
 use Rattle.dq_lits.specs.Formula.{Dqbf, is_universal, IsWellFormed}
 use Rattle.dq_lits.specs.Derivation.{holds}
+use Rattle.dq_lits.proofs.Truth.{same_literal-sound}
 use Rattle.dq_formula.specs.Prefix.{existential_variables}
 use Rattle.dq_formula.proofs.Places.{has-contains, contains-has}
 use Rattle.circuit_plain.specs.Netlist.{IsNetlist, IsVariable, IsLiteral}
@@ -15,7 +16,6 @@ use Rattle.cert_text.specs.NegatedMatrix.{opposite_of, literal_under}
 use Rattle.dq_prep.specs.declared.traces.Taken.{Taken}
 use Rattle.dq_prep.specs.Units.{AreUnits, taken_literals}
 use Rattle.dq_prep.proofs.ToldValues.{unit-existential}
-use Rattle.dq_prep.proofs.SignedLiterals.{same_literal-sound}
 use Rattle.skolem_checker.specs.Checks.{Candidate}
 use Rattle.skolem_checker.specs.SkolemCircuit.{MappedCircuit}
 use Rattle.skolem_checker.specs.Tables.{IsMapping}

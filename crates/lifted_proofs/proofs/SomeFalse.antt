@@ -5,8 +5,8 @@ use Rattle.std.proofs.lemmas.Bool.{cases_eq, ne_eqb, or_left, or_right}
 use Rattle.std.proofs.lemmas.Option.{same_Some}
 use Rattle.dq_lits.specs.Literal.{Literal, positive, negative, opposite, same_literal}
 use Rattle.dq_lits.specs.Derivation.{LiveClauses, IsDerived, holds}
+use Rattle.dq_lits.proofs.SignedLiterals.{same_literal-refl}
 use Rattle.dq_prep.specs.Lifted.{AreFalsifying}
-use Rattle.dq_prep.proofs.SignedLiterals.{same_literal-refl}
 use Rattle.dq_prep.proofs.Carried.{derives}
 use Rattle.lifted_proofs.specs.Liftables.{is_false}
 use Rattle.lifted_proofs.specs.NamedIds.{IsTrueBy}

@@ -1,29 +1,26 @@
 -- Units by their places.
-use Rattle.std.proofs.Common.{◌≡◌, ◌≢◌, ℕ, zero, suc, ◌+◌, ◌<◌, ◌==◌, Bool, true, false, inl, inr, List, [], ◌∷◌, ◌++◌, take, drop, reverse, length, get_or, slice_get, Option, Some, None, is_some, refl, sym, ◌∙◌, ap, subst, arith}
-use Rattle.std.specs.Prelude.{slice_set, slice_index_or, replicate}
+use Rattle.std.proofs.Common.{◌≡◌, ◌≢◌, ℕ, suc, ◌+◌, ◌<◌, ◌==◌, Bool, true, false, inl, inr, List, [], ◌∷◌, ◌++◌, take, drop, reverse, length, get_or, slice_get, Option, Some, None, is_some, refl, sym, ◌∙◌, ap, subst, arith}
+use Rattle.std.specs.Prelude.{slice_set, slice_index_or}
 use Rattle.std.specs.List.{Contains, position}
 use Rattle.std.proofs.lemmas.Bool.{true≢false, or_cases, or_left, cases_lt, cases_eq, cases_Bool, eqb-true}
 use Rattle.std.proofs.lemmas.Option.{slice_get_within, get_or_from_slice_get, slice_get-get_or, same_Some}
 use Rattle.std.proofs.lemmas.List.{take-append-drop, reverse-append, take_more, get_or-take, length-take, length-map, length-set, get_or_default, get_or-set_same, get_or-set_other}
 use Rattle.std.proofs.lemmas.List.Quantifiers.{position-Some}
 use Rattle.std.proofs.lemmas.List.Sorted.{Contains-permutation, IsPermutation-reverse, IsPermutation-sym}
-use Rattle.dq_lits.specs.Literal.{Literal, positive, negative, variable_of, opposite, same_literal}
+use Rattle.list_laws.proofs.Members.{tested_inside}
+use Rattle.dq_lits.specs.Literal.{Literal, variable_of, opposite, same_literal}
 use Rattle.dq_lits.specs.Formula.{Dqbf, existential_of, IsWellFormed}
 use Rattle.dq_lits.specs.Derivation.{holds}
+use Rattle.dq_lits.proofs.Truth.{same_literal-sound}
+use Rattle.dq_lits.proofs.SignedLiterals.{same_literal-refl, opposite_variable, one_variable}
 use Rattle.dq_formula.specs.Prefix.{existential_variables}
 use Rattle.dq_formula.proofs.Entries.{is_some-find, list_any-map}
 use Rattle.dq_formula.proofs.Subsets.{none_contained}
-use Rattle.dq_prep.proofs.SeenUniversals.{contained-any}
 use Rattle.dq_prep.specs.declared.traces.Taken.{Taken}
 use Rattle.dq_prep.specs.Units.{AreUnits, IsUnit, taken_literals}
 use Rattle.dq_prep.proofs.Units.{taken-holds, left-holds, satisfied-by}
-use Rattle.dq_prep.proofs.ToldValues.{unit-fresh, unit-existential, two-literals}
-use Rattle.dq_prep.proofs.SignedLiterals.{same_literal-sound, same_literal-refl}
+use Rattle.dq_prep.proofs.ToldValues.{unit-fresh, unit-existential}
 use Rattle.lifted_proofs.specs.UnitTables.{first_units, first_literals, TellsUnit, TellUnits, IsFalseBy, IsFalseAt}
-
-pub opposite-variable : (l : Literal) → variable_of (opposite l) ≡ variable_of l
-opposite-variable (positive v) = refl
-opposite-variable (negative v) = refl
 
 later-units : (f : Dqbf) (xs ys : List Taken) → AreUnits f (xs ++ ys) → AreUnits f ys
 later-units f [] ys are = are
@@ -113,7 +110,7 @@ units-apart f units i j u w are before at-i at-j same =
     let it = unit-at f units j w are at-j in
     let trues = first_literals units j in
     let held = first-holds units j i u before at-i in
-    elim (two-literals u.literal w.literal same) [
+    elim (one_variable u.literal w.literal same) [
       | inl is ↦
           let inside : holds it.clause w.literal ≡ true =
           left-holds f w.literal trues it.clause
@@ -147,7 +144,7 @@ none-false f units count l well are none =
           let first = held-first units count (opposite l) held in
           let it = unit-at f units first.place first.unit are first.at in
           let there = unit-existential f (first_units units first.place) first.unit well it in
-          let same : variable_of first.unit.literal ≡ variable_of l = ap variable_of first.is ∙ opposite-variable l in
+          let same : variable_of first.unit.literal ≡ variable_of l = ap variable_of first.is ∙ opposite_variable l in
           absurd (none_contained (existential_variables f) (variable_of l) none
           (subst (Contains (existential_variables f)) same there))
     ]
@@ -160,7 +157,7 @@ untold-false units count l none =
       | inl held ↦
           let first = held-first units count (opposite l) held in
           absurd (none first.place first.unit (slice_get_within units first.place first.unit first.at) first.at
-          (ap variable_of first.is ∙ opposite-variable l))
+          (ap variable_of first.is ∙ opposite_variable l))
     ]
 
 pub other-false : (units : List Taken) (count : ℕ) (l : Literal) (j : ℕ)
@@ -173,7 +170,7 @@ other-false units count l j told none =
       | inl held ↦
           let first = held-first units count (opposite l) held in
           let is = told.1 first.place first.unit (slice_get_within units first.place first.unit first.at) first.at
-          (ap variable_of first.is ∙ opposite-variable l) in
+          (ap variable_of first.is ∙ opposite_variable l) in
           absurd (none first.unit (ap (slice_get units) (sym is) ∙ first.at)
           (subst (λ n. n < count) is first.before) first.is)
     ]
@@ -260,18 +257,6 @@ table-stays f units j u on at none told v p at-v =
     none-some : None ≡ Some p → ⊥
     none-some e = cc
 
-abbrev nothing : Option ℕ
-nothing = None
-
-pub table-none : (f : Dqbf) (units : List Taken) (n : ℕ) → TellUnits f units 0 (replicate n None)
-table-none f units n v p at-v =
-    subst (TellsUnit units 0 v) (sym (all-none n p)) (λ j u below there same. absurd (omega (arith, below)))
-  where
-    all-none : (n p : ℕ) → get_or (replicate n nothing) p nothing ≡ nothing
-    all-none zero p = refl
-    all-none (suc n) zero = refl
-    all-none (suc n) (suc p) = all-none n p
-
 pub unit-some : (f : Dqbf) (units : List Taken) (j : ℕ) (u : Taken) (v : ℕ) → IsWellFormed f
     → AreUnits f (reverse units) → slice_get units j ≡ Some u → v ≡ variable_of u.literal
     → is_some (existential_of f v) ≡ true
@@ -280,7 +265,7 @@ unit-some f units j u v well are at is =
     ap (λ w. is_some (existential_of f w)) is
     ∙ is_some-find (λ y. y.variable == variable_of u.literal) f.existentials
     ∙ sym (list_any-map (λ x. x == variable_of u.literal) (λ y. y.variable) f.existentials)
-    ∙ contained-any (existential_variables f) (variable_of u.literal) there
+    ∙ tested_inside (existential_variables f) (variable_of u.literal) there
 
 -- the table's answers
 pub place-none : (f : Dqbf) (units : List Taken) (count : ℕ) (l : Literal) (v : ℕ) (o : Option ℕ) → IsWellFormed f
@@ -326,11 +311,6 @@ here-false units j l k u false at is other = λ w there same.
     let one : u ≡ w = same_Some u w (sym at ∙ there) in
     true≢false (sym (same_literal-refl k)
     ∙ ap (λ x. same_literal x k) (is ∙ sym same ∙ ap (λ x. x.literal) (sym one)) ∙ sym other)
-
-pub false-here : (units : List Taken) (count j : ℕ) (l : Literal) (b : Bool) → j < count → IsFalseAt units j l b
-    → b ≡ true → IsFalseBy units count l (Some j)
-false-here units count j l true before it is = (before, it)
-false-here units count j l false before it is = absurd (true≢false (sym is))
 
 pub not-false-here : (units : List Taken) (j : ℕ) (l : Literal) (b : Bool) → IsFalseAt units j l b → b ≡ false
     → (u : Taken) → slice_get units j ≡ Some u → u.literal ≡ opposite l → ⊥

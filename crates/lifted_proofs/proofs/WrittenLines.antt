@@ -4,10 +4,12 @@ use Rattle.std.specs.List.{All}
 use Rattle.std.proofs.lemmas.Bool.{true≢false, cond-false, ne_eqb, eqb-true, lt-ltb}
 use Rattle.std.proofs.lemmas.Option.{slice_get_within, get_or_from_slice_get}
 use Rattle.std.proofs.lemmas.List.Elements.{All-map, All-head, All-tail, All-filter, filter_passes}
+use Rattle.list_laws.proofs.Numbers.{pair_variable, pair_row}
 use Rattle.dq_lits.specs.Literal.{Literal, positive, negative, variable_of, on_variable}
 use Rattle.dq_lits.specs.Formula.{Existential, Dqbf, existential_of, is_universal, IsWellFormed}
 use Rattle.dq_lits.specs.Derivation.{LiveClauses, with_clause, IsDerived, ProofStep}
 use Rattle.dq_lits.specs.Expansion.{instance_at, instance_clause}
+use Rattle.dq_lits.proofs.SignedLiterals.{variable_of-on}
 use Rattle.dq_prep.specs.declared.traces.Taken.{Taken}
 use Rattle.dq_prep.specs.Roles.{open_literals, is_open}
 use Rattle.dq_prep.proofs.LiteralRoles.{find-Some}
@@ -18,14 +20,14 @@ use Rattle.refutation_checker.specs.Pairs.{pair_of, existential_part}
 use Rattle.refutation_checker.specs.Refutation.{normal_number, normal_literal}
 use Rattle.refutation_checker.specs.Rows.{row_of}
 use Rattle.refutation_checker.proofs.InstanceIds.{own_id}
-use Rattle.refutation_checker.proofs.PairNames.{row_is, variable_is, own_number}
+use Rattle.refutation_checker.proofs.PairNames.{own_number}
 use Rattle.refutation_checker.proofs.PairNumbers.{pair_number_is}
 use Rattle.lifted_proofs.specs.UnitTables.{first_literals}
 use Rattle.lifted_proofs.specs.Goals.{clause_at, IsGoal}
 use Rattle.lifted_proofs.specs.Lines.{goal_line, paired, numbered_literal, written_literals, behind_steps, AreDerived, normal_steps}
 use Rattle.lifted_proofs.specs.declared.goals.Goal.{Goal}
 use Rattle.lifted_proofs.specs.declared.goals.Reason.{Reason}
-use Rattle.lifted_proofs.proofs.PairedLiterals.{variable-on, left-paired, clause-paired, existential-or-universal, bound-range, InRange}
+use Rattle.lifted_proofs.proofs.PairedLiterals.{left-paired, clause-paired, existential-or-universal, bound-range, InRange}
 use Rattle.lifted_proofs.proofs.DerivedGoals.{Settled, and-both}
 
 -- one more step
@@ -69,7 +71,7 @@ normal-numbered f rows row l well within bound existential =
     existential-or-universal f l well bound ∙ ap not existential in
     signs n (normal_number f rows (variable_of (on_variable n l))) l
     ∙ ap (λ m. on_variable m l)
-    (ap (normal_number f rows) (variable-on n l) ∙ by (existential_of f v) refl some range)
+    (ap (normal_number f rows) (variable_of-on n l) ∙ by (existential_of f v) refl some range)
   where
     signs : (n m : ℕ) (l : Literal) → on_variable m (on_variable n l) ≡ on_variable m l
     signs n m (positive v) = refl
@@ -100,9 +102,9 @@ numbered-is-pair f rows row l well within bound existential =
     ne_eqb f.variables 0 (λ same. absurd (omega (arith, same, range.0, range.1))) in
     let second : (n == 0) ≡ false = ne_eqb n 0 (λ same. absurd (omega (arith, same, range.0))) in
     let third : nat_lt ((n - 1) / f.variables) rows ≡ true =
-    ap (λ q. nat_lt q rows) (row_is row f.variables v range.0 range.1) ∙ lt-ltb row rows within in
+    ap (λ q. nat_lt q rows) (pair_row row f.variables v range.0 range.1) ∙ lt-ltb row rows within in
     let fourth : is_some (existential_of f ((n - 1) % f.variables + 1)) ≡ true =
-    ap (λ q. is_some (existential_of f q)) (variable_is row f.variables v range.0 range.1) ∙ some in
+    ap (λ q. is_some (existential_of f q)) (pair_variable row f.variables v range.0 range.1) ∙ some in
     all-four (f.variables == 0) (n == 0) (nat_lt ((n - 1) / f.variables) rows)
     (is_some (existential_of f ((n - 1) % f.variables + 1))) first second third fourth
   where
@@ -175,7 +177,7 @@ written-pairs f units rows g well goal =
     (open_literals f trues clause) (λ k d below.
     let l = get_or (open_literals f trues clause) k d in
     let it = open-at f trues clause k d bound below in
-    ap (is_pair_number f (length rows)) (variable-on (g.row * f.variables + variable_of l) l)
+    ap (is_pair_number f (length rows)) (variable_of-on (g.row * f.variables + variable_of l) l)
     ∙ numbered-is-pair f (length rows) g.row l well within it.0 it.1)
 
 -- the instance of a goal's clause under its lowered row

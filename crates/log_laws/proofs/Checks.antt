@@ -1,15 +1,17 @@
 -- What tests and tables show of a given log.
 use Rattle.std.proofs.Common.{◌≡◌, ◌≢◌, ℕ, zero, suc, ◌+◌, ◌≤◌, ◌<◌, ◌==◌, Bool, true, false, true≢false, cond, ◌||◌, ◌&&◌, inl, inr, List, [], ◌∷◌, ◌++◌, length, map, Option, None, Some, IsSome, refl, sym, ◌∙◌, ap, subst, arith, nat_le}
-use Rattle.std.specs.List.{All, AllPairs, Contains, list_any, list_all, AllByRecursion, IsDistinct}
+use Rattle.std.specs.List.{All, AllPairs, Contains, list_any, list_all, IsDistinct}
 use Rattle.std.specs.Option.{option_and_then}
 use Rattle.std.proofs.lemmas.Bool.{and_parts, or_cases, leb-true, eqb-true}
 use Rattle.std.proofs.lemmas.Bool.Decides.{Decides-eqb}
 use Rattle.std.proofs.lemmas.List.Elements.{All-from_recursion, All-contains}
 use Rattle.std.proofs.lemmas.Map.Made.{AllPairs-from_IsDistinct}
 use Rattle.std.proofs.lemmas.Map.Views.{Contains-from_any}
+use Rattle.list_laws.proofs.Folds.{all_passing}
 use Rattle.dq_lits.specs.Formula.{Existential, IsWellFormed}
-use Rattle.dq_lits.specs.Literal.{Literal, positive, negative, variable_of, opposite, same_literal}
+use Rattle.dq_lits.specs.Literal.{Literal, negative, variable_of, opposite, same_literal}
 use Rattle.dq_lits.specs.Derivation.{holds, stuck, status_of}
+use Rattle.dq_lits.proofs.Truth.{same_literal-sound}
 use Rattle.hint_log.specs.Entries.{Entry}
 use Rattle.hint_log.specs.Entries.{Named, Given, Learned, Answer, Round, Begun}
 use Rattle.hint_log.specs.declared.names.Name.{Name}
@@ -22,17 +24,6 @@ use Rattle.hint_log.specs.Growth.{Each}
 use Rattle.hint_log.specs.ProductiveLog.{IsClosed}
 use Rattle.log_laws.proofs.Found.{split_at, each_at}
 
-by_recursion : {X : Type 0} (p : X → Bool) (P : X → Type 0) → ((x : X) → p x ≡ true → P x) → (xs : List X) →
-    list_all p xs ≡ true → AllByRecursion P xs
-by_recursion p P shows [] h = tt
-by_recursion p P shows (x ∷ xs) h = let parts = and_parts (p x) (list_all p xs) h in
-    (shows x parts.0, by_recursion p P shows xs parts.1)
-
--- what a test shows of each element
-pub all_by : {X : Type 0} (p : X → Bool) (P : X → Type 0) → ((x : X) → p x ≡ true → P x) → (xs : List X) →
-    list_all p xs ≡ true → All P xs
-all_by p P shows xs h = All-from_recursion P xs (by_recursion p P shows xs h)
-
 abbrev pub is_some : Option Name → Bool
 is_some (Some _) = true
 is_some None = false
@@ -43,7 +34,7 @@ some_is None h = cc
 
 pub named_by : (entries : List Entry) (literals : List Literal) →
     list_all (λ l. is_some (name_of entries (variable_of l))) literals ≡ true → AreNamed entries literals
-named_by entries = all_by (λ l. is_some (name_of entries (variable_of l)))
+named_by entries = all_passing (λ l. is_some (name_of entries (variable_of l)))
     (λ l. IsSome (name_of entries (variable_of l))) (λ l h. some_is (name_of entries (variable_of l)) h)
 
 abbrev pub is_id : List Entry → ℕ → Bool
@@ -52,7 +43,7 @@ is_id entries id = nat_le 1 id && nat_le id (last_id entries)
 pub ids_by : (entries : List Entry) (ids : List ℕ) → list_all (is_id entries) ids ≡ true → AreIds entries ids
 ids_by entries ids h id inside =
     All-contains (IsId entries) ids id
-    (all_by (is_id entries) (IsId entries) (λ i test. let parts =
+    (all_passing (is_id entries) (IsId entries) (λ i test. let parts =
     and_parts (nat_le 1 i) (nat_le i (last_id entries)) test in
     record { from_one = leb-true 1 i parts.0; last = leb-true i (last_id entries) parts.1 }) ids h) inside
 
@@ -80,12 +71,6 @@ closed_by trues (e ∷ es) h id = by_bit (has_id e && (id == last_id es + 1)) (c
   by_bit true later = h.0
   by_bit false later = later
 
-same-sound : (k l : Literal) → same_literal k l ≡ true → k ≡ l
-same-sound (positive v) (positive w) h = ap positive (eqb-true v w h)
-same-sound (positive v) (negative w) h = cc
-same-sound (negative v) (positive w) h = cc
-same-sound (negative v) (negative w) h = ap negative (eqb-true v w h)
-
 -- all literals but one are false
 pub rest_by : (trues : List Literal) (literal : Literal) (clause : List Literal) →
     list_all (λ x. same_literal x literal || holds trues (opposite x)) clause ≡ true →
@@ -96,7 +81,7 @@ rest_by trues literal (x ∷ xs) h l inside other =
     (list_all (λ y. same_literal y literal || holds trues (opposite y)) xs) h in
     elim (or_cases (same_literal l x) (holds xs l) inside) [
       | inl here ↦
-          let is = same-sound l x here in
+          let is = same_literal-sound l x here in
           elim (or_cases (same_literal x literal) (holds trues (opposite x)) parts.0) [
             | inl same ↦ absurd (true≢false (sym same ∙ ap (λ k. same_literal k literal) (sym is) ∙ other))
             | inr false' ↦ ap (λ k. holds trues (opposite k)) is ∙ false'
@@ -143,7 +128,7 @@ abbrev pub is_among : List ℕ → ℕ → Bool
 is_among xs v = list_any (λ x. v == x) xs
 
 pub among_by : (xs ys : List ℕ) → list_all (is_among xs) ys ≡ true → All (Contains xs) ys
-among_by xs = all_by (is_among xs) (Contains xs) (λ v. Contains-from_any eqb-true v xs)
+among_by xs = all_passing (is_among xs) (Contains xs) (λ v. Contains-from_any eqb-true v xs)
 
 abbrev pub is_bound : List Literal → Bool
 is_bound clause = list_all (λ l. is_among (1 ∷ 2 ∷ 3 ∷ []) (variable_of l)) clause
@@ -157,12 +142,12 @@ well_formed_by universals existentials matrix are sees bound = record {
     in_range = subst (All (λ v. (1 ≤ v) × (v ≤ 3))) (sym are) in_range;
     declared_once = subst (AllPairs (λ v w. v ≢ w)) (sym are)
         (AllPairs-from_IsDistinct Decides-eqb (1 ∷ 2 ∷ 3 ∷ []) distinct);
-    sees_universals = all_by (λ y. list_all (is_among universals) y.sees) (λ y. All (Contains universals) y.sees)
+    sees_universals = all_passing (λ y. list_all (is_among universals) y.sees) (λ y. All (Contains universals) y.sees)
         (λ y h. among_by universals y.sees h) existentials sees;
   };
-  bound = all_by is_bound (All (λ l. Contains (universals ++ map (λ y. y.variable) existentials) (variable_of l)))
+  bound = all_passing is_bound (All (λ l. Contains (universals ++ map (λ y. y.variable) existentials) (variable_of l)))
       (λ clause h. subst (λ xs. All (λ l. Contains xs (variable_of l)) clause) (sym are)
-      (all_by (λ l. is_among (1 ∷ 2 ∷ 3 ∷ []) (variable_of l)) (λ l. Contains (1 ∷ 2 ∷ 3 ∷ []) (variable_of l))
+      (all_passing (λ l. is_among (1 ∷ 2 ∷ 3 ∷ []) (variable_of l)) (λ l. Contains (1 ∷ 2 ∷ 3 ∷ []) (variable_of l))
       (λ l. Contains-from_any eqb-true (variable_of l) (1 ∷ 2 ∷ 3 ∷ [])) clause h))
       matrix bound;
 }

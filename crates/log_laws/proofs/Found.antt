@@ -1,11 +1,11 @@
 -- What is found in lists and logs.
-use Rattle.std.proofs.Common.{◌≡◌, ℕ, zero, suc, ◌+◌, ◌<◌, ◌==◌, Bool, true, false, cond, not, ◌&&◌, List, [], ◌∷◌, ◌++◌, map, length, get_or, slice_get, Option, None, Some, refl, sym, ◌∙◌, ap, subst, arith}
+use Rattle.std.proofs.Common.{◌≡◌, ℕ, zero, suc, ◌+◌, ◌<◌, ◌==◌, Bool, true, false, cond, not, ◌&&◌, List, [], ◌∷◌, ◌++◌, map, length, get_or, slice_get, Option, None, Some, refl, ◌∙◌, ap, subst, arith}
 use Rattle.std.specs.List.{Contains, find, position_or_len}
 use Rattle.std.specs.Option.{option_map}
-use Rattle.std.proofs.lemmas.Bool.{eqb-true, eq-eqb}
+use Rattle.std.proofs.lemmas.Bool.{eq-eqb}
+use Rattle.list_laws.proofs.Members.{element_at}
 use Rattle.dq_lits.specs.Literal.{Literal, variable_of, is_negative}
 use Rattle.dq_lits.specs.Formula.{Existential}
-use Rattle.dq_lits.specs.Henkin.{same_bits}
 use Rattle.hint_log.specs.Entries.{Entry}
 use Rattle.hint_log.specs.declared.names.Name.{Name}
 use Rattle.hint_log.specs.Entries.{has_id, count, numbered, name_of}
@@ -19,18 +19,6 @@ use Rattle.hint_log.specs.Naming.{numbered_from_one, NamedLiteral, named_literal
 
 abbrev pub variable : Existential → ℕ
 variable y = y.variable
-
--- what is found is an element that passes
-pub find_sound : (v : ℕ) (ys : List Existential) (y : Existential) → find (λ z. z.variable == v) ys ≡ Some y →
-    Contains ys y × (y.variable ≡ v)
-find_sound v [] y h = cc
-find_sound v (x ∷ ys) y h = by_bit (find_sound v ys y) (x.variable == v) refl h where
-  by_bit : (find (λ z. z.variable == v) ys ≡ Some y → Contains ys y × (y.variable ≡ v)) → (b : Bool) →
-      (x.variable == v) ≡ b → cond b (Some x) (find (λ z. z.variable == v) ys) ≡ Some y →
-      Contains (x ∷ ys) y × (y.variable ≡ v)
-  by_bit later true e h = let same : x ≡ y = cc in let is = eqb-true x.variable v e in
-      ((0, omega arith, same), sym (ap variable same) ∙ is)
-  by_bit later false e h = let r = later h in let b = r.0.1 in ((suc r.0.0, omega arith, r.0.2), r.1)
 
 -- what is there is found
 pub find_there : (ys : List Existential) (v : ℕ) → Contains (map variable ys) v →
@@ -48,11 +36,6 @@ find_there (y ∷ ys) v (suc k, below, is) h = by_bit (λ g. find_there ys v
       by_bit later true h = cc
       by_bit later false h = later h
 
-element_at : {X : Type 0} (xs : List X) (i : ℕ) (x : X) → slice_get xs i ≡ Some x → Contains xs x
-element_at [] i x h = cc
-element_at (y ∷ ys) zero x h = (0, omega arith, cc)
-element_at (y ∷ ys) (suc i) x h = let r = element_at ys i x h in let b = r.1 in (suc r.0, omega arith, r.2)
-
 pub numbered_among : {X : Type 0} (xs : List X) (j : ℕ) (x : X) → numbered_from_one xs j ≡ Some x → Contains xs x
 numbered_among xs zero x h = cc
 numbered_among xs (suc j) x h = element_at xs j x h
@@ -61,11 +44,6 @@ pub slice_get_at : {X : Type 0} (xs : List X) (k : ℕ) (d : X) → k < length x
 slice_get_at [] k d h = absurd (omega arith)
 slice_get_at (x ∷ xs) zero d h = refl
 slice_get_at (x ∷ xs) (suc k) d h = let below : k < length xs = omega arith in slice_get_at xs k d below
-
-pub same_bits-refl : (bits : List Bool) → same_bits bits bits ≡ true
-same_bits-refl [] = refl
-same_bits-refl (true ∷ bits) = same_bits-refl bits
-same_bits-refl (false ∷ bits) = same_bits-refl bits
 
 pub position_small : (p : List Bool → Bool) (xs : List (List Bool)) (k : ℕ) (d : List Bool) → k < length xs →
     p (get_or xs k d) ≡ true → position_or_len p xs < length xs

@@ -1,11 +1,13 @@
 -- A derived line is true where the clauses of its hints are.
-use Rattle.std.proofs.Common.{◌≡◌, ℕ, suc, ◌+◌, ◌==◌, Bool, true, false, cond, inl, inr, List, [], ◌∷◌, map, get_or, Option, None, Some, refl, ◌∙◌, ap, arith}
-use Rattle.std.specs.List.{All, Contains, list_any}
-use Rattle.std.proofs.lemmas.Bool.{eqb-true, eq-eqb, or_cases, cond-true}
+use Rattle.std.proofs.Common.{◌≡◌, ℕ, ◌+◌, ◌==◌, Bool, true, false, cond, List, [], ◌∷◌, map, get_or, None, Some, refl, ◌∙◌, ap}
+use Rattle.std.specs.List.{All, list_any}
+use Rattle.std.proofs.lemmas.Bool.{eq-eqb, cond-true}
 use Rattle.std.proofs.lemmas.List.Elements.{All-contains, All-head, All-tail}
 use Rattle.std.proofs.lemmas.List.Folds.{list_any_at}
+use Rattle.list_laws.proofs.Members.{contains_listed}
 use Rattle.dq_lits.specs.Literal.{Assignment, Literal, opposite, clause_true}
-use Rattle.dq_lits.specs.Derivation.{LiveClauses, MakesTrue, IsDerived, Status, falsified, unit, stuck, status_of, fault_by, hint_fault, is_tautology}
+use Rattle.dq_lits.specs.Derivation.{LiveClauses, MakesTrue, IsDerived, status_of, fault_by, hint_fault, is_tautology}
+use Rattle.dq_lits.proofs.HeldLiterals.{fault_by-same}
 
 -- the law of derived lines
 abbrev pub LinesAreImplied : Type 0
@@ -20,13 +22,6 @@ only ids live id = cond (list_any (λ i. i == id) ids) (live id) None
 abbrev pub IsTrueAt : Assignment → LiveClauses → ℕ → Type 0
 IsTrueAt m live id = (c : List Literal) → live id ≡ Some c → clause_true m c ≡ true
 
-same_step : (s : Status) (place : ℕ) (hints : List ℕ) (next other : Literal → Option ℕ) →
-    ((l : Literal) → next l ≡ other l) → fault_by s place hints next ≡ fault_by s place hints other
-same_step falsified place [] next other same = refl
-same_step falsified place (h ∷ hs) next other same = refl
-same_step (unit l) place hints next other same = same l
-same_step stuck place hints next other same = refl
-
 same_fault : (live other : LiveClauses) (hints : List ℕ) → All (λ i. live i ≡ other i) hints →
     (trues : List Literal) (place : ℕ) →
     hint_fault live trues place hints ≡ hint_fault other trues place hints
@@ -34,16 +29,9 @@ same_fault live other [] same trues place = refl
 same_fault live other (h ∷ hs) same trues place =
     ap (λ c. fault_by (status_of trues c) place hs (λ l. hint_fault live (l ∷ trues) (place + 1) hs))
     (All-head (λ i. live i ≡ other i) h hs same)
-    ∙ same_step (status_of trues (other h)) place hs (λ l. hint_fault live (l ∷ trues) (place + 1) hs)
+    ∙ fault_by-same (status_of trues (other h)) place hs (λ l. hint_fault live (l ∷ trues) (place + 1) hs)
     (λ l. hint_fault other (l ∷ trues) (place + 1) hs)
     (λ l. same_fault live other hs (All-tail (λ i. live i ≡ other i) h hs same) (l ∷ trues) (place + 1))
-
-any_is : (v : ℕ) (xs : List ℕ) → list_any (λ x. x == v) xs ≡ true → Contains xs v
-any_is v [] h = cc
-any_is v (x ∷ xs) h = elim (or_cases (x == v) (list_any (λ z. z == v) xs) h) [
-  | inl here ↦ (0, omega arith, eqb-true x v here)
-  | inr later ↦ (let r = any_is v xs later in let b = r.1 in (suc r.0, omega arith, r.2))
-]
 
 kept : (ids : List ℕ) (live : LiveClauses) → All (λ i. only ids live i ≡ live i) ids
 kept ids live k d below =
@@ -61,5 +49,5 @@ true_by_hints implied live literals hints derived m truth =
   where
     by_bit : (id : ℕ) (c : List Literal) (b : Bool) → list_any (λ i. i == id) hints ≡ b →
         cond b (live id) None ≡ Some c → clause_true m c ≡ true
-    by_bit id c true among is = All-contains (IsTrueAt m live) hints id truth (any_is id hints among) c is
+    by_bit id c true among is = All-contains (IsTrueAt m live) hints id truth (contains_listed id hints among) c is
     by_bit id c false among is = cc

@@ -14,6 +14,7 @@ use Rattle.hint_log.specs.Live.{live_numbers, before_beginning}
 use Rattle.hint_log.specs.Naming.{rows_of}
 use Rattle.hint_log.specs.Deciding.{DecidesNothing}
 use Rattle.hint_log.specs.ProductiveLog.{MatchesOrigin, RefutesNewRow, FollowsModel, IsNotRepeated, is_fault, fault_groups}
+use Rattle.hint_log.proofs.NamedEntries.{each_both}
 use Rattle.log_laws.specs.Engines.{Engine, circuits, same_engine, origin_engine, name_engine, is_engine, is_own, IsInGroup, IsOwnGiven, IsAddedBy, LeavesRest, EnginesLeaveRest}
 
 pub each_grown : (P Q : List Entry → Entry → Type 0) → ((earlier : List Entry) (e : Entry) → P earlier e →
@@ -266,19 +267,11 @@ grown_by_none P old new is = record {
       ap (λ (l : ProofLog). l.limit) is;
 }
 
-each_of_append : (P : List Entry → Entry → Type 0) (later more old : List Entry) → EachOf P later (more ++ old) →
-    EachOf P more old → EachOf P (later ++ more) old
-each_of_append P [] more old h k = k
-each_of_append P (e ∷ later) more old h k = (
-  subst (λ es. P es e) (sym (append_assoc later more old)) h.0,
-  each_of_append P later more old h.1 k,
-)
-
 pub grown_then : (P : List Entry → Entry → Type 0) (a b c : ProofLog) → Grew P a b → Grew P b c → Grew P a c
 grown_then P a b c first second = record {
   more = second.more ++ first.more;
   grown = second.grown ∙ ap (λ es. second.more ++ es) first.grown ∙ sym (append_assoc second.more first.more a.entries);
-  each = each_of_append P second.more first.more a.entries (subst (EachOf P second.more) first.grown second.each)
+  each = each_both P second.more first.more a.entries (subst (EachOf P second.more) first.grown second.each)
       first.each;
   limit = second.limit ∙ first.limit;
 }

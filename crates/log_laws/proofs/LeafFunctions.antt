@@ -10,6 +10,8 @@ use Rattle.dq_lits.specs.Literal.{Assignment, Literal, negative, variable_of, sa
 use Rattle.dq_lits.specs.Formula.{Existential, Dqbf, declared, is_universal, existential_of, IsWellFormed}
 use Rattle.dq_lits.specs.Henkin.{MatrixHolds}
 use Rattle.dq_lits.specs.Skolem.{OutputFunction, AreSkolemFunctions}
+use Rattle.dq_lits.proofs.LiftedExpansion.{literal_true-agree}
+use Rattle.dq_lits.proofs.FormulaVariables.{find_sound}
 use Rattle.hint_log.specs.Conditions.{is_circuit_name, HasSides}
 use Rattle.hint_log.specs.Entries.{name_of}
 use Rattle.hint_log.specs.Entries.{Entry}
@@ -28,8 +30,8 @@ use Rattle.hint_log.specs.ProductiveLog.{MatchesOrigin}
 use Rattle.hint_log.specs.Deciding.{ReachesGiven, IsFaultLeaf, ReadsInput, itself, left, right, LeafReads, DecidesTrue}
 use Rattle.log_laws.specs.Circuits.{name_value, value_in, leaf_value, circuit_value, existential_bit, by_bits}
 use Rattle.log_laws.proofs.ReachedClauses.{name_stays}
-use Rattle.log_laws.proofs.Solved.{literal_same, both_same}
-use Rattle.log_laws.proofs.Found.{variable, find_sound, find_there, each_at, split_at}
+use Rattle.log_laws.proofs.Solved.{both_same}
+use Rattle.log_laws.proofs.Found.{variable, find_there, each_at, split_at}
 
 -- a fault's leaf for an existential, in a group
 abbrev pub is_in_group : ℕ → List Literal → Bool
@@ -206,7 +208,7 @@ module _ (p q : Assignment) (bad : ℕ → Bool) where
     leaf_same : (es : List Entry) (leaf : Leaf) → leaf_value (value_in p bad es) leaf ≡ leaf_value
         (value_in q bad es) leaf
     leaf_same es (Constant b) = refl
-    leaf_same es (LeafLiteral l) = literal_same (value_in p bad es) (value_in q bad es) l
+    leaf_same es (LeafLiteral l) = literal_true-agree (value_in p bad es) (value_in q bad es) l
         (value_same es (variable_of l))
 
   -- a circuit's values depend on the inputs that it reads
@@ -275,7 +277,7 @@ leaf_read : (p q : Assignment) (bad : ℕ → Bool) (all : List Entry) → Each 
     leaf_value (value_in p bad all) leaf ≡ leaf_value (value_in q bad all) leaf
 leaf_read p q bad all lawful (Constant b) circuit agree = refl
 leaf_read p q bad all lawful (LeafLiteral l) circuit agree =
-    literal_same (value_in p bad all) (value_in q bad all) l
+    literal_true-agree (value_in p bad all) (value_in q bad all) l
     (value_read p q bad all lawful all [] refl lawful l circuit agree)
 
 pub circuit_stays : (es more : List Entry) → Each MayFollow (more ++ es) → (v : ℕ) (o : Option Name) →
@@ -294,7 +296,7 @@ pub clause_same : (f : Dqbf) (m n : Assignment) → ((v : ℕ) → Contains (dec
 clause_same f m n same [] h = refl
 clause_same f m n same (l ∷ ls) h =
     let here = same (variable_of l) (All-head (λ k. Contains (declared f) (variable_of k)) l ls h) in
-    ap (λ b. b || clause_true m ls) (literal_same m n l here) ∙ ap (λ b. literal_true n l || b)
+    ap (λ b. b || clause_true m ls) (literal_true-agree m n l here) ∙ ap (λ b. literal_true n l || b)
     (clause_same f m n same ls (All-tail (λ k. Contains (declared f) (variable_of k)) l ls h))
 
 -- a declared variable has its bit

@@ -28,7 +28,7 @@ use Rattle.log_laws.proofs.ReachedClauses.{name_stays}
 use Rattle.log_laws.proofs.Refuted.{IsInstanceAmong, refuted_among}
 
 -- the prefix is that of all
-same_universals : (all : Dqbf) (o : Option (List ℕ)) → length (formula_by all o).universals ≡ length all.universals
+pub same_universals : (all : Dqbf) (o : Option (List ℕ)) → length (formula_by all o).universals ≡ length all.universals
 same_universals all None = refl
 same_universals all (Some live) = refl
 
@@ -56,11 +56,6 @@ live_clause all (i ∷ live) j clause (suc k, below, is) at =
         Contains (cons_option o (filter_map (numbered_from_one all.matrix) live)) clause
     behind None inside = inside
     behind (Some c) inside = let b = inside.1 in (suc inside.0, omega (arith, b), inside.2)
-
--- a given clause of anything but a fault is its origin's by all that was numbered
-of_all : (all : Dqbf) (before : List Entry) (k j : ℕ) (c : List Literal) →
-    MatchesLiveOrigin all before (Given (Instance k j) c) → IsOriginsClause all before (Instance k j) c
-of_all all before k j c h = h
 
 -- an answer that rests on instances of live clauses alone
 module _ (all : Dqbf) (earlier : List Entry) (clause : List Literal) (hints : List ℕ) (lawful : Each MayFollow earlier)

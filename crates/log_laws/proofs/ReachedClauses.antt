@@ -17,20 +17,13 @@ use Rattle.hint_log.specs.Conditions.{MayFollow}
 use Rattle.hint_log.specs.ProductiveLog.{IsDerivedByHints}
 use Rattle.hint_log.specs.Deciding.{ReachesGiven}
 use Rattle.log_laws.proofs.Implied.{LinesAreImplied, true_by_hints}
+use Rattle.log_laws.proofs.LargerLogs.{count_grown}
 
 -- an id that hints reach
 pub record IsReached (entries : List Entry) (hints : List ℕ) (id : ℕ) : Type 0 where
   pub hint : ℕ
   pub hinted : Contains hints hint
   pub reached : Reaches entries hint id
-
-pub count_more : (test : Entry → Bool) (more old : List Entry) → count test old ≤ count test (more ++ old)
-count_more test [] old = omega arith
-count_more test (e ∷ more) old = by_bit (test e) (count_more test more old) where
-  by_bit : (b : Bool) → count test old ≤ count test (more ++ old) →
-      count test old ≤ cond b (count test (more ++ old) + 1) (count test (more ++ old))
-  by_bit true h = omega arith
-  by_bit false h = h
 
 -- an id keeps its entry
 pub numbered_kept : (more old : List Entry) (id : ℕ) → id ≤ last_id old →
@@ -41,7 +34,7 @@ numbered_kept (e ∷ more) old id h = by_bit (has_id e) (numbered_kept more old 
       cond (b && (id == count has_id (more ++ old) + 1)) (Some e) (numbered has_id (more ++ old) id)
       ≡ numbered has_id old id
   by_bit true later =
-      let most = count_more has_id more old in
+      let most = count_grown has_id more old in
       let differ : id ≢ count has_id (more ++ old) + 1 = λ e. omega arith in
       ap (λ b. cond b (Some e) (numbered has_id (more ++ old) id))
       (ne_eqb id (count has_id (more ++ old) + 1) differ) ∙ later

@@ -4,10 +4,12 @@ use Rattle.std.specs.List.{All, Contains, filter_map, cons_option, position_or_l
 use Rattle.std.specs.Option.{option_map, option_and_then}
 use Rattle.std.proofs.lemmas.Bool.{false≢true}
 use Rattle.std.proofs.lemmas.List.Elements.{All-contains, All-head, All-tail, Contains-push, Contains-append_left}
-use Rattle.dq_lits.specs.Literal.{Assignment, Literal, positive, negative, variable_of, is_negative, on_variable, literal_true, clause_true}
+use Rattle.dq_lits.specs.Literal.{Assignment, Literal, negative, variable_of, is_negative, on_variable, literal_true, clause_true}
 use Rattle.dq_lits.specs.Formula.{Existential, Dqbf, existential_of}
 use Rattle.dq_lits.specs.Expansion.{row_assignment, agree_on, pair_number, pair_literal, instance_clause, InstanceHolds, IsExpansionModel, IsExpansionUnsatisfiable}
 use Rattle.dq_lits.specs.Henkin.{restriction}
+use Rattle.dq_lits.proofs.Choices.{same_bits-refl}
+use Rattle.dq_lits.proofs.TrueClauses.{same_sign}
 use Rattle.hint_log.specs.Entries.{name_of, row_at, numbered, is_round, row_of, count}
 use Rattle.hint_log.specs.Entries.{Entry}
 use Rattle.hint_log.specs.Entries.{Named, Given, Learned, Answer, Round, Begun}
@@ -24,7 +26,7 @@ use Rattle.hint_log.specs.Deciding.{ReachesGiven, IsInstance, AreNegatedSelector
 use Rattle.log_laws.proofs.Implied.{LinesAreImplied}
 use Rattle.log_laws.proofs.ReachedClauses.{name_stays, answer_true}
 use Rattle.log_laws.specs.Meaning.{IsSoundAnswer, InstancesHaveNoModel}
-use Rattle.log_laws.proofs.Found.{numbered_among, position_small, position_append, same_bits-refl, named_variable}
+use Rattle.log_laws.proofs.Found.{numbered_among, position_small, position_append, named_variable}
 
 -- an instance of one of these clauses
 abbrev pub IsInstanceAmong : Dqbf → List (List Literal) → Origin → Type 0
@@ -70,13 +72,6 @@ row_contained (Round r values j ∷ es) k row h = by_bit (row_contained es k row
       (Contains-push (rows_of es) row)
   by_bit before false h = Contains-append_left (rows_of es) (r ∷ []) row (before h)
 row_contained (Begun live ∷ es) k row h = row_contained es k row h
-
-same_sign : (a m : Assignment) (p : ℕ) (r l : Literal) → is_negative r ≡ is_negative l → a (variable_of r) ≡ m p →
-    literal_true a r ≡ literal_true m (on_variable p l)
-same_sign a m p (positive v) (positive w) e h = h
-same_sign a m p (positive v) (negative w) e h = absurd (false≢true e)
-same_sign a m p (negative v) (positive w) e h = absurd (false≢true (sym e))
-same_sign a m p (negative v) (negative w) e h = ap not h
 
 module _ (f : Dqbf) (all : List Entry) (lawful : Each MayFollow all) (m : Assignment) where
   abbrev value : Assignment

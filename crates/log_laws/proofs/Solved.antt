@@ -8,6 +8,9 @@ use Rattle.std.proofs.lemmas.List.Elements.{All-contains, All-head, All-tail, Co
 use Rattle.std.proofs.lemmas.List.Folds.{list_any_at}
 use Rattle.dq_lits.specs.Literal.{Assignment, Literal, positive, negative, variable_of, is_negative, opposite, literal_true, clause_true}
 use Rattle.dq_lits.specs.Formula.{Existential, Dqbf, declared, is_universal, existential_of, IsWellFormed}
+use Rattle.dq_lits.proofs.Truth.{literal_true-opposite}
+use Rattle.dq_lits.proofs.LiftedExpansion.{literal_true-agree}
+use Rattle.dq_lits.proofs.FormulaVariables.{find_sound}
 use Rattle.hint_log.specs.Conditions.{is_circuit_name, HasSides}
 use Rattle.hint_log.specs.Entries.{name_of}
 use Rattle.hint_log.specs.Entries.{Entry}
@@ -27,7 +30,7 @@ use Rattle.log_laws.specs.Meaning.{IsSoundAnswer, LeavesSolve}
 use Rattle.log_laws.specs.Circuits.{name_value, value_in, leaf_value, existential_bit, by_bits}
 use Rattle.log_laws.proofs.Implied.{LinesAreImplied}
 use Rattle.log_laws.proofs.ReachedClauses.{name_stays, answer_true}
-use Rattle.log_laws.proofs.Found.{variable, find_sound, find_there, numbered_among, slice_get_at, named_variable}
+use Rattle.log_laws.proofs.Found.{variable, find_there, numbered_among, slice_get_at, named_variable}
 
 not_new : (es : List Entry) (u w : ℕ) → is_circuit_name (name_of es u) ≡ true → name_of es w ≡ None → (u == w) ≡ false
 not_new es u w h none = ne_eqb u w (λ e. let is : name_of es u ≡ None = ap (name_of es) e ∙ none in
@@ -62,16 +65,11 @@ sides (Answer c hints ∷ es) v a b lawful h = sides es v a b lawful.1 h
 sides (Round row values j ∷ es) v a b lawful h = sides es v a b lawful.1 h
 sides (Begun live ∷ es) v a b lawful h = sides es v a b lawful.1 h
 
-pub literal_same : (p q : Assignment) (l : Literal) → p (variable_of l) ≡ q (variable_of l) →
-    literal_true p l ≡ literal_true q l
-literal_same p q (positive v) h = h
-literal_same p q (negative v) h = ap not h
-
 pub both_same : (p q : Assignment) (a b : Literal) → p (variable_of a) ≡ q (variable_of a) →
     p (variable_of b) ≡ q (variable_of b) → (literal_true p a && literal_true p b) ≡
     (literal_true q a && literal_true q b)
-both_same p q a b h k = ap (λ x. x && literal_true p b) (literal_same p q a h) ∙ ap (λ x. literal_true q a && x)
-    (literal_same p q b k)
+both_same p q a b h k = ap (λ x. x && literal_true p b) (literal_true-agree p q a h) ∙ ap (λ x. literal_true q a && x)
+    (literal_true-agree p q b k)
 
 module _ (m : Assignment) (bad : ℕ → Bool) where
   -- a gate has the value of its sides
@@ -184,10 +182,6 @@ pub split_literal : (o : Option (List Literal)) (i : ℕ) (l : Literal) →
 split_literal None i l h = cc
 split_literal (Some c) i l h = (c, refl, h)
 
-literal_true-opposite : (m : Assignment) (l : Literal) → literal_true m (opposite l) ≡ not (literal_true m l)
-literal_true-opposite m (positive v) = refl
-literal_true-opposite m (negative v) = grind arith
-
 module _ (implied : LinesAreImplied) (f : Dqbf) (well : IsWellFormed f) (all : List Entry) (lawful : Each MayFollow all)
     (first : List ℕ) (m : Assignment) (bit : Existential → Bool)
     (outs : All (λ y. (out : Leaf) → IsFaultLeaf f all first y out →
@@ -270,7 +264,7 @@ module _ (implied : LinesAreImplied) (f : Dqbf) (well : IsWellFormed f) (all : L
       same_leaf : (o : Leaf) → IsLeafOf f es (variable_of l) o →
           leaf_value (value_in m (λ _. false) all) o ≡ leaf_value a o
       same_leaf (Constant b) h = refl
-      same_leaf (LeafLiteral k) h = literal_same (value_in m (λ _. false) all) a k
+      same_leaf (LeafLiteral k) h = literal_true-agree (value_in m (λ _. false) all) a k
           (no_bad m (λ _. false) bad all (variable_of k) lawful
           (circuit_stays (variable_of k) (name_of es (variable_of k)) refl h.1))
 

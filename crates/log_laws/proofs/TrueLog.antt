@@ -298,9 +298,6 @@ f18 = (fits 3 3 2 (negative 5 ∷ negative 8 ∷ positive 3 ∷ []) refl, f17)
 pub faults_fit : Each (λ before e. Fits e) faults_given
 faults_fit = (fits_none (Constant false) (negative 5 ∷ positive 6 ∷ positive 7 ∷ positive 8 ∷ []), f18)
 
-shown_fit : Each (λ before e. Fits e) s21
-shown_fit = ((λ j i leaf c h v own. cc), ((λ j i leaf c h v own. cc), faults_fit))
-
 one_leaf : (earlier : List Entry) → Each (λ before e. Fits e) earlier → (j i : ℕ) (leaf : Leaf) (c : List Literal) →
     Fits (Given (Fault j i leaf) c) → (group v j' i' : ℕ) (leaf' : Leaf) (rest : List Literal) →
     Contains earlier (Given (Fault j' i' leaf') (negative group ∷ rest)) →

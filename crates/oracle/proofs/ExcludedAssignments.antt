@@ -1,10 +1,13 @@
 -- An answer excludes every assignment.
-use Rattle.std.proofs.Common.{◌≡◌, ℕ, zero, suc, ◌+◌, ◌==◌, Bool, true, false, not, cond, ◌||◌, ◌&&◌, inl, inr, List, [], ◌∷◌, Option, None, Some, IsSome, All, Contains, refl, sym, ◌∙◌, ap, subst, arith}
+use Rattle.std.proofs.Common.{◌≡◌, ℕ, ◌+◌, ◌==◌, Bool, true, false, not, cond, ◌||◌, ◌&&◌, inl, inr, List, [], ◌∷◌, Option, None, Some, IsSome, All, Contains, refl, sym, ◌∙◌, ap, subst}
 use Rattle.std.specs.Option.{option_and_then}
-use Rattle.std.proofs.lemmas.Bool.{cases_Bool, cases_eq, eq-eqb, ne_eqb, eqb-true, false≢true, or_left, or_right, or_cases, and_from}
-use Rattle.std.proofs.lemmas.List.Elements.{All-head, All-tail}
+use Rattle.std.proofs.lemmas.Bool.{cases_Bool, cases_eq, eq-eqb, ne_eqb, false≢true, or_left, or_cases, and_from}
+use Rattle.list_laws.proofs.Members.{contains_later, contains_first}
 use Rattle.dq_lits.specs.Literal.{Assignment, Literal, positive, negative, variable_of, is_negative, opposite, same_literal, literal_true, clause_true}
 use Rattle.dq_lits.specs.Derivation.{LiveClauses, MakesTrue, holds, IsDerived}
+use Rattle.dq_lits.proofs.Truth.{same_literal-sound}
+use Rattle.dq_lits.proofs.HeldLiterals.{held_of_all, holds_here, holds_later}
+use Rattle.dq_lits.proofs.LiftedExpansion.{literal_true-agree}
 use Rattle.hint_log.specs.Entries.{Entry}
 use Rattle.hint_log.specs.Entries.{Named, Given, Learned, Answer, Round, Begun}
 use Rattle.hint_log.specs.declared.names.Name.{Name}
@@ -17,48 +20,19 @@ use Rattle.hint_log.specs.ProductiveLog.{IsDerivedByHints}
 use Rattle.oracle.specs.Calls.{IsRefutedUnder}
 use Rattle.oracle.specs.Searched.{IsSearched, IsGivenToGroup, IsOfGroup, MakesActiveTrue}
 
-pub same-sound : (k l : Literal) → same_literal k l ≡ true → k ≡ l
-same-sound (positive v) (positive w) h = ap positive (eqb-true v w h)
-same-sound (positive v) (negative w) h = absurd (false≢true h)
-same-sound (negative v) (positive w) h = absurd (false≢true h)
-same-sound (negative v) (negative w) h = ap negative (eqb-true v w h)
-
-same-refl : (l : Literal) → same_literal l l ≡ true
-same-refl (positive v) = eq-eqb v v refl
-same-refl (negative v) = eq-eqb v v refl
-
-pub first_held : (x : Literal) (xs : List Literal) → holds (x ∷ xs) x ≡ true
-first_held x xs = or_left (same_literal x x) (holds xs x) (same-refl x)
-
-pub later_held : (x : Literal) (xs : List Literal) (l : Literal) → holds xs l ≡ true → holds (x ∷ xs) l ≡ true
-later_held x xs l h = or_right (same_literal l x) (holds xs l) h
-
-pub one_of : (P : Literal → Type 0) (xs : List Literal) → All P xs → (l : Literal) → holds xs l ≡ true → P l
-one_of P [] all l h = absurd (false≢true h)
-one_of P (x ∷ xs) all l h =
-    elim (or_cases (same_literal l x) (holds xs l) h) [
-      | inl e ↦ subst P (sym (same-sound l x e)) (All-head P x xs all)
-      | inr later ↦ one_of P xs (All-tail P x xs all) l later
-    ]
-
 -- assignments that agree on a clause
 clause_same : (m n : Assignment) (c : List Literal) → ((l : Literal) → holds c l ≡ true →
     literal_true m l ≡ literal_true n l) → clause_true m c ≡ clause_true n c
 clause_same m n [] h = refl
 clause_same m n (x ∷ c) h =
-    ap (λ b. b || clause_true m c) (h x (first_held x c)) ∙ ap (λ b. literal_true n x || b)
-    (clause_same m n c (λ l k. h l (later_held x c l k)))
+    ap (λ b. b || clause_true m c) (h x (holds_here x c)) ∙ ap (λ b. literal_true n x || b)
+    (clause_same m n c (λ l k. h l (holds_later x c l k)))
 
 clause_false : (m : Assignment) (c : List Literal) → ((l : Literal) → holds c l ≡ true → literal_true m l ≡ false) →
     clause_true m c ≡ false
 clause_false m [] h = refl
-clause_false m (x ∷ c) h = ap (λ b. b || clause_true m c) (h x (first_held x c)) ∙ clause_false m c
-    (λ l k. h l (later_held x c l k))
-
-literal_same : (m n : Assignment) (l : Literal) → m (variable_of l) ≡ n (variable_of l) →
-    literal_true m l ≡ literal_true n l
-literal_same m n (positive v) h = h
-literal_same m n (negative v) h = ap not h
+clause_false m (x ∷ c) h = ap (λ b. b || clause_true m c) (h x (holds_here x c)) ∙ clause_false m c
+    (λ l k. h l (holds_later x c l k))
 
 -- what the ids stand for, as an entry is added
 module _ (es : List Entry) (e : Entry) (c : List Literal) (has : has_id e ≡ true) (is : clause_of e ≡ Some c) where
@@ -93,12 +67,6 @@ name_step es (Learned c hs) lawful v n h = h
 name_step es (Answer c hs) lawful v n h = h
 name_step es (Round r vs j) lawful v n h = h
 name_step es (Begun live) lawful v n h = h
-
-contains_first : (e : Entry) (es : List Entry) → Contains (e ∷ es) e
-contains_first e es = (zero, omega arith, refl)
-
-contains_later : (x e : Entry) (es : List Entry) → Contains es e → Contains (x ∷ es) e
-contains_later x e es c = let lt = c.1 in (suc c.0, omega (arith, lt), c.2)
 
 module _ (all : List Entry) (assumptions : List Literal) (m : Assignment) where
   -- selectors that aren't switched on
@@ -144,10 +112,10 @@ module _ (all : List Entry) (assumptions : List Literal) (m : Assignment) where
       ap (clause_true switched_off) g.clause_is ∙ elim (cases_Bool (holds assumptions (positive g.group))) [
         | inl on ↦
             clause_same switched_off m (negative g.group ∷ g.rest)
-            (λ l h. literal_same switched_off m l (elim (or_cases (same_literal l (negative g.group))
+            (λ l h. literal_true-agree switched_off m l (elim (or_cases (same_literal l (negative g.group))
             (holds g.rest l) h) [
               | inl e ↦
-                  let v : variable_of l ≡ g.group = ap variable_of (same-sound l (negative g.group) e) in
+                  let v : variable_of l ≡ g.group = ap variable_of (same_literal-sound l (negative g.group) e) in
                   subst (λ w. switched_off w ≡ m w) (sym v) (held_same g.group on)
               | inr later ↦
                   let p = g.plain l later in
@@ -234,5 +202,5 @@ excluded implies old new assumptions id searched refuted m active truths =
     let here = is_true (last_id es + 1) c at in
     let none = clause_false (switched_off all assumptions m) c (λ l h.
     negated_false all assumptions m l (searched.negated (last_id es + 1) c l at h).negated (refuted.negated l h)
-    (one_of (λ k. literal_true m k ≡ true) assumptions truths (opposite l) (refuted.negated l h))) in
+    (held_of_all (λ k. literal_true m k ≡ true) assumptions truths (opposite l) (refuted.negated l h))) in
     false≢true (sym none ∙ here)

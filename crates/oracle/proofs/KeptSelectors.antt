@@ -2,8 +2,11 @@
 use Rattle.std.proofs.Common.{◌≡◌, ◌≢◌, ℕ, ◌+◌, ◌==◌, ◌≤◌, true, cond, ◌&&◌, inl, inr, List, [], ◌∷◌, Option, None, Some, IsSome, is_some, Contains, refl, sym, ◌∙◌, ap, subst, arith}
 use Rattle.std.specs.Option.{option_and_then}
 use Rattle.std.proofs.lemmas.Bool.{cases_eq, eq-eqb, ne_eqb, false≢true, and_from}
+use Rattle.list_laws.proofs.Options.{some_same}
+use Rattle.list_laws.proofs.Members.{no_element}
 use Rattle.dq_lits.specs.Literal.{Literal, negative, variable_of}
 use Rattle.dq_lits.specs.Derivation.{holds}
+use Rattle.dq_lits.proofs.HeldLiterals.{held_of_all, holds_here}
 use Rattle.hint_log.specs.Entries.{Entry}
 use Rattle.hint_log.specs.Entries.{Named, Given, Learned, Answer, Round, Begun}
 use Rattle.hint_log.specs.Conditions.{MayFollow, AreNamed, AreIds, AreLogged}
@@ -16,7 +19,6 @@ use Rattle.hint_log.specs.declared.names.Name.{Name}
 use Rattle.hint_log.specs.declared.origins.Origin.{Origin}
 use Rattle.oracle.specs.Fit.{HoldsHintedSelectors, KeepsHintedSelectors}
 use Rattle.oracle.specs.Searched.{IsGivenToGroup, IsOfGroup}
-use Rattle.oracle.proofs.ExcludedAssignments.{one_of, first_held}
 
 -- an entry that has an id
 module _ (es : List Entry) (e : Entry) (has : has_id e ≡ true) where
@@ -28,12 +30,6 @@ module _ (es : List Entry) (e : Entry) (has : has_id e ≡ true) where
   at_old id n =
       ap (λ b. cond (b && (id == last_id es + 1)) (Some e) (numbered has_id es id)) has
       ∙ ap (λ b. cond (true && b) (Some e) (numbered has_id es id)) (ne_eqb id (last_id es + 1) n)
-
-some_same : {X : Type 0} (a b : X) → Some a ≡ Some b → a ≡ b
-some_same a b h = cc
-
-no_hints : (h : ℕ) → Contains [] h → ⊥
-no_hints h c = let lt = c.1 in absurd (omega (arith, lt))
 
 -- an entry with an id stands on names, hints ids, and holds the selectors of what it hints
 pub record IsHeld (es : List Entry) (e : Entry) : Type 0 where
@@ -66,7 +62,7 @@ held_more es e has names named ids kept before id x at = elim (cases_eq id (last
       let s : Some e ≡ Some x = sym (at_new es e has id h) ∙ at in
       let q : e ≡ x = cc in
       subst (IsHeld (e ∷ es)) q (record {
-        named = λ c l is m. ap is_some (names (variable_of l)) ∙ one_of (λ k. IsSome (name_of es (variable_of k))) c
+        named = λ c l is m. ap is_some (names (variable_of l)) ∙ held_of_all (λ k. IsSome (name_of es (variable_of k))) c
             (named c is) l m;
         ids = λ i k. let low = (ids i k).last in omega (arith, low, last);
         kept = λ i c d k is to l m sel. kept c is i k d (sym (older i (ids i k).last) ∙ to) l m
@@ -111,8 +107,8 @@ all_held (Named v name ∷ es) lawful tied =
     still w some = ap is_some (same w some) ∙ some
 all_held (Given o c ∷ es) lawful tied =
     held_more es (Given o c) refl (λ v. refl) (λ d is. let q : c ≡ d = some_same c d is in
-    subst (AreNamed es) q lawful.0) (λ h k. absurd (no_hints h k))
-    (λ d is h k. absurd (no_hints h k)) (all_held es lawful.1 tied.1)
+    subst (AreNamed es) q lawful.0) (λ h k. absurd (no_element h k))
+    (λ d is h k. absurd (no_element h k)) (all_held es lawful.1 tied.1)
 all_held (Learned c hs ∷ es) lawful tied =
     held_more es (Learned c hs) refl (λ v. refl) (λ d is. let q : c ≡ d = some_same c d is in
     subst (AreNamed es) q lawful.0.0) lawful.0.1
@@ -140,8 +136,8 @@ hinted es held at hint hints d hat has to = by (numbered has_id es at) refl hat
     of_entry : (e : Entry) → numbered has_id es at ≡ Some e → hints_of e ≡ hints →
         (c : List Literal) × (clause_at es at ≡ Some c) × ((l : Literal) → holds d l ≡ true →
         is_selector es (variable_of l) ≡ true → holds c l ≡ true)
-    of_entry (Named v n) e is = absurd (no_hints hint (subst (λ hs. Contains hs hint) (sym is) has))
-    of_entry (Given o c) e is = absurd (no_hints hint (subst (λ hs. Contains hs hint) (sym is) has))
+    of_entry (Named v n) e is = absurd (no_element hint (subst (λ hs. Contains hs hint) (sym is) has))
+    of_entry (Given o c) e is = absurd (no_element hint (subst (λ hs. Contains hs hint) (sym is) has))
     of_entry (Learned c hs) e is = (
       c,
       ap (option_and_then clause_of) e,
@@ -154,8 +150,8 @@ hinted es held at hint hints d hat has to = by (numbered has_id es at) refl hat
       λ l m sel. (held at (Answer c hs) e).kept hint c d (subst (λ xs. Contains xs hint) (sym is) has) refl to
           l m sel,
     )
-    of_entry (Round r vs j) e is = absurd (no_hints hint (subst (λ hs. Contains hs hint) (sym is) has))
-    of_entry (Begun live) e is = absurd (no_hints hint (subst (λ hs. Contains hs hint) (sym is) has))
+    of_entry (Round r vs j) e is = absurd (no_element hint (subst (λ hs. Contains hs hint) (sym is) has))
+    of_entry (Begun live) e is = absurd (no_element hint (subst (λ hs. Contains hs hint) (sym is) has))
 
     by : (o : Option Entry) → numbered has_id es at ≡ o → option_and_then (λ x. Some (hints_of x)) o ≡ Some hints
         → (c : List Literal) × (clause_at es at ≡ Some c) × ((l : Literal) → holds d l ≡ true →
@@ -218,17 +214,13 @@ given_to_selectors (Answer c hs ∷ es) logged grouped = given_more es (Answer c
 given_to_selectors (Round r vs j ∷ es) logged grouped = given_to_selectors es logged.1 grouped.1
 given_to_selectors (Begun live ∷ es) logged grouped = given_to_selectors es logged.1 grouped.1
 
-held_at : (es : List Entry) (at : ℕ) (c d : List Literal) (l : Literal) → clause_at es at ≡ Some c →
-    clause_at es at ≡ Some d → holds d l ≡ true → holds c l ≡ true
-held_at es at c d l is also m = ap (λ x. holds x l) (some_same c d (sym is ∙ also)) ∙ m
-
 -- an entry that holds the selectors of what it hints holds those of whatever it reaches
 pub holds_reached : (es : List Entry) (c : List Literal) (hs : List ℕ) → AreLogged es → Each IsGivenToGroup es →
     Each KeepsHintedSelectors es → HoldsHintedSelectors es c hs → HoldsSelectors es c hs
 holds_reached es c hs logged grouped kept here o g rest r =
     let sel = given_to_selectors es logged grouped r.id o g rest r.is_given in
     let start = along es (all_held es logged kept) r.hint r.id r.reached (negative g ∷ rest)
-    (ap (option_and_then clause_of) r.is_given) (negative g) (first_held (negative g) rest) sel in
+    (ap (option_and_then clause_of) r.is_given) (negative g) (holds_here (negative g) rest) sel in
     here r.hint r.hinted start.0 start.1 (negative g) start.2 sel
 
 pub kept_along : (es : List Entry) → AreLogged es → Each IsGivenToGroup es → Each KeepsHintedSelectors es →

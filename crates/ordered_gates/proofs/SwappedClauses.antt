@@ -1,18 +1,14 @@
 -- A clause of three literals has the same status with the last two exchanged.
 use Rattle.std.proofs.Common.{◌≡◌, ◌∙◌, ◌==◌, ◌&&◌, ◌||◌, ℕ, Bool, cond, true, false, not, inl, inr, List, [], ◌∷◌, ◌++◌, map, None, Some, refl, sym, ap, subst}
 use Rattle.std.specs.List.{filter, list_any}
-use Rattle.std.proofs.lemmas.Bool.{cases_Bool, eqb-true, true≢false}
+use Rattle.std.proofs.lemmas.Bool.{cases_Bool}
 use Rattle.std.proofs.lemmas.List.{map-append}
 use Rattle.std.proofs.lemmas.List.Elements.{filter-append}
-use Rattle.dq_lits.specs.Literal.{Literal, positive, negative, opposite, same_literal}
+use Rattle.dq_lits.specs.Literal.{Literal, opposite, same_literal}
 use Rattle.dq_lits.specs.Derivation.{unit, stuck, holds, status_by, status_of}
+use Rattle.dq_lits.proofs.Truth.{same_literal-sound}
+use Rattle.dq_lits.proofs.SignedLiterals.{same_literal-differs}
 use Rattle.cert_text.specs.NegatedMatrix.{as_literal, without_constants}
-
-same_sound : (k l : Literal) → same_literal k l ≡ true → k ≡ l
-same_sound (positive v) (positive w) h = ap positive (eqb-true v w h)
-same_sound (positive v) (negative w) h = cc
-same_sound (negative v) (positive w) h = cc
-same_sound (negative v) (negative w) h = ap negative (eqb-true v w h)
 
 -- what stands in the way of a falsified clause
 abbrev left_of : List Literal → List ℕ → List Literal
@@ -61,20 +57,11 @@ or_swapped false true false = refl
 or_swapped false false true = refl
 or_swapped false false false = refl
 
-other_way : (x y : Literal) → same_literal x y ≡ false → same_literal y x ≡ false
-other_way x y e = elim (cases_Bool (same_literal y x)) [
-  | inl same ↦
-      let is = same_sound y x same in
-      absurd (true≢false (sym (subst (λ z. same_literal z y ≡ true) is
-      (subst (λ z. same_literal y z ≡ true) (sym is) same)) ∙ e))
-  | inr apart ↦ apart
-]
-
 two : (trues : List Literal) (x y : Literal) → status_by trues (x ∷ y ∷ []) ≡ status_by trues (y ∷ x ∷ [])
 two trues x y = elim (cases_Bool (same_literal x y)) [
-  | inl same ↦ subst (λ z. status_by trues (x ∷ z ∷ []) ≡ status_by trues (z ∷ x ∷ [])) (same_sound x y same) refl
+  | inl same ↦ subst (λ z. status_by trues (x ∷ z ∷ []) ≡ status_by trues (z ∷ x ∷ [])) (same_literal-sound x y same) refl
   | inr apart ↦ ap (λ b. cond ((b && true) && not (holds trues x)) (unit x) stuck) apart
-      ∙ sym (ap (λ b. cond ((b && true) && not (holds trues y)) (unit y) stuck) (other_way x y apart))
+      ∙ sym (ap (λ b. cond ((b && true) && not (holds trues y)) (unit y) stuck) (same_literal-differs x y apart))
 ]
 
 three : (trues : List Literal) (a x y : Literal) →

@@ -1,7 +1,8 @@
 -- Netlists whose gates are the same but for the order of their sides give the same values.
-use Rattle.std.proofs.Common.{◌≡◌, ◌∙◌, ◌<◌, ◌⊎◌, ◌&&◌, ℕ, Bool, true, false, inl, inr, length, refl, sym, ap, subst}
+use Rattle.std.proofs.Common.{◌≡◌, ◌∙◌, ◌<◌, ◌⊎◌, ℕ, Bool, inl, inr, length, sym, ap, subst}
 use Rattle.std.specs.List.{Contains}
 use Rattle.std.specs.Prelude.{slice_index}
+use Rattle.list_laws.proofs.Truths.{and_turned}
 use Rattle.circuit_plain.specs.Ground.{IsGrounded, constant as ground_constant, input as ground_input, gate as ground_gate}
 use Rattle.circuit_plain.specs.Netlist.{Netlist, left_variable, right_variable, gate_value, signed_bit}
 use Rattle.circuit_plain.specs.Reach.{Reaches, itself, left, right}
@@ -16,12 +17,6 @@ pub record Twin (net : Netlist) (h : Gate) : Type 0 where
   pub twin : Gate
   pub inside : Contains net.gates twin
   pub is : (h ≡ twin) ⊎ (h ≡ turned twin)
-
-and_turned : (a b : Bool) → (a && b) ≡ (b && a)
-and_turned true true = refl
-and_turned true false = refl
-and_turned false true = refl
-and_turned false false = refl
 
 module _ (one other : Netlist) (same : one.inputs ≡ other.inputs)
     (twins : (h : Gate) → Contains one.gates h → Twin other h) where

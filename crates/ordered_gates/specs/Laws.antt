@@ -27,9 +27,6 @@ OrderedLinesAreNumbered =
     (gates : List Gate) (items : List ProofItem) → AreNumberedLines items
     → AreNumberedLines (map (ordered_item gates) items)
 
-abbrev pub OrderedFilesAreSpellable : Type 0
-OrderedFilesAreSpellable = (file : AagFile) → IsSpellable file → IsSpellable (ordered_file file)
-
 -- where the gates are sorted, the binary form can hold the ordered circuit
 pub record OrderedFilesAreBinary : Type 0 where
   pub in_order : (net : Netlist) → is_sorted net ≡ true

@@ -4,11 +4,11 @@ use Rattle.std.specs.List.{Contains}
 use Rattle.std.proofs.lemmas.Bool.{cases_lt}
 use Rattle.std.proofs.lemmas.List.Elements.{Contains-append_cases, Contains-append_left, Contains-append_right}
 use Rattle.std.proofs.lemmas.Option.{slice_get-get_or, get_or_from_slice_get}
+use Rattle.list_laws.proofs.Members.{element_at}
 use Rattle.oracle.specs.declared.groups.Group.{Group}
 use Rattle.padoa_definitions.specs.Following.{AreActiveGroups, AreActiveSoFar, AreOpen}
 use Rattle.padoa_definitions.specs.Store.{StoreState, HasGroup, of_frame}
 use Rattle.padoa_definitions.specs.declared.frames.Sides.{Sides}
-use Rattle.padoa_definitions.proofs.CopiedVariables.{element_at}
 
 module _ (s : StoreState) (side : ℕ) (frames : List ℕ) where
   pub active_none : (groups : List Group) → groups ≡ [] → AreActiveSoFar s side frames 0 groups

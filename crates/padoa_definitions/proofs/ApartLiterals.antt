@@ -1,34 +1,21 @@
 -- What is asked of both copies: no two of its literals contradict one another.
-use Rattle.std.proofs.Common.{◌≡◌, ◌≢◌, ℕ, Bool, true, false, true≢false, not, inl, inr, List, [], ◌∷◌, ◌++◌, Some, IsSome, refl, sym, ◌∙◌, ap, subst}
-use Rattle.std.specs.List.{All, list_any}
-use Rattle.std.proofs.lemmas.Bool.{cases_Bool, or_left, or_right}
+use Rattle.std.proofs.Common.{◌≡◌, ◌≢◌, ℕ, true, false, true≢false, not, inl, inr, List, [], ◌∷◌, ◌++◌, Some, IsSome, refl, sym, ◌∙◌, ap, subst}
+use Rattle.std.specs.List.{All}
+use Rattle.std.proofs.lemmas.Bool.{cases_Bool}
 use Rattle.std.proofs.lemmas.List.Elements.{All-head, All-tail, All-cons}
 use Rattle.dq_lits.specs.Derivation.{holds, is_tautology}
 use Rattle.dq_lits.specs.Literal.{Literal, positive, negative, variable_of, is_negative, opposite}
+use Rattle.dq_lits.proofs.HeldLiterals.{any_one, any_gives, all_held, held_of_all, holds_cases}
+use Rattle.dq_lits.proofs.SignedLiterals.{opposite_variable, opposite-other, opposite-negative}
 use Rattle.hint_log.specs.Conditions.{AreNamed}
 use Rattle.hint_log.specs.Entries.{Entry, name_of}
 use Rattle.hint_log.specs.Naming.{is_selector_name}
 use Rattle.hint_log.specs.declared.names.Name.TheVariants.{Copy as CopyOf}
-use Rattle.interpolants.proofs.Truth.{any_witness, variable_of-opposite}
 use Rattle.oracle.specs.Calls.{IsMade, IsPlain, assumed}
 use Rattle.oracle.specs.declared.groups.Group.{Group}
 use Rattle.padoa_definitions.specs.Dividing.{asked_of, IsAsked, IsCopyLiteral}
 use Rattle.padoa_definitions.specs.declared.asking.Asked.{Asked}
-use Rattle.padoa_definitions.proofs.AskedLiterals.{all_of_held, no_negation}
-use Rattle.padoa_definitions.proofs.DividedAnswers.{holds_cases, held_in_either, copy_among, copy_name}
-use Rattle.padoa_definitions.proofs.LinkedInterpolants.{held_of_all}
-
-any_held : (p : Literal → Bool) (xs : List Literal) (l : Literal) → holds xs l ≡ true → p l ≡ true →
-    list_any p xs ≡ true
-any_held p [] l h is = cc
-any_held p (x ∷ xs) l h is = elim (holds_cases x xs l h) [
-  | inl same ↦ or_left (p x) (list_any p xs) (ap p (sym same) ∙ is)
-  | inr later ↦ or_right (p x) (list_any p xs) (any_held p xs l later is)
-]
-
-negative_opposite : (l : Literal) → is_negative (opposite l) ≡ not (is_negative l)
-negative_opposite (positive v) = refl
-negative_opposite (negative v) = refl
+use Rattle.padoa_definitions.proofs.DividedAnswers.{held_in_either, copy_among, copy_name}
 
 -- a literal is its variable and its sign
 same_parts : (k l : Literal) → variable_of k ≡ variable_of l → is_negative k ≡ is_negative l → k ≡ l
@@ -36,9 +23,6 @@ same_parts (positive v) (positive w) same sign = ap positive same
 same_parts (positive v) (negative w) same sign = cc
 same_parts (negative v) (positive w) same sign = cc
 same_parts (negative v) (negative w) same sign = ap negative same
-
-no_opposite : (l : Literal) → l ≡ opposite l → ⊥
-no_opposite l same = no_negation (is_negative l) (ap is_negative same ∙ negative_opposite l)
 
 -- conditions that agree with one another, and a literal of which they say nothing
 module _ (conditions : List Literal) (last : Literal) (consistent : is_tautology conditions ≡ false)
@@ -50,13 +34,13 @@ module _ (conditions : List Literal) (last : Literal) (consistent : is_tautology
       holds (asked_of conditions last) (opposite l) ≡ true → ⊥
   no_contradiction l h k = elim (held_in_either conditions (last ∷ []) l h) [
     | inl condition ↦ elim (held_in_either conditions (last ∷ []) (opposite l) k) [
-      | inl other ↦ true≢false (sym (any_held (λ j. holds conditions (opposite j)) conditions l condition other)
+      | inl other ↦ true≢false (sym (any_one (λ j. holds conditions (opposite j)) conditions l condition other)
           ∙ consistent)
-      | inr end ↦ apart_from_last l condition (sym (variable_of-opposite l) ∙ ap variable_of (is_last (opposite l) end))
+      | inr end ↦ apart_from_last l condition (sym (opposite_variable l) ∙ ap variable_of (is_last (opposite l) end))
     ]
     | inr end ↦ elim (held_in_either conditions (last ∷ []) (opposite l) k) [
-      | inl other ↦ apart_from_last (opposite l) other (variable_of-opposite l ∙ ap variable_of (is_last l end))
-      | inr both ↦ no_opposite l (is_last l end ∙ sym (is_last (opposite l) both))
+      | inl other ↦ apart_from_last (opposite l) other (opposite_variable l ∙ ap variable_of (is_last l end))
+      | inr both ↦ opposite-other l (is_last l end ∙ sym (is_last (opposite l) both))
     ]
   ]
     where
@@ -71,12 +55,12 @@ copies_apart es side originals none l a b =
     let a_is = copy_name es side originals l a in
     let b_is = copy_name es side originals (opposite l) b in
     let names : Some (CopyOf side (variable_of b.original)) ≡ Some (CopyOf side (variable_of a.original)) =
-    sym b_is.0 ∙ ap (name_of es) (variable_of-opposite l) ∙ a_is.0 in
+    sym b_is.0 ∙ ap (name_of es) (opposite_variable l) ∙ a_is.0 in
     let same : variable_of b.original ≡ variable_of a.original = cc in
     let sign : is_negative b.original ≡ not (is_negative a.original) =
-    sym b_is.1 ∙ negative_opposite l ∙ ap not a_is.1 in
+    sym b_is.1 ∙ opposite-negative l ∙ ap not a_is.1 in
     let is : b.original ≡ opposite a.original = same_parts b.original (opposite a.original)
-    (same ∙ sym (variable_of-opposite a.original)) (sign ∙ sym (negative_opposite a.original)) in
+    (same ∙ sym (opposite_variable a.original)) (sign ∙ sym (opposite-negative a.original)) in
     none a.original a.among (ap (holds originals) (sym is) ∙ b.among)
 
 -- nor do copies on different sides
@@ -107,7 +91,7 @@ module _ (es : List Entry) (v : ℕ) (conditions : List Literal) (asked : Asked)
       record { named = subst IsSome (sym name) refl; no_selector = ap is_selector_name name }
 
   pub asked_plain : All (IsPlain es) (asked.first.items ++ asked.second.items)
-  asked_plain = all_of_held (IsPlain es) (asked.first.items ++ asked.second.items)
+  asked_plain = all_held (IsPlain es) (asked.first.items ++ asked.second.items)
       (λ l h. elim (held_in_either asked.first.items asked.second.items l h) [
         | inl one ↦ plain_copy 1 firsts l (first_copy l one)
         | inr other ↦ plain_copy 2 seconds l (second_copy l other)
@@ -115,7 +99,7 @@ module _ (es : List Entry) (v : ℕ) (conditions : List Literal) (asked : Asked)
 
   -- the assumptions of the first copy have names
   pub first_named : (groups : List Group) → All (IsMade es) groups → AreNamed es (assumed groups asked.first.items)
-  first_named [] made = all_of_held (λ l. IsSome (name_of es (variable_of l))) asked.first.items
+  first_named [] made = all_held (λ l. IsSome (name_of es (variable_of l))) asked.first.items
       (λ l h. (plain_copy 1 firsts l (first_copy l h)).named)
   first_named (g ∷ groups) made =
       All-cons (λ l. IsSome (name_of es (variable_of l))) g.selector (assumed groups asked.first.items)
@@ -129,11 +113,11 @@ module _ (es : List Entry) (v : ℕ) (conditions : List Literal) (asked : Asked)
       | inl one ↦ elim (held_in_either asked.first.items asked.second.items (opposite l) k) [
         | inl also ↦ copies_apart es 1 firsts (no_contradiction conditions (positive v) consistent others) l
             (first_copy l one) (first_copy (opposite l) also)
-        | inr other ↦ sides_apart es firsts seconds l (opposite l) (sym (variable_of-opposite l)) (first_copy l one)
+        | inr other ↦ sides_apart es firsts seconds l (opposite l) (sym (opposite_variable l)) (first_copy l one)
             (second_copy (opposite l) other)
       ]
       | inr other ↦ elim (held_in_either asked.first.items asked.second.items (opposite l) k) [
-        | inl one ↦ sides_apart es firsts seconds (opposite l) l (variable_of-opposite l) (first_copy (opposite l) one)
+        | inl one ↦ sides_apart es firsts seconds (opposite l) l (opposite_variable l) (first_copy (opposite l) one)
             (second_copy l other)
         | inr also ↦ copies_apart es 2 seconds (no_contradiction conditions (negative v) consistent others) l
             (second_copy l other) (second_copy (opposite l) also)
@@ -143,7 +127,7 @@ module _ (es : List Entry) (v : ℕ) (conditions : List Literal) (asked : Asked)
     pub both_apart : is_tautology (asked.first.items ++ asked.second.items) ≡ false
     both_apart = elim (cases_Bool (is_tautology (asked.first.items ++ asked.second.items))) [
       | inl some ↦ (
-          let w = any_witness (λ l. holds (asked.first.items ++ asked.second.items) (opposite l))
+          let w = any_gives (λ l. holds (asked.first.items ++ asked.second.items) (opposite l))
           (asked.first.items ++ asked.second.items) some in
           absurd (no_pair w.0 w.1 w.2))
       | inr none ↦ none

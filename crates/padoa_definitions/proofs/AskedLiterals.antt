@@ -1,28 +1,27 @@
 -- What is asked at a row: an existential's copy with the other bit, and the copies of what it sees with the row's bits.
 use Rattle.std.proofs.Common.{◌≡◌, ◌≢◌, ◌⊎◌, ℕ, zero, suc, Bool, true, false, true≢false, not, inl, inr, List, [], ◌∷◌, map, get_or, slice_get, Option, Some, refl, sym, ◌∙◌, ap, arith}
-use Rattle.std.specs.List.{All, Contains}
+use Rattle.std.specs.List.{Contains}
 use Rattle.std.specs.Option.{option_map}
 use Rattle.std.proofs.lemmas.Bool.{cases_Bool, or_right}
-use Rattle.std.proofs.lemmas.List.Elements.{All-cons, All-nil}
 use Rattle.std.proofs.lemmas.Option.{slice_get_within, slice_get-get_or}
+use Rattle.list_laws.proofs.Elements.{kept_there}
+use Rattle.list_laws.proofs.Truths.{not-not}
 use Rattle.dq_lits.specs.Derivation.{holds, is_tautology}
 use Rattle.dq_lits.specs.Expansion.{row_assignment}
 use Rattle.dq_lits.specs.Formula.{Dqbf, Existential, HasLawfulPrefix}
 use Rattle.dq_lits.specs.Literal.{Literal, positive, negative, variable_of, is_negative, opposite, same_literal}
+use Rattle.dq_lits.proofs.HeldLiterals.{any_gives, all_held, holds_cases, holds_here}
 use Rattle.dq_formula.specs.Prefix.{existential_variables}
 use Rattle.hint_log.specs.Entries.{Entry, name_of}
 use Rattle.hint_log.specs.Naming.{NamedLiteral, named_literal, name_literal}
 use Rattle.hint_log.specs.declared.names.Name.{Name}
 use Rattle.hint_log.specs.declared.names.Name.TheVariants.{Copy as CopyOf}
-use Rattle.interpolants.proofs.Truth.{any_witness, holds_here}
 use Rattle.log_laws.proofs.Found.{named_variable}
 use Rattle.padoa_definitions.specs.Copies.{AreCopies, IsCopied, is_copied_at}
 use Rattle.padoa_definitions.specs.Ruling.{AreFirstCopies, signed_literal, row_copies}
 use Rattle.padoa_definitions.specs.Seeing.{AreCopiedPlaces}
 use Rattle.padoa_definitions.specs.declared.copies.MatrixCopy.{MatrixCopy}
-use Rattle.padoa_definitions.proofs.DeclaredPlaces.{at_first}
 use Rattle.padoa_definitions.proofs.KeptPlaces.{bit_at, copied_there}
-use Rattle.padoa_definitions.proofs.DividedAnswers.{holds_cases}
 use Rattle.padoa_definitions.proofs.GivenClauses.{universals_distinct}
 
 -- the copy of the existential, which is true where the bit is false
@@ -63,14 +62,10 @@ pub signed_name : (es : List Entry) (l : Literal) (n : Name) (b : Bool) →
 signed_name es l n true is = is
 signed_name es l n false is = opposite_named es l n false is
 
-pub not_not : (b : Bool) → not (not b) ≡ b
-not_not true = refl
-not_not false = refl
-
 pub own_name : (es : List Entry) (y : Existential) (l : Literal) (bit : Bool) →
     name_literal es l ≡ Some (named_literal (CopyOf 1 y.variable) false) → IsOwn es y bit (signed_literal l (not bit))
 own_name es y l bit is = signed_name es l (CopyOf 1 y.variable) (not bit) is ∙ ap
-    (λ b. Some (named_literal (CopyOf 1 y.variable) b)) (not_not bit)
+    (λ b. Some (named_literal (CopyOf 1 y.variable) b)) (not-not bit)
 
 held_mapped : (g : ℕ → Literal) (ps : List ℕ) (l : Literal) → holds (map g ps) l ≡ true →
     (p : ℕ) × Contains ps p × (l ≡ g p)
@@ -133,7 +128,7 @@ module _ (f : Dqbf) (lawful : HasLawfulPrefix f) (es : List Entry) (y : Existent
             let flag = are.copied p.0 inside in
             inl (
               copied_there f flags p.0 x lawful.declared_once
-                  (at_first f.universals (existential_variables f) p.0 x p.1) flag,
+                  (kept_there f.universals (existential_variables f) p.0 x p.1) flag,
               (
                 at_place p.0,
                 or_right (same_literal (at_place p.0) own) (holds (map at_place places) (at_place p.0))
@@ -155,11 +150,6 @@ same_names o a b s t first second =
 pub no_negation : (b : Bool) → b ≡ not b → ⊥
 no_negation true e = true≢false e
 no_negation false e = true≢false (sym e)
-
-pub all_of_held : (P : Literal → Type 0) (xs : List Literal) → ((l : Literal) → holds xs l ≡ true → P l) → All P xs
-all_of_held P [] each = All-nil P
-all_of_held P (x ∷ xs) each = All-cons P x xs (each x (holds_here x xs))
-    (all_of_held P xs (λ l h. each l (or_right (same_literal l x) (holds xs l) h)))
 
 module _ (f : Dqbf) (es : List Entry) (y : Existential) (row : List Bool) (bit : Bool) (lits : List Literal)
     (are : AreAsked f es y row bit lits)
@@ -190,12 +180,12 @@ module _ (f : Dqbf) (es : List Entry) (y : Existential) (row : List Bool) (bit :
 
   pub asked_apart : is_tautology lits ≡ false
   asked_apart = elim (cases_Bool (is_tautology lits)) [
-    | inl some ↦ (let w = any_witness (λ l. holds lits (opposite l)) lits some in absurd (no_pair w.0 w.1 w.2))
+    | inl some ↦ (let w = any_gives (λ l. holds lits (opposite l)) lits some in absurd (no_pair w.0 w.1 w.2))
     | inr none ↦ none
   ]
 
   pub asked_copies : AreFirstCopies es lits
-  asked_copies = all_of_held (λ l. (v : ℕ) × (name_of es (variable_of l) ≡ Some (CopyOf 1 v))) lits
+  asked_copies = all_held (λ l. (v : ℕ) × (name_of es (variable_of l) ≡ Some (CopyOf 1 v))) lits
       (λ l h. elim (are.each l h) [
         | inl own ↦ (
           y.variable,

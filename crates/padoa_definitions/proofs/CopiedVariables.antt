@@ -2,10 +2,12 @@
 use Rattle.std.proofs.Common.{◌≡◌, ◌≢◌, ◌⊎◌, ℕ, zero, suc, ◌+◌, ◌<◌, ◌≤◌, ◌==◌, Bool, true, false, true≢false, inl, inr, List, [], ◌∷◌, ◌++◌, map, length, take, get_or, slice_get, position, Option, Some, None, refl, sym, ◌∙◌, ap, subst, arith}
 use Rattle.std.specs.List.{AllPairs, Contains}
 use Rattle.std.specs.Option.{option_map}
-use Rattle.std.proofs.lemmas.Bool.{eqb-true, eq-eqb, cases_lt, cond-true}
+use Rattle.std.proofs.lemmas.Bool.{eq-eqb, cond-true}
 use Rattle.std.proofs.lemmas.List.{take_more, map-append, length-append}
-use Rattle.std.proofs.lemmas.List.Quantifiers.{position-Some}
-use Rattle.std.proofs.lemmas.Option.{slice_get-get_or, slice_get_within, get_or_from_slice_get}
+use Rattle.std.proofs.lemmas.Option.{slice_get-get_or, get_or_from_slice_get}
+use Rattle.list_laws.proofs.Quantified.{one_place}
+use Rattle.list_laws.proofs.Members.{element_at, contains_cases}
+use Rattle.list_laws.proofs.Elements.{mapped_at}
 use Rattle.dq_lits.specs.Literal.{Literal, positive, negative, variable_of, is_negative, opposite}
 use Rattle.dq_formula.proofs.Places.{place-absent, has-contains}
 use Rattle.dq_formula.proofs.Sorted.{place-below}
@@ -15,15 +17,9 @@ use Rattle.hint_log.specs.declared.names.Name.{Name}
 use Rattle.hint_log.specs.declared.names.Name.TheVariants.{Copy as CopyOf}
 use Rattle.log_laws.specs.Engines.{copies, IsAddedBy}
 use Rattle.log_laws.proofs.LargerLogs.{grown_by, grown_by_none, grown_then}
-use Rattle.log_laws.proofs.Kept.{name_stays_by, name_cases}
+use Rattle.log_laws.proofs.Kept.{name_stays_by, name_cases, literal_stays}
 use Rattle.padoa_definitions.specs.Copies.{AreCopies, AreCopiesOf, copy_names, is_copied_at}
 use Rattle.padoa_definitions.specs.Growing.{AreUncopied, AreNamedSoFar, IsNamedIfWanted}
-use Rattle.padoa_definitions.proofs.KeptCopies.{contains_cases, one_stays}
-
-pub element_at : {X : Type 0} (xs : List X) (i : ℕ) (x : X) → slice_get xs i ≡ Some x → Contains xs x
-element_at [] i x h = cc
-element_at (y ∷ ys) zero x h = (0, omega arith, cc)
-element_at (y ∷ ys) (suc i) x h = let r = element_at ys i x h in let b = r.1 in (suc r.0, omega (arith, b), r.2)
 
 -- what stands at a place is named so
 pub named_at : (es : List Entry) (ls : List Literal) (ns : List NamedLiteral) (i : ℕ) (l : Literal) (n : NamedLiteral) →
@@ -48,34 +44,20 @@ named_length es (l ∷ ls) [] are = cc
 named_length es (l ∷ ls) (n ∷ ns) are = let later : map (name_literal es) ls ≡ map Some ns = cc in
     ap suc (named_length es ls ns later)
 
-slice_get-map : {X Y : Type 0} (g : X → Y) (xs : List X) (i : ℕ) (x : X) → slice_get xs i ≡ Some x →
-    slice_get (map g xs) i ≡ Some (g x)
-slice_get-map g [] i x h = cc
-slice_get-map g (y ∷ ys) zero x h = let same : y ≡ x = cc in ap (λ z. Some (g z)) same
-slice_get-map g (y ∷ ys) (suc i) x h = slice_get-map g ys i x h
-
 -- the copy that stands at a variable's place
 pub copy_at : (es : List Entry) (side : ℕ) (xs : List ℕ) (lits : List Literal) (i v : ℕ) (l : Literal) →
     AreCopiesOf es side xs lits → slice_get xs i ≡ Some v → slice_get lits i ≡ Some l →
     name_literal es l ≡ Some (named_literal (CopyOf side v) false)
 copy_at es side xs lits i v l are at is =
     named_at es lits (map (λ w. named_literal (CopyOf side w) false) xs) i l
-    (named_literal (CopyOf side v) false) are is (slice_get-map
+    (named_literal (CopyOf side v) false) are is (mapped_at
     (λ w. named_literal (CopyOf side w) false) xs i v at)
-
-pub place_holds : (xs : List ℕ) (v i : ℕ) → position (λ u. u == v) xs ≡ Some i → slice_get xs i ≡ Some v
-place_holds xs v i found =
-    let h = position-Some (λ u. u == v) xs i 0 found in
-    slice_get-get_or xs i 0 h.0 ∙ ap Some (eqb-true (get_or xs i 0) v h.1)
 
 pub none_contained : (xs : List ℕ) (v : ℕ) → position (λ u. u == v) xs ≡ None → Contains xs v → ⊥
 none_contained xs v none among =
     let end = place-absent (λ u. u == v) xs none in
     let within = place-below xs v (has-contains xs v among) in
     omega arith
-
-pub place_within : (xs : List ℕ) (v i : ℕ) → position (λ u. u == v) xs ≡ Some i → i < length xs
-place_within xs v i found = (position-Some (λ u. u == v) xs i 0 found).0
 
 pub found_at : (xs : List Literal) (i : ℕ) (x : Literal) → i < length xs → x ≡ get_or xs i x → slice_get xs i ≡ Some x
 found_at xs i x lt is = slice_get-get_or xs i x lt ∙ ap Some (sym is)
@@ -174,23 +156,6 @@ earlier : (i : ℕ) (flags : List Bool) (k : ℕ) → (i + 1 ≤ k) ⊎ (is_copi
 earlier i flags k (inl le) = inl (omega (arith, le))
 earlier i flags k (inr off) = inr off
 
-pub same_place : (xs : List ℕ) (i k v : ℕ) → AllPairs (λ a b. a ≢ b) xs → slice_get xs i ≡ Some v →
-    slice_get xs k ≡ Some v → i ≡ k
-same_place xs i k v distinct i_at k_at = by (cases_lt i k) (cases_lt k i)
-  where
-    i_below : i < length xs
-    i_below = slice_get_within xs i v i_at
-
-    k_below : k < length xs
-    k_below = slice_get_within xs k v k_at
-
-    by : (i < k) ⊎ (k ≤ i) → (k < i) ⊎ (i ≤ k) → i ≡ k
-    by (inl less) any = absurd (distinct i k v less k_below
-        (get_or_from_slice_get xs i v v i_at ∙ sym (get_or_from_slice_get xs k v v k_at)))
-    by (inr low) (inl less) = absurd (distinct k i v less i_below
-        (get_or_from_slice_get xs k v v k_at ∙ sym (get_or_from_slice_get xs i v v i_at)))
-    by (inr low) (inr high) = omega (arith, low, high)
-
 pub named_more : (side : ℕ) (flags : List Bool) (vars : List ℕ) (i x : ℕ) (b : Bool) (old log new : ProofLog)
     (lits more : List Literal) (l : Literal) → AllPairs (λ a b. a ≢ b) vars →
     AreNamedSoFar side flags vars i old log lits → i < length vars → get_or vars i x ≡ x →
@@ -225,7 +190,7 @@ named_more side flags vars i x true old log new lits more l distinct before lt a
             let x_is : x ≡ w = cc in
             subst (λ z. name_literal es m ≡ Some (g z)) x_is
             (ap (name_literal es) (sym last.1 ∙ l_is) ∙ here))
-        | inr early ↦ one_stays log.entries es (name_stays_by log.entries v (CopyOf side x) unnamed) m
+        | inr early ↦ literal_stays log.entries es (name_stays_by log.entries v (CopyOf side x) unnamed) m
             (named_literal (CopyOf side w) false) (before.named k w m wanted w_at early)
       ];
       only = record {
@@ -268,7 +233,7 @@ named_more side flags vars i x true old log new lits more l distinct before lt a
     not_named : (k y : ℕ) → (i + 1 ≤ k) ⊎ (is_copied_at flags k ≡ false) → slice_get vars k ≡ Some y → x ≡ y → ⊥
     not_named k y (inl le) y_at same = not_again k y le y_at same
     not_named k y (inr off) y_at same =
-        let here = same_place vars k i x distinct (y_at ∙ ap Some (sym same)) there in
+        let here = one_place vars k i x distinct (y_at ∙ ap Some (sym same)) there in
         true≢false (flag ∙ ap (is_copied_at flags) (before.long ∙ sym here) ∙ off)
 
 pub all_named : (side : ℕ) (flags : List Bool) (vars : List ℕ) (i : ℕ) (old new : ProofLog) (lits : List Literal) →

@@ -1,15 +1,14 @@
 -- Places among all declared variables: universals first, then existentials.
-use Rattle.std.proofs.Common.{◌≡◌, ◌⊎◌, ℕ, zero, suc, ◌+◌, ◌<◌, ◌≤◌, Bool, true, false, ◌||◌, inl, inr, List, [], ◌∷◌, ◌++◌, map, length, get_or, slice_get, Some, refl, sym, ◌∙◌, ap, subst, arith, eqb}
-use Rattle.std.specs.List.{All, Contains, list_any}
-use Rattle.std.proofs.lemmas.Bool.{eqb-true}
-use Rattle.std.proofs.lemmas.Bool.Decides.{Decides-eqb}
+use Rattle.std.proofs.Common.{◌≡◌, ◌⊎◌, ℕ, zero, suc, ◌+◌, ◌<◌, ◌≤◌, Bool, false, inl, inr, List, [], ◌∷◌, ◌++◌, map, length, get_or, slice_get, Some, refl, sym, ◌∙◌, ap, subst, arith}
+use Rattle.std.specs.List.{All, Contains}
 use Rattle.std.proofs.lemmas.List.{get_or_default, length-append, length-map}
 use Rattle.std.proofs.lemmas.List.Elements.{All-contains, Contains-append_left, Contains-append_right, Contains-append_cases}
-use Rattle.std.proofs.lemmas.Map.Made.{IsDistinct-from_AllPairs}
-use Rattle.std.proofs.lemmas.Map.Steps.{length-le_from_distinct_below}
-use Rattle.std.proofs.lemmas.Option.{slice_get_within, slice_get-get_or}
+use Rattle.std.proofs.lemmas.Option.{slice_get_within}
+use Rattle.list_laws.proofs.Elements.{kept_there}
+use Rattle.list_laws.proofs.Members.{element_at, place_of}
 use Rattle.dq_lits.specs.Literal.{Literal}
-use Rattle.dq_lits.specs.Formula.{Dqbf, Existential, HasLawfulPrefix, declared, existential_of}
+use Rattle.dq_lits.specs.Formula.{Dqbf, Existential, declared, existential_of}
+use Rattle.dq_lits.proofs.FormulaVariables.{few_declared, find_sound}
 use Rattle.definition_order.specs.Order.{MayRead, ArePlacesOfShared}
 use Rattle.dq_formula.specs.Prefix.{IsLawful, existential_variables}
 use Rattle.hint_log.specs.Entries.{Entry}
@@ -18,26 +17,7 @@ use Rattle.hint_log.specs.declared.names.Name.TheVariants.{Copy as CopyOf}
 use Rattle.padoa_definitions.specs.Copies.{AreCopies, AreCopiesOf, IsCopied, copies_of}
 use Rattle.padoa_definitions.specs.Seeing.{ArePlaces}
 use Rattle.padoa_definitions.specs.declared.copies.MatrixCopy.{MatrixCopy}
-use Rattle.padoa_definitions.proofs.CopiedVariables.{by_places, copy_at, element_at, named_length}
-use Rattle.definition_order.proofs.Declared.{find_sound}
-
-any_inside : (q : ℕ) (xs : List ℕ) → list_any (eqb q) xs ≡ true → Contains xs q
-any_inside q [] h = cc
-any_inside q (x ∷ xs) h = by_bit (any_inside q xs) (eqb q x) refl h where
-  by_bit : (list_any (eqb q) xs ≡ true → Contains xs q) → (b : Bool) → eqb q x ≡ b → (b || list_any (eqb q) xs) ≡ true →
-      Contains (x ∷ xs) q
-  by_bit later true e k = (0, omega arith, sym (eqb-true q x e))
-  by_bit later false e k = let r = later k in let low = r.1 in (suc r.0, omega (arith, low), r.2)
-
--- a formula declares at most as many variables as it has
-few_declared : (f : Dqbf) → HasLawfulPrefix f → length (declared f) ≤ f.variables + 1
-few_declared f prefix = length-le_from_distinct_below (declared f) (f.variables + 1)
-    (IsDistinct-from_AllPairs Decides-eqb (declared f) prefix.declared_once) below where
-      below : (q : ℕ) → list_any (eqb q) (declared f) ≡ true → q < f.variables + 1
-      below q h =
-          let range = All-contains (λ v. (1 ≤ v) × (v ≤ f.variables)) (declared f) q prefix.in_range
-          (any_inside q (declared f) h) in
-          let most = range.1 in omega (arith, most)
+use Rattle.padoa_definitions.proofs.CopiedVariables.{by_places, copy_at, named_length}
 
 pub declared_long : (f : Dqbf) → length (declared f) ≡ length f.universals + length f.existentials
 declared_long f = length-append f.universals (existential_variables f) ∙ ap (λ n. length f.universals + n)
@@ -49,11 +29,6 @@ few_places f lawful =
     let long = declared_long f in
     let most = lawful.few_variables in
     omega (arith, few, long, most)
-
-pub at_first : {X : Type 0} (xs ys : List X) (p : ℕ) (x : X) → slice_get xs p ≡ Some x → slice_get (xs ++ ys) p ≡ Some x
-at_first [] ys p x h = cc
-at_first (z ∷ xs) ys zero x h = h
-at_first (z ∷ xs) ys (suc p) x h = at_first xs ys p x h
 
 pub at_second : {X : Type 0} (xs ys : List X) (p : ℕ) (y : X) → slice_get ys p ≡ Some y →
     slice_get (xs ++ ys) (length xs + p) ≡ Some y
@@ -136,10 +111,6 @@ mapped_there n (p ∷ ps) q (zero, lt, at) = (0, omega arith, ap (λ k. n + k) a
 mapped_there n (p ∷ ps) q (suc i, lt, at) = let r = mapped_there n ps q (i, omega (arith, lt), at) in let b = r.1 in
     (suc r.0, omega (arith, b), r.2)
 
--- where an existential stands
-place_of_element : (ys : List Existential) (z : Existential) → Contains ys z → (q : ℕ) × (slice_get ys q ≡ Some z)
-place_of_element ys z (k, lt, at) = (k, slice_get-get_or ys k z lt ∙ ap Some at)
-
 -- the places of what a definition may read: those of what its existential sees, and those of
 -- existentials that it shares
 pub shared_are_places : (f : Dqbf) (ranks : List ℕ) → IsLawful f → (y : Existential) (seen shared places : List ℕ) →
@@ -150,7 +121,7 @@ shared_are_places f ranks lawful y seen shared places are_seen are_shared is =
       sound = λ p among. elim (Contains-append_cases seen (map (λ k. length f.universals + k) shared) p among) [
         | inl first ↦ (let r = are_seen.sound p first in (
           r.0,
-          at_first f.universals (existential_variables f) p r.0 r.1,
+          kept_there f.universals (existential_variables f) p r.0 r.1,
           inl r.2,
         ))
         | inr second ↦ (
@@ -168,12 +139,12 @@ shared_are_places f ranks lawful y seen shared places are_seen are_shared is =
       complete = λ x may. elim may [
         | inl among ↦ (let r = are_seen.complete x among in (
           r.0,
-          at_first f.universals (existential_variables f) r.0 x r.1,
+          kept_there f.universals (existential_variables f) r.0 x r.1,
           Contains-append_left seen _ r.0 r.2,
         ))
         | inr z ↦ (
             let found = find_sound x f.existentials z.0 z.1 in
-            let q = place_of_element f.existentials z.0 found.0 in (
+            let q = place_of f.existentials z.0 found.0 in (
               length f.universals + q.0,
               at_second f.universals (existential_variables f) q.0 x
                   (at_mapped f.existentials q.0 z.0 q.1 ∙ ap Some found.1),
@@ -188,9 +159,3 @@ pub shared_within : (f : Dqbf) (ranks : List ℕ) (y : Existential) (shared : Li
 shared_within f ranks y shared are k d lt =
     let z = (are (get_or shared k d)).0 (k, lt, get_or_default shared k (get_or shared k d) d lt) in
     slice_get_within f.existentials (get_or shared k d) z.0 z.1
-
-pub places_in : (variables : List ℕ) (set : ℕ → Type 0) (places : List ℕ) → ArePlaces variables set places →
-    All (λ k. k < length variables) places
-places_in variables set places are k d lt =
-    let x = are.sound (get_or places k d) (k, lt, get_or_default places k (get_or places k d) d lt) in
-    slice_get_within variables (get_or places k d) x.0 x.1

@@ -9,6 +9,8 @@ use Rattle.std.proofs.lemmas.Option.{slice_get-get_or}
 use Rattle.dq_lits.specs.Literal.{Literal, positive, negative, variable_of, is_negative, opposite, same_literal}
 use Rattle.dq_lits.specs.Derivation.{holds}
 use Rattle.dq_lits.specs.Formula.{Dqbf, declared}
+use Rattle.dq_lits.proofs.HeldLiterals.{any_gives, holds_cases}
+use Rattle.dq_lits.proofs.SignedLiterals.{same_literal-refl, opposite-opposite, as_positive}
 use Rattle.hint_log.specs.Conditions.{IsId, AreLogged}
 use Rattle.hint_log.specs.Deciding.{ReachesGiven}
 use Rattle.hint_log.specs.Entries.{Entry, Given, Answer, has_id, numbered, last_id, clause_of, clause_at, name_of}
@@ -23,7 +25,6 @@ use Rattle.hint_log.specs.declared.origins.Origin.{Origin}
 use Rattle.hint_log.specs.declared.origins.Origin.TheVariants.{Instance, Gate, Fault, Copy, Link, TermGate, Differ}
 use Rattle.aig_graph.specs.declared.nodes.Node.{Node}
 use Rattle.interpolants.specs.Interpolant.{Partition, partition, IsReachedGiven, IsOther}
-use Rattle.interpolants.proofs.Truth.{any_witness, same_literal-sound, same_literal-refl, opposite-opposite}
 use Rattle.log_laws.proofs.Found.{named_variable}
 use Rattle.log_laws.proofs.Kept.{NamesStay, named_stay}
 use Rattle.oracle.specs.Calls.{assumed, IsMade, IsPlain}
@@ -78,10 +79,6 @@ of_links x (Link v i) h = refl
 pub selector_not_copy : (o : Option Name) (g side v : ℕ) → o ≡ Some (Selector g) → o ≡ Some (CopyOf side v) → ⊥
 selector_not_copy o g side v a b = let e : Some (Selector g) ≡ Some (CopyOf side v) = sym a ∙ b in cc
 
-pub as_positive : (l : Literal) → is_negative l ≡ false → l ≡ positive (variable_of l)
-as_positive (positive v) h = refl
-as_positive (negative v) h = cc
-
 pub same_variable : (a b : ℕ) → positive a ≡ positive b → a ≡ b
 same_variable a b e = ap variable_of e
 
@@ -103,11 +100,6 @@ pub data IsAssumed (p : Padoa) (places : List ℕ) (first second : List Literal)
       l ≡ g.selector → IsAssumed p places first second l
   by_one : (l : Literal) → holds first l ≡ true → IsAssumed p places first second l
   by_other : (l : Literal) → holds second l ≡ true → IsAssumed p places first second l
-
-pub holds_cases : (x : Literal) (xs : List Literal) (l : Literal) → holds (x ∷ xs) l ≡ true →
-    (l ≡ x) ⊎ (holds xs l ≡ true)
-holds_cases x xs l h = elim (or_cases (same_literal l x) (holds xs l) h)
-    [ inl same ↦ inl (same_literal-sound l x same) | inr later ↦ inr later ]
 
 pub element_of : (gs : List Group) (more : List Literal) (l : Literal) → holds (map (λ g. g.selector) gs ++ more) l ≡ true →
     ((g : Group) × Contains gs g × (l ≡ g.selector)) ⊎ (holds more l ≡ true)
@@ -294,7 +286,7 @@ module _ (f : Dqbf) (v : ℕ) (conditions : List Literal) (p : Padoa) (places : 
     on_a_group : list_any (λ l. holds a_side (opposite l) && is_selector all (variable_of l)) c ≡ true →
         (h : Group) × Contains p.first.groups.items h × (g ≡ group_variable h)
     on_a_group h =
-        let w = any_witness (λ l. holds a_side (opposite l) && is_selector all (variable_of l))
+        let w = any_gives (λ l. holds a_side (opposite l) && is_selector all (variable_of l))
         (negative g ∷ is.grouped.rest) (sym (ap (list_any
         (λ l. holds a_side (opposite l) && is_selector all (variable_of l))) is.grouped.clause_is) ∙ h) in
         let l = w.0 in

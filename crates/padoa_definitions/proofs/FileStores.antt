@@ -8,6 +8,7 @@ use Rattle.hint_log.specs.Conditions.{AreLogged}
 use Rattle.hint_log.specs.Entries.{Named, Given, ProofLog, name_of}
 use Rattle.hint_log.specs.declared.names.Name.TheVariants.{Copy as CopyOf}
 use Rattle.hint_log.specs.declared.origins.Origin.TheVariants.{Link}
+use Rattle.hint_log.proofs.NamedEntries.{named_contains}
 use Rattle.log_laws.specs.Engines.{copies, HasNone}
 use Rattle.oracle.specs.Calls.{IsMade}
 use Rattle.oracle.specs.declared.groups.Group.{Group}
@@ -19,7 +20,7 @@ use Rattle.padoa_definitions.specs.declared.frames.Sides.{Sides}
 use Rattle.padoa_definitions.specs.declared.padoa.Padoa.{Padoa}
 use Rattle.padoa_definitions.proofs.GivenClauses.{unnamed_back}
 use Rattle.padoa_definitions.proofs.KeptCopies.{IsNamed, Keeps, keeps_anew}
-use Rattle.padoa_definitions.proofs.MadeCopies.{named_contains, third_grew, unlinked_yet}
+use Rattle.padoa_definitions.proofs.MadeCopies.{third_grew, unlinked_yet}
 use Rattle.padoa_definitions.proofs.MadeStores.{AreFileCopies, made_given, made_store}
 use Rattle.padoa_definitions.proofs.OnlyCopies.{all_copied}
 use Rattle.padoa_definitions.proofs.StandingStores.{AreKept, given_in_stays}

@@ -7,6 +7,8 @@ use Rattle.std.proofs.lemmas.List.Elements.{All-contains}
 use Rattle.dq_lits.specs.Derivation.{holds}
 use Rattle.dq_lits.specs.Formula.{Dqbf}
 use Rattle.dq_lits.specs.Literal.{Literal, positive, negative, variable_of, opposite}
+use Rattle.dq_lits.proofs.HeldLiterals.{held_of_all}
+use Rattle.dq_lits.proofs.SignedLiterals.{as_positive}
 use Rattle.hint_log.specs.Conditions.{IsId, AreLogged}
 use Rattle.hint_log.specs.Deciding.{ReachesGiven}
 use Rattle.hint_log.specs.Entries.{Entry, Answer, ProofLog, has_id, numbered, last_id, clause_of, name_of}
@@ -24,8 +26,8 @@ use Rattle.padoa_definitions.specs.Copies.{is_copy_of, group_variable, IsCopyGiv
 use Rattle.padoa_definitions.specs.Ruling.{copied_assignment, AreFirstCopies, ShowsClause}
 use Rattle.padoa_definitions.specs.declared.padoa.Padoa.{Padoa}
 use Rattle.padoa_definitions.proofs.SearchAnswers.{answered, answer_last, padoa_answered, names_answered, silent_grew}
-use Rattle.padoa_definitions.proofs.DividedAnswers.{of_copies, selector_not_copy, element_of, as_positive, same_variable}
-use Rattle.padoa_definitions.proofs.LinkedInterpolants.{copy_given_true, held_of_all}
+use Rattle.padoa_definitions.proofs.DividedAnswers.{of_copies, selector_not_copy, element_of, same_variable}
+use Rattle.padoa_definitions.proofs.LinkedInterpolants.{copy_given_true}
 use Rattle.padoa_definitions.proofs.Reached.{LinesAreImplied, of_answer, group_named, side_at, undecided_answer}
 
 pub first_plain : (es : List Entry) (lits : List Literal) → AreFirstCopies es lits → All (IsPlain es) lits

@@ -1,6 +1,7 @@
 -- A universal of a store that has all parts counts as one that has copies.
 use Rattle.std.proofs.Common.{◌≡◌, ◌≢◌, ℕ, ◌<◌, ◌≤◌, true, ◌⊎◌, inl, inr, List, length, set, refl, sym, ◌∙◌, ap, arith}
 use Rattle.std.proofs.lemmas.List.{get_or-set_other, length-set}
+use Rattle.list_laws.proofs.Numbers.{same_or_not}
 use Rattle.dq_lits.specs.Formula.{Dqbf}
 use Rattle.hint_log.specs.Conditions.{AreLogged}
 use Rattle.hint_log.specs.Entries.{ProofLog}
@@ -10,7 +11,7 @@ use Rattle.padoa_definitions.specs.Following.{IsFollowing}
 use Rattle.padoa_definitions.specs.Store.{StoreState, parts_at, HasGroup, Slot, of_frame, of_link, IsStore}
 use Rattle.padoa_definitions.proofs.GrownStores.{IsGrown, entries_kept}
 use Rattle.padoa_definitions.proofs.MarkedVariables.{marked_set, copied_more}
-use Rattle.padoa_definitions.proofs.StoreSteps.{same_or_not, following_same}
+use Rattle.padoa_definitions.proofs.StoreSteps.{following_same}
 
 -- a universal that has all parts
 module _ (all : Dqbf) (numbered : List ℕ) (s : StoreState) (log : ProofLog) (store : IsStore all numbered s log.entries)

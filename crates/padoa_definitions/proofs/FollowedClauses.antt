@@ -2,8 +2,11 @@
 use Rattle.std.proofs.Common.{◌≡◌, ℕ, zero, suc, ◌+◌, ◌-◌, ◌<◌, ◌≤◌, Bool, true, ◌⊎◌, inl, inr, List, ◌∷◌, ◌++◌, map, length, replicate, set, slice_get, slice_index_or, Some, None, refl, sym, ◌∙◌, ap, subst, arith}
 use Rattle.std.specs.List.{All}
 use Rattle.std.proofs.lemmas.List.{length-map}
+use Rattle.list_laws.proofs.Elements.{kept_there}
+use Rattle.list_laws.proofs.Quantified.{one_place}
 use Rattle.dq_lits.specs.Literal.{Literal, variable_of, opposite}
 use Rattle.dq_lits.specs.Formula.{Dqbf, Existential, HasLawfulPrefix, declared}
+use Rattle.dq_lits.proofs.SignedLiterals.{negated-positive}
 use Rattle.dq_formula.specs.Prefix.{existential_variables}
 use Rattle.hint_log.specs.Conditions.{AreLogged}
 use Rattle.hint_log.specs.Entries.{Entry, Given, ProofLog, with_entry}
@@ -20,10 +23,8 @@ use Rattle.padoa_definitions.specs.declared.copies.MatrixCopy.{MatrixCopy}
 use Rattle.padoa_definitions.specs.declared.following.LiveClause.{LiveClause}
 use Rattle.padoa_definitions.specs.declared.frames.Sides.{Sides}
 use Rattle.padoa_definitions.specs.declared.padoa.Padoa.{Padoa}
-use Rattle.padoa_definitions.proofs.DeclaredPlaces.{at_first, copies_long}
-use Rattle.padoa_definitions.proofs.GivenClauses.{switch_off}
+use Rattle.padoa_definitions.proofs.DeclaredPlaces.{copies_long}
 use Rattle.padoa_definitions.proofs.GivenSteps.{given_following}
-use Rattle.padoa_definitions.proofs.KeptPlaces.{one_place}
 use Rattle.padoa_definitions.proofs.RoomSteps.{roomier_following}
 use Rattle.padoa_definitions.proofs.StoreSteps.{following_then, standing_on}
 
@@ -54,7 +55,7 @@ pub universal_copied : (f : Dqbf) → HasLawfulPrefix f → (flags : List Bool) 
     slice_get f.universals place ≡ Some v → is_copied_at flags place ≡ true → IsCopied f flags v
 universal_copied f lawful flags v place v_is flag k k_is =
     let same = one_place (declared f) k place v lawful.declared_once k_is
-    (at_first f.universals (existential_variables f) place v v_is) in
+    (kept_there f.universals (existential_variables f) place v v_is) in
     ap (is_copied_at flags) same ∙ flag
 
 pub flags_long : (all : Dqbf) (numbered : List ℕ) (f : Dqbf) (s : StoreState) (es : List Entry) →
@@ -157,7 +158,7 @@ module _ (all : Dqbf) (numbered : List ℕ) (f : Dqbf) (p : Padoa) (log : ProofL
         next c (live.clause_is ∙ c_is)
         (λ k d lt j j_is. covered k d lt j (ap (λ xs. slice_get xs j) same_declared ∙ j_is)) g group_there rest named
         new (is ∙ ap (λ l. with_entry log (Given (Copy side clause.number) (l ∷ rest)))
-        (switch_off g.selector group_made.positive))
+        (negated-positive g.selector group_made.positive))
       where
         same_declared : declared f ≡ declared all
         same_declared =

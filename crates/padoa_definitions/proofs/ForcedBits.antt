@@ -7,6 +7,7 @@ use Rattle.std.proofs.lemmas.Option.{slice_get_within}
 use Rattle.dq_lits.specs.Derivation.{is_tautology}
 use Rattle.dq_lits.specs.Formula.{Dqbf, Existential, IsWellFormed, declared, existential_of}
 use Rattle.dq_lits.specs.Literal.{Assignment, Literal, variable_of}
+use Rattle.dq_lits.proofs.FormulaVariables.{find_sound}
 use Rattle.dq_formula.specs.Prefix.{IsLawful, existential_variables}
 use Rattle.hint_log.specs.Entries.{Entry, clause_at, name_of}
 use Rattle.hint_log.specs.Naming.{named_literal, name_literal}
@@ -24,7 +25,7 @@ use Rattle.padoa_definitions.proofs.AskedLiterals.{AreAsked, IsOwn, IsSeenAsked,
 use Rattle.padoa_definitions.proofs.KeptPlaces.{existential_copied, universal_differs}
 use Rattle.padoa_definitions.proofs.ShownRules.{forced_by, literal_names}
 use Rattle.padoa_definitions.proofs.LooseSamples.{loose}
-use Rattle.definition_order.proofs.Declared.{find_sound, sees_universals}
+use Rattle.definition_order.proofs.Declared.{sees_universals}
 
 -- places of what an existential sees are places of universals
 pub seen_within : (f : Dqbf) (sees : List ℕ) (flags : List Bool) (places : List ℕ) (n : ℕ) →

@@ -3,12 +3,14 @@ use Rattle.std.proofs.Common.{◌≡◌, ◌≢◌, ℕ, zero, suc, true, false,
 use Rattle.std.specs.List.{Contains}
 use Rattle.std.proofs.lemmas.Bool.{eq-eqb}
 use Rattle.std.proofs.lemmas.List.Elements.{Contains-append_cases, Contains-append_left, Contains-append_right}
+use Rattle.list_laws.proofs.Members.{contains_later}
 use Rattle.dq_lits.specs.Literal.{is_negative}
 use Rattle.dq_lits.specs.Formula.{Dqbf}
 use Rattle.hint_log.specs.Conditions.{AreLogged}
 use Rattle.hint_log.specs.Entries.{Entry, Named, ProofLog, with_entry, name_of}
 use Rattle.hint_log.specs.ProductiveSession.{frame_of}
 use Rattle.hint_log.specs.declared.names.Name.TheVariants.{Selector}
+use Rattle.hint_log.proofs.NamedEntries.{unnamed_before}
 use Rattle.log_laws.specs.Engines.{copies}
 use Rattle.log_laws.specs.Sessions.{IsAddedLive}
 use Rattle.log_laws.proofs.Kept.{NamesStay, name_stays_by}
@@ -19,8 +21,7 @@ use Rattle.padoa_definitions.specs.Copies.{group_variable}
 use Rattle.padoa_definitions.specs.Following.{AreOldOrNew, IsFollowing}
 use Rattle.padoa_definitions.specs.Store.{StoreState, HasGroup, side_group, Slot, of_frame, of_link, both_groups, store_groups, IsStore}
 use Rattle.padoa_definitions.specs.declared.frames.Sides.{Sides}
-use Rattle.padoa_definitions.proofs.GrownStores.{IsGrown, AreNewGroups, entries_kept, unnamed_before}
-use Rattle.padoa_definitions.proofs.KeptCopies.{contains_later}
+use Rattle.padoa_definitions.proofs.GrownStores.{IsGrown, AreNewGroups, entries_kept}
 use Rattle.padoa_definitions.proofs.StandingStores.{AreKept, given_stays, groups_stay, parts_stay, store_stands}
 use Rattle.padoa_definitions.proofs.StoreSteps.{set_cases, set_there, following_entry}
 

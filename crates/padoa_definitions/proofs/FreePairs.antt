@@ -2,17 +2,20 @@
 use Rattle.std.proofs.Common.{◌≡◌, ℕ, zero, suc, ◌+◌, ◌<◌, ◌==◌, Bool, true, false, true≢false, not, cond, ◌||◌, ◌&&◌, inl, inr, List, [], ◌∷◌, ◌++◌, map, length, get_or, slice_get, Some, refl, sym, ◌∙◌, ap, subst, arith}
 use Rattle.std.specs.List.{All, Contains, list_any}
 use Rattle.std.specs.Option.{option_and_then}
-use Rattle.std.proofs.lemmas.Bool.{cases_Bool, eqb-true, eq-eqb, ne_eqb, or_cases}
+use Rattle.std.proofs.lemmas.Bool.{cases_Bool, eqb-true, eq-eqb, ne_eqb}
 use Rattle.std.proofs.lemmas.List.Folds.{list_any_at}
 use Rattle.std.proofs.lemmas.List.{length-map}
 use Rattle.std.proofs.lemmas.List.Elements.{All-contains, All-head, All-tail, All-cons, All-nil, All-push, Contains-get_or, Contains-append_cases, Contains-append_left, Contains-append_right}
 use Rattle.std.proofs.lemmas.Option.{slice_get-get_or, slice_get_within}
+use Rattle.list_laws.proofs.Members.{contains_tested, element_at}
+use Rattle.list_laws.proofs.Elements.{kept_there}
 use Rattle.dq_lits.specs.Literal.{Assignment, Literal, positive, negative, variable_of, is_negative, literal_true, clause_true}
 use Rattle.dq_lits.specs.Derivation.{MakesTrue}
 use Rattle.dq_lits.specs.Formula.{Dqbf, IsWellFormed, declared, is_universal}
 use Rattle.dq_lits.specs.Expansion.{row_assignment}
 use Rattle.dq_lits.specs.Henkin.{MatrixHolds}
 use Rattle.dq_lits.specs.Row.{assignment_of, bit_of}
+use Rattle.dq_lits.proofs.TrueClauses.{positive_true}
 use Rattle.dq_formula.specs.Prefix.{existential_variables}
 use Rattle.hint_log.specs.Entries.{Entry, Given, has_id, last_id, numbered, clause_of, clause_at, name_of}
 use Rattle.hint_log.specs.Naming.{named_literal, name_literal, AreNamedAs, by_universality, round_assignment}
@@ -30,11 +33,11 @@ use Rattle.padoa_definitions.specs.declared.asking.Asked.{Asked}
 use Rattle.padoa_definitions.specs.declared.copies.MatrixCopy.{MatrixCopy}
 use Rattle.padoa_definitions.specs.declared.defining.Pair.{Pair}
 use Rattle.padoa_definitions.specs.declared.padoa.Padoa.{Padoa}
-use Rattle.padoa_definitions.proofs.CopiedVariables.{element_at, named_length}
+use Rattle.padoa_definitions.proofs.CopiedVariables.{named_length}
 use Rattle.padoa_definitions.proofs.GivenClauses.{universals_distinct}
 use Rattle.padoa_definitions.proofs.KeptPlaces.{bit_at, copied_there}
 use Rattle.padoa_definitions.proofs.LinkedInterpolants.{signed, literal_signed}
-use Rattle.padoa_definitions.proofs.DeclaredPlaces.{at_first, copies_declared}
+use Rattle.padoa_definitions.proofs.DeclaredPlaces.{copies_declared}
 
 -- a given clause has an id
 pub given_id : (es : List Entry) (o : Origin) (c : List Literal) → Contains es (Given o c) →
@@ -76,13 +79,6 @@ literal_at : (ls : List Literal) (k : ℕ) → k < length ls → (l : Literal) �
 literal_at [] k lt = absurd (omega (arith, lt))
 literal_at (l ∷ ls) zero lt = (l, refl)
 literal_at (l ∷ ls) (suc k) lt = literal_at ls k (omega (arith, lt))
-
-found_universal : (us : List ℕ) (v : ℕ) → list_any (λ x. x == v) us ≡ true → Contains us v
-found_universal [] v h = cc
-found_universal (x ∷ us) v h = elim (or_cases (x == v) (list_any (λ z. z == v) us) h) [
-  | inl here ↦ (0, omega arith, eqb-true x v here)
-  | inr later ↦ (let r = found_universal us v later in let b = r.1 in (suc r.0, omega (arith, b), r.2))
-]
 
 missing_universal : (us : List ℕ) (v : ℕ) → list_any (λ x. x == v) us ≡ false → Contains us v → ⊥
 missing_universal us v h (k, lt, at) = true≢false (sym (list_any_at (λ x. x == v) us k v lt
@@ -147,7 +143,7 @@ module _ (f : Dqbf) (es : List Entry) (values : Assignment) (formula : IsWellFor
     universal_bit v w (k, lt, at) has named =
         let us = f.universals in
         let there : slice_get us k ≡ Some v = slice_get-get_or us k v lt ∙ ap Some at in
-        let flag = has k (at_first us (existential_variables f) k v there) in
+        let flag = has k (kept_there us (existential_variables f) k v there) in
         let long = is.universals.long in
         let l = literal_at copy.universals.items k (omega (arith, lt, long)) in
         let l_named = named_variable es l.0 (CopyOf side v) false (name_of es (variable_of l.0)) refl
@@ -161,7 +157,7 @@ module _ (f : Dqbf) (es : List Entry) (values : Assignment) (formula : IsWellFor
     copied_value v w among has named = elim (cases_Bool (is_universal f v)) [
       | inl universal ↦
           ap (λ b. by_universality b (row_assignment f row v) (assignment_of (existential_variables f) bits v))
-          universal ∙ universal_bit v w (found_universal f.universals v universal) has named
+          universal ∙ universal_bit v w (contains_tested f.universals v universal) has named
       | inr other ↦ elim (Contains-append_cases f.universals (existential_variables f) v among) [
         | inl universal ↦ absurd (missing_universal f.universals v other universal)
         | inr existential ↦
@@ -273,11 +269,6 @@ module _ (f : Dqbf) (es : List Entry) (values : Assignment) (formula : IsWellFor
       both true false d u = cc
       both false true d u = cc
       both false false d u = refl
-
-pub positive_true : (values : Assignment) (l : Literal) → is_negative l ≡ false → literal_true values l ≡ true →
-    values (variable_of l) ≡ true
-positive_true values (positive v) plain h = h
-positive_true values (negative v) plain h = cc
 
 pub all_there : (P : Literal → Type 0) (xs : List Group) (more : List Literal) → All P (map (λ g. g.selector) xs ++ more) →
     ((g : Group) → Contains xs g → P g.selector) × All P more

@@ -1,9 +1,11 @@
 -- What an answer to a question says of an existential: of its definition, and of its definition under conditions.
-use Rattle.std.proofs.Common.{◌≡◌, ◌≢◌, ◌<◌, ◌==◌, ℕ, Bool, true, false, true≢false, not, inl, inr, List, [], ◌∷◌, filter, length, get_or, slice_get, slice_index, Some, IsSome, refl, sym, ◌∙◌, ap, subst, arith}
+use Rattle.std.proofs.Common.{◌≡◌, ◌≢◌, ◌<◌, ◌==◌, ℕ, Bool, true, false, true≢false, not, inl, inr, List, [], ◌∷◌, filter, length, get_or, slice_get, slice_index, Some, IsSome, sym, ◌∙◌, ap, subst, arith}
 use Rattle.std.specs.List.{All, Contains, position_or_len}
 use Rattle.std.proofs.lemmas.Bool.{cases_Bool}
 use Rattle.std.proofs.lemmas.List.Elements.{All-contains, All-head, All-map, All-nil, Contains-get_or}
 use Rattle.std.proofs.lemmas.Option.{get_or_from_slice_get, slice_get_within, slice_get-get_or}
+use Rattle.list_laws.proofs.Elements.{kept_there}
+use Rattle.list_laws.proofs.Truths.{not_true}
 use Rattle.dq_lits.specs.Derivation.{is_tautology}
 use Rattle.dq_lits.specs.Formula.{Dqbf, Existential, declared, existential_of}
 use Rattle.dq_lits.specs.Literal.{Assignment, Literal, positive, negative, variable_of, is_negative, literal_true}
@@ -25,16 +27,11 @@ use Rattle.padoa_definitions.specs.Seeing.{AreCopiedPlaces}
 use Rattle.padoa_definitions.specs.declared.defining.Pair.{Pair}
 use Rattle.padoa_definitions.specs.declared.guessing.Guess.{Guess}
 use Rattle.padoa_definitions.specs.declared.guessing.Guess.TheVariants.{Node as NodeFound, Pair as PairFound}
-use Rattle.padoa_definitions.proofs.DeclaredPlaces.{at_first}
 use Rattle.padoa_definitions.proofs.GivenClauses.{universals_distinct}
 use Rattle.padoa_definitions.proofs.KeptPlaces.{all_flagged, bit_at, copied_within, declared_cases, declared_copies, flag_past, has_copies_sound, has_no_copies, in_filter, kept_consistent, of_filter}
 use Rattle.padoa_definitions.proofs.MetConditions.{existential_has_copies}
 use Rattle.padoa_definitions.proofs.FreePairs.{all_parts, universal_value}
 use Rattle.padoa_definitions.proofs.SearchAnswers.{existential_declared, found_variable}
-
-turned : (b : Bool) → not b ≡ true → b ≡ false
-turned false h = refl
-turned true h = cc
 
 -- whether a condition is kept
 abbrev kept_test : Dqbf → List Bool → Literal → Bool
@@ -164,7 +161,7 @@ module _ (f : Dqbf) (flags others : List Bool) (places : List ℕ) (v : ℕ) (co
   true_there = All-head (λ l. literal_true m1 l ≡ true) (positive v) [] first_parts.1
 
   pub false_there : m2 v ≡ false
-  false_there = turned (m2 v) (All-head (λ l. literal_true m2 l ≡ true) (negative v) [] second_parts.1)
+  false_there = not_true (m2 v) (All-head (λ l. literal_true m2 l ≡ true) (negative v) [] second_parts.1)
 
 pub is_free : (f : Dqbf) → IsLawful f → (flags others : List Bool) (ranks : List ℕ) (v : ℕ) (y : Existential)
     (places : List ℕ) (pair : Pair) → length flags ≡ length f.universals →
@@ -210,7 +207,7 @@ module _ (f : Dqbf) (lawful : IsLawful f) (flags others : List Bool) (graph : Ai
       same_variable : (i : ℕ) → Contains places i → input_variable f i ≡ slice_index f.universals i
       same_variable i among =
           let r = are.sound i among in
-          get_or_from_slice_get (declared f) i r.0 0 (at_first f.universals (existential_variables f) i r.0 r.1) ∙ sym
+          get_or_from_slice_get (declared f) i r.0 0 (kept_there f.universals (existential_variables f) i r.0 r.1) ∙ sym
           (get_or_from_slice_get f.universals i r.0 0 r.1)
 
   conditional_pair : (pair : Pair) → IsPairAt f flags others places v conditions pair →

@@ -5,7 +5,8 @@ use Rattle.std.proofs.lemmas.List.{get_or_default, length-append, get_or_append_
 use Rattle.std.proofs.lemmas.List.Elements.{All-head, All-cons, All-nil, Contains-append_right}
 use Rattle.std.proofs.lemmas.Option.{slice_get-get_or, slice_get_within}
 use Rattle.std.proofs.lemmas.Bool.{eq-eqb, cases_lt}
-use Rattle.dq_lits.specs.Literal.{Literal, positive, negative, variable_of, is_negative, opposite}
+use Rattle.list_laws.proofs.Members.{element_at, contains_later, contains_first, contains_cases}
+use Rattle.dq_lits.specs.Literal.{Literal, negative, variable_of, is_negative}
 use Rattle.dq_lits.specs.Formula.{Dqbf, HasLawfulPrefix, declared}
 use Rattle.dq_formula.specs.Prefix.{existential_variables}
 use Rattle.hint_log.specs.Conditions.{AreLogged}
@@ -18,6 +19,7 @@ use Rattle.hint_log.specs.declared.names.Name.{Name}
 use Rattle.hint_log.specs.declared.names.Name.TheVariants.{Selector, Copy as CopyOf}
 use Rattle.hint_log.specs.declared.origins.Origin.{Origin}
 use Rattle.hint_log.specs.declared.origins.Origin.TheVariants.{Instance, Gate, Fault, Copy, Link, TermGate, Differ}
+use Rattle.hint_log.proofs.NamedEntries.{none_below}
 use Rattle.log_laws.specs.Engines.{circuits, copies, origin_engine, IsAddedBy}
 use Rattle.log_laws.proofs.Found.{named_variable}
 use Rattle.log_laws.proofs.LargerLogs.{leaves_rest, grown_by, grown_by_none, grown_then}
@@ -27,8 +29,8 @@ use Rattle.oracle.specs.declared.groups.Group.{Group}
 use Rattle.padoa_definitions.specs.Copies.{is_copy_of, group_variable, IsGroupGiven, IsSideGiven, IsGivenIn, AreCopies, AreCopiesOf, IsCopied, copy_names, IsMatrixCopy}
 use Rattle.padoa_definitions.specs.Growing.{GrewAnew, GrewIn, HasFewFaults, is_side_name, Adds, AreUncopied, NamesCopies, AreUngiven, AreVariablesNamed, IsCopyNamed, Gives, AreGivenSoFar, AreNumberedIn, LeavesUncopied}
 use Rattle.padoa_definitions.specs.declared.copies.MatrixCopy.{MatrixCopy}
-use Rattle.padoa_definitions.proofs.KeptCopies.{contains_first, contains_later, contains_cases, keeps_anew, given_stays, made_stays, copies_stay, Keeps}
-use Rattle.padoa_definitions.proofs.CopiedVariables.{element_at, unflagged}
+use Rattle.padoa_definitions.proofs.KeptCopies.{keeps_anew, given_stays, made_stays, copies_stay, Keeps}
+use Rattle.padoa_definitions.proofs.CopiedVariables.{unflagged}
 use Rattle.padoa_definitions.proofs.SideClauses.{side_given}
 
 -- growth composes
@@ -263,10 +265,6 @@ given_more f side g j old log new clause rest sides is_group before clause_is na
       sides = λ side mine apart own. absurd apart;
     }
 
-none_below : (b : Bool) (n : Name) (o : Option Name) → cond b (Some n) o ≡ None → o ≡ None
-none_below true n o h = cc
-none_below false n o h = h
-
 -- a group without a name has no clause
 pub fresh_group : (f : Dqbf) (test : Origin → Bool) (g : ℕ) (es : List Entry) → AreLogged es → name_of es g ≡ None →
     Each (IsGroupGiven f test g) es
@@ -309,10 +307,6 @@ copies_plain es side (l ∷ clause) (k ∷ ks) are =
     plain_copy es k side v b is =
         let named = named_variable es k (CopyOf side v) b (name_of es (variable_of k)) refl is in
         record { named = subst IsSome (sym named.0) refl; no_selector = ap is_selector_name named.0 }
-
-pub switch_off : (l : Literal) → is_negative l ≡ false → opposite l ≡ negative (variable_of l)
-switch_off (positive v) h = refl
-switch_off (negative v) h = cc
 
 -- how many fault groups there are stays
 pub few_anew : (f : Dqbf) (old new : ProofLog) → GrewAnew f old new → HasFewFaults old.entries →
@@ -445,7 +439,7 @@ module _ (f : Dqbf) (side : ℕ) (flags : List Bool) (copy : MatrixCopy) (old lo
         few = few_anew f old new group_adds.grew few;
       }
 
-only_one : (group g : Group) → Contains (group ∷ []) g → group ≡ g
+pub only_one : (group g : Group) → Contains (group ∷ []) g → group ≡ g
 only_one group g (zero, lt, at) = at
 only_one group g (suc k, lt, at) = absurd (omega (arith, lt))
 

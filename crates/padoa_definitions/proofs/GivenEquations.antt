@@ -5,8 +5,11 @@ use Rattle.std.specs.Option.{option_map}
 use Rattle.std.proofs.lemmas.Bool.{eq-eqb, eqb-true, cases_lt}
 use Rattle.std.proofs.lemmas.List.{length-append}
 use Rattle.std.proofs.lemmas.Option.{slice_get_within, get_or_from_slice_get}
+use Rattle.list_laws.proofs.Quantified.{one_place}
+use Rattle.list_laws.proofs.Members.{element_at, contains_later, contains_first, contains_cases}
 use Rattle.dq_lits.specs.Literal.{Literal, negative, variable_of, is_negative, opposite}
 use Rattle.dq_lits.specs.Formula.{Dqbf, declared}
+use Rattle.dq_lits.proofs.SignedLiterals.{negated-positive}
 use Rattle.hint_log.specs.Entries.{Entry, Named, Given, ProofLog, with_entry, name_of}
 use Rattle.hint_log.specs.Growth.{Each}
 use Rattle.hint_log.specs.Naming.{NamedLiteral, named_literal, name_literal, AreNamedAs}
@@ -19,9 +22,9 @@ use Rattle.oracle.specs.Calls.{IsMade}
 use Rattle.oracle.specs.declared.groups.Group.{Group}
 use Rattle.padoa_definitions.specs.Copies.{is_link_of, IsGroupGiven, IsGivenIn, IsLink, group_variable, is_copied_at}
 use Rattle.padoa_definitions.specs.Growing.{HasFewFaults, Adds, is_any_link, IsUnlinked, AreEquated, AreLinkedSoFar}
-use Rattle.padoa_definitions.proofs.KeptCopies.{Keeps, IsNamed, contains_first, contains_later, contains_cases, given_stays, keeps_anew, link_stays, made_stays}
-use Rattle.padoa_definitions.proofs.CopiedVariables.{element_at, opposite_name, pushed_cases, same_place}
-use Rattle.padoa_definitions.proofs.GivenClauses.{in_by, few_more, right_clause, switch_off, unnamed_back, adds_same, adds_then, gives_none, gives_more}
+use Rattle.padoa_definitions.proofs.KeptCopies.{Keeps, IsNamed, given_stays, keeps_anew, link_stays, made_stays}
+use Rattle.padoa_definitions.proofs.CopiedVariables.{opposite_name, pushed_cases}
+use Rattle.padoa_definitions.proofs.GivenClauses.{in_by, few_more, right_clause, unnamed_back, adds_same, adds_then, gives_none, gives_more}
 
 pub none_equated : (f : Dqbf) (x g : ℕ) (log : ProofLog) → HasFewFaults log.entries →
     Each (IsGroupGiven f (is_link_of x) g) log.entries → IsUnlinked x log.entries → AreEquated f x g 0 log log
@@ -186,7 +189,7 @@ link_more f flags spare i x wanted old log new groups more g distinct x_at befor
         x ≡ y → (p : ℕ) (c : List Literal) → Contains new.entries (Given (Link y p) c) → ⊥
     not_linked k y (inl le) y_at same p c inside = not_again k y le y_at same
     not_linked k y (inr off) y_at same p c inside =
-        let here = same_place (declared f) k i x distinct (y_at ∙ ap Some (sym same)) x_at in
+        let here = one_place (declared f) k i x distinct (y_at ∙ ap Some (sym same)) x_at in
         let unwanted = flag ∙ ap (is_copied_at flags) (sym here) ∙ off in
         before.later k y (inr off) y_at p c
         (subst (λ (l : ProofLog). Contains l.entries (Given (Link y p) c)) (idle unwanted) inside)
@@ -210,7 +213,7 @@ module _ (f : Dqbf) (x : ℕ) (group : Group) (one other : Literal) (old : Proof
       part_more f x (group_variable group) 0 old old new (k ∷ other ∷ []) (inl refl) made.named none_yet
       (pair_named old.entries k other (named_literal (CopyOf 1 x) true) (named_literal (CopyOf 2 x) false)
       (ap (name_literal old.entries) k_is ∙ opposite_name old.entries one (CopyOf 1 x) one_is) other_is)
-      (is ∙ ap (λ s. with_entry old (Given (Link x 1) (s ∷ k ∷ other ∷ []))) (switch_off group.selector made.positive))
+      (is ∙ ap (λ s. with_entry old (Given (Link x 1) (s ∷ k ∷ other ∷ []))) (negated-positive group.selector made.positive))
 
   pub second_part : (k : Literal) (log new : ProofLog) → AreEquated f x (group_variable group) 1 old log →
       k ≡ opposite other →
@@ -223,7 +226,7 @@ module _ (f : Dqbf) (x : ℕ) (group : Group) (one other : Literal) (old : Proof
       (there one false (CopyOf 1 x) one_is)
       (ap (name_literal log.entries) k_is ∙ opposite_name log.entries other (CopyOf 2 x)
       (there other false (CopyOf 2 x) other_is)))
-      (is ∙ ap (λ s. with_entry log (Given (Link x 2) (s ∷ one ∷ k ∷ []))) (switch_off group.selector made.positive))
+      (is ∙ ap (λ s. with_entry log (Given (Link x 2) (s ∷ one ∷ k ∷ []))) (negated-positive group.selector made.positive))
     where
       there : (l : Literal) (b : Bool) (n : Name) → name_literal old.entries l ≡ Some (named_literal n b) →
           name_literal log.entries l ≡ Some (named_literal n b)

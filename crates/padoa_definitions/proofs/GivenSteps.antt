@@ -2,6 +2,8 @@
 use Rattle.std.proofs.Common.{◌≡◌, ◌≢◌, ℕ, ◌+◌, ◌-◌, ◌<◌, ◌≤◌, ◌⊎◌, inl, inr, List, [], ◌∷◌, length, set, slice_index_or, Some, refl, sym, ap, subst, arith}
 use Rattle.std.specs.List.{All, Contains}
 use Rattle.std.proofs.lemmas.List.{get_or-set_same, get_or-set_other}
+use Rattle.list_laws.proofs.Numbers.{same_or_not}
+use Rattle.list_laws.proofs.Members.{contains_first, contains_cases}
 use Rattle.dq_lits.specs.Literal.{Literal, negative, variable_of}
 use Rattle.dq_lits.specs.Formula.{Dqbf}
 use Rattle.hint_log.specs.Conditions.{AreLogged}
@@ -17,9 +19,8 @@ use Rattle.padoa_definitions.specs.Copies.{IsCopied, copy_names, group_variable}
 use Rattle.padoa_definitions.specs.Following.{IsFollowing, IsStanding}
 use Rattle.padoa_definitions.specs.Store.{StoreState, HasGiven, HasGroup, Slot, of_frame, of_link, IsStoredCopy, IsStoreEntry, IsGivenThere, IsStore}
 use Rattle.padoa_definitions.proofs.GrownStores.{IsGrown, entries_kept}
-use Rattle.padoa_definitions.proofs.KeptCopies.{contains_first, contains_cases}
 use Rattle.padoa_definitions.proofs.StandingStores.{kept_by, given_stays, groups_stay, has_number, parts_stay}
-use Rattle.padoa_definitions.proofs.StoreSteps.{same_or_not, following_entry}
+use Rattle.padoa_definitions.proofs.StoreSteps.{following_entry}
 
 -- a copy in the log is noted
 noted_copy : (all : Dqbf) (numbered : List ℕ) (s : StoreState) (es : List Entry) (side j : ℕ) (c : List Literal) →

@@ -3,6 +3,7 @@ use Rattle.std.proofs.Common.{◌≡◌, ℕ, zero, suc, ◌⊎◌, inl, inr, Li
 use Rattle.std.specs.List.{Contains}
 use Rattle.std.proofs.lemmas.List.Elements.{Contains-append_cases, Contains-append_left, Contains-append_right}
 use Rattle.std.proofs.lemmas.Option.{slice_get-get_or}
+use Rattle.list_laws.proofs.Members.{contains_cases}
 use Rattle.dq_lits.specs.Literal.{Literal, negative}
 use Rattle.dq_lits.specs.Formula.{Dqbf}
 use Rattle.hint_log.specs.Entries.{Entry, Given}
@@ -14,7 +15,6 @@ use Rattle.oracle.specs.declared.groups.Group.{Group}
 use Rattle.padoa_definitions.specs.Copies.{all_groups, group_variable}
 use Rattle.padoa_definitions.specs.Leaving.{CopiesAreGrouped, CopiesAreStored, ActiveGroupsAreStored}
 use Rattle.padoa_definitions.specs.Store.{StoreState, store_of, HasGroup, Slot, of_frame, of_link, both_groups, store_groups, IsStoredCopy, IsStoreEntry}
-use Rattle.padoa_definitions.proofs.KeptCopies.{contains_cases}
 use Rattle.padoa_definitions.proofs.StandingStores.{in_one_group, has_number, link_number}
 
 -- the slot of a copy that was given

@@ -1,5 +1,5 @@
 -- What was given stays right where a store gets further clauses, groups and parts.
-use Rattle.std.proofs.Common.{◌≡◌, ℕ, ◌≤◌, ◌==◌, Bool, true, false, cond, ◌⊎◌, inl, inr, List, [], ◌∷◌, Some, None, IsSome, slice_get, subst, arith}
+use Rattle.std.proofs.Common.{◌≡◌, ℕ, ◌≤◌, ◌⊎◌, inl, inr, List, [], ◌∷◌, Some, None, IsSome, slice_get, subst, arith}
 use Rattle.dq_lits.specs.Literal.{Literal, negative}
 use Rattle.dq_lits.specs.Formula.{Dqbf}
 use Rattle.hint_log.specs.Conditions.{AreNamed, MayFollow}
@@ -9,23 +9,11 @@ use Rattle.hint_log.specs.declared.names.Name.{Name}
 use Rattle.hint_log.specs.declared.names.Name.TheVariants.{Selector, Pair, Input, And, Bad, Copy as CopyOf, Term}
 use Rattle.hint_log.specs.declared.origins.Origin.TheVariants.{Instance, Gate, Fault, Copy, Link, TermGate, Differ}
 use Rattle.hint_log.specs.ProductiveSession.{frame_of}
+use Rattle.hint_log.proofs.NamedEntries.{unnamed_before}
 use Rattle.log_laws.specs.Engines.{IsInGroup}
 use Rattle.oracle.specs.declared.groups.Group.{Group}
 use Rattle.padoa_definitions.specs.Copies.{group_variable}
 use Rattle.padoa_definitions.specs.Store.{StoreState, parts_at, HasGiven, HasGroup, Slot, of_frame, IsStoredName, IsStoredCopy, IsStoredLink, IsInNoGroup, IsStoreEntry}
-
--- what has no name had none before
-pub unnamed_before : (e : Entry) (es : List Entry) (v : ℕ) → name_of (e ∷ es) v ≡ None → name_of es v ≡ None
-unnamed_before (Named w n) es v none = by (v == w) none
-  where
-    by : (b : Bool) → cond b (Some n) (name_of es v) ≡ None → name_of es v ≡ None
-    by true is = cc
-    by false is = is
-unnamed_before (Given o c) es v none = none
-unnamed_before (Learned c hs) es v none = none
-unnamed_before (Answer c hs) es v none = none
-unnamed_before (Round r b j) es v none = none
-unnamed_before (Begun live) es v none = none
 
 -- a clause of a group stands on the group's variable, which has a name
 pub in_unnamed : (es : List Entry) (g : ℕ) (c : List Literal) → AreNamed es c → name_of es g ≡ None → IsInGroup g c → ⊥

@@ -3,6 +3,9 @@ use Rattle.std.proofs.Common.{◌≡◌, ◌≢◌, ℕ, suc, ◌+◌, ◌<◌, 
 use Rattle.std.specs.List.{AllPairs, Contains}
 use Rattle.std.proofs.lemmas.List.Elements.{Contains-append_right}
 use Rattle.std.proofs.lemmas.Option.{slice_get_within}
+use Rattle.list_laws.proofs.Elements.{kept_there}
+use Rattle.list_laws.proofs.Quantified.{one_place}
+use Rattle.list_laws.proofs.Members.{contains_first, contains_cases}
 use Rattle.dq_lits.specs.Literal.{Literal, negative}
 use Rattle.dq_lits.specs.Formula.{Dqbf, declared}
 use Rattle.dq_formula.specs.Prefix.{existential_variables}
@@ -19,9 +22,6 @@ use Rattle.oracle.specs.declared.groups.Group.{Group}
 use Rattle.padoa_definitions.specs.Copies.{IsGivenIn, group_variable}
 use Rattle.padoa_definitions.specs.Following.{IsFollowing, IsStanding}
 use Rattle.padoa_definitions.specs.Store.{StoreState, parts_at, side_universals, both_groups, IsStoredLink, IsStoreEntry, HasParts, IsStore}
-use Rattle.padoa_definitions.proofs.DeclaredPlaces.{at_first}
-use Rattle.padoa_definitions.proofs.KeptCopies.{contains_first, contains_cases}
-use Rattle.padoa_definitions.proofs.KeptPlaces.{one_place}
 use Rattle.padoa_definitions.proofs.PartSteps.{raised, raised_here, held_before, raised_store, raised_new, raised_groups, raised_old}
 use Rattle.padoa_definitions.proofs.StandingStores.{kept_by, given_in_stays, parts_stay, link_number}
 use Rattle.padoa_definitions.proofs.StoreSteps.{following_entry}
@@ -81,7 +81,7 @@ module _ (all : Dqbf) (numbered : List ℕ) (f : Dqbf) (once : AllPairs (λ v w.
   names v n is = is
 
   at_place : slice_get (declared all) place ≡ Some x
-  at_place = at_first all.universals (existential_variables all) place x x_is
+  at_place = kept_there all.universals (existential_variables all) place x x_is
 
   parts : HasParts all equated (e ∷ es)
   parts =

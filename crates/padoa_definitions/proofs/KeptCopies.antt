@@ -1,35 +1,26 @@
 -- What stays of the copies as the log grows.
-use Rattle.std.proofs.Common.{◌≡◌, ◌≢◌, ◌⊎◌, ℕ, zero, suc, ◌+◌, Bool, true, false, inl, inr, List, [], ◌∷◌, ◌++◌, map, get_or, Some, None, slice_get, refl, sym, ◌∙◌, ap, subst, arith}
+use Rattle.std.proofs.Common.{◌≡◌, ◌≢◌, ℕ, zero, suc, ◌+◌, Bool, true, false, inl, inr, List, [], ◌∷◌, ◌++◌, map, get_or, Some, None, slice_get, refl, sym, ◌∙◌, ap, subst, arith}
 use Rattle.std.specs.List.{All, Contains}
 use Rattle.std.proofs.lemmas.List.Elements.{All-head, All-tail, All-cons, All-nil, Contains-append_left, Contains-append_right}
 use Rattle.std.proofs.lemmas.Option.{slice_get_within, get_or_from_slice_get}
+use Rattle.list_laws.proofs.Members.{contains_later}
 use Rattle.dq_lits.specs.Literal.{Literal, negative, variable_of}
 use Rattle.dq_lits.specs.Formula.{Dqbf}
 use Rattle.hint_log.specs.Entries.{Entry, Named, Given, Learned, Answer, Round, Begun, ProofLog, name_of}
 use Rattle.hint_log.specs.Growth.{Each, Grew}
-use Rattle.hint_log.specs.Naming.{NamedLiteral, named_literal, name_literal, AreNamedAs}
+use Rattle.hint_log.specs.Naming.{NamedLiteral, named_literal}
 use Rattle.hint_log.specs.declared.names.Name.{Name}
 use Rattle.hint_log.specs.declared.names.Name.TheVariants.{Selector, Copy as CopyOf}
 use Rattle.hint_log.specs.declared.origins.Origin.{Origin}
 use Rattle.log_laws.specs.Engines.{Engine, copies, IsInGroup, IsAddedBy}
 use Rattle.log_laws.proofs.LargerLogs.{each_grown, name_kept}
-use Rattle.log_laws.proofs.Kept.{NamesStay, named_stay}
+use Rattle.log_laws.proofs.Kept.{NamesStay, named_stay, literal_stays}
 use Rattle.oracle.specs.Calls.{IsMade}
 use Rattle.oracle.specs.declared.groups.Group.{Group}
 use Rattle.padoa_definitions.specs.Copies.{IsGroupGiven, IsSideGiven, IsGivenIn, AreCopies, IsMatrixCopy, IsLink, IsPadoa, all_groups, copy_names, group_variable, groups_of}
 use Rattle.padoa_definitions.specs.Growing.{GrewAnew}
 use Rattle.padoa_definitions.specs.declared.copies.MatrixCopy.{MatrixCopy}
 use Rattle.padoa_definitions.specs.declared.padoa.Padoa.{Padoa}
-
-pub contains_first : (e : Entry) (es : List Entry) → Contains (e ∷ es) e
-contains_first e es = (0, omega arith, refl)
-
-pub contains_later : (x e : Entry) (es : List Entry) → Contains es e → Contains (x ∷ es) e
-contains_later x e es (k, lt, at) = (suc k, omega (arith, lt), at)
-
-pub contains_cases : (x e : Entry) (es : List Entry) → Contains (x ∷ es) e → (x ≡ e) ⊎ Contains es e
-contains_cases x e es (zero, lt, at) = inl at
-contains_cases x e es (suc k, lt, at) = inr (k, omega (arith, lt), at)
 
 -- names and clauses stay, and groups of these get no other clauses
 pub record Keeps (f : Dqbf) (apart : ℕ → Type 0) (old new : List Entry) : Type 0 where
@@ -142,20 +133,11 @@ made_stays old new stay g made = record {
       stay (variable_of g.selector) (Selector (variable_of g.selector)) made.named;
 }
 
-head_named : (es : List Entry) (l : Literal) (n : NamedLiteral) → AreNamedAs es (l ∷ []) (n ∷ []) →
-    name_literal es l ≡ Some n
-head_named es l n are = let here : name_literal es l ≡ Some n = cc in here
-
--- a name that stays names its literals still
-pub one_stays : (old new : List Entry) → NamesStay old new → (l : Literal) (n : NamedLiteral) →
-    name_literal old l ≡ Some n → name_literal new l ≡ Some n
-one_stays old new stay l n is = head_named new l n (named_stay old new stay (l ∷ []) (n ∷ []) (ap (λ o. o ∷ []) is))
-
 pub copies_stay : (old new : List Entry) → NamesStay old new → (side : ℕ) (flags : List Bool) (xs : List ℕ)
     (lits : List Literal) → AreCopies old side flags xs lits → AreCopies new side flags xs lits
 copies_stay old new stay side flags xs lits are = record {
   long = are.long;
-  named = λ k v l flag v_at l_at. one_stays old new stay l (named_literal (CopyOf side v) false)
+  named = λ k v l flag v_at l_at. literal_stays old new stay l (named_literal (CopyOf side v) false)
       (are.named k v l flag v_at l_at);
 }
 

@@ -4,17 +4,19 @@ use Rattle.std.specs.List.{All, AllPairs, Contains, list_any, position_or_len}
 use Rattle.std.proofs.lemmas.Bool.{cases_Bool, cases_lt, eqb-true, eq-eqb, ne_eqb, or_cases, or_left, or_right}
 use Rattle.std.proofs.lemmas.List.Elements.{Contains-get_or}
 use Rattle.std.proofs.lemmas.Option.{slice_get-get_or, slice_get_within, get_or_from_slice_get}
+use Rattle.list_laws.proofs.Elements.{kept_there}
+use Rattle.list_laws.proofs.Quantified.{one_place}
 use Rattle.dq_lits.specs.Derivation.{holds, is_tautology}
 use Rattle.dq_lits.specs.Formula.{Dqbf, declared, HasLawfulPrefix}
 use Rattle.dq_lits.specs.Row.{assignment_of}
 use Rattle.std.proofs.lemmas.List.{length-append, get_or_append_left, get_or-append-add}
 use Rattle.dq_lits.specs.Literal.{Literal, positive, negative, variable_of, is_negative, opposite, same_literal}
+use Rattle.dq_lits.proofs.Truth.{same_literal-sound}
+use Rattle.dq_lits.proofs.HeldLiterals.{any_gives, holds_here}
 use Rattle.dq_formula.specs.Prefix.{existential_variables}
-use Rattle.interpolants.proofs.Truth.{any_witness, holds_here, same_literal-sound}
 use Rattle.padoa_definitions.specs.Conditions.{has_copies}
 use Rattle.padoa_definitions.specs.Copies.{IsCopied, is_copied_at}
 use Rattle.padoa_definitions.specs.Seeing.{ArePlaces, AreCopiedPlaces}
-use Rattle.padoa_definitions.proofs.DeclaredPlaces.{at_first}
 
 -- the elements that pass a test
 module _ {X : Type 0} (p : X → Bool) where
@@ -61,9 +63,9 @@ copied_among variables set flags all kept are is = subst (AreCopiedPlaces variab
 pub declared_copies : (f : Dqbf) (set : ℕ → Type 0) (flags : List Bool) (places : List ℕ) →
     AreCopiedPlaces f.universals set flags places → AreCopiedPlaces (declared f) set flags places
 declared_copies f set flags places are = record {
-  sound = λ k among. let r = are.sound k among in (r.0, at_first f.universals (existential_variables f) k r.0 r.1, r.2);
+  sound = λ k among. let r = are.sound k among in (r.0, kept_there f.universals (existential_variables f) k r.0 r.1, r.2);
   copied = are.copied;
-  complete = λ x is. let r = are.complete x is in (r.0, at_first f.universals (existential_variables f) r.0 x r.1, r.2);
+  complete = λ x is. let r = are.complete x is in (r.0, kept_there f.universals (existential_variables f) r.0 x r.1, r.2);
 }
 
 pub all_flagged : (flags : List Bool) (places : List ℕ) → ((k : ℕ) → Contains places k → is_copied_at flags k ≡ true) →
@@ -114,18 +116,6 @@ position_most (u ∷ us) v (suc k) at = by (u == v) (position_most us v k at)
         cond (not b) (1 + position_or_len (λ w. w == v) us) 0 ≤ suc k
     by true most = omega arith
     by false most = omega (arith, most)
-
-pub one_place : (us : List ℕ) (i k v : ℕ) → AllPairs (λ a b. a ≢ b) us → slice_get us i ≡ Some v →
-    slice_get us k ≡ Some v → i ≡ k
-one_place us i k v distinct at_i at_k = elim (cases_lt i k) [
-  | inl less ↦ absurd (distinct i k v less (slice_get_within us k v at_k)
-      (get_or_from_slice_get us i v v at_i ∙ sym (get_or_from_slice_get us k v v at_k)))
-  | inr more ↦ elim (cases_lt k i) [
-    | inl less ↦ absurd (distinct k i v less (slice_get_within us i v at_i)
-        (get_or_from_slice_get us k v v at_k ∙ sym (get_or_from_slice_get us i v v at_i)))
-    | inr most ↦ (omega (arith, more, most))
-  ]
-]
 
 -- what the test of a variable tells
 module _ (f : Dqbf) (flags : List Bool) (as_many : length flags ≡ length f.universals) (v : ℕ) where
@@ -207,7 +197,7 @@ tautology_of : (small large whole : List Literal) → ((l : Literal) → holds w
     ((l : Literal) → holds small l ≡ true → holds large l ≡ true) → list_any (λ l. holds whole (opposite l)) small ≡ true →
     (l : Literal) × (holds large l ≡ true) × (holds large (opposite l) ≡ true)
 tautology_of small large whole wider among some =
-    let w = any_witness (λ l. holds whole (opposite l)) small some in
+    let w = any_gives (λ l. holds whole (opposite l)) small some in
     (w.0, among w.0 w.1, wider (opposite w.0) w.2)
 
 held_tautology : (ls : List Literal) (l : Literal) → holds ls l ≡ true → holds ls (opposite l) ≡ true →

@@ -1,12 +1,12 @@
 -- From an interpolant between two linked copies to a definition.
 use Rattle.std.proofs.Common.{◌≡◌, ◌⊎◌, ℕ, Bool, true, false, not, cond, ◌||◌, inl, inr, List, [], ◌∷◌, map, Some, refl, sym, ◌∙◌, ap, subst}
 use Rattle.std.specs.List.{All, Contains, list_any}
-use Rattle.std.proofs.lemmas.Bool.{cases_Bool, or_cases, or_right, not-true}
-use Rattle.std.proofs.lemmas.List.Elements.{All-head, All-tail, All-push, All-contains}
-use Rattle.dq_lits.specs.Derivation.{holds}
-use Rattle.dq_lits.specs.Literal.{Assignment, Literal, positive, negative, variable_of, is_negative, same_literal, literal_true, clause_true}
+use Rattle.std.proofs.lemmas.Bool.{cases_Bool, or_right, not-true}
+use Rattle.std.proofs.lemmas.List.Elements.{All-push, All-contains}
+use Rattle.dq_lits.specs.Literal.{Assignment, Literal, positive, negative, variable_of, is_negative, literal_true, clause_true}
 use Rattle.dq_lits.specs.Formula.{Dqbf}
 use Rattle.dq_lits.specs.Henkin.{MatrixHolds}
+use Rattle.dq_lits.proofs.HeldLiterals.{held_of_all}
 use Rattle.hint_log.specs.Entries.{Entry, name_of}
 use Rattle.hint_log.specs.Naming.{NamedLiteral, named_literal, name_literal, AreNamedAs}
 use Rattle.hint_log.specs.Origins.{link_names}
@@ -15,7 +15,6 @@ use Rattle.defining_nodes.specs.Definitions.{input_variable}
 use Rattle.aig_graph.specs.Graph.{AigGraph, node_value}
 use Rattle.aig_graph.specs.declared.nodes.Node.{Node}
 use Rattle.interpolants.specs.Interpolant.{Partition, SideHolds, Agrees, is_on_a, IsInterpolant}
-use Rattle.interpolants.proofs.Truth.{same_literal-sound}
 use Rattle.log_laws.proofs.Found.{named_variable}
 use Rattle.padoa_definitions.specs.Copies.{copy_names, IsCopyGiven}
 use Rattle.padoa_definitions.specs.Defining.{DefinitionsAreForced}
@@ -91,14 +90,6 @@ link_given_true entries f places m clause given =
     ∙ or_right (literal_true p (negative given.group)) (clause_true p given.rest)
     (named_clause entries m given.rest (link_names given.variable given.part) given.named
     ∙ link_true m given.variable given.part given.which)
-
--- a literal that is true in a list of true ones
-pub held_of_all : (P : Literal → Type 0) (xs : List Literal) → All P xs → (l : Literal) → holds xs l ≡ true → P l
-held_of_all P [] all l h = cc
-held_of_all P (x ∷ xs) all l h = elim (or_cases (same_literal l x) (holds xs l) h) [
-  | inl same ↦ subst P (sym (same_literal-sound l x same)) (All-head P x xs all)
-  | inr later ↦ held_of_all P xs (All-tail P x xs all) l later
-]
 
 module _ (q : Partition) (f : Dqbf) (places : List ℕ) (v : ℕ) (conditions : List Literal) (graph : AigGraph)
     (divides : Divides f places v conditions q)

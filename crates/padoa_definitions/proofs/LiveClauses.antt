@@ -5,6 +5,7 @@ use Rattle.std.proofs.lemmas.Bool.{cases_lt}
 use Rattle.std.proofs.lemmas.List.{length-map}
 use Rattle.std.proofs.lemmas.List.Elements.{All-contains}
 use Rattle.std.proofs.lemmas.Option.{slice_get-get_or, slice_get_within}
+use Rattle.list_laws.proofs.Members.{element_at}
 use Rattle.dq_lits.specs.Literal.{Literal}
 use Rattle.dq_lits.specs.Formula.{Dqbf}
 use Rattle.hint_log.specs.Entries.{Entry, ProofLog}
@@ -13,7 +14,6 @@ use Rattle.hint_log.specs.ProductiveSession.{frame_of}
 use Rattle.padoa_definitions.specs.Following.{AreGiven, IsFollowing, IsLiveClause, IsLiveFormula, IsStanding}
 use Rattle.padoa_definitions.specs.Growing.{HasFewFaults}
 use Rattle.padoa_definitions.specs.Store.{StoreState, HasGiven, IsStore}
-use Rattle.padoa_definitions.proofs.CopiedVariables.{element_at}
 use Rattle.padoa_definitions.proofs.FollowedClauses.{following_on}
 
 -- where all pass, what stands at a place is what its element gives

@@ -1,10 +1,12 @@
 -- Values of the first copy, as a sample in which an existential has the other bit.
 use Rattle.std.proofs.Common.{◌≡◌, ℕ, suc, Bool, true, false, not, inl, inr, List, [], ◌∷◌, map, Some, refl, sym, ◌∙◌, ap, arith}
 use Rattle.std.specs.List.{All, Contains}
+use Rattle.list_laws.proofs.Truths.{not-not}
 use Rattle.dq_lits.specs.Derivation.{holds}
 use Rattle.dq_lits.specs.Expansion.{row_assignment}
 use Rattle.dq_lits.specs.Formula.{Dqbf, Existential, IsWellFormed, declared}
 use Rattle.dq_lits.specs.Literal.{Assignment, Literal, variable_of, literal_true}
+use Rattle.dq_lits.proofs.HeldLiterals.{held_of_all}
 use Rattle.hint_log.specs.Entries.{Entry, clause_at, name_of}
 use Rattle.hint_log.specs.Naming.{named_literal, name_literal}
 use Rattle.hint_log.specs.declared.names.Name.{Name}
@@ -16,11 +18,11 @@ use Rattle.padoa_definitions.specs.Copies.{group_variable, IsCopied, IsPadoa}
 use Rattle.padoa_definitions.specs.Dividing.{AreBits, values_at}
 use Rattle.padoa_definitions.specs.Forcing.{IsLoose}
 use Rattle.padoa_definitions.specs.declared.padoa.Padoa.{Padoa}
-use Rattle.padoa_definitions.proofs.AskedLiterals.{AreAsked, IsSeenAsked, not_not}
+use Rattle.padoa_definitions.proofs.AskedLiterals.{AreAsked, IsSeenAsked}
 use Rattle.padoa_definitions.proofs.FreePairs.{all_there, groups_on, sample, copied_value, universal_bit}
 use Rattle.padoa_definitions.proofs.GivenClauses.{universals_distinct}
 use Rattle.padoa_definitions.proofs.KeptPlaces.{bit_at}
-use Rattle.padoa_definitions.proofs.LinkedInterpolants.{signed, literal_signed, held_of_all}
+use Rattle.padoa_definitions.proofs.LinkedInterpolants.{signed, literal_signed}
 
 same_map : (m n : Assignment) (xs : List ℕ) → ((x : ℕ) → Contains xs x → m x ≡ n x) → map m xs ≡ map n xs
 same_map m n [] each = refl
@@ -72,7 +74,7 @@ module _ (f : Dqbf) (y : Existential) (p : Padoa) (row : List Bool) (bit : Bool)
         let v = value_of l.0 x (not (row_assignment f row x)) l.1 l.2 in
         universal_bit f es values formula unique model.clauses 1 p.copied.items p.first padoa.first padoa.covered row
         other bits other_is bits_are first_on x (variable_of l.0) (seen_universal x among) there.0 v.0
-        ∙ v.1 ∙ not_not (row_assignment f row x))
+        ∙ v.1 ∙ not-not (row_assignment f row x))
     | inr none ↦ (
         let us = f.universals in
         let distinct = universals_distinct f formula.prefix in

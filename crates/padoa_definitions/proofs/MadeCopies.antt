@@ -1,41 +1,23 @@
 -- The copies as they are made, step by step.
-use Rattle.std.proofs.Common.{◌≡◌, ℕ, ◌==◌, Bool, true, false, cond, inl, inr, List, [], ◌∷◌, ◌++◌, length, get_or, slice_get, Some, None, refl, sym, ◌∙◌, ap, subst}
+use Rattle.std.proofs.Common.{◌≡◌, ℕ, Bool, true, inl, inr, List, ◌++◌, length, get_or, slice_get, Some, None, refl, sym, ◌∙◌, ap, subst}
 use Rattle.std.specs.List.{All, Contains}
-use Rattle.std.proofs.lemmas.Bool.{eqb-true}
 use Rattle.std.proofs.lemmas.List.Elements.{All-contains, Contains-append_cases}
 use Rattle.std.proofs.lemmas.Option.{slice_get-get_or}
 use Rattle.dq_lits.specs.Literal.{Literal, variable_of}
 use Rattle.oracle.specs.Calls.{IsMade}
 use Rattle.dq_lits.specs.Formula.{Dqbf, declared}
-use Rattle.hint_log.specs.Entries.{Entry, Named, Given, Learned, Answer, Round, Begun, ProofLog, name_of}
+use Rattle.hint_log.specs.Entries.{Entry, Named, Given, ProofLog, name_of}
 use Rattle.hint_log.specs.Growth.{Grew}
-use Rattle.hint_log.specs.declared.names.Name.{Name}
 use Rattle.hint_log.specs.declared.names.Name.TheVariants.{Selector, Copy as CopyOf}
 use Rattle.hint_log.specs.declared.origins.Origin.TheVariants.{Copy, Link}
+use Rattle.hint_log.proofs.NamedEntries.{named_contains}
 use Rattle.log_laws.specs.Engines.{copies, IsAddedBy, HasNone}
 use Rattle.oracle.specs.declared.groups.Group.{Group}
 use Rattle.padoa_definitions.specs.Copies.{is_copy_of, is_copied_at, group_variable, IsCopied, IsLink, IsMatrixCopy, IsPadoa, all_groups, groups_of}
 use Rattle.padoa_definitions.specs.Growing.{GrewAnew, HasFewFaults, Adds, is_any_link, AreUncopied, AreUngiven, IsUnlinked, AreLinkedSoFar}
 use Rattle.padoa_definitions.specs.declared.padoa.Padoa.{Padoa}
-use Rattle.padoa_definitions.proofs.KeptCopies.{IsNamed, contains_first, contains_later, keeps_anew, matrix_stays, to_mapped}
+use Rattle.padoa_definitions.proofs.KeptCopies.{IsNamed, keeps_anew, matrix_stays, to_mapped}
 use Rattle.padoa_definitions.proofs.GivenClauses.{few_anew, anew_then, unnamed_back}
-
--- a name stands in the log
-pub named_contains : (es : List Entry) (v : ℕ) (n : Name) → name_of es v ≡ Some n → Contains es (Named v n)
-named_contains [] v n is = cc
-named_contains (Named w m ∷ es) v n is = by (v == w) refl (named_contains es v n) is where
-  by : (b : Bool) → (v == w) ≡ b → (name_of es v ≡ Some n → Contains es (Named v n)) →
-      cond b (Some m) (name_of es v) ≡ Some n → Contains (Named w m ∷ es) (Named v n)
-  by true e later is =
-      let same : m ≡ n = cc in
-      let here : Named w m ≡ Named v n = ap (λ x. Named x m) (sym (eqb-true v w e)) ∙ ap (Named v) same in
-      subst (Contains (Named w m ∷ es)) here (contains_first (Named w m) es)
-  by false e later is = contains_later (Named w m) (Named v n) es (later is)
-named_contains (Given o c ∷ es) v n is = contains_later (Given o c) (Named v n) es (named_contains es v n is)
-named_contains (Learned c h ∷ es) v n is = contains_later (Learned c h) (Named v n) es (named_contains es v n is)
-named_contains (Answer c h ∷ es) v n is = contains_later (Answer c h) (Named v n) es (named_contains es v n is)
-named_contains (Round r b j ∷ es) v n is = contains_later (Round r b j) (Named v n) es (named_contains es v n is)
-named_contains (Begun live ∷ es) v n is = contains_later (Begun live) (Named v n) es (named_contains es v n is)
 
 pub uncopied_yet : (side : ℕ) (vars : List ℕ) (es : List Entry) → HasNone copies es → AreUncopied side vars es
 uncopied_yet side vars es none v x among is = none (Named v (CopyOf side x)) refl

@@ -11,13 +11,6 @@ replicate_last (suc n) x = ap (λ xs. x ∷ xs) (replicate_last n x)
 abbrev pub IsLonger : {X : Type 0} → X → List X → List X → Type 0
 IsLonger x old new = (n : ℕ) × (new ≡ old ++ replicate n x)
 
-append_none : {X : Type 0} (xs : List X) → xs ≡ xs ++ []
-append_none [] = refl
-append_none (x ∷ xs) = ap (λ ys. x ∷ ys) (append_none xs)
-
-pub longer_none : {X : Type 0} (x : X) (old : List X) → IsLonger x old old
-longer_none x old = (0, append_none old)
-
 pub longer_more : {X : Type 0} (x : X) (old now new : List X) → IsLonger x old now → new ≡ now ++ x ∷ [] →
     IsLonger x old new
 longer_more x old now new (n, is) pushed = (

@@ -6,6 +6,9 @@ use Rattle.std.proofs.lemmas.Bool.{cases_lt, eq-eqb, eqb-true}
 use Rattle.std.proofs.lemmas.List.{length-map}
 use Rattle.std.proofs.lemmas.List.Elements.{All-contains, Contains-append_cases}
 use Rattle.std.proofs.lemmas.Option.{slice_get-get_or, slice_get_within}
+use Rattle.list_laws.proofs.Quantified.{one_place}
+use Rattle.list_laws.proofs.Members.{element_at, contains_later, contains_first, contains_cases}
+use Rattle.list_laws.proofs.Elements.{zeros_there}
 use Rattle.dq_lits.specs.Literal.{Literal, negative}
 use Rattle.dq_lits.specs.Formula.{Dqbf, HasLawfulPrefix, declared}
 use Rattle.dq_formula.specs.Prefix.{existential_variables}
@@ -22,6 +25,7 @@ use Rattle.log_laws.specs.Engines.{copies, origin_engine, same_engine, IsAddedBy
 use Rattle.log_laws.proofs.Kept.{NamesStay, name_stays_by}
 use Rattle.oracle.specs.declared.groups.Group.{Group}
 use Rattle.hint_log.specs.Origins.{link_names}
+use Rattle.hint_log.proofs.NamedEntries.{unnamed_before, numbered_low}
 use Rattle.oracle.specs.Calls.{IsMade}
 use Rattle.padoa_definitions.specs.Copies.{IsGivenIn, IsGroupGiven, IsLink, IsPadoa, IsSideGiven, is_copied_at, is_copy_of, is_link_of, group_variable, copy_names}
 use Rattle.padoa_definitions.specs.Following.{AreGiven}
@@ -30,13 +34,11 @@ use Rattle.padoa_definitions.specs.Store.{StoreState, store_of, parts_at, parts_
 use Rattle.padoa_definitions.specs.declared.frames.Sides.{Sides}
 use Rattle.padoa_definitions.specs.declared.padoa.Padoa.{Padoa}
 use Rattle.padoa_definitions.proofs.FrameSteps.{side_cases}
-use Rattle.padoa_definitions.proofs.CopiedVariables.{element_at, same_place}
-use Rattle.padoa_definitions.proofs.GivenClauses.{no_fault}
-use Rattle.padoa_definitions.proofs.GrownStores.{in_unnamed, unnamed_before}
-use Rattle.padoa_definitions.proofs.KeptCopies.{contains_first, contains_later, contains_cases, group_element}
+use Rattle.padoa_definitions.proofs.GivenClauses.{no_fault, only_one}
+use Rattle.padoa_definitions.proofs.GrownStores.{in_unnamed}
+use Rattle.padoa_definitions.proofs.KeptCopies.{group_element}
 use Rattle.padoa_definitions.proofs.KeptPlaces.{declared_cases, flag_past}
 use Rattle.padoa_definitions.proofs.FollowedClauses.{one_or_two}
-use Rattle.padoa_definitions.proofs.ReadyCopies.{numbered_low}
 
 parts_there : (flags : List Bool) (k : ℕ) → slice_index_or (map parts_of flags) k 5 ≡ parts_of (is_copied_at flags k)
 parts_there [] k = refl
@@ -52,11 +54,6 @@ none_given : (n k : ℕ) → n ≤ k → ◌≡◌ {A = ℕ} (slice_index_or (re
 none_given zero k past = refl
 none_given (suc n) zero past = absurd (omega (arith, past))
 none_given (suc n) (suc k) past = none_given n k (omega (arith, past))
-
-file_frame : (n j : ℕ) → ◌≡◌ {A = ℕ} (slice_index_or (replicate n 0) j 0) 0
-file_frame zero j = refl
-file_frame (suc n) zero = refl
-file_frame (suc n) (suc j) = file_frame n j
 
 -- a clause of an origin that is given once
 module _ (f : Dqbf) (group : ℕ) (old : List Entry) (origin : Origin) (own : origin_engine origin ≡ copies)
@@ -124,10 +121,6 @@ group_origin f test g (e ∷ es) o c own inside group =
     by : (Contains es (Given o c) → test o ≡ true) → (e ≡ Given o c) ⊎ Contains es (Given o c) → test o ≡ true
     by later (inl same) = ((subst (IsGroupGiven f test g es) same own.0) group).0
     by later (inr behind) = later behind
-
-one_group : (g h : Group) → Contains (g ∷ []) h → g ≡ h
-one_group g h (zero, below, at) = at
-one_group g h (suc k, below, at) = absurd (omega (arith, below))
 
 module _ (f : Dqbf) (sides : Sides) (old new : ProofLog) (p : Padoa)
     (h : AreFileCopies f p.copied.items sides old new) (padoa : IsPadoa f p new.entries)
@@ -244,7 +237,7 @@ module _ (f : Dqbf) (sides : Sides) (old new : ProofLog) (p : Padoa)
       (negative (group_variable g) ∷ given.rest) other.2.own given.given
       (given.rest, ap (λ n. negative n ∷ given.rest) same) in
       let x_is : one.0 ≡ other.0 = eqb-true one.0 other.0 own in
-      same_place (declared f) k k' one.0 lawful.declared_once one.1 (other.1 ∙ ap Some (sym x_is))
+      one_place (declared f) k k' one.0 lawful.declared_once one.1 (other.1 ∙ ap Some (sym x_is))
 
   apart : (a b : Slot) (g m : Group) → HasGroup s a g → HasGroup s b m → group_variable g ≡ group_variable m → a ≡ b
   apart (of_frame side F) (of_frame side' F') g m (x, x_is, g_is) (y, y_is, m_is) same =
@@ -283,7 +276,7 @@ module _ (f : Dqbf) (sides : Sides) (old new : ProofLog) (p : Padoa)
   frame_there side j g is = (
     sides,
     ap (λ fs. slice_get fs (frame_of numbered j)) frames_is
-        ∙ ap (slice_get (Some sides ∷ [])) (file_frame (length f.matrix) (j - 1)),
+        ∙ ap (slice_get (Some sides ∷ [])) (zeros_there (length f.matrix) (j - 1)),
     is,
   )
 
@@ -595,13 +588,13 @@ module _ (f : Dqbf) (sides : Sides) (old new : ProofLog) (p : Padoa)
               0,
               omega arith,
               ap group_variable
-                  (one_group sides.first g (subst (λ gs. Contains gs g) first_is one)),
+                  (only_one sides.first g (subst (λ gs. Contains gs g) first_is one)),
             )
             | inr two ↦ (
               1,
               omega arith,
               ap group_variable
-                  (one_group sides.second g (subst (λ gs. Contains gs g) second_is two)),
+                  (only_one sides.second g (subst (λ gs. Contains gs g) second_is two)),
             )
           ])
 

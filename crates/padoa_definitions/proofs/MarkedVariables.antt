@@ -1,16 +1,17 @@
 -- Flags of the universals that stand in clauses, as they are set.
-use Rattle.std.proofs.Common.{◌≡◌, ℕ, zero, suc, ◌+◌, ◌<◌, ◌≤◌, Bool, true, inl, inr, List, [], ◌∷◌, set, length, get_or, slice_get, replicate, Some, refl, sym, ◌∙◌, ap, subst, arith}
+use Rattle.std.proofs.Common.{◌≡◌, ℕ, zero, suc, ◌+◌, ◌<◌, ◌≤◌, Bool, true, inl, inr, List, [], ◌∷◌, set, length, get_or, slice_get, Some, refl, sym, ◌∙◌, ap, subst, arith}
 use Rattle.std.specs.List.{All, Contains}
 use Rattle.std.proofs.lemmas.Bool.{cases_lt}
 use Rattle.std.proofs.lemmas.List.{length-set}
 use Rattle.std.proofs.lemmas.Option.{slice_get-get_or, slice_get_within}
+use Rattle.list_laws.proofs.Quantified.{one_place}
 use Rattle.dq_lits.specs.Formula.{Dqbf, HasLawfulPrefix}
 use Rattle.dq_lits.specs.Literal.{Literal, variable_of}
 use Rattle.dq_formula.specs.Prefix.{existential_variables}
 use Rattle.padoa_definitions.specs.Copies.{IsCopied, is_copied_at}
 use Rattle.padoa_definitions.specs.Standing.{AreMarked, IsMarkedMore}
 use Rattle.padoa_definitions.proofs.GivenClauses.{universals_distinct}
-use Rattle.padoa_definitions.proofs.KeptPlaces.{declared_cases, flag_past, one_place}
+use Rattle.padoa_definitions.proofs.KeptPlaces.{declared_cases, flag_past}
 
 -- a flag that is set, and the others
 set_flag : (flags : List Bool) (i : ℕ) → i < length flags → is_copied_at (set flags i true) i ≡ true
@@ -112,8 +113,3 @@ literals_more f clause i old new more before here k d less within = elim (cases_
       let same : k ≡ i = omega (arith, less, late) in
       subst (λ j. IsCopied f new (variable_of (get_or clause j d))) (sym same) (here d (omega (arith, within, same))))
 ]
-
-pub all_set : (n k : ℕ) → is_copied_at (replicate n true) k ≡ true
-all_set zero k = refl
-all_set (suc n) zero = refl
-all_set (suc n) (suc k) = all_set n k

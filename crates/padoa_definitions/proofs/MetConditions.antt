@@ -1,20 +1,23 @@
 -- Bits of universals that make conditions true, one by one.
-use Rattle.std.proofs.Common.{◌≡◌, ◌≢◌, ◌⊎◌, ℕ, ◌+◌, ◌≤◌, ◌==◌, Bool, false, true, not, inl, inr, List, length, set, replicate, slice_get, Some, IsSome, refl, sym, ◌∙◌, ap, subst, arith}
+use Rattle.std.proofs.Common.{◌≡◌, ◌≢◌, ℕ, ◌+◌, ◌≤◌, Bool, false, not, inl, inr, List, length, set, replicate, slice_get, Some, IsSome, refl, sym, ◌∙◌, ap, subst, arith}
 use Rattle.std.specs.List.{Contains}
-use Rattle.std.proofs.lemmas.Bool.{cases_Bool, cases_lt, eqb-true, eq-eqb}
+use Rattle.std.proofs.lemmas.Bool.{cases_lt}
 use Rattle.std.proofs.lemmas.List.{length-set, length-replicate, get_or-set_same, get_or-set_other}
 use Rattle.std.proofs.lemmas.Option.{slice_get_within, get_or_from_slice_get}
+use Rattle.list_laws.proofs.Quantified.{one_place}
+use Rattle.list_laws.proofs.Members.{element_at}
+use Rattle.list_laws.proofs.Numbers.{same_or_not}
 use Rattle.dq_lits.specs.Derivation.{is_tautology}
 use Rattle.dq_lits.specs.Formula.{Dqbf, existential_of}
 use Rattle.dq_lits.specs.Literal.{Literal, variable_of, is_negative}
 use Rattle.dq_lits.specs.Row.{bit_of}
+use Rattle.dq_lits.proofs.FormulaVariables.{find_sound}
 use Rattle.dq_formula.specs.Prefix.{IsLawful}
-use Rattle.definition_order.proofs.Declared.{find_sound, some_existential}
+use Rattle.definition_order.proofs.Declared.{some_existential}
 use Rattle.padoa_definitions.specs.Conditions.{IsBitSet, MeetsLiterals}
 use Rattle.padoa_definitions.specs.Copies.{IsCopied}
-use Rattle.padoa_definitions.proofs.CopiedVariables.{element_at}
 use Rattle.padoa_definitions.proofs.GivenClauses.{universals_distinct}
-use Rattle.padoa_definitions.proofs.KeptPlaces.{existential_copied, one_place, signs_agree}
+use Rattle.padoa_definitions.proofs.KeptPlaces.{existential_copied, signs_agree}
 use Rattle.padoa_definitions.proofs.SearchAnswers.{found_variable, mapped_existential}
 
 pub existential_has_copies : (f : Dqbf) → IsLawful f → (flags : List Bool) (v : ℕ) →
@@ -30,15 +33,6 @@ none_met f lits row is = record {
   long = ap length is ∙ length-replicate (length f.universals) false;
   meets = λ j k l less at there. absurd (omega (arith, less));
 }
-
-same_or_not : (a b : ℕ) → (a ≡ b) ⊎ (a ≢ b)
-same_or_not a b = elim (cases_Bool (a == b)) [
-  | inl same ↦ inl (eqb-true a b same)
-  | inr other ↦ inr (λ same. clash (sym (eq-eqb a b same) ∙ other))
-]
-  where
-    clash : true ≡ false → ⊥
-    clash e = cc
 
 pub met_more : (f : Dqbf) (lits : List Literal) (i : ℕ) (l : Literal) (old new : List Bool) →
     is_tautology lits ≡ false → slice_get lits i ≡ Some l → IsBitSet f l old new → MeetsLiterals f lits i old →

@@ -1,6 +1,7 @@
 -- A store of copies stands where clauses are numbered behind all others.
-use Rattle.std.proofs.Common.{◌≡◌, ℕ, zero, suc, ◌-◌, ◌<◌, List, [], ◌∷◌, ◌++◌, length, slice_get, slice_index_or, Some, refl, sym, ◌∙◌, ap, subst, arith}
+use Rattle.std.proofs.Common.{◌≡◌, ℕ, zero, suc, ◌-◌, ◌<◌, List, [], ◌∷◌, ◌++◌, length, slice_index_or, Some, refl, sym, ◌∙◌, ap, subst, arith}
 use Rattle.std.proofs.lemmas.Option.{slice_get_within}
+use Rattle.list_laws.proofs.Elements.{kept_there}
 use Rattle.dq_lits.specs.Literal.{Literal}
 use Rattle.dq_lits.specs.Formula.{Dqbf}
 use Rattle.hint_log.specs.Entries.{Entry, Named, Given, Learned, Answer, Round, Begun}
@@ -13,11 +14,6 @@ use Rattle.hint_log.specs.declared.names.Name.TheVariants.{Selector, Pair, Input
 use Rattle.hint_log.specs.declared.origins.Origin.TheVariants.{Instance, Gate, Fault, Copy, Link, TermGate, Differ}
 use Rattle.padoa_definitions.specs.Leaving.{ClausesLeaveStores}
 use Rattle.padoa_definitions.specs.Store.{StoreState, store_of, HasGroup, of_frame, IsStoredName, IsStoredCopy, IsStoredLink, IsStoreEntry, IsGivenThere, IsStore}
-
-append_there : {X : Type 0} (xs ys : List X) (k : ℕ) (x : X) → slice_get xs k ≡ Some x → slice_get (xs ++ ys) k ≡ Some x
-append_there [] ys k x is = cc
-append_there (y ∷ xs) ys zero x is = is
-append_there (y ∷ xs) ys (suc k) x is = append_there xs ys k x is
 
 append_index : (xs ys : List ℕ) (k : ℕ) → k < length xs → slice_index_or (xs ++ ys) k 0 ≡ slice_index_or xs k 0
 append_index [] ys k below = absurd (omega (arith, below))
@@ -32,7 +28,7 @@ module _ (all : Dqbf) (numbered : List ℕ) (s : StoreState) (more : List (List 
   clause_there : (j : ℕ) (c : List Literal) → numbered_from_one all.matrix j ≡ Some c →
       numbered_from_one all'.matrix j ≡ Some c
   clause_there zero c is = cc
-  clause_there (suc i) c is = append_there all.matrix more i c is
+  clause_there (suc i) c is = kept_there all.matrix more i c is
 
   same_frame : (j : ℕ) (c : List Literal) → numbered_from_one all.matrix j ≡ Some c →
       frame_of numbered j ≡ frame_of (numbered ++ frames) j

@@ -4,8 +4,11 @@ use Rattle.std.specs.List.{All, AllPairs, Contains}
 use Rattle.std.proofs.lemmas.List.{length-append, length-set}
 use Rattle.std.proofs.lemmas.List.Elements.{All-cons, All-nil}
 use Rattle.std.proofs.lemmas.Option.{slice_get-get_or}
+use Rattle.list_laws.proofs.Elements.{kept_there}
+use Rattle.list_laws.proofs.Members.{contains_cases}
 use Rattle.dq_lits.specs.Literal.{Literal, positive, is_negative, opposite, variable_of}
 use Rattle.dq_lits.specs.Formula.{Dqbf, Existential, HasLawfulPrefix, declared}
+use Rattle.dq_lits.proofs.SignedLiterals.{negated-positive}
 use Rattle.hint_log.specs.Conditions.{AreLogged}
 use Rattle.hint_log.specs.Entries.{Entry, Named, Given, ProofLog, with_entry, name_of}
 use Rattle.hint_log.specs.Growth.{Each}
@@ -13,18 +16,15 @@ use Rattle.hint_log.specs.Naming.{AreNamedAs, named_literal, name_literal, is_se
 use Rattle.hint_log.specs.Origins.{link_names}
 use Rattle.hint_log.specs.declared.names.Name.TheVariants.{Selector, Copy as CopyOf}
 use Rattle.hint_log.specs.declared.origins.Origin.TheVariants.{Link}
+use Rattle.hint_log.proofs.NamedEntries.{named_contains}
 use Rattle.log_laws.proofs.Found.{named_variable}
 use Rattle.oracle.specs.Calls.{IsMade, IsPlain}
 use Rattle.oracle.specs.declared.groups.Group.{Group}
 use Rattle.padoa_definitions.specs.Copies.{AreTwins, group_variable}
 use Rattle.padoa_definitions.specs.Following.{IsFollowing, IsStanding}
 use Rattle.padoa_definitions.specs.Store.{StoreState, parts_at, side_universals, IsStoreEntry}
-use Rattle.padoa_definitions.proofs.DeclaredPlaces.{at_first}
-use Rattle.padoa_definitions.proofs.GivenClauses.{switch_off}
 use Rattle.padoa_definitions.proofs.HalfSteps.{equated_following}
-use Rattle.padoa_definitions.proofs.KeptCopies.{contains_cases}
 use Rattle.padoa_definitions.proofs.LinkSteps.{linked_following}
-use Rattle.padoa_definitions.proofs.MadeCopies.{named_contains}
 use Rattle.padoa_definitions.proofs.PartSteps.{raised, named_following}
 use Rattle.padoa_definitions.proofs.StoreSteps.{set_cases}
 
@@ -73,7 +73,7 @@ module _ (f : Dqbf) (lawful : HasLawfulPrefix f) (us : List ℕ) (us_are : us �
     fresh_copy side next v is =
         let low = stored_name all numbered s log.entries v side x h.store.own
         (named_contains log.entries v (CopyOf side x) is) place
-        (at_first all.universals (map (λ (y : Existential). y.variable) all.existentials) place x x_there) in
+        (kept_there all.universals (map (λ (y : Existential). y.variable) all.existentials) place x x_there) in
         let one = next in
         omega (arith, low, one)
 
@@ -160,7 +160,7 @@ module _ (f : Dqbf) (lawful : HasLawfulPrefix f) (us : List ℕ) (us_are : us �
     half_given i half next g g_is rest named new is =
         equated_following all numbered f (once_declared all numbered f s log.entries h lawful) s log h logged place x i
         x_there half next g (link_there g g_is) rest named new
-        (is ∙ ap (λ l. with_entry log (Given (Link x i) (l ∷ rest))) (switch_off g.selector (link_made g g_is).positive))
+        (is ∙ ap (λ l. with_entry log (Given (Link x i) (l ∷ rest))) (negated-positive g.selector (link_made g g_is).positive))
 
 -- literals on copies are no selectors
 pub plain_copy : (es : List Entry) (k : Literal) (side v : ℕ) (b : Bool) →

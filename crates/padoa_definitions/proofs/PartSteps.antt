@@ -4,6 +4,9 @@ use Rattle.std.specs.List.{AllPairs, Contains}
 use Rattle.std.proofs.lemmas.Bool.{eq-eqb}
 use Rattle.std.proofs.lemmas.List.{get_or-set_same, get_or-set_other, length-set}
 use Rattle.std.proofs.lemmas.Option.{slice_get_within}
+use Rattle.list_laws.proofs.Elements.{kept_there}
+use Rattle.list_laws.proofs.Quantified.{one_place}
+use Rattle.list_laws.proofs.Numbers.{same_or_not}
 use Rattle.dq_lits.specs.Literal.{Literal, positive}
 use Rattle.dq_lits.specs.Formula.{Dqbf, declared}
 use Rattle.hint_log.specs.Conditions.{AreLogged}
@@ -13,17 +16,15 @@ use Rattle.hint_log.specs.Origins.{link_names}
 use Rattle.hint_log.specs.declared.names.Name.{Name}
 use Rattle.hint_log.specs.declared.names.Name.TheVariants.{Copy as CopyOf}
 use Rattle.hint_log.specs.declared.origins.Origin.TheVariants.{Link}
-use Rattle.log_laws.proofs.Kept.{NamesStay, name_stays_by}
+use Rattle.log_laws.proofs.Kept.{NamesStay, name_stays_by, literal_stays}
 use Rattle.oracle.specs.declared.groups.Group.{Group}
 use Rattle.padoa_definitions.specs.Copies.{IsGivenIn, group_variable}
 use Rattle.padoa_definitions.specs.Following.{AreOldOrNew, IsFollowing, IsStanding}
 use Rattle.padoa_definitions.specs.Store.{StoreState, parts_at, side_universals, HasGroup, Slot, of_frame, of_link, both_groups, IsStoreEntry, HasParts, AreStoreGroups, IsStore}
-use Rattle.padoa_definitions.proofs.DeclaredPlaces.{at_first}
 use Rattle.padoa_definitions.proofs.GrownStores.{IsGrown, AreNewGroups, entries_kept}
-use Rattle.padoa_definitions.proofs.KeptCopies.{made_stays, one_stays}
-use Rattle.padoa_definitions.proofs.KeptPlaces.{one_place}
+use Rattle.padoa_definitions.proofs.KeptCopies.{made_stays}
 use Rattle.padoa_definitions.proofs.StandingStores.{kept_by, given_in_stays, given_stays, parts_stay}
-use Rattle.padoa_definitions.proofs.StoreSteps.{same_or_not, following_entry}
+use Rattle.padoa_definitions.proofs.StoreSteps.{following_entry}
 
 -- the variable at a place gets its n-th part
 module _ (s : StoreState) (place n : ℕ) (first second : List Literal) (links : List Group) where
@@ -185,7 +186,7 @@ module _ (all : Dqbf) (numbered : List ℕ) (f : Dqbf) (once : AllPairs (λ v w.
   not_three e = elim sides [ inl one ↦ omega (arith, one, e) | inr two ↦ omega (arith, two, e) ]
 
   at_place : slice_get (declared all) place ≡ Some x
-  at_place = at_first all.universals _ place x x_is
+  at_place = kept_there all.universals _ place x x_is
 
   names : NamesStay es (e ∷ es)
   names = name_stays_by es v (CopyOf side x) unnamed
@@ -225,7 +226,7 @@ module _ (all : Dqbf) (numbered : List ℕ) (f : Dqbf) (once : AllPairs (λ v w.
           ∙ ap (λ m. Some (named_literal (CopyOf m x) false)) (sym sd_is)
           ∙ ap (λ m. Some (named_literal (CopyOf sd m) false)) (sym same)
       named sd k y l low y_is (inr (differ, old)) =
-          one_stays es (e ∷ es) names l _ (h.store.parts.universals sd k y l (old_part sd k differ
+          literal_stays es (e ∷ es) names l _ (h.store.parts.universals sd k y l (old_part sd k differ
           (held_before s place side first second s.links within next k sd low)) y_is old)
 
       equation : (k y i : ℕ) (g : Group) → i + 3 ≤ parts_at t k → 1 ≤ i → i ≤ 2 → slice_get (declared all) k ≡ Some y →

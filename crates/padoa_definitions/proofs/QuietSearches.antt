@@ -3,6 +3,7 @@
 use Rattle.std.proofs.Common.{◌≡◌, ℕ, Bool, cond, List, [], ◌∷◌, ◌++◌, Some, None, refl, sym, ◌∙◌, ap, subst}
 use Rattle.std.proofs.lemmas.Bool.{eq-eqb}
 use Rattle.std.proofs.lemmas.List.Elements.{Contains-append_right}
+use Rattle.list_laws.proofs.Members.{contains_later, contains_first}
 use Rattle.dq_lits.specs.Literal.{Literal}
 use Rattle.dq_lits.specs.Formula.{Dqbf}
 use Rattle.hint_log.specs.Deciding.{DecidesTrue}
@@ -15,10 +16,8 @@ use Rattle.log_laws.specs.Engines.{copies, IsAddedBy}
 use Rattle.log_laws.specs.Sessions.{IsAddedLive}
 use Rattle.log_laws.proofs.LargerLogs.{name_kept}
 use Rattle.padoa_definitions.specs.Growing.{HasSameGivens}
-use Rattle.padoa_definitions.specs.Leaving.{SearchesLeaveStores, SearchesAddLive}
-use Rattle.padoa_definitions.specs.Store.{StoreState, store_of, IsStore}
+use Rattle.padoa_definitions.specs.Store.{StoreState, IsStore}
 use Rattle.padoa_definitions.proofs.GivenClauses.{no_fault}
-use Rattle.padoa_definitions.proofs.KeptCopies.{contains_first, contains_later}
 use Rattle.padoa_definitions.proofs.StandingStores.{store_stands}
 
 -- learned or answered
@@ -93,12 +92,6 @@ module _ (f : Dqbf) (group : ℕ) (silent : Bool) (old : List Entry) where
   same_live (Round r bits j ∷ more) each = absurd each.0.1
   same_live (Begun live ∷ more) each = absurd each.0.1
 
-pub searches_left : SearchesLeaveStores
-searches_left all f numbered p group silent old new grew same store =
-    subst (IsStore all numbered (store_of p)) (sym grew.grown)
-    (store_behind f group silent old.entries all numbered (store_of p) store grew.more
-    (quiet f group silent old.entries grew.more grew.each (subst (HasSameGivens old.entries) grew.grown same)))
-
 module _ (all : Dqbf) (group : ℕ) (groups : List ℕ) (silent : Bool) (old : List Entry) where
   abbrev now : Dqbf
   now = live_formula all old
@@ -120,13 +113,3 @@ module _ (all : Dqbf) (group : ℕ) (groups : List ℕ) (silent : Bool) (old : L
   )
   added (Round r bits j ∷ more) each = absurd each.0.1
   added (Begun live ∷ more) each = absurd each.0.1
-
-pub searches_live : SearchesAddLive
-searches_live all group groups silent old new grew same = record {
-  more = grew.more;
-  grown = grew.grown;
-  each = added all group groups silent old.entries grew.more
-      (quiet (live_formula all old.entries) group silent old.entries grew.more grew.each
-      (subst (HasSameGivens old.entries) grew.grown same));
-  limit = grew.limit;
-}

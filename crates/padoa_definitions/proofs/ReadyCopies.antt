@@ -1,9 +1,10 @@
 -- A store whose groups of some frames are active has the copies of the formula of these frames' clauses.
-use Rattle.std.proofs.Common.{◌≡◌, ℕ, zero, suc, ◌≤◌, true, inl, inr, List, [], ◌∷◌, map, length, get_or, slice_get, Option, Some, None, refl, sym, ◌∙◌, ap, subst, arith}
-use Rattle.std.specs.List.{All, Contains, filter_map, cons_option}
+use Rattle.std.proofs.Common.{◌≡◌, ℕ, zero, suc, ◌≤◌, true, inl, inr, List, [], ◌∷◌, length, get_or, slice_get, Option, Some, refl, sym, ◌∙◌, ap, subst, arith}
+use Rattle.std.specs.List.{All, Contains}
 use Rattle.std.proofs.lemmas.Bool.{eq-eqb}
 use Rattle.std.proofs.lemmas.List.Elements.{All-contains}
-use Rattle.std.proofs.lemmas.Option.{slice_get-get_or, slice_get_within}
+use Rattle.std.proofs.lemmas.Option.{slice_get-get_or}
+use Rattle.list_laws.proofs.Members.{contains-filter_map, filter_map-from, contains_mapped}
 use Rattle.dq_lits.specs.Literal.{Literal, variable_of}
 use Rattle.dq_lits.specs.Formula.{Dqbf, declared}
 use Rattle.hint_log.specs.Entries.{Entry, Named, Given, Learned, Answer, Round, Begun}
@@ -12,6 +13,7 @@ use Rattle.hint_log.specs.Live.{formula_of}
 use Rattle.hint_log.specs.Naming.{AreNamedAs, numbered_from_one}
 use Rattle.hint_log.specs.ProductiveSession.{frame_of}
 use Rattle.hint_log.specs.declared.origins.Origin.TheVariants.{Instance, Gate, Fault, Copy, Link, TermGate, Differ}
+use Rattle.hint_log.proofs.NamedEntries.{numbered_low}
 use Rattle.oracle.specs.declared.groups.Group.{Group}
 use Rattle.padoa_definitions.specs.Copies.{AreCopies, AreCopiesOf, IsCopied, IsCopiedIn, IsGroupGiven, IsSideGiven, IsLink, IsMatrixCopy, IsPadoa, copy_names, group_variable, is_copied_at, is_link_of}
 use Rattle.dq_formula.specs.Prefix.{existential_variables}
@@ -21,49 +23,6 @@ use Rattle.padoa_definitions.specs.declared.copies.MatrixCopy.{MatrixCopy}
 use Rattle.padoa_definitions.specs.declared.padoa.Padoa.{Padoa}
 use Rattle.padoa_definitions.proofs.GroupedCopies.{one_group}
 use Rattle.padoa_definitions.proofs.StandingStores.{in_one_group}
-
--- what passes a filter stood in the list, and what stands there and passes is among the rest
-passed : {X Y : Type 0} (h : X → Option Y) (xs : List X) (y : Y) → Contains (filter_map h xs) y →
-    (x : X) × Contains xs x × (h x ≡ Some y)
-passed h [] y inside = let below = inside.1 in absurd (omega (arith, below))
-passed {X} {Y} h (x ∷ xs) y inside = by (h x) refl (passed h xs y) inside
-  where
-    later : (z : X) × Contains xs z × (h z ≡ Some y) → (z : X) × Contains (x ∷ xs) z × (h z ≡ Some y)
-    later (z, (k, below, at), is) = (z, (suc k, omega (arith, below), at), is)
-
-    by : (o : Option Y) → h x ≡ o → (Contains (filter_map h xs) y → (z : X) × Contains xs z × (h z ≡ Some y)) →
-        Contains (cons_option o (filter_map h xs)) y → (z : X) × Contains (x ∷ xs) z × (h z ≡ Some y)
-    by None is behind there = later (behind there)
-    by (Some z) is behind (zero, below, at) = (x, (0, omega arith, refl), is ∙ ap Some at)
-    by (Some z) is behind (suc k, below, at) = later (behind (k, omega (arith, below), at))
-
-passes : {X Y : Type 0} (h : X → Option Y) (xs : List X) (x : X) (y : Y) → Contains xs x → h x ≡ Some y →
-    Contains (filter_map h xs) y
-passes h [] x y inside is = let below = inside.1 in absurd (omega (arith, below))
-passes {X} {Y} h (z ∷ xs) x y inside is = by (λ among. passes h xs x y among is) inside
-  where
-    behind : (o : Option Y) → Contains (filter_map h xs) y → Contains (cons_option o (filter_map h xs)) y
-    behind None there = there
-    behind (Some w) (k, below, at) = (suc k, omega (arith, below), at)
-
-    by : (Contains xs x → Contains (filter_map h xs) y) → Contains (z ∷ xs) x →
-        Contains (cons_option (h z) (filter_map h xs)) y
-    by later (zero, below, at) =
-        subst (λ o. Contains (cons_option o (filter_map h xs)) y) (sym (ap h at ∙ is)) (0, omega arith, refl)
-    by later (suc k, below, at) = behind (h z) (later (k, omega (arith, below), at))
-
-pub mapped_among : (h : ℕ → ℕ) (xs : List ℕ) (x : ℕ) → Contains xs x → Contains (map h xs) (h x)
-mapped_among h [] x inside = let below = inside.1 in absurd (omega (arith, below))
-mapped_among h (y ∷ xs) x (zero, below, at) = (0, omega arith, ap h at)
-mapped_among h (y ∷ xs) x (suc k, below, at) =
-    let r = mapped_among h xs x (k, omega (arith, below), at) in
-    let less = r.1 in
-    (suc r.0, omega (arith, less), r.2)
-
-pub numbered_low : (m : List (List Literal)) (j : ℕ) (c : List Literal) → numbered_from_one m j ≡ Some c →
-    (1 ≤ j) × (j ≤ length m)
-numbered_low m zero c is = cc
-numbered_low m (suc i) c is = let below = slice_get_within m i c is in (omega arith, omega (arith, below))
 
 module _ (all : Dqbf) (numbered : List ℕ) (live frames : List ℕ) (s : StoreState) (es : List Entry)
     (store : IsStore all numbered s es) (now : IsLiveFormula all numbered (formula_of all live) live frames)
@@ -78,7 +37,7 @@ module _ (all : Dqbf) (numbered : List ℕ) (live frames : List ℕ) (s : StoreS
   live_given : (side : ℕ) → 1 ≤ side → side ≤ 2 → (clause : List Literal) → Contains f.matrix clause →
       (j : ℕ) × Contains live j × (number j ≡ Some clause) × IsGivenThere all numbered s es side j
   live_given side one two clause inside =
-      let there = passed number live clause inside in
+      let there = filter_map-from number live clause inside in
       let j = there.0 in
       let has = All-contains (HasGiven s 2) live j given there.1 in
       let both = has.within in
@@ -118,7 +77,7 @@ module _ (all : Dqbf) (numbered : List ℕ) (live frames : List ℕ) (s : StoreS
           original = r.clause;
           is_group = h.right.is_group;
           clause_is = h.right.clause_is;
-          original_is = passes number live j r.clause
+          original_is = contains-filter_map number live j r.clause
               (now.together j low.0 low.1 (subst (Contains frames) (sym same.1) among)) r.clause_is;
           copied = subst (λ n. AreNamedAs earlier h.right.rest (copy_names n r.clause)) same.0 r.named;
         },
@@ -167,7 +126,7 @@ module _ (all : Dqbf) (numbered : List ℕ) (live frames : List ℕ) (s : StoreS
         let h = there.3 in
         let F = frame_of numbered there.0 in
         let active_there = active.complete F
-        (subst (λ fs. Contains fs F) (sym now.frames_are) (mapped_among (frame_of numbered) live there.0 there.1)) in
+        (subst (λ fs. Contains fs F) (sym now.frames_are) (contains_mapped (frame_of numbered) live there.0 there.1)) in
         let both : Some h.clause ≡ Some clause = sym h.clause_is ∙ there.2 in
         let same : h.clause ≡ clause = cc in
         let group_same : h.group ≡ active_there.0 =

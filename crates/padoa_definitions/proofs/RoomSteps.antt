@@ -1,6 +1,7 @@
 -- A store gets room for further clauses and frames, and other active groups.
 use Rattle.std.proofs.Common.{◌≡◌, ℕ, zero, suc, ◌-◌, inl, List, [], ◌∷◌, ◌++◌, map, replicate, slice_get, slice_index_or, Option, Some, None, refl, sym, ap, subst, arith}
 use Rattle.std.specs.List.{Contains}
+use Rattle.list_laws.proofs.Elements.{zeros_there}
 use Rattle.dq_lits.specs.Formula.{Dqbf}
 use Rattle.hint_log.specs.Conditions.{AreLogged}
 use Rattle.hint_log.specs.Entries.{ProofLog}
@@ -12,12 +13,6 @@ use Rattle.padoa_definitions.specs.Store.{StoreState, HasGiven, HasGroup, Slot, 
 use Rattle.padoa_definitions.specs.declared.frames.Sides.{Sides}
 use Rattle.padoa_definitions.proofs.GrownStores.{IsGrown, entries_kept}
 use Rattle.padoa_definitions.proofs.StoreSteps.{following_same}
-
--- zeros and empty places behind a list
-zeros_there : (n k : ℕ) → ◌≡◌ {A = ℕ} (slice_index_or (replicate n 0) k 0) 0
-zeros_there zero k = refl
-zeros_there (suc n) zero = refl
-zeros_there (suc n) (suc k) = zeros_there n k
 
 more_zeros : (xs : List ℕ) (n k : ℕ) → slice_index_or (xs ++ replicate n 0) k 0 ≡ slice_index_or xs k 0
 more_zeros [] n k = zeros_there n k

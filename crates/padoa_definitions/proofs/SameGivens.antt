@@ -1,11 +1,11 @@
 -- Searches name nothing, and give nothing.
 use Rattle.std.proofs.Common.{ℕ, inl, inr, List, [], ◌∷◌, ◌++◌, refl, sym, ◌∙◌, ap, subst}
+use Rattle.list_laws.proofs.Members.{contains_later, contains_cases}
 use Rattle.dq_lits.specs.Literal.{Literal}
 use Rattle.hint_log.specs.Entries.{Entry, Named, Given, Learned, Answer, Round, Begun, ProofLog}
 use Rattle.hint_log.specs.Growth.{EachOf, Grew}
 use Rattle.oracle.specs.Calls.{IsLearnedEntry, IsRefutedUnder}
 use Rattle.padoa_definitions.specs.Growing.{HasSameGivens}
-use Rattle.padoa_definitions.proofs.KeptCopies.{contains_later, contains_cases}
 
 pub same_then : (a b c : List Entry) → HasSameGivens a b → HasSameGivens b c → HasSameGivens a c
 same_then a b c first second = record {

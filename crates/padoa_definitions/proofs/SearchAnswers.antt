@@ -5,6 +5,7 @@ use Rattle.std.proofs.lemmas.List.Elements.{All-cons, All-nil, Contains-get_or, 
 use Rattle.std.proofs.lemmas.Option.{slice_get_within, slice_get-get_or}
 use Rattle.dq_lits.specs.Literal.{Literal, positive, negative, variable_of}
 use Rattle.dq_lits.specs.Formula.{Dqbf, Existential, existential_of, declared}
+use Rattle.dq_lits.proofs.FormulaVariables.{find_sound}
 use Rattle.hint_log.specs.Conditions.{IsId, AreLogged}
 use Rattle.hint_log.specs.Entries.{Entry, Named, Given, Learned, Answer, Round, Begun, ProofLog, has_id, numbered, last_id, name_of}
 use Rattle.hint_log.specs.Deciding.{DecidesNothing}
@@ -28,7 +29,7 @@ use Rattle.padoa_definitions.proofs.KeptCopies.{Keeps, IsNamed, group_element, k
 use Rattle.padoa_definitions.proofs.StandingCopies.{groups_made, groups_named}
 use Rattle.padoa_definitions.proofs.Reached.{LinesAreImplied, undecided_answer}
 use Rattle.padoa_definitions.proofs.DividedAnswers.{divides, only_copies}
-use Rattle.definition_order.proofs.Declared.{find_sound, some_existential}
+use Rattle.definition_order.proofs.Declared.{some_existential}
 
 learned_is_added : (f : Dqbf) (group : ℕ) (silent : Bool) (old earlier : List Entry) (e : Entry) →
     IsLearnedEntry earlier e → IsAddedBy f copies group silent old earlier e

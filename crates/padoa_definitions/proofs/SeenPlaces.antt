@@ -4,11 +4,11 @@ use Rattle.std.specs.List.{All, Contains}
 use Rattle.std.proofs.lemmas.Bool.{cases_lt}
 use Rattle.std.proofs.lemmas.List.Elements.{Contains-append_left, Contains-push, Contains-append_cases}
 use Rattle.std.proofs.lemmas.Option.{slice_get-get_or}
+use Rattle.list_laws.proofs.Members.{element_at}
 use Rattle.dq_lits.specs.Formula.{Existential, Dqbf, existential_of}
 use Rattle.dq_formula.specs.Prefix.{IsLawful}
 use Rattle.definition_order.proofs.Declared.{sees_universals, some_existential}
 use Rattle.padoa_definitions.specs.Seeing.{ArePlaces, ArePlacesSoFar}
-use Rattle.padoa_definitions.proofs.CopiedVariables.{element_at}
 
 pub seen_among : (f : Dqbf) → IsLawful f → (v : ℕ) (xs : List ℕ) → IsSome (existential_of f v) →
     IfSome (existential_of f v) (λ y. xs ≡ y.sees) → All (Contains f.universals) xs

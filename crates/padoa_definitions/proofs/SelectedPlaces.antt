@@ -1,16 +1,13 @@
 -- What is selected by places, one by one.
-use Rattle.std.proofs.Common.{◌≡◌, ℕ, zero, suc, ◌+◌, ◌-◌, ◌<◌, ◌≤◌, Bool, true, false, true≢false, cond, inl, inr, filter, slice_get, List, [], ◌∷◌, ◌++◌, map, take, set, replicate, length, get_or, Some, refl, sym, ◌∙◌, ap, append_assoc, subst, arith}
+use Rattle.std.proofs.Common.{◌≡◌, ℕ, zero, suc, ◌+◌, ◌-◌, ◌<◌, ◌≤◌, Bool, true, false, slice_get, List, [], ◌∷◌, ◌++◌, map, take, set, replicate, length, get_or, Some, refl, sym, ◌∙◌, ap, append_assoc, subst, arith}
 use Rattle.std.specs.List.{All, Contains}
 use Rattle.std.proofs.lemmas.List.{append-nil, take_all, take_more, map-append}
-use Rattle.std.proofs.lemmas.Bool.{cases_lt}
-use Rattle.std.proofs.lemmas.List.{length-set, get_or-set_same, get_or-set_other}
-use Rattle.std.proofs.lemmas.List.Elements.{filter-append}
-use Rattle.std.proofs.lemmas.Option.{slice_get-get_or, slice_get_within, get_or_from_slice_get}
+use Rattle.std.proofs.lemmas.Option.{slice_get-get_or, get_or_from_slice_get}
 use Rattle.dq_lits.specs.Literal.{Assignment, Literal, positive, variable_of}
 use Rattle.dq_lits.specs.Row.{bit_of}
 use Rattle.oracle.specs.declared.groups.Group.{Group}
 use Rattle.padoa_definitions.specs.Copies.{is_copied_at}
-use Rattle.padoa_definitions.specs.Dividing.{AreActive, AreBits}
+use Rattle.padoa_definitions.specs.Dividing.{AreActive}
 use Rattle.padoa_definitions.specs.declared.padoa.Padoa.{Padoa}
 
 one_more : (f : Literal → Bool) (xs : List Literal) (i n : ℕ) (d : Literal) → length xs ≡ i + suc n
@@ -101,70 +98,3 @@ pub record AreBitsSoFar (values : Assignment) (flags others : List Bool) (lits :
   pub copied : (k : ℕ) (l : Literal) → k < i → is_copied_at flags k ≡ true → slice_get lits k ≡ Some l →
       bit_of row k ≡ values (variable_of l)
   pub rest : (k : ℕ) → is_copied_at flags k ≡ false → bit_of row k ≡ bit_of others k
-
-pub none_written : (values : Assignment) (flags others : List Bool) (lits : List Literal) (row : List Bool) →
-    length others ≡ length lits → row ≡ others → AreBitsSoFar values flags others lits 0 row
-none_written values flags others lits row long is = record {
-  long = ap length is ∙ long;
-  copied = λ k l less flag at. absurd (omega (arith, less));
-  rest = λ k none. ap (λ r. bit_of r k) is;
-}
-
-pub bit_written : (values : Assignment) (flags others : List Bool) (lits : List Literal) (i : ℕ) (l : Literal)
-    (bit : Bool) (old new : List Bool) → slice_get lits i ≡ Some l → is_copied_at flags i ≡ true →
-    bit ≡ values (variable_of l) → new ≡ set old i bit → AreBitsSoFar values flags others lits i old →
-    AreBitsSoFar values flags others lits (i + 1) new
-bit_written values flags others lits i l bit old new at flag bit_is is before =
-    subst (AreBitsSoFar values flags others lits (i + 1)) (sym is) (record {
-      long = length-set old i bit ∙ before.long;
-      copied = λ k m less flag_k at_k. elim (cases_lt k i) [
-        | inl early ↦ get_or-set_other old i k bit false (λ same. omega (arith, early, same))
-            ∙ before.copied k m early flag_k at_k
-        | inr late ↦ (
-            let same : k ≡ i = omega (arith, less, late) in
-            let within = slice_get_within lits i l at in
-            let long = before.long in
-            let both : Some l ≡ Some m = sym at ∙ ap (slice_get lits) (sym same) ∙ at_k in
-            let l_is : l ≡ m = cc in
-            ap (bit_of (set old i bit)) same ∙ get_or-set_same old i bit false (omega (arith, within, long)) ∙ bit_is
-            ∙ ap (λ n. values (variable_of n)) l_is)
-      ];
-      rest = λ k none. get_or-set_other old i k bit false (λ same. true≢false (sym flag ∙ ap (is_copied_at flags)
-          (sym same) ∙ none)) ∙ before.rest k none;
-    })
-
-pub bit_passed : (values : Assignment) (flags others : List Bool) (lits : List Literal) (i : ℕ)
-    (old new : List Bool) → is_copied_at flags i ≡ false → new ≡ old → AreBitsSoFar values flags others lits i old →
-    AreBitsSoFar values flags others lits (i + 1) new
-bit_passed values flags others lits i old new flag is before =
-    subst (AreBitsSoFar values flags others lits (i + 1)) (sym is) (record {
-      long = before.long;
-      copied = λ k m less flag_k at_k. elim (cases_lt k i) [
-        | inl early ↦ before.copied k m early flag_k at_k
-        | inr late ↦ (
-            let same : k ≡ i = omega (arith, less, late) in
-            absurd (true≢false (sym flag_k ∙ ap (is_copied_at flags) same ∙ flag)))
-      ];
-      rest = before.rest;
-    })
-
-pub all_written : (values : Assignment) (flags others : List Bool) (lits : List Literal) (i : ℕ) (row : List Bool) →
-    length lits ≤ i → AreBitsSoFar values flags others lits i row → AreBits values flags others lits row
-all_written values flags others lits i row past are = record {
-  long = are.long;
-  copied = λ k l flag at. are.copied k l (let lt = slice_get_within lits k l at in omega (arith, lt, past)) flag at;
-  rest = are.rest;
-}
-
--- elements that pass a test, one by one
-pub filtered_more : {X : Type 0} (p : X → Bool) (xs : List X) (i : ℕ) (x : X) (old : List X) → i < length xs →
-    get_or xs i x ≡ x → old ≡ filter p (take i xs) →
-    cond (p x) (old ++ x ∷ []) old ≡ filter p (take (i + 1) xs)
-filtered_more p xs i x old lt at before =
-    let more = take_more xs i x lt ∙ ap (λ y. take i xs ++ y ∷ []) at in
-    by (p x) refl ∙ sym (ap (filter p) more ∙ filter-append p (take i xs) (x ∷ []))
-  where
-    by : (b : Bool) → p x ≡ b → cond b (old ++ x ∷ []) old ≡ filter p (take i xs) ++ filter p (x ∷ [])
-    by true is = ap (λ ys. ys ++ x ∷ []) before ∙ ap (λ b. filter p (take i xs) ++ cond b (x ∷ []) []) (sym is)
-    by false is = before ∙ sym (append-nil (filter p (take i xs)))
-        ∙ ap (λ b. filter p (take i xs) ++ cond b (x ∷ []) []) (sym is)

@@ -1,5 +1,5 @@
 -- The active copies stay as other calls add to the log of a session, and as searches begin.
-use Rattle.std.proofs.Common.{◌≡◌, ◌≢◌, ℕ, Bool, inl, inr, List, ◌∷◌, get_or, Some, None, sym, ◌∙◌, ap, subst}
+use Rattle.std.proofs.Common.{◌≡◌, ◌≢◌, ℕ, Bool, inl, inr, List, get_or, Some, None, sym, ◌∙◌, ap, subst}
 use Rattle.std.specs.List.{All, Contains}
 use Rattle.std.proofs.lemmas.List.{get_or_default}
 use Rattle.std.proofs.lemmas.List.Elements.{Contains-append_right}
@@ -12,9 +12,9 @@ use Rattle.log_laws.specs.Engines.{Engine, IsInGroup}
 use Rattle.log_laws.specs.Sessions.{IsAddedLive, EnginesLeaveSessions}
 use Rattle.log_laws.proofs.LargerLogs.{each_grown}
 use Rattle.padoa_definitions.specs.Copies.{IsGroupGiven, IsSideGiven, groups_of}
-use Rattle.padoa_definitions.specs.Leaving.{SessionsLeaveCopies, BeginningsLeaveCopies}
-use Rattle.padoa_definitions.proofs.KeptCopies.{IsNamed, Keeps, keeps_entry, padoa_stays}
-use Rattle.padoa_definitions.proofs.StandingCopies.{all_plain, groups_named}
+use Rattle.padoa_definitions.specs.Leaving.{SessionsLeaveCopies}
+use Rattle.padoa_definitions.proofs.KeptCopies.{IsNamed, Keeps, padoa_stays}
+use Rattle.padoa_definitions.proofs.StandingCopies.{groups_named}
 use Rattle.padoa_definitions.proofs.StandingStores.{in_one_group}
 
 module _ (f any : Dqbf) (engine : Engine) (groups : List ℕ) (silent : Bool) (old : List Entry) where
@@ -82,8 +82,3 @@ copies_left laws f any p engine groups silent old new grew apart padoa =
     padoa_stays f (IsApart f any engine groups silent old.entries) old.entries new.entries
     (keeps_by_session laws f any engine groups silent old new grew) p
     (all_apart f any engine groups silent old.entries (groups_of p) apart (groups_named f p old.entries padoa)) padoa
-
-pub beginning_left : BeginningsLeaveCopies
-beginning_left f p entries live padoa =
-    padoa_stays f (λ mine. Unit {0}) entries (Begun live ∷ entries)
-    (keeps_entry f (Begun live) entries (λ v n is. is) (λ test mine. tt) (λ side mine. tt)) p (all_plain (groups_of p)) padoa

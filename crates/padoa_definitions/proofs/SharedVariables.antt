@@ -6,6 +6,8 @@ use Rattle.std.proofs.lemmas.List.Elements.{All-head, All-tail, All-cons, All-ni
 use Rattle.dq_lits.specs.Literal.{Literal, positive, negative, variable_of, opposite, same_literal}
 use Rattle.dq_lits.specs.Derivation.{holds}
 use Rattle.dq_lits.specs.Formula.{Dqbf}
+use Rattle.dq_lits.proofs.Truth.{same_literal-sound}
+use Rattle.dq_lits.proofs.HeldLiterals.{any_gives}
 use Rattle.hint_log.specs.Entries.{Entry, name_of}
 use Rattle.hint_log.specs.Naming.{NamedLiteral, named_literal, name_literal, AreNamedAs, is_selector, is_selector_name}
 use Rattle.hint_log.specs.Origins.{link_names}
@@ -13,7 +15,7 @@ use Rattle.hint_log.specs.declared.names.Name.{Name}
 use Rattle.hint_log.specs.declared.names.Name.TheVariants.{Selector, Copy as CopyOf}
 use Rattle.aig_graph.specs.Graph.{AigGraph}
 use Rattle.interpolants.specs.Interpolant.{Partition, is_on_a, stands_on, IsOfA, IsOfB, SharesAll}
-use Rattle.interpolants.proofs.Truth.{same_literal-sound, any_witness, stands_there}
+use Rattle.interpolants.proofs.Truth.{stands_there}
 use Rattle.log_laws.proofs.Found.{named_variable}
 use Rattle.padoa_definitions.specs.Copies.{copy_names}
 use Rattle.padoa_definitions.specs.Dividing.{asked_of, IsRead, Divides, AreSharedCopies}
@@ -88,7 +90,7 @@ module _ (q : Partition) (f : Dqbf) (places : List ℕ) (y : ℕ) (conditions : 
 
   a_kind : (v : ℕ) → IsOfA q v → IsA q v
   a_kind v (inl h) =
-      let w = any_witness (λ l. variable_of l == v) q.a_side h in
+      let w = any_gives (λ l. variable_of l == v) q.a_side h in
       let at : variable_of w.0 ≡ v = eqb-true (variable_of w.0) v w.2 in
       elim (divides.assumed w.0 w.1) [
         | inl selector ↦ (
@@ -105,7 +107,7 @@ module _ (q : Partition) (f : Dqbf) (places : List ℕ) (y : ℕ) (conditions : 
       ]
   a_kind v (inr side) =
       let copy = divides.a_given side.at side.clause side.given side.on_side in
-      let w = any_witness test (negative copy.group ∷ copy.rest)
+      let w = any_gives test (negative copy.group ∷ copy.rest)
       (sym (ap (list_any test) copy.clause_is) ∙ side.on_side) in
       let both = and_parts (holds q.a_side (opposite w.0)) (is_selector q.entries (variable_of w.0)) w.2 in
       elim (or_cases (copy.group == v) (stands_on copy.rest v)

@@ -4,23 +4,25 @@ use Rattle.std.specs.List.{All, Contains, list_all, filter_map, cons_option}
 use Rattle.std.proofs.lemmas.Bool.{eq-eqb, ne_eqb, or_right, and_parts}
 use Rattle.std.proofs.lemmas.List.{take_more}
 use Rattle.std.proofs.lemmas.List.Elements.{filter_map-append, All-head, All-tail, All-cons, All-nil, All-contains}
+use Rattle.list_laws.proofs.Truths.{not-not}
 use Rattle.dq_lits.specs.Derivation.{holds}
 use Rattle.dq_lits.specs.Expansion.{row_assignment}
 use Rattle.dq_lits.specs.Formula.{Dqbf, Existential, declared, existential_of}
 use Rattle.dq_lits.specs.Henkin.{MatrixHolds}
 use Rattle.dq_lits.specs.Literal.{Assignment, Literal, positive, variable_of, is_negative, opposite, same_literal, literal_true}
+use Rattle.dq_lits.proofs.HeldLiterals.{any_gives, all_held, holds_cases, holds_here}
+use Rattle.dq_lits.proofs.SignedLiterals.{opposite_variable, opposite-opposite}
+use Rattle.dq_lits.proofs.Truth.{literal_true-opposite}
 use Rattle.dq_formula.specs.Prefix.{IsLawful}
 use Rattle.dq_formula.specs.Rules.{cube_true}
 use Rattle.hint_log.specs.Entries.{Entry, name_of}
 use Rattle.hint_log.specs.Naming.{named_literal, name_literal}
 use Rattle.hint_log.specs.declared.names.Name.{Name}
 use Rattle.hint_log.specs.declared.names.Name.TheVariants.{Selector, Copy as CopyOf}
-use Rattle.interpolants.proofs.Truth.{any_witness, holds_here, literal_true-opposite, variable_of-opposite, opposite-opposite}
 use Rattle.log_laws.proofs.Found.{named_variable}
 use Rattle.padoa_definitions.specs.Forcing.{IsForcedBy}
 use Rattle.padoa_definitions.specs.Ruling.{copied_assignment, value_by, ShowsClause, signed_literal, cube_literal, cube_of, IsLiteralName}
-use Rattle.padoa_definitions.proofs.AskedLiterals.{IsOwn, IsAtRow, AreAsked, opposite_named, all_of_held, not_not, no_negation}
-use Rattle.padoa_definitions.proofs.DividedAnswers.{holds_cases}
+use Rattle.padoa_definitions.proofs.AskedLiterals.{IsOwn, IsAtRow, AreAsked, opposite_named, no_negation}
 use Rattle.padoa_definitions.proofs.LinkedInterpolants.{signed, named_is}
 
 -- one literal of the clause more
@@ -140,14 +142,14 @@ module _ (f : Dqbf) (lawful : IsLawful f) (es : List Entry) (y : Existential) (r
       ap (cube_literal y.variable (is_negative l)) t.0
       ∙ ap (λ b. cond b None (Some (signed_literal (positive x) (is_negative l))))
       (ne_eqb x y.variable (unseen x among))
-      ∙ ap (λ b. Some (signed_literal (positive x) b)) (t.1 ∙ not_not (row_assignment f row x))
+      ∙ ap (λ b. Some (signed_literal (positive x) b)) (t.1 ∙ not-not (row_assignment f row x))
 
   -- what a literal of the clause puts into the cube
   gives : (l k : Literal) → IsKind l → cube_literal y.variable (is_negative l) (name_of es (variable_of l)) ≡ Some k →
       (x : ℕ) × Contains y.sees x × (k ≡ signed_literal (positive x) (row_assignment f row x))
   gives l k (of_group g is named) found =
       let here : name_of es (variable_of l) ≡ Some (Selector g) =
-      ap (name_of es) (sym (variable_of-opposite l) ∙ ap variable_of is) ∙ named in
+      ap (name_of es) (sym (opposite_variable l) ∙ ap variable_of is) ∙ named in
       let none : None ≡ Some k = sym (ap (cube_literal y.variable (is_negative l)) here) ∙ found in
       cc
   gives l k (of_own is) found =
@@ -183,7 +185,7 @@ module _ (f : Dqbf) (lawful : IsLawful f) (es : List Entry) (y : Existential) (r
 
   forced : (m : Assignment) → MatrixHolds f m → cube_true m (cube_of es y.variable clause) ≡ true → m y.variable ≡ bit
   forced m holds_there in_cube =
-      let w = any_witness (literal_true (copied_assignment es m)) clause (shown.implied m holds_there) in
+      let w = any_gives (literal_true (copied_assignment es m)) clause (shown.implied m holds_there) in
       by w.0 w.1 (false_there m w.0 w.2) (kind w.0 w.1)
     where
       by : (l : Literal) → holds clause l ≡ true → literal_true (copied_assignment es m) (opposite l) ≡ false →
@@ -228,11 +230,11 @@ module _ (f : Dqbf) (lawful : IsLawful f) (es : List Entry) (y : Existential) (r
       (r.0, omega (arith, most, few))
 
   pub literal_names : All (λ l. IsLiteralName (name_of es (variable_of l))) clause
-  literal_names = all_of_held (λ l. IsLiteralName (name_of es (variable_of l))) clause (λ l h. by l (kind l h))
+  literal_names = all_held (λ l. IsLiteralName (name_of es (variable_of l))) clause (λ l h. by l (kind l h))
     where
       by : (l : Literal) → IsKind l → IsLiteralName (name_of es (variable_of l))
       by l (of_group g is named) = subst IsLiteralName (sym (ap (name_of es)
-          (sym (variable_of-opposite l) ∙ ap variable_of is) ∙ named)) tt
+          (sym (opposite_variable l) ∙ ap variable_of is) ∙ named)) tt
       by l (of_own is) = subst IsLiteralName (sym (turned l (CopyOf 1 y.variable) bit is).0)
           (in_range y.variable y_declared)
       by l (of_seen x among is) = subst IsLiteralName (sym (turned l (CopyOf 1 x) (not (row_assignment f row x)) is).0)

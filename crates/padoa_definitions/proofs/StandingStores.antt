@@ -2,6 +2,7 @@
 use Rattle.std.proofs.Common.{◌≡◌, ◌≢◌, ℕ, zero, suc, Bool, false, true≢false, ◌⊎◌, inl, inr, List, [], ◌∷◌, ◌++◌, map, slice_get, Option, Some, None, sym, ◌∙◌, ap, subst, arith}
 use Rattle.std.specs.List.{Contains}
 use Rattle.std.proofs.lemmas.List.Elements.{Contains-append_left, Contains-append_right}
+use Rattle.list_laws.proofs.Members.{contains_later}
 use Rattle.dq_lits.specs.Literal.{Literal, negative}
 use Rattle.dq_lits.specs.Formula.{Dqbf}
 use Rattle.hint_log.specs.Entries.{Entry, Named, Given, Learned, Answer, Round, Begun, name_of}
@@ -13,13 +14,13 @@ use Rattle.hint_log.specs.declared.origins.Origin.{Origin}
 use Rattle.hint_log.specs.declared.origins.Origin.TheVariants.{Instance, Gate, Fault, Copy, Link, TermGate, Differ}
 use Rattle.log_laws.specs.Engines.{Engine, copies, same_engine, origin_engine, name_engine, IsInGroup}
 use Rattle.log_laws.specs.Sessions.{IsInOneOf, IsAddedLive}
-use Rattle.log_laws.proofs.Kept.{NamesStay, named_stay, name_stays_by}
+use Rattle.log_laws.proofs.Kept.{NamesStay, named_stay, name_stays_by, literal_stays}
 use Rattle.oracle.specs.declared.groups.Group.{Group}
 use Rattle.padoa_definitions.specs.Copies.{IsGivenIn, group_variable}
 use Rattle.padoa_definitions.specs.Leaving.{EnginesLeaveStores, RoundsLeaveStores, BeginningsLeaveStores}
 use Rattle.padoa_definitions.specs.Store.{StoreState, store_of, HasGroup, side_group, Slot, of_frame, of_link, both_groups, store_groups, IsStoredName, IsInNoGroup, IsStoreEntry, HasParts, AreStoreGroups, IsGivenThere, IsStore}
 use Rattle.padoa_definitions.specs.declared.frames.Sides.{Sides}
-use Rattle.padoa_definitions.proofs.KeptCopies.{contains_later, made_stays, one_stays}
+use Rattle.padoa_definitions.proofs.KeptCopies.{made_stays}
 
 -- names stay, and clauses
 pub record AreKept (old new : List Entry) : Type 0 where
@@ -40,7 +41,7 @@ given_in_stays old new kept group origin names given = record {
 module _ (all : Dqbf) (numbered : List ℕ) (s : StoreState) (old new : List Entry) (kept : AreKept old new) where
   pub parts_stay : HasParts all s old → HasParts all s new
   parts_stay h = record {
-    universals = λ side k x l low x_is l_is. one_stays old new kept.names l _ (h.universals side k x l low x_is l_is);
+    universals = λ side k x l low x_is l_is. literal_stays old new kept.names l _ (h.universals side k x l low x_is l_is);
     first_existentials = named_stay old new kept.names s.first_existentials _ h.first_existentials;
     second_existentials = named_stay old new kept.names s.second_existentials _ h.second_existentials;
     equations = λ k x i g low one two x_is g_is.

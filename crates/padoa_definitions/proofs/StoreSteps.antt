@@ -5,6 +5,7 @@ use Rattle.dq_lits.specs.Literal.{Literal}
 use Rattle.dq_lits.specs.Formula.{Dqbf}
 use Rattle.hint_log.specs.Entries.{Entry, Named, Given, Learned, Answer, Round, Begun, ProofLog, with_entry, name_of}
 use Rattle.hint_log.specs.ProductiveLog.{fault_groups, fault_room}
+use Rattle.hint_log.proofs.NamedEntries.{unnamed_before}
 use Rattle.log_laws.specs.Engines.{copies}
 use Rattle.log_laws.specs.Sessions.{IsInOneOf, IsAddedLive}
 use Rattle.log_laws.proofs.Kept.{each_of_weaker}
@@ -12,17 +13,6 @@ use Rattle.log_laws.proofs.LargerLogs.{grown_by, grown_by_none, grown_then}
 use Rattle.padoa_definitions.specs.Copies.{is_copied_at}
 use Rattle.padoa_definitions.specs.Following.{AreOldOrNew, IsFollowing, IsStanding}
 use Rattle.padoa_definitions.specs.Store.{StoreState, store_groups, HasGiven, IsStore}
-use Rattle.padoa_definitions.proofs.GrownStores.{unnamed_before}
-
-pub same_or_not : (k i : ℕ) → (k ≡ i) ⊎ (k ≢ i)
-same_or_not zero zero = inl refl
-same_or_not zero (suc i) = inr (λ e. omega (arith, e))
-same_or_not (suc k) zero = inr (λ e. omega (arith, e))
-same_or_not (suc k) (suc i) = by (same_or_not k i)
-  where
-    by : (k ≡ i) ⊎ (k ≢ i) → (suc k ≡ suc i) ⊎ (suc k ≢ suc i)
-    by (inl same) = inl (ap suc same)
-    by (inr differ) = inr (λ e. differ (omega (arith, e)))
 
 -- what stands in a list after one place was set
 pub set_cases : {X : Type 0} (xs : List X) (i k : ℕ) (y z : X) → slice_get (set xs i y) k ≡ Some z →

@@ -6,13 +6,12 @@ use Rattle.dq_lits.specs.Literal.{Literal, negative}
 use Rattle.dq_lits.specs.Formula.{Dqbf}
 use Rattle.hint_log.specs.Entries.{Entry, Given, Round, Begun, ProofLog}
 use Rattle.hint_log.specs.Growth.{Grew}
-use Rattle.hint_log.specs.Live.{live_formula, with_matrix}
+use Rattle.hint_log.specs.Live.{with_matrix}
 use Rattle.hint_log.specs.ProductiveSession.{ShareGroup, frame_of}
 use Rattle.hint_log.specs.declared.origins.Origin.TheVariants.{Copy}
-use Rattle.log_laws.specs.Engines.{Engine, copies, same_engine, IsAddedBy}
+use Rattle.log_laws.specs.Engines.{Engine, copies, same_engine}
 use Rattle.log_laws.specs.Sessions.{IsAddedLive}
 use Rattle.padoa_definitions.specs.Copies.{IsPadoa, groups_of}
-use Rattle.padoa_definitions.specs.Growing.{HasSameGivens}
 use Rattle.padoa_definitions.specs.Store.{IsCopyStore, copy_groups}
 use Rattle.padoa_definitions.specs.declared.padoa.Padoa.{Padoa}
 
@@ -45,22 +44,6 @@ ClausesLeaveStores =
     → IsCopyStore all numbered p entries
     → IsCopyStore (with_matrix all (all.matrix ++ more)) (numbered ++ frames) p entries
 
--- searches for definitions and rules give nothing
-abbrev pub SearchesLeaveStores : Type 0
-SearchesLeaveStores =
-    (all f : Dqbf) (numbered : List ℕ) (p : Padoa) (group : ℕ) (silent : Bool) (old new : ProofLog)
-    → Grew (IsAddedBy f copies group silent old.entries) old new
-    → HasSameGivens old.entries new.entries
-    → IsCopyStore all numbered p old.entries → IsCopyStore all numbered p new.entries
-
--- and what they add is right in the session
-abbrev pub SearchesAddLive : Type 0
-SearchesAddLive =
-    (all : Dqbf) (group : ℕ) (groups : List ℕ) (silent : Bool) (old new : ProofLog)
-    → Grew (IsAddedBy (live_formula all old.entries) copies group silent old.entries) old new
-    → HasSameGivens old.entries new.entries
-    → Grew (IsAddedLive all copies groups silent old.entries) old new
-
 -- the active copies
 abbrev pub SessionsLeaveCopies : Type 0
 SessionsLeaveCopies =
@@ -69,11 +52,6 @@ SessionsLeaveCopies =
     → Grew (IsAddedLive any engine groups silent old.entries) old new
     → ((g h : ℕ) → Contains (groups_of p) g → Contains groups h → g ≢ h)
     → IsPadoa f p old.entries → IsPadoa f p new.entries
-
-abbrev pub BeginningsLeaveCopies : Type 0
-BeginningsLeaveCopies =
-    (f : Dqbf) (p : Padoa) (entries : List Entry) (live : List ℕ)
-    → IsPadoa f p entries → IsPadoa f p (Begun live ∷ entries)
 
 -- copies have one group where their clauses are of one frame, and they are of one side
 abbrev pub CopiesAreGrouped : Type 0

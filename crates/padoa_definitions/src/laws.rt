@@ -2,19 +2,14 @@
 //! function without parameters.
 
 ghost use Rattle.padoa_definitions.specs.Defining.{DefinitionsAreForced};
-ghost use Rattle.padoa_definitions.specs.Leaving.{EnginesLeaveStores, RoundsLeaveStores, BeginningsLeaveStores, ClausesLeaveStores, SearchesLeaveStores, SearchesAddLive, SessionsLeaveCopies, BeginningsLeaveCopies, CopiesAreGrouped, CopiesAreStored, ActiveGroupsAreStored};
-ghost use Rattle.padoa_definitions.specs.Standing.{EnginesLeaveCopies, RoundsLeaveCopies};
+ghost use Rattle.padoa_definitions.specs.Leaving.{EnginesLeaveStores, RoundsLeaveStores, BeginningsLeaveStores, ClausesLeaveStores, SessionsLeaveCopies, CopiesAreGrouped, CopiesAreStored, ActiveGroupsAreStored};
+ghost use Rattle.padoa_definitions.specs.Standing.{RoundsLeaveCopies};
 
 use log_laws::laws::engines_leave_sessions;
 
 /// Every choice that solves the formula has a definition's value.
 pub fn definitions_are_forced()
     ensures { DefinitionsAreForced }
-{}
-
-/// What an engine adds to the log, in groups of its own, leaves the copies as they stand.
-pub fn engines_leave_copies()
-    ensures { EnginesLeaveCopies }
 {}
 
 /// A round leaves them as they stand.
@@ -29,11 +24,6 @@ pub fn sessions_leave_copies()
 {
     engines_leave_sessions();
 }
-
-/// The beginning of a search leaves them as they stand.
-pub fn beginnings_leave_copies()
-    ensures { BeginningsLeaveCopies }
-{}
 
 /// What another engine adds to the log of a session, in groups of its own, leaves a store of copies
 /// as it stands.
@@ -54,16 +44,6 @@ pub fn beginnings_leave_stores()
 /// So do clauses that are numbered behind all others.
 pub fn added_clauses_leave_stores()
     ensures { ClausesLeaveStores }
-{}
-
-/// So do searches for definitions and rules.
-pub fn searches_leave_stores()
-    ensures { SearchesLeaveStores }
-{}
-
-/// What these add to the log is right in a session.
-pub fn searches_add_live()
-    ensures { SearchesAddLive }
 {}
 
 /// Copies have one group where their clauses are of one frame, and they are of one side.

@@ -1,7 +1,6 @@
 -- Clauses that are added one by one.
-use Rattle.std.proofs.Common.{◌≡◌, ℕ, ◌+◌, ◌*◌, ◌<◌, Result, Ok, Err, List, [], ◌∷◌, ◌++◌, sym, ◌∙◌, ap, append_assoc}
+use Rattle.std.proofs.Common.{◌≡◌, ℕ, ◌+◌, ◌*◌, ◌<◌, List, [], ◌∷◌, ◌++◌, sym, ◌∙◌, ap, append_assoc}
 use Rattle.std.specs.Option.{option_map}
-use Rattle.std.specs.Result.{OnOk}
 use Rattle.std.proofs.lemmas.List.Elements.{All-from_recursion}
 use Rattle.std.proofs.lemmas.List.Elements.{filter_map-append}
 use Rattle.dq_lits.specs.Formula.{Dqbf}
@@ -30,10 +29,6 @@ added f g h xs ys first second =
     second ∙ ap (λ (k : Dqbf). with_clauses k (kept ys)) first
     ∙ ap (λ m. record f { matrix = m })
     (append_assoc f.matrix (kept xs) (kept ys) ∙ ap (λ zs. f.matrix ++ zs) (sym (kept-more xs ys)))
-
-pub on-ok : {T E A B : Type 0} (r : Result T E) → (A → B) → OnOk r A → OnOk r B
-on-ok (Ok t) f a = f a
-on-ok (Err e) f a = tt
 
 -- the four clauses of an agreement
 pub agreement-added : (f g h i j : Dqbf) (flag a b differ not_a not_b : ℕ) → differ ≡ opposite_of (2 * flag)

@@ -10,13 +10,6 @@ use Rattle.pec_front.specs.Kept.{kept}
 use Rattle.pec_front.proofs.AddedClauses.{with_clauses, added}
 use Rattle.pec_front.proofs.Numbers.{range-join, map-join}
 
--- nothing was added
-pub none-added : (f : Dqbf) → AreAdded f f [] 0
-none-added f = record {
-  clauses = ap (λ m. record f { matrix = m }) (sym (append-nil f.matrix));
-  few = omega arith;
-}
-
 -- clauses behind others
 pub part-added : (f g h : Dqbf) (xs ys zs : List (List ℕ)) (m n : ℕ) → AreAdded f g xs m
     → h ≡ with_clauses g (kept ys) → length h.matrix ≤ length g.matrix + n → zs ≡ xs ++ ys

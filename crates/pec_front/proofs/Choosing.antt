@@ -3,10 +3,13 @@ use Rattle.std.proofs.Common.{◌≡◌, ◌≢◌, ℕ, zero, suc, ◌+◌, ◌
 use Rattle.std.specs.List.{All, AllPairs, AllByRecursion, Contains, list_any, flat_map, range_with_len}
 use Rattle.std.proofs.Math.ListN.{get_or-append}
 use Rattle.std.proofs.lemmas.Bool.{true≢false, lt-ltb, le-ltb, ltb-true, ltb-false, cond-true, cond-false, or_left, or_right, eq-eqb, eqb-true}
-use Rattle.std.proofs.lemmas.List.{length-map, get_or-map, get_or-append-add}
+use Rattle.std.proofs.lemmas.List.{length-map, get_or-append-add}
 use Rattle.std.proofs.lemmas.List.Elements.{All-contains, All-map, recursion_from_All, Contains-append_left, Contains-append_right}
 use Rattle.std.proofs.lemmas.List.Folds.{list_any_at}
 use Rattle.std.proofs.lemmas.List.FromFn.{length-range_with_len, get_or-map-range_with_len}
+use Rattle.list_laws.proofs.Members.{contains_map, in_one_part}
+use Rattle.list_laws.proofs.Truths.{unnot}
+use Rattle.list_laws.proofs.Quantified.{right-distinct}
 use Rattle.dq_lits.specs.Literal.{Assignment}
 use Rattle.dq_lits.specs.Formula.{Existential}
 use Rattle.dq_lits.specs.Henkin.{HenkinChoice, choice_value, restriction, same_bit}
@@ -22,7 +25,7 @@ use Rattle.pec_front.proofs.Clauses.{with_constant, raw_true, opposite-bit}
 use Rattle.pec_front.proofs.Circuits.{even-bit, seen_by, on_number-bit, same-bits}
 use Rattle.pec_front.proofs.Fitting.{Raw}
 use Rattle.pec_front.proofs.Values.{Ground, value_in, valuation, sides, contained_at, contained, any-contained}
-use Rattle.pec_front.proofs.Rows.{apart, second-once, drives-box}
+use Rattle.pec_front.proofs.Rows.{drives-box}
 use Rattle.pec_front.proofs.Numbers.{number-cases, range-all, range-contains, copies-inside}
 use Rattle.pec_front.proofs.Truths.{gate-true, agreement-true, join-parts, join-each, clauses-true}
 
@@ -121,7 +124,7 @@ pub record Site : Type 0 where
 abbrev row_of : Site → List Bool
 row_of s = map s.m (design_universals s.p.d)
 
-behind : (m : Assignment) (v : ℕ) → 1 ≤ v → with_constant m v ≡ m v
+pub behind : (m : Assignment) (v : ℕ) → 1 ≤ v → with_constant m v ≡ m v
 behind m zero low = absurd (omega (arith, low))
 behind m (suc v) low = refl
 
@@ -130,10 +133,6 @@ row-bit s v low high =
     let back : 1 + (v - 1) ≡ v = omega (arith, low) in
     get_or-map-range_with_len s.m 1 (inputs_of s.p.d + signals_of s.p.d) (v - 1) v false (omega (arith, low, high)) back
 
-pub map-contains : {X Y : Type 0} (f : X → Y) (xs : List X) (x : X) → Contains xs x → Contains (map f xs) (f x)
-map-contains f xs x (k, below, e) = let long =
-    length-map xs f in (k, omega (arith, below, long), get_or-map f xs k x (f x) below ∙ ap f e)
-
 seeing-value : (s : Site) (v : ℕ) → first_specified s.p.d ≤ v → v < end_of s.p.d → s.m v ≡ all_of s.p (row_of s) v
 seeing-value s v low high =
     let d = s.p.d in
@@ -141,7 +140,7 @@ seeing-value s v low high =
     let n = end_of d - first_specified d in
     let numbers = range_with_len (first_specified d) n in
     let inside = Contains-append_right firsts (map (seeing_all d) numbers) (seeing_all d v)
-    (map-contains (seeing_all d) numbers v (range-contains (first_specified d) n v low (omega (arith, low, high)))) in
+    (contains_map (seeing_all d) numbers v (range-contains (first_specified d) n v low (omega (arith, low, high)))) in
     let one = All-contains (λ (y : Existential). s.m y.variable ≡ values_of s.p y (map s.m y.sees))
     (firsts ++ map (seeing_all d) numbers) (seeing_all d v) s.follows inside in
     one ∙ cond-false (nat_lt v (first_specified d)) (drive_of s.p v (row_of s)) (all_of s.p (row_of s) v)
@@ -157,7 +156,7 @@ driven-value s i low high =
     let n = end_of d - first_specified d in
     let others = map (seeing_all d) (range_with_len (first_specified d) n) in
     let inside = Contains-append_left (map (driven_existential d) numbers) others (driven_existential d i)
-    (map-contains (driven_existential d) numbers i
+    (contains_map (driven_existential d) numbers i
     (range-contains (inputs_of d) (driven_of d) i low (omega (arith, low, high)))) in
     let is : implemented_input d i ≡ v = cond-false (nat_lt i (inputs_of d)) (1 + i) v (le-ltb i (inputs_of d) low) in
     let bits = map s.m (driven_existential d i).sees in
@@ -412,7 +411,7 @@ output-clauses s o below =
     ∙ sym (ap (λ x. same_bit x (literal_bit n (on_number (implemented_variable d) b))) left
     ∙ ap (same_bit (literal_bit (spec_values s.p (row_of s)) a)) right))
 
-read-from : (m bit : ℕ → Bool) (next : ℕ) (ins : List ℕ)
+pub read-from : (m bit : ℕ → Bool) (next : ℕ) (ins : List ℕ)
     → ((j : ℕ) → j < length ins → bit (next + j) ≡ literal_bit m (get_or ins j 0)) →
     map bit (range_with_len next (length ins)) ≡ map (literal_bit m) ins
 read-from m bit next [] same = refl
@@ -446,7 +445,7 @@ box-copies m bit (b ∷ boxes) next once same box (suc k, below, e) out inside =
     ap (map bit) (cond-false (list_any (λ o. o == out) b.outs) (range_with_len next (length b.ins))
     (copies_for (next + length b.ins) boxes out)
     (none (list_any (λ o. o == out) b.outs) refl (drives-box boxes box out later inside)))
-    ∙ box-copies m bit boxes (next + length b.ins) (second-once b.outs (driven boxes) once)
+    ∙ box-copies m bit boxes (next + length b.ins) (right-distinct b.outs (driven boxes) once)
     (λ j low. ap bit (let e2 : next + length b.ins + j ≡ next + (length b.ins + j) = omega arith in e2)
     ∙ same (length b.ins + j) (omega (arith, low, long))
     ∙ ap (literal_bit m) (get_or-append-add b.ins (signals boxes) j 0))
@@ -457,7 +456,7 @@ box-copies m bit (b ∷ boxes) next once same box (suc k, below, e) out inside =
     none false f more = f
     none true f more =
         let r = contained (λ o. o == out) b.outs f in
-        absurd (apart b.outs (driven boxes) out once (subst (λ (n : ℕ). Contains b.outs n) (eqb-true r.0 out r.2) r.1)
+        absurd (in_one_part b.outs (driven boxes) out once (subst (λ (n : ℕ). Contains b.outs n) (eqb-true r.0 out r.2) r.1)
         more)
 
 -- where all copies have their signals' values, the boxes are filled, and the outputs agree
@@ -504,10 +503,6 @@ means-same : (a b : Bool) → a ≡ b → same_bit a b ≡ true
 means-same true b e = sym e
 means-same false true e = absurd (true≢false (sym e))
 means-same false false e = refl
-
-not-false : (b : Bool) → not b ≡ false → b ≡ true
-not-false true e = refl
-not-false false e = absurd (true≢false e)
 
 demand-true : (s : Site) (o : ℕ) → o < length s.p.d.specification.outputs → Raw s.m (demand s.p.d o)
 demand-true s o below = by (raw_true s.m downs) refl
@@ -560,7 +555,7 @@ demand-true s o below = by (raw_true s.m downs) refl
         up : (j : ℕ) → j < signals_of s.p.d → with_constant s.m (first_same s.p.d + j) ≡ true
         up j low =
             let l = 2 * (first_same s.p.d + j) in
-            not-false (with_constant s.m (first_same s.p.d + j))
+            unnot (with_constant s.m (first_same s.p.d + j))
             (sym (opposite-bit (with_constant s.m) l ∙ ap not (even-bit (with_constant s.m) (first_same s.p.d + j)))
             ∙ down j low (literal_bit (with_constant s.m) (opposite_of l)) refl)
 

@@ -1,6 +1,7 @@
 -- Numbered gates: what their clauses say makes a valuation of the circuit.
 use Rattle.std.proofs.Common.{◌≡◌, ℕ, ◌+◌, ◌*◌, ◌/◌, ◌%◌, ◌<◌, ◌==◌, Bool, true, false, not, cond, ◌&&◌, ◌||◌, [], ◌∷◌, length, get_or, sym, ◌∙◌, ap, arith}
 use Rattle.std.specs.List.{All}
+use Rattle.list_laws.proofs.Truths.{gate_bit}
 use Rattle.dq_lits.specs.Literal.{Assignment}
 use Rattle.circuit_plain.specs.Netlist.{Netlist, literal_bit}
 use Rattle.circuit_plain.specs.declared.circuits.Gate.{Gate}
@@ -8,7 +9,7 @@ use Rattle.circuit_plain.specs.Ground.{IsGrounded}
 use Rattle.circuit_plain.specs.Value.{IsValuation, GroundedHaveValues, ValuationsAgree}
 use Rattle.cert_text.specs.NegatedMatrix.{opposite_of, gate_clauses}
 use Rattle.pec_front.specs.Encoding.{on_number, numbered_gate}
-use Rattle.pec_front.proofs.Clauses.{with_constant, raw_true, opposite-bit, gate-equation}
+use Rattle.pec_front.proofs.Clauses.{with_constant, raw_true, opposite-bit}
 
 -- the circuit's variables as the formula's assignment has them
 abbrev pub seen_by : (ℕ → ℕ) → Assignment → ℕ → Bool
@@ -50,7 +51,7 @@ gate-holds number m g all =
     let x = n (number g.variable) in
     let y = literal_bit (seen_by number m) g.left in
     let z = literal_bit (seen_by number m) g.right in
-    gate-equation x y z
+    gate_bit x y z
     (sym (ap (λ p. p || (literal_bit n a || false)) not-out ∙ ap (λ p. not x || (p || false)) bit-a) ∙ first)
     (sym (ap (λ p. p || (literal_bit n b || false)) not-out ∙ ap (λ p. not x || (p || false)) bit-b) ∙ second)
     (sym (ap (λ p. p || (literal_bit n (opposite_of a) || (literal_bit n (opposite_of b) || false))) bit-out

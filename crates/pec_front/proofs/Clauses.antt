@@ -1,5 +1,5 @@
 -- What the clauses over circuit literals say of an assignment.
-use Rattle.std.proofs.Common.{◌≡◌, ◌≢◌, ℕ, zero, suc, ◌+◌, ◌-◌, ◌/◌, ◌%◌, ◌==◌, Bool, true, false, not, cond, ◌&&◌, ◌||◌, List, refl, sym, ◌∙◌, ap, arith}
+use Rattle.std.proofs.Common.{◌≡◌, ◌≢◌, ℕ, zero, suc, ◌+◌, ◌-◌, ◌/◌, ◌%◌, ◌==◌, Bool, true, false, not, cond, ◌||◌, List, refl, sym, ◌∙◌, ap, arith}
 use Rattle.std.specs.List.{list_any}
 use Rattle.std.proofs.lemmas.Bool.{true≢false, eq-eqb, eqb-true, cond-true, cond-false}
 use Rattle.dq_lits.specs.Literal.{Assignment, positive, negative, literal_true}
@@ -45,16 +45,6 @@ opposite-bit m l = by (l % 2 == 1) refl
       where
         ne_from : (a b : ℕ) → (a == b) ≡ false → a ≢ b
         ne_from a b h same = true≢false (sym (eq-eqb a b same) ∙ h)
-
--- three clauses make a gate's equation
-pub gate-equation : (g a b : Bool) → (not g || (a || false)) ≡ true → (not g || (b || false)) ≡ true
-    → (g || (not a || (not b || false))) ≡ true → g ≡ (a && b)
-gate-equation true true true h1 h2 h3 = refl
-gate-equation true true false h1 h2 h3 = absurd (true≢false (sym h2))
-gate-equation true false b h1 h2 h3 = absurd (true≢false (sym h1))
-gate-equation false true true h1 h2 h3 = absurd (true≢false (sym h3))
-gate-equation false true false h1 h2 h3 = refl
-gate-equation false false b h1 h2 h3 = refl
 
 -- four clauses make a flag say that two bits agree: where they do, it is true, and where it is true,
 -- they do

@@ -1,9 +1,11 @@
 -- From the formula's clauses back to those over circuit literals.
-use Rattle.std.proofs.Common.{◌≡◌, ◌≢◌, ℕ, ◌==◌, Bool, true, false, not, cond, inl, inr, List, [], ◌∷◌, ◌++◌, map, Option, Some, None, refl, sym, ◌∙◌, ap}
+use Rattle.std.proofs.Common.{◌≡◌, ◌≢◌, ℕ, ◌==◌, Bool, true, false, not, cond, inl, inr, List, [], ◌∷◌, map, Option, Some, None, refl, sym, ◌∙◌, ap}
 use Rattle.std.specs.List.{All, AllByRecursion, list_any, filter, filter_map, flat_map, cons_option}
 use Rattle.std.specs.Option.{option_map}
-use Rattle.std.proofs.lemmas.Bool.{true≢false, eqb-true, eq-eqb, or_cases, or_parts, or_left, or_right}
+use Rattle.std.proofs.lemmas.Bool.{eqb-true, or_cases, or_parts, or_left, or_right}
 use Rattle.std.proofs.lemmas.List.Elements.{All-head, All-tail}
+use Rattle.list_laws.proofs.Sequences.{all_behind, all_before}
+use Rattle.list_laws.proofs.Truths.{unequal}
 use Rattle.dq_lits.specs.Literal.{Assignment, Literal, literal_true, clause_true}
 use Rattle.circuit_plain.specs.Netlist.{literal_bit}
 use Rattle.cert_text.specs.NegatedMatrix.{as_literal, without_constants}
@@ -20,9 +22,6 @@ constant-true m (l ∷ ls) h = elim (or_cases (l == 1) (list_any (λ k. k == 1) 
       (ap (literal_bit (with_constant m)) (eqb-true l 1 here) ∙ one)
   | inr later ↦ or_right (literal_bit (with_constant m) l) (raw_true m ls) (constant-true m ls later)
 ]
-
-unequal : (a b : ℕ) → (a == b) ≡ false → a ≢ b
-unequal a b h same = true≢false (sym (eq-eqb a b same) ∙ h)
 
 kept-step : (m : Assignment) (b : Bool) (l : ℕ) (ls : List ℕ) (rest : List ℕ) → (l == 0) ≡ b → l ≢ 1
     → (clause_true m (map as_literal rest) ≡ true → raw_true m ls ≡ true) →
@@ -74,16 +73,8 @@ all-raw m (c ∷ cs) all =
     let two = may-step m (h c) (filter_map h cs) all in
     (raw-from m c two.0, all-raw m cs two.1)
 
-pub left-part : {X : Type 0} (P : X → Type 0) (xs ys : List X) → AllByRecursion P (xs ++ ys) → AllByRecursion P xs
-left-part P [] ys all = tt
-left-part P (x ∷ xs) ys all = (all.0, left-part P xs ys all.1)
-
-pub right-part : {X : Type 0} (P : X → Type 0) (xs ys : List X) → AllByRecursion P (xs ++ ys) → AllByRecursion P ys
-right-part P [] ys all = all
-right-part P (x ∷ xs) ys all = right-part P xs ys all.1
-
 pub each-part : {X Y : Type 0} (P : Y → Type 0) (f : X → List Y) (xs : List X) → AllByRecursion P (flat_map f xs)
     → AllByRecursion (λ x. AllByRecursion P (f x)) xs
 each-part P f [] all = tt
 each-part P f (x ∷ xs) all =
-    (left-part P (f x) (flat_map f xs) all, each-part P f xs (right-part P (f x) (flat_map f xs) all))
+    (all_before P (f x) (flat_map f xs) all, each-part P f xs (all_behind P (f x) (flat_map f xs) all))

@@ -7,6 +7,7 @@ use Rattle.std.proofs.lemmas.Bool.{lt-ltb, le-ltb, ltb-true, ltb-false, cond-tru
 use Rattle.std.proofs.lemmas.List.{length-map}
 use Rattle.std.proofs.lemmas.List.Elements.{All-head, All-tail, All-contains, All-from_recursion, All-map}
 use Rattle.std.proofs.lemmas.List.FromFn.{get_or-range_with_len, length-range_with_len, get_or-map-range_with_len}
+use Rattle.list_laws.proofs.Sequences.{all_behind, all_before}
 use Rattle.dq_lits.specs.Literal.{Assignment}
 use Rattle.dq_lits.specs.Formula.{Existential, Dqbf, HasLawfulPrefix}
 use Rattle.dq_lits.specs.Henkin.{HenkinChoice, Follows, Solves, choice_value, same_bits}
@@ -19,8 +20,9 @@ use Rattle.pec_front.specs.Encoding.{signals_of, driven_of, first_copy, first_dr
 use Rattle.pec_front.specs.Choices.{signal_bits, AreDriven, ChoicesFillBoxes}
 use Rattle.pec_front.proofs.Clauses.{with_constant, opposite-bit}
 use Rattle.pec_front.proofs.Circuits.{even-bit, seen_by, on_number-bit, same-values, same-bits}
-use Rattle.pec_front.proofs.Encoded.{all-raw, left-part, right-part}
+use Rattle.pec_front.proofs.Encoded.{all-raw}
 use Rattle.pec_front.proofs.Fitting.{Raw, raised, means, seen-valuation, demanded}
+use Rattle.pec_front.proofs.Choosing.{behind}
 
 pub record Case : Type 0 where
   pub d : PartialDesign
@@ -39,10 +41,6 @@ pub record Case : Type 0 where
   pub a : Assignment
   pub universals : All (λ x. a x ≡ signal_bits d bits mi x) (design_universals d)
   pub follows : Follows (design_formula d) choice a
-
-behind : (m : Assignment) (v : ℕ) → 1 ≤ v → with_constant m v ≡ m v
-behind m zero low = absurd (omega (arith, low))
-behind m (suc v) low = refl
 
 universal-bit : (c : Case) (i : ℕ) → i < inputs_of c.d + signals_of c.d → c.a (1 + i)
     ≡ signal_bits c.d c.bits c.mi (1 + i)
@@ -158,20 +156,20 @@ behind_gates d = all_copies d 0 (signals d.boxes) ++ (all_outputs d 0 d.specific
 
 copies-hold : (c : Case) → AllByRecursion (Raw c.a) (behind_gates c.d)
 copies-hold c =
-    right-part (Raw c.a) (implemented_clauses c.d) (behind_gates c.d)
-    (right-part (Raw c.a) (specified_clauses c.d) (implemented_clauses c.d ++ behind_gates c.d) (all-clauses c))
+    all_behind (Raw c.a) (implemented_clauses c.d) (behind_gates c.d)
+    (all_behind (Raw c.a) (specified_clauses c.d) (implemented_clauses c.d ++ behind_gates c.d) (all-clauses c))
 
 specified-valuation : (c : Case) → IsValuation c.d.specification c.bits (seen_by (specified_variable c.d) c.a)
 specified-valuation c =
     seen-valuation c.d.specification c.keeps.specification (λ i. 1 + i) (first_specified c.d) c.bits c.a (input-bit c)
-    (left-part (Raw c.a) (specified_clauses c.d) (implemented_clauses c.d ++ behind_gates c.d) (all-clauses c))
+    (all_before (Raw c.a) (specified_clauses c.d) (implemented_clauses c.d ++ behind_gates c.d) (all-clauses c))
 
 implemented-valuation : (c : Case) → IsValuation c.d.implementation c.bits (seen_by (implemented_variable c.d) c.a)
 implemented-valuation c =
     seen-valuation c.d.implementation c.keeps.implementation (implemented_input c.d) (first_implemented c.d) c.bits
     c.a (implemented-bit c)
-    (left-part (Raw c.a) (implemented_clauses c.d) (behind_gates c.d)
-    (right-part (Raw c.a) (specified_clauses c.d) (implemented_clauses c.d ++ behind_gates c.d) (all-clauses c)))
+    (all_before (Raw c.a) (implemented_clauses c.d) (behind_gates c.d)
+    (all_behind (Raw c.a) (specified_clauses c.d) (implemented_clauses c.d ++ behind_gates c.d) (all-clauses c)))
 
 -- a grounded literal of the implementation has its bit under its number
 implemented-literal : (c : Case) (l : ℕ) → IsGrounded c.d.implementation (literal_variable l) →
@@ -200,12 +198,12 @@ copies-at d m i (s ∷ rest) zero k e below all =
     let here : i ≡ k = omega (arith, e) in
     subst (λ n. AllByRecursion (Raw m)
     (agreement_clauses (first_same d + n) (2 * (first_copy d + n)) (on_number (implemented_variable d) s))) here
-    (left-part (Raw m)
+    (all_before (Raw m)
     (agreement_clauses (first_same d + i) (2 * (first_copy d + i)) (on_number (implemented_variable d) s))
     (all_copies d (suc i) rest) all)
 copies-at d m i (s ∷ rest) (suc j) k e below all =
     copies-at d m (suc i) rest j k (omega (arith, e)) (omega (arith, below))
-    (right-part (Raw m)
+    (all_behind (Raw m)
     (agreement_clauses (first_same d + i) (2 * (first_copy d + i)) (on_number (implemented_variable d) s))
     (all_copies d (suc i) rest) all)
 
@@ -222,12 +220,12 @@ outputs-at d m i (s ∷ rest) zero k e below all =
     subst (λ n. AllByRecursion (Raw m)
     (agreement_clauses (first_agree d + n) (on_number (specified_variable d) s)
     (on_number (implemented_variable d) (slice_index d.implementation.outputs n)))) here
-    (left-part (Raw m) one (all_outputs d (suc i) rest) all)
+    (all_before (Raw m) one (all_outputs d (suc i) rest) all)
 outputs-at d m i (s ∷ rest) (suc j) k e below all =
     let one = agreement_clauses (first_agree d + i) (on_number (specified_variable d) s)
     (on_number (implemented_variable d) (slice_index d.implementation.outputs i)) in
     outputs-at d m (suc i) rest j k (omega (arith, e)) (omega (arith, below))
-    (right-part (Raw m) one (all_outputs d (suc i) rest) all)
+    (all_behind (Raw m) one (all_outputs d (suc i) rest) all)
 
 -- each copy has its signal's value, so its flag is true
 flag-true : (c : Case) (j : ℕ) → j < signals_of c.d → with_constant c.a (first_same c.d + j) ≡ true
@@ -236,7 +234,7 @@ flag-true c j below =
     let s = get_or (signals d.boxes) j 0 in
     raised c.a (first_same d + j) (2 * (first_copy d + j)) (on_number (implemented_variable d) s)
     (copies-at d c.a 0 (signals d.boxes) j j (omega arith) below
-    (left-part (Raw c.a) (all_copies d 0 (signals d.boxes)) (all_outputs d 0 d.specification.outputs ++ demands d)
+    (all_before (Raw c.a) (all_copies d 0 (signals d.boxes)) (all_outputs d 0 d.specification.outputs ++ demands d)
     (copies-hold c)))
     (even-bit (with_constant c.a) (first_copy d + j) ∙ copy-bit c j below
     ∙ sym (implemented-literal c s (c.keeps.signals_stand j below)))
@@ -248,10 +246,10 @@ pub outputs-agree : (c : Case) (o : ℕ) → o < length c.d.specification.output
 outputs-agree c o below =
     let d = c.d in
     let outs = d.specification.outputs in
-    let behind-copies = right-part (Raw c.a) (all_copies d 0 (signals d.boxes)) (all_outputs d 0 outs ++ demands d)
+    let behind-copies = all_behind (Raw c.a) (all_copies d 0 (signals d.boxes)) (all_outputs d 0 outs ++ demands d)
     (copies-hold c) in
     let all-demands = All-from_recursion (Raw c.a) (demands d)
-    (right-part (Raw c.a) (all_outputs d 0 outs) (demands d) behind-copies) in
+    (all_behind (Raw c.a) (all_outputs d 0 outs) (demands d) behind-copies) in
     let many : length (demands d) ≡ length outs = length-map (range_with_len 0 (length outs)) (demand d)
     ∙ length-range_with_len 0 (length outs) in
     let at : get_or (demands d) o [] ≡ demand d o = get_or-map-range_with_len (demand d) 0 (length outs) o o [] below
@@ -272,7 +270,7 @@ outputs-agree c o below =
     let up = demanded c.a (first_agree d + o) (map (λ i. opposite_of (2 * (first_same d + i))) (range_with_len 0 q))
     down asked in
     let pair = outputs-at d c.a 0 outs o o (omega arith) below
-    (left-part (Raw c.a) (all_outputs d 0 outs) (demands d) behind-copies) in
+    (all_before (Raw c.a) (all_outputs d 0 outs) (demands d) behind-copies) in
     let s1 = get_or outs o 0 in
     let s2 = slice_index d.implementation.outputs o in
     let same = c.keeps.outputs in

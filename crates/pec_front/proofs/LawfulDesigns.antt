@@ -1,9 +1,10 @@
 -- Boxes that were read, and that stand in order, make a lawful design.
 use Rattle.std.proofs.Common.{◌≡◌, ◌≢◌, ℕ, ◌+◌, ◌-◌, ◌*◌, ◌%◌, ◌<◌, ◌≤◌, ◌==◌, Bool, true, false, not, ◌||◌, ◌⊎◌, inl, inr, List, [], ◌∷◌, ◌++◌, map, length, get_or, drop, None, refl, sym, ◌∙◌, ap, subst, arith}
 use Rattle.std.specs.List.{All, AllPairs, Contains, list_any, list_all, position}
-use Rattle.std.proofs.lemmas.Bool.{true≢false, eqb-true, eq-eqb, and_parts}
+use Rattle.std.proofs.lemmas.Bool.{eqb-true, eq-eqb, and_parts}
 use Rattle.std.proofs.lemmas.List.{get_or_default, get_or-drop, length-drop, get_or-map, length-map}
 use Rattle.std.proofs.lemmas.List.Elements.{All-from_recursion, recursion_from_All, All-contains, Contains-append_cases}
+use Rattle.list_laws.proofs.Truths.{unnot, or_right}
 use Rattle.dq_formula.proofs.Places.{place-absent}
 use Rattle.skolem_checker.proofs.TablesLaws.{list_all-each}
 use Rattle.skolem_checker.specs.SkolemCircuit.{IsComplete}
@@ -55,14 +56,6 @@ known-grounded net complete v h =
           (All-contains (λ (g : Gate). IsGrounded net g.variable) net.gates r.0 complete.gates r.1)
     ]
 
-unnot : (b : Bool) → not b ≡ false → b ≡ true
-unnot true h = refl
-unnot false h = absurd (true≢false h)
-
-right-true : (a b : Bool) → b ≡ true → (a || b) ≡ true
-right-true true b h = refl
-right-true false b h = h
-
 -- where a search finds nothing, nothing passes
 not-found : (p : ℕ → Bool) (xs : List ℕ) → position p xs ≡ None → (i : ℕ) → i < length xs
     → p (get_or xs i 0) ≡ false
@@ -86,7 +79,7 @@ drives-any (b ∷ boxes) out inside =
       | inl here ↦
           ap (λ x. x || list_any (λ (c : BlackBox). list_any (λ o. o == out) c.outs) boxes)
           (any-contained (λ o. o == out) b.outs here.0 out here.1 here.2 (eq-eqb out out refl))
-      | inr later ↦ right-true (list_any (λ o. o == out) b.outs) _ (drives-any boxes out later)
+      | inr later ↦ or_right (list_any (λ o. o == out) b.outs) _ (drives-any boxes out later)
     ]
 
 module _ (specification implementation : Netlist) (is_spec : IsNetlist specification)

@@ -1,6 +1,6 @@
 mod AddedClauses
 mod AddedParts
-mod Choosing
+pub mod Choosing
 mod Circuits
 mod Clauses
 mod CyclicBox

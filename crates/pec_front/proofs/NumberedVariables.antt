@@ -1,5 +1,5 @@
 -- The number of a circuit's variable by its place among inputs and gates.
-use Rattle.std.proofs.Common.{◌≡◌, ℕ, zero, suc, ◌+◌, ◌-◌, ◌*◌, ◌/◌, ◌%◌, ◌<◌, ◌≤◌, ◌==◌, nat_lt, Bool, true, false, cond, not, ◌||◌, inl, inr, List, [], ◌∷◌, ◌++◌, map, length, Some, refl, sym, ◌∙◌, ap, arith}
+use Rattle.std.proofs.Common.{◌≡◌, ℕ, zero, suc, ◌+◌, ◌-◌, ◌<◌, ◌≤◌, ◌==◌, nat_lt, Bool, true, false, cond, not, ◌||◌, inl, inr, List, [], ◌∷◌, ◌++◌, map, length, Some, refl, sym, ◌∙◌, ap, arith}
 use Rattle.std.specs.List.{list_any, position_or_len}
 use Rattle.std.proofs.lemmas.Bool.{cond-true, cond-false, lt-ltb, le-ltb}
 use Rattle.std.proofs.lemmas.List.{get_or_default}
@@ -9,7 +9,7 @@ use Rattle.circuit_plain.specs.Ground.{IsGrounded}
 use Rattle.circuit_plain.specs.declared.circuits.Gate.{Gate}
 use Rattle.number_tables.specs.Numbers.{has_number, place_of}
 use Rattle.pec_front.specs.BoxLine.{variables_of}
-use Rattle.pec_front.specs.Encoding.{numbered_variable, on_number, numbered_gate}
+use Rattle.pec_front.specs.Encoding.{numbered_variable}
 use Rattle.pec_front.proofs.Numbers.{first-place}
 use Rattle.pec_front.proofs.RaisedLevels.{input-known, gate-known, no-gate}
 use Rattle.pec_front.proofs.Values.{ground_cases, sides, contained_at}
@@ -88,33 +88,6 @@ grounded-known net v positive ground =
           ∙ sym w.is in
           ap (has_number (variables_of net)) (sym is) ∙ gate-known net place w.member.1
     ]
-
--- the constant keeps its literals
-pub constant-number : (number : ℕ → ℕ) (l : ℕ) → number 0 ≡ 0 → l < 2 → l ≡ on_number number l
-constant-number number l zero-stays small =
-    let none : l / 2 ≡ 0 = omega (arith, small) in
-    let at : number (l / 2) ≡ 0 = ap number none ∙ zero-stays in
-    omega (arith, at, small)
-
--- a gate by the literals of its variable and sides
-pub gate-numbered : (net : Netlist) (number : ℕ → ℕ) (place lhs left right out a b : ℕ)
-    → ◌≡◌ {A = ℕ × ℕ × ℕ} (lhs, left, right)
-    (2 * (gate_at net place).variable, (gate_at net place).left, (gate_at net place).right)
-    → out ≡ on_number number lhs → a ≡ on_number number left → b ≡ on_number number right
-    → record { variable = out / 2; left = a; right = b } ≡ numbered_gate number (gate_at net place)
-gate-numbered net number place lhs left right out a b is is-out is-a is-b =
-    let g = gate_at net place in
-    let first : lhs ≡ 2 * g.variable = ap (λ (t : ℕ × ℕ × ℕ). t.0) is in
-    let half : lhs / 2 ≡ g.variable = omega (arith, first) in
-    let even : lhs % 2 ≡ 0 = omega (arith, first) in
-    let out-is : out / 2 ≡ number g.variable =
-    ap (λ n. n / 2) is-out ∙ (let k : on_number number lhs / 2 ≡ number (lhs / 2) = omega (arith, even) in k)
-    ∙ ap number half in
-    let a-is : a ≡ on_number number g.left = is-a ∙ ap (λ (t : ℕ × ℕ × ℕ). on_number number t.1) is in
-    let b-is : b ≡ on_number number g.right = is-b ∙ ap (λ (t : ℕ × ℕ × ℕ). on_number number t.2) is in
-    ap (λ n. record { variable = n; left = a; right = b }) out-is
-    ∙ ap (λ n. record { variable = number g.variable; left = n; right = b }) a-is
-    ∙ ap (λ n. record { variable = number g.variable; left = on_number number g.left; right = n }) b-is
 
 -- a gate's sides can be evaluated where its variable can
 pub gate-sides : (net : Netlist) → IsNetlist net → (place : ℕ) → place < length net.gates

@@ -17,7 +17,7 @@ use Rattle.pec_front.specs.BoxLine.{variables_of}
 use Rattle.pec_front.specs.Boxes.{BlackBox, StandInOrder}
 use Rattle.pec_front.specs.Latest.{ReachesBox, IsLatest, LatestShowsOrder}
 use Rattle.pec_front.specs.Reading.{IsFirstOutOfOrder}
-use Rattle.pec_front.specs.Steps.{DriveInputs, level_at, IsLevelSet, IsMarked, AreMarked, IsRaised, IsBelow, IsAbove, IsFirstAbove}
+use Rattle.pec_front.specs.Steps.{DriveInputs, level_at, IsMarked, AreMarked, IsRaised, IsBelow, IsAbove, IsFirstAbove}
 use Rattle.pec_front.proofs.Latest.{later}
 use Rattle.pec_front.proofs.Values.{contained, contained_at, any-contained}
 
@@ -73,57 +73,6 @@ pub record MarkedFirst (old new : ℕ → ℕ) (outs : List ℕ) (count level : 
   pub marked : (j : ℕ) → j < count → new (literal_variable (get_or outs j 0)) ≡ level
   pub others : (v : ℕ) → (new v ≡ old v)
       ⊎ ((new v ≡ level) × ((out : ℕ) × Contains outs out × (literal_variable out ≡ v)))
-
-pub marked-none : (old : ℕ → ℕ) (outs : List ℕ) (level : ℕ) → MarkedFirst old old outs 0 level
-marked-none old outs level = record {
-  marked = λ j below. absurd (omega (arith, below));
-  others = λ v. inl refl;
-}
-
-pub marked-more : (old now new : ℕ → ℕ) (outs : List ℕ) (k level : ℕ) → k < length outs
-    → MarkedFirst old now outs k level → IsLevelSet now new (literal_variable (get_or outs k 0)) level
-    → MarkedFirst old new outs (k + 1) level
-marked-more old now new outs k level inside before written = record { marked = marks; others = stay }
-  where
-    x : ℕ
-    x = literal_variable (get_or outs k 0)
-
-    marks : (j : ℕ) → j < k + 1 → new (literal_variable (get_or outs j 0)) ≡ level
-    marks j below = written v ∙ by (v == x) refl
-      where
-        v : ℕ
-        v = literal_variable (get_or outs j 0)
-
-        by : (b : Bool) → (v == x) ≡ b → cond b level (now v) ≡ level
-        by true e = refl
-        by false e =
-            elim (cases_lt j k) [
-              | inl early ↦ before.marked j early
-              | inr late ↦
-                  let same : j ≡ k = omega (arith, late, below) in
-                  absurd (true≢false
-                  (sym (eq-eqb v x (ap (λ n. literal_variable (get_or outs n 0)) same)) ∙ e))
-            ]
-
-    stay : (v : ℕ) → (new v ≡ old v)
-        ⊎ ((new v ≡ level) × ((out : ℕ) × Contains outs out × (literal_variable out ≡ v)))
-    stay v = by (v == x) refl
-      where
-        kept : new v ≡ now v → (new v ≡ old v)
-            ⊎ ((new v ≡ level) × ((out : ℕ) × Contains outs out × (literal_variable out ≡ v)))
-        kept e = elim (before.others v) [
-          | inl same ↦ inl (e ∙ same)
-          | inr m ↦ inr (e ∙ m.0, m.1)
-        ]
-
-        by : (b : Bool) → (v == x) ≡ b → (new v ≡ old v)
-            ⊎ ((new v ≡ level) × ((out : ℕ) × Contains outs out × (literal_variable out ≡ v)))
-        by true e =
-            inr (
-              written v ∙ cond-true (v == x) level (now v) e,
-              (get_or outs k 0, contained_at outs k 0 inside, sym (eqb-true v x e)),
-            )
-        by false e = kept (written v ∙ cond-false (v == x) level (now v) e)
 
 pub marked-all : (old new : ℕ → ℕ) (outs : List ℕ) (count level : ℕ) → length outs ≤ count
     → MarkedFirst old new outs count level → IsMarked old new outs level
@@ -205,14 +154,6 @@ pub record RaisedFirst (net : Netlist) (boxes : List BlackBox) (order : List ℕ
   pub outs : (j : ℕ) (default : BlackBox) → j < length boxes
       → All (λ out. j < levels (literal_variable out)) (get_or boxes j default).outs
   pub reached : (v place : ℕ) → place < levels v → ReachesBox net boxes v place
-
-pub raised-none : (net : Netlist) (boxes : List BlackBox) (order : List ℕ) (levels : ℕ → ℕ)
-    → AreMarked net boxes (length boxes) levels → RaisedFirst net boxes order 0 levels
-raised-none net boxes order levels marked = record {
-  gates = λ j below. absurd (omega (arith, below));
-  outs = marked.outs;
-  reached = marked.reached;
-}
 
 module _ (net : Netlist) (kept : IsNetlist net) (order : List ℕ) (ordered : IsOrder net order) where
   pub place-below : (k : ℕ) → k < length order → get_or order k 0 < length net.gates

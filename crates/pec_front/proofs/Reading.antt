@@ -1,29 +1,18 @@
 -- The copies that a driven input sees are those of what its box reads.
-use Rattle.std.proofs.Common.{◌≡◌, ℕ, suc, ◌+◌, ◌-◌, ◌*◌, ◌/◌, ◌<◌, ◌==◌, nat_lt, Bool, true, false, ◌||◌, inl, inr, List, [], ◌∷◌, ◌++◌, map, length, get_or, refl, sym, ◌∙◌, ap, arith, length-append}
+use Rattle.std.proofs.Common.{◌≡◌, ℕ, suc, ◌+◌, ◌-◌, ◌*◌, ◌/◌, ◌<◌, ◌==◌, nat_lt, Bool, true, false, ◌||◌, List, [], ◌∷◌, ◌++◌, map, length, get_or, refl, sym, ◌∙◌, ap, arith, length-append}
 use Rattle.std.specs.List.{All, Contains, list_any, range_with_len, position_or_len}
 use Rattle.std.proofs.Math.ListN.{get_or-append}
-use Rattle.std.proofs.lemmas.Bool.{true≢false, eq-eqb, eqb-true, ne_eqb, le-ltb, cond-true, cond-false, or_cases}
+use Rattle.std.proofs.lemmas.Bool.{true≢false, eq-eqb, ne_eqb, le-ltb, cond-true, cond-false}
 use Rattle.std.proofs.lemmas.List.{get_or-append-add, append_assoc}
 use Rattle.std.proofs.lemmas.List.Elements.{All-contains}
 use Rattle.std.proofs.lemmas.List.Sums.{position_or_len_is}
+use Rattle.list_laws.proofs.Members.{contains_tested}
 use Rattle.dq_lits.specs.Henkin.{same_bits}
 use Rattle.circuit_plain.specs.Netlist.{literal_bit, literal_variable}
 use Rattle.pec_front.specs.Boxes.{BlackBox, PartialDesign, bits_read, signals}
 use Rattle.pec_front.specs.Encoding.{first_copy, copies_for, driven_existential}
 use Rattle.pec_front.specs.Choices.{signal_bits, chosen_functions, ChoicesFillBoxes, ChosenBoxesFit}
-
-read-from : (m bit : ℕ → Bool) (next : ℕ) (ins : List ℕ)
-    → ((j : ℕ) → j < length ins → bit (next + j) ≡ literal_bit m (get_or ins j 0)) →
-    map bit (range_with_len next (length ins)) ≡ map (literal_bit m) ins
-read-from m bit next [] same = refl
-read-from m bit next (l ∷ ls) same =
-    let first : bit next ≡ literal_bit m l = ap bit (let e : next ≡ next + 0 = omega arith in e)
-    ∙ same 0 (omega arith) in
-    ap (λ b. b ∷ map bit (range_with_len (next + 1) (length ls))) first
-    ∙ ap (λ bs. literal_bit m l ∷ bs)
-    (read-from m bit (next + 1) ls
-    (λ j below. ap bit (let e : next + 1 + j ≡ next + suc j = omega arith in e)
-    ∙ same (suc j) (omega (arith, below))))
+use Rattle.pec_front.proofs.Choosing.{read-from}
 
 -- what is found of the box that drives a literal
 record Driver (d : PartialDesign) (bits mi : ℕ → Bool) (next : ℕ) (boxes : List BlackBox) (out : ℕ) : Type 0 where
@@ -80,14 +69,6 @@ found d bits mi (box ∷ boxes) before next out e at h =
               (copies_for (next + length ins) boxes out) is) ∙ r.reads;
         }
 
-contained : (xs : List ℕ) (v : ℕ) → list_any (λ x. x == v) xs ≡ true → Contains xs v
-contained [] v h = absurd (true≢false (sym h))
-contained (x ∷ xs) v h =
-    elim (or_cases (x == v) (list_any (λ z. z == v) xs) h) [
-      | inl here ↦ (0, omega arith, eqb-true x v here)
-      | inr later ↦ let at = contained xs v later in (suc at.0, omega (arith, at.1), at.2)
-    ]
-
 pub fit : ChoicesFillBoxes → ChosenBoxesFit
 fit fill d choice keeps all-driven lawful solves bits ms mi specified implemented filled =
     fill d choice keeps lawful solves bits ms mi specified implemented (λ i low below.
@@ -101,7 +82,7 @@ fit fill d choice keeps all-driven lawful solves bits ms mi specified implemente
     (All-contains
     (λ box. All (λ o. mi (literal_variable o) ≡ chosen_functions d choice o (bits_read mi box)) box.outs) d.boxes
     driver.box filled driver.inside)
-    (contained driver.box.outs out driver.drives) in
+    (contains_tested driver.box.outs out driver.drives) in
     let half : v ≡ out / 2 = omega arith in
     let place : position_or_len (λ x. 2 * x == out) inputs ≡ i =
     position_or_len_is (λ x. 2 * x == out) inputs i 0 (omega (arith, below))

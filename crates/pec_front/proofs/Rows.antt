@@ -1,10 +1,12 @@
 -- Boxes that stand in order fill every row.
-use Rattle.std.proofs.Common.{◌≡◌, ◌≢◌, ℕ, zero, suc, ◌+◌, ◌*◌, ◌<◌, ◌==◌, Bool, true, false, cond, inl, inr, List, [], ◌∷◌, ◌++◌, map, length, get_or, refl, sym, ◌∙◌, ap, subst, arith, length-append}
+use Rattle.std.proofs.Common.{◌≡◌, ◌≢◌, ℕ, zero, suc, ◌+◌, ◌*◌, ◌<◌, ◌==◌, Bool, true, false, cond, inl, inr, List, [], ◌∷◌, map, length, get_or, refl, sym, ◌∙◌, ap, subst, arith, length-append}
 use Rattle.std.specs.List.{All, AllPairs, Contains, list_any}
 use Rattle.std.proofs.Math.ListN.{get_or-append}
 use Rattle.std.proofs.lemmas.Bool.{true≢false, eqb-true, eq-eqb, or_cases, or_parts, cond-true, cond-false}
 use Rattle.std.proofs.lemmas.List.{get_or_default, get_or-append-add}
 use Rattle.std.proofs.lemmas.List.Elements.{All-contains, Contains-append_left, Contains-append_right}
+use Rattle.list_laws.proofs.Members.{in_one_part}
+use Rattle.list_laws.proofs.Quantified.{right-distinct}
 use Rattle.circuit_plain.specs.Netlist.{Netlist, literal_bit, literal_variable}
 use Rattle.circuit_plain.specs.Ground.{IsGrounded}
 use Rattle.circuit_plain.specs.Reach.{Reaches}
@@ -35,19 +37,6 @@ drives-contained (box ∷ boxes) out h =
           (subst (λ (n : ℕ). Contains box.outs n) (eqb-true r.0 out r.2) r.1)
       | inr later ↦ Contains-append_right box.outs (driven boxes) out (drives-contained boxes out later)
     ]
-
--- what stands in the first part of a list without repetition does not stand in the second
-pub apart : (xs ys : List ℕ) (v : ℕ) → AllPairs (λ a b. a ≢ b) (xs ++ ys) → Contains xs v → Contains ys v → ⊥
-apart xs ys v once (i, i_in, ei) (j, j_in, ej) =
-    let long = length-append xs ys in
-    once i (length xs + j) v (omega (arith, i_in)) (omega (arith, j_in, long))
-    (get_or-append xs ys v i i_in ∙ ei ∙ sym (get_or-append-add xs ys j v ∙ ej))
-
-pub second-once : (xs ys : List ℕ) → AllPairs (λ a b. a ≢ b) (xs ++ ys) → AllPairs (λ a b. a ≢ b) ys
-second-once xs ys once i j d less below e =
-    let long = length-append xs ys in
-    once (length xs + i) (length xs + j) d (omega (arith, less)) (omega (arith, below, long))
-    (get_or-append-add xs ys i d ∙ e ∙ sym (get_or-append-add xs ys j d))
 
 -- what a box reads reaches nothing that the boxes from it on drive
 pub reaches-none : (net : Netlist) (box : BlackBox) (boxes rest : List BlackBox)
@@ -142,7 +131,7 @@ grow w h box rest bits once ordered ground later = record {
         none : (b : Bool) → drives rest (2 * get_or inputs i 0) ≡ b → drives rest (2 * get_or inputs i 0) ≡ false
         none false f = f
         none true f =
-            absurd (apart box.outs (driven rest) out once inside
+            absurd (in_one_part box.outs (driven rest) out once inside
             (subst (λ (n : ℕ). Contains (driven rest) n) (sym e) (drives-contained rest (2 * get_or inputs i 0) f)))
 
     filled : (one : BlackBox) → Contains (box ∷ rest) one → (out : ℕ) → Contains one.outs out → (i : ℕ) → out
@@ -162,7 +151,7 @@ fills w h [] bits once ordered ground = record {
   filled = λ box inside. absurd (let below = inside.1 in omega (arith, below));
 }
 fills w h (box ∷ rest) bits once ordered ground = grow w h box rest bits once ordered ground
-    (fills w h rest (given w h box bits) (second-once box.outs (driven rest) once)
+    (fills w h rest (given w h box bits) (right-distinct box.outs (driven rest) once)
     (λ i j d less below. ordered (suc i) (suc j) d (omega (arith, less)) (omega (arith, below)))
     (λ k d below.
     let long = length-append box.ins (signals rest) in

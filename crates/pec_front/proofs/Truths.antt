@@ -1,9 +1,10 @@
 -- Clauses over circuit literals are true where gates and flags have their values, and then the formula's are.
-use Rattle.std.proofs.Common.{◌≡◌, ◌≢◌, ℕ, suc, ◌*◌, ◌<◌, ◌==◌, Bool, true, false, not, cond, ◌&&◌, ◌||◌, ◌⊎◌, inl, inr, List, [], ◌∷◌, ◌++◌, map, length, get_or, Option, Some, None, refl, sym, ◌∙◌, ap, arith}
+use Rattle.std.proofs.Common.{◌≡◌, ℕ, suc, ◌*◌, ◌<◌, ◌==◌, Bool, true, false, not, cond, ◌&&◌, ◌||◌, ◌⊎◌, inl, inr, List, [], ◌∷◌, ◌++◌, map, length, get_or, Option, Some, None, refl, sym, ◌∙◌, ap, arith}
 use Rattle.std.specs.List.{All, AllByRecursion, list_any, filter, filter_map, flat_map, cons_option}
 use Rattle.std.specs.Option.{option_map}
-use Rattle.std.proofs.lemmas.Bool.{true≢false, eqb-true, eq-eqb, or_cases, or_left, or_right, or_parts}
+use Rattle.std.proofs.lemmas.Bool.{true≢false, eqb-true, or_cases, or_left, or_right, or_parts}
 use Rattle.std.proofs.lemmas.List.Elements.{All-cons, All-nil}
+use Rattle.list_laws.proofs.Truths.{and_first, and_second, and_third, unequal}
 use Rattle.dq_lits.specs.Literal.{Assignment, Literal, literal_true, clause_true}
 use Rattle.dq_lits.specs.Henkin.{same_bit}
 use Rattle.circuit_plain.specs.Netlist.{literal_bit}
@@ -15,27 +16,6 @@ use Rattle.pec_front.proofs.Distinct.{distinct-truth}
 use Rattle.pec_front.proofs.Clauses.{with_constant, raw_true, opposite-bit, plain-literal}
 use Rattle.pec_front.proofs.Circuits.{even-bit, seen_by, on_number-bit}
 use Rattle.pec_front.proofs.Fitting.{Raw}
-
-gate-first : (x y z : Bool) → x ≡ (y && z) → (not x || (y || false)) ≡ true
-gate-first x true z e = or-true (not x)
-  where
-    or-true : (b : Bool) → (b || (true || false)) ≡ true
-    or-true true = refl
-    or-true false = refl
-gate-first true false z e = absurd (true≢false e)
-gate-first false false z e = refl
-
-gate-second : (x y z : Bool) → x ≡ (y && z) → (not x || (z || false)) ≡ true
-gate-second false y z e = refl
-gate-second true y true e = refl
-gate-second true true false e = absurd (true≢false e)
-gate-second true false false e = absurd (true≢false e)
-
-gate-third : (x y z : Bool) → x ≡ (y && z) → (x || (not y || (not z || false))) ≡ true
-gate-third true y z e = refl
-gate-third false true true e = absurd (true≢false (sym e))
-gate-third false true false e = refl
-gate-third false false z e = refl
 
 pub gate-true : (number : ℕ → ℕ) (m : Assignment) (g : Gate) → seen_by number m g.variable
     ≡ (literal_bit (seen_by number m) g.left && literal_bit (seen_by number m) g.right) →
@@ -54,14 +34,14 @@ gate-true number m g is =
     let x = n (number g.variable) in
     let y = literal_bit (seen_by number m) g.left in
     let z = literal_bit (seen_by number m) g.right in (
-      ap (λ p. p || (literal_bit n a || false)) not-out ∙ ap (λ p. not x || (p || false)) bit-a ∙ gate-first x y z is,
+      ap (λ p. p || (literal_bit n a || false)) not-out ∙ ap (λ p. not x || (p || false)) bit-a ∙ and_first x y z is,
       (
         ap (λ p. p || (literal_bit n b || false)) not-out ∙ ap (λ p. not x || (p || false)) bit-b
-            ∙ gate-second x y z is,
+            ∙ and_second x y z is,
         (
           ap (λ p. p || (literal_bit n (opposite_of a) || (literal_bit n (opposite_of b) || false))) bit-out
               ∙ ap (λ p. x || (p || (literal_bit n (opposite_of b) || false))) not-a
-              ∙ ap (λ p. x || (not y || (p || false))) not-b ∙ gate-third x y z is,
+              ∙ ap (λ p. x || (not y || (p || false))) not-b ∙ and_third x y z is,
           tt,
         ),
       ),
@@ -133,9 +113,6 @@ pub join-each : {X Y : Type 0} (P : Y → Type 0) (f : X → List Y) (xs : List 
 join-each P f [] each = tt
 join-each P f (x ∷ xs) each = join-parts P (f x) (flat_map f xs) (each 0 x (omega arith))
     (join-each P f xs (λ k d below. each (suc k) d (omega (arith, below))))
-
-unequal : (a b : ℕ) → (a == b) ≡ false → a ≢ b
-unequal a b h same = true≢false (sym (eq-eqb a b same) ∙ h)
 
 zero-false : (m : Assignment) (l : ℕ) → (l == 0) ≡ true → literal_bit (with_constant m) l ≡ false
 zero-false m l e = let none : literal_bit (with_constant m) 0 ≡ false = refl in ap (literal_bit (with_constant m))

@@ -2,8 +2,9 @@
 use Rattle.std.proofs.Common.{◌≡◌, ◌≢◌, ℕ, suc, ◌+◌, ◌-◌, ◌*◌, ◌/◌, ◌%◌, ◌<◌, ◌≤◌, ◌==◌, nat_lt, Bool, true, false, not, cond, inl, inr, List, [], ◌∷◌, ◌++◌, map, length, get_or, Some, None, refl, sym, ◌∙◌, ap, subst, arith}
 use Rattle.std.specs.List.{All, AllByRecursion, Contains, list_any, filter, filter_map, flat_map, cons_option, range_with_len}
 use Rattle.std.specs.Option.{option_map}
-use Rattle.std.proofs.lemmas.Bool.{true≢false, eqb-true, eq-eqb, or_parts, cond-true, cond-false, ltb-true, ltb-false}
+use Rattle.std.proofs.lemmas.Bool.{eqb-true, or_parts, cond-true, cond-false, ltb-true, ltb-false}
 use Rattle.std.proofs.lemmas.List.Elements.{All-from_recursion, recursion_from_All, All-map}
+use Rattle.list_laws.proofs.Truths.{unequal}
 use Rattle.dq_lits.specs.Literal.{Literal, positive, negative, variable_of}
 use Rattle.circuit_plain.specs.Netlist.{Netlist, literal_negated}
 use Rattle.circuit_plain.specs.declared.circuits.Gate.{Gate}
@@ -29,9 +30,6 @@ SmallClause end clause = AllByRecursion (Small end) clause
 
 abbrev Within : ℕ → Literal → Type 0
 Within end l = (1 ≤ variable_of l) × (variable_of l < end)
-
-unequal : (a b : ℕ) → (a == b) ≡ false → a ≢ b
-unequal a b h same = true≢false (sym (eq-eqb a b same) ∙ h)
 
 opposite-small : (end l : ℕ) → Small end l → Small end (opposite_of l)
 opposite-small end l small = by (l % 2 == 1) refl

@@ -109,15 +109,6 @@ IsRaised net place old new =
     let g = gate_at net place in
     IsLevelSet old new g.variable (max (old (left_variable g)) (old (right_variable g)))
 
--- the gates at these places are no lower than what they read
-pub record AreRaised (net : Netlist) (boxes : List BlackBox) (places : List ℕ)
-    (levels : ℕ → ℕ) : Type 0 where
-  pub gates : All (λ p. (levels (left_variable (gate_at net p)) ≤ levels (gate_at net p).variable)
-      × (levels (right_variable (gate_at net p)) ≤ levels (gate_at net p).variable)) places
-  pub outs : (j : ℕ) (default : BlackBox) → j < length boxes
-      → All (λ out. j < levels (literal_variable out)) (slice_index_or boxes j default).outs
-  pub reached : (v place : ℕ) → place < levels v → ReachesBox net boxes v place
-
 -- no literal that the box at a place reads has a level above the place
 abbrev pub IsBelow : (ℕ → ℕ) → List BlackBox → ℕ → Type 0
 IsBelow levels boxes i =

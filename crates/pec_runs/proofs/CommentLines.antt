@@ -1,9 +1,10 @@
 -- A comment's lines have numbers that fit.
-use Rattle.std.proofs.Common.{◌≡◌, ℕ, ◌+◌, ◌<◌, ◌≤◌, ◌^◌, ◌==◌, Bool, true, false, cond, List, [], ◌∷◌, ◌++◌, length, Option, None, Some, refl, ap, subst, arith}
+use Rattle.std.proofs.Common.{◌≡◌, ℕ, ◌+◌, ◌<◌, ◌≤◌, ◌^◌, ◌==◌, Bool, true, false, cond, List, [], ◌∷◌, ◌++◌, length, Option, None, Some, ap, subst, arith}
 use Rattle.std.specs.List.{AllByRecursion}
 use Rattle.aiger_text.specs.CommentLine.{IsBehindMark, IsCommentLine}
 use Rattle.aiger_text.specs.declared.files.ReadCircuit.{ReadCircuit}
 use Rattle.dq_text.specs.Line.{TextLine, extend_line, lines_from}
+use Rattle.dq_text.proofs.TokenLines.{line_head}
 use Rattle.pec_front.specs.Reading.{IsNumbered, CanNumber}
 use Rattle.pec_runs.specs.DesignFiles.{max_circuit}
 
@@ -11,19 +12,6 @@ use Rattle.pec_runs.specs.DesignFiles.{max_circuit}
 abbrev Begins : ℕ → List TextLine → Type 0
 Begins n [] = Unit {0}
 Begins n (line ∷ lines) = line.number ≡ n
-
-begins : (n : ℕ) (bytes : List ℕ) → Begins n (lines_from n bytes)
-begins n [] = tt
-begins n (byte ∷ bytes) = by (byte == 10)
-  where
-    extended : (lines : List TextLine) → Begins n (extend_line byte n lines)
-    extended [] = refl
-    extended (line ∷ lines) = refl
-
-    by : (b : Bool) → Begins n (cond b (record { text = []; number = n; behind = bytes } ∷ lines_from (n + 1) bytes)
-        (extend_line byte n (lines_from n bytes)))
-    by true = refl
-    by false = extended (lines_from n bytes)
 
 -- a line's number, and what is behind it
 abbrev Fits : ℕ → TextLine → Type 0
@@ -34,7 +22,7 @@ lines-fit : (n : ℕ) (bytes : List ℕ) (bound : ℕ) → n + length bytes ≤ 
 lines-fit n [] bound low = tt
 lines-fit n (byte ∷ bytes) bound low =
     by (byte == 10) (lines-fit (n + 1) bytes bound (omega (arith, low)))
-    (lines-fit n bytes bound (omega (arith, low))) (begins n bytes)
+    (lines-fit n bytes bound (omega (arith, low))) (line_head n bytes)
   where
     extended : (lines : List TextLine) → AllByRecursion (Fits bound) lines → Begins n lines
         → AllByRecursion (Fits bound) (extend_line byte n lines)

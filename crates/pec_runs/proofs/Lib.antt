@@ -1,4 +1,3 @@
 mod CommentLines
-mod Complete
 mod Readings
 mod TwoFiles

@@ -1,43 +1,25 @@
 -- What is read of one file behind another.
-use Rattle.std.proofs.Common.{◌≡◌, ◌≢◌, inl, inr, ℕ, ◌+◌, ◌<◌, ◌≤◌, List, Result, Ok, Err, length, refl, sym, ◌∙◌, ap, subst, arith}
+use Rattle.std.proofs.Common.{◌≡◌, inl, inr, ℕ, List, Result, Ok, Err, sym, ◌∙◌, ap, subst, arith}
 use Rattle.std.specs.Prelude.{IfOk}
-use Rattle.std.proofs.Math.Nat.{lt_of_not-le}
 use Rattle.aiger_text.specs.CommentLine.{IsCommentLine}
 use Rattle.aiger_text.specs.Grammar.{SpellsCircuit}
 use Rattle.aiger_text.specs.declared.files.AagFile.{AagFile}
 use Rattle.aiger_text.specs.declared.files.ReadCircuit.{ReadCircuit}
 use Rattle.dq_io.specs.Causes.{next_count, Rose}
-use Rattle.dq_io.specs.Files.{Holding, Holds, Untold, Absent}
+use Rattle.dq_io.specs.Files.{Absent}
 use Rattle.dq_io.specs.State.{FilesState}
 use Rattle.dq_lits.specs.Formula.{Dqbf}
 use Rattle.dq_lits.specs.declared.memory.Memory.{Memory as OutOfMemory}
-use Rattle.dq_runs.specs.FileTexts.{IsLong, IsTextOf, IsShortText, IsUnreadable, IsTooLong, PickedOnce, PickedTwice}
+use Rattle.dq_runs.specs.FileTexts.{IsLong, IsShortText, IsUnreadable, IsTooLong, PickedOnce, PickedTwice}
 use Rattle.dq_runs.specs.Printed.{Printed, printed}
 use Rattle.dq_runs.specs.declared.outputs.Output.{Output}
-use Rattle.pec_runs.specs.DesignFiles.{max_circuit, IsNoDesign, IsDesignFormula, IsDesignRead, IsUnreadableStop, design_line}
+use Rattle.pec_runs.specs.DesignFiles.{max_circuit, IsNoDesign, IsDesignFormula, IsDesignRead}
 use Rattle.pec_runs.specs.Encoded.{IsEncodeOutput, printed_formula}
 use Rattle.pec_runs.specs.DesignTexts.{IsTextReading, spec_spelled, spec_faulty, no_room_for_spec, IsImplementationReading, imp_spelled, imp_faulty, no_room_for_imp, IsCircuitReading, circuits_make, design_refused, no_room_for_design}
-use Rattle.pec_runs.specs.TextFiles.{IsStopped, IsUnreadableText, IsReadBehind}
+use Rattle.pec_runs.specs.TextFiles.{IsStopped, IsReadBehind}
 use Rattle.pec_runs.specs.declared.designs.DesignStop.{DesignStop}
 use Rattle.pec_runs.specs.declared.designs.DesignStop.TheVariants.{Memory, Said}
-use Rattle.pec_runs.specs.declared.designs.NoDesign.{NoDesign}
-use Rattle.pec_runs.specs.declared.designs.NoDesign.TheVariants.{Unreadable, LongSpec, LongImp, RefusedSpec, RefusedImp}
-
--- a text that was read is the file's
-pub told-text : (holding : Holding) (text : List ℕ) → ((bytes : List ℕ) → holding ≡ Holds bytes → text ≡ bytes)
-    → (holding ≡ Absent → ⊥) → IsTextOf holding text
-told-text Untold text is there = tt
-told-text Absent text is there = there refl
-told-text (Holds bytes) text is there = is bytes refl
-
--- the first file stops the reading
-pub spec-stopped : (before now : FilesState) (spec imp : List ℕ) (stop : DesignStop)
-    → IsStopped before now spec LongSpec stop → IsDesignRead before now spec imp (Err stop)
-spec-stopped before now spec imp Memory is = tt
-spec-stopped before now spec imp (Said said) (inl u) =
-    subst (IsNoDesign before now spec imp) (sym u.0) (inl (u.1, u.2))
-spec-stopped before now spec imp (Said said) (inr l) =
-    subst (IsNoDesign before now spec imp) (sym l.0) (l.1, l.2)
+use Rattle.pec_runs.specs.declared.designs.NoDesign.TheVariants.{LongImp}
 
 -- the first file was read between these states
 pub record Passes (before now : FilesState) : Type 0 where
@@ -138,19 +120,6 @@ read-both before mid now spec imp text r passes short (inr is) =
     subst (IsDesignRead before now spec imp) (sym is.1)
     (imp-stopped before mid now spec imp text is.0 passes short is.2)
 
--- a text that wasn't told to be too long
-pub is-short : (given count : ℕ) → given ≡ count → (max_circuit < given → ⊥) → count ≤ max_circuit
-is-short given count same not-long =
-    let h : count < max_circuit + 1 =
-    lt_of_not-le {n = max_circuit + 1} {m = count} (λ more. not-long (omega (arith, more, same))) in omega (arith, h)
-
--- one that was
-pub is-long : (holding : Holding) (given : ℕ) → ((bytes : List ℕ) → holding ≡ Holds bytes → given ≤ length bytes)
-    → (holding ≡ Absent → ⊥) → max_circuit < given → IsLong max_circuit holding
-is-long Untold given most there long = tt
-is-long Absent given most there long = there refl
-is-long (Holds bytes) given most there long = let high = most bytes refl in omega (arith, high, long)
-
 -- ---- what is written
 
 status-of : (output : Output) (p : Printed) → printed output ≡ p → output.status ≡ p.status
@@ -165,41 +134,3 @@ formula-written before now spec imp f (Ok output) is unfaulted same = record {
   unfaulted = λ other. unfaulted;
 }
 formula-written before now spec imp f (Err e) is unfaulted same = tt
-
--- a refusal that isn't of a length has another status, and the second file is the last that was read
-given-more : (before now : FilesState) (spec imp : List ℕ) (said : NoDesign) → IsNoDesign before now spec imp said
-    → (design_line said).status ≡ 6 → max_circuit < now.given
-given-more before now spec imp Unreadable is six = absurd (omega (arith, six))
-given-more before now spec imp LongSpec is six = is.0.given
-given-more before now spec imp LongImp is six = is.1.given
-given-more before now spec imp (RefusedSpec line name) is six = absurd (omega (arith, six))
-given-more before now spec imp (RefusedImp line name) is six = absurd (omega (arith, six))
-
-pub refusal-written : (before now : FilesState) (spec imp : List ℕ) (said : NoDesign) (r : Result Output OutOfMemory)
-    → IsNoDesign before now spec imp said → (said ≢ Unreadable → now.faults ≡ before.faults)
-    → IfOk r (λ output. printed output ≡ design_line said) → IfOk r (IsEncodeOutput before now spec imp)
-refusal-written before now spec imp said (Ok output) is unfaulted same =
-    let status = status-of output (design_line said) same in
-    record {
-      due = inl (said, is, same);
-      long = λ six. given-more before now spec imp said is (sym status ∙ six);
-      unfaulted = λ other. unfaulted (λ unreadable. other (status ∙ ap (λ s. (design_line s).status) unreadable));
-    }
-refusal-written before now spec imp said (Err e) is unfaulted same = tt
-
--- a file that couldn't be read is said to be so
-pub not-unreadable : (r : Result Dqbf DesignStop) (said : NoDesign) → r ≡ Err (Said said) → said ≢ Unreadable
-    → IsUnreadableStop r → ⊥
-not-unreadable r said is other stop =
-    by said other (subst IsUnreadableStop is stop)
-  where
-    by : (s : NoDesign) → s ≢ Unreadable → IsUnreadableStop (Err (Said s)) → ⊥
-    by Unreadable apart stop = apart refl
-    by LongSpec apart stop = stop
-    by LongImp apart stop = stop
-    by (RefusedSpec line name) apart stop = stop
-    by (RefusedImp line name) apart stop = stop
-
-pub text-unreadable : (stop : DesignStop) → IsUnreadableText (Err stop) → IsUnreadableStop (Err stop)
-text-unreadable Memory is = is
-text-unreadable (Said said) is = subst (λ s. IsUnreadableStop (Err (Said s))) (sym is) tt

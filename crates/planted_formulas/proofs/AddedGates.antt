@@ -1,5 +1,5 @@
 -- What a gate more adds to the formula, and what the formula keeps meanwhile.
-use Rattle.std.proofs.Common.{◌≡◌, ◌∙◌, ◌+◌, ◌*◌, ◌<◌, ◌≤◌, ◌==◌, ◌%◌, ◌/◌, ◌||◌, ℕ, zero, suc, Bool, cond, true, false, refl, sym, ap, subst, arith, List, [], ◌∷◌, ◌++◌, map, length, eqb-true}
+use Rattle.std.proofs.Common.{◌≡◌, ◌∙◌, ◌+◌, ◌*◌, ◌<◌, ◌≤◌, ◌==◌, ◌%◌, ◌/◌, ◌||◌, ℕ, zero, suc, Bool, cond, true, false, refl, sym, ap, subst, arith, List, [], ◌∷◌, ◌++◌, map, length}
 use Rattle.std.specs.List.{All, Contains, flat_map, list_any, range_with_len}
 use Rattle.std.proofs.Math.Nat.{mod-lt}
 use Rattle.std.proofs.Math.ListN.{get_or}
@@ -9,11 +9,14 @@ use Rattle.std.proofs.lemmas.List.Elements.{All-nil, All-cons, All-map, All-appe
 use Rattle.std.proofs.lemmas.List.Folds.{list_any_none}
 use Rattle.std.proofs.lemmas.List.FromFn.{map-range_with_len_more, length-map-range_with_len}
 use Rattle.std.proofs.lemmas.Grind.{flat_map-append}
+use Rattle.list_laws.proofs.Folds.{below-differs}
+use Rattle.list_laws.proofs.Members.{contains-range_from_one}
+use Rattle.list_laws.proofs.Truths.{or_right}
 use Rattle.dq_lits.specs.Formula.{Existential, Dqbf, declared, is_universal}
 use Rattle.dq_formula.specs.Prefix.{is_declared}
 use Rattle.planted_formulas.specs.Planted.{next_state, state_after, drawn, other_than, next_gate, planted_gate, planted_gates, gate_clauses, and_clauses, xor_clauses, gate_existential, formula_of_gates}
 use Rattle.planted_formulas.specs.declared.gates.PlantedGate.{PlantedGate}
-use Rattle.planted_formulas.proofs.Lists.{all_range, range_more, from_one}
+use Rattle.planted_formulas.proofs.Lists.{all_range, range_more}
 
 -- what holds of every planted gate holds of those before a place
 pub all_gates : (P : PlantedGate → Type 0) (seed n count : ℕ) → ((i : ℕ) → i < count → P (planted_gate seed n i)) →
@@ -98,23 +101,12 @@ outputs_small seed n place =
     (planted_gates seed n place)
     (all_gates (λ g. g.output < n + 1 + place) seed n place (λ i below. omega (arith, below))))
 
-not_same : (x y : ℕ) → x < y → (x == y) ≡ false
-not_same x y less = go (x == y) refl
-  where
-    go : (b : Bool) → (x == y) ≡ b → b ≡ false
-    go false is = refl
-    go true is = let same = eqb-true x y is in absurd (omega (arith, less, same))
-
 pub same_number : (x y : ℕ) → x ≡ y → (x == y) ≡ true
 same_number x y is = go (x == y) refl
   where
     go : (b : Bool) → (x == y) ≡ b → b ≡ true
     go true by = refl
     go false by = absurd (eqb-false x y by is)
-
-or_right : (a b : Bool) → b ≡ true → (a || b) ≡ true
-or_right true b by = refl
-or_right false b by = by
 
 among : (x : ℕ) (xs : List ℕ) → Contains xs x → list_any (λ u. u == x) xs ≡ true
 among x [] (k, below, is) = absurd (omega (arith, below))
@@ -123,7 +115,7 @@ among x (y ∷ ys) (suc k, below, is) = or_right (y == x) (list_any (λ u. u == 
     (among x ys (k, omega (arith, below), is))
 
 differ : (y : ℕ) (xs : List ℕ) → All (λ x. x < y) xs → All (λ x. (x == y) ≡ false) xs
-differ y xs less k d below = not_same (get_or xs k d) y (less k d below)
+differ y xs less k d below = below-differs (get_or xs k d) y (less k d below)
 
 pub undeclared : (variables seed n place y : ℕ) → y ≡ n + 1 + place →
     is_declared (formula_of_gates variables n (planted_gates seed n place)) y ≡ false
@@ -137,7 +129,7 @@ undeclared variables seed n place y is =
 
 pub universal : (variables n : ℕ) (gates : List PlantedGate) (x : ℕ) → 1 ≤ x → x ≤ n →
     is_universal (formula_of_gates variables n gates) x ≡ true
-universal variables n gates x one most = among x (range_with_len 1 n) (from_one n x one most)
+universal variables n gates x one most = among x (range_with_len 1 n) (contains-range_from_one n x one most)
 
 -- ---- clauses
 

@@ -1,6 +1,6 @@
 -- Ranges of numbers, and what is in them.
-use Rattle.std.proofs.Common.{◌≡◌, ◌+◌, ◌<◌, ◌≤◌, ◌∙◌, ℕ, zero, suc, Bool, cond, true, false, refl, ap, subst, arith, List, [], ◌∷◌, ◌++◌, map}
-use Rattle.std.specs.List.{All, Contains, filter, flat_map, range_with_len}
+use Rattle.std.proofs.Common.{◌≡◌, ◌+◌, ◌<◌, ◌∙◌, ℕ, zero, suc, ap, subst, arith, List, [], ◌∷◌, ◌++◌}
+use Rattle.std.specs.List.{All, flat_map, range_with_len}
 use Rattle.std.proofs.lemmas.List.Elements.{All-nil, All-cons, All-append}
 
 pub all_range : (P : ℕ → Type 0) (a n : ℕ) → ((i : ℕ) → i < n → P (a + i)) → All P (range_with_len a n)
@@ -18,45 +18,6 @@ range_more a (suc n) =
     let last : a + 1 + n ≡ a + suc n = omega arith in
     ap (range_with_len a) step ∙ ap (λ xs. a ∷ xs) (range_more (a + 1) n ∙ ap
     (λ x. range_with_len (a + 1) n ++ x ∷ []) last)
-
-pub in_range : (a n p : ℕ) → p < n → Contains (range_with_len a n) (a + p)
-in_range a zero p h = absurd (omega arith)
-in_range a (suc n) zero h = (0, omega arith, omega arith)
-in_range a (suc n) (suc p) h =
-    let e : a + 1 + p ≡ a + suc p = omega arith in
-    let r = subst (Contains (range_with_len (a + 1) n)) e (in_range (a + 1) n p (omega arith)) in
-    let b = r.1 in
-    (suc r.0, omega arith, r.2)
-
--- a number from 1 to n
-pub from_one : (n x : ℕ) → 1 ≤ x → x ≤ n → Contains (range_with_len 1 n) x
-from_one n zero one most = absurd (omega (arith, one))
-from_one n (suc p) one most =
-    let e : 1 + p ≡ suc p = omega arith in
-    subst (Contains (range_with_len 1 n)) e (in_range 1 n p (omega (arith, most)))
-
-at_head : {X : Type 0} (x : X) (rest : List X) (b : Bool) → b ≡ true → Contains (cond b (x ∷ rest) rest) x
-at_head x rest true by = (0, omega arith, refl)
-at_head x rest false by = cc
-
-behind_head : {X : Type 0} (x y : X) (rest : List X) (b : Bool) → Contains rest x → Contains (cond b (y ∷ rest) rest) x
-behind_head x y rest true (k, below, is) = (suc k, omega (arith, below), is)
-behind_head x y rest false found = found
-
-pub filter_keeps : {X : Type 0} (p : X → Bool) (xs : List X) (x : X) → p x ≡ true → Contains xs x →
-    Contains (filter p xs) x
-filter_keeps p [] x by (k, below, is) = absurd (omega arith)
-filter_keeps p (y ∷ ys) x by (zero, below, is) =
-    subst (Contains (filter p (y ∷ ys))) is (at_head y (filter p ys) (p y) (ap p is ∙ by))
-filter_keeps p (y ∷ ys) x by (suc k, below, is) =
-    behind_head x y (filter p ys) (p y) (filter_keeps p ys x by (k, omega (arith, below), is))
-
-pub contains_map : {X Y : Type 0} (f : X → Y) (xs : List X) (x : X) → Contains xs x → Contains (map f xs) (f x)
-contains_map f [] x (k, below, is) = absurd (omega (arith, below))
-contains_map f (y ∷ ys) x (zero, below, is) = (0, omega arith, ap f is)
-contains_map f (y ∷ ys) x (suc k, below, is) =
-    let (place, within, found) = contains_map f ys x (k, omega (arith, below), is) in
-    (suc place, omega (arith, within), found)
 
 pub all_flat_map : {X Y : Type 0} (P : Y → Type 0) (h : X → List Y) (xs : List X) → All (λ x. All P (h x)) xs →
     All P (flat_map h xs)

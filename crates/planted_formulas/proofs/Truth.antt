@@ -2,13 +2,15 @@
 use Rattle.std.proofs.Common.{◌≡◌, ◌∙◌, ◌+◌, ◌-◌, ◌<◌, ◌≤◌, ◌==◌, ◌&&◌, ◌||◌, ℕ, Bool, cond, true, false, not, refl, sym, ap, subst, arith, List, [], ◌∷◌, map}
 use Rattle.std.specs.List.{All, Contains, list_any, range_with_len}
 use Rattle.std.proofs.lemmas.List.Elements.{All-map, All-contains, Contains-append_left, Contains-append_right}
+use Rattle.list_laws.proofs.Members.{contains_map, filter_keeps, place_within, contains-range_from_one}
+use Rattle.list_laws.proofs.Truths.{and_first, and_second, and_third}
 use Rattle.dq_lits.specs.Literal.{Assignment, Literal, clause_true, positive, negative, variable_of}
 use Rattle.dq_lits.specs.Formula.{Existential, Dqbf, HasLawfulPrefix, IsWellFormed, declared}
 use Rattle.dq_lits.specs.Skolem.{OutputFunction, IsSupported, AreSkolemFunctions}
 use Rattle.dq_formula.specs.Dependencies.{listed_universals}
 use Rattle.planted_formulas.specs.Planted.{planted_gate, planted_gates, gate_clauses, and_clauses, xor_clauses, gate_existential, planted_formula}
 use Rattle.planted_formulas.specs.declared.gates.PlantedGate.{PlantedGate}
-use Rattle.planted_formulas.proofs.Lists.{in_range, from_one, filter_keeps, contains_map, all_flat_map, all_two, all_three, all_four}
+use Rattle.planted_formulas.proofs.Lists.{all_flat_map, all_two, all_three, all_four}
 use Rattle.planted_formulas.proofs.AddedGates.{all_gates, sides_range, same_number}
 
 abbrev xor : Bool → Bool → Bool
@@ -37,9 +39,9 @@ gate_reads n g left right =
     let sees = listed_universals (range_with_len 1 n) (g.left ∷ g.right ∷ []) in
     let is_listed : ℕ → Bool = λ u. list_any (λ x. x == u) (g.left ∷ g.right ∷ []) in
     let first = filter_keeps is_listed (range_with_len 1 n) g.left (first_listed g.left g.right)
-    (from_one n g.left left.0 left.1) in
+    (contains-range_from_one n g.left left.0 left.1) in
     let second = filter_keeps is_listed (range_with_len 1 n) g.right (second_listed g.left g.right)
-    (from_one n g.right right.0 right.1) in
+    (contains-range_from_one n g.right right.0 right.1) in
     all_two (Contains sees) g.left g.right first second
   where
     first_listed : (a b : ℕ) → list_any (λ x. x == a) (a ∷ b ∷ []) ≡ true
@@ -53,23 +55,6 @@ gate_reads n g left right =
     second_listed a b = ap (λ t. (a == b) || (t || false)) (same_number b b refl) ∙ or_true (a == b)
 
 -- ---- a gate's clauses are true where its variable has its value
-
-and_first : (y a b : Bool) → y ≡ (a && b) → (not y || (a || false)) ≡ true
-and_first false a b is = refl
-and_first true true b is = refl
-and_first true false b is = cc
-
-and_second : (y a b : Bool) → y ≡ (a && b) → (not y || (b || false)) ≡ true
-and_second false a b is = refl
-and_second true a true is = refl
-and_second true true false is = cc
-and_second true false false is = cc
-
-and_third : (y a b : Bool) → y ≡ (a && b) → (y || (not a || (not b || false))) ≡ true
-and_third true a b is = refl
-and_third false false b is = refl
-and_third false true false is = refl
-and_third false true true is = cc
 
 xor_first : (y a b : Bool) → y ≡ xor a b → (not y || (a || (b || false))) ≡ true
 xor_first false a b is = refl
@@ -145,7 +130,7 @@ value_at seed n count i m below follows =
     (planted_gate seed n i)
     (contains_map (planted_gate seed n) (range_with_len 0 count) i
     (let same : 0 + i ≡ i = omega arith in subst (Contains (range_with_len 0 count)) same
-    (in_range 0 count i below))) in
+    (place_within 0 count i below))) in
     contained (λ y. m y.variable ≡ (planted_function seed n y).value m) (existentials seed n count)
     (gate_existential (range_with_len 1 n) (planted_gate seed n i)) follows found
     ∙ ap (λ g. gate_value g m) (own_gate seed n i)
@@ -206,14 +191,14 @@ planted_bound seed size =
     let (left, right) = sides_range seed (size + 1) i (omega arith) in
     let side : (x : ℕ) → 1 ≤ x → x ≤ size + 1 → Contains (declared f) x = λ x one most.
     Contains-append_left f.universals (map (λ (y : Existential). y.variable) f.existentials) x
-    (from_one (size + 1) x one most) in
+    (contains-range_from_one (size + 1) x one most) in
     let output : Contains (declared f) g.output =
     Contains-append_right f.universals (map (λ (y : Existential). y.variable) f.existentials) g.output
     (contains_map (λ (y : Existential). y.variable) f.existentials (gate_existential (range_with_len 1 (size + 1)) g)
     (contains_map (gate_existential (range_with_len 1 (size + 1))) (planted_gates seed (size + 1) size) g
     (contains_map (planted_gate seed (size + 1)) (range_with_len 0 size) i
     (let same : 0 + i ≡ i = omega arith in subst (Contains (range_with_len 0 size)) same
-    (in_range 0 size i below))))) in
+    (place_within 0 size i below))))) in
     clauses_bound (declared f) g.output g.left g.right output (side g.left left.0 left.1)
     (side g.right right.0 right.1) g.is_xor))
 

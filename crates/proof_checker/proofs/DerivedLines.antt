@@ -1,10 +1,11 @@
 -- Items that are judged one after another.
-use Rattle.std.proofs.Common.{◌≡◌, ℕ, zero, suc, ◌+◌, ◌<◌, ◌≤◌, Bool, true, false, not, cond, List, [], ◌∷◌, ◌++◌, drop, length, get_or, slice_get, Option, None, Some, Result, Ok, Err, is_some, refl, sym, ◌∙◌, ap, subst, arith, add-one}
-use Rattle.std.specs.List.{All, AllByRecursion, filter}
+use Rattle.std.proofs.Common.{◌≡◌, ℕ, ◌+◌, ◌<◌, ◌≤◌, Bool, true, false, not, List, [], ◌∷◌, drop, length, slice_get, Option, None, Some, Result, Ok, Err, is_some, refl, sym, ◌∙◌, ap, subst, arith}
+use Rattle.std.specs.List.{All, AllByRecursion}
 use Rattle.std.specs.Prelude.{OnOk}
-use Rattle.std.proofs.Math.Seq.{drop-cons}
 use Rattle.std.proofs.lemmas.List.Elements.{All-from_recursion, recursion_from_All}
-use Rattle.std.proofs.lemmas.Option.{slice_get_within, get_or_from_slice_get}
+use Rattle.list_laws.proofs.Elements.{drop-next}
+use Rattle.list_laws.proofs.Sequences.{drop_end, all_later}
+use Rattle.list_laws.proofs.Folds.{some_left}
 use Rattle.dq_lits.specs.Derivation.{ProofStep}
 use Rattle.dq_lits.specs.Formula.{Dqbf}
 use Rattle.dq_lits.specs.Literal.{Literal}
@@ -26,28 +27,6 @@ use Rattle.proof_checker.specs.declared.judging.CircuitProving.{CircuitProving}
 use Rattle.proof_checker.specs.declared.tables.NegatedTables.{NegatedTables}
 use Rattle.proof_checker.proofs.JudgedProofs.{none_behind}
 
-item_there : (items : List ProofItem) (k : ℕ) (item : ProofItem) → slice_get items k ≡ Some item →
-    drop k items ≡ item ∷ drop (k + 1) items
-item_there items k item at =
-    (let lt = slice_get_within items k item at in let e : drop k items ≡ get_or items k item ∷ drop (k + 1) items =
-    rw (add-one) (drop-cons items k item lt) in e)
-    ∙ ap (λ s. s ∷ drop (k + 1) items) (get_or_from_slice_get items k item item at)
-
-drop_end : (xs : List ProofItem) (i : ℕ) → length xs ≤ i → drop i xs ≡ []
-drop_end [] zero le = refl
-drop_end [] (suc i) le = refl
-drop_end (x ∷ xs) zero le = absurd (omega (arith, le))
-drop_end (x ∷ xs) (suc i) le = drop_end xs i (omega (arith, le))
-
-all_later : (lines : List (ℕ × List Literal)) (id : ℕ) (literals : List Literal) →
-    AllByRecursion (λ line. line.0 < id) lines
-    → AllByRecursion (λ line. line.0 < id + 1) (lines ++ (id, literals) ∷ [])
-all_later [] id literals above = (omega arith, tt)
-all_later (line ∷ lines) id literals above = (
-  (let lt = above.0 in omega (arith, lt)),
-  all_later lines id literals above.1,
-)
-
 one_later : (lines : List (ℕ × List Literal)) (id : ℕ) → AllByRecursion (λ line. line.0 < id) lines →
     AllByRecursion (λ line. line.0 < id + 1) lines
 one_later [] id above = tt
@@ -59,17 +38,6 @@ by_fault : (fault : Option ℕ) (d : Bool) (id : ℕ) (literals : List Literal) 
 by_fault (Some _) d id literals p above = one_later p.lines id above
 by_fault None false id literals p above = one_later p.lines id above
 by_fault None true id literals p above = all_later p.lines id literals above
-
-kept_left : (P : ℕ × List Literal → Type 0) (b : Bool) (line : ℕ × List Literal) (rest : List (ℕ × List Literal)) →
-    P line → AllByRecursion P rest → AllByRecursion P (cond b (line ∷ rest) rest)
-kept_left P true line rest here later = (here, later)
-kept_left P false line rest here later = later
-
-some_left : (P : ℕ × List Literal → Type 0) (keeps : ℕ × List Literal → Bool) (lines : List (ℕ × List Literal)) →
-    AllByRecursion P lines → AllByRecursion P (filter keeps lines)
-some_left P keeps [] all = tt
-some_left P keeps (line ∷ lines) all = kept_left P (keeps line) line (filter keeps lines) all.0
-    (some_left P keeps lines all.1)
 
 without_above : (fault : Option ℕ) (ids : List ℕ) (p : ProofState) (next : ℕ) →
     AllByRecursion (λ line. line.0 < next) p.lines →
@@ -171,7 +139,7 @@ module _ (f : Dqbf) (net : Netlist) where
   module _ (first p : CircuitProving) (items : List ProofItem) (k : ℕ) (item : ProofItem)
       (at : slice_get items k ≡ Some item) (before : AreJudged first p items k) where
     numbered : AreItems is_variable before.at (item ∷ drop (k + 1) items)
-    numbered = subst (AreItems is_variable before.at) (item_there items k item at) before.numbered
+    numbered = subst (AreItems is_variable before.at) (drop-next items k item at) before.numbered
 
     pub may_come : MayJudge f net p item
     may_come = record { at = before.at; judging = before.judging; lawful = numbered.0 }
@@ -184,7 +152,7 @@ module _ (f : Dqbf) (net : Netlist) where
       judging = goes_on before.at before.judging numbered.0;
       numbered = numbered.1;
       left = ap (λ r. run_fault (with_items r (drop (k + 1) items))) run
-          ∙ sym (ap (λ rest. run_fault (with_items (run_of f net p) rest)) (item_there items k item at)) ∙ before.left;
+          ∙ sym (ap (λ rest. run_fault (with_items (run_of f net p) rest)) (drop-next items k item at)) ∙ before.left;
     }
 
   pub all_judged : (first p : CircuitProving) (items : List ProofItem) (k : ℕ) → length items ≤ k →

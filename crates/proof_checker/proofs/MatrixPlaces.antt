@@ -1,35 +1,20 @@
 -- The clauses of the negated matrix by their places.
-use Rattle.std.proofs.Common.{◌≡◌, ◌≢◌, ℕ, zero, suc, ◌+◌, ◌-◌, ◌*◌, ◌/◌, ◌%◌, ◌<◌, ◌≤◌, List, [], ◌∷◌, ◌++◌, map, drop, length, get_or, slice_get, None, Some, IsSome, refl, sym, ◌∙◌, ap, subst, arith, add-one, length-append}
+use Rattle.std.proofs.Common.{◌≡◌, ◌≢◌, ℕ, zero, suc, ◌+◌, ◌-◌, ◌*◌, ◌/◌, ◌%◌, ◌<◌, ◌≤◌, List, [], ◌∷◌, ◌++◌, map, drop, length, get_or, slice_get, None, Some, IsSome, refl, sym, ◌∙◌, ap, subst, arith, length-append}
 use Rattle.std.specs.List.{AllByRecursion, flat_map}
 use Rattle.std.specs.Option.{option_map, option_and_then}
 use Rattle.std.proofs.lemmas.List.{length-map, map-append, append_assoc}
 use Rattle.std.proofs.lemmas.Option.{slice_get-map, slice_get-get_or, slice_get_past}
+use Rattle.list_laws.proofs.Elements.{get-append_left, get-append_right, drop_at}
 use Rattle.dq_lits.specs.Literal.{Literal}
 use Rattle.circuit_plain.specs.Netlist.{Netlist, gate_at}
 use Rattle.circuit_plain.specs.declared.circuits.Gate.{Gate}
 use Rattle.cert_text.specs.NegatedMatrix.{opposite_of, gate_clauses, literal_under, falsity_clauses, all_falsity_clauses, some_clause_false, negated_clauses, without_constants}
+use Rattle.cert_text.proofs.NegatedClauses.{gates_counted}
 use Rattle.skolem_checker.specs.Checks.{Candidate}
-use Rattle.std.proofs.Math.Seq.{drop-cons}
 use Rattle.proof_checker.specs.CircuitProof.{circuit_literal, negated_candidate}
 use Rattle.proof_checker.specs.ClauseLiterals.{clause_literals, formula_clauses}
 
-append_left : {X : Type 0} (xs ys : List X) (i : ℕ) → i < length xs → slice_get (xs ++ ys) i ≡ slice_get xs i
-append_left [] ys i below = absurd (omega (arith, below))
-append_left (x ∷ xs) ys zero below = refl
-append_left (x ∷ xs) ys (suc i) below = append_left xs ys i (omega (arith, below))
-
-append_right : {X : Type 0} (xs ys : List X) (i : ℕ) → slice_get (xs ++ ys) (length xs + i) ≡ slice_get ys i
-append_right [] ys i = let same : 0 + i ≡ i = omega arith in ap (slice_get ys) same
-append_right (x ∷ xs) ys i =
-    let next : suc (length xs) + i ≡ suc (length xs + i) = omega arith in
-    ap (slice_get (x ∷ (xs ++ ys))) next ∙ append_right xs ys i
-
--- gates
-gates_length : (gates : List Gate) → length (flat_map gate_clauses gates) ≡ 3 * length gates
-gates_length [] = refl
-gates_length (g ∷ gates) = omega (arith, gates_length gates)
-
-gate_found : (gates : List Gate) (i : ℕ) (d : Gate) → i / 3 < length gates
+pub gate_found : (gates : List Gate) (i : ℕ) (d : Gate) → i / 3 < length gates
     → slice_get (flat_map gate_clauses gates) i ≡ slice_get (gate_clauses (get_or gates (i / 3) d)) (i % 3)
 gate_found [] i d below = absurd (omega (arith, below))
 gate_found (g ∷ gates) zero d below = refl
@@ -151,7 +136,7 @@ module _ (c : Candidate) (literals : List (ℕ × Literal)) (are : literals ≡ 
       → k ≡ opposite_of (2 * o.0) → l ≡ opposite_of x → x ≡ literal_under outputs o.1 →
       Some items ≡ slice_get (formula_clauses c) i
   falsity_found o k l x items below o_is items_is k_is l_is x_is =
-      sym (append_left falsity (some_clause_false c.circuit.netlist c.formula.matrix ∷ []) i
+      sym (get-append_left falsity (some_clause_false c.circuit.netlist c.formula.matrix ∷ []) i
       (omega (arith, long, below))
       ∙ ap (λ cs. slice_get cs i) mapped
       ∙ slice_get-map (falsity_clause outputs) literals i
@@ -165,7 +150,7 @@ module _ (c : Candidate) (literals : List (ℕ × Literal)) (are : literals ≡ 
   last_found items is items_is =
       let at : i ≡ length falsity + 0 = omega (arith, long, is) in
       sym (ap (slice_get (formula_clauses c)) at
-      ∙ append_right falsity (some_clause_false c.circuit.netlist c.formula.matrix ∷ []) 0
+      ∙ get-append_right falsity (some_clause_false c.circuit.netlist c.formula.matrix ∷ []) 0
       ∙ ap Some (sym items_is))
 
   pub none_found : length literals < i → None ≡ slice_get (formula_clauses c) i
@@ -177,8 +162,8 @@ pub gates_first : (c : Candidate) (i : ℕ) → i / 3 < length c.circuit.netlist
     → slice_get (negated_clauses c.formula c.circuit.netlist (circuit_literal c.circuit)) i ≡ slice_get
     (flat_map gate_clauses c.circuit.netlist.gates) i
 gates_first c i below =
-    let long = gates_length c.circuit.netlist.gates in
-    append_left (flat_map gate_clauses c.circuit.netlist.gates) (formula_clauses c) i (omega (arith, long, below))
+    let long = gates_counted c.circuit.netlist.gates in
+    get-append_left (flat_map gate_clauses c.circuit.netlist.gates) (formula_clauses c) i (omega (arith, long, below))
 
 -- the clauses have the ids from 1 on
 pub by_id : (c : Candidate) (id i : ℕ) → id ≢ 0 → i ≡ id - 1
@@ -195,13 +180,9 @@ pub behind_gates : (c : Candidate) (i n : ℕ) → n ≡ length c.circuit.netlis
     (formula_clauses c) (i - 3 * n)
 behind_gates c i n is behind =
     let gates = flat_map gate_clauses c.circuit.netlist.gates in
-    let long = gates_length c.circuit.netlist.gates in
+    let long = gates_counted c.circuit.netlist.gates in
     let at : i ≡ length gates + (i - 3 * n) = omega (arith, long, is, behind) in
-    ap (slice_get (gates ++ formula_clauses c)) at ∙ append_right gates (formula_clauses c) (i - 3 * n)
-
--- loops
-one_dropped : {X : Type 0} (xs : List X) (i : ℕ) (d : X) → i < length xs → drop i xs ≡ get_or xs i d ∷ drop (i + 1) xs
-one_dropped xs i d below = rw (add-one) (drop-cons xs i d below)
+    ap (slice_get (gates ++ formula_clauses c)) at ∙ get-append_right gates (formula_clauses c) (i - 3 * n)
 
 pub next_clause : (first j : ℕ) (matrix : List (List Literal)) (all new goal : List (ℕ × Literal))
     (clause : List Literal) → j < length matrix
@@ -215,7 +196,7 @@ next_clause first j matrix all new goal clause below is before added =
     (added ∙ ap (λ ls. all ++ map (λ l. (first + j, l)) ls) is)
     ∙ ap (λ n. (all ++ own) ++ clause_literals n (drop (j + 1) matrix)) next
     ∙ append_assoc all own (clause_literals (first + j + 1) (drop (j + 1) matrix))
-    ∙ sym (ap (λ cs. all ++ clause_literals (first + j) cs) (one_dropped matrix j [] below))
+    ∙ sym (ap (λ cs. all ++ clause_literals (first + j) cs) (drop_at matrix j [] below))
     ∙ before
 
 pub place_below : (clause : List Literal) (i : ℕ) → IsSome (slice_get clause i) → i < length clause

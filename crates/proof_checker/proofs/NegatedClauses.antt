@@ -3,16 +3,13 @@ use Rattle.std.proofs.Common.{◌≡◌, ℕ, zero, suc, ◌+◌, ◌-◌, ◌*�
 use Rattle.std.specs.List.{AllByRecursion, list_any, list_all, filter, flat_map, range_with_len}
 use Rattle.std.specs.Option.{option_and_then}
 use Rattle.std.proofs.lemmas.Bool.{cases_Bool, eqb-true}
+use Rattle.list_laws.proofs.Truths.{not-not}
 use Rattle.dq_lits.specs.Derivation.{MakesTrue}
 use Rattle.dq_lits.specs.Formula.{Dqbf}
 use Rattle.dq_lits.specs.Literal.{Assignment, Literal, positive, negative, variable_of, literal_true, clause_true}
 use Rattle.circuit_plain.specs.Netlist.{Netlist, literal_bit}
 use Rattle.circuit_plain.specs.declared.circuits.Gate.{Gate}
 use Rattle.cert_text.specs.NegatedMatrix.{opposite_of, gate_clauses, literal_under, falsity_clauses, all_falsity_clauses, some_clause_false, negated_clauses, as_literal, without_constants, negated_matrix}
-
-not-not : (b : Bool) → not (not b) ≡ b
-not-not true = refl
-not-not false = refl
 
 rest-zero : (r : ℕ) → r < 2 → (r == 1) ≡ false → r ≡ 0
 rest-zero zero small other = refl

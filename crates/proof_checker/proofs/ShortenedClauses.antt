@@ -1,13 +1,11 @@
 -- The clause that some clause of the formula is false, with the constants put in.
-use Rattle.std.proofs.Common.{◌≡◌, ◌≢◌, ℕ, zero, suc, ◌+◌, ◌*◌, ◌/◌, ◌%◌, ◌<◌, ◌≤◌, ◌==◌, Bool, true, false, not, cond, ◌||◌, List, ◌∷◌, map, length, slice_get, None, Some, refl, sym, ◌∙◌, ap, arith}
+use Rattle.std.proofs.Common.{◌≡◌, ◌≢◌, ℕ, zero, suc, ◌+◌, ◌*◌, ◌/◌, ◌%◌, ◌<◌, ◌≤◌, ◌==◌, true, false, not, cond, List, ◌∷◌, map, length, slice_get, None, Some, refl, sym, ◌∙◌, ap, arith}
 use Rattle.std.specs.List.{filter, list_any, range_with_len}
+use Rattle.list_laws.proofs.Truths.{both_false}
 use Rattle.dq_lits.specs.Literal.{positive, negative}
 use Rattle.dq_formula.proofs.Places.{ne-false}
 use Rattle.cert_text.specs.NegatedMatrix.{as_literal, without_constants}
 use Rattle.proof_checker.specs.ShortClause.{kept_literals}
-
-or_false : (a b : Bool) → a ≡ false → b ≡ false → (a || b) ≡ false
-or_false a b a_is b_is = ap (λ t. t || b) a_is ∙ b_is
 
 kept_where_not : (literals : List ℕ) → list_any (λ l. l == 1) literals ≡ false →
     Some (kept_literals literals) ≡ without_constants literals
@@ -35,7 +33,7 @@ range_not_true : (bad n : ℕ) → list_any (λ l. l == 1) (map (λ b. 2 * b) (r
 range_not_true bad zero = refl
 range_not_true bad (suc n) =
     let other : 2 * bad ≢ 1 = λ e. absurd (omega (arith, e)) in
-    or_false (2 * bad == 1) (list_any (λ l. l == 1) (map (λ b. 2 * b) (range_with_len (bad + 1) n)))
+    both_false (2 * bad == 1) (list_any (λ l. l == 1) (map (λ b. 2 * b) (range_with_len (bad + 1) n)))
     (ne-false (2 * bad) 1 other) (range_not_true (bad + 1) n)
 
 pub range_clause : (bad n : ℕ) → 1 ≤ bad → Some (map (λ b. positive b) (range_with_len bad n)) ≡ without_constants

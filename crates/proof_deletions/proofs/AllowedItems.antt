@@ -4,25 +4,16 @@ use Rattle.std.specs.List.{All, range_with_len}
 use Rattle.std.proofs.lemmas.Bool.{cases_eq, eqb-true, eq-eqb, or_left, or_right}
 use Rattle.std.proofs.lemmas.List.{length-map}
 use Rattle.std.proofs.lemmas.List.Elements.{All-nil, All-cons, All-head, All-tail}
+use Rattle.list_laws.proofs.Truths.{false_unless, both_true}
+use Rattle.list_laws.proofs.Numbers.{eqb-flip}
 use Rattle.dq_lits.specs.Derivation.{ProofStep}
 use Rattle.rup_core.specs.Items.{ProofItem, derived, gone, is_among}
 use Rattle.cert_text.specs.Grammar.{AreItems, AreSteps, IsSmallItem}
 use Rattle.cert_text.specs.Numbering.{Numbering, numbered_from, with_next, without, without_all, are_live}
+use Rattle.cert_text.proofs.Numberings.{next_kept}
 use Rattle.proof_deletions.specs.Deletions.{is_hinted, spent_ids, deletion, deleting_from, AreNumberedLines, lines_of, first_number, with_deletions}
 use Rattle.proof_deletions.proofs.RangeFilters.{among_filter}
 use Rattle.proof_deletions.proofs.SameFaults.{spent_isn't_hinted}
-
-isn't : (b : Bool) → (b ≡ true → ⊥) → b ≡ false
-isn't true h = absurd (h refl)
-isn't false h = refl
-
-flip : (a b : ℕ) → eqb a b ≡ eqb b a
-flip a b = by (cases_eq a b)
-  where
-    by : (a ≡ b) ⊎ (a ≡ b → ⊥) → eqb a b ≡ eqb b a
-    by (inl same) = eq-eqb a b same ∙ sym (eq-eqb b a (sym same))
-    by (inr differ) = isn't (eqb a b) (λ h. differ (eqb-true a b h))
-        ∙ sym (isn't (eqb b a) (λ h. differ (sym (eqb-true b a h))))
 
 -- none stands twice
 abbrev AreOnce : List ℕ → Type 0
@@ -39,13 +30,8 @@ once p a zero = tt
 once p a (suc n) =
     let rest = filter p (range_with_len (a + 1) n) in
     once_by a rest
-    (isn't (is_among rest a) (λ h. let q = (among_filter p (a + 1) n a h).from in absurd (omega (arith, q))))
+    (false_unless (is_among rest a) (λ h. let q = (among_filter p (a + 1) n a h).from in absurd (omega (arith, q))))
     (once p (a + 1) n) (p a)
-
--- deletions leave which id is next
-next_same : (n : Numbering) (ids : List ℕ) → (without_all n ids).next ≡ n.next
-next_same n [] = refl
-next_same n (id ∷ ids) = next_same (without n id) ids
 
 kept_live : (b c d : Bool) → c ≡ true → (b || d) ≡ false → (not b && c) ≡ true
 kept_live true c d live h = absurd (true≢false h)
@@ -65,18 +51,13 @@ live_same n (other ∷ ids) id live h =
     (later_false (eqb other id) (is_among ids id) h)
   where
     flipped : (eqb other id || is_among ids id) ≡ false → (eqb id other || is_among ids id) ≡ false
-    flipped g = subst (λ (b : Bool). (b || is_among ids id) ≡ false) (flip other id) g
-
-both : (b c : Bool) → b ≡ true → c ≡ true → (b && c) ≡ true
-both true true h g = refl
-both true false h g = g
-both false c h g = h
+    flipped g = subst (λ (b : Bool). (b || is_among ids id) ≡ false) (eqb-flip other id) g
 
 all_live : (n : Numbering) (ids : List ℕ) → AreOnce ids → ((id : ℕ) → is_among ids id ≡ true → n.live id ≡ true) →
     are_live n ids ≡ true
 all_live n [] apart live = refl
 all_live n (id ∷ ids) apart live =
-    both (n.live id) (are_live (without n id) ids) (live id (or_left (eqb id id) (is_among ids id) (eq-eqb id id refl)))
+    both_true (n.live id) (are_live (without n id) ids) (live id (or_left (eqb id id) (is_among ids id) (eq-eqb id id refl)))
     (all_live (without n id) ids apart.1 others)
   where
     others : (other : ℕ) → is_among ids other ≡ true → (not (eqb other id) && n.live other) ≡ true
@@ -84,8 +65,8 @@ all_live n (id ∷ ids) apart live =
       where
         by : (other ≡ id) ⊎ (other ≡ id → ⊥) → (not (eqb other id) && n.live other) ≡ true
         by (inl same) = absurd (true≢false (sym among ∙ (ap (is_among ids) same ∙ apart.0)))
-        by (inr differ) = both (not (eqb other id)) (n.live other)
-            (ap not (isn't (eqb other id) (λ h. differ (eqb-true other id h))))
+        by (inr differ) = both_true (not (eqb other id)) (n.live other)
+            (ap not (false_unless (eqb other id) (λ h. differ (eqb-true other id h))))
             (live other (or_right (eqb id other) (is_among ids other) among))
 
 -- what a later line hints is live
@@ -128,13 +109,13 @@ behind : (V : ℕ → Bool) (first : ℕ) (n : Numbering) (later : List ProofSte
 behind V first n later items [] apart live free kept rest = rest n refl kept
 behind V first n later items (id ∷ ids) apart live free kept rest = (
   record { some = omega arith; live = all_live n (id ∷ ids) apart live },
-  rest (without_all n (id ∷ ids)) (next_same n (id ∷ ids)) kept_then,
+  rest (without_all n (id ∷ ids)) (next_kept n (id ∷ ids)) kept_then,
 )
   where
     kept_then : IsKept first (without_all n (id ∷ ids)) later
     kept_then i low below hinted =
-        live_same n (id ∷ ids) i (kept i low (subst (λ k. i < k) (next_same n (id ∷ ids)) below) hinted)
-        (isn't (is_among (id ∷ ids) i) (λ among. true≢false (sym hinted ∙ free i among)))
+        live_same n (id ∷ ids) i (kept i low (subst (λ k. i < k) (next_kept n (id ∷ ids)) below) hinted)
+        (false_unless (is_among (id ∷ ids) i) (λ among. true≢false (sym hinted ∙ free i among)))
 
 allowed : (V : ℕ → Bool) (first : ℕ) (n : Numbering) (steps : List ProofStep) → first ≤ n.next →
     AreSteps V n.next steps →

@@ -1,5 +1,5 @@
 mod RangeFilters
-mod NumberedLines
+pub mod NumberedLines
 mod SameFaults
 mod AllowedItems
 mod SpentIds

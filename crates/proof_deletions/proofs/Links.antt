@@ -1,12 +1,9 @@
 -- Lists that get a place in front.
-use Rattle.std.proofs.Common.{◌≡◌, ◌≢◌, ◌⊎◌, inl, inr, ℕ, suc, ◌+◌, ◌-◌, ◌≤◌, ◌<◌, Bool, true, false, cond, List, [], ◌∷◌, length, length-set, set, get_or, get_or-set_same, get_or-set_other, refl, sym, ◌∙◌, ap, subst, arith, eqb, filter}
+use Rattle.std.proofs.Common.{◌≡◌, ◌≢◌, ◌⊎◌, inl, inr, ℕ, suc, ◌+◌, ◌-◌, ◌≤◌, ◌<◌, cond, List, [], ◌∷◌, length, length-set, set, get_or, get_or-set_same, get_or-set_other, refl, sym, ◌∙◌, ap, subst, arith, eqb, filter}
 use Rattle.std.specs.List.{range_with_len}
 use Rattle.std.proofs.lemmas.Bool.{cases_eq, eqb-true, eq-eqb}
+use Rattle.list_laws.proofs.Truths.{false_unless}
 use Rattle.proof_deletions.specs.Chains.{IsChain, used_at, AreChained}
-
-isn't : (b : Bool) → (b ≡ true → ⊥) → b ≡ false
-isn't true h = absurd (h refl)
-isn't false h = refl
 
 -- what stands in front of a list that begins behind it leaves it as it is
 chain_stays : (nexts : List ℕ) (k v head : ℕ) (ks : List ℕ) → k < head → IsChain nexts head ks → IsChain
@@ -34,25 +31,13 @@ used_kept : (table : List ℕ) (k p : ℕ) → k < length table → (get_or tabl
 used_kept table k p h other =
     used_step table k p h
     ∙ ap (λ b. cond b (k ∷ used_at table (k + 1) p) (used_at table (k + 1) p))
-    (isn't (eqb (get_or table k 0) (p + 1)) (λ e. other (eqb-true (get_or table k 0) (p + 1) e)))
+    (false_unless (eqb (get_or table k 0) (p + 1)) (λ e. other (eqb-true (get_or table k 0) (p + 1) e)))
 
 used_more : (table : List ℕ) (k p : ℕ) → k < length table → get_or table k 0 ≡ p + 1 →
     used_at table k p ≡ k ∷ used_at table (k + 1) p
 used_more table k p h this =
     used_step table k p h
     ∙ ap (λ b. cond b (k ∷ used_at table (k + 1) p) (used_at table (k + 1) p)) (eq-eqb (get_or table k 0) (p + 1) this)
-
--- a place that is used nowhere
-pub not_linked : (table heads nexts : List ℕ) (k : ℕ) → k < length table → get_or table k 0 ≡ 0 →
-    AreChained table (k + 1) heads nexts → AreChained table k heads nexts
-not_linked table heads nexts k h none are = record {
-  heads_are_many = are.heads_are_many;
-  nexts_are_many = are.nexts_are_many;
-  behind = λ p below. let b = are.behind p below in omega (arith, b);
-  chains = λ p below. subst (IsChain nexts (get_or heads p 0))
-      (sym (used_kept table k p h (λ e. absurd (omega (arith, none, e)))))
-      (are.chains p below);
-}
 
 -- a place that is used last at the line at a place
 pub linked : (table heads nexts : List ℕ) (k last : ℕ) → k < length table → last < length table →

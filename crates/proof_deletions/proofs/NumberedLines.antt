@@ -27,7 +27,7 @@ first_same V first [] are = refl
 first_same V first (step ∷ steps) are =
     numbers V first (step ∷ steps) are ∙ ap (λ id. range_with_len id (length (step ∷ steps))) (sym are.0.numbered)
 
-from_one : (V : ℕ → Bool) (first : ℕ) (steps : List ProofStep) → 1 ≤ first → AreSteps V first steps →
+pub from_one : (V : ℕ → Bool) (first : ℕ) (steps : List ProofStep) → 1 ≤ first → AreSteps V first steps →
     All (λ step. 1 ≤ step.id) steps
 from_one V first [] one are = All-nil (λ step. 1 ≤ step.id)
 from_one V first (step ∷ steps) one are =

@@ -1,7 +1,8 @@
 -- Deletions change no fault, since what is deleted isn't hinted any more.
-use Rattle.std.proofs.Common.{◌≡◌, ℕ, Bool, true, false, true≢false, not, ◌&&◌, ◌||◌, List, [], ◌∷◌, ◌++◌, map, Option, refl, sym, ◌∙◌, ap, eqb}
+use Rattle.std.proofs.Common.{◌≡◌, ℕ, Bool, true, false, true≢false, not, ◌&&◌, List, [], ◌∷◌, ◌++◌, map, Option, refl, sym, ◌∙◌, ap, eqb}
 use Rattle.std.specs.List.{AllByRecursion}
 use Rattle.std.proofs.lemmas.Bool.{eq-eqb}
+use Rattle.list_laws.proofs.Truths.{neither}
 use Rattle.dq_lits.specs.Derivation.{LiveClauses, with_clause, line_fault, ProofStep, ProofFault, fault_of_step, is_empty}
 use Rattle.rup_core.specs.Items.{ProofItem, derived, gone, is_among, items_fault, AreUnused}
 use Rattle.proof_deletions.specs.Deletions.{is_hinted, spent_ids, deletion, deleting_from}
@@ -22,19 +23,15 @@ spent_isn't_hinted first step later id h =
 abbrev pub NotHinted : List ℕ → List ProofStep → Type 0
 NotHinted ids steps = (id : ℕ) → is_among ids id ≡ true → is_hinted steps id ≡ false
 
-or_false : (b c : Bool) → (b || c) ≡ false → (b ≡ false) × (c ≡ false)
-or_false true c h = absurd (true≢false h)
-or_false false c h = (refl, h)
-
 not_hinted_by : (ids : List ℕ) (step : ProofStep) (later : List ProofStep) → NotHinted ids (step ∷ later) →
     (id : ℕ) → is_among ids id ≡ true → is_among step.hints id ≡ false
 not_hinted_by ids step later free id among =
-    (or_false (is_among step.hints id) (is_hinted later id) (free id among)).0
+    (neither (is_among step.hints id) (is_hinted later id) (free id among)).0
 
 not_hinted_later : (ids : List ℕ) (step : ProofStep) (later : List ProofStep) → NotHinted ids (step ∷ later) →
     NotHinted ids later
 not_hinted_later ids step later free id among =
-    (or_false (is_among step.hints id) (is_hinted later id) (free id among)).1
+    (neither (is_among step.hints id) (is_hinted later id) (free id among)).1
 
 eqb-same : (n : ℕ) → eqb n n ≡ true
 eqb-same n = eq-eqb n n refl
@@ -45,13 +42,13 @@ unhinted : (ids hints : List ℕ) → ((id : ℕ) → is_among ids id ≡ true �
 unhinted ids [] free = tt
 unhinted ids (hint ∷ hints) free = (
   here (is_among ids hint) refl,
-  unhinted ids hints (λ id among. (or_false (eqb hint id) (is_among hints id) (free id among)).1),
+  unhinted ids hints (λ id among. (neither (eqb hint id) (is_among hints id) (free id among)).1),
 )
   where
     here : (b : Bool) → is_among ids hint ≡ b → is_among ids hint ≡ false
     here false e = e
     here true e = absurd (true≢false (sym (eqb-same hint)
-        ∙ (or_false (eqb hint hint) (is_among hints hint) (free hint e)).0))
+        ∙ (neither (eqb hint hint) (is_among hints hint) (free hint e)).0))
 
 behind_deletion : (ids others : List ℕ) (items : List ProofItem) → AreUnused ids items →
     AreUnused ids (deletion others ++ items)

@@ -6,15 +6,12 @@ use Rattle.std.specs.List.{range_with_len}
 use Rattle.std.proofs.lemmas.Bool.{eqb-true, eq-eqb, lt-ltb, ltb-true}
 use Rattle.std.proofs.lemmas.List.{append-nil, append_assoc}
 use Rattle.std.proofs.lemmas.List.Elements.{filter-append}
+use Rattle.list_laws.proofs.Truths.{false_unless}
 use Rattle.dq_lits.specs.Derivation.{ProofStep}
 use Rattle.rup_core.specs.Items.{ProofItem, derived, is_among}
 use Rattle.proof_deletions.specs.Chains.{used_at}
 use Rattle.proof_deletions.specs.Deletions.{is_hinted, spent_ids, deletion, deleting_from}
 use Rattle.proof_deletions.specs.LastUses.{uses, later_of, last_use, AreLastUses, AreNoted}
-
-isn't : (b : Bool) → (b ≡ true → ⊥) → b ≡ false
-isn't true h = absurd (h refl)
-isn't false h = refl
 
 later_none : (n : ℕ) → later_of 0 n ≡ n
 later_none zero = refl
@@ -68,13 +65,13 @@ lt-true : (k place : ℕ) → k < place → nat_lt k place ≡ true
 lt-true k place h = lt-ltb k place h
 
 lt-false : (k place : ℕ) → place ≤ k → nat_lt k place ≡ false
-lt-false k place h = isn't (nat_lt k place) (λ e. let l = ltb-true k place e in absurd (omega (arith, h, l)))
+lt-false k place h = false_unless (nat_lt k place) (λ e. let l = ltb-true k place e in absurd (omega (arith, h, l)))
 
 suc-not-zero : (n : ℕ) → eqb (suc n) 0 ≡ false
-suc-not-zero n = isn't (eqb (suc n) 0) (λ h. let q = eqb-true (suc n) 0 h in absurd (omega (arith, q)))
+suc-not-zero n = false_unless (eqb (suc n) 0) (λ h. let q = eqb-true (suc n) 0 h in absurd (omega (arith, q)))
 
 not-zero : (n : ℕ) → eqb (n + 1) 0 ≡ false
-not-zero n = isn't (eqb (n + 1) 0) (λ h. let q = eqb-true (n + 1) 0 h in absurd (omega (arith, q)))
+not-zero n = false_unless (eqb (n + 1) 0) (λ h. let q = eqb-true (n + 1) 0 h in absurd (omega (arith, q)))
 
 -- where a line stands before these, none of them hints it where its last use is none
 none_by : (first place : ℕ) (steps : List ProofStep) (k : ℕ) → k < place →
@@ -117,11 +114,11 @@ here_by first before step later k h =
     by u later_use b false free few within e none = absurd (true≢false (sym e))
     by u zero true true free few within e none = eq-eqb (later_of u (0 + p + 1)) (p + 1)
         (later_is u (0 + p + 1) (omega arith) ∙ omega arith) ∙ none
-    by u zero false true free few within e none = isn't (eqb u (p + 1))
+    by u zero false true free few within e none = false_unless (eqb u (p + 1))
         (λ g. let q = eqb-true u (p + 1) g in absurd (omega (arith, q, few)))
     by u (suc later_use) b true free few (inl none') e none = absurd (omega (arith, none'))
     by u (suc later_use) b true free few (inr within) e none =
-        isn't (eqb (suc later_use) (p + 1)) (λ g. let q = eqb-true (suc later_use) (p + 1) g in let w = within.0 in
+        false_unless (eqb (suc later_use) (p + 1)) (λ g. let q = eqb-true (suc later_use) (p + 1) g in let w = within.0 in
         absurd (omega (arith, q, w)))
         ∙ sym (and-no b free (sym none ∙ suc-not-zero later_use))
       where
@@ -146,11 +143,11 @@ not_here first before step later k h =
         (later_use ≡ 0) ⊎ ((0 + p + 1 < later_use) × (later_use ≤ 0 + p + 1 + length later)) → lt ≡ false →
         eqb (later_of u (later_of (if lt && b then 0 + p + 1 else 0) later_use)) (p + 1) ≡ false
     by u later_use b true few within e = absurd (true≢false e)
-    by u zero b false few within e = isn't (eqb u (p + 1))
+    by u zero b false few within e = false_unless (eqb u (p + 1))
         (λ g. let q = eqb-true u (p + 1) g in absurd (omega (arith, q, few)))
     by u (suc later_use) b false few (inl none) e = absurd (omega (arith, none))
     by u (suc later_use) b false few (inr within) e =
-        isn't (eqb (suc later_use) (p + 1)) (λ g. let q = eqb-true (suc later_use) (p + 1) g in let w = within.0 in
+        false_unless (eqb (suc later_use) (p + 1)) (λ g. let q = eqb-true (suc later_use) (p + 1) g in let w = within.0 in
         absurd (omega (arith, q, w)))
 
 -- tests that agree in a range

@@ -1,13 +1,10 @@
 -- How variables are bound in a table.
-use Rattle.std.proofs.Common.{◌≡◌, ◌≢◌, ℕ, zero, suc, ◌+◌, ◌-◌, ◌||◌, ◌⊎◌, ◌<◌, ◌≤◌, ◌==◌, Bool, true, false, cond, inl, inr, List, [], ◌∷◌, ◌++◌, map, set, length, get_or, replicate, position, Option, None, Some, is_some, IsSome, refl, sym, ◌∙◌, ap, subst, arith, eqb, get_or-set_other, get_or-set_same}
-use Rattle.std.specs.List.{Contains, find, list_any}
+use Rattle.std.proofs.Common.{◌≡◌, ◌≢◌, ℕ, zero, suc, ◌+◌, ◌-◌, ◌⊎◌, ◌<◌, ◌≤◌, ◌==◌, true, false, cond, inl, inr, List, [], ◌∷◌, ◌++◌, map, set, length, get_or, replicate, position, Option, None, Some, is_some, IsSome, refl, sym, ◌∙◌, ap, subst, arith, get_or-set_other, get_or-set_same}
+use Rattle.std.specs.List.{find}
 use Rattle.std.proofs.lemmas.Bool.{cases_Bool, cases_eq, cases_lt, eqb-true, both_ways}
-use Rattle.std.proofs.lemmas.Bool.Decides.{Decides-eqb}
 use Rattle.std.proofs.lemmas.List.{length-set, length-append, length-map, get_or_append_left, get_or-append_right, get_or-append-add}
-use Rattle.std.proofs.lemmas.List.Elements.{All-contains}
-use Rattle.std.proofs.lemmas.Map.Made.{IsDistinct-from_AllPairs}
-use Rattle.std.proofs.lemmas.Map.Steps.{length-le_from_distinct_below}
-use Rattle.dq_lits.specs.Formula.{Dqbf, Existential, HasLawfulPrefix, declared, existential_of, is_universal}
+use Rattle.dq_lits.specs.Formula.{Dqbf, Existential, existential_of, is_universal}
+use Rattle.dq_lits.proofs.FormulaVariables.{few_declared}
 use Rattle.dq_formula.specs.Prefix.{IsLawful, existential_variables}
 use Rattle.dq_formula.specs.Sets.{IsLeader}
 use Rattle.dq_formula.proofs.Places.{place}
@@ -20,24 +17,6 @@ use Rattle.refutation_checker.specs.Bindings.{set_at, binding_at, with_one_more,
 use Rattle.refutation_checker.specs.declared.bindings.Binding.{Binding}
 use Rattle.refutation_checker.specs.declared.bindings.Binding.TheVariants.{Universal, Existential as Bound, Free}
 use Rattle.refutation_checker.specs.declared.bindings.DependencySet.{DependencySet}
-
-any_inside : (q : ℕ) (xs : List ℕ) → list_any (eqb q) xs ≡ true → Contains xs q
-any_inside q [] h = cc
-any_inside q (x ∷ xs) h = by_bit (any_inside q xs) (eqb q x) refl h where
-  by_bit : (list_any (eqb q) xs ≡ true → Contains xs q) → (b : Bool) → eqb q x ≡ b → (b || list_any (eqb q) xs) ≡ true →
-      Contains (x ∷ xs) q
-  by_bit later true e k = (0, omega arith, sym (eqb-true q x e))
-  by_bit later false e k = let r = later k in let low = r.1 in (suc r.0, omega (arith, low), r.2)
-
--- a formula declares at most as many variables as it has
-few_declared : (f : Dqbf) → HasLawfulPrefix f → length (declared f) ≤ f.variables + 1
-few_declared f prefix = length-le_from_distinct_below (declared f) (f.variables + 1)
-    (IsDistinct-from_AllPairs Decides-eqb (declared f) prefix.declared_once) below where
-      below : (q : ℕ) → list_any (eqb q) (declared f) ≡ true → q < f.variables + 1
-      below q h =
-          let range = All-contains (λ v. (1 ≤ v) × (v ≤ f.variables)) (declared f) q prefix.in_range
-          (any_inside q (declared f) h) in
-          let most = range.1 in omega (arith, most)
 
 pub few_places : (f : Dqbf) → IsLawful f → length f.universals + length f.existentials ≤ 1000001
 few_places f lawful =
@@ -114,16 +93,6 @@ pub leader_set : (f : Dqbf) (sets : List DependencySet) (of : List Binding) (pla
 leader_set f sets of place leader c q are is same =
     let b = subst (IsBinding f sets leader) is (are.each leader) in
     record { within = b.1; sees = b.2 ∙ same; few = are.few c b.1 }
-
-pub one_more_place : (f : Dqbf) (sets : List DependencySet) (of : List Binding) (place : ℕ) →
-    AreBindings f sets of place → AreBindings f sets of (place + 1)
-one_more_place f sets of place are = record {
-  each = are.each;
-  apart = are.apart;
-  led = are.led;
-  few_sets = (let h = are.few_sets in omega (arith, h));
-  few = λ c lt. let h = are.few c lt in omega (arith, h);
-}
 
 set_before : (sets : List DependencySet) (s : DependencySet) (c : ℕ) → c < length sets →
     set_at (sets ++ s ∷ []) c ≡ set_at sets c

@@ -4,6 +4,9 @@ use Rattle.std.specs.List.{All, AllByRecursion, filter}
 use Rattle.std.specs.Prelude.{OnOk}
 use Rattle.std.proofs.lemmas.List.Elements.{All-from_recursion}
 use Rattle.std.proofs.lemmas.Option.{slice_get_within, get_or_from_slice_get}
+use Rattle.list_laws.proofs.Sequences.{all_later}
+use Rattle.list_laws.proofs.Elements.{drop_at}
+use Rattle.list_laws.proofs.Folds.{some_left}
 use Rattle.cert_text.specs.Grammar.{IsItem, AreItems}
 use Rattle.cert_text.specs.Numbering.{Numbering, behind_item, numbered_from}
 use Rattle.cert_text.specs.Pairs.{is_pair_number}
@@ -27,7 +30,6 @@ use Rattle.refutation_checker.specs.Refutation.{normal_item, normal_step}
 use Rattle.refutation_checker.specs.declared.judging.Judging.{Judging}
 use Rattle.refutation_checker.specs.declared.proving.RefutationProving.{RefutationProving}
 use Rattle.refutation_checker.proofs.JudgedRefutations.{none_behind}
-use Rattle.refutation_checker.proofs.ReadClauses.{drop_at}
 
 abbrev instances : Frame → LiveClauses
 instances x = instance_at x.formula x.rows
@@ -40,15 +42,6 @@ ids_above x n [] (_ ∷ _) id are above = absurd are
 ids_above x n (_ ∷ _) [] id are above = absurd are
 ids_above x n (line ∷ lines) (other ∷ others) id are above =
     ((let same = are.0 in let lt = above.0 in omega (arith, same, lt)), ids_above x n lines others id are.2 above.1)
-
-all_later : (lines : List (ℕ × List Literal)) (id : ℕ) (literals : List Literal) →
-    AllByRecursion (λ line. line.0 < id) lines
-    → AllByRecursion (λ line. line.0 < id + 1) (lines ++ (id, literals) ∷ [])
-all_later [] id literals above = (omega arith, tt)
-all_later (line ∷ lines) id literals above = (
-  (let lt = above.0 in omega (arith, lt)),
-  all_later lines id literals above.1,
-)
 
 behind_more : (x : Frame) (lines : List (ℕ × List Literal)) (id : ℕ) (literals : List Literal) → AreBehind x lines →
     instance_at x.formula x.rows id ≡ None
@@ -93,17 +86,6 @@ lines_left x n ids (line ∷ lines) (other ∷ others) are =
     both_left x n line other (filter (stays_at ids) lines) (filter (stays_at ids) others) (stays_at ids line)
     (stays_at ids other)
     are.0 are.1 (lines_left x n ids lines others are.2) (ap (λ id. not (is_among ids id)) are.0)
-
-kept_left : (P : ℕ × List Literal → Type 0) (b : Bool) (line : ℕ × List Literal) (rest : List (ℕ × List Literal)) →
-    P line → AllByRecursion P rest → AllByRecursion P (cond b (line ∷ rest) rest)
-kept_left P true line rest here later = (here, later)
-kept_left P false line rest here later = later
-
-some_left : (P : ℕ × List Literal → Type 0) (keeps : ℕ × List Literal → Bool) (lines : List (ℕ × List Literal)) →
-    AllByRecursion P lines → AllByRecursion P (filter keeps lines)
-some_left P keeps [] all = tt
-some_left P keeps (line ∷ lines) all = kept_left P (keeps line) line (filter keeps lines) all.0
-    (some_left P keeps lines all.1)
 
 -- the clauses without them
 live_left : (live : LiveClauses) (lines : List (ℕ × List Literal)) (ids : List ℕ) → All (λ id. live id ≡ None) ids

@@ -1,5 +1,5 @@
 -- Names that are kept by blocks of rows.
-use Rattle.std.proofs.Common.{◌≡◌, ◌≢◌, ℕ, zero, ◌⊎◌, ◌+◌, ◌-◌, ◌*◌, ◌/◌, ◌%◌, ◌<◌, ◌==◌, Bool, true, false, cond, inl, inr, List, [], ◌∷◌, ◌++◌, set, length, get_or, replicate, Option, None, Some, refl, sym, ◌∙◌, ap, arith, get_or-set_other, get_or-set_same}
+use Rattle.std.proofs.Common.{◌≡◌, ℕ, zero, ◌⊎◌, ◌+◌, ◌-◌, ◌*◌, ◌/◌, ◌%◌, ◌<◌, ◌==◌, Bool, true, false, cond, inl, inr, List, [], ◌∷◌, ◌++◌, set, length, get_or, replicate, Option, None, Some, refl, sym, ◌∙◌, ap, arith, get_or-set_other, get_or-set_same}
 use Rattle.std.specs.List.{All}
 use Rattle.std.proofs.Math.Nat.{div-add-mod, mod-lt}
 use Rattle.std.proofs.lemmas.Bool.{cases_eq, eqb-true, eq-eqb}
@@ -97,11 +97,6 @@ pub same_then_new : (numbers bases numbers' bases' numbers'' bases'' : List ℕ)
 same_then_new numbers bases numbers' bases' numbers'' bases'' number place base same new m q small =
     elim (new m q small) [ inl h ↦ inl (h ∙ same m q small) | inr h ↦ inr h ]
 
-pub same_is_kept : (numbers bases numbers' bases' : List ℕ) (number place base : ℕ) →
-    AreSameKept numbers bases numbers' bases'
-    → IsKeptOrNew numbers bases numbers' bases' number place base
-same_is_kept numbers bases numbers' bases' number place base same m q small = inl (same m q small)
-
 -- the block of the row at k
 block_parts : (rows c k : ℕ) → k < rows → ((c * blocks rows + k / 16) / blocks rows ≡ c) ×
     ((c * blocks rows + k / 16) % blocks rows ≡ k / 16)
@@ -158,16 +153,3 @@ kept_more x n numbers bases numbers' bases' c k base k_in before as_many new is 
         ∙ ap Some (sym here.2))
   ];
 }
-
--- what is found
-pub kept_is : (x : Frame) (n : Names) (numbers bases : List ℕ) (c k number place base : ℕ) → AreKept x n numbers bases →
-    c < length x.sets → k < length x.rows
-    → number ≡ block_number x c k → place ≡ k % 16 → base ≡ kept numbers bases number place → base ≢ 0 →
-    base_of x n c (row_of x.rows k) ≡ Some base
-kept_is x n numbers bases c k number place base are c_in k_in number_is place_is is some =
-    let here : base ≡ kept numbers bases (block_number x c k) (k % 16) =
-    is ∙ ap (λ m. kept numbers bases m place) number_is ∙ ap (kept numbers bases (block_number x c k)) place_is in
-    elim (are.are c k c_in k_in) [
-      | inl none ↦ absurd (some (here ∙ none))
-      | inr known ↦ known ∙ ap Some (sym here)
-    ]

@@ -5,7 +5,8 @@ use Rattle.std.specs.Option.{option_map}
 use Rattle.std.proofs.lemmas.Bool.{cases_Bool, eqb-true}
 use Rattle.dq_lits.specs.Derivation.{LiveClauses, is_empty}
 use Rattle.dq_lits.specs.Expansion.{instance_at}
-use Rattle.dq_lits.specs.Literal.{Literal, positive, negative, variable_of, on_variable}
+use Rattle.dq_lits.specs.Literal.{Literal, variable_of, on_variable}
+use Rattle.dq_lits.proofs.SignedLiterals.{variable_of-on, on-on}
 use Rattle.dq_formula.specs.Prefix.{IsLawful}
 use Rattle.rup_core.specs.Judging.{Hinted, derive_line, is_derived_by, is_faulty, LineState, no_line}
 use Rattle.rup_core.specs.Lines.{clause_of_id}
@@ -60,17 +61,6 @@ named_later x n m literals named whole extends are = record {
   known = known_later x n m literals whole extends are.known;
 }
 
-pub none_named : (x : Frame) (n : Names) → AreNamed x n [] []
-none_named x n = record { named_are = refl; known = tt }
-
-on_twice : (v w : ℕ) (l : Literal) → on_variable v (on_variable w l) ≡ on_variable v l
-on_twice v w (positive u) = refl
-on_twice v w (negative u) = refl
-
-variable_on : (v : ℕ) (l : Literal) → variable_of (on_variable v l) ≡ v
-variable_on v (positive u) = refl
-variable_on v (negative u) = refl
-
 known_more : (known : ℕ → Bool) (xs : List Literal) (l : Literal) → AreKnown known xs → known (variable_of l) ≡ true →
     AreKnown known (xs ++ l ∷ [])
 known_more known [] l all is = (is, tt)
@@ -86,13 +76,13 @@ pub one_named_more : (x : Frame) (n : Names) (literals named : List Literal) (v 
     AreNamed x n literals named → IsNamed x n v l m
     → AreNamed x n (literals ++ on_variable v l ∷ []) (named ++ m ∷ [])
 one_named_more x n literals named v l m are is =
-    let at : variable_of (on_variable v l) ≡ v = variable_on v l in
+    let at : variable_of (on_variable v l) ≡ v = variable_of-on v l in
     let number : new_number x n (variable_of (on_variable v l)) ≡ variable_of m =
     ap (new_number x n) at ∙ ap (λ o. number_or o (n.next + v)) is.name in
     record {
       named_are = ap (λ ls. ls ++ m ∷ []) are.named_are
           ∙ ap (λ k. renamed (new_number x n) literals ++ k ∷ [])
-          (is.same ∙ sym (on_twice (variable_of m) v l) ∙ ap (λ w. on_variable w (on_variable v l)) (sym number))
+          (is.same ∙ sym (on-on (variable_of m) v l) ∙ ap (λ w. on_variable w (on_variable v l)) (sym number))
           ∙ sym (renamed_append (new_number x n) literals (on_variable v l ∷ []));
       known = known_more (is_named x n) literals (on_variable v l) are.known
           (ap (is_named x n) at ∙ ap is_some is.name);

@@ -5,9 +5,11 @@ use Rattle.std.specs.Option.{option_map}
 use Rattle.std.proofs.lemmas.Bool.{cases_Bool, cases_eq, cases_lt, eqb-true, eq-eqb, lt-ltb, ltb-true, and_parts, and_from, both_ways}
 use Rattle.std.proofs.lemmas.List.{length-set}
 use Rattle.std.proofs.lemmas.List.Sums.{prefix_len_passes, prefix_len_stops}
+use Rattle.list_laws.proofs.Numbers.{pair_variable, pair_row}
 use Rattle.dq_lits.specs.Expansion.{agree_on, row_assignment}
 use Rattle.dq_lits.specs.Formula.{Existential, Dqbf, existential_of}
 use Rattle.dq_lits.specs.Henkin.{same_bits}
+use Rattle.dq_lits.proofs.Choices.{same_bits-sound}
 use Rattle.dq_formula.specs.Prefix.{IsLawful}
 use Rattle.cert_text.proofs.PairNumbers.{existential_in_range}
 use Rattle.rup_core.specs.Renaming.{KeepsApart}
@@ -19,7 +21,6 @@ use Rattle.refutation_checker.specs.Namings.{Frame, Names, sees_at, tree_at, bas
 use Rattle.refutation_checker.specs.declared.row_trees.Node.{Node}
 use Rattle.refutation_checker.specs.declared.bindings.Binding.{Binding}
 use Rattle.refutation_checker.specs.declared.bindings.Binding.TheVariants.{Universal, Existential as Bound, Free}
-use Rattle.refutation_checker.proofs.PairNames.{row_is, variable_is, same_bits-equal}
 use Rattle.refutation_checker.proofs.TreeNumbers.{agree_second, agree_itself, found_same}
 
 -- One set's pairs with one row get a name, or have it.
@@ -234,7 +235,7 @@ one_pair_of f rows y r s agree = ap (λ first. first * f.variables + y) (by (exi
     by None h = refl
     by (Some e) h =
         ap (λ bits. position_or_len (λ other. same_bits bits (map (row_assignment f other) e.sees)) rows)
-        (same_bits-equal (map (row_assignment f r) e.sees) (map (row_assignment f s) e.sees) h)
+        (same_bits-sound (map (row_assignment f r) e.sees) (map (row_assignment f s) e.sees) h)
 
 -- A pair's name.
 pub named_pair : (x : Frame) (n : Names) (k y c p b : ℕ) → IsNaming x n → IsLawful x.formula →
@@ -250,8 +251,8 @@ named_pair x n k y c p b naming lawful bound whole within is base =
     let first = first_row f x.rows y row in
     let v = first * f.variables + y in
     let agrees = first_of_pair f x.rows y k binding.0 within in
-    let row_at : row_number x v ≡ first = row_is first f.variables y range.0 range.1 in
-    let variable_at : variable_number x v ≡ y = variable_is first f.variables y range.0 range.1 in
+    let row_at : row_number x v ≡ first = pair_row first f.variables y range.0 range.1 in
+    let variable_at : variable_number x v ≡ y = pair_variable first f.variables y range.0 range.1 in
     let own : v ≡ pair_of f x.rows (row_of x.rows first) y =
     one_pair_of f x.rows y row (row_of x.rows first) agrees.1 in
     let pair : is_pair x v ≡ true =

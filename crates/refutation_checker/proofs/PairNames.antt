@@ -1,31 +1,17 @@
 -- A pair may be named by any row that agrees with its own.
-use Rattle.std.proofs.Common.{◌≡◌, ℕ, ◌+◌, ◌-◌, ◌*◌, ◌/◌, ◌%◌, ◌≤◌, ◌<◌, Bool, true, false, not, List, [], ◌∷◌, length, Some, inl, inr, refl, sym, ◌∙◌, ap, arith}
+use Rattle.std.proofs.Common.{◌≡◌, ℕ, ◌+◌, ◌-◌, ◌*◌, ◌/◌, ◌%◌, ◌≤◌, ◌<◌, Bool, true, false, not, List, [], length, Some, inl, inr, refl, sym, ◌∙◌, ap, arith}
 use Rattle.std.specs.Prelude.{◌↔◌}
 use Rattle.std.specs.List.{position_or_len, prefix_len, slice_get}
-use Rattle.std.proofs.Math.Nat.{mod-eq_of_lt, mul-add-mod_self_right}
-use Rattle.std.proofs.lemmas.Bool.{and_parts, cases_lt, both_ways}
-use Rattle.std.proofs.lemmas.Nat.{div-mul-add}
+use Rattle.std.proofs.lemmas.Bool.{cases_lt, both_ways}
 use Rattle.std.proofs.lemmas.Option.{slice_get-get_or}
 use Rattle.std.proofs.lemmas.List.Sums.{prefix_len_passes, prefix_len_stops}
+use Rattle.list_laws.proofs.Numbers.{pair_variable, pair_row}
 use Rattle.dq_lits.specs.Expansion.{agree_on, row_assignment, pair_number}
 use Rattle.dq_lits.specs.Formula.{Existential, Dqbf, existential_of}
-use Rattle.dq_lits.specs.Henkin.{restriction, same_bit, same_bits}
+use Rattle.dq_lits.specs.Henkin.{restriction, same_bits}
+use Rattle.dq_lits.proofs.Choices.{same_bits-sound, same_bits-refl}
 use Rattle.refutation_checker.specs.Rows.{row_of}
 use Rattle.refutation_checker.specs.Refutation.{normal_of, normal_number}
-
--- the number's row and existential
-pub row_is : (k v w : ℕ) → 1 ≤ w → w ≤ v → (k * v + w - 1) / v ≡ k
-row_is k v w low high =
-    let place : k * v + w - 1 ≡ k * v + (w - 1) = omega arith in
-    ap (λ n. n / v) place ∙ div-mul-add k v (w - 1) (omega arith)
-
-pub variable_is : (k v w : ℕ) → 1 ≤ w → w ≤ v → (k * v + w - 1) % v + 1 ≡ w
-variable_is k v w low high =
-    let place : k * v + w - 1 ≡ k * v + (w - 1) = omega arith in
-    let below : w - 1 < v = omega arith in
-    let rest : (k * v + w - 1) % v ≡ w - 1 = ap (λ n. n % v) place ∙ mul-add-mod_self_right k v (w - 1)
-    ∙ mod-eq_of_lt below in
-    omega (arith, rest)
 
 -- a number by row k stands for the pair under that row
 pub own_number : (f : Dqbf) (rows : List (List Bool)) (k : ℕ) (y : Existential) → 1 ≤ y.variable →
@@ -36,33 +22,10 @@ own_number f rows k y low high within is =
     let w = y.variable in
     let number = k * f.variables + w in
     ap (λ i. normal_of f rows number (slice_get rows i) (existential_of f ((number - 1) % f.variables + 1)))
-    (row_is k f.variables w low high)
-    ∙ ap (λ i. normal_of f rows number (slice_get rows k) (existential_of f i)) (variable_is k f.variables w low high)
+    (pair_row k f.variables w low high)
+    ∙ ap (λ i. normal_of f rows number (slice_get rows k) (existential_of f i)) (pair_variable k f.variables w low high)
     ∙ ap (λ o. normal_of f rows number o (existential_of f w)) (slice_get-get_or rows k [] within)
     ∙ ap (normal_of f rows number (Some (row_of rows k))) is
-
--- rows that agree show the same bits
-same_bit-equal : (a b : Bool) → same_bit a b ≡ true → a ≡ b
-same_bit-equal true true h = refl
-same_bit-equal true false h = cc
-same_bit-equal false true h = cc
-same_bit-equal false false h = refl
-
-same_bit-itself : (a : Bool) → same_bit a a ≡ true
-same_bit-itself true = refl
-same_bit-itself false = refl
-
-pub same_bits-equal : (xs ys : List Bool) → same_bits xs ys ≡ true → xs ≡ ys
-same_bits-equal [] [] h = refl
-same_bits-equal [] (_ ∷ _) h = cc
-same_bits-equal (_ ∷ _) [] h = cc
-same_bits-equal (x ∷ xs) (y ∷ ys) h =
-    let both = and_parts (same_bit x y) (same_bits xs ys) h in
-    ap (λ b. b ∷ xs) (same_bit-equal x y both.0) ∙ ap (λ bs. y ∷ bs) (same_bits-equal xs ys both.1)
-
-pub same_bits-itself : (xs : List Bool) → same_bits xs xs ≡ true
-same_bits-itself [] = refl
-same_bits-itself (x ∷ xs) = rw (same_bit-itself x) (same_bits-itself xs)
 
 -- the bits that an existential sees in a row
 abbrev seen_in : Dqbf → Existential → List Bool → List Bool
@@ -77,9 +40,9 @@ first_shows : (f : Dqbf) (rows : List (List Bool)) (y : Existential) (j : ℕ) �
 first_shows f rows y j within =
     let bits = seen_in f y (row_of rows j) in
     let other : List Bool → Bool = λ row. not (same_bits bits (seen_in f y row)) in
-    let here : same_bits bits (seen_in f y (row_of rows j)) ≡ true = same_bits-itself bits in
+    let here : same_bits bits (seen_in f y (row_of rows j)) ≡ true = same_bits-refl bits in
     elim (cases_lt (prefix_len other rows) (length rows)) [
-      | inl below ↦ same_bits-equal bits (seen_in f y (row_of rows (prefix_len other rows)))
+      | inl below ↦ same_bits-sound bits (seen_in f y (row_of rows (prefix_len other rows)))
           (turned (same_bits bits (seen_in f y (row_of rows (prefix_len other rows))))
           (prefix_len_stops other rows [] below))
       | inr past ↦
@@ -95,10 +58,10 @@ one_pair : (f : Dqbf) (rows : List (List Bool)) (y : Existential) (r1 r2 : List 
     pair_number f rows r1 y ≡ pair_number f rows r2 y
 one_pair f rows y r1 r2 agree =
     ap (λ bits. first_with f rows y bits * f.variables + y.variable)
-    (same_bits-equal (seen_in f y r1) (seen_in f y r2) agree)
+    (same_bits-sound (seen_in f y r1) (seen_in f y r2) agree)
 
 same_place : (p q v w : ℕ) → 1 ≤ w → w ≤ v → p * v + w ≡ q * v + w → p ≡ q
-same_place p q v w low high h = sym (row_is p v w low high) ∙ ap (λ n. (n - 1) / v) h ∙ row_is q v w low high
+same_place p q v w low high h = sym (pair_row p v w low high) ∙ ap (λ n. (n - 1) / v) h ∙ pair_row q v w low high
 
 agreeing : (f : Dqbf) (rows : List (List Bool)) (y : Existential) (j k : ℕ) → 1 ≤ y.variable →
     y.variable ≤ f.variables → j < length rows → k < length rows
@@ -109,7 +72,7 @@ agreeing f rows y j k low high j_in k_in same =
     (first_with f rows y (seen_in f y (row_of rows k))) f.variables y.variable low high same in
     let shown : seen_in f y (row_of rows j) ≡ seen_in f y (row_of rows k) =
     first_shows f rows y j j_in ∙ ap (λ n. seen_in f y (row_of rows n)) first ∙ sym (first_shows f rows y k k_in) in
-    ap (λ bits. same_bits (seen_in f y (row_of rows j)) bits) (sym shown) ∙ same_bits-itself
+    ap (λ bits. same_bits (seen_in f y (row_of rows j)) bits) (sym shown) ∙ same_bits-refl
     (seen_in f y (row_of rows j))
 
 -- two numbers of an existential stand for one pair exactly where their rows agree

@@ -1,10 +1,10 @@
 -- Clauses that are read literal by literal, on the names of their pairs.
-use Rattle.std.proofs.Common.{◌≡◌, ℕ, zero, suc, ◌+◌, ◌<◌, ◌≤◌, ◌==◌, Bool, true, false, not, cond, ◌&&◌, ◌||◌, List, [], ◌∷◌, ◌++◌, map, take, drop, length, get_or, None, Some, is_some, IsSome, refl, sym, ◌∙◌, ap, subst, arith, add-one}
+use Rattle.std.proofs.Common.{◌≡◌, ℕ, zero, suc, ◌+◌, ◌<◌, ◌≤◌, ◌==◌, Bool, true, false, not, cond, ◌&&◌, ◌||◌, List, [], ◌∷◌, ◌++◌, map, take, drop, length, get_or, None, Some, is_some, IsSome, refl, sym, ◌∙◌, ap, subst, arith}
 use Rattle.std.specs.List.{All, list_any, filter_map}
-use Rattle.std.proofs.Math.Seq.{drop-cons}
 use Rattle.std.specs.Bool.{beq}
 use Rattle.std.proofs.lemmas.List.Quantifiers.{position-Some}
 use Rattle.std.proofs.lemmas.List.{get_or_default, map_more}
+use Rattle.list_laws.proofs.Elements.{drop_at}
 use Rattle.dq_lits.specs.Expansion.{instance_clause, pair_literal, row_assignment, universal_literal_true}
 use Rattle.dq_lits.specs.Formula.{existential_of}
 use Rattle.dq_lits.specs.Literal.{Literal, positive, negative, variable_of, on_variable, is_negative, literal_true}
@@ -22,11 +22,8 @@ use Rattle.refutation_checker.specs.Pairs.{pair_of, existential_part}
 use Rattle.refutation_checker.specs.Refutation.{normal_number, normal_literal}
 use Rattle.refutation_checker.specs.Rows.{row_of}
 use Rattle.refutation_checker.proofs.BoundVariables.{not_universal, not_existential}
-use Rattle.refutation_checker.proofs.NamedLines.{named_later, none_named, one_named_more, named_from_base}
+use Rattle.refutation_checker.proofs.NamedLines.{named_later, one_named_more, named_from_base}
 use Rattle.refutation_checker.proofs.PairNumbers.{instance_part}
-
-pub drop_at : {X : Type 0} (xs : List X) (i : ℕ) (d : X) → i < length xs → drop i xs ≡ get_or xs i d ∷ drop (i + 1) xs
-drop_at xs i d lt = rw (add-one) (drop-cons xs i d lt)
 
 -- a literal that adds nothing, and one that adds its pair
 pub part_none : (x : Frame) (row : List Bool) (l : Literal) → existential_of x.formula (variable_of l) ≡ None →
@@ -63,14 +60,6 @@ pub record AreRead (x : Frame) (n : Names) (row : List Bool) (clause named : Lis
   pub none_true : list_any (universal_literal_true x.formula row) (drop i clause) ≡ list_any
       (universal_literal_true x.formula row) clause
   pub named_are : AreNamed x n (pair_part x row (take i clause)) named
-
-pub none_read : (x : Frame) (n : Names) (row : List Bool) (clause named : List Literal) → named ≡ [] →
-    AreRead x n row clause named 0
-none_read x n row clause named none = record {
-  none_true = refl;
-  named_are =
-      subst (AreNamed x n []) (sym none) (none_named x n);
-}
 
 pub read_more : (x : Frame) (n m : Names) (row : List Bool) (clause named now : List Literal) (i : ℕ) (l : Literal)
     (b : Bool)
@@ -229,16 +218,6 @@ universal_within x k place v r frame k_in is r_is =
     let long : length r ≡ length x.formula.universals = ap length (r_is ∙ get_or_default x.rows k r [] k_in)
     ∙ frame.whole k [] k_in in
     omega (arith, low, long)
-
-pub or_false : (b : Bool) → (b || false) ≡ b
-or_false true = refl
-or_false false = refl
-
-pub drop_end : {X : Type 0} (xs : List X) (i : ℕ) → length xs ≤ i → drop i xs ≡ []
-drop_end [] zero le = refl
-drop_end [] (suc i) le = refl
-drop_end (x ∷ xs) zero le = absurd (omega (arith, le))
-drop_end (x ∷ xs) (suc i) le = drop_end xs i (omega (arith, le))
 
 pub take_end : {X : Type 0} (xs : List X) (i : ℕ) → length xs ≤ i → take i xs ≡ xs
 take_end [] zero le = refl

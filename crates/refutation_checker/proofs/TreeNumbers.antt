@@ -1,26 +1,26 @@
 -- The numbers that trees of rows give.
-use Rattle.std.proofs.Common.{◌≡◌, ◌≢◌, ℕ, zero, suc, ◌+◌, ◌<◌, ◌≤◌, ◌==◌, Bool, true, false, cond, ◌&&◌, inl, inr, List, [], ◌∷◌, map, drop, length, get_or, Option, None, Some, refl, sym, ◌∙◌, ap, subst, arith, add-one}
+use Rattle.std.proofs.Common.{◌≡◌, ◌≢◌, ℕ, zero, suc, ◌+◌, ◌<◌, ◌≤◌, ◌==◌, Bool, true, false, cond, ◌&&◌, inl, inr, List, [], map, drop, length, get_or, Option, None, Some, refl, sym, ◌∙◌, ap, subst, arith}
 use Rattle.std.specs.List.{All, position_or_len}
-use Rattle.std.proofs.Math.Seq.{drop-cons}
 use Rattle.std.proofs.lemmas.List.{get_or-map, get_or_past}
 use Rattle.std.proofs.lemmas.Bool.{cases_Bool, cases_lt, cases_eq, eqb-true, eq-eqb, both_ways}
+use Rattle.list_laws.proofs.Elements.{drop_at}
 use Rattle.dq_lits.specs.Expansion.{row_assignment}
 use Rattle.dq_lits.specs.Formula.{Dqbf}
 use Rattle.dq_lits.specs.Henkin.{same_bit, same_bits}
 use Rattle.dq_lits.specs.Row.{bit_of}
+use Rattle.dq_lits.proofs.Choices.{same_bits-sound, same_bits-refl}
 use Rattle.dq_formula.proofs.Restrictions.{assignment_of-place}
 use Rattle.refutation_checker.specs.Rows.{agree_over, row_of}
 use Rattle.refutation_checker.specs.RowTrees.{node_at, next_of, walk_by, walk, reached, number_by, found, IsSeenPlace, Differ, IsOrderedNode, IsOrdered, IsKeyNode, IsTree, IsNodeSplit, AreNumbered, IsStanding}
 use Rattle.refutation_checker.specs.declared.row_trees.Node.{Node}
 use Rattle.refutation_checker.specs.declared.row_trees.Node.TheVariants.{Leaf, Test}
 use Rattle.refutation_checker.specs.declared.row_trees.Standing.TheVariants.{Differs}
-use Rattle.refutation_checker.proofs.PairNames.{same_bits-equal, same_bits-itself}
 use Rattle.refutation_checker.proofs.RowTrees.{steps_on, enough, walk_stops, walk_ends, walks_alike}
 
 -- rows that agree on a set can't be told apart by it
 agree_bits : (f : Dqbf) (sees : List ℕ) (r s : List Bool) → agree_over f sees r s ≡ true →
     map (row_assignment f r) sees ≡ map (row_assignment f s) sees
-agree_bits f sees r s h = same_bits-equal (map (row_assignment f r) sees) (map (row_assignment f s) sees) h
+agree_bits f sees r s h = same_bits-sound (map (row_assignment f r) sees) (map (row_assignment f s) sees) h
 
 pub agree_first : (f : Dqbf) (sees : List ℕ) (r s t : List Bool) → agree_over f sees r s ≡ true →
     agree_over f sees t r ≡ agree_over f sees t s
@@ -31,11 +31,7 @@ pub agree_second : (f : Dqbf) (sees : List ℕ) (r s t : List Bool) → agree_ov
 agree_second f sees r s t h = ap (λ bits. same_bits bits (map (row_assignment f t) sees)) (agree_bits f sees r s h)
 
 pub agree_itself : (f : Dqbf) (sees : List ℕ) (r : List Bool) → agree_over f sees r r ≡ true
-agree_itself f sees r = same_bits-itself (map (row_assignment f r) sees)
-
-pub agree_turned : (f : Dqbf) (sees : List ℕ) (r s : List Bool) → agree_over f sees r s ≡ true →
-    agree_over f sees s r ≡ true
-agree_turned f sees r s h = sym (agree_second f sees r s r h) ∙ agree_itself f sees r
+agree_itself f sees r = same_bits-refl (map (row_assignment f r) sees)
 
 next_same : (f : Dqbf) (rows : List (List Bool)) (sees : List ℕ) (node : Node) (r s : List Bool) →
     IsKeyNode f rows sees node
@@ -85,23 +81,6 @@ numbered_already f rows sees nodes row number tree whole is r r_whole =
           ∙ sym (ap (λ b. cond b (Some number) (found f rows sees nodes r)) agree)
       | inr apart ↦ sym (ap (λ b. cond b (Some number) (found f rows sees nodes r)) apart)
     ]
-
--- the first row of a tree
-pub first_leaf : (f : Dqbf) (rows : List (List Bool)) (sees : List ℕ) (k number : ℕ) →
-    AreNumbered f rows sees [] (Leaf k number ∷ []) (row_of rows k) number
-first_leaf f rows sees k number r whole = refl
-
-pub first_tree : (f : Dqbf) (rows : List (List Bool)) (sees : List ℕ) (k number : ℕ) → k < length rows →
-    IsTree f rows sees (Leaf k number ∷ [])
-first_tree f rows sees k number within = record {
-  ordered = λ j lt. at j lt (λ node. IsOrderedNode 1 j node) tt;
-  keyed = λ j lt. at j lt (λ node. IsKeyNode f rows sees node) within;
-}
-  where
-    at : (j : ℕ) → j < length (Leaf k number ∷ []) → (P : Node → Type 0) → P (Leaf k number) →
-        P (node_at (Leaf k number ∷ []) j)
-    at zero lt P h = h
-    at (suc j) lt P h = absurd (omega (arith, lt))
 
 -- a leaf that becomes a test
 module _ (f : Dqbf) (rows : List (List Bool)) (sees : List ℕ) (old new : List Node)
@@ -281,15 +260,6 @@ module _ (f : Dqbf) (rows : List (List Bool)) (sees : List ℕ) (old new : List 
             ]
       ]
 
--- the leaf that a row comes to
-pub leaf_agrees : (f : Dqbf) (rows : List (List Bool)) (sees : List ℕ) (nodes : List Node) (row : List Bool)
-    (at k own : ℕ) → at ≡ reached nodes row
-    → node_at nodes at ≡ Leaf k own → agree_over f sees (row_of rows k) row ≡ true →
-    found f rows sees nodes row ≡ Some own
-leaf_agrees f rows sees nodes row at k own came leaf agree =
-    ap (λ j. number_by f rows sees row (node_at nodes j)) (sym came) ∙ ap (number_by f rows sees row) leaf ∙ ap
-    (λ b. cond b (Some own) None) agree
-
 pub leaf_differs : (f : Dqbf) (rows : List (List Bool)) (sees : List ℕ) (nodes : List Node) (row : List Bool)
     (at k own : ℕ) → at ≡ reached nodes row
     → node_at nodes at ≡ Leaf k own → agree_over f sees (row_of rows k) row ≡ false → found f rows sees nodes row ≡ None
@@ -305,9 +275,6 @@ differ_apart f sees r s place r_whole s_whole seen apart =
       | inl agree ↦ absurd (apart (seen r s r_whole s_whole agree))
       | inr none ↦ none
     ]
-
-drop_at : {X : Type 0} (xs : List X) (i : ℕ) (d : X) → i < length xs → drop i xs ≡ get_or xs i d ∷ drop (i + 1) xs
-drop_at xs i d lt = rw (add-one) (drop-cons xs i d lt)
 
 -- the bits of a set's universals
 bit_at_place : (f : Dqbf) (row : List Bool) (v at : ℕ) → length row ≡ length f.universals →

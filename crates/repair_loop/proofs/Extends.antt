@@ -1,30 +1,25 @@
 -- A row that isn't in the table extends the model of its instances: its new pairs are free.
-use Rattle.std.proofs.Common.{◌≡◌, ℕ, suc, ◌+◌, ◌-◌, ◌*◌, ◌≤◌, ◌<◌, ltb, Bool, true, false, cond, not, ◌||◌, inl, inr, List, [], ◌∷◌, map, length, get_or, Option, Some, None, refl, sym, ◌∙◌, ap, arith, mul-le-mul_right, add-mul, one-mul}
+use Rattle.std.proofs.Common.{◌≡◌, ℕ, ◌+◌, ◌-◌, ◌*◌, ◌≤◌, ◌<◌, ltb, Bool, true, false, cond, not, ◌||◌, inl, inr, List, [], ◌∷◌, map, length, get_or, Option, Some, None, refl, sym, ◌∙◌, ap, arith, mul-le-mul_right, add-mul, one-mul}
 use Rattle.std.specs.List.{All, Contains, list_any, filter_map, cons_option, position_or_len}
 use Rattle.std.specs.Option.{option_map}
 use Rattle.std.proofs.lemmas.Bool.{cases_lt, cond-true, cond-false, lt-ltb, le-ltb}
 use Rattle.std.proofs.lemmas.List.Elements.{All-contains, All-head, All-tail, Contains-append_right, Contains-get_or}
 use Rattle.std.proofs.lemmas.List.Sums.{passes_at_first}
+use Rattle.list_laws.proofs.Sequences.{position_most}
 use Rattle.dq_lits.specs.Literal.{Assignment, Literal, positive, negative, variable_of, on_variable, literal_true, clause_true}
 use Rattle.dq_lits.specs.Formula.{Existential, Dqbf, declared, existential_of, HasLawfulPrefix}
 use Rattle.dq_lits.specs.Henkin.{restriction, same_bits}
 use Rattle.dq_lits.specs.Skolem.{OutputFunction}
 use Rattle.dq_lits.specs.Expansion.{row_assignment, agree_on, pair_number, pair_literal, universal_literal_true, InstanceHolds, IsExpansionModel}
+use Rattle.dq_lits.proofs.Choices.{same_bits-sound, same_bits-refl}
+use Rattle.dq_lits.proofs.FormulaVariables.{find_sound}
 use Rattle.hint_log.specs.ProductiveLog.{HasModelWith}
 use Rattle.expansion.specs.Table.{PointBits, ArePoints}
 use Rattle.candidate_functions.specs.Candidates.{AgreeAtPairs}
 use Rattle.circuit_cnf.specs.Failing.{IsFailure}
 use Rattle.candidate_functions.proofs.AtRows.{contains_mapped}
-use Rattle.expansion.proofs.Firsts.{same_bits-sound}
 use Rattle.expansion.proofs.FoundPoints.{find_own, existentials_once}
-use Rattle.log_laws.proofs.Found.{variable, find_sound, slice_get_at, same_bits-refl, position_small}
-
-position_most : (p : List Bool → Bool) (xs : List (List Bool)) → position_or_len p xs ≤ length xs
-position_most p [] = omega arith
-position_most p (x ∷ xs) = by_bit (p x) (position_most p xs) where
-  by_bit : (b : Bool) → position_or_len p xs ≤ length xs → cond (not b) (1 + position_or_len p xs) 0 ≤ suc (length xs)
-  by_bit true l = omega arith
-  by_bit false l = omega arith
+use Rattle.log_laws.proofs.Found.{variable, slice_get_at, position_small}
 
 mapped_same : (g h : Existential → Bool) (ys : List Existential) → All (λ y. g y ≡ h y) ys → map g ys ≡ map h ys
 mapped_same g h [] a = refl

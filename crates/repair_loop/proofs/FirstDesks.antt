@@ -3,6 +3,7 @@ use Rattle.std.proofs.Common.{◌≡◌, ◌≢◌, ◌⊎◌, inl, inr, ◌+◌
 use Rattle.std.specs.List.{Contains, filter, list_any}
 use Rattle.std.specs.Option.{unwrap_or}
 use Rattle.std.proofs.lemmas.List.{append-nil}
+use Rattle.list_laws.proofs.Members.{filter_keeps}
 use Rattle.dq_lits.specs.Formula.{Dqbf}
 use Rattle.dq_lits.specs.Literal.{Literal, negative, variable_of, same_literal}
 use Rattle.hint_log.specs.Deciding.{IsUndecided, DecidesTrue}
@@ -219,26 +220,8 @@ first_frames : (f : Dqbf) (b : BookState) (es : List Entry) → IsFirstBook f b 
 first_frames f b es first =
     ap frames_of first.begun_is ∙ append-nil (replicate (length f.matrix) 0)
 
-contains_first : (x : Entry) (es : List Entry) → Contains (x ∷ es) x
-contains_first x es = (0, omega arith, refl)
-
 contains_later : (x : Entry) (es : List Entry) (e : Entry) → Contains es e → Contains (x ∷ es) e
 contains_later x es e (k, below, is) = (suc k, omega (arith, below), is)
-
--- an element that passes a test stays
-contains_filtered : (test : Entry → Bool) (es : List Entry) (e : Entry) → test e ≡ true → Contains es e →
-    Contains (filter test es) e
-contains_filtered test [] e passes inside = inside
-contains_filtered test (x ∷ es) e passes (zero, below, is) =
-    subst (Contains (filter test (x ∷ es))) is
-    (subst (λ (b : Bool). Contains (cond b (x ∷ filter test es) (filter test es)) x) (sym (ap test is ∙ passes))
-    (contains_first x (filter test es)))
-contains_filtered test (x ∷ es) e passes (suc k, below, is) =
-    by_bit (test x) (contains_filtered test es e passes (k, omega (arith, below), is))
-  where
-    by_bit : (b : Bool) → Contains (filter test es) e → Contains (cond b (x ∷ filter test es) (filter test es)) e
-    by_bit true there = contains_later x (filter test es) e there
-    by_bit false there = there
 
 -- and what is left by the test is an element
 contains_unfiltered : (test : Entry → Bool) (es : List Entry) (e : Entry) → Contains (filter test es) e → Contains es e
@@ -257,7 +240,7 @@ pub none_stays : EnginesLeaveRest → (which : Engine) (f : Dqbf) (engine : Engi
     → Grew (IsAddedBy f engine group silent old.entries) old new → HasNone which old.entries → HasNone which new.entries
 none_stays law which f engine group silent old new other grew none e own inside =
     let left = law f engine group silent old new grew in
-    let here = contains_filtered (is_own which) new.entries e own inside in
+    let here = filter_keeps (is_own which) new.entries e own inside in
     none e own (contains_unfiltered (is_own which) old.entries e
     (subst (λ es. Contains es e) (left.others which other) here))
 

@@ -15,21 +15,9 @@ use Rattle.hint_log.specs.ProductiveLog.{RefutesNewRow, FollowsModel, is_fault}
 use Rattle.hint_log.specs.ProductiveSession.{MatchesLiveOrigin, RefutesNewLiveRow, FollowsLiveModel, AreGroupedByFrames, IsProductiveSession, frame_of}
 use Rattle.hint_log.specs.declared.origins.Origin.{Origin}
 use Rattle.hint_log.specs.declared.origins.Origin.TheVariants.{Instance, Gate, Fault, Copy, Link, TermGate, Differ}
-use Rattle.dq_session.proofs.AddedClauses.{numbered_more, numbered_within}
-use Rattle.dq_session.proofs.GroupedFrames.{each_contained}
+use Rattle.hint_log.proofs.NamedEntries.{live_are_numbers, each_one, numbered_low}
+use Rattle.dq_session.proofs.AddedClauses.{numbered_more}
 use Rattle.repair_loop.specs.Desks.{IsOfSearch}
-
--- the live numbers are those of clauses
-pub live_are_numbers : (all : Dqbf) (es : List Entry) (live : List ℕ) → Each (MatchesLiveOrigin all) es →
-    live_numbers es ≡ Some live → AreNumbers all live
-live_are_numbers all [] live given h = cc
-live_are_numbers all (Named v n ∷ es) live given h = live_are_numbers all es live given.1 h
-live_are_numbers all (Given origin c ∷ es) live given h = live_are_numbers all es live given.1 h
-live_are_numbers all (Learned c hints ∷ es) live given h = live_are_numbers all es live given.1 h
-live_are_numbers all (Answer c hints ∷ es) live given h = live_are_numbers all es live given.1 h
-live_are_numbers all (Round row values j ∷ es) live given h = live_are_numbers all es live given.1 h
-live_are_numbers all (Begun numbers ∷ es) live given h = let same : numbers ≡ live = cc in
-    subst (AreNumbers all) same given.0
 
 numbered_same : (xs ys : List (List Literal)) (j : ℕ) → 1 ≤ j → j ≤ length xs →
     numbered_from_one (xs ++ ys) j ≡ numbered_from_one xs j
@@ -182,15 +170,15 @@ module _ (all : Dqbf) (more : List (List Literal)) where
     instance_frame : (k j : ℕ) (c : List Literal) → Contains es (Given (Instance k j) c) →
         frame_of (frames ++ added) j ≡ frame_of frames j
     instance_frame k j c has =
-        let there = each_contained (MatchesLiveOrigin all) es (Given (Instance k j) c) given has in
-        let inside = numbered_within all.matrix j there.1.rest_is.clause there.1.rest_is.clause_is in
+        let there = each_one (MatchesLiveOrigin all) es (Given (Instance k j) c) given has in
+        let inside = numbered_low all.matrix j there.1.rest_is.clause there.1.rest_is.clause_is in
         frame_stays j inside.0 inside.1
 
     copy_frame : (side j : ℕ) (c : List Literal) → Contains es (Given (Copy side j) c) →
         frame_of (frames ++ added) j ≡ frame_of frames j
     copy_frame side j c has =
-        let there = each_contained (MatchesLiveOrigin all) es (Given (Copy side j) c) given has in
-        let inside = numbered_within all.matrix j there.1.rest_is.1.clause there.1.rest_is.1.clause_is in
+        let there = each_one (MatchesLiveOrigin all) es (Given (Copy side j) c) given has in
+        let inside = numbered_low all.matrix j there.1.rest_is.1.clause there.1.rest_is.1.clause_is in
         frame_stays j inside.0 inside.1
 
     groups_stay : AreGroupedByFrames frames es → AreGroupedByFrames (frames ++ added) es

@@ -4,9 +4,9 @@ mod UniversalInputs
 mod GrownSessions
 mod ReadyDesks
 mod WholeSearches
-mod LogGrowth
+pub mod LogGrowth
 mod LiveGrowth
-mod LiveBooks
+pub mod LiveBooks
 mod StoredGroups
 mod UnnamedBefore
 mod NewFaults

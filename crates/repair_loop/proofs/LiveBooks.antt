@@ -14,13 +14,13 @@ use Rattle.hint_log.specs.ProductiveSession.{frame_of}
 use Rattle.dq_session.specs.Books.{BookState, IsOpen, IsBook, number_at, number_of, frame_at, all_of, frames_of, live_of, now_of}
 use Rattle.dq_session.specs.Changes.{groups_of}
 use Rattle.dq_session.specs.declared.live.Live.{Live}
-use Rattle.dq_session.proofs.FreshGroups.{group_at}
 use Rattle.dq_session.proofs.LiveFormulas.{live_within}
+use Rattle.dq_session.proofs.BooksGiving.{group_in}
 use Rattle.log_laws.proofs.Found.{numbered_among}
 use Rattle.padoa_definitions.specs.Following.{IsLiveFormula}
 
 -- clauses that are taken by their numbers are bound as all are
-taken_bound : (P : List Literal → Type 0) (m : List (List Literal)) (js : List ℕ) → All P m →
+pub taken_bound : (P : List Literal → Type 0) (m : List (List Literal)) (js : List ℕ) → All P m →
     All P (filter_map (numbered_from_one m) js)
 taken_bound P m [] all = All-nil P
 taken_bound P m (j ∷ js) all = by (numbered_from_one m j) refl (taken_bound P m js all)
@@ -177,7 +177,7 @@ module _ (b : BookState) (es : List Entry) (book : IsBook b es) where
       let same : name_of es b.table.group ≡ None = ap (name_of es) is ∙ none in
       cc
   book_named n (suc k, below, is) none =
-      let r = group_at b.groups n (k, omega (arith, below), is) in
+      let r = group_in b.groups n (k, omega (arith, below), is) in
       let made = (book.groups.made r.0 r.1 r.2).named in
       let same : name_of es (number_of r.1) ≡ None = ap (name_of es) r.3 ∙ none in
       cc

@@ -2,6 +2,7 @@
 -- checker as it is. Questions add so little that any engine may have added it.
 use Rattle.std.proofs.Common.{◌≡◌, ◌≢◌, ℕ, zero, suc, ◌+◌, ◌-◌, Bool, true, false, inl, inr, ◌⊎◌, List, [], ◌∷◌, ◌++◌, Option, None, Some, IsSome, refl, sym, ◌∙◌, ap, subst, arith}
 use Rattle.std.specs.List.{Contains}
+use Rattle.list_laws.proofs.Members.{contains_later}
 use Rattle.dq_lits.specs.Literal.{Literal}
 use Rattle.dq_lits.specs.Formula.{Dqbf}
 use Rattle.hint_log.specs.Deciding.{DecidesNothing}
@@ -200,9 +201,6 @@ pub same_prefix : (f : Dqbf) (m n : List (List Literal)) (c : Checker) (es : Lis
     IsChecker (with_matrix f m) c es → IsChecker (with_matrix f n) c es
 same_prefix f m n c es is = record { gates = is.gates; inputs = is.inputs; bads = is.bads }
 
-later : (e x : Entry) (es : List Entry) → Contains es x → Contains (e ∷ es) x
-later e x es (k, below, is) = (suc k, omega (arith, below), is)
-
 still_given : (live : List ℕ) (es : List Entry) (origin : Origin) (c : List Literal) →
     Contains (Begun live ∷ es) (Given origin c) → Contains es (Given origin c)
 still_given live es origin c (zero, below, is) = cc
@@ -216,13 +214,13 @@ checker_begun f c live es is = record {
     made = record { positive = is.gates.made.positive; named = is.gates.made.named };
     known = is.gates.known;
     sound = is.gates.sound;
-    clauses = λ a b v found i rest few rest_is. later (Begun live) _ es (is.gates.clauses a b v found i rest few rest_is);
+    clauses = λ a b v found i rest few rest_is. contains_later (Begun live) _ es (is.gates.clauses a b v found i rest few rest_is);
     origins = λ v i d has. is.gates.origins v i d (still_given live es _ d has);
     own = (tt, is.gates.own);
     last = λ gate last. let h = is.gates.last gate last in record {
       named = h.named;
       few = h.few;
-      given = λ i rest few rest_is. later (Begun live) _ es (h.given i rest few rest_is);
+      given = λ i rest few rest_is. contains_later (Begun live) _ es (h.given i rest few rest_is);
       missing = λ i d more has. h.missing i d more (still_given live es _ d has);
       unknown = h.unknown;
     };

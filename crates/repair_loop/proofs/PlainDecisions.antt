@@ -13,9 +13,8 @@ use Rattle.hint_log.specs.ProductiveSession.{MatchesLiveOrigin, DecidesLiveFalse
 use Rattle.hint_log.specs.declared.names.Name.{Name}
 use Rattle.hint_log.specs.declared.origins.Origin.{Origin}
 use Rattle.hint_log.specs.declared.origins.Origin.TheVariants.{Instance, Gate, Fault, Copy, Link, TermGate, Differ}
+use Rattle.hint_log.proofs.NamedEntries.{each_one, numbered_low}
 use Rattle.log_laws.specs.Engines.{IsInGroup}
-use Rattle.dq_session.proofs.AddedClauses.{numbered_within}
-use Rattle.dq_session.proofs.GroupedFrames.{each_contained}
 use Rattle.repair_loop.specs.Desks.{IsOfSearch}
 use Rattle.repair_loop.specs.Turning.{AreFaultsNew}
 
@@ -148,9 +147,9 @@ module _ (f : Dqbf) (live : List ℕ) (whole : formula_of f live ≡ f)
       decides = d;
       live = λ numbers k j i named reached.
           let same : live ≡ numbers = let e : Some live ≡ Some numbers = sym (same_live more none) ∙ named in cc in
-          let there = each_contained (MatchesLiveOrigin f) es (Given (Instance k j) i) given
+          let there = each_one (MatchesLiveOrigin f) es (Given (Instance k j) i) given
           (numbered_there has_id es reached.id (Given (Instance k j) i) reached.is_given) in
-          let inside = numbered_within f.matrix j there.1.rest_is.clause there.1.rest_is.clause_is in
+          let inside = numbered_low f.matrix j there.1.rest_is.clause there.1.rest_is.clause_is in
           subst (λ ns. Contains ns j) same (all_live j inside.0 inside.1);
     }
 

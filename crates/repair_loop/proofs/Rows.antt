@@ -8,11 +8,12 @@ use Rattle.dq_lits.specs.Formula.{Existential, Dqbf, is_universal, HasLawfulPref
 use Rattle.dq_lits.specs.Row.{assignment_of}
 use Rattle.dq_lits.specs.Skolem.{OutputFunction}
 use Rattle.dq_lits.specs.Expansion.{row_assignment, pair_number, instance_clause, InstanceHolds, IsExpansionModel}
+use Rattle.dq_lits.proofs.FormulaVariables.{find_sound}
 use Rattle.hint_log.specs.Naming.{by_universality, round_assignment}
 use Rattle.expansion.specs.Table.{PointBits, ArePoints}
 use Rattle.candidate_functions.specs.Candidates.{AgreeAtPairs}
 use Rattle.candidate_functions.proofs.AtRows.{apart, AtRow, clause_holds}
-use Rattle.log_laws.proofs.Found.{variable, find_sound, slice_get_at, numbered_among}
+use Rattle.log_laws.proofs.Found.{variable, slice_get_at, numbered_among}
 use Rattle.circuit_cnf.specs.Failing.{IsFailure}
 
 values_at : (g : Existential → Bool) (v : ℕ) (ys : List Existential) (y : Existential) →

@@ -1,6 +1,7 @@
 -- What each call leaves of a search that is under way.
-use Rattle.std.proofs.Common.{◌≡◌, ◌≢◌, inl, inr, ℕ, zero, suc, Bool, true, List, [], ◌∷◌, length, Some, refl, sym, ◌∙◌, ap, subst, arith}
+use Rattle.std.proofs.Common.{◌≡◌, ◌≢◌, inl, inr, ℕ, Bool, true, List, [], ◌∷◌, length, Some, refl, sym, ◌∙◌, ap, subst, arith}
 use Rattle.std.specs.List.{Contains}
+use Rattle.list_laws.proofs.Members.{only_one}
 use Rattle.dq_lits.specs.Formula.{Dqbf}
 use Rattle.dq_lits.specs.Literal.{Literal, negative, variable_of}
 use Rattle.hint_log.specs.Entries.{Entry, Given, Round, ProofLog}
@@ -108,10 +109,6 @@ questions_left law books stores stay f b c p ready old new asked copied way =
       },
       faults,
     )
-
-only_one : (group h : ℕ) → Contains (group ∷ []) h → group ≡ h
-only_one group h (zero, below, is) = is
-only_one group h (suc k, below, is) = absurd (omega (arith, below))
 
 pub turns_left : EnginesLeaveSessions → CircuitsAddLive → EnginesLeaveBooks → EnginesLeaveStores →
     SessionsLeaveCopies → ActiveGroupsAreStored → TurnsLeaveSearches

@@ -1,5 +1,5 @@
 -- A table of values, where a literal is made true and where all are taken back.
-use Rattle.std.proofs.Common.{◌≡◌, ◌≢◌, ℕ, zero, suc, ◌+◌, ◌<◌, ◌≤◌, Bool, false, ◌||◌, inl, inr, List, [], ◌∷◌, ◌++◌, reverse, length, drop, set, get_or, count_by, refl, sym, ◌∙◌, ap, subst, arith, get_or-set_other, get_or-set_same, add-one}
+use Rattle.std.proofs.Common.{◌≡◌, ◌≢◌, ℕ, suc, ◌+◌, ◌<◌, ◌≤◌, Bool, false, ◌||◌, inl, inr, List, [], ◌∷◌, ◌++◌, reverse, length, drop, set, get_or, count_by, refl, sym, ◌∙◌, ap, subst, arith, get_or-set_other, get_or-set_same, add-one}
 use Rattle.std.proofs.Math.Seq.{drop-cons}
 use Rattle.std.specs.BTreeMap.{BTreeMap, get}
 use Rattle.std.specs.List.{All}
@@ -29,13 +29,6 @@ told_only values literals told i lt p n =
     told_free (get_or values i Unassigned) (holds (reverse literals) (positive (suc i)))
     (holds (reverse literals) (negative (suc i))) (told i lt)
     (holds-reverse literals (positive (suc i)) p) (holds-reverse literals (negative (suc i)) n)
-
-All-single : {X : Type 0} (P : X → Type 0) (x : X) → P x → All P (x ∷ [])
-All-single P x here = All-from_get_or P (x ∷ []) x (λ i lt. at i lt)
-  where
-    at : (i : ℕ) → i < length (x ∷ []) → P (get_or (x ∷ []) i x)
-    at zero h = here
-    at (suc i) h = absurd (omega arith)
 
 -- no literal is left whose variable has a value
 pub all_taken_back : (values : List TruthValue) (literals : List Literal) (n : ℕ) → length literals ≤ n →

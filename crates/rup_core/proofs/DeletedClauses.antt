@@ -1,11 +1,12 @@
 -- Items of a derivation: their run, and what deletions leave.
-use Rattle.std.proofs.Common.{◌≡◌, ℕ, ◌+◌, ◌==◌, Bool, true, false, cond, List, [], ◌∷◌, map, Option, None, Some, refl, sym, ◌∙◌, ap}
+use Rattle.std.proofs.Common.{◌≡◌, ℕ, ◌+◌, ◌==◌, Bool, true, false, cond, List, [], ◌∷◌, map, Option, None, Some, refl, ◌∙◌, ap}
 use Rattle.std.specs.List.{AllByRecursion}
 use Rattle.dq_lits.specs.Literal.{Assignment, Literal, opposite, clause_true}
-use Rattle.dq_lits.specs.Derivation.{LiveClauses, MakesTrue, with_clause, status_of, fault_by, hint_fault, is_tautology, line_fault, IsDerived, ProofStep, ProofFault, underived, unfinished, fault_of_step, is_empty, steps_fault}
+use Rattle.dq_lits.specs.Derivation.{LiveClauses, MakesTrue, with_clause, status_of, fault_by, hint_fault, is_tautology, line_fault, IsDerived, ProofStep, ProofFault, underived, fault_of_step, is_empty, steps_fault}
+use Rattle.dq_lits.proofs.HeldLiterals.{fault_by-same}
+use Rattle.dq_lits.proofs.Derivations.{no_step_fault, one_of_two, end_fault, empty_is_false}
 use Rattle.rup_core.specs.Items.{ProofItem, derived, gone, is_among, without_clauses, items_fault, ItemsDerive, AreUnused}
 use Rattle.rup_core.specs.Runs.{Run, with_line, with_item, with_items, run_fault}
-use Rattle.rup_core.proofs.EqualTruths.{fault_by-same}
 
 -- without deletions
 pub steps_alone : (finished : Bool) (live : LiveClauses) (steps : List ProofStep) →
@@ -54,12 +55,6 @@ pub fewer_true : (m : Assignment) (live : LiveClauses) (ids : List ℕ) → Make
     MakesTrue m (without_clauses live ids)
 fewer_true m live ids truth id clause h = if_kept m (is_among ids id) clause (live id) (truth id clause) h
 
-one_of_two : (m : Assignment) (b : Bool) (clause c : List Literal) (other : Option (List Literal)) →
-    clause_true m clause ≡ true →
-    (other ≡ Some c → clause_true m c ≡ true) → cond b (Some clause) other ≡ Some c → clause_true m c ≡ true
-one_of_two m true clause c other here there h = let same : clause ≡ c = cc in ap (clause_true m) (sym same) ∙ here
-one_of_two m false clause c other here there h = there h
-
 pub one_more_true : (m : Assignment) (live : LiveClauses) (id : ℕ) (clause : List Literal) → MakesTrue m live →
     clause_true m clause ≡ true → MakesTrue m (with_clause live id clause)
 one_more_true m live id clause truth here i c h = one_of_two m (i == id) clause c (live i) here (truth i c) h
@@ -69,25 +64,12 @@ abbrev LineIsImplied : Type 0
 LineIsImplied = (live : LiveClauses) (literals : List Literal) (hints : List ℕ) → IsDerived live literals hints →
     (m : Assignment) → MakesTrue m live → clause_true m literals ≡ true
 
-no_line_fault : (o : Option ℕ) (id : ℕ) (rest : Option ProofFault) → fault_of_step o id rest ≡ None →
-    (o ≡ None) × (rest ≡ None)
-no_line_fault (Some _) id rest h = cc
-no_line_fault None id rest h = (refl, h)
-
-end_fault : (finished : Bool) → cond finished None (Some unfinished) ≡ None → finished ≡ true
-end_fault true h = refl
-end_fault false h = cc
-
-empty_is_false : (m : Assignment) (clause : List Literal) → clause_true m clause ≡ true → is_empty clause ≡ true → ⊥
-empty_is_false m [] truth h = cc
-empty_is_false m (l ∷ ls) truth h = cc
-
 items_refute : LineIsImplied → (m : Assignment) (items : List ProofItem) (finished : Bool) (live : LiveClauses) →
     MakesTrue m live →
     (finished ≡ true → ⊥) → items_fault finished live items ≡ None → ⊥
 items_refute implied m [] finished live truth before h = before (end_fault finished h)
 items_refute implied m (derived step ∷ items) finished live truth before h =
-    let r = no_line_fault (line_fault live step.literals step.hints) step.id
+    let r = no_step_fault (line_fault live step.literals step.hints) step.id
     (items_fault (is_empty step.literals) (with_clause live step.id step.literals) items) h in
     let here = implied live step.literals step.hints r.0 m truth in
     items_refute implied m items (is_empty step.literals) (with_clause live step.id step.literals)

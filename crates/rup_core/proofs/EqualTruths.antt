@@ -1,15 +1,11 @@
 -- Propagation depends on the set of true literals alone.
-use Rattle.std.proofs.Common.{◌≡◌, ℕ, ◌+◌, Bool, not, cond, ◌||◌, ◌&&◌, List, [], ◌∷◌, Option, None, Some, refl, ◌∙◌, ap}
+use Rattle.std.proofs.Common.{◌≡◌, ℕ, ◌+◌, not, cond, ◌||◌, ◌&&◌, List, [], ◌∷◌, Option, None, Some, refl, ◌∙◌, ap}
 use Rattle.std.specs.List.{list_all, filter}
+use Rattle.list_laws.proofs.Folds.{filter-same}
 use Rattle.dq_lits.specs.Literal.{Literal, opposite, same_literal}
-use Rattle.dq_lits.specs.Derivation.{LiveClauses, Status, falsified, unit, stuck, holds, status_by, status_of, fault_by, hint_fault}
+use Rattle.dq_lits.specs.Derivation.{LiveClauses, unit, stuck, holds, status_by, status_of, fault_by, hint_fault}
+use Rattle.dq_lits.proofs.HeldLiterals.{fault_by-same}
 use Rattle.rup_core.specs.Truth.{AreSame}
-
-filter-same : (p q : Literal → Bool) → ((l : Literal) → p l ≡ q l) → (xs : List Literal) → filter p xs ≡ filter q xs
-filter-same p q same [] = refl
-filter-same p q same (x ∷ xs) =
-    ap (λ b. cond b (x ∷ filter p xs) (filter p xs)) (same x) ∙ ap (λ ys. cond (q x) (x ∷ ys) ys)
-    (filter-same p q same xs)
 
 status_by-same : (xs ys rest : List Literal) → AreSame xs ys → status_by xs rest ≡ status_by ys rest
 status_by-same xs ys [] same = refl
@@ -22,13 +18,6 @@ status_of-same xs ys (Some clause) same =
     ap (status_by xs) (filter-same (λ l. not (holds xs (opposite l))) (λ l. not (holds ys (opposite l)))
     (λ l. ap not (same (opposite l))) clause)
     ∙ status_by-same xs ys (filter (λ l. not (holds ys (opposite l))) clause) same
-
-pub fault_by-same : (s : Status) (place : ℕ) (hints : List ℕ) (f g : Literal → Option ℕ) → ((l : Literal) → f l ≡ g l) →
-    fault_by s place hints f ≡ fault_by s place hints g
-fault_by-same falsified place [] f g same = refl
-fault_by-same falsified place (_ ∷ _) f g same = refl
-fault_by-same (unit l) place hints f g same = same l
-fault_by-same stuck place hints f g same = refl
 
 pub hint_fault-same : (live : LiveClauses) (hints : List ℕ) (xs ys : List Literal) (place : ℕ) → AreSame xs ys →
     hint_fault live xs place hints ≡ hint_fault live ys place hints

@@ -1,16 +1,18 @@
 -- A line's literals, made false one by one.
-use Rattle.std.proofs.Common.{◌≡◌, ℕ, ◌<◌, Bool, true, false, not, cond, ◌||◌, inl, inr, List, [], ◌∷◌, map, take, drop, length, Option, Some, Result, Ok, Err, IfOk, refl, sym, ◌∙◌, ap, get_or}
+use Rattle.std.proofs.Common.{◌≡◌, ℕ, ◌<◌, Bool, true, false, not, cond, ◌||◌, List, [], ◌∷◌, map, take, drop, length, Option, Some, Result, Ok, Err, IfOk, refl, sym, ◌∙◌, ap, get_or}
 use Rattle.std.specs.List.{list_any}
-use Rattle.std.proofs.lemmas.Bool.{not-true, or_cases, or_from, or_left, or_right}
+use Rattle.std.proofs.lemmas.Bool.{not-true, or_from, or_left, or_right}
 use Rattle.std.proofs.lemmas.List.{take-append-drop}
 use Rattle.std.proofs.lemmas.List.Folds.{list_any_at}
-use Rattle.dq_lits.specs.Literal.{Literal, positive, negative, opposite, same_literal}
+use Rattle.dq_lits.specs.Literal.{Literal, opposite, same_literal}
 use Rattle.dq_lits.specs.Derivation.{LiveClauses, holds, is_tautology, hint_fault, line_fault}
+use Rattle.dq_lits.proofs.HeldLiterals.{any_one, holds-append}
+use Rattle.dq_lits.proofs.SignedLiterals.{same_literal-refl, opposite-opposite, same_opposite}
 use Rattle.rup_core.specs.Truth.{AreSame}
 use Rattle.truth_values.specs.Truth.{literal_value}
 use Rattle.truth_values.specs.declared.values.TruthValue.TheVariants.{True}
 use Rattle.rup_core.proofs.EqualTruths.{hint_fault-same}
-use Rattle.truth_values.proofs.HeldLiterals.{same_literal-sound, same_literal-refl, opposite-opposite, holds-append, value_true}
+use Rattle.truth_values.proofs.HeldLiterals.{value_true}
 
 -- no literal beside its negation
 abbrev pub IsConsistent : List Literal → Type 0
@@ -22,23 +24,6 @@ any_none p [] none = refl
 any_none p (l ∷ line) none =
     or_from (p l) (list_any p line) (none l (or_left (same_literal l l) (holds line l) (same_literal-refl l)))
     (any_none p line (λ k h. none k (or_right (same_literal k l) (holds line k) h)))
-
-any_one : (p : Literal → Bool) (line : List Literal) (l : Literal) → holds line l ≡ true → p l ≡ true →
-    list_any p line ≡ true
-any_one p [] l h here = cc
-any_one p (k ∷ line) l h here =
-    elim (or_cases (same_literal l k) (holds line l) h) [
-      | inl same ↦ or_left (p k) (list_any p line) (ap p (sym (same_literal-sound l k same)) ∙ here)
-      | inr later ↦ or_right (p k) (list_any p line) (any_one p line l later here)
-    ]
-
-same_opposite : (k l : Literal) → same_literal (opposite k) (opposite l) ≡ same_literal k l
-same_opposite k l = elim k as (λ x. same_literal (opposite x) (opposite l) ≡ same_literal x l) [
-  | positive v ↦ elim l as (λ y. same_literal (opposite (positive v)) (opposite y) ≡ same_literal (positive v) y)
-      [ positive w ↦ refl | negative w ↦ refl ]
-  | negative v ↦ elim l as (λ y. same_literal (opposite (negative v)) (opposite y) ≡ same_literal (negative v) y)
-      [ positive w ↦ refl | negative w ↦ refl ]
-]
 
 holds-map : (line : List Literal) (l : Literal) → holds (map opposite line) (opposite l) ≡ holds line l
 holds-map [] l = refl

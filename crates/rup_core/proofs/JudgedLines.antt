@@ -4,6 +4,7 @@ use Rattle.std.specs.List.{All, filter}
 use Rattle.std.proofs.lemmas.Bool.{cases_eq, ne_eqb, or_cases, eqb-true}
 use Rattle.std.proofs.lemmas.List.{take_more}
 use Rattle.std.proofs.lemmas.List.Folds.{list_any-append}
+use Rattle.list_laws.proofs.Numbers.{equal-swap}
 use mathlib.Core.Path.{fun_ext}
 use Rattle.dq_lits.specs.Literal.{Literal, opposite, same_literal}
 use Rattle.dq_lits.specs.Derivation.{LiveClauses, with_clause, Status, falsified, unit, stuck, status_of, fault_by, hint_fault, is_tautology, line_fault, ProofStep, is_empty}
@@ -71,17 +72,11 @@ line_derives live literals hints =
     none_if (is_tautology literals) (hint_fault live (map opposite literals) 1 hints)
     ∙ ap (λ b. not (is_tautology literals) && b) (hints_refute live hints (map opposite literals) 1)
 
-same_test : (a b : ℕ) → (a == b) ≡ (b == a)
-same_test a b = elim (cases_eq a b) [
-  | inl same ↦ eq-eqb a b same ∙ sym (eq-eqb b a (sym same))
-  | inr other ↦ ne_eqb a b other ∙ sym (ne_eqb b a (λ e. other (sym e)))
-]
-
 -- one more line
 lines_put : (lines : List (ℕ × List Literal)) (id : ℕ) (clause : List Literal) → All (λ line. line.0 < id) lines →
     (i : ℕ) →
     clause_of_id (lines ++ (id, clause) ∷ []) i ≡ cond (i == id) (Some clause) (clause_of_id lines i)
-lines_put [] id clause above i = ap (λ b. cond b (Some clause) None) (same_test id i)
+lines_put [] id clause above i = ap (λ b. cond b (Some clause) None) (equal-swap id i)
 lines_put (line ∷ lines) id clause above i =
     ap (λ o. cond (line.0 == i) (Some line.1) o) (lines_put lines id clause
     (λ k d below. above (suc k) d (omega (arith, below))) i)
@@ -240,7 +235,7 @@ one_forgotten ids n lines now new below before is =
     ap (λ xs. not (is_among xs line.0)) (take_more ids n 0 below)
     ∙ ap not (list_any-append (λ j. j == line.0) (take n ids) (id ∷ []))
     ∙ neither (is_among (take n ids) line.0) (id == line.0)
-    ∙ ap (λ b. not (is_among (take n ids) line.0) && not b) (same_test id line.0))
+    ∙ ap (λ b. not (is_among (take n ids) line.0) && not b) (equal-swap id line.0))
     lines
 
 none_here : (fault : Option ℕ) → is_none fault ≡ true → fault ≡ None

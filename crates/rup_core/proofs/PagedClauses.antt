@@ -1,10 +1,11 @@
 -- Clauses that lie among the literals of a page.
-use Rattle.std.proofs.Common.{◌≡◌, ℕ, zero, suc, ◌+◌, ◌-◌, ◌<◌, ◌≤◌, ◌==◌, nat_lt, Bool, true, false, cond, inl, inr, List, [], ◌∷◌, ◌++◌, map, take, drop, set, length, get_or, Option, None, Some, IsSome, Result, Ok, Err, OnErr, refl, sym, ◌∙◌, ap, subst, arith, length-append, length-drop, eq-eqb}
+use Rattle.std.proofs.Common.{◌≡◌, ℕ, zero, suc, ◌+◌, ◌-◌, ◌<◌, ◌≤◌, ◌==◌, nat_lt, Bool, true, false, cond, inl, inr, List, [], ◌∷◌, ◌++◌, map, take, drop, set, length, get_or, Option, None, Some, IsSome, Result, Ok, Err, OnErr, refl, sym, ◌∙◌, ap, subst, arith, length-append, eq-eqb}
 use Rattle.std.specs.List.{All, count_by}
-use Rattle.std.proofs.lemmas.Bool.{cases_Bool, cases_eq, cases_lt, leb-true, le-leb, lt-ltb, le-ltb, ne_eqb}
-use Rattle.std.proofs.lemmas.List.{get_or-set_same, get_or-set_other, get_or_past, get_or_default, length-map, take_all, drop_at, take-append-le, drop-append-le}
+use Rattle.std.proofs.lemmas.Bool.{cases_Bool, cases_eq, cases_lt, leb-true, le-leb, ne_eqb}
+use Rattle.std.proofs.lemmas.List.{get_or-set_same, get_or-set_other, get_or_past, get_or_default, length-map, take_all, drop_at}
 use Rattle.std.proofs.lemmas.List.Elements.{All-get_or, All-set}
 use Rattle.std.proofs.lemmas.List.Sums.{sum_by-cons, sum_by-set}
+use Rattle.list_laws.proofs.Sequences.{take-inside}
 use Rattle.dq_lits.specs.Literal.{Literal}
 use Rattle.dq_lits.specs.declared.memory.Memory.{Memory}
 use Rattle.rup_core.specs.Paging.{Clauses, clause_at, AreSameClauses, Sets}
@@ -17,12 +18,6 @@ pub clause_of_span : (literals : List Literal) (spans : List Span) (k : ℕ) →
 clause_of_span literals [] k = refl
 clause_of_span literals (s ∷ spans) zero = refl
 clause_of_span literals (s ∷ spans) (suc k) = clause_of_span literals spans k
-
--- more literals behind the others leave a clause as it is
-take-inside : (s n : ℕ) (xs ys : List Literal) → s ≤ length xs → s + n ≤ length xs →
-    take n (drop s (xs ++ ys)) ≡ take n (drop s xs)
-take-inside s n xs ys a b = rw (drop-append-le s xs ys a) (let e : n ≤ length (drop s xs) =
-    omega (arith, length-drop s xs) in take-append-le n (drop s xs) ys e)
 
 clause_stays : (literals more : List Literal) (s : Span) → s.end ≤ length literals →
     clause_in (literals ++ more) s ≡ clause_in literals s
@@ -322,51 +317,3 @@ sets_erased page literals spans spans' place view erased some =
 -- the first clauses of a page, in another one
 abbrev pub HasFirst : Clauses → ℕ → Clauses → Type 0
 HasFirst page n other = (k : ℕ) → clause_at other k ≡ cond (nat_lt k n) (clause_at page k) None
-
-pub has_none : (page : Clauses) → HasFirst page 0 []
-has_none page k = sym (ap (λ b. cond b (clause_at page k) None) (le-ltb k 0 (omega arith)))
-
-pub next_is_free : (page other : Clauses) (n : ℕ) → HasFirst page n other → clause_at other n ≡ None
-next_is_free page other n has = has n ∙ ap (λ b. cond b (clause_at page n) None) (le-ltb n n (omega arith))
-
--- whether it is at the place or not
-next_first : (page : Clauses) (n k : ℕ) (o : Option (List Literal)) → clause_at page n ≡ o →
-    cond (nat_lt k (n + 1)) (clause_at page k) None ≡ cond (k == n) o (cond (nat_lt k n) (clause_at page k) None)
-next_first page n k o at = elim (cases_eq k n) [
-  | inl same ↦
-      ap (λ b. cond b (clause_at page k) None) (lt-ltb k (n + 1) (omega (arith, same))) ∙ ap (clause_at page) same ∙ at
-      ∙ sym (ap (λ b. cond b o (cond (nat_lt k n) (clause_at page k) None)) (eq-eqb k n same))
-  | inr other ↦
-      elim (cases_lt k n) [
-        | inl below ↦ ap (λ b. cond b (clause_at page k) None)
-            (lt-ltb k (n + 1) (omega (arith, below)) ∙ sym (lt-ltb k n below))
-        | inr past ↦ ap (λ b. cond b (clause_at page k) None)
-            (le-ltb k (n + 1) (omega (arith, past, other)) ∙ sym (le-ltb k n past))
-      ]
-      ∙ sym (ap (λ b. cond b o (cond (nat_lt k n) (clause_at page k) None)) (ne_eqb k n other))
-]
-
-pub has_next : (page other other' : Clauses) (n : ℕ) (clause : List Literal) → HasFirst page n other →
-    clause_at page n ≡ Some clause →
-    Sets (clause_at other) (clause_at other') n (Some clause) → HasFirst page (n + 1) other'
-has_next page other other' n clause has at sets k =
-    sets k ∙ ap (λ o. cond (k == n) (Some clause) o) (has k) ∙ sym (next_first page n k (Some clause) at)
-
-pub skips_next : (page other : Clauses) (n : ℕ) → HasFirst page n other → clause_at page n ≡ None →
-    HasFirst page (n + 1) other
-skips_next page other n has none k = has k ∙ sym (next_first page n k None none ∙ here)
-  where
-    here : cond (k == n) None (cond (nat_lt k n) (clause_at page k) None) ≡ cond (nat_lt k n) (clause_at page k) None
-    here = elim (cases_eq k n) [
-      | inl same ↦ ap (λ b. cond b None (cond (nat_lt k n) (clause_at page k) None)) (eq-eqb k n same) ∙ sym
-          (ap (λ b. cond b (clause_at page k) None) (le-ltb k n (omega (arith, same))))
-      | inr other' ↦ ap (λ b. cond b None (cond (nat_lt k n) (clause_at page k) None)) (ne_eqb k n other')
-    ]
-
-pub has_all : (page other : Clauses) (n : ℕ) → HasFirst page n other → length page ≤ n →
-    AreSameClauses (clause_at page) (clause_at other)
-has_all page other n has long k = has k ∙ elim (cases_lt k n) [
-  | inl below ↦ ap (λ b. cond b (clause_at page k) None) (lt-ltb k n below)
-  | inr past ↦ ap (λ b. cond b (clause_at page k) None) (le-ltb k n past) ∙ sym
-      (get_or_past page k None (omega (arith, long, past)))
-]

@@ -1,14 +1,13 @@
 -- Clauses in pages, and the lines that they are.
-use Rattle.std.proofs.Common.{◌≡◌, ℕ, ◌+◌, ◌-◌, ◌*◌, ◌/◌, ◌%◌, ◌<◌, ◌≤◌, ◌==◌, true, false, not, cond, inl, inr, List, [], ◌∷◌, ◌++◌, set, length, get_or, Option, None, Some, IsSome, is_some, refl, sym, ◌∙◌, ap, ap₂, subst, arith, eq-eqb, length-append}
+use Rattle.std.proofs.Common.{◌≡◌, ℕ, ◌+◌, ◌-◌, ◌*◌, ◌/◌, ◌%◌, ◌<◌, ◌≤◌, ◌==◌, true, false, not, cond, inl, inr, List, [], ◌∷◌, ◌++◌, set, length, get_or, Option, None, Some, IsSome, is_some, refl, sym, ◌∙◌, ap, ap₂, subst, arith, eq-eqb}
 use Rattle.std.specs.List.{All, filter}
-use Rattle.std.proofs.Math.Nat.{div-lt_iff_lt-mul, div-add-mod}
-use Rattle.std.proofs.Math.ListN.{get_or-append}
+use Rattle.std.proofs.Math.Nat.{div-add-mod}
 use Rattle.std.proofs.lemmas.Bool.{cases_eq, cases_lt, ne_eqb}
-use Rattle.std.proofs.lemmas.List.{get_or_past, get_or_default, get_or-set_same, get_or-set_other, get_or-append-add}
+use Rattle.std.proofs.lemmas.List.{get_or_past, get_or_default, get_or-set_same, get_or-set_other}
 use Rattle.std.proofs.lemmas.Nat.{le-div}
 use Rattle.dq_lits.specs.Literal.{Literal}
 use Rattle.rup_core.specs.Lines.{clause_of_id, lines_below}
-use Rattle.rup_core.specs.Paging.{Clauses, clause_at, clause_among, AreSamePages, AreSameClauses, Sets, stored_lines}
+use Rattle.rup_core.specs.Paging.{Clauses, clause_at, clause_among, AreSameClauses, Sets, stored_lines}
 use Rattle.rup_core.specs.declared.stores.TheConstants.{PAGE}
 use Rattle.rup_core.proofs.HeldLines.{lines_same, lines_enough, line_put, line_gone, before_stays, nothing_gone, clause_of_place, id_before, lines_before, one_line_less, none_from, no_lines}
 
@@ -16,9 +15,6 @@ pub none_past : (pages : List Clauses) (k : ℕ) → length pages * PAGE ≤ k �
 none_past pages k past =
     ap (λ page. clause_at page (k % PAGE)) (get_or_past pages (k / PAGE) []
     (le-div (length pages) k PAGE (omega arith) past))
-
-pub place_within : (pages : List Clauses) (place : ℕ) → place / PAGE < length pages → place < length pages * PAGE
-place_within pages place below = (div-lt_iff_lt-mul {k = PAGE} {x = place} {y = length pages} (omega arith)).0 below
 
 -- a page that is one of the pages
 same_place : (k p : ℕ) → k / PAGE ≡ p / PAGE → k % PAGE ≡ p % PAGE → k ≡ p
@@ -60,28 +56,6 @@ page_same pages page p below same k = elim (cases_eq (k / PAGE) p) [
       ∙ same (k % PAGE) ∙ ap (λ n. clause_at (get_or pages n []) (k % PAGE)) (sym here)
   | inr other ↦ ap (λ x. clause_at x (k % PAGE)) (get_or-set_other pages p (k / PAGE) page [] other)
 ]
-
-pub pages_same : (old new : List Clauses) → AreSamePages old new → AreSameClauses (clause_among old) (clause_among new)
-pages_same old new same k = ap (λ page. clause_at page (k % PAGE)) (same (k / PAGE))
-
--- one more page without a clause
-pub page_added : (old new : List Clauses) → AreSamePages old new → (more : List Clauses) → more ≡ new ++ [] ∷ [] →
-    AreSamePages old more
-page_added old new same more is k =
-    ap (λ pages. get_or pages k []) is ∙ by ∙ same k
-  where
-    by : get_or (new ++ [] ∷ []) k [] ≡ get_or new k []
-    by = elim (cases_lt k (length new)) [
-      | inl below ↦ get_or-append new ([] ∷ []) [] k below
-      | inr past ↦ elim (cases_eq k (length new)) [
-        | inl here ↦
-            ap (λ n. get_or (new ++ [] ∷ []) n []) (let e : k ≡ length new + 0 = omega (arith, here) in e)
-            ∙ get_or-append-add new ([] ∷ []) 0 [] ∙ sym (get_or_past new k [] past)
-        | inr other ↦
-            get_or_past (new ++ [] ∷ []) k [] (omega (arith, past, other, length-append new ([] ∷ [])))
-            ∙ sym (get_or_past new k [] past)
-      ]
-    ]
 
 abbrev Lines : Type 0
 Lines = List (ℕ × List Literal)

@@ -1,6 +1,7 @@
 -- A book that follows a script, behind the next command.
 use Rattle.std.proofs.Common.{◌≡◌, ℕ, suc, ◌+◌, ◌-◌, ◌≤◌, List, [], ◌∷◌, ◌++◌, map, take, length, get_or, replicate, Some, None, refl, sym, ◌∙◌, ap, subst₂, arith, append_assoc, append-nil}
 use Rattle.std.proofs.lemmas.List.{length-append, map-append}
+use Rattle.list_laws.proofs.Elements.{last_there}
 use Rattle.dq_lits.specs.Literal.{Literal}
 use Rattle.hint_log.specs.Naming.{numbered_from_one}
 use Rattle.script_text.specs.Commands.{ScriptCommand, push, add, pop, solve}
@@ -13,7 +14,7 @@ use Rattle.script_books.specs.Numbering.{NumberedFrame, Numbering, newest_number
 use Rattle.script_books.specs.Following.{book_behind, MayCome, frame_live, AreOpenFrames, Follows, AreFramesOf}
 use Rattle.script_books.specs.Laws.{BooksFollow}
 use Rattle.script_books.proofs.GrownSessions.{numbered-more}
-use Rattle.script_books.proofs.Lists.{last-at, last-there, front-taken, last-place, found-still}
+use Rattle.script_books.proofs.Lists.{last-at, front-taken, last-place, found-still}
 
 abbrev nobody : OpenFrame
 nobody = record { number = 0; start = 0 }
@@ -84,7 +85,7 @@ frame-goes file (n ∷ ns) opens live (below, rest, opens-are, live-are, deeper)
     subst₂ (λ os ls. AreOpenFrames file ns os ls) opens-left live-left deeper
 
 -- frames by their clauses, where a clause comes
-frames-still : (m more : List (List Literal)) (ns : List NumberedFrame) (frames : Frames) → AreFramesOf m ns frames
+pub frames-still : (m more : List (List Literal)) (ns : List NumberedFrame) (frames : Frames) → AreFramesOf m ns frames
     → AreFramesOf (m ++ more) ns frames
 frames-still m more [] [] are = tt
 frames-still m more [] (c ∷ cs) are = absurd are
@@ -93,10 +94,6 @@ frames-still m more (n ∷ ns) (c ∷ cs) (own, deeper) = (
   found-still (numbered_from_one m) (numbered_from_one (m ++ more)) n.clauses c (numbered-more m more) own,
   frames-still m more ns cs deeper,
 )
-
-pub frames-grow : (m more : List (List Literal)) (ns : List NumberedFrame) (frames : Frames) → AreFramesOf m ns frames
-    → AreFramesOf (m ++ more) ns frames
-frames-grow m more ns frames are = frames-still m more ns frames are
 
 clause-in : (m : List (List Literal)) (clause : List Literal) (ns : List NumberedFrame) (frames : Frames)
     → AreFramesOf m ns frames
@@ -110,7 +107,7 @@ clause-in m clause (n ∷ ns) (c ∷ cs) (own, deeper) =
       map-append h n.clauses ((length m + 1) ∷ [])
           ∙ ap (λ os. os ++ h (length m + 1) ∷ [])
           (found-still (numbered_from_one m) h n.clauses c (numbered-more m (clause ∷ [])) own)
-          ∙ ap (λ o. map Some c ++ o ∷ []) (ap h on ∙ last-there m clause)
+          ∙ ap (λ o. map Some c ++ o ∷ []) (ap h on ∙ last_there m clause)
           ∙ sym (map-append Some c (clause ∷ [])),
       frames-still m (clause ∷ []) ns cs deeper,
     )

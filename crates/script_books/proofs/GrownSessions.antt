@@ -1,9 +1,10 @@
 -- A session's log where more clauses are numbered.
-use Rattle.std.proofs.Common.{◌≡◌, ℕ, zero, suc, ◌-◌, ◌≤◌, ◌<◌, List, [], ◌∷◌, ◌++◌, length, slice_get, Option, Some, None, IsSome, refl, sym, ◌∙◌, ap, subst, arith}
+use Rattle.std.proofs.Common.{◌≡◌, ℕ, zero, suc, ◌-◌, ◌≤◌, ◌<◌, List, [], ◌∷◌, ◌++◌, length, slice_get, Some, IsSome, refl, sym, ◌∙◌, ap, subst, arith}
 use Rattle.std.specs.List.{All, Contains, filter_map, cons_option}
 use Rattle.std.proofs.lemmas.List.{get_or_append_left}
 use Rattle.std.proofs.lemmas.List.Elements.{All-head, All-tail}
-use Rattle.std.proofs.lemmas.Option.{slice_get_within}
+use Rattle.list_laws.proofs.Elements.{kept_there}
+use Rattle.list_laws.proofs.Options.{some_same, some_of}
 use Rattle.dq_lits.specs.Literal.{Literal, negative}
 use Rattle.dq_lits.specs.Formula.{Dqbf}
 use Rattle.hint_log.specs.Deciding.{DecidesTrue}
@@ -19,22 +20,13 @@ use Rattle.hint_log.specs.declared.names.Name.{Name}
 use Rattle.hint_log.specs.declared.names.Name.TheVariants.{Selector, Pair, Input, And, Bad, Copy as CopyOf, Term}
 use Rattle.hint_log.specs.declared.origins.Origin.{Origin}
 use Rattle.hint_log.specs.declared.origins.Origin.TheVariants.{Instance, Gate, Fault, Copy, Link, TermGate, Differ}
+use Rattle.hint_log.proofs.NamedEntries.{each_one, number_below}
 use Rattle.script_books.specs.LargerSessions.{IsOfSearch, SessionsTakeClauses, UndecidedTakesClauses}
-
-slice-more : {X : Type 0} (xs ys : List X) (k : ℕ) (x : X) → slice_get xs k ≡ Some x → slice_get (xs ++ ys) k ≡ Some x
-slice-more [] ys k x is = cc
-slice-more (z ∷ xs) ys zero x is = is
-slice-more (z ∷ xs) ys (suc k) x is = slice-more xs ys k x is
 
 pub numbered-more : {X : Type 0} (xs ys : List X) (j : ℕ) (x : X) → numbered_from_one xs j ≡ Some x
     → numbered_from_one (xs ++ ys) j ≡ Some x
 numbered-more xs ys zero x is = cc
-numbered-more xs ys (suc k) x is = slice-more xs ys k x is
-
-numbered-within : {X : Type 0} (xs : List X) (j : ℕ) (x : X) → numbered_from_one xs j ≡ Some x
-    → (1 ≤ j) × (j ≤ length xs)
-numbered-within xs zero x is = cc
-numbered-within xs (suc k) x is = let below = slice_get_within xs k x is in (omega arith, omega (arith, below))
+numbered-more xs ys (suc k) x is = kept_there xs ys k x is
 
 slice-same : {X : Type 0} (xs ys : List X) (k : ℕ) → k < length xs → slice_get xs k ≡ slice_get (xs ++ ys) k
 slice-same [] ys k below = absurd (omega (arith, below))
@@ -45,20 +37,6 @@ numbered-same : {X : Type 0} (xs ys : List X) (j : ℕ) → 1 ≤ j → j ≤ le
     → numbered_from_one xs j ≡ numbered_from_one (xs ++ ys) j
 numbered-same xs ys zero low high = refl
 numbered-same xs ys (suc k) low high = slice-same xs ys k (omega (arith, high))
-
-some-is : {X : Type 0} (a b : X) → Some a ≡ Some b → a ≡ b
-some-is a b e = cc
-
-known : {X : Type 0} (o : Option X) → IsSome o → (x : X) × (o ≡ Some x)
-known None some = cc
-known (Some x) some = (x, refl)
-
--- an entry with what each entry has
-each-has : (P : List Entry → Entry → Type 0) (es : List Entry) (e : Entry) → Each P es → Contains es e
-    → (earlier : List Entry) × P earlier e
-each-has P [] e each (k, below, is) = absurd (omega (arith, below))
-each-has P (x ∷ es) e each (zero, below, is) = (es, subst (P es) is each.0)
-each-has P (x ∷ es) e each (suc k, below, is) = each-has P es e each.1 (k, omega (arith, below), is)
 
 module _ (all : Dqbf) (more : List (List Literal)) where
   abbrev larger : Dqbf
@@ -85,12 +63,12 @@ module _ (all : Dqbf) (more : List (List Literal)) where
   live-are (Learned c hints ∷ es) each live is = live-are es each.1 live is
   live-are (Answer c hints ∷ es) each live is = live-are es each.1 live is
   live-are (Round row values j ∷ es) each live is = live-are es each.1 live is
-  live-are (Begun l ∷ es) each live is = subst (AreNumbers all) (some-is l live is) each.0
+  live-are (Begun l ∷ es) each live is = subst (AreNumbers all) (some_same l live is) each.0
 
   same-formula : (es : List Entry) → Each (MatchesLiveOrigin all) es → IsSome (live_numbers es)
       → live_formula all es ≡ live_formula larger es
   same-formula es each some =
-      let (live, is) = known (live_numbers es) some in
+      let (live, is) = some_of (live_numbers es) some in
       ap (formula_by all) is ∙ same-live live (live-are es each live is) ∙ sym (ap (formula_by larger) is)
 
   named-more : (n : Name) → IsRightlyNamed all n → IsRightlyNamed larger n
@@ -236,14 +214,14 @@ module _ (all : Dqbf) (more : List (List Literal)) where
     instance-within : (k j : ℕ) (c : List Literal) → Contains es (Given (Instance k j) c)
         → (1 ≤ j) × (j ≤ length all.matrix)
     instance-within k j c has =
-        let at = each-has (MatchesLiveOrigin all) es (Given (Instance k j) c) each has in
-        numbered-within all.matrix j at.1.rest_is.clause at.1.rest_is.clause_is
+        let at = each_one (MatchesLiveOrigin all) es (Given (Instance k j) c) each has in
+        number_below all.matrix j at.1.rest_is.clause at.1.rest_is.clause_is
 
     copy-within : (side j : ℕ) (c : List Literal) → Contains es (Given (Copy side j) c)
         → (1 ≤ j) × (j ≤ length all.matrix)
     copy-within side j c has =
-        let at = each-has (MatchesLiveOrigin all) es (Given (Copy side j) c) each has in
-        numbered-within all.matrix j at.1.rest_is.1.clause at.1.rest_is.1.clause_is
+        let at = each_one (MatchesLiveOrigin all) es (Given (Copy side j) c) each has in
+        number_below all.matrix j at.1.rest_is.1.clause at.1.rest_is.1.clause_is
 
     frame-same : (j : ℕ) → (1 ≤ j) × (j ≤ length all.matrix) → frame_of (frames ++ more_frames) j ≡ frame_of frames j
     frame-same j (low, high) = get_or_append_left frames more_frames 0 (j - 1) (omega (arith, low, high, many))

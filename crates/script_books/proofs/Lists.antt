@@ -10,10 +10,6 @@ last-at [] x d (suc n) is = absurd (omega (arith, is))
 last-at (y ∷ below) x d zero is = absurd (omega (arith, is))
 last-at (y ∷ below) x d (suc n) is = last-at below x d n (omega (arith, is))
 
-pub last-there : {X : Type 0} (below : List X) (x : X) → slice_get (below ++ x ∷ []) (length below) ≡ Some x
-last-there [] x = refl
-last-there (y ∷ below) x = last-there below x
-
 pub front-taken : {X : Type 0} (xs ys : List X) (n : ℕ) → n ≡ length xs → take n (xs ++ ys) ≡ xs
 front-taken [] ys zero is = refl
 front-taken [] ys (suc n) is = absurd (omega (arith, is))

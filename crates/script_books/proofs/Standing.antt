@@ -15,7 +15,7 @@ use Rattle.dq_session.specs.declared.live.OpenFrame.{OpenFrame}
 use Rattle.script_books.specs.Numbering.{NumberedFrame, Numbering, numbering_at_start, numbering_behind, numbering_from, live_in, live_from, newest_number}
 use Rattle.script_books.specs.Following.{frame_live, AreOpenFrames, AreFramesOf}
 use Rattle.script_books.specs.Laws.{FollowingBooksStand, NumbersNameFormulas}
-use Rattle.script_books.proofs.Followed.{same-depth, frames-grow, frames-follow}
+use Rattle.script_books.proofs.Followed.{same-depth, frames-follow, frames-still}
 use Rattle.script_books.proofs.Lists.{all-found, file-found}
 
 numbers-back : (to : ℕ → Live) → ((j : ℕ) → (to j).clause ≡ j) → (js : List ℕ)
@@ -116,7 +116,7 @@ named-from f s frames (solve ∷ commands) added is are =
     let all = (numbering_from s commands).clauses in
     let grown : AreFramesOf all s.open_frames frames =
     subst (λ m. AreFramesOf m s.open_frames frames) (sym more.1)
-    (frames-grow s.clauses more.0 s.open_frames frames are) in
+    (frames-still s.clauses more.0 s.open_frames frames are) in
     let here : formula_of (with_matrix f all) (live_in (length f.matrix) s.open_frames) ≡ formula_in f frames =
     named-formula f all (added ++ more.0) s.open_frames frames
     (more.1 ∙ ap (λ m. m ++ more.0) is ∙ append_assoc f.matrix added more.0) grown in

@@ -1,8 +1,9 @@
 -- Each command of a script may come where it stands.
-use Rattle.std.proofs.Common.{◌≡◌, ℕ, zero, suc, ◌≤◌, ◌==◌, nat_lt, nat_abs, ℤ, pos, negsuc, Bool, true, false, cond, ◌||◌, List, [], ◌∷◌, ◌++◌, length, Option, None, Some, Result, Ok, Err, refl, sym, ◌∙◌, ap, subst, arith}
+use Rattle.std.proofs.Common.{◌≡◌, ℕ, zero, suc, ◌≤◌, ◌==◌, nat_lt, nat_abs, ℤ, pos, negsuc, Bool, true, false, cond, List, [], ◌∷◌, ◌++◌, length, Option, None, Some, Result, Ok, Err, refl, sym, ◌∙◌, ap, subst, arith}
 use Rattle.std.specs.List.{All, Contains, list_any}
-use Rattle.std.proofs.lemmas.Bool.{eqb-true, ltb-true}
+use Rattle.std.proofs.lemmas.Bool.{ltb-true}
 use Rattle.std.proofs.lemmas.List.Elements.{All-append, All-nil, All-cons}
+use Rattle.list_laws.proofs.Members.{contains_listed}
 use Rattle.dq_lits.specs.Literal.{Literal, variable_of, dimacs_literal, same_literal}
 use Rattle.dq_lits.specs.Formula.{Dqbf, declared}
 use Rattle.dq_formula.specs.Prefix.{is_declared}
@@ -22,14 +23,6 @@ use Rattle.script_text.specs.declared.faults.ScriptFault.TheVariants.{VarRange, 
 
 -- ---- the literals of a clause
 
-there : (v : ℕ) (xs : List ℕ) → list_any (λ x. x == v) xs ≡ true → Contains xs v
-there v [] h = cc
-there v (x ∷ xs) h = by_bit (there v xs) (x == v) refl h where
-  by_bit : (list_any (λ x. x == v) xs ≡ true → Contains xs v) → (b : Bool) → (x == v) ≡ b →
-      (b || list_any (λ x. x == v) xs) ≡ true → Contains (x ∷ xs) v
-  by_bit later true e k = (0, omega arith, eqb-true x v e)
-  by_bit later false e k = let r = later k in let low = r.1 in (suc r.0, omega (arith, low), r.2)
-
 variable-of : (n : ℤ) → variable_of (dimacs_literal n) ≡ nat_abs n
 variable-of (pos v) = refl
 variable-of (negsuc v) = refl
@@ -46,7 +39,7 @@ literal-declared f n l is = by_bits (nat_abs n == 0) (nat_lt f.variables (nat_ab
     by_bits false false true e h =
         let same : dimacs_literal n ≡ l = cc in
         subst (λ k. Contains (declared f) (variable_of k)) same
-        (subst (Contains (declared f)) (sym (variable-of n)) (there (nat_abs n) (declared f) e))
+        (subst (Contains (declared f)) (sym (variable-of n)) (contains_listed (nat_abs n) (declared f) e))
     by_bits false false false e h = cc
 
 word-declared : (f : Dqbf) (n : Number) (l : Literal) → clause_word f n ≡ Ok (Some l) →

@@ -1,11 +1,8 @@
 -- From what a search answers to what is written of it.
-use Rattle.std.proofs.Common.{◌≡◌, ◌+◌, ◌≤◌, ◌<◌, ℕ, zero, suc, List, [], ◌∷◌, ◌++◌, take, length, map, get_or, Option, Some, None, refl, sym, ◌∙◌, ap, subst, arith}
+use Rattle.std.proofs.Common.{◌≡◌, ◌+◌, ◌≤◌, ◌<◌, ℕ, zero, suc, List, [], ◌∷◌, ◌++◌, take, length, map, get_or, Some, refl, sym, ◌∙◌, ap, subst, arith}
 use Rattle.std.specs.Option.{unwrap_or}
-use Rattle.std.specs.List.{All, Contains, filter_map, cons_option}
 use Rattle.std.proofs.lemmas.List.{length-map, take_more}
-use Rattle.std.proofs.lemmas.List.Elements.{All-cons, All-nil, All-contains}
-use Rattle.dq_lits.specs.Formula.{Dqbf, IsWellFormed, declared}
-use Rattle.dq_lits.specs.Literal.{Literal, variable_of}
+use Rattle.dq_lits.specs.Formula.{Dqbf}
 use Rattle.aig_graph.specs.Graph.{AigGraph}
 use Rattle.aig_graph.specs.declared.nodes.Node.{Node}
 use Rattle.cert_export.specs.Exported.{CanExportFalse}
@@ -13,12 +10,10 @@ use Rattle.cert_export.specs.ExportedCircuit.{IsDecidedTrue, CanExportTrue}
 use Rattle.cert_export.specs.ExportableLogs.{RestsOnLive, SessionAnswersCanExport}
 use Rattle.expansion.specs.Table.{IsRefutedBy}
 use Rattle.hint_log.specs.Conditions.{AreLogged}
-use Rattle.hint_log.specs.Entries.{Entry, ProofLog, rounds_of, steps_of}
+use Rattle.hint_log.specs.Entries.{ProofLog, rounds_of, steps_of}
 use Rattle.hint_log.specs.Live.{live_numbers, formula_of}
-use Rattle.hint_log.specs.Naming.{numbered_from_one}
 use Rattle.hint_log.specs.ProductiveSession.{IsProductiveSession, IsUndecidedSince}
-use Rattle.log_laws.proofs.Found.{numbered_among}
-use Rattle.dq_session.specs.Books.{BookState, all_of, live_of, now_of, IsBook}
+use Rattle.dq_session.specs.Books.{BookState, all_of, live_of}
 use Rattle.dq_session.specs.declared.live.Live.{Live}
 use Rattle.repair_loop.specs.Desks.{HasBegun, IsAnsweredTrue, IsAnsweredFalse}
 use Rattle.repair_loop.specs.Stopping.{IsStoppedAtLimit}
@@ -54,29 +49,6 @@ pub can-export-false : SessionAnswersCanExport → (f all : Dqbf) (frames live :
 can-export-false law f all frames live log id logged session named is refuted rests =
     subst (λ g. CanExportFalse g live log.entries id) (sym is)
     ((law all frames live log.entries id logged session named).1 refuted rests)
-
--- the formula of now is well formed
-all-found-of : (P : List Literal → Type 0) (m : List (List Literal)) (live : List ℕ) → All P m
-    → All P (filter_map (numbered_from_one m) live)
-all-found-of P m [] all = All-nil P
-all-found-of P m (j ∷ js) all = by (numbered_from_one m j) refl (all-found-of P m js all)
-  where
-    by : (o : Option (List Literal)) → numbered_from_one m j ≡ o → All P (filter_map (numbered_from_one m) js)
-        → All P (cons_option o (filter_map (numbered_from_one m) js))
-    by None is rest = rest
-    by (Some c) is rest =
-        All-cons P c (filter_map (numbered_from_one m) js) (All-contains P m c all (numbered_among m j c is)) rest
-
-pub well-formed-now : (b : BookState) (es : List Entry) → IsBook b es → IsWellFormed (now_of b)
-well-formed-now b es book = record {
-  prefix = record {
-    in_range = book.well_formed.prefix.in_range;
-    declared_once = book.well_formed.prefix.declared_once;
-    sees_universals = book.well_formed.prefix.sees_universals;
-  };
-  bound = all-found-of (All (λ l. Contains (declared b.file) (variable_of l))) (all_of b).matrix (live_of b)
-      book.well_formed.bound;
-}
 
 -- the answer rests on live clauses
 pub rests-on-live : (b : BookState) (log : ProofLog) (id : ℕ) → IsAnsweredFalse b log id

@@ -1,20 +1,11 @@
 -- The searches of a log, by where they began.
-use Rattle.std.proofs.Common.{◌≡◌, ℕ, List, [], ◌∷◌, ◌++◌, IsSome, refl, sym, ◌∙◌, ap, arith}
+use Rattle.std.proofs.Common.{◌≡◌, ℕ, List, [], ◌∷◌, ◌++◌, refl, sym, ◌∙◌, ap, arith}
 use Rattle.hint_log.specs.Entries.{Entry, Named, Given, Learned, Answer, Round, Begun, beginnings_of}
 use Rattle.hint_log.specs.Growth.{Each}
-use Rattle.hint_log.specs.Live.{live_numbers}
 use Rattle.hint_log.specs.declared.origins.Origin.TheVariants.{Instance, Gate, Fault, Copy, Link, TermGate, Differ}
 use Rattle.script_books.specs.LargerSessions.{IsOfSearch}
+use Rattle.repair_loop.proofs.LogGrowth.{some_live}
 use Rattle.session_runs.specs.Ends.{ends_behind, ends_of}
-
-some-live : (more : List Entry) (live : List ℕ) (old : List Entry) → IsSome (live_numbers (more ++ Begun live ∷ old))
-some-live [] live old = refl
-some-live (Named v n ∷ more) live old = some-live more live old
-some-live (Given o c ∷ more) live old = some-live more live old
-some-live (Learned c hints ∷ more) live old = some-live more live old
-some-live (Answer c hints ∷ more) live old = some-live more live old
-some-live (Round row values j ∷ more) live old = some-live more live old
-some-live (Begun l ∷ more) live old = refl
 
 -- what stands behind a beginning is of a search
 pub of-search-behind : (more : List Entry) (live : List ℕ) (old : List Entry) → Each IsOfSearch old
@@ -24,7 +15,7 @@ of-search-behind (Named v n ∷ more) live old each = (tt, of-search-behind more
 of-search-behind (Given (Instance k j) c ∷ more) live old each = (tt, of-search-behind more live old each)
 of-search-behind (Given (Gate v i) c ∷ more) live old each = (tt, of-search-behind more live old each)
 of-search-behind (Given (Fault j i leaf) c ∷ more) live old each =
-    (some-live more live old, of-search-behind more live old each)
+    (some_live more live old, of-search-behind more live old each)
 of-search-behind (Given (Copy side j) c ∷ more) live old each = (tt, of-search-behind more live old each)
 of-search-behind (Given (Link v i) c ∷ more) live old each = (tt, of-search-behind more live old each)
 of-search-behind (Given (TermGate v i) c ∷ more) live old each = (tt, of-search-behind more live old each)
@@ -32,7 +23,7 @@ of-search-behind (Given (Differ y leaf part) c ∷ more) live old each = (tt, of
 of-search-behind (Learned c hints ∷ more) live old each = (tt, of-search-behind more live old each)
 of-search-behind (Answer c hints ∷ more) live old each = (tt, of-search-behind more live old each)
 of-search-behind (Round row values j ∷ more) live old each =
-    (some-live more live old, of-search-behind more live old each)
+    (some_live more live old, of-search-behind more live old each)
 of-search-behind (Begun l ∷ more) live old each = (tt, of-search-behind more live old each)
 
 ends-behind-more : (now more : List Entry) (live : List ℕ) (old : List Entry) → beginnings_of more ≡ 0

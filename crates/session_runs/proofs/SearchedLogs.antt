@@ -85,13 +85,6 @@ so-far-behind b d g old new ready kept searched began = record {
         subst (λ (log : ProofLog). Each IsOfSearch log.entries) (sym same)
         (same-searched old.entries ready.searched)
 
--- a verdict is no want of memory, and nor is the limit
-pub verdict-other : {X : Type 0} (x : X) → ◌≡◌ {A = Result X Stop} (Ok x) (Err Memory) → ⊥
-verdict-other x same = cc
-
-pub stop-other : {X : Type 0} (stop : Stop) → stop ≡ Limit → ◌≡◌ {A = Result X Stop} (Err stop) (Err Memory) → ⊥
-stop-other stop is same = cc
-
 pub on-err : {X E P : Type 0} (r : Result X E) → P → OnErr r P
 on-err (Ok x) h = tt
 on-err (Err e) h = h

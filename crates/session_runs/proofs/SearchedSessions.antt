@@ -14,10 +14,6 @@ use Rattle.session_runs.specs.declared.sessions.Session.{Session}
 some-is : (a b : Dqbf) → Some a ≡ Some b → a ≡ b
 some-is a b e = cc
 
-pub on-ok : {X E P Q : Type 0} (r : Result X E) → (P → Q) → OnOk r P → OnOk r Q
-on-ok (Ok x) step h = step h
-on-ok (Err e) step h = h
-
 pub both-ok : {X E P Q R : Type 0} (r : Result X E) → (P → Q → R) → OnOk r P → OnOk r Q → OnOk r R
 both-ok (Ok x) step p q = step p q
 both-ok (Err e) step p q = p

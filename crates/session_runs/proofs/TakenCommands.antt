@@ -3,6 +3,7 @@ use Rattle.std.proofs.Common.{◌≡◌, inr, ℕ, zero, suc, ◌+◌, ◌≤◌
 use Rattle.std.specs.List.{All}
 use Rattle.std.proofs.lemmas.List.{length-append, map-append, drop_all}
 use Rattle.std.proofs.lemmas.List.Elements.{All-push, All-nil}
+use Rattle.list_laws.proofs.Elements.{drop-at}
 use Rattle.dq_lits.specs.Formula.{Dqbf}
 use Rattle.cert_text.specs.Header.{max_count}
 use Rattle.hint_log.specs.Entries.{Entry, ProofLog}
@@ -32,14 +33,6 @@ use Rattle.session_runs.proofs.FollowedCommands.{followed-at-start, may-come, fo
 use Rattle.session_runs.proofs.SearchEnds.{ends-more, no-ends}
 use Rattle.session_runs.proofs.SearchedLogs.{ready-so-far}
 use Rattle.session_runs.proofs.WholeSessions.{whole-session, whole-work, whole-undecided}
-
-drop-at : {X : Type 0} (xs : List X) (i : ℕ) (x : X) → slice_get xs i ≡ Some x → drop i xs ≡ x ∷ drop (suc i) xs
-drop-at [] i x is = cc
-drop-at (y ∷ xs) zero x is = ap (λ z. z ∷ xs) (some-is y x is)
-  where
-    some-is : {A : Type 0} (a b : A) → Some a ≡ Some b → a ≡ b
-    some-is a b e = cc
-drop-at (y ∷ xs) (suc i) x is = drop-at xs i x is
 
 next-left : (commands : List ScriptCommand) (place : ℕ) (c : ScriptCommand) → slice_get commands place ≡ Some c
     → drop place commands ≡ c ∷ drop (place + 1) commands

@@ -1,5 +1,5 @@
 -- Numbers by their halves.
-use Rattle.std.proofs.Common.{◌≡◌, ℕ, zero, suc, ◌+◌, ◌-◌, ◌*◌, ◌/◌, ◌%◌, ◌^◌, ◌<◌, ◌≤◌, Bool, true, false, cond, List, [], ◌∷◌, ◌++◌, length, set, get_or, replicate, take, min, Result, Ok, Err, OnErr, refl, sym, ◌∙◌, ap, arith}
+use Rattle.std.proofs.Common.{◌≡◌, ℕ, zero, suc, ◌+◌, ◌-◌, ◌*◌, ◌/◌, ◌%◌, ◌^◌, ◌<◌, ◌≤◌, Bool, true, false, cond, List, [], ◌∷◌, ◌++◌, length, set, get_or, replicate, take, min, refl, sym, ◌∙◌, ap, arith}
 use Rattle.std.proofs.Math.Nat.{min-le_left, min-le_right, le-min}
 use Rattle.std.proofs.lemmas.List.{get_or_default, take_all}
 use Rattle.std.proofs.lemmas.Bool.{false≢true}
@@ -130,10 +130,6 @@ filled false lows [] more is e m =
     m ∙ ap (λ xs. xs ++ replicate (length lows - length {A = ℕ} []) 0) none ∙ ap (λ n. replicate n 0) all in
     ap (joined lows) zeros ∙ joined-zeros lows
 filled false lows (h ∷ highs) more is e m = absurd (omega (arith, e))
-
-pub on_err : {T E : Type 0} (r : Result T E) (P : Type 0) → P → OnErr r P
-on_err (Ok done) P is = tt
-on_err (Err refused) P is = is
 
 pub wide_is : (wide : Bool) → most_of wide ≡ 2 ^ 64 - 1 → wide ≡ true
 wide_is true e = refl

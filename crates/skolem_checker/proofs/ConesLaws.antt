@@ -21,18 +21,6 @@ use Rattle.circuit_plain.specs.Words.{marked}
 use Rattle.skolem_checker.specs.declared.cones.Cone.{Cone}
 use Rattle.skolem_checker.proofs.SightsLaws.{whole_written}
 
-pub no_growth : (slots : List ℕ) (cone : Cone) → cone.end ≤ length cone.members.items → Grows slots slots cone cone
-no_growth slots cone room = record {
-  same_length = refl;
-  start = refl;
-  last = refl;
-  same_room = refl;
-  end = omega arith;
-  room = room;
-  same = λ k below. refl;
-  keeps = λ v member. member;
-}
-
 pub grows_on : (slots slots' slots'' : List ℕ) (cone cone' cone'' : Cone) → Grows slots slots' cone cone' →
     Grows slots' slots'' cone' cone'' → Grows slots slots'' cone cone''
 grows_on slots slots' slots'' cone cone' cone'' first second = record {

@@ -14,3 +14,4 @@ pub mod EndsLaws
 pub mod ConesLaws
 pub mod SkolemLaws
 pub mod PlacesLaws
+pub mod LiteralNumbers

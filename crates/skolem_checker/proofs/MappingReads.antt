@@ -4,6 +4,7 @@ use Rattle.std.proofs.lemmas.Bool.{cases_eq, eq-eqb, ne_eqb}
 use Rattle.std.proofs.lemmas.List.{get_or-set_same, get_or-set_other}
 use Rattle.std.proofs.lemmas.List.Elements.{All-contains}
 use Rattle.std.proofs.lemmas.List.Folds.{list_any-append}
+use Rattle.list_laws.proofs.Truths.{or_true}
 use Rattle.dq_lits.specs.Formula.{Dqbf, declared, existential_of, HasLawfulPrefix}
 use Rattle.dq_lits.specs.Row.{bit_of}
 use Rattle.dq_formula.proofs.Places.{has, contains-has}
@@ -21,10 +22,6 @@ existential-declared f v =
     is_some-find (λ y. y.variable == v) f.existentials ∙ sym
     (list_any-map (λ w. w == v) (λ y. y.variable) f.existentials)
 
-or_right : (a : Bool) → (a || true) ≡ true
-or_right true = refl
-or_right false = refl
-
 or_left : (a b : Bool) → a ≡ true → (a || b) ≡ true
 or_left true b h = refl
 or_left false b h = cc
@@ -35,7 +32,7 @@ either-declared f Inputs v h =
     (has (existential_variables f) v) h
 either-declared f Outputs v h =
     list_any-append (λ u. u == v) f.universals (existential_variables f) ∙ ap (λ b. has f.universals v || b) h
-    ∙ or_right (has f.universals v)
+    ∙ or_true (has f.universals v)
 
 pub declared-in_range : (f : Dqbf) (kind : Kind) (v : ℕ) → HasLawfulPrefix f → declares f kind v ≡ true →
     v ≤ f.variables
@@ -52,7 +49,7 @@ seen-set bits vs v below seen w =
           subst (λ u. bit_of (set bits v true) u ≡ has (vs ++ v ∷ []) u) same
           (get_or-set_same bits v true false below
           ∙ sym (list_any-append (λ u. u == v) vs (v ∷ [])
-          ∙ ap (λ b. has vs v || (b || false)) (eq-eqb v v refl) ∙ or_right (has vs v)))
+          ∙ ap (λ b. has vs v || (b || false)) (eq-eqb v v refl) ∙ or_true (has vs v)))
       | inr other ↦
           get_or-set_other bits v w true false (λ e. other (sym e)) ∙ seen w
           ∙ sym (list_any-append (λ u. u == w) vs (v ∷ [])

@@ -9,6 +9,7 @@ use Rattle.std.proofs.lemmas.List.{length-append, length-map, get_or-append-add}
 use Rattle.std.proofs.lemmas.List.Elements.{All-push, All-contains, All-contains_itself}
 use Rattle.std.proofs.lemmas.Map.Keys.{IsDistinct-push}
 use Rattle.std.proofs.lemmas.Map.Made.{length-le_from_is_member, AllPairs-from_IsDistinct}
+use Rattle.list_laws.proofs.Quantified.{left-distinct, right-distinct}
 use Rattle.dq_formula.proofs.Places.{has, flip, has-contains, contains-has}
 use Rattle.dq_lits.specs.Formula.{Existential, Dqbf, HasLawfulPrefix}
 use Rattle.dq_formula.specs.Prefix.{existential_variables}
@@ -153,19 +154,6 @@ pub get_or-append_left : (xs ys : List ℕ) (i d : ℕ) → i < length xs → ge
 get_or-append_left [] ys i d below = absurd (omega arith)
 get_or-append_left (x ∷ xs) ys zero d below = refl
 get_or-append_left (x ∷ xs) ys (suc i) d below = get_or-append_left xs ys i d (omega arith)
-
-pub left-distinct : (xs ys : List ℕ) → AllPairs (λ v w. v ≢ w) (xs ++ ys) → AllPairs (λ v w. v ≢ w) xs
-left-distinct xs ys once i j d below in_range =
-    let longer : length (xs ++ ys) ≡ length xs + length ys = length-append xs ys in
-    let within : i < length xs = omega arith in
-    rw (sym (get_or-append_left xs ys i d within)) (rw (sym (get_or-append_left xs ys j d in_range))
-    (once i j d below (omega arith)))
-
-pub right-distinct : (xs ys : List ℕ) → AllPairs (λ v w. v ≢ w) (xs ++ ys) → AllPairs (λ v w. v ≢ w) ys
-right-distinct xs ys once i j d below in_range =
-    let longer : length (xs ++ ys) ≡ length xs + length ys = length-append xs ys in
-    rw (sym (get_or-append-add xs ys i d)) (rw (sym (get_or-append-add xs ys j d))
-    (once (length xs + i) (length xs + j) d (omega arith) (omega arith)))
 
 pub apart : (xs ys : List ℕ) → AllPairs (λ v w. v ≢ w) (xs ++ ys) → (v : ℕ) → Contains xs v → Contains ys v → ⊥
 apart xs ys once v (i, i_in, i_is) (j, j_in, j_is) =

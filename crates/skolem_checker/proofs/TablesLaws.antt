@@ -9,6 +9,7 @@ use Rattle.std.proofs.lemmas.List.{get_or_default, get_or-map, length-map}
 use Rattle.std.proofs.lemmas.List.Elements.{All-contains, Contains-get_or, Contains-append_cases}
 use Rattle.std.proofs.lemmas.List.Folds.{list_all_at}
 use Rattle.std.proofs.lemmas.Map.Made.{IsDistinct-from_AllPairs}
+use Rattle.list_laws.proofs.Quantified.{left-distinct}
 use Rattle.dq_lits.specs.Literal.{Assignment, Literal, positive, negative, variable_of, literal_true, clause_true}
 use Rattle.dq_lits.specs.Formula.{Existential, Dqbf, declared, IsWellFormed}
 use Rattle.dq_formula.specs.Prefix.{existential_variables}
@@ -22,7 +23,6 @@ use Rattle.skolem_checker.specs.Mapping.{Mapping}
 use Rattle.skolem_checker.specs.SkolemCircuit.{MappedCircuit, IsComplete, input_bits, HasOutputValue, ReadsUniversal, FollowsCircuit}
 use Rattle.skolem_checker.specs.Checks.{IsRow, RowHolds, RowFails}
 use Rattle.skolem_checker.specs.Tables.{AreTables, HasLiteral, ReadsByTables, circuit_assignment, AreRowBits, universal_places}
-use Rattle.skolem_checker.proofs.OntoLaws.{left-distinct}
 
 pub half-even : (w : ℕ) → 2 * w / 2 ≡ w
 half-even w = omega arith

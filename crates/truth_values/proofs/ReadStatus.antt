@@ -7,10 +7,10 @@ use Rattle.std.proofs.lemmas.List.Elements.{filter-append}
 use Rattle.std.proofs.lemmas.List.Folds.{list_all-append}
 use Rattle.dq_lits.specs.Literal.{Literal, opposite, same_literal}
 use Rattle.dq_lits.specs.Derivation.{unit, stuck, holds, status_by}
+use Rattle.dq_lits.proofs.Truth.{same_literal-sound}
 use Rattle.truth_values.specs.Extension.{with_free, with_literal, not_false}
 use Rattle.truth_values.specs.Truth.{literal_value}
 use Rattle.truth_values.specs.declared.values.TruthValue.TheVariants.{True, False, Unassigned}
-use Rattle.truth_values.proofs.HeldLiterals.{same_literal-sound}
 
 -- with one more true literal
 true_sticks : (a s k : Bool) (l : Literal) → (s ≡ true → k ≡ true) →

@@ -1,12 +1,8 @@
 -- What small logs give is within the formats' limits.
-use Rattle.std.proofs.Common.{◌≡◌, ◌+◌, ◌≤◌, ℕ, Bool, cond, true, false, refl, arith, List, [], ◌∷◌, map, length, eqb-true}
-use Rattle.std.proofs.lemmas.Bool.Decides.{Decides-eqb}
+use Rattle.std.proofs.Common.{◌≡◌, ◌+◌, ◌≤◌, ℕ, Bool, cond, true, false, refl, arith, List, [], ◌∷◌, map, length}
 use Rattle.std.proofs.lemmas.List.{length-append, length-map}
-use Rattle.std.proofs.lemmas.List.Elements.{All-contains}
-use Rattle.std.proofs.lemmas.Map.Made.{IsDistinct-from_AllPairs}
-use Rattle.std.proofs.lemmas.Map.Steps.{length-le_from_distinct_below}
-use Rattle.std.proofs.lemmas.Map.Views.{Contains-from_any}
-use Rattle.dq_lits.specs.Formula.{Dqbf, Existential, HasLawfulPrefix, declared}
+use Rattle.dq_lits.specs.Formula.{Dqbf, Existential, HasLawfulPrefix}
+use Rattle.dq_lits.proofs.FormulaVariables.{few_declared}
 use Rattle.hint_log.specs.Entries.{Entry, count}
 use Rattle.cert_export.specs.ExportedCircuit.{is_gate_name}
 use Rattle.cert_export.specs.Lines.{is_lemma}
@@ -29,19 +25,9 @@ count_few test (e ∷ earlier) =
     let more = one_more (count test earlier) (length earlier) (test e) (count_few test earlier) in
     omega (arith, more)
 
--- what is declared once and in range is no more than there are numbers
-declared_few : (f : Dqbf) → HasLawfulPrefix f → length (declared f) ≤ f.variables + 1
-declared_few f prefix =
-    length-le_from_distinct_below (declared f) (f.variables + 1)
-    (IsDistinct-from_AllPairs Decides-eqb (declared f) prefix.declared_once)
-    (λ q found.
-    let (from, to) = All-contains (λ v. (1 ≤ v) × (v ≤ f.variables)) (declared f) q prefix.in_range
-    (Contains-from_any (λ x y same. eqb-true x y same) q (declared f) found) in
-    omega (arith, to))
-
 universals_few : (f : Dqbf) → HasLawfulPrefix f → length f.universals ≤ f.variables + 1
 universals_few f prefix =
-    let all = declared_few f prefix in
+    let all = few_declared f prefix in
     let both = length-append f.universals (map (λ (y : Existential). y.variable) f.existentials) in
     omega (arith, all, both)
 

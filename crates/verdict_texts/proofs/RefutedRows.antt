@@ -2,8 +2,9 @@
 use Rattle.std.proofs.Common.{◌≡◌, ◌∙◌, refl, sym, ap, Bool, false, List, [], ◌∷◌, map, None}
 use Rattle.dq_lits.specs.Expansion.{IsExpansionUnsatisfiable, instance_at}
 use Rattle.dq_lits.specs.Formula.{Dqbf}
-use Rattle.dq_lits.specs.Derivation.{LiveClauses, Derives, ProofStep, fault_of_step, is_empty, line_fault, steps_fault, with_clause}
+use Rattle.dq_lits.specs.Derivation.{Derives, ProofStep}
 use Rattle.rup_core.specs.Items.{derived, items_fault}
+use Rattle.rup_core.proofs.DeletedClauses.{steps_alone}
 use Rattle.cert_text.specs.declared.refutations.Dqr.{Dqr}
 use Rattle.proof_deletions.specs.Deletions.{AreNumberedLines, lines_of}
 use Rattle.refutation_checker.specs.Refutation.{refutation_fault, normal_item, normal_step}
@@ -12,13 +13,6 @@ use Rattle.refutation_checker.specs.Refutation.{refutation_fault, normal_item, n
 abbrev pub DerivationsRefute : Type 0
 DerivationsRefute = (f : Dqbf) (rows : List (List Bool)) (steps : List ProofStep) → Derives (instance_at f rows) steps
     → IsExpansionUnsatisfiable f rows
-
--- lines alone have the fault that they have as steps
-lines_fault : (finished : Bool) (live : LiveClauses) (steps : List ProofStep)
-    → items_fault finished live (map derived steps) ≡ steps_fault finished live steps
-lines_fault finished live [] = refl
-lines_fault finished live (s ∷ ss) = ap (fault_of_step (line_fault live s.literals s.hints) s.id)
-    (lines_fault (is_empty s.literals) (with_clause live s.id s.literals) ss)
 
 normal_lines : (f : Dqbf) (rows : List (List Bool)) (steps : List ProofStep)
     → map (normal_item f rows) (map derived steps) ≡ map derived (map (normal_step f rows) steps)
@@ -32,6 +26,6 @@ unsatisfiable refute f d none numbered =
     let steps = lines_of d.items in
     let live = instance_at f d.rows in
     refute f d.rows (map (normal_step f d.rows) steps)
-    (sym (lines_fault false live (map (normal_step f d.rows) steps))
+    (sym (steps_alone false live (map (normal_step f d.rows) steps))
     ∙ ap (items_fault false live) (sym (normal_lines f d.rows steps))
     ∙ ap (λ xs. items_fault false live (map (normal_item f d.rows) xs)) (sym numbered.lines) ∙ none)

@@ -1,4 +1,4 @@
-use Rattle.copied_prefixes.proofs.CopiedPrefixes.{on_ok}
+use Rattle.list_laws.proofs.Results.{on_ok}
 use Rattle.copied_prefixes.proofs.CopiedPrefixes.{next-fresh, next-listed, listed-next}
 use Rattle.copied_prefixes.proofs.declare_next.Goals as goal
 

@@ -1,9 +1,10 @@
 use Rattle.std.proofs.Common.{sym, subst, All}
 use Rattle.aig_graph.specs.Graph.{IsNode}
+use Rattle.aig_graph.proofs.LargerGraphs.{grown_twice}
 use Rattle.expansion.specs.Table.{point_bits}
 use Rattle.candidate_functions.specs.Pairs.{AreByRules}
 use Rattle.candidate_functions.proofs.AllOutputs.{rule_nodes_are_nodes, first_outputs_are_nodes, read_declared, agree_at_pairs, follow_rules, are_defined}
-use Rattle.candidate_functions.proofs.LargerGraphs.{extends-trans, definitions_stay}
+use Rattle.candidate_functions.proofs.LargerGraphs.{definitions_stay}
 use Rattle.candidate_functions.proofs.building.build.Goals as goal
 
 pub first_outputs-requires-clause-others : goal.first_outputs-requires-clause-others
@@ -13,13 +14,13 @@ first_outputs-requires-clause-others c =
     c.in_ok-others.others.items c.in_ok-others.ensures.nodes)
 
 pub returns-in_err-nodes-clause-extends : goal.returns-in_err-nodes-clause-extends
-returns-in_err-nodes-clause-extends c = extends-trans c.args.graph.now c.by_rules.new.graph c.first_outputs.new.graph
+returns-in_err-nodes-clause-extends c = grown_twice c.args.graph.now c.by_rules.new.graph c.first_outputs.new.graph
     c.in_ok-others.ensures.extends c.first_outputs.ensures.extends
 
 pub put_definitions-requires-clause-definitions : goal.put_definitions-requires-clause-definitions
 put_definitions-requires-clause-definitions c =
     definitions_stay c.args.graph.now c.first_outputs.new.graph
-    (extends-trans c.args.graph.now c.by_rules.new.graph c.first_outputs.new.graph c.in_ok-others.ensures.extends
+    (grown_twice c.args.graph.now c.by_rules.new.graph c.first_outputs.new.graph c.in_ok-others.ensures.extends
     c.in_ok-nodes.ensures.extends)
     c.args.f.now c.args.ranks.now c.args.definitions.now c.requires.definitions
 
@@ -40,14 +41,14 @@ put_definitions-requires-clause-nodes c =
 
 pub returns-in_err-put_definitions-clause-extends : goal.returns-in_err-put_definitions-clause-extends
 returns-in_err-put_definitions-clause-extends c =
-    extends-trans c.args.graph.now c.first_outputs.new.graph c.put_definitions.new.graph
-    (extends-trans c.args.graph.now c.by_rules.new.graph c.first_outputs.new.graph c.in_ok-others.ensures.extends
+    grown_twice c.args.graph.now c.first_outputs.new.graph c.put_definitions.new.graph
+    (grown_twice c.args.graph.now c.by_rules.new.graph c.first_outputs.new.graph c.in_ok-others.ensures.extends
     c.in_ok-nodes.ensures.extends) c.put_definitions.ensures.extends
 
 pub returns-clause-extends : goal.returns-clause-extends
 returns-clause-extends c =
-    extends-trans c.args.graph.now c.first_outputs.new.graph c.put_definitions.new.graph
-    (extends-trans c.args.graph.now c.by_rules.new.graph c.first_outputs.new.graph c.in_ok-others.ensures.extends
+    grown_twice c.args.graph.now c.first_outputs.new.graph c.put_definitions.new.graph
+    (grown_twice c.args.graph.now c.by_rules.new.graph c.first_outputs.new.graph c.in_ok-others.ensures.extends
     c.in_ok-nodes.ensures.extends) c.in_ok-put_definitions.ensures.extends
 
 pub returns-clause-one_each : goal.returns-clause-one_each

@@ -1,6 +1,6 @@
 use Rattle.std.proofs.Common.{◌<◌, ◌≤◌, sym, ◌∙◌, subst, arith}
+use Rattle.aig_graph.proofs.LargerGraphs.{grown_twice}
 use Rattle.candidate_functions.proofs.SettledDefinitions.{order_within, placed_at, definition_node, settled_more, all_settled}
-use Rattle.candidate_functions.proofs.LargerGraphs.{extends-trans}
 use Rattle.candidate_functions.proofs.definitions.put_definitions.Goals as goal
 
 pub put_definition-requires-clause-place : goal.put_definition-requires-clause-place
@@ -32,7 +32,7 @@ pub put_definition-requires-clause-nodes : goal.put_definition-requires-clause-n
 put_definition-requires-clause-nodes c = c.loop-at.invariant.are_nodes
 
 pub returns-in_err-put_definition-clause-extends : goal.returns-in_err-put_definition-clause-extends
-returns-in_err-put_definition-clause-extends c = extends-trans c.args.graph.now c.loop-at.graph
+returns-in_err-put_definition-clause-extends c = grown_twice c.args.graph.now c.loop-at.graph
     c.put_definition.new.graph c.loop-at.invariant.grown c.put_definition.ensures.extends
 
 pub loop-at-preserved : goal.loop-at-preserved

@@ -1,9 +1,10 @@
 use Rattle.std.proofs.Common.{[], ap, All, Contains, get_or, sym, subst}
 use Rattle.std.proofs.lemmas.Result.{IfOk-weaker}
 use Rattle.definition_order.proofs.Declared.{some_existential, sees_universals, known_at, declared_at}
+use Rattle.dq_lits.proofs.FormulaVariables.{seen_as}
 use Rattle.candidate_functions.specs.Pairs.{universal_places, IsByRules}
 use Rattle.candidate_functions.specs.Trees.{IsOver}
-use Rattle.candidate_functions.proofs.TreeNodes.{unruled, seen_told}
+use Rattle.candidate_functions.proofs.TreeNodes.{unruled}
 use Rattle.candidate_functions.proofs.guesses.learned.Goals as goal
 
 pub seen-requires : goal.seen-requires
@@ -20,7 +21,7 @@ node-requires-clause-seen c =
     let y = get_or c.existentials.result.now c.args.place 0 in
     some_existential f y (All (Contains f.universals) c.seen-2.result.now) (declared_at f
     c.every_formula_is_lawful.ensures c.existentials.result.now c.args.place c.existentials.ensures c.requires.place)
-    (λ e found. subst (All (Contains f.universals)) (sym (seen_told f y c.seen-2.result.now c.seen-2.ensures.set e found))
+    (λ e found. subst (All (Contains f.universals)) (sym (seen_as f y c.seen-2.result.now c.seen-2.ensures.set e found))
     (sees_universals f c.every_formula_is_lawful.ensures y e found))
 
 pub returns-clause-node : goal.returns-clause-node
@@ -33,5 +34,5 @@ returns-clause-node c = λ e at.
     let places = universal_places f c.seen-2.result.now in
     IfOk-weaker c.node.result (IsOver new places) (IsByRules f new [] e)
     (λ n over. unruled f lawful y e found new places
-    (ap (universal_places f) (seen_told f y c.seen-2.result.now c.seen-2.ensures.set e found)) n over)
+    (ap (universal_places f) (seen_as f y c.seen-2.result.now c.seen-2.ensures.set e found)) n over)
     c.node.ensures.node

@@ -1,18 +1,18 @@
 use Rattle.std.proofs.Common.{◌≡◌, ◌+◌, false, get_or, length, refl, sym, subst, arith}
 use Rattle.aig_graph.specs.declared.nodes.Node.TheVariants.{Constant}
+use Rattle.aig_graph.proofs.LargerGraphs.{grown_twice}
 use Rattle.expansion.specs.Table.{point_bits}
 use Rattle.candidate_functions.specs.Pairs.{AreFirstOutputs}
 use Rattle.candidate_functions.proofs.AllOutputs.{OutputsSoFar, output_added}
-use Rattle.candidate_functions.proofs.LargerGraphs.{extends-trans}
 use Rattle.candidate_functions.proofs.KnownPoints.{values_stay}
 use Rattle.candidate_functions.proofs.outputs.outputs_beside.Goals as goal
 
 pub returns-in_err-node-clause-extends : goal.returns-in_err-node-clause-extends
-returns-in_err-node-clause-extends c = extends-trans c.args.graph.now c.loop-place.graph c.first_output.new.graph
+returns-in_err-node-clause-extends c = grown_twice c.args.graph.now c.loop-place.graph c.first_output.new.graph
     c.loop-place.invariant.grown c.first_output.ensures.extends
 
 pub returns-in_err-push-clause-extends : goal.returns-in_err-push-clause-extends
-returns-in_err-push-clause-extends c = extends-trans c.args.graph.now c.loop-place.graph c.first_output.new.graph
+returns-in_err-push-clause-extends c = grown_twice c.args.graph.now c.loop-place.graph c.first_output.new.graph
     c.loop-place.invariant.grown c.in_ok-node.ensures.extends
 
 pub loop-place-preserved : goal.loop-place-preserved

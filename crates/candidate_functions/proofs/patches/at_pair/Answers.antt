@@ -1,9 +1,9 @@
 use Rattle.std.proofs.Common.{false}
 use Rattle.expansion.specs.Table.{point_bits}
 use Rattle.aig_graph.specs.declared.nodes.Node.TheVariants.{Constant}
+use Rattle.aig_graph.proofs.LargerGraphs.{grown_twice}
 use Rattle.candidate_functions.specs.Pairs.{has_bit}
 use Rattle.candidate_functions.specs.declared.cubes.Pair.{Pair}
-use Rattle.candidate_functions.proofs.LargerGraphs.{extends-trans}
 use Rattle.candidate_functions.proofs.PatchedNodes.{one_pair_more}
 use Rattle.candidate_functions.proofs.patches.at_pair.Goals as goal
 
@@ -17,5 +17,5 @@ loop-pair-preserved c =
     c.loop-pair.invariant c.in_ok-made.ensures.extends c.in_ok-made.ensures.with
 
 pub returns-in_err-made-clause-extends : goal.returns-in_err-made-clause-extends
-returns-in_err-made-clause-extends c = extends-trans c.args.graph.now c.loop-pair.graph c.with_cube.new.graph
+returns-in_err-made-clause-extends c = grown_twice c.args.graph.now c.loop-pair.graph c.with_cube.new.graph
     c.loop-pair.invariant.grown c.with_cube.ensures.extends

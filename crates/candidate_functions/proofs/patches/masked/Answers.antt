@@ -1,9 +1,9 @@
 use Rattle.std.proofs.lemmas.Result.{IfOk-weaker}
 use Rattle.std.proofs.Common.{◌&&◌, false}
 use Rattle.aig_graph.specs.Made.{IsMade}
+use Rattle.aig_graph.proofs.LargerGraphs.{grown_twice}
 use Rattle.expansion.specs.Table.{point_bits}
 use Rattle.candidate_functions.specs.Pairs.{has_bit, IsMasked}
-use Rattle.candidate_functions.proofs.LargerGraphs.{extends-trans}
 use Rattle.candidate_functions.proofs.PatchedNodes.{masked_by}
 use Rattle.candidate_functions.proofs.patches.masked.Goals as goal
 
@@ -11,7 +11,7 @@ pub and-requires-clause-b : goal.and-requires-clause-b
 and-requires-clause-b c = c.not.ensures.node c.at_pair.new.graph c.in_ok-zeros.ensures.at_pair.is_node
 
 pub returns-clause-extends : goal.returns-clause-extends
-returns-clause-extends c = extends-trans c.args.graph.now c.at_pair.new.graph c.and.new.self
+returns-clause-extends c = grown_twice c.args.graph.now c.at_pair.new.graph c.and.new.self
     c.in_ok-zeros.ensures.extends c.and.ensures.extends
 
 pub returns-clause-masked : goal.returns-clause-masked

@@ -1,20 +1,20 @@
 use Rattle.std.proofs.lemmas.Result.{IfOk-weaker}
 use Rattle.std.proofs.Common.{◌||◌}
 use Rattle.aig_graph.specs.Made.{IsMade}
+use Rattle.aig_graph.proofs.LargerGraphs.{grown_twice}
 use Rattle.expansion.specs.Table.{point_bits}
 use Rattle.candidate_functions.specs.Pairs.{IsPatched}
-use Rattle.candidate_functions.proofs.LargerGraphs.{extends-trans}
 use Rattle.candidate_functions.proofs.PatchedNodes.{patched_by}
 use Rattle.candidate_functions.proofs.patches.patched.Goals as goal
 
 pub returns-in_err-ones-clause-extends : goal.returns-in_err-ones-clause-extends
-returns-in_err-ones-clause-extends c = extends-trans c.args.graph.now c.masked.new.graph c.at_pair.new.graph
+returns-in_err-ones-clause-extends c = grown_twice c.args.graph.now c.masked.new.graph c.at_pair.new.graph
     c.in_ok-rest.ensures.extends c.at_pair.ensures.extends
 
 pub returns-clause-extends : goal.returns-clause-extends
 returns-clause-extends c =
     let old = c.args.graph.now in
-    extends-trans old c.at_pair.new.graph c.or.new.self (extends-trans old c.masked.new.graph c.at_pair.new.graph
+    grown_twice old c.at_pair.new.graph c.or.new.self (grown_twice old c.masked.new.graph c.at_pair.new.graph
     c.in_ok-rest.ensures.extends c.in_ok-ones.ensures.extends) c.or.ensures.extends
 
 pub returns-clause-patched : goal.returns-clause-patched

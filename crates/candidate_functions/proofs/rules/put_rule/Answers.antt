@@ -3,8 +3,8 @@ use Rattle.dq_lits.specs.Literal.{Literal, variable_of}
 use Rattle.aig_graph.specs.Graph.{IsNode}
 use Rattle.aig_graph.specs.declared.nodes.Node.TheVariants.{Constant}
 use Rattle.aig_graph.specs.Made.{IsChosen}
+use Rattle.aig_graph.proofs.LargerGraphs.{grown_twice}
 use Rattle.candidate_functions.specs.Pairs.{IsCubeNode}
-use Rattle.candidate_functions.proofs.LargerGraphs.{extends-trans}
 use Rattle.candidate_functions.proofs.RuleNodes.{rule_over_universals, rule_node_there, rule_put, rule_of_none, same_beyond}
 use Rattle.candidate_functions.proofs.rules.put_rule.Goals as goal
 
@@ -49,7 +49,7 @@ returns-in_ok-nodes-clause-nodes c = λ later are.
     (subst (λ ls. IsCubeNode f mid ls c.in_ok-cube.cube) c.lits.ensures c.in_ok-cube.ensures.node) chosen are
 
 pub returns-in_ok-nodes-clause-extends : goal.returns-in_ok-nodes-clause-extends
-returns-in_ok-nodes-clause-extends c = extends-trans c.args.graph.now c.cube_node.new.graph c.mux.new.self
+returns-in_ok-nodes-clause-extends c = grown_twice c.args.graph.now c.cube_node.new.graph c.mux.new.self
     c.in_ok-cube.ensures.extends c.in_ok-nodes.ensures.extends
 
 pub returns-in_default-clause-nodes : goal.returns-in_default-clause-nodes

@@ -1,6 +1,6 @@
 use Rattle.std.proofs.Common.{◌≡◌, drop, subst, arith}
+use Rattle.aig_graph.proofs.LargerGraphs.{grown_twice}
 use Rattle.candidate_functions.specs.Pairs.{AreByRules}
-use Rattle.candidate_functions.proofs.LargerGraphs.{extends-trans}
 use Rattle.candidate_functions.proofs.AllOutputs.{rule_nodes_are_nodes}
 use Rattle.candidate_functions.proofs.RuleNodes.{with_rule}
 use Rattle.candidate_functions.proofs.rules.put_rules.Goals as goal
@@ -12,7 +12,7 @@ put_rule-requires-clause-nodes c =
 
 pub loop-at-preserved : goal.loop-at-preserved
 loop-at-preserved c = record {
-  grown = extends-trans c.args.graph.now c.loop-at.graph c.put_rule.new.graph c.loop-at.invariant.grown
+  grown = grown_twice c.args.graph.now c.loop-at.graph c.put_rule.new.graph c.loop-at.invariant.grown
       c.put_rule.ensures.extends;
   within = omega arith;
   nodes =
@@ -22,7 +22,7 @@ loop-at-preserved c = record {
 }
 
 pub returns-in_err-put_rule-clause-extends : goal.returns-in_err-put_rule-clause-extends
-returns-in_err-put_rule-clause-extends c = extends-trans c.args.graph.now c.loop-at.graph c.put_rule.new.graph
+returns-in_err-put_rule-clause-extends c = grown_twice c.args.graph.now c.loop-at.graph c.put_rule.new.graph
     c.loop-at.invariant.grown c.put_rule.ensures.extends
 
 pub returns-clause-nodes : goal.returns-clause-nodes

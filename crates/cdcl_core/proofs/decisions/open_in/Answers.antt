@@ -1,7 +1,7 @@
 use Rattle.std.proofs.Common.{inl, inr, Some, None}
 use Rattle.dq_lits.specs.Derivation.{holds}
+use Rattle.dq_lits.proofs.HeldLiterals.{any_one}
 use Rattle.learning_trail.specs.Steps.{literals_of}
-use Rattle.truth_values.proofs.HeldLiterals.{any_one}
 use Rattle.learning_trail.proofs.LargerTrails.{live_within, literal_within, opening_in}
 use Rattle.cdcl_core.proofs.VisitedClauses.{some_clause}
 use Rattle.cdcl_core.proofs.decisions.open_in.Goals as goal

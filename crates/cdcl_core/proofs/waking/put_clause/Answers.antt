@@ -1,7 +1,8 @@
 use Rattle.std.proofs.Common.{[], ◌∷◌, inr, sym, ◌∙◌, subst, Option, IfSome}
+use Rattle.list_laws.proofs.Results.{on_ok}
 use Rattle.learning_trail.specs.Resting.{IsPlaceholder}
 use Rattle.cdcl_core.specs.declared.waking.Pair.{Pair}
-use Rattle.cdcl_core.proofs.HeldLogs.{on_ok, put_aside}
+use Rattle.cdcl_core.proofs.HeldLogs.{put_aside}
 use Rattle.cdcl_core.proofs.waking.put_clause.Goals as goal
 
 pub returns-then-is_put_aside : goal.returns-then-is_put_aside

@@ -1,6 +1,7 @@
 use Rattle.std.proofs.Common.{sym, subst, Bool, List}
+use Rattle.list_laws.proofs.Results.{on_ok}
 use Rattle.cdcl_core.specs.Waking.{AreActiveAwake}
-use Rattle.cdcl_core.proofs.HeldLogs.{on_ok, all_awake}
+use Rattle.cdcl_core.proofs.HeldLogs.{all_awake}
 use Rattle.cdcl_core.proofs.waking.wake.Goals as goal
 
 pub returns-then-is_any_resting-clause-awake : goal.returns-then-is_any_resting-clause-awake

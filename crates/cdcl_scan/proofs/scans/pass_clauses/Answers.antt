@@ -4,8 +4,8 @@ use Rattle.oracle.specs.Fit.{live_in}
 use Rattle.learning_trail.specs.Steps.{literals_of}
 use Rattle.learning_trail.specs.Extension.{seen}
 use Rattle.learning_trail.proofs.ClauseStatus.{implied_from}
-use Rattle.learning_trail.proofs.LargerTrails.{literal_within}
-use Rattle.cdcl_scan.proofs.ClausePasses.{live_read, live_within, scanned_unit, scanned_stuck}
+use Rattle.learning_trail.proofs.LargerTrails.{literal_within, live_within}
+use Rattle.cdcl_scan.proofs.ClausePasses.{live_read, scanned_unit, scanned_stuck}
 use Rattle.cdcl_scan.proofs.scans.pass_clauses.Goals as goal
 use Rattle.cdcl_scan.proofs.scans.pass_clauses.Goals.{in-Unit, in-Stuck}
 

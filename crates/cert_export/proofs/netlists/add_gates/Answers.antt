@@ -1,9 +1,10 @@
 use Rattle.std.proofs.Common.{◌*◌, ◌/◌, ◌++◌, [], ◌∷◌, ℕ, slice_index, sym, ◌∙◌, ap, subst, arith}
 use Rattle.hint_log.specs.Entries.{name_of}
 use Rattle.circuit_plain.specs.Netlist.{Netlist, IsDefined, IsLiteral, IsVariable}
+use Rattle.circuit_plain.proofs.NetlistParts.{MayBeAdded, may_be_added}
 use Rattle.cert_export.specs.CircuitPart.{circuit_renaming, exported_netlist, gate_of}
 use Rattle.cert_export.specs.Parts.{part_of}
-use Rattle.cert_export.proofs.FileGates.{MayBeAdded, may_be_added, gate_added, gate_at_place}
+use Rattle.cert_export.proofs.FileGates.{gate_added, gate_at_place}
 use Rattle.cert_export.proofs.netlists.add_gates.Goals as goal
 
 pub add_gate-requires-clause-in_range : goal.add_gate-requires-clause-in_range

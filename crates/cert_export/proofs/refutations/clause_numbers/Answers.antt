@@ -1,7 +1,7 @@
 use Rattle.std.proofs.Common.{◌≡◌, suc, ◌+◌, [], ◌∷◌, ◌++◌, sym, ◌∙◌, ap, arith}
 use Rattle.std.specs.List.{range_with_len}
-use Rattle.cert_export.proofs.FileGates.{range_more}
 use Rattle.cert_export.proofs.refutations.clause_numbers.Goals as goal
+use Rattle.list_laws.proofs.Numbers.{range_more}
 
 pub loop-place-preserved : goal.loop-place-preserved
 loop-place-preserved c =

@@ -1,4 +1,5 @@
 use Rattle.std.proofs.Common.{◌≡◌, ℕ, List, ◌∙◌, ◌≤◌, ◌*◌, length, sym, ap, subst, arith}
+use Rattle.list_laws.proofs.Numbers.{few-rows}
 use Rattle.cert_text.specs.Header.{max_count}
 use Rattle.std.specs.List.Sorted.{IsStrictlyIncreasing}
 use Rattle.dq_lits.specs.Formula.{Dqbf}
@@ -9,7 +10,7 @@ use Rattle.cert_export.specs.Exported.{IsPairNaming}
 use Rattle.cert_export.specs.Names.{renaming}
 use Rattle.cert_export.specs.Pairing.{HaveNames}
 use Rattle.cert_export.specs.Written.{CanBeWritten}
-use Rattle.cert_export.proofs.ExportableAnswers.{have_names, can_be_written, few_instances, few_kept, are_exported}
+use Rattle.cert_export.proofs.ExportableAnswers.{have_names, can_be_written, few_kept, are_exported}
 use Rattle.cert_export.proofs.UsedRounds.{used_ascend}
 use Rattle.cert_export.proofs.refutations.refutation_items.Goals as goal
 
@@ -36,7 +37,7 @@ names-requires-clause-known c =
 
 pub overflow_mul-last : goal.overflow_mul-last
 overflow_mul-last c =
-    let most = few_instances (length c.args.rounds.now) c.clauses-2.result
+    let most = few-rows (length c.args.rounds.now) c.clauses-2.result
     (few_here c.args.f.now c.args.live.now c.args.log.now.entries c.args.ids.now c.args.rounds.now c.requires.can
     c.requires.used) c.clauses-2.ensures.few in
     omega (arith, most)
@@ -54,7 +55,7 @@ write_lines-requires-clause-can c =
 
 pub write_lines-requires-clause-few : goal.write_lines-requires-clause-few
 write_lines-requires-clause-few c =
-    let most = few_instances (length c.args.rounds.now) c.clauses-2.result
+    let most = few-rows (length c.args.rounds.now) c.clauses-2.result
     (few_here c.args.f.now c.args.live.now c.args.log.now.entries c.args.ids.now c.args.rounds.now c.requires.can
     c.requires.used) c.clauses-2.ensures.few in
     omega (arith, most)

@@ -1,6 +1,6 @@
 use Rattle.std.proofs.Common.{sym, subst, take, get_or, slice_index}
 use Rattle.std.proofs.lemmas.List.{take_all, take_more}
-use Rattle.definition_export.proofs.ClosedPlaces.{AreUsedSoFar, none_used, one_used}
+use Rattle.definition_export.proofs.ClosedPlaces.{AreUsedSoFar, one_used}
 use Rattle.definition_export.proofs.needed.add_used.Goals as goal
 
 pub loop-id-preserved : goal.loop-id-preserved

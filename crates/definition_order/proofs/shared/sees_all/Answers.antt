@@ -1,5 +1,5 @@
+use Rattle.dq_lits.proofs.FormulaVariables.{seen_as}
 use Rattle.definition_order.proofs.Firsts.{seen_told}
-use Rattle.definition_order.proofs.SeenUniversals.{seen_as}
 use Rattle.definition_order.proofs.shared.sees_all.Goals as goal
 
 pub returns : goal.returns

@@ -1,7 +1,7 @@
 use Rattle.std.proofs.Common.{ap, sym, ◌∙◌, take}
 use Rattle.dq_formula.specs.Dependencies.{dependencies}
+use Rattle.dq_lits.proofs.FormulaVariables.{seen_as}
 use Rattle.definition_order.proofs.Firsts.{those_told}
-use Rattle.definition_order.proofs.SeenUniversals.{seen_as}
 use Rattle.definition_order.proofs.shared.sees_no_more.Goals as goal
 
 pub returns-in-FirstOf : goal.returns-in-FirstOf

@@ -1,6 +1,7 @@
 use Rattle.std.proofs.Common.{◌∙◌, subst}
+use Rattle.list_laws.proofs.Results.{on_ok}
 use Rattle.dq_prep.specs.Sights.{AreWithin}
-use Rattle.dq_prep.proofs.SeenUniversals.{on_ok, keeps-stays}
+use Rattle.dq_prep.proofs.SeenUniversals.{keeps-stays}
 use Rattle.dq_prep.proofs.sights.reduce.Goals as goal
 
 pub returns : goal.returns

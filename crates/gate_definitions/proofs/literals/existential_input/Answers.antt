@@ -1,8 +1,9 @@
 use Rattle.std.proofs.Common.{sym, ap, ◌+◌, ◌∙◌, arith, length}
 use Rattle.std.proofs.lemmas.List.{length-map}
+use Rattle.list_laws.proofs.Folds.{placed_below}
 use Rattle.dq_formula.specs.Prefix.{existential_variables}
 use Rattle.definition_order.proofs.Declared.{variable}
-use Rattle.gate_definitions.proofs.DeclaredPlaces.{placed_second, placed_nowhere, placed_below}
+use Rattle.gate_definitions.proofs.DeclaredPlaces.{placed_second, placed_nowhere}
 use Rattle.gate_definitions.proofs.literals.existential_input.Goals as goal
 
 pub overflow_add-result : goal.overflow_add-result

@@ -2,11 +2,12 @@ use Rattle.std.proofs.Common.{◌∷◌, ◌∙◌, IfSome, Contains, sym, subst
 use Rattle.dq_lits.specs.Literal.{variable_of}
 use Rattle.dq_lits.specs.Formula.{declared}
 use Rattle.aig_graph.specs.Graph.{IsNode}
+use Rattle.aig_graph.proofs.LargerGraphs.{grown_twice}
 use Rattle.definition_order.specs.Order.{MayRead}
 use Rattle.definition_order.proofs.Declared.{some_existential}
 use Rattle.gate_definitions.specs.Branches.{IsDefinitionUnder}
 use Rattle.gate_definitions.proofs.GateNodes.{read_is_declared, literal_is_node}
-use Rattle.gate_definitions.proofs.BranchNodes.{later, grown_twice, test_defines}
+use Rattle.gate_definitions.proofs.BranchNodes.{later, test_defines}
 use Rattle.gate_definitions.proofs.tree_nodes.+branches.Goals as goal
 
 pub test_node-node_of-input-requires-clause-declared : goal.test_node-node_of-input-requires-clause-declared

@@ -1,5 +1,5 @@
+use Rattle.aig_graph.proofs.LargerGraphs.{grown_twice}
 use Rattle.interpolants.specs.Splits.{partition_of, local_of}
-use Rattle.interpolants.proofs.Steps.{extends_both}
 use Rattle.interpolants.proofs.ResolvedHints.{is_noted, next_is_node, resolving_first, next_hinted, resolving_next, all_resolved}
 use Rattle.interpolants.proofs.lines.resolve.Goals as goal
 
@@ -22,7 +22,7 @@ at-requires c =
     c.requires.replay.3).hinted c.in-Some.ensures.some))
 
 pub returns-in_err-node-clause-extends : goal.returns-in_err-node-clause-extends
-returns-in_err-node-clause-extends c = extends_both c.args.graph.now c.loop-link.graph c.resolved.new.graph
+returns-in_err-node-clause-extends c = grown_twice c.args.graph.now c.loop-link.graph c.resolved.new.graph
     (c.loop-link.invariant c.requires.replay.0 c.requires.replay.1 c.requires.replay.2 c.requires.replay.3).extends
     c.resolved.ensures.extends
 

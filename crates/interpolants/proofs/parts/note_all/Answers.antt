@@ -1,7 +1,7 @@
 use Rattle.std.proofs.Common.{get_or}
+use Rattle.aig_graph.proofs.LargerGraphs.{grown_twice}
 use Rattle.interpolants.specs.Splits.{partition_of, local_of}
 use Rattle.interpolants.proofs.Sided.{contains_place}
-use Rattle.interpolants.proofs.Steps.{extends_both}
 use Rattle.interpolants.proofs.NotedParts.{noted_before, noted_more, all_noted}
 use Rattle.interpolants.proofs.parts.note_all.Goals as goal
 
@@ -19,7 +19,7 @@ part-requires-clause-parts c =
     c.loop-at.invariant
 
 pub returns-in_err-node-clause-extends : goal.returns-in_err-node-clause-extends
-returns-in_err-node-clause-extends c = extends_both c.args.graph.now c.loop-at.graph c.part.new.graph
+returns-in_err-node-clause-extends c = grown_twice c.args.graph.now c.loop-at.graph c.part.new.graph
     c.loop-at.invariant.extends c.part.ensures.extends
 
 pub loop-at-preserved : goal.loop-at-preserved
@@ -37,5 +37,5 @@ returns-clause-parts c =
     c.loop-at.invariant
 
 pub returns-in_err-put-clause-extends : goal.returns-in_err-put-clause-extends
-returns-in_err-put-clause-extends c = extends_both c.args.graph.now c.loop-at.graph c.part.new.graph
+returns-in_err-put-clause-extends c = grown_twice c.args.graph.now c.loop-at.graph c.part.new.graph
     c.loop-at.invariant.extends c.part.ensures.extends

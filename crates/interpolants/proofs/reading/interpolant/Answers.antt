@@ -1,8 +1,8 @@
 use Rattle.hint_log.specs.Reached.{itself}
+use Rattle.aig_graph.proofs.LargerGraphs.{grown_twice}
 use Rattle.interpolants.specs.Splits.{partition_of, local_of}
 use Rattle.interpolants.proofs.PartialInterpolants.{nodes_after, answer_part}
 use Rattle.interpolants.proofs.ResolvedHints.{is_noted, noted_part}
-use Rattle.interpolants.proofs.Steps.{extends_both}
 use Rattle.interpolants.proofs.reading.interpolant.Goals as goal
 
 pub at-part-requires : goal.at-part-requires
@@ -27,11 +27,11 @@ with_asked-requires-clause-reads c =
     part.reads
 
 pub returns-in_err-node-clause-extends : goal.returns-in_err-node-clause-extends
-returns-in_err-node-clause-extends c = extends_both c.args.graph.now c.note_all.new.graph c.with_asked.new.graph
+returns-in_err-node-clause-extends c = grown_twice c.args.graph.now c.note_all.new.graph c.with_asked.new.graph
     c.note_all.ensures.extends c.with_asked.ensures.extends
 
 pub returns-clause-extends : goal.returns-clause-extends
-returns-clause-extends c = extends_both c.args.graph.now c.note_all.new.graph c.with_asked.new.graph
+returns-clause-extends c = grown_twice c.args.graph.now c.note_all.new.graph c.with_asked.new.graph
     c.note_all.ensures.extends c.with_asked.ensures.extends
 
 pub returns-clause-interpolant : goal.returns-clause-interpolant

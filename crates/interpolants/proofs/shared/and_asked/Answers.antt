@@ -2,8 +2,8 @@ use Rattle.std.proofs.Common.{◌≡◌, Some, None, true, false, ◌&&◌, Bool
 use Rattle.std.specs.Option.{is_some}
 use Rattle.dq_lits.specs.Literal.{variable_of, opposite}
 use Rattle.dq_lits.specs.Derivation.{holds}
+use Rattle.dq_lits.proofs.SignedLiterals.{opposite_variable}
 use Rattle.interpolants.specs.Interpolant.{node_of}
-use Rattle.interpolants.proofs.Truth.{variable_of-opposite}
 use Rattle.interpolants.proofs.Steps.{IsLiteralNode, asked_more, asked_past}
 use Rattle.interpolants.proofs.shared.and_asked.Goals as goal
 
@@ -33,7 +33,7 @@ returns-in_ok-made-in-Some-clause-more c = λ old clause p part.
     let same : c.not-in-Some.result ≡ opposite c.args.l = c.not-in-Some.ensures in
     let is : IsLiteralNode c.args.shared.now c.args.graph.now c.not-in-Some.result c.in-Some.n c.literal_node.result =
     record {
-      node_is = ap (node_of c.args.shared.now) (ap variable_of same ∙ variable_of-opposite c.args.l) ∙ found;
+      node_is = ap (node_of c.args.shared.now) (ap variable_of same ∙ opposite_variable c.args.l) ∙ found;
       value = c.literal_node.ensures.value c.args.graph.now;
       support = c.literal_node.ensures.support c.args.graph.now;
     } in

@@ -1,11 +1,11 @@
 use Rattle.std.proofs.Common.{take, sym, subst, ap, ◌∙◌, ◌++◌, ◌∷◌, []}
 use Rattle.std.proofs.lemmas.List.{take_more}
+use Rattle.aig_graph.proofs.LargerGraphs.{grown_twice}
 use Rattle.interpolants.specs.Parts.{IsSharedPart}
-use Rattle.interpolants.proofs.Steps.{extends_both}
 use Rattle.interpolants.proofs.shared.shared_part.Goals as goal
 
 pub returns-in_err-node-clause-extends : goal.returns-in_err-node-clause-extends
-returns-in_err-node-clause-extends c = extends_both c.args.graph.now c.loop-l.graph c.or_shared.new.graph
+returns-in_err-node-clause-extends c = grown_twice c.args.graph.now c.loop-l.graph c.or_shared.new.graph
     c.loop-l.invariant.extends c.or_shared.ensures.extends
 
 pub loop-l-preserved : goal.loop-l-preserved
@@ -13,7 +13,7 @@ loop-l-preserved c =
     let xs = c.args.clause.now in
     let i = c.loop-l.l-index in
     record {
-      extends = extends_both c.args.graph.now c.loop-l.graph c.or_shared.new.graph c.loop-l.invariant.extends
+      extends = grown_twice c.args.graph.now c.loop-l.graph c.or_shared.new.graph c.loop-l.invariant.extends
           c.or_shared.ensures.extends;
       part =
           subst (λ ls. IsSharedPart c.args.shared.now c.or_shared.new.graph ls c.in_ok-node.node)

@@ -1,14 +1,15 @@
 use Rattle.std.proofs.Common.{◌≡◌, ◌∷◌, ◌++◌, [], reverse, sym, ap, ◌∙◌, subst, ◌==◌, refl}
 use Rattle.std.proofs.lemmas.Bool.{eq-eqb}
+use Rattle.list_laws.proofs.Options.{some_of}
 use Rattle.dq_lits.specs.Literal.{variable_of}
+use Rattle.dq_lits.proofs.HeldLiterals.{any_one}
 use Rattle.oracle.specs.Fit.{live_in}
 use Rattle.learning_trail.specs.Steps.{literals_of, decision_of}
 use Rattle.learning_trail.specs.Sound.{IsSound}
 use Rattle.learning_trail.specs.Analyses.{IsAnalysis}
-use Rattle.truth_values.proofs.HeldLiterals.{any_one}
 use Rattle.learning_trail.proofs.ConflictAnalysis.{analysis_first, sound_consistent}
 use Rattle.learning_trail.proofs.Lessons.{sound_later}
-use Rattle.learning_trail.proofs.TakenLevels.{conflict_of, conflict_marked, is_some_of}
+use Rattle.learning_trail.proofs.TakenLevels.{conflict_of, conflict_marked}
 use Rattle.learning_trail.proofs.LearnedClauses.{lesson_made}
 use Rattle.learning_trail.proofs.analysis.analyse.Goals as goal
 
@@ -17,7 +18,7 @@ back_to_first-requires-clause-some g c =
     let clauses = g.C.Clauses.clauses c.args.clauses.now in
     let steps = c.args.trail.now.steps in
     let k = conflict_of clauses c.args.conflict (literals_of steps) c.requires.conflict in
-    let d = is_some_of (decision_of steps) c.requires.decided in
+    let d = some_of (decision_of steps) c.requires.decided in
     conflict_marked (live_in clauses) steps c.begin.new.notes.marks k.clause c.args.conflict d.0 c.requires.sound d.1
     k.is k.false_now
     (λ l m. c.in_ok-begin.ensures.marked k.clause (variable_of l) k.is ∙ any_one

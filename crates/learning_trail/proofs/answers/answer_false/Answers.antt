@@ -1,12 +1,12 @@
 use Rattle.std.proofs.Common.{◌≡◌, ◌∷◌, ◌++◌, ◌==◌, ◌&&◌, not, [], length, sym, ap, ◌∙◌, true, List, ℕ, Some}
 use Rattle.dq_lits.specs.Literal.{Literal, variable_of, opposite}
 use Rattle.dq_lits.specs.Derivation.{holds}
+use Rattle.dq_lits.proofs.SignedLiterals.{opposite_variable}
 use Rattle.oracle.specs.Fit.{live_in}
 use Rattle.learning_trail.specs.Steps.{literals_of}
 use Rattle.learning_trail.specs.Marks.{marked, stands_on}
 use Rattle.learning_trail.specs.Noting.{Noted}
 use Rattle.learning_trail.proofs.SoughtAnswers.{sought_markable, analysis_of_reason, below_sought, below_assumed, below_implied, below_id, below_reasoned}
-use Rattle.truth_values.proofs.HeldLiterals.{opposite-variable}
 use Rattle.learning_trail.proofs.answers.answer_false.Goals as goal
 
 still_of : (steps : List Literal) (a not_a : Literal) → not_a ≡ opposite a → holds steps not_a ≡ true →
@@ -22,7 +22,7 @@ begin-requires-clause-from_one g c =
     (below_id c.args.assumptions.now (g.C.Clauses.clauses c.args.clauses.now) c.args.trail.now c.args.notes.now
     c.args.log.now c.requires.answering new step a back.shrunk
     (still_of (literals_of (step ∷ new.steps)) a c.not.result c.not.ensures back.still)
-    (back.variable ∙ ap variable_of c.not.ensures ∙ opposite-variable a) c.requires.assumed
+    (back.variable ∙ ap variable_of c.not.ensures ∙ opposite_variable a) c.requires.assumed
     c.in-Some.reason c.in-Some.is).from_one
 
 pub begin-requires-clause-is_id : goal.begin-requires-clause-is_id
@@ -34,7 +34,7 @@ begin-requires-clause-is_id g c =
     (below_id c.args.assumptions.now (g.C.Clauses.clauses c.args.clauses.now) c.args.trail.now c.args.notes.now
     c.args.log.now c.requires.answering new step a back.shrunk
     (still_of (literals_of (step ∷ new.steps)) a c.not.result c.not.ensures back.still)
-    (back.variable ∙ ap variable_of c.not.ensures ∙ opposite-variable a) c.requires.assumed
+    (back.variable ∙ ap variable_of c.not.ensures ∙ opposite_variable a) c.requires.assumed
     c.in-Some.reason c.in-Some.is).is_id
 
 pub begin-requires-clause-within : goal.begin-requires-clause-within
@@ -53,7 +53,7 @@ answer-requires-clause-answering g c =
     below_sought c.args.assumptions.now (g.C.Clauses.clauses c.args.clauses.now) c.args.trail.now c.args.notes.now
     c.args.log.now c.requires.answering new step a back.shrunk
     (still_of (literals_of (step ∷ new.steps)) a c.not.result c.not.ensures back.still)
-    (back.variable ∙ ap variable_of c.not.ensures ∙ opposite-variable a) c.requires.assumed
+    (back.variable ∙ ap variable_of c.not.ensures ∙ opposite_variable a) c.requires.assumed
     c.add_literal.new.self back.room marks
 
 pub answer-requires-clause-assumed : goal.answer-requires-clause-assumed
@@ -65,7 +65,7 @@ answer-requires-clause-assumed g c =
     below_assumed c.args.assumptions.now (g.C.Clauses.clauses c.args.clauses.now) c.args.trail.now c.args.notes.now
     c.args.log.now c.requires.answering new step a back.shrunk
     (still_of (literals_of (step ∷ new.steps)) a c.not.result c.not.ensures back.still)
-    (back.variable ∙ ap variable_of c.not.ensures ∙ opposite-variable a) c.requires.assumed
+    (back.variable ∙ ap variable_of c.not.ensures ∙ opposite_variable a) c.requires.assumed
 
 pub answer-requires-clause-analysis : goal.answer-requires-clause-analysis
 answer-requires-clause-analysis g c =
@@ -77,7 +77,7 @@ answer-requires-clause-analysis g c =
     let now = c.unmark.new.self in
     let noted = c.add_literal.new.self in
     let still = still_of (literals_of (step ∷ new.steps)) a c.not.result c.not.ensures back.still in
-    let same = back.variable ∙ ap variable_of c.not.ensures ∙ opposite-variable a in
+    let same = back.variable ∙ ap variable_of c.not.ensures ∙ opposite_variable a in
     let marks : length noted.marks ≡ length c.args.notes.now.marks =
     ap (λ (n : Noted). length n.marks) c.in_ok-add_literal-in-Some.ensures.ok ∙ c.unmark.ensures.len ∙ c.begin.ensures.len in
     let sought = below_sought c.args.assumptions.now held c.args.trail.now c.args.notes.now c.args.log.now
@@ -105,4 +105,4 @@ unreachable-requires g c =
     below_reasoned c.args.assumptions.now (g.C.Clauses.clauses c.args.clauses.now) c.args.trail.now c.args.notes.now
     c.args.log.now c.requires.answering new step a back.shrunk
     (still_of (literals_of (step ∷ new.steps)) a c.not.result c.not.ensures back.still)
-    (back.variable ∙ ap variable_of c.not.ensures ∙ opposite-variable a) c.requires.assumed c.in-None.is
+    (back.variable ∙ ap variable_of c.not.ensures ∙ opposite_variable a) c.requires.assumed c.in-None.is

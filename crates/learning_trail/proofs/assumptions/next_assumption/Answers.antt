@@ -1,6 +1,7 @@
 use Rattle.std.proofs.Common.{sym, ◌∙◌}
+use Rattle.dq_lits.proofs.HeldLiterals.{held-at}
 use Rattle.learning_trail.specs.Steps.{literals_of}
-use Rattle.learning_trail.proofs.TrueAssumptions.{true_more, true_all, at_holds, none_from}
+use Rattle.learning_trail.proofs.TrueAssumptions.{true_more, true_all, none_from}
 use Rattle.truth_values.proofs.HeldLiterals.{value_true, value_false, value_free}
 use Rattle.learning_trail.proofs.assumptions.next_assumption.Goals as goal
 
@@ -13,14 +14,14 @@ loop-l-preserved c =
 pub returns-in-False-clause-next : goal.returns-in-False-clause-next
 returns-in-False-clause-next c =
     let trues = literals_of c.args.trail.now.steps in (
-      at_holds c.args.assumptions.now c.loop-l.made c.in-Some.l c.in-Some.ensures.value,
+      held-at c.args.assumptions.now c.loop-l.made c.in-Some.l c.in-Some.ensures.value,
       value_false trues c.in-Some.l (sym c.value.ensures ∙ c.in-False.is),
     )
 
 pub returns-in-Unassigned-clause-next : goal.returns-in-Unassigned-clause-next
 returns-in-Unassigned-clause-next c =
     let trues = literals_of c.args.trail.now.steps in (
-      at_holds c.args.assumptions.now c.loop-l.made c.in-Some.l c.in-Some.ensures.value,
+      held-at c.args.assumptions.now c.loop-l.made c.in-Some.l c.in-Some.ensures.value,
       value_free trues c.in-Some.l (sym c.value.ensures ∙ c.in-Unassigned.is),
     )
 

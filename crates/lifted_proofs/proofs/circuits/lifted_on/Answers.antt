@@ -1,8 +1,8 @@
 use Rattle.std.proofs.Common.{arith}
 use Rattle.cert_text.specs.CircuitProof.{first_proof_id, is_proof_variable}
+use Rattle.proof_deletions.proofs.NumberedLines.{from_one}
 use Rattle.lifted_proofs.proofs.LiftableCircuits.{is-liftable}
 use Rattle.lifted_proofs.proofs.LiftedCircuits.{derives-by}
-use Rattle.lifted_proofs.proofs.LiftedRefutations.{steps-from-one}
 use Rattle.lifted_proofs.proofs.circuits.lifted_on.Goals as goal
 
 pub settled-requires-clause-mapped : goal.settled-requires-clause-mapped
@@ -23,5 +23,5 @@ pub of_lines-requires : goal.of_lines-requires
 of_lines-requires c =
     let f = c.args.table.now.formula.now in
     let net = c.args.bench.now.circuit.netlist in
-    steps-from-one (is_proof_variable f net) (first_proof_id f net) c.in_ok-steps.steps (omega arith)
+    from_one (is_proof_variable f net) (first_proof_id f net) c.in_ok-steps.steps (omega arith)
     c.in_ok-steps.ensures.allowed

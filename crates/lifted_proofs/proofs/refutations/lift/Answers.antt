@@ -2,7 +2,8 @@ use Rattle.std.proofs.Common.{◌*◌, length, refl, sym, ap, subst, arith}
 use Rattle.cert_text.specs.Pairs.{is_pair_number}
 use Rattle.cert_text.specs.Scan.{first_id}
 use Rattle.proof_deletions.specs.Deletions.{AreNumberedLines}
-use Rattle.lifted_proofs.proofs.LiftedRefutations.{few-instances, wanted-ids, wanted-goals, steps-from-one, lifted-allowed, lifted-refutes}
+use Rattle.proof_deletions.proofs.NumberedLines.{from_one}
+use Rattle.lifted_proofs.proofs.LiftedRefutations.{few-instances, wanted-ids, wanted-goals, lifted-allowed, lifted-refutes}
 use Rattle.lifted_proofs.proofs.refutations.lift.Goals as goal
 
 pub overflow_mul-last : goal.overflow_mul-last
@@ -29,7 +30,7 @@ pub of_lines-requires : goal.of_lines-requires
 of_lines-requires c =
     let f = c.args.table.now.formula.now in
     let rows = c.in_ok-plan.plan.rows in
-    steps-from-one (is_pair_number f (length rows)) (first_id f (length rows)) c.in_ok-steps.steps (omega arith)
+    from_one (is_pair_number f (length rows)) (first_id f (length rows)) c.in_ok-steps.steps (omega arith)
     c.in_ok-steps.ensures.lifted.allowed
 
 pub returns-clause-allowed : goal.returns-clause-allowed

@@ -1,7 +1,8 @@
 use Rattle.std.proofs.Common.{◌≡◌, ◌+◌, ◌*◌, ℕ, List, ◌++◌, map, length, ◌∙◌, ap, arith}
+use Rattle.list_laws.proofs.Numbers.{few-rows}
 use Rattle.lifted_proofs.specs.Carried.{Renumbering, carried_step, lines_of}
 use Rattle.lifted_proofs.proofs.LiftedLines.{all-lifted, renumber}
-use Rattle.lifted_proofs.proofs.LiftedRefutations.{few-instances, few-rows, few-wanted, small-lines}
+use Rattle.lifted_proofs.proofs.LiftedRefutations.{few-instances, few-wanted, small-lines}
 use Rattle.lifted_proofs.proofs.refutations.lifted_lines.Goals as goal
 
 pub overflow_mul-renumbered : goal.overflow_mul-renumbered

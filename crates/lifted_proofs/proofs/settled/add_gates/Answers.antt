@@ -1,7 +1,7 @@
 use Rattle.std.proofs.Common.{◌≡◌, ◌<◌, ◌/◌, ◌*◌, ◌++◌, ◌∷◌, [], ◌∙◌, ℕ, length, get_or, sym, ap, subst, arith}
 use Rattle.std.proofs.lemmas.List.{get_or_default}
 use Rattle.circuit_plain.specs.Netlist.{Netlist, IsNetlist, IsDefined, IsLiteral, IsVariable, gate_at}
-use Rattle.lifted_proofs.proofs.CopiedCircuits.{MayBeAdded, may_be_added, gate_added}
+use Rattle.circuit_plain.proofs.NetlistParts.{MayBeAdded, may_be_added, gate_added}
 use Rattle.lifted_proofs.proofs.settled.add_gates.Goals as goal
 
 at-place : (net : Netlist) (i : ℕ) → i < length net.gates → get_or net.gates i (gate_at net i) ≡ gate_at net i

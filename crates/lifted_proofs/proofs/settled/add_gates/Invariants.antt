@@ -1,5 +1,5 @@
 use Rattle.std.proofs.Common.{◌≡◌}
-use Rattle.lifted_proofs.proofs.CopiedCircuits.{with_gates}
+use Rattle.circuit_plain.proofs.NetlistParts.{with_gates}
 use Rattle.lifted_proofs.proofs.settled.add_gates.Given as goal
 
 abbrev pub invariant-loop-i : goal.invariant-loop-i

@@ -4,7 +4,7 @@ use Rattle.circuit_plain.specs.Netlist.{Netlist}
 use Rattle.dq_lits.specs.Literal.{Literal}
 use Rattle.dq_prep.specs.Units.{taken_literals}
 use Rattle.lifted_proofs.specs.SettledCircuits.{settled_outputs, settled_netlist}
-use Rattle.lifted_proofs.proofs.CopiedCircuits.{output_added}
+use Rattle.circuit_plain.proofs.NetlistParts.{output_added}
 use Rattle.lifted_proofs.proofs.LiftedNames.{outputs-enough}
 use Rattle.lifted_proofs.proofs.SettledOutputs.{as-long, settled-at}
 use Rattle.lifted_proofs.proofs.settled.add_outputs.Goals as goal

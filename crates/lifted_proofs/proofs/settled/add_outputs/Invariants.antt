@@ -1,6 +1,6 @@
 use Rattle.std.proofs.Common.{◌≡◌, reverse}
 use Rattle.dq_prep.specs.Units.{taken_literals}
-use Rattle.lifted_proofs.proofs.CopiedCircuits.{with_outputs}
+use Rattle.circuit_plain.proofs.NetlistParts.{with_outputs}
 use Rattle.lifted_proofs.specs.SettledCircuits.{settled_netlist}
 use Rattle.lifted_proofs.proofs.settled.add_outputs.Given as goal
 

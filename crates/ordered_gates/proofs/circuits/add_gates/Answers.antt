@@ -1,7 +1,8 @@
 use Rattle.std.proofs.Common.{◌/◌, ◌++◌, ◌∷◌, [], ◌∙◌, ℕ, sym, ap, subst, arith}
 use Rattle.circuit_plain.specs.Netlist.{Netlist, IsDefined, gate_at}
+use Rattle.circuit_plain.proofs.NetlistParts.{MayBeAdded, may_be_added, gate_added}
 use Rattle.ordered_gates.specs.Circuits.{ordered_gate, ordered_netlist}
-use Rattle.ordered_gates.proofs.AddedParts.{MayBeAdded, gate_there, may_be_added, gate_added}
+use Rattle.ordered_gates.proofs.AddedParts.{gate_there}
 use Rattle.ordered_gates.proofs.OrderedNetlists.{ordered_is_netlist}
 use Rattle.ordered_gates.proofs.circuits.add_gates.Goals as goal
 

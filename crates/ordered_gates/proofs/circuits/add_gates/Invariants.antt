@@ -1,6 +1,6 @@
 use Rattle.std.proofs.Common.{◌≡◌}
 use Rattle.ordered_gates.specs.Circuits.{ordered_netlist}
-use Rattle.ordered_gates.proofs.AddedParts.{with_gates}
+use Rattle.circuit_plain.proofs.NetlistParts.{with_gates}
 use Rattle.ordered_gates.proofs.circuits.add_gates.Given as goal
 
 abbrev pub invariant-loop-i : goal.invariant-loop-i

@@ -1,5 +1,5 @@
 use Rattle.std.proofs.Common.{◌≡◌}
-use Rattle.ordered_gates.proofs.AddedParts.{with_inputs}
+use Rattle.circuit_plain.proofs.NetlistParts.{with_inputs}
 use Rattle.ordered_gates.proofs.circuits.add_inputs.Given as goal
 
 abbrev pub invariant-loop-i : goal.invariant-loop-i

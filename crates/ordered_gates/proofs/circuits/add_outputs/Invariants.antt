@@ -1,6 +1,6 @@
 use Rattle.std.proofs.Common.{◌≡◌}
 use Rattle.ordered_gates.specs.Circuits.{ordered_netlist}
-use Rattle.ordered_gates.proofs.AddedParts.{with_outputs}
+use Rattle.circuit_plain.proofs.NetlistParts.{with_outputs}
 use Rattle.ordered_gates.proofs.circuits.add_outputs.Given as goal
 
 abbrev pub invariant-loop-i : goal.invariant-loop-i

@@ -1,5 +1,6 @@
 use Rattle.std.proofs.Common.{sym, ◌∙◌, refl}
-use Rattle.padoa_definitions.proofs.CopiedVariables.{none_contained, place_holds}
+use Rattle.list_laws.proofs.Folds.{place_holds}
+use Rattle.padoa_definitions.proofs.CopiedVariables.{none_contained}
 use Rattle.padoa_definitions.proofs.MarkedVariables.{other_marked, universal_marked}
 use Rattle.padoa_definitions.proofs.standing.mark.Goals as goal
 

@@ -1,8 +1,9 @@
 use Rattle.std.proofs.Common.{ℕ, ◌+◌, ◌*◌, ◌<◌, [], ◌∷◌, sym, ◌∙◌, ap, subst, arith}
+use Rattle.list_laws.proofs.Results.{on_ok}
 use Rattle.dq_lits.specs.Formula.{Dqbf}
 use Rattle.circuit_plain.specs.Netlist.{literal_variable}
 use Rattle.pec_front.specs.Kept.{AreWithin}
-use Rattle.pec_front.proofs.AddedClauses.{three-within, on-ok, agreement-added}
+use Rattle.pec_front.proofs.AddedClauses.{three-within, agreement-added}
 use Rattle.pec_front.proofs.kept_clauses.add_agreement.Goals as goal
 
 pub add_clause-requires-2-clause-within : goal.add_clause-requires-2-clause-within
@@ -33,7 +34,7 @@ add_clause-requires-4-clause-within c =
 
 pub returns-clause-clauses : goal.returns-clause-clauses
 returns-clause-clauses c =
-    on-ok c.add_clause-4.result
+    on_ok c.add_clause-4.result
     (agreement-added c.args.f.now c.add_clause.new.f c.add_clause-2.new.f c.add_clause-3.new.f c.add_clause-4.new.f
     c.args.flag c.args.a c.args.b c.opposite_of-differ.result c.opposite_of-not_a.result c.opposite_of-not_b.result
     c.opposite_of-differ.ensures.value c.opposite_of-not_a.ensures.value c.opposite_of-not_b.ensures.value

@@ -1,6 +1,6 @@
+use Rattle.skolem_checker.proofs.LiteralNumbers.{spelled_complete}
 use Rattle.pec_runs.specs.DesignTexts.{imp_spelled}
 use Rattle.pec_runs.proofs.CommentLines.{can-number}
-use Rattle.pec_runs.proofs.Complete.{spelled_complete}
 use Rattle.pec_runs.proofs.Readings.{imp-refused}
 use Rattle.pec_runs.proofs.texts.formula_behind.Goals as goal
 

@@ -1,5 +1,5 @@
+use Rattle.skolem_checker.proofs.LiteralNumbers.{spelled_complete}
 use Rattle.pec_runs.specs.DesignTexts.{spec_spelled}
-use Rattle.pec_runs.proofs.Complete.{spelled_complete}
 use Rattle.pec_runs.proofs.Readings.{spec-refused}
 use Rattle.pec_runs.proofs.texts.formula_of_texts.Goals as goal
 

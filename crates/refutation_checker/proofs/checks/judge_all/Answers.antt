@@ -1,7 +1,7 @@
 use Rattle.std.proofs.Common.{◌+◌, sym, ◌∙◌, arith}
+use Rattle.list_laws.proofs.Sequences.{drop_end}
 use Rattle.cert_text.specs.Items.{item_seen}
 use Rattle.refutation_checker.proofs.JudgedItems.{all_judged, may_come, none_judged, one_judged, settled}
-use Rattle.refutation_checker.proofs.ReadClauses.{drop_end}
 use Rattle.refutation_checker.proofs.checks.judge_all.Goals as goal
 
 pub loop-k-init : goal.loop-k-init

@@ -1,8 +1,9 @@
 use Rattle.std.proofs.Common.{refl}
+use Rattle.list_laws.proofs.Sequences.{drop_end}
 use Rattle.refutation_checker.specs.PairNames.{frame, names_in}
 use Rattle.refutation_checker.specs.Rows.{row_of}
 use Rattle.refutation_checker.proofs.NamedLines.{then_extends}
-use Rattle.refutation_checker.proofs.ReadClauses.{read_more, true_read, all_read, drop_end, take_end}
+use Rattle.refutation_checker.proofs.ReadClauses.{read_more, true_read, all_read, take_end}
 use Rattle.refutation_checker.proofs.judging.read_clause.Goals as goal
 
 pub returns-in_err-is_true-clause-extends : goal.returns-in_err-is_true-clause-extends

@@ -1,9 +1,9 @@
 use Rattle.std.proofs.Common.{◌∙◌, refl, ap, sym}
+use Rattle.list_laws.proofs.Results.{on_err}
 use Rattle.log_laws.specs.Engines.{instances}
 use Rattle.repair_loop.specs.Desks.{IsFirstBook}
 use Rattle.repair_loop.proofs.FileDecisions.{entries_began, file_productive, file_false, file_stopped}
 use Rattle.repair_loop.proofs.FirstDesks.{empty_has_none}
-use Rattle.repair_loop.proofs.Stops.{on_err}
 use Rattle.repair_loop.proofs.WholeFormulas.{now_is_file}
 use Rattle.repair_loop.proofs.WholeSearches.{alone_log, productive}
 use Rattle.dq_session.specs.Books.{BookState, now_of}

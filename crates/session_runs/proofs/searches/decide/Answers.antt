@@ -5,15 +5,16 @@ use Rattle.cert_export.specs.ExportableLogs.{RestsOnLive}
 use Rattle.verdict_texts.specs.Forms.{plain}
 use Rattle.verdict_texts.specs.Shown.{IsTrueText, IsFalseText, unknown_by}
 use Rattle.verdict_texts.specs.Verdicts.{verdict_text}
+use Rattle.repair_loop.proofs.LiveBooks.{now_formed}
 use Rattle.session_runs.specs.Standing.{IsFound}
-use Rattle.session_runs.proofs.FoundVerdicts.{well-formed-now, rests-on-live, true-found, false-found, unknown-found}
+use Rattle.session_runs.proofs.FoundVerdicts.{rests-on-live, true-found, false-found, unknown-found}
 use Rattle.session_runs.proofs.SearchedLogs.{surely, surely-at, so-far-behind, on-err, limit-other}
 use Rattle.session_runs.proofs.searches.decide.Goals as goal
 
 pub text_of_true-requires-clause-formula : goal.text_of_true-requires-clause-formula
 text_of_true-requires-clause-formula g c =
     subst IsWellFormed (sym c.requires.now)
-    (well-formed-now c.args.book.now c.args.log.now.entries c.requires.ready.book.book)
+    (now_formed c.args.book.now c.args.log.now.entries c.requires.ready.book.book)
 
 pub text_of_true-requires-clause-answered : goal.text_of_true-requires-clause-answered
 text_of_true-requires-clause-answered g c = (
@@ -44,7 +45,7 @@ returns-in-Ok-True-clause-err g c =
 pub text_of_false-requires-clause-formula : goal.text_of_false-requires-clause-formula
 text_of_false-requires-clause-formula g c =
     subst IsWellFormed (sym c.requires.now)
-    (well-formed-now c.args.book.now c.args.log.now.entries c.requires.ready.book.book)
+    (now_formed c.args.book.now c.args.log.now.entries c.requires.ready.book.book)
 
 pub text_of_false-requires-clause-answered : goal.text_of_false-requires-clause-answered
 text_of_false-requires-clause-answered g c =

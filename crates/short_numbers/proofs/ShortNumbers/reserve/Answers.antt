@@ -1,6 +1,7 @@
 use Rattle.std.proofs.Common.{vec_capacity, ◌≤◌, ◌≡◌, length, cond, subst, sym, ◌∙◌, ap, arith}
+use Rattle.list_laws.proofs.Results.{on_err}
 use Rattle.short_numbers.specs.Numbers.{Numbers}
-use Rattle.short_numbers.proofs.Halves.{full_low, full_high, room_above, on_err}
+use Rattle.short_numbers.proofs.Halves.{full_low, full_high, room_above}
 use Rattle.short_numbers.proofs.ShortNumbers.reserve.Goals as goal
 
 pub returns-in_err-reserve-clause-full : goal.returns-in_err-reserve-clause-full

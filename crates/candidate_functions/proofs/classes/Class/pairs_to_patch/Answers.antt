@@ -1,7 +1,7 @@
 use Rattle.std.proofs.Common.{◌+◌, take, sym, ◌∙◌, ap, subst}
 use Rattle.expansion.specs.Table.{point_bits}
+use Rattle.aig_graph.proofs.LargerGraphs.{grown_twice}
 use Rattle.candidate_functions.specs.Differing.{ArePatches}
-use Rattle.candidate_functions.proofs.LargerGraphs.{extends-trans}
 use Rattle.candidate_functions.proofs.classes.Class.pairs_to_patch.Goals as goal
 
 pub patch_at-requires-clause-pairs : goal.patch_at-requires-clause-pairs
@@ -12,12 +12,12 @@ patch_at-requires-clause-pairs c =
     c.loop-at.invariant.pairs
 
 pub returns-in_err-patch_at-clause-extends : goal.returns-in_err-patch_at-clause-extends
-returns-in_err-patch_at-clause-extends c = extends-trans c.args.graph.now c.loop-at.graph c.patch_at.new.graph
+returns-in_err-patch_at-clause-extends c = grown_twice c.args.graph.now c.loop-at.graph c.patch_at.new.graph
     c.loop-at.invariant.grown c.patch_at.ensures.extends
 
 pub loop-at-preserved : goal.loop-at-preserved
 loop-at-preserved c = record {
-  grown = extends-trans c.args.graph.now c.loop-at.graph c.patch_at.new.graph c.loop-at.invariant.grown
+  grown = grown_twice c.args.graph.now c.loop-at.graph c.patch_at.new.graph c.loop-at.invariant.grown
       c.patch_at.ensures.extends;
   y = c.patch_at.ensures.y ∙ c.loop-at.invariant.y;
   rounds = c.patch_at.ensures.rounds ∙ c.loop-at.invariant.rounds;

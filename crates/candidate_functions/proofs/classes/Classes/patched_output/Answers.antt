@@ -3,13 +3,14 @@ use Rattle.std.proofs.lemmas.Result.{IfOk-weaker}
 use Rattle.std.proofs.lemmas.List.Elements.{All-weaker}
 use Rattle.dq_lits.specs.Formula.{Existential}
 use Rattle.aig_graph.specs.Graph.{IsNode}
+use Rattle.aig_graph.proofs.LargerGraphs.{grown_twice}
 use Rattle.definition_order.proofs.Declared.{is_variable, some_existential}
 use Rattle.expansion.specs.Table.{point_bits}
 use Rattle.candidate_functions.specs.Pairs.{HasPlaces, AreRounds, IsClass, IsPlacedClass, universal_places, IsPatched, IsCandidate}
 use Rattle.candidate_functions.specs.Differing.{ArePatches}
 use Rattle.candidate_functions.specs.declared.cubes.Pair.{Pair}
 use Rattle.candidate_functions.proofs.DependencyClasses.{places_below, places_told, placed_there, class_put}
-use Rattle.candidate_functions.proofs.LargerGraphs.{extends-trans, placed_stays}
+use Rattle.candidate_functions.proofs.LargerGraphs.{placed_stays}
 use Rattle.candidate_functions.proofs.PatchedPairs.{pair_rounds_within, pair_cubes}
 use Rattle.candidate_functions.proofs.UndefinedOutputs.{undefined_is_candidate, on_ok}
 use Rattle.candidate_functions.proofs.classes.Classes.patched_output.Goals as goal
@@ -75,7 +76,7 @@ patched-requires-clause-cubes c =
     c.in_ok-pairs.ensures.pairs.each)
 
 pub returns-clause-extends : goal.returns-clause-extends
-returns-clause-extends c = extends-trans c.args.graph.now c.pairs_to_patch.new.graph c.patched.new.graph
+returns-clause-extends c = grown_twice c.args.graph.now c.pairs_to_patch.new.graph c.patched.new.graph
     c.in_ok-pairs.ensures.extends c.patched.ensures.extends
 
 pub returns-clause-classes : goal.returns-clause-classes
@@ -90,7 +91,7 @@ returns-clause-classes c =
     let new = c.patched.new.graph in
     let class = c.pairs_to_patch.new.self in
     let after = set c.args.self.now.classes.items c.args.place class in
-    let grown = extends-trans old mid new c.in_ok-pairs.ensures.extends c.patched.ensures.extends in
+    let grown = grown_twice old mid new c.in_ok-pairs.ensures.extends c.patched.ensures.extends in
     on_ok c.patched.result (All (IsClass f rows new) after) (some_existential f v
     (All (IsClass f rows new) after) c.requires.declared (λ e found.
     class_put f rows old new c.args.self.now.classes.items c.args.place v class e grown c.requires.classes

@@ -1,16 +1,17 @@
 use Rattle.std.proofs.Common.{◌≡◌, ◌+◌, ap, length, sym, ◌∙◌, subst, arith}
 use Rattle.std.proofs.lemmas.List.{length-map}
 use Rattle.dq_lits.specs.Formula.{Existential}
-use Rattle.candidate_functions.proofs.LargerGraphs.{extends-trans, guesses_stay}
+use Rattle.aig_graph.proofs.LargerGraphs.{grown_twice}
+use Rattle.candidate_functions.proofs.LargerGraphs.{guesses_stay}
 use Rattle.candidate_functions.proofs.TreeNodes.{NodesSoFar, node_more, all_nodes}
 use Rattle.candidate_functions.proofs.guesses.Trees.nodes.Goals as goal
 
 pub returns-in_err-node-clause-extends : goal.returns-in_err-node-clause-extends
-returns-in_err-node-clause-extends c = extends-trans c.args.graph.now c.loop-place.graph c.node_at.new.graph
+returns-in_err-node-clause-extends c = grown_twice c.args.graph.now c.loop-place.graph c.node_at.new.graph
     c.loop-place.invariant.grown c.node_at.ensures.extends
 
 pub returns-in_err-push-clause-extends : goal.returns-in_err-push-clause-extends
-returns-in_err-push-clause-extends c = extends-trans c.args.graph.now c.loop-place.graph c.node_at.new.graph
+returns-in_err-push-clause-extends c = grown_twice c.args.graph.now c.loop-place.graph c.node_at.new.graph
     c.loop-place.invariant.grown c.in_ok-node.ensures.extends
 
 pub loop-place-preserved : goal.loop-place-preserved

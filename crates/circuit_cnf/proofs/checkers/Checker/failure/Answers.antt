@@ -1,10 +1,11 @@
 use Rattle.std.proofs.Common.{◌≡◌, map, length, refl, sym, ◌∙◌, ap, subst}
 use Rattle.std.proofs.lemmas.Bool.{false≢true}
+use Rattle.list_laws.proofs.Sequences.{mapped_long}
 use Rattle.dq_lits.specs.Literal.{variable_of}
 use Rattle.dq_lits.specs.Row.{bit_of}
 use Rattle.aig_graph.specs.Graph.{node_value}
 use Rattle.circuit_cnf.specs.Failing.{HasFalseClause}
-use Rattle.circuit_cnf.proofs.OutputValues.{mapped_long, failure_is}
+use Rattle.circuit_cnf.proofs.OutputValues.{failure_is}
 use Rattle.circuit_cnf.proofs.checkers.Checker.failure.Goals as goal
 
 pub returns-in-Some-clause-some : goal.returns-in-Some-clause-some

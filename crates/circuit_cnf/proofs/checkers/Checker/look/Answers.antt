@@ -1,6 +1,7 @@
 use Rattle.std.proofs.Common.{◌≡◌, ◌∙◌, ap, subst, true, Ok, [], ◌∷◌}
 use Rattle.std.proofs.lemmas.List.Elements.{All-cons, All-nil}
 use Rattle.dq_lits.specs.Literal.{positive, variable_of}
+use Rattle.dq_lits.proofs.SignedLiterals.{as_positive}
 use Rattle.hint_log.specs.Entries.{clause_at}
 use Rattle.oracle.specs.Calls.{IsMade, IsRefutedUnder}
 use Rattle.circuit_cnf.specs.Saying.{leaf_in, selector_in}
@@ -9,7 +10,7 @@ use Rattle.circuit_cnf.proofs.FalseClauses.{are_failing, switched_on}
 use Rattle.circuit_cnf.proofs.GroupFaults.{all_given}
 use Rattle.circuit_cnf.proofs.HeldGroups.{held_by}
 use Rattle.circuit_cnf.proofs.TurnParts.{saying_turned, saying_on, saying_more, learned_said}
-use Rattle.circuit_cnf.proofs.TurnStages.{learned_turned, answered_turned, quiet_turned, switch_is, faults_two_groups}
+use Rattle.circuit_cnf.proofs.TurnStages.{learned_turned, answered_turned, quiet_turned, faults_two_groups}
 use Rattle.circuit_cnf.proofs.checkers.Checker.look.Goals as goal
 
 pub returns-in_err-say-clause-turned : goal.returns-in_err-say-clause-turned
@@ -78,8 +79,8 @@ returns-in-Unsat-clause-held g c start id w e =
     let gates = c.args.self.now.gates.group.selector in
     let faults = c.args.faults.now.group.now.selector in
     let switches : gates ∷ faults ∷ [] ≡ positive (variable_of gates) ∷ positive (variable_of faults) ∷ [] =
-    ap (λ l. l ∷ faults ∷ []) (switch_is gates w.group_made.before.gates.made.positive) ∙ ap
-    (λ l. positive (variable_of gates) ∷ l ∷ []) (switch_is faults on.may.made.positive) in
+    ap (λ l. l ∷ faults ∷ []) (as_positive gates w.group_made.before.gates.made.positive) ∙ ap
+    (λ l. positive (variable_of gates) ∷ l ∷ []) (as_positive faults on.may.made.positive) in
     let mine = subst (λ ls. IsRefutedUnder c.say.new.log c.solve.new.log ls c.in-Unsat.id) switches r in
     let two = faults_two_groups f c.args.self.now leaf start on.first c.args.faults.now.group.now on.group_made
     c.say.new.log on.said in

@@ -1,13 +1,13 @@
 use Rattle.std.proofs.Common.{◌≡◌, ◌+◌, ◌<◌, [], inr, length, get_or, sym, ◌∙◌, ap, subst, not, false, Some}
 use Rattle.std.specs.List.{Contains}
 use Rattle.std.proofs.lemmas.Result.{on_ok_weaker}
+use Rattle.list_laws.proofs.Elements.{place_within}
 use Rattle.dq_lits.specs.Literal.{is_negative, variable_of}
 use Rattle.dq_lits.specs.Formula.{declared}
 use Rattle.hint_log.specs.Origins.{leaf_with_sign}
 use Rattle.hint_log.specs.declared.origins.Leaf.TheVariants.{Constant}
 use Rattle.circuit_cnf.specs.Saying.{leaf_in, selector_in}
 use Rattle.circuit_cnf.proofs.ClauseFaults.{literal_there, same_element}
-use Rattle.circuit_cnf.proofs.FalseClauses.{in_range}
 use Rattle.circuit_cnf.proofs.SaidFaults.{never_bad}
 use Rattle.circuit_cnf.proofs.fault_clauses.Faults.clause_faults.Goals as goal
 
@@ -16,7 +16,7 @@ give_fault-requires-clause-declared g c =
     let i = c.in-Some.i in
     let l = c.index-clause-i.result in
     let clause_is = c.clause-clause.ensures in
-    let below = in_range c.clause-clause.result.now i c.in-Some.ensures.0 c.in-Some.ensures.1 in
+    let below = place_within c.clause-clause.result.now i c.in-Some.ensures.0 c.in-Some.ensures.1 in
     let bound = c.requires.may.bound c.args.j [] c.requires.clause i l
     (subst (λ xs. i < length xs) clause_is below) in
     subst (λ k. Contains (declared c.args.self.now.f.now) (variable_of k))
@@ -25,7 +25,7 @@ give_fault-requires-clause-declared g c =
 pub give_fault-requires-clause-leaf : goal.give_fault-requires-clause-leaf
 give_fault-requires-clause-leaf g c =
     let leaf = leaf_in c.args.self.now in
-    let below = in_range c.clause-clause.result.now c.in-Some.i c.in-Some.ensures.0 c.in-Some.ensures.1 in
+    let below = place_within c.clause-clause.result.now c.in-Some.i c.in-Some.ensures.0 c.in-Some.ensures.1 in
     let same = same_element c.clause-clause.result.now c.in-Some.i c.index-clause-i-2.result c.index-clause-i.result
     below c.index-clause-i-2.is c.index-clause-i.is in
     c.leaf.ensures ∙ ap leaf (c.var.ensures.value ∙ ap variable_of same)
@@ -36,7 +36,7 @@ returns-clause-given g c =
     let i = c.in-Some.i in
     let l = c.index-clause-i.result in
     let clause = c.clause-clause.result.now in
-    let below = in_range clause i c.in-Some.ensures.0 c.in-Some.ensures.1 in
+    let below = place_within clause i c.in-Some.ensures.0 c.in-Some.ensures.1 in
     let same = same_element clause i c.index-clause-i-2.result l below c.index-clause-i-2.is c.index-clause-i.is in
     let out_is : c.leaf.result ≡ leaf (variable_of l) = c.leaf.ensures ∙ ap leaf
     (c.var.ensures.value ∙ ap variable_of same) in

@@ -1,8 +1,8 @@
 use Rattle.std.proofs.Common.{◌∙◌, ◌%◌, ap, slice_get, sym}
 use Rattle.std.specs.Option.{option_and_then}
 use Rattle.cert_text.specs.NegatedMatrix.{gate_clauses, without_constants}
-use Rattle.defined_checker.proofs.SmallGates.{gate_found}
 use Rattle.defined_checker.proofs.bases.DefinitionBase.gate_clause.Goals as goal
+use Rattle.proof_checker.proofs.MatrixPlaces.{gate_found}
 
 pub returns : goal.returns
 returns c =

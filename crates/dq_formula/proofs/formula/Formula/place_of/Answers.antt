@@ -1,6 +1,7 @@
 use Rattle.std.proofs.Common.{◌==◌, ◌∙◌, sym}
+use Rattle.list_laws.proofs.Folds.{place_holds}
 use Rattle.dq_formula.proofs.Places.{place-absent}
-use Rattle.dq_formula.proofs.Subsets.{none_contained, place_holds}
+use Rattle.dq_formula.proofs.Subsets.{none_contained}
 use Rattle.dq_formula.proofs.formula.Formula.place_of.Goals as goal
 
 pub returns-in-Some-clause-found : goal.returns-in-Some-clause-found

@@ -1,5 +1,5 @@
 use Rattle.std.proofs.Common.{◌∙◌}
-use Rattle.dq_prep.proofs.SeenUniversals.{on_ok}
+use Rattle.list_laws.proofs.Results.{on_ok}
 use Rattle.dq_prep.proofs.KeptSoFar.{kept-room, unit-next, nothing-next, unit-small}
 use Rattle.dq_prep.proofs.kept_clauses.Keeper.keep_unit.Goals as goal
 

@@ -1,8 +1,8 @@
 use Rattle.std.proofs.Common.{refl, subst}
-use Rattle.candidate_functions.proofs.LargerGraphs.{extends-trans}
 use Rattle.definition_order.proofs.Declared.{known_at}
 use Rattle.defining_nodes.specs.Definitions.{IsDefinition}
 use Rattle.padoa_definitions.specs.Defining.{IsFound}
+use Rattle.aig_graph.proofs.LargerGraphs.{grown_twice}
 use Rattle.known_functions.proofs.Asked.{asked_by, grown_asked}
 use Rattle.known_functions.proofs.Defined.{existential_there}
 use Rattle.known_functions.proofs.definitions.Definitions.ask.Goals as goal
@@ -44,11 +44,11 @@ returns-in_err-found-clause-asked g c =
     asked_by c.args.existential.now.f.now c.args.graph.now c.define.new.graph c.args.existential.now.padoa.now
     c.args.log.now c.define.new.log c.requires.may c.define.ensures.grew c.define.ensures.same_givens
     c.define.ensures.padoa
-    (extends-trans c.args.graph.now c.read.new.graph c.define.new.graph c.read.ensures.extends c.define.ensures.extends)
+    (grown_twice c.args.graph.now c.read.new.graph c.define.new.graph c.read.ensures.extends c.define.ensures.extends)
 
 pub returns-clause-asked : goal.returns-clause-asked
 returns-clause-asked g c =
     asked_by c.args.existential.now.f.now c.args.graph.now c.define.new.graph c.args.existential.now.padoa.now
     c.args.log.now c.define.new.log c.requires.may c.define.ensures.grew c.define.ensures.same_givens
     c.define.ensures.padoa
-    (extends-trans c.args.graph.now c.read.new.graph c.define.new.graph c.read.ensures.extends c.define.ensures.extends)
+    (grown_twice c.args.graph.now c.read.new.graph c.define.new.graph c.read.ensures.extends c.define.ensures.extends)

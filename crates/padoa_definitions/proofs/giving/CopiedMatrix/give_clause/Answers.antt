@@ -3,12 +3,13 @@ use Rattle.std.specs.List.{All, Contains}
 use Rattle.std.proofs.lemmas.Option.{get_or_from_slice_get}
 use Rattle.dq_lits.specs.Literal.{variable_of, opposite}
 use Rattle.dq_lits.specs.Formula.{declared}
+use Rattle.dq_lits.proofs.SignedLiterals.{negated-positive}
 use Rattle.hint_log.specs.Entries.{Given, with_entry}
 use Rattle.hint_log.specs.Naming.{AreNamedAs}
 use Rattle.hint_log.specs.declared.origins.Origin.TheVariants.{Copy}
 use Rattle.oracle.specs.Calls.{IsPlain}
 use Rattle.padoa_definitions.specs.Copies.{copy_names}
-use Rattle.padoa_definitions.proofs.GivenClauses.{clause_covered, copies_plain, switch_off}
+use Rattle.padoa_definitions.proofs.GivenClauses.{clause_covered, copies_plain}
 use Rattle.padoa_definitions.proofs.giving.CopiedMatrix.give_clause.Goals as goal
 
 pub copied_clause-requires-clause-bound : goal.copied_clause-requires-clause-bound
@@ -34,7 +35,7 @@ returns-clause-given g c =
           (Given (Copy c.args.self.now.side (c.args.j + 1)) (opposite c.args.self.now.group.now.selector ∷ ls)))
           c.deref.ensures.value
           ∙ ap (λ s. with_entry log (Given (Copy c.args.self.now.side (c.args.j + 1)) (s ∷ lits)))
-          (switch_off c.args.self.now.group.now.selector c.requires.made.positive);
+          (negated-positive c.args.self.now.group.now.selector c.requires.made.positive);
       named = λ clause is.
           subst (λ d. AreNamedAs log.entries lits (copy_names c.args.self.now.side d))
           (c.clause.ensures ∙ get_or_from_slice_get c.args.self.now.f.now.matrix c.args.j clause [] is)

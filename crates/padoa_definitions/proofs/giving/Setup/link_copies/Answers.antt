@@ -1,6 +1,7 @@
 use Rattle.std.proofs.Common.{inl, sym, ◌∙◌, subst, arith}
+use Rattle.log_laws.proofs.Kept.{literal_stays}
 use Rattle.padoa_definitions.specs.Growing.{is_any_link, AreLinkedSoFar}
-use Rattle.padoa_definitions.proofs.KeptCopies.{keeps_anew, made_stays, one_stays}
+use Rattle.padoa_definitions.proofs.KeptCopies.{keeps_anew, made_stays}
 use Rattle.padoa_definitions.proofs.GivenClauses.{few_anew, adds_then}
 use Rattle.padoa_definitions.proofs.GivenEquations.{none_linked, link_more, adds_any, all_linked}
 use Rattle.padoa_definitions.proofs.giving.Setup.link_copies.Goals as goal
@@ -35,10 +36,10 @@ link_if_wanted-requires-clause-twins g c = λ wanted.
     let old = c.args.log.now.entries in
     let stay = (keeps_anew c.args.self.now.f.now c.args.log.now c.loop-i.log c.loop-i.invariant.1.adds.grew).names in
     let flag = sym c.is_copied-wanted.ensures ∙ wanted in (
-      one_stays old c.loop-i.log.entries stay c.copy_at-one.result _
+      literal_stays old c.loop-i.log.entries stay c.copy_at-one.result _
           (c.requires.first.named c.loop-i.i c.declared_at.result c.copy_at-one.result flag c.declared_at.ensures
           c.copy_at-one.ensures),
-      one_stays old c.loop-i.log.entries stay c.copy_at-other.result _
+      literal_stays old c.loop-i.log.entries stay c.copy_at-other.result _
           (c.requires.second.named c.loop-i.i c.declared_at.result c.copy_at-other.result flag c.declared_at.ensures
           c.copy_at-other.ensures),
     )

@@ -1,6 +1,7 @@
 use Rattle.std.proofs.Common.{sym, ◌∙◌}
+use Rattle.list_laws.proofs.Folds.{place_holds}
 use Rattle.padoa_definitions.specs.Store.{store_of}
-use Rattle.padoa_definitions.proofs.CopiedVariables.{none_contained, place_holds}
+use Rattle.padoa_definitions.proofs.CopiedVariables.{none_contained}
 use Rattle.padoa_definitions.proofs.FollowedClauses.{flags_long, universal_copied}
 use Rattle.padoa_definitions.proofs.MarkedVariables.{other_marked}
 use Rattle.padoa_definitions.proofs.padoa.Padoa.copy_variable.Goals as goal

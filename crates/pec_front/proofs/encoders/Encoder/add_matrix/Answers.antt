@@ -1,11 +1,11 @@
 use Rattle.std.proofs.Common.{◌≡◌, ◌+◌, ◌*◌, length, sym, ◌∙◌, ap, subst, arith}
 use Rattle.std.specs.List.{All}
+use Rattle.list_laws.proofs.Results.{on_ok}
 use Rattle.circuit_plain.specs.Ground.{IsGrounded}
 use Rattle.circuit_plain.specs.Netlist.{Netlist}
 use Rattle.circuit_plain.specs.declared.circuits.Gate.{Gate}
 use Rattle.dq_lits.specs.Formula.{Dqbf}
 use Rattle.pec_front.specs.Encoding.{signals_of, end_of, specified_variable, implemented_variable}
-use Rattle.pec_front.proofs.AddedClauses.{on-ok}
 use Rattle.pec_front.proofs.EncoderSteps.{numbers-within, matrix-built}
 use Rattle.pec_front.proofs.WellFormed.{spec-small, imp-small}
 use Rattle.pec_front.proofs.encoders.Encoder.add_matrix.Goals as goal
@@ -41,7 +41,7 @@ pub returns : goal.returns
 returns c =
     let e = c.args.self.now in
     let d = e.design.now in
-    on-ok c.add_demands.result
+    on_ok c.add_demands.result
     (matrix-built e d c.requires.encoder c.args.f.now c.add_gates.new.f c.add_gates-2.new.f c.add_copies.new.f
     c.add_outputs.new.f c.add_demands.new.f (3 * length e.specified.circuit.now.gates)
     (3 * length e.implemented.circuit.now.gates) (4 * signals_of d) (4 * length d.specification.outputs)

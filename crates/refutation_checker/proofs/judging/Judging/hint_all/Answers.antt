@@ -1,9 +1,10 @@
 use Rattle.std.proofs.Common.{◌+◌, sym, ◌∙◌, ap, subst}
+use Rattle.list_laws.proofs.Sequences.{drop_end}
+use Rattle.list_laws.proofs.Elements.{drop_at}
 use Rattle.rup_core.specs.Proving.{ProofState}
 use Rattle.refutation_checker.specs.Judging.{AreLines}
 use Rattle.refutation_checker.specs.PairNames.{frame, names_in}
 use Rattle.refutation_checker.proofs.NamedLines.{then_extends, lines_later, hints_next, hints_end, hints_fault}
-use Rattle.refutation_checker.proofs.ReadClauses.{drop_at, drop_end}
 use Rattle.refutation_checker.proofs.judging.Judging.hint_all.Goals as goal
 
 pub returns-in_err-hint-clause-extends : goal.returns-in_err-hint-clause-extends

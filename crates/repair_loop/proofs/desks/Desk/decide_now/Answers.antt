@@ -1,12 +1,12 @@
 use Rattle.std.proofs.Common.{◌∙◌, false, inl, [], sym, ap, subst}
 use Rattle.std.specs.Option.{unwrap_or}
+use Rattle.list_laws.proofs.Results.{on_err}
 use Rattle.dq_session.specs.Books.{live_of}
 use Rattle.known_functions.specs.Searching.{HasInputs}
 use Rattle.repair_loop.specs.Turning.{AreFaultsNew}
 use Rattle.repair_loop.proofs.Beginnings.{start_undecided, start_faults}
 use Rattle.repair_loop.proofs.EndedDesks.{answered_back, ready_again}
 use Rattle.repair_loop.proofs.LogGrowth.{begun_on, begun_before}
-use Rattle.repair_loop.proofs.Stops.{on_err}
 use Rattle.repair_loop.proofs.desks.Desk.decide_now.Goals as goal
 
 pub begin-requires-clause-ready : goal.begin-requires-clause-ready

@@ -1,6 +1,6 @@
 use Rattle.std.proofs.Common.{rules, ◌≡◌, ◌∙◌, refl, ap, Some, Ok, Err}
+use Rattle.list_laws.proofs.Results.{on_err}
 use Rattle.hint_log.specs.declared.stops.Stop.TheVariants.{Limit}
-use Rattle.repair_loop.proofs.Stops.{on_err}
 use Rattle.repair_loop.proofs.Turned.{ended_then, nothing_went, went_then}
 use Rattle.repair_loop.proofs.searches.Search.all_rounds.Goals as goal
 

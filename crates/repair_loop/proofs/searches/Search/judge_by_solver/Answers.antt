@@ -1,4 +1,5 @@
 use Rattle.std.proofs.Common.{rules, ◌≡◌, ◌∙◌, ap, sym, subst, Ok, Err}
+use Rattle.list_laws.proofs.Results.{on_err}
 use Rattle.oracle.proofs.SomeLimits.{some_limit}
 use Rattle.std.specs.List.{All}
 use Rattle.hint_log.specs.declared.stops.Stop.TheVariants.{Limit}
@@ -9,7 +10,7 @@ use Rattle.aig_graph.specs.Outputs.{ReadsUniversals, outputs_of}
 use Rattle.dq_session.specs.Books.{now_of}
 use Rattle.repair_loop.specs.Desks.{IsAnsweredTrue}
 use Rattle.repair_loop.proofs.LiveGrowth.{same_prefix}
-use Rattle.repair_loop.proofs.Stops.{by_lemma, on_err}
+use Rattle.repair_loop.proofs.Stops.{by_lemma}
 use Rattle.repair_loop.proofs.Turned.{answered_true, left_open, round_after, went_then}
 use Rattle.repair_loop.proofs.UniversalInputs.{outputs_read_universals}
 use Rattle.repair_loop.proofs.searches.Search.judge_by_solver.Goals as goal

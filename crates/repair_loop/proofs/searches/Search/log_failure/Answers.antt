@@ -1,4 +1,5 @@
 use Rattle.std.proofs.Common.{rules, ◌≡◌, ap, sym, subst, Err, arith}
+use Rattle.list_laws.proofs.Results.{on_err}
 use Rattle.hint_log.specs.Entries.{ProofLog, steps_of}
 use Rattle.hint_log.specs.Naming.{rows_of}
 use Rattle.hint_log.specs.ProductiveSession.{IsUndecidedSince}
@@ -9,7 +10,7 @@ use Rattle.repair_loop.specs.Stopping.{IsStoppedAtLimit}
 use Rattle.repair_loop.specs.Turning.{IsUnderWay, IsRoundLogged}
 use Rattle.repair_loop.proofs.LogGrowth.{log_same, round_grew, round_counts, steps_left}
 use Rattle.repair_loop.proofs.Stages.{same_book}
-use Rattle.repair_loop.proofs.Stops.{by_round, on_err}
+use Rattle.repair_loop.proofs.Stops.{by_round}
 use Rattle.repair_loop.proofs.searches.Search.log_failure.Goals as goal
 
 pub returns-clause-round : goal.returns-clause-round

@@ -1,10 +1,11 @@
 use Rattle.std.proofs.Common.{rules, ◌≡◌, ◌∙◌, refl, ap, subst, Ok, Err}
+use Rattle.list_laws.proofs.Results.{on_err}
 use Rattle.hint_log.specs.declared.stops.Stop.TheVariants.{Limit}
 use Rattle.expansion.specs.Silence.{is_silent}
 use Rattle.oracle.proofs.SomeLimits.{some_limit}
 use Rattle.dq_session.specs.Books.{BookState}
 use Rattle.repair_loop.specs.Desks.{IsAnsweredFalse}
-use Rattle.repair_loop.proofs.Stops.{by_lemma, on_err}
+use Rattle.repair_loop.proofs.Stops.{by_lemma}
 use Rattle.repair_loop.proofs.Turned.{after_undecided, answered_false, caught_up_after, left_search}
 use Rattle.repair_loop.proofs.searches.Search.look_at_rows.Goals.{in-Refuted, in-Model}
 use Rattle.repair_loop.proofs.searches.Search.look_at_rows.Goals as goal

@@ -1,8 +1,9 @@
 use Rattle.std.proofs.Common.{rules, ◌≡◌, ◌∙◌, refl, ap, subst, Ok, length, Err}
+use Rattle.list_laws.proofs.Results.{on_err}
 use Rattle.hint_log.specs.declared.stops.Stop.TheVariants.{Limit}
 use Rattle.repair_loop.specs.Desks.{IsAnsweredFalse, IsAnsweredTrue}
 use Rattle.repair_loop.proofs.LogGrowth.{fewer_left}
-use Rattle.repair_loop.proofs.Stops.{on_err, stop_left}
+use Rattle.repair_loop.proofs.Stops.{stop_left}
 use Rattle.repair_loop.proofs.Turned.{ended_by, row_refused, row_search, row_undecided, went_then}
 use Rattle.repair_loop.proofs.searches.Search.round.Goals as goal
 

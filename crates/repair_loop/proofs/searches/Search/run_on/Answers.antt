@@ -1,7 +1,8 @@
 use Rattle.std.proofs.Common.{rules, ◌≡◌, ◌∙◌, refl, ap, true, Err}
+use Rattle.list_laws.proofs.Results.{on_err}
 use Rattle.hint_log.specs.declared.stops.Stop.TheVariants.{Limit}
 use Rattle.repair_loop.proofs.LogGrowth.{log_then}
-use Rattle.repair_loop.proofs.Stops.{by_lemma, on_err}
+use Rattle.repair_loop.proofs.Stops.{by_lemma}
 use Rattle.repair_loop.proofs.Turned.{ended_by, left_search}
 use Rattle.repair_loop.proofs.searches.Search.run_on.Goals as goal
 

@@ -1,7 +1,8 @@
 use Rattle.std.proofs.Common.{◌∙◌, Some, sym, ap, arith}
+use Rattle.list_laws.proofs.Results.{on_ok}
 use Rattle.script_text.specs.Commands.{command_seen}
 use Rattle.session_runs.proofs.SearchedLogs.{ready-so-far, on-err}
-use Rattle.session_runs.proofs.SearchedSessions.{on-ok, both-ok, on-err-weaker}
+use Rattle.session_runs.proofs.SearchedSessions.{both-ok, on-err-weaker}
 use Rattle.session_runs.proofs.TakenCommands.{search-is, may-take, work-of, standing-change, standing-search}
 use Rattle.session_runs.proofs.sessions.Session.take_at.Goals as goal
 
@@ -21,7 +22,7 @@ pub returns-then-is_search-clause-ok : goal.returns-then-is_search-clause-ok
 returns-then-is_search-clause-ok g c =
     let at = c.get-command.ensures
     ∙ ap Some (search-is (command_seen c.get-command.result) (sym c.is_search.ensures ∙ c.if-is_search.true)) in
-    on-ok c.search.result
+    on_ok c.search.result
     (λ on. standing-search c.following_books_stand.ensures c.undecided_takes_clauses.ensures c.args.script.now
     c.args.place c.args.self.now c.args.log.now at c.requires.standing c.search.new.self c.search.new.log on
     c.search.ensures.limit)

@@ -1,38 +1,13 @@
--- A circuit is copied input by input, gate by gate and output by output.
-use Rattle.std.proofs.Common.{◌≡◌, ◌≢◌, ◌∙◌, ◌+◌, ◌*◌, ◌/◌, ◌<◌, ℕ, inl, inr, List, [], ◌∷◌, ◌++◌, take, length, length-take, get_or, get_or-take, sym, ap, subst, arith}
+-- Lemmas on a netlist's parts at their places.
+use Rattle.std.proofs.Common.{◌≡◌, ◌≢◌, ◌∙◌, ◌*◌, ◌+◌, ◌<◌, ℕ, inl, inr, take, length, length-take, get_or, get_or-take, sym, ap, subst, arith, [], ◌∷◌, ◌++◌, ◌/◌}
 use Rattle.std.specs.List.{All}
-use Rattle.std.specs.Prelude.{slice_index}
-use Rattle.std.proofs.lemmas.List.{get_or-map, length-map, take_more, get_or_default}
+use Rattle.std.proofs.lemmas.List.{get_or-map, length-map, take_more}
 use Rattle.std.proofs.lemmas.List.Elements.{All-contains}
-use Rattle.circuit_plain.specs.Netlist.{Netlist, IsNetlist, IsVariable, IsLiteral, IsDefined, IsGate, variable_of_gate}
+use Rattle.circuit_plain.specs.Netlist.{Netlist, IsNetlist, IsVariable, IsDefined, IsGate, variable_of_gate, IsLiteral}
 use Rattle.circuit_plain.specs.declared.circuits.Gate.{Gate}
-
--- an element of a list that is another
-pub there : (xs ys : List ℕ) (place : ℕ) → xs ≡ ys → place < length xs →
-    (place < length ys) × (get_or ys place (slice_index xs place) ≡ slice_index xs place)
-there xs ys place same below =
-    let sized = ap length same in (
-      omega (arith, below, sized),
-      ap (λ zs. get_or zs place (slice_index xs place)) (sym same)
-          ∙ sym (get_or_default xs place 0 (slice_index xs place) below),
-    )
-
--- ---- inputs
 
 abbrev pub with_inputs : Netlist → ℕ → Netlist
 with_inputs net place = record net { inputs = take place net.inputs; outputs = []; gates = [] }
-
-pub input_fits : (net : Netlist) → IsNetlist net → (place v : ℕ) → place < length net.inputs →
-    get_or net.inputs place v ≡ v → IsVariable net.max_var v
-input_fits net lawful place v below is = subst (IsVariable net.max_var) is (lawful.inputs_fit place v below)
-
-pub input_new : (net : Netlist) → IsNetlist net → (place v : ℕ) → place < length net.inputs →
-    get_or net.inputs place v ≡ v → IsDefined (with_inputs net place) v → ⊥
-input_new net lawful place v below is (inl (k, low, at)) =
-    let long = length-take place net.inputs in
-    let before : k < place = omega (arith, low, long) in
-    lawful.inputs_once k place v before below (sym (get_or-take place net.inputs k v before) ∙ at ∙ sym is)
-input_new net lawful place v below is (inr (k, low, at)) = absurd (omega (arith, low))
 
 pub input_added : (net : Netlist) (place v : ℕ) (old new : Netlist) → place < length net.inputs →
     get_or net.inputs place v ≡ v → old ≡ with_inputs net place →
@@ -42,7 +17,17 @@ input_added net place v old new below is old_is new_is =
     ∙ ap (λ xs. record net { inputs = xs; outputs = []; gates = [] })
     (ap (λ w. take place net.inputs ++ w ∷ []) (sym is) ∙ sym (take_more net.inputs place v below))
 
--- ---- gates
+pub input_new : (net : Netlist) → IsNetlist net → (place v : ℕ) → place < length net.inputs →
+    get_or net.inputs place v ≡ v → IsDefined (with_inputs net place) v → ⊥
+input_new net lawful place v below is (inl (k, low, at)) =
+    let long = length-take place net.inputs in
+    let before : k < place = omega (arith, low, long) in
+    lawful.inputs_once k place v before below (sym (get_or-take place net.inputs k v before) ∙ at ∙ sym is)
+input_new net lawful place v below is (inr (k, low, at)) = absurd (omega (arith, low))
+
+pub input_fits : (net : Netlist) → IsNetlist net → (place v : ℕ) → place < length net.inputs →
+    get_or net.inputs place v ≡ v → IsVariable net.max_var v
+input_fits net lawful place v below is = subst (IsVariable net.max_var) is (lawful.inputs_fit place v below)
 
 abbrev pub with_gates : Netlist → ℕ → Netlist
 with_gates net place = record net { outputs = []; gates = take place net.gates }
@@ -97,8 +82,6 @@ gate_added net place g old new below is old_is new_is =
     }) (half g.variable)
     ∙ ap (λ gs. record net { outputs = []; gates = gs })
     (ap (λ h. take place net.gates ++ h ∷ []) (sym is) ∙ sym (take_more net.gates place g below))
-
--- ---- outputs
 
 abbrev pub with_outputs : Netlist → ℕ → Netlist
 with_outputs net place = record net { outputs = take place net.outputs }

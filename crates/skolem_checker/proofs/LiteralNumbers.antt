@@ -1,12 +1,12 @@
--- A circuit file that a text spells can be evaluated.
-use Rattle.std.proofs.Common.{ℕ, inl, inr, List, sym, subst}
+-- Lemmas on literals by their numbers.
+use Rattle.std.proofs.Common.{ℕ, List, inl, inr, sym, subst}
 use Rattle.std.specs.List.{Contains}
 use Rattle.std.proofs.lemmas.List.Elements.{All-contains, All-map}
-use Rattle.circuit_plain.specs.Ground.{IsGrounded, constant, input}
-use Rattle.circuit_plain.specs.Netlist.{Netlist, gate_variables, variable_of_gate, literal_variable}
 use Rattle.aiger_text.specs.Grammar.{SpellsCircuit, HasMeaning}
-use Rattle.aiger_text.specs.Scan.{AllGrounded}
 use Rattle.aiger_text.specs.declared.files.AagFile.{AagFile}
+use Rattle.aiger_text.specs.Scan.{AllGrounded}
+use Rattle.circuit_plain.specs.Ground.{IsGrounded, constant, input}
+use Rattle.circuit_plain.specs.Netlist.{Netlist, literal_variable, gate_variables, variable_of_gate}
 use Rattle.skolem_checker.specs.SkolemCircuit.{IsComplete}
 
 gate_grounded : (net : Netlist) (v : ℕ) → AllGrounded net → Contains (gate_variables net) v → IsGrounded net v

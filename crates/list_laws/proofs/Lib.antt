@@ -1,0 +1,9 @@
+pub mod Members
+pub mod Elements
+pub mod Truths
+pub mod Folds
+pub mod Numbers
+pub mod Quantified
+pub mod Options
+pub mod Sequences
+pub mod Results
