@@ -299,7 +299,7 @@ answer_part q variables old new clause p n of_a shares nodes e found part asked 
               record {
                 clause = clause;
                 clause_is = found;
-                negated-held = sym (holds-opposites clause l) ∙ h;
+                negated = sym (holds-opposites clause l) ∙ h;
                 not_a =
                     of_other;
               },
@@ -327,7 +327,7 @@ answer_part q variables old new clause p n of_a shares nodes e found part asked 
             here (ap (holds q.a_side) (opposite-opposite l) ∙ of_side)
             (ap (λ w. is_some (node_of q.shared w)) (opposite_variable l) ∙ shared)
             (ap (literal_true m) (opposite-opposite l))
-        | inr of_other ↦ others l (record { clause = clause; clause_is = found; negated-held = in_clause; not_a = of_other })
+        | inr of_other ↦ others l (record { clause = clause; clause_is = found; negated = in_clause; not_a = of_other })
       ]) both.0;
   reads = asked.reads;
 }
