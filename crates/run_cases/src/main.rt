@@ -4,6 +4,8 @@
 //! which lines there are.
 #![tactic(auto)]
 
+mod blocks;
+mod calls;
 mod programs;
 mod settings;
 mod tables;

@@ -1,6 +1,7 @@
 //! What a case runs on.
 
 use crate::programs::Program;
+use crate::texts;
 use anyhow::Result;
 use dq_io::{MemFiles, MemSink, NeverFailFiles, NeverFailSink, ReadStop, read_all};
 use dqcheck_core::dqcheck_run;
@@ -37,6 +38,8 @@ pub struct Settings {
     pub specification: Option<Vec<u8>>,
     pub implementation: Option<Vec<u8>>,
     pub script: Option<Vec<u8>>,
+    /// The formula at each search of the script.
+    pub moments: Vec<Vec<u8>>,
     pub words: Vec<String>,
     pub reads: Calls,
     pub writes: Calls,
@@ -58,6 +61,7 @@ impl Settings {
             specification: None,
             implementation: None,
             script: None,
+            moments: Vec::new(alloc),
             words: words_of(alloc, program, program.usual_words())?,
             reads: Calls::new(alloc),
             writes: Calls::new(alloc),
@@ -259,4 +263,26 @@ pub fn words_of(alloc: Global, program: Program, rest: &str) -> Result<Vec<Strin
         words.push(String::from_str(alloc, word)?)?;
     }
     Ok(words)
+}
+
+/// What the checker says of a certificate for this formula, with its status, on one line.
+pub fn judge_for(
+    alloc: Global,
+    formula: &[u8],
+    certificate: &[u8],
+    log: &mut Log,
+) -> Result<String> {
+    let mut files = MemFiles::new(alloc, usize::MAX, &[])?;
+    files.hold("formula", formula)?;
+    files.hold("certificate", certificate)?;
+    let words = words_of(alloc, Program::Checker, Program::Checker.usual_words())?;
+    let ran = judge_over(alloc, &words, &mut files, log)?;
+    shown_run(alloc, &ran)
+}
+
+/// A status, and what was written, on one line.
+pub fn shown_run(alloc: Global, ran: &Ran) -> Result<String> {
+    let status = ran.status;
+    let text = texts::shown(alloc, &ran.text)?;
+    Ok(format!(in alloc; "{status} {text}")?)
 }

@@ -9,17 +9,21 @@
 //! words, reads and writes are as at the start; the checker has to say the same under reads of 1, 2,
 //! 3, 7 and 64 bytes, where none is to fail; behind a verdict of the solver it prints what the
 //! checker says of the text that was written, and how many rounds and learned clauses the log has.
-//! `alone` does the same without that. `verdict` runs the solver, and prints the status and, behind
+//! `alone` does the same without that. `moment` gives the formula at the next search of the script,
+//! and `blocks` prints each block's verdict, and what the checker says of it for that formula. `verdict` runs the solver, and prints the status and, behind
 //! a verdict or definitions, what the checker says, but no text. `compare` does it with a verdict
 //! on two circuits: the formula is the one that `encode` writes, and of the text the status alone
 //! is printed, and what the checker says. `unfailing` runs the program over files and a sink that
 //! never fail, and prints the status alone; `read` reads the formula's file, of at most so many
 //! bytes. `canonical` prints the canonical text of the formula, `refutation` that of the
 //! certificate as a refutation of it, `proof` that of the proof in the certificate, a circuit, and
-//! `circuit` that of the circuit. Lines that begin with `#` are comments.
+//! `circuit` that of the circuit. `values` prints the values of the outputs of the certificate, a
+//! circuit in either form, under the row whose bits stand before the name, and `check` what is wrong
+//! with the certificate as a refutation. Lines that begin with `#` are comments.
 
-use crate::settings::{Calls, Ran, Settings, words_of};
-use crate::texts;
+use crate::blocks::shown_blocks;
+use crate::settings::{Calls, Ran, Settings, shown_run, words_of};
+use crate::{calls, texts};
 use anyhow::{Result, anyhow};
 use dq_io::ReadStop;
 use hint_log::Log;
@@ -42,6 +46,7 @@ pub fn take_line(
         "specification" => set_specification(alloc, settings, rest),
         "implementation" => set_implementation(alloc, settings, rest),
         "script" => set_script(alloc, settings, rest),
+        "moment" => add_moment(alloc, settings, rest),
         "absent" => take_files_away(settings),
         "words" => set_words(alloc, settings, rest),
         "reads" => set_reads(alloc, settings, rest),
@@ -49,6 +54,7 @@ pub fn take_line(
         "run" => run(alloc, settings, log, rest),
         "compare" => compare(alloc, settings, log, rest),
         "alone" => run_alone(alloc, settings, log, rest),
+        "blocks" => run_blocks(alloc, settings, log, rest),
         "verdict" => run_verdict(alloc, settings, log, rest),
         "unfailing" => run_unfailing(alloc, settings, log, rest),
         "read" => read(alloc, settings, rest),
@@ -56,6 +62,8 @@ pub fn take_line(
         "refutation" => named(alloc, rest, texts::canonical_refutation(alloc, settings)),
         "proof" => named(alloc, rest, texts::canonical_proof(alloc, settings)),
         "circuit" => named(alloc, rest, texts::canonical_circuit(alloc, settings)),
+        "values" => values(alloc, settings, rest),
+        "check" => check(alloc, settings, rest),
         _ => Err(anyhow!("no setting: {line}")),
     }
 }
@@ -102,6 +110,12 @@ fn set_implementation(
 
 fn set_script(alloc: Global, settings: &mut Settings, rest: &str) -> Result<Option<String>> {
     settings.script = Some(texts::text_of(alloc, rest)?);
+    settings.moments = Vec::new(alloc);
+    Ok(None)
+}
+
+fn add_moment(alloc: Global, settings: &mut Settings, rest: &str) -> Result<Option<String>> {
+    settings.moments.push(texts::text_of(alloc, rest)?)?;
     Ok(None)
 }
 
@@ -199,6 +213,20 @@ fn run_alone(
     Ok(Some(format!(in alloc; "{name}: {shown}")?))
 }
 
+// A case of a session: its status, and of each block the verdict and what the checker says of it.
+fn run_blocks(
+    alloc: Global,
+    settings: &mut Settings,
+    log: &mut Log,
+    name: &str,
+) -> Result<Option<String>> {
+    let ran = settings.run(alloc, log)?;
+    settings.reset(alloc)?;
+    let status = ran.status;
+    let blocks = shown_blocks(alloc, &settings.moments, log, &ran.text)?;
+    Ok(Some(format!(in alloc; "{name}: {status}{blocks}")?))
+}
+
 // A case: its status, and, behind a verdict or definitions, what the checker says of the text.
 fn run_verdict(
     alloc: Global,
@@ -242,6 +270,19 @@ fn named(alloc: Global, name: &str, text: Result<Vec<u8>>) -> Result<Option<Stri
     Ok(Some(format!(in alloc; "{name}: {shown}")?))
 }
 
+// The outputs' values in the certificate, a circuit, under the row whose bits stand before the name.
+fn values(alloc: Global, settings: &Settings, rest: &str) -> Result<Option<String>> {
+    let (bits, name) = rest.split_once(' ').unwrap_or((rest, ""));
+    let shown = calls::output_values(alloc, settings, bits)?;
+    Ok(Some(format!(in alloc; "{name}: {shown}")?))
+}
+
+// What is wrong with the certificate, a refutation of the formula.
+fn check(alloc: Global, settings: &Settings, name: &str) -> Result<Option<String>> {
+    let shown = calls::checked(alloc, settings)?;
+    Ok(Some(format!(in alloc; "{name}: {shown}")?))
+}
+
 // How many rounds and learned clauses the log has.
 fn counts_of(alloc: Global, log: &Log) -> Result<String> {
     rounds_are_steps();
@@ -261,11 +302,4 @@ fn calls_of(alloc: Global, rest: &str) -> Result<Calls> {
         calls.failing.push(number.parse()?)?;
     }
     Ok(calls)
-}
-
-// A status, and what was written, on one line.
-fn shown_run(alloc: Global, ran: &Ran) -> Result<String> {
-    let status = ran.status;
-    let text = texts::shown(alloc, &ran.text)?;
-    Ok(format!(in alloc; "{status} {text}")?)
 }

@@ -11,7 +11,7 @@ use dqdimacs_reader::{read, write};
 use std::alloc::Global;
 
 /// The most bytes of a circuit that is written again, or whose proof is.
-const MAX_CIRCUIT: usize = 1 << 20;
+pub const MAX_CIRCUIT: usize = 1 << 20;
 
 /// The canonical text of the formula.
 pub fn canonical_formula(alloc: Global, settings: &Settings) -> Result<Vec<u8>> {
