@@ -1,5 +1,5 @@
 -- Which variables were made, as the log grows.
-use Rattle.std.proofs.Common.{◌≡◌, ℕ, ◌+◌, List, ◌∷◌, IsSome, is_some, refl, sym, ◌∙◌, ap, subst, arith}
+use Rattle.std.proofs.Common.{◌≡◌, ℕ, ◌+◌, List, ◌∷◌, IsSome, is_some, refl, sym, ◌∙◌, ap, subst, arith, Result, Ok, Err, OnErr}
 use Rattle.std.specs.List.{All}
 use Rattle.std.proofs.lemmas.List.Elements.{All-weaker}
 use Rattle.dq_lits.specs.Literal.{Literal, variable_of}
@@ -68,3 +68,7 @@ plain_stays old new lits learned plain = All-weaker (IsPlain old.entries) (IsPla
       no_selector = ap is_selector_name (names_same old new learned (variable_of l)) ∙ h.no_selector;
     })
     lits plain
+
+pub on_err : {T E : Type 0} (r : Result T E) (P : Type 0) → P → OnErr r P
+on_err (Ok x) P p = tt
+on_err (Err e) P p = p

@@ -33,6 +33,14 @@ row_added law f t u old mid new row values j ready is grew table =
           ∙ ready.no_faults;
     }
 
+pub solved : EnginesLeaveRest → (f : Dqbf) → (t u : TableState) (silent : Bool) (old new : ProofLog) →
+    IsReady f t old.entries
+    → ((h : Dqbf) → IsFullTable h t old.entries → Grew (IsAddedBy h instances t.group silent old.entries) old new)
+    → ((h : Dqbf) → IsFullTable h t old.entries → IsFullTable h u new.entries) → IsReady f u new.entries
+solved law f t u silent old new ready grew table =
+    let left = law f instances t.group silent old new (grew f ready.table) in
+    record { table = table f ready.table; no_faults = left.faults refl ∙ ready.no_faults }
+
 pub begun : EnginesLeaveRest → (f : Dqbf) → IsWellFormed f → (t : TableState) (old new : ProofLog) → old.entries ≡ []
     → ((group : ℕ) → Grew (IsAddedBy f instances group true old.entries) old new) → IsTable f t new.entries →
     t.rows ≡ [] → IsReady f t new.entries

@@ -1,7 +1,6 @@
 use Rattle.std.proofs.Common.{◌∙◌, ap, Ok}
-use Rattle.list_laws.proofs.Results.{on_err}
 use Rattle.oracle.specs.Calls.{assumed}
-use Rattle.cdcl_cases.proofs.MadeVariables.{made_learned, made_answered, refuted_id, groups_stay, plain_stays}
+use Rattle.cdcl_cases.proofs.MadeVariables.{made_learned, made_answered, refuted_id, groups_stay, on_err, plain_stays}
 use Rattle.cdcl_cases.proofs.calls.search_once.Goals as goal
 
 pub returns-in_err-answer-clause-made : goal.returns-in_err-answer-clause-made
