@@ -77,12 +77,10 @@ def record_part(texts, fields):
 
 def without_comment(line):
     """A line of a specification without what stands behind `--`."""
-    at = 0
     for part in re.finditer(r'"(?:[^"\\]|\\.)*"|--', line):
         if part[0] == "--":
-            return line[:part.start()].rstrip()
-        at = part.end()
-    return line.rstrip() if at >= 0 else line
+            return line[: part.start()].rstrip()
+    return line.rstrip()
 
 
 def imports(text, keyword):
