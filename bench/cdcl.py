@@ -6,7 +6,7 @@ refutation, the solver stops one clause before its answer there.
 
 Usage: bench/cdcl.py [--callgrind] [NAME..]     all formulas, or those whose names begin with a NAME
 
-The program is crates/cdcl_cases/out/cdcl_cases, which `rt run` in crates/cdcl_cases builds, or what CDCL_CASES names; minisat, cadical
+The program is crates/engine_cases/out/engine_cases, which `rt run` in crates/engine_cases builds, or what ENGINE_CASES names; minisat, cadical
 and valgrind are Debian's.
 """
 
@@ -21,7 +21,7 @@ import tempfile
 import time
 
 TOP = os.path.dirname(os.path.dirname(os.path.abspath(__file__)))
-SOLVER = os.environ.get("CDCL_CASES", os.path.join(TOP, "crates", "cdcl_cases", "out", "cdcl_cases"))
+SOLVER = os.environ.get("ENGINE_CASES", os.path.join(TOP, "crates", "engine_cases", "out", "engine_cases"))
 SECONDS = 100
 FIRST = 20_000
 

@@ -1,6 +1,7 @@
 #!/usr/bin/env python3
 """families.py FAMILY SIZE [SEED [FORM]]: prints a formula of a family in DQDIMACS, and its verdict as a comment where that is known; families.py
-alone prints the families, each with its least size. FORM is how its declarations stand: forward, shuffled or reversed.
+alone prints the families, each with its least size. FORM is how its declarations stand: forward, shuffled, reversed, and gates-first or
+gates-last, where they are shuffled and the clauses that define gates stand before or behind all others.
 
 Formulas of families that people have: gates with their definitions, circuits with black boxes against their specifications, controllers
 that see a part of their plant, random clauses. A family makes a formula of a size from a seeded source of choices, and says its verdict where
@@ -71,6 +72,7 @@ class Formula(Algebra):
         self.universals = {}
         self.seen = {}
         self.clauses = []
+        self.defining = []
 
     def universal(self):
         self.variables += 1
@@ -92,23 +94,28 @@ class Formula(Algebra):
     def gate(self, *inputs):
         return self.existential(self.sight(*inputs) if self.narrow else None)
 
+    def define(self, clauses):
+        """The clauses that define a gate."""
+        self.defining += clauses
+        self.clauses += clauses
+
     def negation(self, a):
         return -a
 
     def conjunction(self, a, b):
         y = self.gate(a, b)
-        self.clauses += [[-y, a], [-y, b], [y, -a, -b]]
+        self.define([[-y, a], [-y, b], [y, -a, -b]])
         return y
 
     def parity(self, a, b):
         y = self.gate(a, b)
-        self.clauses += [[-y, a, b], [-y, -a, -b], [y, -a, b], [y, a, -b]]
+        self.define([[-y, a, b], [-y, -a, -b], [y, -a, b], [y, a, -b]])
         return y
 
     def choice(self, s, a, b):
         """a where s is true, and else b."""
         y = self.gate(s, a, b)
-        self.clauses += [[-s, -a, y], [-s, a, -y], [s, -b, y], [s, b, -y]]
+        self.define([[-s, -a, y], [-s, a, -y], [s, -b, y], [s, b, -y]])
         return y
 
     def equate(self, signals, others, demands=()):
@@ -121,15 +128,18 @@ class Formula(Algebra):
 
     def declare(self, form, rng):
         """Puts the declarations in this form: forward, as they were made, each gate behind its inputs, else shuffled or reversed, and then
-        the clauses are shuffled too."""
+        the clauses are shuffled too, and those that define gates put before or behind the others where the form says so."""
         seen = list(self.seen.items())
         if form == "reversed":
             seen.reverse()
-        elif form == "shuffled":
+        elif form != "forward":
             rng.shuffle(seen)
         self.seen = dict(seen)
         if form != "forward":
             rng.shuffle(self.clauses)
+        if form in ("gates-first", "gates-last"):
+            defining = set(map(id, self.defining))
+            self.clauses.sort(key=lambda clause: (id(clause) in defining) == (form == "gates-last"))
 
     def text(self):
         """DQDIMACS."""
@@ -588,7 +598,7 @@ def blind(family):
     return lambda rng, size: family(rng, size, True)
 
 
-FORMS = ("forward", "shuffled", "reversed")
+FORMS = ("forward", "shuffled", "reversed", "gates-first", "gates-last")
 FAMILIES = {"definitions": (definitions, 4), "parities": (parities, 5), "conjunctions": (conjunctions, 5)}
 for made, start in ((adder, 2), (all_boxes, 1), (block, 1), (comparator, 2), (multiplier, 3), (parity, 4), (controller, 2)):
     name = made.__name__.replace("_", "-")

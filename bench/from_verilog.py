@@ -1,6 +1,6 @@
 #!/usr/bin/env python3
 """Designs as engineers have them: the texts in bench/verilog, of which each is a specification and the same with black boxes, become circuits
-by Debian's yosys (tools/pec_from_verilog.py), and the built solver says by `pec` whether the boxes can be filled: where each box sees what it
+by Debian's yosys (tools/fill.py --circuits), and the built solver says by `pec` whether the boxes can be filled: where each box sees what it
 needs they can, and where boxes are blind they can't. The checker judges each certificate on the formula that `encode` writes. Prints a line
 for each design, with the gates of the circuit or the rows of the refutation. A verdict that isn't the expected one, or a certificate that
 isn't VALID, ends the run with 1; so do more than two designs that aren't decided.
@@ -50,17 +50,17 @@ class Runs:
 
     def circuits(self, design, size, is_blind):
         """The paths of both circuits."""
-        texts, circuits = [], []
+        texts = []
         for part in ("spec", "boxes"):
             with open(os.path.join(TEXTS, f"{design}-{part}.v"), encoding="ascii") as file:
                 text = f"`define SIZE {size}\n`define BLIND {int(is_blind)}\n{file.read()}"
             texts.append(self.path(f"{part}.v"))
-            circuits.append(self.path(f"{part}.aag"))
             with open(texts[-1], "w", encoding="ascii") as file:
                 file.write(text)
-        tool = os.path.join(TOP, "tools", "pec_from_verilog.py")
-        subprocess.run([sys.executable, tool, *texts, design, *circuits], check=True)
-        return circuits
+        tool = os.path.join(TOP, "tools", "fill.py")
+        words = ["--circuits", "--keep", self.folder, "--top", design, *texts]
+        subprocess.run([sys.executable, tool, *words], stdout=subprocess.DEVNULL, check=True)
+        return [self.path("spec.aag"), self.path("impl.aag")]
 
     def measure(self, design, size, is_blind):
         """Whether a design is decided."""

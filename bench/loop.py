@@ -92,8 +92,9 @@ def table(formulas):
 
 def printed(program, formulas):
     with tempfile.TemporaryDirectory() as folder:
-        with open(os.path.join(folder, "cases"), "w") as cases:
-            cases.write(table(formulas))
+        for name, text in ("engines", table(formulas)), ("solver", ""):
+            with open(os.path.join(folder, name), "w") as cases:
+                cases.write(text)
         run = subprocess.run([os.path.abspath(program)], cwd=folder, stdout=subprocess.PIPE, text=True, check=True)
     return run.stdout.splitlines()
 

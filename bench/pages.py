@@ -7,6 +7,7 @@ tools/believed.py doesn't print. DQCHECK and DQSOLVE may name built programs.
 
 import os
 import re
+import shutil
 import subprocess
 import sys
 import tempfile
@@ -15,13 +16,25 @@ TOP = os.path.dirname(os.path.dirname(os.path.abspath(__file__)))
 sys.path.insert(0, os.path.join(TOP, "tools"))
 
 import believed
-PAGES = ("README.md", "docs/SOLVING.md", "docs/BLACK_BOX.md", "docs/FORMATS.md")
+PAGES = ("README.md", "docs/SOLVING.md", "docs/BLACK_BOX.md", "docs/CONTROL.md", "docs/FORMATS.md")
 
 # What each command ends with, and the first line that it prints, or None where nothing is printed or the line says little.
 COMMANDS = {
     "./dqsolve solve examples/copies.dqdimacs > certificate": (10, None),
     "./dqcheck examples/copies.dqdimacs certificate": (0, "VALID TRUE"),
     "./dqsolve session examples/copies.dqdimacs examples/copies.script": (0, "solve 1 121"),
+    "tools/package.sh": (0, None),
+    "tools/fill.py examples/adder-spec.v examples/adder-boxes.v": (10, "TRUE: contents of 2 boxes fit; VALID TRUE"),
+    "tools/fill.py examples/adder-spec.v examples/adder-blind.v": (20, "FALSE: no contents of the boxes fit; VALID FALSE"),
+    "tools/fill.py --circuits --keep circuits examples/adder-spec.v examples/adder-boxes.v": (0, "circuits: spec.aag and impl.aag, with 2 boxes"),
+    "tools/control.py examples/crossing.v": (10, "TRUE: a controller with no memory suffices; VALID TRUE"),
+    "tools/control.py --see enters,leaves examples/crossing.v": (20, "FALSE: no controller with no memory sees enough; VALID FALSE"),
+    "tools/control.py --memory 1 --see enters,leaves --vcd run.vcd examples/crossing.v": (10, "TRUE: a controller with 1 bit of memory suffices; VALID TRUE"),
+    "tools/control.py --see low examples/tank.v": (10, "TRUE: a controller with no memory suffices; VALID TRUE"),
+    "tools/control.py --see drained examples/tank.v": (20, "FALSE: no controller with no memory sees enough; VALID FALSE"),
+    "tools/control.py --see asks,waited examples/arbiter.v": (10, "TRUE: a controller with no memory suffices; VALID TRUE"),
+    "tools/control.py --see left=left_waits,lamp --see right=right_waits,lamp examples/bridge.v": (10, "TRUE: a controller with no memory suffices; VALID TRUE"),
+    "tools/control.py --see left=left_waits,lamp --see right=right_waits examples/bridge.v": (20, "FALSE: no controller with no memory sees enough; VALID FALSE"),
     "./dqsolve pec examples/adder-spec.aag examples/adder-boxes.aag > certificate": (10, None),
     "./dqsolve pec examples/adder-spec.aag examples/adder-blind.aag": (20, "s FALSE"),
     "./dqsolve encode examples/adder-spec.aag examples/adder-boxes.aag > formula": (0, None),
@@ -43,7 +56,8 @@ COMMANDS = {
 }
 
 # Patterns for the reader's own files, commands that take long, and what needs a solver that may not be there.
-NOT_RUN = re.compile(r"[A-Z]{4}|^rt ci$|^tools/(prove_circuit|pec_from_verilog)\.py examples/|^parallel ")
+NOT_RUN = re.compile(r"[A-Z]{4}|^rt ci$|^tools/prove_circuit\.py examples/|^tools/sapuendy\.py |^parallel ")
+NEEDS_YOSYS = re.compile(r"^tools/(fill|control)\.py ")
 
 
 def commands(page):
@@ -99,6 +113,9 @@ def main(words):
             for command in commands(page):
                 seen.add(command)
                 due = COMMANDS.get(command)
+                if NEEDS_YOSYS.search(command) and shutil.which("yosys") is None:
+                    print(f"{page}: there is no yosys: {command} isn't run")
+                    continue
                 found = run(command, folder)
                 if due is None or found[0] != due[0] or due[1] not in (None, found[1]):
                     print(f"{page}: {command}: {found} in place of {due}")

@@ -9,7 +9,7 @@ Usage: bench/refused_memory.py
 The last run is that of the program of cases for the solver that engines share, on two groups that contradict each other: it makes
 each call again that was refused memory, so that all searches answer as without a refusal, or it ends at an allocation of its own.
 
-The variables DQCHECK, DQSOLVE and CDCL_CASES name the programs.
+The variables DQCHECK, DQSOLVE and ENGINE_CASES name the programs.
 """
 
 import os
@@ -85,7 +85,8 @@ FILES = {
     "no-clause": "p cnf 2 0\na 1 0\nd 2 1 0\n",
     "split-conjunction": "p cnf 4 6\na 1 2 0\nd 3 1 0\nd 4 2 0\n-1 -2 3 4 0\n-1 -2 -3 -4 0\n1 -3 4 0\n1 3 -4 0\n2 -3 4 0\n2 3 -4 0\n",
     "spec": "aag 3 2 0 1 1\n2\n4\n6\n6 4 2\n",
-    "cases": "new 100\ngroup\ngroup\nvar\nadd 1 3\nadd 2 -3\nsolve one | 1 |\nsolve the other | 2 |\nsolve both | 1 2 |\nsolve one again | 1 |\n",
+    "engines": "",
+    "solver": "new 100\ngroup\ngroup\nvar\nadd 1 3\nadd 2 -3\nsolve one | 1 |\nsolve the other | 2 |\nsolve both | 1 2 |\nsolve one again | 1 |\n",
     "script": "solve\npush\nadd -4 2 0\nsolve\nadd 4 -2 0\nadd 3 0\nsolve\npop\nsolve\n",
     "imp": "aag 3 3 0 1 0\n2\n4\n6\n6\nc\npec 1\n2 1 2 4 6\n",
 }
@@ -100,7 +101,7 @@ RUNS = (
     ("DQSOLVE", ["encode", "spec", "imp"], 0),
     ("DQSOLVE", ["session", "split-conjunction", "script"], 0),
     ("DQSOLVE", ["session", "copies", "script"], 0),
-    ("CDCL_CASES", [], 0),
+    ("ENGINE_CASES", [], 0),
 )
 
 
@@ -109,8 +110,8 @@ class Runs:
 
     def __init__(self, folder):
         self.folder = folder
-        cases = os.path.join(TOP, "crates", "cdcl_cases", "out", "cdcl_cases")
-        self.programs = {"DQCHECK": CHECKER, "DQSOLVE": SOLVER, "CDCL_CASES": os.environ.get("CDCL_CASES", cases)}
+        cases = os.path.join(TOP, "crates", "engine_cases", "out", "engine_cases")
+        self.programs = {"DQCHECK": CHECKER, "DQSOLVE": SOLVER, "ENGINE_CASES": os.environ.get("ENGINE_CASES", cases)}
         for name, text in FILES.items():
             with open(os.path.join(folder, name), "w", encoding="ascii") as file:
                 file.write(text)
@@ -138,7 +139,7 @@ class Runs:
             return 1
         for refused in range(1, allocations + 1):
             found = self.run(program, words, refused)
-            is_end = found == (5, b"") or program == "CDCL_CASES" and found[0] != 0 and due[1].startswith(found[1])
+            is_end = found == (5, b"") or program == "ENGINE_CASES" and found[0] != 0 and due[1].startswith(found[1])
             ended += is_end
             if found != due and not is_end:
                 print(f"{' '.join(words)}, allocation {refused} refused: {found}")

@@ -31,7 +31,7 @@ VERDICTS = {10: "TRUE", 20: "FALSE"}
 OTHERS = ["pedant", "hqs", "dqbdd", "depqbf"]
 COLUMNS = ["family", "size", "form", "seed", "variables", "universals", "clauses", "expected", "solver", "verdict", "seconds", "rounds", "learned"]
 COLUMNS += ["rows", "gates", "lines", "bytes", "check_seconds", "check"]
-WIDTHS = {"family": -17, "size": 6, "form": -8, "variables": 9, "clauses": 8, "solver": -8, "verdict": -8, "seconds": 8, "rounds": 7, "learned": 8}
+WIDTHS = {"family": -17, "size": 6, "form": -11, "variables": 9, "clauses": 8, "solver": -8, "verdict": -8, "seconds": 8, "rounds": 7, "learned": 8}
 WIDTHS |= {"rows": 7, "gates": 8, "lines": 8, "bytes": 10, "check_seconds": 13, "check": -12}
 
 

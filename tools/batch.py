@@ -8,39 +8,50 @@ common folder:
 
 or each a job of a Slurm array, `tools/batch.py results "$(sed -n "$SLURM_ARRAY_TASK_ID p" list)"`. A run has one thread.
 
-batch.py --table FOLDER prints all lines as CSV; batch.py --cactus FOLDER prints a drawing in SVG: how many formulas were decided in at most so
-many seconds each.
+batch.py --table FOLDER prints all lines as CSV, --json as JSON; batch.py --cactus FOLDER prints a drawing in SVG: how many formulas were decided
+in at most so many seconds each.
+
+The exit status is 0, or 1 where a run of one of these formulas failed: it was refused, or its certificate was.
 """
 
 import csv
 import hashlib
+import json
 import os
+import re
 import sys
 import tempfile
 import time
+from typing import List, Optional, Tuple
 
-from decide import OutOfTime, Search, words_of
-from failure import USAGE, Failure
+import sapuendy
+from decide import Search
+from failure import UNREADABLE, USAGE, Failure
+from processes import OutOfTime, run_script
 
 HEAD = ("formula", "verdict", "seconds", "rounds", "learned", "bytes", "checker")
+DECIDED = ("TRUE", "FALSE", "UNKNOWN")
 
 
-def line_of(path, seconds, steps):
+def line_of(path: str, seconds: Optional[float], steps: int) -> tuple:
     """What comes of a formula: a verdict counts only with the checker's word."""
-    with tempfile.TemporaryDirectory() as folder:
-        search = Search(path, folder, seconds)
+    began = time.monotonic()
+    with tempfile.TemporaryDirectory(prefix="sapuendy-") as folder:
+        search = Search([path], folder, seconds)
         size, checker = "", ""
         try:
-            verdict = search.decide(steps)
-            if verdict in ("TRUE", "FALSE"):
-                size, checker = os.path.getsize(search.output), f"VALID {verdict}"
+            answer = search.decide(steps)
+            verdict = answer.verdict
+            if verdict != "UNKNOWN":
+                size, checker = os.path.getsize(search.output), answer.checked
         except OutOfTime:
             verdict = "UNKNOWN"
+        except sapuendy.Refused as refused:
+            verdict, checker = f"status {refused.status}", refused.line
         except Failure as failure:
             verdict, checker = "REFUSED", str(failure)
-        if isinstance(verdict, int):
-            verdict, checker = f"status {verdict}", search.text()
-        return (path, verdict, f"{time.monotonic() - search.began:.2f}", *search.counts, size, checker)
+        counts = ["" if it is None else it for it in (search.last.rounds, search.last.learned)]
+        return (path, verdict, f"{time.monotonic() - began:.2f}", *counts, size, checker)
 
 
 def place_of(folder, path):
@@ -49,17 +60,27 @@ def place_of(folder, path):
     return os.path.join(folder, f"{os.path.basename(path)}.{mark}.csv")
 
 
-def decide_all(folder, paths, seconds, steps):
-    os.makedirs(folder, exist_ok=True)
+def decide_all(folder: str, paths: List[str], seconds: Optional[float], steps: int) -> int:
+    """Decides formulas that have no line yet; answers 1 where a run of one of all these failed, and else 0."""
+    try:
+        os.makedirs(folder, exist_ok=True)
+    except OSError as error:
+        raise Failure(UNREADABLE, f"{folder}: {error.strerror}") from error
+    status = 0
     for path in paths:
         place = place_of(folder, path)
-        if os.path.exists(place):
-            continue
-        line = line_of(path, seconds, steps)
-        with open(f"{place}.{os.getpid()}", "w", newline="") as file:
-            csv.writer(file).writerow(line)
-        os.replace(file.name, place)  # whole or not at all
-        print(*line[:3], file=sys.stderr, flush=True)
+        if not os.path.exists(place):
+            line = line_of(path, seconds, steps)
+            with open(f"{place}.{os.getpid()}", "w", newline="") as file:
+                csv.writer(file).writerow(line)
+            os.replace(file.name, place)  # whole or not at all
+            print(*line[:3], file=sys.stderr, flush=True)
+        with open(place, newline="") as file:
+            verdict = next(csv.reader(file))[1]
+        if verdict not in DECIDED:
+            print(f"{path}: {verdict}, in {place}", file=sys.stderr)
+            status = 1
+    return status
 
 
 def kept_lines(folder):
@@ -91,28 +112,34 @@ def cactus(times):
 </svg>"""
 
 
-def main(words):
-    if words == ["--help"]:
-        print(__doc__.strip())
-        return 0
+def options_of(words: List[str]) -> Optional[Tuple[Optional[float], int, List[str]]]:
+    """The seconds, the steps and the words behind them, or None where they aren't understood."""
+    numbers, words = {"--seconds": None, "--steps": sapuendy.MOST_STEPS}, list(words)
+    while words and words[0] in numbers:
+        if len(words) < 2 or not re.fullmatch(r"\d{1,10}", words[1]) or not 0 < int(words[1]) <= sapuendy.MOST_STEPS:
+            return None
+        numbers[words[0]] = int(words[1])
+        words = words[2:]
+    return numbers["--seconds"], numbers["--steps"], words
+
+
+def main(words: List[str]) -> int:
     if len(words) == 2 and words[0] == "--table":
         csv.writer(sys.stdout).writerows([HEAD, *kept_lines(words[1])])
+        return 0
+    if len(words) == 2 and words[0] == "--json":
+        print("\n".join(json.dumps(dict(zip(HEAD, line))) for line in kept_lines(words[1])))
         return 0
     if len(words) == 2 and words[0] == "--cactus":
         print(cactus([float(line[2]) for line in kept_lines(words[1]) if line[1] in ("TRUE", "FALSE")]))
         return 0
-    options = 2 * sum(word in ("--seconds", "--steps") for word in words[:4:2])
-    asked = words_of([*words[:options], *words[options : options + 1]])
-    if asked is None or len(words) < options + 2:
+    asked = options_of(words)
+    if asked is None or len(asked[2]) < 2 or asked[2][0].startswith("-"):
         print(__doc__.strip().splitlines()[0], file=sys.stderr)
         return USAGE
-    seconds, steps, folder, _ = asked
-    decide_all(folder, words[options + 1 :], seconds, steps)
-    return 0
+    seconds, steps, (folder, *formulas) = asked
+    return decide_all(folder, formulas, seconds, steps)
 
 
 if __name__ == "__main__":
-    try:
-        sys.exit(main(sys.argv[1:]))
-    except KeyboardInterrupt:
-        sys.exit(130)
+    run_script("batch.py", __doc__, main)

@@ -25,6 +25,7 @@ WHOLE = "all clauses of `dqcheck_run` and `dqsolve_run`"
 
 # What is asked, and from where the names are followed.
 QUESTIONS = (
+    ("`VALID TRUE` and `VALID FALSE`, on the headline's page", ["dqcheck_core::dqcheck_run.headline"]),
     ("`VALID TRUE`: the outputs are Skolem functions of the formula", TOLD + ["dqcheck_core::IsProvedTrue.circuit,is_true,written"]),
     ("`VALID FALSE`: the formula is false", TOLD + ["dqcheck_core::IsProvedFalse.is_false,written"]),
     ("`VALID DEFINED D FREE R`", TOLD + ["dqcheck_core::IsProvedDefined.counts,definitions,written"]),

@@ -1,8 +1,8 @@
 #!/usr/bin/env python3
-"""Writes the lists of crates in README.md and docs/ARCHITECTURE.md, or tells where they differ.
+"""Writes the list of crates in docs/ARCHITECTURE.md, or tells that it differs.
 
 The crates and what they stand on come from crates.txt, whose comments `# HEAD: what it is` part it
-into layers; what a crate does is the first paragraph of its lib.rt or main.rt. The lists stand
+into layers; what a crate does is the first paragraph of its lib.rt or main.rt. The list stands
 between the lines `<!-- crates -->` and `<!-- end of crates -->`.
 
 Usage, from the repository's root:  tools/crates.py [--check]
@@ -53,20 +53,32 @@ def depths(crates):
     return {name: depth_of(name) for name in below}
 
 
-def readme():
-    """A row for each layer."""
-    rows = [f"| {head} | {text} | {', '.join(name for name, _ in crates)} |" for head, text, crates in layers()]
-    return "\n".join(["| | | |", "|---|---|---|", *rows]) + "\n"
+def reach(crates):
+    """All crates below each one."""
+    below, found = dict(crates), {}
+
+    def reached(name):
+        if name not in found:
+            names = [it for it in below[name] if it in below]
+            found[name] = set(names).union(*map(reached, names))
+        return found[name]
+
+    return {name: reached(name) for name in below}
+
+
+def own(names, reached):
+    """Those of the names that stand below none of the others."""
+    return [name for name in names if not any(name in reached.get(other, ()) for other in names)]
 
 
 def architecture():
-    """Each layer's crates, with what each does and stands on, and how long the chain below it is."""
+    """Each layer's crates, with what each does, what it adds to what these stand on, and how long the chain below it is."""
     all_crates = [crate for _, _, crates in layers() for crate in crates]
-    depth, ours, lines = depths(all_crates), dict(all_crates), []
+    depth, reached, ours, lines = depths(all_crates), reach(all_crates), dict(all_crates), []
     for head, text, crates in layers():
         lines += ["", f"{head}: {text}", ""]
         for name, below in crates:
-            over = ", ".join(it for it in below if it in ours) or "nothing here"
+            over = ", ".join(own([it for it in below if it in ours], reached)) or "nothing here"
             kit = ", ".join(it for it in below if it not in ours)
             stands = f"Over {over}" + (f"; of the kit {kit}" if kit else "") + "."
             said = f"{does(name)} {stands}"
@@ -82,18 +94,17 @@ def main():
     check, differ = sys.argv[1:] == ["--check"], False
     if sys.argv[1:] not in ([], ["--check"]):
         sys.exit(__doc__)
-    for name, text in (("README.md", readme()), ("docs/ARCHITECTURE.md", architecture())):
-        path = ROOT / name
-        old = path.read_text()
-        if BEGIN not in old or END not in old:
-            sys.exit(f"crates.py: {name} has no place for its list of crates")
-        front, rest = old.split(BEGIN, 1)
-        new = front + BEGIN + "\n" + text + "\n" + END + rest.split(END, 1)[1]
-        if new != old:
-            differ = True
-            print(f"crates.py: {name} {'differs' if check else 'is written anew'}")
-            if not check:
-                path.write_text(new)
+    path = ROOT / "docs" / "ARCHITECTURE.md"
+    old = path.read_text()
+    if BEGIN not in old or END not in old:
+        sys.exit("crates.py: docs/ARCHITECTURE.md has no place for its list of crates")
+    front, rest = old.split(BEGIN, 1)
+    new = front + BEGIN + "\n" + architecture() + "\n" + END + rest.split(END, 1)[1]
+    if new != old:
+        differ = True
+        print(f"crates.py: docs/ARCHITECTURE.md {'differs' if check else 'is written anew'}")
+        if not check:
+            path.write_text(new)
     sys.exit(1 if check and differ else 0)
 
 

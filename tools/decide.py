@@ -1,153 +1,222 @@
 #!/usr/bin/env python3
-"""decide.py [--seconds S] [--steps N] FORMULA [CERT]: decides a formula by dqsolve, with 1,000 steps, then ten times as many, up
-to N (1,000,000,000 where none is given), for at most S seconds; judges the certificate by dqcheck, and keeps it as CERT.
+"""decide.py [--seconds S] [--steps N] [--json] QUESTION [CERT]: decides by dqsolve, with 1,000 steps, then more and more, up to N (1,000,000,000
+where none is given), for at most S seconds; judges the certificate by dqcheck, and keeps it as CERT.
 
-Standard output is one line, TRUE, FALSE or UNKNOWN, and the exit status 10, 20 or 0. Standard error has a line for each run:
-its steps, the rounds and learned clauses among them, seconds. At the time limit and at Ctrl-C the answer is UNKNOWN. What
-dqsolve refuses is printed as it says it, with its status; a certificate that dqcheck doesn't accept ends the script with 4.
+  FORMULA                   a formula
+  --pec SPEC IMPL           whether the boxes of a circuit can be filled
+  --defined FORMULA         which existentials are functions
+  --session FORMULA SCRIPT  a script's searches
 
-A run with more steps begins anew, and goes the way of the one before it: all runs together take little more than the last.
+Standard output is one line, TRUE, FALSE or UNKNOWN, and the exit status 10, 20 or 0; of definitions it is `DEFINED D FREE R` with 30, of a session
+a line for each block with 0. With --json it is a line of JSON. Standard error has a line for each run as it ends: its steps, the rounds and learned
+clauses among them, seconds. At the time limit, at SIGTERM and at Ctrl-C the answer is UNKNOWN. What dqsolve refuses is printed as it says it, with
+its status; a certificate that dqcheck doesn't accept ends the script with 4. Whether CERT can be written is tested first.
+
+A run with more steps begins anew, and goes the way of the one before it: ten times the steps while runs take less than a second, and then twice as
+many, so that all runs together take little more than twice the last, and counts come often.
 DQSOLVE and DQCHECK may name the programs; else they are those beside this folder, which are built at their first use.
 """
 
+import dataclasses
+import json
 import os
 import re
 import shutil
-import signal
-import subprocess
 import sys
 import tempfile
-import time
+from dataclasses import dataclass
+from typing import Any, Callable, List, Optional, Sequence, Tuple
 
+import sapuendy
 from failure import SOLVER_FAILED, UNREADABLE, USAGE, Failure
+from processes import OutOfTime, Stopped, run_script
+from session import blocks_of, formula_of_block
+from texts import check_writable
 
-TOP = os.path.dirname(os.path.dirname(os.path.abspath(__file__)))
-FIRST_STEPS = 1_000
-MOST_STEPS = 1_000_000_000
-STATUSES = {"TRUE": 10, "FALSE": 20, "UNKNOWN": 0}
-
-
-def program(variable, name):
-    return os.environ.get(variable) or os.path.join(TOP, name)
+KINDS = {"--pec": 2, "--defined": 1, "--session": 2}
 
 
-class OutOfTime(Exception):
-    """The time limit was reached."""
+@dataclass
+class Words:
+    """What the words ask for: limits, a kind of question, the files that it is about, and the certificate's name."""
+
+    seconds: Optional[float] = None
+    steps: int = sapuendy.MOST_STEPS
+    json: bool = False
+    kind: str = "solve"
+    names: Tuple[str, ...] = ()
+    certificate: Optional[str] = None
 
 
-def run(command, output, seconds):
-    """Runs a program whose output goes to a file; answers its status. Whatever ends the wait ends the program."""
-    if seconds is not None and seconds <= 0:
-        raise OutOfTime
-    try:
-        process = subprocess.Popen(command, stdout=output, start_new_session=True)
-    except OSError as error:
-        raise Failure(UNREADABLE, f"{command[0]}: {error.strerror}") from error
-    try:
-        return process.wait(timeout=seconds)
-    except subprocess.TimeoutExpired as limit:
-        raise OutOfTime from limit
-    finally:
-        if process.returncode is None:
-            os.killpg(process.pid, signal.SIGKILL)
-            process.wait()
+def words_of(words: Sequence[str]) -> Optional[Words]:
+    """What the words say, or None where they don't."""
+    asked, words = Words(), list(words)
+    while words and words[0].startswith("--") and words[0] not in KINDS:
+        option = words.pop(0)
+        if option == "--json":
+            asked.json = True
+        elif option in ("--seconds", "--steps") and words and re.fullmatch(r"\d{1,10}", words[0]) and int(words[0]) > 0:
+            setattr(asked, option[2:], int(words.pop(0)))
+        else:
+            return None
+    count = 1
+    if words and words[0] in KINDS:
+        asked.kind, count = words[0][2:], KINDS[words[0]]
+        words.pop(0)
+    if not count <= len(words) <= count + 1 or words[0].startswith("-") or asked.steps > sapuendy.MOST_STEPS:
+        return None
+    asked.names, asked.certificate = tuple(words[:count]), words[count] if len(words) > count else None
+    return asked
+
+
+def tell(answer: sapuendy.Answer) -> None:
+    """A line for a run as it ends."""
+    found = f"rounds {answer.rounds} learned {answer.learned}" if answer.rounds is not None else answer.verdict
+    print(f"{answer.steps} steps: {found}, {answer.seconds:.1f} s", file=sys.stderr, flush=True)
 
 
 class Search:
-    """A formula's runs, in a folder that they write to."""
+    """A question's runs, in a folder that they write to. `last` is the last run that ended."""
 
-    def __init__(self, formula, folder, seconds):
-        self.formula = formula
-        self.output = os.path.join(folder, "output")
-        self.began = time.monotonic()
-        self.seconds = seconds
-        self.counts = ("", "")  # rounds and learned clauses of the last run that gave no verdict
+    def __init__(self, names: Sequence[str], folder: str, seconds: Optional[float], kind: str = "solve"):
+        self.names, self.kind, self.seconds = names, kind, seconds
+        self.output, self.encoded = os.path.join(folder, "output"), os.path.join(folder, "formula")
+        self.last = sapuendy.Answer("UNKNOWN", b"", 0, 0.0)
 
-    def left(self):
-        return None if self.seconds is None else self.seconds - (time.monotonic() - self.began)
+    def run(self, steps: int, left: Optional[float]) -> sapuendy.Answer:
+        """A run; what it writes stands in the output, but an UNKNOWN of a run that is stopped."""
+        question = {"solve": sapuendy.solve, "pec": sapuendy.pec}[self.kind]
+        return question(*self.names, steps=steps, seconds=left, into=self.output)
 
-    def solve(self, steps):
-        """dqsolve's status with so many steps; what it wrote stands in the output."""
-        command = [program("DQSOLVE", "dqsolve"), "solve", "--steps", str(steps), self.formula]
-        with open(self.output, "wb") as output:
-            return run(command, output, self.left())
+    def kept(self, answer: sapuendy.Answer) -> None:
+        """Tells a run that ended."""
+        self.last = answer
+        tell(answer)
 
-    def text(self):
-        with open(self.output, "rb") as file:
-            return file.read(200).decode(errors="replace").strip()
+    def formula(self) -> str:
+        """The formula that the certificate is for."""
+        if self.kind == "solve":
+            return self.names[0]
+        with open(self.encoded, "wb") as file:
+            file.write(sapuendy.encode(*self.names))
+        return self.encoded
 
-    def tell(self, steps, verdict):
-        counts = re.search(r"rounds (\d+) learned (\d+)", self.text())
-        self.counts = counts.groups() if counts else self.counts
-        found = counts[0] if counts else verdict
-        print(f"{steps} steps: {found}, {time.monotonic() - self.began:.1f} s", file=sys.stderr, flush=True)
-
-    def check(self):
-        """Whether dqcheck accepts what was written; what it says otherwise."""
-        with tempfile.TemporaryFile() as said:
-            status = run([program("DQCHECK", "dqcheck"), self.formula, self.output], said, self.left())
-            said.seek(0)
-            if status != 0:
-                raise Failure(SOLVER_FAILED, f"dqcheck says: {said.read().decode().strip()}")
-
-    def decide(self, most_steps):
-        """TRUE, FALSE or UNKNOWN; or dqsolve's own status where it refuses."""
-        steps = min(FIRST_STEPS, most_steps)
-        while True:
-            status = self.solve(steps)
-            verdict = {10: "TRUE", 20: "FALSE"}.get(status)
-            if verdict:
-                self.tell(steps, verdict)
-                self.check()
-                return verdict
-            if status != 0:
-                print(self.text())
-                return status
-            self.tell(steps, "UNKNOWN")
-            if steps == most_steps:
-                return "UNKNOWN"
-            steps = min(10 * steps, most_steps)
+    def decide(self, steps: int) -> sapuendy.Answer:
+        """The answer, with the checker's line where there is a verdict."""
+        answer = sapuendy.decide(self.run, steps=steps, seconds=self.seconds, tell=self.kept)
+        if answer.verdict == "UNKNOWN":
+            return answer
+        judgement = sapuendy.check(self.formula(), self.output)
+        if not judgement.is_accepted:
+            raise Failure(SOLVER_FAILED, f"dqcheck says: {judgement.line}")
+        return dataclasses.replace(answer, checked=judgement.line)
 
 
-def words_of(words):
-    """The seconds, the steps, the formula and the certificate's name that the words say; None where they don't."""
-    numbers = {"--seconds": None, "--steps": MOST_STEPS}
-    while words and words[0] in numbers:
-        if len(words) < 2 or not re.fullmatch(r"\d{1,10}", words[1]) or int(words[1]) == 0:
-            return None
-        numbers[words[0]] = int(words[1])
-        words = words[2:]
-    if not 1 <= len(words) <= 2 or words[0].startswith("-") or numbers["--steps"] > MOST_STEPS:
-        return None
-    return numbers["--seconds"], numbers["--steps"], words[0], words[1] if len(words) == 2 else None
+def decide_verdict(asked: Words, folder: str) -> int:
+    """TRUE, FALSE or UNKNOWN."""
+    search = Search(asked.names, folder, asked.seconds, asked.kind)
+    try:
+        answer = search.decide(asked.steps)
+    except (OutOfTime, Stopped) as end:
+        if isinstance(end, Stopped):
+            print(f"decide.py: {end}", file=sys.stderr)
+        answer = dataclasses.replace(search.last, verdict="UNKNOWN")
+    if answer.verdict != "UNKNOWN" and asked.certificate is not None:
+        shutil.copyfile(search.output, asked.certificate)
+    found = {it: getattr(answer, it) for it in ("verdict", "steps", "seconds", "rounds", "learned", "checked")}
+    print(json.dumps({**found, "certificate": asked.certificate}) if asked.json else answer.verdict)
+    return answer.status
 
 
-def main(words):
-    if words == ["--help"]:
-        print(__doc__.strip())
+def growing(asked: Words, run_once: Callable[[int, Optional[float]], Tuple[Any, bool, float]]) -> Any:
+    """Makes runs with more and more steps until `run_once`, which answers a result and whether it is whole, is content, or the time is over."""
+    found: List[Any] = [None]
+
+    def search(steps: int, left: Optional[float]) -> sapuendy.Answer:
+        found[0], is_whole, seconds = run_once(steps, left)
+        answer = sapuendy.Answer("TRUE" if is_whole else "UNKNOWN", b"", steps, seconds)
+        print(f"{steps} steps: {'all is decided' if is_whole else 'not all is decided'}, {seconds:.1f} s", file=sys.stderr, flush=True)
+        return answer
+
+    try:
+        sapuendy.decide(search, steps=asked.steps, seconds=asked.seconds)
+    except (OutOfTime, Stopped) as end:
+        print(f"decide.py: {end or 'out of time'}", file=sys.stderr)
+    return found[0]
+
+
+def decide_defined(asked: Words, _folder: str) -> int:
+    """Which existentials are functions."""
+
+    def run_once(steps: int, left: Optional[float]) -> Tuple[Any, bool, float]:
+        found = sapuendy.defined(asked.names[0], steps=steps, seconds=left)
+        return found, found.text is not None, found.seconds
+
+    found = growing(asked, run_once)
+    if found is None or found.text is None:
+        print(json.dumps({"verdict": "UNKNOWN"}) if asked.json else "UNKNOWN")
         return 0
+    judgement = sapuendy.check(asked.names[0], found.text)
+    if not judgement.is_accepted:
+        raise Failure(SOLVER_FAILED, f"dqcheck says: {judgement.line}")
+    if asked.certificate is not None:
+        with open(asked.certificate, "wb") as file:
+            file.write(found.text)
+    line = f"DEFINED {len(found.functions)} FREE {len(found.free)}"
+    shown = {"verdict": "DEFINED", "functions": found.functions, "free": found.free, "checked": judgement.line}
+    print(json.dumps(shown) if asked.json else line)
+    return 30
+
+
+def decide_session(asked: Words, folder: str) -> int:
+    """The searches of a script."""
+    output = os.path.join(folder, "output")
+
+    def run_once(steps: int, left: Optional[float]) -> Tuple[Any, bool, float]:
+        partial = output + ".run"
+        done = sapuendy.dqsolve(["session"], list(asked.names), steps, left, partial)
+        os.replace(partial, output)
+        verdicts = [block[:20].split()[1].decode() for _, block in blocks_of(output)]
+        return verdicts, "UNKNOWN" not in verdicts, done.seconds
+
+    verdicts = growing(asked, run_once) or []
+    blocks = list(blocks_of(output)) if verdicts else []
+    for number, block in blocks:
+        checked = None
+        if verdicts[number - 1] != "UNKNOWN":
+            judgement = sapuendy.check(formula_of_block(*asked.names, number), block)
+            checked = judgement.line
+            if not judgement.is_accepted:
+                raise Failure(SOLVER_FAILED, f"dqcheck says of block {number}: {checked}")
+        found = {"block": number, "verdict": verdicts[number - 1], "checked": checked}
+        print(json.dumps(found) if asked.json else f"{number} {verdicts[number - 1]}")
+    if asked.certificate is not None and verdicts:
+        shutil.copyfile(output, asked.certificate)
+    if not verdicts:
+        print("UNKNOWN")
+    return 0
+
+
+DECIDERS = {"solve": decide_verdict, "pec": decide_verdict, "defined": decide_defined, "session": decide_session}
+
+
+def main(words: List[str]) -> int:
     asked = words_of(words)
     if asked is None:
-        print(__doc__.strip().splitlines()[0], file=sys.stderr)
+        print(__doc__.strip().split("\n\n")[0], file=sys.stderr)
         return USAGE
-    seconds, steps, formula, certificate = asked
-    with tempfile.TemporaryDirectory() as folder:
-        search = Search(formula, folder, seconds)
+    for name in asked.names:
+        if not os.path.exists(name):
+            raise Failure(UNREADABLE, f"{name}: there is no such file")
+    if asked.certificate is not None:
+        check_writable(asked.certificate)
+    with tempfile.TemporaryDirectory(prefix="sapuendy-") as folder:
         try:
-            verdict = search.decide(steps)
-        except (OutOfTime, KeyboardInterrupt):
-            verdict = "UNKNOWN"
-        if isinstance(verdict, int):
-            return verdict
-        if verdict != "UNKNOWN" and certificate is not None:
-            shutil.copyfile(search.output, certificate)
-    print(verdict)
-    return STATUSES[verdict]
+            return DECIDERS[asked.kind](asked, folder)
+        except sapuendy.Refused as refused:
+            print(refused.line)
+            return refused.status
 
 
 if __name__ == "__main__":
-    try:
-        sys.exit(main(sys.argv[1:]))
-    except Failure as failure:
-        print(f"decide.py: {failure}", file=sys.stderr)
-        sys.exit(failure.status)
+    run_script("decide.py", __doc__, main)

@@ -1,22 +1,36 @@
 #!/usr/bin/env python3
-"""explain.py FORMULA [CERT], explain.py --pec SPEC IMPL: what dqcheck says of a certificate, or dqsolve of a formula alone or of two
-circuits, and then why.
+"""explain.py FORMULA [CERT], explain.py --pec SPEC IMPL [CERT], explain.py --session FORMULA SCRIPT [BLOCKS]: what dqcheck says of a certificate,
+or dqsolve of a formula alone, of two circuits or of a session's script, and then why.
 
 The first line is the program's own. Behind it: at a refusal the text's line and what its name stands for; where a clause is
 false under a row, that clause and the outputs' bits; at a step that isn't derived, what each of its hints comes to; where an
 output reaches what it may not read, the way there; where no proof stands, the command that makes one; of definitions, what one may
-read. Nothing here is trusted: the program's word is its own, and the script only looks at the texts again.
+read. Of a refutation of two circuits: a few rows of the inputs in the designer's names, what each box sees there, what the
+specification wants, and what the boxes would have to drive; --vcd FILE, before --pec, writes them as a waveform. Of a session's blocks: what
+each says, and the checker of it. With --json, as first word, rows and blocks are lines of JSON, and so is all else, as text in one.
+Nothing here is trusted: the program's word is its own, and the script only looks at the texts again.
 
 The exit status is the program's, or 2 where a text can't be looked at. DQSOLVE and DQCHECK may name the programs; else they are
 those beside this folder.
 """
 
+import dataclasses
+import json
 import os
-import subprocess
+import re
 import sys
+import tempfile
+from typing import Dict, List, Optional, Tuple
 
-from failure import UNREADABLE, USAGE, Failure
+import sapuendy
+from aiger import write_text
+from boxes import read_design, tied
+from failure import USAGE
+from processes import as_json as json_of
+from processes import program, run, run_script
 from refusals import at_start, sentences
+from rows import lines_of, refutation_text, rows_vcd, tell_rows
+from session import blocks_of, formula_of_block
 from skolem import gates_in_order, mapping
 from steps import explain_step
 from texts import bytes_of, file_lines, read_circuit, read_formula, tokens_of
@@ -25,14 +39,10 @@ TOP = os.path.dirname(os.path.dirname(os.path.abspath(__file__)))
 LONGEST_SHOWN = 160
 
 
-def answer_of(variable, name, words):
+def answer_of(variable: str, name: str, words: List[str]) -> Tuple[int, str]:
     """A program's status, and what it wrote: its first line alone."""
-    program = os.environ.get(variable) or os.path.join(TOP, name)
-    try:
-        done = subprocess.run([program, *words], stdout=subprocess.PIPE, check=False)
-    except OSError as error:
-        raise Failure(UNREADABLE, f"{program}: {error.strerror}") from error
-    return done.returncode, done.stdout[:10_000].decode(errors="replace").split("\n")[0]
+    done = run([program(variable, name), *words], passes_errors=True)
+    return done.status, done.output[:10_000].decode(errors="replace").split("\n")[0]
 
 
 def shown(line):
@@ -161,9 +171,11 @@ def explain(formula, certificate, words):
         print("A file can't be read: look at its name and its rights; a name that begins with - stands behind --.")
 
 
-def main_of_circuits(words):
-    """The same of the two circuits of a comparison."""
-    status, line = answer_of("DQSOLVE", "dqsolve", ["encode", *words])
+def main_of_circuits(words: List[str], vcd: Optional[str], as_json: bool) -> int:
+    """The same of the two circuits of a comparison, and of a certificate for them."""
+    status, line = answer_of("DQSOLVE", "dqsolve", ["encode", "--", *words[:2]])
+    if status == 0 and len(words) == 3:
+        return main_of_boxes(*words, vcd, as_json)
     if status == 0:
         print("The two circuits make a design with black boxes.")
         return status
@@ -177,14 +189,81 @@ def main_of_circuits(words):
     return status
 
 
-def main(words):
-    if words[:1] == ["--pec"] and len(words) == 3:
-        return main_of_circuits(words[1:])
-    if words == ["--help"]:
-        print(__doc__.strip())
+def main_of_boxes(spec: str, imp: str, certificate: str, vcd: Optional[str], as_json: bool) -> int:
+    """What the checker says of a certificate for two circuits, and, where it refutes, the rows in names."""
+    design = read_design(spec, imp)
+    formula = sapuendy.encode(spec, imp)
+    with tempfile.TemporaryDirectory(prefix="sapuendy-") as folder:
+        path = os.path.join(folder, "formula")
+        write_text(path, tied(design, formula) if design.same else formula)
+        judgement = sapuendy.check(path, certificate)
+        if not as_json or judgement.line != "VALID FALSE":
+            print(judgement.line)
+        if judgement.line != "VALID FALSE":
+            explain(path, certificate, judgement.line.split())
+            return judgement.status
+    told = tell_rows(design, refutation_text(certificate))
+    if vcd:
+        write_text(vcd, rows_vcd(design, told))
+    if as_json:
+        print(json.dumps([dataclasses.asdict(it) for it in told]))
+    else:
+        print("\n".join(lines_of(told, bool(design.boxes))))
+    return judgement.status
+
+
+def script_names() -> Dict[str, str]:
+    """What the names of a script's refusals stand for, out of docs/FORMATS.md."""
+    with open(os.path.join(TOP, "docs", "FORMATS.md"), encoding="utf-8") as page:
+        part = page.read().split("## Scripts of a session")[-1].split("\n## ")[0]
+    rows = re.findall(r"^\| ([\w, ]+) \| (.+) \|$", part, re.MULTILINE)
+    return {name.strip(): where for names, where in rows for name in names.split(",")}
+
+
+def main_of_session(words: List[str], as_json: bool) -> int:
+    """What is wrong with a script, or what the blocks of its session say, each with the checker's word."""
+    formula, script = words[:2]
+    status, line = answer_of("DQSOLVE", "dqsolve", ["session", "--steps", "1", "--", formula, script])
+    if status != 0:
+        print(line)
+        said = line.split()
+        if said[:1] == ["script"]:
+            lines = file_lines(bytes_of(script))
+            number = int(said[1])
+            print(f"{script}, line {number}: {shown(lines[number - 1])}" if number <= len(lines) else f"{script} has {len(lines)} lines")
+            print(f"{said[2]}: {script_names().get(said[2], 'docs/FORMATS.md has the name')}.")
+        else:
+            explain(formula, script, said)
+        return status
+    if len(words) == 2:
+        print("The script's commands stand on the formula.")
         return 0
+    worst = 0
+    for number, block in blocks_of(words[2]):
+        verdict = (block[:200].split() + [b"", b""])[1].decode(errors="replace")
+        judgement = sapuendy.check(formula_of_block(formula, script, number), block) if verdict in ("TRUE", "FALSE") else None
+        checked = judgement.line if judgement else None
+        worst = max(worst, judgement.status if judgement else 0)
+        if as_json:
+            print(json.dumps({"block": number, "verdict": verdict, "bytes": len(block), "checked": checked}))
+        else:
+            print(f"block {number}: {verdict}, {len(block)} bytes" + (f"; {checked}" if checked else ""))
+    return worst
+
+
+def main(words: List[str]) -> int:
+    vcd, as_json = None, words[:1] == ["--json"]
+    words = words[as_json:]
+    if words[:1] == ["--vcd"] and len(words) > 1:
+        vcd, words = words[1], words[2:]
+    if as_json and not (len(words) == 4 and words[0] in ("--pec", "--session")):
+        return json_of("explain.py", main, words)
+    if words[:1] == ["--pec"] and 3 <= len(words) <= 4:
+        return main_of_circuits(words[1:], vcd, as_json)
+    if words[:1] == ["--session"] and 3 <= len(words) <= 4:
+        return main_of_session(words[1:], as_json)
     if not 1 <= len(words) <= 2 or words[0].startswith("-"):
-        print(__doc__.strip().splitlines()[0], file=sys.stderr)
+        print(__doc__.strip().split("\n\n")[0], file=sys.stderr)
         return USAGE
     if len(words) == 2:
         status, line = answer_of("DQCHECK", "dqcheck", words)
@@ -199,8 +278,4 @@ def main(words):
 
 
 if __name__ == "__main__":
-    try:
-        sys.exit(main(sys.argv[1:]))
-    except Failure as failure:
-        print(f"explain.py: {failure}", file=sys.stderr)
-        sys.exit(failure.status)
+    run_script("explain.py", __doc__, main)

@@ -6,12 +6,12 @@ Nothing here is trusted: dqcheck judges the lines.
 
 import os
 import shutil
-import subprocess
 import sys
 import tempfile
 from typing import NamedTuple
 
 from failure import NO_SOLVER, SOLVER_FAILED, Failure
+from processes import run
 
 # Without what may need RAT steps, or clauses that were deleted before.
 OPTIONS = ["-q", "--no-binary", "--no-block", "--no-condition", "--no-cover", "--no-elim", "--no-instantiate"]
@@ -91,12 +91,13 @@ def solve(clauses):
         paths = [os.path.join(folder, name) for name in ("clauses.cnf", "learned.drat")]
         with open(paths[0], "w", encoding="ascii") as file:
             write_dimacs(file, numbering, clauses)
-        run = subprocess.run([solver, *OPTIONS, *paths], capture_output=True, text=True, check=False)
-        if run.returncode == HAS_MODEL:
-            return Answer(true_variables(numbering, run.stdout), None)
-        if run.returncode == HAS_NONE:
+        done = run([solver, *OPTIONS, *paths])
+        if done.status == HAS_MODEL:
+            return Answer(true_variables(numbering, done.output.decode()), None)
+        if done.status == HAS_NONE:
             return Answer(None, read_drat(numbering, paths[1]))
-    raise Failure(SOLVER_FAILED, f"cadical ended with status {run.returncode} and no answer: {run.stderr.strip()}")
+    said = done.error.decode(errors="replace").strip()
+    raise Failure(SOLVER_FAILED, f"cadical ended with status {done.status} and no answer: {said}")
 
 
 def write_dimacs(file, numbering, clauses):

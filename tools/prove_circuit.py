@@ -5,7 +5,8 @@ cadical. Nothing here is trusted: dqcheck judges what is written.
 
 Usage: tools/prove_circuit.py [--v2] FORMULA CIRCUIT > CERT     DQDIMACS, and AIGER, whose form stays: ASCII or binary
 
-With --v2 a line is deleted behind the last one that hints it.
+With --v2 a line is deleted behind the last one that hints it. With --json, as first word, status,
+output and message are one line of JSON.
 
 The exit status is 0 where a proof was written, 1 for words that aren't two files, and else, with a message: 2 a text can't be
 read, 3 there is no cadical, 4 cadical failed, 5 a clause is false under some row, 6 an output reaches a universal that its
@@ -15,7 +16,9 @@ existential may not see.
 import sys
 
 import hinted
-from failure import FOREIGN_READ, WRONG_CIRCUIT, Failure, run
+from failure import FOREIGN_READ, WRONG_CIRCUIT, Failure
+from failure import USAGE as USAGE_STATUS
+from processes import run_script
 from skolem import first_id, gates_in_order, mapping, negated_matrix
 from texts import read_circuit, read_formula
 
@@ -88,5 +91,16 @@ def prove(formula_path, circuit_path, deletes=False):
     hinted.write(items)
 
 
+def main(words):
+    """Checks the words, and does the work."""
+    deletes = words[:1] == ["--v2"]
+    words = words[deletes:]
+    if len(words) != 2 or any(word.startswith("-") for word in words):
+        print(USAGE, file=sys.stderr)
+        return USAGE_STATUS
+    prove(*words, deletes=deletes)
+    return 0
+
+
 if __name__ == "__main__":
-    sys.exit(run("prove_circuit", USAGE, 2, 2, prove, "--v2"))
+    run_script("prove_circuit", __doc__, main, has_json=False)

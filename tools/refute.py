@@ -6,7 +6,8 @@ trusted: dqcheck judges what is written.
 Usage: tools/refute.py [--v2] FORMULA > CERT            DQDIMACS; the rows are found here
        tools/refute.py [--v2] FORMULA ROWS > CERT       a row a line, each universal with its sign
 
-With --v2 a line is deleted behind the last one that hints it.
+With --v2 a line is deleted behind the last one that hints it. With --json, as first word, status,
+output and message are one line of JSON.
 
 Rows are found so: a model of the instances so far gives each existential a bit in each row, and decision trees that agree with
 these bits give it a function of what it sees; where a clause is then false under some row, that row is added. At worst all rows
@@ -20,7 +21,9 @@ false.
 import sys
 
 import hinted
-from failure import NOT_FALSE, TOO_FEW_ROWS, Failure, run
+from failure import NOT_FALSE, TOO_FEW_ROWS, Failure
+from failure import USAGE as USAGE_STATUS
+from processes import run_script
 from texts import Place, bytes_of, lines_of, number, read_formula, tokens_of
 
 USAGE = "usage: tools/refute.py [--v2] FORMULA [ROWS] > CERT"
@@ -217,5 +220,16 @@ def refute(formula_path, rows_path=None, deletes=False):
     hinted.write(items)
 
 
+def main(words):
+    """Checks the words, and does the work."""
+    deletes = words[:1] == ["--v2"]
+    words = words[deletes:]
+    if not 1 <= len(words) <= 2 or any(word.startswith("-") for word in words):
+        print(USAGE, file=sys.stderr)
+        return USAGE_STATUS
+    refute(*words, deletes=deletes)
+    return 0
+
+
 if __name__ == "__main__":
-    sys.exit(run("refute", USAGE, 1, 2, refute, "--v2"))
+    run_script("refute", __doc__, main, has_json=False)

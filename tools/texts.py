@@ -1,6 +1,7 @@
 """Readers of the texts that docs/FORMATS.md describes, for the scripts beside this one. What can't be read ends the
 script with the line and a message; the names of faults are the checker's own and aren't repeated here."""
 
+import os
 import re
 from dataclasses import dataclass, field
 from typing import NamedTuple
@@ -14,6 +15,18 @@ def bytes_of(path):
             return file.read()
     except OSError as error:
         raise Failure(UNREADABLE, f"{path}: {error.strerror}") from error
+
+
+def check_writable(path):
+    """Fails where a file can't be written, before there is anything to write."""
+    was_there = os.path.lexists(path)
+    try:
+        with open(path, "ab"):
+            pass
+        if not was_there:
+            os.unlink(path)
+    except OSError as error:
+        raise Failure(UNREADABLE, f"{path}: it can't be written: {error.strerror}") from error
 
 
 def lines_of(text):
@@ -70,6 +83,19 @@ class Formula:
     @property
     def existentials(self):
         return list(self.dependencies)
+
+    def text(self, further=()):
+        """The canonical text, with further clauses behind its own."""
+        clauses = [*self.clauses, *further]
+        lines = [f"p cnf {self.variables} {len(clauses)}"]
+        if self.universals:
+            lines.append(" ".join(map(str, ["a", *self.universals, 0])))
+        for existential, seen in self.dependencies.items():
+            sees_all = len(seen) == len(self.universals)
+            letter, sights = ("e", []) if sees_all else ("d", sorted(seen, key=self.universals.__getitem__))
+            lines.append(" ".join(map(str, [letter, existential, *sights, 0])))
+        lines += [" ".join(map(str, [*clause, 0])) for clause in clauses]
+        return "".join(f"{line}\n" for line in lines).encode()
 
 
 class FormulaReader:
