@@ -1,3 +1,4 @@
 pub mod FedCertificates
 pub mod Runs
 pub mod ToldFiles
+mod OnePage

@@ -1,26 +1,12 @@
 -- The names of a certificate's faults, as the checker writes them.
 use Rattle.std.specs.Prelude.{ℕ, List, codes}
-use Rattle.aiger_text.specs.declared.faults.AagFault.{AagFault}
-use Rattle.aiger_text.specs.declared.faults.AagFault.TheVariants.{BadHeader, NotCombinational, BadLine, TooBig, Range, DefinedTwice, Undefined, Cyclic, BadSymbol, Truncated, BadDelta}
+use Rattle.aiger_text.specs.FaultNames.{circuit_fault_name}
 use Rattle.cert_text.specs.declared.faults.CertFault.{CertFault}
-use Rattle.cert_text.specs.declared.faults.CertFault.TheVariants.{BadHeader as NoHeader, BadLine as NoLine, RowIncomplete, IdOrder, UnknownHint, TooBig as TooLarge, Truncated as TooShort, BadVariable, WrongVerdict, NotLive, BlockOrder, BadGate}
+use Rattle.cert_text.specs.declared.faults.CertFault.TheVariants.{BadHeader, BadLine, RowIncomplete, IdOrder, UnknownHint, TooBig, Truncated, BadVariable, WrongVerdict, NotLive, BlockOrder, BadGate}
 use Rattle.skolem_checker.specs.declared.mapping.MapName.{MapName}
 use Rattle.skolem_checker.specs.declared.mapping.MapName.TheVariants.{InputCount, OutputCount, SymbolMissing, SymbolNumber, SymbolTwice}
 use Rattle.cert_judge.specs.declared.answers.CertificateFault.{CertificateFault}
 use Rattle.cert_judge.specs.declared.answers.CertificateFault.TheVariants.{Text, Circuit, Mapping}
-
-abbrev pub circuit_fault_name : AagFault → List ℕ
-circuit_fault_name BadHeader = codes "BadHeader"
-circuit_fault_name NotCombinational = codes "NotCombinational"
-circuit_fault_name BadLine = codes "BadLine"
-circuit_fault_name TooBig = codes "TooBig"
-circuit_fault_name Range = codes "Range"
-circuit_fault_name DefinedTwice = codes "DefinedTwice"
-circuit_fault_name Undefined = codes "Undefined"
-circuit_fault_name Cyclic = codes "Cyclic"
-circuit_fault_name BadSymbol = codes "BadSymbol"
-circuit_fault_name Truncated = codes "Truncated"
-circuit_fault_name BadDelta = codes "BadDelta"
 
 abbrev pub mapping_fault_name : MapName → List ℕ
 mapping_fault_name InputCount = codes "InputCount"
@@ -30,13 +16,13 @@ mapping_fault_name SymbolNumber = codes "SymbolNumber"
 mapping_fault_name SymbolTwice = codes "SymbolTwice"
 
 abbrev pub text_fault_name : CertFault → List ℕ
-text_fault_name NoHeader = codes "BadHeader"
-text_fault_name NoLine = codes "BadLine"
+text_fault_name BadHeader = codes "BadHeader"
+text_fault_name BadLine = codes "BadLine"
 text_fault_name RowIncomplete = codes "RowIncomplete"
 text_fault_name IdOrder = codes "IdOrder"
 text_fault_name UnknownHint = codes "UnknownHint"
-text_fault_name TooLarge = codes "TooBig"
-text_fault_name TooShort = codes "Truncated"
+text_fault_name TooBig = codes "TooBig"
+text_fault_name Truncated = codes "Truncated"
 text_fault_name BadVariable = codes "BadVariable"
 text_fault_name WrongVerdict = codes "WrongVerdict"
 text_fault_name NotLive = codes "NotLive"

@@ -4,3 +4,4 @@ pub mod Report
 pub mod Running
 pub mod Statuses
 pub mod Told
+pub mod OnePage

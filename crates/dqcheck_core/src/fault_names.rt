@@ -1,30 +1,11 @@
 //! The names of a certificate's faults, as they are written.
 
 ghost use Rattle.std.specs.Prelude.{◌≡◌};
-ghost use Rattle.dqcheck_core.specs.CertificateNames.{circuit_fault_name, text_fault_name, mapping_fault_name, certificate_fault_name};
+ghost use Rattle.dqcheck_core.specs.CertificateNames.{text_fault_name, mapping_fault_name, certificate_fault_name};
 
-use aiger_text::AagFault;
 use cert_judge::CertificateFault;
 use cert_text::CertFault;
 use skolem_checker::MapName;
-
-fn circuit_fault_name(fault: AagFault) -> &'static str
-    ensures { result.now ≡ circuit_fault_name fault }
-{
-    match fault {
-        AagFault::BadHeader => "BadHeader",
-        AagFault::NotCombinational => "NotCombinational",
-        AagFault::BadLine => "BadLine",
-        AagFault::TooBig => "TooBig",
-        AagFault::Range => "Range",
-        AagFault::DefinedTwice => "DefinedTwice",
-        AagFault::Undefined => "Undefined",
-        AagFault::Cyclic => "Cyclic",
-        AagFault::BadSymbol => "BadSymbol",
-        AagFault::Truncated => "Truncated",
-        AagFault::BadDelta => "BadDelta",
-    }
-}
 
 fn mapping_fault_name(fault: MapName) -> &'static str
     ensures { result.now ≡ mapping_fault_name fault }
@@ -62,7 +43,7 @@ pub fn certificate_fault_name(fault: CertificateFault) -> &'static str
 {
     match fault {
         CertificateFault::Text(name) => text_fault_name(name),
-        CertificateFault::Circuit(name) => circuit_fault_name(name),
+        CertificateFault::Circuit(name) => name.name(),
         CertificateFault::Mapping(name) => mapping_fault_name(name),
     }
 }

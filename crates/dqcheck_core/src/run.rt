@@ -13,7 +13,8 @@ ghost use Rattle.dqcheck_words.specs.Spelling.{spelled_command};
 ghost use Rattle.dqcheck_core.specs.Outputs.{IsReported, IsReportedBehind};
 ghost use Rattle.dqcheck_core.specs.Report.{judged, printed_report};
 ghost use Rattle.dqcheck_core.specs.Running.{IsDue};
-ghost use Rattle.dqcheck_core.specs.Told.{JudgesTold};
+ghost use Rattle.dqcheck_core.specs.OnePage.{ShowsHeadline};
+ghost use Rattle.dqcheck_core.specs.Told.{AreTold, JudgesTold};
 
 use crate::reports::judged_output;
 use cert_judge::Stream;
@@ -24,6 +25,7 @@ use dq_lits::Memory;
 use dq_runs::{FormulaStop, Output, deliver, outputs, read_formula};
 use dqcheck_words::{FileNames, file_names};
 use dqdimacs_reader::laws::formula_or_first_fault;
+use headline_laws::laws::{formulas_are_on_the_page, skolem_circuits_are_on_the_page};
 use std::alloc::{AllocError, Global};
 
 /// The most bytes of a certificate.
@@ -58,6 +60,13 @@ pub fn dqcheck_run<F: Files, K: Sink>(
         (spelled_command (map string_bytes words.now))
         (sink_of K.Sink out.old) (sink_of K.Sink out.new) result }
 
+    // On one page: over files that are told, what is written with status 0 is right of their texts.
+    ensures headline { (formula certificate : List ℕ)
+        → AreTold (F.held files.old) (spelled_command (map string_bytes words.now)) formula
+        certificate
+        → result ≡ 0 → ShowsHeadline formula certificate (sink_of K.Sink out.old).taken
+        (sink_of K.Sink out.new).taken }
+
     // Each refusal has its cause, and no fault is passed over, over all files and sinks.
     ensures causes { HasCauses (spelled_command (map string_bytes words.now))
         (state_of F.Files files.old) (state_of F.Files files.new)
@@ -66,6 +75,8 @@ pub fn dqcheck_run<F: Files, K: Sink>(
     one_judgement();
     acceptance_is_sound();
     formula_or_first_fault();
+    formulas_are_on_the_page();
+    skolem_circuits_are_on_the_page();
     let output = report(alloc, words, files);
     deliver(out, output)
 }

@@ -1,0 +1,43 @@
+//! The page's words and those of the crates that read and judge. A law is the contract of a function
+//! without parameters and with an empty body.
+
+ghost use Rattle.std.specs.Prelude.{◌≡◌, ℕ, List, map};
+ghost use Rattle.dq_lits.specs.Formula.{Dqbf, IsWellFormed};
+ghost use Rattle.dq_text.specs.Token.{tokens_of};
+ghost use Rattle.dqdimacs_reader.specs.Grammar.{SpellsFormula};
+ghost use Rattle.cert_judge.specs.Judgement.{HoldsSkolemCircuit};
+ghost use Rattle.headline.specs.Headline.{Formula, HoldsSkolem, tokens};
+ghost use Rattle.headline_laws.specs.Formulas.{IsOnPage};
+
+use aig_binary::laws::binary_circuits_are_lawful;
+use dq_formula::xor_clauses_are_exact;
+use dq_lits::laws::functions_are_choices;
+use dq_text::laws::tokens_are_those_of_lines;
+use skolem_checker::laws::mapping_is_as_told;
+
+/// The tokens of a text are those of the page.
+pub fn tokens_are_the_pages()
+    ensures { (text : List ℕ) → map (λ t. t.text) (tokens_of text) ≡ tokens text }
+{
+    tokens_are_those_of_lines();
+}
+
+/// A text that spells a formula to the reader spells one on the page, with the same prefix, and that
+/// one is true or false where the reader's is.
+pub fn formulas_are_on_the_page()
+    ensures { (text : List ℕ) (read : Dqbf) → SpellsFormula text read → IsWellFormed read
+        → (f : Formula) × IsOnPage text read f }
+{
+    tokens_are_the_pages();
+    xor_clauses_are_exact();
+    functions_are_choices();
+}
+
+/// A certificate that holds a Skolem circuit of a formula holds one on the page, of the page's formula.
+pub fn skolem_circuits_are_on_the_page()
+    ensures { (formula certificate : List ℕ) (read : Dqbf) (f : Formula) → IsOnPage formula read f
+        → IsWellFormed read → HoldsSkolemCircuit read certificate → HoldsSkolem f certificate }
+{
+    binary_circuits_are_lawful();
+    mapping_is_as_told();
+}
