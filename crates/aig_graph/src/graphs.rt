@@ -50,6 +50,7 @@ impl Graph {
     pub fn every_graph_is_lawful(&self)
         ensures { IsGraph self.now }
     {
+        // A look at a field shows the invariant.
         let _ = &self.inputs;
     }
 
@@ -58,6 +59,7 @@ impl Graph {
         requires { i < self.now.inputs }
         ensures { result ≡ Node.Input i false }
     {
+        // A look at a field shows the invariant.
         let _ = &self.inputs;
         Node::Input(i, false)
     }
@@ -134,6 +136,7 @@ impl Graph {
         ensures value { result ≡ gate_count n }
         ensures few { result ≤ length self.now.gates }
     {
+        // A look at a field shows the invariant.
         let _ = &self.gates;
         match n {
             Node::Constant(_) => 0,

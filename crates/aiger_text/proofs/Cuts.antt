@@ -4,7 +4,7 @@ use Rattle.std.specs.List.{position, position_or_len}
 use Rattle.std.specs.Option.{unwrap_or}
 use Rattle.std.proofs.lemmas.Bool.{ne_eqb, lt-ltb, le-ltb, cases_Bool}
 use Rattle.std.proofs.lemmas.List.Sums.{position_or_len_is}
-use Rattle.list_laws.proofs.Sequences.{position_chosen}
+use Rattle.list_laws.proofs.Sequences.{position_chosen, found}
 use Rattle.aiger_text.specs.Lines.{keep_byte, without_end_crs}
 
 pub without_end_crs-push : (xs : List ℕ) → without_end_crs (xs ++ 13 ∷ []) ≡ without_end_crs xs
@@ -29,12 +29,6 @@ position-le p (x ∷ xs) =
 
 pub unwrap_position : (p : ℕ → Bool) (xs : List ℕ) → unwrap_or (position p xs) (length xs) ≡ position_or_len p xs
 unwrap_position p xs = position_chosen p xs (nat_lt (position_or_len p xs) (length xs)) refl (position-le p xs)
-
-found : {X : Type 0} (p : X → Bool) (xs : List X) (i : ℕ) → position_or_len p xs ≡ i → (b : Bool) →
-    nat_lt i (length xs) ≡ b →
-    position p xs ≡ cond b (Some i) None
-found p xs i is b test =
-    ap (λ k. cond (nat_lt k (length xs)) (Some k) None) is ∙ ap (λ c. cond c (Some i) None) test
 
 -- the first place that passes
 pub position-Some : {X : Type 0} (p : X → Bool) (xs : List X) (i : ℕ) (d : X) → i < length xs →

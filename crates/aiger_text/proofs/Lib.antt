@@ -22,3 +22,4 @@ pub mod Variables
 pub mod WrittenLines
 pub mod WrittenNetlist
 pub mod WrittenSymbols
+pub mod CircuitSteps

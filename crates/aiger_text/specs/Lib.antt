@@ -10,3 +10,6 @@ pub mod Spellable
 pub mod Steps
 pub mod Symbol
 pub mod SymbolEntry
+pub mod AagLinesInside
+pub mod CircuitLines
+pub mod FaultNames

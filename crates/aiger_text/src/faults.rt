@@ -1,6 +1,7 @@
 //! What can be wrong with a circuit's text.
 
 ghost use Rattle.std.specs.Prelude.{◌≡◌};
+ghost use Rattle.aiger_text.specs.FaultNames.{circuit_fault_name};
 ghost use Rattle.aiger_text.specs.declared.faults.AagStop.TheVariants.{Memory as OutOfMemory};
 ghost use Rattle.aiger_text.specs.declared.faults.LineStop.TheVariants.{Fault, Memory as LineOutOfMemory};
 
@@ -35,6 +36,27 @@ pub enum AagFault {
     /// In the binary form alone: a difference of literals in more than five bytes, a first one of 0, or
     /// one that makes a right side negative.
     BadDelta,
+}
+
+impl AagFault {
+    /// Its name, as programs write it.
+    pub fn name(self) -> &'static str
+        ensures { result.now ≡ circuit_fault_name self }
+    {
+        match self {
+            AagFault::BadHeader => "BadHeader",
+            AagFault::NotCombinational => "NotCombinational",
+            AagFault::BadLine => "BadLine",
+            AagFault::TooBig => "TooBig",
+            AagFault::Range => "Range",
+            AagFault::DefinedTwice => "DefinedTwice",
+            AagFault::Undefined => "Undefined",
+            AagFault::Cyclic => "Cyclic",
+            AagFault::BadSymbol => "BadSymbol",
+            AagFault::Truncated => "Truncated",
+            AagFault::BadDelta => "BadDelta",
+        }
+    }
 }
 
 /// Why a reading stopped.

@@ -3,7 +3,9 @@
 
 ghost use Rattle.std.specs.Prelude.{◌≡◌, ◌↔◌, ◌⊎◌, ◌<◌, ◌^◌, ℕ, List, Ok};
 ghost use Rattle.std.specs.Fmt.{decimal};
+ghost use Rattle.dq_text.specs.Line.{lines_from};
 ghost use Rattle.aiger_text.specs.Canonical.{canonical_circuit};
+ghost use Rattle.aiger_text.specs.CircuitLines.{lines_give, no_lines};
 ghost use Rattle.aiger_text.specs.FirstFault.{IsFirstFault};
 ghost use Rattle.aiger_text.specs.Grammar.{SpellsCircuit};
 ghost use Rattle.aiger_text.specs.Scan.{LineFault, AllGrounded, scan};
@@ -41,4 +43,10 @@ pub fn canonical_text_spells()
 /// A number below 10^18 is a name that a symbol line can hold.
 pub fn numbers_are_names()
     ensures { (n : ℕ) → n < 10 ^ 18 → IsName (decimal n) }
+{}
+
+/// The lines of a text give what `read` reads of it.
+pub fn circuits_are_read_by_line()
+    ensures { (text : List ℕ) (first : ℕ)
+        → lines_give (no_lines first) (lines_from first text) ≡ scan text first }
 {}

@@ -1,7 +1,12 @@
 //! ASCII AIGER, the combinational part, read exactly and written.
+//!
+//! `AagLines` answers over the lines of a text as `read` answers over the text: what a line gives is
+//! one step of the definition that says what that reads. It keeps the circuit and the symbols, and no
+//! comment.
 #![tactic(auto)]
 
 pub use body::{CircuitReader, Part, part_of, start_reader, take_gate, take_input, take_output};
+pub use circuits_by_line::AagLines;
 pub use faults::{AagFault, AagStop, LineStop};
 pub use files::{AagFile, ReadCircuit, Text};
 pub use headers::{Header, read_header};
@@ -12,6 +17,7 @@ pub use symbols::Symbols;
 pub use writer::{write, write_counts, write_ending, write_outputs};
 
 mod body;
+mod circuits_by_line;
 mod faults;
 mod files;
 mod headers;

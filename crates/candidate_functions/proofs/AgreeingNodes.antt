@@ -15,7 +15,7 @@ use Rattle.dq_lits.specs.Row.{bit_of}
 use Rattle.dq_lits.specs.Expansion.{row_assignment, pair_number}
 use Rattle.dq_formula.specs.declared.rules.Rule.{Rule}
 use Rattle.dq_formula.specs.Prefix.{IsLawful}
-use Rattle.dq_formula.proofs.Places.{place, place-get_or}
+use Rattle.dq_formula.proofs.Places.{place, place-get_or, has-contains}
 use Rattle.dq_formula.proofs.Subsets.{distinct_universals}
 use Rattle.dq_formula.proofs.Sorted.{get_or-place}
 use Rattle.dq_formula.proofs.Restrictions.{assignment_of-place}
@@ -25,10 +25,11 @@ use Rattle.aig_graph.proofs.Supported.{node_same}
 use Rattle.aig_graph.specs.declared.nodes.Node.{Node}
 use Rattle.expansion.specs.Table.{PointBits, ArePoints}
 use Rattle.candidate_functions.specs.Candidates.{SeesRow, AgreesAtPairs, FollowsRules}
-use Rattle.candidate_functions.specs.Pairs.{agrees, universal_places, has_bit, at_pair, IsPair, IsReadByPair, IsPatched, IsByRules, IsCandidate}
+use Rattle.candidate_functions.specs.Pairs.{universal_places, has_bit, at_pair, IsPair, IsReadByPair, IsPatched, IsByRules, IsCandidate}
+use Rattle.row_pairs.specs.Pairs.{agrees}
 use Rattle.candidate_functions.specs.Differing.{HasOwnPoint, HasPairOf, IsCovered}
 use Rattle.candidate_functions.specs.declared.cubes.Pair.{Pair}
-use Rattle.candidate_functions.proofs.DeclaredPlaces.{is_found, all_mapped}
+use Rattle.candidate_functions.proofs.DeclaredPlaces.{all_mapped}
 use Rattle.candidate_functions.proofs.DefinedPoints.{same_bits_seen, none_at_zero}
 
 same_from : (a b : Bool) → same_bit a b ≡ true → b ≡ a
@@ -147,7 +148,7 @@ module _ (f : Dqbf) (rows : List (List Bool)) (points : PointBits) (y : Existent
   inputs i = m (slice_index f.universals i)
 
   input_at : (x : ℕ) → Contains f.universals x → inputs (place f.universals x) ≡ m x
-  input_at x among = ap m (get_or-place f.universals x 0 (is_found f.universals x among))
+  input_at x among = ap m (get_or-place f.universals x 0 (has-contains f.universals x among))
 
   row_length : (k : ℕ) (row : List Bool) → slice_get rows k ≡ Some row → length row ≡ length f.universals
   row_length k row at = ap length (sym (get_or_from_slice_get rows k row row at)) ∙ t.whole k row
@@ -281,7 +282,7 @@ module _ (f : Dqbf) (rows : List (List Bool)) (points : PointBits) (rules : List
       let x = from.0 in
       let among = All-contains (Contains f.universals) y.sees x t.among from.1 in
       let there : get_or f.universals i 0 ≡ x = ap (λ q. get_or f.universals q 0) (sym from.2)
-      ∙ get_or-place f.universals x 0 (is_found f.universals x among) in
+      ∙ get_or-place f.universals x 0 (has-contains f.universals x among) in
       subst (Contains y.sees) (sym there) from.1
 
   pub patched_is_candidate : IsCandidate f rows points rules new y node

@@ -1,17 +1,13 @@
 -- Each declared variable stands at one place, and what is read is read through the universals' places.
-use Rattle.std.proofs.Common.{◌≡◌, ℕ, ◌<◌, ◌==◌, true, List, map, length, get_or, slice_get, None, Some, position, sym, ◌∙◌, ap, eq-eqb}
+use Rattle.std.proofs.Common.{◌≡◌, ℕ, ◌<◌, ◌==◌, List, map, length, get_or, slice_get, None, Some, position, sym, ◌∙◌, ap}
 use Rattle.std.specs.List.{All, Contains}
 use Rattle.std.proofs.lemmas.List.{get_or-map, length-map}
 use Rattle.std.proofs.lemmas.List.Elements.{All-map}
-use Rattle.std.proofs.lemmas.List.Folds.{list_any_at}
 use Rattle.std.proofs.lemmas.Option.{slice_get_within, get_or_from_slice_get}
 use Rattle.list_laws.proofs.Members.{all_from_contains}
 use Rattle.dq_lits.specs.Formula.{Existential}
-use Rattle.dq_formula.proofs.Places.{has}
-use Rattle.definition_order.proofs.Declared.{variable, none_contained}
-
-pub is_found : (xs : List ℕ) (v : ℕ) → Contains xs v → has xs v ≡ true
-is_found xs v (k, lt, at) = list_any_at (λ x. x == v) xs k v lt (eq-eqb (get_or xs k v) v at)
+use Rattle.dq_formula.proofs.Subsets.{none_contained}
+use Rattle.definition_order.proofs.Declared.{variable}
 
 pub all_mapped : (P : ℕ → Type 0) (g : ℕ → ℕ) (xs : List ℕ) → ((i : ℕ) → Contains xs i → P (g i)) → All P (map g xs)
 all_mapped P g xs each = All-map P g xs (all_from_contains (λ i. P (g i)) xs each)

@@ -13,6 +13,7 @@ use Rattle.dq_lits.specs.Henkin.{MatrixHolds}
 use Rattle.dq_lits.specs.Expansion.{row_assignment, pair_number, instance_clause, InstanceHolds}
 use Rattle.dq_lits.proofs.FormulaVariables.{find_sound}
 use Rattle.dq_formula.specs.Prefix.{IsLawful}
+use Rattle.dq_formula.proofs.Places.{has-contains}
 use Rattle.aig_graph.specs.Graph.{AigGraph, node_value, node_support}
 use Rattle.aig_graph.specs.Outputs.{node_output}
 use Rattle.aig_graph.specs.declared.nodes.Node.{Node}
@@ -20,7 +21,7 @@ use Rattle.expansion.specs.Table.{PointBits, ArePoints}
 use Rattle.candidate_functions.specs.AtRow.{IsAtRow}
 use Rattle.candidate_functions.specs.Candidates.{SeesRow, AgreesAtPairs}
 use Rattle.candidate_functions.proofs.AtRows.{contains_mapped, apart, AtRow, clause_holds}
-use Rattle.candidate_functions.proofs.DeclaredPlaces.{is_found, all_mapped}
+use Rattle.candidate_functions.proofs.DeclaredPlaces.{all_mapped}
 use Rattle.definition_order.proofs.Declared.{variable, sees_universals}
 use Rattle.defining_nodes.specs.Definitions.{input_variable, defining_output, IsDefinition}
 use Rattle.definition_order.specs.Order.{IsShared, MayRead}
@@ -124,7 +125,7 @@ module _ (f : Dqbf) (ranks : List ℕ) (lawful : IsLawful f) (y : Existential)
   universal_read i below (inl seen) = (below, subst (Contains y.sees) (first_variable i below) seen)
   universal_read i below (inr (z, found, shared)) =
       absurd (apart f lawful.prefix (slice_index us i) z (subst (λ v. existential_of f v ≡ Some z)
-      (first_variable i below) found) (is_found us (slice_index us i) (Contains-get_or us i 0 below)))
+      (first_variable i below) found) (has-contains us (slice_index us i) (Contains-get_or us i 0 below)))
 
   seen_universal : (v : ℕ) → Contains y.sees v → Contains us v
   seen_universal v seen = All-contains (Contains us) y.sees v (sees_universals f lawful y.variable y own) seen
@@ -138,7 +139,7 @@ module _ (f : Dqbf) (ranks : List ℕ) (lawful : IsLawful f) (y : Existential)
 
     by : MayRead f ranks y z.variable → IsShared f ranks y z
     by (inl seen) = absurd (apart f lawful.prefix z.variable z known
-        (is_found us z.variable (seen_universal z.variable seen)))
+        (has-contains us z.variable (seen_universal z.variable seen)))
     by (inr (e, found, shared)) = (let same : Some e ≡ Some z = sym found ∙ known in let is : e ≡ z = cc in
         subst (IsShared f ranks y) is shared)
 
@@ -266,7 +267,7 @@ module _ (f : Dqbf) (ranks : List ℕ) (lawful : IsLawful f) (y : Existential)
 
         same : (x : ℕ) → Contains y.sees x → m x ≡ n x
         same x seen = same_bits_seen m (row_assignment f row) y.sees x sees seen ∙ sym
-            (t.universal x (is_found f.universals x (seen_universal f ranks lawful y own x seen)))
+            (t.universal x (has-contains f.universals x (seen_universal f ranks lawful y own x seen)))
 
         point : (z : Existential) → Contains f.existentials z →
             points (k + 1) z.variable ≡ are.model (pair_number f rows row z)

@@ -7,13 +7,12 @@ use Rattle.std.proofs.lemmas.List.Elements.{All-contains, All-map, All-weaker, A
 use Rattle.std.proofs.lemmas.Option.{slice_get_within, get_or_from_slice_get, slice_get_read}
 use Rattle.dq_lits.specs.Formula.{Existential, Dqbf, existential_of}
 use Rattle.dq_formula.specs.Prefix.{IsLawful}
-use Rattle.dq_formula.proofs.Places.{place}
+use Rattle.dq_formula.proofs.Places.{place, has-contains}
 use Rattle.dq_formula.proofs.Sorted.{place-below}
 use Rattle.aig_graph.specs.Graph.{AigGraph}
 use Rattle.aig_graph.specs.Made.{Extends}
 use Rattle.candidate_functions.specs.Pairs.{set_of, universal_places, IsPlacedClass, IsClass, HasClass, HasClassLike}
 use Rattle.candidate_functions.specs.declared.classes.Class.{Class}
-use Rattle.candidate_functions.proofs.DeclaredPlaces.{is_found}
 use Rattle.definition_order.proofs.Declared.{sees_universals, some_existential}
 use Rattle.candidate_functions.proofs.LargerGraphs.{classes_stay}
 
@@ -38,7 +37,7 @@ places_below f lawful v places n size is each = some_existential f v (All (λ p.
     let below : All (λ x. place f.universals x < n) y.sees =
     All-weaker (Contains f.universals) (λ x. place f.universals x < n)
     (λ x among. subst (λ m. place f.universals x < m) (sym size)
-    (place-below f.universals x (is_found f.universals x among)))
+    (place-below f.universals x (has-contains f.universals x among)))
     y.sees (sees_universals f lawful v y found) in
     subst (All (λ p. p < n)) (sym (each y found)) (All-map (λ p. p < n) (place f.universals) y.sees below))
 

@@ -13,5 +13,4 @@ pub mod SettledDefinitions
 pub mod TreeNodes
 pub mod WrittenRows
 pub mod KnownPoints
-pub mod PairRounds
 pub mod PatchedPairs

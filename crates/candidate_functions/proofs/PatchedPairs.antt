@@ -11,7 +11,8 @@ use Rattle.aig_graph.specs.Made.{Extends}
 use Rattle.aig_graph.specs.declared.nodes.Node.{Node}
 use Rattle.expansion.specs.Table.{PointBits}
 use Rattle.candidate_functions.specs.Differing.{HasKnownPoint, HasPairOf, ArePatches}
-use Rattle.candidate_functions.specs.Pairs.{IsRowCube, IsPair, AreRounds, ArePairRounds, IsPlacedClass}
+use Rattle.candidate_functions.specs.Pairs.{IsRowCube, IsPair, AreRounds, IsPlacedClass}
+use Rattle.row_pairs.specs.Pairs.{ArePairRounds}
 use Rattle.candidate_functions.specs.declared.classes.Class.{Class}
 use Rattle.candidate_functions.specs.declared.cubes.Pair.{Pair}
 use Rattle.candidate_functions.proofs.LargerGraphs.{pairs_stay, placed_stays}

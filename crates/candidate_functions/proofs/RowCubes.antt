@@ -1,15 +1,15 @@
 -- Cubes of rows.
-use Rattle.std.proofs.Common.{◌≡◌, ℕ, ◌<◌, Bool, true, false, not, ◌&&◌, List, [], ◌∷◌, map, Some, refl, sym, ◌∙◌, ap, subst, slice_get}
+use Rattle.std.proofs.Common.{◌≡◌, ℕ, ◌<◌, Bool, true, false, not, ◌&&◌, List, [], ◌∷◌, map, refl, sym, ◌∙◌, ap, subst}
 use Rattle.std.specs.List.{All, Contains, list_all}
 use Rattle.std.proofs.lemmas.List.Elements.{All-map}
-use Rattle.std.proofs.lemmas.Option.{slice_get_within, get_or_from_slice_get}
 use Rattle.list_laws.proofs.Members.{mapped_from, only_one}
 use Rattle.dq_lits.specs.Henkin.{same_bit}
 use Rattle.dq_lits.specs.Row.{bit_of}
 use Rattle.aig_graph.specs.Graph.{AigGraph, with_sign, node_value, node_support, IsNode}
 use Rattle.aig_graph.specs.Made.{IsCube}
 use Rattle.aig_graph.specs.declared.nodes.Node.{Node}
-use Rattle.candidate_functions.specs.Pairs.{agrees, row_literal, IsRowCube}
+use Rattle.candidate_functions.specs.Pairs.{row_literal, IsRowCube}
+use Rattle.row_pairs.specs.Pairs.{agrees}
 
 signed : (b x : Bool) → with_sign (not b) x ≡ same_bit b x
 signed true x = refl
@@ -37,17 +37,3 @@ row_cube_made old new places row n cube = record {
 pub literals_are_nodes : (g : AigGraph) (row : List Bool) (places : List ℕ) → All (λ p. p < g.inputs) places →
     All (IsNode g) (map (row_literal row) places)
 literals_are_nodes g row places below = All-map (IsNode g) (row_literal row) places below
-
-same_bit-refl : (b : Bool) → same_bit b b ≡ true
-same_bit-refl true = refl
-same_bit-refl false = refl
-
-pub agrees-refl : (row : List Bool) (places : List ℕ) → agrees places row (bit_of row) ≡ true
-agrees-refl row [] = refl
-agrees-refl row (p ∷ places) = ap (λ b. b && agrees places row (bit_of row)) (same_bit-refl (bit_of row p))
-    ∙ agrees-refl row places
-
-pub row_has : (rows : List (List Bool)) (P : List Bool → Type 0) (k : ℕ) (row : List Bool) → All P rows →
-    slice_get rows k ≡ Some row → P row
-row_has rows P k row all at = subst P (get_or_from_slice_get rows k row row at)
-    (all k row (slice_get_within rows k row at))

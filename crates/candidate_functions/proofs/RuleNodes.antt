@@ -13,7 +13,7 @@ use Rattle.dq_lits.specs.Formula.{Existential, Dqbf, existential_of}
 use Rattle.dq_formula.specs.Prefix.{IsLawful, existential_variables}
 use Rattle.dq_formula.specs.Rules.{cube_true, first_bit, IsRule}
 use Rattle.dq_formula.specs.declared.rules.Rule.{Rule}
-use Rattle.dq_formula.proofs.Places.{place}
+use Rattle.dq_formula.proofs.Places.{place, has-contains}
 use Rattle.dq_formula.proofs.Sorted.{place-below, get_or-place}
 use Rattle.aig_graph.specs.Graph.{AigGraph, node_value, node_support, IsNode}
 use Rattle.aig_graph.specs.Made.{Extends, IsCube, IsChosen}
@@ -21,14 +21,14 @@ use Rattle.aig_graph.specs.declared.nodes.Node.{Node}
 use Rattle.aig_graph.specs.declared.nodes.Node.TheVariants.{Constant}
 use Rattle.aig_graph.proofs.LargerGraphs.{grown_twice}
 use Rattle.candidate_functions.specs.Pairs.{input_literal, IsCubeNode, IsByRules, AreByRules}
-use Rattle.candidate_functions.proofs.DeclaredPlaces.{is_found, all_mapped, unplaced}
+use Rattle.candidate_functions.proofs.DeclaredPlaces.{all_mapped, unplaced}
 use Rattle.definition_order.proofs.Declared.{one_place, placed}
 use Rattle.candidate_functions.proofs.LargerGraphs.{rule_node_stays}
 
 pub input_literal_is_node : (f : Dqbf) (g : AigGraph) (l : Literal) → length f.universals ≤ g.inputs →
     Contains f.universals (variable_of l) → IsNode g (input_literal f l)
 input_literal_is_node f g l size among = let below = place-below f.universals (variable_of l)
-    (is_found f.universals (variable_of l) among) in omega arith
+    (has-contains f.universals (variable_of l) among) in omega arith
 
 pub input_literals_are_nodes : (f : Dqbf) (g : AigGraph) (ls : List Literal) → length f.universals ≤ g.inputs →
     All (λ l. Contains f.universals (variable_of l)) ls → All (IsNode g) (map (input_literal f) ls)
@@ -39,9 +39,9 @@ input_literals_are_nodes f g (l ∷ ls) size among (suc k) d lt =
 
 literal_value : (f : Dqbf) (g : AigGraph) (m : Assignment) (l : Literal) → Contains f.universals (variable_of l)
     → node_value g (λ i. m (slice_index f.universals i)) (input_literal f l) ≡ literal_true m l
-literal_value f g m (positive v) among = ap m (get_or-place f.universals v 0 (is_found f.universals v among))
+literal_value f g m (positive v) among = ap m (get_or-place f.universals v 0 (has-contains f.universals v among))
 literal_value f g m (negative v) among = ap (λ x. not (m x))
-    (get_or-place f.universals v 0 (is_found f.universals v among))
+    (get_or-place f.universals v 0 (has-contains f.universals v among))
 
 literals_value : (f : Dqbf) (g : AigGraph) (m : Assignment) (ls : List Literal) →
     All (λ l. Contains f.universals (variable_of l)) ls
@@ -66,7 +66,7 @@ cube_node_made f old new ls n among cube = record {
       let own = All-contains (λ k. Contains f.universals (variable_of k)) ls l among from.1 in
       let there : get_or f.universals i 0 ≡ variable_of l =
       ap (λ p. get_or f.universals p 0) (sym (only_one (place f.universals (variable_of l)) i read))
-      ∙ get_or-place f.universals (variable_of l) 0 (is_found f.universals (variable_of l) own) in
+      ∙ get_or-place f.universals (variable_of l) 0 (has-contains f.universals (variable_of l) own) in
       subst (Contains sees) (sym there) (All-contains (λ k. Contains sees (variable_of k)) ls l seen from.1));
 }
 

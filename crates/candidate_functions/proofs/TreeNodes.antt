@@ -9,7 +9,7 @@ use Rattle.std.proofs.lemmas.Option.{slice_get_within, slice_get_cases}
 use Rattle.list_laws.proofs.Members.{mapped_from, element_at, only_one}
 use Rattle.dq_lits.specs.Formula.{Existential, Dqbf, existential_of}
 use Rattle.dq_formula.specs.Prefix.{IsLawful}
-use Rattle.dq_formula.proofs.Places.{place}
+use Rattle.dq_formula.proofs.Places.{place, has-contains}
 use Rattle.dq_formula.proofs.Sorted.{get_or-place, place-below}
 use Rattle.aig_graph.specs.Graph.{AigGraph, IsNode, node_support}
 use Rattle.aig_graph.specs.Made.{Extends, IsChosen}
@@ -20,7 +20,7 @@ use Rattle.definition_order.proofs.Declared.{existential_at, sees_universals}
 use Rattle.candidate_functions.specs.Candidates.{definition_of, IsGuess, AreGuesses}
 use Rattle.candidate_functions.specs.Pairs.{universal_places, IsByRules, AreByRules}
 use Rattle.candidate_functions.specs.Trees.{IsOver}
-use Rattle.candidate_functions.proofs.DeclaredPlaces.{is_found, all_mapped}
+use Rattle.candidate_functions.proofs.DeclaredPlaces.{all_mapped}
 use Rattle.candidate_functions.proofs.LargerGraphs.{rule_node_stays}
 
 pub over_stays : (old new : AigGraph) → Extends old new → (places : List ℕ) (n : Node) → IsOver old places n →
@@ -61,7 +61,7 @@ place_among f seen x p (k, below, at) is = (
 pub place_within : (f : Dqbf) (seen : List ℕ) (x p : ℕ) → All (Contains f.universals) seen → Contains seen x →
     p ≡ place f.universals x → p < length f.universals
 place_within f seen x p all among is = subst (λ q. q < length f.universals) (sym is)
-    (place-below f.universals x (is_found f.universals x (All-contains (Contains f.universals) seen x all among)))
+    (place-below f.universals x (has-contains f.universals x (All-contains (Contains f.universals) seen x all among)))
 
 pub chosen_over : (old new : AigGraph) (places : List ℕ) (p : ℕ) (t e n : Node) → Contains places p →
     IsOver old places t → IsOver old places e
@@ -111,7 +111,7 @@ unruled f lawful v y found g places are n is = record {
       let x = from.0 in
       let among = All-contains (Contains f.universals) y.sees x (sees_universals f lawful v y found) from.1 in
       let there : get_or f.universals i 0 ≡ x = ap (λ q. get_or f.universals q 0) (sym from.2)
-      ∙ get_or-place f.universals x 0 (is_found f.universals x among) in
+      ∙ get_or-place f.universals x 0 (has-contains f.universals x among) in
       subst (Contains y.sees) (sym there) from.1);
 }
 

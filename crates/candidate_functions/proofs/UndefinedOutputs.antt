@@ -11,14 +11,15 @@ use Rattle.aig_graph.specs.Graph.{AigGraph, IsNode, node_value}
 use Rattle.aig_graph.specs.Made.{Extends}
 use Rattle.aig_graph.specs.declared.nodes.Node.{Node}
 use Rattle.expansion.specs.Table.{PointBits, ArePoints}
-use Rattle.candidate_functions.specs.Pairs.{universal_places, ArePairRounds, IsPatched, IsByRules, IsCandidate}
+use Rattle.candidate_functions.specs.Pairs.{universal_places, IsPatched, IsByRules, IsCandidate}
+use Rattle.row_pairs.specs.Pairs.{ArePairRounds}
 use Rattle.candidate_functions.specs.Differing.{HasKnownPoint, HasOwnPoint, IsKnownRightly, HasPairOf, ArePatches, IsCovered}
 use Rattle.candidate_functions.specs.declared.cubes.Pair.{Pair}
 use Rattle.candidate_functions.proofs.AgreeingNodes.{AtExistential, same_point, patched_is_candidate}
 use Rattle.definition_order.proofs.Declared.{sees_universals}
 use Rattle.candidate_functions.proofs.LargerGraphs.{rule_node_stays}
 use Rattle.candidate_functions.proofs.KnownPoints.{known_stays}
-use Rattle.candidate_functions.proofs.RowCubes.{agrees-refl}
+use Rattle.row_pairs.proofs.PairRounds.{agrees-refl}
 
 at_existential : (f : Dqbf) → IsLawful f → (rows : List (List Bool)) (points : PointBits) →
     All (λ row. length row ≡ length f.universals) rows → ArePoints f rows points

@@ -6,7 +6,8 @@ use Rattle.dq_lits.specs.Row.{bit_of}
 use Rattle.aig_graph.specs.Graph.{AigGraph, node_value}
 use Rattle.aig_graph.specs.declared.nodes.Node.{Node}
 use Rattle.expansion.specs.Table.{PointBits}
-use Rattle.candidate_functions.specs.Pairs.{agrees, IsPair}
+use Rattle.candidate_functions.specs.Pairs.{IsPair}
+use Rattle.row_pairs.specs.Pairs.{agrees}
 use Rattle.candidate_functions.specs.declared.cubes.Pair.{Pair}
 
 -- the values of nodes under a row

@@ -13,17 +13,10 @@ use Rattle.aig_graph.specs.Outputs.{node_output}
 use Rattle.aig_graph.specs.declared.nodes.Node.{Node}
 use Rattle.aig_graph.specs.declared.nodes.Node.TheVariants.{Constant, Input}
 use Rattle.expansion.specs.Table.{PointBits}
+use Rattle.row_pairs.specs.Pairs.{agrees, ArePairRounds}
 use Rattle.candidate_functions.specs.Candidates.{AgreesAtPairs, FollowsRules}
 use Rattle.candidate_functions.specs.declared.classes.Class.{Class}
 use Rattle.candidate_functions.specs.declared.cubes.Pair.{Pair}
-
--- the row has these places
-abbrev pub HasPlaces : List ℕ → List Bool → Type 0
-HasPlaces places row = All (λ p. p < length row) places
-
--- the inputs have the row's bits at these places
-abbrev pub agrees : List ℕ → List Bool → (ℕ → Bool) → Bool
-agrees places row inputs = list_all (λ p. same_bit (bit_of row p) (inputs p)) places
 
 -- a node that is true where the inputs have the row's bits at these places, and reads no others
 pub record IsRowCube (graph : AigGraph) (places : List ℕ) (row : List Bool)
@@ -44,23 +37,6 @@ pub record IsPair (rows : List (List Bool)) (graph : AigGraph) (places : List �
   pub round : pair.round ≡ place + 1
   pub at : slice_get rows place ≡ Some row
   pub cube : IsRowCube graph places row pair.cube
-
--- one of the rounds has a row with the same bits
-pub record HasRound (rows : List (List Bool)) (places : List ℕ) (rounds : List ℕ)
-    (row : List Bool) : Type 0 where
-  pub round : ℕ
-  pub among : Contains rounds round
-  pub from_one : 1 ≤ round
-  pub first : List Bool
-  pub at : slice_get rows (round - 1) ≡ Some first
-  pub same : agrees places first (bit_of row) ≡ true
-
--- the rounds of the pairs of the first rows
-pub record ArePairRounds (rows : List (List Bool)) (places : List ℕ) (count : ℕ)
-    (rounds : List ℕ) : Type 0 where
-  pub each : All (λ r. (1 ≤ r) × (r ≤ length rows)) rounds
-  pub complete : (k : ℕ) (row : List Bool) → k < count → slice_get rows k ≡ Some row
-      → HasRound rows places rounds row
 
 abbrev pub AreRounds : ℕ → List Pair → Type 0
 AreRounds count pairs = All (λ p. (1 ≤ p.round) × (p.round ≤ count)) pairs

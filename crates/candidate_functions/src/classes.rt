@@ -3,13 +3,14 @@
 ghost use Rattle.std.specs.Prelude.{◌≡◌, true, [], length, replicate, All, IsSome, IfOk, OnOk, Some, None};
 ghost use Rattle.dq_lits.specs.Formula.{Existential, existential_of};
 ghost use Rattle.aig_graph.specs.Graph.{AigGraph};
-ghost use Rattle.candidate_functions.specs.Pairs.{set_of, universal_places, ArePairRounds, IsClass, HasClass, HasClassLike};
+ghost use Rattle.candidate_functions.specs.Pairs.{set_of, universal_places, IsClass, HasClass, HasClassLike};
+ghost use Rattle.row_pairs.specs.Pairs.{ArePairRounds};
 
-use crate::rounds::pair_rounds;
 use aig_graph::Node;
 use dq_formula::Formula;
 use dq_lits::Memory;
 use expansion::Table;
+use row_pairs::pair_rounds;
 use std::alloc::Global;
 use std::collections::BTreeMap;
 

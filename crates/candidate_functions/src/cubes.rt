@@ -2,7 +2,8 @@
 
 ghost use Rattle.std.specs.Prelude.{◌≡◌, ◌<◌, map, All, IfOk};
 ghost use Rattle.aig_graph.specs.Made.{Extends};
-ghost use Rattle.candidate_functions.specs.Pairs.{HasPlaces, row_literal, IsRowCube};
+ghost use Rattle.candidate_functions.specs.Pairs.{row_literal, IsRowCube};
+ghost use Rattle.row_pairs.specs.Pairs.{HasPlaces};
 
 use aig_graph::{Graph, Node};
 use dq_lits::{Memory, Row};

@@ -19,7 +19,6 @@ mod outputs;
 mod patches;
 mod patching;
 mod refutations;
-mod rounds;
 mod rules;
 mod samples;
 mod trees;

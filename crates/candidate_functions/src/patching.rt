@@ -3,7 +3,8 @@
 ghost use Rattle.std.specs.Prelude.{◌≡◌, ◌≤◌, ◌<◌, ◌+◌, ◌-◌, List, Bool, length, take, slice_get, slice_index, All, Contains, IfOk, OnOk, Some};
 ghost use Rattle.aig_graph.specs.Made.{Extends};
 ghost use Rattle.expansion.specs.Table.{point_bits};
-ghost use Rattle.candidate_functions.specs.Pairs.{HasPlaces, IsRowCube, IsPlacedClass};
+ghost use Rattle.candidate_functions.specs.Pairs.{IsRowCube, IsPlacedClass};
+ghost use Rattle.row_pairs.specs.Pairs.{HasPlaces};
 ghost use Rattle.candidate_functions.specs.Differing.{ArePatches};
 
 use crate::classes::Class;

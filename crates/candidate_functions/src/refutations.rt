@@ -132,6 +132,7 @@ fn guessed_node(known: &Known, graph: &Graph, place: usize) -> Node
     requires guesses { AreGuesses known.now.f.now graph.now known.now.guesses.now }
     ensures { IsNode graph.now result }
 {
+    // The call shows the graph's invariant.
     let _ = graph.inputs();
     match given_at(known.guesses, place) {
         Some(guess) => guess,

@@ -8,7 +8,7 @@ use Rattle.dq_lits.proofs.SignedLiterals.{opposite-opposite, same_opposite}
 use Rattle.dq_lits.proofs.HeldLiterals.{holds_cases, holds_here, holds_later}
 use Rattle.learning_trail.specs.declared.trails.Step.{Step}
 use Rattle.learning_trail.specs.Steps.{Trailed, literals_of, level_of, is_decision, Shrunk}
-use Rattle.truth_values.specs.Truth.{IsFree}
+use Rattle.dq_lits.specs.Truth.{IsFree}
 use Rattle.learning_trail.specs.Marks.{marked}
 use Rattle.learning_trail.specs.Sound.{IsSound}
 use Rattle.cdcl_core.specs.Chains.{watch_at}

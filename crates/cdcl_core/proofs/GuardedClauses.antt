@@ -15,7 +15,7 @@ use Rattle.learning_trail.specs.Steps.{literals_of, is_decision, Grown}
 use Rattle.cdcl_core.specs.Chains.{watch_at}
 use Rattle.cdcl_core.specs.Watching.{AreWatched, AreSame, AreShort, Guards, AreShortTrue, IsGuarded, AreLevelsGuarded, IsMove, AreMoved}
 use Rattle.learning_trail.proofs.ConflictAnalysis.{AreConsistent}
-use Rattle.truth_values.proofs.HeldLiterals.{same_literal-sym}
+use Rattle.dq_lits.proofs.LiteralValues.{same_literal-sym}
 use Rattle.learning_trail.proofs.ClauseStatus.{is_falsified, is_unit, stuck_from_true, stuck_from_two}
 
 abbrev pub Among : List Literal → List Literal → Type 0

@@ -9,7 +9,7 @@ use Rattle.cdcl_core.specs.declared.propagation.Look.TheVariants.{Kept, Moved, F
 use Rattle.learning_trail.specs.declared.trails.Step.{Step}
 use Rattle.cdcl_core.specs.declared.watches.Watches.{Watches}
 use Rattle.learning_trail.specs.Steps.{Trailed, literals_of, Grown}
-use Rattle.truth_values.specs.Truth.{IsFree}
+use Rattle.dq_lits.specs.Truth.{IsFree}
 use Rattle.learning_trail.specs.Sound.{IsSound}
 use Rattle.learning_trail.specs.Passes.{AreWithin}
 use Rattle.cdcl_core.specs.Chains.{watch_at, has, HasList, IsLinked, IsLeft}

@@ -8,12 +8,11 @@
 ghost use Rattle.std.specs.Prelude.{◌≡◌, ◌≤◌, IfSome};
 ghost use Rattle.dq_lits.specs.Literal.{variable_of};
 ghost use Rattle.learning_trail.specs.Steps.{literals_of};
-ghost use Rattle.truth_values.specs.Truth.{IsFree};
+ghost use Rattle.dq_lits.specs.Truth.{IsFree};
 
-use dq_lits::{Lit, Memory};
+use dq_lits::{Lit, Memory, TruthValue};
 use learning_trail::{Activities, Trail};
 use std::alloc::Global;
-use truth_values::TruthValue;
 
 // The first number that is no variable's.
 const FIRST_TOO_LARGE: u64 = 1 << 62;

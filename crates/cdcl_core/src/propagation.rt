@@ -22,8 +22,8 @@ ghost use Rattle.cdcl_core.specs.Visits.{IsOtherAt, IsVisitable, IsLooked, IsOth
 use crate::arenas::Arena;
 use crate::cursors::{Cursors, has_place};
 use crate::watches::{OpenList, Watches, close, first_of, has_list, put_back, put_elsewhere};
+use dq_lits::TruthValue;
 use learning_trail::{Code, Status, Step, Trail, is_false, is_true, status_of};
-use truth_values::TruthValue;
 
 /// Propagates to the end, or to a falsified clause, whose id it answers. All literals but the
 /// newest one were processed.

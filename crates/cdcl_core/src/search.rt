@@ -16,7 +16,7 @@ ghost use Rattle.learning_trail.specs.Resting.{HeldFit};
 ghost use Rattle.oracle.specs.Limits.{IsAtLimit};
 ghost use Rattle.learning_trail.specs.Growing.{HasLearned};
 ghost use Rattle.learning_trail.specs.Steps.{literals_of};
-ghost use Rattle.truth_values.specs.Truth.{IsFree};
+ghost use Rattle.dq_lits.specs.Truth.{IsFree};
 ghost use Rattle.learning_trail.specs.Searching.{AreAssumptions};
 ghost use Rattle.cdcl_core.specs.Searching.{IsReady, IsAllGuarded, IsTurn, KeepsPlaces, IsSearching, IsAnswered};
 ghost use Rattle.learning_trail.specs.Sound.{AreTrue};

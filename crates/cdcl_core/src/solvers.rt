@@ -9,13 +9,12 @@ use crate::focus::Focus;
 use crate::positions::Positions;
 use crate::resting::Resting;
 use crate::searchers::Searcher;
-use dq_lits::{Lit, Memory};
+use dq_lits::{Lit, Memory, TruthValue};
 use hint_log::{Log, Name, Origin, Stop};
 use learning_trail::{Activities, Notes, Restarts, Trail, group_clause};
 use oracle::{Answer, Group, Oracle, Tenant};
 use std::alloc::Global;
 use std::marker::Model;
-use truth_values::TruthValue;
 
 /// A solver that learns clauses.
 #[derive(Drop)]

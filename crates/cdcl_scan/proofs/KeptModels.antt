@@ -1,8 +1,8 @@
 -- A list of values from the first variable on.
 use Rattle.std.proofs.Common.{◌≡◌, ℕ, zero, suc, ◌-◌, ◌<◌, Bool, true, false, List, slice_index_or, sym, subst, arith}
 use Rattle.dq_lits.specs.Literal.{Literal, positive}
-use Rattle.truth_values.specs.Truth.{literal_value}
-use Rattle.truth_values.specs.declared.values.TruthValue.TheVariants.{True}
+use Rattle.dq_lits.specs.Truth.{literal_value}
+use Rattle.dq_lits.specs.declared.truth_values.TruthValue.TheVariants.{True}
 use Rattle.learning_trail.proofs.FoundModels.{AreKept}
 
 abbrev IsKeptAt : List Bool → List Literal → ℕ → ℕ → Type 0

@@ -10,7 +10,7 @@ ghost use Rattle.dq_lits.specs.Derivation.{holds, status_of, stuck};
 ghost use Rattle.oracle.specs.Fit.{live_in};
 ghost use Rattle.hint_log.specs.ProductiveLog.{IsClosed};
 ghost use Rattle.learning_trail.specs.Steps.{literals_of};
-ghost use Rattle.truth_values.specs.Truth.{IsFree};
+ghost use Rattle.dq_lits.specs.Truth.{IsFree};
 ghost use Rattle.learning_trail.specs.Passes.{AreWithin, IsOpening};
 
 use crate::clauses::ClauseStore;

@@ -16,9 +16,8 @@ ghost use Rattle.cdcl_scan.specs.Passes.{IsPassed, IsRunPassed};
 
 use crate::clauses::{ClauseStore, Run};
 use crate::passes::Pass;
-use dq_lits::Lit;
+use dq_lits::{Lit, TruthValue};
 use learning_trail::{Clauses, Status, Step, Trail, status_of};
-use truth_values::TruthValue;
 
 /// Propagates to the end, or to a falsified clause, whose id it answers.
 pub(crate) fn propagate(trail: &mut Trail, clauses: &ClauseStore) -> Option<u64>

@@ -1,36 +1,32 @@
 -- An exported refutation names each pair by some row that it keeps; by the pairs' own numbers its lines
 -- are derived.
-use Rattle.std.proofs.Common.{◌≡◌, ◌==◌, nat_lt, is_some, not, ◌&&◌, ℕ, ◌+◌, ◌-◌, ◌*◌, ◌/◌, ◌%◌, ◌<◌, Bool, true, false, List, [], ◌∷◌, map, length, slice_get, Option, None, Some, refl, sym, ◌∙◌, ap, subst, arith}
-use Rattle.std.specs.List.{cons_option, position_or_len}
+use Rattle.std.proofs.Common.{◌≡◌, ℕ, ◌+◌, ◌-◌, Bool, false, List, [], ◌∷◌, map, length, Option, None, Some, refl, sym, ◌∙◌, ap, subst, arith}
+use Rattle.std.specs.List.{cons_option}
 use Rattle.std.specs.Option.{option_map}
-use Rattle.std.proofs.lemmas.Bool.{and_from, lt-ltb, ne_eqb}
 use Rattle.std.proofs.lemmas.List.{length-map}
 use Rattle.std.proofs.lemmas.List.Kept.{AllPairs-from_increasing}
-use Rattle.std.proofs.lemmas.Nat.{div-mul-add, mod-mul-add}
 use Rattle.dq_lits.specs.Literal.{Literal, variable_of, on_variable, opposite}
-use Rattle.dq_lits.specs.Formula.{Dqbf, existential_of, IsWellFormed}
-use Rattle.dq_lits.specs.Expansion.{agree_on, instance_at}
-use Rattle.dq_lits.specs.Derivation.{ProofStep, is_empty}
+use Rattle.dq_lits.specs.Formula.{Dqbf, IsWellFormed}
+use Rattle.dq_lits.specs.Expansion.{instance_at}
+use Rattle.dq_lits.specs.Derivation.{ProofStep}
 use Rattle.dq_lits.proofs.SignedLiterals.{variable_of-on, on-on}
-use Rattle.hint_log.specs.Entries.{has_id, numbered, last_id, name_of, clause_at}
+use Rattle.hint_log.specs.Entries.{has_id, numbered, clause_at}
 use Rattle.hint_log.specs.Reached.{Reaches, AreReached}
 use Rattle.hint_log.specs.declared.origins.Origin.{Origin}
-use Rattle.hint_log.specs.Entries.{Given, Answer}
-use Rattle.hint_log.specs.declared.names.Name.{Name}
+use Rattle.hint_log.specs.Entries.{Given}
 use Rattle.hint_log.specs.Entries.{Entry}
-use Rattle.refutation_checker.specs.Refutation.{normal_of, normal_number, normal_literal, normal_step, normal_item, refutation_fault}
+use Rattle.refutation_checker.specs.Refutation.{normal_number, normal_literal, normal_step, normal_item, refutation_fault}
 use Rattle.rup_core.specs.Items.{derived, items_fault}
 use Rattle.rup_core.proofs.DeletedClauses.{steps_alone}
 use Rattle.hint_log.specs.Naming.{rows_of}
-use Rattle.cert_export.specs.Renaming.{Renaming, IsInjective, renamed_clause, cut_hints, IsPartOf}
+use Rattle.cert_export.specs.Renaming.{Renaming, IsInjective, renamed_clause, cut_hints}
 use Rattle.expansion.specs.Table.{IsRefutedBy}
 use Rattle.cert_export.specs.Lines.{is_derived, derived_ids, clause_or_empty, hints_or_none, new_number, renamed_clauses, line_clause, line_hints, line_step, line_steps}
 use Rattle.cert_export.specs.Expansion.{row_of_round, used_rounds, rows_among, pair_of, pair_renaming, instance_id, IsInstanceClause, IsKeptClause}
 use Rattle.cert_export.specs.Given.{EachGivenReached}
 use Rattle.hint_log.specs.Growth.{Each}
-use Rattle.hint_log.specs.Conditions.{MayFollow, AreLogged}
+use Rattle.hint_log.specs.Conditions.{AreLogged}
 use Rattle.hint_log.specs.ProductiveLog.{IsDerivedByHints}
-use Rattle.hint_log.specs.declared.names.Name.TheVariants.{Selector}
 use Rattle.cert_text.specs.Grammar.{AreSteps}
 use Rattle.cert_text.specs.Pairs.{is_pair_number}
 use Rattle.cert_text.specs.Scan.{first_id}
@@ -43,7 +39,7 @@ use Rattle.cert_export.proofs.UsedRounds.{kept_clause}
 use Rattle.cert_export.proofs.Renamings.{opposites_renamed}
 use Rattle.cert_export.proofs.SameCuts.{cut_alike}
 use Rattle.cert_export.proofs.Instances.{instances_are_expansion}
-use Rattle.cert_export.proofs.Answers.{answer_there, selectors_dropped}
+use Rattle.cert_export.proofs.Answers.{answer_at, answer_empty}
 use Rattle.cert_export.proofs.DerivedLines.{lines_are_derived}
 use Rattle.cert_export.proofs.ReachedLines.{rising_of, are_lines, are_finished}
 
@@ -100,37 +96,6 @@ module _ (f : Dqbf) (rows : List (List Bool)) (r : Renaming) where
         }) (same_hints id) in
         ap (λ s. s ∷ map (normal_step f rows) (line_steps r base_id entries number ids)) here
         ∙ ap (λ ss. line_step named base_id entries number id ∷ ss) (normal_steps base_id number ids)
-
-module _ (f : Dqbf) (entries : List Entry) (id : ℕ) (lawful : Each MayFollow entries)
-    (shown : IsRefutedBy entries id) where
-  abbrev all : List Entry
-  all = Answer shown.clause shown.hints ∷ shown.earlier
-
-  lawful' : Each MayFollow all
-  lawful' = subst (Each MayFollow) shown.answered lawful
-
-  id_is : id ≡ last_id all
-  id_is = shown.last ∙ ap last_id shown.answered
-
-  answer_at : numbered has_id entries id ≡ Some (Answer shown.clause shown.hints)
-  answer_at = ap (λ xs. numbered has_id xs id) shown.answered ∙ ap (numbered has_id all) id_is
-      ∙ answer_there shown.earlier shown.clause shown.hints lawful'
-
-  answer_empty : (rounds : List ℕ) (r : Renaming) → IsPartOf r (pair_renaming f entries rounds) →
-      is_empty (line_clause r entries id) ≡ true
-  answer_empty rounds r part =
-      ap (λ o. is_empty (renamed_clause r (clause_or_empty o))) answer_at
-      ∙ ap is_empty (selectors_dropped shown.earlier shown.clause shown.hints lawful' r no_selector shown.clause
-      shown.decides.selectors) where
-        no_selector : (v : ℕ) → name_of shown.earlier v ≡ Some (Selector v) → r v ≡ None
-        no_selector v named = by_option (r v) refl where
-          there : name_of entries v ≡ Some (Selector v)
-          there = ap (λ xs. name_of xs v) shown.answered ∙ named
-
-          by_option : (o : Option ℕ) → r v ≡ o → o ≡ None
-          by_option None e = refl
-          by_option (Some x) e = let both : None ≡ Some x =
-              sym (ap (pair_of f (rows_of entries) (rows_among entries rounds)) there) ∙ part v x e in cc
 
 -- lines are put on their pairs one by one
 normal_lines : (f : Dqbf) (all : List (List Bool)) (steps : List ProofStep) →
@@ -190,8 +155,9 @@ module _ (f : Dqbf) (live : List ℕ) (entries : List Entry) (id : ℕ) (ids : L
   finished : AreFinished pairs entries false (derived_ids entries ids)
   finished = are_finished IsUsed entries lawful id (exported_number f entries ids)
       (last_instance f entries ids) numbers used pairs ids are
-      (ap is_derived (answer_at f entries id lawful shown)) (answer_empty f entries id lawful shown rounds pairs
-      names.names.right)
+      (ap is_derived (answer_at entries shown.earlier shown.clause shown.hints id lawful shown.answered shown.last))
+      (answer_empty entries shown.earlier shown.clause shown.hints id lawful shown.answered shown.last pairs target
+      names.names.right (λ v named. ap (pair_of f (rows_of entries) kept) named) shown.decides.selectors)
 
   accepted : Each IsDerivedByHints entries → refutation_fault f
       (record { rows = kept; items = map derived (exported_steps f live entries ids r) }) ≡ None

@@ -27,11 +27,10 @@ place_of (x ∷ xs) rising zero d below = ap (λ b. cond (not b) (1 + position_o
     (eq-eqb x x refl)
 place_of (x ∷ xs) rising (suc i) d below =
     let inside = Contains-get_or xs i d (omega arith) in
-    let less = rising.0 (get_or xs i d) inside in
-    let later = place_of xs rising.1 i d (omega arith) in
     ap (λ b. cond (not b) (1 + position_or_len (λ z. z == get_or xs i d) xs) 0)
-    (ne_eqb x (get_or xs i d) (λ e. omega (arith, less, e))) ∙
-    (let s : 1 + position_or_len (λ z. z == get_or xs i d) xs ≡ suc i = omega (arith, later) in s)
+    (ne_eqb x (get_or xs i d) (λ e. omega (arith, rising.0 (get_or xs i d) inside, e))) ∙
+    (let s : 1 + position_or_len (λ z. z == get_or xs i d) xs ≡ suc i =
+    omega (arith, place_of xs rising.1 i d (omega arith)) in s)
 
 consecutive_by : (number : ℕ → ℕ) (n : ℕ) (xs : List ℕ) → ((i : ℕ) → i < length xs → number (get_or xs i 0) ≡ n + i) →
     AreConsecutive number n xs
@@ -45,7 +44,7 @@ consecutive_by number n (x ∷ xs) h =
 
 pub consecutive : (base : ℕ) (xs : List ℕ) → Rising xs → AreConsecutive (line_number base xs) (base + 1) xs
 consecutive base xs rising = consecutive_by (line_number base xs) (base + 1) xs
-    (λ i below. let p = place_of xs rising i 0 below in omega (arith, p))
+    (λ i below. omega (arith, place_of xs rising i 0 below))
 
 module _ (P : ℕ → Type 0) where
   pub cut_all : (live : LiveClauses) (hints : List ℕ) (trues : List Literal) → All P hints →
@@ -97,12 +96,11 @@ module _ (r named : Renaming) (base_id : Origin → ℕ) (usable : Origin → Li
   hint_before n done small before h (inl i) =
       let new : new_number base_id entries number h ≡ base_id i.0 = ap (number_by base_id (number h)) i.2 in
       let there = right h i.0 i.1 i.2 i.3 in
-      let most = there.1 in
       let some : first (base_id i.0) ≡ Some (renamed_clause named i.1) = there.0 in
       let positive' : base_id i.0 ≢ 0 = λ e. let nothing : first (base_id i.0) ≡ None = ap first e ∙ none in cc in
-      (omega (arith, new, positive'), omega (arith, new, most, small))
-  hint_before n done small before h (inr inside) = let b = before h inside in let a = b.0 in let c = b.1 in let d =
-      b.2 in (omega (arith, a, c), omega (arith, a, d))
+      (omega (arith, new, positive'), omega (arith, new, there.1, small))
+  hint_before n done small before h (inr inside) = let b = before h inside in let a = b.0 in let d =
+      b.2 in (omega (arith, a, b.1), omega (arith, a, d))
 
   next_number : (done : List ℕ) (id : ℕ) → IsNextLine usable entries number base done id →
       new_number base_id entries number id ≡ number id
@@ -138,8 +136,7 @@ module _ (r named : Renaming) (base_id : Origin → ℕ) (usable : Origin → Li
     later h (zero, below, is) =
         let new = next_number done id lines.0 in
         let behind = lines.0.behind in
-        let own = numbers.0 in
         subst (λ k. (new_number base_id entries number k ≡ number k) × (base < number k) × (number k < n + 1)) is
-        (new, behind, omega (arith, own))
+        (new, behind, omega (arith, numbers.0))
     later h (suc k, below, is) = let b = before h (k, (let c : k < length done = omega arith in c), is) in let less =
         b.2 in (b.0, b.1, omega (arith, less))

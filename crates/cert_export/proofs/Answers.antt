@@ -1,9 +1,10 @@
 -- What an answer rests on.
-use Rattle.std.proofs.Common.{◌≡◌, ℕ, ◌+◌, ◌≤◌, ◌==◌, ◌⊎◌, inl, inr, List, [], ◌∷◌, None, Some, refl, sym, ◌∙◌, ap, subst, arith}
+use Rattle.std.proofs.Common.{◌≡◌, ℕ, ◌+◌, ◌≤◌, ◌==◌, ◌⊎◌, inl, inr, true, List, [], ◌∷◌, Option, None, Some, refl, sym, ◌∙◌, ap, subst, arith}
 use Rattle.std.specs.List.{Contains, cons_option}
 use Rattle.std.specs.Option.{option_map, option_and_then}
 use Rattle.std.proofs.lemmas.Bool.{eq-eqb, cond-true}
 use Rattle.std.proofs.lemmas.List.Elements.{All-head, All-tail}
+use Rattle.dq_lits.specs.Derivation.{is_empty}
 use Rattle.dq_lits.specs.Literal.{Literal, negative, variable_of, on_variable}
 use Rattle.hint_log.specs.Entries.{has_id, count, last_id, numbered, hints_of, hints_at, name_of}
 use Rattle.hint_log.specs.Reached.{Reaches, itself, by_hint}
@@ -12,7 +13,8 @@ use Rattle.hint_log.specs.Entries.{Given, Answer}
 use Rattle.hint_log.specs.declared.names.Name.TheVariants.{Selector}
 use Rattle.hint_log.specs.declared.origins.Origin.{Origin}
 use Rattle.hint_log.specs.Growth.{Each}
-use Rattle.cert_export.specs.Renaming.{Renaming, renamed_clause}
+use Rattle.cert_export.specs.Lines.{clause_or_empty, line_clause}
+use Rattle.cert_export.specs.Renaming.{Renaming, renamed_clause, IsPartOf}
 use Rattle.hint_log.specs.Conditions.{MayFollow}
 use Rattle.hint_log.specs.Deciding.{ReachesGiven, AreNegatedSelectors}
 use Rattle.log_laws.proofs.ReachedClauses.{numbered_kept}
@@ -41,15 +43,22 @@ module _ (earlier : List Entry) (clause : List Literal) (hints : List ℕ)
         let own : hints_at all last ≡ Some hints = ap (option_and_then (λ e. Some (hints_of e))) answer_there in
         let both : Some hints ≡ Some hs = sym own ∙ ap (hints_at all) (sym same) ∙ is in
         let same_hints : hints ≡ hs = cc in
-        let b = (hints_below all lawful at h hs is inside).1 in
         let n : last ≡ last_id earlier + 1 = refl in
-        inr (h, subst (λ xs. Contains xs h) (sym same_hints) inside, itself, omega (arith, b, same, n)))
+        inr (
+          h,
+          subst (λ xs. Contains xs h) (sym same_hints) inside,
+          itself,
+          omega (arith, (hints_below all lawful at h hs is inside).1, same, n),
+        ))
     | inr below ↦ (
         let kept = numbered_kept (Answer clause hints ∷ []) earlier at below.3 in
         let is' : hints_at earlier at ≡ Some hs = ap (option_and_then (λ e. Some (hints_of e))) (sym kept) ∙ is in
-        let b = (hints_below all lawful at h hs is inside).1 in
-        let low = below.3 in
-        inr (below.0, below.1, by_hint at h hs below.2 is' inside, omega (arith, b, low)))
+        inr (
+          below.0,
+          below.1,
+          by_hint at h hs below.2 is' inside,
+          omega (arith, (hints_below all lawful at h hs is inside).1, below.3),
+        ))
   ]
 
   -- the given clauses that the answer reaches
@@ -78,3 +87,38 @@ module _ (earlier : List Entry) (clause : List Literal) (hints : List ℕ)
       let here = All-head P l ls h in
       ap (λ o. cons_option (option_map (λ w. on_variable w l) o) (renamed_clause r ls)) (none (variable_of l) here.1)
       ∙ selectors_dropped r none ls (All-tail P l ls h)
+
+-- an answer that ends the entries
+module _ (entries earlier : List Entry) (clause : List Literal) (hints : List ℕ) (id : ℕ)
+    (lawful : Each MayFollow entries)
+    (answered : entries ≡ Answer clause hints ∷ earlier) (is_last : id ≡ last_id entries) where
+  lawful' : Each MayFollow (Answer clause hints ∷ earlier)
+  lawful' = subst (Each MayFollow) answered lawful
+
+  pub answer_at : numbered has_id entries id ≡ Some (Answer clause hints)
+  answer_at = ap (λ xs. numbered has_id xs id) answered
+      ∙ ap (numbered has_id (Answer clause hints ∷ earlier)) (is_last ∙ ap last_id answered)
+      ∙ answer_there earlier clause hints lawful'
+
+  -- a given clause that the answer reaches is reached by its hints
+  pub reached_here : (h : ℕ) (origin : Origin) (c : List Literal) → Reaches entries id h →
+      numbered has_id entries h ≡ Some (Given origin c) → ReachesGiven earlier hints origin c
+  reached_here h origin c reached at =
+      let all = Answer clause hints ∷ earlier in
+      let id_is : id ≡ last_id all = is_last ∙ ap last_id answered in
+      reached_given earlier clause hints lawful' h origin c
+      (subst (λ n. Reaches all n h) id_is (subst (λ xs. Reaches xs id h) answered reached))
+      (ap (λ xs. numbered has_id xs h) (sym answered) ∙ at)
+
+  -- its clause is exported as the empty one
+  pub answer_empty : (r target : Renaming) → IsPartOf r target → ((v : ℕ) → name_of entries v ≡ Some (Selector v) →
+      target v ≡ None) → AreNegatedSelectors earlier clause → is_empty (line_clause r entries id) ≡ true
+  answer_empty r target part unnamed selectors =
+      ap (λ o. is_empty (renamed_clause r (clause_or_empty o))) answer_at
+      ∙ ap is_empty (selectors_dropped earlier clause hints lawful' r no_selector clause selectors) where
+        no_selector : (v : ℕ) → name_of earlier v ≡ Some (Selector v) → r v ≡ None
+        no_selector v named = by_option (r v) refl where
+          by_option : (o : Option ℕ) → r v ≡ o → o ≡ None
+          by_option None is = refl
+          by_option (Some x) is = let both : None ≡ Some x =
+              sym (unnamed v (ap (λ xs. name_of xs v) answered ∙ named)) ∙ part v x is in cc

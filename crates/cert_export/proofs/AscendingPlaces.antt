@@ -33,7 +33,7 @@ found_there ids id i ascending m result =
       rises : (a b d : ℕ) → a ≤ b → b < length ids → get_or ids a d ≤ get_or ids b d
       rises a b d le l = by_case (cases_lt a b) where
         by_case : (a < b) ⊎ (b ≤ a) → get_or ids a d ≤ get_or ids b d
-        by_case (inl less) = let h = AllPairs-from_increasing ids ascending a b d less l in omega (arith, h)
+        by_case (inl less) = omega (arith, AllPairs-from_increasing ids ascending a b d less l)
         by_case (inr more) = let same : a ≡ b = omega (arith, le, more) in let e = ap (λ n. get_or ids n d) same in
             omega (arith, e)
 

@@ -5,9 +5,10 @@ use Rattle.std.specs.List.{All, sum_by, Contains, list_any, find, flat_map, cons
 use Rattle.std.specs.Option.{option_map, option_and_then}
 use Rattle.std.proofs.lemmas.Bool.{cases_Bool, true≢false, eq-eqb, cond-true, cond-false}
 use Rattle.std.proofs.lemmas.List.{length-map}
+use Rattle.std.proofs.lemmas.List.FromFn.{get_or-range_with_len}
 use Rattle.std.proofs.lemmas.List.Sums.{sum_by-cons}
 use Rattle.std.proofs.lemmas.List.Elements.{All-contains, Contains-append_cases}
-use Rattle.list_laws.proofs.Elements.{kept_there, place_within, mapped_at}
+use Rattle.list_laws.proofs.Elements.{kept_there, place_within, mapped_at, get-append_right}
 use Rattle.list_laws.proofs.Members.{tested_inside}
 use Rattle.list_laws.proofs.Sequences.{sum-none, sum-taken}
 use Rattle.dq_lits.specs.Literal.{Literal, positive, negative, variable_of, is_negative, opposite, on_variable}
@@ -28,6 +29,7 @@ use Rattle.circuit_plain.specs.declared.circuits.Gate.{Gate}
 use Rattle.cert_text.specs.NegatedMatrix.{opposite_of, gate_clauses, literal_under, falsity_clauses, all_falsity_clauses, some_clause_false, as_literal, without_constants}
 use Rattle.cert_text.proofs.NegatedClauses.{falsity_counted, gates_counted}
 use Rattle.proof_checker.specs.CircuitProof.{circuit_literal, negated_candidate}
+use Rattle.proof_checker.proofs.ShortenedClauses.{range_clause}
 use Rattle.skolem_checker.specs.SkolemCircuit.{MappedCircuit}
 use Rattle.hint_log.specs.Growth.{Each}
 use Rattle.hint_log.specs.Naming.{numbered_from_one, named_literal, name_literal}
@@ -36,7 +38,7 @@ use Rattle.cert_export.specs.Given.{HasUniversalInputs}
 use Rattle.cert_export.specs.Renaming.{Renaming, renamed_clause}
 use Rattle.cert_export.specs.CircuitPart.{CircuitPart, max_number, circuit_number, circuit_renaming, or_zero, literal_code, leaf_code, gate_of, exported_netlist, exported_mapping, exported_candidate, last_base_id, circuit_id, IsOwnLeaf, IsCircuitClause, IsLeafInFile, IsCircuitPart}
 use Rattle.cert_export.specs.ExportedCircuit.{CircuitClausesAreNegatedMatrix}
-use Rattle.cert_export.proofs.Codes.{opposite_even, as_even, as_odd, AreVariables, no_constants, false_behind}
+use Rattle.cert_export.proofs.Codes.{opposite_even, as_odd, no_constants, false_behind}
 use Rattle.cert_export.proofs.CircuitNumbers.{IsPlace, position_is, HasNumber, circuit_numbered, as_code, code_big, opposite_code, opposite_number, renamed_is, clause_codes}
 use Rattle.log_laws.proofs.ReachedClauses.{name_stays}
 use Rattle.log_laws.proofs.Found.{named_variable, find_there, numbered_among, split_at, variable}
@@ -45,9 +47,7 @@ use Rattle.cert_export.proofs.PairNames.{from_one}
 use Rattle.cert_export.proofs.Instances.{same_on}
 
 pub behind : {X : Type 0} (xs ys : List X) (n k : ℕ) → n ≡ length xs → slice_get (xs ++ ys) (n + k) ≡ slice_get ys k
-behind [] ys n k h = let e : n + k ≡ k = omega (arith, h) in ap (slice_get ys) e
-behind (x ∷ xs) ys n k h = let e : n + k ≡ suc (length xs + k) = omega (arith, h) in
-    ap (slice_get (x ∷ (xs ++ ys))) e ∙ behind xs ys (length xs) k refl
+behind xs ys n k h = ap (λ m. slice_get (xs ++ ys) (m + k)) h ∙ get-append_right xs ys k
 
 pub gate_at : (g : ℕ → Gate) (vs : List ℕ) (rest : List (List ℕ)) (p k : ℕ) (c : List ℕ) → p < length vs →
     slice_get (gate_clauses (g (get_or vs p 0))) k ≡ Some c →
@@ -72,8 +72,7 @@ falsity_at : (cl : ℕ → ℕ) (bad : ℕ) (matrix : List (List Literal)) (rest
 falsity_at cl bad [] rest j i clause l h k = cc
 falsity_at cl bad (c ∷ cs) rest zero i clause l h k =
     let same : c ≡ clause = cc in
-    let none = sum-none (c ∷ cs) in
-    let e : sum_by length (take 0 (c ∷ cs)) + i ≡ i = omega (arith, none) in
+    let e : sum_by length (take 0 (c ∷ cs)) + i ≡ i = omega (arith, sum-none (c ∷ cs)) in
     let b : bad ≡ bad + 0 = omega arith in
     let there = mapped_at (falsity cl bad) c i l (ap (λ x. slice_get x i) same ∙ k) in
     ap (slice_get (all_falsity_clauses cl bad (c ∷ cs) ++ rest)) e
@@ -81,9 +80,8 @@ falsity_at cl bad (c ∷ cs) rest zero i clause l h k =
     (kept_there (falsity_clauses cl bad c) (all_falsity_clauses cl (bad + 1) cs) i (falsity cl bad l) there)
     ∙ ap (λ n. Some (falsity cl n l)) b
 falsity_at cl bad (c ∷ cs) rest (suc j) i clause l h k =
-    let more = sum-taken c cs j in
     let e : sum_by length (take (suc j) (c ∷ cs)) + i ≡ length c + (sum_by length (take j cs) + i) =
-    omega (arith, more) in
+    omega (arith, sum-taken c cs j) in
     let long : length c ≡ length (falsity_clauses cl bad c) = sym (length-map c (falsity cl bad)) in
     let b : bad + 1 + j ≡ bad + suc j = omega arith in
     ap (slice_get (all_falsity_clauses cl bad (c ∷ cs) ++ rest)) e
@@ -100,21 +98,11 @@ before_below [] j i clause h k = cc
 before_below (c ∷ cs) zero i clause h k =
     let same : c ≡ clause = cc in
     let long : length c ≡ length clause = ap length same in
-    let all = sum_by-cons length c cs in
-    let none = sum-none (c ∷ cs) in
-    omega (arith, long, k, all, none)
+    omega (arith, long, k, sum_by-cons length c cs, sum-none (c ∷ cs))
 before_below (c ∷ cs) (suc j) i clause h k =
-    let r = before_below cs j i clause h k in
-    let all = sum_by-cons length c cs in
-    let more = sum-taken c cs j in
-    omega (arith, r, all, more)
+    omega (arith, before_below cs j i clause h k, sum_by-cons length c cs, sum-taken c cs j)
 
--- the literals of inputs and outputs
-pub range_at : (a n p : ℕ) → p < n → slice_index (range_with_len a n) p ≡ a + p
-range_at a zero p h = absurd (omega arith)
-range_at a (suc n) zero h = omega arith
-range_at a (suc n) (suc p) h = let e : a + 1 + p ≡ a + suc p = omega arith in range_at (a + 1) n p (omega arith) ∙ e
-
+-- the literals of outputs
 output_at : (g : Existential → ℕ) (ys : List Existential) (v : ℕ) (y : Existential) →
     find (λ z. z.variable == v) ys ≡ Some y →
     slice_index (map g ys) (position_or_len (λ x. x == v) (map variable ys)) ≡ g y
@@ -216,16 +204,6 @@ module _ (r : Renaming) where
       )
   gate_codes v (suc (suc (suc (suc i)))) k a b rest e hv ha hb h = cc
 
--- 'some clause is false'
-bads_big : (a n : ℕ) → 1 ≤ a → AreVariables (map (λ bad. 2 * bad) (range_with_len a n))
-bads_big a zero h = tt
-bads_big a (suc n) h = (omega arith, bads_big (a + 1) n (omega arith))
-
-bads_are : (xs : List ℕ) → map as_literal (map (λ bad. 2 * bad) xs) ≡ map positive xs
-bads_are [] = refl
-bads_are (x ∷ xs) = ap (λ q. q ∷ map as_literal (map (λ bad. 2 * bad) xs)) (as_even x) ∙ ap (λ qs. positive x ∷ qs)
-    (bads_are xs)
-
 pub there_is : {X : Type 0} (xs : List X) (j : ℕ) → 1 ≤ j → j ≤ length xs → (x : X) × (numbered_from_one xs j ≡ Some x)
 there_is xs zero h k = absurd (omega arith)
 there_is [] (suc j) h k = absurd (omega arith)
@@ -261,13 +239,17 @@ module _ (f : Dqbf) (all : List Entry) (e : CircuitPart) (well : IsWellFormed f)
   dropped g rest named = ap (λ o. cons_option (option_map (λ w. on_variable w (negative g)) (circuit_number f e g o))
       (renamed_clause r rest)) named
 
+  -- a clause is, renamed, that of the negated matrix under its origin's id
+  abbrev IsRight : Origin → List Literal → Type 0
+  IsRight origin c = (live (circuit_id f e origin) ≡ Some (renamed_clause r c)) ×
+      (circuit_id f e origin ≤ last_base_id f e)
+
   module _ (es more : List Entry) (is : all ≡ more ++ es) where
     stays : (v : ℕ) (n : Name) → name_of es v ≡ Some n → name_of all v ≡ Some n
     stays v n h = ap (λ xs. name_of xs v) is ∙ name_stays more es v n (subst (Each MayFollow) is lawful) h
 
     gate_right : (v i : ℕ) (rest : List Literal) → Contains e.gates v → IsGateRest es v i rest →
-        (live (circuit_id f e (GateOf v i)) ≡ Some (renamed_clause r rest)) ×
-        (circuit_id f e (GateOf v i) ≤ last_base_id f e)
+        IsRight (GateOf v i) rest
     gate_right v i rest inside g = by_number i refl where
       named : name_of all v ≡ Some (And g.left g.right)
       named = stays v (And g.left g.right) g.named
@@ -286,8 +268,7 @@ module _ (f : Dqbf) (all : List Entry) (e : CircuitPart) (well : IsWellFormed f)
       right = circuit_numbered f all e given g.right (sides all v g.left g.right lawful named).1
           (part.sides v g.left g.right inside named).1
 
-      by_number : (n : ℕ) → i ≡ n → (live (circuit_id f e (GateOf v i)) ≡ Some (renamed_clause r rest)) ×
-          (circuit_id f e (GateOf v i) ≤ last_base_id f e)
+      by_number : (n : ℕ) → i ≡ n → IsRight (GateOf v i) rest
       by_number zero q = let none : gate_rest v g.left g.right i ≡ None = ap (gate_rest v g.left g.right) q in
           let some = g.rest_is in cc
       by_number (suc (suc (suc (suc k)))) q = let none : gate_rest v g.left g.right i ≡ None =
@@ -295,9 +276,8 @@ module _ (f : Dqbf) (all : List Entry) (e : CircuitPart) (well : IsWellFormed f)
       by_number (suc k) q =
           let codes = gate_codes r v i k g.left g.right rest q own left right g.rest_is in
           let p = place.place in
-          let first = place.first in
           let below = place.below in
-          let id : circuit_id f e (GateOf v i) ≡ suc (3 * p + k) = omega (arith, q, first) in
+          let id : circuit_id f e (GateOf v i) ≡ suc (3 * p + k) = omega (arith, q, place.first) in
           let here : slice_get (gate_clauses (gate_of r (get_or e.gates p 0) (name_of all (get_or e.gates p 0)))) k
           ≡ Some codes.0 =
           ap (λ w. slice_get (gate_clauses (gate_of r w (name_of all w))) k) place.there ∙ ap
@@ -325,9 +305,7 @@ module _ (f : Dqbf) (all : List Entry) (e : CircuitPart) (well : IsWellFormed f)
           let named = stays (variable_of k) (Input (variable_of l)) input.1 in
           let place = position_is f.universals (variable_of l) universal in
           let p = position_or_len (λ x. x == variable_of l) f.universals in
-          let first = place.first in
-          let low = place.below in
-          let below : p < length f.universals = omega (arith, first, low) in
+          let below : p < length f.universals = omega (arith, place.first, place.below) in
           let number : r (variable_of k) ≡ Some (p + 1) = ap (circuit_number f e (variable_of k)) named ∙ cond-true
           (list_any (λ x. x == variable_of l) f.universals) (Some (p + 1)) None universal in
           let one : 1 + p ≡ p + 1 = omega arith in
@@ -335,7 +313,7 @@ module _ (f : Dqbf) (all : List Entry) (e : CircuitPart) (well : IsWellFormed f)
             cond-true (is_universal f (variable_of l)) (2 * slice_index net.inputs p)
                 (slice_index net.outputs (position_or_len (λ y. y == variable_of l) (map variable f.existentials)))
                 universal
-                ∙ ap (λ n. 2 * n) (range_at 1 (length f.universals) p below ∙ one) ∙ sym code,
+                ∙ ap (λ n. 2 * n) (get_or-range_with_len 1 (length f.universals) p 0 below ∙ one) ∙ sym code,
             record { number = p + 1; is = number; from_one = omega arith },
           )
 
@@ -363,10 +341,17 @@ module _ (f : Dqbf) (all : List Entry) (e : CircuitPart) (well : IsWellFormed f)
             numbered_leaf (Constant b) h k = tt
             numbered_leaf (LeafLiteral q) h k = circuit_numbered f all e given q k.0 k.1
 
+    bad_number : (v j : ℕ) (clause : List Literal) → name_of es v ≡ Some (Bad e.group j) →
+        numbered_from_one f.matrix j ≡ Some clause → r v ≡ Some (max_number f e + j)
+    bad_number v j clause named there =
+        ap (circuit_number f e v) (stays v (Bad e.group j) named)
+        ∙ cond-true (e.group == e.group) (option_map (λ c. max_number f e + j) (numbered_from_one f.matrix j))
+        None (eq-eqb e.group e.group refl)
+        ∙ ap (option_map (λ c. max_number f e + j)) there
+
     fault_right : (j i : ℕ) (out : Leaf) (rest : List Literal) → IsOwnLeaf f e (suc j) i out →
         IsFaultRest f es e.group (suc j) i out rest →
-        (live (circuit_id f e (Fault (suc j) i out)) ≡ Some (renamed_clause r rest)) ×
-        (circuit_id f e (Fault (suc j) i out) ≤ last_base_id f e)
+        IsRight (Fault (suc j) i out) rest
     fault_right j i out rest own fault =
         let l = fault.literal in
         let parts = split_literal (numbered_from_one f.matrix (suc j)) i l fault.literal_is in
@@ -382,27 +367,26 @@ module _ (f : Dqbf) (all : List Entry) (e : CircuitPart) (well : IsWellFormed f)
         let bad_is : max_number f e + suc j ≡ bad = omega arith in
         let codes = fault_codes r cl bad l out fault.tail (omega arith) leaf.0 leaf.1 fault.tail_is in
         let literal_at = from_one clause i l parts.2 in
-        let i1 = literal_at.0 in
         let clause_at = from_one f.matrix (suc j) clause parts.1 in
         let j0 : suc j - 1 ≡ j = omega arith in
         let clause_there : slice_get f.matrix j ≡ Some clause = ap (slice_get f.matrix) (sym j0) ∙ clause_at.1 in
         let last = some_clause_false net f.matrix ∷ [] in
         let at = falsity_at cl (net.max_var + 1) f.matrix last j (i - 1) clause l clause_there literal_at.1 in
         let id : circuit_id f e (Fault (suc j) i out) ≡ suc (3 * gate_count +
-        (sum_by length (take j f.matrix) + (i - 1))) = omega (arith, i1) in
+        (sum_by length (take j f.matrix) + (i - 1))) = omega (arith, literal_at.0) in
         let place = behind (flat_map gate_clauses net.gates) (all_falsity_clauses cl (net.max_var + 1) f.matrix ++ last)
         (3 * gate_count) (sum_by length (take j f.matrix) + (i - 1)) (sym gates_are) in
         let number : r fault.bad ≡ Some bad =
-        ap (circuit_number f e fault.bad) (stays fault.bad (Bad e.group (suc j)) fault.bad_is)
-        ∙ cond-true (e.group == e.group) (option_map (λ c. max_number f e + suc j) (numbered_from_one f.matrix (suc j)))
-        None (eq-eqb e.group e.group refl)
-        ∙ ap (option_map (λ c. max_number f e + suc j)) parts.1 ∙ ap Some bad_is in
+        bad_number fault.bad (suc j) clause fault.bad_is parts.1 ∙ ap Some bad_is in
         let renamed : renamed_clause r rest ≡ negative bad ∷ renamed_clause r fault.tail =
         ap (renamed_clause r) fault.rest_is ∙ ap (λ o. cons_option
-        (option_map (λ w. on_variable w (negative fault.bad)) o) (renamed_clause r fault.tail)) number in
-        let small = before_below f.matrix j (i - 1) clause clause_there (place_within clause (i - 1) l literal_at.1) in (
+        (option_map (λ w. on_variable w (negative fault.bad)) o) (renamed_clause r fault.tail)) number in (
           ap live id ∙ ap (option_and_then without_constants) (place ∙ at) ∙ codes ∙ ap Some (sym renamed),
-          omega (arith, id, small),
+          omega (
+            arith,
+            id,
+            before_below f.matrix j (i - 1) clause clause_there (place_within clause (i - 1) l literal_at.1),
+          ),
         )
 
     bads_renamed : (rest : List Literal) (from count : ℕ) → 1 ≤ from → from + count ≤ length f.matrix + 1 →
@@ -418,11 +402,7 @@ module _ (f : Dqbf) (all : List Entry) (e : CircuitPart) (well : IsWellFormed f)
         (range_with_len (from + 1) count)) = cc in
         let named = named_variable es q (Bad e.group from) false (name_of es (variable_of q)) refl here in
         let clause = there_is f.matrix from one (omega arith) in
-        let number : r (variable_of q) ≡ Some (max_number f e + from) =
-        ap (circuit_number f e (variable_of q)) (stays (variable_of q) (Bad e.group from) named.0)
-        ∙ cond-true (e.group == e.group) (option_map (λ c. max_number f e + from) (numbered_from_one f.matrix from))
-        None (eq-eqb e.group e.group refl)
-        ∙ ap (option_map (λ c. max_number f e + from)) clause.1 in
+        let number = bad_number (variable_of q) from clause.0 named.0 clause.1 in
         let next : max_number f e + (from + 1) ≡ max_number f e + from + 1 = omega arith in
         ap (λ o. cons_option (option_map (λ w. on_variable w q) o) (renamed_clause r rest)) number
         ∙ ap (λ x. x ∷ renamed_clause r rest) (same_on (max_number f e + from) q (positive 0) named.1)
@@ -430,8 +410,7 @@ module _ (f : Dqbf) (all : List Entry) (e : CircuitPart) (well : IsWellFormed f)
         (omega arith) later ∙ ap (λ n. map positive (range_with_len n count)) next)
 
     some_right : (i : ℕ) (out : Leaf) (rest : List Literal) → IsSomeFaultRest f es e.group out rest →
-        (live (circuit_id f e (Fault zero i out)) ≡ Some (renamed_clause r rest)) ×
-        (circuit_id f e (Fault zero i out) ≤ last_base_id f e)
+        IsRight (Fault zero i out) rest
     some_right i out rest some =
         let C = length f.matrix in
         let M = max_number f e in
@@ -442,35 +421,33 @@ module _ (f : Dqbf) (all : List Entry) (e : CircuitPart) (well : IsWellFormed f)
         (3 * gate_count) (total + 0) (sym gates_are) in
         let at = behind (all_falsity_clauses cl (net.max_var + 1) f.matrix) last total 0
         (sym (falsity_counted cl (net.max_var + 1) f.matrix)) in
-        let codes = no_constants (some_clause_false net f.matrix) (bads_big (M + 1) C (omega arith)) ∙ ap Some
-        (bads_are (range_with_len (M + 1) C)) in
+        let codes = sym (range_clause (M + 1) C (omega arith)) in
         let renamed = bads_renamed rest 1 C (omega arith) (omega arith) some.1 in
         (ap live id ∙ ap (option_and_then without_constants) (place ∙ at) ∙ codes ∙ ap Some (sym renamed), omega arith)
 
+    with_group : (origin : Origin) (c rest : List Literal) (group : ℕ) → c ≡ negative group ∷ rest →
+        name_of es group ≡ Some (Selector group) → IsRight origin rest → IsRight origin c
+    with_group origin c rest group is named right =
+        let same : renamed_clause r c ≡ renamed_clause r rest =
+        ap (renamed_clause r) is ∙ dropped group rest (stays group (Selector group) named) in
+        (right.0 ∙ ap Some (sym same), right.1)
+
     clause_right : (origin : Origin) (c : List Literal) → IsOriginsClause f es origin c → IsCircuitClause f e origin c →
-        (live (circuit_id f e origin) ≡ Some (renamed_clause r c)) × (circuit_id f e origin ≤ last_base_id f e)
+        IsRight origin c
     clause_right (Instance k j) c o mine = absurd mine
     clause_right (GateOf v i) c o mine =
-        let g = gate_right v i o.rest mine o.rest_is in
-        let same : renamed_clause r c ≡ renamed_clause r o.rest =
-        ap (renamed_clause r) o.clause_is ∙ dropped o.group o.rest (stays o.group (Selector o.group) o.is_group) in
-        (g.0 ∙ ap Some (sym same), g.1)
+        with_group (GateOf v i) c o.rest o.group o.clause_is o.is_group (gate_right v i o.rest mine o.rest_is)
     clause_right (Fault zero zero out) c o mine =
         let group : negative e.group ∷ mine.0.0 ≡ negative o.group ∷ o.rest = sym mine.0.1 ∙ o.clause_is in
         let one : o.group ≡ e.group = cc in
-        let g = some_right zero out o.rest (subst (λ n. IsSomeFaultRest f es n out o.rest) one o.rest_is) in
-        let same : renamed_clause r c ≡ renamed_clause r o.rest =
-        ap (renamed_clause r) o.clause_is ∙ dropped o.group o.rest (stays o.group (Selector o.group) o.is_group) in
-        (g.0 ∙ ap Some (sym same), g.1)
+        with_group (Fault zero zero out) c o.rest o.group o.clause_is o.is_group
+        (some_right zero out o.rest (subst (λ n. IsSomeFaultRest f es n out o.rest) one o.rest_is))
     clause_right (Fault zero (suc i) out) c o mine = absurd o.rest_is
     clause_right (Fault (suc j) i out) c o mine =
         let group : negative e.group ∷ mine.0.0 ≡ negative o.group ∷ o.rest = sym mine.0.1 ∙ o.clause_is in
         let one : o.group ≡ e.group = cc in
-        let g = fault_right j i out o.rest mine.1 (subst (λ n. IsFaultRest f es n (suc j) i out o.rest) one
-        o.rest_is) in
-        let same : renamed_clause r c ≡ renamed_clause r o.rest =
-        ap (renamed_clause r) o.clause_is ∙ dropped o.group o.rest (stays o.group (Selector o.group) o.is_group) in
-        (g.0 ∙ ap Some (sym same), g.1)
+        with_group (Fault (suc j) i out) c o.rest o.group o.clause_is o.is_group
+        (fault_right j i out o.rest mine.1 (subst (λ n. IsFaultRest f es n (suc j) i out o.rest) one o.rest_is))
     clause_right (Copy side j) c o mine = absurd mine
     clause_right (Link v i) c o mine = absurd mine
     clause_right (TermGate v i) c o mine = absurd mine

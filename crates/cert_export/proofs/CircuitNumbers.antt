@@ -18,7 +18,7 @@ use Rattle.cert_export.specs.Given.{HasUniversalInputs}
 use Rattle.cert_export.specs.Renaming.{Renaming, renamed_clause}
 use Rattle.cert_export.specs.CircuitPart.{CircuitPart, place_from_one, max_number, circuit_number, circuit_renaming, or_zero, aiger_literal, literal_code, IsInFile}
 use Rattle.cert_export.specs.ExportedCircuit.{CircuitNumbersAreInjective}
-use Rattle.hint_log.specs.ProductiveLog.{MatchesOrigin, IsRightlyNamed}
+use Rattle.hint_log.specs.ProductiveLog.{IsRightlyNamed}
 use Rattle.hint_log.proofs.Lawful.{names_are_unique_lem}
 use Rattle.hint_log.proofs.NamedEntries.{number_below}
 use Rattle.cert_export.proofs.Codes.{opposite_even, opposite_odd, as_even, as_odd, AreVariables, no_constants}
@@ -30,7 +30,7 @@ position_below v (x ∷ xs) h = by_bit (x == v) (position_below v xs) h where
   by_bit : (b : Bool) → (list_any (λ z. z == v) xs ≡ true → position_or_len (λ z. z == v) xs < length xs) →
       (b || list_any (λ z. z == v) xs) ≡ true → cond (not b) (1 + position_or_len (λ z. z == v) xs) 0 < suc (length xs)
   by_bit true later h = omega arith
-  by_bit false later h = let r = later h in omega (arith, r)
+  by_bit false later h = omega (arith, later h)
 
 -- a place in a list
 pub record IsPlace (xs : List ℕ) (v n : ℕ) : Type 0 where
@@ -114,15 +114,13 @@ module _ (f : Dqbf) (e : CircuitPart) where
   pub number_from_one : (v : ℕ) (o : Option Name) (x : ℕ) → circuit_number f e v o ≡ Some x → 1 ≤ x
   number_from_one v o x h = by_case (number_cases v o x h) where
     by_case : IsNumbered v o x → 1 ≤ x
-    by_case (inl i) = let n = i.2.number in omega (arith, n)
-    by_case (inr (inl g)) = let n = g.1.number in let is = g.2 in omega (arith, n, is)
-    by_case (inr (inr b)) = let one = b.2 in let is = b.3 in omega (arith, one, is)
+    by_case (inl i) = omega (arith, i.2.number)
+    by_case (inr (inl g)) = omega (arith, g.1.number, g.2)
+    by_case (inr (inr b)) = omega (arith, b.2, b.3)
 
   pub same_place : (xs : List ℕ) (u w n : ℕ) → IsPlace xs u n → IsPlace xs w n → u ≡ w
   same_place xs u w n p q =
-      let a = p.number in
-      let b = q.number in
-      let same : p.place ≡ q.place = omega (arith, a, b) in
+      let same : p.place ≡ q.place = omega (arith, p.number, q.number) in
       sym p.there ∙ ap (λ k. get_or xs k 0) same ∙ q.there
 
   module _ (entries : List Entry) (lawful : Each MayFollow entries) (v w x : ℕ) where
@@ -132,27 +130,17 @@ module _ (f : Dqbf) (e : CircuitPart) where
     by_cases : IsNumbered v (name_of entries v) x → IsNumbered w (name_of entries w) x → v ≡ w
     by_cases (inl i) (inl k) = one_name (Input i.0) (Input k.0)
         (ap Input (same_place f.universals i.0 k.0 x i.2 k.2)) i.1 k.1
-    by_cases (inl i) (inr (inl g)) = let a = i.2.number in let b = i.2.below in let c = g.1.number in let d = g.2 in
-        absurd (omega (arith, a, b, c, d))
-    by_cases (inl i) (inr (inr j)) = let a = i.2.number in let b = i.2.below in let c = j.2 in let d = j.3 in
-        absurd (omega (arith, a, b, c, d))
-    by_cases (inr (inl g)) (inl i) = let a = i.2.number in let b = i.2.below in let c = g.1.number in let d = g.2 in
-        absurd (omega (arith, a, b, c, d))
+    by_cases (inl i) (inr (inl g)) = absurd (omega (arith, i.2.number, i.2.below, g.1.number, g.2))
+    by_cases (inl i) (inr (inr j)) = absurd (omega (arith, i.2.number, i.2.below, j.2, j.3))
+    by_cases (inr (inl g)) (inl i) = absurd (omega (arith, i.2.number, i.2.below, g.1.number, g.2))
     by_cases (inr (inl g)) (inr (inl h)) =
-        let a = g.2 in
-        let b = h.2 in
-        let same : g.0 ≡ h.0 = omega (arith, a, b) in
+        let same : g.0 ≡ h.0 = omega (arith, g.2, h.2) in
         same_place e.gates v w h.0 (subst (IsPlace e.gates v) same g.1) h.1
-    by_cases (inr (inl g)) (inr (inr j)) = let a = g.1.number in let b = g.1.below in let c = j.2 in let d = j.3 in
-        let i = g.2 in absurd (omega (arith, a, b, c, d, i))
-    by_cases (inr (inr j)) (inl i) = let a = i.2.number in let b = i.2.below in let c = j.2 in let d = j.3 in
-        absurd (omega (arith, a, b, c, d))
-    by_cases (inr (inr j)) (inr (inl g)) = let a = g.1.number in let b = g.1.below in let c = j.2 in let d = j.3 in
-        let i = g.2 in absurd (omega (arith, a, b, c, d, i))
+    by_cases (inr (inl g)) (inr (inr j)) = absurd (omega (arith, g.1.number, g.1.below, g.2, j.2, j.3))
+    by_cases (inr (inr j)) (inl i) = absurd (omega (arith, i.2.number, i.2.below, j.2, j.3))
+    by_cases (inr (inr j)) (inr (inl g)) = absurd (omega (arith, g.1.number, g.1.below, g.2, j.2, j.3))
     by_cases (inr (inr j)) (inr (inr k)) =
-        let a = j.3 in
-        let b = k.3 in
-        let same : j.0 ≡ k.0 = omega (arith, a, b) in
+        let same : j.0 ≡ k.0 = omega (arith, j.3, k.3) in
         one_name (Bad e.group j.0) (Bad e.group k.0) (ap (Bad e.group) same) j.1 k.1
 
 pub circuit_numbers_are_injective : CircuitNumbersAreInjective
@@ -161,19 +149,20 @@ circuit_numbers_are_injective f entries e lawful v w x h k =
     (number_cases f e w (name_of entries w) x k)
 
 -- inputs are the formula's
-pub input_universal : (f : Dqbf) (es : List Entry) (v x : ℕ) → Each (MatchesOrigin f) es →
-    name_of es v ≡ Some (Input x) → Contains f.universals x
-input_universal f [] v x given h = cc
-input_universal f (Named w n ∷ es) v x given h = by_bit (input_universal f es v x given.1) (v == w) h where
+pub inputs_by : (f : Dqbf) (P : List Entry → Entry → Type 0) → ((es : List Entry) (v : ℕ) (n : Name) →
+    P es (Named v n) → IsRightlyNamed f n) → (es : List Entry) (v x : ℕ) → Each P es → name_of es v ≡ Some (Input x) →
+    Contains f.universals x
+inputs_by f P right [] v x given h = cc
+inputs_by f P right (Named w n ∷ es) v x given h = by_bit (inputs_by f P right es v x given.1) (v == w) h where
   by_bit : (name_of es v ≡ Some (Input x) → Contains f.universals x) → (b : Bool) →
       cond b (Some n) (name_of es v) ≡ Some (Input x) → Contains f.universals x
-  by_bit later true h = let same : n ≡ Input x = cc in subst (IsRightlyNamed f) same given.0
+  by_bit later true h = let same : n ≡ Input x = cc in subst (IsRightlyNamed f) same (right es w n given.0)
   by_bit later false h = later h
-input_universal f (Given origin c ∷ es) v x given h = input_universal f es v x given.1 h
-input_universal f (Learned c hints ∷ es) v x given h = input_universal f es v x given.1 h
-input_universal f (Answer c hints ∷ es) v x given h = input_universal f es v x given.1 h
-input_universal f (Round row values j ∷ es) v x given h = input_universal f es v x given.1 h
-input_universal f (Begun live ∷ es) v x given h = input_universal f es v x given.1 h
+inputs_by f P right (Given origin c ∷ es) v x given h = inputs_by f P right es v x given.1 h
+inputs_by f P right (Learned c hints ∷ es) v x given h = inputs_by f P right es v x given.1 h
+inputs_by f P right (Answer c hints ∷ es) v x given h = inputs_by f P right es v x given.1 h
+inputs_by f P right (Round row values j ∷ es) v x given h = inputs_by f P right es v x given.1 h
+inputs_by f P right (Begun live ∷ es) v x given h = inputs_by f P right es v x given.1 h
 
 -- a literal whose variable has a number
 pub record HasNumber (r : Renaming) (l : Literal) : Type 0 where
@@ -220,8 +209,8 @@ module _ (r : Renaming) where
   pub code_big : (l : Literal) → HasNumber r l → 2 ≤ literal_code r l
   code_big l h = subst (λ n. 2 ≤ n) (sym (code_at l h)) (by_sign (is_negative l)) where
     by_sign : (b : Bool) → 2 ≤ cond b (2 * h.number + 1) (2 * h.number)
-    by_sign true = let one = h.from_one in omega (arith, one)
-    by_sign false = let one = h.from_one in omega (arith, one)
+    by_sign true = omega (arith, h.from_one)
+    by_sign false = omega (arith, h.from_one)
 
   pub opposite_code : (l : Literal) → opposite_of (literal_code r l) ≡ literal_code r (opposite l)
   opposite_code (positive v) = opposite_even (or_zero (r v))

@@ -43,14 +43,14 @@ AreVariables (l ∷ ls) = (2 ≤ l) × AreVariables ls
 
 no_true : (ls : List ℕ) → AreVariables ls → list_any (λ l. l == 1) ls ≡ false
 no_true [] h = refl
-no_true (l ∷ ls) h = ap (λ b. b || list_any (λ k. k == 1) ls) (ne_eqb l 1 (λ e. let two = h.0 in omega (arith, two, e)))
+no_true (l ∷ ls) h = ap (λ b. b || list_any (λ k. k == 1) ls) (ne_eqb l 1 (λ e. omega (arith, h.0, e)))
     ∙ no_true ls h.1
 
 all_stay : (ls : List ℕ) → AreVariables ls → filter (λ l. not (l == 0)) ls ≡ ls
 all_stay [] h = refl
 all_stay (l ∷ ls) h =
     ap (λ b. cond (not b) (l ∷ filter (λ k. not (k == 0)) ls) (filter (λ k. not (k == 0)) ls))
-    (ne_eqb l 0 (λ e. let two = h.0 in omega (arith, two, e))) ∙ ap (λ ks. l ∷ ks) (all_stay ls h.1)
+    (ne_eqb l 0 (λ e. omega (arith, h.0, e))) ∙ ap (λ ks. l ∷ ks) (all_stay ls h.1)
 
 pub no_constants : (ls : List ℕ) → AreVariables ls → without_constants ls ≡ Some (map as_literal ls)
 no_constants ls h = cond-false (list_any (λ l. l == 1) ls) None (Some (map as_literal (filter (λ l. not (l == 0)) ls)))

@@ -39,7 +39,7 @@ not_before live (x ∷ xs) trues place fault h = by_status (status_of trues (liv
           fault_by s place ys (λ l. hint_fault live (l ∷ trues) (place + 1) xs) ≡ Some fault → place ≤ fault
       by_status falsified [] later g = cc
       by_status falsified (y ∷ ys) later g = let same : place ≡ fault = cc in omega (arith, same)
-      by_status (unit l) ys later g = let r = later l g in omega (arith, r)
+      by_status (unit l) ys later g = omega (arith, later l g)
       by_status stuck ys later g = let same : place ≡ fault = cc in omega (arith, same)
 
 pub cut_at_fault : (live : LiveClauses) (hints : List ℕ) (trues : List Literal) (place : ℕ) →
@@ -57,8 +57,8 @@ cut_at_fault live (x ∷ xs) trues place = by_status (status_of trues (live x)) 
       longer : (o : Option ℕ) → ((fault : ℕ) → o ≡ Some fault → place + 1 ≤ fault) →
           x ∷ up_to_fault o (place + 1) xs ≡ up_to_fault o place (x ∷ xs)
       longer None most = refl
-      longer (Some fault) most = let m = most fault refl in ap (λ n. take n (x ∷ xs))
-          (let s : suc (fault + 1 - (place + 1)) ≡ fault + 1 - place = omega (arith, m) in s)
+      longer (Some fault) most = ap (λ n. take n (x ∷ xs))
+          (let s : suc (fault + 1 - (place + 1)) ≡ fault + 1 - place = omega (arith, most fault refl) in s)
 
       by_status : (s : Status) (ys : List ℕ) → xs ≡ ys → ((l : Literal) →
           cut_hints live (l ∷ trues) xs ≡ up_to_fault (hint_fault live (l ∷ trues) (place + 1) xs) (place + 1) xs) →

@@ -150,9 +150,7 @@ module _ (r : Renaming) (base_id : Origin → ℕ) (usable : Origin → List Lit
   with_line live done id lines stock next h ready c at = elim ready [
     | inl i ↦ (
         let new = of_base h i in
-        let small = (right h i.0 i.1 i.2 i.3).1 in
-        let behind = next.behind in
-        let apart : to h ≢ number id = λ e. omega (arith, new, small, behind, e) in
+        let apart : to h ≢ number id = λ e. omega (arith, new, (right h i.0 i.1 i.2 i.3).1, next.behind, e) in
         other_id live (number id) (line_clause r all id) (to h) apart ∙ stock h (inl i) c at)
     | inr inside ↦ by_place inside
   ] where

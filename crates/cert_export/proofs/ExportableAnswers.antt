@@ -1,23 +1,21 @@
 -- What an answer reaches can be exported.
-use Rattle.std.proofs.Common.{◌≡◌, ℕ, ◌+◌, ◌*◌, ◌≤◌, Bool, map, true, false, List, [], ◌∷◌, length, get_or, Option, None, Some, Result, Ok, Err, IfOk, refl, sym, ◌∙◌, ap, subst, arith}
+use Rattle.std.proofs.Common.{◌≡◌, ℕ, ◌+◌, ◌*◌, ◌≤◌, Bool, map, List, [], ◌∷◌, length, get_or, None, Some, sym, ◌∙◌, ap, subst, arith}
 use Rattle.std.specs.List.{All, Contains}
-use Rattle.std.specs.Option.{option_map, option_and_then}
-use Rattle.dq_lits.specs.Derivation.{is_tautology, IsDerived, ProofStep}
+use Rattle.std.specs.Option.{option_map}
+use Rattle.dq_lits.specs.Derivation.{ProofStep}
 use Rattle.dq_lits.specs.Formula.{Dqbf, IsWellFormed}
 use Rattle.dq_lits.specs.Literal.{Literal}
 use Rattle.cert_text.specs.Header.{max_count}
 use Rattle.hint_log.specs.declared.origins.Origin.{Origin}
 use Rattle.hint_log.specs.declared.origins.Origin.TheVariants.{Instance}
-use Rattle.hint_log.specs.Entries.{Entry, Named, Given, Learned, Answer, Round, Begun, ProofLog, has_id, numbered, clause_at, origin_of, origin_at, last_id, rounds_of, steps_of}
+use Rattle.hint_log.specs.Entries.{Entry, Named, Given, Learned, Answer, Round, Begun, ProofLog, has_id, numbered, last_id, rounds_of, steps_of}
 use Rattle.hint_log.specs.Growth.{Each}
-use Rattle.hint_log.specs.ProductiveLog.{IsDerivedByHints, RefutesNewRow}
-use Rattle.log_laws.proofs.Found.{each_at, split_at}
-use Rattle.cert_export.specs.Exportable.{IsKnownInstance, AreExportable, AreExported, AreExportedSteps, AreExportedItems, HaveRounds}
+use Rattle.cert_export.specs.Exportable.{IsKnownInstance, AreExportable, AreExported, AreExportedSteps, HaveRounds}
 use Rattle.cert_export.specs.Exported.{IsPairNaming, IsPairRenaming, last_instance, exported_number, exported_steps, CanExportFalse}
 use Rattle.cert_export.specs.Expansion.{row_of_round, used_rounds, used_rows, instance_id, IsKeptClause}
-use Rattle.cert_export.specs.Lines.{is_derived, clause_or_empty, line_clause, line_number, line_steps, derived_ids}
+use Rattle.cert_export.specs.Lines.{line_number, line_steps, derived_ids}
 use Rattle.cert_export.specs.Pairing.{HaveNames}
-use Rattle.cert_export.specs.Renaming.{Renaming, IsInjective, renamed_clause}
+use Rattle.cert_export.specs.Renaming.{Renaming, IsInjective}
 use Rattle.cert_export.specs.Written.{CanBeWritten}
 use Rattle.std.proofs.lemmas.List.{length-map}
 use Rattle.std.proofs.lemmas.List.Elements.{All-nil, All-push, Contains-get_or}
@@ -38,7 +36,8 @@ use Rattle.cert_export.proofs.Instances.{rounds_are, own_given, known_given, rou
 use Rattle.cert_export.proofs.RoundRows.{few_used, rows_stay, used_are_rounds}
 use Rattle.cert_export.proofs.UsedRounds.{kept_clause, used_ascend}
 use Rattle.cert_export.proofs.PairNames.{pairs_are_injective}
-use Rattle.cert_export.proofs.Renamings.{renamed_consistent}
+use Rattle.cert_export.proofs.ExportableCircuits.{derived_consistent}
+use Rattle.cert_export.proofs.GivenNames.{given_of}
 
 module _ (f : Dqbf) (live : List ℕ) (entries : List Entry) (ids : List ℕ) (e : AreExportable f live entries ids) where
   abbrev rounds : List ℕ
@@ -56,33 +55,13 @@ module _ (f : Dqbf) (live : List ℕ) (entries : List Entry) (ids : List ℕ) (e
   pub have_rounds : HaveRounds entries ids
   have_rounds = record {
     are_ids = e.are_ids;
-    rounds = λ id k j inside is. by_entry id k j inside is (numbered has_id entries id) refl;
-  } where
-    by_entry : (id k j : ℕ) → Contains ids id → origin_at entries id ≡ Some (Instance k j) → (o : Option Entry) →
-        numbered has_id entries id ≡ o → (1 ≤ k) × (k ≤ rounds_of entries)
-    by_entry id k j inside is None at = let both : None ≡ Some (Instance k j) =
-        sym (ap (option_and_then origin_of) at) ∙ is in cc
-    by_entry id k j inside is (Some (Named v n)) at = let both : None ≡ Some (Instance k j) =
-        sym (ap (option_and_then origin_of) at) ∙ is in cc
-    by_entry id k j inside is (Some (Given origin c)) at =
-        let both : Some origin ≡ Some (Instance k j) = sym (ap (option_and_then origin_of) at) ∙ is in
-        let same : origin ≡ Instance k j = cc in
-        let there = at ∙ ap (λ o. Some (Given o c)) same in
-        round_below f live entries id k j c (e.instances id (Instance k j) c inside there) there
-    by_entry id k j inside is (Some (Learned c hints)) at = let both : None ≡ Some (Instance k j) =
-        sym (ap (option_and_then origin_of) at) ∙ is in cc
-    by_entry id k j inside is (Some (Answer c hints)) at = let both : None ≡ Some (Instance k j) =
-        sym (ap (option_and_then origin_of) at) ∙ is in cc
-    by_entry id k j inside is (Some (Round row values i)) at = let both : None ≡ Some (Instance k j) =
-        sym (ap (option_and_then origin_of) at) ∙ is in cc
-    by_entry id k j inside is (Some (Begun numbers)) at = let both : None ≡ Some (Instance k j) =
-        sym (ap (option_and_then origin_of) at) ∙ is in cc
+    rounds = λ id k j inside is. let g = given_of entries id (Instance k j) is in
+        round_below f live entries id k j g.0 (e.instances id (Instance k j) g.0 inside g.1) g.1;
+  }
 
   pub few_kept : length rounds ≤ max_count
   few_kept =
-      let used = few_used entries ids in
-      let many = rounds_are entries in
-      let few = e.few_rounds in omega (arith, used, many, few)
+      omega (arith, few_used entries ids, rounds_are entries, e.few_rounds)
 
   module _ (r : Renaming) (names : IsPairRenaming f entries ids r) where
     -- no two variables have one pair, and so no two have one number
@@ -93,29 +72,6 @@ module _ (f : Dqbf) (live : List ℕ) (entries : List Entry) (ids : List ℕ) (e
         (names.names.right v (normal_number f kept x) (ap (option_map (normal_number f kept)) h))
         (names.names.right w (normal_number f kept x) (ap (option_map (normal_number f kept)) k))
 
-    consistent : (id : ℕ) → is_derived (numbered has_id entries id) ≡ true →
-        is_tautology (line_clause r entries id) ≡ false
-    consistent id is_lemma = by_entry (numbered has_id entries id) refl is_lemma where
-      by_entry : (o : Option Entry) → numbered has_id entries id ≡ o → is_derived o ≡ true →
-          is_tautology (renamed_clause r (clause_or_empty (numbered has_id entries id))) ≡ false
-      by_entry None at d = cc
-      by_entry (Some (Named v n)) at d = cc
-      by_entry (Some (Given origin c)) at d = cc
-      by_entry (Some (Learned c hints)) at d =
-          let p = split_at entries id (Learned c hints) at in
-          let own : IsDerived (clause_at p.1) c hints = each_at IsDerivedByHints p.0 p.1 (Learned c hints)
-          (subst (Each IsDerivedByHints) p.2 e.lemmas_are_derived) in
-          ap (λ x. is_tautology (renamed_clause r (clause_or_empty x))) at ∙ renamed_consistent r
-          (clause_at p.1) injective c hints own
-      by_entry (Some (Answer c hints)) at d =
-          let p = split_at entries id (Answer c hints) at in
-          let own : IsDerived (clause_at p.1) c hints = each_at IsDerivedByHints p.0 p.1 (Answer c hints)
-          (subst (Each IsDerivedByHints) p.2 e.lemmas_are_derived) in
-          ap (λ x. is_tautology (renamed_clause r (clause_or_empty x))) at ∙ renamed_consistent r
-          (clause_at p.1) injective c hints own
-      by_entry (Some (Round row values j)) at d = cc
-      by_entry (Some (Begun live)) at d = cc
-
     pub can_be_written : CanBeWritten r (IsKnownInstance rounds live) entries ids
     can_be_written = record {
       ascending = e.ascending;
@@ -123,7 +79,7 @@ module _ (f : Dqbf) (live : List ℕ) (entries : List Entry) (ids : List ℕ) (e
       closed = e.closed;
       known = λ id origin c inside at. known_given f rounds live entries e.well_formed e.logged
           (used_ascend entries ids) e.numbers_ascend origin c (kept_here id origin c inside at);
-      consistent = λ id inside is_lemma. consistent id is_lemma;
+      consistent = λ id inside is_lemma. derived_consistent entries r e.lemmas_are_derived injective id is_lemma;
     }
 
 -- lines that are written so are exported
@@ -150,8 +106,7 @@ are_exported f live entries ids rounds r steps clauses last used names clauses_i
 pub refuted_id : (entries : List Entry) (id : ℕ) → IsRefutedBy entries id → IsId entries id
 refuted_id entries id refuted =
     let last : id ≡ last_id refuted.earlier + 1 = refuted.last ∙ ap last_id refuted.answered in
-    let is = refuted.last in
-    record { from_one = omega (arith, last); last = omega (arith, is) }
+    record { from_one = omega (arith, last); last = omega (arith, refuted.last) }
 
 -- what an answer that rests on instances reaches can be exported
 pub refuted_exportable : (f : Dqbf) (live : List ℕ) (log : ProofLog) (id : ℕ) (ids : List ℕ) → IsWellFormed f →
@@ -162,12 +117,10 @@ pub refuted_exportable : (f : Dqbf) (live : List ℕ) (log : ProofLog) (id : ℕ
     AreReached log.entries id ids → AreExportable f live log.entries ids
 refuted_exportable f live log id ids well few_clauses can logged limit within value rounds_are_steps
     reached_are_ids are =
-    let many = rounds_are log.entries in
-    let rounds = rounds_are_steps log.entries in
     record {
       well_formed = well;
       few_clauses = few_clauses;
-      few_rounds = omega (arith, many, limit, within, value, rounds);
+      few_rounds = omega (arith, rounds_are log.entries, limit, within, value, rounds_are_steps log.entries);
       logged = logged;
       lemmas_are_derived = can.lemmas_are_derived;
       ascending = are.ascending;
@@ -181,16 +134,17 @@ refuted_exportable f live log id ids well few_clauses can logged limit within va
     }
 
 -- each round has a whole row
-pub rows_whole : (f : Dqbf) (es : List Entry) → Each (RefutesNewRow f) es →
-    All (λ row. length row ≡ length f.universals) (rows_of es)
-rows_whole f [] h = All-nil (λ row. length row ≡ length f.universals)
-rows_whole f (Named v n ∷ es) h = rows_whole f es h.1
-rows_whole f (Given origin c ∷ es) h = rows_whole f es h.1
-rows_whole f (Learned c hints ∷ es) h = rows_whole f es h.1
-rows_whole f (Answer c hints ∷ es) h = rows_whole f es h.1
-rows_whole f (Round row values j ∷ es) h = All-push (λ r. length r ≡ length f.universals) (rows_of es) row
-    (rows_whole f es h.1) h.0.row_length
-rows_whole f (Begun live ∷ es) h = rows_whole f es h.1
+pub rows_whole : (n : ℕ) (P : List Entry → Entry → Type 0) → ((es : List Entry) (row values : List Bool) (j : ℕ) →
+    P es (Round row values j) → length row ≡ n) → (es : List Entry) → Each P es →
+    All (λ row. length row ≡ n) (rows_of es)
+rows_whole n P whole [] h = All-nil (λ row. length row ≡ n)
+rows_whole n P whole (Named v m ∷ es) h = rows_whole n P whole es h.1
+rows_whole n P whole (Given origin c ∷ es) h = rows_whole n P whole es h.1
+rows_whole n P whole (Learned c hints ∷ es) h = rows_whole n P whole es h.1
+rows_whole n P whole (Answer c hints ∷ es) h = rows_whole n P whole es h.1
+rows_whole n P whole (Round row values j ∷ es) h = All-push (λ r. length r ≡ n) (rows_of es) row
+    (rows_whole n P whole es h.1) (whole es row values j h.0)
+rows_whole n P whole (Begun live ∷ es) h = rows_whole n P whole es h.1
 
 -- the checker finds no fault in the exported lines
 pub exported_accepted : (f : Dqbf) (live : List ℕ) (entries : List Entry) (id : ℕ) (ids : List ℕ) (d : Dqr) →
@@ -218,13 +172,12 @@ exported_spelled f live entries id ids d e can are x few =
     let p : ℕ → Bool = is_pair_number f (length kept) in
     let first = first_id f (length kept) in
     let many = ap length x.rows in
-    let kept_few = few_kept f live entries ids e in
     let as_many : length kept ≡ length (used_rounds entries ids) = length-map (used_rounds entries ids)
     (row_of_round entries) in
     let whole = rows_stay (λ row. length row ≡ length f.universals) entries (used_rounds entries ids)
     (used_are_rounds entries ids) can.whole_rows in
     record {
-      few_rows = omega (arith, many, as_many, kept_few);
+      few_rows = omega (arith, many, as_many, few_kept f live entries ids e);
       few_items = few;
       whole = subst (All (λ row. length row ≡ length f.universals)) (sym x.rows) whole;
       items = subst (λ n. AreItems (is_pair_number f n) (numbered_from (first_id f n)) d.items) (sym many)
@@ -233,8 +186,3 @@ exported_spelled f live entries id ids d e can are x few =
           (exported_lines_are_allowed f live entries id ids exported.0 e.well_formed e.logged can.instances can.refuted
           are exported.1)));
     }
-
--- what is right of each result is so of this one
-pub ok_by : {X E : Type 0} (P Q : X → Type 0) (r : Result X E) → ((x : X) → P x → Q x) → IfOk r P → IfOk r Q
-ok_by P Q (Ok x) right is = right x is
-ok_by P Q (Err e) right is = tt

@@ -79,7 +79,7 @@ derived_consistent entries r lemmas injective id learned = by_entry (numbered ha
 module _ (f : Dqbf) (entries : List Entry) (id : ℕ) (ids : List ℕ) (e : CircuitPart)
     (d : AreCircuitIds f entries id ids e) where
   small_numbers : max_number f e < 4611686018427387904
-  small_numbers = let a = d.small.few_inputs in let b = d.small.few_gates in omega (arith, a, b)
+  small_numbers = omega (arith, d.small.few_inputs, d.small.few_gates)
 
   -- literals of given clauses are named
   pub given_named : ((es : List Entry) (h : ℕ) (c : List Literal) → AreLogged es → clause_at es h ≡ Some c →
@@ -144,7 +144,7 @@ module _ (f : Dqbf) (entries : List Entry) (id : ℕ) (ids : List ℕ) (e : Circ
       omega (arith, whole, gates_is)
 
   pub last_small : last_negated f.matrix e.gates ≤ 100000000000000000
-  last_small = let a = d.small.few_gates in let b = d.few_literals in omega (arith, a, b)
+  last_small = omega (arith, d.small.few_gates, d.few_literals)
 
   pub are_proof_steps : (r : Renaming) (last : ℕ) (steps : List ProofStep) → IsCircuitRenaming f entries e ids r →
       last ≡ last_negated f.matrix e.gates →
@@ -189,15 +189,18 @@ decided_ids f log id ids well few_variables few_clauses can logged reached_are_i
 pub decided_id : (f : Dqbf) (entries : List Entry) (id : ℕ) → IsDecidedTrue f entries id → IsId entries id
 decided_id f entries id decided =
     let last : id ≡ last_id decided.earlier + 1 = decided.last ∙ ap last_id decided.answered in
-    let is = decided.last in
-    record { from_one = omega (arith, last); last = omega (arith, is) }
+    record { from_one = omega (arith, last); last = omega (arith, decided.last) }
 
 pub small_part : (f : Dqbf) (gates : List ℕ) → HasLawfulPrefix f → f.variables ≤ 1000000 → length f.matrix ≤ 10000000 →
     length gates ≤ 10000000000000000 → IsSmall f gates
 small_part f gates prefix few_variables few_clauses few_gates =
-    let most = few_declared f prefix in
     let long = length-append f.universals (map (λ y. y.variable) f.existentials) in
-    record { few_inputs = omega (arith, most, long, few_variables); few_gates = few_gates; few_clauses = few_clauses }
+    record {
+      few_inputs =
+          omega (arith, few_declared f prefix, long, few_variables);
+      few_gates = few_gates;
+      few_clauses = few_clauses;
+    }
 
 -- lines with small numbers
 small_lines : (is_variable : ℕ → Bool) (first : ℕ) (steps : List ProofStep) → AreSteps is_variable first steps →
@@ -205,9 +208,8 @@ small_lines : (is_variable : ℕ → Bool) (first : ℕ) (steps : List ProofStep
     All IsSmallItem (map derived steps)
 small_lines is_variable first [] are few vars = All-nil IsSmallItem
 small_lines is_variable first (s ∷ ss) are few vars =
-    let is = are.0.numbered in
     All-cons IsSmallItem (derived s) (map derived ss) (record {
-      id = omega (arith, is, few);
+      id = omega (arith, are.0.numbered, few);
       variables = λ k d below. vars (variable_of (get_or s.literals k d))
           (are.0.on_variables k d below);
     })
@@ -220,10 +222,10 @@ module _ (f : Dqbf) (entries : List Entry) (id : ℕ) (ids : List ℕ) (file : A
 
   pub is_proved : ExportedAnswerIsProved → IsProvedCircuit f file proof
   is_proved law =
-      let few = decided.few_variables in
       law f entries id x.part ids x.lines.1.0 file proof decided.well_formed decided.logged decided.inputs
       decided.givens decided.lemmas_are_derived x.from.part decided.reached x.lines.1.1
-      (small_numbers f entries id ids x.part x.from) (omega (arith, few)) x.written.circuit x.written.symbols
+      (small_numbers f entries id ids x.part x.from)
+      (omega (arith, decided.few_variables)) x.written.circuit x.written.symbols
       (x.lines.2 ∙ ap (map derived) x.lines.1.2)
 
   pub is_few : length proof.items ≤ count is_lemma entries
@@ -235,16 +237,19 @@ module _ (f : Dqbf) (entries : List Entry) (id : ℕ) (ids : List ℕ) (file : A
   number_is : file.circuit.max_var ≡ max_number f x.part
   number_is = ap (λ (n : Netlist). n.max_var) x.written.circuit
 
+  gates_are : length file.circuit.gates ≡ length x.part.gates
+  gates_are = ap (λ (n : Netlist). length n.gates) x.written.circuit ∙ length-map x.part.gates
+      (gate_at f entries x.part)
+
   pub is_writable : ExportedFileIsSpellable → IsWritable file
   is_writable law comment few =
-      let most = few_declared f decided.well_formed.prefix in
       let long = length-append f.universals (map (λ y. y.variable) f.existentials) in
       let mapped = length-map f.existentials (λ y. y.variable) in
       let vars = decided.few_variables in
-      let is = number_is in
       law f entries x.part (record { circuit = file.circuit; symbols = file.symbols; comment = comment })
       decided.well_formed.prefix (omega (arith, vars)) decided.logged decided.inputs x.from.part.part
-      x.written.circuit x.written.symbols (omega (arith, few, is)) (omega (arith, most, long, mapped, vars))
+      x.written.circuit x.written.symbols (omega (arith, few, number_is))
+      (omega (arith, few_declared f decided.well_formed.prefix, long, mapped, vars))
 
   steps_allowed : AreSteps (is_proof_variable f file.circuit) (first_proof_id f file.circuit) x.lines.0
   steps_allowed =
@@ -255,12 +260,7 @@ module _ (f : Dqbf) (entries : List Entry) (id : ℕ) (ids : List ℕ) (file : A
       (first_proof_id f (exported_netlist f entries x.part))) (sym x.lines.1.2) allowed)
 
   first_small : first_proof_id f file.circuit ≤ 100000000000000001
-  first_small =
-      let base = last_small f entries id ids x.part x.from in
-      let gates = ap (λ (n : Netlist). length n.gates) x.written.circuit in
-      let long : length (exported_netlist f entries x.part).gates ≡ length x.part.gates =
-      length-map x.part.gates (gate_at f entries x.part) in
-      omega (arith, base, gates, long)
+  first_small = omega (arith, last_small f entries id ids x.part x.from, gates_are)
 
   pub is_allowed : length proof.items ≤ 1000000000 → IsDqpOf f file.circuit proof
   is_allowed few = record {
@@ -271,31 +271,16 @@ module _ (f : Dqbf) (entries : List Entry) (id : ℕ) (ids : List ℕ) (file : A
         steps_allowed);
     small = subst (All IsSmallItem) (sym x.lines.2) (small_lines (is_proof_variable f file.circuit)
         (first_proof_id f file.circuit) x.lines.0 steps_allowed
-        (let first = first_small in let many = ap length x.lines.2 ∙ length-map x.lines.0 derived in
-        omega (arith, first, few, many)) variables);
+        (omega (arith, first_small, few, ap length x.lines.2 ∙ length-map x.lines.0 derived)) variables);
   } where
     variables : (v : ℕ) → is_proof_variable f file.circuit v ≡ true → v < 1000000000000000000
     variables v h =
         let up = leb-true v (file.circuit.max_var + length f.matrix)
         (and_parts (nat_le 1 v) (nat_le v (file.circuit.max_var + length f.matrix)) h).1 in
-        let is = number_is in
-        let a = x.from.small.few_inputs in
-        let b = x.from.small.few_gates in
-        let c = x.from.small.few_clauses in
-        omega (arith, up, is, a, b, c)
+        omega (arith, up, number_is, x.from.small.few_inputs, x.from.small.few_gates, x.from.small.few_clauses)
 
   pub few_gates : length file.circuit.gates ≤ count is_gate_name entries
-  few_gates =
-      let gates = ap (λ (n : Netlist). length n.gates) x.written.circuit in
-      let long : length (exported_netlist f entries x.part).gates ≡ length x.part.gates =
-      length-map x.part.gates (gate_at f entries x.part) in
-      let few = x.few_gates in
-      omega (arith, gates, long, few)
+  few_gates = omega (arith, gates_are, x.few_gates)
 
   pub numbers_are : file.circuit.max_var ≡ length f.universals + length file.circuit.gates
-  numbers_are =
-      let gates = ap (λ (n : Netlist). length n.gates) x.written.circuit in
-      let long : length (exported_netlist f entries x.part).gates ≡ length x.part.gates =
-      length-map x.part.gates (gate_at f entries x.part) in
-      let is = number_is in
-      omega (arith, gates, long, is)
+  numbers_are = omega (arith, gates_are, number_is)

@@ -5,22 +5,20 @@ use Rattle.std.specs.List.Sorted.{IsStrictlyIncreasing}
 use Rattle.std.proofs.lemmas.Bool.{eq-eqb, ne_eqb, eqb-true, false≢true}
 use Rattle.std.proofs.lemmas.List.FromFn.{length-range_with_len, get_or-range_with_len}
 use Rattle.std.proofs.lemmas.List.Sums.{position_or_len_is}
-use Rattle.std.proofs.lemmas.List.Elements.{All-nil, All-head, All-tail, All-push}
+use Rattle.std.proofs.lemmas.List.Elements.{All-head, All-tail}
 use Rattle.list_laws.proofs.Elements.{place_within as small_place}
 use Rattle.list_laws.proofs.Members.{contains-range_from_one}
 use Rattle.dq_lits.specs.Literal.{Literal}
 use Rattle.dq_lits.specs.Formula.{Dqbf}
 use Rattle.hint_log.specs.Conditions.{MayFollow}
 use Rattle.hint_log.specs.Deciding.{ReachesGiven, IsInstance, IsFaultLeaf, LeafReads}
-use Rattle.hint_log.specs.Entries.{Entry, Named, Given, Learned, Answer, Round, Begun, has_id, last_id, numbered, name_of}
+use Rattle.hint_log.specs.Entries.{Entry, Given, Answer, has_id, numbered}
 use Rattle.hint_log.specs.Growth.{Each}
 use Rattle.hint_log.specs.Live.{live_numbers, formula_of, formula_by, AreNumbers}
-use Rattle.hint_log.specs.Naming.{numbered_from_one, rows_of}
+use Rattle.hint_log.specs.Naming.{numbered_from_one}
 use Rattle.hint_log.specs.Origins.{IsInstanceRest, IsOriginsClause}
-use Rattle.hint_log.specs.ProductiveLog.{IsRightlyNamed, MatchesOrigin, IsDerivedByHints, IsProductiveLog}
+use Rattle.hint_log.specs.ProductiveLog.{MatchesOrigin, RefutesNewRow, IsDerivedByHints, IsProductiveLog}
 use Rattle.hint_log.specs.ProductiveSession.{MatchesLiveOrigin, RefutesNewLiveRow, IsSinceBeginning, DecidesLiveTrue, IsProductiveSession}
-use Rattle.hint_log.specs.Reached.{Reaches}
-use Rattle.hint_log.specs.declared.names.Name.TheVariants.{Input}
 use Rattle.hint_log.specs.declared.origins.Leaf.{Leaf}
 use Rattle.hint_log.specs.declared.origins.Origin.{Origin}
 use Rattle.hint_log.specs.declared.origins.Origin.TheVariants.{Instance, Gate, Fault, Copy, Link, TermGate, Differ}
@@ -33,42 +31,29 @@ use Rattle.cert_export.specs.Expansion.{number_among, IsInstanceClause}
 use Rattle.cert_export.specs.Exported.{CanExportFalse}
 use Rattle.cert_export.specs.ExportedCircuit.{IsDecidedTrue, CanExportTrue}
 use Rattle.cert_export.specs.ExportableLogs.{ProductiveAnswersCanExport, RestsOnLive, SessionAnswersCanExport}
-use Rattle.cert_export.proofs.Answers.{reached_given}
-use Rattle.cert_export.proofs.CircuitNumbers.{input_universal}
-use Rattle.cert_export.proofs.CircuitClauses.{range_at, there_is}
+use Rattle.cert_export.proofs.Answers.{reached_here}
+use Rattle.cert_export.proofs.CircuitNumbers.{inputs_by}
+use Rattle.cert_export.proofs.CircuitClauses.{there_is}
 use Rattle.cert_export.proofs.ExportableAnswers.{rows_whole}
 use Rattle.cert_export.proofs.PairNames.{from_one}
 
 -- where all clauses are live, each has its own number
 own_number : (n j : ℕ) → 1 ≤ j → j ≤ n → number_among (range_with_len 1 n) j ≡ j
 own_number n j one last =
-    let long = length-range_with_len 1 n in
     let place : position_or_len (λ i. i == j) (range_with_len 1 n) ≡ j - 1 =
-    position_or_len_is (λ i. i == j) (range_with_len 1 n) (j - 1) 0 (omega (arith, one, last, long))
+    position_or_len_is (λ i. i == j) (range_with_len 1 n) (j - 1) 0
+    (omega (arith, one, last, length-range_with_len 1 n))
     (λ k below. ne_eqb (get_or (range_with_len 1 n) k 0) j (λ same. let at =
     get_or-range_with_len 1 n k 0 (omega (arith, below, last)) in omega (arith, at, same, below)))
     (λ below. eq-eqb (get_or (range_with_len 1 n) (j - 1) 0) j
-    (let at = get_or-range_with_len 1 n (j - 1) 0 (omega (arith, one, last)) in omega (arith, at, one))) in
+    (omega (arith, get_or-range_with_len 1 n (j - 1) 0 (omega (arith, one, last)), one))) in
     omega (arith, place, one)
 
 all_ascend : (n : ℕ) → IsStrictlyIncreasing (range_with_len 1 n)
 all_ascend n k below =
     let long = length-range_with_len 1 n in
-    let here = range_at 1 n k (omega (arith, below, long)) in
-    let next = range_at 1 n (k + 1) (omega (arith, below, long)) in
-    omega (arith, here, next)
-
--- a given clause that the last answer reaches is reached by its hints
-reached_here : (entries earlier : List Entry) (id : ℕ) (clause : List Literal) (hints : List ℕ) →
-    Each MayFollow entries → entries ≡ Answer clause hints ∷ earlier → id ≡ last_id entries
-    → (h : ℕ) (origin : Origin) (c : List Literal) → Reaches entries id h →
-    numbered has_id entries h ≡ Some (Given origin c) → ReachesGiven earlier hints origin c
-reached_here entries earlier id clause hints lawful answered last h origin c reached at =
-    let all = Answer clause hints ∷ earlier in
-    let id_is : id ≡ last_id all = last ∙ ap last_id answered in
-    reached_given earlier clause hints (subst (Each MayFollow) answered lawful) h origin c
-    (subst (λ n. Reaches all n h) id_is (subst (λ xs. Reaches xs id h) answered reached))
-    (ap (λ xs. numbered has_id xs h) (sym answered) ∙ at)
+    let next = get_or-range_with_len 1 n (k + 1) 0 (omega (arith, below, long)) in
+    omega (arith, get_or-range_with_len 1 n k 0 (omega (arith, below, long)), next)
 
 -- the numbers of an instance's clause
 instance_number : (f : Dqbf) (before : List Entry) (k j : ℕ) (c : List Literal) →
@@ -76,9 +61,8 @@ instance_number : (f : Dqbf) (before : List Entry) (k j : ℕ) (c : List Literal
 instance_number f before k j c own =
     let rest : IsInstanceRest f before k j own.rest = own.rest_is in
     let there = from_one f.matrix j rest.clause rest.clause_is in
-    let small = small_place f.matrix (j - 1) rest.clause there.1 in
     let one = there.0 in
-    (one, omega (arith, one, small))
+    (one, omega (arith, one, small_place f.matrix (j - 1) rest.clause there.1))
 
 module _ (f : Dqbf) (entries : List Entry) (id : ℕ) (lawful : Each MayFollow entries)
     (log : IsProductiveLog f entries) where
@@ -90,7 +74,8 @@ module _ (f : Dqbf) (entries : List Entry) (id : ℕ) (lawful : Each MayFollow e
   can_export_true : IsDecidedTrue f entries id → CanExportTrue f entries id
   can_export_true decided = record {
     decided = decided;
-    inputs = λ v x named. input_universal f entries v x log.givens_match_origins named;
+    inputs = λ v x named. inputs_by f (MatchesOrigin f) (λ es w n right. right) entries v x
+        log.givens_match_origins named;
     givens = λ h origin c reached at. own_origin origin c;
     lemmas_are_derived = log.lemmas_are_derived;
   }
@@ -116,12 +101,13 @@ module _ (f : Dqbf) (entries : List Entry) (id : ℕ) (lawful : Each MayFollow e
   can_export_false refuted = record {
     refuted = refuted;
     instances = λ h origin c reached at. instance_clause h origin c
-        (refuted.decides.instances origin c (reached_here entries refuted.earlier id refuted.clause refuted.hints lawful
+        (refuted.decides.instances origin c (reached_here entries refuted.earlier refuted.clause refuted.hints id lawful
         refuted.answered refuted.last h origin c reached at)) at;
     numbers_ascend = all_ascend (length f.matrix);
     one_each = length-range_with_len 1 (length f.matrix);
     lemmas_are_derived = log.lemmas_are_derived;
-    whole_rows = rows_whole f entries log.rounds_refute_new_rows;
+    whole_rows = rows_whole (length f.universals) (RefutesNewRow f) (λ es row values j new. new.row_length) entries
+        log.rounds_refute_new_rows;
   }
 
 pub productive_answers : ProductiveAnswersCanExport
@@ -129,33 +115,6 @@ productive_answers f entries id lawful log = (
   can_export_true f entries id lawful log,
   can_export_false f entries id lawful log,
 )
-
--- inputs of a session are universals of all that was numbered
-input_live : (all : Dqbf) (es : List Entry) (v x : ℕ) → Each (MatchesLiveOrigin all) es →
-    name_of es v ≡ Some (Input x) → Contains all.universals x
-input_live all [] v x given h = cc
-input_live all (Named w n ∷ es) v x given h = by_bit (input_live all es v x given.1) (v == w) h where
-  by_bit : (name_of es v ≡ Some (Input x) → Contains all.universals x) → (b : Bool) →
-      cond b (Some n) (name_of es v) ≡ Some (Input x) → Contains all.universals x
-  by_bit later true h = let same : n ≡ Input x = cc in subst (IsRightlyNamed all) same given.0
-  by_bit later false h = later h
-input_live all (Given origin c ∷ es) v x given h = input_live all es v x given.1 h
-input_live all (Learned c hints ∷ es) v x given h = input_live all es v x given.1 h
-input_live all (Answer c hints ∷ es) v x given h = input_live all es v x given.1 h
-input_live all (Round row values j ∷ es) v x given h = input_live all es v x given.1 h
-input_live all (Begun live ∷ es) v x given h = input_live all es v x given.1 h
-
-live_rows_whole : (all : Dqbf) (es : List Entry) → Each (RefutesNewLiveRow all) es →
-    All (λ row. length row ≡ length all.universals) (rows_of es)
-live_rows_whole all [] h = All-nil (λ row. length row ≡ length all.universals)
-live_rows_whole all (Named v n ∷ es) h = live_rows_whole all es h.1
-live_rows_whole all (Given origin c ∷ es) h = live_rows_whole all es h.1
-live_rows_whole all (Learned c hints ∷ es) h = live_rows_whole all es h.1
-live_rows_whole all (Answer c hints ∷ es) h = live_rows_whole all es h.1
-live_rows_whole all (Round row values j ∷ es) h =
-    All-push (λ r. length r ≡ length all.universals) (rows_of es) row (live_rows_whole all es h.1)
-    (h.0.row_length ∙ same_universals all (live_numbers es))
-live_rows_whole all (Begun live ∷ es) h = live_rows_whole all es h.1
 
 -- the clauses of live numbers, each at its number's place
 live_clauses_long : (all : Dqbf) (live : List ℕ) → All (λ i. (1 ≤ i) × (i ≤ length all.matrix)) live →
@@ -193,7 +152,7 @@ live_clause_there all (i ∷ live) j c are inside at =
     by_bit false other (suc k, below, is) behind =
         let place = position_or_len (λ n. n == j) live in
         let next : 1 + place ≡ suc place = omega arith in
-        ap (slice_get (first.0 ∷ clauses)) next ∙ behind (k, (let b = below in omega (arith, b)), is)
+        ap (slice_get (first.0 ∷ clauses)) next ∙ behind (k, (omega (arith, below)), is)
 
 -- an instance of a live clause, by the formula of the live ones
 live_instance : (all : Dqbf) (live : List ℕ) (before : List Entry) (k j : ℕ) (c : List Literal) → AreNumbers all live →
@@ -262,9 +221,10 @@ module _ (all : Dqbf) (frames live : List ℕ) (entries : List Entry) (id : ℕ)
     session_true : CanExportTrue (formula_of all live) entries id
     session_true = record {
       decided = decided;
-      inputs = λ v x named. input_live all entries v x log.givens_match_origins named;
+      inputs = λ v x named. inputs_by all (MatchesLiveOrigin all) (λ es w n right. right) entries v x
+          log.givens_match_origins named;
       givens = λ h origin c reached at. live_givens origin c
-          (reached_here entries decided.earlier id decided.clause decided.hints lawful decided.answered decided.last h
+          (reached_here entries decided.earlier decided.clause decided.hints id lawful decided.answered decided.last h
           origin c reached at);
       lemmas_are_derived = log.lemmas_are_derived;
     }
@@ -296,14 +256,16 @@ module _ (all : Dqbf) (frames live : List ℕ) (entries : List Entry) (id : ℕ)
   session_false refuted rests = record {
     refuted = refuted;
     instances = λ h origin c reached at.
-        let mine = reached_here entries refuted.earlier id refuted.clause refuted.hints lawful refuted.answered
+        let mine = reached_here entries refuted.earlier refuted.clause refuted.hints id lawful refuted.answered
         refuted.last h origin c reached at in
         live_instance_clause origin c (refuted.decides.instances origin c mine)
         (λ k j is. rests k j c (subst (λ o. ReachesGiven refuted.earlier refuted.hints o c) is mine));
     numbers_ascend = numbers.ascending;
     one_each = sym (live_clauses_long all live numbers.numbers);
     lemmas_are_derived = log.lemmas_are_derived;
-    whole_rows = live_rows_whole all entries log.rounds_refute_new_rows;
+    whole_rows = rows_whole (length all.universals) (RefutesNewLiveRow all)
+        (λ es row values j new. new.row_length ∙ same_universals all (live_numbers es)) entries
+        log.rounds_refute_new_rows;
   }
 
 pub session_answers : SessionAnswersCanExport

@@ -1,20 +1,16 @@
 -- An answer that shows outputs to be right is exported as a proof that the checker accepts and that a text can hold.
-use Rattle.std.proofs.Common.{◌≡◌, nat_le, ℕ, ◌+◌, ◌≤◌, true, false, inl, inr, List, [], ◌∷◌, map, length, Option, None, Some, refl, sym, ◌∙◌, ap, subst, arith}
+use Rattle.std.proofs.Common.{◌≡◌, nat_le, ℕ, ◌+◌, ◌≤◌, true, false, inl, inr, List, [], map, length, None, Some, refl, sym, ◌∙◌, ap, subst, arith}
 use Rattle.std.proofs.lemmas.Bool.{and_from, le-leb}
 use Rattle.std.proofs.lemmas.List.{length-map}
 use Rattle.std.proofs.lemmas.List.Kept.{AllPairs-from_increasing}
 use Rattle.dq_lits.specs.Literal.{Literal}
 use Rattle.dq_lits.specs.Formula.{Dqbf, IsWellFormed}
-use Rattle.dq_lits.specs.Derivation.{is_empty}
-use Rattle.hint_log.specs.Conditions.{MayFollow, AreLogged}
-use Rattle.hint_log.specs.Deciding.{ReachesGiven, IsCircuitGiven, ReadsInput, itself, left, right, LeafReads}
-use Rattle.hint_log.specs.Entries.{Entry, Given, Answer, has_id, last_id, numbered, name_of}
+use Rattle.hint_log.specs.Conditions.{AreLogged}
+use Rattle.hint_log.specs.Deciding.{ReachesGiven, IsCircuitGiven}
+use Rattle.hint_log.specs.Entries.{Entry, Given, has_id, numbered, name_of}
 use Rattle.hint_log.specs.Growth.{Each}
 use Rattle.hint_log.specs.ProductiveLog.{IsDerivedByHints}
 use Rattle.hint_log.specs.Reached.{Reaches, AreReached}
-use Rattle.hint_log.specs.declared.names.Name.TheVariants.{Selector}
-use Rattle.hint_log.specs.declared.origins.Leaf.{Leaf}
-use Rattle.hint_log.specs.declared.origins.Leaf.TheVariants.{Constant, Literal as LeafLiteral}
 use Rattle.hint_log.specs.declared.origins.Origin.{Origin}
 use Rattle.hint_log.specs.declared.origins.Origin.TheVariants.{Instance, Gate, Fault, Copy, Link, TermGate, Differ}
 use Rattle.rup_core.specs.Items.{derived}
@@ -25,48 +21,24 @@ use Rattle.proof_checker.specs.CircuitProof.{negated_candidate, circuit_proof_fa
 use Rattle.cert_export.specs.CircuitPart.{CircuitPart, circuit_number, circuit_renaming, circuit_id, IsCircuitClause, IsRightCircuitClause, exported_candidate, exported_netlist, last_base_id, gate_of, max_number}
 use Rattle.cert_export.specs.ExportedCircuit.{IsExportedPart, IsCircuitRenaming, proof_number, proof_steps, ExportedAnswerIsAccepted, ExportedProofIsAllowed}
 use Rattle.cert_export.specs.LineOrder.{IsRenamedBase, AreLineNumbers, AreLines, AreFinished}
-use Rattle.cert_export.specs.Lines.{clause_or_empty, is_derived, derived_ids, line_clause}
+use Rattle.cert_export.specs.Lines.{is_derived, derived_ids}
 use Rattle.cert_export.specs.Given.{HasUniversalInputs, IsGivenRightly, EachGivenReached}
-use Rattle.cert_export.specs.Renaming.{Renaming, IsInjective, renamed_clause, IsPartOf}
+use Rattle.cert_export.specs.Renaming.{Renaming, IsInjective, renamed_clause}
 use Rattle.cert_export.proofs.Allowed.{consecutive, steps_allowed}
-use Rattle.cert_export.proofs.Answers.{answer_there, reached_given, selectors_dropped}
+use Rattle.cert_export.proofs.Answers.{reached_here, answer_at, answer_empty}
 use Rattle.cert_export.proofs.CircuitClauses.{circuit_clauses_are_negated_matrix}
 use Rattle.cert_export.proofs.CircuitNumbers.{IsNumbered, number_cases, circuit_numbers_are_injective}
 use Rattle.cert_export.proofs.DerivedLines.{lines_are_derived}
 use Rattle.cert_export.proofs.Numbers.{lines_have_numbers, rising_filter}
 use Rattle.cert_export.proofs.ReachedLines.{rising_of, are_lines, are_finished}
 
--- an answer names nothing, so that a leaf reads with it what it reads without it
-module _ (clause : List Literal) (hints : List ℕ) (earlier : List Entry) where
-  reads_before : (l : Literal) (x : ℕ) → ReadsInput (Answer clause hints ∷ earlier) l x → ReadsInput earlier l x
-  reads_before l x (itself _ _ named) = itself l x named
-  reads_before l x (left _ a b _ named reads) = left l a b x named (reads_before a x reads)
-  reads_before l x (right _ a b _ named reads) = right l a b x named (reads_before b x reads)
-
-  leaf_reads_before : (leaf : Leaf) (x : ℕ) → LeafReads (Answer clause hints ∷ earlier) leaf x →
-      LeafReads earlier leaf x
-  leaf_reads_before (Constant b) x reads = absurd reads
-  leaf_reads_before (LeafLiteral l) x reads = reads_before l x reads
-
 module _ (f : Dqbf) (entries : List Entry) (id : ℕ) (e : CircuitPart) (lawful : AreLogged entries)
     (x : IsExportedPart f entries id e) where
-  abbrev all : List Entry
-  all = Answer x.decided.clause x.decided.hints ∷ x.decided.earlier
-
-  lawful' : Each MayFollow all
-  lawful' = subst (Each MayFollow) x.decided.answered lawful
-
-  id_is : id ≡ last_id all
-  id_is = x.decided.last ∙ ap last_id x.decided.answered
-
   pub usable : (h : ℕ) (origin : Origin) (c : List Literal) → Reaches entries id h →
       numbered has_id entries h ≡ Some (Given origin c) → IsCircuitClause f e origin c
   usable h origin c reached at =
-      let reached' : Reaches all (last_id all) h = subst (λ n. Reaches all n h) id_is
-      (subst (λ xs. Reaches xs id h) x.decided.answered reached) in
-      let at' : numbered has_id all h ≡ Some (Given origin c) =
-      ap (λ xs. numbered has_id xs h) (sym x.decided.answered) ∙ at in
-      let there = reached_given x.decided.earlier x.decided.clause x.decided.hints lawful' h origin c reached' at' in
+      let there = reached_here entries x.decided.earlier x.decided.clause x.decided.hints id lawful x.decided.answered
+      x.decided.last h origin c reached at in
       by_origin origin there (x.decided.decides.rests.circuit origin c there) at where
         by_origin : (o : Origin) → ReachesGiven x.decided.earlier x.decided.hints o c →
             IsCircuitGiven x.decided.decides.rests.group o c → numbered has_id entries h ≡ Some (Given o c) →
@@ -82,24 +54,6 @@ module _ (f : Dqbf) (entries : List Entry) (id : ℕ) (e : CircuitPart) (lawful 
         by_origin (TermGate v i) there mine at = absurd mine
         by_origin (Differ y leaf part) there mine at = absurd mine
 
-  answer_at : numbered has_id entries id ≡ Some (Answer x.decided.clause x.decided.hints)
-  answer_at = ap (λ xs. numbered has_id xs id) x.decided.answered ∙ ap (numbered has_id all) id_is
-      ∙ answer_there x.decided.earlier x.decided.clause x.decided.hints lawful'
-
-  answer_empty : (r : Renaming) → IsPartOf r (circuit_renaming f entries e) → is_empty (line_clause r entries id) ≡ true
-  answer_empty r part =
-      ap (λ o. is_empty (renamed_clause r (clause_or_empty o))) answer_at
-      ∙ ap is_empty (selectors_dropped x.decided.earlier x.decided.clause x.decided.hints lawful' r no_selector
-      x.decided.clause x.decided.decides.rests.selectors) where
-        no_selector : (v : ℕ) → name_of x.decided.earlier v ≡ Some (Selector v) → r v ≡ None
-        no_selector v named = by_option (r v) refl where
-          there : name_of entries v ≡ Some (Selector v)
-          there = ap (λ xs. name_of xs v) x.decided.answered ∙ named
-
-          by_option : (o : Option ℕ) → r v ≡ o → o ≡ None
-          by_option None is = refl
-          by_option (Some n) is = let both : None ≡ Some n = sym (ap (circuit_number f e v) there) ∙ part v n is in cc
-
 -- the numbers are those of the proof's variables
 module _ (f : Dqbf) (entries : List Entry) (e : CircuitPart) where
   in_proof : (v x : ℕ) → circuit_renaming f entries e v ≡ Some x →
@@ -112,7 +66,7 @@ module _ (f : Dqbf) (entries : List Entry) (e : CircuitPart) where
         bounds (inl i) = let a = i.2.number in let b = i.2.below in (omega (arith, a), omega (arith, a, b))
         bounds (inr (inl g)) = let a = g.1.number in let b = g.1.below in let c = g.2 in
             (omega (arith, a, c), omega (arith, a, b, c))
-        bounds (inr (inr j)) = let a = j.2 in let b = j.3 in let c = j.4 in (omega (arith, a, b), omega (arith, b, c))
+        bounds (inr (inr j)) = let b = j.3 in (omega (arith, j.2, b), omega (arith, b, j.4))
 
   first_is : last_base_id f e + 1 ≡ first_proof_id f (exported_netlist f entries e)
   first_is =
@@ -154,7 +108,11 @@ module _ (f : Dqbf) (entries : List Entry) (id : ℕ) (e : CircuitPart) (ids : L
   finished : AreFinished r entries false (derived_ids entries ids)
   finished = are_finished IsUsed entries lawful id (proof_number f entries e ids)
       (last_base_id f e) numbers used r ids are
-      (ap is_derived (answer_at f entries id e lawful x)) (answer_empty f entries id e lawful x r names.right)
+      (ap is_derived (answer_at entries x.decided.earlier x.decided.clause x.decided.hints id lawful x.decided.answered
+      x.decided.last))
+      (answer_empty entries x.decided.earlier x.decided.clause x.decided.hints id lawful x.decided.answered
+      x.decided.last r (circuit_renaming f entries e) names.right (λ v named. ap (circuit_number f e v) named)
+      x.decided.decides.rests.selectors)
 
   accepted : Each IsDerivedByHints entries → circuit_proof_fault (exported_candidate f entries e)
       (map derived (proof_steps f entries e ids r)) ≡ None

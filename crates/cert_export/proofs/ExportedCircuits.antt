@@ -4,7 +4,7 @@ use Rattle.std.specs.List.{All, Contains, range_with_len}
 use Rattle.std.proofs.lemmas.Bool.{cond-true, cases_lt, true≢false}
 use Rattle.std.proofs.lemmas.List.{get_or-map, get_or-append-add, length-map}
 use Rattle.std.proofs.lemmas.List.Elements.{All-contains, All-nil, All-cons, All-map, Contains-get_or}
-use Rattle.std.proofs.lemmas.List.FromFn.{length-range_with_len}
+use Rattle.std.proofs.lemmas.List.FromFn.{length-range_with_len, get_or-range_with_len}
 use Rattle.list_laws.proofs.Members.{contains_map, mapped_from, place_within}
 use Rattle.dq_lits.specs.Literal.{Literal, positive, negative, variable_of, is_negative}
 use Rattle.dq_lits.specs.Formula.{Dqbf, Existential, IsWellFormed}
@@ -27,7 +27,6 @@ use Rattle.cert_export.specs.Given.{HasUniversalInputs}
 use Rattle.cert_export.specs.Renaming.{Renaming}
 use Rattle.hint_log.specs.Deciding.{ReadsInput, itself, left, right, LeafReads}
 use Rattle.cert_export.proofs.CircuitNumbers.{IsNumbered, number_cases, HasNumber, code_at, circuit_numbered, circuit_numbers_are_injective}
-use Rattle.cert_export.proofs.CircuitClauses.{range_at}
 use Rattle.cert_export.proofs.Codes.{half_even, half_odd}
 use Rattle.log_laws.proofs.ReachedClauses.{name_stays}
 use Rattle.log_laws.proofs.Solved.{sides}
@@ -105,12 +104,11 @@ module _ (f : Dqbf) (all : List Entry) (e : CircuitPart) (lawful : Each MayFollo
         by_case : IsNumbered f e (variable_of l) (name_of all (variable_of l)) n →
             ReadsInput all l (slice_index f.universals p)
         by_case (inl i) =
-            let place = i.2.number in
-            let same : i.2.place ≡ p = omega (arith, place, last) in
+            let same : i.2.place ≡ p = omega (arith, i.2.number, last) in
             let u : i.0 ≡ slice_index f.universals p = sym i.2.there ∙ ap (slice_index f.universals) same in
             itself l (slice_index f.universals p) (i.1 ∙ ap (λ x. Some (Input x)) u)
-        by_case (inr (inl g)) = let a = g.1.number in let b = g.2 in absurd (omega (arith, a, b, last, below))
-        by_case (inr (inr j)) = let a = j.2 in let b = j.3 in absurd (omega (arith, a, b, last, below))
+        by_case (inr (inl g)) = absurd (omega (arith, g.1.number, g.2, last, below))
+        by_case (inr (inr j)) = absurd (omega (arith, j.2, j.3, last, below))
   reach_reads n m (reaches_left g inside rest) l is p last below =
       let q = file_gate_in g inside in
       let same : variable_of l ≡ q.variable = same_number (variable_of l) q.variable n q.own.number is q.own.is
@@ -126,10 +124,10 @@ module _ (f : Dqbf) (all : List Entry) (e : CircuitPart) (lawful : Each MayFollo
 
   none_reached : (n m : ℕ) → Reaches net n m → n ≡ 0 → 1 ≤ m → ⊥
   none_reached n m reaches_itself zero_is one = omega arith
-  none_reached n m (reaches_left g inside rest) zero_is one = let q = file_gate_in g inside in let a = q.variable_is in
-      let b = q.own.from_one in omega (arith, a, b, zero_is)
-  none_reached n m (reaches_right g inside rest) zero_is one = let q = file_gate_in g inside in let a = q.variable_is in
-      let b = q.own.from_one in omega (arith, a, b, zero_is)
+  none_reached n m (reaches_left g inside rest) zero_is one = let q = file_gate_in g inside in
+      omega (arith, q.variable_is, q.own.from_one, zero_is)
+  none_reached n m (reaches_right g inside rest) zero_is one = let q = file_gate_in g inside in
+      omega (arith, q.variable_is, q.own.from_one, zero_is)
 
   leaf_reads : (leaf : Leaf) → IsLeafInFile all e.gates leaf → (p : ℕ) → p < length f.universals →
       Reaches net (literal_variable (leaf_code r leaf)) (p + 1) → LeafReads all leaf (slice_index f.universals p)
@@ -165,8 +163,7 @@ module _ (f : Dqbf) (all : List Entry) (e : CircuitPart) (lawful : Each MayFollo
             (name_of all (variable_of l)) n number) where
               by_case : IsNumbered f e (variable_of l) (name_of all (variable_of l)) n → IsGrounded net n
               by_case (inl i) =
-                  let place = i.2.number in
-                  let n_is : 1 + i.2.place ≡ n = omega (arith, place) in
+                  let n_is : 1 + i.2.place ≡ n = omega (arith, i.2.number) in
                   subst (IsGrounded net) n_is (input (place_within 1 (length f.universals) i.2.place i.2.below))
               by_case (inr (inl g)) =
                   let q = file_gate_of (variable_of l) (let p = g.1 in let c =
@@ -260,13 +257,12 @@ once : (f : Dqbf) → IsWellFormed f → (i j : ℕ) (d : Existential) → i < l
 once f well i j d a b less same =
     let us = f.universals in
     let es = map variable f.existentials in
-    let long = length-map f.existentials variable in
-    let both = length-append us es in
     let at_i : get_or (us ++ es) (length us + i) 0 ≡ (get_or f.existentials i d).variable =
     get_or-append-add us es i 0 ∙ get_or-map variable f.existentials i d 0 a in
     let at_j : get_or (us ++ es) (length us + j) 0 ≡ (get_or f.existentials j d).variable =
     get_or-append-add us es j 0 ∙ get_or-map variable f.existentials j d 0 b in
-    well.prefix.declared_once (length us + i) (length us + j) 0 (omega (arith, less)) (omega (arith, b, long, both))
+    well.prefix.declared_once (length us + i) (length us + j) 0 (omega (arith, less))
+    (omega (arith, b, length-map f.existentials variable, length-append us es))
     (at_i ∙ same ∙ sym at_j)
 
 same_place : (f : Dqbf) → IsWellFormed f → (i j : ℕ) (d : Existential) → i < length f.existentials →
@@ -284,8 +280,7 @@ exported_circuit_reads_seen f entries e well lawful given part seen p below q sm
     let y = existential_at f p in
     let inside : Contains f.existentials y = Contains-get_or f.existentials p _ below in
     let out = reads.out in
-    let long = length-map f.existentials variable in
-    let out_small : out < length f.existentials = let b = reads.out_in_range in omega (arith, b, long) in
+    let out_small : out < length f.existentials = omega (arith, reads.out_in_range, length-map f.existentials variable) in
     let at_out : slice_index (map variable f.existentials) out ≡ (get_or f.existentials out y).variable =
     get_or-map variable f.existentials out y 0 out_small in
     let k = inside.0 in
@@ -300,7 +295,8 @@ exported_circuit_reads_seen f entries e well lawful given part seen p below q sm
     let input' = reads.input in
     let in_small = reads.input_in_range in
     let at_input : slice_index (exported_netlist f entries e).inputs input' ≡ input' + 1 =
-    range_at 1 (length f.universals) input' in_small ∙ (let s : 1 + input' ≡ input' + 1 = omega arith in s) in
+    get_or-range_with_len 1 (length f.universals) input' 0 in_small
+    ∙ (let s : 1 + input' ≡ input' + 1 = omega arith in s) in
     let reaches : Reaches (exported_netlist f entries e) (literal_variable
     (leaf_code (circuit_renaming f entries e) (e.leaf y))) (input' + 1) =
     subst (λ n. Reaches (exported_netlist f entries e) (literal_variable n) (input' + 1)) output
@@ -324,8 +320,8 @@ module _ (f : Dqbf) (all : List Entry) (e : CircuitPart) (lawful : Each MayFollo
       circuit_renaming f all e (variable_of l) ≡ Some n → n ≤ max_number f e
   number_small l circuit n is = by_case (number_cases f e (variable_of l) (name_of all (variable_of l)) n is) where
     by_case : IsNumbered f e (variable_of l) (name_of all (variable_of l)) n → n ≤ max_number f e
-    by_case (inl i) = let a = i.2.number in let b = i.2.below in omega (arith, a, b)
-    by_case (inr (inl g)) = let a = g.1.number in let b = g.1.below in let c = g.2 in omega (arith, a, b, c)
+    by_case (inl i) = omega (arith, i.2.number, i.2.below)
+    by_case (inr (inl g)) = omega (arith, g.1.number, g.1.below, g.2)
     by_case (inr (inr j)) = let both : true ≡ false = sym circuit ∙ ap is_circuit_name j.1 in absurd (true≢false both)
 
   code_fits : (l : Literal) → is_circuit_name (name_of all (variable_of l)) ≡ true → IsInFile all e.gates l →
@@ -364,11 +360,11 @@ module _ (f : Dqbf) (all : List Entry) (e : CircuitPart) (lawful : Each MayFollo
       let number = gate_number v inside in
       let both = sides all v n.0 n.1 lawful n.2 in
       let files = part.sides v n.0 n.1 inside n.2 in
-      let one = number.from_one in
-      let most = number_small (positive v) (ap is_circuit_name n.2) number.number number.is in
       let is = ap or_zero number.is in
-      let variable' : IsVariable (max_number f e) (or_zero (circuit_renaming f all e v)) =
-      (omega (arith, one, is), omega (arith, most, is)) in
+      let variable' : IsVariable (max_number f e) (or_zero (circuit_renaming f all e v)) = (
+        omega (arith, number.from_one, is),
+        omega (arith, number_small (positive v) (ap is_circuit_name n.2) number.number number.is, is),
+      ) in
       let left' = code_fits n.0 both.0 files.0 in
       let right' = code_fits n.1 both.1 files.1 in
       subst (IsGate (max_number f e)) (sym (gate_is v inside))
@@ -382,8 +378,8 @@ module _ (f : Dqbf) (all : List Entry) (e : CircuitPart) (lawful : Each MayFollo
             length f.universals < (gate_number v inside).number
         by_case (inl i) = let both : Some (Input i.0) ≡ Some (And (part.named v inside).0 (part.named v inside).1) =
             sym i.1 ∙ (part.named v inside).2 in cc
-        by_case (inr (inl g)) = let a = g.1.number in let c = g.2 in omega (arith, a, c)
-        by_case (inr (inr j)) = let a = j.3 in let b = j.2 in omega (arith, a, b)
+        by_case (inr (inl g)) = omega (arith, g.1.number, g.2)
+        by_case (inr (inr j)) = omega (arith, j.3, j.2)
 
   is_netlist : IsNetlist (exported_netlist f all e)
   is_netlist = record {
@@ -396,8 +392,7 @@ module _ (f : Dqbf) (all : List Entry) (e : CircuitPart) (lawful : Each MayFollo
     inputs_once = λ i j d less below same.
         let long = length-range_with_len 1 (length f.universals) in
         let a = range_place 1 (length f.universals) i d (omega (arith, less, below, long)) in
-        let b = range_place 1 (length f.universals) j d (omega (arith, below, long)) in
-        omega (arith, a, b, less, same);
+        omega (arith, a, range_place 1 (length f.universals) j d (omega (arith, below, long)), less, same);
     gates_once = λ i j d less below same.
         let long = length-map e.gates (λ v. gate_of (circuit_renaming f all e) v (name_of all v)) in
         let i_small : i < length e.gates = omega (arith, less, below, long) in
@@ -416,7 +411,6 @@ module _ (f : Dqbf) (all : List Entry) (e : CircuitPart) (lawful : Each MayFollo
         part.distinct i j 0 less j_small equal;
     apart = λ k d below i g inside same.
         let long = length-range_with_len 1 (length f.universals) in
-        let at_k = range_place 1 (length f.universals) k d (omega (arith, below, long)) in
         let many = length-map e.gates (λ v. gate_of (circuit_renaming f all e) v (name_of all v)) in
         let i_small : i < length e.gates = omega (arith, inside, many) in
         let v = get_or e.gates i 0 in
@@ -425,7 +419,7 @@ module _ (f : Dqbf) (all : List Entry) (e : CircuitPart) (lawful : Each MayFollo
         let number : get_or (range_with_len 1 (length f.universals)) k d ≡ (gate_number v v_in).number =
         same ∙ ap (λ (x : Gate). x.variable) at_i ∙ gate_variable v v_in in
         let above = gate_above v v_in in
-        omega (arith, at_k, number, above, below, long);
+        omega (arith, range_place 1 (length f.universals) k d (omega (arith, below, long)), number, above, below, long);
   } where
     range_place : (a n p d : ℕ) → p < n → get_or (range_with_len a n) p d ≡ a + p
     range_place a zero p d h = absurd (omega arith)

@@ -10,7 +10,7 @@ use Rattle.dq_lits.specs.Formula.{Dqbf, Existential}
 use Rattle.dq_lits.specs.Literal.{Literal, variable_of, negative}
 use Rattle.hint_log.specs.Conditions.{MayFollow, is_circuit_name}
 use Rattle.hint_log.specs.Deciding.{ReachesGiven, ReadsInput, itself, left, right, LeafReads, IsFaultLeaf}
-use Rattle.hint_log.specs.Entries.{Entry, Named, Given, Learned, Answer, Round, Begun, has_id, count, last_id, numbered, clause_of, hints_of, origin_of, hints_at, origin_at, name_of}
+use Rattle.hint_log.specs.Entries.{Entry, Given, Answer, has_id, count, last_id, numbered, clause_of, hints_of, origin_of, hints_at, origin_at, name_of}
 use Rattle.hint_log.specs.Growth.{Each}
 use Rattle.hint_log.specs.Origins.{matrix_literal, IsOriginsClause, IsFaultRest, IsLeafOf, IsGateRest}
 use Rattle.hint_log.specs.Reached.{Reaches, itself as reaches_itself, by_hint}
@@ -29,21 +29,8 @@ use Rattle.cert_export.specs.FaultLeaves.{LeafTable, leaf_of, or_false, output_l
 use Rattle.cert_export.specs.Given.{IsGivenRightly}
 use Rattle.cert_export.specs.Needed.{IsGateAmong, IsLeafAmongGates, AreNeededGates}
 use Rattle.cert_export.specs.Parts.{AreDecided}
-use Rattle.cert_export.proofs.Answers.{answer_there, reached_given}
-
--- the given entry of an origin
-pub given_of : (es : List Entry) (id : ℕ) (o : Origin) → origin_at es id ≡ Some o →
-    (c : List Literal) × (numbered has_id es id ≡ Some (Given o c))
-given_of es id o at = by_entry (numbered has_id es id) refl at where
-  by_entry : (e : Option Entry) → numbered has_id es id ≡ e → option_and_then origin_of e ≡ Some o →
-      (c : List Literal) × (numbered has_id es id ≡ Some (Given o c))
-  by_entry None is at = cc
-  by_entry (Some (Named v n)) is at = cc
-  by_entry (Some (Given p c)) is at = let same : p ≡ o = cc in (c, is ∙ ap (λ q. Some (Given q c)) same)
-  by_entry (Some (Learned c hints)) is at = cc
-  by_entry (Some (Answer c hints)) is at = cc
-  by_entry (Some (Round row values j)) is at = cc
-  by_entry (Some (Begun live)) is at = cc
+use Rattle.cert_export.proofs.Answers.{answer_there, reached_here}
+use Rattle.cert_export.proofs.GivenNames.{given_of}
 
 -- an id is at most the last
 within : (es : List Entry) (id : ℕ) (e : Entry) → numbered has_id es id ≡ Some e → id ≤ last_id es
@@ -51,8 +38,8 @@ within [] id e h = cc
 within (x ∷ es) id e h = by_bits (has_id x) (id == count has_id es + 1) refl (within es id e) h where
   by_bits : (b c : Bool) → (id == count has_id es + 1) ≡ c → (numbered has_id es id ≡ Some e → id ≤ count has_id es) →
       cond (b && c) (Some x) (numbered has_id es id) ≡ Some e → id ≤ cond b (count has_id es + 1) (count has_id es)
-  by_bits true true is later h = let same = eqb-true id (count has_id es + 1) is in omega (arith, same)
-  by_bits true false is later h = let below = later h in omega (arith, below)
+  by_bits true true is later h = omega (arith, eqb-true id (count has_id es + 1) is)
+  by_bits true false is later h = omega (arith, later h)
   by_bits false c is later h = later h
 
 newer : (f : Dqbf) (es : List Entry) (g v j i k m : ℕ) (out other : Leaf) (c d : List Literal) →
@@ -168,10 +155,8 @@ module _ (f : Dqbf) (entries : List Entry) (id : ℕ) (ids : List ℕ) (d : AreD
   reached_of : (h : ℕ) (origin : Origin) (c : List Literal) → Contains ids h →
       numbered has_id entries h ≡ Some (Given origin c) → ReachesGiven d.decided.earlier d.decided.hints origin c
   reached_of h origin c inside at =
-      let reached : Reaches answered (last_id answered) h = subst (λ n. Reaches answered n h) id_is
-      (subst (λ xs. Reaches xs id h) d.decided.answered (d.reached.sound h inside)) in
-      reached_given d.decided.earlier d.decided.clause d.decided.hints lawful' h origin c reached
-      (ap (λ xs. numbered has_id xs h) (sym d.decided.answered) ∙ at)
+      reached_here entries d.decided.earlier d.decided.clause d.decided.hints id lawful d.decided.answered d.decided.last
+      h origin c (d.reached.sound h inside) at
 
   -- and the other way round
   among_of : (origin : Origin) (c : List Literal) (r : ReachesGiven d.decided.earlier d.decided.hints origin c) →

@@ -1,8 +1,8 @@
 -- The exported circuit is made gate by gate and output by output.
-use Rattle.std.proofs.Common.{◌≡◌, ℕ, zero, suc, ◌+◌, ◌*◌, ◌/◌, ◌<◌, true, inl, inr, List, [], ◌∷◌, ◌++◌, map, take, length, get_or, Option, None, Some, IsSome, is_some, refl, sym, ◌∙◌, ap, subst, arith}
+use Rattle.std.proofs.Common.{◌≡◌, ℕ, suc, ◌+◌, ◌*◌, ◌/◌, ◌<◌, true, inl, inr, List, [], ◌∷◌, ◌++◌, map, length, get_or, Option, None, Some, IsSome, is_some, refl, sym, ◌∙◌, ap, subst, arith}
 use Rattle.std.specs.List.{Contains, range_with_len}
 use Rattle.std.specs.Prelude.{slice_index}
-use Rattle.std.proofs.lemmas.List.{get_or-map, length-map, take_more, get_or_default}
+use Rattle.std.proofs.lemmas.List.{get_or-map, length-map, get_or_default}
 use Rattle.list_laws.proofs.Numbers.{range_more}
 use Rattle.dq_lits.specs.Literal.{Literal, variable_of}
 use Rattle.dq_lits.specs.Formula.{Dqbf, Existential}
@@ -13,13 +13,14 @@ use Rattle.hint_log.specs.declared.names.Name.{Name}
 use Rattle.hint_log.specs.declared.names.Name.TheVariants.{And}
 use Rattle.hint_log.specs.declared.origins.Leaf.{Leaf}
 use Rattle.hint_log.specs.declared.origins.Leaf.TheVariants.{Constant, Literal as LeafLiteral}
-use Rattle.circuit_plain.specs.Netlist.{Netlist, IsDefined, variable_of_gate}
+use Rattle.circuit_plain.specs.Netlist.{Netlist, IsDefined, variable_of_gate, IsNetlist, IsLiteral, IsVariable}
 use Rattle.circuit_plain.specs.declared.circuits.Gate.{Gate}
 use Rattle.log_laws.proofs.Solved.{sides}
 use Rattle.cert_export.specs.CircuitPart.{CircuitPart, IsCircuitPart, IsLeafInFile, circuit_renaming, gate_of, leaf_code, exported_netlist}
 use Rattle.cert_export.specs.FaultLeaves.{LeafTable, leaf_of, or_false, output_leaf}
 use Rattle.cert_export.specs.Netlists.{IsLeafNamed}
-use Rattle.cert_export.proofs.Codes.{half_even}
+use Rattle.cert_export.proofs.RoundRows.{range_rounds}
+use Rattle.circuit_plain.proofs.NetlistParts.{may_be_added, with_gates}
 
 -- inputs and gates are named
 pub circuit_named : (o : Option Name) → is_circuit_name o ≡ true → IsSome o
@@ -45,48 +46,6 @@ sides_named entries v a b logged named =
     let both = sides entries v a b logged named in
     (circuit_named (name_of entries (variable_of a)) both.0, circuit_named (name_of entries (variable_of b)) both.1)
 
-pub gate_added : (net : Netlist) (p : ℕ) (g : Gate) (old new : Netlist) → p < length net.gates →
-    get_or net.gates p g ≡ g → old ≡ record net { outputs = []; gates = take p net.gates } →
-    new ≡ record old {
-      gates = old.gates ++ record { variable = 2 * g.variable / 2; left = g.left; right = g.right } ∷
-          [];
-    } → new ≡ record net { outputs = []; gates = take (p + 1) net.gates }
-gate_added net p g old new below is old_is new_is =
-    let half : 2 * g.variable / 2 ≡ g.variable = half_even g.variable in
-    let more : take (p + 1) net.gates ≡ take p net.gates ++ get_or net.gates p g ∷ [] = take_more net.gates p g below in
-    new_is
-    ∙ ap (λ (o : Netlist). record o {
-      gates = o.gates ++ record
-          { variable = 2 * g.variable / 2; left = g.left; right = g.right } ∷ [];
-    }) old_is
-    ∙ ap (λ v. record {
-      max_var = net.max_var;
-      inputs = net.inputs;
-      outputs = [];
-      gates =
-          take p net.gates ++ record { variable = v; left = g.left; right = g.right } ∷ [];
-    }) half
-    ∙ ap (λ h. record { max_var = net.max_var; inputs = net.inputs; outputs = []; gates = take p net.gates ++ h ∷ [] })
-    (sym is)
-    ∙ ap (λ gs. record { max_var = net.max_var; inputs = net.inputs; outputs = []; gates = gs }) (sym more)
-
-pub output_added : (net : Netlist) (p l : ℕ) (old new : Netlist) → p < length net.outputs → get_or net.outputs p l ≡ l →
-    old ≡ record net { outputs = take p net.outputs } →
-    new ≡ record old { outputs = old.outputs ++ l ∷ [] } → new ≡ record net { outputs = take (p + 1) net.outputs }
-output_added net p l old new below is old_is new_is =
-    let more : take (p + 1) net.outputs ≡ take p net.outputs ++ get_or net.outputs p l ∷ [] =
-    take_more net.outputs p l below in
-    new_is
-    ∙ ap (λ (o : Netlist). record o { outputs = o.outputs ++ l ∷ [] }) old_is
-    ∙ ap (λ h. record {
-      max_var = net.max_var;
-      inputs = net.inputs;
-      outputs = take p net.outputs ++ h ∷ [];
-      gates =
-          net.gates;
-    }) (sym is)
-    ∙ ap (λ os. record { max_var = net.max_var; inputs = net.inputs; outputs = os; gates = net.gates }) (sym more)
-
 -- a leaf of the circuit is named
 pub leaf_named : (f : Dqbf) (entries : List Entry) (e : CircuitPart) → IsCircuitPart f entries e →
     (p : ℕ) (y : Existential) → p < length f.existentials → IsLeafNamed entries (e.leaf (get_or f.existentials p y))
@@ -105,11 +64,34 @@ gate_at_place f entries e items p same below =
     let r = circuit_renaming f entries e in
     let G : ℕ → Gate = λ v. gate_of r v (name_of entries v) in
     let v = slice_index items p in
-    let long = length-map e.gates G in
-    let sized = ap length same in
     let at : get_or e.gates p v ≡ v = ap (λ xs. get_or xs p v) (sym same) ∙ sym
-    (get_or_default items p 0 v (omega (arith, below, sized))) in
-    (omega (arith, below, long), get_or-map G e.gates p v (G v) below ∙ ap G at)
+    (get_or_default items p 0 v (omega (arith, below, ap length same))) in
+    (omega (arith, below, length-map e.gates G), get_or-map G e.gates p v (G v) below ∙ ap G at)
+
+-- and what is read of it may be added
+pub record MayAdd (old : Netlist) (r : ℕ × ℕ × ℕ) : Type 0 where
+  pub variable : IsVariable old.max_var (2 * r.0 / 2)
+  pub undefined : IsDefined old (2 * r.0 / 2) → ⊥
+  pub left : IsLiteral old.max_var r.1
+  pub right : IsLiteral old.max_var r.2
+
+pub gate_may : (f : Dqbf) (entries : List Entry) (e : CircuitPart) (items : List ℕ) (p : ℕ) (old : Netlist)
+    (r : ℕ × ℕ × ℕ) → IsNetlist (exported_netlist f entries e) → items ≡ e.gates → p < length e.gates →
+    old ≡ with_gates (exported_netlist f entries e) p →
+    (let g = gate_of (circuit_renaming f entries e) (slice_index items p) (name_of entries (slice_index items p)) in
+    r ≡ (g.variable, g.left, g.right)) → MayAdd old r
+gate_may f entries e items p old r lawful same below is read =
+    let net = exported_netlist f entries e in
+    let v = slice_index items p in
+    let g = gate_of (circuit_renaming f entries e) v (name_of entries v) in
+    let there = gate_at_place f entries e items p same below in
+    let may = may_be_added net lawful p g there.0 there.1 in
+    subst (MayAdd old) (sym read) (subst (λ n. MayAdd n (g.variable, g.left, g.right)) (sym is) (record {
+      variable = may.variable;
+      undefined = may.undefined;
+      left = may.left_fits;
+      right = may.right_fits;
+    }))
 
 -- the output at a place
 pub output_at_place : (f : Dqbf) (entries : List Entry) (group : ℕ) (gates : List ℕ) (t : LeafTable) (items : List ℕ)
@@ -127,10 +109,7 @@ output_at_place f entries group gates t items p same below =
     let V : Existential → ℕ = λ y. y.variable in
     let L : Existential → ℕ = λ y. leaf_code r (e.leaf y) in
     let y : Existential = record { variable = 0; sees = [] } in
-    let long = length-map f.existentials V in
-    let outs = length-map f.existentials L in
-    let sized = ap length same in
-    let low : p < length f.existentials = omega (arith, below, long, sized) in
+    let low : p < length f.existentials = omega (arith, below, length-map f.existentials V, ap length same) in
     let variable_is : slice_index items p ≡ (get_or f.existentials p y).variable =
     ap (λ xs. slice_index xs p) same ∙ get_or-map V f.existentials p y 0 low in
     let leaf_is : or_false (leaf_of t (slice_index items p)) ≡ e.leaf (get_or f.existentials p y) =
@@ -139,23 +118,17 @@ output_at_place f entries group gates t items p same below =
       y,
       low,
       leaf_is,
-      omega (arith, low, outs),
+      omega (arith, low, length-map f.existentials L),
       get_or-map L f.existentials p y code low ∙ sym (ap (leaf_code r) leaf_is),
     )
 
-in_range_below : (a n x : ℕ) → Contains (range_with_len a n) x → x < a + n
-in_range_below a zero x (k, below, is) = absurd (omega (arith, below))
-in_range_below a (suc n) x (zero, below, is) = omega (arith, is)
-in_range_below a (suc n) x (suc k, below, is) = let r = in_range_below (a + 1) n x
-    (k, (let b : k < length (range_with_len (a + 1) n) = omega (arith, below) in b), is) in omega (arith, r)
-
 -- an input with the next number
 pub next_input : (net : Netlist) (i : ℕ) → net.inputs ≡ range_with_len 1 i → net.gates ≡ [] → IsDefined net (i + 1) → ⊥
-next_input net i inputs gates (inl inside) = let b = in_range_below 1 i (i + 1)
-    (subst (λ xs. Contains xs (i + 1)) inputs inside) in omega (arith, b)
+next_input net i inputs gates (inl inside) = let b = (range_rounds i 1 (i + 1)
+    (subst (λ xs. Contains xs (i + 1)) inputs inside)).1 in omega (arith, b)
 next_input net i inputs gates (inr inside) =
     let none : Contains {X = ℕ} [] (i + 1) = subst (λ gs. Contains (map variable_of_gate gs) (i + 1)) gates inside in
-    let b = none.1 in omega (arith, b)
+    omega (arith, none.1)
 
 pub input_added : (old first new : Netlist) (i : ℕ) → old ≡ record first { inputs = range_with_len 1 i } →
     new ≡ record old { inputs = old.inputs ++ (i + 1) ∷ [] } → new ≡ record first { inputs = range_with_len 1 (i + 1) }

@@ -20,10 +20,9 @@ use Rattle.cert_export.proofs.NamePlaces.{named_at, same_pair, side_before}
 -- the same list from its end on
 pub reversed_contains : (xs : List ℕ) (x : ℕ) → Contains xs x → Contains (reverse xs) x
 reversed_contains xs x (k, below, is) =
-    let long = length-reverse xs in
     let back : length xs - 1 - (length xs - 1 - k) ≡ k = omega (arith, below) in (
       length xs - 1 - k,
-      omega (arith, below, long),
+      omega (arith, below, length-reverse xs),
       get_or-reverse xs (length xs - 1 - k) x (omega (arith, below))
           ∙ ap (λ n. get_or xs n x) back ∙ is,
     )
@@ -132,8 +131,8 @@ module _ (entries : List Entry) (roots old taken new : Pending) (place : ℕ) (p
   is_before : (p : ℕ) → is_pending new p ≡ true → All (λ q. p < q) more
   is_before p h = elim (sides.only p h) [
     | inl before ↦ All-push (λ q. p < q) places place (so_far.before p (older p before)) (takes.below p before)
-    | inr side ↦ All-push (λ q. p < q) places place (λ k d less. let low = side.1 in
-        let mine = so_far.before place takes.was k d less in omega (arith, low, mine)) side.1
+    | inr side ↦ All-push (λ q. p < q) places place (λ k d less.
+        omega (arith, side.1, so_far.before place takes.was k d less)) side.1
   ]
 
   pub one_more_looked_at : AreLookedAt entries roots new more

@@ -1,5 +1,5 @@
 -- Variables of given clauses get their names.
-use Rattle.std.proofs.Common.{◌≡◌, ℕ, ◌++◌, true, false, is_some, ◌+◌, ◌≤◌, ◌<◌, ◌⊎◌, inl, inr, List, [], ◌∷◌, take, length, get_or, Option, None, Some, IsSome, refl, sym, ◌∙◌, ap, subst, arith}
+use Rattle.std.proofs.Common.{◌≡◌, ℕ, ◌++◌, true, false, is_some, ◌+◌, ◌≤◌, ◌<◌, ◌⊎◌, inl, inr, List, [], ◌∷◌, take, length, get_or, Option, None, Some, IsSome, refl, sym, ◌∙◌, ap, subst}
 use Rattle.std.specs.List.{All, Contains, cons_option}
 use Rattle.std.specs.Option.{option_map, option_and_then}
 use Rattle.std.proofs.lemmas.Bool.{true≢false}
@@ -78,14 +78,6 @@ pub record GivenNamed (target : Renaming) (entries : List Entry) (r : Renaming) 
   pub named : (id : ℕ) (origin : Origin) (c : List Literal) → Contains done id →
       numbered has_id entries id ≡ Some (Given origin c) → All (IsNamed target r) c
 
-pub no_given : (target : Renaming) (entries : List Entry) (r : Renaming) (done : List ℕ) → done ≡ [] →
-    ((v : ℕ) → r v ≡ None) → GivenNamed target entries r done
-no_given target entries r done is none = record {
-  right = λ v x h. let both : None ≡ Some x = sym (none v) ∙ h in cc;
-  named = λ id origin c inside at. absurd (let e = subst (λ ds. Contains ds id) is inside in let b = e.1 in
-      omega arith);
-}
-
 pub one_given : (target : Renaming) (entries : List Entry) (old new : Renaming) (ids : List ℕ) (i id : ℕ) →
     GivenNamed target entries old (take i ids) → IsPartOf old new → IsPartOf new target →
     i < length ids → id ≡ get_or ids i id → ((origin : Origin) (c : List Literal) →
@@ -132,20 +124,39 @@ none_here target entries r id none origin c at =
     let some : origin_at entries id ≡ Some origin = ap (option_and_then origin_of) at in
     absurd (true≢false (sym (ap is_some some) ∙ none))
 
+-- the given entry of an origin
+pub given_of : (es : List Entry) (id : ℕ) (o : Origin) → origin_at es id ≡ Some o →
+    (c : List Literal) × (numbered has_id es id ≡ Some (Given o c))
+given_of es id o at = by_entry (numbered has_id es id) refl at where
+  by_entry : (e : Option Entry) → numbered has_id es id ≡ e → option_and_then origin_of e ≡ Some o →
+      (c : List Literal) × (numbered has_id es id ≡ Some (Given o c))
+  by_entry None is at = cc
+  by_entry (Some (Named v n)) is at = cc
+  by_entry (Some (Given p c)) is at = let same : p ≡ o = cc in (c, is ∙ ap (λ q. Some (Given q c)) same)
+  by_entry (Some (Learned c hints)) is at = cc
+  by_entry (Some (Answer c hints)) is at = cc
+  by_entry (Some (Round row values j)) is at = cc
+  by_entry (Some (Begun live)) is at = cc
+
+-- what is known of the clause of an origin
+pub known_clause : (P : Origin → List Literal → Type 0) (entries : List Entry) (ids : List ℕ) (id : ℕ) (origin : Origin)
+    (clause : List Literal) → ((i : ℕ) (o : Origin) (c : List Literal) → Contains ids i →
+    numbered has_id entries i ≡ Some (Given o c) → P o c) → Contains ids id →
+    origin_at entries id ≡ Some origin → clause_at entries id ≡ Some clause → P origin clause
+known_clause P entries ids id origin clause known inside own there =
+    let g = given_of entries id origin own in
+    let both : Some g.0 ≡ Some clause = sym (ap (option_and_then clause_of) g.1) ∙ there in
+    let same : g.0 ≡ clause = cc in
+    subst (P origin) same (known id origin g.0 inside g.1)
+
 -- what is known of the given clauses among the ids
 pub known_of : (P : ℕ → Type 0) (entries : List Entry) (ids : List ℕ) (id : ℕ) (clause : List Literal)
     → ((i : ℕ) (origin : Origin) (c : List Literal) → Contains ids i →
     numbered has_id entries i ≡ Some (Given origin c) → All (λ l. P (variable_of l)) c)
     → Contains ids id → is_some (origin_at entries id) ≡ true → clause_at entries id ≡ Some clause →
     All (λ l. P (variable_of l)) clause
-known_of P entries ids id clause known inside given there = by_entry (numbered has_id entries id) refl given there where
-  by_entry : (o : Option Entry) → numbered has_id entries id ≡ o → is_some (option_and_then origin_of o) ≡ true →
-      option_and_then clause_of o ≡ Some clause → All (λ l. P (variable_of l)) clause
-  by_entry None at g t = cc
-  by_entry (Some (Named v n)) at g t = cc
-  by_entry (Some (Given origin c)) at g t = let same : c ≡ clause = cc in
-      subst (All (λ l. P (variable_of l))) same (known id origin c inside at)
-  by_entry (Some (Learned c hints)) at g t = cc
-  by_entry (Some (Answer c hints)) at g t = cc
-  by_entry (Some (Round row values j)) at g t = cc
-  by_entry (Some (Begun live)) at g t = cc
+known_of P entries ids id clause known inside given there = by_origin (origin_at entries id) refl given where
+  by_origin : (o : Option Origin) → origin_at entries id ≡ o → is_some o ≡ true → All (λ l. P (variable_of l)) clause
+  by_origin None is h = cc
+  by_origin (Some origin) is h =
+      known_clause (λ o c. All (λ l. P (variable_of l)) c) entries ids id origin clause known inside is there

@@ -8,10 +8,12 @@ use Rattle.std.proofs.lemmas.List.{length-map}
 use Rattle.std.proofs.lemmas.List.Sums.{passes_at_first}
 use Rattle.std.proofs.lemmas.Nat.{div-mul-add, mod-mul-add}
 use Rattle.std.proofs.lemmas.List.Elements.{All-nil, All-cons, Contains-append_left}
-use Rattle.list_laws.proofs.Elements.{place_within}
+use Rattle.std.proofs.lemmas.Option.{get_or_from_slice_get}
+use Rattle.list_laws.proofs.Elements.{kept_there, last_there, place_within}
 use Rattle.dq_lits.specs.Literal.{Literal, positive, negative, variable_of, is_negative, on_variable}
 use Rattle.dq_lits.specs.Formula.{Existential, Dqbf, existential_of, IsWellFormed}
 use Rattle.dq_lits.specs.Expansion.{agree_on, pair_number, pair_literal, universal_literal_true, instance_clause, instance_at}
+use Rattle.list_laws.proofs.Numbers.{pair_row, pair_variable}
 use Rattle.hint_log.specs.Entries.{has_id, is_round, row_of, row_at, count, rounds_of, numbered, name_of}
 use Rattle.hint_log.specs.Entries.{Entry}
 use Rattle.hint_log.specs.Entries.{Named, Given, Learned, Answer, Round, Begun}
@@ -48,16 +50,6 @@ rounds_are (Answer c hints ∷ es) = rounds_are es
 rounds_are (Round row values j ∷ es) = length-append (rows_of es) (row ∷ []) ∙ ap (λ n. n + 1) (rounds_are es)
 rounds_are (Begun live ∷ es) = rounds_are es
 
-get_front : (xs ys : List (List Bool)) (i : ℕ) (x : List Bool) → slice_get xs i ≡ Some x →
-    slice_get (xs ++ ys) i ≡ Some x
-get_front [] ys i x h = cc
-get_front (y ∷ xs) ys zero x h = h
-get_front (y ∷ xs) ys (suc i) x h = get_front xs ys i x h
-
-get_last : (xs : List (List Bool)) (x : List Bool) → slice_get (xs ++ x ∷ []) (length xs) ≡ Some x
-get_last [] x = refl
-get_last (y ∷ xs) x = get_last xs x
-
 pub row_place : (es : List Entry) (k : ℕ) (row : List Bool) → row_at es k ≡ Some row →
     (1 ≤ k) × (slice_get (rows_of es) (k - 1) ≡ Some row)
 row_place [] k row h = cc
@@ -73,10 +65,9 @@ row_place (Round r values j ∷ es) k row h = by_bit (row_place es k row) (k == 
   by_bit before true e h =
       let same : r ≡ row = cc in
       let number = eqb-true k (count is_round es + 1) e in
-      let many = rounds_are es in
-      let place : k - 1 ≡ length (rows_of es) = omega (arith, number, many) in
-      (omega (arith, number), ap (slice_get (rows_of es ++ r ∷ [])) place ∙ get_last (rows_of es) r ∙ ap Some same)
-  by_bit before false e h = let b = before h in (b.0, get_front (rows_of es) (r ∷ []) (k - 1) row b.1)
+      let place : k - 1 ≡ length (rows_of es) = omega (arith, number, rounds_are es) in
+      (omega (arith, number), ap (slice_get (rows_of es ++ r ∷ [])) place ∙ last_there (rows_of es) r ∙ ap Some same)
+  by_bit before false e h = let b = before h in (b.0, kept_there (rows_of es) (r ∷ []) (k - 1) row b.1)
 row_place (Begun live ∷ es) k row h = row_place es k row h
 
 pub same_on : (p : ℕ) (r l : Literal) → is_negative r ≡ is_negative l → on_variable p r ≡ on_variable p l
@@ -85,12 +76,7 @@ same_on p (positive v) (negative w) e = absurd (false≢true e)
 same_on p (negative v) (positive w) e = absurd (false≢true (sym e))
 same_on p (negative v) (negative w) e = refl
 
-pub get_at : {X : Type 0} (xs : List X) (k : ℕ) (x d : X) → slice_get xs k ≡ Some x → get_or xs k d ≡ x
-get_at [] k x d h = cc
-get_at (y ∷ ys) zero x d h = let same : y ≡ x = cc in same
-get_at (y ∷ ys) (suc k) x d h = get_at ys k x d h
-
-any_at : {X : Type 0} (q : X → Bool) (xs : List X) (i : ℕ) (x : X) → slice_get xs i ≡ Some x → q x ≡ true →
+pub any_at : {X : Type 0} (q : X → Bool) (xs : List X) (i : ℕ) (x : X) → slice_get xs i ≡ Some x → q x ≡ true →
     list_any q xs ≡ true
 any_at q [] i x h passes = cc
 any_at q (y ∷ ys) zero x h passes = let same : y ≡ x = cc in ap (λ b. b || list_any q ys) (ap q same ∙ passes)
@@ -122,18 +108,18 @@ module _ (f : Dqbf) (well : IsWellFormed f) (all : List Entry) (ks : List ℕ) (
     stays : (v : ℕ) (n : Name) → name_of es v ≡ Some n → name_of all v ≡ Some n
     stays v n h = ap (λ xs. name_of xs v) is ∙ name_stays more es v n (subst (Each MayFollow) is lawful) h
 
+    place_small : (y : Existential) (rows : List (List Bool)) → Contains rows row →
+        position_or_len (agree_on f y row) rows < length rows
+    place_small y rows (k, below, at) = position_small (agree_on f y row) rows k row below
+        (ap (agree_on f y row) at ∙ same_bits-refl (restriction y (row_assignment f row)))
+
     same_pair : (y : Existential) → position_or_len (agree_on f y row) (rows_of es) ≡ position_or_len (agree_on f y row)
         (rows_of all)
     same_pair y =
         let later = rows_more more es in
-        let k = among.0 in
-        let at : get_or (rows_of es) k row ≡ row = among.2 in
-        let passes : agree_on f y row (get_or (rows_of es) k row) ≡ true =
-        ap (agree_on f y row) at ∙ same_bits-refl (restriction y (row_assignment f row)) in
-        let small = position_small (agree_on f y row) (rows_of es) k row among.1 passes in
         sym (ap (λ xs. position_or_len (agree_on f y row) (rows_of xs)) is ∙ ap
         (position_or_len (agree_on f y row)) later.1 ∙ position_append (agree_on f y row)
-        (rows_of es) later.0 small)
+        (rows_of es) later.0 (place_small y (rows_of es) among))
 
     pair_there : (y : Existential) → existential_of f y.variable ≡ Some y →
         pair_of f (rows_of all) kept (Some (arbiter f (rows_of es) row y)) ≡ Some (pair_number f kept row y)
@@ -143,10 +129,7 @@ module _ (f : Dqbf) (well : IsWellFormed f) (all : List Entry) (ks : List ℕ) (
         let later = rows_more more es in
         let among_all : Contains rows row = subst (λ xs. Contains xs row) (sym (ap rows_of is ∙ later.1))
         (Contains-append_left (rows_of es) later.0 row among) in
-        let at : get_or rows among_all.0 row ≡ row = among_all.2 in
-        let passes : agree_on f y row (get_or rows among_all.0 row) ≡ true =
-        ap (agree_on f y row) at ∙ same_bits-refl (restriction y (row_assignment f row)) in
-        let small = position_small (agree_on f y row) rows among_all.0 row among_all.1 passes in
+        let small = place_small y rows among_all in
         let first = get_or rows k [] in
         let agreed : agree_on f y row first ≡ true = passes_at_first (agree_on f y row) rows [] small in
         let same = alike f y row first agreed in
@@ -176,12 +159,8 @@ module _ (f : Dqbf) (well : IsWellFormed f) (all : List Entry) (ks : List ℕ) (
     normal_there y own low high =
         let V = f.variables in
         let x = place * V + y.variable in
-        let less : x - 1 ≡ place * V + (y.variable - 1) = omega arith in
-        let quotient : (x - 1) / V ≡ place = ap (λ n. n / V) less ∙ div-mul-add place V (y.variable - 1)
-        (omega arith) in
-        let rem : (x - 1) % V ≡ y.variable - 1 = ap (λ n. n % V) less ∙ mod-mul-add place V (y.variable - 1)
-        (omega arith) in
-        let back : (x - 1) % V + 1 ≡ y.variable = omega arith in
+        let quotient = pair_row place V y.variable low high in
+        let back = pair_variable place V y.variable low high in
         ap (λ n. normal_of f kept x (slice_get kept n) (existential_of f ((x - 1) % V + 1))) quotient
         ∙ ap (λ o. normal_of f kept x o (existential_of f ((x - 1) % V + 1))) at_kept
         ∙ ap (λ n. normal_of f kept x (Some row) (existential_of f n)) back
@@ -193,14 +172,9 @@ module _ (f : Dqbf) (well : IsWellFormed f) (all : List Entry) (ks : List ℕ) (
     pair_right y own low high =
         let V = f.variables in
         let x = place * V + y.variable in
-        let less : x - 1 ≡ place * V + (y.variable - 1) = omega arith in
-        let quotient : (x - 1) / V ≡ place = ap (λ n. n / V) less ∙ div-mul-add place V (y.variable - 1)
-        (omega arith) in
-        let rem : (x - 1) % V ≡ y.variable - 1 = ap (λ n. n % V) less ∙ mod-mul-add place V (y.variable - 1)
-        (omega arith) in
-        let back : (x - 1) % V + 1 ≡ y.variable = omega arith in
-        let small = place_within kept place row at_kept in
-        let q_small : (x - 1) / V < length kept = omega (arith, quotient, small) in
+        let quotient = pair_row place V y.variable low high in
+        let back = pair_variable place V y.variable low high in
+        let q_small : (x - 1) / V < length kept = omega (arith, quotient, place_within kept place row at_kept) in
         let own_there : existential_of f ((x - 1) % V + 1) ≡ Some y = ap (existential_of f) back ∙ own in
         and_from (not (V == 0)) (not (x == 0) && (nat_lt ((x - 1) / V) (length kept) && is_some
         (existential_of f ((x - 1) % V + 1)))) (ap not (ne_eqb V 0 (λ z. omega (arith, z, low, high))))
@@ -307,9 +281,9 @@ module _ (f : Dqbf) (well : IsWellFormed f) (all : List Entry) (ks : List ℕ) (
     of_round =
         let later = rows_more more' es in
         let there : slice_get (rows_of all) (k - 1) ≡ Some rest.row =
-        ap (λ xs. slice_get xs (k - 1)) (ap rows_of is' ∙ later.1) ∙ get_front (rows_of es) later.0 (k - 1) rest.row
+        ap (λ xs. slice_get xs (k - 1)) (ap rows_of is' ∙ later.1) ∙ kept_there (rows_of es) later.0 (k - 1) rest.row
         (row_place es k rest.row rest.row_is).1 in
-        get_at (rows_of all) (k - 1) rest.row [] there
+        get_or_from_slice_get (rows_of all) (k - 1) rest.row [] there
 
     row_there : slice_get kept p ≡ Some rest.row
     row_there = at_place (row_of_round all) ks k inside ∙ ap Some of_round
@@ -319,8 +293,6 @@ module _ (f : Dqbf) (well : IsWellFormed f) (all : List Entry) (ks : List ℕ) (
     base_right =
         let clause_there = from_one f.matrix i rest.clause rest.clause_is in
         let C = length f.matrix in
-        let i1 = clause_there.0 in
-        let row_small = place_within kept p rest.row row_there in
         let many : length kept ≡ length ks = length-map ks (row_of_round all) in
         let clause_small = place_within f.matrix (i - 1) rest.clause clause_there.1 in
         let next : p * C + i ≡ suc (p * C + (i - 1)) = omega arith in
@@ -343,11 +315,11 @@ module _ (f : Dqbf) (well : IsWellFormed f) (all : List Entry) (ks : List ℕ) (
         let dropped : renamed_clause r c ≡ renamed_clause r o.rest =
         ap (renamed_clause r) o.clause_is ∙ ap (λ q. cons_option q (renamed_clause r o.rest)) selector in
         let up : (p + 1) * C ≤ length ks * C = mul-le-mul_right C
-        (let s : p + 1 ≤ length ks = omega (arith, many, row_small) in s) in
+        (let s : p + 1 ≤ length ks = omega (arith, many, place_within kept p rest.row row_there) in s) in
         let parts : (p + 1) * C ≡ p * C + 1 * C = add-mul p 1 C in
         let one : 1 * C ≡ C = one-mul C in (
           ap (instance_at f kept) next ∙ body ∙ open' ∙ ap Some (sym (dropped ∙ same)),
-          omega (arith, up, parts, one, clause_small, i1),
+          omega (arith, up, parts, one, clause_small, clause_there.0),
         )
 
     -- so an instance's variables have names of such pairs, or are its selector
@@ -361,47 +333,44 @@ module _ (f : Dqbf) (well : IsWellFormed f) (all : List Entry) (ks : List ℕ) (
               (own_names es more' is' rest.row among p row_there rest.clause o.rest rest.named)),
         )
 
+-- what is kept are instances alone
+instances_alone : (P : Origin → Type 0) (f : Dqbf) (ks live : List ℕ) (entries : List Entry) (origin : Origin)
+    (c : List Literal) → IsKeptClause f ks live entries origin c →
+    ((k j : ℕ) → IsKeptClause f ks live entries (Instance k j) c → P (Instance k j)) → P origin
+instances_alone P f ks live entries (Instance k j) c mine own = own k j mine
+instances_alone P f ks live entries (Gate v i) c mine own = absurd mine
+instances_alone P f ks live entries (Fault j i leaf) c mine own = absurd mine
+instances_alone P f ks live entries (Copy side j) c mine own = absurd mine
+instances_alone P f ks live entries (Link v i) c mine own = absurd mine
+instances_alone P f ks live entries (TermGate v i) c mine own = absurd mine
+instances_alone P f ks live entries (Differ y leaf part) c mine own = absurd mine
+
 pub instances_are_expansion : InstancesAreExpansion
-instances_are_expansion f ks live entries well lawful id origin c at usable = by_origin origin usable at where
-  by_origin : (o : Origin) → IsKeptClause f ks live entries o c → numbered has_id entries id ≡ Some (Given o c) →
-      (instance_at f (rows_among entries ks) (instance_id ks live (length f.matrix) o) ≡ Some
-      (renamed_clause (pair_renaming f entries ks) c)) × (instance_id ks live (length f.matrix) o ≤ length
-      ks * length f.matrix)
-  by_origin (Instance k j) mine at =
-      let place = split_at entries id (Given (Instance k j) c) at in
-      base_right f well entries ks lawful place.1 place.0 k j (number_among live j) c place.2
-      (mine.1.1 place.0 place.1 place.2) mine.0
-  by_origin (Gate v i) mine at = absurd mine
-  by_origin (Fault j i leaf) mine at = absurd mine
-  by_origin (Copy side j) mine at = absurd mine
-  by_origin (Link v i) mine at = absurd mine
-  by_origin (TermGate v i) mine at = absurd mine
-  by_origin (Differ y leaf part) mine at = absurd mine
+instances_are_expansion f ks live entries well lawful id origin c at usable =
+    instances_alone (λ o. numbered has_id entries id ≡ Some (Given o c) →
+    (instance_at f (rows_among entries ks) (instance_id ks live (length f.matrix) o) ≡ Some
+    (renamed_clause (pair_renaming f entries ks) c)) ×
+    (instance_id ks live (length f.matrix) o ≤ length ks * length f.matrix)) f ks live entries origin c usable
+    (λ k j mine at. let place = split_at entries id (Given (Instance k j) c) at in
+    base_right f well entries ks lawful place.1 place.0 k j (number_among live j) c place.2
+    (mine.1.1 place.0 place.1 place.2) mine.0) at
 
 module _ (f : Dqbf) (ks live : List ℕ) (entries : List Entry) (well : IsWellFormed f)
     (lawful : Each MayFollow entries) where
   pub own_given : (id : ℕ) (origin : Origin) (c : List Literal) → IsKeptClause f ks live entries origin c →
       numbered has_id entries id ≡ Some (Given origin c) → AreNamedAt f entries ks origin c
-  own_given id (Instance k j) c mine at =
-      let place = split_at entries id (Given (Instance k j) c) at in
+  own_given id origin c mine at =
+      instances_alone (λ o. numbered has_id entries id ≡ Some (Given o c) → AreNamedAt f entries ks o c)
+      f ks live entries origin c mine
+      (λ k j mine at. let place = split_at entries id (Given (Instance k j) c) at in
       own_instance f well entries ks lawful place.1 place.0 k j (number_among live j) c place.2
-      (mine.1.1 place.0 place.1 place.2) mine.0
-  own_given id (Gate v i) c mine at = absurd mine
-  own_given id (Fault j i leaf) c mine at = absurd mine
-  own_given id (Copy side j) c mine at = absurd mine
-  own_given id (Link v i) c mine at = absurd mine
-  own_given id (TermGate v i) c mine at = absurd mine
-  own_given id (Differ y leaf part) c mine at = absurd mine
+      (mine.1.1 place.0 place.1 place.2) mine.0) at
 
   pub known_given : IsStrictlyIncreasing ks → IsStrictlyIncreasing live → (origin : Origin) (c : List Literal) →
       IsKeptClause f ks live entries origin c → IsKnownInstance ks live origin
-  known_given rising ascending (Instance k j) c mine = (rising, mine.0, ascending, mine.1.0)
-  known_given rising ascending (Gate v i) c mine = absurd mine
-  known_given rising ascending (Fault j i leaf) c mine = absurd mine
-  known_given rising ascending (Copy side j) c mine = absurd mine
-  known_given rising ascending (Link v i) c mine = absurd mine
-  known_given rising ascending (TermGate v i) c mine = absurd mine
-  known_given rising ascending (Differ y leaf part) c mine = absurd mine
+  known_given rising ascending origin c mine =
+      instances_alone (IsKnownInstance ks live) f ks live entries origin c mine
+      (λ k j own. (rising, own.0, ascending, own.1.0))
 
 -- an instance's round is one of the log's
 pub round_below : (f : Dqbf) (live : List ℕ) (entries : List Entry) (id k j : ℕ) (c : List Literal) →
@@ -412,11 +381,12 @@ round_below f live entries id k j c mine at =
     let o = mine.1 s.0 s.1 s.2 in
     let rest : IsInstanceRest f s.1 k (number_among live j) o.rest = o.rest_is in
     let place = row_place s.1 k rest.row rest.row_is in
-    let small = place_within (rows_of s.1) (k - 1) rest.row place.1 in
     let later = rows_more (s.0 ++ Given (Instance k j) c ∷ []) s.1 in
     let is' : entries ≡ (s.0 ++ Given (Instance k j) c ∷ []) ++ s.1 =
     s.2 ∙ sym (append_assoc s.0 (Given (Instance k j) c ∷ []) s.1) in
     let many : length (rows_of entries) ≡ length (rows_of s.1) + length later.0 =
     ap (λ xs. length (rows_of xs)) is' ∙ ap length later.1 ∙ length-append (rows_of s.1) later.0 in
-    let all_rounds = rounds_are entries in
-    let low = place.0 in (low, omega (arith, low, small, many, all_rounds))
+    let low = place.0 in (
+      low,
+      omega (arith, low, place_within (rows_of s.1) (k - 1) rest.row place.1, many, rounds_are entries),
+    )

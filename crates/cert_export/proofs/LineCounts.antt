@@ -25,10 +25,9 @@ others n h = not (h == n)
 all_others : (n : ℕ) (xs : List ℕ) → ((k : ℕ) → Contains xs k → n < k) → filter (others n) xs ≡ xs
 all_others n [] above = refl
 all_others n (x ∷ xs) above =
-    let more = above x (0, omega arith, refl) in
-    ap (λ b. cond (not b) (x ∷ filter (others n) xs) (filter (others n) xs)) (ne_eqb x n (λ e. omega (arith, e, more)))
-    ∙ ap (λ ys. x ∷ ys) (all_others n xs (λ k inside. let b = inside.1 in
-    above k (suc inside.0, omega (arith, b), inside.2)))
+    ap (λ b. cond (not b) (x ∷ filter (others n) xs) (filter (others n) xs)) (ne_eqb x n (λ e.
+    omega (arith, e, above x (0, omega arith, refl))))
+    ∙ ap (λ ys. x ∷ ys) (all_others n xs (λ k inside. above k (suc inside.0, omega (arith, inside.1), inside.2)))
 
 -- without one number a rising list is shorter by one at most
 one_less : (n : ℕ) (xs : List ℕ) → Rising xs → length xs ≤ length (filter (others n) xs) + 1
@@ -37,8 +36,7 @@ one_less n (x ∷ xs) rising = by_bit (x == n) refl (one_less n xs rising.1) whe
   by_bit : (b : Bool) → (x == n) ≡ b → length xs ≤ length (filter (others n) xs) + 1 →
       suc (length xs) ≤ length (cond (not b) (x ∷ filter (others n) xs) (filter (others n) xs)) + 1
   by_bit true e later =
-      let same = eqb-true x n e in
-      let kept = ap length (all_others n xs (λ k inside. let less = rising.0 k inside in omega (arith, same, less))) in
+      let kept = ap length (all_others n xs (λ k inside. omega (arith, eqb-true x n e, rising.0 k inside))) in
       omega (arith, kept)
   by_bit false e later = omega (arith, later)
 
@@ -84,14 +82,12 @@ few_lemmas (Learned c hints ∷ es) xs rising all =
     let n = count has_id es + 1 in
     let rest = few_lemmas es (filter (others n) xs) (rising_filter (others n) xs rising)
     (of_earlier (Learned c hints) es n xs all) in
-    let less = one_less n xs rising in
-    omega (arith, rest, less)
+    omega (arith, rest, one_less n xs rising)
 few_lemmas (Answer c hints ∷ es) xs rising all =
     let n = count has_id es + 1 in
     let rest = few_lemmas es (filter (others n) xs) (rising_filter (others n) xs rising)
     (of_earlier (Answer c hints) es n xs all) in
-    let less = one_less n xs rising in
-    omega (arith, rest, less)
+    omega (arith, rest, one_less n xs rising)
 
 all_derived : (es : List Entry) (xs : List ℕ) → All (IsLemmaOf es) (derived_ids es xs)
 all_derived es [] = All-nil (IsLemmaOf es)

@@ -25,18 +25,15 @@ use Rattle.cert_export.proofs.NamePlaces.{gate_sides, named_at, one_place, same_
 -- the same list from its end on
 pub reversed_pairs : (xs : List ℕ) → AllPairs (λ p q. q < p) xs → AllPairs (λ p q. p < q) (reverse xs)
 reversed_pairs xs descending i j d less below =
-    let long = length-reverse xs in
-    let there : j < length xs = omega (arith, below, long) in
-    let first = get_or-reverse xs i d (omega (arith, less, there)) in
+    let there : j < length xs = omega (arith, below, length-reverse xs) in
     let second = get_or-reverse xs j d there in
     let low = descending (length xs - 1 - j) (length xs - 1 - i) d
     (omega (arith, less, there)) (omega (arith, less, there)) in
-    omega (arith, low, first, second)
+    omega (arith, low, get_or-reverse xs i d (omega (arith, less, there)), second)
 
 pub reversed_all : (P : ℕ → Type 0) (xs : List ℕ) → All P xs → All P (reverse xs)
 reversed_all P xs all k d below =
-    let long = length-reverse xs in
-    let there : k < length xs = omega (arith, below, long) in
+    let there : k < length xs = omega (arith, below, length-reverse xs) in
     subst P (sym (get_or-reverse xs k d there)) (all (length xs - 1 - k) d (omega (arith, there)))
 
 -- the variables of the first so many places
@@ -50,7 +47,7 @@ pub one_variable_more : (entries : List Entry) (places variables : List ℕ) (i 
     slice_get (names_of entries) (slice_index places i) ≡ Some (v, name) →
     AreVariablesSoFar entries places (variables ++ v ∷ []) (i + 1)
 one_variable_more entries places variables i v name so_far at = record {
-  long = let more = length-append variables (v ∷ []) in let long = so_far.long in omega (arith, more, long);
+  long = omega (arith, length-append variables (v ∷ []), so_far.long);
   at = λ k below. by_case k (cases_lt k i) below;
 } where
   last : slice_index (variables ++ v ∷ []) i ≡ v
@@ -59,11 +56,10 @@ one_variable_more entries places variables i v name so_far at = record {
   by_case : (k : ℕ) → (k < i) ⊎ (i ≤ k) → k < i + 1 → (n : Name)
       × (slice_get (names_of entries) (slice_index places k) ≡ Some (slice_index (variables ++ v ∷ []) k, n))
   by_case k (inl less) below =
-      let before = so_far.at k less in
-      let long = so_far.long in (
+      let before = so_far.at k less in (
         before.0,
         before.1 ∙ ap (λ w. Some (w, before.0)) (sym (get_or_append_left variables (v ∷ []) 0 k
-            (omega (arith, less, long)))),
+            (omega (arith, less, so_far.long)))),
       )
   by_case k (inr more) below =
       let same : k ≡ i = omega (arith, more, below) in (
@@ -78,13 +74,11 @@ pub variable_is_new : (entries : List Entry) (places variables : List ℕ) (i v 
     AreVariablesSoFar entries places variables i →
     slice_get (names_of entries) (slice_index places i) ≡ Some (v, name) → Contains variables v → ⊥
 variable_is_new entries places variables i v name lawful rising inside so_far at (k, below, is) =
-    let long = so_far.long in
-    let less : k < i = omega (arith, below, long) in
+    let less : k < i = omega (arith, below, so_far.long) in
     let before = so_far.at k less in
     let one = one_place entries (slice_index places k) (slice_index places i) v before.0 name lawful
     (before.1 ∙ ap (λ w. Some (w, before.0)) (get_or_default variables k 0 v below ∙ is)) at in
-    let low = rising k i 0 less inside in
-    omega (arith, one, low)
+    omega (arith, one, rising k i 0 less inside)
 
 module _ (entries : List Entry) (lawful : Each MayFollow entries) (roots : Pending) (places gates : List ℕ)
     (are : AreGatePlaces entries roots places) (listed : AreVariablesAt entries (reverse places) gates) where
@@ -111,7 +105,7 @@ module _ (entries : List Entry) (lawful : Each MayFollow entries) (roots : Pendi
 
   gate_inside : (v : ℕ) (inside : Contains gates v) → IsGateOf inside.0 v
   gate_inside v (k, below, is) =
-      let long = listed.long in gate_of k v (omega (arith, below, long)) (get_or_default gates k 0 v below ∙ is)
+      gate_of k v (omega (arith, below, listed.long)) (get_or_default gates k 0 v below ∙ is)
 
   named : (v : ℕ) → Contains gates v → (a : Literal) × (b : Literal) × (name_of entries v ≡ Some (And a b))
   named v inside =
@@ -123,12 +117,11 @@ module _ (entries : List Entry) (lawful : Each MayFollow entries) (roots : Pendi
   there p v inside gate =
       let at = reversed_contains places p inside in
       let below = at.1 in
-      let long = listed.long in
       let here = listed.at at.0 below in
       let place : slice_index up at.0 ≡ p = get_or_default up at.0 0 p below ∙ at.2 in
       let is = (same_pair (slice_index gates at.0) v here.0 gate.0
       (sym here.1 ∙ ap (slice_get (names_of entries)) place ∙ gate.1)).0 in
-      let within : at.0 < length gates = omega (arith, below, long) in
+      let within : at.0 < length gates = omega (arith, below, listed.long) in
       (at.0, within, get_or_default gates at.0 v 0 within ∙ is)
 
   among_gates : (v : ℕ) → IsListed entries places v → IsGateAmong entries gates v
@@ -151,31 +144,24 @@ module _ (entries : List Entry) (lawful : Each MayFollow entries) (roots : Pendi
 
   distinct : AllPairs (λ v w. v ≢ w) gates
   distinct i j d less below same =
-      let long = listed.long in
-      let under : j < length up = omega (arith, below, long) in
+      let under : j < length up = omega (arith, below, listed.long) in
       let first = gate_of i (slice_index gates i) (omega (arith, less, under)) refl in
       let second = gate_of j (slice_index gates i) under
       (get_or_default gates j 0 d below ∙ sym same ∙ get_or_default gates i d 0 (omega (arith, less, below))) in
       let one = one_place entries (slice_index up i) (slice_index up j) (slice_index gates i) first.name second.name
       lawful first.at second.at in
-      let low = rising i j 0 less under in
-      omega (arith, one, low)
+      omega (arith, one, rising i j 0 less under)
 
   few : length gates ≤ count is_gate_name entries
   few =
-      let long = listed.long in
-      let same = length-reverse places in
-      let most = few_places entries places are.descending are.gates in
-      omega (arith, long, same, most)
+      omega (arith, listed.long, length-reverse places, few_places entries places are.descending are.gates)
 
   -- the place of a gate in the list, and its place in the log
   at_position : (v : ℕ) → Contains gates v → IsGateOf (position_or_len (λ x. x == v) gates) v
   at_position v inside =
       let p = position_is gates v (tested_inside gates v inside) in
-      let long = listed.long in
-      let below = p.below in
       let first = p.first in
-      gate_of (position_or_len (λ x. x == v) gates) v (omega (arith, below, long, first))
+      gate_of (position_or_len (λ x. x == v) gates) v (omega (arith, p.below, listed.long, first))
       (ap (slice_index gates) first ∙ p.there)
 
   side_first : (v : ℕ) (a b l : Literal) → Contains gates v → name_of entries v ≡ Some (And a b) → IsSide a b l →
@@ -197,9 +183,9 @@ module _ (entries : List Entry) (lawful : Each MayFollow entries) (roots : Pendi
       ] where
         past : (i j : ℕ) → i < length up → j ≤ i → slice_index up i < slice_index up j → ⊥
         past i j below more low = elim (cases_lt j i) [
-          | inl less ↦ (let up_less = rising j i 0 less below in omega (arith, up_less, low))
+          | inl less ↦ (omega (arith, rising j i 0 less below, low))
           | inr equal ↦ (let same : i ≡ j = omega (arith, more, equal) in
-              let e = ap (slice_index up) same in omega (arith, e, low))
+              omega (arith, ap (slice_index up) same, low))
         ]
 
   leaf_among : (leaf : Leaf) → IsLeafWanted entries roots leaf → IsLeafAmongGates entries gates leaf

@@ -45,8 +45,7 @@ module _ (f : Dqbf) (lawful : HasLawfulPrefix f) (symbols : SymbolTable) (number
                 inside;
           };
       distinct = λ i j d less below same.
-          let long = length-append us es in
-          lawful.declared_once i j d less (omega (arith, below, long))
+          lawful.declared_once i j d less (omega (arith, below, length-append us es))
           (get_or-append us es d i (omega (arith, less, below)) ∙ same ∙ sym (get_or-append us es d j below));
     },
     record {
@@ -61,8 +60,8 @@ module _ (f : Dqbf) (lawful : HasLawfulPrefix f) (symbols : SymbolTable) (number
                 inside;
           };
       distinct = λ i j d less below same.
-          let long = length-append us es in
-          lawful.declared_once (length us + i) (length us + j) d (omega (arith, less)) (omega (arith, below, long))
+          lawful.declared_once (length us + i) (length us + j) d (omega (arith, less))
+          (omega (arith, below, length-append us es))
           (get_or-append-add us es i d ∙ same ∙ sym (get_or-append-add us es j d));
     },
   )

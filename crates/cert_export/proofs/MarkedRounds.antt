@@ -2,8 +2,11 @@
 use Rattle.std.proofs.Common.{◌≡◌, ◌≢◌, ℕ, zero, suc, ◌+◌, ◌-◌, ◌≤◌, ◌<◌, ◌==◌, ◌||◌, Bool, true, false, cond, List, [], ◌∷◌, ◌++◌, map, replicate, slice_set, Option, None, Some, refl, sym, ◌∙◌, ap, arith}
 use Rattle.std.specs.List.{filter, list_any, range_with_len}
 use Rattle.std.proofs.lemmas.List.{append-nil}
+use Rattle.std.proofs.lemmas.List.Elements.{filter-append}
+use Rattle.std.proofs.lemmas.List.Folds.{list_any-append}
 use Rattle.std.proofs.lemmas.Bool.{eqb-true, eqb-false, eq-eqb, ne_eqb}
 use Rattle.list_laws.proofs.Numbers.{range_more}
+use Rattle.list_laws.proofs.Truths.{last, or_true}
 use Rattle.hint_log.specs.Entries.{Entry, origin_at}
 use Rattle.hint_log.specs.declared.origins.Origin.{Origin}
 use Rattle.hint_log.specs.declared.origins.Origin.TheVariants.{Instance, Gate, Fault, Copy, Link, TermGate, Differ}
@@ -16,15 +19,7 @@ none_marked zero start = refl
 none_marked (suc n) start = ap (λ xs. false ∷ xs) (none_marked n (start + 1))
 
 any_push : (p : ℕ → Bool) (xs : List ℕ) (x : ℕ) → list_any p (xs ++ x ∷ []) ≡ (list_any p xs || p x)
-any_push p [] x = by_bit (p x) where
-  by_bit : (b : Bool) → (b || false) ≡ b
-  by_bit true = refl
-  by_bit false = refl
-any_push p (y ∷ ys) x = by_bit (p y) (any_push p ys x) where
-  by_bit : (b : Bool) → list_any p (ys ++ x ∷ []) ≡ (list_any p ys || p x) →
-      (b || list_any p (ys ++ x ∷ [])) ≡ ((b || list_any p ys) || p x)
-  by_bit true h = refl
-  by_bit false h = h
+any_push p xs x = list_any-append p xs (x ∷ []) ∙ ap (λ b. list_any p xs || b) (last (p x))
 
 same_map : (h g : ℕ → Bool) → ((x : ℕ) → g x ≡ h x) → (xs : List ℕ) → map h xs ≡ map g xs
 same_map h g same [] = refl
@@ -79,17 +74,9 @@ marked_more entries done id n within = by_origin (origin_at entries id) refl wit
   pushed o is x = any_push (λ i. is_instance_of x (origin_at entries i)) done id ∙ ap (λ q. h x || is_instance_of x q)
       is
 
-  or_false : (b : Bool) → (b || false) ≡ b
-  or_false true = refl
-  or_false false = refl
-
-  or_true : (b : Bool) → (b || true) ≡ true
-  or_true true = refl
-  or_true false = refl
-
   unmarked : (o : Option Origin) → origin_at entries id ≡ o → ((x : ℕ) → is_instance_of x o ≡ false) →
       map h (range_with_len 1 n) ≡ map g (range_with_len 1 n)
-  unmarked o is none = same_map h g (λ x. pushed o is x ∙ ap (λ b. h x || b) (none x) ∙ or_false (h x))
+  unmarked o is none = same_map h g (λ x. pushed o is x ∙ ap (λ b. h x || b) (none x) ∙ last (h x))
       (range_with_len 1 n)
 
   by_origin : (o : Option Origin) → origin_at entries id ≡ o →
@@ -98,11 +85,10 @@ marked_more entries done id n within = by_origin (origin_at entries id) refl wit
   by_origin None is within = unmarked None is (λ x. refl)
   by_origin (Some (Instance k j)) is within =
       let b = within k j refl in
-      let high = b.1 in
       set_mark h g k
       (pushed (Some (Instance k j)) is k ∙ ap (λ b. h k || b) (eq-eqb k k refl) ∙ or_true (h k))
       (λ x differ. pushed (Some (Instance k j)) is x ∙ ap (λ b. h x || b) (ne_eqb k x (λ e. differ (sym e)))
-      ∙ or_false (h x)) n 1 b.0 (omega (arith, high))
+      ∙ last (h x)) n 1 b.0 (omega (arith, b.1))
   by_origin (Some (Gate v i)) is within = unmarked (Some (Gate v i)) is (λ x. refl)
   by_origin (Some (Fault j i leaf)) is within = unmarked (Some (Fault j i leaf)) is (λ x. refl)
   by_origin (Some (Copy side j)) is within = unmarked (Some (Copy side j)) is (λ x. refl)
@@ -110,25 +96,11 @@ marked_more entries done id n within = by_origin (origin_at entries id) refl wit
   by_origin (Some (TermGate v i)) is within = unmarked (Some (TermGate v i)) is (λ x. refl)
   by_origin (Some (Differ y leaf part)) is within = unmarked (Some (Differ y leaf part)) is (λ x. refl)
 
--- a marked round is listed
-pub filter_push : (p : ℕ → Bool) (xs : List ℕ) (x : ℕ) →
-    filter p (xs ++ x ∷ []) ≡ filter p xs ++ cond (p x) (x ∷ []) []
-filter_push p [] x = by_bit (p x) where
-  by_bit : (b : Bool) → cond b (x ∷ []) [] ≡ [] ++ cond b (x ∷ []) []
-  by_bit true = refl
-  by_bit false = refl
-filter_push p (y ∷ ys) x = by_bit (p y) (filter_push p ys x) where
-  by_bit : (b : Bool) → filter p (ys ++ x ∷ []) ≡ filter p ys ++ cond (p x) (x ∷ []) [] →
-      cond b (y ∷ filter p (ys ++ x ∷ [])) (filter p (ys ++ x ∷ []))
-      ≡ cond b (y ∷ filter p ys) (filter p ys) ++ cond (p x) (x ∷ []) []
-  by_bit true h = ap (λ zs. y ∷ zs) h
-  by_bit false h = h
-
 -- so the listed ones grow
 pub listed_more : (p : ℕ → Bool) (k : ℕ) → filter p (range_with_len 1 (k + 1))
     ≡ filter p (range_with_len 1 k) ++ cond (p (1 + k)) ((1 + k) ∷ []) []
 listed_more p k = ap (λ n. filter p (range_with_len 1 n)) (let s : k + 1 ≡ suc k = omega arith in s)
-    ∙ ap (filter p) (range_more 1 k) ∙ filter_push p (range_with_len 1 k) (1 + k)
+    ∙ ap (filter p) (range_more 1 k) ∙ filter-append p (range_with_len 1 k) ((1 + k) ∷ [])
 
 pub listed : (p : ℕ → Bool) (k : ℕ) (xs : List ℕ) → xs ≡ filter p (range_with_len 1 k) → p (1 + k) ≡ true →
     xs ++ (k + 1) ∷ [] ≡ filter p (range_with_len 1 (k + 1))

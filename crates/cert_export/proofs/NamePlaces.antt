@@ -101,9 +101,8 @@ side_before (Named w k ∷ es) p q v a b l m lawful at side other =
       ]
       | inr here ↦ elim (old_or_last (names_of es) (w, k) (variable_of l, m) q other) [
         | inl earlier ↦ (
-            let below = place_within (names_of es) q (variable_of l, m) earlier in
             let last = here.0 in
-            omega (arith, below, last))
+            omega (arith, place_within (names_of es) q (variable_of l, m) earlier, last))
         | inr last ↦ absurd (no_side w k es a b l lawful
             (subst (HasSides es) (ap (λ x. x.1) here.1) lawful.0.sides) side (ap (λ x. x.0) last.1))
       ]
@@ -127,7 +126,7 @@ older_gate : (w : ℕ) (m : Name) (es : List Entry) (q : ℕ) → q < length (na
     IsGatePlace (Named w m ∷ es) q → IsGatePlace es q
 older_gate w m es q below (v, (n, at, is)) = elim (old_or_last (names_of es) (w, m) (v, n) q at) [
   | inl before ↦ (v, (n, before, is))
-  | inr last ↦ (let same = last.0 in absurd (omega (arith, same, below)))
+  | inr last ↦ (absurd (omega (arith, last.0, below)))
 ]
 
 older_gates : (w : ℕ) (m : Name) (es : List Entry) (qs : List ℕ) → All (λ q. q < length (names_of es)) qs →
@@ -151,8 +150,7 @@ few_places (Named w m ∷ es) (p ∷ ps) descending gates =
           let below = place_within (names_of es) p (g.0, g.1.0) before in
           let all : All (λ q. q < length (names_of es)) (p ∷ ps) = all_below below in
           let r = few_places es (p ∷ ps) descending (older_gates w m es (p ∷ ps) all gates) in
-          let more = more_gates (Named w m) es in
-          omega (arith, r, more))
+          omega (arith, r, more_gates (Named w m) es))
       | inr last ↦ (
           let is : is_and m ≡ true = ap (λ x. is_and x.1) last.1 ∙ g.1.2 in
           let counted : count is_gate_name (Named w m ∷ es) ≡ count is_gate_name es + 1 =
@@ -165,12 +163,12 @@ few_places (Named w m ∷ es) (p ∷ ps) descending gates =
     ] where
       rest_below : p ≡ length (names_of es) → All (λ q. q < length (names_of es)) ps
       rest_below here k d less =
-          let low = descending 0 (suc k) d (omega arith) (omega (arith, less)) in omega (arith, low, here)
+          omega (arith, descending 0 (suc k) d (omega arith) (omega (arith, less)), here)
 
       all_below : p < length (names_of es) → All (λ q. q < length (names_of es)) (p ∷ ps)
       all_below below zero d less = below
       all_below below (suc k) d less =
-          let low = descending 0 (suc k) d (omega arith) less in omega (arith, low, below)
+          omega (arith, descending 0 (suc k) d (omega arith) less, below)
 few_places (Given origin c ∷ es) (p ∷ ps) descending gates = few_places es (p ∷ ps) descending gates
 few_places (Learned c hints ∷ es) (p ∷ ps) descending gates = few_places es (p ∷ ps) descending gates
 few_places (Answer c hints ∷ es) (p ∷ ps) descending gates = few_places es (p ∷ ps) descending gates

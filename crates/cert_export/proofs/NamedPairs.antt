@@ -1,23 +1,22 @@
 -- Variables of instances get their pairs' numbers.
 use Rattle.std.proofs.Common.{◌≡◌, ℕ, ◌+◌, ◌*◌, ◌≤◌, ◌<◌, ◌⊎◌, inl, inr, true, Bool, List, [], take, get_or, length, Option, None, Some, IsSome, refl, sym, ◌∙◌, ap, subst}
-use Rattle.std.specs.List.{All, Contains}
-use Rattle.std.specs.Option.{option_map, option_and_then}
+use Rattle.std.specs.List.{All}
+use Rattle.std.specs.Option.{option_map}
 use Rattle.std.proofs.lemmas.List.{take_all, take_more}
 use Rattle.std.proofs.lemmas.List.Elements.{All-nil, All-push}
 use Rattle.dq_lits.specs.Literal.{Literal, variable_of}
 use Rattle.dq_lits.specs.Formula.{Dqbf}
 use Rattle.cert_text.specs.Pairs.{is_pair_number}
-use Rattle.hint_log.specs.Entries.{Entry, Named, Given, Learned, Answer, Round, Begun, has_id, numbered, clause_of, clause_at, origin_of, origin_at, name_of}
+use Rattle.hint_log.specs.Entries.{Entry, Given, has_id, numbered, name_of}
 use Rattle.hint_log.specs.declared.origins.Origin.{Origin}
 use Rattle.hint_log.specs.Naming.{rows_of}
-use Rattle.hint_log.specs.declared.names.Name.{Name}
 use Rattle.hint_log.specs.declared.names.Name.TheVariants.{Pair}
 use Rattle.refutation_checker.specs.Refutation.{normal_number}
 use Rattle.cert_export.specs.Expansion.{rows_among, pair_of, pair_renaming}
 use Rattle.cert_export.specs.Exported.{normal_names, IsPairNaming}
 use Rattle.cert_export.specs.Pairing.{IsPairAt, IsNameAt, HasNameAt, ArePairNames, ArePairsNamed, IsPairNamed}
-use Rattle.cert_export.specs.Renaming.{Renaming, IsPartOf, IsNamed, IsRenamingOf}
-use Rattle.cert_export.proofs.GivenNames.{named_as, named_still, right_with, GivenNamed, no_given, one_given, all_given}
+use Rattle.cert_export.specs.Renaming.{Renaming, IsPartOf, IsRenamingOf}
+use Rattle.cert_export.proofs.GivenNames.{named_as, named_still, right_with, GivenNamed, one_given, all_given}
 
 module _ (f : Dqbf) (entries : List Entry) (rounds : List ℕ) where
   abbrev rows : List (List Bool)
@@ -66,14 +65,6 @@ module _ (f : Dqbf) (entries : List Entry) (rounds : List ℕ) where
         by_option : (o : Option ℕ) → IsSome o → IsSome (option_map (normal_number f rows) o)
         by_option None h = cc
         by_option (Some x) h = refl
-
-  -- a name that is no pair's gives no number
-  pub unpaired : (r : Renaming) (l : Literal) → ArePairNames f entries rounds r → target (variable_of l) ≡ None →
-      IsPairNamed f entries rounds r l
-  unpaired r l names none = by_option (pairs r (variable_of l)) refl where
-    by_option : (o : Option ℕ) → pairs r (variable_of l) ≡ o → pairs r (variable_of l) ≡ target (variable_of l)
-    by_option None e = e ∙ sym none
-    by_option (Some x) e = let both : None ≡ Some x = sym none ∙ names.right (variable_of l) x e in cc
 
   -- names of all instances
   pub naming_of : (ids : List ℕ) (r : Renaming) → ArePairNames f entries rounds r →
@@ -130,17 +121,6 @@ module _ (f : Dqbf) (entries : List Entry) (rounds : List ℕ) where
     pub names : ArePairNames f entries rounds r
     pub given : GivenNamed target entries (pairs r) done
 
-  pub no_given_pair : (r : Renaming) (done : List ℕ) → done ≡ [] → ((v : ℕ) → r v ≡ None) → GivenPairs r done
-  no_given_pair r done is none = record {
-    names = record {
-      right = nothing.right;
-      pairs = λ v x h. let both : None ≡ Some x = sym (none v) ∙ h in cc;
-    };
-    given = nothing;
-  } where
-    nothing : GivenNamed target entries (pairs r) done
-    nothing = no_given target entries (pairs r) done is (λ v. ap (option_map (normal_number f rows)) (none v))
-
   pub one_instance : (old new : Renaming) (ids : List ℕ) (i id : ℕ) → GivenPairs old (take i ids) → IsPartOf old new →
       ArePairNames f entries rounds new → i < length ids → id ≡ get_or ids i id →
       ((origin : Origin) (c : List Literal) → numbered has_id entries id ≡ Some (Given origin c) →
@@ -156,23 +136,3 @@ module _ (f : Dqbf) (entries : List Entry) (rounds : List ℕ) where
       IsPairNaming f entries rounds ids r
   all_instances r ids i past so_far = naming_of ids r so_far.names
       (all_given target entries (pairs r) ids i past so_far.given)
-
--- what is known of the clause of an origin
-pub known_clause : (P : Origin → List Literal → Type 0) (entries : List Entry) (ids : List ℕ) (id : ℕ) (origin : Origin)
-    (clause : List Literal) → ((i : ℕ) (o : Origin) (c : List Literal) → Contains ids i →
-    numbered has_id entries i ≡ Some (Given o c) → P o c) → Contains ids id →
-    origin_at entries id ≡ Some origin → clause_at entries id ≡ Some clause → P origin clause
-known_clause P entries ids id origin clause known inside own there =
-    by_entry (numbered has_id entries id) refl own there where
-      by_entry : (o : Option Entry) → numbered has_id entries id ≡ o → option_and_then origin_of o ≡ Some origin →
-          option_and_then clause_of o ≡ Some clause → P origin clause
-      by_entry None at g t = cc
-      by_entry (Some (Named v n)) at g t = cc
-      by_entry (Some (Given q c)) at g t =
-          let same : q ≡ origin = cc in
-          let same_clause : c ≡ clause = cc in
-          subst (P origin) same_clause (subst (λ o. P o c) same (known id q c inside at))
-      by_entry (Some (Learned c hints)) at g t = cc
-      by_entry (Some (Answer c hints)) at g t = cc
-      by_entry (Some (Round row values j)) at g t = cc
-      by_entry (Some (Begun live)) at g t = cc

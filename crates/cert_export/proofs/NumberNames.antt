@@ -29,8 +29,8 @@ one_more from (v ∷ vs) (suc i) d below =
 -- the next place has no name yet
 pub next_unnamed : (names : List (ℕ × List ℕ)) (vs : List ℕ) (i : ℕ) → names ≡ number_names 0 (take i vs) →
     name_at names i ≡ None
-next_unnamed names vs i is = let few = take-few i vs in ap (λ ns. name_at ns i) is ∙ unnamed 0 (take i vs) i
-    (omega (arith, few))
+next_unnamed names vs i is = ap (λ ns. name_at ns i) is ∙ unnamed 0 (take i vs) i
+    (omega (arith, take-few i vs))
 
 -- with its name there is one more
 pub next_named : (names : List (ℕ × List ℕ)) (vs : List ℕ) (i d : ℕ) (name : List ℕ) →

@@ -1,38 +1,26 @@
 -- Numbers of lines rise with the ids.
-use Rattle.std.proofs.Common.{◌≡◌, ℕ, zero, suc, ◌+◌, ◌<◌, ◌==◌, Bool, true, false, cond, not, List, [], ◌∷◌, length, refl, sym, ◌∙◌, ap, subst, arith}
+use Rattle.std.proofs.Common.{◌≡◌, ℕ, zero, suc, ◌+◌, ◌<◌, ◌==◌, Bool, true, false, cond, not, List, [], ◌∷◌, length, refl, sym, ◌∙◌, arith}
 use Rattle.std.specs.List.{Contains, filter, position_or_len}
 use Rattle.std.proofs.lemmas.Bool.{eqb-true, eq-eqb, false≢true}
 use Rattle.std.proofs.lemmas.List.Kept.{AllPairs-from_increasing}
+use Rattle.list_laws.proofs.Members.{contains_later, filter_keeps}
 use Rattle.hint_log.specs.Entries.{Entry, has_id, numbered}
 use Rattle.hint_log.specs.Reached.{AreReached}
 use Rattle.cert_export.specs.Lines.{is_derived, derived_ids, line_number}
 use Rattle.cert_export.specs.LineOrder.{AreLineNumbers}
 use Rattle.cert_export.proofs.ReachedLines.{Rising, rising_of}
 
-contains_more : (x h : ℕ) (xs : List ℕ) → Contains xs h → Contains (x ∷ xs) h
-contains_more x h xs inside = let b = inside.1 in (suc inside.0, omega arith, inside.2)
-
 -- places of rising numbers rise
 module _ (p : ℕ → Bool) where
-  pub in_filter : (xs : List ℕ) (h : ℕ) → p h ≡ true → Contains xs h → Contains (filter p xs) h
-  in_filter [] h passes (k, below, is) = absurd (omega arith)
-  in_filter (x ∷ xs) h passes (zero, below, is) = subst (λ b. Contains (cond b (x ∷ filter p xs) (filter p xs)) h)
-      (sym (ap p is ∙ passes)) (0, omega arith, is)
-  in_filter (x ∷ xs) h passes (suc k, below, is) = by_bit (p x)
-      (in_filter xs h passes (k, (let b : k < length xs = omega arith in b), is)) where
-        by_bit : (b : Bool) → Contains (filter p xs) h → Contains (cond b (x ∷ filter p xs) (filter p xs)) h
-        by_bit true inside = contains_more x h (filter p xs) inside
-        by_bit false inside = inside
-
   pub of_filter : (xs : List ℕ) (h : ℕ) → Contains (filter p xs) h → Contains xs h
   of_filter [] h inside = inside
   of_filter (x ∷ xs) h inside = by_bit (p x) (of_filter xs h) inside where
     by_bit : (b : Bool) → (Contains (filter p xs) h → Contains xs h) →
         Contains (cond b (x ∷ filter p xs) (filter p xs)) h → Contains (x ∷ xs) h
     by_bit true later (zero, below, is) = (0, omega arith, is)
-    by_bit true later (suc k, below, is) = contains_more x h xs
+    by_bit true later (suc k, below, is) = contains_later x h xs
         (later (k, (let b : k < length (filter p xs) = omega arith in b), is))
-    by_bit false later inside = contains_more x h xs (later inside)
+    by_bit false later inside = contains_later x h xs (later inside)
 
   pub rising_filter : (xs : List ℕ) → Rising xs → Rising (filter p xs)
   rising_filter [] h = tt
@@ -52,11 +40,10 @@ places_rise (x ∷ xs) rising h k in_h in_k less = by_bits (places_rise xs risin
   by_bits : (Contains xs h → Contains xs k → h < k → position_or_len (λ z. z == h) xs < position_or_len
       (λ z. z == k) xs) → (b c : Bool) → (x == h) ≡ b → (x == k) ≡ c →
       cond (not b) (1 + position_or_len (λ z. z == h) xs) 0 < cond (not c) (1 + position_or_len (λ z. z == k) xs) 0
-  by_bits later true true e g = let a = eqb-true x h e in let b = eqb-true x k g in absurd (omega (arith, a, b, less))
+  by_bits later true true e g = absurd (omega (arith, eqb-true x h e, eqb-true x k g, less))
   by_bits later true false e g = omega arith
-  by_bits later false true e g = let b = eqb-true x k g in let a = rising.0 h (rest h e in_h) in
-      absurd (omega (arith, a, b, less))
-  by_bits later false false e g = let r = later (rest h e in_h) (rest k g in_k) less in omega (arith, r)
+  by_bits later false true e g = absurd (omega (arith, rising.0 h (rest h e in_h), eqb-true x k g, less))
+  by_bits later false false e g = omega (arith, later (rest h e in_h) (rest k g in_k) less)
 
 pub lines_have_numbers : (entries : List Entry) (id base : ℕ) (ids : List ℕ) → AreReached entries id ids →
     AreLineNumbers entries id base (line_number base (derived_ids entries ids))
@@ -66,8 +53,8 @@ lines_have_numbers entries id base ids are =
     record {
       rising = λ h k line_h line_k less.
           let r = places_rise (derived_ids entries ids) rising h k
-          (in_filter p ids h line_h.1 (are.complete h line_h.0))
-          (in_filter p ids k line_k.1 (are.complete k line_k.0)) less in
+          (filter_keeps p ids h line_h.1 (are.complete h line_h.0))
+          (filter_keeps p ids k line_k.1 (are.complete k line_k.0)) less in
           omega (arith, r);
       behind = λ h line. omega arith;
     }

@@ -2,10 +2,10 @@
 use Rattle.std.proofs.Common.{◌≡◌, ℕ, zero, suc, ◌+◌, ◌-◌, ◌*◌, ◌/◌, ◌%◌, ◌≤◌, ◌==◌, ◌&&◌, Bool, true, false, cond, List, [], map, get_or, slice_get, Option, None, Some, refl, sym, ◌∙◌, ap, arith}
 use Rattle.std.specs.List.{Contains, list_any, position_or_len}
 use Rattle.std.proofs.lemmas.Bool.{and_parts, eqb-true}
-use Rattle.std.proofs.lemmas.List.{get_or-map, length-map}
-use Rattle.std.proofs.lemmas.Nat.{div-mul-add, mod-mul-add}
 use Rattle.std.proofs.lemmas.List.Elements.{All-contains, Contains-append_right}
 use Rattle.list_laws.proofs.Folds.{first_holds}
+use Rattle.list_laws.proofs.Members.{contains_map}
+use Rattle.list_laws.proofs.Numbers.{pair_row, pair_variable}
 use Rattle.dq_lits.specs.Formula.{Existential, Dqbf, declared, existential_of, IsWellFormed}
 use Rattle.dq_lits.specs.Expansion.{agree_on, pair_number}
 use Rattle.hint_log.specs.Entries.{name_of}
@@ -23,13 +23,6 @@ use Rattle.dq_lits.specs.Henkin.{restriction, same_bits}
 use Rattle.dq_lits.specs.Expansion.{row_assignment}
 use Rattle.dq_lits.proofs.Choices.{same_bits-sound}
 use Rattle.dq_lits.proofs.FormulaVariables.{find_sound}
-
-pub contains_mapped : (ys : List Existential) (y : Existential) → Contains ys y → Contains (map variable ys) y.variable
-contains_mapped ys y (k, below, is) = (
-  k,
-  rw (length-map ys variable) below,
-  get_or-map variable ys k y y.variable below ∙ ap variable is,
-)
 
 pub record IsPair (f : Dqbf) (rows kept : List (List Bool)) (o : Option Name) (x : ℕ) : Type 0 where
   pub k : ℕ
@@ -86,18 +79,14 @@ pub in_range : (f : Dqbf) → IsWellFormed f → (y : Existential) → Contains 
     (1 ≤ y.variable) × (y.variable ≤ f.variables)
 in_range f well y inside = All-contains (λ v. (1 ≤ v) × (v ≤ f.variables)) (declared f) y.variable well.prefix.in_range
     (Contains-append_right f.universals (map variable f.existentials) y.variable
-    (contains_mapped f.existentials y inside))
+    (contains_map variable f.existentials y inside))
 
 -- a pair's number gives it back
 pair_back : (vars a b y z : ℕ) → 1 ≤ y → y ≤ vars → 1 ≤ z → z ≤ vars → a * vars + y ≡ b * vars + z → (a ≡ b) × (y ≡ z)
-pair_back vars a b y z y1 y2 z1 z2 h =
-    let left = div-mul-add a vars (y - 1) (omega arith) in
-    let right = div-mul-add b vars (z - 1) (omega arith) in
-    let low = mod-mul-add a vars (y - 1) (omega arith) in
-    let low' = mod-mul-add b vars (z - 1) (omega arith) in
-    let same : a * vars + (y - 1) ≡ b * vars + (z - 1) = omega arith in
-    let rest = sym low ∙ ap (λ n. n % vars) same ∙ low' in
-    (sym left ∙ ap (λ n. n / vars) same ∙ right, omega (arith, rest))
+pair_back vars a b y z y1 y2 z1 z2 h = (
+  sym (pair_row a vars y y1 y2) ∙ ap (λ n. (n - 1) / vars) h ∙ pair_row b vars z z1 z2,
+  sym (pair_variable a vars y y1 y2) ∙ ap (λ n. (n - 1) % vars + 1) h ∙ pair_variable b vars z z1 z2,
+)
 
 -- rows that agree with one row agree with one another
 module _ (f : Dqbf) (y : Existential) where

@@ -5,6 +5,7 @@ use Rattle.std.specs.Option.{option_and_then}
 use Rattle.std.proofs.lemmas.Bool.{eqb-true, eq-eqb, and_parts, false≢true}
 use Rattle.std.proofs.lemmas.List.Elements.{Contains-get_or}
 use Rattle.std.proofs.lemmas.List.Kept.{AllPairs-from_increasing}
+use Rattle.list_laws.proofs.Members.{contains_later}
 use Rattle.dq_lits.specs.Literal.{Literal}
 use Rattle.dq_lits.specs.Derivation.{is_empty}
 use Rattle.hint_log.specs.Conditions.{IsId}
@@ -80,15 +81,13 @@ hints_below es lawful at h hints is inside =
     let own = each_at MayFollow p.more p.earlier s.0 (subst (Each MayFollow) p.is lawful) in
     let i = entry_hints p.earlier s.0 h own (subst (λ hs. Contains hs h) (sym s.2) inside) in
     let low = i.from_one in
-    let last = i.last in
-    let n = p.number in
-    (low, omega (arith, last, n))
+    (low, omega (arith, i.last, p.number))
 
 -- what is reached isn't later
 pub reached_below : (es : List Entry) → Each MayFollow es → (id h : ℕ) → Reaches es id h → h ≤ id
 reached_below es lawful id h itself = omega arith
-reached_below es lawful id h (by_hint at _ hints rest is inside) = let r = reached_below es lawful id at rest in let b =
-    hints_below es lawful at h hints is inside in let c = b.1 in omega (arith, r, c)
+reached_below es lawful id h (by_hint at _ hints rest is inside) = let b =
+    hints_below es lawful at h hints is inside in omega (arith, reached_below es lawful id at rest, b.1)
 
 -- an id in range has an entry
 pub there_is : (es : List Entry) (h : ℕ) → 1 ≤ h → h ≤ last_id es → (e : Entry) × (numbered has_id es h ≡ Some e)
@@ -143,9 +142,6 @@ module _ (usable : Origin → List Literal → Type 0) (entries : List Entry) (l
   abbrev AllReached : List ℕ → Type 0
   AllReached rest = (h : ℕ) → Contains rest h → Reaches entries id h
 
-  contains_more : (x h : ℕ) (xs : List ℕ) → Contains xs h → Contains (x ∷ xs) h
-  contains_more x h xs inside = let b = inside.1 in (suc inside.0, omega arith, inside.2)
-
   -- the next line
   next_line : (done rest : List ℕ) (x : ℕ) (clause : List Literal) (hints : List ℕ) →
       ((k : ℕ) → Contains rest k → x < k) → Reaches entries id x →
@@ -168,8 +164,7 @@ module _ (usable : Origin → List Literal → Type 0) (entries : List Entry) (l
         ];
     fresh = λ other inside same.
         let f = finished other inside in
-        let less = numbers.rising other x f.0 (reached, line) (f.1 x (0, omega arith, refl)) in
-        omega (arith, less, same);
+        omega (arith, numbers.rising other x f.0 (reached, line) (f.1 x (0, omega arith, refl)), same);
     behind = numbers.behind x (reached, line);
   } where
     not_later : (h : ℕ) → h < x → Contains (x ∷ rest) h → ⊥
@@ -181,13 +176,13 @@ module _ (usable : Origin → List Literal → Type 0) (entries : List Entry) (l
       AreLines usable entries number base done (derived_ids entries rest)
   walk [] done rising reached known finished = tt
   walk (x ∷ rest) done rising reached known finished =
-      by_entry (λ d k f. walk rest d rising.1 (λ h inside. reached h (contains_more x h rest inside)) k f)
+      by_entry (λ d k f. walk rest d rising.1 (λ h inside. reached h (contains_later x h rest inside)) k f)
       (numbered has_id entries x) refl where
         here : Reaches entries id x
         here = reached x (0, omega arith, refl)
 
         past : Done done rest
-        past h inside = let f = finished h inside in (f.0, λ k i. f.1 k (contains_more x k rest i))
+        past h inside = let f = finished h inside in (f.0, λ k i. f.1 k (contains_later x k rest i))
 
         -- with x as a line
         known_line : Known (x ∷ done) rest
@@ -195,7 +190,7 @@ module _ (usable : Origin → List Literal → Type 0) (entries : List Entry) (l
           | inl hintable ↦ elim hintable [
             | inl base' ↦ inl (inl base')
             | inr inside ↦
-                inl (inr (contains_more x h done inside))
+                inl (inr (contains_later x h done inside))
           ]
           | inr later ↦ by_place later
         ] where
@@ -260,12 +255,10 @@ module _ (usable : Origin → List Literal → Type 0) (entries : List Entry) (l
       (sym (ap (λ n. is_derived (numbered has_id entries n)) is ∙ line))
       (ap (λ n. is_empty (line_clause r entries n)) is ∙ empty)
   finish r line empty (x ∷ y ∷ rest) rising low (zero, below, is) finished =
-      let more = rising.0 y (0, omega arith, refl) in
-      let most = low y (1, omega arith, refl) in
-      absurd (omega (arith, more, most, is))
+      absurd (omega (arith, rising.0 y (0, omega arith, refl), low y (1, omega arith, refl), is))
   finish r line empty (x ∷ rest) rising low (suc k, below, is) finished =
       by_bit (is_derived (numbered has_id entries x)) (finish r line empty rest rising.1
-      (λ h i. low h (contains_more x h rest i)) (k, (let b : k < length rest = omega arith in b), is)) where
+      (λ h i. low h (contains_later x h rest i)) (k, (let b : k < length rest = omega arith in b), is)) where
         by_bit : (b : Bool) → ((d : Bool) → AreFinished r entries d (derived_ids entries rest)) →
             AreFinished r entries finished (cond b (x ∷ derived_ids entries rest) (derived_ids entries rest))
         by_bit true later = later (is_empty (line_clause r entries x))

@@ -29,30 +29,21 @@ module _ (r : Renaming) (injective : IsInjective r) where
   ren_opposite l = ap (λ v. option_map (λ w. on_variable w (opposite l)) (r v)) (opposite_variable l) ∙ opposite_by
       (r (variable_of l)) l
 
+  same_numbers : (a b v w : ℕ) → r a ≡ Some v → r b ≡ Some w → (v == w) ≡ (a == b)
+  same_numbers a b v w e h = elim (cases_Bool (a == b)) [
+    | inl same ↦ (
+        let both : ◌≡◌ {A = Option ℕ} (Some v) (Some w) = sym e ∙ ap r (eqb-true a b same) ∙ h in
+        let vw : v ≡ w = cc in
+        eq-eqb v w vw ∙ sym same)
+    | inr differ ↦ ne_eqb v w (λ vw. eqb-false a b differ (injective a b v e (h ∙ ap Some (sym vw)))) ∙ sym differ
+  ]
+
   same_by : (k l : Literal) (v w : ℕ) → r (variable_of k) ≡ Some v → r (variable_of l) ≡ Some w →
       same_literal (on_variable v k) (on_variable w l) ≡ same_literal k l
-  same_by (positive a) (positive b) v w e h = same_numbers where
-    same_numbers : (v == w) ≡ (a == b)
-    same_numbers = elim (cases_Bool (a == b)) [
-      | inl same ↦ (
-          let eq = eqb-true a b same in
-          let both : ◌≡◌ {A = Option ℕ} (Some v) (Some w) = sym e ∙ ap r eq ∙ h in
-          let vw : v ≡ w = cc in
-          eq-eqb v w vw ∙ sym same)
-      | inr differ ↦ ne_eqb v w (λ vw. eqb-false a b differ (injective a b v e (h ∙ ap Some (sym vw)))) ∙ sym differ
-    ]
+  same_by (positive a) (positive b) v w e h = same_numbers a b v w e h
   same_by (positive a) (negative b) v w e h = refl
   same_by (negative a) (positive b) v w e h = refl
-  same_by (negative a) (negative b) v w e h = same_numbers where
-    same_numbers : (v == w) ≡ (a == b)
-    same_numbers = elim (cases_Bool (a == b)) [
-      | inl same ↦ (
-          let eq = eqb-true a b same in
-          let both : ◌≡◌ {A = Option ℕ} (Some v) (Some w) = sym e ∙ ap r eq ∙ h in
-          let vw : v ≡ w = cc in
-          eq-eqb v w vw ∙ sym same)
-      | inr differ ↦ ne_eqb v w (λ vw. eqb-false a b differ (injective a b v e (h ∙ ap Some (sym vw)))) ∙ sym differ
-    ]
+  same_by (negative a) (negative b) v w e h = same_numbers a b v w e h
 
   -- renamed literals are the same where the literals are
   pub same_renamed : (k l k' l' : Literal) → ren k ≡ Some k' → ren l ≡ Some l' → same_literal k' l' ≡ same_literal k l
@@ -250,20 +241,7 @@ module _ (r : Renaming) (injective : IsInjective r) where
           | inr rest ↦ or_right (holds xs (opposite l)) (list_any (λ k. holds xs (opposite k)) ls) (later rest)
         ]
 
-pub renamed_lines_are_derived : RenamedLinesAreDerived
-renamed_lines_are_derived r to live renamed injective literals hints are derived =
-    let parts = cond-none (is_tautology literals) (hint_fault live (map opposite literals) 1 hints) derived in
-    let no_tautology : is_tautology (renamed_clause r literals) ≡ false =
-    elim (cases_Bool (is_tautology (renamed_clause r literals))) [
-      | inl is ↦ absurd (false≢true (sym parts.0 ∙ tautology_renamed r injective literals literals is))
-      | inr none ↦ none
-    ] in
-    let went = goes r injective renamed live to hints are (map opposite literals) 1 1 parts.1 in
-    let same = opposites_renamed r injective literals in
-    let fault = subst (λ ts. hint_fault renamed ts 1 (cut_hints renamed ts (map to hints)) ≡ None) (sym same) went in
-    cond-false (is_tautology (renamed_clause r literals)) (Some 0) _ no_tautology ∙ fault
-
--- and it has no literal beside its negation
+-- a derived clause has, renamed, no literal beside its negation
 pub renamed_consistent : (r : Renaming) (live : LiveClauses) → IsInjective r →
     (literals : List Literal) (hints : List ℕ) → IsDerived live literals hints →
     is_tautology (renamed_clause r literals) ≡ false
@@ -273,3 +251,12 @@ renamed_consistent r live injective literals hints derived =
       | inl is ↦ absurd (false≢true (sym parts.0 ∙ tautology_renamed r injective literals literals is))
       | inr none ↦ none
     ]
+
+pub renamed_lines_are_derived : RenamedLinesAreDerived
+renamed_lines_are_derived r to live renamed injective literals hints are derived =
+    let parts = cond-none (is_tautology literals) (hint_fault live (map opposite literals) 1 hints) derived in
+    let no_tautology = renamed_consistent r live injective literals hints derived in
+    let went = goes r injective renamed live to hints are (map opposite literals) 1 1 parts.1 in
+    let same = opposites_renamed r injective literals in
+    let fault = subst (λ ts. hint_fault renamed ts 1 (cut_hints renamed ts (map to hints)) ≡ None) (sym same) went in
+    cond-false (is_tautology (renamed_clause r literals)) (Some 0) _ no_tautology ∙ fault

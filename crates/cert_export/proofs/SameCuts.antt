@@ -49,12 +49,7 @@ module _ (r s : Renaming) (to : ℕ → ℕ) (made : (v : ℕ) → s v ≡ optio
   AreAlike falsified falsified = Unit {0}
   AreAlike stuck stuck = Unit {0}
   AreAlike (unit k) (unit k') = (l : Literal) × (renamed_literal r l ≡ Some k) × (renamed_literal s l ≡ Some k')
-  AreAlike falsified stuck = ⊥
-  AreAlike falsified (unit k) = ⊥
-  AreAlike stuck falsified = ⊥
-  AreAlike stuck (unit k) = ⊥
-  AreAlike (unit k) falsified = ⊥
-  AreAlike (unit k) stuck = ⊥
+  AreAlike _ _ = ⊥
 
   open_alike : (trues opens : List Literal) →
       AreAlike (status_by (renamed_clause r trues) (renamed_clause r opens)) (status_by (renamed_clause s trues)

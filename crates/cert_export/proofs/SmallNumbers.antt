@@ -36,11 +36,9 @@ pub number_small : (f : Dqbf) (e : CircuitPart) (v n : ℕ) (o : Option Name) �
     circuit_number f e v o ≡ Some n → (1 ≤ n) × (n ≤ 100000000000000000)
 number_small f e v n o small is = (number_from_one f e v o n is, by_case (number_cases f e v o n is)) where
   by_case : IsNumbered f e v o n → n ≤ 100000000000000000
-  by_case (inl i) = let p = i.2.number in let b = i.2.below in let few = small.few_inputs in omega (arith, p, b, few)
-  by_case (inr (inl g)) = let p = g.1.number in let b = g.1.below in let is' = g.2 in let few = small.few_inputs in
-      let some = small.few_gates in omega (arith, p, b, is', few, some)
-  by_case (inr (inr j)) = let a = j.3 in let b = j.4 in let few = small.few_inputs in let some = small.few_gates in
-      let clauses = small.few_clauses in omega (arith, a, b, few, some, clauses)
+  by_case (inl i) = omega (arith, i.2.number, i.2.below, small.few_inputs)
+  by_case (inr (inl g)) = omega (arith, g.1.number, g.1.below, g.2, small.few_inputs, small.few_gates)
+  by_case (inr (inr j)) = omega (arith, j.3, j.4, small.few_inputs, small.few_gates, small.few_clauses)
 
 pub numbers_small : (f : Dqbf) (e : CircuitPart) (v : ℕ) (o : Option Name) (result : Option ℕ) → IsSmall f e.gates →
     result ≡ circuit_number f e v o → IfSome result (λ n. (1 ≤ n) × (n ≤ 100000000000000000))
@@ -53,4 +51,4 @@ clause_small xs j None few is = tt
 clause_small {X} xs j (Some n) few is = by_option (numbered_from_one xs j) refl is where
   by_option : (o : Option X) → numbered_from_one xs j ≡ o → Some n ≡ option_map (λ c. j) o → n ≤ 100000000000000000
   by_option None e h = cc
-  by_option (Some x) e h = let same : n ≡ j = cc in let b = (number_below xs j x e).1 in omega (arith, same, b, few)
+  by_option (Some x) e h = let same : n ≡ j = cc in omega (arith, same, (number_below xs j x e).1, few)

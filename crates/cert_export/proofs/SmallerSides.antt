@@ -42,14 +42,13 @@ module _ (f : Dqbf) (entries : List Entry) (e : CircuitPart) (logged : AreLogged
     by_option (Some (Pair k y)) is h = cc
     by_option (Some (Input x)) is h =
         let there = given (variable_of l) x is in
-        let below = position_below x f.universals (tested_inside f.universals x there) in
         code_below l (position_or_len (λ z. z == x) f.universals + 1) (number v)
-        (ap (circuit_number f e (variable_of l)) is ∙ place_there f.universals x there) (omega (arith, below))
+        (ap (circuit_number f e (variable_of l)) is ∙ place_there f.universals x there)
+        (omega (arith, position_below x f.universals (tested_inside f.universals x there)))
     by_option (Some (And a b)) is h =
-        let low = before a b is in
         code_below l (number (variable_of l)) (number v)
         (ap (circuit_number f e (variable_of l)) is ∙ ap (option_map (λ p. length f.universals + p))
-        (place_there e.gates (variable_of l) (in_file a b is))) (omega (arith, low))
+        (place_there e.gates (variable_of l) (in_file a b is))) (omega (arith, before a b is))
     by_option (Some (Bad g j)) is h = cc
     by_option (Some (CopyOf side u)) is h = cc
     by_option (Some (Term p q)) is h = cc
@@ -64,10 +63,12 @@ module _ (f : Dqbf) (entries : List Entry) (e : CircuitPart) (logged : AreLogged
       let own : or_zero (circuit_renaming f entries e v) ≡ number v =
       ap (λ o. or_zero (circuit_number f e v o)) n.2
       ∙ ap (λ o. or_zero (option_map (λ p. length f.universals + p) o)) (place_there e.gates v inside) in
-      let left' = side_below v n.0 both.0 files.0 low.0 in
-      let right' = side_below v n.1 both.1 files.1 low.1 in
       subst (λ o. HasSmallerSides (gate_of (circuit_renaming f entries e) v o)) (sym n.2)
-      (record { left = omega (arith, left', own); right = omega (arith, right', own) })
+      (record {
+        left = omega (arith, side_below v n.0 both.0 files.0 low.0, own);
+        right =
+            omega (arith, side_below v n.1 both.1 files.1 low.1, own);
+      })
 
   pub smaller_sides : All HasSmallerSides (exported_netlist f entries e).gates
   smaller_sides = All-map HasSmallerSides (λ v. gate_of (circuit_renaming f entries e) v (name_of entries v)) e.gates

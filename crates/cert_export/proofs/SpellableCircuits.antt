@@ -74,7 +74,7 @@ named from [] names = All-nil (λ (symbol : ℕ × List ℕ). IsName symbol.1)
 named from (v ∷ vs) names =
     All-cons (λ (symbol : ℕ × List ℕ). IsName symbol.1) (from, decimal v) (number_names (from + 1) vs)
     (names v (0, omega arith, refl))
-    (named (from + 1) vs (λ w inside. let b = inside.1 in names w (suc inside.0, omega (arith, b), inside.2)))
+    (named (from + 1) vs (λ w inside. names w (suc inside.0, omega (arith, inside.1), inside.2)))
 
 -- what is grounded is defined
 meant : (net : Netlist) (n : ℕ) → IsGrounded net n → (n ≡ 0) ⊎ IsDefined net n

@@ -1,9 +1,10 @@
 -- Lines are written one after the other.
-use Rattle.std.proofs.Common.{◌≡◌, Result, Ok, Err, OnOk, IfOk, ℕ, zero, suc, ◌+◌, ◌≤◌, ◌<◌, ◌==◌, ◌⊎◌, inl, inr, Bool, true, false, cond, List, [], ◌∷◌, ◌++◌, map, take, drop, append_assoc, length, get_or, slice_get, slice_index, Option, None, Some, refl, sym, ◌∙◌, ap, subst, arith, length-append}
+use Rattle.std.proofs.Common.{◌≡◌, Result, Ok, Err, IfOk, ℕ, zero, suc, ◌+◌, ◌≤◌, ◌<◌, ◌==◌, ◌⊎◌, inl, inr, Bool, true, false, cond, List, [], ◌∷◌, ◌++◌, map, take, drop, append_assoc, length, get_or, slice_get, slice_index, Option, None, Some, refl, sym, ◌∙◌, ap, subst, arith, length-append}
 use Rattle.std.specs.List.{All, Contains, filter, position_or_len}
 use Rattle.std.specs.Option.{option_map, option_and_then}
+use Rattle.std.proofs.lemmas.Bool.{cases_lt}
 use Rattle.std.proofs.lemmas.List.{get_or-append-add, get_or_default, take-append-drop, length-map, map-append, take_more}
-use Rattle.std.proofs.lemmas.List.Elements.{All-nil, All-cons, All-contains, All-head, All-tail, Contains-get_or, filter-append}
+use Rattle.std.proofs.lemmas.List.Elements.{All-map, All-contains, All-head, All-tail, Contains-get_or, filter-append}
 use Rattle.std.proofs.lemmas.List.Kept.{AllPairs-from_increasing}
 use Rattle.list_laws.proofs.Elements.{place_within, index_of}
 use Rattle.dq_lits.specs.Literal.{Literal, opposite}
@@ -20,10 +21,6 @@ use Rattle.cert_export.proofs.CutHints.{cut_by_ids}
 use Rattle.cert_export.proofs.Numbers.{rising_filter}
 use Rattle.cert_export.proofs.ReachedLines.{rising_of, Rising}
 
-pub on_ok_more : {T E : Type 0} (result : Result T E) {P Q : Type 0} → (P → Q) → OnOk result P → OnOk result Q
-on_ok_more (Ok x) more h = more h
-on_ok_more (Err e) more h = tt
-
 pub if_ok_more : {T E : Type 0} (result : Result T E) {P Q : T → Type 0} → ((x : T) → P x → Q x) → IfOk result P →
     IfOk result Q
 if_ok_more (Ok x) more h = more x h
@@ -32,11 +29,9 @@ if_ok_more (Err e) more h = tt
 -- lines have ids from 1 on
 pub ids_from_one : (r : Renaming) (base_id : Origin → ℕ) (entries : List Entry) (last : ℕ) (lines ids : List ℕ) →
     All (λ s. 1 ≤ s.id) (line_steps r base_id entries (line_number last lines) ids)
-ids_from_one r base_id entries last lines [] = All-nil (λ (s : ProofStep). 1 ≤ s.id)
-ids_from_one r base_id entries last lines (id ∷ ids) =
-    All-cons (λ (s : ProofStep). 1 ≤ s.id) (line_step r base_id entries (line_number last lines) id)
-    (line_steps r base_id entries (line_number last lines) ids)
-    (omega arith) (ids_from_one r base_id entries last lines ids)
+ids_from_one r base_id entries last lines ids =
+    All-map (λ (s : ProofStep). 1 ≤ s.id) (line_step r base_id entries (line_number last lines)) ids
+    (λ k d below. omega arith)
 
 pub record IsDerivedEntry (o : Option Entry) (clause : List Literal) (hints : List ℕ) : Type 0 where
   pub derived : is_derived o ≡ true
@@ -117,29 +112,18 @@ module _ (r : Renaming) (base_id : Origin → ℕ) (knows : Origin → Type 0) (
   earlier : (h : ℕ) → Contains ids h → h < id → IsEarlier h
   earlier h m less = record {
     place = m.0;
-    before = by_order (below_or_not m.0 i);
+    before = by_order (cases_lt m.0 i);
     there = m.2;
     place_is = ap (place_in ids) (sym m.2) ∙ place_of ids rising m.0 h m.1;
   } where
-    below_or_not : (a b : ℕ) → (a < b) ⊎ (b ≤ a)
-    below_or_not zero zero = inr (omega arith)
-    below_or_not zero (suc b) = inl (omega arith)
-    below_or_not (suc a) zero = inr (omega arith)
-    below_or_not (suc a) (suc b) = elim (below_or_not a b) [
-      | inl l ↦ inl (omega (arith, l))
-      | inr l ↦
-          inr (omega (arith, l))
-    ]
-
     by_order : (m.0 < i) ⊎ (i ≤ m.0) → m.0 < i
     by_order (inl l) = l
-    by_order (inr l) = absurd (by_less (below_or_not i m.0)) where
+    by_order (inr l) = absurd (by_less (cases_lt i m.0)) where
       at_place : get_or ids m.0 id ≡ h
       at_place = get_or_default ids m.0 id h m.1 ∙ m.2
 
       by_less : (i < m.0) ⊎ (m.0 ≤ i) → ⊥
-      by_less (inl j) = let above = AllPairs-from_increasing ids can.ascending i m.0 id j m.1 in
-          omega (arith, above, at_place, less, is)
+      by_less (inl j) = omega (arith, AllPairs-from_increasing ids can.ascending i m.0 id j m.1, at_place, less, is)
       by_less (inr j) = let same : m.0 ≡ i = omega (arith, l, j) in let e = ap (λ k. get_or ids k id) same in
           omega (arith, e, at_place, less, is)
 
@@ -207,8 +191,8 @@ module _ (r : Renaming) (base_id : Origin → ℕ) (knows : Origin → Type 0) (
       let zero_more : length front + 0 ≡ length front = omega arith in
       let at_id : get_or (front ++ id ∷ back) (length front) id ≡ id =
       ap (λ n. get_or (front ++ id ∷ back) n id) (sym zero_more) ∙ get_or-append-add front (id ∷ back) 0 id in
-      let many = length-append front (id ∷ back) in
-      let place = place_of (front ++ id ∷ back) rise (length front) id (omega (arith, many)) in
+      let place = place_of (front ++ id ∷ back) rise (length front) id
+      (omega (arith, length-append front (id ∷ back))) in
       let position : position_or_len (λ x. x == id) (derived_ids entries ids) ≡ length front =
       ap (position_or_len (λ x. x == id)) parts ∙ ap (λ y. position_or_len (λ x. x == y) (front ++ id ∷ back))
       (sym at_id) ∙ place in

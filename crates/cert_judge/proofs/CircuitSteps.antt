@@ -9,7 +9,7 @@ use Rattle.aiger_text.specs.declared.faults.AagFault.{AagFault}
 use Rattle.aiger_text.specs.declared.faults.AagStop.{AagStop}
 use Rattle.aiger_text.specs.declared.faults.AagStop.TheVariants.{Refused as RefusedFile, Memory as NoFile}
 use Rattle.aiger_text.specs.declared.files.AagFile.{AagFile}
-use Rattle.aag_lines.specs.CircuitLines.{CircuitLines, GoesOn, ReadsLine, commented, gives, header_line, lines_give}
+use Rattle.aiger_text.specs.CircuitLines.{CircuitLines, GoesOn, ReadsLine, commented, gives, header_line, lines_give}
 use Rattle.cert_text.specs.CircuitProof.{circuit_proof_of}
 use Rattle.skolem_checker.specs.Checks.{candidate_of}
 use Rattle.cert_judge.specs.CircuitPhases.{FollowsLine, IsStoppedPhase}

@@ -17,7 +17,7 @@ use Rattle.aiger_text.specs.Symbol.{SymbolTable}
 use Rattle.aiger_text.specs.declared.faults.AagStop.{AagStop}
 use Rattle.aiger_text.specs.declared.faults.AagStop.TheVariants.{Refused as RefusedFile, Memory as NoFile}
 use Rattle.aiger_text.specs.declared.files.AagFile.{AagFile}
-use Rattle.aag_lines.specs.CircuitLines.{CircuitLines, commented, gives, header_line, lines_give}
+use Rattle.aiger_text.specs.CircuitLines.{CircuitLines, commented, gives, header_line, lines_give}
 use Rattle.rup_core.specs.Items.{ProofItem, items_fault}
 use Rattle.rup_core.specs.Runs.{Run, run_fault, start, with_items}
 use Rattle.cert_text.specs.CircuitProof.{circuit_proof_of, first_proof_id, read_proof}
@@ -29,7 +29,7 @@ use Rattle.cert_text.specs.declared.circuit_proofs.Dqp.{Dqp}
 use Rattle.cert_text.specs.declared.faults.CertRefusal.{CertRefusal}
 use Rattle.cert_text.specs.declared.faults.CertStop.{CertStop}
 use Rattle.cert_text.specs.declared.faults.CertStop.TheVariants.{Refused as RefusedText, Memory as NoText}
-use Rattle.cert_lines.specs.KeptLines.{proof_seen}
+use Rattle.cert_stream.specs.KeptLines.{proof_seen}
 use Rattle.cert_stream.specs.ProofState.{AnswersLines, MayAnswer, ProofState, answers_by, fault_behind, judged_whole, run_in}
 use Rattle.proof_checker.specs.CircuitProof.{negated_candidate}
 use Rattle.proof_checker.specs.Judging.{run_of, IsJudging}

@@ -14,6 +14,7 @@ use Rattle.defined_checker.specs.declared.checks.Counts.{Counts}
 use Rattle.defined_checker.specs.declared.faults.DefStop.{DefStop}
 use Rattle.defined_checker.specs.declared.faults.DefStop.TheVariants.{Refused as RefusedText, Invalid, Memory as NoMemory}
 use Rattle.defined_checker.specs.declared.faults.DefinitionFault.{DefinitionFault}
+use Rattle.defined_checker.proofs.RightTexts.{ok_had_memory, refused_had_memory, invalid_had_memory}
 use Rattle.cert_judge.specs.Judgement.{answer_of_blocks, HoldsRightDefinitions, IsDefinitionsAnswer, SpellsBlocks}
 use Rattle.cert_judge.specs.declared.answers.Judgement.{Judgement}
 use Rattle.cert_judge.specs.declared.answers.Judgement.TheVariants.{Refused, NoEmptyClause, ValidTrue, ValidFalse, BadBlock, ValidDefinitions}
@@ -36,28 +37,19 @@ record IsCheckOf (f : Dqbf) (text : List ℕ) (first : ℕ) (answer : Judgement)
   had_memory : HadMemory check
   said : answer ≡ answer_of_check check
 
-ok_has_memory : (counts : Counts) → HadMemory (Ok counts)
-ok_has_memory counts same = cc
-
-refusal_has_memory : (refusal : CertRefusal) → HadMemory (Err (RefusedText refusal))
-refusal_has_memory refusal same = cc
-
-fault_has_memory : (fault : DefinitionFault) → HadMemory (Err (Invalid fault))
-fault_has_memory fault same = cc
-
 by_fault : (f : Dqbf) (text : List ℕ) (first : ℕ) (answer : Judgement) (blocks : List DefinitionBlock)
     (fault : Option DefinitionFault) → definitions_of f text first ≡ Ok blocks → AreJudged f blocks fault →
     answer ≡ answer_of_blocks blocks fault → IsCheckOf f text first answer
 by_fault f text first answer blocks None read judged says = record {
   check = Ok (counts_of no_counts blocks);
   checked = (blocks, (read, (judged, refl)));
-  had_memory = ok_has_memory (counts_of no_counts blocks);
+  had_memory = ok_had_memory (counts_of no_counts blocks);
   said = says;
 }
 by_fault f text first answer blocks (Some fault) read judged says = record {
   check = Err (Invalid fault);
   checked = (blocks, (read, judged));
-  had_memory = fault_has_memory fault;
+  had_memory = invalid_had_memory fault;
   said = says;
 }
 
@@ -69,7 +61,7 @@ by_reading f text first answer (Ok blocks) read says =
 by_reading f text first answer (Err refusal) read says = record {
   check = Err (RefusedText refusal);
   checked = read;
-  had_memory = refusal_has_memory refusal;
+  had_memory = refused_had_memory refusal;
   said = says;
 }
 

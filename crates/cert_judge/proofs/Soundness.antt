@@ -31,13 +31,12 @@ use Rattle.skolem_checker.specs.Mapping.{Mapping, mapping_of}
 use Rattle.skolem_checker.specs.SkolemCircuit.{IsComplete, IsSkolemCircuit, ReadsUniversal}
 use Rattle.skolem_checker.specs.declared.mapping.MapError.{MapError}
 use Rattle.skolem_checker.specs.declared.mapping.MapPlace.{MapPlace}
-use Rattle.skolem_checker.proofs.LiteralNumbers.{spelled_complete}
+use Rattle.skolem_checker.proofs.LiteralNumbers.{spelled_complete, meaning_grounded}
 use Rattle.cert_judge.specs.declared.answers.Judgement.{Judgement}
 use Rattle.cert_judge.specs.Judgement.{HoldsRightDefinitions, HoldsSkolemCircuit, IsCircuitAnswer, IsCircuitRefusal, IsTested, IsTestedByRows, BehindMapping, BehindProof, IsJudgementOf, IsJudgement, answer_of_derivation, answer_of_refutation, line_ends, mapping_line, binary_mapping_line, proof_in, proof_on, IsBinaryJudgement, SpellsFile}
 use Rattle.cert_judge.specs.declared.answers.Judgement.TheVariants.{Refused, UndeclaredRead, ValidTrue, ValidFalse, ValidDefinitions}
 use Rattle.cert_judge.specs.declared.answers.CertificateFault.{CertificateFault}
 use Rattle.cert_judge.specs.declared.answers.CertificateFault.TheVariants.{Text, Circuit, Mapping as BadMapping}
-use Rattle.cert_judge.proofs.Certificates.{meaning_grounded}
 use Rattle.cert_judge.proofs.DefinitionAnswers.{ReadTextsAreSpelled, accepted_blocks, never_false, never_true}
 
 -- what the laws of the circuits' tests and proofs give

@@ -5,7 +5,7 @@ use Rattle.dq_lits.specs.Derivation.{ProofFault}
 use Rattle.dq_lits.specs.Formula.{Dqbf}
 use Rattle.dq_lits.specs.declared.memory.Memory.{Memory}
 use Rattle.dq_text.specs.Line.{TextLine, lines_from}
-use Rattle.aag_lines.specs.CircuitLines.{CircuitLines, GoesOn, ReadsLine, no_lines}
+use Rattle.aiger_text.specs.CircuitLines.{CircuitLines, GoesOn, ReadsLine, no_lines}
 use Rattle.aiger_text.specs.FirstFault.{IsFirstFault}
 use Rattle.aiger_text.specs.Scan.{IsAagReading, LineFault, scan}
 use Rattle.aiger_text.specs.declared.faults.AagFault.{AagFault}
@@ -18,7 +18,7 @@ use Rattle.cert_text.specs.declared.faults.CertRefusal.{CertRefusal}
 use Rattle.cert_text.specs.declared.faults.CertStop.{CertStop}
 use Rattle.cert_text.specs.declared.faults.CertStop.TheVariants.{Refused as RefusedText, Memory as NoText}
 use Rattle.cert_text.specs.declared.refutations.Dqr.{Dqr}
-use Rattle.cert_lines.specs.KeptLines.{seen}
+use Rattle.cert_stream.specs.KeptLines.{seen}
 use Rattle.cert_stream.specs.RefutationState.{AnswersLines, MayAnswer, RefutationState, answers_by, judged_whole}
 use Rattle.refutation_checker.specs.Refutation.{refutation_fault}
 use Rattle.cert_text.specs.declared.kinds.Kind.TheVariants.{Circuit as CircuitText}

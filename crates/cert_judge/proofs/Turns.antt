@@ -1,7 +1,7 @@
 -- From the phase before a line to the one behind it.
 use Rattle.std.proofs.Common.{◌≡◌, ℕ, Bool, List, Option, None, Some, sym, subst}
 use Rattle.dq_lits.specs.Formula.{Dqbf}
-use Rattle.aag_lines.specs.CircuitLines.{CircuitLines}
+use Rattle.aiger_text.specs.CircuitLines.{CircuitLines}
 use Rattle.cert_judge.specs.CircuitPhases.{TakesCircuit}
 use Rattle.cert_judge.specs.Phases.{next_phase, Takes}
 use Rattle.cert_judge.specs.declared.phases.Phase.{Phase}

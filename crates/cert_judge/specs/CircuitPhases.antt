@@ -1,7 +1,7 @@
 -- What a line of a circuit's text does, and the first line of its comment.
 use Rattle.std.specs.Prelude.{◌≡◌, ℕ, Bool, List, ◌++◌, true, Option, None, Some, IsSome}
 use Rattle.dq_lits.specs.Formula.{Dqbf}
-use Rattle.aag_lines.specs.CircuitLines.{CircuitLines}
+use Rattle.aiger_text.specs.CircuitLines.{CircuitLines}
 use Rattle.circuit_plain.specs.Netlist.{Netlist}
 use Rattle.rup_core.specs.Runs.{Run}
 use Rattle.cert_text.specs.CircuitProof.{circuit_proof_of}

@@ -4,7 +4,7 @@ use Rattle.std.specs.List.{All}
 use Rattle.dq_lits.specs.Derivation.{ProofFault}
 use Rattle.dq_lits.specs.Formula.{Dqbf}
 use Rattle.dq_text.specs.Line.{line_tokens, lines_from}
-use Rattle.aag_lines.specs.CircuitLines.{CircuitLines, commented, header_line, lines_give}
+use Rattle.aiger_text.specs.CircuitLines.{CircuitLines, commented, header_line, lines_give}
 use Rattle.aig_binary.specs.Scan.{scan_binary}
 use Rattle.aiger_text.specs.Scan.{IsAagReading, scan}
 use Rattle.aiger_text.specs.declared.faults.AagStop.{AagStop}

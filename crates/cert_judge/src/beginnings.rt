@@ -10,7 +10,7 @@ ghost use Rattle.cert_judge.specs.declared.phases.Phase.TheVariants.{Beginning};
 use crate::answers::{CertificateFault, refused};
 use crate::comments::stopped_phase;
 use crate::phases::{Phase, gather};
-use aag_lines::AagLines;
+use aiger_text::AagLines;
 use aiger_text::laws::circuit_or_first_fault;
 use cert_stream::RefutationStream;
 use cert_text::{CertRefusal, Kind, kind};

@@ -7,8 +7,7 @@ ghost use Rattle.cert_judge.specs.Phases.{line_end, next_phase, HasNoEnd, IsLawf
 use crate::answers::Judgement;
 use crate::beginnings::begin;
 use crate::comments::take_circuit_line;
-use aag_lines::AagLines;
-use aiger_text::AagFile;
+use aiger_text::{AagFile, AagLines};
 use cert_stream::{ProofStream, RefutationStream};
 use cert_text::CertRefusal;
 use dq_formula::Formula;

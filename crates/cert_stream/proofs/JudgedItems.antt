@@ -10,8 +10,8 @@ use Rattle.cert_text.specs.Header.{max_count}
 use Rattle.cert_text.specs.Numbering.{Numbering, behind_item, numbered_from}
 use Rattle.cert_text.specs.Pairs.{is_pair_number}
 use Rattle.cert_text.specs.Scan.{first_id}
-use Rattle.cert_lines.specs.KeptLines.{KeptLines, seen}
-use Rattle.cert_lines.specs.RefutationLines.{IsBody, MayCome, RefutationBody, RefutationLines, behind_line, rows_so_far, with_item_read}
+use Rattle.cert_stream.specs.KeptLines.{KeptLines, seen}
+use Rattle.cert_stream.specs.RefutationLines.{IsBody, MayCome, RefutationBody, RefutationLines, behind_line, rows_so_far, with_item_read}
 use Rattle.refutation_checker.specs.Proving.{AreRows, IsJudging, MayJudge}
 use Rattle.refutation_checker.specs.Refutation.{normal_item}
 use Rattle.refutation_checker.specs.declared.proving.RefutationProving.{RefutationProving}

@@ -11,7 +11,7 @@ use Rattle.cert_text.specs.Pairs.{is_pair_number}
 use Rattle.cert_text.specs.Scan.{blank_lines}
 use Rattle.cert_text.specs.declared.faults.CertRefusal.{CertRefusal}
 use Rattle.cert_text.specs.declared.refutations.Dqr.{Dqr}
-use Rattle.cert_lines.specs.RefutationLines.{IsNextItem, MayCome, RefutationBody, RefutationLines, body_gives, in_front, lines_give, rows_so_far, with_item_read}
+use Rattle.cert_stream.specs.RefutationLines.{IsNextItem, MayCome, RefutationBody, RefutationLines, body_gives, in_front, lines_give, rows_so_far, with_item_read}
 use Rattle.refutation_checker.specs.Refutation.{normal_item}
 use Rattle.cert_stream.specs.RefutationState.{fault_behind, judged, run_behind, run_or_start}
 use Rattle.cert_stream.proofs.LineSteps.{LineStep, header_step, row_step, item_step, blank_step}

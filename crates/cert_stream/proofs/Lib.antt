@@ -4,3 +4,7 @@ pub mod LineSteps
 pub mod StreamAnswers
 pub mod ProofLineSteps
 pub mod ProofAnswers
+pub mod ItemsInPlace
+pub mod KeptBodies
+pub mod ProofSteps
+pub mod RefutationSteps

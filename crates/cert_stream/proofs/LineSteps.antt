@@ -11,7 +11,7 @@ use Rattle.cert_text.specs.RowLine.{row_line}
 use Rattle.cert_text.specs.declared.faults.CertFault.{CertFault}
 use Rattle.cert_text.specs.declared.faults.CertFault.TheVariants.{BadLine}
 use Rattle.cert_text.specs.declared.headers.Counts.{Counts}
-use Rattle.cert_lines.specs.RefutationLines.{BodyRead, RefutationBody, RefutationLines, behind_line, body_behind, line_read, with_item_read, with_line, with_row, without_item}
+use Rattle.cert_stream.specs.RefutationLines.{BodyRead, RefutationBody, RefutationLines, behind_line, body_behind, line_read, with_item_read, with_line, with_row, without_item}
 
 pub data LineStep (r : RefutationLines) : RefutationLines → Type 0 where
   header_step : (counts : Counts) → r.body ≡ None →

@@ -19,9 +19,9 @@ use Rattle.cert_text.specs.declared.faults.CertRefusal.{CertRefusal}
 use Rattle.cert_text.specs.declared.faults.CertStop.{CertStop}
 use Rattle.cert_text.specs.declared.faults.CertStop.TheVariants.{Refused, Memory}
 use Rattle.cert_text.specs.declared.versions.Version.{Version}
-use Rattle.cert_lines.specs.KeptLines.{KeptProofLines, proof_seen}
-use Rattle.cert_lines.specs.LineAnswer.{IsLineAnswer}
-use Rattle.cert_lines.specs.ProofLines.{MayCome, ProofBody, ProofLines, body_gives, gives, in_front, lines_give, no_lines, whole_of, with_line}
+use Rattle.cert_stream.specs.KeptLines.{KeptProofLines, proof_seen}
+use Rattle.cert_stream.specs.LineAnswer.{IsLineAnswer}
+use Rattle.cert_stream.specs.ProofLines.{MayCome, ProofBody, ProofLines, body_gives, gives, in_front, lines_give, no_lines, whole_of, with_line}
 use Rattle.proof_checker.specs.Judging.{MayJudge, run_of}
 use Rattle.proof_checker.specs.declared.judging.CircuitProving.{CircuitProving}
 use Rattle.cert_stream.specs.ProofInside.{HasNext, runs_behind}

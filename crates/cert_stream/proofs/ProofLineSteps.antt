@@ -13,7 +13,7 @@ use Rattle.cert_text.specs.declared.circuit_proofs.Dqp.{Dqp}
 use Rattle.cert_text.specs.declared.faults.CertFault.{CertFault}
 use Rattle.cert_text.specs.declared.faults.CertRefusal.{CertRefusal}
 use Rattle.cert_text.specs.declared.headers.ItemCount.{ItemCount}
-use Rattle.cert_lines.specs.ProofLines.{BodyRead, ProofBody, ProofLines, behind_line, body_behind, in_front, line_read, lines_give, with_item_read, with_line, without_item}
+use Rattle.cert_stream.specs.ProofLines.{BodyRead, ProofBody, ProofLines, behind_line, body_behind, in_front, line_read, lines_give, with_item_read, with_line, without_item}
 use Rattle.cert_stream.specs.ProofInside.{runs_behind}
 use Rattle.cert_stream.specs.ProofState.{fault_behind, judged, numbering_in, numbering_of}
 

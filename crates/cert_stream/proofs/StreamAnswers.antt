@@ -17,9 +17,9 @@ use Rattle.cert_text.specs.declared.faults.CertStop.{CertStop}
 use Rattle.cert_text.specs.declared.faults.CertStop.TheVariants.{Refused, Memory}
 use Rattle.cert_text.specs.declared.refutations.Dqr.{Dqr}
 use Rattle.cert_text.specs.declared.versions.Version.{Version}
-use Rattle.cert_lines.specs.KeptLines.{KeptLines, seen}
-use Rattle.cert_lines.specs.LineAnswer.{IsLineAnswer}
-use Rattle.cert_lines.specs.RefutationLines.{MayCome, RefutationBody, RefutationLines, body_gives, gives, in_front, lines_give, no_lines, rows_of, rows_so_far, with_line}
+use Rattle.cert_stream.specs.KeptLines.{KeptLines, seen}
+use Rattle.cert_stream.specs.LineAnswer.{IsLineAnswer}
+use Rattle.cert_stream.specs.RefutationLines.{MayCome, RefutationBody, RefutationLines, body_gives, gives, in_front, lines_give, no_lines, rows_of, rows_so_far, with_line}
 use Rattle.refutation_checker.specs.Refutation.{normal_item}
 use Rattle.refutation_checker.specs.declared.proving.RefutationProving.{RefutationProving}
 use Rattle.cert_stream.specs.RefutationInside.{GoesOn}

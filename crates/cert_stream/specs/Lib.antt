@@ -2,3 +2,11 @@ pub mod ProofInside
 pub mod ProofState
 pub mod RefutationInside
 pub mod RefutationState
+pub mod Bodies
+pub mod DqpLinesInside
+pub mod DqrLinesInside
+pub mod ItemsToCome
+pub mod KeptLines
+pub mod LineAnswer
+pub mod ProofLines
+pub mod RefutationLines

@@ -6,8 +6,8 @@ use Rattle.circuit_plain.specs.Netlist.{Netlist}
 use Rattle.rup_core.specs.Items.{ProofItem}
 use Rattle.rup_core.specs.Runs.{Run}
 use Rattle.cert_text.specs.CircuitProof.{first_proof_id}
-use Rattle.cert_lines.specs.KeptLines.{KeptProofLines, proof_seen}
-use Rattle.cert_lines.specs.ProofLines.{MayCome, ProofLines, with_line}
+use Rattle.cert_stream.specs.KeptLines.{KeptProofLines, proof_seen}
+use Rattle.cert_stream.specs.ProofLines.{MayCome, ProofLines, with_line}
 use Rattle.proof_checker.specs.Judging.{IsJudging}
 use Rattle.proof_checker.specs.declared.judging.CircuitProving.{CircuitProving}
 use Rattle.cert_stream.specs.ProofState.{ProofState, numbering_of, run_behind}

@@ -16,8 +16,8 @@ use Rattle.cert_text.specs.declared.circuit_proofs.Dqp.{Dqp}
 use Rattle.cert_text.specs.declared.faults.CertRefusal.{CertRefusal}
 use Rattle.cert_text.specs.declared.faults.CertStop.{CertStop}
 use Rattle.cert_text.specs.declared.faults.CertStop.TheVariants.{Memory}
-use Rattle.cert_lines.specs.KeptLines.{KeptProofLines, proof_seen}
-use Rattle.cert_lines.specs.ProofLines.{ProofBody, ProofLines, lines_give}
+use Rattle.cert_stream.specs.KeptLines.{KeptProofLines, proof_seen}
+use Rattle.cert_stream.specs.ProofLines.{ProofBody, ProofLines, lines_give}
 use Rattle.proof_checker.specs.Judging.{run_of}
 use Rattle.proof_checker.specs.declared.judging.CircuitProving.{CircuitProving}
 

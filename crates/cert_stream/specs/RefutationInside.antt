@@ -2,8 +2,8 @@
 use Rattle.std.specs.Prelude.{◌≡◌, ℕ, false, List, Option, Ok, IfNone, IfSome}
 use Rattle.rup_core.specs.Items.{ProofItem}
 use Rattle.rup_core.specs.Runs.{Run}
-use Rattle.cert_lines.specs.KeptLines.{KeptLines, seen}
-use Rattle.cert_lines.specs.RefutationLines.{MayCome, RefutationLines, rows_so_far, with_line}
+use Rattle.cert_stream.specs.KeptLines.{KeptLines, seen}
+use Rattle.cert_stream.specs.RefutationLines.{MayCome, RefutationLines, rows_so_far, with_line}
 use Rattle.refutation_checker.specs.declared.proving.RefutationProving.{RefutationProving}
 use Rattle.cert_stream.specs.RefutationState.{IsRunOf, RefutationState, run_behind}
 use Rattle.cert_stream.specs.declared.refutations.RefutationStream.TheInside.{Inside}

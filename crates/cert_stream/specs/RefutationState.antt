@@ -15,8 +15,8 @@ use Rattle.cert_text.specs.declared.faults.CertRefusal.{CertRefusal}
 use Rattle.cert_text.specs.declared.faults.CertStop.{CertStop}
 use Rattle.cert_text.specs.declared.faults.CertStop.TheVariants.{Memory}
 use Rattle.cert_text.specs.declared.refutations.Dqr.{Dqr}
-use Rattle.cert_lines.specs.KeptLines.{KeptLines, seen}
-use Rattle.cert_lines.specs.RefutationLines.{RefutationBody, RefutationLines, lines_give}
+use Rattle.cert_stream.specs.KeptLines.{KeptLines, seen}
+use Rattle.cert_stream.specs.RefutationLines.{RefutationBody, RefutationLines, lines_give}
 use Rattle.refutation_checker.specs.Proving.{IsJudging}
 use Rattle.refutation_checker.specs.Refutation.{normal_item, refutation_fault}
 use Rattle.refutation_checker.specs.declared.proving.RefutationProving.{RefutationProving}

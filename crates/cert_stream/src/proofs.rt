@@ -10,15 +10,15 @@ ghost use Rattle.cert_text.specs.CircuitProof.{first_proof_id, read_proof};
 ghost use Rattle.cert_text.specs.Lines.{IsReading};
 ghost use Rattle.cert_text.specs.Numbering.{numbered_from};
 ghost use Rattle.cert_text.specs.declared.faults.CertStop.{CertStop as Stop};
-ghost use Rattle.cert_lines.specs.KeptLines.{proof_seen};
+ghost use Rattle.cert_stream.specs.KeptLines.{proof_seen};
 ghost use Rattle.rup_core.specs.ProofVerdict.{proof_fault_in};
 ghost use Rattle.rup_core.specs.Runs.{run_fault};
 ghost use Rattle.proof_checker.specs.Judging.{run_of, IsJudging};
 ghost use Rattle.cert_stream.specs.ProofInside.{runs_behind, HasNext};
 ghost use Rattle.cert_stream.specs.ProofState.{answer_in, judged_whole, numbering_of, run_behind, MayAnswer};
 
-use cert_lines::DqpLines;
-use cert_lines::laws::proofs_are_read_by_line;
+use crate::laws::proofs_are_read_by_line;
+use crate::proofs_by_line::DqpLines;
 use cert_text::CertStop;
 use circuit_plain::Circuit;
 use dq_formula::Formula;

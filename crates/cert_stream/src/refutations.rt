@@ -17,8 +17,8 @@ ghost use Rattle.rup_core.specs.Runs.{start, with_item};
 ghost use Rattle.cert_stream.specs.RefutationInside.{GoesOn, HasRun};
 ghost use Rattle.cert_stream.specs.RefutationState.{answer_in, judged_whole, IsFaultOf, MayAnswer};
 
-use cert_lines::DqrLines;
-use cert_lines::laws::refutations_are_read_by_line;
+use crate::laws::refutations_are_read_by_line;
+use crate::refutations_by_line::DqrLines;
 use cert_text::{CertStop, Item};
 use dq_formula::Formula;
 use dq_lits::{Memory, Row};

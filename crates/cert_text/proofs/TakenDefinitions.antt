@@ -1,14 +1,17 @@
 -- What is spelled as definitions is read.
-use Rattle.std.proofs.Common.{◌≡◌, nat_lt, ℕ, suc, ◌+◌, ◌*◌, ◌^◌, ◌≤◌, ◌<◌, ◌==◌, ◌||◌, ◌&&◌, not, pos, Bool, true, false, cond, List, [], ◌∷◌, ◌++◌, map, length, length-append, replicate, codes, Some, Result, Ok, Err, refl, sym, ◌∙◌, ap, ap₂, arith, subst, eqb, append_assoc}
-use Rattle.std.specs.List.{AllByRecursion, AllZip, Contains, flat_map, list_any}
+use Rattle.std.proofs.Common.{◌≡◌, nat_lt, ℕ, ◌+◌, ◌*◌, ◌^◌, ◌≤◌, ◌<◌, ◌==◌, ◌||◌, ◌&&◌, not, pos, Bool, true, false, cond, List, [], ◌∷◌, ◌++◌, map, length, length-append, replicate, codes, Some, Result, Ok, Err, refl, sym, ◌∙◌, ap, ap₂, arith, subst, eqb, append_assoc}
+use Rattle.std.specs.List.{AllByRecursion, AllZip, flat_map, list_any}
 use Rattle.std.proofs.Math.Nat.{div-lt_iff_lt-mul}
-use Rattle.std.proofs.lemmas.Bool.{and_from, eq-eqb, eqb-true, lt-ltb, le-ltb, lt-leb}
+use Rattle.std.proofs.lemmas.Bool.{and_from, eq-eqb, lt-ltb, le-ltb, lt-leb}
 use Rattle.std.proofs.lemmas.Bool.Decides.{Decides-eqb}
 use Rattle.std.proofs.lemmas.Map.Steps.{length-le_from_distinct_below}
 use Rattle.std.proofs.lemmas.List.{length-map}
 use Rattle.std.proofs.lemmas.List.Elements.{All-contains, recursion_from_All}
 use Rattle.std.proofs.lemmas.Map.Made.{IsDistinct-from_AllPairs}
 use Rattle.std.proofs.lemmas.Slice.Eq.{bytes_eq-Decides}
+use Rattle.list_laws.proofs.Truths.{both_false}
+use Rattle.list_laws.proofs.Sequences.{all_behind, positive}
+use Rattle.list_laws.proofs.Members.{contains_found}
 use Rattle.dq_lits.specs.Derivation.{ProofStep}
 use Rattle.dq_lits.specs.Formula.{Dqbf, declared}
 use Rattle.dq_formula.specs.Prefix.{IsLawful, existential_variables}
@@ -173,11 +176,6 @@ chosen_head false false many output head a b c d = cc
 chosen_head false true true output head a b c d = cc
 chosen_head false true false false head a b c d = cc
 
-neither : (a b : Bool) → a ≡ false → b ≡ false → (a || b) ≡ false
-neither false false p q = refl
-neither true b p q = cc
-neither false true p q = cc
-
 abbrev head_for : Definition → DefinedHead
 head_for d = record { output = d.output; gates = length d.gates; steps = length d.steps }
 
@@ -195,9 +193,9 @@ four_taken f d a b c e is few x y z w =
     ∙ chosen_head (is_large v || (is_large d.output || (is_large g || is_large n))) (v == v)
     (nat_lt max_count g || nat_lt max_count n) (is_output f g d.output) (Defined (head_for d))
     (none_of (is_large v) (is_large d.output) (is_large g || is_large n) (not_large a v x) (not_large b d.output y)
-    (neither (is_large g) (is_large n) (not_large c g z) (not_large e n w)))
+    (both_false (is_large g) (is_large n) (not_large c g z) (not_large e n w)))
     (eq-eqb v v refl)
-    (neither (nat_lt max_count g) (nat_lt max_count n) (le-ltb max_count g (omega (arith, few_gates)))
+    (both_false (nat_lt max_count g) (nat_lt max_count n) (le-ltb max_count g (omega (arith, few_gates)))
     (le-ltb max_count n (omega (arith, few))))
     is.output
 
@@ -402,23 +400,6 @@ module _ (f : Dqbf) (some_us : ArePositive f.universals) (some_ys : ArePositive 
       ∙ ap (λ r. and_read r (λ bs. Ok (first.found.part ∷ bs))) rest
       ∙ ap (λ b. Ok (b ∷ blocks)) first.part_is
 
--- the numbers of a lawful formula
-back : {X : Type 0} (P : X → Type 0) (xs ys : List X) → AllByRecursion P (xs ++ ys) → AllByRecursion P ys
-back P [] ys all = all
-back P (x ∷ xs) ys all = back P xs ys all.1
-
-positive_part : (variables : ℕ) (xs : List ℕ) → AllByRecursion (λ v. (1 ≤ v) × (v ≤ variables)) xs → ArePositive xs
-positive_part variables [] all = tt
-positive_part variables (x ∷ xs) all = (all.0.0, positive_part variables xs all.1)
-
-any_inside : (q : ℕ) (xs : List ℕ) → list_any (eqb q) xs ≡ true → Contains xs q
-any_inside q [] h = cc
-any_inside q (x ∷ xs) h = by_bit (any_inside q xs) (eqb q x) refl h where
-  by_bit : (list_any (eqb q) xs ≡ true → Contains xs q) → (b : Bool) → eqb q x ≡ b → (b || list_any (eqb q) xs) ≡ true →
-      Contains (x ∷ xs) q
-  by_bit later true e k = (0, omega arith, sym (eqb-true q x e))
-  by_bit later false e k = let r = later k in let low = r.1 in (suc r.0, omega (arith, low), r.2)
-
 pub few_existentials : (f : Dqbf) → IsLawful f → length f.existentials ≤ max_count
 few_existentials f lawful =
     let most = length-le_from_distinct_below (declared f) (f.variables + 1)
@@ -430,13 +411,13 @@ few_existentials f lawful =
       below : (q : ℕ) → list_any (eqb q) (declared f) ≡ true → q < f.variables + 1
       below q h =
           let range = All-contains (λ v. (1 ≤ v) × (v ≤ f.variables)) (declared f) q lawful.prefix.in_range
-          (any_inside q (declared f) h) in
+          (contains_found q (declared f) h) in
           let most = range.1 in omega (arith, most)
 
 pub existentials_in_range : (f : Dqbf) → IsLawful f →
     AllByRecursion (λ v. (1 ≤ v) × (v ≤ f.variables)) (existential_variables f)
 existentials_in_range f lawful =
-    back (λ v. (1 ≤ v) × (v ≤ f.variables)) f.universals (existential_variables f)
+    all_behind (λ v. (1 ≤ v) × (v ≤ f.variables)) f.universals (existential_variables f)
     (recursion_from_All (λ v. (1 ≤ v) × (v ≤ f.variables)) (declared f) lawful.prefix.in_range)
 
 -- the header
@@ -468,7 +449,7 @@ module _ (f : Dqbf) (blocks : List DefinitionBlock) (lawful : IsLawful f)
       ap (λ r. and_read (at_line line.number r) (λ _. read_blocks f (existential_variables f) lines (line.number + 1)))
       head
       ∙ blocks_read f (universals_positive f lawful)
-      (positive_part f.variables (existential_variables f) (existentials_in_range f lawful)) (existential_variables f)
+      (positive f.variables (existential_variables f) (existentials_in_range f lawful)) (existential_variables f)
       blocks lines (line.number + 1) n allowed few (record { spelled = ts; each = each.1; are = rest })
 
 pub spelled_is_read : (text : List ℕ) (first : ℕ) (f : Dqbf) (blocks : List DefinitionBlock) → IsLawful f →

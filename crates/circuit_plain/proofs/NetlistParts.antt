@@ -32,7 +32,7 @@ input_fits net lawful place v below is = subst (IsVariable net.max_var) is (lawf
 abbrev pub with_gates : Netlist → ℕ → Netlist
 with_gates net place = record net { outputs = []; gates = take place net.gates }
 
-half : (v : ℕ) → 2 * v / 2 ≡ v
+pub half : (v : ℕ) → 2 * v / 2 ≡ v
 half v = omega arith
 
 -- a gate that may be added at its place

@@ -35,7 +35,7 @@ value_cases (gate {a} {b} g g_in p q) =
     inr (inr (record { by = g; member = g_in; is = refl; a = a; c = b; on_left = p; on_right = q; bit = refl }))
 
 -- the element at a place, as a member of the list
-Contains-place : (xs : List ℕ) (i v : ℕ) → i < length xs → slice_index xs i ≡ v → Contains xs v
+pub Contains-place : (xs : List ℕ) (i v : ℕ) → i < length xs → slice_index xs i ≡ v → Contains xs v
 Contains-place xs i v i_in e = (i, i_in, get_or_default xs i v 0 i_in ∙ e)
 
 module _ (net : Netlist) (bits : ℕ → Bool) (kept : IsNetlist net) where

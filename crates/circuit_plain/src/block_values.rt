@@ -55,6 +55,7 @@ impl Circuit {
             → IsValuation self.now (placed_bits places.now (row_number first l b))
             (block_bits values.new l b) }
     {
+        // A look at a field shows the invariant.
         let _ = &self.gates;
         values.set(0, u64x4::splat(0));
         self.write_patterns(places, first, values);

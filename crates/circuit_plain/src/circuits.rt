@@ -125,6 +125,7 @@ impl Circuit {
     pub fn every_circuit_is_a_netlist(&self)
         ensures { IsNetlist self.now }
     {
+        // A look at a field shows the invariant.
         let _ = &self.max_var;
     }
 

@@ -33,6 +33,7 @@ impl Circuit {
             → HasValue self.now (bit_of row.now) v (bit_of values.new v) }
         ensures valuation { IsValuation self.now (bit_of row.now) (bit_of values.new) }
     {
+        // A look at a field shows the invariant.
         let _ = &self.gates;
         values.set(0, false);
         self.write_inputs(row, values);

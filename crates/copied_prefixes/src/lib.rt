@@ -107,6 +107,7 @@ fn end_of_list(f: &Formula, vars: &[u64]) -> usize
     ensures within { result ≤ length f.now.universals }
     ensures end { All (Contains (take result f.now.universals)) vars.now }
 {
+    // The call shows the formula's invariant.
     let _ = f.universals();
     let mut end: usize = 0;
     for x in vars {

@@ -184,13 +184,13 @@ checked_once f text first (Err (Invalid x)) (Err Memory) p q some more = absurd 
 abbrev HadMemory : Result Counts DefStop → Type 0
 HadMemory result = result ≡ Err Memory → ⊥
 
-ok_had_memory : (counts : Counts) → HadMemory (Ok counts)
+pub ok_had_memory : (counts : Counts) → HadMemory (Ok counts)
 ok_had_memory counts h = cc
 
-refused_had_memory : (refusal : CertRefusal) → HadMemory (Err (Refused refusal))
+pub refused_had_memory : (refusal : CertRefusal) → HadMemory (Err (Refused refusal))
 refused_had_memory refusal h = cc
 
-invalid_had_memory : (fault : DefinitionFault) → HadMemory (Err (Invalid fault))
+pub invalid_had_memory : (fault : DefinitionFault) → HadMemory (Err (Invalid fault))
 invalid_had_memory fault h = cc
 
 not_accepted : (stop : DefStop) (counts : Counts) → ◌≡◌ {A = Result Counts DefStop} (Err stop) (Ok counts) → ⊥

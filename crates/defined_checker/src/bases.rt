@@ -97,6 +97,7 @@ impl<'f, 'd> DefinitionBase<'f, 'd> {
         ensures gate { result ≡ slice_index_or self.now.definition.gates place result }
         ensures small { IsSmallGate result }
     {
+        // The call shows the formula's invariant.
         let _ = self.formula.vars();
         self.definition.gates[place]
     }
@@ -126,6 +127,7 @@ impl<'f, 'd> DefinitionBase<'f, 'd> {
         ensures value { result ≡ self.now.definition.output }
         ensures small { result < 2 ^ 62 }
     {
+        // The call shows the formula's invariant.
         let _ = self.formula.vars();
         self.definition.output
     }

@@ -11,8 +11,6 @@ use Rattle.list_laws.proofs.Members.{element_at}
 use Rattle.dq_lits.specs.Formula.{Existential, Dqbf, existential_of, HasLawfulPrefix}
 use Rattle.dq_lits.proofs.FormulaVariables.{find_sound}
 use Rattle.dq_formula.specs.Prefix.{IsLawful, existential_variables}
-use Rattle.dq_formula.proofs.Places.{has-contains, place-absent}
-use Rattle.dq_formula.proofs.Sorted.{place-below}
 
 abbrev pub variable : Existential → ℕ
 variable y = y.variable
@@ -50,12 +48,6 @@ declared_at f lawful vs p are below =
     let known = known_at f lawful vs p (get_or f.existentials p none) are
     (slice_get-get_or f.existentials p none below) in
     subst IsSome (sym known) refl
-
-pub none_contained : (xs : List ℕ) (v : ℕ) → position (λ x. x == v) xs ≡ None → Contains xs v → ⊥
-none_contained xs v none among =
-    let end = place-absent (λ x. x == v) xs none in
-    let within = place-below xs v (has-contains xs v among) in
-    omega arith
 
 module _ (f : Dqbf) (lawful : HasLawfulPrefix f) where
   abbrev us : List ℕ

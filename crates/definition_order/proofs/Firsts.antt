@@ -16,7 +16,7 @@ use Rattle.dq_formula.specs.Dependencies.{listed_universals}
 use Rattle.dq_formula.proofs.Places.{place, has, has-contains, contains-has, place-found, place-get_or, place-rises}
 use Rattle.dq_formula.proofs.Search.{Kept, All-kept}
 use Rattle.dq_formula.proofs.Sorted.{get_or-place, place-below}
-use Rattle.definition_order.proofs.Declared.{none_contained}
+use Rattle.dq_formula.proofs.Subsets.{none_contained}
 use Rattle.definition_order.proofs.SeenUniversals.{first_within}
 
 pub universals_apart : (f : Dqbf) → HasLawfulPrefix f → AllPairs (λ v w. v ≢ w) f.universals

@@ -3,8 +3,9 @@ use Rattle.std.proofs.Common.{◌≡◌, ℕ, ◌==◌, Bool, false, None, Some,
 use Rattle.std.specs.Prelude.{◌↔◌}
 use Rattle.dq_lits.specs.Formula.{Existential, Dqbf, existential_of}
 use Rattle.dq_formula.specs.Prefix.{IsLawful, existential_variables}
+use Rattle.dq_formula.proofs.Subsets.{none_contained}
 use Rattle.definition_order.specs.Order.{IsShared, IsSharedVariable}
-use Rattle.definition_order.proofs.Declared.{is_variable, named_at, none_contained, placed}
+use Rattle.definition_order.proofs.Declared.{is_variable, named_at, placed}
 
 -- by what stands at the variable's place
 pub shared_by_place : (f : Dqbf) → IsLawful f → (ranks : List ℕ) (e : Existential) (v place : ℕ) (b : Bool) →

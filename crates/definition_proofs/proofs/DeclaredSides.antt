@@ -1,9 +1,8 @@
 -- Gates over first copies read copies of declared variables.
-use Rattle.std.proofs.Common.{◌≡◌, ◌⊎◌, ◌<◌, ◌==◌, ℕ, inl, inr, length, List, ◌∷◌, Bool, true, false, cond, None, Some, slice_index, get_or, refl, sym, ◌∙◌, ap, subst}
-use Rattle.std.specs.List.{Contains, list_any}
+use Rattle.std.proofs.Common.{◌≡◌, ◌<◌, ◌==◌, ℕ, inl, inr, length, List, ◌∷◌, true, false, Some, refl, sym, ◌∙◌, ap, subst}
 use Rattle.std.proofs.lemmas.Bool.{eq-eqb}
 use Rattle.std.proofs.lemmas.List.Folds.{list_any_at}
-use Rattle.dq_lits.specs.Literal.{Literal, positive, variable_of}
+use Rattle.dq_lits.specs.Literal.{Literal, variable_of}
 use Rattle.dq_lits.specs.Formula.{Dqbf, declared}
 use Rattle.dq_lits.proofs.SignedLiterals.{opposite_variable}
 use Rattle.dq_formula.specs.Prefix.{is_declared}

@@ -26,8 +26,7 @@ use Rattle.padoa_definitions.proofs.GivenClauses.{in_by, in_same, in_then}
 use Rattle.definition_proofs.specs.Terms.{is_proof_origin, GrewByProof}
 use Rattle.definition_proofs.specs.Differing.{differing, IsPut, IsDifferenceOf, IsDifference, IsExistential, AreUndiffered, HasDifferenceAlone, LeavesTerms, AreDiffering}
 use Rattle.definition_proofs.specs.declared.differing.Difference.{Difference}
-use Rattle.definition_proofs.proofs.GrownProofs.{given_before}
-use Rattle.definition_proofs.proofs.KnownTerms.{none_in_new}
+use Rattle.definition_proofs.proofs.KnownTerms.{given_before, none_in_new}
 
 some_name : (o : Option Name) → is_term_name o ≡ true → (n : Name) × (o ≡ Some n)
 some_name None is = cc

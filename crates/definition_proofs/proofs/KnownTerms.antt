@@ -1,38 +1,119 @@
 -- What is known of gates over first copies, with one gate more, and as others add to the log.
-use Rattle.std.proofs.Common.{◌≡◌, ◌⊎◌, ℕ, true, false, cond, inl, inr, List, ◌∷◌, Option, Some, None, IsSome, refl, sym, ◌∙◌, ap, subst, arith}
-use Rattle.std.proofs.Common.{BTreeMap}
-use Rattle.std.specs.List.{Contains}
+use Rattle.std.proofs.Common.{◌≡◌, ◌⊎◌, ℕ, true, false, cond, inl, inr, List, ◌∷◌, Some, None, IsSome, refl, sym, ◌∙◌, ap, subst, arith, BTreeMap, ◌≢◌, ◌≤◌, [], length, zero, suc, ◌+◌, ◌<◌}
+use Rattle.std.specs.List.{Contains, All}
 use Rattle.std.specs.BTreeMap.{get}
 use Rattle.std.specs.Ordering.{nat_cmp, ordering_then, is_eq}
 use Rattle.std.specs.declared.cmp.Ordering.{Ordering}
 use Rattle.std.specs.declared.cmp.Ordering.TheVariants.{Less, Equal, Greater}
-use Rattle.std.proofs.lemmas.Bool.{false≢true, eq-eqb, cases_Bool}
+use Rattle.std.proofs.lemmas.Bool.{false≢true, eq-eqb, cases_Bool, eqb-true, cases_lt}
 use Rattle.list_laws.proofs.Numbers.{nat_cmp-same}
-use Rattle.list_laws.proofs.Members.{contains_later}
+use Rattle.list_laws.proofs.Options.{some_of}
+use Rattle.list_laws.proofs.Members.{contains_later, contains_cases, contains_first}
 use Rattle.list_laws.proofs.Truths.{equal_numbers}
-use Rattle.dq_lits.specs.Literal.{Literal, positive, negative}
+use Rattle.dq_lits.specs.Literal.{Literal, positive, negative, opposite}
 use Rattle.dq_lits.specs.Formula.{Dqbf}
 use Rattle.hint_log.specs.Conditions.{AreLogged}
 use Rattle.hint_log.specs.Entries.{Entry, Named, Given, ProofLog, with_entry, name_of}
 use Rattle.hint_log.specs.declared.names.Name.{Name}
 use Rattle.hint_log.specs.declared.names.Name.TheVariants.{Selector, Term}
 use Rattle.hint_log.specs.declared.origins.Origin.{Origin}
-use Rattle.hint_log.specs.declared.origins.Origin.TheVariants.{TermGate}
+use Rattle.hint_log.specs.declared.origins.Origin.TheVariants.{TermGate, Instance, Gate, Fault, Copy, Link, Differ}
 use Rattle.hint_log.proofs.NamedEntries.{each_one}
 use Rattle.log_laws.proofs.Kept.{NamesStay, name_stays_by, name_cases}
 use Rattle.oracle.specs.Calls.{IsMade}
-use Rattle.padoa_definitions.specs.Copies.{IsPadoa, IsWhole, IsGroupGiven, group_variable}
+use Rattle.padoa_definitions.specs.Copies.{IsPadoa, IsWhole, IsGroupGiven, group_variable, groups_of}
 use Rattle.padoa_definitions.specs.Growing.{Gives, HasFewFaults}
 use Rattle.padoa_definitions.specs.declared.padoa.Padoa.{Padoa}
-use Rattle.padoa_definitions.proofs.GivenClauses.{fresh_group}
-use Rattle.padoa_definitions.proofs.KeptCopies.{made_stays, keeps_entry, padoa_stays}
-use Rattle.padoa_definitions.proofs.StandingCopies.{groups_named}
-use Rattle.definition_proofs.specs.Terms.{literal_number, by_both, is_gate_of, HasTermClauses, HasNoTerms, AreTerms}
+use Rattle.padoa_definitions.proofs.GivenClauses.{fresh_group, unnamed_back, in_by, few_more, gives_none, gives_more}
+use Rattle.padoa_definitions.proofs.KeptCopies.{made_stays, keeps_entry, padoa_stays, groups_named, Keeps, IsNamed, keeps_by_engine, engines_leave}
+use Rattle.definition_proofs.specs.Terms.{literal_number, by_both, is_gate_of, HasTermClauses, HasNoTerms, AreTerms, is_term_gate, is_proof_origin, GrewByProof, AreParts}
 use Rattle.definition_proofs.specs.Differing.{LeavesTerms}
 use Rattle.definition_proofs.specs.Proving.{AreBeside}
 use Rattle.definition_proofs.specs.Shown.{ReadDeclaredCopies}
 use Rattle.definition_proofs.specs.declared.terms.Terms.{Terms}
-use Rattle.definition_proofs.proofs.GrownProofs.{no_formula, proof_gives, entries_stay, gate_is, given_before}
+use Rattle.hint_log.specs.Growth.{Grew}
+use Rattle.hint_log.specs.ProductiveLog.{fault_groups, fault_room}
+use Rattle.log_laws.specs.Engines.{copies, IsAddedBy}
+use Rattle.log_laws.proofs.LargerLogs.{leaves_rest, grown_by, grown_then}
+use Rattle.dq_lits.proofs.SignedLiterals.{negated-positive}
+use Rattle.hint_log.specs.Origins.{gate_rest, IsRestOf}
+use Rattle.oracle.specs.declared.groups.Group.{Group}
+
+-- a formula, where any will do
+pub no_formula : Dqbf
+no_formula = record { variables = 0; universals = []; existentials = []; matrix = [] }
+
+module _ (f : Dqbf) (group y : ℕ) (old new : ProofLog) (grew : GrewByProof f group y old new) where
+  pub own_growth : Grew (IsAddedBy f copies group true old.entries) old new
+  own_growth = grew.grew old.entries (λ v none. none)
+
+  keeps : Keeps f (λ mine. (mine ≢ group) × IsNamed old.entries mine) old.entries new.entries
+  keeps = keeps_by_engine f copies group true old new own_growth
+
+  pub names_stay : NamesStay old.entries new.entries
+  names_stay = keeps.names
+
+  pub entries_stay : (e : Entry) → Contains old.entries e → Contains new.entries e
+  entries_stay = keeps.contains
+
+  pub few_still : HasFewFaults old.entries → HasFewFaults new.entries
+  few_still few =
+      let rest = leaves_rest f copies group true old new own_growth in
+      subst (λ n. length (fault_groups new.entries) ≤ n) (sym rest.room)
+      (subst (λ (gs : List ℕ). length gs ≤ fault_room old.entries) (sym (rest.faults refl)) few)
+
+  pub padoa_still : (p : Padoa) → All (λ g. g ≢ group) (groups_of p) → IsPadoa f p old.entries → IsPadoa f p new.entries
+  padoa_still p apart padoa = engines_leave f p copies group true old new own_growth apart padoa
+
+pub proof_then : (f : Dqbf) (group y : ℕ) (a b c : ProofLog) → GrewByProof f group y a b → GrewByProof f group y b c →
+    GrewByProof f group y a c
+proof_then f group y a b c first second = record {
+  grew = λ start names. grown_then (IsAddedBy f copies group true start) a b c (first.grew start names)
+      (second.grew start (λ v none. names v (unnamed_back a.entries b.entries
+      (names_stay f group y a b first) v none)));
+  givens = λ o d inside. elim (second.givens o d inside) [ inl before ↦ first.givens o d before | inr new ↦ inr new ];
+}
+
+pub gate_is : (v y : ℕ) (o : Origin) → is_gate_of v o ≡ true →
+    (is_proof_origin y o ≡ true) × (is_term_gate o ≡ true) × ((i : ℕ) (w : ℕ) → o ≡ TermGate w i → w ≡ v)
+gate_is v y (Instance k j) h = cc
+gate_is v y (Gate w i) h = cc
+gate_is v y (Fault j i leaf) h = cc
+gate_is v y (Copy s j) h = cc
+gate_is v y (Link s j) h = cc
+gate_is v y (TermGate w i) h = (refl, refl, λ k u is. (let same : w ≡ u = cc in sym same ∙ eqb-true w v h))
+gate_is v y (Differ x out part) h = cc
+
+-- clauses of gates in the standing group
+pub proof_gives : (f : Dqbf) (group v y : ℕ) (old new : ProofLog) → Gives f (is_gate_of v) group old new →
+    GrewByProof f group y old new
+proof_gives f group v y old new gives = record {
+  grew = λ start names. gives.grew group start (inl refl);
+  givens = λ o c inside. elim (gives.givens o c inside)
+      [ inl before ↦ inl before | inr gate ↦ inr (gate_is v y o gate).0 ];
+}
+
+-- a name more gives nothing
+pub given_before : (v : ℕ) (n : Name) (es : List Entry) (o : Origin) (c : List Literal) →
+    Contains (Named v n ∷ es) (Given o c) → Contains es (Given o c)
+given_before v n es o c inside = elim (contains_cases (Named v n) (Given o c) es inside)
+    [ inl same ↦ cc | inr before ↦ before ]
+
+pub proof_named : (f : Dqbf) (group y : ℕ) (old new : ProofLog) (v : ℕ) (a b : Literal) →
+    name_of old.entries v ≡ None → new ≡ with_entry old (Named v (Term a b)) → GrewByProof f group y old new
+proof_named f group y old new v a b unnamed is = record {
+  grew = λ start names. grown_by (IsAddedBy f copies group true start) old new (Named v (Term a b)) is
+      (record { unnamed = unnamed; own = inr refl; rightly = tt });
+  givens = λ o c inside. inl (given_before v (Term a b) old.entries o c
+      (subst (λ (l : ProofLog). Contains l.entries (Given o c)) is inside));
+}
+
+-- a gate that is named, and its clauses
+pub gate_grew : (group : ℕ) (old named new : ProofLog) (v : ℕ) (a b : Literal) → name_of old.entries v ≡ None →
+    named ≡ with_entry old (Named v (Term a b)) → ((f : Dqbf) → Gives f (is_gate_of v) group named new) →
+    (f : Dqbf) (y : ℕ) → GrewByProof f group y old new
+gate_grew group old named new v a b unnamed is gives f y = proof_then f group y old named new
+    (proof_named f group y old named v a b unnamed is) (proof_gives f group v y named new (gives f))
 
 -- literals have numbers of their own
 same_literals : (a b : Literal) → literal_number a ≡ literal_number b → a ≡ b
@@ -58,12 +139,8 @@ key_of a b = (literal_number a, literal_number b)
 pub key_is : (x y : ℕ) (a b : Literal) → x ≡ literal_number a → y ≡ literal_number b → (x, y) ≡ key_of a b
 key_is x y a b x_is y_is = ap (λ z. (z, y)) x_is ∙ ap (λ z. (literal_number a, z)) y_is
 
-some_there : (o : Option Name) → IsSome o → (n : Name) × (o ≡ Some n)
-some_there None some = cc
-some_there (Some n) some = (n, refl)
-
 some_stays : (old new : List Entry) → NamesStay old new → (v : ℕ) → IsSome (name_of old v) → IsSome (name_of new v)
-some_stays old new stay v some = let n = some_there (name_of old v) some in subst IsSome (sym (stay v n.0 n.1)) refl
+some_stays old new stay v some = let n = some_of (name_of old v) some in subst IsSome (sym (stay v n.0 n.1)) refl
 
 pub terms_stay : (t : Terms) (old new : List Entry) → LeavesTerms (group_variable t.group) old new → AreTerms t old →
     AreTerms t new
@@ -81,7 +158,7 @@ terms_stay t old new leaves before = record {
 pub none_yet : (t : Terms) (old new : List Entry) (v : ℕ) (a b : Literal) → AreTerms t old → name_of old v ≡ None →
     new ≡ Named v (Term a b) ∷ old → (i : ℕ) (c : List Literal) → Contains new (Given (TermGate v i) c) → ⊥
 none_yet t old new v a b before unnamed is i c inside =
-    let some = some_there (name_of old v) (before.origins v i c (given_before v (Term a b) old (TermGate v i) c
+    let some = some_of (name_of old v) (before.origins v i c (given_before v (Term a b) old (TermGate v i) c
     (subst (λ es. Contains es (Given (TermGate v i) c)) is inside))) in
     let both : None ≡ Some some.0 = sym unnamed ∙ some.1 in
     cc
@@ -241,3 +318,117 @@ module _ (t : Terms) (literals : BTreeMap (ℕ × ℕ) Literal) (old mid new : P
       | inr now ↦ (gate_is v 0 o now).1
     ];
   }
+
+pub no_parts : (f : Dqbf) (group v : ℕ) (a b : Literal) (log : ProofLog) → HasFewFaults log.entries →
+    ((i : ℕ) (c : List Literal) → Contains log.entries (Given (TermGate v i) c) → ⊥) →
+    AreParts f group v a b 0 log log
+no_parts f group v a b log few none = record {
+  gives = gives_none f (is_gate_of v) group log;
+  few = few;
+  later = λ i c less inside. none i c inside;
+  given = λ i rest most is. let first : i ≡ 0 = omega (arith, most) in
+      absurd (nothing rest (ap (gate_rest v a b) (sym first) ∙ is));
+} where
+  nothing : (rest : List Literal) → gate_rest v a b 0 ≡ Some rest → ⊥
+  nothing rest is = cc
+
+module _ (f : Dqbf) (group v : ℕ) (a b : Literal) (parts : ℕ) (old log new : ProofLog) (rest : List Literal)
+    (is_group : name_of log.entries group ≡ Some (Selector group)) (named : name_of log.entries v ≡ Some (Term a b))
+    (before : AreParts f group v a b parts old log) (rest_is : gate_rest v a b (parts + 1) ≡ Some rest) where
+  abbrev origin : Origin
+  origin = TermGate v (parts + 1)
+
+  abbrev e : Entry
+  e = Given (TermGate v (parts + 1)) (negative group ∷ rest)
+
+  abbrev more : ProofLog
+  more = with_entry log (Given (TermGate v (parts + 1)) (negative group ∷ rest))
+
+  right : IsRestOf f log.entries group (TermGate v (parts + 1)) rest
+  right = record { left = a; right = b; named = named; rest_is = rest_is }
+
+  first : (c : List Literal) → Contains log.entries (Given (TermGate v (parts + 1)) c) → ⊥
+  first c inside = before.later (parts + 1) c (omega arith) inside
+
+  given : (i : ℕ) (tail : List Literal) → (i < parts + 1) ⊎ (i ≡ parts + 1) → gate_rest v a b i ≡ Some tail →
+      Contains more.entries (Given (TermGate v i) (negative group ∷ tail))
+  given i tail (inl earlier) is = contains_later e (Given (TermGate v i) (negative group ∷ tail)) log.entries
+      (before.given i tail (omega (arith, earlier)) is)
+  given i tail (inr now) is =
+      let both : Some rest ≡ Some tail = sym rest_is ∙ ap (gate_rest v a b) (sym now) ∙ is in
+      let same : rest ≡ tail = cc in
+      subst (λ k. Contains more.entries (Given (TermGate v k) (negative group ∷ tail))) (sym now)
+      (subst (λ t. Contains more.entries (Given (TermGate v (parts + 1)) (negative group ∷ t))) same
+      (contains_first e log.entries))
+
+  pub part_more : new ≡ with_entry log (Given (TermGate v (parts + 1)) (negative group ∷ rest)) →
+      AreParts f group v a b (parts + 1) old new
+  part_more is = subst (λ (l : ProofLog). AreParts f group v a b (parts + 1) old l) (sym is) (record {
+    gives = gives_more f (is_gate_of v) group old log origin (negative group ∷ rest) (eq-eqb v v refl)
+        (in_by f log group origin rest refl is_group right first before.few) before.gives;
+    few = few_more f log group origin rest refl is_group right first before.few;
+    later = λ i c less inside. elim (contains_cases e (Given (TermGate v i) c) log.entries inside) [
+      | inl same ↦ (let number : parts + 1 ≡ i = cc in omega (arith, less, number))
+      | inr behind ↦ before.later i c (omega (arith, less)) behind
+    ];
+    given = λ i tail most is. given i tail (which i most) is;
+  }) where
+    which : (i : ℕ) → i ≤ parts + 1 → (i < parts + 1) ⊎ (i ≡ parts + 1)
+    which i most = elim (cases_lt i (parts + 1))
+        [ inl less ↦ inl less | inr late ↦ inr (omega (arith, most, late)) ]
+
+-- the three of them
+module _ (f : Dqbf) (group : Group) (v : ℕ) (a b : Literal) (old : ProofLog) (made : IsMade old.entries group)
+    (named : name_of old.entries v ≡ Some (Term a b)) (few : HasFewFaults old.entries)
+    (none : (i : ℕ) (c : List Literal) → Contains old.entries (Given (TermGate v i) c) → ⊥) where
+  abbrev own : ℕ
+  own = group_variable group
+
+  abbrev Parts : ℕ → ProofLog → Type 0
+  Parts n log = AreParts f (group_variable group) v a b n old log
+
+  -- a clause as it was given: its origin, the group's selector, and its literals
+  abbrev pub Puts : ProofLog → ProofLog → Origin → List Literal → Type 0
+  Puts log new o ls = new ≡ with_entry log (Given o (opposite group.selector ∷ ls))
+
+  put : (n : ℕ) (log new : ProofLog) (o : Origin) (ls rest : List Literal) → o ≡ TermGate v n → ls ≡ rest →
+      Puts log new o ls → new ≡ with_entry log (Given (TermGate v n) (negative own ∷ rest))
+  put n log new o ls rest origin same is = is
+      ∙ ap (λ x. with_entry log (Given x (opposite group.selector ∷ ls))) origin
+      ∙ ap (λ xs. with_entry log (Given (TermGate v n) (opposite group.selector ∷ xs))) same
+      ∙ ap (λ s. with_entry log (Given (TermGate v n) (s ∷ rest))) (negated-positive group.selector made.positive)
+
+  pub start : Parts 0 old
+  start = no_parts f own v a b old few none
+
+  pub one : (new : ProofLog) (o : Origin) (l : Literal) → o ≡ TermGate v 1 → l ≡ negative v →
+      Puts old new o (l ∷ a ∷ []) → Parts 1 new
+  one new o l origin l_is is = part_more f own v a b 0 old old new (negative v ∷ a ∷ []) made.named named start refl
+      (put 1 old new o (l ∷ a ∷ []) (negative v ∷ a ∷ []) origin (ap (λ x. x ∷ a ∷ []) l_is) is)
+
+  module _ (log new : ProofLog) (o : Origin) (l : Literal) where
+    pub two : Parts 1 log → o ≡ TermGate v 2 → l ≡ negative v → Puts log new o (l ∷ b ∷ []) → Parts 2 new
+    two before origin l_is is = part_more f own v a b 1 old log new (negative v ∷ b ∷ [])
+        (before.gives.names own ∙ made.named) (before.gives.names v ∙ named) before refl
+        (put 2 log new o (l ∷ b ∷ []) (negative v ∷ b ∷ []) origin (ap (λ x. x ∷ b ∷ []) l_is) is)
+
+    pub three : (j k : Literal) → Parts 2 log → o ≡ TermGate v 3 → l ≡ positive v → j ≡ opposite a → k ≡ opposite b →
+        Puts log new o (l ∷ j ∷ k ∷ []) → Parts 3 new
+    three j k before origin l_is j_is k_is is =
+        part_more f own v a b 2 old log new (positive v ∷ opposite a ∷ opposite b ∷ [])
+        (before.gives.names own ∙ made.named) (before.gives.names v ∙ named) before refl
+        (put 3 log new o (l ∷ j ∷ k ∷ []) (positive v ∷ opposite a ∷ opposite b ∷ []) origin
+        (ap (λ x. x ∷ j ∷ k ∷ []) l_is ∙ ap (λ x. positive v ∷ x ∷ k ∷ []) j_is
+        ∙ ap (λ x. positive v ∷ opposite a ∷ x ∷ []) k_is) is)
+
+  pub whole : (new : ProofLog) → Parts 3 new → HasTermClauses new.entries own v a b
+  whole new parts i rest is = parts.given i rest (few_parts i rest is) is where
+    few_parts : (i : ℕ) (rest : List Literal) → gate_rest v a b i ≡ Some rest → i ≤ 3
+    few_parts zero rest is = omega arith
+    few_parts (suc zero) rest is = omega arith
+    few_parts (suc (suc zero)) rest is = omega arith
+    few_parts (suc (suc (suc zero))) rest is = omega arith
+    few_parts (suc (suc (suc (suc i)))) rest is = cc
+
+  pub stopped : (n : ℕ) (log new : ProofLog) → Parts n log → new ≡ log → Parts n new
+  stopped n log new before is = subst (λ (l : ProofLog). Parts n l) (sym is) before

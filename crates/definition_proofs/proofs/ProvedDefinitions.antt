@@ -26,28 +26,25 @@ use Rattle.log_laws.proofs.Kept.{NamesStay}
 use Rattle.oracle.specs.Calls.{IsMade}
 use Rattle.oracle.specs.declared.groups.Group.{Group}
 use Rattle.padoa_definitions.specs.Copies.{group_variable, groups_of, is_copy_of, IsSideGiven, IsPadoa}
-use Rattle.padoa_definitions.specs.Growing.{HasFewFaults}
+use Rattle.padoa_definitions.specs.Growing.{HasFewFaults, HasSameGivens}
 use Rattle.padoa_definitions.specs.declared.padoa.Padoa.{Padoa}
 use Rattle.padoa_definitions.proofs.FreePairs.{all_there, groups_on}
 use Rattle.padoa_definitions.proofs.SearchAnswers.{padoa_learned, found_declared, found_variable}
-use Rattle.definition_proofs.specs.Differing.{IsDifferenceOf, IsDifference, IsExistential, AreUndiffered, HasDifference, HasDifferenceAlone, LeavesTerms}
+use Rattle.definition_proofs.specs.Differing.{IsDifferenceOf, IsDifference, IsExistential, AreUndiffered, IsDifferenceGiven}
 use Rattle.definition_proofs.specs.Leaves.{IsLeafFor}
-use Rattle.definition_proofs.specs.Proving.{AreBeside, IsDefinedBy}
-use Rattle.padoa_definitions.specs.Growing.{HasSameGivens}
+use Rattle.definition_proofs.specs.Proving.{AreBeside, IsDefinedBy, HasLeaf, IsProvedBy}
 use Rattle.definition_proofs.specs.Searching.{ArePremises, HaveNoModel}
-use Rattle.definition_proofs.specs.Shown.{TermLeafReads, IsDefinitionGiven}
+use Rattle.definition_proofs.specs.Shown.{TermLeafReads, IsDefinitionGiven, IsShownDefinition}
 use Rattle.definition_proofs.specs.Terms.{is_term_gate, AreTerms, GrewByProof}
 use Rattle.definition_proofs.specs.declared.differing.Difference.{Difference}
 use Rattle.definition_proofs.specs.declared.terms.Terms.{Terms}
 use Rattle.definition_proofs.proofs.GivenDifferences.{difference_stays, term_leaf_stays}
-use Rattle.definition_proofs.proofs.GrownProofs.{names_stay, few_still, padoa_still, proof_then}
-use Rattle.definition_proofs.proofs.KnownTerms.{terms_stay}
+use Rattle.definition_proofs.proofs.KnownTerms.{names_stay, few_still, padoa_still, proof_then, terms_stay}
 use Rattle.definition_proofs.proofs.NodeLiterals.{stands_still, on_term, reads_support}
 use Rattle.definition_proofs.proofs.NoModels.{no_values}
 use Rattle.padoa_definitions.proofs.SameGivens.{learned_same}
 use Rattle.definition_proofs.proofs.Refutations.{same_leaves}
 use Rattle.definition_proofs.proofs.DeclaredSides.{leaves_sides, same_sides, leaf_declared}
-use Rattle.definition_proofs.specs.Shown.{ReadDeclaredCopies, IsLeafDeclared}
 
 pub is_existential : (f : Dqbf) (graph : AigGraph) (y : ℕ) (node : Node) → IsDefinedBy f graph y node →
     IsExistential f y
@@ -132,16 +129,13 @@ one_of_two a b g (suc (suc k), lt, at) = absurd (omega (arith, lt))
 module _ (f : Dqbf) (graph : AigGraph) (p : Padoa) (first t : Terms) (y : ℕ) (node : Node) (copy : Literal)
     (output : Leaf) (old log : ProofLog) (beside : AreBeside f p first old.entries)
     (defined : IsDefinedBy f graph y node) (none : AreUndiffered y old.entries)
-    (grew : (h : Dqbf) (x : ℕ) → GrewByProof h (group_variable first.group) x old log)
-    (group_is : t.group ≡ first.group) (known : AreTerms t log.entries)
-    (sides : ReadDeclaredCopies f old.entries → ReadDeclaredCopies f log.entries)
-    (leaf_is : IsLeafFor f graph log.entries node output)
+    (leaf : HasLeaf f graph node first old t log output)
     (copied : IsPadoa f p log.entries → name_literal log.entries copy ≡ Some (named_literal (CopyOf 1 y) false)) where
   abbrev d : Difference
   d = record { existential = y; copy = copy; output = output }
 
   padoa : IsPadoa f p log.entries
-  padoa = padoa_still f (group_variable first.group) y old log (grew f y) p beside.apart beside.padoa
+  padoa = padoa_still f (group_variable first.group) y old log (leaf.grew f y) p beside.apart beside.padoa
 
   pub difference : IsDifference log.entries (record { existential = y; copy = copy; output = output })
   difference =
@@ -150,14 +144,14 @@ module _ (f : Dqbf) (graph : AigGraph) (p : Padoa) (first t : Terms) (y : ℕ) (
       record {
         positive_copy = as_positive copy named.1;
         copy_is = named.0;
-        leaf_is = leaf_on_term f graph log.entries node output leaf_is;
+        leaf_is = leaf_on_term f graph log.entries node output leaf.leaf_is;
       }
 
   pub few : HasFewFaults log.entries
-  few = few_still f (group_variable first.group) y old log (grew f y) beside.few
+  few = few_still f (group_variable first.group) y old log (leaf.grew f y) beside.few
 
   pub undiffered : AreUndiffered y log.entries
-  undiffered out part c inside = elim (own_differs f (group_variable first.group) (suc y) old log (grew f (suc y)) y
+  undiffered out part c inside = elim (own_differs f (group_variable first.group) (suc y) old log (leaf.grew f (suc y)) y
       part out c inside) [ inl was ↦ none out part c was | inr same ↦ omega (arith, same) ]
 
   module _ (formula : IsWellFormed f)
@@ -165,12 +159,7 @@ module _ (f : Dqbf) (graph : AigGraph) (p : Padoa) (first t : Terms) (y : ℕ) (
       name_of es w ≡ Some name → v ≡ w)
       (given : ProofLog) (group : Group)
       (more : (h : Dqbf) (standing : ℕ) → IsExistential h y → GrewByProof h standing y log given)
-      (made : IsMade given.entries group)
-      (has : HasDifference given.entries (group_variable group)
-      (record { existential = y; copy = copy; output = output }))
-      (alone : HasDifferenceAlone given.entries (group_variable group)
-      (record { existential = y; copy = copy; output = output }))
-      (leaves : (g : ℕ) (n : Name) → name_of log.entries g ≡ Some n → LeavesTerms g log.entries given.entries) where
+      (different : IsDifferenceGiven (record { existential = y; copy = copy; output = output }) log given group) where
     grew_more : GrewByProof f (group_variable first.group) y log given
     grew_more = more f (group_variable first.group) (is_existential f graph y node defined)
 
@@ -182,7 +171,7 @@ module _ (f : Dqbf) (graph : AigGraph) (p : Padoa) (first t : Terms) (y : ℕ) (
 
     known_there : AreTerms t given.entries
     known_there = terms_stay t log.entries given.entries
-        (leaves (group_variable t.group) (Selector (group_variable t.group)) known.made.named) known
+        (different.leaves (group_variable t.group) (Selector (group_variable t.group)) leaf.terms.made.named) leaf.terms
 
     abbrev active : List Group
     active = p.first.groups.items ++ t.group ∷ group ∷ []
@@ -200,19 +189,19 @@ module _ (f : Dqbf) (graph : AigGraph) (p : Padoa) (first t : Terms) (y : ℕ) (
         copy_is_right y output origin (one.1 (rest, refl)).0
     own g (inr (inl is)) origin rest inside = gate_is_right y output origin (known_there.own origin rest
         (subst (λ h. Contains given.entries (Given origin (negative (group_variable h) ∷ rest))) (sym is) inside))
-    own g (inr (inr is)) origin rest inside = difference_is_right y output origin (alone origin rest
+    own g (inr (inr is)) origin rest inside = difference_is_right y output origin (different.alone origin rest
         (subst (λ h. Contains given.entries (Given origin (negative (group_variable h) ∷ rest))) (sym is) inside))
 
     made_of : (g : Group) → Contains p.first.groups.items g ⊎ ((t.group ≡ g) ⊎ (group ≡ g)) → IsMade given.entries g
     made_of g (inl among) = All-contains (IsMade given.entries) p.first.groups.items g padoa_there.first.made among
     made_of g (inr (inl is)) = subst (IsMade given.entries) is known_there.made
-    made_of g (inr (inr is)) = subst (IsMade given.entries) is made
+    made_of g (inr (inr is)) = subst (IsMade given.entries) is different.made
 
     pub premises : ArePremises given.entries y output (p.first.groups.items ++ t.group ∷ group ∷ [])
     premises = record {
       made = λ k d lt. made_of (get_or active k d) (which (get_or active k d) (Contains-get_or active k d lt));
       leaf_is = term_leaf_stays log.entries given.entries stay output (leaf_on_term f graph log.entries node output
-          leaf_is);
+          leaf.leaf_is);
       own = λ g among. own g (which g among);
     }
 
@@ -235,10 +224,10 @@ module _ (f : Dqbf) (graph : AigGraph) (p : Padoa) (first t : Terms) (y : ℕ) (
         (on t.group (Contains-append_right firsts rest t.group (0, omega arith, refl))))
         d (group_variable group) node
         (difference_stays log.entries new.entries (λ v n is. later v n (stay v n is)) d difference)
-        (λ second rest is. same.entries _ (has second rest is))
-        (leaf_stays f graph log.entries new.entries (λ v n is. later v n (stay v n is)) node output leaf_is)
+        (λ second rest is. same.entries _ (different.given second rest is))
+        (leaf_stays f graph log.entries new.entries (λ v n is. later v n (stay v n is)) node output leaf.leaf_is)
         defined
-        (positive_true values group.selector made.positive
+        (positive_true values group.selector different.made.positive
         (on group (Contains-append_right firsts rest group (1, omega arith, refl))))
 
     -- behind the search
@@ -246,7 +235,7 @@ module _ (f : Dqbf) (graph : AigGraph) (p : Padoa) (first t : Terms) (y : ℕ) (
         (same : HasSameGivens given.entries last.entries) where
       whole : GrewByProof f (group_variable first.group) y old last
       whole = proof_then f (group_variable first.group) y old given last
-          (proof_then f (group_variable first.group) y old log given (grew f y) grew_more)
+          (proof_then f (group_variable first.group) y old log given (leaf.grew f y) grew_more)
           (shown f (group_variable first.group))
 
       pub still_beside : AreBeside f p t last.entries
@@ -256,20 +245,22 @@ module _ (f : Dqbf) (graph : AigGraph) (p : Padoa) (first t : Terms) (y : ℕ) (
         terms = terms_stay t given.entries last.entries
             (same_leaves (group_variable t.group) given.entries last.entries same) known_there;
         sides = same_sides f given.entries last.entries same (leaves_sides f (group_variable t.group) log.entries
-            given.entries (leaves (group_variable t.group) (Selector (group_variable t.group)) known.made.named)
-            (sides beside.sides));
-        apart = subst (λ h. All (λ g. g ≢ group_variable h) (groups_of p)) (sym group_is) beside.apart;
+            given.entries (different.leaves (group_variable t.group) (Selector (group_variable t.group)) leaf.terms.made.named)
+            (leaf.sides beside.sides));
+        apart = subst (λ h. All (λ g. g ≢ group_variable h) (groups_of p)) (sym leaf.group) beside.apart;
         few = few_still f (group_variable first.group) y old last whole beside.few;
       }
 
-      pub own_leaf : (out : Leaf) → out ≡ output → IsLeafFor f graph last.entries node out
-      own_leaf out is = subst (IsLeafFor f graph last.entries node) (sym is)
-          (leaf_stays f graph log.entries last.entries (λ v n there. same.names v ∙ stay v n there) node output leaf_is)
+      own_leaf : IsLeafFor f graph last.entries node output
+      own_leaf = leaf_stays f graph log.entries last.entries (λ v n there. same.names v ∙ stay v n there) node output
+          leaf.leaf_is
 
-      pub own_declared_leaf : (out : Leaf) → out ≡ output → IsLeafDeclared f last.entries out
-      own_declared_leaf out is = leaf_declared f graph last.entries node out (own_leaf out is)
-
-      pub own_reads : (out : Leaf) → out ≡ output → (x : ℕ) → TermLeafReads last.entries out x →
-          Contains (map (input_variable f) (node_support graph node)) x
-      own_reads out is x reads =
-          leaf_reads f graph last.entries node out (own_leaf out is) x reads
+      pub proved_by : (id : ℕ) → IsShownDefinition last.entries y output id →
+          IsProvedBy f graph p y node t last.entries (record { id = id; leaf = output })
+      proved_by id is_shown = record {
+        beside = still_beside;
+        shown = is_shown;
+        is_declared = leaf_declared f graph last.entries node output own_leaf;
+        leaf_is = own_leaf;
+        reads = leaf_reads f graph last.entries node output own_leaf;
+      }

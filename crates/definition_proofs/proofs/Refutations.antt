@@ -1,5 +1,5 @@
 -- What a search in some groups leaves and shows.
-use Rattle.std.proofs.Common.{◌≡◌, ℕ, suc, true, inl, inr, List, [], ◌∷◌, ◌++◌, get_or, Some, refl, sym, ◌∙◌, ap, subst, arith}
+use Rattle.std.proofs.Common.{◌≡◌, ℕ, true, inl, inr, List, [], ◌∷◌, get_or, Some, refl, sym, ◌∙◌, ap, subst}
 use Rattle.std.specs.List.{Contains}
 use Rattle.std.proofs.lemmas.List.Elements.{All-contains, Contains-append_right}
 use Rattle.std.proofs.lemmas.List.Folds.{list_any_at}
@@ -8,22 +8,20 @@ use Rattle.dq_lits.specs.Literal.{Literal, positive, negative, variable_of, oppo
 use Rattle.dq_lits.specs.Derivation.{holds}
 use Rattle.dq_lits.specs.Formula.{Dqbf}
 use Rattle.dq_lits.proofs.SignedLiterals.{same_literal-refl, as_positive}
-use Rattle.dq_lits.proofs.HeldLiterals.{holds_cases}
 use Rattle.hint_log.specs.Deciding.{ReachesGiven, AreNegatedSelectors}
-use Rattle.hint_log.specs.Entries.{Entry, Named, Given, Learned, Answer, Round, Begun, ProofLog, name_of}
-use Rattle.hint_log.specs.Growth.{EachOf, Grew}
+use Rattle.hint_log.specs.Entries.{Entry, Given, Answer, ProofLog, name_of}
+use Rattle.hint_log.specs.Growth.{Grew}
 use Rattle.hint_log.specs.declared.names.Name.TheVariants.{Selector}
 use Rattle.hint_log.specs.declared.origins.Leaf.{Leaf}
 use Rattle.hint_log.specs.declared.origins.Origin.{Origin}
 use Rattle.hint_log.specs.declared.origins.Origin.TheVariants.{Instance, Gate, Fault, Copy, Link, TermGate, Differ}
 use Rattle.log_laws.specs.Engines.{copies, IsAddedBy, origin_engine}
 use Rattle.log_laws.proofs.LargerLogs.{grown_by}
-use Rattle.log_laws.proofs.Kept.{each_of_weaker}
 use Rattle.oracle.specs.Calls.{IsMade, IsLearnedEntry, IsRefutedUnder, assumed}
 use Rattle.oracle.specs.Searched.{IsSearched}
 use Rattle.oracle.specs.declared.groups.Group.{Group}
 use Rattle.padoa_definitions.specs.Copies.{group_variable}
-use Rattle.padoa_definitions.proofs.DividedAnswers.{same_variable}
+use Rattle.padoa_definitions.proofs.DividedAnswers.{same_variable, element_of}
 use Rattle.padoa_definitions.proofs.Reached.{LinesAreImplied, of_answer, undecided_answer}
 use Rattle.definition_proofs.specs.Differing.{LeavesTerms}
 use Rattle.padoa_definitions.specs.Growing.{HasSameGivens}
@@ -32,27 +30,13 @@ use Rattle.definition_proofs.specs.Searching.{ArePremises}
 use Rattle.definition_proofs.specs.Shown.{IsDefinitionGiven, IsShownDefinition}
 use Rattle.definition_proofs.specs.Terms.{GrewByProof}
 use Rattle.definition_proofs.proofs.GivenDifferences.{term_leaf_stays}
-use Rattle.definition_proofs.proofs.GrownProofs.{proof_then}
-
-learned_is_added : (f : Dqbf) (group : ℕ) (start earlier : List Entry) (e : Entry) → IsLearnedEntry earlier e →
-    IsAddedBy f copies group true start earlier e
-learned_is_added f group start earlier (Named v n) h = absurd h
-learned_is_added f group start earlier (Given origin c) h = absurd h
-learned_is_added f group start earlier (Learned c hints) h = tt
-learned_is_added f group start earlier (Answer c hints) h = absurd h
-learned_is_added f group start earlier (Round row values j) h = absurd h
-learned_is_added f group start earlier (Begun live) h = absurd h
+use Rattle.definition_proofs.proofs.KnownTerms.{proof_then}
+use Rattle.padoa_definitions.proofs.SearchAnswers.{learned_from}
 
 pub learned_proof : (f : Dqbf) (group y : ℕ) (old new : ProofLog) → Grew IsLearnedEntry old new →
     GrewByProof f group y old new
 learned_proof f group y old new g = record {
-  grew = λ start names. record {
-    more = g.more;
-    grown = g.grown;
-    each = each_of_weaker IsLearnedEntry (IsAddedBy f copies group true start) (learned_is_added f group start) g.more
-        old.entries g.each;
-    limit = g.limit;
-  };
+  grew = λ start names. learned_from f start old new g group;
   givens = λ o c inside. inl ((learned_same old new g).givens o c inside);
 }
 
@@ -69,14 +53,7 @@ same_leaves group old new same = record {
 -- an assumed literal is the selector of one of the groups
 selector_among : (gs : List Group) (l : Literal) → holds (assumed gs []) l ≡ true →
     (g : Group) × Contains gs g × (l ≡ g.selector)
-selector_among [] l h = cc
-selector_among (g ∷ gs) l h = elim (holds_cases g.selector (assumed gs []) l h) [
-  | inl same ↦ (g, (0, omega arith, refl), same)
-  | inr later ↦ (
-      let r = selector_among gs l later in
-      let below = r.1.1 in
-      (r.0, (suc r.1.0, omega (arith, below), r.1.2), r.2))
-]
+selector_among gs l h = elim (element_of gs [] l h) [ inl found ↦ found | inr none ↦ cc ]
 
 negated_is : (l : Literal) (v : ℕ) → opposite l ≡ positive v → l ≡ negative v
 negated_is (positive w) v is = cc

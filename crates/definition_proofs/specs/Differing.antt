@@ -13,6 +13,9 @@ use Rattle.hint_log.specs.declared.origins.Leaf.{Leaf}
 use Rattle.hint_log.specs.declared.origins.Origin.{Origin}
 use Rattle.hint_log.specs.declared.origins.Origin.TheVariants.{TermGate, Differ}
 use Rattle.log_laws.specs.Engines.{IsInGroup}
+use Rattle.oracle.specs.Calls.{IsMade}
+use Rattle.oracle.specs.declared.groups.Group.{Group}
+use Rattle.padoa_definitions.specs.Copies.{group_variable}
 use Rattle.padoa_definitions.specs.Growing.{GrewIn, HasFewFaults}
 use Rattle.definition_proofs.specs.declared.differing.Difference.{Difference}
 
@@ -87,3 +90,11 @@ pub record AreDiffering (group : ℕ) (d : Difference) (old new : ProofLog) : Ty
       → Contains old.entries (Given origin c)
       ⊎ (IsDifferenceOf d.existential d.output origin × IsInGroup group c)
   pub few : HasFewFaults new.entries
+
+-- a new group has these clauses alone, and gates over first copies in other groups stand
+pub record IsDifferenceGiven (d : Difference) (old new : ProofLog) (g : Group) : Type 0 where
+  pub made : IsMade new.entries g
+  pub given : HasDifference new.entries (group_variable g) d
+  pub alone : HasDifferenceAlone new.entries (group_variable g) d
+  pub leaves : (group : ℕ) (n : Name) → name_of old.entries group ≡ Some n
+      → LeavesTerms group old.entries new.entries

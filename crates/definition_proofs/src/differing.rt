@@ -1,15 +1,13 @@
 //! Clauses by which the first copy of an existential and an output over first copies differ.
 
-ghost use Rattle.std.specs.Prelude.{◌≡◌, ℕ, IfOk, OnOk, OnErr, Some};
+ghost use Rattle.std.specs.Prelude.{◌≡◌, ℕ, IfOk, OnOk, OnErr};
 ghost use Rattle.dq_lits.specs.Formula.{Dqbf};
 ghost use Rattle.dq_lits.specs.Literal.{variable_of};
-ghost use Rattle.hint_log.specs.Entries.{name_of};
-ghost use Rattle.hint_log.specs.declared.names.Name.{Name as NameValue};
 ghost use Rattle.hint_log.specs.declared.origins.Origin.TheVariants.{Differ};
 ghost use Rattle.oracle.specs.Calls.{IsMade};
 ghost use Rattle.padoa_definitions.specs.Copies.{group_variable};
 ghost use Rattle.padoa_definitions.specs.Growing.{HasFewFaults};
-ghost use Rattle.definition_proofs.specs.Differing.{part_number, differing, IsPut, IsDifference, IsExistential, AreUndiffered, HasDifference, HasDifferenceAlone, LeavesTerms, AreDiffering};
+ghost use Rattle.definition_proofs.specs.Differing.{part_number, differing, IsPut, IsDifference, IsDifferenceGiven, IsExistential, AreUndiffered, HasDifference, AreDiffering};
 ghost use Rattle.definition_proofs.specs.Terms.{GrewByProof};
 
 use crate::leaves::signed;
@@ -35,13 +33,7 @@ impl Difference {
         ensures fit { O.Fits oracle.new log.new }
         ensures grew { (f : Dqbf) (standing : ℕ) → IsExistential f self.now.existential
             → GrewByProof f standing self.now.existential log.old log.new }
-        ensures made { IfOk result (IsMade log.new.entries) }
-        ensures given { IfOk result (λ g. HasDifference log.new.entries (group_variable g) self.now) }
-        ensures alone { IfOk result
-            (λ g. HasDifferenceAlone log.new.entries (group_variable g) self.now) }
-        ensures leaves { OnOk result ((group : ℕ) (n : NameValue)
-            → name_of log.old.entries group ≡ Some n
-            → LeavesTerms group log.old.entries log.new.entries) }
+        ensures given { IfOk result (IsDifferenceGiven self.now log.old log.new) }
     {
         let who = oracle.tenant()?;
         let group = oracle.group(&who, log)?;

@@ -1,15 +1,15 @@
 //! The literals over first copies that stand for nodes of a graph.
 
-ghost use Rattle.std.specs.Prelude.{◌≡◌, ◌<◌, ℕ, List, false, length, IfOk, OnOk};
+ghost use Rattle.std.specs.Prelude.{◌≡◌, ◌<◌, ℕ, List, false, length, IfOk};
 ghost use Rattle.dq_lits.specs.Formula.{Dqbf, declared};
-ghost use Rattle.dq_lits.specs.Literal.{positive};
 ghost use Rattle.aig_graph.specs.Graph.{IsNode};
 ghost use Rattle.aig_graph.specs.Joining.{IsInner};
 ghost use Rattle.hint_log.specs.Entries.{Entry};
 ghost use Rattle.padoa_definitions.specs.Copies.{AreCopiesOf, copies_of, group_variable};
 ghost use Rattle.padoa_definitions.specs.Growing.{HasFewFaults};
 ghost use Rattle.definition_proofs.specs.Terms.{AreTerms, GrewByProof};
-ghost use Rattle.definition_proofs.specs.Shown.{ReadDeclaredCopies};
+ghost use Rattle.definition_proofs.specs.Proving.{HasLeaf};
+ghost use Rattle.hint_log.specs.declared.origins.Leaf.TheVariants.{Literal as LeafLiteral};
 ghost use Rattle.definition_proofs.specs.Leaves.{StandsFor, IsLeafFor, IsKnown, AreSidesKnown, HasGate, negated_by};
 
 use crate::terms::Terms;
@@ -50,12 +50,8 @@ impl Terms {
         ensures fit { O.Fits oracle.new log.new }
         ensures grew { (f : Dqbf) (y : ℕ)
             → GrewByProof f (group_variable self.old.group) y log.old log.new }
-        ensures group { self.new.group ≡ self.old.group }
-        ensures terms { OnOk result (AreTerms self.new log.new.entries) }
-        ensures sides { ReadDeclaredCopies inputs.now.f.now log.old.entries
-            → OnOk result (ReadDeclaredCopies inputs.now.f.now log.new.entries) }
-        ensures leaf { IfOk result (IsLeafFor inputs.now.f.now inputs.now.graph.now
-            log.new.entries node) }
+        ensures leaf { IfOk result (HasLeaf inputs.now.f.now inputs.now.graph.now node self.old log.old
+            self.new log.new) }
     {
         let graph = inputs.graph;
         graph.every_graph_is_lawful();
@@ -91,12 +87,8 @@ impl Terms {
         ensures fit { O.Fits oracle.new log.new }
         ensures grew { (f : Dqbf) (y : ℕ)
             → GrewByProof f (group_variable self.old.group) y log.old log.new }
-        ensures group { self.new.group ≡ self.old.group }
-        ensures terms { OnOk result (AreTerms self.new log.new.entries) }
-        ensures sides { ReadDeclaredCopies inputs.now.f.now log.old.entries
-            → OnOk result (ReadDeclaredCopies inputs.now.f.now log.new.entries) }
-        ensures stands { IfOk result (StandsFor inputs.now.f.now inputs.now.graph.now
-            log.new.entries (Node.Gate g false)) }
+        ensures leaf { IfOk result (λ l. HasLeaf inputs.now.f.now inputs.now.graph.now
+            (Node.Gate g false) self.old log.old self.new log.new (LeafLiteral l)) }
     {
         let graph = inputs.graph;
         graph.every_graph_is_lawful();
@@ -104,7 +96,8 @@ impl Terms {
             Look::Gate(left, right, _) => {
                 let a = inputs.literal(left, literals);
                 let b = inputs.literal(right, literals);
-                self.gate(oracle, a, b, log)
+                let l = self.gate(oracle, a, b, log)?;
+                Ok(l)
             }
             _ => unreachable!(),
         }

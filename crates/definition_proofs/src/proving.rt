@@ -14,7 +14,8 @@ ghost use Rattle.oracle.specs.Limits.{IsAtSomeLimit};
 ghost use Rattle.padoa_definitions.specs.Copies.{IsPadoa, group_variable};
 ghost use Rattle.definition_proofs.specs.Differing.{AreUndiffered};
 ghost use Rattle.definition_proofs.specs.Leaves.{IsLeafFor};
-ghost use Rattle.definition_proofs.specs.Proving.{AreBeside, IsDefinedBy};
+ghost use Rattle.definition_proofs.specs.Proving.{AreBeside, IsDefinedBy, IsProvedBy};
+ghost use Rattle.definition_proofs.specs.Terms.{GrewByProof};
 ghost use Rattle.definition_proofs.specs.Shown.{IsLeafDeclared, IsShownDefinition, TermLeafReads};
 
 use crate::differing::Difference;
@@ -62,6 +63,33 @@ impl Terms {
         ensures leaf { IfOk result (λ p. IsLeafFor f.now graph.now log.new.entries node p.leaf) }
         ensures reads { IfOk result (λ p. (v : ℕ) → TermLeafReads log.new.entries p.leaf v
             → Contains (defining_output f.now graph.now node).support v) }
+        ensures limit { IsErrOf result Stop.Limit → IsAtSomeLimit log.new }
+    {
+        let proved = self.prove_node(oracle, padoa, graph, f, y, node, log)?;
+        Ok(proved)
+    }
+
+    // The same, by what the log got.
+    fn prove_node<O: Oracle>(
+        &mut self,
+        oracle: &mut O,
+        padoa: &Padoa,
+        graph: &Graph,
+        f: &Formula,
+        y: u64,
+        node: Node,
+        log: &mut Log,
+    ) -> Result<Proved, Stop>
+        requires fit { O.Fits oracle.old log.old }
+        requires formula { IsWellFormed f.now }
+        requires beside { AreBeside f.now padoa.now self.old log.old.entries }
+        requires inputs { graph.now.inputs ≡ length f.now.universals + length f.now.existentials }
+        requires definition { IsDefinedBy f.now graph.now y node }
+        requires none { AreUndiffered y log.old.entries }
+        ensures fit { O.Fits oracle.new log.new }
+        ensures grew { GrewByProof f.now (group_variable self.old.group) y log.old log.new }
+        ensures proved { IfOk result
+            (IsProvedBy f.now graph.now padoa.now y node self.new log.new.entries) }
         ensures limit { IsErrOf result Stop.Limit → IsAtSomeLimit log.new }
     {
         names_are_unique();

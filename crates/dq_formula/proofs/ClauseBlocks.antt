@@ -83,7 +83,7 @@ block_at-before : (fs : List (List Literal)) (x : List Literal) (b : ℕ) → b 
     block_at (fs ++ x ∷ []) b ≡ block_at fs b
 block_at-before fs x b l = get_or_append_left fs (x ∷ []) [] b l
 
-size : (fs : List (List Literal)) (x : List Literal) → length (fs ++ x ∷ []) ≡ length fs + 1
+pub size : (fs : List (List Literal)) (x : List Literal) → length (fs ++ x ∷ []) ≡ length fs + 1
 size fs x = length-append fs (x ∷ [])
 
 -- a block that comes after p's: the clause at p stays

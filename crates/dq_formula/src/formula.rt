@@ -88,6 +88,7 @@ impl Formula {
     pub fn every_formula_is_lawful(&self)
         ensures { IsLawful self.now }
     {
+        // A look at a field shows the invariant.
         let _ = &self.vars;
     }
 
@@ -234,6 +235,7 @@ impl Formula {
             ≡ bit_of
             (map (row_assignment self.now row.now) (dependencies self.now.universals deps.now)) i }
     {
+        // A look at a field shows the invariant.
         let _ = &self.vars;
         match deps {
             Deps::FirstOf(n) => i < *n && row.get(i),

@@ -8,7 +8,7 @@ use Rattle.std.proofs.lemmas.Option.{same_Some}
 use Rattle.dq_lits.specs.Literal.{Literal, same_literal, opposite}
 use Rattle.dq_lits.specs.Derivation.{holds, Status, falsified, unit, stuck, fault_by, LiveClauses, is_tautology, IsDerived, status_of, hint_fault}
 use Rattle.dq_lits.proofs.Truth.{same_literal-sound}
-use Rattle.dq_lits.proofs.SignedLiterals.{same_literal-refl, opposite-opposite, same_opposite}
+use Rattle.dq_lits.proofs.SignedLiterals.{same_literal-refl, same_opposite, opposite-opposite}
 
 -- a literal that is held and passes
 pub any_one : (p : Literal → Bool) (xs : List Literal) (l : Literal) → holds xs l ≡ true → p l ≡ true
@@ -123,7 +123,7 @@ filter-passes g (x ∷ xs) l held = by (filter-passes g xs l) (g x) refl held
     ]
     by rest false e h = rest h
 
-holds-map : (line : List Literal) (l : Literal) → holds (map opposite line) (opposite l) ≡ holds line l
+pub holds-map : (line : List Literal) (l : Literal) → holds (map opposite line) (opposite l) ≡ holds line l
 holds-map [] l = refl
 holds-map (k ∷ line) l = ap (λ b. b || holds (map opposite line) (opposite l)) (same_opposite l k) ∙ ap
     (λ b. same_literal l k || b) (holds-map line l)

@@ -11,3 +11,6 @@ pub mod HeldLiterals
 pub mod SignedLiterals
 pub mod FormulaVariables
 pub mod TrueClauses
+pub mod AssignedLiterals
+pub mod LiteralValues
+pub mod ReadStatus

@@ -2,13 +2,14 @@
 use Rattle.std.proofs.Common.{◌≡◌, ℕ, zero, suc, ◌<◌, ◌==◌, Bool, inl, inr, List, [], ◌∷◌, map, length, get_or, refl, sym, ◌∙◌, ap, arith}
 use Rattle.std.specs.List.{All, Contains, list_any}
 use Rattle.std.proofs.lemmas.Bool.{cases_eq, cond-true, cond-false, eq-eqb, ne_eqb}
-use Rattle.std.proofs.lemmas.List.Elements.{All-weaker, All-head, All-tail, All-contains_itself}
+use Rattle.std.proofs.lemmas.List.Elements.{All-weaker, All-contains_itself}
 use Rattle.dq_lits.specs.Literal.{Assignment}
 use Rattle.dq_lits.specs.Formula.{Existential, Dqbf}
 use Rattle.dq_lits.specs.Henkin.{same_bits, HenkinChoice, choice_value, IsTrueFormula}
 use Rattle.dq_lits.specs.Row.{assignment_of}
 use Rattle.dq_lits.specs.Skolem.{OutputFunction, IsSupported, AreSkolemFunctions}
 use Rattle.dq_lits.proofs.Choices.{choice_of, choice_of-value}
+use Rattle.dq_lits.proofs.Followers.{map-agree}
 
 -- an assignment is what its bits at these variables say of them
 at_index : (xs : List ℕ) (m : Assignment) (k d : ℕ) → k < length xs →
@@ -52,14 +53,8 @@ skolem_functions_solve f output h = (
 abbrev choice_output : HenkinChoice → Existential → OutputFunction
 choice_output choice y = record { value = choice_value choice y; support = y.sees }
 
-same_map : (m n : Assignment) (xs : List ℕ) → All (λ x. m x ≡ n x) xs → map m xs ≡ map n xs
-same_map m n [] same = refl
-same_map m n (x ∷ xs) same =
-    ap (λ b. b ∷ map m xs) (All-head (λ v. m v ≡ n v) x xs same)
-    ∙ ap (λ bits. n x ∷ bits) (same_map m n xs (All-tail (λ v. m v ≡ n v) x xs same))
-
 choice_supported : (choice : HenkinChoice) (y : Existential) → IsSupported (choice_output choice y)
-choice_supported choice y m n same = ap (λ bits. list_any (same_bits bits) (choice y)) (same_map m n y.sees same)
+choice_supported choice y m n same = ap (λ bits. list_any (same_bits bits) (choice y)) (map-agree m n y.sees same)
 
 pub true_formula_has_functions : (f : Dqbf) → IsTrueFormula f →
     (output : Existential → OutputFunction) × AreSkolemFunctions f output

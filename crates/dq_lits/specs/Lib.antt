@@ -8,3 +8,6 @@ pub mod LiteralCode
 pub mod PackedRow
 pub mod Row
 pub mod Skolem
+pub mod Extension
+pub mod Table
+pub mod Truth

@@ -13,7 +13,7 @@ use Rattle.dq_lits.specs.Derivation.{holds}
 use Rattle.dq_formula.specs.Prefix.{existential_variables}
 use Rattle.dq_formula.proofs.Subsets.{none_contained}
 use Rattle.dq_formula.proofs.Entries.{is_some-find, list_any-map}
-use Rattle.truth_values.specs.declared.values.TruthValue.{TruthValue}
+use Rattle.dq_lits.specs.declared.truth_values.TruthValue.{TruthValue}
 use Rattle.dq_prep.specs.declared.roles.Role.{Role}
 use Rattle.dq_prep.specs.declared.roles.Role.TheVariants.{Universal}
 use Rattle.dq_prep.specs.Roles.{role_by, role_of, truth_role, is_open, open_literals}

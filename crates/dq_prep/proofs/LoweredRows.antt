@@ -13,11 +13,12 @@ use Rattle.dq_lits.specs.Expansion.{row_assignment, universal_literal_true, agre
 use Rattle.dq_lits.specs.Row.{assignment_of}
 use Rattle.dq_lits.proofs.HeldLiterals.{any_one, filter-holds}
 use Rattle.dq_lits.proofs.Choices.{same_bits-refl}
+use Rattle.dq_lits.proofs.Followers.{map-agree}
 use Rattle.dq_prep.specs.Reduction.{sees_in, is_seen, stays}
 use Rattle.dq_prep.specs.Units.{taken_literals, without_false, left_of}
 use Rattle.dq_prep.specs.LoweredRows.{is_lost, lowered, lowered_row, LoweredRowsServe}
 use Rattle.dq_prep.proofs.SignedLiterals.{pair-any}
-use Rattle.dq_prep.proofs.Reduction.{lost_false, literal-agree, unlost, unlost_value, kept_by, map-agree, holds-at}
+use Rattle.dq_prep.proofs.Reduction.{lost_false, literal-agree, unlost, unlost_value, kept_by, holds-at}
 use Rattle.dq_prep.proofs.OpenLiterals.{none-universal}
 use Rattle.dq_prep.proofs.LeftLiterals.{tautology-stays}
 use Rattle.dq_prep.proofs.LiteralRoles.{find-Some}

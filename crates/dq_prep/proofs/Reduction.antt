@@ -11,6 +11,7 @@ use Rattle.dq_lits.specs.Formula.{Existential, Dqbf, declared, is_universal, exi
 use Rattle.dq_lits.specs.Henkin.{same_bits, HenkinChoice, Follows}
 use Rattle.dq_lits.specs.Derivation.{holds, is_tautology}
 use Rattle.dq_lits.proofs.SignedLiterals.{same_literal-refl}
+use Rattle.dq_lits.proofs.Followers.{map-agree}
 use Rattle.dq_formula.specs.Prefix.{IsLawful}
 use Rattle.dq_prep.specs.Reduction.{sees_in, is_seen, stays, reduced}
 use Rattle.dq_prep.specs.LoweredRows.{is_lost, lowered}
@@ -38,12 +39,6 @@ pub holds-at : (clause : List Literal) (k : ℕ) (d : Literal) → k < length cl
     → holds clause (get_or clause k d) ≡ true
 holds-at clause k d below =
     list_any_at (same_literal (get_or clause k d)) clause k d below (same_literal-refl (get_or clause k d))
-
-pub map-agree : (m n : Assignment) (xs : List ℕ) → All (λ x. m x ≡ n x) xs → map m xs ≡ map n xs
-map-agree m n [] h = refl
-map-agree m n (x ∷ xs) h =
-    ap (λ b. b ∷ map m xs) (All-head (λ z. m z ≡ n z) x xs h)
-    ∙ ap (λ bs. n x ∷ bs) (map-agree m n xs (All-tail (λ z. m z ≡ n z) x xs h))
 
 -- the law that every row extends to an assignment that follows a choice
 abbrev pub Extending : Type 0

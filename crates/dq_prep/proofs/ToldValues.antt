@@ -13,8 +13,8 @@ use Rattle.dq_lits.specs.Formula.{Dqbf, IsWellFormed}
 use Rattle.dq_lits.specs.Derivation.{holds, is_tautology}
 use Rattle.dq_lits.proofs.SignedLiterals.{same_literal-refl, opposite-opposite, one_variable}
 use Rattle.dq_formula.specs.Prefix.{existential_variables}
-use Rattle.truth_values.specs.declared.values.TruthValue.{TruthValue}
-use Rattle.truth_values.specs.declared.values.TruthValue.TheVariants.{True as TrueValue, False as FalseValue}
+use Rattle.dq_lits.specs.declared.truth_values.TruthValue.{TruthValue}
+use Rattle.dq_lits.specs.declared.truth_values.TruthValue.TheVariants.{True as TrueValue, False as FalseValue}
 use Rattle.dq_prep.specs.declared.traces.Taken.{Taken}
 use Rattle.dq_prep.specs.declared.roles.Role.{Role}
 use Rattle.dq_prep.specs.declared.roles.Role.TheVariants.{True, False, Open}

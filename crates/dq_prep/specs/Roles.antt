@@ -4,8 +4,8 @@ use Rattle.std.specs.List.{filter}
 use Rattle.dq_lits.specs.Literal.{Literal, variable_of, opposite}
 use Rattle.dq_lits.specs.Formula.{Dqbf, is_universal}
 use Rattle.dq_lits.specs.Derivation.{holds}
-use Rattle.truth_values.specs.declared.values.TruthValue.{TruthValue}
-use Rattle.truth_values.specs.declared.values.TruthValue.TheVariants.{True as IsTrueValue, False as IsFalseValue, Unassigned}
+use Rattle.dq_lits.specs.declared.truth_values.TruthValue.{TruthValue}
+use Rattle.dq_lits.specs.declared.truth_values.TruthValue.TheVariants.{True as IsTrueValue, False as IsFalseValue, Unassigned}
 use Rattle.dq_prep.specs.declared.roles.Role.{Role}
 use Rattle.dq_prep.specs.declared.roles.Role.TheVariants.{Universal, True, False, Open}
 use Rattle.dq_prep.specs.declared.roles.Opens.{Opens}

@@ -5,7 +5,7 @@ use Rattle.dq_lits.specs.Literal.{Literal, variable_of, is_negative}
 use Rattle.dq_lits.specs.Formula.{Dqbf, existential_of, IsWellFormed}
 use Rattle.dq_lits.specs.Derivation.{is_tautology}
 use Rattle.dq_formula.specs.Prefix.{IsLawful, existential_variables}
-use Rattle.truth_values.specs.declared.values.TruthValue.{TruthValue}
+use Rattle.dq_lits.specs.declared.truth_values.TruthValue.{TruthValue}
 use Rattle.dq_prep.specs.declared.traces.Taken.{Taken}
 use Rattle.dq_prep.specs.declared.takings.Taking.{Taking}
 use Rattle.dq_prep.specs.declared.takings.Standing.{Standing}

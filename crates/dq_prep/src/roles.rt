@@ -3,8 +3,7 @@
 ghost use Rattle.std.specs.Prelude.{◌≡◌};
 ghost use Rattle.dq_prep.specs.Roles.{is_true_role, is_false_role, role_by, with_role};
 
-use dq_lits::Lit;
-use truth_values::TruthValue;
+use dq_lits::{Lit, TruthValue};
 
 /// What a literal is where some literals were taken.
 #[derive(Clone, Copy)]

@@ -12,9 +12,8 @@ use crate::roles::{Opens, Role, role_by, with_role};
 use crate::sights::sees_any;
 use crate::traces::{Taken, Trace};
 use dq_formula::Formula;
-use dq_lits::{Lit, Memory};
+use dq_lits::{Lit, Memory, TruthValue, truth_value};
 use std::alloc::Global;
-use truth_values::{TruthValue, truth};
 
 /// The units that were taken of a formula.
 #[derive(Drop)]
@@ -196,7 +195,7 @@ impl<'f> Taking<'f> {
             unreachable!()
         };
         self.trace.push(Taken { place, literal })?;
-        self.values[at] = truth(!literal.is_neg());
+        self.values[at] = truth_value(!literal.is_neg());
         Ok(())
     }
 

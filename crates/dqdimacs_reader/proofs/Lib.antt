@@ -4,12 +4,12 @@ pub mod CompletedReadings
 mod PiecesAnswer
 mod Runs
 pub mod SpelledClauses
-mod SpelledIsRead
+pub mod SpelledIsRead
 mod ExistentialPlaces
 mod Words
-mod XorLines
+pub mod XorLines
 mod XorSteps
 mod NumberWords
 mod CanonicalWords
 mod CanonicalParts
-mod CanonicalFormula
+pub mod CanonicalFormula

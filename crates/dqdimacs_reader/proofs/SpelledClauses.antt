@@ -52,7 +52,7 @@ fold-in_range variables (l ∷ ls) clause before range =
     (λ absent. All-push (InRange variables) clause l before range.0) before)
     range.1
 
-matrix-spelled : (constraints : List Constraint) (g : Dqbf) →
+pub matrix-spelled : (constraints : List Constraint) (g : Dqbf) →
     (fold add_constraint g constraints).matrix ≡ g.matrix ++ flat_map clauses_of constraints
 matrix-spelled [] g = sym (append-nil g.matrix)
 matrix-spelled (c ∷ cs) g =
@@ -61,7 +61,7 @@ matrix-spelled (c ∷ cs) g =
     ∙ append_assoc g.matrix (clauses_of c) (flat_map clauses_of cs)
 
 -- the matrix of a spelled formula
-spelled_matrix : (text : List ℕ) (f : Dqbf) (s : SpellsFormula text f) → f.matrix ≡ flat_map clauses_of s.constraints
+pub spelled_matrix : (text : List ℕ) (f : Dqbf) (s : SpellsFormula text f) → f.matrix ≡ flat_map clauses_of s.constraints
 spelled_matrix text f s =
     ap (λ (g : Dqbf). g.matrix) s.formula
     ∙ matrix-spelled s.constraints (fold declare (empty_formula f.variables) s.parts)

@@ -138,6 +138,7 @@ fn insert_into(literals: &[Lit], keys: &mut NumberSet, literal: Lit) -> Result<b
     ensures keys { OnOk result (AreKeysOf (add_literal literals.now literal) keys.new) }
     ensures err { OnErr result (keys.new ≡ keys.old) }
 {
+    // Only the contract speaks of it.
     let _ = literals;
     keys.insert(key_of(literal))
 }

@@ -7,6 +7,7 @@ use Rattle.std.specs.Char.{encode_utf8}
 use Rattle.std.specs.Str.{bytes_eq, chars}
 use Rattle.std.proofs.lemmas.List.{take-append-drop}
 use Rattle.std.proofs.lemmas.Slice.Eq.{bytes_eq-Decides}
+use Rattle.list_laws.proofs.Truths.{and-false}
 use Rattle.clap.specs.Lexer.{has_byte, long_of, long_of_rest, short_of, short_of_rest, strip_byte}
 use Rattle.clap.specs.Walk.{Held, Outcome, Rule, Text, Waiting, arg_by_long, bundle_met, bundle_step, long_or_other, plain, short_or_plain, after_flag, plain_word, subcommand_or_other, trailing}
 use Rattle.clap.specs.Simple.{Shape}
@@ -15,10 +16,6 @@ use Rattle.clap.specs.Faults.{bundle_fault, bundle_step_fault, flag_word_fault, 
 use Rattle.dqsolve_words.specs.Spelling.{Reading, Usage, behind_separator, behind_steps, is_flag, is_option, read_among, with_name, with_value}
 use Rattle.clap.specs.declared.error.kind.ErrorKind.TheVariants.{TooManyValues, UnknownArgument}
 use Rattle.dqsolve_words.proofs.Tables.{Fails, IsTable, fails_as, leaf, one_fails}
-
-and_false : (a : Bool) → (a && false) ≡ false
-and_false true = refl
-and_false false = refl
 
 and_both : (a b : Bool) → (a && b) ≡ true → (a ≡ true) × (b ≡ true)
 and_both true b both = (refl, both)
@@ -113,10 +110,10 @@ no_dashes u word dashes named valued begins =
     (bytes_eq (take 2 word) (codes "--") && is_flag u (drop 2 word)) (is_option word) (drop 8 word) (drop 2 word)) dashes
     ∙ ap (λ b. word_by false b (u.steps && bytes_eq (take 8 word) (codes "--steps="))
     (bytes_eq (take 2 word) (codes "--") && is_flag u (drop 2 word)) (is_option word) (drop 8 word) (drop 2 word))
-    (ap (λ b. u.steps && b) named ∙ and_false u.steps)
+    (ap (λ b. u.steps && b) named ∙ and-false u.steps)
     ∙ ap (λ b. word_by false false b
     (bytes_eq (take 2 word) (codes "--") && is_flag u (drop 2 word)) (is_option word) (drop 8 word) (drop 2 word))
-    (ap (λ b. u.steps && b) valued ∙ and_false u.steps)
+    (ap (λ b. u.steps && b) valued ∙ and-false u.steps)
     ∙ ap (λ b. word_by false false false (b && is_flag u (drop 2 word)) (is_option word) (drop 8 word) (drop 2 word)) begins
 
 -- ---- what clap makes of a word that is no flag

@@ -1,3 +1,5 @@
 mod DeclaredVariables
+mod Ids
+mod MadeVariables
 mod Rounds
 mod UniversalInputs

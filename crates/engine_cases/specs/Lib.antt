@@ -1,3 +1,4 @@
 pub mod Turns
 pub mod Ready
 pub mod Guessing
+pub mod Making

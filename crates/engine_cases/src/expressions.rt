@@ -122,6 +122,7 @@ fn signed(graph: &Graph, n: Node, negative: bool) -> Node
     requires { IsNode graph.now n }
     ensures { IsNode graph.now result }
 {
+    // The call shows the graph's invariant.
     let _ = graph.len();
     match negative {
         true => n.not(),

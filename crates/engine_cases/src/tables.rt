@@ -36,7 +36,7 @@ pub fn take_line(alloc: Global, formula: &mut String, line: &str) -> Result<Opti
     let (word, rest) = line.split_once(' ').unwrap_or((line, ""));
     match word {
         "" | "#" => Ok(None),
-        "formula" => set_formula(alloc, formula, rest),
+        "formula" => set_formula(formula, rest),
         "turns" => run(alloc, formula, rest, Kind::Turns),
         "rows" => run(alloc, formula, rest, Kind::Rows(Detail::Checks)),
         "points" => run(alloc, formula, rest, Kind::Rows(Detail::Bits)),
@@ -82,13 +82,12 @@ enum Kind {
     Values,
 }
 
-fn set_formula(alloc: Global, formula: &mut String, rest: &str) -> Result<Option<String>> {
+fn set_formula(formula: &mut String, rest: &str) -> Result<Option<String>> {
     formula.clear();
     for line in rest.split('/') {
         formula.push_str(line)?;
         formula.push('\n')?;
     }
-    let _ = alloc;
     Ok(None)
 }
 

@@ -1,12 +1,10 @@
 -- The points that a search found, and that they make every instance true.
-use Rattle.std.proofs.Common.{◌≡◌, ◌≢◌, ℕ, zero, suc, ◌+◌, ◌-◌, ◌≤◌, ◌<◌, ◌==◌, Bool, true, false, cond, not, ◌||◌, List, [], ◌∷◌, ◌++◌, map, length, get_or, slice_get, slice_index_or, Option, Some, None, refl, sym, ◌∙◌, ap, subst, arith}
-use Rattle.std.specs.List.{All, AllPairs, Contains, list_any, filter_map, cons_option, find}
+use Rattle.std.proofs.Common.{◌≡◌, ℕ, ◌+◌, ◌-◌, ◌≤◌, ◌==◌, Bool, true, false, cond, not, ◌||◌, List, [], ◌∷◌, map, get_or, slice_get, slice_index_or, Option, Some, None, refl, sym, ◌∙◌, ap, subst, arith}
+use Rattle.std.specs.List.{All, Contains, list_any, filter_map, cons_option, find}
 use Rattle.std.specs.Option.{option_map}
-use Rattle.std.proofs.lemmas.Bool.{eq-eqb, ne_eqb, cond-true, cond-false}
-use Rattle.std.proofs.lemmas.List.{length-append, length-map, get_or-map, get_or_default}
+use Rattle.std.proofs.lemmas.List.{length-map, get_or-map, get_or_default}
 use Rattle.std.proofs.lemmas.List.Elements.{All-contains, Contains-append_right}
 use Rattle.std.proofs.lemmas.Option.{slice_get-map, slice_get-get_or, slice_get_within}
-use Rattle.std.proofs.Math.Seq.{get_or-append-add}
 use Rattle.dq_lits.specs.Literal.{Assignment, Literal, negative, variable_of, is_negative, on_variable, literal_true, clause_true}
 use Rattle.dq_lits.specs.Formula.{Dqbf, Existential, existential_of, declared, IsWellFormed}
 use Rattle.dq_lits.specs.Derivation.{MakesTrue}
@@ -14,6 +12,7 @@ use Rattle.dq_lits.specs.Row.{assignment_of}
 use Rattle.dq_lits.specs.Expansion.{pair_number, pair_literal, universal_literal_true, InstanceHolds, IsExpansionModel}
 use Rattle.dq_lits.proofs.FormulaVariables.{find_sound}
 use Rattle.dq_lits.proofs.TrueClauses.{same_sign}
+use Rattle.dq_lits.proofs.Followers.{find_own, existentials_once}
 use Rattle.hint_log.specs.Conditions.{AreLogged}
 use Rattle.hint_log.specs.Entries.{Entry, Given, clause_at, name_of}
 use Rattle.hint_log.specs.declared.origins.Origin.TheVariants.{Instance}
@@ -22,28 +21,6 @@ use Rattle.log_laws.specs.Engines.{instances, part}
 use Rattle.log_laws.proofs.Found.{variable, named_variable}
 use Rattle.expansion.specs.Table.{TableState, AreArbiters, HasInstance, IsTablePart, IsTable, ArePoints}
 use Rattle.expansion.proofs.InstanceModels.{own_name, own_entry, given_id, pair_values, arbiter_value}
-
-pub find_own : (ys : List Existential) (k : ℕ) (d : Existential) → k < length ys →
-    AllPairs (λ v w. v ≢ w) (map variable ys) →
-    find (λ z. z.variable == (get_or ys k d).variable) ys ≡ Some (get_or ys k d)
-find_own [] k d below once = absurd (omega arith)
-find_own (y ∷ ys) zero d below once = cond-true (y.variable == y.variable) (Some y) _
-    (eq-eqb y.variable y.variable refl)
-find_own (y ∷ ys) (suc k) d below once =
-    let here : k < length ys = omega arith in
-    let v = get_or ys k d in
-    let in_map : k < length (map variable ys) = rw (length-map ys variable) here in
-    let at : get_or (map variable ys) k 0 ≡ v.variable = get_or-map variable ys k d 0 here in
-    let other : y.variable ≢ v.variable = λ e. once 0 (suc k) 0 (omega arith) (omega (arith, in_map)) (e ∙ sym at) in
-    cond-false (y.variable == v.variable) (Some y) _ (ne_eqb y.variable v.variable other)
-    ∙ find_own ys k d here (λ i j e below_j inside. once (suc i) (suc j) e (omega arith) (omega arith))
-
-pub existentials_once : (us : List ℕ) (ys : List Existential) → AllPairs (λ v w. v ≢ w) (us ++ map variable ys) →
-    AllPairs (λ v w. v ≢ w) (map variable ys)
-existentials_once us ys once i j d order inside e =
-    let es = map variable ys in
-    once (length us + i) (length us + j) d (omega arith) (omega (arith, length-append us es))
-    (get_or-append-add us es i d ∙ e ∙ sym (get_or-append-add us es j d))
 
 module _ (f : Dqbf) (formula : IsWellFormed f) (es : List Entry) (logged : AreLogged es) (rows : List (List Bool))
     (values : Assignment) where

@@ -7,6 +7,7 @@ use Rattle.std.proofs.lemmas.Option.{slice_get-get_or, slice_get_within, get_or_
 use Rattle.list_laws.proofs.Sequences.{position_most}
 use Rattle.dq_lits.specs.Formula.{Dqbf, Existential, IsWellFormed}
 use Rattle.dq_lits.specs.Expansion.{agree_on}
+use Rattle.dq_lits.proofs.Followers.{existentials_once}
 use Rattle.hint_log.specs.Conditions.{AreLogged}
 use Rattle.hint_log.specs.Entries.{Entry, Named, ProofLog, with_entry, name_of}
 use Rattle.hint_log.specs.Growth.{Grew}
@@ -21,7 +22,6 @@ use Rattle.expansion.specs.FirstRows.{IsFirstRow}
 use Rattle.expansion.specs.Adding.{with_row, IsRowEntry, IsNewPair, AreFirstArbiters, IsAddingPart, IsAdding, IsNamedNext}
 use Rattle.expansion.proofs.TableGrowth.{pair_own, unnamed_own, names_kept, KeepsNames, one_more_named, new_named}
 use Rattle.expansion.proofs.Firsts.{arbiter_of_first, arbiter_of_new, passes_there}
-use Rattle.expansion.proofs.FoundPoints.{existentials_once}
 
 abbrev pub nobody : Existential
 nobody = record { variable = 0; sees = [] }

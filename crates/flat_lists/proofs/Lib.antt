@@ -1,1 +1,1 @@
-mod Lists
+pub mod Lists

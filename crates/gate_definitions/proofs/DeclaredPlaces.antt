@@ -8,7 +8,8 @@ use Rattle.dq_lits.specs.Formula.{Dqbf, declared, existential_of}
 use Rattle.dq_formula.specs.Prefix.{IsLawful, existential_variables}
 use Rattle.dq_formula.proofs.Places.{place, place-absent, place-found}
 use Rattle.dq_formula.proofs.Sorted.{place-below}
-use Rattle.definition_order.proofs.Declared.{is_variable, none_contained}
+use Rattle.dq_formula.proofs.Subsets.{none_contained}
+use Rattle.definition_order.proofs.Declared.{is_variable}
 
 pub placed_first : (us vs : List ℕ) (v p : ℕ) → position (λ u. u == v) us ≡ Some p →
     p ≡ position_or_len (λ w. w == v) (us ++ vs)

@@ -1,6 +1,6 @@
 mod KeptOrder
 mod KeptLives
-mod KeptEntries
+pub mod KeptEntries
 pub mod Lawful
 mod Logged
 mod KeptNames

@@ -62,7 +62,7 @@ each_both P (e ∷ more) first old a b = (
   each_both P more first old a.1 b,
 )
 
-entry_known : (es : List Entry) (id : ℕ) (e : Entry) → numbered has_id es id ≡ Some e → (1 ≤ id) × (id ≤ last_id es)
+pub entry_known : (es : List Entry) (id : ℕ) (e : Entry) → numbered has_id es id ≡ Some e → (1 ≤ id) × (id ≤ last_id es)
 entry_known [] id e at = cc
 entry_known (x ∷ es) id e at = by (has_id x) refl (id == last_id es + 1) refl (λ h. entry_known es id e h) at
   where

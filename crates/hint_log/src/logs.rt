@@ -232,6 +232,7 @@ impl Log {
     pub fn every_log_is_lawful(&self)
         ensures { AreLogged self.now.entries }
     {
+        // A look at a field shows the invariant.
         let _ = &self.limit;
     }
 

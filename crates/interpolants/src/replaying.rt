@@ -53,6 +53,7 @@ pub(crate) fn propagate(
         IsReplay (clause_at log.now.entries) (map opposite clause.now) hints.now chain.new
         last) }
 {
+    // Only the contract speaks of it.
     let _ = clause;
     for hint in hints {
         match open_literal(trues, log.clause(*hint)) {

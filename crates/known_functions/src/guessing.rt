@@ -211,6 +211,7 @@ impl Definitions {
         let most = most_steps(log, self.questions.conditions.most_steps());
         log.set_limit(most);
         let found = self.guess_or_learn(oracle, padoa, graph, f, y, conditions, log);
+        // The call shows the log's invariant.
         let _ = log.steps();
         log.set_limit(whole);
         within(found, most == whole)

@@ -4,14 +4,14 @@ use Rattle.std.proofs.Common.{◌≡◌, ℕ, Bool, true, false, inl, inr, List,
 use Rattle.std.proofs.lemmas.Bool.{false≢true}
 use Rattle.dq_lits.specs.Literal.{Literal, variable_of, opposite}
 use Rattle.dq_lits.specs.Derivation.{holds, is_tautology, IsDerived}
-use Rattle.dq_lits.proofs.HeldLiterals.{derived-on}
+use Rattle.dq_lits.proofs.HeldLiterals.{derived-on, holds-map}
 use Rattle.dq_lits.proofs.SignedLiterals.{opposite-opposite}
 use Rattle.hint_log.specs.Entries.{Entry}
 use Rattle.hint_log.specs.Entries.{clause_at}
 use Rattle.hint_log.specs.Naming.{is_selector}
 use Rattle.oracle.specs.Fit.{live_in, HoldsHintedSelectors}
 use Rattle.learning_trail.specs.Analyses.{IsAnalysis}
-use Rattle.truth_values.proofs.HeldLiterals.{holds-map, no_tautology}
+use Rattle.dq_lits.proofs.LiteralValues.{no_tautology}
 use Rattle.learning_trail.specs.Resting.{HeldFit, AreAwake}
 use Rattle.learning_trail.proofs.LeadingHints.{leads_line}
 use Rattle.learning_trail.proofs.RestingClauses.{awake_same}

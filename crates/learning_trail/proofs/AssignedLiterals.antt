@@ -7,12 +7,12 @@ use Rattle.dq_lits.specs.Literal.{Literal, positive, negative, variable_of, same
 use Rattle.dq_lits.specs.Derivation.{holds}
 use Rattle.learning_trail.specs.declared.trails.Step.{Step}
 use Rattle.learning_trail.specs.Steps.{IsAt}
-use Rattle.truth_values.specs.Table.{IsTold, Tells}
-use Rattle.truth_values.specs.Truth.{is_assigned, IsFree}
-use Rattle.truth_values.specs.declared.values.TruthValue.{TruthValue}
-use Rattle.truth_values.specs.declared.values.TruthValue.TheVariants.{True, False, Unassigned}
-use Rattle.truth_values.proofs.AssignedLiterals.{value_where_true, free_at, has_value, one_more_counted, room_left, told_along}
-use Rattle.truth_values.proofs.HeldLiterals.{other_positive, other_negative}
+use Rattle.dq_lits.specs.Table.{IsTold, Tells}
+use Rattle.dq_lits.specs.Truth.{is_assigned, IsFree}
+use Rattle.dq_lits.specs.declared.truth_values.TruthValue.{TruthValue}
+use Rattle.dq_lits.specs.declared.truth_values.TruthValue.TheVariants.{True, False, Unassigned}
+use Rattle.dq_lits.proofs.AssignedLiterals.{value_where_true, free_at, has_value, one_more_counted, room_left, told_along}
+use Rattle.dq_lits.proofs.LiteralValues.{other_positive, other_negative}
 
 pub one_more : (values : List TruthValue) (trues : List Literal) (l : Literal) (i : ℕ) → Tells values trues →
     variable_of l ≡ suc i → i < length values → IsFree trues l →

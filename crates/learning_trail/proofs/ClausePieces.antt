@@ -2,16 +2,12 @@
 use Rattle.std.proofs.Common.{◌≡◌, ℕ, zero, suc, ◌+◌, ◌-◌, ◌<◌, ◌≤◌, List, [], ◌∷◌, ◌++◌, length, take, drop, get_or, slice_get, Some, refl, ◌∙◌, ap, arith, length-append}
 use Rattle.std.proofs.lemmas.List.{take-append-le}
 use Rattle.dq_lits.specs.Literal.{Literal}
+use Rattle.flat_lists.proofs.Lists.{AreEnds-start}
 use Rattle.learning_trail.specs.Pieces.{pieces, AreEnds, start_of}
 
 pub pieces-length : (xs : List Literal) (start : ℕ) (ends : List ℕ) → length (pieces xs start ends) ≡ length ends
 pieces-length xs start [] = refl
 pieces-length xs start (end ∷ ends) = ap suc (pieces-length xs end ends)
-
-pub ends_low : (start : ℕ) (ends : List ℕ) (total : ℕ) → AreEnds start ends total → start ≤ total
-ends_low start [] total are = omega (arith, are)
-ends_low start (end ∷ ends) total are = let low = are.0 in let rest = ends_low end ends total are.1 in
-    omega (arith, low, rest)
 
 -- a piece
 pub record IsPiece (xs : List Literal) (start : ℕ) (ends : List ℕ) (i : ℕ) : Type 0 where
@@ -27,7 +23,7 @@ piece_at xs start (end ∷ ends) zero are lt = record {
   at = refl;
   from = are.0;
   to =
-      ends_low end ends (length xs) are.1;
+      AreEnds-start end ends (length xs) are.1;
 }
 piece_at xs start (end ∷ ends) (suc i) are lt =
     let p = piece_at xs end ends i are.1 (omega (arith, lt)) in
@@ -48,7 +44,7 @@ pieces_within : (xs ys : List Literal) (start : ℕ) (ends more : List ℕ) → 
 pieces_within xs ys start [] more are = ap (λ n. pieces (xs ++ ys) n more) are
 pieces_within xs ys start (end ∷ ends) more are =
     let low = are.0 in
-    let high = ends_low end ends (length xs) are.1 in
+    let high = AreEnds-start end ends (length xs) are.1 in
     ap (λ c. c ∷ pieces (xs ++ ys) end (ends ++ more)) (within xs ys start (end - start) (omega (arith, low, high)))
     ∙ ap (λ cs. take (end - start) (drop start xs) ∷ cs) (pieces_within xs ys end ends more are.1)
   where

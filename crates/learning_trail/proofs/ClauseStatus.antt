@@ -7,8 +7,8 @@ use Rattle.dq_lits.specs.Derivation.{falsified, unit, stuck, holds, status_by, s
 use Rattle.dq_lits.proofs.Truth.{same_literal-sound}
 use Rattle.dq_lits.proofs.SignedLiterals.{same_literal-refl}
 use Rattle.dq_lits.proofs.HeldLiterals.{left_among, holds_cases, holds_here, holds_later}
-use Rattle.truth_values.specs.Extension.{not_false}
-use Rattle.truth_values.specs.Truth.{IsFree}
+use Rattle.dq_lits.specs.Extension.{not_false}
+use Rattle.dq_lits.specs.Truth.{IsFree}
 
 none_left : (trues clause : List Literal) → ((l : Literal) → holds clause l ≡ true → holds trues (opposite l) ≡ true) →
     not_false trues clause ≡ []

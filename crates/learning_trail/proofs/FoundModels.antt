@@ -19,10 +19,10 @@ use Rattle.learning_trail.proofs.RestingClauses.{IsKeptAs, kept_as}
 use Rattle.oracle.specs.Calls.{IsMade, IsPlain, IsModelUnder, assumed}
 use Rattle.learning_trail.specs.Growing.{HasLearned}
 use Rattle.learning_trail.specs.Steps.{literals_of}
-use Rattle.truth_values.specs.Truth.{literal_value}
-use Rattle.truth_values.specs.declared.values.TruthValue.TheVariants.{True, False, Unassigned}
+use Rattle.dq_lits.specs.Truth.{literal_value}
+use Rattle.dq_lits.specs.declared.truth_values.TruthValue.TheVariants.{True, False, Unassigned}
 use Rattle.learning_trail.specs.Searching.{Searched, AreAssumptions, IsSatisfied}
-use Rattle.truth_values.proofs.HeldLiterals.{value_true}
+use Rattle.dq_lits.proofs.LiteralValues.{value_true}
 use Rattle.learning_trail.proofs.ConflictAnalysis.{AreConsistent, sound_consistent}
 use Rattle.learning_trail.proofs.SearchTurns.{assumptions_same}
 

@@ -1,8 +1,8 @@
 -- How a trail is kept, as variables and literals come and go.
-use Rattle.std.proofs.Common.{◌≡◌, ℕ, suc, ◌+◌, ◌<◌, ◌≤◌, true, false, cond, inl, inr, List, [], ◌∷◌, ◌++◌, reverse, length, set, get_or, sym, ◌∙◌, ap, subst, arith, length-append}
+use Rattle.std.proofs.Common.{◌≡◌, ℕ, suc, ◌+◌, ◌<◌, ◌≤◌, true, false, cond, inl, inr, List, [], ◌∷◌, ◌++◌, length, set, get_or, sym, ◌∙◌, ap, subst, arith, length-append}
 use Rattle.std.specs.List.{All}
 use Rattle.std.proofs.lemmas.Bool.{cases_lt, false_from_ne_true}
-use Rattle.std.proofs.lemmas.List.{length-set, reverse-append, get_or_append_left}
+use Rattle.std.proofs.lemmas.List.{length-set, get_or_append_left}
 use Rattle.std.proofs.lemmas.List.Elements.{All-head, All-tail, All-cons, All-weaker}
 use Rattle.std.proofs.lemmas.List.Sums.{sum_by-append}
 use Rattle.std.proofs.Math.Seq.{get_or-append_seam}
@@ -12,17 +12,14 @@ use Rattle.dq_lits.proofs.SignedLiterals.{opposite_variable}
 use Rattle.dq_lits.proofs.HeldLiterals.{holds_cases}
 use Rattle.learning_trail.specs.declared.trails.Step.{Step}
 use Rattle.learning_trail.specs.Steps.{literals_of}
-use Rattle.truth_values.specs.Truth.{IsFree, literal_value}
-use Rattle.truth_values.specs.Table.{IsTold}
-use Rattle.truth_values.specs.Truth.{is_assigned}
+use Rattle.dq_lits.specs.Truth.{IsFree, literal_value}
+use Rattle.dq_lits.specs.Table.{IsTold}
+use Rattle.dq_lits.specs.Truth.{is_assigned}
 use Rattle.learning_trail.specs.TrailInside.{IsKept}
-use Rattle.truth_values.specs.declared.values.TruthValue.{TruthValue}
-use Rattle.truth_values.specs.declared.values.TruthValue.TheVariants.{True, False, Unassigned}
+use Rattle.dq_lits.specs.declared.truth_values.TruthValue.{TruthValue}
+use Rattle.dq_lits.specs.declared.truth_values.TruthValue.TheVariants.{True, False, Unassigned}
 use Rattle.learning_trail.proofs.AssignedLiterals.{tells_less, one_more, one_less}
-use Rattle.truth_values.proofs.AssignedLiterals.{value_where_true, tells_more}
-
-pub newest : {X : Type 0} (xs : List X) (x : X) → reverse (xs ++ x ∷ []) ≡ x ∷ reverse xs
-newest xs x = reverse-append xs (x ∷ [])
+use Rattle.dq_lits.proofs.AssignedLiterals.{value_where_true, tells_more}
 
 absent : (n : ℕ) (xs : List Step) (l : Literal) → All (λ s. variable_of s.literal ≤ n) xs → n < variable_of l →
     holds (literals_of xs) l ≡ true → ⊥

@@ -10,7 +10,7 @@ use Rattle.dq_lits.proofs.HeldLiterals.{holds_cases}
 use Rattle.oracle.specs.Fit.{live_in}
 use Rattle.learning_trail.specs.declared.trails.Step.{Step}
 use Rattle.learning_trail.specs.Steps.{is_decision, Grown}
-use Rattle.truth_values.specs.Truth.{IsFree}
+use Rattle.dq_lits.specs.Truth.{IsFree}
 use Rattle.learning_trail.specs.Passes.{AreWithin, IsOpening}
 
 abbrev pub implied_step : Literal → ℕ → Step

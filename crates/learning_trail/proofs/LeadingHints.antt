@@ -3,12 +3,12 @@ use Rattle.std.proofs.Common.{◌≡◌, ◌≢◌, ℕ, ◌+◌, ◌==◌, Bool
 use Rattle.std.proofs.lemmas.Bool.{false≢true, or_left, or_right, false_from_ne_true, eq-eqb}
 use Rattle.dq_lits.specs.Literal.{Literal, variable_of, opposite}
 use Rattle.dq_lits.specs.Derivation.{LiveClauses, falsified, unit, holds, status_of, fault_by, hint_fault, is_tautology, IsDerived}
-use Rattle.dq_lits.proofs.HeldLiterals.{any_one, holds_cases, holds_here, holds_later}
+use Rattle.dq_lits.proofs.HeldLiterals.{any_one, holds_cases, holds_here, holds_later, holds-map}
 use Rattle.dq_lits.proofs.SignedLiterals.{opposite_variable, opposite-opposite}
-use Rattle.truth_values.specs.Truth.{IsFree}
+use Rattle.dq_lits.specs.Truth.{IsFree}
 use Rattle.learning_trail.specs.Marks.{marked, stands_on}
 use Rattle.learning_trail.specs.Analyses.{Leads}
-use Rattle.truth_values.proofs.HeldLiterals.{holds-map, free_variable}
+use Rattle.dq_lits.proofs.LiteralValues.{free_variable}
 use Rattle.learning_trail.proofs.ClauseStatus.{IsImplied, is_falsified, is_unit}
 
 -- a clause that is false by what is kept and marked

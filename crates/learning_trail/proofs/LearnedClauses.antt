@@ -6,7 +6,7 @@ use Rattle.std.proofs.lemmas.List.Sorted.{list_any-IsPermutation, IsPermutation-
 use Rattle.dq_lits.specs.Literal.{Literal, variable_of, is_negative, opposite, same_literal}
 use Rattle.dq_lits.specs.Derivation.{LiveClauses, holds}
 use Rattle.dq_lits.proofs.SignedLiterals.{opposite_variable, opposite-opposite, opposite-negative}
-use Rattle.dq_lits.proofs.HeldLiterals.{holds_cases, holds_here, holds_later}
+use Rattle.dq_lits.proofs.HeldLiterals.{holds_cases, holds_here, holds_later, holds-map}
 use Rattle.hint_log.specs.Entries.{Entry}
 use Rattle.hint_log.specs.Naming.{is_selector}
 use Rattle.learning_trail.specs.declared.trails.Step.{Step}
@@ -17,7 +17,6 @@ use Rattle.learning_trail.specs.Noting.{Noted}
 use Rattle.learning_trail.specs.Analyses.{IsAnalysis, AllStand}
 use Rattle.learning_trail.specs.Backing.{IsFirstPoint, IsTrimmed}
 use Rattle.learning_trail.specs.Lessons.{IsLesson}
-use Rattle.truth_values.proofs.HeldLiterals.{holds-map}
 use Rattle.learning_trail.proofs.ConflictAnalysis.{analysis_same}
 use Rattle.learning_trail.proofs.BacktrackSteps.{level_kept, leads_noted}
 

@@ -18,13 +18,13 @@ use Rattle.oracle.specs.Fit.{live_in}
 use Rattle.oracle.specs.Searched.{Stands}
 use Rattle.learning_trail.specs.declared.trails.Step.{Step}
 use Rattle.learning_trail.specs.Steps.{Trailed, literals_of, is_decision, is_none, decision_of, under_level}
-use Rattle.truth_values.specs.Truth.{IsFree}
+use Rattle.dq_lits.specs.Truth.{IsFree}
 use Rattle.learning_trail.specs.Marks.{marked, is_level_marked}
 use Rattle.learning_trail.specs.Sound.{IsSound, IsReasoned, IsGuided}
 use Rattle.learning_trail.specs.Analyses.{IsAnalysis, AllStand}
 use Rattle.learning_trail.specs.Lessons.{IsLesson, IsJump}
 use Rattle.learning_trail.specs.Resting.{rests, HeldFit, AreAwake}
-use Rattle.truth_values.proofs.HeldLiterals.{free_variable}
+use Rattle.dq_lits.proofs.LiteralValues.{free_variable}
 use Rattle.learning_trail.proofs.ClauseStatus.{is_unit, stuck_from_two}
 use Rattle.learning_trail.proofs.AnswerClauses.{concluded_derived, concluded_tied}
 use Rattle.learning_trail.proofs.ConflictAnalysis.{AreConsistent, sound_consistent, free_later}

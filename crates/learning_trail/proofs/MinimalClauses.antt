@@ -13,7 +13,7 @@ use Rattle.learning_trail.specs.Marks.{marked, stands_on}
 use Rattle.learning_trail.specs.Sound.{IsSound}
 use Rattle.learning_trail.specs.Noting.{Noted}
 use Rattle.learning_trail.specs.Backing.{IsTrimmed, IsRedundant}
-use Rattle.truth_values.proofs.HeldLiterals.{free_variable}
+use Rattle.dq_lits.proofs.LiteralValues.{free_variable}
 use Rattle.learning_trail.proofs.Lessons.{sound_later}
 use Rattle.learning_trail.proofs.BacktrackSteps.{leads_past_step, leads_resolved, leads_noted, reason_of, reason_at}
 

@@ -2,10 +2,10 @@
 use Rattle.std.proofs.Common.{◌≡◌, ℕ, zero, suc, ◌+◌, ◌*◌, ◌-◌, ◌<◌, ◌≤◌, Bool, true, false, cond, List, [], ◌∷◌, ◌++◌, length, set, get_or, refl, sym, ◌∙◌, ap, subst, arith}
 use Rattle.dq_lits.specs.Literal.{Literal, positive, negative, variable_of, is_negative}
 use Rattle.dq_lits.specs.Derivation.{holds}
-use Rattle.truth_values.specs.Table.{IsTold, Tells}
-use Rattle.truth_values.specs.Truth.{literal_value}
-use Rattle.truth_values.specs.declared.values.TruthValue.{TruthValue}
-use Rattle.truth_values.specs.declared.values.TruthValue.TheVariants.{True, False, Unassigned}
+use Rattle.dq_lits.specs.Table.{IsTold, Tells}
+use Rattle.dq_lits.specs.Truth.{literal_value}
+use Rattle.dq_lits.specs.declared.truth_values.TruthValue.{TruthValue}
+use Rattle.dq_lits.specs.declared.truth_values.TruthValue.TheVariants.{True, False, Unassigned}
 use Rattle.learning_trail.specs.Valued.{negated, signed, plain, ArePaired}
 
 get_or-empty : (i : ℕ) → get_or {A = TruthValue} [] i Unassigned ≡ Unassigned

@@ -6,9 +6,9 @@ use Rattle.dq_lits.specs.Derivation.{holds}
 use Rattle.dq_lits.proofs.HeldLiterals.{holds_here, holds_later}
 use Rattle.learning_trail.specs.declared.trails.Step.{Step}
 use Rattle.learning_trail.specs.Steps.{literals_of, IsAt}
-use Rattle.truth_values.specs.Truth.{IsFree}
+use Rattle.dq_lits.specs.Truth.{IsFree}
 use Rattle.learning_trail.specs.TrailInside.{ArePlaced}
-use Rattle.truth_values.proofs.HeldLiterals.{free_variable}
+use Rattle.dq_lits.proofs.LiteralValues.{free_variable}
 
 -- another variable's place is set
 placed_beside : (places : List ℕ) (xs : List Step) (i n : ℕ) →

@@ -5,12 +5,12 @@ use Rattle.std.proofs.lemmas.List.{append-nil, take_all, take_more, take-append-
 use Rattle.std.proofs.lemmas.List.Folds.{list_any_at}
 use Rattle.dq_lits.specs.Literal.{Literal, opposite}
 use Rattle.dq_lits.specs.Derivation.{Status, falsified, stuck, holds, status_by, status_of}
-use Rattle.truth_values.specs.Extension.{with_literal, not_false}
-use Rattle.truth_values.specs.Truth.{literal_value}
-use Rattle.truth_values.specs.declared.values.TruthValue.{TruthValue}
-use Rattle.truth_values.specs.declared.values.TruthValue.TheVariants.{True, False, Unassigned}
-use Rattle.truth_values.proofs.HeldLiterals.{value_true}
-use Rattle.truth_values.proofs.ReadStatus.{status_more}
+use Rattle.dq_lits.specs.Extension.{with_literal, not_false}
+use Rattle.dq_lits.specs.Truth.{literal_value}
+use Rattle.dq_lits.specs.declared.truth_values.TruthValue.{TruthValue}
+use Rattle.dq_lits.specs.declared.truth_values.TruthValue.TheVariants.{True, False, Unassigned}
+use Rattle.dq_lits.proofs.LiteralValues.{value_true}
+use Rattle.dq_lits.proofs.ReadStatus.{status_more}
 use Rattle.learning_trail.proofs.ClauseStatus.{is_falsified}
 
 pub read_more : (trues clause : List Literal) (l : Literal) (i : ℕ) (s s' : Status) (t : TruthValue) →

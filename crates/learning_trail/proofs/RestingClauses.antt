@@ -13,8 +13,8 @@ use Rattle.hint_log.specs.Naming.{is_selector, is_selector_name}
 use Rattle.hint_log.specs.ProductiveLog.{IsClosed}
 use Rattle.oracle.specs.Fit.{live_in}
 use Rattle.oracle.specs.Searched.{Stands}
-use Rattle.truth_values.specs.Extension.{not_false}
-use Rattle.truth_values.proofs.HeldLiterals.{no_tautology}
+use Rattle.dq_lits.specs.Extension.{not_false}
+use Rattle.dq_lits.proofs.LiteralValues.{no_tautology}
 use Rattle.learning_trail.specs.Analyses.{AllStand}
 use Rattle.learning_trail.specs.Resting.{rests, IsPlaceholder, IsPut, HeldFit, AreAwake}
 use Rattle.learning_trail.proofs.ClauseStatus.{stuck_from_true}

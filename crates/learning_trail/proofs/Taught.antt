@@ -17,7 +17,7 @@ use Rattle.oracle.specs.Searched.{Stands}
 use Rattle.learning_trail.specs.Growing.{HasLearned}
 use Rattle.learning_trail.specs.declared.trails.Step.{Step}
 use Rattle.learning_trail.specs.Steps.{Trailed, literals_of, decision_of}
-use Rattle.truth_values.specs.Truth.{IsFree}
+use Rattle.dq_lits.specs.Truth.{IsFree}
 use Rattle.learning_trail.specs.Sound.{IsSound, IsGuided}
 use Rattle.learning_trail.specs.Lessons.{IsLesson, IsJump, IsLanded, landed}
 use Rattle.learning_trail.specs.Searching.{Searched, IsSearching}

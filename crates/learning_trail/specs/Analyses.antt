@@ -5,7 +5,7 @@ use Rattle.dq_lits.specs.Derivation.{LiveClauses, holds, hint_fault}
 use Rattle.hint_log.specs.Entries.{Entry}
 use Rattle.hint_log.specs.Naming.{is_selector}
 use Rattle.oracle.specs.Searched.{Stands}
-use Rattle.truth_values.specs.Truth.{IsFree}
+use Rattle.dq_lits.specs.Truth.{IsFree}
 use Rattle.learning_trail.specs.Marks.{marked}
 
 -- whatever holds what is kept and the marked literals of the trail, and nothing but kept ones and

@@ -8,7 +8,7 @@ use Rattle.learning_trail.specs.declared.trails.Step.{Step}
 use Rattle.learning_trail.specs.declared.assumptions.Next.{Next}
 use Rattle.learning_trail.specs.declared.assumptions.Next.TheVariants.{AllTrue, False, Free}
 use Rattle.learning_trail.specs.Steps.{Trailed, literals_of, level_of, is_decision, decision_of, Shrunk, IsUnder}
-use Rattle.truth_values.specs.Truth.{IsFree}
+use Rattle.dq_lits.specs.Truth.{IsFree}
 use Rattle.learning_trail.specs.Sound.{AreTrue}
 use Rattle.learning_trail.specs.Marks.{marked, is_level_marked}
 use Rattle.learning_trail.specs.Analyses.{IsAnalysis, AllStand}

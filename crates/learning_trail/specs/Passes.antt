@@ -5,7 +5,7 @@ use Rattle.dq_lits.specs.Literal.{Literal, variable_of}
 use Rattle.dq_lits.specs.Derivation.{LiveClauses, holds, status_of, falsified}
 use Rattle.hint_log.specs.ProductiveLog.{IsClosed}
 use Rattle.learning_trail.specs.Steps.{Trailed, literals_of}
-use Rattle.truth_values.specs.Truth.{IsFree}
+use Rattle.dq_lits.specs.Truth.{IsFree}
 
 abbrev pub AreWithin : ℕ → List (List Literal) → Type 0
 AreWithin room clauses = All (λ c. All (λ l. variable_of l ≤ room) c) clauses

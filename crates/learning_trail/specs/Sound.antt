@@ -9,7 +9,7 @@ use Rattle.hint_log.specs.Naming.{is_selector}
 use Rattle.hint_log.specs.ProductiveLog.{IsClosed}
 use Rattle.learning_trail.specs.declared.trails.Step.{Step}
 use Rattle.learning_trail.specs.Steps.{literals_of, is_decision}
-use Rattle.truth_values.specs.Truth.{IsFree}
+use Rattle.dq_lits.specs.Truth.{IsFree}
 
 abbrev pub IsReasoned : LiveClauses → List Literal → Literal → Option ℕ → Type 0
 IsReasoned live trues l None = IsClosed live trues

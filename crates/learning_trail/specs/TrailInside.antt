@@ -2,11 +2,11 @@
 use Rattle.std.specs.Prelude.{◌≡◌, ℕ, ◌-◌, ◌≤◌, slice_index_or, List, [], ◌∷◌, length, reverse, count_by, vec_capacity, All}
 use Rattle.dq_lits.specs.Literal.{variable_of}
 use Rattle.learning_trail.specs.declared.trails.Step.{Step}
-use Rattle.truth_values.specs.declared.values.TruthValue.{TruthValue}
+use Rattle.dq_lits.specs.declared.truth_values.TruthValue.{TruthValue}
 use Rattle.learning_trail.specs.Steps.{Trailed, literals_of, starts_of}
-use Rattle.truth_values.specs.Truth.{IsFree}
-use Rattle.truth_values.specs.Table.{Tells}
-use Rattle.truth_values.specs.Truth.{is_assigned}
+use Rattle.dq_lits.specs.Truth.{IsFree}
+use Rattle.dq_lits.specs.Table.{Tells}
+use Rattle.dq_lits.specs.Truth.{is_assigned}
 use Rattle.learning_trail.specs.declared.trails.Trail.TheInside.{Inside}
 
 abbrev pub trailed_in : Inside → Trailed

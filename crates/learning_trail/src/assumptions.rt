@@ -11,10 +11,9 @@ ghost use Rattle.learning_trail.specs.Lessons.{IsNext};
 
 use crate::levels::last_decision;
 use crate::trails::Trail;
-use dq_lits::Lit;
+use dq_lits::{Lit, TruthValue};
 use oracle::Group;
 use std::marker::Model;
-use truth_values::TruthValue;
 
 /// What is to be true: the selectors of active groups, and literals. They stay where they are, so
 /// that a search takes no memory for them.

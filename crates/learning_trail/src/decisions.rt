@@ -5,13 +5,12 @@ ghost use Rattle.std.specs.List.{list_any};
 ghost use Rattle.dq_lits.specs.Literal.{variable_of, opposite};
 ghost use Rattle.dq_lits.specs.Derivation.{holds, status_of, stuck};
 ghost use Rattle.learning_trail.specs.Steps.{literals_of};
-ghost use Rattle.truth_values.specs.Truth.{IsFree};
+ghost use Rattle.dq_lits.specs.Truth.{IsFree};
 
 use crate::activities::Activities;
 use crate::codes::Code;
 use crate::trails::Trail;
-use dq_lits::Lit;
-use truth_values::TruthValue;
+use dq_lits::{Lit, TruthValue};
 
 /// The most active literal without a value, where the clause has no true literal.
 pub fn open_literal(trail: &Trail, lits: &[Code], activities: &Activities) -> Option<Lit>

@@ -3,7 +3,7 @@
 ghost use Rattle.std.specs.Prelude.{◌≡◌, ◌≤◌, ◌<◌, ◌∷◌, [], false, length, IsSome, MatchOption};
 ghost use Rattle.dq_lits.specs.Literal.{variable_of};
 ghost use Rattle.learning_trail.specs.Steps.{literals_of, decision_of, is_decision};
-ghost use Rattle.truth_values.specs.Truth.{IsFree};
+ghost use Rattle.dq_lits.specs.Truth.{IsFree};
 ghost use Rattle.learning_trail.specs.Marks.{is_level_marked};
 ghost use Rattle.learning_trail.specs.Lessons.{IsLanded, LandsInLevel};
 

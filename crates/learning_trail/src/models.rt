@@ -3,12 +3,11 @@
 ghost use Rattle.std.specs.Prelude.{◌≡◌, ◌≤◌, ◌<◌, ◌^◌, ℕ, true, false, length, slice_index_or, suc};
 ghost use Rattle.dq_lits.specs.Literal.{positive};
 ghost use Rattle.learning_trail.specs.Steps.{literals_of};
-ghost use Rattle.truth_values.specs.Truth.{literal_value};
-ghost use Rattle.truth_values.specs.declared.values.TruthValue.TheVariants.{True};
+ghost use Rattle.dq_lits.specs.Truth.{literal_value};
+ghost use Rattle.dq_lits.specs.declared.truth_values.TruthValue.TheVariants.{True};
 
 use crate::trails::Trail;
-use dq_lits::Lit;
-use truth_values::TruthValue;
+use dq_lits::{Lit, TruthValue};
 
 /// Keeps the values of the trail.
 pub fn keep_values(model: &mut [bool], trail: &Trail)

@@ -5,14 +5,13 @@ ghost use Rattle.std.specs.List.{list_any};
 ghost use Rattle.dq_lits.specs.Literal.{variable_of, same_literal};
 ghost use Rattle.dq_lits.specs.Derivation.{status_of, holds, stuck};
 ghost use Rattle.learning_trail.specs.Steps.{literals_of};
-ghost use Rattle.truth_values.specs.Truth.{IsFree};
+ghost use Rattle.dq_lits.specs.Truth.{IsFree};
 ghost use Rattle.learning_trail.specs.Extension.{seen};
-ghost use Rattle.truth_values.specs.Extension.{with_free, with_literal};
+ghost use Rattle.dq_lits.specs.Extension.{with_free, with_literal};
 
 use crate::codes::Code;
 use crate::trails::Trail;
-use dq_lits::Lit;
-use truth_values::TruthValue;
+use dq_lits::{Lit, TruthValue};
 
 /// How a clause stands under a trail.
 #[derive(Clone, Copy)]

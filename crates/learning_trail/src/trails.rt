@@ -6,10 +6,9 @@ ghost use Rattle.dq_lits.specs.Literal.{Literal, variable_of};
 use crate::codes::Code;
 use crate::starts::{newest_start, put_start, take_start};
 use crate::values::Values;
-use dq_lits::{Lit, Memory};
+use dq_lits::{Lit, Memory, TruthValue, truth_value};
 use std::alloc::Global;
 use std::marker::Model;
-use truth_values::{TruthValue, truth};
 
 /// A literal that was made true: by a clause, its reason, or by decision.
 #[derive(Clone, Copy)]
@@ -44,7 +43,7 @@ impl Model for Trail {
 
 impl Trail {
     ghost use Rattle.learning_trail.specs.Steps.{literals_of, level_start, IsAt};
-    ghost use Rattle.truth_values.specs.Truth.{literal_value, IsFree};
+    ghost use Rattle.dq_lits.specs.Truth.{literal_value, IsFree};
 
     pub fn new(alloc: Global) -> Trail
         ensures { result ≡ record { room = 0; steps = [] } }
@@ -121,8 +120,7 @@ impl Trail {
         ensures is { self.new ≡ record { room = self.old.room; steps = step ∷ self.old.steps } }
         ensures few { length self.new.steps ≤ self.new.room }
     {
-        self.values
-            .set(place_of(step.literal), truth(!step.literal.is_neg()));
+        self.values.set(place_of(step.literal), truth_value(!step.literal.is_neg()));
         self.places[place_of(step.literal)] = self.steps.len();
         put_start(&mut self.starts, &step, self.steps.len());
         self.steps.push_reserved(step);

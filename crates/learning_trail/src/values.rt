@@ -2,14 +2,13 @@
 
 ghost use Rattle.std.specs.Prelude.{◌≡◌, ◌+◌, ◌≤◌, ◌<◌, ◌++◌, ◌∷◌, [], ℕ, suc, List, length, set, slice_index_or, vec_capacity, OnOk, OnErr};
 ghost use Rattle.dq_lits.specs.Literal.{variable_of, is_negative};
-ghost use Rattle.truth_values.specs.declared.values.TruthValue.TheVariants.{Unassigned};
+ghost use Rattle.dq_lits.specs.declared.truth_values.TruthValue.TheVariants.{Unassigned};
 ghost use Rattle.learning_trail.specs.Valued.{signed, negated, plain, ArePaired};
 
 use crate::codes::Code;
-use dq_lits::Memory;
+use dq_lits::{Memory, TruthValue};
 use std::alloc::Global;
 use std::marker::Model;
-use truth_values::TruthValue;
 
 /// The values of variables, which a contract sees in order: variable v at place v - 1.
 #[derive(Drop)]
@@ -20,7 +19,7 @@ pub(crate) struct Values {
 
 impl Model for Values {
     ghost use Rattle.std.specs.Prelude.{List};
-    ghost use Rattle.truth_values.specs.declared.values.TruthValue.{TruthValue};
+    ghost use Rattle.dq_lits.specs.declared.truth_values.TruthValue.{TruthValue};
     ghost use Rattle.learning_trail.specs.Valued.{plain, ArePaired};
 
     ghost Value = { List TruthValue };

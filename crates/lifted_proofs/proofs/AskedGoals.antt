@@ -1,9 +1,9 @@
 -- Goals that are asked for.
 use Rattle.std.proofs.Common.{◌≡◌, ℕ, ◌+◌, ◌<◌, ◌≤◌, Bool, true, false, cond, ◌&&◌, ◌||◌, ◌⊎◌, inl, inr, List, [], ◌∷◌, ◌++◌, length, get_or, slice_get, reverse, Option, Some, None, IfSome, refl, sym, ◌∙◌, ap, subst, arith}
 use Rattle.std.specs.List.{All, AllZip, list_any, filter}
-use Rattle.std.proofs.lemmas.Option.{slice_get_within, slice_get-get_or, slice_get_read, get_or_from_slice_get, same_Some, IfSome_then}
-use Rattle.std.proofs.lemmas.List.{get_or_append_left, length-append}
-use Rattle.list_laws.proofs.Elements.{last_or_before, last_there}
+use Rattle.std.proofs.lemmas.Option.{slice_get_within, slice_get-get_or, same_Some, IfSome_then}
+use Rattle.std.proofs.lemmas.List.{length-append}
+use Rattle.list_laws.proofs.Elements.{last_or_before, last_there, kept_there}
 use Rattle.dq_lits.specs.Literal.{Literal, variable_of, literal_true}
 use Rattle.dq_prep.specs.Reduction.{stays}
 use Rattle.dq_lits.specs.Formula.{Existential, Dqbf, existential_of}
@@ -16,22 +16,23 @@ use Rattle.dq_prep.specs.Units.{AreUnits, IsUnit, left_of, without_false, is_sat
 use Rattle.dq_prep.proofs.Units.{get-at}
 use Rattle.dq_prep.proofs.LeftLiterals.{tautology-stays, alone-plain}
 use Rattle.lifted_proofs.specs.UnitTables.{first_units, first_literals}
-use Rattle.lifted_proofs.specs.Goals.{clause_at, IsGoal, IsAsked, IsReason, IsPlan, SeeSameBits, Keeps, GrowsGoals}
+use Rattle.lifted_proofs.specs.Goals.{clause_at, IsGoal, IsAsked, IsReason, IsPlan, Keeps, SeeSame, Adds, IsGoalAt, IsAskedIn, IsLowered, IsPlanOf}
 use Rattle.cert_text.specs.Header.{max_count}
 use Rattle.lifted_proofs.specs.declared.goals.Goal.{Goal}
 use Rattle.lifted_proofs.specs.declared.goals.Reason.{Reason}
 use Rattle.lifted_proofs.specs.declared.goals.Plan.{Plan}
 use Rattle.lifted_proofs.proofs.TakenUnits.{unit-at}
+use Rattle.lifted_proofs.specs.declared.units.UnitTable.{UnitTable}
 
-pub seen-same : (f : Dqbf) (units : List Taken) (j : ℕ) (u : Taken) (a b : List Bool) (v : ℕ) (r : Bool)
-    → slice_get units j ≡ Some u → v ≡ variable_of u.literal
-    → IfSome (existential_of f v) (λ e. r ≡ same_bits (restriction e (row_assignment f a))
-    (restriction e (row_assignment f b))) → r ≡ true → SeeSameBits f units j a b
-seen-same f units j u a b v r at is said same = record {
-  unit = u;
+pub seen-same : (t : UnitTable) {j : ℕ} {u : Taken} {v : ℕ} (a b : List Bool) (r : Bool)
+    → slice_get t.units.now j ≡ Some u → v ≡ variable_of u.literal
+    → IfSome (existential_of t.formula.now v) (λ e. r ≡ same_bits (restriction e (row_assignment t.formula.now a))
+    (restriction e (row_assignment t.formula.now b))) → r ≡ true → SeeSame t j a b
+seen-same t {v = v} a b r at is said same = record {
+  unit = _;
   unit_at = at;
-  agrees = subst (λ w. IfSome (existential_of f w) (λ y. agree_on f y a b ≡ true)) is
-      (IfSome_then (existential_of f v) said (λ y p. sym p ∙ same));
+  agrees = subst (λ w. IfSome (existential_of t.formula.now w) (λ y. agree_on t.formula.now y a b ≡ true)) is
+      (IfSome_then (existential_of t.formula.now v) said (λ y p. sym p ∙ same));
 }
 
 pub keeps-itself : {X : Type 0} (xs : List X) → Keeps xs xs
@@ -39,67 +40,58 @@ keeps-itself xs k x at = at
 
 -- what is added stands behind
 pub keeps-more : {X : Type 0} (xs ys : List X) → Keeps xs (xs ++ ys)
-keeps-more xs ys k x at =
-    let within = slice_get_within xs k x at in
-    slice_get-get_or (xs ++ ys) k x (omega (arith, within, length-append xs ys))
-    ∙ ap Some (get_or_append_left xs ys x k within ∙ get_or_from_slice_get xs k x x at)
+keeps-more xs ys k x at = kept_there xs ys k x at
 
-goal-grows : (f : Dqbf) (units : List Taken) (rows more : List (List Bool)) (g : Goal) → Keeps rows more
-    → IsGoal f units rows g → IsGoal f units more g
-goal-grows f units rows more g keeps it = record {
-  source = it.source;
-  plain = it.plain;
-  row = it.row;
-  row_at = keeps g.row it.row it.row_at;
-  none_true = it.none_true;
-}
+module _ (f : Dqbf) (units : List Taken) (rows more : List (List Bool)) (goals more-goals : List Goal)
+    (keeps : Keeps rows more) (keeps-goals : Keeps goals more-goals) where
+  goal-grows : (g : Goal) → IsGoal f units rows g → IsGoal f units more g
+  goal-grows g it = record {
+    source = it.source;
+    plain = it.plain;
+    row = it.row;
+    row_at = keeps g.row it.row it.row_at;
+    none_true = it.none_true;
+  }
 
-pub asked-grows : (f : Dqbf) (units : List Taken) (rows more : List (List Bool)) (goals more-goals : List Goal)
-    (lowered j h : ℕ) → Keeps rows more → Keeps goals more-goals → IsAsked f units rows goals lowered j h
-    → IsAsked f units more more-goals lowered j h
-asked-grows f units rows more goals more-goals lowered j h keeps keeps-goals it = record {
-  unit = it.unit;
-  unit_at = it.unit_at;
-  goal = it.goal;
-  goal_at = keeps-goals h it.goal it.goal_at;
-  taken = it.taken;
-  place = it.place;
-  low = it.low;
-  low_at = keeps lowered it.low it.low_at;
-  row = it.row;
-  row_at = keeps it.goal.row it.row it.row_at;
-  agrees = it.agrees;
-}
+  asked-grows : (lowered j h : ℕ) → IsAsked f units rows goals lowered j h
+      → IsAsked f units more more-goals lowered j h
+  asked-grows lowered j h it = record {
+    unit = it.unit;
+    unit_at = it.unit_at;
+    goal = it.goal;
+    goal_at = keeps-goals h it.goal it.goal_at;
+    taken = it.taken;
+    place = it.place;
+    low = it.low;
+    low_at = keeps lowered it.low it.low_at;
+    row = it.row;
+    row_at = keeps it.goal.row it.row it.row_at;
+    agrees = it.agrees;
+  }
 
-pub all-asked-grow : (f : Dqbf) (units : List Taken) (rows more : List (List Bool)) (goals more-goals : List Goal)
-    (lowered : ℕ) (places hints : List ℕ) → Keeps rows more → Keeps goals more-goals
-    → AllZip (IsAsked f units rows goals lowered) places hints
-    → AllZip (IsAsked f units more more-goals lowered) places hints
-all-asked-grow f units rows more goals more-goals lowered [] [] keeps keeps-goals all = tt
-all-asked-grow f units rows more goals more-goals lowered [] (h ∷ hs) keeps keeps-goals all = all
-all-asked-grow f units rows more goals more-goals lowered (j ∷ js) [] keeps keeps-goals all = all
-all-asked-grow f units rows more goals more-goals lowered (j ∷ js) (h ∷ hs) keeps keeps-goals all = (
-  asked-grows f units rows more goals more-goals lowered j h keeps keeps-goals all.0,
-  all-asked-grow f units rows more goals more-goals lowered js hs keeps keeps-goals all.1,
-)
+  pub all-asked-grow : (lowered : ℕ) (places hints : List ℕ) → AllZip (IsAsked f units rows goals lowered) places hints
+      → AllZip (IsAsked f units more more-goals lowered) places hints
+  all-asked-grow lowered [] [] all = tt
+  all-asked-grow lowered [] (h ∷ hs) all = all
+  all-asked-grow lowered (j ∷ js) [] all = all
+  all-asked-grow lowered (j ∷ js) (h ∷ hs) all = (asked-grows lowered j h all.0, all-asked-grow lowered js hs all.1)
 
-reason-grows : (f : Dqbf) (units : List Taken) (rows more : List (List Bool)) (goals more-goals : List Goal) (g : Goal)
-    (r : Reason) → Keeps rows more → Keeps goals more-goals → IsReason f units rows goals g r
-    → IsReason f units more more-goals g r
-reason-grows f units rows more goals more-goals g r keeps keeps-goals it = record {
-  lowered = record {
-    row = it.lowered.row;
-    low = it.lowered.low;
-    row_at = keeps g.row it.lowered.row it.lowered.row_at;
-    low_at = keeps r.lowered it.lowered.low it.lowered.low_at;
-    serves = it.lowered.serves;
-  };
-  places = it.places;
-  false_units = it.false_units;
-  asked =
-      all-asked-grow f units rows more goals more-goals r.lowered it.places r.hints.items keeps keeps-goals
-      it.asked;
-}
+  pub lowered-grows : (g : Goal) (lowered : ℕ) → IsLowered f units rows g lowered → IsLowered f units more g lowered
+  lowered-grows g lowered it = record {
+    row = it.row;
+    low = it.low;
+    row_at = keeps g.row it.row it.row_at;
+    low_at = keeps lowered it.low it.low_at;
+    serves = it.serves;
+  }
+
+  reason-grows : (g : Goal) (r : Reason) → IsReason f units rows goals g r → IsReason f units more more-goals g r
+  reason-grows g r it = record {
+    lowered = lowered-grows g r.lowered it.lowered;
+    places = it.places;
+    false_units = it.false_units;
+    asked = all-asked-grow r.lowered it.places r.hints.items it.asked;
+  }
 
 -- the goal of a unit
 pub unit-goal : (f : Dqbf) (units : List Taken) (rows : List (List Bool)) (j row : ℕ) (u : Taken) (g : Goal)
@@ -145,40 +137,46 @@ unit-goal f units rows j row u g are at within is =
               it.existential;
         }
 
-pub asked-made : (f : Dqbf) (units : List Taken) (rows : List (List Bool)) (goals : List Goal) (lowered j h : ℕ)
-    (goal : Goal) (u : Taken) (a b : List Bool) → slice_get goals h ≡ Some goal → slice_get units j ≡ Some u
-    → goal.source.taken ≡ j → goal.source.place ≡ u.place → slice_get rows lowered ≡ Some a
-    → slice_get rows goal.row ≡ Some b → SeeSameBits f units j a b → IsAsked f units rows goals lowered j h
-asked-made f units rows goals lowered j h goal u a b goal-at at taken place low-at row-at see = record {
+pub asked-made : {t : UnitTable} {p : Plan} {lowered j h : ℕ} {goal : Goal} {u : Taken} {a b : List Bool}
+    → IsGoalAt t p h goal → slice_get t.units.now j ≡ Some u → goal.source.taken ≡ j → goal.source.place ≡ u.place
+    → slice_get p.rows lowered ≡ Some a → slice_get p.rows goal.row ≡ Some b → SeeSame t j a b
+    → IsAskedIn t p lowered j h
+asked-made {t = t} {u = u} {a = a} {b = b} goal at taken place low-at row-at see = record {
   unit = u;
   unit_at = at;
-  goal = goal;
-  goal_at = goal-at;
+  goal = _;
+  goal_at = goal.at;
   taken = taken;
   place = place;
   low = a;
   low_at = low-at;
   row = b;
   row_at = row-at;
-  agrees = subst (λ w. IfSome (existential_of f (variable_of w.literal)) (λ y. agree_on f y a b ≡ true))
-      (same_Some see.unit u (sym see.unit_at ∙ at)) see.agrees;
+  agrees = subst (λ w. IfSome (existential_of t.formula.now (variable_of w.literal))
+      (λ y. agree_on t.formula.now y a b ≡ true)) (same_Some see.unit u (sym see.unit_at ∙ at)) see.agrees;
 }
 
 -- the newest goal is that of the unit under the row itself
-pub asked-itself : (f : Dqbf) (units : List Taken) (rows : List (List Bool)) (goals : List Goal) (j row : ℕ)
-    (u : Taken) → slice_get units j ≡ Some u → row < length rows
+asked-itself : (f : Dqbf) (units : List Taken) (rows : List (List Bool)) (goals : List Goal) (j row : ℕ) (u : Taken)
+    → slice_get units j ≡ Some u → row < length rows
     → IsAsked f units rows (goals ++ record { source = record { taken = j; place = u.place }; row = row } ∷ [])
     row j (length goals)
 asked-itself f units rows goals j row u at within =
     let g : Goal = record { source = record { taken = j; place = u.place }; row = row } in
     let row-at = slice_get-get_or rows row [] within in
-    asked-made f units rows (goals ++ g ∷ []) row j (length goals) g u (get_or rows row []) (get_or rows row [])
-    (last_there goals g) at refl refl row-at row-at
-    (record {
+    record {
       unit = u;
       unit_at = at;
+      goal = g;
+      goal_at = last_there goals g;
+      taken = refl;
+      place = refl;
+      low = get_or rows row [];
+      low_at = row-at;
+      row = get_or rows row [];
+      row_at = row-at;
       agrees = itself (existential_of f (variable_of u.literal));
-    })
+    }
   where
     itself : (o : Option Existential) → IfSome o (λ y. agree_on f y (get_or rows row []) (get_or rows row []) ≡ true)
     itself None = tt
@@ -194,14 +192,14 @@ pub plan-grows : (f : Dqbf) (units : List Taken) (p q : Plan) → IsPlan f units
 plan-grows f units p q plan rows goals reasons whole each room fewer = record {
   whole = whole;
   goals = λ k g at. elim (each k g at) [
-    | inl before ↦ goal-grows f units p.rows q.rows g rows (plan.goals k g before)
+    | inl before ↦ goal-grows f units p.rows q.rows p.goals.items q.goals.items rows goals g (plan.goals k g before)
     | inr new ↦ new.1
   ];
   reasons = λ k g r at why.
       let old : slice_get p.reasons.items k ≡ Some r = ap (λ xs. slice_get xs k) (sym reasons) ∙ why in
       elim (each k g at) [
         | inl before ↦
-            reason-grows f units p.rows q.rows p.goals.items q.goals.items g r rows goals
+            reason-grows f units p.rows q.rows p.goals.items q.goals.items rows goals g r
             (plan.reasons k g r before old)
         | inr new ↦ absurd (omega (arith, new.0, plan.few_reasons, slice_get_within p.reasons.items k r old))
       ];
@@ -209,52 +207,47 @@ plan-grows f units p q plan rows goals reasons whole each room fewer = record {
   few_reasons = fewer;
 }
 
--- the parts of what a unit's goal adds
-pub unit-added : (f : Dqbf) (units : List Taken) (p q : Plan) (j row : ℕ) (u : Taken) → IsPlan f units p
-    → AreUnits f (reverse units) → slice_get units j ≡ Some u → row < length p.rows → q.rows ≡ p.rows
+pub adds-none : {t : UnitTable} {p : Plan} {Now : Type 0} → IsPlanOf t p → Now → Adds t p p Now
+adds-none {p = p} plan now = record {
+  plan = plan;
+  grows = record {
+    grows = record { rows = keeps-itself p.rows; goals = keeps-itself p.goals.items };
+    reasons = refl;
+  };
+  now = now;
+}
+
+-- the goal of a unit is added
+pub unit-added : (t : UnitTable) (p q : Plan) (j row h : ℕ) (u : Taken) → IsPlanOf t p
+    → slice_get t.units.now j ≡ Some u → row < length p.rows → q ≡ record p { goals = q.goals }
     → q.goals.items ≡ p.goals.items ++ record { source = record { taken = j; place = u.place }; row = row } ∷ []
-    → q.reasons.items ≡ p.reasons.items → q.room ≡ p.room
-    → IsPlan f units q × GrowsGoals p q × IsAsked f units q.rows q.goals.items row j (length p.goals.items)
-unit-added f units p q j row u plan are at within rows goals reasons room =
+    → h ≡ length p.goals.items → Adds t p q (IsAskedIn t q row j h)
+unit-added t p q j row h u plan at within same more h-is =
+    let f = t.formula.now in
+    let units = t.units.now in
+    let next : Plan = record p { goals = q.goals } in
     let g : Goal = record { source = record { taken = j; place = u.place }; row = row } in
-    let kept-rows : Keeps p.rows q.rows = subst (Keeps p.rows) (sym rows) (keeps-itself p.rows) in
-    let kept-goals : Keeps p.goals.items q.goals.items =
-    subst (Keeps p.goals.items) (sym goals) (keeps-more p.goals.items (g ∷ [])) in
-    let goal : IsGoal f units q.rows g =
-    subst (λ rs. IsGoal f units rs g) (sym rows) (unit-goal f units p.rows j row u g are at within refl) in
-    let more : length q.goals.items ≡ length p.goals.items + 1 =
-    ap (λ (xs : List Goal). length xs) goals ∙ length-append p.goals.items (g ∷ []) in
-    let few : length q.reasons.items ≤ length q.goals.items =
-    subst (λ n. n ≤ length q.goals.items) (ap (λ (xs : List Reason). length xs) (sym reasons))
-    (omega (arith, plan.few_reasons, more)) in (
-      plan-grows f units p q plan kept-rows kept-goals reasons
-          (subst (All (λ r. length r ≡ length f.universals)) (sym rows) plan.whole)
-          (λ k w here. elim (last_or_before p.goals.items g k w (ap (λ xs. slice_get xs k) (sym goals) ∙ here)) [
-            | inl before ↦ inl before
-            | inr last ↦ inr (omega (arith, last.0), subst (IsGoal f units q.rows) last.1 goal)
-          ])
-          (subst (λ rs. length rs + q.room ≤ max_count) (sym rows)
-          (subst (λ n. length p.rows + n ≤ max_count) (sym room) plan.few_rows))
-          few,
-      record { grows = record { rows = kept-rows; goals = kept-goals }; reasons = reasons },
-      subst (λ rs. IsAsked f units rs q.goals.items row j (length p.goals.items)) (sym rows)
-          (subst (λ gs. IsAsked f units p.rows gs row j (length p.goals.items)) (sym goals)
-          (asked-itself f units p.rows p.goals.items j row u at within)),
-    )
-
-pub goal-row : (f : Dqbf) (units : List Taken) (p : Plan) (h : ℕ) (g : Goal) → IsPlan f units p
-    → h < length p.goals.items → g ≡ get_or p.goals.items h g → g.row < length p.rows
-goal-row f units p h g plan within at =
-    let it = plan.goals h g (slice_get_read p.goals.items (length p.goals.items) h g refl within at) in
-    slice_get_within p.rows g.row it.row it.row_at
-
-pub row-at : (rows : List (List Bool)) (seen : List (List Bool)) (k : ℕ) (r : List Bool) → seen ≡ rows → k < length rows
-    → r ≡ get_or seen k r → slice_get rows k ≡ Some r
-row-at rows seen k r is within at =
-    slice_get_read rows (length rows) k r refl within (at ∙ ap (λ xs. get_or xs k r) is)
-
-pub row-whole : (f : Dqbf) (units : List Taken) (p : Plan) (seen : List (List Bool)) (k : ℕ) (r : List Bool)
-    → IsPlan f units p → seen ≡ p.rows → k < length p.rows → r ≡ get_or seen k r → length r ≡ length f.universals
-row-whole f units p seen k r plan is within at =
-    let here : r ≡ get_or p.rows k r = at ∙ ap (λ xs. get_or xs k r) is in
-    ap (λ (x : List Bool). length x) here ∙ plan.whole k r within
+    let kept : Keeps p.goals.items q.goals.items =
+    subst (Keeps p.goals.items) (sym more) (keeps-more p.goals.items (g ∷ [])) in
+    let longer = ap (λ (xs : List Goal). length xs) more ∙ length-append p.goals.items (g ∷ []) in
+    let asked : IsAsked f units p.rows q.goals.items row j h =
+    subst (λ gs. IsAsked f units p.rows gs row j h) (sym more)
+    (subst (IsAsked f units p.rows (p.goals.items ++ g ∷ []) row j) (sym h-is)
+    (asked-itself f units p.rows p.goals.items j row u at within)) in
+    subst (λ x. Adds t p x (IsAskedIn t x row j h)) (sym same) (record {
+      plan = record {
+        right = plan.right;
+        plan = plan-grows f units p next plan.plan (keeps-itself p.rows) kept refl plan.plan.whole
+            (λ k w here. elim (last_or_before p.goals.items g k w (ap (λ xs. slice_get xs k) (sym more) ∙ here)) [
+              | inl before ↦ inl before
+              | inr last ↦ inr (
+                omega (arith, last.0),
+                subst (IsGoal f units p.rows) last.1
+                    (unit-goal f units p.rows j row u g plan.right.units at within refl),
+              )
+            ])
+            plan.plan.few_rows (omega (arith, plan.plan.few_reasons, longer));
+      };
+      grows = record { grows = record { rows = keeps-itself p.rows; goals = kept }; reasons = refl };
+      now = asked;
+    })

@@ -179,10 +179,7 @@ number-stays f rows more number keeps is =
     ∙ sym (ap (λ o. normal_of f rows number o (existential_of f ((number - 1) % f.variables + 1))) at)
   where
     row-within : (a b c d : Bool) → (not a && (not b && (c && d))) ≡ true → c ≡ true
-    row-within true b c d h = absurd (true≢false (sym h))
-    row-within false true c d h = absurd (true≢false (sym h))
-    row-within false false true d h = refl
-    row-within false false false d h = absurd (true≢false (sym h))
+    row-within a b c d h = grind arith
 
     by : (k : ℕ) (row : List Bool) → slice_get rows k ≡ Some row → (o : Option Existential)
         → normal_of f more number (Some row) o ≡ normal_of f rows number (Some row) o

@@ -1,10 +1,11 @@
 -- The lines of a circuit's proof by other ids and variables, behind lines for what they hint at.
-use Rattle.std.proofs.Common.{◌≡◌, ℕ, zero, suc, ◌+◌, ◌-◌, ◌<◌, ◌≤◌, nat_le, Bool, true, false, inl, inr, List, [], ◌∷◌, ◌++◌, map, length, get_or, Option, Some, None, slice_get, refl, sym, ◌∙◌, ap, subst, arith}
+use Rattle.std.proofs.Common.{◌≡◌, ℕ, zero, suc, ◌+◌, ◌-◌, ◌<◌, ◌≤◌, nat_le, Bool, true, false, inl, inr, List, [], ◌∷◌, ◌++◌, map, length, get_or, Option, Some, None, slice_get, refl, sym, ◌∙◌, ap, subst, arith, ◌≢◌}
 use Rattle.std.specs.Option.{option_map}
 use Rattle.std.proofs.lemmas.Bool.{cases_lt, cond-true, cond-false, le-leb, lt-leb}
 use Rattle.std.proofs.lemmas.List.Elements.{All-map}
-use Rattle.std.proofs.lemmas.Option.{slice_get_within, same_Some}
-use Rattle.dq_lits.specs.Literal.{Literal, positive, negative, variable_of, on_variable}
+use Rattle.std.proofs.lemmas.Option.{slice_get_within, same_Some, get_or_from_slice_get}
+use Rattle.dq_lits.proofs.SignedLiterals.{variable_of-on}
+use Rattle.dq_lits.specs.Literal.{Literal, variable_of}
 use Rattle.dq_lits.specs.Derivation.{LiveClauses, ProofStep}
 use Rattle.rup_core.specs.Items.{ProofItem, derived, gone, items_fault}
 use Rattle.cert_text.specs.Grammar.{AreSteps, AreItems}
@@ -14,8 +15,11 @@ use Rattle.lifted_proofs.specs.Carried.{lines_of}
 use Rattle.lifted_proofs.specs.CarriedProofs.{Carrying, carried_variable, carried_literal, carried_id, carried_line}
 use Rattle.lifted_proofs.specs.Lines.{behind_steps, AreDerived}
 use Rattle.lifted_proofs.proofs.CarriedLines.{EndsEmpty, AreMoved, AreNumbered, AreThere, move-items, derived-append, ends-behind}
-use Rattle.lifted_proofs.proofs.KeptPlaces.{StandsIn, AreAscending, stands-once}
+use Rattle.lifted_proofs.proofs.KeptPlaces.{StandsIn}
 use Rattle.lifted_proofs.proofs.RenamedLines.{IsOneToOne, renamed, renamed_item, items-renamed}
+use Rattle.std.specs.List.{AllPairs}
+use Rattle.list_laws.proofs.Quantified.{one_place}
+use Rattle.lifted_proofs.proofs.WrittenLines.{steps-append}
 
 -- ---- variables
 
@@ -52,16 +56,11 @@ carried-clause largest clauses places v j p is at =
     let place : v - largest - 1 ≡ j = omega (arith, is) in
     carried-behind largest clauses places v (omega (arith, is))
     ∙ ap (λ n. largest + 1 + n)
-    (ap (λ k. get_or places k (v - largest - 1 + clauses)) place ∙ found places j (v - largest - 1 + clauses) at)
-  where
-    found : (ps : List ℕ) (k d : ℕ) → slice_get ps k ≡ Some p → get_or ps k d ≡ p
-    found [] k d at = cc
-    found (q ∷ qs) zero d at = same_Some q p at
-    found (q ∷ qs) (suc k) d at = found qs k d at
+    (ap (λ k. get_or places k (v - largest - 1 + clauses)) place ∙ get_or_from_slice_get places j p (v - largest - 1 + clauses) at)
 
-pub carried-once : (largest clauses : ℕ) (places : List ℕ) → AreAscending 0 places
+pub carried-once : (largest clauses : ℕ) (places : List ℕ) → AllPairs (λ i j. i ≢ j) places
     → ((p : ℕ) → StandsIn places p → p < clauses) → IsOneToOne (carried_variable largest clauses places)
-carried-once largest clauses places ascend within v w same = elim (cases_lt largest v) [
+carried-once largest clauses places distinct within v w same = elim (cases_lt largest v) [
   | inr low-v ↦ elim (cases_lt largest w) [
     | inr low-w ↦
         sym (carried-circuit largest clauses places v low-v) ∙ same ∙ carried-circuit largest clauses places w low-w
@@ -100,7 +99,7 @@ carried-once largest clauses places ascend within v w same = elim (cases_lt larg
 ]
   where
     by : (k j n m : ℕ) → IsIndex places k (k + clauses) n → IsIndex places j (j + clauses) m → n ≡ m → k ≡ j
-    by k j n m (inside at-k) (inside at-j) e = stands-once 0 places k j n ascend at-k (at-j ∙ ap Some (sym e))
+    by k j n m (inside at-k) (inside at-j) e = one_place places k j n distinct at-k (at-j ∙ ap Some (sym e))
     by k j n m (inside at-k) (outside past is) e =
         absurd (omega (arith, within n (k, at-k), e, is))
     by k j n m (outside past is) (inside at-j) e =
@@ -195,10 +194,6 @@ module _ (old base : LiveClauses) (c : Carrying) (is_variable : ℕ → Bool) (f
             omega (arith, is, before, past, high, ready.next_is, ready.some_false),
           )
 
-  number-sign : (n : ℕ) (l : Literal) → variable_of (on_variable n l) ≡ n
-  number-sign n (positive v) = refl
-  number-sign n (negative v) = refl
-
   lines-allowed : (old_variable : ℕ → Bool) (items : List ProofItem) (at : Numbering) (i : ℕ) → at.next ≡ next + i
       → ((v : ℕ) → old_variable v ≡ true → is_variable (carried_variable c.largest c.clauses c.places v) ≡ true)
       → AreItems old_variable at items
@@ -212,7 +207,7 @@ module _ (old base : LiveClauses) (c : Carrying) (is_variable : ℕ → Bool) (f
       on_variables = All-map (λ l. is_variable (variable_of l) ≡ true) (carried_literal c) s.literals
           (λ k d below.
           let l = get_or s.literals k d in
-          ap is_variable (number-sign (number (variable_of l)) l)
+          ap is_variable (variable_of-on (number (variable_of l)) l)
           ∙ on (variable_of l) (are.0.on_variables k d below));
       hints_before = All-map (λ h. (1 ≤ h) × (h < first + length steps + i)) (carried_id c) s.hints
           (λ k d below.
@@ -253,12 +248,6 @@ module _ (old base : LiveClauses) (c : Carrying) (is_variable : ℕ → Bool) (f
       by (Some was) e is =
           let it = ready.there h was e in
           (it.0 ∙ is, it.1)
-
-  steps-append : (p : ℕ → Bool) (n : ℕ) (xs ys : List ProofStep) → AreSteps p n xs → AreSteps p (n + length xs) ys
-      → AreSteps p n (xs ++ ys)
-  steps-append p n [] ys a b = subst (λ m. AreSteps p m ys) (omega arith) b
-  steps-append p n (x ∷ xs) ys a b =
-      (a.0, steps-append p (n + 1) xs ys a.1 (subst (λ m. AreSteps p m ys) (omega arith) b))
 
   pub all-carried : (old_variable : ℕ → Bool) (items : List ProofItem)
       → ((v : ℕ) → old_variable v ≡ true → is_variable (carried_variable c.largest c.clauses c.places v) ≡ true)

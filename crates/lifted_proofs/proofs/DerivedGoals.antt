@@ -1,17 +1,16 @@
 -- A goal's line is derived by its units' lines and the instance of its clause under another row.
-use Rattle.std.proofs.Common.{◌≡◌, ◌≢◌, ℕ, zero, suc, ◌<◌, ◌==◌, Bool, true, false, not, ◌&&◌, ◌||◌, ◌⊎◌, inl, inr, List, [], ◌∷◌, ◌++◌, map, length, get_or, slice_get, Option, Some, None, IfSome, is_some, reverse, refl, sym, ◌∙◌, ap, subst, arith}
+use Rattle.std.proofs.Common.{◌≡◌, ◌≢◌, ℕ, zero, suc, ◌==◌, Bool, true, false, not, ◌&&◌, ◌||◌, ◌⊎◌, inl, inr, List, [], ◌∷◌, ◌++◌, map, get_or, slice_get, Option, Some, None, IfSome, is_some, reverse, refl, sym, ◌∙◌, ap, subst, arith}
 use Rattle.std.specs.List.{All, AllPairs, AllZip, Contains, list_any, filter_map, cons_option}
 use Rattle.std.specs.Option.{option_map}
-use Rattle.std.proofs.lemmas.Bool.{true≢false, or_cases, or_left, or_right, cases_Bool, eqb-true, eq-eqb, ne_eqb}
+use Rattle.std.proofs.lemmas.Bool.{and_parts, true≢false, or_cases, or_left, or_right, cases_Bool, eqb-true, eq-eqb, ne_eqb}
 use Rattle.std.proofs.lemmas.Option.{get_or_from_slice_get, same_Some}
 use Rattle.std.proofs.lemmas.List.Elements.{All-contains, All-map}
-use Rattle.list_laws.proofs.Members.{tested_inside}
+use Rattle.list_laws.proofs.Members.{tested_inside, contains_later}
 use Rattle.list_laws.proofs.Truths.{both_true}
 use Rattle.dq_lits.specs.Literal.{Literal, variable_of, opposite, on_variable, same_literal}
 use Rattle.dq_lits.specs.Formula.{Existential, Dqbf, is_universal, existential_of, IsWellFormed}
 use Rattle.dq_lits.specs.Derivation.{LiveClauses, holds, is_tautology, IsDerived}
 use Rattle.dq_lits.specs.Expansion.{agree_on, pair_number, pair_literal}
-use Rattle.dq_lits.proofs.Truth.{same_literal-sound}
 use Rattle.dq_lits.proofs.HeldLiterals.{any_one, filter-holds, negated-held, filter-passes}
 use Rattle.dq_lits.proofs.SignedLiterals.{same_literal-refl, opposite_variable, opposite-opposite, variable_of-on, one_variable}
 use Rattle.dq_prep.specs.declared.traces.Taken.{Taken}
@@ -31,12 +30,12 @@ use Rattle.refutation_checker.specs.Pairs.{pair_of, existential_part}
 use Rattle.refutation_checker.specs.Rows.{row_of}
 use Rattle.refutation_checker.proofs.PairNumbers.{pair_number_is}
 use Rattle.lifted_proofs.specs.UnitTables.{first_units, first_literals}
-use Rattle.lifted_proofs.specs.Goals.{clause_at, left_by, IsGoal, IsAsked, MakesFalse, IsReason}
+use Rattle.lifted_proofs.specs.Goals.{clause_at, left_by, IsAsked, MakesFalse, Settled}
 use Rattle.lifted_proofs.specs.Lines.{goal_line, paired}
 use Rattle.lifted_proofs.specs.declared.goals.Goal.{Goal}
 use Rattle.lifted_proofs.specs.declared.goals.Reason.{Reason}
 use Rattle.lifted_proofs.proofs.TakenUnits.{unit-at, one-unit, first-holds}
-use Rattle.lifted_proofs.proofs.PairedLiterals.{opposite-paired, left-paired, one-pair, existential-or-universal, pair-variable, bound-range, existential-range, paired-holds, paired-plain}
+use Rattle.lifted_proofs.proofs.PairedLiterals.{opposite-paired, left-paired, one-pair, existential-or-universal, pair-variable, bound-range, existential-range, paired-holds, paired-plain, bound-in}
 
 -- a literal on one of these variables
 abbrev stands_on : List Literal → ℕ → Bool
@@ -112,9 +111,6 @@ negated-on f rows row (l ∷ ls) n h =
           let r = negated-on f rows row ls n later in
           (r.0, or_right (same_literal r.0 l) (holds ls r.0) r.1, r.2)
     ]
-
-contains-next : (x y : ℕ) (xs : List ℕ) → Contains xs y → Contains (x ∷ xs) y
-contains-next x y xs (k, below, is) = (suc k, omega (arith, below), is)
 
 -- the line of a unit's goal is the unit's literal on its pair
 unit-line : (f : Dqbf) (units : List Taken) (rows : List (List Bool)) (goals : List Goal) (lowered j h : ℕ)
@@ -206,8 +202,8 @@ collect f units rows goals live ids lowered low well are low-at trues (j ∷ js)
     let rest = collect f units rows goals live ids lowered low well are low-at (p ∷ trues) js hs asked.1
     (λ i k d before within. distinct (suc i) (suc k) d (omega (arith, before)) (omega (arith, within)))
     (λ k w inside at. free-next j u js trues k w a.unit_at inside at distinct
-    (free k w (contains-next j k js inside) at))
-    (λ k goal inside at. named k goal (contains-next h k hs inside) at) in
+    (free k w (contains_later j k js inside) at))
+    (λ k goal inside at. named k goal (contains_later h k hs inside) at) in
     record {
       hinted = (ids h, u.literal) ∷ rest.hinted;
       ids = ap (λ xs. ids h ∷ xs) rest.ids;
@@ -242,14 +238,6 @@ collect f units rows goals live ids lowered low well are low-at trues (j ∷ js)
         (ap (λ q. q == n) (variable_of-on v u.literal) ∙ ne_eqb v n apart)
         ∙ rest
 
--- what is fixed of a goal with its reason
-pub record Settled (f : Dqbf) (units : List Taken) (rows : List (List Bool)) (goals : List Goal) (g : Goal)
-    (r : Reason) : Type 0 where
-  pub well : IsWellFormed f
-  pub are : AreUnits f (reverse units)
-  pub goal : IsGoal f units rows g
-  pub reason : IsReason f units rows goals g r
-
 abbrev open_of : Dqbf → List Taken → Goal → List Literal
 open_of f units g = open_literals f (first_literals units g.source.taken) (clause_at f g.source.place)
 
@@ -260,10 +248,6 @@ map-within p q (x ∷ xs) same =
     ap (λ y. y ∷ map p xs) (same x (or_left (same_literal x x) (holds xs x) (same_literal-refl x)))
     ∙ ap (λ ys. q x ∷ ys)
     (map-within p q xs (λ l h. same l (or_right (same_literal l x) (holds xs l) h)))
-
-pub and-both : (a b : Bool) → (a && b) ≡ true → (a ≡ true) × (b ≡ true)
-and-both true b h = (refl, h)
-and-both false b h = absurd (true≢false (sym h))
 
 module _ (f : Dqbf) (units : List Taken) (rows : List (List Bool)) (goals : List Goal) (g : Goal) (r : Reason)
     (s : Settled f units rows goals g r) where
@@ -282,18 +266,8 @@ module _ (f : Dqbf) (units : List Taken) (rows : List (List Bool)) (goals : List
   bound : All (IsBound f) (clause_at f g.source.place)
   bound = s.well.bound g.source.place [] s.goal.source.place
 
-  bound-in : (l : Literal) → holds (clause_at f g.source.place) l ≡ true → IsBound f l
-  bound-in l inside =
-      let r = literal-at (clause_at f g.source.place) l inside in
-      subst (IsBound f) r.2 (bound r.0 l r.1)
-    where
-      literal-at : (xs : List Literal) (l : Literal) → holds xs l ≡ true
-          → (k : ℕ) × (k < length xs) × (get_or xs k l ≡ l)
-      literal-at [] l h = absurd (true≢false (sym h))
-      literal-at (x ∷ xs) l h = elim (or_cases (same_literal l x) (holds xs l) h) [
-        | inl same ↦ (0, omega arith, sym (same_literal-sound l x same))
-        | inr later ↦ let r = literal-at xs l later in (suc r.0, omega (arith, r.1), r.2)
-      ]
+  is-bound : (l : Literal) → holds (clause_at f g.source.place) l ≡ true → IsBound f l
+  is-bound l inside = bound-in f (clause_at f g.source.place) l bound inside
 
   open-inside : (l : Literal) → holds (open_of f units g) l ≡ true → holds (clause_at f g.source.place) l ≡ true
   open-inside l h = part-holds l (is_open f (first_literals units g.source.taken)) (clause_at f g.source.place) h
@@ -317,14 +291,14 @@ module _ (f : Dqbf) (units : List Taken) (rows : List (List Bool)) (goals : List
           s.reason.lowered.serves.same l y
           (filter-holds (λ k. not (holds (first_literals units g.source.taken) (opposite k)))
           (clause_at f g.source.place) l (open-inside l h)
-          (and-both (not (is_universal f (variable_of l)))
+          (and_parts (not (is_universal f (variable_of l)))
           (not (holds (first_literals units g.source.taken) (opposite l)))
           (filter-passes (is_open f (first_literals units g.source.taken)) (clause_at f g.source.place) l h)).1) own
 
   pub line-plain : is_tautology (map (paired f rows s.reason.lowered.low) (open_of f units g)) ≡ false
   line-plain =
       paired-plain f rows s.reason.lowered.low (open_of f units g)
-      (λ l h. bound-range f (variable_of l) s.well (bound-in l (open-inside l h)))
+      (λ l h. bound-range f (variable_of l) s.well (is-bound l (open-inside l h)))
       (elim (cases_Bool (is_tautology (open_of f units g))) [
         | inr plain ↦ plain
         | inl both ↦
@@ -347,7 +321,7 @@ module _ (f : Dqbf) (units : List Taken) (rows : List (List Bool)) (goals : List
             let taken = first-holds units g.source.taken j u makes.before at in
             let range-u = existential-range f (variable_of u.literal) s.well
             (unit-existential f (first_units units j) u s.well (unit-at f units j u s.are at)) in
-            let range-l = bound-range f (variable_of n.0) s.well (bound-in n.0 (open-inside n.0 n.1)) in
+            let range-l = bound-range f (variable_of n.0) s.well (is-bound n.0 (open-inside n.0 n.1)) in
             let same = pair-variable f rows s.reason.lowered.low s.reason.lowered.low (variable_of n.0)
             (variable_of u.literal) range-l range-u n.2 in
             absurd (elim (one_variable n.0 u.literal same) [
@@ -355,7 +329,7 @@ module _ (f : Dqbf) (units : List Taken) (rows : List (List Bool)) (goals : List
                   true≢false (sym (satisfied-by trues clause n.0 (open-inside n.0 n.1) (ap (holds trues) is ∙ taken))
                   ∙ s.goal.source.unsatisfied)
               | inr is ↦
-                  let passes = (and-both (not (is_universal f (variable_of n.0))) (not (holds trues (opposite n.0)))
+                  let passes = (and_parts (not (is_universal f (variable_of n.0))) (not (holds trues (opposite n.0)))
                   (filter-passes (is_open f trues) clause n.0 n.1)).1 in
                   true≢false (sym passes
                   ∙ ap (λ q. not (holds trues (opposite q))) is
@@ -405,7 +379,7 @@ module _ (f : Dqbf) (units : List Taken) (rows : List (List Bool)) (goals : List
                 inr (subst (Has c.hinted) has.is (c.has has.place has.unit has.among has.unit_at))
             | inr free ↦
                 let existential : not (is_universal f (variable_of l)) ≡ true =
-                sym (existential-or-universal f l s.well (bound-in l part))
+                sym (existential-or-universal f l s.well (is-bound l part))
                 ∙ filter-passes (λ k. is_some (existential_of f (variable_of k))) (clause_at f g.source.place) l
                 inside in
                 let is-open' : is_open f trues l ≡ true =

@@ -2,7 +2,7 @@
 use Rattle.std.proofs.Common.{◌≡◌, ℕ, zero, suc, ◌+◌, ◌<◌, ◌≤◌, ◌==◌, Bool, true, false, cond, ◌||◌, inl, inr, List, [], ◌∷◌, ◌++◌, map, take, length, get_or, slice_get, Some, refl, sym, ◌∙◌, ap, subst, arith}
 use Rattle.std.specs.List.{All, Contains}
 use Rattle.std.proofs.lemmas.Bool.{or_cases, or_left, or_right, cases_Bool, eq-eqb, eqb-true}
-use Rattle.std.proofs.lemmas.Option.{slice_get_within, get_or_from_slice_get}
+use Rattle.std.proofs.lemmas.Option.{slice_get_within, get_or_from_slice_get, same_Some}
 use Rattle.std.proofs.lemmas.List.{take_more, append-nil, append_assoc, map-append}
 use Rattle.std.proofs.lemmas.List.Elements.{All-tail, Contains-push, Contains-push_cases, Contains-append_left}
 use Rattle.std.proofs.lemmas.List.Folds.{list_any-append}
@@ -32,9 +32,6 @@ with-has xs n h = by (has_number xs n) refl
     by false there =
         list_any-append (λ m. m == h) xs (n ∷ []) ∙ ap (λ b. has_number xs h || b) (or-none (n == h))
 
-next-hint : (hints : List ℕ) (i : ℕ) → i < length hints → take (i + 1) hints ≡ take i hints ++ get_or hints i 0 ∷ []
-next-hint hints i within = take_more hints i 0 within
-
 pub hint-added : (last : ℕ) (hints : List ℕ) (i : ℕ) (start old new : List ℕ) → i < length hints
     → get_or hints i 0 ≤ last → AddsHints last (take i hints) start old → new ≡ with_number old (get_or hints i 0)
     → AddsHints last (take (i + 1) hints) start new
@@ -42,7 +39,7 @@ hint-added last hints i start old new within low was more =
     let n = get_or hints i 0 in
     let has : (h : ℕ) → has_number new h ≡ (has_number old h || (n == h)) =
     λ h. ap (λ xs. has_number xs h) more ∙ with-has old n h in
-    subst (λ xs. AddsHints last xs start new) (sym (next-hint hints i within)) (record {
+    subst (λ xs. AddsHints last xs start new) (sym (take_more hints i 0 within)) (record {
       kept = λ h there. has h ∙ or_left (has_number old h) (n == h) (was.kept h there);
       all = λ h inside low-h. elim (Contains-push_cases (take i hints) n h inside) [
         | inl before ↦ has h ∙ or_left (has_number old h) (n == h) (was.all h before low-h)
@@ -67,7 +64,7 @@ pub hint-skipped : (last : ℕ) (hints : List ℕ) (i : ℕ) (start old new : Li
     → AddsHints last (take (i + 1) hints) start new
 hint-skipped last hints i start old new within high was same =
     let n = get_or hints i 0 in
-    subst (λ xs. AddsHints last xs start new) (sym (next-hint hints i within))
+    subst (λ xs. AddsHints last xs start new) (sym (take_more hints i 0 within))
     (subst (AddsHints last (take i hints ++ n ∷ []) start) (sym same) (record {
       kept = was.kept;
       all = λ h inside low-h. elim (Contains-push_cases (take i hints) n h inside) [
@@ -139,10 +136,7 @@ pub first-at : (sources : List Source) (hs : List ℕ) (gs : List Goal) (k h : �
 first-at sources [] gs k h all at = cc
 first-at sources (x ∷ hs) [] k h all at = absurd all
 first-at sources (x ∷ hs) (g ∷ gs) zero h all at =
-    (g, (refl, subst (λ n. IsFirstGoal sources n g) (same-one x h at) all.0))
-  where
-    same-one : (a b : ℕ) → Some a ≡ Some b → a ≡ b
-    same-one a b e = cc
+    (g, (refl, subst (λ n. IsFirstGoal sources n g) (same_Some x h at) all.0))
 first-at sources (x ∷ hs) (g ∷ gs) (suc k) h all at = first-at sources hs gs k h all.1 at
 
 pub first-back : (sources : List Source) (hs : List ℕ) (gs : List Goal) (k : ℕ) (d : Goal) → AreFirstGoals sources hs gs

@@ -2,16 +2,15 @@
 use Rattle.std.proofs.Common.{◌≡◌, ℕ, zero, suc, ◌+◌, ◌-◌, ◌/◌, ◌%◌, ◌<◌, ◌≤◌, ◌==◌, Bool, true, false, not, cond, ◌&&◌, inl, inr, List, [], ◌∷◌, map, length, get_or, slice_get, Option, Some, None, is_some, refl, sym, ◌∙◌, ap, subst, arith}
 use Rattle.std.specs.List.{All, Contains, list_any, filter, filter_map}
 use Rattle.std.specs.Option.{option_and_then}
-use Rattle.std.proofs.lemmas.Bool.{true≢false, cases_Bool, cond-false, ne_eqb, or_cases}
+use Rattle.std.proofs.lemmas.Bool.{true≢false, cases_Bool, cond-false, ne_eqb}
 use Rattle.std.proofs.lemmas.Option.{same_Some, option_and_then_some}
 use Rattle.std.proofs.lemmas.List.{map-id}
 use Rattle.std.proofs.lemmas.List.Elements.{All-cons}
 use Rattle.list_laws.proofs.Sequences.{none-gone}
-use Rattle.dq_lits.specs.Literal.{Literal, positive, negative, variable_of, opposite, same_literal, literal_true}
+use Rattle.dq_lits.specs.Literal.{Literal, positive, negative, variable_of, opposite, literal_true}
 use Rattle.dq_lits.specs.Formula.{Dqbf, existential_of, is_universal, IsWellFormed}
 use Rattle.dq_lits.specs.Derivation.{LiveClauses, Status, falsified, unit, stuck, status_of, fault_by, hint_fault, with_clause, IsDerived, ProofStep, line_fault, is_empty, is_tautology, holds}
 use Rattle.dq_lits.specs.Expansion.{instance_at, instance_clause, pair_literal, universal_literal_true, row_assignment}
-use Rattle.dq_lits.proofs.Truth.{same_literal-sound}
 use Rattle.dq_lits.proofs.HeldLiterals.{any_one, filter-holds}
 use Rattle.dq_lits.proofs.SignedLiterals.{opposite_variable}
 use Rattle.dq_lits.proofs.Derivations.{no_step_fault}
@@ -30,7 +29,7 @@ use Rattle.lifted_proofs.specs.Goals.{clause_at, left_by, IsSource}
 use Rattle.lifted_proofs.specs.Carried.{lines_of, IsHinted}
 use Rattle.lifted_proofs.specs.Lines.{paired}
 use Rattle.lifted_proofs.specs.declared.goals.Source.{Source}
-use Rattle.lifted_proofs.proofs.PairedLiterals.{existential-or-universal, paired-holds, opposite-paired}
+use Rattle.lifted_proofs.proofs.PairedLiterals.{existential-or-universal, paired-holds, opposite-paired, bound-in}
 
 abbrev IsPlainClause : LiveClauses → ℕ → Type 0
 IsPlainClause live h = (c : List Literal) × ((live h ≡ Some c) × (is_tautology c ≡ false))
@@ -50,9 +49,6 @@ there-plain (Some c) h = by (is_tautology c) refl h
     by true is h = absurd (true≢false (sym h))
     by false is h = (c, (refl, is))
 
-some-fault : (place : ℕ) → Some place ≡ None → ⊥
-some-fault place h = cc
-
 hints-live : (live : LiveClauses) (trues : List Literal) (place : ℕ) (hints : List ℕ)
     → hint_fault live trues place hints ≡ None → All (λ h. is_some (live h) ≡ true) hints
 hints-live live trues place [] sound = λ k d below. absurd (omega (arith, below))
@@ -65,7 +61,7 @@ hints-live live trues place (h ∷ hs) sound = by (live h) refl sound
     none-left : (hs : List ℕ) → (next : Literal → Option ℕ) → fault_by falsified place hs next ≡ None
         → All (λ i. is_some (live i) ≡ true) hs
     none-left [] next sound = λ k d below. absurd (omega (arith, below))
-    none-left (x ∷ xs) next sound = absurd (some-fault place sound)
+    none-left (x ∷ xs) next sound = cc
 
     by-status : (s : Status) → (hs : List ℕ)
         → fault_by s place hs (λ l. hint_fault live (l ∷ trues) (place + 1) hs) ≡ None
@@ -73,15 +69,17 @@ hints-live live trues place (h ∷ hs) sound = by (live h) refl sound
         → All (λ i. is_some (live i) ≡ true) hs
     by-status falsified hs sound rest = none-left hs (λ l. hint_fault live (l ∷ trues) (place + 1) hs) sound
     by-status (unit l) hs sound rest = rest l sound
-    by-status stuck hs sound rest = absurd (some-fault place sound)
+    by-status stuck hs sound rest = cc
 
     by : (o : Option (List Literal)) → live h ≡ o
         → fault_by (status_of trues (live h)) place hs (λ l. hint_fault live (l ∷ trues) (place + 1) hs) ≡ None
         → ((l : Literal) → hint_fault live (l ∷ trues) (place + 1) hs ≡ None → All (λ i. is_some (live i) ≡ true) hs)
         → All (λ i. is_some (live i) ≡ true) (h ∷ hs)
-    by None is sound rest = absurd (some-fault place
-        (sym (ap (λ o. fault_by (status_of trues o) place hs (λ l. hint_fault live (l ∷ trues) (place + 1) hs)) is)
-        ∙ sound))
+    by None is sound rest =
+        let both : Some place ≡ None =
+        sym (ap (λ o. fault_by (status_of trues o) place hs (λ l. hint_fault live (l ∷ trues) (place + 1) hs)) is)
+        ∙ sound in
+        cc
     by (Some c) is sound rest =
         All-cons (λ i. is_some (live i) ≡ true) h hs (ap (λ (o : Option (List Literal)). is_some o) is)
         (by-status (status_of trues (live h)) hs sound rest)
@@ -99,7 +97,7 @@ derived-hints live literals hints sound =
     λ k d below. there-plain (live (get_or hints k d)) (live-hints k d below)
   where
     only-hints : {o : Option ℕ} → (b : Bool) → cond b (Some 0) o ≡ None → o ≡ None
-    only-hints true h = absurd (some-fault 0 h)
+    only-hints true h = cc
     only-hints false h = h
 
 -- lines with ids from a number on
@@ -201,7 +199,7 @@ plain-source f units rows s row well source none plain =
                 let part : existential_part f (left_by f units s)
                 ≡ existential_part f (left_by f units s) = refl in
                 let some : is_some (existential_of f (variable_of l)) ≡ true =
-                existential-or-universal f l well (bound-in (left_by f units s) l bound here) ∙ ap not other in
+                existential-or-universal f l well (bound-in f (left_by f units s) l bound here) ∙ ap not other in
                 let some' : is_some (existential_of f (variable_of (opposite l))) ≡ true =
                 ap (λ v. is_some (existential_of f v)) (opposite_variable l) ∙ some in
                 let a = paired-holds f rows row (existential_part f (left_by f units s)) l
@@ -216,19 +214,6 @@ plain-source f units rows s row well source none plain =
           ])
     ]
   where
-    bound-in : (xs : List Literal) (l : Literal) → All (IsBound f) xs → holds xs l ≡ true → IsBound f l
-    bound-in xs l all h =
-        let at = literal-at xs l h in
-        subst (IsBound f) at.2 (all at.0 l at.1)
-      where
-        literal-at : (xs : List Literal) (l : Literal) → holds xs l ≡ true
-            → (k : ℕ) × (k < length xs) × (get_or xs k l ≡ l)
-        literal-at [] l h = absurd (true≢false (sym h))
-        literal-at (x ∷ xs) l h = elim (or_cases (same_literal l x) (holds xs l) h) [
-          | inl same ↦ (0, omega arith, sym (same_literal-sound l x same))
-          | inr later ↦ let r = literal-at xs l later in (suc r.0, omega (arith, r.1), r.2)
-        ]
-
     one-true : (l : Literal) → is_universal f (variable_of l) ≡ true → holds (left_by f units s) l ≡ true
         → holds (left_by f units s) (opposite l) ≡ true → ⊥
     one-true l universal here there = elim (cases_Bool (literal_true (row_assignment f row) l)) [

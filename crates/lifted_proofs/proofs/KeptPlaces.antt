@@ -1,8 +1,8 @@
 -- The places of the clauses that are kept, and of those that go.
-use Rattle.std.proofs.Common.{◌≡◌, ◌≢◌, ℕ, zero, suc, ◌+◌, ◌<◌, ◌≤◌, ◌==◌, ◌⊎◌, ◌||◌, Bool, true, false, not, cond, inl, inr, List, [], ◌∷◌, length, Option, Some, None, slice_get, refl, sym, ◌∙◌, ap, subst, arith}
-use Rattle.std.specs.List.{cons_option, filter}
+use Rattle.std.proofs.Common.{◌≡◌, ◌≢◌, ℕ, zero, suc, ◌+◌, ◌<◌, ◌==◌, ◌||◌, Bool, true, false, not, cond, inl, inr, List, [], ◌∷◌, length, Option, Some, None, slice_get, refl, sym, ◌∙◌, ap, subst, arith, is_some, get_or, ◌++◌}
+use Rattle.std.specs.List.{cons_option, filter, Contains, range_with_len, filter_map, All, AllPairs}
 use Rattle.std.proofs.lemmas.Bool.{true≢false, cases_eq, cases_Bool, cond-true, cond-false, eq-eqb, ne_eqb, or_cases, or_left, or_right}
-use Rattle.std.proofs.lemmas.Option.{same_Some}
+use Rattle.std.proofs.lemmas.Option.{same_Some, get_or_from_slice_get, slice_get_within}
 use Rattle.list_laws.proofs.Truths.{not_true}
 use Rattle.dq_lits.specs.Literal.{Literal, opposite, same_literal}
 use Rattle.dq_lits.specs.Formula.{Dqbf}
@@ -17,7 +17,14 @@ use Rattle.dq_prep.specs.Simplified.{taken_at, kept_clause, kept_clauses}
 use Rattle.dq_prep.proofs.Units.{part-holds}
 use Rattle.dq_prep.proofs.ToldValues.{unit-fresh}
 use Rattle.dq_prep.proofs.SignedLiterals.{not-same}
-use Rattle.lifted_proofs.specs.KeptPlaces.{IsPart, all_gone, here, gone_one, kept_place, dropped_place, kept_places, dropped_places}
+use Rattle.lifted_proofs.specs.Goals.{clause_at}
+use Rattle.lifted_proofs.specs.KeptPlaces.{IsPart, all_gone, here, gone_one, kept_places, places_of, kept_at}
+use Rattle.std.proofs.lemmas.List.FromFn.{get_or-range_with_len, length-range_with_len}
+use Rattle.list_laws.proofs.Members.{filter_keeps, place_of, place_within}
+use Rattle.std.proofs.lemmas.List.Elements.{filter-append, All-filter, filter_passes}
+use Rattle.std.specs.Bool.{beq}
+use Rattle.list_laws.proofs.Numbers.{range_more}
+use Rattle.std.proofs.lemmas.List.Kept.{AllPairs-filter}
 
 part-filter : (p : Literal → Bool) (ys : List Literal) → IsPart (filter p ys) ys
 part-filter p [] = all_gone
@@ -172,209 +179,118 @@ left-is f units place clause left are at kept = by (is_satisfied trues clause) k
 
 -- ---- the places
 
--- a place behind a first one, with its clause and what is kept of it
-pub record IsKeptAt (f : Dqbf) (units : List Taken) (first : ℕ) (clauses : List (List Literal)) (j p : ℕ) : Type 0 where
-  pub offset : ℕ
-  pub place : p ≡ first + offset
-  pub clause : List Literal
-  pub at : slice_get clauses offset ≡ Some clause
-  pub left : List Literal
-  pub kept : kept_clause f units p clause ≡ Some left
-  pub left_at : slice_get (kept_clauses f units first clauses) j ≡ Some left
-
-abbrev KeptLater : Dqbf → List Taken → ℕ → List (List Literal) → ℕ → Type 0
-KeptLater f units first clauses p = (i : ℕ) → slice_get (kept_places f units first clauses) i ≡ Some p
-    → IsKeptAt f units first clauses i p
-
-pub kept-at : (f : Dqbf) (units : List Taken) (first : ℕ) (clauses : List (List Literal)) (j p : ℕ)
-    → slice_get (kept_places f units first clauses) j ≡ Some p → IsKeptAt f units first clauses j p
-kept-at f units first [] j p at = cc
-kept-at f units first (c ∷ cs) j p at =
-    by (λ i. kept-at f units (suc first) cs i p) (kept_clause f units first c) refl j at
-  where
-    later : KeptLater f units (suc first) cs p → (o : Option (List Literal)) (i k : ℕ) → kept_clause f units first c ≡ o
-        → slice_get (kept_clauses f units (suc first) cs) i ≡ slice_get (cons_option o (kept_clauses f units (suc first) cs)) k
-        → slice_get (kept_places f units (suc first) cs) i ≡ Some p → IsKeptAt f units first (c ∷ cs) k p
-    later more o i k e same there =
-        let rest = more i there in
-        record {
-          offset = suc rest.offset;
-          place = omega (arith, rest.place);
-          clause = rest.clause;
-          at = rest.at;
-          left = rest.left;
-          kept = rest.kept;
-          left_at = ap (λ x. slice_get (cons_option x (kept_clauses f units (suc first) cs)) k) e ∙ sym same
-              ∙ rest.left_at;
-        }
-
-    by : KeptLater f units (suc first) cs p → (o : Option (List Literal)) → kept_clause f units first c ≡ o → (k : ℕ)
-        → slice_get (cons_option (kept_place first o) (kept_places f units (suc first) cs)) k ≡ Some p
-        → IsKeptAt f units first (c ∷ cs) k p
-    by more None e k there = later more None k k e refl there
-    by more (Some left) e zero there =
-        let same : first ≡ p = same_Some first p there in
-        record {
-          offset = 0;
-          place = omega (arith, same);
-          clause = c;
-          at = refl;
-          left = left;
-          kept = ap (λ n. kept_clause f units n c) (sym same) ∙ e;
-          left_at = ap (λ x. slice_get (cons_option x (kept_clauses f units (suc first) cs)) 0) e;
-        }
-    by more (Some left) e (suc k) there = later more (Some left) k (suc k) e refl there
-
-pub as-many : (f : Dqbf) (units : List Taken) (first : ℕ) (clauses : List (List Literal))
-    → length (kept_places f units first clauses) ≡ length (kept_clauses f units first clauses)
-as-many f units first [] = refl
-as-many f units first (c ∷ cs) = by (kept_clause f units first c) (as-many f units (suc first) cs)
-  where
-    by : (o : Option (List Literal))
-        → length (kept_places f units (suc first) cs) ≡ length (kept_clauses f units (suc first) cs)
-        → length (cons_option (kept_place first o) (kept_places f units (suc first) cs))
-        ≡ length (cons_option o (kept_clauses f units (suc first) cs))
-    by None e = e
-    by (Some left) e = ap suc e
-
-pub record IsDroppedAt (f : Dqbf) (units : List Taken) (first : ℕ) (clauses : List (List Literal)) (p : ℕ)
-    : Type 0 where
-  pub offset : ℕ
-  pub place : p ≡ first + offset
-  pub clause : List Literal
-  pub at : slice_get clauses offset ≡ Some clause
-  pub dropped : kept_clause f units p clause ≡ None
-
-abbrev DroppedLater : Dqbf → List Taken → ℕ → List (List Literal) → ℕ → Type 0
-DroppedLater f units first clauses p = (i : ℕ) → slice_get (dropped_places f units first clauses) i ≡ Some p
-    → IsDroppedAt f units first clauses p
-
-pub dropped-at : (f : Dqbf) (units : List Taken) (first : ℕ) (clauses : List (List Literal)) (j p : ℕ)
-    → slice_get (dropped_places f units first clauses) j ≡ Some p → IsDroppedAt f units first clauses p
-dropped-at f units first [] j p at = cc
-dropped-at f units first (c ∷ cs) j p at =
-    by (λ i. dropped-at f units (suc first) cs i p) (kept_clause f units first c) refl j at
-  where
-    later : IsDroppedAt f units (suc first) cs p → IsDroppedAt f units first (c ∷ cs) p
-    later rest =
-        record {
-          offset = suc rest.offset;
-          place = omega (arith, rest.place);
-          clause = rest.clause;
-          at = rest.at;
-          dropped = rest.dropped;
-        }
-
-    by : DroppedLater f units (suc first) cs p → (o : Option (List Literal)) → kept_clause f units first c ≡ o → (k : ℕ)
-        → slice_get (cons_option (dropped_place first o) (dropped_places f units (suc first) cs)) k ≡ Some p
-        → IsDroppedAt f units first (c ∷ cs) p
-    by more (Some left) e k there = later (more k there)
-    by more None e zero there =
-        let same : first ≡ p = same_Some first p there in
-        record {
-          offset = 0;
-          place = omega (arith, same);
-          clause = c;
-          at = refl;
-          dropped = ap (λ n. kept_clause f units n c) (sym same) ∙ e;
-        }
-    by more None e (suc k) there = later (more k there)
-
--- a dropped clause is satisfied
-pub dropped-true : (f : Dqbf) (units : List Taken) (place : ℕ) (clause : List Literal)
-    → kept_clause f units place clause ≡ None → is_satisfied (taken_literals units) clause ≡ true
-dropped-true f units place clause none = by (is_satisfied (taken_literals units) clause) none
-  where
-    by : (b : Bool) → cond b (taken_at place units) (Some (left_of f (taken_literals units) clause)) ≡ None → b ≡ true
-    by true h = refl
-    by false h = cc
-
 -- a number stands in a list of them
 abbrev pub StandsIn : List ℕ → ℕ → Type 0
 StandsIn ps p = (j : ℕ) × (slice_get ps j ≡ Some p)
 
-stands-behind : (o : Option ℕ) (ps : List ℕ) (p : ℕ) → StandsIn ps p → StandsIn (cons_option o ps) p
-stands-behind None ps p it = it
-stands-behind (Some x) ps p it = (suc it.0, it.1)
+range-distinct : (a n : ℕ) → AllPairs (λ i j. i ≢ j) (range_with_len a n)
+range-distinct a n i j d before within same =
+    omega (arith, before, within, length-range_with_len a n, same, get_or-range_with_len a n i d, get_or-range_with_len a n j d)
 
-pub each-place : (f : Dqbf) (units : List Taken) (first : ℕ) (clauses : List (List Literal)) (offset : ℕ)
-    → offset < length clauses
-    → StandsIn (kept_places f units first clauses) (first + offset)
-    ⊎ StandsIn (dropped_places f units first clauses) (first + offset)
-each-place f units first [] offset below = absurd (omega (arith, below))
-each-place f units first (c ∷ cs) zero below = by (kept_clause f units first c)
+pub range-more : (count : ℕ) → range_with_len 0 (count + 1) ≡ range_with_len 0 count ++ count ∷ []
+range-more count =
+    let next : count + 1 ≡ suc count = omega arith in
+    let last : 0 + count ≡ count = omega arith in
+    ap (range_with_len 0) next ∙ range_more 0 count ∙ ap (λ n. range_with_len 0 count ++ n ∷ []) last
+
+module _ (f : Dqbf) (units : List Taken) (kept : Bool) where
+  abbrev chosen : ℕ → Bool
+  chosen p = beq (is_some (kept_at f units p)) kept
+
+  pub place-in : (count j p : ℕ) → slice_get (places_of f units kept count) j ≡ Some p
+      → (p < count) × (is_some (kept_at f units p) ≡ kept)
+  place-in count j p at =
+      let ps = places_of f units kept count in
+      let within = slice_get_within ps j p at in
+      let is = get_or_from_slice_get ps j p 0 at in
+      let all : All (λ x. x < count) (range_with_len 0 count) = λ i d below.
+      omega (arith, below, length-range_with_len 0 count, get_or-range_with_len 0 count i d) in (
+        subst (λ x. x < count) is (All-filter chosen (λ x. x < count) (range_with_len 0 count) all j 0 within),
+        by (is_some (kept_at f units p)) kept
+            (subst (λ x. chosen x ≡ true) is (filter_passes chosen (range_with_len 0 count) j 0 within)),
+      )
+    where
+      by : (a b : Bool) → beq a b ≡ true → a ≡ b
+      by a b h = grind arith
+
+  pub place-there : (count p : ℕ) → p < count → is_some (kept_at f units p) ≡ kept
+      → StandsIn (places_of f units kept count) p
+  place-there count p below is =
+      place_of (places_of f units kept count) p
+      (filter_keeps chosen (range_with_len 0 count) p (by (is_some (kept_at f units p)) kept is)
+      (subst (Contains (range_with_len 0 count)) (omega arith) (place_within 0 count p below)))
+    where
+      by : (a b : Bool) → a ≡ b → beq a b ≡ true
+      by a b h = grind arith
+
+  pub places-distinct : (count : ℕ) → AllPairs (λ i j. i ≢ j) (places_of f units kept count)
+  places-distinct count = AllPairs-filter (λ i j. i ≢ j) chosen (range_with_len 0 count) (range-distinct 0 count)
+
+  -- one clause more
+  pub places-more : (count : ℕ) → places_of f units kept (count + 1)
+      ≡ places_of f units kept count ++ cond (beq (is_some (kept_at f units count)) kept) (count ∷ []) []
+  places-more count =
+      ap (filter chosen) (range-more count) ∙ filter-append chosen (range_with_len 0 count) (count ∷ [])
+
+-- what is kept, by the places of clauses
+kept-from : (f : Dqbf) (units : List Taken) (first : ℕ) (clauses : List (List Literal))
+    → ((i : ℕ) → i < length clauses → get_or clauses i [] ≡ clause_at f (first + i))
+    → kept_clauses f units first clauses ≡ filter_map (kept_at f units) (range_with_len first (length clauses))
+kept-from f units first [] same = refl
+kept-from f units first (c ∷ cs) same =
+    let here' : c ≡ clause_at f first = same 0 (omega arith) ∙ ap (clause_at f) (omega arith) in
+    ap (λ x. cons_option (kept_clause f units first x) (kept_clauses f units (suc first) cs)) here'
+    ∙ ap (cons_option (kept_at f units first))
+    (kept-from f units (suc first) cs (λ i below. same (suc i) (omega (arith, below)) ∙ ap (clause_at f) (omega arith))
+    ∙ ap (λ n. filter_map (kept_at f units) (range_with_len n (length cs))) (omega arith))
+
+pub kept-are : (f : Dqbf) (units : List Taken)
+    → kept_clauses f units 0 f.matrix ≡ filter_map (kept_at f units) (range_with_len 0 (length f.matrix))
+kept-are f units = kept-from f units 0 f.matrix (λ i below. ap (clause_at f) (omega arith))
+
+module _ (f : Dqbf) (units : List Taken) where
+  abbrev kept_of : List ℕ → List ℕ
+  kept_of ps = filter (λ p. beq (is_some (kept_at f units p)) true) ps
+
+  at-same : (ps : List ℕ) (j p : ℕ) → slice_get (kept_of ps) j ≡ Some p
+      → slice_get (filter_map (kept_at f units) ps) j ≡ kept_at f units p
+  at-same [] j p at = cc
+  at-same (q ∷ qs) j p at = by (kept_at f units q) refl j at (λ i. at-same qs i p)
+    where
+      by : (o : Option (List Literal)) → kept_at f units q ≡ o → (j : ℕ)
+          → slice_get (cond (beq (is_some o) true) (q ∷ kept_of qs) (kept_of qs)) j ≡ Some p
+          → ((i : ℕ) → slice_get (kept_of qs) i ≡ Some p
+          → slice_get (filter_map (kept_at f units) qs) i ≡ kept_at f units p)
+          → slice_get (cons_option (kept_at f units q) (filter_map (kept_at f units) qs)) j ≡ kept_at f units p
+      by None e j at later = rw e (later j at)
+      by (Some left) e zero at later = rw e (sym e ∙ ap (kept_at f units) cc)
+      by (Some left) e (suc j) at later = rw e (later j at)
+
+  as-long : (ps : List ℕ) → length (kept_of ps) ≡ length (filter_map (kept_at f units) ps)
+  as-long [] = refl
+  as-long (q ∷ qs) = by (kept_at f units q) (as-long qs)
+    where
+      by : (o : Option (List Literal)) → length (kept_of qs) ≡ length (filter_map (kept_at f units) qs)
+          → length (cond (beq (is_some o) true) (q ∷ kept_of qs) (kept_of qs))
+          ≡ length (cons_option o (filter_map (kept_at f units) qs))
+      by None e = e
+      by (Some left) e = ap suc e
+
+  pub as-many : length (kept_places f units) ≡ length (kept_clauses f units 0 f.matrix)
+  as-many = as-long (range_with_len 0 (length f.matrix)) ∙ ap (λ (cs : List (List Literal)). length cs)
+      (sym (kept-are f units))
+
+  pub left-at : (j p : ℕ) → slice_get (kept_places f units) j ≡ Some p
+      → slice_get (kept_clauses f units 0 f.matrix) j ≡ kept_at f units p
+  left-at j p at = ap (λ cs. slice_get cs j) (kept-are f units) ∙ at-same (range_with_len 0 (length f.matrix)) j p at
+
+-- a dropped clause is satisfied
+pub dropped-true : (f : Dqbf) (units : List Taken) (place : ℕ) → is_some (kept_at f units place) ≡ false
+    → is_satisfied (taken_literals units) (clause_at f place) ≡ true
+dropped-true f units place none = by (is_satisfied (taken_literals units) (clause_at f place)) none
   where
-    by : (o : Option (List Literal))
-        → StandsIn (cons_option (kept_place first o) (kept_places f units (suc first) cs)) (first + 0)
-        ⊎ StandsIn (cons_option (dropped_place first o) (dropped_places f units (suc first) cs)) (first + 0)
-    by None = inr (0, ap Some (omega arith))
-    by (Some left) = inl (0, ap Some (omega arith))
-each-place f units first (c ∷ cs) (suc offset) below =
-    let next : suc first + offset ≡ first + suc offset = omega arith in
-    elim (each-place f units (suc first) cs offset (omega (arith, below))) [
-      | inl kept ↦
-          inl (stands-behind (kept_place first (kept_clause f units first c)) (kept_places f units (suc first) cs)
-          (first + suc offset) (subst (StandsIn (kept_places f units (suc first) cs)) next kept))
-      | inr gone ↦
-          inr (stands-behind (dropped_place first (kept_clause f units first c)) (dropped_places f units (suc first) cs)
-          (first + suc offset) (subst (StandsIn (dropped_places f units (suc first) cs)) next gone))
-    ]
-
-pub not-both : (f : Dqbf) (units : List Taken) (first : ℕ) (clauses : List (List Literal)) (p : ℕ)
-    → StandsIn (kept_places f units first clauses) p → StandsIn (dropped_places f units first clauses) p → ⊥
-not-both f units first clauses p kept gone =
-    let k = kept-at f units first clauses kept.0 p kept.1 in
-    let d = dropped-at f units first clauses gone.0 p gone.1 in
-    let same : k.offset ≡ d.offset = omega (arith, k.place, d.place) in
-    let clause : k.clause ≡ d.clause = same_Some k.clause d.clause
-    (sym k.at ∙ ap (slice_get clauses) same ∙ d.at) in
-    nothing k.left (sym k.kept ∙ ap (kept_clause f units p) clause ∙ d.dropped)
-  where
-    nothing : (left : List Literal) → Some left ≡ None → ⊥
-    nothing left h = cc
-
--- each number is greater than the ones before it
-abbrev pub AreAscending : ℕ → List ℕ → Type 0
-AreAscending first [] = Unit {0}
-AreAscending first (p ∷ ps) = (first ≤ p) × AreAscending (suc p) ps
-
-ascend-from : (a b : ℕ) (ps : List ℕ) → a ≤ b → AreAscending b ps → AreAscending a ps
-ascend-from a b [] less all = tt
-ascend-from a b (p ∷ ps) less all = (omega (arith, less, all.0), all.1)
-
-pub kept-ascend : (f : Dqbf) (units : List Taken) (first : ℕ) (clauses : List (List Literal))
-    → AreAscending first (kept_places f units first clauses)
-kept-ascend f units first [] = tt
-kept-ascend f units first (c ∷ cs) = by (kept_clause f units first c) (kept-ascend f units (suc first) cs)
-  where
-    by : (o : Option (List Literal)) → AreAscending (suc first) (kept_places f units (suc first) cs)
-        → AreAscending first (cons_option (kept_place first o) (kept_places f units (suc first) cs))
-    by None all = ascend-from first (suc first) (kept_places f units (suc first) cs) (omega arith) all
-    by (Some left) all = (omega arith, all)
-
-pub dropped-ascend : (f : Dqbf) (units : List Taken) (first : ℕ) (clauses : List (List Literal))
-    → AreAscending first (dropped_places f units first clauses)
-dropped-ascend f units first [] = tt
-dropped-ascend f units first (c ∷ cs) = by (kept_clause f units first c) (dropped-ascend f units (suc first) cs)
-  where
-    by : (o : Option (List Literal)) → AreAscending (suc first) (dropped_places f units (suc first) cs)
-        → AreAscending first (cons_option (dropped_place first o) (dropped_places f units (suc first) cs))
-    by None all = (omega arith, all)
-    by (Some left) all = ascend-from first (suc first) (dropped_places f units (suc first) cs) (omega arith) all
-
-pub from-first : (first : ℕ) (ps : List ℕ) (j p : ℕ) → AreAscending first ps → slice_get ps j ≡ Some p → first ≤ p
-from-first first [] j p all at = cc
-from-first first (x ∷ xs) zero p all at = subst (λ n. first ≤ n) (same_Some x p at) all.0
-from-first first (x ∷ xs) (suc j) p all at =
-    omega (arith, all.0, from-first (suc x) xs j p all.1 at)
-
-pub stands-once : (first : ℕ) (ps : List ℕ) (i j p : ℕ) → AreAscending first ps → slice_get ps i ≡ Some p
-    → slice_get ps j ≡ Some p → i ≡ j
-stands-once first [] i j p all at-i at-j = cc
-stands-once first (x ∷ xs) zero zero p all at-i at-j = refl
-stands-once first (x ∷ xs) zero (suc j) p all at-i at-j =
-    absurd (omega (arith, same_Some x p at-i, from-first (suc x) xs j p all.1 at-j))
-stands-once first (x ∷ xs) (suc i) zero p all at-i at-j =
-    absurd (omega (arith, same_Some x p at-j, from-first (suc x) xs i p all.1 at-i))
-stands-once first (x ∷ xs) (suc i) (suc j) p all at-i at-j =
-    ap suc (stands-once (suc x) xs i j p all.1 at-i at-j)
+    by : (b : Bool)
+        → is_some (cond b (taken_at place units) (Some (left_of f (taken_literals units) (clause_at f place)))) ≡ false
+        → b ≡ true
+    by true h = refl
+    by false h = cc

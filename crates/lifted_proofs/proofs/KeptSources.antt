@@ -1,9 +1,9 @@
 -- Where what is kept of clauses comes from.
-use Rattle.std.proofs.Common.{◌≡◌, ◌≢◌, ℕ, suc, ◌+◌, ◌<◌, ◌==◌, Bool, true, false, inl, inr, List, [], ◌∷◌, ◌++◌, take, length, slice_get, reverse, Option, Some, None, refl, sym, ◌∙◌, ap, subst, arith}
-use Rattle.std.specs.List.{Contains, cons_option}
+use Rattle.std.proofs.Common.{◌≡◌, ◌≢◌, ℕ, suc, ◌+◌, ◌<◌, ◌==◌, Bool, true, false, inl, inr, List, [], ◌∷◌, ◌++◌, length, slice_get, reverse, Option, Some, None, refl, sym, ◌∙◌, ap, subst, arith}
+use Rattle.std.specs.List.{Contains, cons_option, range_with_len, filter_map}
 use Rattle.std.proofs.lemmas.Bool.{cond-true, cond-false, ne_eqb}
 use Rattle.std.proofs.lemmas.Option.{slice_get_within, slice_get-get_or, get_or_from_slice_get}
-use Rattle.std.proofs.lemmas.List.{length-append, length-take, take_more, take_all, append-nil}
+use Rattle.std.proofs.lemmas.List.{length-append, take_all, append-nil}
 use Rattle.std.proofs.lemmas.List.Sorted.{Contains-permutation, IsPermutation-reverse, IsPermutation-sym}
 use Rattle.list_laws.proofs.Elements.{last_or_before, last_there}
 use Rattle.dq_lits.specs.Literal.{Literal, opposite}
@@ -12,7 +12,7 @@ use Rattle.dq_lits.specs.Derivation.{holds}
 use Rattle.dq_lits.proofs.SignedLiterals.{opposite-opposite}
 use Rattle.dq_prep.specs.declared.traces.Taken.{Taken}
 use Rattle.dq_prep.specs.Units.{AreUnits, taken_literals, is_satisfied, left_of}
-use Rattle.dq_prep.specs.Simplified.{taken_at, kept_clause, kept_clauses}
+use Rattle.dq_prep.specs.Simplified.{taken_at}
 use Rattle.dq_prep.proofs.Units.{get-at, unit-taken}
 use Rattle.lifted_proofs.specs.UnitTables.{first_literals, IsFalseBy}
 use Rattle.lifted_proofs.specs.Goals.{clause_at, IsSource, left_by}
@@ -21,6 +21,9 @@ use Rattle.lifted_proofs.specs.Sources.{TellsTaken, IsSourceAt}
 use Rattle.lifted_proofs.specs.declared.goals.Source.{Source}
 use Rattle.lifted_proofs.proofs.TakenUnits.{unit-at, first-holds}
 use Rattle.lifted_proofs.proofs.AskedGoals.{keeps-more}
+use Rattle.std.proofs.lemmas.List.Elements.{filter_map-append}
+use Rattle.lifted_proofs.specs.KeptPlaces.{kept_at}
+use Rattle.lifted_proofs.proofs.KeptPlaces.{range-more}
 
 pub taken-by : (units : List Taken) (l k : Literal) (o : Option ℕ) → k ≡ opposite l
     → IsFalseBy units (length units) k o → (o ≡ None → holds (first_literals units (length units)) l ≡ false)
@@ -90,44 +93,24 @@ source-none f units place b is yes-is none =
     (IsPermutation-reverse units)) inside in
     none r.0 u r.1 (slice_get-get_or units r.0 u r.1 ∙ ap Some r.2))
 
--- what is kept of one more clause
-kept-append : (f : Dqbf) (units : List Taken) (place : ℕ) (clauses : List (List Literal)) (clause : List Literal)
-    → kept_clauses f units place (clauses ++ clause ∷ [])
-    ≡ kept_clauses f units place clauses ++ cons_option (kept_clause f units (place + length clauses) clause) []
-kept-append f units place [] clause = ap (λ p. cons_option (kept_clause f units p clause) []) (omega arith)
-kept-append f units place (c ∷ cs) clause =
-    ap (cons_option (kept_clause f units place c)) (kept-append f units (suc place) cs clause)
-    ∙ joined (kept_clause f units place c) (kept_clauses f units (suc place) cs)
-    (cons_option (kept_clause f units (suc place + length cs) clause) [])
-    ∙ ap (λ p. cons_option (kept_clause f units place c) (kept_clauses f units (suc place) cs)
-    ++ cons_option (kept_clause f units p clause) []) (omega arith)
-  where
-    joined : (o : Option (List Literal)) (xs ys : List (List Literal))
-        → cons_option o (xs ++ ys) ≡ cons_option o xs ++ ys
-    joined None xs ys = refl
-    joined (Some d) xs ys = refl
-
+-- what is kept of the first clauses
 abbrev pub kept_first : Dqbf → List Taken → ℕ → List (List Literal)
-kept_first f units place = kept_clauses f (reverse units) 0 (take place f.matrix)
+kept_first f units place = filter_map (kept_at f (reverse units)) (range_with_len 0 place)
 
-kept-next : (f : Dqbf) (units : List Taken) (place : ℕ) → place < length f.matrix
-    → kept_first f units (place + 1)
-    ≡ kept_first f units place ++ cons_option (kept_clause f (reverse units) place (clause_at f place)) []
-kept-next f units place within =
-    ap (kept_clauses f (reverse units) 0) (take_more f.matrix place [] within)
-    ∙ kept-append f (reverse units) 0 (take place f.matrix) (clause_at f place)
-    ∙ ap (λ p. kept_first f units place ++ cons_option (kept_clause f (reverse units) p (clause_at f place)) [])
-    (omega (arith, length-take place f.matrix, within))
+kept-next : (f : Dqbf) (units : List Taken) (place : ℕ)
+    → kept_first f units (place + 1) ≡ kept_first f units place ++ cons_option (kept_at f (reverse units) place) []
+kept-next f units place =
+    ap (filter_map (kept_at f (reverse units))) (range-more place)
+    ∙ filter_map-append (kept_at f (reverse units)) (range_with_len 0 place) (place ∷ [])
 
 pub sources-more : (f : Dqbf) (units : List Taken) (place : ℕ) (s : Source) (sources new : List Source)
-    → place < length f.matrix → IsSourceAt f units place (Some s)
-    → AreSources f units (kept_first f units place) sources → new ≡ sources ++ s ∷ []
+    → IsSourceAt f units place (Some s) → AreSources f units (kept_first f units place) sources → new ≡ sources ++ s ∷ []
     → AreSources f units (kept_first f units (place + 1)) new
-sources-more f units place s sources new within at was more =
+sources-more f units place s sources new at was more =
     let left = left_by f units s in
     let front = kept_first f units place in
     let next : kept_first f units (place + 1) ≡ front ++ left ∷ [] =
-    kept-next f units place within ∙ ap (λ o. front ++ cons_option o []) at.1 in
+    kept-next f units place ∙ ap (λ o. front ++ cons_option o []) at.1 in
     subst (AreSources f units (kept_first f units (place + 1))) (sym more)
     (subst (λ ks. AreSources f units ks (sources ++ s ∷ [])) (sym next) (record {
       many = length-append sources (s ∷ []) ∙ ap (λ n. n + 1) was.many ∙ sym (length-append front (left ∷ []));
@@ -144,12 +127,11 @@ sources-more f units place s sources new within at was more =
     }))
 
 pub sources-same : (f : Dqbf) (units : List Taken) (place : ℕ) (sources new : List Source)
-    → place < length f.matrix → IsSourceAt f units place None
-    → AreSources f units (kept_first f units place) sources → new ≡ sources
+    → IsSourceAt f units place None → AreSources f units (kept_first f units place) sources → new ≡ sources
     → AreSources f units (kept_first f units (place + 1)) new
-sources-same f units place sources new within none was same =
+sources-same f units place sources new none was same =
     let next : kept_first f units (place + 1) ≡ kept_first f units place =
-    kept-next f units place within ∙ ap (λ o. kept_first f units place ++ cons_option o []) none
+    kept-next f units place ∙ ap (λ o. kept_first f units place ++ cons_option o []) none
     ∙ append-nil (kept_first f units place) in
     subst (AreSources f units (kept_first f units (place + 1))) (sym same)
     (subst (λ ks. AreSources f units ks sources) (sym next) was)

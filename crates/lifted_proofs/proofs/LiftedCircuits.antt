@@ -1,5 +1,5 @@
 -- The circuit of the simpler formula, settled, serves the formula as its lifted proof shows.
-use Rattle.std.proofs.Common.{◌≡◌, ℕ, ◌+◌, ◌^◌, ◌≤◌, ◌<◌, nat_le, true, false, List, [], ◌∷◌, ◌++◌, map, length, get_or, reverse, None, Ok, Err, Result, refl, sym, ◌∙◌, ap, subst, arith}
+use Rattle.std.proofs.Common.{◌≡◌, ℕ, ◌+◌, ◌^◌, ◌≤◌, ◌<◌, nat_le, false, List, [], ◌∷◌, ◌++◌, map, length, get_or, reverse, None, Ok, Err, Result, refl, sym, ◌∙◌, ap, subst, arith}
 use Rattle.std.specs.List.{All, sum_by}
 use Rattle.std.proofs.lemmas.Bool.{and_parts, leb-true}
 use Rattle.std.proofs.lemmas.List.{length-map, take_all, get_or_default}
@@ -244,7 +244,7 @@ kept-small l it k d below =
 pub many-kept : (l : Lifting) → IsLifting l → length l.kept.items ≡ length l.bench.now.formula.matrix
 many-kept l it =
     ap (λ (ps : List ℕ). length ps) it.kept
-    ∙ as-many (formula_of l) (units_of l) 0 (formula_of l).matrix
+    ∙ as-many (formula_of l) (units_of l)
     ∙ sym (ap (λ (g : Dqbf). length g.matrix) it.can.left)
 
 all-named : (l : Lifting) (w : Named) → IsLifting l → AreFirstNamed l (length l.kept.items) w
@@ -298,7 +298,7 @@ carried-small l w c p it named allowed largest places few =
 
 pub all-lines : (l : Lifting) (w : Named) (front all : List ProofStep) (c : Carrying) (p : Dqp) → IsLifting l
     → AreFirstNamed l (length l.kept.items) w
-    → AddsSomeFalse l (dropped_places (formula_of l) (units_of l) 0 (formula_of l).matrix) w.steps front
+    → AddsSomeFalse l (dropped_places (formula_of l) (units_of l)) w.steps front
     → IsDqpOf l.bench.now.formula l.bench.now.circuit.netlist p → circuit_proof_fault l.bench.now p.items ≡ None
     → c ≡ carrying_of (formula_of l) (units_of l) l.bench.now w.ids.items w.steps
     → all ≡ front ++ map (carried_line c) (lines_of p.items) → length all ≤ max_count

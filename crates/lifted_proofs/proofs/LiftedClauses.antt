@@ -1,5 +1,5 @@
 -- The clauses of what is left, as clauses of the formula over the settled circuit.
-use Rattle.std.proofs.Common.{◌≡◌, ℕ, zero, suc, ◌+◌, ◌-◌, ◌*◌, ◌<◌, ◌≤◌, ◌⊎◌, true, false, inl, inr, List, [], ◌∷◌, map, length, get_or, Some, None, slice_get, refl, sym, ◌∙◌, ap, subst, arith}
+use Rattle.std.proofs.Common.{◌≡◌, ℕ, zero, suc, ◌+◌, ◌*◌, ◌<◌, ◌≤◌, ◌⊎◌, true, false, inl, inr, List, [], ◌∷◌, map, length, get_or, Some, None, slice_get, refl, sym, ◌∙◌, ap, subst, arith}
 use Rattle.std.specs.List.{range_with_len, sum_by}
 use Rattle.std.proofs.lemmas.Bool.{true≢false, cases_Bool}
 use Rattle.std.proofs.lemmas.Option.{slice_get_within, same_Some, slice_get-get_or}
@@ -13,13 +13,14 @@ use Rattle.dq_prep.specs.declared.traces.Taken.{Taken}
 use Rattle.dq_prep.specs.Units.{taken_literals}
 use Rattle.skolem_checker.specs.Checks.{Candidate}
 use Rattle.proof_checker.specs.CircuitProof.{negated_candidate, circuit_literal}
+use Rattle.proof_checker.proofs.ShortenedClauses.{range_clause}
 use Rattle.lifted_proofs.specs.CarriedProofs.{carried_variable}
 use Rattle.lifted_proofs.specs.KeptPlaces.{kept_places}
 use Rattle.lifted_proofs.specs.Liftables.{falsity, is_false as false_at, IsLiteralId, IsLiftable, lifted_base, lifted_literal, left_falsities}
 use Rattle.lifted_proofs.specs.SettledCircuits.{settled_candidate}
 use Rattle.lifted_proofs.proofs.CarriedProofs.{carried-circuit, carried-clause}
 use Rattle.lifted_proofs.proofs.KeptPlaces.{units-agree}
-use Rattle.lifted_proofs.proofs.NegatedIds.{Stands, is_false, is_true, is_free, stands-by, at-literal, literal-before, falsity-false, falsity-true, falsity-free, in-gates, in-falsity, in-last, behind-all, last-clause, AreOn, gate-clause-fits, literal-fits, opposite-fits}
+use Rattle.lifted_proofs.proofs.NegatedIds.{Stands, is_false, is_true, is_free, stands-by, at-literal, literal-before, falsity-false, falsity-true, falsity-free, in-gates, in-falsity, in-last, behind-all, AreOn, gate-clause-fits, literal-fits, opposite-fits}
 use Rattle.lifted_proofs.proofs.SettledOutputs.{literal-same, literal-settled, unit-output, literal-in-range}
 
 -- a circuit's literals stay
@@ -69,10 +70,10 @@ module _ (f : Dqbf) (units : List Taken) (c : Candidate) (can : IsLiftable f uni
       (literal-settled f trues c l (unit-output f units c l can.well can.units_are can.mapped held) held
       (units-agree f units l can.units_are held))
 
-  named-at : (j p : ℕ) → slice_get (kept_places f units 0 f.matrix) j ≡ Some p
+  named-at : (j p : ℕ) → slice_get (kept_places f units) j ≡ Some p
       → to (negative (largest + 1 + j)) ≡ negative (largest + 1 + p)
   named-at j p at = ap negative
-      (carried-clause largest (length f.matrix) (kept_places f units 0 f.matrix) (largest + 1 + j) j p refl at)
+      (carried-clause largest (length f.matrix) (kept_places f units) (largest + 1 + j) j p refl at)
 
   fits : (l : Literal) → was l ≤ 2 * largest + 1
   fits l = literal-in-range c.circuit l can.lawful
@@ -80,12 +81,12 @@ module _ (f : Dqbf) (units : List Taken) (c : Candidate) (can : IsLiftable f uni
   other-stays : (l : Literal) → to (as_literal (opposite_of (was l))) ≡ as_literal (opposite_of (was l))
   other-stays l =
       let m = as_literal (opposite_of (was l)) in
-      on-same (carried_variable largest (length f.matrix) (kept_places f units 0 f.matrix) (variable_of m)) m
-      (carried-circuit largest (length f.matrix) (kept_places f units 0 f.matrix) (variable_of m)
+      on-same (carried_variable largest (length f.matrix) (kept_places f units) (variable_of m)) m
+      (carried-circuit largest (length f.matrix) (kept_places f units) (variable_of m)
       (literal-fits (opposite_of (was l)) largest (opposite-fits (was l) largest (fits l))))
 
   -- by what the literal stood for
-  old-free : (j p : ℕ) (l : Literal) (clause : List Literal) → slice_get (kept_places f units 0 f.matrix) j ≡ Some p
+  old-free : (j p : ℕ) (l : Literal) (clause : List Literal) → slice_get (kept_places f units) j ≡ Some p
       → 2 ≤ was l → without_constants (falsity (circuit_literal c.circuit) (largest + 1 + j) l) ≡ Some clause
       → negative (largest + 1 + p) ∷ as_literal (opposite_of (was l)) ∷ [] ≡ map to clause
   old-free j p l clause at free is =
@@ -96,7 +97,7 @@ module _ (f : Dqbf) (units : List Taken) (c : Candidate) (can : IsLiftable f uni
       ∙ ap (λ k. to (negative (largest + 1 + j)) ∷ k ∷ []) (sym (other-stays l))
       ∙ ap (map to) own
 
-  old-true : (j p : ℕ) (l : Literal) (clause : List Literal) → slice_get (kept_places f units 0 f.matrix) j ≡ Some p
+  old-true : (j p : ℕ) (l : Literal) (clause : List Literal) → slice_get (kept_places f units) j ≡ Some p
       → was l ≡ 1 → without_constants (falsity (circuit_literal c.circuit) (largest + 1 + j) l) ≡ Some clause
       → negative (largest + 1 + p) ∷ [] ≡ map to clause
   old-true j p l clause at one is =
@@ -114,7 +115,7 @@ module _ (f : Dqbf) (units : List Taken) (c : Candidate) (can : IsLiftable f uni
 
   -- a literal whose clause the formula has
   pub base-names : (j p : ℕ) (l : Literal) (id : ℕ) (clause : List Literal)
-      → slice_get (kept_places f units 0 f.matrix) j ≡ Some p
+      → slice_get (kept_places f units) j ≡ Some p
       → IsLiteralId f c p l id → holds (taken_literals units) (opposite l) ≡ false
       → (holds (taken_literals units) l ≡ false) ⊎ (literal_under (circuit_literal c.circuit) l < 2)
       → without_constants (falsity (circuit_literal c.circuit) (c.circuit.netlist.max_var + 1 + j) l) ≡ Some clause
@@ -146,7 +147,7 @@ module _ (f : Dqbf) (units : List Taken) (c : Candidate) (can : IsLiftable f uni
 
   -- one that a weaker line names
   pub weaker-names : (j p : ℕ) (l : Literal) (x : ℕ) (clause : List Literal)
-      → slice_get (kept_places f units 0 f.matrix) j ≡ Some p → x ≡ literal_under (circuit_literal c.circuit) l → 2 ≤ x
+      → slice_get (kept_places f units) j ≡ Some p → x ≡ literal_under (circuit_literal c.circuit) l → 2 ≤ x
       → without_constants (falsity (circuit_literal c.circuit) (c.circuit.netlist.max_var + 1 + j) l) ≡ Some clause
       → negative (c.circuit.netlist.max_var + 1 + p) ∷ as_literal (opposite_of x) ∷ []
       ≡ map (lifted_literal f units c) clause
@@ -159,7 +160,7 @@ module _ (f : Dqbf) (units : List Taken) (c : Candidate) (can : IsLiftable f uni
   base-last id is =
       in-last f (settled_candidate f trues c).circuit.netlist (circuit_literal (settled_candidate f trues c).circuit) id
       (omega (arith, is))
-      ∙ last-clause (largest + 1) (length f.matrix) (omega arith)
+      ∙ sym (range_clause (largest + 1) (length f.matrix) (omega arith))
 
   -- the clauses of gates stay
   pub gate-there : (id : ℕ) (clause : List Literal) → id ≤ 3 * length c.circuit.netlist.gates
@@ -172,7 +173,7 @@ module _ (f : Dqbf) (units : List Taken) (c : Candidate) (can : IsLiftable f uni
       let new = in-gates f (settled_candidate f trues c).circuit.netlist
       (circuit_literal (settled_candidate f trues c).circuit) (suc i) i refl below in
       new ∙ sym old ∙ is
-      ∙ ap Some (sym (clause-stays largest (length f.matrix) (kept_places f units 0 f.matrix) clause
+      ∙ ap Some (sym (clause-stays largest (length f.matrix) (kept_places f units) clause
       (gate-clause-fits c.circuit.netlist i clause can.lawful (sym old ∙ is))))
 
   -- those of literals
@@ -182,9 +183,8 @@ module _ (f : Dqbf) (units : List Taken) (c : Candidate) (can : IsLiftable f uni
       × (without_constants xs ≡ Some clause)
   literal-there id k clause is below at =
       let fs = left_falsities c c.formula.matrix in
-      let long = falsity_counted (circuit_literal c.circuit) (largest + 1) c.formula.matrix in
       let xs = get_or fs k [] in
-      let there : slice_get fs k ≡ Some xs = slice_get-get_or fs k [] (omega (arith, below, long)) in (
+      let there : slice_get fs k ≡ Some xs = slice_get-get_or fs k [] (omega (arith, below, falsity_counted (circuit_literal c.circuit) (largest + 1) c.formula.matrix)) in (
         xs,
         there,
         sym (in-falsity c.formula c.circuit.netlist (circuit_literal c.circuit) id k (Some xs) is below there) ∙ at,
@@ -196,7 +196,7 @@ module _ (f : Dqbf) (units : List Taken) (c : Candidate) (can : IsLiftable f uni
   last-there id clause is at =
       sym (same_Some (map positive (range_with_len (largest + 1) (length c.formula.matrix))) clause
       (sym (in-last c.formula c.circuit.netlist (circuit_literal c.circuit) id is
-      ∙ last-clause (largest + 1) (length c.formula.matrix) (omega arith)) ∙ at))
+      ∙ sym (range_clause (largest + 1) (length c.formula.matrix) (omega arith))) ∙ at))
 
   pub none-behind : (id : ℕ) (clause : List Literal)
       → 3 * length c.circuit.netlist.gates + sum_by length c.formula.matrix + 1 < id → negated_candidate c id ≡ Some clause
@@ -209,25 +209,25 @@ module _ (f : Dqbf) (units : List Taken) (c : Candidate) (can : IsLiftable f uni
 
   -- the first line has the last clause's literals
   false-carried : (j : ℕ) (ps : List ℕ)
-      → ((k p : ℕ) → slice_get ps k ≡ Some p → slice_get (kept_places f units 0 f.matrix) (j + k) ≡ Some p)
+      → ((k p : ℕ) → slice_get ps k ≡ Some p → slice_get (kept_places f units) (j + k) ≡ Some p)
       → map to (map positive (range_with_len (largest + 1 + j) (length ps))) ≡ map (false_at (largest + 1)) ps
   false-carried j [] there = refl
   false-carried j (p ∷ ps) there =
-      let own : slice_get (kept_places f units 0 f.matrix) j ≡ Some p =
-      ap (slice_get (kept_places f units 0 f.matrix)) (omega arith) ∙ there 0 p refl in
+      let own : slice_get (kept_places f units) j ≡ Some p =
+      ap (slice_get (kept_places f units)) (omega arith) ∙ there 0 p refl in
       let next : largest + 1 + j + 1 ≡ largest + 1 + (j + 1) = omega arith in
       ap (λ n. positive n ∷ map to (map positive (range_with_len (largest + 1 + j + 1) (length ps))))
-      (carried-clause largest (length f.matrix) (kept_places f units 0 f.matrix) (largest + 1 + j) j p refl own)
+      (carried-clause largest (length f.matrix) (kept_places f units) (largest + 1 + j) j p refl own)
       ∙ ap (λ n. false_at (largest + 1) p ∷ map to (map positive (range_with_len n (length ps)))) next
       ∙ ap (λ ls. false_at (largest + 1) p ∷ ls)
       (false-carried (j + 1) ps (λ k q at.
-      ap (slice_get (kept_places f units 0 f.matrix)) (omega arith) ∙ there (suc k) q at))
+      ap (slice_get (kept_places f units)) (omega arith) ∙ there (suc k) q at))
 
   pub last-carried : map (lifted_literal f units c)
-      (map positive (range_with_len (c.circuit.netlist.max_var + 1) (length (kept_places f units 0 f.matrix))))
-      ≡ map (false_at (c.circuit.netlist.max_var + 1)) (kept_places f units 0 f.matrix)
+      (map positive (range_with_len (c.circuit.netlist.max_var + 1) (length (kept_places f units))))
+      ≡ map (false_at (c.circuit.netlist.max_var + 1)) (kept_places f units)
   last-carried =
-      let ps = kept_places f units 0 f.matrix in
+      let ps = kept_places f units in
       let first : largest + 1 ≡ largest + 1 + 0 = omega arith in
       ap (λ n. map to (map positive (range_with_len n (length ps)))) first
       ∙ false-carried 0 ps (λ k p at. ap (slice_get ps) (omega arith) ∙ at)

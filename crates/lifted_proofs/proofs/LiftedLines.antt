@@ -2,9 +2,9 @@
 use Rattle.std.proofs.Common.{◌≡◌, ℕ, zero, suc, ◌+◌, ◌-◌, ◌*◌, ◌/◌, ◌%◌, ◌<◌, ◌≤◌, ◌==◌, nat_le, nat_lt, Bool, true, false, not, ◌&&◌, inl, inr, List, [], ◌∷◌, ◌++◌, map, length, get_or, slice_get, reverse, Option, Some, None, is_some, refl, sym, ◌∙◌, ap, subst, arith}
 use Rattle.std.specs.Prelude.{slice_index_or}
 use Rattle.std.specs.List.{Contains, list_any, filter_map}
-use Rattle.std.proofs.lemmas.Bool.{true≢false, cases_Bool, cases_lt, cond-true, cond-false, eqb-true, le-leb, leb-true, lt-ltb, ltb-true}
+use Rattle.std.proofs.lemmas.Bool.{and_parts, cases_lt, cond-true, cond-false, eqb-true, le-leb, lt-ltb, ltb-true, lt-leb}
 use Rattle.std.proofs.lemmas.Option.{slice_get-get_or, get_or_from_slice_get, same_Some}
-use Rattle.std.proofs.lemmas.List.{length-map, map-append}
+use Rattle.std.proofs.lemmas.List.{length-map, map-append, get_or_default}
 use Rattle.std.proofs.lemmas.List.Elements.{All-map}
 use Rattle.std.proofs.lemmas.List.Quantifiers.{position-Some}
 use Rattle.list_laws.proofs.Members.{contains_tested}
@@ -39,6 +39,8 @@ use Rattle.lifted_proofs.specs.declared.units.UnitTable.{UnitTable}
 use Rattle.lifted_proofs.proofs.CarriedLines.{AreNumbered, AreMoved, EndsEmpty, move-items, items-derived, ends-behind, derived-append, normal-derived, pairs-stay, literals-stay}
 use Rattle.lifted_proofs.proofs.GatheredHints.{first-at}
 use Rattle.lifted_proofs.proofs.HintedInstances.{AreFrom, hinted-plain, instance-parts, plain-source}
+use Rattle.list_laws.proofs.Truths.{both_true}
+use Rattle.lifted_proofs.proofs.WrittenLines.{steps-append}
 
 -- the formula that is left
 abbrev pub left_formula : UnitTable → Dqbf
@@ -50,12 +52,7 @@ hinted-later s ss h (t, ((k, below, is), hint)) = (t, ((suc k, omega (arith, bel
 hinted-first : (s : ProofStep) (ss : List ProofStep) (k d : ℕ) → k < length s.hints
     → IsHinted (s ∷ ss) (get_or s.hints k d)
 hinted-first s ss k d below =
-    (s, ((0, omega arith, refl), (k, below, get_or_default' s.hints k d below)))
-  where
-    get_or_default' : (xs : List ℕ) (k d : ℕ) → k < length xs → get_or xs k (get_or xs k d) ≡ get_or xs k d
-    get_or_default' [] k d below = absurd (omega (arith, below))
-    get_or_default' (x ∷ xs) zero d below = refl
-    get_or_default' (x ∷ xs) (suc k) d below = get_or_default' xs k d (omega (arith, below))
+    (s, ((0, omega arith, refl), (k, below, get_or_default s.hints k (get_or s.hints k d) d below)))
 
 numbered-items : (f : Dqbf) (rows : List (List Bool)) (v : ℕ → Bool) (Wanted : ℕ → Type 0) (n : Numbering) (next : ℕ)
     (items : List ProofItem) → n.next ≡ next → AreItems v n items → ((h : ℕ) → IsHinted (lines_of items) h → Wanted h)
@@ -231,16 +228,10 @@ wanted-line t d sources wanted p w h c l hinted low at plain =
       omega (arith, id-is, line.before),
     )
 
-above-not : (n m : ℕ) → m < n → nat_le n m ≡ false
-above-not n m above = elim (cases_Bool (nat_le n m)) [
-  | inl low ↦ absurd (omega (arith, leb-true n m low, above))
-  | inr other ↦ other
-]
-
 later-id : (r : Renumbering) (n : ℕ) → r.old_last < n → carried_id r n ≡ n - r.old_last + r.new_last
 later-id r n above =
     cond-false (nat_le n r.old_last) (id_at r.ids (place_of r.wanted n)) (n - r.old_last + r.new_last)
-    (above-not n r.old_last above)
+    (lt-leb n r.old_last above)
 
 pub count-is : (t : UnitTable) (sources : List Source) (k : ℕ)
     → AreSources t.formula.now t.units.now (kept_matrix t) sources
@@ -303,31 +294,16 @@ moved-items t rows more r n (gone ids ∷ items) keeps are =
 wider-number : (f : Dqbf) (few many number : ℕ) → few ≤ many → is_pair_number f few number ≡ true
     → is_pair_number f many number ≡ true
 wider-number f few many number low is =
-    by (f.variables == 0) (number == 0) refl refl (is_some (existential_of f ((number - 1) % f.variables + 1))) refl
+    by (f.variables == 0) (number == 0) (is_some (existential_of f ((number - 1) % f.variables + 1))) is
   where
-    k : ℕ
-    k = (number - 1) / f.variables
-
-    four : (a b c d : Bool) → (not a && (not b && (c && d))) ≡ true
-        → (a ≡ false) × (b ≡ false) × (c ≡ true) × (d ≡ true)
-    four true b c d h = absurd (true≢false (sym h))
-    four false true c d h = absurd (true≢false (sym h))
-    four false false true d h = (refl, refl, refl, h)
-    four false false false d h = absurd (true≢false (sym h))
-
-    by : (a b : Bool) → (f.variables == 0) ≡ a → (number == 0) ≡ b → (d : Bool)
-        → is_some (existential_of f ((number - 1) % f.variables + 1)) ≡ d → is_pair_number f many number ≡ true
-    by a b ea eb d ed =
-        let parts = four (f.variables == 0) (number == 0) (nat_lt ((number - 1) / f.variables) few)
-        (is_some (existential_of f ((number - 1) % f.variables + 1))) is in
-        let within = ltb-true ((number - 1) / f.variables) few parts.2 in
-        ap (λ x. not x && (not (number == 0) && (nat_lt ((number - 1) / f.variables) many
-        && is_some (existential_of f ((number - 1) % f.variables + 1))))) parts.0
-        ∙ ap (λ x. not x && (nat_lt ((number - 1) / f.variables) many
-        && is_some (existential_of f ((number - 1) % f.variables + 1)))) parts.1
-        ∙ ap (λ x. x && is_some (existential_of f ((number - 1) % f.variables + 1)))
-        (lt-ltb ((number - 1) / f.variables) many (omega (arith, within, low)))
-        ∙ parts.3
+    by : (a b d : Bool) → (not a && (not b && (nat_lt ((number - 1) / f.variables) few && d))) ≡ true
+        → (not a && (not b && (nat_lt ((number - 1) / f.variables) many && d))) ≡ true
+    by true b d h = h
+    by false true d h = h
+    by false false d h =
+        let parts = and_parts (nat_lt ((number - 1) / f.variables) few) d h in
+        both_true (nat_lt ((number - 1) / f.variables) many) d
+        (lt-ltb ((number - 1) / f.variables) many (omega (arith, ltb-true ((number - 1) / f.variables) few parts.0, low))) parts.1
 
 -- the carried lines are such as the format allows
 allowed-items : (t : UnitTable) (r : Renumbering) (few many : ℕ) (n : Numbering) (items : List ProofItem)
@@ -367,18 +343,9 @@ allowed-items t r few many n (derived s ∷ items) low above are ids =
           (λ h later. ids h (hinted-later s (lines_of items) h later))),
     )
 
-append-allowed : (v : ℕ → Bool) (n : ℕ) (xs ys : List ProofStep) → AreSteps v n xs → AreSteps v (n + length xs) ys
-    → AreSteps v n (xs ++ ys)
-append-allowed v n [] ys a b = subst (λ m. AreSteps v m ys) (omega arith) b
-append-allowed v n (x ∷ xs) ys a b =
-    (a.0, append-allowed v (n + 1) xs ys a.1 (subst (λ m. AreSteps v m ys) (omega arith) b))
-
 pub keeps-length : {X : Type 0} (xs ys : List X) → Keeps xs ys → length xs ≤ length ys
 keeps-length [] ys keeps = omega arith
-keeps-length (x ∷ xs) [] keeps = absurd (nothing (keeps 0 x refl))
-  where
-    nothing : None ≡ Some x → ⊥
-    nothing e = cc
+keeps-length (x ∷ xs) [] keeps = let none : None ≡ Some x = keeps 0 x refl in cc
 keeps-length (x ∷ xs) (y ∷ ys) keeps = omega (arith, keeps-length xs ys (λ k z at. keeps (suc k) z at))
 
 -- all lines together
@@ -402,7 +369,7 @@ all-lifted t d sources wanted p w steps l is =
     let it = wanted-line t d sources wanted p w h plain.0 l hinted low plain.1.0 plain.1.1 in
     (it.1, omega (arith, it.2))) in
     subst (AreLifted t p.rows) (sym is) (record {
-      allowed = append-allowed (is_pair_number f (length p.rows)) (first_id f (length p.rows)) w.steps carried
+      allowed = steps-append (is_pair_number f (length p.rows)) (first_id f (length p.rows)) w.steps carried
           l.written.lines.allowed
           (subst (λ m. AreSteps (is_pair_number f (length p.rows)) m carried) (omega (arith, count)) allowed);
       refutes =

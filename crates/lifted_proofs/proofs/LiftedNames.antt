@@ -1,14 +1,13 @@
 -- How a lifting's ids are named.
-use Rattle.std.proofs.Common.{◌≡◌, ◌≢◌, ℕ, zero, suc, ◌+◌, ◌*◌, ◌<◌, ◌≤◌, nat_le, ◌&&◌, Bool, true, false, not, List, [], ◌∷◌, ◌++◌, take, length, get_or, Option, Some, None, Result, Ok, Err, slice_get, refl, sym, ◌∙◌, ap, subst, arith, length-append}
-use Rattle.std.specs.Prelude.{slice_index, OnOk}
-use Rattle.std.specs.List.{All, AllZip, Contains, sum_by}
+use Rattle.std.proofs.Common.{◌≡◌, ℕ, zero, suc, ◌+◌, ◌*◌, ◌<◌, ◌≤◌, nat_le, ◌&&◌, Bool, true, false, List, [], ◌∷◌, ◌++◌, take, length, get_or, Option, Some, None, slice_get, refl, sym, ◌∙◌, ap, subst, arith, length-append}
+use Rattle.std.specs.Prelude.{slice_index}
+use Rattle.std.specs.List.{All, Contains, sum_by}
 use Rattle.std.proofs.lemmas.Bool.{true≢false, le-leb}
 use Rattle.std.proofs.lemmas.Option.{slice_get-get_or, slice_get_within, same_Some}
 use Rattle.std.proofs.lemmas.List.{append-nil, get_or_default, length-map, take_all, take_more}
 use Rattle.dq_lits.specs.Literal.{Literal, positive, negative, variable_of, same_literal}
-use Rattle.dq_lits.specs.declared.memory.Memory.{Memory}
 use Rattle.dq_lits.specs.Formula.{Dqbf}
-use Rattle.dq_lits.specs.Derivation.{LiveClauses, ProofStep, holds}
+use Rattle.dq_lits.specs.Derivation.{LiveClauses, holds}
 use Rattle.dq_lits.proofs.Truth.{same_literal-sound}
 use Rattle.dq_lits.proofs.SignedLiterals.{same_literal-refl}
 use Rattle.dq_lits.proofs.HeldLiterals.{held-at}
@@ -23,9 +22,9 @@ use Rattle.skolem_checker.specs.Mapping.{Mapping}
 use Rattle.skolem_checker.specs.Tables.{IsMapping}
 use Rattle.proof_checker.specs.CircuitProof.{circuit_literal}
 use Rattle.lifted_proofs.specs.Goals.{clause_at}
-use Rattle.lifted_proofs.specs.KeptPlaces.{kept_places, dropped_places}
-use Rattle.lifted_proofs.specs.Liftables.{falsity, left_falsities, lifted_base, lifted_literal, AreLiftedNames, weaker_line}
-use Rattle.lifted_proofs.specs.Liftings.{IsLifting, HasOutput, IsSettledFrom, IsNameable, AreNamedIn, AreFirstNamed, IsNaming, AreTrueIds, formula_of, units_of, left_at, place_at}
+use Rattle.lifted_proofs.specs.KeptPlaces.{dropped_places}
+use Rattle.lifted_proofs.specs.Liftables.{falsity, left_falsities, lifted_base, lifted_literal, weaker_line}
+use Rattle.lifted_proofs.specs.Liftings.{IsLifting, HasOutput, IsSettledFrom, IsNameable, AreNamedIn, AreFirstNamed, IsNaming, AreTrueIds, formula_of, units_of, left_at, place_at, IsNextLeft, IsNamedBy, NamesMore}
 use Rattle.lifted_proofs.specs.Lines.{behind_steps}
 use Rattle.lifted_proofs.specs.NamedIds.{IsTrueBy}
 use Rattle.lifted_proofs.specs.UnitTables.{first_literals, IsUnitTable}
@@ -34,11 +33,12 @@ use Rattle.lifted_proofs.specs.declared.names.Named.{Named}
 use Rattle.lifted_proofs.specs.declared.units.UnitTable.{UnitTable}
 use Rattle.lifted_proofs.proofs.KeptSources.{all-literals}
 use Rattle.lifted_proofs.proofs.LiftedClauses.{base-true, base-names, weaker-names}
-use Rattle.lifted_proofs.proofs.NamedClauses.{IsLeftAt, left-place, gone-place, falsities-more, falsity-more, part-found, part-passed, part-ended, part-whole}
+use Rattle.lifted_proofs.proofs.NamedClauses.{IsLeftAt, left-place, gone-place, falsities-more, falsity-more, part-found, part-passed, part-whole}
 use Rattle.lifted_proofs.proofs.NamedIds.{behind-same, name-more, line-more, line-clause, weaker-derived, two-plain}
 use Rattle.lifted_proofs.proofs.NegatedIds.{literal-fits, opposite-fits, free-variable}
 use Rattle.lifted_proofs.proofs.PairedLiterals.{existential-range}
 use Rattle.lifted_proofs.proofs.SettledOutputs.{unit-output, literal-in-range}
+use Rattle.std.proofs.lemmas.List.Elements.{All-nil, All-cons, AllZip-push}
 
 -- ---- places
 
@@ -52,8 +52,7 @@ pub kept-in : (l : Lifting) (j x : ℕ) → IsLifting l → j < length l.kept.it
     → (x ≡ slice_index l.kept.items j) × (x < length (formula_of l).matrix)
 kept-in l j x it below is =
     let same : x ≡ slice_index l.kept.items j = is ∙ get_or_default l.kept.items j x 0 below in
-    let place = (kept-place l j it below).within in
-    (same, omega (arith, same, place))
+    (same, omega (arith, same, (kept-place l j it below).within))
 
 pub left-in : (l : Lifting) (j : ℕ) → IsLifting l → j < length l.kept.items → j < length l.bench.now.formula.matrix
 left-in l j it below = (kept-place l j it below).left_within
@@ -110,34 +109,31 @@ module _ (l : Lifting) (it : IsLifting l) where
   to = lifted_literal (formula_of l) (units_of l) l.bench.now
 
   -- the id is the formula's own
-  pub name-known : (j : ℕ) (literal : Literal) (id : ℕ) → IsNameable l j literal id → IsSettledFrom l literal None
-      → (falsities : List (List ℕ)) (ids : List ℕ) (steps : List ProofStep)
-      → AreLiftedNames (formula_of l) (units_of l) l.bench.now falsities ids steps
-      → AreLiftedNames (formula_of l) (units_of l) l.bench.now
-      (falsities ++ falsity (circuit_literal l.bench.now.circuit) (l.bench.now.circuit.netlist.max_var + 1 + j) literal ∷ [])
-      (ids ++ id ∷ []) steps
-  name-known j literal id n kind falsities ids steps named =
-      name-more variable first to base falsities ids steps
+  pub name-known : (j : ℕ) (literal : Literal) (id : ℕ) (old new : Named) → IsNameable l j literal id
+      → IsSettledFrom l literal None → new ≡ record old { ids = new.ids } → new.ids.items ≡ old.ids.items ++ id ∷ []
+      → NamesMore l j literal old new
+  name-known j literal id old new n kind same more falsities named =
+      let steps = old.steps in
+      rw (ap (λ w. w.steps) same, more)
+      (name-more variable first to base falsities old.ids.items steps
       (falsity (circuit_literal c.circuit) (c.circuit.netlist.max_var + 1 + j) literal) id named (record {
         from_one = omega (arith, n.is.is);
         before = omega (arith, n.before);
         names = λ clause is.
             behind-same base variable first steps id named.allowed n.before
             ∙ base-names f (units_of l) c it.can j n.place literal id clause n.at n.is n.none_false kind is;
-      })
+      }))
 
   -- or that of a line
-  pub name-weak : (j : ℕ) (literal : Literal) (id was place : ℕ) → IsNameable l j literal id
-      → IsSettledFrom l literal (Some was)
-      → slice_get (kept_places (formula_of l) (units_of l) 0 (formula_of l).matrix) j ≡ Some place
-      → place < length (formula_of l).matrix
-      → (falsities : List (List ℕ)) (ids : List ℕ) (steps : List ProofStep)
-      → AreLiftedNames (formula_of l) (units_of l) l.bench.now falsities ids steps
-      → AreLiftedNames (formula_of l) (units_of l) l.bench.now
-      (falsities ++ falsity (circuit_literal l.bench.now.circuit) (l.bench.now.circuit.netlist.max_var + 1 + j) literal ∷ [])
-      (ids ++ (first_proof_id (formula_of l) l.bench.now.circuit.netlist + length steps) ∷ [])
-      (steps ++ weaker_line (formula_of l) l.bench.now place was id steps ∷ [])
-  name-weak j literal id was place n kind at within falsities ids steps named =
+  pub name-weak : (j : ℕ) (literal : Literal) (id was : ℕ) (old new : Named) → j < length l.kept.items
+      → IsNameable l j literal id → IsSettledFrom l literal (Some was) → IsNamedBy l j was id old new
+      → NamesMore l j literal old new
+  name-weak j literal id was old new below n kind by-line falsities named =
+      let left = kept-place l j it below in
+      let at = left.place_at in
+      let place = slice_index l.kept.items j in
+      let ids = old.ids.items in
+      let steps = old.steps in
       let largest = c.circuit.netlist.max_var in
       let line = weaker_line f c place was id steps in
       let other = as_literal (opposite_of was) in
@@ -153,33 +149,30 @@ module _ (l : Lifting) (it : IsLifting l) where
       let step : IsStep variable (first + length steps) line = record {
         numbered = refl;
         on_variables = two-all (λ k. variable (variable_of k) ≡ true) (negative (largest + 1 + place)) other
-            (up (largest + length f.matrix) (largest + 1 + place) (omega arith) (omega (arith, within)))
+            (up (largest + length f.matrix) (largest + 1 + place) (omega arith) (omega (arith, left.within)))
             (up (largest + length f.matrix) (variable_of other) free (omega (arith, low)));
-        hints_before = one-all (λ h. (1 ≤ h) × (h < first + length steps)) id
-            (omega (arith, n.is.is), omega (arith, n.before));
+        hints_before = All-cons (λ h. (1 ≤ h) × (h < first + length steps)) id []
+            (omega (arith, n.is.is), omega (arith, n.before)) (All-nil (λ h. (1 ≤ h) × (h < first + length steps)));
       } in
       let plain = two-plain (negative (largest + 1 + place)) other (λ same. absurd (omega (arith, same, low))) in
       let more = line-more variable first to base falsities ids steps line named step
       (weaker-derived (behind_steps base steps) (negative (largest + 1 + place)) other id
       (behind-same base variable first steps id named.allowed n.before ∙ hinted) plain) in
-      name-more variable first to base falsities ids (steps ++ line ∷ [])
+      rw (by-line.steps, by-line.ids, it.base.first)
+      (name-more variable first to base falsities ids (steps ++ line ∷ [])
       (falsity (circuit_literal c.circuit) (largest + 1 + j) literal) (first + length steps) more (record {
         from_one = omega arith;
         before = omega (arith, length-append steps (line ∷ []));
         names = λ clause is.
             line-clause variable first to base steps line
             ∙ ap Some (weaker-names f (units_of l) c it.can j place literal was clause at kind.0 kind.1 is);
-      })
+      }))
     where
       same-place : {o : Option ℕ} {a b : ℕ} → o ≡ Some a → o ≡ Some b → a ≡ b
       same-place {o} {a} {b} p q = same_Some a b (sym p ∙ q)
 
       up : (variables v : ℕ) → 1 ≤ v → v ≤ variables → (nat_le 1 v && nat_le v variables) ≡ true
       up variables v low high = ap (λ b. b && nat_le v variables) (le-leb 1 v low) ∙ le-leb v variables high
-
-      one-all : {X : Type 0} (P : X → Type 0) (x : X) → P x → All P (x ∷ [])
-      one-all P x has zero d below = has
-      one-all P x has (suc k) d below = absurd (omega (arith, below))
 
       two-all : {X : Type 0} (P : X → Type 0) (x y : X) → P x → P y → All P (x ∷ y ∷ [])
       two-all P x y a b zero d below = a
@@ -209,29 +202,24 @@ module _ (l : Lifting) (it : IsLifting l) where
         before = omega (arith, before, it.base.first);
       }
 
-  pub naming-ended : (j found q : ℕ) (w : Named) → IsNaming l j found q w → length (left_at l j) ≤ found
-      → IsNaming l j found (q + 1) w
-  naming-ended j found q w n past = record {
+  pub naming-passed : (j found q : ℕ) (w : Named) (literal : Literal) (b : Bool) → IsNaming l j found q w
+      → slice_get (clause_at (formula_of l) (place_at l j)) q ≡ Some literal → IsNextLeft l j found literal b
+      → b ≡ false → IsNaming l j found (q + 1) w
+  naming-passed j found q w literal true n at next no-is = absurd (true≢false no-is)
+  naming-passed j found q w literal false n at apart no-is = record {
     named = n.named;
-    rest = part-ended (left_at l j) (clause_at f (place_at l j)) found q past;
+    rest = part-passed (left_at l j) (clause_at f (place_at l j)) found q literal n.rest at apart;
     low = n.low;
   }
 
-  pub naming-passed : (j found q : ℕ) (w : Named) (m literal : Literal) → IsNaming l j found q w
-      → slice_get (left_at l j) found ≡ Some m → slice_get (clause_at (formula_of l) (place_at l j)) q ≡ Some literal
-      → m ≢ literal → IsNaming l j found (q + 1) w
-  naming-passed j found q w m literal n at-left at apart = record {
-    named = n.named;
-    rest = part-passed (left_at l j) (clause_at f (place_at l j)) found q m literal n.rest at-left at apart;
-    low = n.low;
-  }
+  pub next-left : (j found : ℕ) (literal : Literal) (b : Bool) → IsNextLeft l j found literal b → b ≡ true
+      → slice_get (left_at l j) found ≡ Some literal
+  next-left j found literal true at yes-is = at
+  next-left j found literal false at yes-is = absurd (true≢false (sym yes-is))
 
   pub naming-found : (j found q : ℕ) (old new : Named) (literal : Literal) → IsNaming l j found q old
       → slice_get (left_at l j) found ≡ Some literal
-      → slice_get (clause_at (formula_of l) (place_at l j)) q ≡ Some literal
-      → ((falsities : List (List ℕ)) → AreNamedIn l falsities old
-      → AreNamedIn l (falsities
-      ++ falsity (circuit_literal l.bench.now.circuit) (l.bench.now.circuit.netlist.max_var + 1 + j) literal ∷ []) new)
+      → slice_get (clause_at (formula_of l) (place_at l j)) q ≡ Some literal → NamesMore l j literal old new
       → IsNaming l j (found + 1) (q + 1) new
   naming-found j found q old new literal n at-left at more =
       let lit = circuit_literal c.circuit in
@@ -241,7 +229,7 @@ module _ (l : Lifting) (it : IsLifting l) where
         named = subst (λ fs. AreNamedIn l fs new) (sym (falsity-more lit bad front (left_at l j) found literal at-left))
             (more (front ++ falsity_clauses lit bad (take found (left_at l j))) n.named);
         rest = part-found (left_at l j) (clause_at f (place_at l j)) found q literal n.rest at-left at;
-        low = (let within = slice_get_within (left_at l j) found literal at-left in omega (arith, within));
+        low = (omega (arith, slice_get_within (left_at l j) found literal at-left));
       }
 
   pub naming-begun : (j : ℕ) (w : Named) → j < length l.kept.items → AreFirstNamed l j w → IsNaming l j 0 0 w
@@ -267,7 +255,7 @@ module _ (l : Lifting) (it : IsLifting l) where
   -- ---- true literals
 
   pub true-more : (dropped : List ℕ) (k id place : ℕ) (ids new : List ℕ)
-      → dropped ≡ dropped_places (formula_of l) (units_of l) 0 (formula_of l).matrix → k < length dropped
+      → dropped ≡ dropped_places (formula_of l) (units_of l) → k < length dropped
       → place < length (clause_at (formula_of l) (slice_index dropped k))
       → ((literal : Literal) → slice_get (clause_at (formula_of l) (slice_index dropped k)) place ≡ Some literal
       → holds (taken_literals (units_of l)) literal ≡ true)
@@ -290,32 +278,17 @@ module _ (l : Lifting) (it : IsLifting l) where
       } in
       subst (λ ps. AreTrueIds l ps new) (sym (take_more dropped k 0 below))
       (subst (AreTrueIds l (take k dropped ++ p ∷ [])) (sym more)
-      (zip-push (IsTrueBy base (c.circuit.netlist.max_var + 1) first) (take k dropped) ids p id all own))
-    where
-      zip-push : {X Y : Type 0} (P : X → Y → Type 0) (xs : List X) (ys : List Y) (x : X) (y : Y) → AllZip P xs ys
-          → P x y → AllZip P (xs ++ x ∷ []) (ys ++ y ∷ [])
-      zip-push P [] [] x y all has = (has, tt)
-      zip-push P [] (b ∷ ys) x y all has = absurd all
-      zip-push P (a ∷ xs) [] x y all has = absurd all
-      zip-push P (a ∷ xs) (b ∷ ys) x y all has = (all.0, zip-push P xs ys x y all.1 has)
+      (AllZip-push (IsTrueBy base (c.circuit.netlist.max_var + 1) first) (take k dropped) ids p id all own))
 
--- what a literal that is read is
-pub read-at : (xs ys : List Literal) (k : ℕ) (x : Literal) → xs ≡ ys → k < length ys → x ≡ get_or xs k x
-    → slice_get ys k ≡ Some x
-read-at xs ys k x same below is =
-    slice_get-get_or ys k x below ∙ ap Some (sym (is ∙ ap (λ zs. get_or zs k x) same))
+-- whether a literal that is read is the next one that is left
+pub next-by : (l : Lifting) (j found : ℕ) (k literal : Literal) (b : Bool) → found < length (left_at l j)
+    → k ≡ get_or (left_at l j) found k → b ≡ same_literal k literal → IsNextLeft l j found literal b
+next-by l j found k literal true within at same =
+    slice_get-get_or (left_at l j) found k within ∙ ap Some (sym at ∙ same_literal-sound k literal (sym same))
+next-by l j found k literal false within at other = λ m there is.
+    let own : m ≡ k = same_Some m k (sym there ∙ slice_get-get_or (left_at l j) found k within ∙ ap Some (sym at)) in
+    true≢false (sym (ap (λ x. same_literal x literal) (sym own ∙ is) ∙ same_literal-refl literal) ∙ sym other)
 
-pub apart-by : (k l : Literal) → true ≡ not (same_literal k l) → k ≢ l
-apart-by k l other same =
-    true≢false (other ∙ ap not (ap (λ m. same_literal m l) same ∙ same_literal-refl l))
-
-pub same-by : (k l : Literal) → false ≡ not (same_literal k l) → k ≡ l
-same-by k l same = same_literal-sound k l (by (same_literal k l) same)
-  where
-    by : (b : Bool) → false ≡ not b → b ≡ true
-    by true h = refl
-    by false h = absurd (true≢false (sym h))
-
-pub on-ok-both : (r : Result (Unit {0}) Memory) (A B P : Type 0) → OnOk r A → OnOk r B → (A → B → P) → OnOk r P
-on-ok-both (Ok x) A B P a b to-p = to-p a b
-on-ok-both (Err e) A B P a b to-p = tt
+pub none-next : (l : Lifting) (j found : ℕ) (literal : Literal) → length (left_at l j) ≤ found
+    → IsNextLeft l j found literal false
+none-next l j found literal past = λ m there. absurd (omega (arith, past, slice_get_within (left_at l j) found m there))

@@ -1,7 +1,7 @@
 -- A circuit's proof, lifted as a whole.
-use Rattle.std.proofs.Common.{◌≡◌, ℕ, suc, ◌+◌, ◌-◌, ◌*◌, ◌<◌, ◌≤◌, ◌⊎◌, nat_le, ◌&&◌, Bool, true, false, inl, inr, List, [], ◌∷◌, ◌++◌, map, length, get_or, Some, None, slice_get, refl, sym, ◌∙◌, ap, subst, arith, length-append}
+use Rattle.std.proofs.Common.{◌≡◌, ℕ, suc, ◌+◌, ◌-◌, ◌*◌, ◌<◌, ◌≤◌, nat_le, ◌&&◌, Bool, true, false, inl, inr, List, [], ◌∷◌, ◌++◌, map, length, get_or, Some, None, slice_get, refl, sym, ◌∙◌, ap, subst, arith, length-append, is_some}
 use Rattle.std.specs.List.{All, AllZip, sum_by, range_with_len}
-use Rattle.std.proofs.lemmas.Bool.{and_parts, leb-true, le-leb, cases_lt}
+use Rattle.std.proofs.lemmas.Bool.{and_parts, leb-true, le-leb, cases_lt, cases_Bool, true≢false}
 use Rattle.std.proofs.lemmas.Option.{slice_get_within, slice_get-get_or}
 use Rattle.std.proofs.lemmas.List.Elements.{All-cons, All-push}
 use Rattle.dq_lits.specs.Literal.{Literal, positive, variable_of}
@@ -17,13 +17,13 @@ use Rattle.skolem_checker.specs.Checks.{Candidate}
 use Rattle.proof_checker.specs.CircuitProof.{negated_candidate, circuit_literal}
 use Rattle.lifted_proofs.specs.Carried.{lines_of}
 use Rattle.lifted_proofs.specs.CarriedProofs.{Carrying, carried_variable, carried_literal, carried_id, carried_line}
-use Rattle.lifted_proofs.specs.KeptPlaces.{kept_places, dropped_places}
+use Rattle.lifted_proofs.specs.KeptPlaces.{kept_places, dropped_places, kept_at}
 use Rattle.lifted_proofs.specs.Liftables.{IsLiftable, lifted_base, lifted_literal, left_falsities, AreLiftedNames, is_false, some_false_line, carrying_of}
 use Rattle.lifted_proofs.specs.Lines.{behind_steps}
 use Rattle.lifted_proofs.specs.NamedIds.{IsTrueBy}
 use Rattle.lifted_proofs.proofs.CarriedLines.{items-derived}
 use Rattle.lifted_proofs.proofs.CarriedProofs.{IsReady, all-carried, carried-circuit, carried-clause, carried-once, id-gate, id-literal, id-line}
-use Rattle.lifted_proofs.proofs.KeptPlaces.{StandsIn, kept-at, as-many, each-place, not-both, kept-ascend, dropped-ascend}
+use Rattle.lifted_proofs.proofs.KeptPlaces.{as-many, place-in, places-distinct, place-there}
 use Rattle.lifted_proofs.proofs.LiftedClauses.{base-last, gate-there, literal-there, last-there, none-behind, last-carried}
 use Rattle.lifted_proofs.proofs.NamedIds.{behind-same, line-more, line-clause}
 use Rattle.lifted_proofs.proofs.SomeFalse.{some-false}
@@ -51,7 +51,7 @@ module _ (f : Dqbf) (units : List Taken) (c : Candidate) (can : IsLiftable f uni
     (steps : List ProofStep) (named : AreLiftedNames f units c (left_falsities c c.formula.matrix) ids steps)
     (gone : AllZip
     (IsTrueBy (lifted_base f units c) (c.circuit.netlist.max_var + 1) (first_proof_id f c.circuit.netlist))
-    (dropped_places f units 0 f.matrix) hints) where
+    (dropped_places f units) hints) where
   abbrev first : ℕ
   first = first_proof_id f c.circuit.netlist
 
@@ -59,7 +59,7 @@ module _ (f : Dqbf) (units : List Taken) (c : Candidate) (can : IsLiftable f uni
   base = lifted_base f units c
 
   abbrev kept : List ℕ
-  kept = kept_places f units 0 f.matrix
+  kept = kept_places f units
 
   abbrev line : ProofStep
   line = some_false_line f units c hints steps
@@ -74,12 +74,10 @@ module _ (f : Dqbf) (units : List Taken) (c : Candidate) (can : IsLiftable f uni
   variable = is_proof_variable f c.circuit.netlist
 
   kept-within : (j p : ℕ) → slice_get kept j ≡ Some p → p < length f.matrix
-  kept-within j p at =
-      let it = kept-at f units 0 f.matrix j p at in
-      omega (arith, it.place, slice_get_within f.matrix it.offset it.clause it.at)
+  kept-within j p at = (place-in f units true (length f.matrix) j p at).0
 
   many-kept : length kept ≡ length c.formula.matrix
-  many-kept = as-many f units 0 f.matrix ∙ sym (ap (λ (g : Dqbf). length g.matrix) can.left)
+  many-kept = as-many f units ∙ sym (ap (λ (g : Dqbf). length g.matrix) can.left)
 
   place-variables : (ps : List ℕ) → ((j p : ℕ) → slice_get ps j ≡ Some p → p < length f.matrix)
       → All (λ l. variable (variable_of l) ≡ true) (map (is_false (c.circuit.netlist.max_var + 1)) ps)
@@ -97,7 +95,7 @@ module _ (f : Dqbf) (units : List Taken) (c : Candidate) (can : IsLiftable f uni
     on_variables = place-variables kept kept-within;
     hints_before = All-push (λ h. (1 ≤ h) × (h < first + length steps)) hints (first - 1)
         (zip-right (IsTrueBy base (c.circuit.netlist.max_var + 1) first) (λ h. (1 ≤ h) × (h < first + length steps))
-        (dropped_places f units 0 f.matrix) hints
+        (dropped_places f units) hints
         (λ p id it. (it.from_one, omega (arith, it.before))) gone)
         (omega arith, omega arith);
   }
@@ -107,16 +105,19 @@ module _ (f : Dqbf) (units : List Taken) (c : Candidate) (can : IsLiftable f uni
       let live = behind_steps base steps in
       let number = c.circuit.netlist.max_var + 1 in
       some-false live number first (first - 1) (length f.matrix) kept
-      (dropped_places f units 0 f.matrix) hints (dropped-ascend f units 0 f.matrix)
-      (zip-weaker (IsTrueBy base number first) (IsTrueBy live number first) (dropped_places f units 0 f.matrix) hints
+      (dropped_places f units) hints (places-distinct f units false (length f.matrix))
+      (zip-weaker (IsTrueBy base number first) (IsTrueBy live number first) (dropped_places f units) hints
       (λ p id it. record {
         from_one = it.from_one;
         before = it.before;
         is = behind-same base variable first steps id named.allowed it.before ∙ it.is;
       }) gone)
-      (λ p below. subst (λ n. StandsIn kept n ⊎ StandsIn (dropped_places f units 0 f.matrix) n) (omega arith)
-      (each-place f units 0 f.matrix p below))
-      (λ p a b. not-both f units 0 f.matrix p a b)
+      (λ p below. elim (cases_Bool (is_some (kept_at f units p))) [
+        | inl some ↦ inl (place-there f units true (length f.matrix) p below some)
+        | inr none ↦ inr (place-there f units false (length f.matrix) p below none)
+      ])
+      (λ p a b. true≢false (sym (place-in f units true (length f.matrix) a.0 p a.1).1
+      ∙ (place-in f units false (length f.matrix) b.0 p b.1).1))
       (behind-same base variable first steps (first - 1) named.allowed (omega arith)
       ∙ base-last f units c can (first - 1) (omega arith))
 
@@ -175,13 +176,12 @@ module _ (f : Dqbf) (units : List Taken) (c : Candidate) (can : IsLiftable f uni
 
   ready : IsReady (negated_candidate c) base carrying variable first (first_proof_id c.formula c.circuit.netlist) front
   ready = record {
-    one = carried-once c.circuit.netlist.max_var (length f.matrix) kept (kept-ascend f units 0 f.matrix)
+    one = carried-once c.circuit.netlist.max_var (length f.matrix) kept (places-distinct f units true (length f.matrix))
         (λ p it. kept-within it.0 p it.1);
     ids = λ k id at.
         let falsities = left_falsities c c.formula.matrix in
         let xs = get_or falsities k [] in
-        let within = slice_get_within ids k id at in
-        let has = front-named.each k id xs at (slice_get-get_or falsities k [] (omega (arith, within, named.many))) in
+        let has = front-named.each k id xs at (slice_get-get_or falsities k [] (omega (arith, slice_get_within ids k id at, named.many))) in
         (has.from_one, has.before);
     gates = omega arith;
     next_is = omega (arith, many-ids);
@@ -198,7 +198,6 @@ module _ (f : Dqbf) (units : List Taken) (c : Candidate) (can : IsLiftable f uni
       let largest = c.circuit.netlist.max_var in
       let parts = and_parts (nat_le 1 v) (nat_le v (largest + length c.formula.matrix)) is in
       let low = leb-true 1 v parts.0 in
-      let high = leb-true v (largest + length c.formula.matrix) parts.1 in
       elim (cases_lt largest v) [
         | inr circuit ↦
             ap variable (carried-circuit largest (length f.matrix) kept v circuit)
@@ -206,7 +205,7 @@ module _ (f : Dqbf) (units : List Taken) (c : Candidate) (can : IsLiftable f uni
         | inl behind ↦
             let j = v - largest - 1 in
             let p = get_or kept j 0 in
-            let at : slice_get kept j ≡ Some p = slice_get-get_or kept j 0 (omega (arith, behind, high, many-kept)) in
+            let at : slice_get kept j ≡ Some p = slice_get-get_or kept j 0 (omega (arith, behind, leb-true v (largest + length c.formula.matrix) parts.1, many-kept)) in
             ap variable (carried-clause largest (length f.matrix) kept v j p (omega (arith, behind)) at)
             ∙ within-up (largest + length f.matrix) (largest + 1 + p) (omega arith)
             (omega (arith, kept-within j p at))

@@ -23,7 +23,7 @@ use Rattle.refutation_checker.specs.Refutation.{refutation_fault, normal_item}
 use Rattle.dq_prep.proofs.KeptSoFar.{kept-few}
 use Rattle.lifted_proofs.specs.UnitTables.{IsUnitTable}
 use Rattle.lifted_proofs.specs.Goals.{IsGoal, IsPlan, Keeps}
-use Rattle.lifted_proofs.specs.Carried.{lines_of, AreSources, AreWanted}
+use Rattle.lifted_proofs.specs.Carried.{lines_of, AreSources, AreWanted, IsFirstGoal}
 use Rattle.lifted_proofs.specs.Planned.{IsInstanceId, AreFirstGoals}
 use Rattle.lifted_proofs.specs.Renumbered.{IsSmallStep}
 use Rattle.lifted_proofs.specs.LiftedRefutations.{kept_matrix, Refutes, AreLifted}
@@ -33,26 +33,20 @@ use Rattle.lifted_proofs.specs.declared.goals.Plan.{Plan}
 use Rattle.lifted_proofs.specs.declared.units.UnitTable.{UnitTable}
 use Rattle.lifted_proofs.proofs.GatheredHints.{first-back}
 use Rattle.lifted_proofs.proofs.LiftedLines.{left_formula, wanted-plain, wanted-from-one, first-goal-right, count-is, keeps-length}
+use Rattle.std.proofs.lemmas.Slice.Zip.{AllZip-long}
 
 -- there are few instances
 pub few-instances : (t : UnitTable) (d : Dqr) (sources : List Source) → IsUnitTable t → Refutes t d
     → AreSources t.formula.now t.units.now (kept_matrix t) sources
     → length d.rows * length sources ≤ 10000000000000000
 few-instances t d sources right refutes are =
-    let few = kept-few t.formula.now (reverse t.units.now) 0 t.formula.now.matrix in
     mul-le (length d.rows) (length sources) 1000000000 10000000 (omega (arith, refutes.allowed.few_rows))
-    (omega (arith, few, are.many, right.lawful.few_clauses))
+    (omega (arith, kept-few t.formula.now (reverse t.units.now) 0 t.formula.now.matrix, are.many, right.lawful.few_clauses))
 
 pub few-wanted : (sources : List Source) (wanted : List ℕ) (first goals : List Goal)
     → AreFirstGoals sources wanted first → Keeps first goals → length wanted ≤ length goals
 few-wanted sources wanted first goals are keeps =
-    omega (arith, as-many wanted first are, keeps-length first goals keeps)
-  where
-    as-many : (hs : List ℕ) (gs : List Goal) → AreFirstGoals sources hs gs → length hs ≡ length gs
-    as-many [] [] are = refl
-    as-many [] (g ∷ gs) are = absurd are
-    as-many (h ∷ hs) [] are = absurd are
-    as-many (h ∷ hs) (g ∷ gs) are = omega (arith, as-many hs gs are.1)
+    omega (arith, AllZip-long (IsFirstGoal sources) wanted first are, keeps-length first goals keeps)
 
 small-items : (v : ℕ → Bool) (n : Numbering) (items : List ProofItem) → AreItems v n items
     → n.next + length items ≤ 2 ^ 62 → All IsSmallStep (lines_of items)
@@ -70,11 +64,9 @@ small-items v n (derived s ∷ items) are small =
 pub small-lines : (t : UnitTable) (d : Dqr) (sources : List Source) → IsUnitTable t → Refutes t d
     → AreSources t.formula.now t.units.now (kept_matrix t) sources → All IsSmallStep (lines_of d.items)
 small-lines t d sources right refutes are =
-    let few = few-instances t d sources right refutes are in
-    let count = count-is t sources (length d.rows) are in
     small-items (is_pair_number (left_formula t) (length d.rows))
     (numbered_from (first_id (left_formula t) (length d.rows))) d.items refutes.allowed.items
-    (omega (arith, few, count, refutes.allowed.few_items))
+    (omega (arith, few-instances t d sources right refutes are, count-is t sources (length d.rows) are, refutes.allowed.few_items))
 
 contained-number : (xs : List ℕ) (k d : ℕ) → k < length xs → has_number xs (get_or xs k d) ≡ true
 contained-number xs k d below =

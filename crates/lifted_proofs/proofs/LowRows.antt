@@ -9,7 +9,7 @@ use Rattle.std.proofs.lemmas.List.Elements.{All-contains}
 use Rattle.std.proofs.lemmas.List.Quantifiers.{position-Some}
 use Rattle.std.proofs.lemmas.List.Folds.{list_any_none, list_any_at, list_any-append}
 use Rattle.list_laws.proofs.Members.{contains_tested, tested_inside}
-use Rattle.list_laws.proofs.Truths.{neither}
+use Rattle.list_laws.proofs.Truths.{neither, and-false}
 use Rattle.dq_lits.specs.Literal.{Assignment, Literal, positive, negative, variable_of, is_negative, opposite, same_literal, literal_true}
 use Rattle.dq_lits.specs.Formula.{Dqbf, is_universal, existential_of, IsWellFormed}
 use Rattle.dq_lits.specs.Henkin.{same_bits}
@@ -20,12 +20,13 @@ use Rattle.dq_lits.proofs.Truth.{same_literal-sound}
 use Rattle.dq_lits.proofs.HeldLiterals.{any_one, any_gives, filter-holds}
 use Rattle.dq_lits.proofs.Choices.{same_bits-refl}
 use Rattle.dq_lits.proofs.SignedLiterals.{one_variable}
+use Rattle.dq_lits.proofs.Followers.{map-agree}
 use Rattle.dq_formula.proofs.Subsets.{none_contained}
 use Rattle.dq_formula.proofs.Restrictions.{assignment_of-place}
 use Rattle.dq_prep.specs.declared.traces.Taken.{Taken}
 use Rattle.dq_prep.specs.Reduction.{sees_in, is_seen, stays}
 use Rattle.dq_prep.specs.Units.{AreUnits, without_false, is_satisfied}
-use Rattle.dq_prep.proofs.Reduction.{holds-at, map-agree}
+use Rattle.dq_prep.proofs.Reduction.{holds-at}
 use Rattle.dq_prep.proofs.SignedLiterals.{pair-any}
 use Rattle.dq_prep.proofs.LeftLiterals.{tautology-stays}
 use Rattle.dq_prep.proofs.LiteralRoles.{find-Some}
@@ -35,6 +36,9 @@ use Rattle.lifted_proofs.specs.UnitTables.{first_units, first_literals}
 use Rattle.lifted_proofs.specs.Goals.{clause_at, left_by, Serves}
 use Rattle.lifted_proofs.specs.FalsifiedRows.{IsFalsified}
 use Rattle.lifted_proofs.specs.declared.goals.Source.{Source}
+
+place-is : (us : List ℕ) (x p : ℕ) → position (λ u. u == x) us ≡ Some p → position_or_len (λ u. u == x) us ≡ p
+place-is us x p found = grind (arith, found)
 
 -- one bit of a row is written
 bit-set : (us : List ℕ) (row : List Bool) (p x v : ℕ) (b : Bool) → length row ≡ length us
@@ -58,9 +62,6 @@ bit-set us row p x v b whole found =
           ∙ sym (cond-false (x == v) b (assignment_of us row v) (ne_eqb x v other))
     ]
   where
-    place-is : (us : List ℕ) (x p : ℕ) → position (λ u. u == x) us ≡ Some p → position_or_len (λ u. u == x) us ≡ p
-    place-is us x p found = grind (arith, found)
-
     apart : get_or us p 0 ≡ x → p < length us → x ≢ v → position_or_len (λ u. u == v) us ≢ p
     apart here within other same = other (sym here ∙ passes us v p same within)
       where
@@ -98,9 +99,6 @@ true-placed f row l p whole found =
     ∙ signed-bit (row_assignment f row) l (bit_of row p)
     (sym (assignment_of-place f.universals row (variable_of l) whole)
     ∙ ap (bit_of row) (place-is f.universals (variable_of l) p found))
-  where
-    place-is : (us : List ℕ) (x p : ℕ) → position (λ u. u == x) us ≡ Some p → position_or_len (λ u. u == x) us ≡ p
-    place-is us x p found = grind (arith, found)
 
 pub true-unplaced : (f : Dqbf) (row : List Bool) (l : Literal)
     → position (λ u. u == variable_of l) f.universals ≡ None → universal_literal_true f row l ≡ false
@@ -162,17 +160,13 @@ falsified-more f row low done l p whole found alone was = record {
     own-sign (positive v) = refl
     own-sign (negative v) = refl
 
-    and-false : (a b : Bool) → b ≡ false → (a && b) ≡ false
-    and-false true b h = h
-    and-false false b h = refl
-
     own : universal_literal_true f (slice_set low p (is_negative l)) l ≡ false
-    own = and-false (is_universal f (variable_of l))
-        (literal_true (row_assignment f (slice_set low p (is_negative l))) l)
-        (signed-bit (row_assignment f (slice_set low p (is_negative l))) l (is_negative l)
+    own =
+        ap (λ b. is_universal f (variable_of l) && b)
+        (signed-bit (row_assignment f new) l (is_negative l)
         (bit (variable_of l) ∙ cond-true (variable_of l == variable_of l) (is_negative l)
         (row_assignment f low (variable_of l)) (eq-eqb (variable_of l) (variable_of l) refl))
-        ∙ own-sign l)
+        ∙ own-sign l) ∙ and-false (is_universal f (variable_of l))
 
     unchanged : (k : Literal) → row_assignment f (slice_set low p (is_negative l)) (variable_of k)
         ≡ row_assignment f low (variable_of k)
@@ -271,34 +265,25 @@ serves-falsified f units s row low well are unsatisfied plain none it = record {
         → (is_universal f (variable_of k) && literal_true v k) ≡ false → literal_true v k ≡ false
     truth-false v k universal h = sym (ap (λ b. b && literal_true v k) universal) ∙ h
 
-    seen-bit : (k : Literal) → holds (clause_at f s.place) k ≡ true → (x : ℕ) → variable_of k ≡ x
-        → is_universal f x ≡ true
-        → is_seen f (without_false (first_literals units s.taken) (clause_at f s.place)) x ≡ true
-        → row_assignment f row x ≡ row_assignment f low x
+    seen-bit : (k : Literal) → holds clause k ≡ true → (x : ℕ) → variable_of k ≡ x → is_universal f x ≡ true
+        → is_seen f rest x ≡ true → m x ≡ n x
     seen-bit k inside x is universal-x seen =
         let universal : is_universal f (variable_of k) ≡ true = ap (is_universal f) is ∙ universal-x in
-        let free : holds (first_literals units s.taken) (opposite k) ≡ false =
+        let free : holds trues (opposite k) ≡ false =
         none-universal f (first_units units s.taken) (opposite k) are (turned k universal) in
-        let in-rest : holds (without_false (first_literals units s.taken) (clause_at f s.place)) k ≡ true =
-        filter-holds (λ q. not (holds (first_literals units s.taken) (opposite q))) (clause_at f s.place) k inside
-        (ap not free) in
-        let stay : stays f (without_false (first_literals units s.taken) (clause_at f s.place)) k ≡ true =
-        or_right (not (is_universal f (variable_of k)))
-        (is_seen f (without_false (first_literals units s.taken) (clause_at f s.place)) (variable_of k))
-        (ap (is_seen f (without_false (first_literals units s.taken) (clause_at f s.place))) is ∙ seen) in
-        let plain-rest = tautology-stays (first_literals units s.taken) (clause_at f s.place) unsatisfied ∙ plain in
+        let in-rest : holds rest k ≡ true =
+        filter-holds (λ q. not (holds trues (opposite q))) clause k inside (ap not free) in
+        let stay : stays f rest k ≡ true =
+        or_right (not (is_universal f (variable_of k))) (is_seen f rest (variable_of k)) (ap (is_seen f rest) is ∙ seen) in
+        let plain-rest = tautology-stays trues clause unsatisfied ∙ plain in
         let in-left : holds (left_by f units s) k ≡ true =
-        ap (λ b. holds (cond b (without_false (first_literals units s.taken) (clause_at f s.place))
-        (filter (stays f (without_false (first_literals units s.taken) (clause_at f s.place)))
-        (without_false (first_literals units s.taken) (clause_at f s.place)))) k) plain-rest
-        ∙ filter-holds (stays f (without_false (first_literals units s.taken) (clause_at f s.place)))
-        (without_false (first_literals units s.taken) (clause_at f s.place)) k in-rest stay in
-        ap (row_assignment f row) (sym is)
-        ∙ same-false (row_assignment f row) (row_assignment f low) k
-        (truth-false (row_assignment f row) k universal
-        (none-held (universal_literal_true f row) (left_by f units s) k none in-left))
-        (truth-false (row_assignment f low) k universal (it.none_true k inside))
-        ∙ ap (row_assignment f low) is
+        ap (λ b. holds (cond b rest (filter (stays f rest) rest)) k) plain-rest
+        ∙ filter-holds (stays f rest) rest k in-rest stay in
+        ap m (sym is)
+        ∙ same-false m n k
+        (truth-false m k universal (none-held (universal_literal_true f row) (left_by f units s) k none in-left))
+        (truth-false n k universal (it.none_true k inside))
+        ∙ ap n is
 
 pub serves-itself : (f : Dqbf) (units : List Taken) (s : Source) (row : List Bool)
     → list_any (universal_literal_true f row) (clause_at f s.place) ≡ false → Serves f units s row row

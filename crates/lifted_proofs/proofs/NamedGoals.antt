@@ -4,9 +4,8 @@ use Rattle.std.specs.Prelude.{slice_set, slice_index_or}
 use Rattle.std.specs.List.{All, AllZip, Contains}
 use Rattle.std.specs.List.Sorted.{IsPermutation}
 use Rattle.std.proofs.lemmas.List.Sorted.{All-permutation, Contains-permutation}
-use Rattle.std.proofs.lemmas.Nat.{mul-le}
 use Rattle.std.proofs.lemmas.Bool.{cases_eq, cases_lt, cond-true, cond-false, eq-eqb, ne_eqb}
-use Rattle.std.proofs.lemmas.Option.{slice_get_within, same_Some}
+use Rattle.std.proofs.lemmas.Option.{slice_get_within, same_Some, slice_get-get_or}
 use Rattle.std.proofs.lemmas.List.{length-append, map-append, length-set, get_or-set_same, get_or-set_other, get_or-take, get_or_default, length-take, take_more, take_all}
 use Rattle.std.proofs.lemmas.List.Elements.{All-push, All-map, All-cons, All-contains, Contains-get_or, Contains-push_cases}
 use Rattle.dq_lits.specs.Literal.{Literal, variable_of, opposite}
@@ -21,11 +20,11 @@ use Rattle.cert_text.specs.Pairs.{is_pair_number}
 use Rattle.cert_text.specs.Scan.{first_id}
 use Rattle.refutation_checker.specs.Refutation.{normal_literal, normal_step}
 use Rattle.refutation_checker.specs.Pairs.{existential_part}
-use Rattle.lifted_proofs.specs.UnitTables.{first_literals, IsUnitTable, IsFalseBy}
-use Rattle.lifted_proofs.specs.Goals.{clause_at, IsAsked, MakesFalse}
+use Rattle.lifted_proofs.specs.UnitTables.{first_literals, IsFalseBy}
+use Rattle.lifted_proofs.specs.Goals.{clause_at, IsAsked, MakesFalse, IsReasonAt, IsGoalAt}
 use Rattle.lifted_proofs.specs.Lines.{goal_line, paired, written_literals, behind_steps, AreDerived, normal_steps, AreLines, HasLine}
 use Rattle.lifted_proofs.specs.Turns.{IsTurn, TurnAll, AreTurns, turn_of}
-use Rattle.lifted_proofs.specs.Written.{IsWhole, IsNamed, HintsAt, AreWritten, AreHintsNamed, IsLineOf}
+use Rattle.lifted_proofs.specs.Written.{IsWhole, IsNamed, AreWritten, AreHintsNamed, IsLineOf}
 use Rattle.lifted_proofs.specs.declared.goals.Goal.{Goal}
 use Rattle.lifted_proofs.specs.declared.goals.Reason.{Reason}
 use Rattle.lifted_proofs.specs.declared.goals.Plan.{Plan}
@@ -34,214 +33,159 @@ use Rattle.lifted_proofs.specs.declared.turns.Turn.{Turn}
 use Rattle.lifted_proofs.specs.declared.units.UnitTable.{UnitTable}
 use Rattle.lifted_proofs.proofs.TakenUnits.{first-holds}
 use Rattle.lifted_proofs.proofs.PairedLiterals.{existential-or-universal}
-use Rattle.lifted_proofs.proofs.DerivedGoals.{Settled, AreNamed, goal-derived, goal-is-instance}
+use Rattle.lifted_proofs.proofs.DerivedGoals.{goal-derived, goal-is-instance}
 use Rattle.lifted_proofs.proofs.WrittenLines.{behind-more, derived-more, steps-more, behind-before, written-line, written-pairs, instance-low, instance-before}
 
-pub settled-at : (t : UnitTable) (p : Plan) (q : ℕ) (g : Goal) (r : Reason) → IsUnitTable t → IsWhole t p
-    → slice_get p.goals.items q ≡ Some g → slice_get p.reasons.items q ≡ Some r
-    → Settled t.formula.now t.units.now p.rows p.goals.items g r
-settled-at t p q g r right plan at why = record {
-  well = right.well;
-  are = right.units;
-  goal = plan.plan.goals q g at;
-  reason = plan.plan.reasons q g r at why;
-}
+-- ---- a goal with its reason
 
--- no line is needed
-pub line-instance : (t : UnitTable) (p : Plan) (w : Written) (q id : ℕ) (g : Goal) (r : Reason) → IsUnitTable t
-    → IsWhole t p → AreLines t.formula.now p.rows w.steps → slice_get p.goals.items q ≡ Some g
-    → slice_get p.reasons.items q ≡ Some r → r.hints.items ≡ []
-    → id ≡ r.lowered * length t.formula.now.matrix + g.source.place + 1 → IsLineOf t p w w q id
-line-instance t p w q id g r right plan lines at why none is = record {
-  written = lines;
-  has = λ k here. subst (λ x. HasLine f t.units.now p.rows w.steps x id) (same_Some g k (sym at ∙ here)) it;
-  kept = λ k i h. h;
-}
-  where
-    f : Dqbf
-    f = t.formula.now
+hints-within : (f : Dqbf) (units : List Taken) (rows : List (List Bool)) (goals : List Goal) (lowered : ℕ)
+    (places hints : List ℕ) → AllZip (IsAsked f units rows goals lowered) places hints
+    → All (λ h. h < length goals) hints
+hints-within f units rows goals lowered [] [] all = λ k d below. absurd (omega (arith, below))
+hints-within f units rows goals lowered [] (h ∷ hs) all = absurd all
+hints-within f units rows goals lowered (j ∷ js) [] all = absurd all
+hints-within f units rows goals lowered (j ∷ js) (h ∷ hs) all =
+    All-cons (λ k. k < length goals) h hs (slice_get_within goals h all.0.goal all.0.goal_at)
+    (hints-within f units rows goals lowered js hs all.1)
 
-    s : Settled t.formula.now t.units.now p.rows p.goals.items g r
-    s = settled-at t p q g r right plan at why
-
-    low-in : r.lowered < length p.rows
-    low-in = slice_get_within p.rows r.lowered (settled-at t p q g r right plan at why).reason.lowered.low
-        (settled-at t p q g r right plan at why).reason.lowered.low_at
-
-    before : id < first_id t.formula.now (length p.rows)
-    before = subst (λ n. n < first_id t.formula.now (length p.rows)) (sym is)
-        (instance-before r.lowered g.source.place (length t.formula.now.matrix) (length p.rows) low-in
-        (settled-at t p q g r right plan at why).goal.source.place)
-
-    it : HasLine t.formula.now t.units.now p.rows w.steps g id
-    it = record {
-      from_one = omega (arith, is);
-      before = omega (arith, before);
-      is = behind-before t.formula.now p.rows (instance_at t.formula.now p.rows)
-          (is_pair_number t.formula.now (length p.rows)) (first_id t.formula.now (length p.rows)) w.steps id
-          lines.allowed before
-          ∙ ap (instance_at t.formula.now p.rows) is
-          ∙ instance-low t.formula.now t.units.now p.rows p.goals.items g r (settled-at t p q g r right plan at why)
-          ∙ ap Some (sym (goal-is-instance t.formula.now t.units.now p.rows p.goals.items g r
-          (settled-at t p q g r right plan at why) none));
+pub reason-at : (t : UnitTable) (p : Plan) (q : ℕ) (g : Goal) (r : Reason) → IsWhole t p → IsGoalAt t p q g
+    → slice_get p.reasons.items q ≡ Some r → IsReasonAt t p q g r
+reason-at t p q g r whole goal why =
+    let plan = whole.plan in
+    let it = plan.plan.reasons q g r goal.at why in
+    record {
+      at = why;
+      settled = record { well = plan.right.well; are = plan.right.units; goal = goal.goal; reason = it };
+      low = slice_get_within p.rows r.lowered it.lowered.low it.lowered.low_at;
+      hints = hints-within t.formula.now t.units.now p.rows p.goals.items r.lowered it.places r.hints.items it.asked;
     }
 
--- a line is added
-pub line-added : (t : UnitTable) (p : Plan) (w new : Written) (q id instance : ℕ) (g : Goal) (r : Reason)
-    (literals : List Literal) (hints : List ℕ) → IsUnitTable t → IsWhole t p → AreWritten t p w
-    → AreHintsNamed t p w q → slice_get p.goals.items q ≡ Some g → slice_get p.reasons.items q ≡ Some r
-    → instance ≡ r.lowered * length t.formula.now.matrix + g.source.place + 1
-    → literals ≡ written_literals t.formula.now t.units.now g
-    → hints ≡ map (λ h. slice_index_or w.ids.items h 0) r.hints.items ++ instance ∷ []
-    → id ≡ first_id t.formula.now (length p.rows) + length w.steps
-    → new.steps ≡ w.steps ++ record { id = id; literals = literals; hints = hints } ∷ []
-    → IsLineOf t p w new q id
-line-added t p w new q id instance g r literals hints right plan written named at why instance-is literals-are hints-are
-    id-is steps-are = record {
-      written = record { derived = derived; allowed = allowed };
-      has = λ k here. subst (λ x. HasLine f t.units.now p.rows new.steps x id) (same_Some g k (sym at ∙ here)) it;
+-- ---- the line of a goal
+
+module _ (t : UnitTable) (p : Plan) (w : Written) (q instance : ℕ) (g : Goal) (r : Reason) (goal : IsGoalAt t p q g)
+    (reason : IsReasonAt t p q g r) (lines : AreLines t.formula.now p.rows w.steps)
+    (instance-is : instance ≡ r.lowered * length t.formula.now.matrix + g.source.place + 1) where
+  abbrev f : Dqbf
+  f = t.formula.now
+
+  abbrev units : List Taken
+  units = t.units.now
+
+  abbrev rows : List (List Bool)
+  rows = p.rows
+
+  abbrev first : ℕ
+  first = first_id f (length rows)
+
+  abbrev is_number : ℕ → Bool
+  is_number = is_pair_number f (length rows)
+
+  abbrev live : LiveClauses
+  live = behind_steps (instance_at f rows) (normal_steps f rows w.steps)
+
+  instance-in : instance < first
+  instance-in = subst (λ n. n < first) (sym instance-is)
+      (instance-before r.lowered g.source.place (length f.matrix) (length rows) reason.low
+      reason.settled.goal.source.place)
+
+  instance-live : live instance ≡ Some (map (paired f rows reason.settled.reason.lowered.low)
+      (existential_part f (clause_at f g.source.place)))
+  instance-live =
+      behind-before f rows (instance_at f rows) is_number first w.steps instance lines.allowed instance-in
+      ∙ ap (instance_at f rows) instance-is ∙ instance-low f units rows p.goals.items g r reason.settled
+
+  -- no line is needed
+  pub line-instance : r.hints.items ≡ [] → IsLineOf t p w w q instance
+  line-instance none = record {
+    written = lines;
+    has = λ k here. subst (λ x. HasLine f units rows w.steps x instance) (same_Some g k (sym goal.at ∙ here)) (record {
+      from_one = omega (arith, instance-is);
+      before = omega (arith, instance-in);
+      is = instance-live
+          ∙ ap Some (sym (goal-is-instance f units rows p.goals.items g r reason.settled none));
+    });
+    kept = λ k i h. h;
+  }
+
+  -- a line is added
+  module _ (new : Written) (id : ℕ) (literals : List Literal) (hints : List ℕ) (named : AreHintsNamed t p w q)
+      (literals-are : literals ≡ written_literals f units g)
+      (hints-are : hints ≡ map (λ h. slice_index_or w.ids.items h 0) r.hints.items ++ instance ∷ [])
+      (id-is : id ≡ first + length w.steps)
+      (steps-are : new.steps ≡ w.steps ++ record { id = id; literals = literals; hints = hints } ∷ []) where
+    abbrev step : ProofStep
+    step = record { id = id; literals = literals; hints = hints }
+
+    abbrev id_at : ℕ → ℕ
+    id_at h = slice_index_or w.ids.items h 0
+
+    longer : length new.steps ≡ length w.steps + 1
+    longer = ap (λ (xs : List ProofStep). length xs) steps-are ∙ length-append w.steps (step ∷ [])
+
+    normal : normal_steps f rows new.steps ≡ normal_steps f rows w.steps ++ normal_step f rows step ∷ []
+    normal = ap (normal_steps f rows) steps-are ∙ map-append (normal_step f rows) w.steps (step ∷ [])
+
+    line-is : map (normal_literal f rows) literals ≡ goal_line f units rows g
+    line-is = ap (map (normal_literal f rows)) literals-are
+        ∙ written-line f units rows g reason.settled.well goal.goal
+
+    live-new : (i : ℕ) → behind_steps (instance_at f rows) (normal_steps f rows new.steps) i
+        ≡ cond (i == id) (Some (map (normal_literal f rows) literals)) (live i)
+    live-new i = ap (λ ss. behind_steps (instance_at f rows) ss i) normal
+        ∙ ap (λ (b : LiveClauses). b i) (behind-more (instance_at f rows) (normal_steps f rows w.steps)
+        (normal_step f rows step))
+
+    hint-line : (h : ℕ) (x : Goal) → Contains r.hints.items h → slice_get p.goals.items h ≡ Some x
+        → HasLine f units rows w.steps x (id_at h)
+    hint-line h x inside here = named h (record { reason = r; at = reason.at; among = inside }) x here
+
+    is-derived : IsDerived live (map (normal_literal f rows) literals) hints
+    is-derived =
+        subst (λ ls. IsDerived live ls hints) (sym line-is)
+        (subst (IsDerived live (goal_line f units rows g)) (sym hints-are)
+        (goal-derived f units rows p.goals.items g r reason.settled live id_at instance instance-live
+        (λ h x inside here. (hint-line h x inside here).is)))
+
+    hints-before : All (λ h. (1 ≤ h) × (h < id)) hints
+    hints-before = subst (All (λ h. (1 ≤ h) × (h < id))) (sym hints-are)
+        (All-push (λ h. (1 ≤ h) × (h < id)) (map id_at r.hints.items) instance
+        (All-map (λ h. (1 ≤ h) × (h < id)) id_at r.hints.items (λ k d below.
+        let h = get_or r.hints.items k d in
+        let line = hint-line h (get_or p.goals.items h g) (Contains-get_or r.hints.items k d below)
+        (slice_get-get_or p.goals.items h g (reason.hints k d below)) in
+        (line.from_one, omega (arith, line.before, id-is))))
+        (omega (arith, instance-is), omega (arith, instance-in, id-is)))
+
+    allowed : AreSteps is_number first new.steps
+    allowed = subst (AreSteps is_number first) (sym steps-are)
+        (steps-more is_number first w.steps step lines.allowed (record {
+          numbered = id-is;
+          on_variables = subst (All (λ l. is_number (variable_of l) ≡ true)) (sym literals-are)
+              (written-pairs f units rows g reason.settled.well goal.goal);
+          hints_before = subst (λ n. All (λ h. (1 ≤ h) × (h < n)) hints) id-is hints-before;
+        }))
+
+    pub line-added : IsLineOf t p w new q id
+    line-added = record {
+      written = record {
+        derived = subst (AreDerived (instance_at f rows)) (sym normal)
+            (derived-more (instance_at f rows) (normal_steps f rows w.steps) (normal_step f rows step) lines.derived
+            is-derived);
+        allowed = allowed;
+      };
+      has = λ k here. subst (λ x. HasLine f units rows new.steps x id) (same_Some g k (sym goal.at ∙ here)) (record {
+        from_one = omega (arith, id-is);
+        before = omega (arith, id-is, longer);
+        is = live-new id ∙ cond-true (id == id) (Some (map (normal_literal f rows) literals)) (live id) (eq-eqb id id refl)
+            ∙ ap Some line-is;
+      });
       kept = λ k i h. record {
         from_one = h.from_one;
         before = omega (arith, h.before, longer);
         is = live-new i
-            ∙ cond-false (i == id) (Some (map (normal_literal f p.rows) literals)) (live i)
-            (ne_eqb i id (λ same. absurd (omega (arith, same, h.before, id-is))))
-            ∙ h.is;
+            ∙ cond-false (i == id) (Some (map (normal_literal f rows) literals)) (live i)
+            (ne_eqb i id (λ same. absurd (omega (arith, same, h.before, id-is)))) ∙ h.is;
       };
-    }
-  where
-    f : Dqbf
-    f = t.formula.now
-
-    first : ℕ
-    first = first_id t.formula.now (length p.rows)
-
-    step : ProofStep
-    step = record { id = id; literals = literals; hints = hints }
-
-    s : Settled t.formula.now t.units.now p.rows p.goals.items g r
-    s = settled-at t p q g r right plan at why
-
-    live : LiveClauses
-    live = behind_steps (instance_at t.formula.now p.rows) (normal_steps t.formula.now p.rows w.steps)
-
-    longer : length new.steps ≡ length w.steps + 1
-    longer = ap (λ (xs : List ProofStep). length xs) steps-are
-        ∙ length-append w.steps (record { id = id; literals = literals; hints = hints } ∷ [])
-
-    normal : normal_steps t.formula.now p.rows new.steps
-        ≡ normal_steps t.formula.now p.rows w.steps
-        ++ record { id = id; literals = map (normal_literal t.formula.now p.rows) literals; hints = hints } ∷ []
-    normal = ap (normal_steps t.formula.now p.rows) steps-are
-        ∙ map-append (normal_step t.formula.now p.rows) w.steps
-        (record { id = id; literals = literals; hints = hints } ∷ [])
-
-    live-new : (i : ℕ)
-        → behind_steps (instance_at t.formula.now p.rows) (normal_steps t.formula.now p.rows new.steps) i
-        ≡ cond (i == id) (Some (map (normal_literal t.formula.now p.rows) literals))
-        (behind_steps (instance_at t.formula.now p.rows) (normal_steps t.formula.now p.rows w.steps) i)
-    live-new i = ap (λ ss. behind_steps (instance_at t.formula.now p.rows) ss i) normal
-        ∙ ap (λ (b : LiveClauses). b i) (behind-more (instance_at t.formula.now p.rows)
-        (normal_steps t.formula.now p.rows w.steps)
-        (record { id = id; literals = map (normal_literal t.formula.now p.rows) literals; hints = hints }))
-
-    line-is : map (normal_literal t.formula.now p.rows) literals ≡ goal_line t.formula.now t.units.now p.rows g
-    line-is = ap (map (normal_literal t.formula.now p.rows)) literals-are
-        ∙ written-line t.formula.now t.units.now p.rows g right.well (plan.plan.goals q g at)
-
-    low-in : r.lowered < length p.rows
-    low-in = slice_get_within p.rows r.lowered (settled-at t p q g r right plan at why).reason.lowered.low
-        (settled-at t p q g r right plan at why).reason.lowered.low_at
-
-    instance-in : instance < first_id t.formula.now (length p.rows)
-    instance-in = subst (λ n. n < first_id t.formula.now (length p.rows)) (sym instance-is)
-        (instance-before r.lowered g.source.place (length t.formula.now.matrix) (length p.rows) low-in
-        (settled-at t p q g r right plan at why).goal.source.place)
-
-    hint-named : (h : ℕ) → Contains r.hints.items h
-        → HintsAt p q h
-    hint-named h inside = record { reason = r; at = why; among = inside }
-
-    names : AreNamed t.formula.now t.units.now p.rows
-        (behind_steps (instance_at t.formula.now p.rows) (normal_steps t.formula.now p.rows w.steps)) p.goals.items
-        (λ h. slice_index_or w.ids.items h 0) r.hints.items
-    names h goal inside here = (named h (hint-named h inside) goal here).is
-
-    goal-there : (h : ℕ) → Contains r.hints.items h → (goal : Goal) × (slice_get p.goals.items h ≡ Some goal)
-    goal-there h inside =
-        among (settled-at t p q g r right plan at why).reason.places r.hints.items
-        (settled-at t p q g r right plan at why).reason.asked h inside
-      where
-        among : (js hs : List ℕ)
-            → AllZip (IsAsked t.formula.now t.units.now p.rows p.goals.items r.lowered) js hs → (h : ℕ)
-            → Contains hs h → (goal : Goal) × (slice_get p.goals.items h ≡ Some goal)
-        among [] [] zip h inside = absurd (omega (arith, inside.1))
-        among [] (k ∷ hs) zip h inside = absurd zip
-        among (j ∷ js) [] zip h inside = absurd zip
-        among (j ∷ js) (k ∷ hs) zip h (zero, below, is) =
-            (zip.0.goal, ap (slice_get p.goals.items) (sym is) ∙ zip.0.goal_at)
-        among (j ∷ js) (k ∷ hs) zip h (suc i, below, is) = among js hs zip.1 h (i, omega (arith, below), is)
-
-    instance-live : behind_steps (instance_at t.formula.now p.rows) (normal_steps t.formula.now p.rows w.steps) instance
-        ≡ Some (map (paired t.formula.now p.rows (settled-at t p q g r right plan at why).reason.lowered.low)
-        (existential_part t.formula.now (clause_at t.formula.now g.source.place)))
-    instance-live =
-        behind-before t.formula.now p.rows (instance_at t.formula.now p.rows)
-        (is_pair_number t.formula.now (length p.rows)) (first_id t.formula.now (length p.rows)) w.steps instance
-        written.lines.allowed instance-in
-        ∙ ap (instance_at t.formula.now p.rows) instance-is
-        ∙ instance-low t.formula.now t.units.now p.rows p.goals.items g r (settled-at t p q g r right plan at why)
-
-    is-derived : IsDerived
-        (behind_steps (instance_at t.formula.now p.rows) (normal_steps t.formula.now p.rows w.steps))
-        (map (normal_literal t.formula.now p.rows) literals) hints
-    is-derived =
-        subst (λ ls. IsDerived
-        (behind_steps (instance_at t.formula.now p.rows) (normal_steps t.formula.now p.rows w.steps)) ls hints)
-        (sym line-is)
-        (subst (IsDerived (behind_steps (instance_at t.formula.now p.rows) (normal_steps t.formula.now p.rows w.steps))
-        (goal_line t.formula.now t.units.now p.rows g)) (sym hints-are)
-        (goal-derived t.formula.now t.units.now p.rows p.goals.items g r (settled-at t p q g r right plan at why)
-        (behind_steps (instance_at t.formula.now p.rows) (normal_steps t.formula.now p.rows w.steps))
-        (λ h. slice_index_or w.ids.items h 0) instance instance-live names))
-
-    derived : AreDerived (instance_at t.formula.now p.rows) (normal_steps t.formula.now p.rows new.steps)
-    derived = subst (AreDerived (instance_at t.formula.now p.rows)) (sym normal)
-        (derived-more (instance_at t.formula.now p.rows) (normal_steps t.formula.now p.rows w.steps)
-        (record { id = id; literals = map (normal_literal t.formula.now p.rows) literals; hints = hints })
-        written.lines.derived is-derived)
-
-    hints-before : All (λ h. (1 ≤ h) × (h < id)) hints
-    hints-before = subst (All (λ h. (1 ≤ h) × (h < id))) (sym hints-are)
-        (All-push (λ h. (1 ≤ h) × (h < id)) (map (λ h. slice_index_or w.ids.items h 0) r.hints.items) instance
-        (All-map (λ h. (1 ≤ h) × (h < id)) (λ h. slice_index_or w.ids.items h 0) r.hints.items (λ k d below.
-        let h = get_or r.hints.items k d in
-        let inside : Contains r.hints.items h = Contains-get_or r.hints.items k d below in
-        let there = goal-there h inside in
-        let line = named h (hint-named h inside) there.0 there.1 in
-        (line.from_one, omega (arith, line.before, id-is))))
-        (omega (arith, instance-is), omega (arith, instance-in, id-is)))
-
-    allowed : AreSteps (is_pair_number t.formula.now (length p.rows)) (first_id t.formula.now (length p.rows)) new.steps
-    allowed = subst (AreSteps (is_pair_number t.formula.now (length p.rows)) (first_id t.formula.now (length p.rows)))
-        (sym steps-are)
-        (steps-more (is_pair_number t.formula.now (length p.rows)) (first_id t.formula.now (length p.rows)) w.steps
-        (record { id = id; literals = literals; hints = hints }) written.lines.allowed
-        (record {
-          numbered = id-is;
-          on_variables = subst (All (λ l. is_pair_number t.formula.now (length p.rows) (variable_of l) ≡ true))
-              (sym literals-are)
-              (written-pairs t.formula.now t.units.now p.rows g right.well (plan.plan.goals q g at));
-          hints_before = subst (λ n. All (λ h. (1 ≤ h) × (h < n)) hints) id-is hints-before;
-        }))
-
-    it : HasLine t.formula.now t.units.now p.rows new.steps g id
-    it = record {
-      from_one = omega (arith, id-is);
-      before = omega (arith, id-is, longer);
-      is = live-new id
-          ∙ cond-true (id == id) (Some (map (normal_literal t.formula.now p.rows) literals)) _ (eq-eqb id id refl)
-          ∙ ap Some line-is;
     }
 
 pub open-by : (f : Dqbf) (units : List Taken) (count v : ℕ) (l : Literal) (a b : Bool) → IsWellFormed f
@@ -307,11 +251,10 @@ earlier-turn goals turns i t h g are within at there fewer =
       | inl before ↦
           (k, omega (arith, before, place.1, length-take i turns), get_or-take i turns k u before ∙ place.2)
       | inr behind ↦
-          let order = are.sorted i k t behind place.1 in
           let first : (get_or turns i t).taken ≡ t.taken = ap (λ x. x.taken) (sym at) in
           let second : (get_or turns k t).taken ≡ g.source.taken =
           ap (λ x. x.taken) (get_or_default turns k t u place.1 ∙ place.2) in
-          absurd (omega (arith, order, first, second, fewer))
+          absurd (omega (arith, are.sorted i k t behind place.1, first, second, fewer))
     ]
 
 pub open-shut : (f : Dqbf) (units : List Taken) (count v : ℕ) (l : Literal) (a : Bool) → IsWellFormed f
@@ -329,33 +272,17 @@ turns-moved goals turns new was moved = record {
   all = λ q g below at. Contains-permutation turns new (turn_of g q) moved (was.all q g below at);
 }
 
-pub small-instance : (k c p n : ℕ) → k < n → n ≤ 1000000000 → c ≤ 10000000 → p < c
-    → k * c + p + 1 ≤ 10000000010000000
-small-instance k c p n within few few-c place =
-    let product = mul-le k c 1000000000 10000000 (omega (arith, within, few)) few-c in
-    omega (arith, product, few-c, place)
-
 pub no-hints : (hints : List ℕ) → length hints ≡ 0 → hints ≡ []
 no-hints [] none = refl
 no-hints (h ∷ hs) none = absurd (omega (arith, none))
 
-pub hints-within : (f : Dqbf) (units : List Taken) (rows : List (List Bool)) (goals : List Goal) (lowered : ℕ)
-    (places hints : List ℕ) → AllZip (IsAsked f units rows goals lowered) places hints
-    → All (λ h. h < length goals) hints
-hints-within f units rows goals lowered [] [] all = λ k d below. absurd (omega (arith, below))
-hints-within f units rows goals lowered [] (h ∷ hs) all = absurd all
-hints-within f units rows goals lowered (j ∷ js) [] all = absurd all
-hints-within f units rows goals lowered (j ∷ js) (h ∷ hs) all =
-    All-cons (λ k. k < length goals) h hs (slice_get_within goals h all.0.goal all.0.goal_at)
-    (hints-within f units rows goals lowered js hs all.1)
-
 -- what a goal hints at has its turn before
-pub hints-first : (t : UnitTable) (p : Plan) (w : Written) (order : List Turn) (i : ℕ) (turn : Turn) → IsUnitTable t
-    → IsWhole t p → AreTurns p.goals.items order → i < length order → turn ≡ get_or order i turn
+pub hints-first : (t : UnitTable) (p : Plan) (w : Written) (order : List Turn) (i : ℕ) (turn : Turn) → IsWhole t p
+    → AreTurns p.goals.items order → i < length order → turn ≡ get_or order i turn
     → ((u : Turn) → Contains (take i order) u → IsNamed t p w u.goal) → AreHintsNamed t p w turn.goal
-hints-first t p w order i turn right plan are within at named h hint g there =
+hints-first t p w order i turn plan are within at named h hint g there =
     let it = subst (IsTurn p.goals.items) (sym at) (are.all.each i turn within) in
-    let reason = plan.plan.reasons turn.goal it.goal hint.reason it.at hint.at in
+    let reason = plan.plan.plan.reasons turn.goal it.goal hint.reason it.at hint.at in
     let fewer = asked-fewer hint.reason.lowered it.goal.source.taken reason.places hint.reason.hints.items
     reason.asked (λ j inside.
     (All-contains (MakesFalse t.units.now it.goal.source.taken (clause_at t.formula.now it.goal.source.place))

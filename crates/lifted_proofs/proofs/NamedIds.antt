@@ -35,9 +35,8 @@ module _ (is_variable : ℕ → Bool) (first : ℕ) (to : Literal → Literal) (
     many = length-append ids (id ∷ []) ∙ ap (λ n. n + 1) named.many ∙ sym (length-append falsities (falsity ∷ []));
     each = λ k i xs at there. elim (last_or_before ids id k i at) [
       | inl before ↦
-          let within = slice_get_within ids k i before in
           named.each k i xs before
-          (sym (earlier falsities (falsity ∷ []) k (omega (arith, within, named.many))) ∙ there)
+          (sym (earlier falsities (falsity ∷ []) k (omega (arith, slice_get_within ids k i before, named.many))) ∙ there)
       | inr last ↦
           let same : falsity ≡ xs = same_Some falsity xs
           (sym (ap (slice_get (falsities ++ falsity ∷ [])) (last.0 ∙ named.many) ∙ last_there falsities falsity) ∙ there) in

@@ -1,12 +1,12 @@
 -- The clauses of a negated matrix by their ids.
 use Rattle.std.proofs.Common.{◌≡◌, ℕ, zero, suc, ◌+◌, ◌-◌, ◌*◌, ◌/◌, ◌%◌, ◌<◌, ◌≤◌, ◌==◌, Bool, true, false, not, cond, ◌||◌, inl, inr, List, [], ◌∷◌, ◌++◌, map, take, length, Option, Some, None, slice_get, refl, sym, ◌∙◌, ap, subst, arith, length-append}
-use Rattle.std.specs.List.{All, AllByRecursion, flat_map, filter, list_any, range_with_len, sum_by}
+use Rattle.std.specs.List.{All, AllByRecursion, flat_map, filter, list_any, sum_by}
 use Rattle.std.specs.Option.{option_and_then}
 use Rattle.std.proofs.lemmas.Bool.{ne_eqb, eq-eqb, eqb-true, cases_eq}
 use Rattle.std.proofs.lemmas.List.{length-map}
 use Rattle.std.proofs.lemmas.List.Sums.{sum_by-cons}
 use Rattle.std.proofs.lemmas.Option.{slice_get_past, same_Some}
-use Rattle.list_laws.proofs.Elements.{place_within, get-append_left}
+use Rattle.list_laws.proofs.Elements.{place_within, mapped_at, get-append_left, get-append_right}
 use Rattle.list_laws.proofs.Sequences.{sum-none, sum-taken}
 use Rattle.dq_lits.specs.Literal.{Literal, positive, negative, variable_of}
 use Rattle.dq_lits.specs.Formula.{Dqbf}
@@ -17,15 +17,7 @@ use Rattle.cert_text.proofs.NegatedClauses.{falsity_counted, gates_counted}
 use Rattle.lifted_proofs.specs.Liftables.{falsity}
 
 append-right : {X : Type 0} (xs ys : List X) (i k : ℕ) → k ≡ length xs + i → slice_get (xs ++ ys) k ≡ slice_get ys i
-append-right [] ys i k is = ap (slice_get ys) (omega (arith, is))
-append-right (x ∷ xs) ys i zero is = absurd (omega (arith, is))
-append-right (x ∷ xs) ys i (suc k) is = append-right xs ys i k (omega (arith, is))
-
-in-clause : (lit : ℕ → ℕ) (bad : ℕ) (clause : List Literal) (q : ℕ) (l : Literal) → slice_get clause q ≡ Some l
-    → slice_get (falsity_clauses lit bad clause) q ≡ Some (falsity lit bad l)
-in-clause lit bad [] q l at = cc
-in-clause lit bad (k ∷ ks) zero l at = ap (λ x. Some (falsity lit bad x)) (same_Some k l at)
-in-clause lit bad (k ∷ ks) (suc q) l at = in-clause lit bad ks q l at
+append-right xs ys i k is = ap (slice_get (xs ++ ys)) is ∙ get-append_right xs ys i
 
 falsity-length : (lit : ℕ → ℕ) (bad : ℕ) (c : List Literal) → length (falsity_clauses lit bad c) ≡ length c
 falsity-length lit bad c = length-map c (λ x. opposite_of (2 * bad) ∷ opposite_of (literal_under lit x) ∷ [])
@@ -41,17 +33,14 @@ in-clauses lit bad [] p q k clause l there at is = cc
 in-clauses lit bad (c ∷ cs) zero q k clause l there at is =
     let own : c ≡ clause = same_Some c clause there in
     let here : slice_get c q ≡ Some l = ap (λ x. slice_get x q) own ∙ at in
-    let within = place_within c q l here in
-    let long = falsity-length lit bad c in
     let same : k ≡ q = omega (arith, is, sum-none (c ∷ cs)) in
     ap (slice_get (all_falsity_clauses lit bad (c ∷ cs))) same
-    ∙ get-append_left (falsity_clauses lit bad c) (all_falsity_clauses lit (bad + 1) cs) q (omega (arith, within, long))
-    ∙ in-clause lit bad c q l here ∙ ap (λ b. Some (falsity lit b l)) (omega arith)
+    ∙ get-append_left (falsity_clauses lit bad c) (all_falsity_clauses lit (bad + 1) cs) q (omega (arith, place_within c q l here, falsity-length lit bad c))
+    ∙ mapped_at (falsity lit bad) c q l here ∙ ap (λ b. Some (falsity lit b l)) (omega arith)
 in-clauses lit bad (c ∷ cs) (suc p) q k clause l there at is =
-    let long = falsity-length lit bad c in
     let rest : ℕ = sum_by length (take p cs) + q in
     append-right (falsity_clauses lit bad c) (all_falsity_clauses lit (bad + 1) cs) rest k
-    (omega (arith, is, long, sum-taken c cs p))
+    (omega (arith, is, falsity-length lit bad c, sum-taken c cs p))
     ∙ in-clauses lit (bad + 1) cs p q rest clause l there at refl
     ∙ ap (λ b. Some (falsity lit b l)) (omega arith)
 
@@ -92,21 +81,17 @@ module _ (f : Dqbf) (net : Netlist) (lit : ℕ → ℕ) where
       → negated_matrix f net lit id ≡ without_constants (some_clause_false net f.matrix)
   in-last id is =
       let many = sum_by length f.matrix in
-      let long = falsity_counted lit (net.max_var + 1) f.matrix in
       by-id id (3 * length net.gates + many) (Some (some_clause_false net f.matrix)) (omega (arith, is))
       (append-right gate_part (falsity_part ++ last_part) many (3 * length net.gates + many)
       (omega (arith, gates_counted net.gates))
-      ∙ append-right falsity_part last_part 0 many (omega (arith, long)))
+      ∙ append-right falsity_part last_part 0 many (omega (arith, falsity_counted lit (net.max_var + 1) f.matrix)))
 
   pub behind-all : (id : ℕ) → 3 * length net.gates + sum_by length f.matrix + 1 < id → negated_matrix f net lit id ≡ None
   behind-all zero behind = refl
   behind-all (suc i) behind =
-      let long = falsity_counted lit (net.max_var + 1) f.matrix in
-      let tail = length-append falsity_part last_part in
-      let whole = length-append gate_part (falsity_part ++ last_part) in
       by-id (suc i) i None refl
       (slice_get_past (gate_part ++ (falsity_part ++ last_part)) i
-      (omega (arith, behind, long, tail, whole, gates_counted net.gates)))
+      (omega (arith, behind, falsity_counted lit (net.max_var + 1) f.matrix, length-append falsity_part last_part, length-append gate_part (falsity_part ++ last_part), gates_counted net.gates)))
 
 -- the clause of a literal at its place
 pub at-literal : (f : Dqbf) (net : Netlist) (lit : ℕ → ℕ) (p q id : ℕ) (clause : List Literal) (l : Literal)
@@ -125,8 +110,7 @@ literal-before (c ∷ cs) zero q clause at below =
     let same = ap (λ (x : List Literal). length x) (same_Some c clause at) in
     omega (arith, below, same, sum-first c cs, sum-none (c ∷ cs))
 literal-before (c ∷ cs) (suc p) q clause at below =
-    let rest = literal-before cs p q clause at below in
-    omega (arith, rest, sum-first c cs, sum-taken c cs p)
+    omega (arith, literal-before cs p q clause at below, sum-first c cs, sum-taken c cs p)
 
 -- ---- constants
 
@@ -159,25 +143,11 @@ negated-number bad =
     let half : (2 * bad + 1) / 2 ≡ bad = omega arith in
     ap (λ r. cond (r == 1) (negative ((2 * bad + 1) / 2)) (positive ((2 * bad + 1) / 2))) odd ∙ ap negative half
 
-positive-number : (bad : ℕ) → as_literal (2 * bad) ≡ positive bad
-positive-number bad =
-    let even : 2 * bad % 2 ≡ 0 = omega arith in
-    let half : 2 * bad / 2 ≡ bad = omega arith in
-    ap (λ r. cond (r == 1) (negative (2 * bad / 2)) (positive (2 * bad / 2))) even ∙ ap positive half
-
 two-kept : (a b : ℕ) (p q r s : Bool) → (a == 1) ≡ p → (b == 1) ≡ q → (a == 0) ≡ r → (b == 0) ≡ s
     → without_constants (a ∷ b ∷ [])
     ≡ cond (p || (q || false)) None
     (Some (map as_literal (cond (not r) (a ∷ cond (not s) (b ∷ []) []) (cond (not s) (b ∷ []) []))))
-two-kept a b p q r s e1 e2 e3 e4 =
-    ap (λ x. cond (x || ((b == 1) || false)) None
-    (Some (map as_literal (cond (not (a == 0)) (a ∷ cond (not (b == 0)) (b ∷ []) []) (cond (not (b == 0)) (b ∷ []) []))))) e1
-    ∙ ap (λ x. cond (p || (x || false)) None
-    (Some (map as_literal (cond (not (a == 0)) (a ∷ cond (not (b == 0)) (b ∷ []) []) (cond (not (b == 0)) (b ∷ []) []))))) e2
-    ∙ ap (λ x. cond (p || (q || false)) None
-    (Some (map as_literal (cond (not x) (a ∷ cond (not (b == 0)) (b ∷ []) []) (cond (not (b == 0)) (b ∷ []) []))))) e3
-    ∙ ap (λ x. cond (p || (q || false)) None
-    (Some (map as_literal (cond (not r) (a ∷ cond (not x) (b ∷ []) []) (cond (not x) (b ∷ []) []))))) e4
+two-kept a b p q r s e1 e2 e3 e4 = rw (e1, e2, e3, e4)
 
 module _ (bad x : ℕ) (some : 1 ≤ bad) where
   first-free : (opposite_of (2 * bad) == 1) ≡ false
@@ -210,40 +180,6 @@ module _ (bad x : ℕ) (some : 1 ≤ bad) where
       (ne_eqb (opposite_of x) 1 (λ e. absurd (omega (arith, e, above)))) first-kept
       (ne_eqb (opposite_of x) 0 (λ e. absurd (omega (arith, e, above))))
       ∙ ap (λ l. Some (l ∷ as_literal (opposite_of x) ∷ [])) first-is
-
--- the clause that some clause is false
-pub last-clause : (first count : ℕ) → 1 ≤ first
-    → without_constants (map (λ bad. 2 * bad) (range_with_len first count))
-    ≡ Some (map positive (range_with_len first count))
-last-clause first count some =
-    ap (λ b. cond b None (Some (map as_literal (filter (λ l. not (l == 0)) (map (λ bad. 2 * bad) (range_with_len first count))))))
-    (none-true first count some)
-    ∙ ap (λ ls. Some (map as_literal ls)) (all-kept first count some)
-    ∙ ap Some (all-are first count)
-  where
-    none-true : (first count : ℕ) → 1 ≤ first
-        → list_any (λ l. l == 1) (map (λ bad. 2 * bad) (range_with_len first count)) ≡ false
-    none-true first zero some = refl
-    none-true first (suc count) some =
-        ap (λ b. b || list_any (λ l. l == 1) (map (λ bad. 2 * bad) (range_with_len (first + 1) count)))
-        (ne_eqb (2 * first) 1 (λ e. absurd (omega (arith, e))))
-        ∙ none-true (first + 1) count (omega arith)
-
-    all-kept : (first count : ℕ) → 1 ≤ first
-        → filter (λ l. not (l == 0)) (map (λ bad. 2 * bad) (range_with_len first count))
-        ≡ map (λ bad. 2 * bad) (range_with_len first count)
-    all-kept first zero some = refl
-    all-kept first (suc count) some =
-        let rest : List ℕ = filter (λ l. not (l == 0)) (map (λ bad. 2 * bad) (range_with_len (first + 1) count)) in
-        ap (λ b. cond (not b) (2 * first ∷ rest) rest) (ne_eqb (2 * first) 0 (λ e. absurd (omega (arith, e, some))))
-        ∙ ap (λ ls. 2 * first ∷ ls) (all-kept (first + 1) count (omega arith))
-
-    all-are : (first count : ℕ)
-        → map as_literal (map (λ bad. 2 * bad) (range_with_len first count)) ≡ map positive (range_with_len first count)
-    all-are first zero = refl
-    all-are first (suc count) =
-        ap (λ l. l ∷ map as_literal (map (λ bad. 2 * bad) (range_with_len (first + 1) count))) (positive-number first)
-        ∙ ap (λ ls. positive first ∷ ls) (all-are (first + 1) count)
 
 -- ---- variables
 

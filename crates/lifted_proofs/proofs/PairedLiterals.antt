@@ -1,8 +1,8 @@
 -- Literals on pairs.
-use Rattle.std.proofs.Common.{◌≡◌, ℕ, ◌+◌, ◌-◌, ◌*◌, ◌%◌, ◌≤◌, ◌==◌, Bool, true, false, not, cond, inl, inr, List, [], ◌∷◌, map, get_or, Option, Some, None, IfSome, is_some, refl, sym, ◌∙◌, ap}
+use Rattle.std.proofs.Common.{◌≡◌, ℕ, ◌+◌, ◌-◌, ◌*◌, ◌%◌, ◌≤◌, ◌==◌, Bool, true, false, not, cond, inl, inr, List, [], ◌∷◌, map, get_or, Option, Some, None, IfSome, is_some, refl, sym, ◌∙◌, ap, subst}
 use Rattle.std.specs.List.{All, Contains, list_any, filter, filter_map, position_or_len}
 use Rattle.std.proofs.lemmas.Bool.{true≢false, or_cases, or_left, or_right, cases_Bool}
-use Rattle.std.proofs.lemmas.List.Elements.{All-contains, Contains-append_cases, Contains-append_right}
+use Rattle.std.proofs.lemmas.List.Elements.{All-contains, Contains-append_cases, Contains-append_right, All-tail, All-head}
 use Rattle.list_laws.proofs.Members.{tested_inside}
 use Rattle.list_laws.proofs.Numbers.{pair_variable}
 use Rattle.dq_lits.specs.Literal.{Literal, positive, negative, variable_of, opposite, on_variable, same_literal}
@@ -53,6 +53,13 @@ existential-or-universal f l well bound = elim (cases_Bool (is_universal f (vari
             ∙ tested_inside (existential_variables f) (variable_of l) existential
             ∙ sym (ap not other)
       ]
+]
+
+pub bound-in : (f : Dqbf) (xs : List Literal) (l : Literal) → All (IsBound f) xs → holds xs l ≡ true → IsBound f l
+bound-in f [] l all h = absurd (true≢false (sym h))
+bound-in f (x ∷ xs) l all h = elim (or_cases (same_literal l x) (holds xs l) h) [
+  | inl same ↦ subst (IsBound f) (sym (same_literal-sound l x same)) (All-head (IsBound f) x xs all)
+  | inr later ↦ bound-in f xs l (All-tail (IsBound f) x xs all) later
 ]
 
 existentials-are : (f : Dqbf) (clause : List Literal) → IsWellFormed f → All (IsBound f) clause

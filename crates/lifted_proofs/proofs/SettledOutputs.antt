@@ -1,5 +1,5 @@
 -- The literals of a circuit whose outputs are settled.
-use Rattle.std.proofs.Common.{◌≡◌, ℕ, zero, suc, ◌+◌, ◌-◌, ◌*◌, ◌<◌, ◌≤◌, ◌==◌, Bool, true, false, not, cond, ◌||◌, inl, inr, List, [], ◌∷◌, length, refl, sym, ◌∙◌, ap, subst, arith}
+use Rattle.std.proofs.Common.{◌≡◌, ℕ, zero, suc, ◌+◌, ◌*◌, ◌<◌, ◌≤◌, ◌==◌, Bool, true, false, not, cond, ◌||◌, inl, inr, List, [], ◌∷◌, length, refl, sym, ◌∙◌, ap, subst, arith}
 use Rattle.std.specs.Prelude.{slice_index}
 use Rattle.std.specs.List.{All, Contains, list_any, position_or_len}
 use Rattle.std.proofs.lemmas.Bool.{true≢false, cases_eq, cases_Bool, eq-eqb, ne_eqb, or_cases}
@@ -162,7 +162,7 @@ index-fits max (x ∷ xs) (suc i) all = index-fits max xs i (λ k d below. all (
 
 input-fits : (max : ℕ) (xs : List ℕ) (i : ℕ) → All (IsVariable max) xs → 2 * slice_index xs i ≤ 2 * max + 1
 input-fits max [] i all = omega arith
-input-fits max (x ∷ xs) zero all = let fits = (all 0 0 (omega arith)).1 in omega (arith, fits)
+input-fits max (x ∷ xs) zero all = omega (arith, (all 0 0 (omega arith)).1)
 input-fits max (x ∷ xs) (suc i) all = input-fits max xs i (λ k d below. all (suc k) d (omega (arith, below)))
 
 variable-fits : (c : MappedCircuit) (v : ℕ) → IsNetlist c.netlist → circuit_literal c v ≤ 2 * c.netlist.max_var + 1

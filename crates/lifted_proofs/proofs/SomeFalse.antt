@@ -1,8 +1,8 @@
 -- The line that some clause which is kept is false.
-use Rattle.std.proofs.Common.{◌≡◌, ℕ, zero, suc, ◌+◌, ◌-◌, ◌<◌, ◌||◌, ◌⊎◌, true, false, inl, inr, List, [], ◌∷◌, ◌++◌, map, Some, refl, ◌∙◌, ap, subst, arith}
-use Rattle.std.specs.List.{All, AllZip, list_any, range_with_len}
+use Rattle.std.proofs.Common.{◌≡◌, ℕ, zero, suc, ◌+◌, ◌<◌, ◌||◌, ◌⊎◌, true, false, inl, inr, List, [], ◌∷◌, ◌++◌, map, Some, refl, ◌∙◌, ap, subst, arith, ◌≢◌}
+use Rattle.std.specs.List.{All, AllZip, list_any, range_with_len, AllPairs}
 use Rattle.std.proofs.lemmas.Bool.{cases_eq, ne_eqb, or_left, or_right}
-use Rattle.std.proofs.lemmas.Option.{same_Some}
+use Rattle.std.proofs.lemmas.Option.{same_Some, get_or_from_slice_get, slice_get_within}
 use Rattle.dq_lits.specs.Literal.{Literal, positive, negative, opposite, same_literal}
 use Rattle.dq_lits.specs.Derivation.{LiveClauses, IsDerived, holds}
 use Rattle.dq_lits.proofs.SignedLiterals.{same_literal-refl}
@@ -10,7 +10,7 @@ use Rattle.dq_prep.specs.Lifted.{AreFalsifying}
 use Rattle.dq_prep.proofs.Carried.{derives}
 use Rattle.lifted_proofs.specs.Liftables.{is_false}
 use Rattle.lifted_proofs.specs.NamedIds.{IsTrueBy}
-use Rattle.lifted_proofs.proofs.KeptPlaces.{StandsIn, AreAscending, from-first}
+use Rattle.lifted_proofs.proofs.KeptPlaces.{StandsIn}
 
 -- the clause at a place isn't false
 abbrev not_false : ℕ → ℕ → Literal
@@ -51,25 +51,26 @@ unit-true first (q ∷ qs) trues p (zero, at) =
 unit-true first (q ∷ qs) trues p (suc j, at) = unit-true first qs (not_false first q ∷ trues) p (j, at)
 
 -- where no positive literal is true, and none of these negative ones, they falsify the last clause
-falsify : (live : LiveClauses) (first next from last : ℕ) (ps ids : List ℕ) (trues clause : List Literal)
-    → AllZip (IsTrueBy live first next) ps ids → AreAscending from ps
+falsify : (live : LiveClauses) (first next last : ℕ) (ps ids : List ℕ) (trues clause : List Literal)
+    → AllZip (IsTrueBy live first next) ps ids → AllPairs (λ i j. i ≢ j) ps
     → ((v : ℕ) → holds trues (positive v) ≡ false)
     → ((p : ℕ) → StandsIn ps p → holds trues (not_false first p) ≡ false)
     → live last ≡ Some clause
     → All (λ l. holds (behind_units first ps trues) (opposite l) ≡ true) clause
     → AreFalsifying live trues (units_of first ps ids) last
-falsify live first next from last [] [] trues clause are ascend none fresh at all = (clause, at, all)
-falsify live first next from last [] (id ∷ ids) trues clause are ascend none fresh at all = absurd are
-falsify live first next from last (p ∷ ps) [] trues clause are ascend none fresh at all = absurd are
-falsify live first next from last (p ∷ ps) (id ∷ ids) trues clause are ascend none fresh at all = (
+falsify live first next last [] [] trues clause are distinct none fresh at all = (clause, at, all)
+falsify live first next last [] (id ∷ ids) trues clause are distinct none fresh at all = absurd are
+falsify live first next last (p ∷ ps) [] trues clause are distinct none fresh at all = absurd are
+falsify live first next last (p ∷ ps) (id ∷ ids) trues clause are distinct none fresh at all = (
   are.0.is,
   fresh p (0, refl),
   none (first + p),
-  falsify live first next (suc p) last ps ids (not_false first p ∷ trues) clause are.1 ascend.1 none
+  falsify live first next last ps ids (not_false first p ∷ trues) clause are.1
+      (λ i j d before within. distinct (suc i) (suc j) d (omega (arith, before)) (omega (arith, within))) none
       (λ q in-ps. elim (cases_eq (first + q) (first + p)) [
         | inl same ↦
-            let above = from-first (suc p) ps in-ps.0 q ascend.1 in-ps.1 in
-            absurd (omega (arith, same, above))
+            absurd (distinct 0 (suc in-ps.0) 0 (omega arith) (omega (arith, slice_get_within ps in-ps.0 q in-ps.1))
+            (omega (arith, same, get_or_from_slice_get ps in-ps.0 q 0 in-ps.1)))
         | inr apart ↦
             ap (λ b. b || holds trues (not_false first q)) (ne_eqb (first + q) (first + p) apart)
             ∙ fresh q (suc in-ps.0, in-ps.1)
@@ -128,19 +129,19 @@ all-in-range P from (suc count) each (suc k) d below =
     (omega (arith, below))
 
 -- the kept clauses are the ones that may be false
-pub some-false : (live : LiveClauses) (first next last count : ℕ) (kept gone ids : List ℕ) → AreAscending 0 gone
+pub some-false : (live : LiveClauses) (first next last count : ℕ) (kept gone ids : List ℕ) → AllPairs (λ i j. i ≢ j) gone
     → AllZip (IsTrueBy live first next) gone ids
     → ((p : ℕ) → p < count → StandsIn kept p ⊎ StandsIn gone p)
     → ((p : ℕ) → StandsIn kept p → StandsIn gone p → ⊥)
     → live last ≡ Some (map positive (range_with_len first count))
     → IsDerived live (map (is_false first) kept) (ids ++ last ∷ [])
-some-false live first next last count kept gone ids ascend are each apart at =
+some-false live first next last count kept gone ids distinct are each apart at =
     let literals : List Literal = map (is_false first) kept in
     let trues : List Literal = map opposite literals in
     let units : List (ℕ × Literal) = units_of first gone ids in
     subst (λ xs. IsDerived live literals (xs ++ last ∷ [])) (ids-of live first next gone ids are)
     (derives live literals units last (positives-plain first kept kept)
-    (falsify live first next 0 last gone ids trues (map positive (range_with_len first count)) are ascend
+    (falsify live first next last gone ids trues (map positive (range_with_len first count)) are distinct
     (none-positive first kept) (λ p it. fresh-here first kept p (λ also. apart p also it)) at
     (all-in-range (λ l. holds (behind_units first gone trues) (opposite l) ≡ true) first count
     (λ r below. elim (each r below) [

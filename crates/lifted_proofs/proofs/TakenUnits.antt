@@ -53,10 +53,9 @@ unit-at f units j u are at =
 pub first-holds : (units : List Taken) (count j : ℕ) (u : Taken) → j < count → slice_get units j ≡ Some u
     → holds (first_literals units count) u.literal ≡ true
 first-holds units count j u before at =
-    let within = slice_get_within units j u at in
     let inside : Contains (take count units) u = (
       j,
-      omega (arith, before, within, length-take count units),
+      omega (arith, before, slice_get_within units j u at, length-take count units),
       get_or-take count units j u before ∙ get_or_from_slice_get units j u u at,
     ) in
     let r = Contains-permutation (take count units) (reverse (take count units)) u
@@ -175,6 +174,10 @@ other-false units count l j told none =
           (subst (λ n. n < count) is first.before) first.is)
     ]
 
+one-at : (units : List Taken) (i j : ℕ) (w u : Taken) → i ≡ j → slice_get units i ≡ Some w
+    → slice_get units j ≡ Some u → u ≡ w
+one-at units i j w u same there at = same_Some u w (sym at ∙ ap (slice_get units) (sym same) ∙ there)
+
 -- one more unit, on another variable
 pub tells-more : (units : List Taken) (j v : ℕ) (u : Taken) (o : Option ℕ) → slice_get units j ≡ Some u
     → variable_of u.literal ≢ v → TellsUnit units j v o → TellsUnit units (j + 1) v o
@@ -183,13 +186,6 @@ tells-more units j v u None at other told = λ i w below there same. elim (cases
   | inr behind ↦ other (ap (λ x. variable_of x.literal) (one-at units i j w u (omega (arith, below, behind)) there at)
       ∙ same)
 ]
-  where
-    one-at : (units : List Taken) (i j : ℕ) (w u : Taken) → i ≡ j → slice_get units i ≡ Some w
-        → slice_get units j ≡ Some u → u ≡ w
-    one-at units i j w u same there at = some-is u w (sym at ∙ ap (slice_get units) (sym same) ∙ there)
-      where
-        some-is : (a b : Taken) → Some a ≡ Some b → a ≡ b
-        some-is a b e = cc
 tells-more units j v u (Some place) at other told = (
   omega (arith, told.0),
   λ i w below there same. elim (cases_lt i j) [
@@ -199,13 +195,6 @@ tells-more units j v u (Some place) at other told = (
         (one-at units i j w u (omega (arith, below, behind)) there at) ∙ same))
   ],
 )
-  where
-    one-at : (units : List Taken) (i j : ℕ) (w u : Taken) → i ≡ j → slice_get units i ≡ Some w
-        → slice_get units j ≡ Some u → u ≡ w
-    one-at units i j w u same there at = some-is u w (sym at ∙ ap (slice_get units) (sym same) ∙ there)
-      where
-        some-is : (a b : Taken) → Some a ≡ Some b → a ≡ b
-        some-is a b e = cc
 
 -- the existential at a place has the newest unit
 pub tells-here : (f : Dqbf) (units : List Taken) (j : ℕ) (u : Taken) (v : ℕ) → AreUnits f (reverse units)
@@ -236,13 +225,10 @@ table-more f units j place u on are at found within told v p at-v = elim (cases_
   | inr other ↦
       subst (TellsUnit units (j + 1) v) (sym (get_or-set_other on place p (Some j) None other))
       (tells-more units j v u (slice_index_or on p None) at
-      (λ same. other (some-is p place (sym at-v
+      (λ same. other (same_Some p place (sym at-v
       ∙ ap (λ n. position (λ y. y == n) (existential_variables f)) (sym same) ∙ found)))
       (told v p at-v))
 ]
-  where
-    some-is : (a b : ℕ) → Some a ≡ Some b → a ≡ b
-    some-is a b e = cc
 
 -- a unit on no existential changes nothing
 pub table-stays : (f : Dqbf) (units : List Taken) (j : ℕ) (u : Taken) (on : List (Option ℕ))
@@ -251,11 +237,9 @@ pub table-stays : (f : Dqbf) (units : List Taken) (j : ℕ) (u : Taken) (on : Li
     → TellUnits f units j on → TellUnits f units (j + 1) on
 table-stays f units j u on at none told v p at-v =
     tells-more units j v u (slice_index_or on p None) at
-    (λ same. none-some (sym none ∙ ap (λ n. position (λ y. y == n) (existential_variables f)) same ∙ at-v))
+    (λ same.
+    let e : None ≡ Some p = sym none ∙ ap (λ n. position (λ y. y == n) (existential_variables f)) same ∙ at-v in cc)
     (told v p at-v)
-  where
-    none-some : None ≡ Some p → ⊥
-    none-some e = cc
 
 pub unit-some : (f : Dqbf) (units : List Taken) (j : ℕ) (u : Taken) (v : ℕ) → IsWellFormed f
     → AreUnits f (reverse units) → slice_get units j ≡ Some u → v ≡ variable_of u.literal

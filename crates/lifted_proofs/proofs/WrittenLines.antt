@@ -1,7 +1,7 @@
 -- Lines that are written one after another.
 use Rattle.std.proofs.Common.{◌≡◌, ℕ, ◌+◌, ◌-◌, ◌*◌, ◌/◌, ◌%◌, ◌<◌, ◌≤◌, ◌==◌, nat_lt, Bool, true, false, not, ◌&&◌, List, [], ◌∷◌, ◌++◌, map, length, get_or, Option, Some, None, is_some, refl, sym, ◌∙◌, ap, subst, arith}
 use Rattle.std.specs.List.{All}
-use Rattle.std.proofs.lemmas.Bool.{true≢false, cond-false, ne_eqb, eqb-true, lt-ltb}
+use Rattle.std.proofs.lemmas.Bool.{and_parts, true≢false, cond-false, ne_eqb, eqb-true, lt-ltb}
 use Rattle.std.proofs.lemmas.Option.{slice_get_within, get_or_from_slice_get}
 use Rattle.std.proofs.lemmas.List.Elements.{All-map, All-head, All-tail, All-filter, filter_passes}
 use Rattle.list_laws.proofs.Numbers.{pair_variable, pair_row}
@@ -23,12 +23,11 @@ use Rattle.refutation_checker.proofs.InstanceIds.{own_id}
 use Rattle.refutation_checker.proofs.PairNames.{own_number}
 use Rattle.refutation_checker.proofs.PairNumbers.{pair_number_is}
 use Rattle.lifted_proofs.specs.UnitTables.{first_literals}
-use Rattle.lifted_proofs.specs.Goals.{clause_at, IsGoal}
+use Rattle.lifted_proofs.specs.Goals.{clause_at, IsGoal, Settled}
 use Rattle.lifted_proofs.specs.Lines.{goal_line, paired, numbered_literal, written_literals, behind_steps, AreDerived, normal_steps}
 use Rattle.lifted_proofs.specs.declared.goals.Goal.{Goal}
 use Rattle.lifted_proofs.specs.declared.goals.Reason.{Reason}
 use Rattle.lifted_proofs.proofs.PairedLiterals.{left-paired, clause-paired, existential-or-universal, bound-range, InRange}
-use Rattle.lifted_proofs.proofs.DerivedGoals.{Settled, and-both}
 
 -- one more step
 pub behind-more : (live : LiveClauses) (ss : List ProofStep) (s : ProofStep)
@@ -47,6 +46,12 @@ pub steps-more : (p : ℕ → Bool) (n : ℕ) (ss : List ProofStep) (s : ProofSt
 steps-more p n [] s all it = (subst (λ m. IsStep p m s) (omega arith) it, tt)
 steps-more p n (t ∷ ss) s all it =
     (all.0, steps-more p (n + 1) ss s all.1 (subst (λ m. IsStep p m s) (omega arith) it))
+
+pub steps-append : (p : ℕ → Bool) (n : ℕ) (xs ys : List ProofStep) → AreSteps p n xs → AreSteps p (n + length xs) ys
+    → AreSteps p n (xs ++ ys)
+steps-append p n [] ys a b = subst (λ m. AreSteps p m ys) (omega arith) b
+steps-append p n (x ∷ xs) ys a b =
+    (a.0, steps-append p (n + 1) xs ys a.1 (subst (λ m. AreSteps p m ys) (omega arith) b))
 
 -- ids below the steps' have the clauses that they had
 pub behind-before : (f : Dqbf) (rows : List (List Bool)) (live : LiveClauses) (p : ℕ → Bool) (n : ℕ)
@@ -126,7 +131,7 @@ open-at f trues clause k d bound below =
     let it = all k d below in (
       it.0,
       not-open (is_universal f (variable_of (get_or (open_literals f trues clause) k d)))
-          (and-both (not (is_universal f (variable_of (get_or (open_literals f trues clause) k d)))) _ it.1).0,
+          (and_parts (not (is_universal f (variable_of (get_or (open_literals f trues clause) k d)))) _ it.1).0,
     )
   where
     not-open : (b : Bool) → not b ≡ true → b ≡ false
@@ -140,15 +145,12 @@ open-at f trues clause k d bound below =
       filter_passes (is_open f trues) clause i e inside,
     )
 
-map-same : {X Y : Type 0} (p q : X → Y) (xs : List X) → All (λ x. p x ≡ q x) xs → map p xs ≡ map q xs
-map-same p q [] same = refl
-map-same p q (x ∷ xs) same =
-    ap (λ y. y ∷ map p xs) (All-head (λ z. p z ≡ q z) x xs same)
-    ∙ ap (λ ys. q x ∷ ys) (map-same p q xs (All-tail (λ z. p z ≡ q z) x xs same))
-
-map-map : {X Y Z : Type 0} (p : Y → Z) (q : X → Y) (xs : List X) → map p (map q xs) ≡ map (λ x. p (q x)) xs
-map-map p q [] = refl
-map-map p q (x ∷ xs) = ap (λ ys. p (q x) ∷ ys) (map-map p q xs)
+map-twice : {X Y Z : Type 0} (p : Y → Z) (q : X → Y) (r : X → Z) (xs : List X) → All (λ x. p (q x) ≡ r x) xs
+    → map p (map q xs) ≡ map r xs
+map-twice p q r [] same = refl
+map-twice p q r (x ∷ xs) same =
+    ap (λ y. y ∷ map p (map q xs)) (All-head (λ z. p (q z) ≡ r z) x xs same)
+    ∙ ap (λ ys. r x ∷ ys) (map-twice p q r xs (All-tail (λ z. p (q z) ≡ r z) x xs same))
 
 -- what is written for a goal stands for its line
 pub written-line : (f : Dqbf) (units : List Taken) (rows : List (List Bool)) (g : Goal) → IsWellFormed f
@@ -158,8 +160,7 @@ written-line f units rows g well goal =
     let clause = clause_at f g.source.place in
     let bound = bound-clause f g.source.place well goal.source.place in
     let within = slice_get_within rows g.row goal.row goal.row_at in
-    map-map (normal_literal f rows) (numbered_literal f g.row) (open_literals f trues clause)
-    ∙ map-same (λ l. normal_literal f rows (numbered_literal f g.row l)) (paired f rows (row_of rows g.row))
+    map-twice (normal_literal f rows) (numbered_literal f g.row) (paired f rows (row_of rows g.row))
     (open_literals f trues clause) (λ k d below.
     let it = open-at f trues clause k d bound below in
     normal-numbered f rows g.row (get_or (open_literals f trues clause) k d) well within it.0 it.1)

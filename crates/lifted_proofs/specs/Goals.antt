@@ -1,15 +1,15 @@
 -- Clauses under rows that a lifted refutation derives: what is left of a formula's clauses where units
 -- were taken.
-use Rattle.std.specs.Prelude.{◌≡◌, ◌≢◌, ◌≤◌, ◌<◌, ◌+◌, ℕ, Bool, true, false, List, [], length, Some, IfSome, slice_index_or}
+use Rattle.std.specs.Prelude.{◌≡◌, ◌≢◌, ◌≤◌, ◌<◌, ◌+◌, ℕ, Bool, true, false, List, [], length, Some, IfSome, slice_index_or, reverse, ◌++◌, ◌∷◌}
 use Rattle.std.specs.List.{All, AllPairs, AllZip, Contains, list_any, slice_get}
 use Rattle.dq_lits.specs.Literal.{Literal, variable_of, opposite}
-use Rattle.dq_lits.specs.Formula.{Existential, Dqbf, existential_of}
+use Rattle.dq_lits.specs.Formula.{Existential, Dqbf, existential_of, IsWellFormed}
 use Rattle.dq_lits.specs.Derivation.{holds, is_tautology}
 use Rattle.dq_lits.specs.Expansion.{agree_on, universal_literal_true}
 use Rattle.dq_prep.specs.declared.traces.Taken.{Taken}
-use Rattle.dq_prep.specs.Units.{without_false, is_satisfied, left_of}
+use Rattle.dq_prep.specs.Units.{without_false, is_satisfied, left_of, AreUnits}
 use Rattle.cert_text.specs.Header.{max_count}
-use Rattle.lifted_proofs.specs.UnitTables.{first_literals}
+use Rattle.lifted_proofs.specs.UnitTables.{first_literals, IsUnitTable}
 use Rattle.lifted_proofs.specs.declared.units.UnitTable.{UnitTable}
 use Rattle.lifted_proofs.specs.declared.goals.Source.{Source}
 use Rattle.lifted_proofs.specs.declared.goals.Goal.{Goal}
@@ -113,14 +113,21 @@ pub record IsPlan (f : Dqbf) (units : List Taken) (p : Plan) : Type 0 where
   pub few_rows : length p.rows + p.room ≤ max_count
   pub few_reasons : length p.reasons.items ≤ length p.goals.items
 
-abbrev pub IsPlanOf : UnitTable → Plan → Type 0
-IsPlanOf t p = IsPlan t.formula.now t.units.now p
+pub record IsPlanOf (t : UnitTable) (p : Plan) : Type 0 where
+  pub right : IsUnitTable t
+  pub plan : IsPlan t.formula.now t.units.now p
 
 abbrev pub IsAskedIn : UnitTable → Plan → ℕ → ℕ → ℕ → Type 0
 IsAskedIn t p lowered j h = IsAsked t.formula.now t.units.now p.rows p.goals.items lowered j h
 
 abbrev pub IsGoalOf : UnitTable → Plan → Goal → Type 0
 IsGoalOf t p g = IsGoal t.formula.now t.units.now p.rows g
+
+-- the goal at a place
+pub record IsGoalAt (t : UnitTable) (p : Plan) (q : ℕ) (g : Goal) : Type 0 where
+  pub at : slice_get p.goals.items q ≡ Some g
+  pub goal : IsGoalOf t p g
+  pub row : g.row < length p.rows
 
 abbrev pub IsLoweredIn : UnitTable → Plan → Goal → ℕ → Type 0
 IsLoweredIn t p g lowered = IsLowered t.formula.now t.units.now p.rows g lowered
@@ -151,3 +158,39 @@ pub record Grows (old new : Plan) : Type 0 where
 pub record GrowsGoals (old new : Plan) : Type 0 where
   pub grows : Grows old new
   pub reasons : new.reasons.items ≡ old.reasons.items
+
+-- rows and goals were added, so that this holds now
+pub record Adds (t : UnitTable) (old new : Plan) (Now : Type 0) : Type 0 where
+  pub plan : IsPlanOf t new
+  pub grows : GrowsGoals old new
+  pub now : Now
+
+-- a row came behind the others
+pub record IsRowAdded (old new : Plan) (row : List Bool) (place : ℕ) : Type 0 where
+  pub place_is : place ≡ length old.rows
+  pub is : new ≡ record old { rows = old.rows ++ row ∷ []; room = new.room }
+  pub room : new.room + 1 ≡ old.room
+
+-- the next goal has its reason
+pub record Settles (t : UnitTable) (old new : Plan) : Type 0 where
+  pub plan : IsPlanOf t new
+  pub grows : Grows old new
+  pub more : length new.reasons.items ≡ length old.reasons.items + 1
+
+-- what is fixed of a goal with its reason
+pub record Settled (f : Dqbf) (units : List Taken) (rows : List (List Bool)) (goals : List Goal)
+    (g : Goal) (r : Reason) : Type 0 where
+  pub well : IsWellFormed f
+  pub are : AreUnits f (reverse units)
+  pub goal : IsGoal f units rows g
+  pub reason : IsReason f units rows goals g r
+
+abbrev pub IsSettledBy : UnitTable → Plan → Goal → Reason → Type 0
+IsSettledBy t p g r = Settled t.formula.now t.units.now p.rows p.goals.items g r
+
+-- the reason of the goal at a place
+pub record IsReasonAt (t : UnitTable) (p : Plan) (q : ℕ) (g : Goal) (r : Reason) : Type 0 where
+  pub at : slice_get p.reasons.items q ≡ Some r
+  pub settled : IsSettledBy t p g r
+  pub low : r.lowered < length p.rows
+  pub hints : All (λ h. h < length p.goals.items) r.hints.items

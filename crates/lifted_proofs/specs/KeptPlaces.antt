@@ -1,32 +1,28 @@
 -- Words of private contracts: which clauses of a formula are kept, and which go.
-use Rattle.std.specs.Prelude.{ℕ, suc, List, [], ◌∷◌, Option, None, Some}
-use Rattle.std.specs.List.{cons_option}
+use Rattle.std.specs.Prelude.{ℕ, Bool, true, false, List, [], ◌∷◌, length, Option}
+use Rattle.std.specs.Bool.{beq}
+use Rattle.std.specs.Option.{is_some}
+use Rattle.std.specs.List.{filter, range_with_len}
 use Rattle.dq_lits.specs.Literal.{Literal}
 use Rattle.dq_lits.specs.Formula.{Dqbf}
 use Rattle.dq_prep.specs.declared.traces.Taken.{Taken}
 use Rattle.dq_prep.specs.Simplified.{kept_clause}
+use Rattle.lifted_proofs.specs.Goals.{clause_at}
 
-abbrev pub kept_place : ℕ → Option (List Literal) → Option ℕ
-kept_place place None = None
-kept_place place (Some left) = Some place
+-- what is kept of the clause at a place
+abbrev pub kept_at : Dqbf → List Taken → ℕ → Option (List Literal)
+kept_at f units place = kept_clause f units place (clause_at f place)
 
-abbrev pub dropped_place : ℕ → Option (List Literal) → Option ℕ
-dropped_place place None = Some place
-dropped_place place (Some left) = None
+-- of the first clauses, so many, the places of those of which something is kept, or of the others
+abbrev pub places_of : Dqbf → List Taken → Bool → ℕ → List ℕ
+places_of f units kept count =
+    filter (λ p. beq (is_some (kept_at f units p)) kept) (range_with_len 0 count)
 
--- the places of the clauses of which something is kept, counted from a place on
-abbrev pub kept_places : Dqbf → List Taken → ℕ → List (List Literal) → List ℕ
-kept_places f units place [] = []
-kept_places f units place (clause ∷ clauses) =
-    cons_option (kept_place place (kept_clause f units place clause))
-    (kept_places f units (suc place) clauses)
+abbrev pub kept_places : Dqbf → List Taken → List ℕ
+kept_places f units = places_of f units true (length f.matrix)
 
--- and of the others
-abbrev pub dropped_places : Dqbf → List Taken → ℕ → List (List Literal) → List ℕ
-dropped_places f units place [] = []
-dropped_places f units place (clause ∷ clauses) =
-    cons_option (dropped_place place (kept_clause f units place clause))
-    (dropped_places f units (suc place) clauses)
+abbrev pub dropped_places : Dqbf → List Taken → List ℕ
+dropped_places f units = places_of f units false (length f.matrix)
 
 -- the first list is part of the second one, in its order
 pub data IsPart : List Literal → List Literal → Type 0 where

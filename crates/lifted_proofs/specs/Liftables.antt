@@ -34,7 +34,7 @@ lifted_base f units c = negated_candidate (settled_candidate f (taken_literals u
 abbrev pub lifted_literal : Dqbf → List Taken → Candidate → Literal → Literal
 lifted_literal f units c l =
     on_variable
-    (carried_variable c.circuit.netlist.max_var (length f.matrix) (kept_places f units 0 f.matrix)
+    (carried_variable c.circuit.netlist.max_var (length f.matrix) (kept_places f units)
     (variable_of l))
     l
 
@@ -61,7 +61,7 @@ is_false first place = positive (first + place)
 abbrev pub some_false_line : Dqbf → List Taken → Candidate → List ℕ → List ProofStep → ProofStep
 some_false_line f units c hints steps = record {
   id = first_proof_id f c.circuit.netlist + length steps;
-  literals = map (is_false (c.circuit.netlist.max_var + 1)) (kept_places f units 0 f.matrix);
+  literals = map (is_false (c.circuit.netlist.max_var + 1)) (kept_places f units);
   hints = hints ++ (first_proof_id f c.circuit.netlist - 1) ∷ [];
 }
 
@@ -70,7 +70,7 @@ abbrev pub carrying_of : Dqbf → List Taken → Candidate → List ℕ → List
 carrying_of f units c ids steps = record {
   gates = 3 * length c.circuit.netlist.gates;
   largest = c.circuit.netlist.max_var;
-  places = kept_places f units 0 f.matrix;
+  places = kept_places f units;
   clauses = length f.matrix;
   ids = ids;
   some_false = first_proof_id f c.circuit.netlist + length steps;

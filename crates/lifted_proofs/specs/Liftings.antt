@@ -1,18 +1,18 @@
 -- Words of private contracts: what a lifting keeps, and what its ids are.
-use Rattle.std.specs.Prelude.{◌≡◌, ℕ, ◌<◌, ◌≤◌, ◌==◌, ◌⊎◌, ◌+◌, true, false, List, [], ◌∷◌, ◌++◌, length, reverse, take, drop, Option, None, Some, slice_index, slice_index_or}
+use Rattle.std.specs.Prelude.{◌≡◌, ℕ, ◌<◌, ◌≤◌, ◌==◌, ◌⊎◌, ◌+◌, true, false, List, [], ◌∷◌, ◌++◌, length, reverse, take, drop, Option, None, Some, slice_index, slice_index_or, Bool, ◌≢◌}
 use Rattle.std.specs.List.{AllZip, list_any, slice_get}
 use Rattle.dq_lits.specs.Literal.{Literal, opposite}
 use Rattle.dq_lits.specs.Formula.{Dqbf}
 use Rattle.dq_lits.specs.Derivation.{holds, ProofStep}
 use Rattle.cert_text.specs.CircuitProof.{first_proof_id}
-use Rattle.cert_text.specs.NegatedMatrix.{literal_under, falsity_clauses, opposite_of}
+use Rattle.cert_text.specs.NegatedMatrix.{literal_under, falsity_clauses}
 use Rattle.dq_prep.specs.declared.traces.Taken.{Taken}
 use Rattle.dq_prep.specs.Units.{taken_literals}
 use Rattle.skolem_checker.specs.Checks.{Candidate}
 use Rattle.proof_checker.specs.CircuitProof.{circuit_literal}
 use Rattle.lifted_proofs.specs.Goals.{clause_at}
-use Rattle.lifted_proofs.specs.KeptPlaces.{IsPart, kept_places, dropped_places}
-use Rattle.lifted_proofs.specs.Liftables.{IsLiftable, IsLiteralId, lifted_base, left_falsities, AreLiftedNames, some_false_line}
+use Rattle.lifted_proofs.specs.KeptPlaces.{IsPart, kept_places}
+use Rattle.lifted_proofs.specs.Liftables.{IsLiftable, IsLiteralId, lifted_base, left_falsities, AreLiftedNames, some_false_line, weaker_line, falsity}
 use Rattle.lifted_proofs.specs.NamedIds.{IsTrueBy}
 use Rattle.lifted_proofs.specs.NegatedBases.{AreLengthsBefore, IsBaseOf}
 use Rattle.lifted_proofs.specs.UnitTables.{IsUnitTable}
@@ -29,7 +29,7 @@ pub record IsLifting (l : Lifting) : Type 0 where
   pub right : IsUnitTable l.table.now
   pub can : IsLiftable (formula_of l) (units_of l) l.bench.now
   pub outputs : l.outputs ≡ l.bench.now.circuit.mapping.outputs
-  pub kept : l.kept.items ≡ kept_places (formula_of l) (units_of l) 0 (formula_of l).matrix
+  pub kept : l.kept.items ≡ kept_places (formula_of l) (units_of l)
   pub before : AreLengthsBefore (formula_of l).matrix l.before.items
   pub base : IsBaseOf (formula_of l) l.bench.now.circuit.netlist l.base
 
@@ -52,7 +52,7 @@ IsSettledFrom l literal was = IsSettledBy l.bench.now (taken_literals (units_of 
 -- a literal of the kept clause at a place, with its id in the formula
 pub record IsNameable (l : Lifting) (j : ℕ) (literal : Literal) (id : ℕ) : Type 0 where
   pub place : ℕ
-  pub at : slice_get (kept_places (formula_of l) (units_of l) 0 (formula_of l).matrix) j ≡ Some place
+  pub at : slice_get (kept_places (formula_of l) (units_of l)) j ≡ Some place
   pub is : IsLiteralId (formula_of l) l.bench.now place literal id
   pub none_false : holds (taken_literals (units_of l)) (opposite literal) ≡ false
   pub before : id < first_proof_id (formula_of l) l.bench.now.circuit.netlist
@@ -61,6 +61,12 @@ pub record IsNameable (l : Lifting) (j : ℕ) (literal : Literal) (id : ℕ) : T
 abbrev pub AreNamedIn : Lifting → List (List ℕ) → Named → Type 0
 AreNamedIn l falsities w =
     AreLiftedNames (formula_of l) (units_of l) l.bench.now falsities w.ids.items w.steps
+
+-- the clause that a literal of a kept clause is false is named, too
+abbrev pub NamesMore : Lifting → ℕ → Literal → Named → Named → Type 0
+NamesMore l j literal old new = (falsities : List (List ℕ)) → AreNamedIn l falsities old
+    → AreNamedIn l (falsities ++ falsity (circuit_literal l.bench.now.circuit)
+    (l.bench.now.circuit.netlist.max_var + 1 + j) literal ∷ []) new
 
 -- those of the first kept clauses, so many
 abbrev pub AreFirstNamed : Lifting → ℕ → Named → Type 0
@@ -82,6 +88,18 @@ pub record IsNaming (l : Lifting) (j found q : ℕ) (w : Named) : Type 0 where
       (l.bench.now.circuit.netlist.max_var + 1 + j) (take found (left_at l j))) w
   pub rest : IsPart (drop found (left_at l j)) (drop q (clause_at (formula_of l) (place_at l j)))
   pub low : found ≤ length (left_at l j)
+
+-- whether the next literal of them is this one
+abbrev pub IsNextLeft : Lifting → ℕ → ℕ → Literal → Bool → Type 0
+IsNextLeft l j found literal true = slice_get (left_at l j) found ≡ Some literal
+IsNextLeft l j found literal false =
+    (other : Literal) → slice_get (left_at l j) found ≡ Some other → other ≢ literal
+
+-- a name by a line, with a hint
+pub record IsNamedBy (l : Lifting) (j was hint : ℕ) (old new : Named) : Type 0 where
+  pub steps : new.steps
+      ≡ old.steps ++ weaker_line (formula_of l) l.bench.now (place_at l j) was hint old.steps ∷ []
+  pub ids : new.ids.items ≡ old.ids.items ++ (l.base.first + length old.steps) ∷ []
 
 -- by clause that goes, the id of a literal that is true
 abbrev pub AreTrueIds : Lifting → List ℕ → List ℕ → Type 0

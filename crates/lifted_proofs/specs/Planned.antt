@@ -1,5 +1,6 @@
 -- Words of private contracts: the goals that a refutation begins with.
-use Rattle.std.specs.Prelude.{◌≤◌, ◌*◌, ℕ, Bool, List, [], ◌∷◌}
+use Rattle.std.specs.Prelude.{◌≤◌, ◌*◌, ℕ, Bool, List}
+use Rattle.std.specs.List.{AllZip}
 use Rattle.lifted_proofs.specs.Goals.{Keeps}
 use Rattle.lifted_proofs.specs.Carried.{IsFirstGoal}
 use Rattle.lifted_proofs.specs.declared.goals.Source.{Source}
@@ -13,10 +14,7 @@ pub record IsInstanceId (rows clauses h : ℕ) : Type 0 where
 
 -- each of these instances has its goal at its place
 abbrev pub AreFirstGoals : List Source → List ℕ → List Goal → Type 0
-AreFirstGoals sources [] [] = Unit {0}
-AreFirstGoals sources [] (_ ∷ _) = ⊥
-AreFirstGoals sources (_ ∷ _) [] = ⊥
-AreFirstGoals sources (h ∷ hs) (g ∷ gs) = IsFirstGoal sources h g × AreFirstGoals sources hs gs
+AreFirstGoals sources hs gs = AllZip (IsFirstGoal sources) hs gs
 
 -- the rows and the first goals of a plan
 pub record IsPlanFor (rows : List (List Bool)) (sources : List Source) (wanted : List ℕ)

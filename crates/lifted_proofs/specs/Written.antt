@@ -1,7 +1,7 @@
 -- Words of private contracts: lines that are written.
 use Rattle.std.specs.Prelude.{◌≡◌, ℕ, length, Some, slice_index_or}
 use Rattle.std.specs.List.{Contains, slice_get}
-use Rattle.lifted_proofs.specs.Goals.{IsPlan}
+use Rattle.lifted_proofs.specs.Goals.{IsPlanOf}
 use Rattle.lifted_proofs.specs.Lines.{AreLines, HasLine}
 use Rattle.lifted_proofs.specs.declared.goals.Goal.{Goal}
 use Rattle.lifted_proofs.specs.declared.goals.Plan.{Plan}
@@ -11,7 +11,7 @@ use Rattle.lifted_proofs.specs.declared.units.UnitTable.{UnitTable}
 
 -- all goals have their reasons
 pub record IsWhole (t : UnitTable) (p : Plan) : Type 0 where
-  pub plan : IsPlan t.formula.now t.units.now p
+  pub plan : IsPlanOf t p
   pub all : length p.reasons.items ≡ length p.goals.items
 
 -- the id at the goal's place has its clause

@@ -1,9 +1,9 @@
 //! Goals for units: one for each unit and the bits that its existential sees.
 
-ghost use Rattle.std.specs.Prelude.{◌≡◌, ◌<◌, true, [], length, All, IfOk, OnOk};
+ghost use Rattle.std.specs.Prelude.{◌≡◌, ◌<◌, true, [], length, All, IfOk};
 ghost use Rattle.std.specs.List.{AllZip};
 ghost use Rattle.lifted_proofs.specs.UnitTables.{IsUnitTable};
-ghost use Rattle.lifted_proofs.specs.Goals.{SeeSame, IsPlanOf, IsAskedIn, GrowsGoals};
+ghost use Rattle.lifted_proofs.specs.Goals.{SeeSame, IsPlanOf, IsAskedIn, Adds};
 
 use crate::goals::{Goal, Known, Plan, Source};
 use crate::units::UnitTable;
@@ -20,14 +20,11 @@ impl Plan {
         places: &[u64],
         lowered: usize,
     ) -> Result<Vec<usize>, Memory>
-        requires right { IsUnitTable table.now }
         requires plan { IsPlanOf table.now self.old }
         requires within { All (λ j. j < length table.now.units.now) places.now }
         requires row { lowered < length self.old.rows }
-        ensures plan { OnOk result (IsPlanOf table.now self.new) }
-        ensures grows { OnOk result (GrowsGoals self.old self.new) }
-        ensures asked { IfOk result (λ hints.
-            AllZip (IsAskedIn table.now self.new lowered) places.now hints.items) }
+        ensures { IfOk result (λ hints. Adds table.now self.old self.new
+            (AllZip (IsAskedIn table.now self.new lowered) places.now hints.items)) }
     {
         let mut hints = Vec::new(table.alloc);
         for j in places {
@@ -44,16 +41,14 @@ impl Plan {
         j: usize,
         lowered: usize,
     ) -> Result<usize, Memory>
-        requires right { IsUnitTable table.now }
         requires plan { IsPlanOf table.now self.old }
         requires within { j < length table.now.units.now }
         requires row { lowered < length self.old.rows }
-        ensures plan { OnOk result (IsPlanOf table.now self.new) }
-        ensures grows { OnOk result (GrowsGoals self.old self.new) }
-        ensures asked { IfOk result (IsAskedIn table.now self.new lowered j) }
+        ensures { IfOk result (λ h. Adds table.now self.old self.new
+            (IsAskedIn table.now self.new lowered j h)) }
     {
         let next = self.goals.len();
-        let key = key(table, j, &self.rows.items()[lowered])?;
+        let key = key(table, j, self.row(table, lowered))?;
         let first = first_with(known, key, next)?;
         if self.is_asked(table, first, j, lowered) {
             return Ok(first);
@@ -64,7 +59,6 @@ impl Plan {
 
     // Whether the goal at a place is that of this unit, under a row with the same bits.
     fn is_asked(&self, table: &UnitTable, first: usize, j: usize, lowered: usize) -> bool
-        requires right { IsUnitTable table.now }
         requires plan { IsPlanOf table.now self.now }
         requires within { j < length table.now.units.now }
         requires row { lowered < length self.now.rows }
@@ -73,31 +67,33 @@ impl Plan {
         if first >= self.goals.len() {
             return false;
         }
-        let goal = self.goals[first];
-        if goal.source.taken != j || goal.source.place != table.units[j].place {
+        let goal = self.goal(table, first);
+        if goal.source.taken != j || goal.source.place != table.unit(j).place {
             return false;
         }
-        let rows = self.rows.items();
-        see_same(table, j, &rows[lowered], &rows[goal.row])
+        see_same(
+            table,
+            j,
+            self.row(table, lowered),
+            self.row(table, goal.row),
+        )
     }
 
     // Adds the goal of a unit under a row.
     fn add_unit(&mut self, table: &UnitTable, j: usize, row: usize) -> Result<usize, Memory>
-        requires right { IsUnitTable table.now }
         requires plan { IsPlanOf table.now self.old }
         requires within { j < length table.now.units.now }
         requires row { row < length self.old.rows }
-        ensures plan { OnOk result (IsPlanOf table.now self.new) }
-        ensures grows { OnOk result (GrowsGoals self.old self.new) }
-        ensures asked { IfOk result (IsAskedIn table.now self.new row j) }
+        ensures { IfOk result (λ h. Adds table.now self.old self.new
+            (IsAskedIn table.now self.new row j h)) }
     {
-        let place = self.goals.len();
-        let source = Source {
-            taken: j,
-            place: table.units[j].place,
-        };
-        self.goals.push(Goal { source, row })?;
-        Ok(place)
+        let h = self.goals.len();
+        let place = table.unit(j).place;
+        self.goals.push(Goal {
+            source: Source { taken: j, place },
+            row,
+        })?;
+        Ok(h)
     }
 }
 
@@ -109,7 +105,7 @@ fn see_same(table: &UnitTable, j: usize, a: &Row, b: &Row) -> bool
     requires second { length b.now ≡ length table.now.formula.now.universals }
     ensures { result ≡ true → SeeSame table.now j a.now b.now }
 {
-    table.formula.same_on(table.units[j].literal.var(), a, b)
+    table.formula.same_on(table.unit(j).literal.var(), a, b)
 }
 
 // The place that is known of a key; else the key is known from now on as that of the next one.
@@ -128,7 +124,7 @@ fn key(table: &UnitTable, j: usize, row: &Row) -> Result<Vec<u64>, Memory>
 {
     let mut words = Vec::new(table.alloc);
     words.push(j as u64)?;
-    let y = table.units[j].literal.var();
+    let y = table.unit(j).literal.var();
     if !table.formula.is_existential(y) {
         return Ok(words);
     }

@@ -121,6 +121,7 @@ fn lifted_on(
     requires bench { candidate_of g.now file.now.circuit file.now.symbols ≡ Ok bench.now }
     ensures { IfOk result (λ lifted. IsLifted table.now file.now lifted.0 lifted.1) }
 {
+    // Only the contract speaks of them.
     let _ = file;
     let _ = g;
     let circuit = settled(table, bench)?;

@@ -6,10 +6,10 @@ ghost use Rattle.dq_lits.specs.Literal.{variable_of};
 ghost use Rattle.cert_text.specs.NegatedMatrix.{literal_under};
 ghost use Rattle.proof_checker.specs.CircuitProof.{circuit_literal};
 ghost use Rattle.lifted_proofs.specs.Liftables.{IsLiftable, is_false};
-ghost use Rattle.lifted_proofs.specs.Liftings.{IsLifting, HasOutput, IsSettledFrom};
+ghost use Rattle.lifted_proofs.specs.Liftings.{IsLifting, HasOutput, IsSettledFrom, place_at};
 ghost use Rattle.lifted_proofs.specs.UnitTables.{IsUnitTable};
 
-use crate::kept_places::kept_places;
+use crate::kept_places::places;
 use crate::negated_bases::{Base, base_of, lengths_before};
 use crate::sources::is_taken;
 use crate::units::UnitTable;
@@ -56,7 +56,7 @@ impl<'a> Lifting<'a> {
     {
         let before = lengths_before(table.alloc, table.formula)?;
         let base = base_of(table.formula, bench.circuit(), &before)?;
-        let kept = kept_places(table)?;
+        let kept = places(table, true)?;
         let outputs = outputs_of(table.alloc, bench)?;
         Ok(Lifting {
             table,
@@ -66,6 +66,16 @@ impl<'a> Lifting<'a> {
             before,
             base,
         })
+    }
+
+    /// The place of a kept clause in the formula.
+    pub(crate) fn place(&self, j: usize) -> usize
+        requires lifting { IsLifting self.now }
+        requires within { j < length self.now.kept.items }
+        ensures is { result ≡ place_at self.now j }
+        ensures within { result < length self.now.table.now.formula.now.matrix }
+    {
+        self.kept[j]
     }
 
     /// The id of the clause that a literal of a clause is false, by their places.
@@ -86,6 +96,7 @@ impl<'a> Lifting<'a> {
         requires clause { clause < length self.now.table.now.formula.now.matrix }
         ensures { result ≡ is_false (self.now.bench.now.circuit.netlist.max_var + 1) clause }
     {
+        // The call shows the formula's invariant.
         let _ = self.table.formula.clauses();
         Lit::pos(self.base.largest + 1 + clause as u64)
     }

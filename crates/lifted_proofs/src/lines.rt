@@ -44,7 +44,6 @@ impl Written {
 
     /// The lines of all goals.
     pub(crate) fn of(table: &UnitTable, plan: &Plan) -> Result<Written, Memory>
-        requires right { IsUnitTable table.now }
         requires plan { IsWhole table.now plan.now }
         ensures written { IfOk result (AreWritten table.now plan.now) }
         ensures named { IfOk result (λ w. (q : ℕ) → IsNamed table.now plan.now w q) }
@@ -56,7 +55,6 @@ impl Written {
     }
 
     fn name_all(&mut self, table: &UnitTable, plan: &Plan, order: &[Turn]) -> Result<(), Memory>
-        requires right { IsUnitTable table.now }
         requires plan { IsWhole table.now plan.now }
         requires written { AreWritten table.now plan.now self.old }
         requires order { AreTurns plan.now.goals.items order.now }
@@ -71,7 +69,6 @@ impl Written {
 
     // Gives the goal at a place its id.
     fn name(&mut self, table: &UnitTable, plan: &Plan, q: usize) -> Result<(), Memory>
-        requires right { IsUnitTable table.now }
         requires plan { IsWhole table.now plan.now }
         requires written { AreWritten table.now plan.now self.old }
         requires within { q < length plan.now.goals.items }
@@ -89,7 +86,6 @@ impl Written {
     // The id of the goal's clause: the instance of its clause, where no unit is needed, and else a
     // line that is added.
     fn id_of(&mut self, table: &UnitTable, plan: &Plan, q: usize) -> Result<u64, Memory>
-        requires right { IsUnitTable table.now }
         requires plan { IsWhole table.now plan.now }
         requires written { AreWritten table.now plan.now self.old }
         requires within { q < length plan.now.goals.items }
@@ -97,16 +93,16 @@ impl Written {
         ensures ids { self.new.ids ≡ self.old.ids }
         ensures line { IfOk result (IsLineOf table.now plan.now self.old self.new q) }
     {
-        let goal = plan.goals[q];
-        let reason = &plan.reasons[q];
-        let clauses = table.formula.clauses() as u64;
-        let instance = reason.lowered as u64 * clauses + goal.source.place as u64 + 1;
+        let goal = plan.goal(table, q);
+        let reason = plan.reason(table, q, goal);
+        let instance = instance_id(table, reason.lowered, goal.source.place);
         if reason.hints.is_empty() {
             return Ok(instance);
         }
         let literals = open_pairs(table, goal)?;
         let mut hints = ids_at(table.alloc, &self.ids, &reason.hints)?;
         hints.push(instance)?;
+        let clauses = table.formula.clauses() as u64;
         let id = plan.rows.items().len() as u64 * clauses + self.steps.len() as u64 + 1;
         self.steps.push(Step {
             id,
@@ -115,6 +111,16 @@ impl Written {
         })?;
         Ok(id)
     }
+}
+
+// The id of the instance of a clause under a row, by their places.
+fn instance_id(table: &UnitTable, row: usize, place: usize) -> u64
+    requires few { row < 1000000000 }
+    requires within { place < length table.now.formula.now.matrix }
+    ensures { result ≡ row * length table.now.formula.now.matrix + place + 1 }
+{
+    let before = row as u64 * table.formula.clauses() as u64;
+    before + place as u64 + 1
 }
 
 // The ids at these places.

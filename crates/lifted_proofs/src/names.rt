@@ -1,12 +1,11 @@
 //! Ids of the formula's negated matrix for the clauses of what is left. Where a unit's literal wasn't
 //! constant, its clause has got shorter by the settled output, and a line derives it again.
 
-ghost use Rattle.std.specs.Prelude.{◌≡◌, ◌<◌, ◌≤◌, ◌+◌, ◌++◌, ◌∷◌, [], ℕ, List, length, IfOk, OnOk};
+ghost use Rattle.std.specs.Prelude.{◌≡◌, ◌<◌, ◌≤◌, ◌+◌, length, IfOk, OnOk, Some};
+ghost use Rattle.std.specs.List.{slice_get};
 ghost use Rattle.cert_text.specs.NegatedMatrix.{as_literal, opposite_of};
-ghost use Rattle.proof_checker.specs.CircuitProof.{circuit_literal};
 ghost use Rattle.lifted_proofs.specs.Goals.{clause_at};
-ghost use Rattle.lifted_proofs.specs.Liftables.{weaker_line, falsity};
-ghost use Rattle.lifted_proofs.specs.Liftings.{IsLifting, IsNameable, AreNamedIn, AreFirstNamed, IsNaming, formula_of, place_at};
+ghost use Rattle.lifted_proofs.specs.Liftings.{IsLifting, IsNameable, NamesMore, AreFirstNamed, IsNaming, IsNextLeft, IsNamedBy, formula_of, place_at};
 
 use crate::liftings::Lifting;
 use cert_text::{Step, StepList};
@@ -44,7 +43,7 @@ impl<'a> Lifting<'a> {
         ensures { OnOk result (AreFirstNamed self.now (j + 1) named.new) }
     {
         let mut found = 0;
-        for q in 0..self.table.formula.clause(self.kept[j]).len() {
+        for q in 0..self.table.formula.clause(self.place(j)).len() {
             found = self.name_next(j, found, q, named)?;
         }
         Ok(())
@@ -65,18 +64,36 @@ impl<'a> Lifting<'a> {
         requires named { IsNaming self.now j found q named.old }
         ensures { IfOk result (λ next. IsNaming self.now j next (q + 1) named.new) }
     {
-        let place = self.kept[j];
-        let literal = self.table.formula.clause(place)[q];
-        let left = self.bench.formula().clause(j);
-        if found == left.len() {
+        let literal = self.literal_at(j, q);
+        if !self.is_next(j, found, literal) {
             return Ok(found);
         }
-        if left[found] != literal {
-            return Ok(found);
-        }
-        let id = self.literal_id(place, q);
+        let id = self.literal_id(self.place(j), q);
         self.name(j, literal, id, named)?;
         Ok(found + 1)
+    }
+
+    // The literal at a place of the formula's clause.
+    fn literal_at(&self, j: usize, q: usize) -> Lit
+        requires lifting { IsLifting self.now }
+        requires within { j < length self.now.kept.items }
+        requires place { q < length (clause_at (formula_of self.now) (place_at self.now j)) }
+        ensures { slice_get (clause_at (formula_of self.now) (place_at self.now j)) q ≡ Some result }
+    {
+        self.table.formula.clause(self.place(j))[q]
+    }
+
+    // Whether the next literal that is left is this one.
+    fn is_next(&self, j: usize, found: usize, literal: Lit) -> bool
+        requires lifting { IsLifting self.now }
+        requires within { j < length self.now.kept.items }
+        ensures { IsNextLeft self.now j found literal result }
+    {
+        let left = self.bench.formula().clause(j);
+        if found >= left.len() {
+            return false;
+        }
+        left[found] == literal
     }
 
     // Names the clause of a literal, which has this id in the formula.
@@ -84,10 +101,7 @@ impl<'a> Lifting<'a> {
         requires lifting { IsLifting self.now }
         requires within { j < length self.now.kept.items }
         requires nameable { IsNameable self.now j literal id }
-        ensures { OnOk result ((falsities : List (List ℕ)) → AreNamedIn self.now falsities named.old
-            → AreNamedIn self.now (falsities
-            ++ falsity (circuit_literal self.now.bench.now.circuit)
-            (self.now.bench.now.circuit.netlist.max_var + 1 + j) literal ∷ []) named.new) }
+        ensures { OnOk result (NamesMore self.now j literal named.old named.new) }
     {
         match self.settled_from(literal) {
             None => {
@@ -104,14 +118,10 @@ impl<'a> Lifting<'a> {
         requires within { j < length self.now.kept.items }
         requires free { 2 ≤ was }
         requires in_range { was ≤ 9223372036854775805 }
-        ensures steps { OnOk result (named.new.steps ≡ named.old.steps
-            ++ weaker_line (formula_of self.now) self.now.bench.now (place_at self.now j) was hint
-            named.old.steps ∷ []) }
-        ensures ids { OnOk result (named.new.ids.items ≡ named.old.ids.items
-            ++ (self.now.base.first + length named.old.steps) ∷ []) }
+        ensures { OnOk result (IsNamedBy self.now j was hint named.old named.new) }
     {
         let id = self.base.first + named.steps.len() as u64;
-        let lits = [self.is_false(self.kept[j]).not(), negated(was)];
+        let lits = [self.is_false(self.place(j)).not(), negated(was)];
         let hints = [hint];
         named.steps.push(Step {
             id,

@@ -75,6 +75,7 @@ fn first_goal(sources: &[Source], h: u64) -> Goal
 
 // A plan with these rows and goals, and no reasons.
 fn begun(table: &UnitTable, rows: &RowList, goals: Vec<Goal>) -> Result<Plan, Memory>
+    requires right { IsUnitTable table.now }
     requires whole { All (λ row. length row ≡ length table.now.formula.now.universals) rows.now }
     requires few { length rows.now ≤ max_count }
     requires goals { All (IsGoal table.now.formula.now table.now.units.now rows.now) goals.items }

@@ -1,8 +1,9 @@
 //! The reasons of goals.
 
-ghost use Rattle.std.specs.Prelude.{◌≡◌, ◌<◌, ◌+◌, ◌++◌, ◌∷◌, [], length, IfOk, OnOk};
+ghost use Rattle.std.specs.Prelude.{◌≡◌, ◌<◌, length, IfOk, OnOk};
 ghost use Rattle.lifted_proofs.specs.UnitTables.{IsUnitTable};
-ghost use Rattle.lifted_proofs.specs.Goals.{IsGoalOf, IsLoweredIn, AreFalseUnitsOf, IsPlanOf, Grows, GrowsGoals};
+ghost use Rattle.lifted_proofs.specs.Written.{IsWhole};
+ghost use Rattle.lifted_proofs.specs.Goals.{IsGoalOf, IsLoweredIn, AreFalseUnitsOf, IsPlanOf, Grows, Adds, IsRowAdded, Settles};
 
 use crate::goals::{Goal, Known, Plan, Reason};
 use crate::rows::{any_true, falsified};
@@ -17,13 +18,10 @@ impl Plan {
     /// Finds the reasons of all goals, and of those that they ask for. Where there are more goals
     /// than `MOST_GOALS`, or room for more rows is wanting, it answers `Memory`.
     pub(crate) fn settle_all(&mut self, known: &mut Known, table: &UnitTable) -> Result<(), Memory>
-        requires right { IsUnitTable table.now }
         requires plan { IsPlanOf table.now self.old }
         requires none { length self.old.reasons.items ≡ 0 }
-        ensures plan { OnOk result (IsPlanOf table.now self.new) }
+        ensures whole { OnOk result (IsWhole table.now self.new) }
         ensures grows { OnOk result (Grows self.old self.new) }
-        ensures all { OnOk result
-            (length self.new.reasons.items ≡ length self.new.goals.items) }
     {
         for q in 0..MOST_GOALS {
             if q == self.goals.len() {
@@ -39,15 +37,11 @@ impl Plan {
 
     // Finds the reason of the next goal.
     fn settle(&mut self, known: &mut Known, table: &UnitTable) -> Result<(), Memory>
-        requires right { IsUnitTable table.now }
         requires plan { IsPlanOf table.now self.old }
         requires left { length self.old.reasons.items < length self.old.goals.items }
-        ensures plan { OnOk result (IsPlanOf table.now self.new) }
-        ensures grows { OnOk result (Grows self.old self.new) }
-        ensures more { OnOk result
-            (length self.new.reasons.items ≡ length self.old.reasons.items + 1) }
+        ensures { OnOk result (Settles table.now self.old self.new) }
     {
-        let goal = self.goals[self.reasons.len()];
+        let goal = self.goal(table, self.reasons.len());
         let places = false_units(table, goal)?;
         let lowered = self.lower(table, goal)?;
         let hints = self.ask_all(known, table, places.items(), lowered)?;
@@ -57,15 +51,14 @@ impl Plan {
 
     // The place of a row under which the goal's clause says what is left of it.
     fn lower(&mut self, table: &UnitTable, goal: Goal) -> Result<usize, Memory>
-        requires right { IsUnitTable table.now }
         requires plan { IsPlanOf table.now self.old }
         requires goal { IsGoalOf table.now self.old goal }
-        ensures plan { OnOk result (IsPlanOf table.now self.new) }
-        ensures grows { OnOk result (GrowsGoals self.old self.new) }
-        ensures lowered { IfOk result (IsLoweredIn table.now self.new goal) }
+        requires row { goal.row < length self.old.rows }
+        ensures { IfOk result (λ lowered. Adds table.now self.old self.new
+            (IsLoweredIn table.now self.new goal lowered)) }
     {
         let clause = table.formula.clause(goal.source.place);
-        let row = &self.rows.items()[goal.row];
+        let row = self.row(table, goal.row);
         if !any_true(table.formula, row, clause) {
             return Ok(goal.row);
         }
@@ -76,11 +69,7 @@ impl Plan {
 
     // Adds a row, where there is room for one.
     fn add_row(&mut self, row: Row) -> Result<usize, Memory>
-        ensures place { IfOk result (λ place. place ≡ length self.old.rows) }
-        ensures rows { OnOk result (self.new.rows ≡ self.old.rows ++ row ∷ []) }
-        ensures goals { self.new.goals ≡ self.old.goals }
-        ensures reasons { self.new.reasons ≡ self.old.reasons }
-        ensures room { OnOk result (self.new.room + 1 ≡ self.old.room) }
+        ensures { IfOk result (IsRowAdded self.old self.new row) }
     {
         if self.room == 0 {
             return Err(Memory);

@@ -10,7 +10,7 @@ ghost use Rattle.lifted_proofs.specs.KeptPlaces.{dropped_places};
 ghost use Rattle.lifted_proofs.specs.Liftables.{is_false};
 ghost use Rattle.lifted_proofs.specs.Liftings.{IsLifting, AreTrueIds, AddsSomeFalse, formula_of, units_of};
 
-use crate::kept_places::dropped_places;
+use crate::kept_places::places;
 use crate::liftings::Lifting;
 use crate::sources::is_taken;
 use cert_text::{Step, StepList};
@@ -21,10 +21,10 @@ impl<'a> Lifting<'a> {
     pub(crate) fn add_some_false(&self, steps: &mut StepList) -> Result<(), Memory>
         requires { IsLifting self.now }
         ensures { OnOk result (AddsSomeFalse self.now
-            (dropped_places (formula_of self.now) (units_of self.now) 0 (formula_of self.now).matrix)
+            (dropped_places (formula_of self.now) (units_of self.now))
             steps.old steps.new) }
     {
-        let dropped = dropped_places(self.table)?;
+        let dropped = places(self.table, false)?;
         let lits = self.kept_false()?;
         let mut hints = self.true_ids(&dropped)?;
         hints.push(self.base.first - 1)?;
@@ -44,7 +44,7 @@ impl<'a> Lifting<'a> {
     {
         let mut lits = Vec::new(self.table.alloc);
         for j in 0..self.kept.len() {
-            lits.push(self.is_false(self.kept[j]))?;
+            lits.push(self.is_false(self.place(j)))?;
         }
         Ok(lits)
     }
@@ -53,7 +53,7 @@ impl<'a> Lifting<'a> {
     fn true_ids(&self, dropped: &[usize]) -> Result<Vec<u64>, Memory>
         requires lifting { IsLifting self.now }
         requires dropped { dropped.now
-            ≡ dropped_places (formula_of self.now) (units_of self.now) 0 (formula_of self.now).matrix }
+            ≡ dropped_places (formula_of self.now) (units_of self.now) }
         ensures { IfOk result (λ ids. AreTrueIds self.now dropped.now ids.items) }
     {
         let mut ids = Vec::new(self.table.alloc);

@@ -1,6 +1,7 @@
 //! The units that were taken, each found by its variable.
 
-ghost use Rattle.std.specs.Prelude.{◌≡◌, ◌<◌, None, length, replicate, reverse, IfOk};
+ghost use Rattle.std.specs.Prelude.{◌≡◌, ◌<◌, None, Some, length, replicate, reverse, IfOk};
+ghost use Rattle.std.specs.List.{slice_get};
 ghost use Rattle.dq_lits.specs.Formula.{IsWellFormed};
 ghost use Rattle.dq_prep.specs.Units.{AreUnits};
 ghost use Rattle.lifted_proofs.specs.UnitTables.{TellUnits, IsUnitTable, IsFalseBy, IsFalseAt};
@@ -65,6 +66,14 @@ impl<'a> UnitTable<'a> {
             units,
             on,
         })
+    }
+
+    /// The unit at a place.
+    pub(crate) fn unit(&self, j: usize) -> Taken
+        requires { j < length self.now.units.now }
+        ensures { slice_get self.now.units.now j ≡ Some result }
+    {
+        self.units[j]
     }
 
     /// Of the first units, so many, the place of the one that makes a literal false.

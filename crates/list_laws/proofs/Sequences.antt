@@ -41,7 +41,7 @@ position_most p (x ∷ xs) = by_bit (p x) (position_most p xs) where
   by_bit true l = omega arith
   by_bit false l = omega arith
 
-found : {X : Type 0} (p : X → Bool) (xs : List X) (i : ℕ) → position_or_len p xs ≡ i → (b : Bool) →
+pub found : {X : Type 0} (p : X → Bool) (xs : List X) (i : ℕ) → position_or_len p xs ≡ i → (b : Bool) →
     nat_lt i (length xs) ≡ b →
     position p xs ≡ cond b (Some i) None
 found p xs i is b test =

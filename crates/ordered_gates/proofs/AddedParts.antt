@@ -8,9 +8,8 @@ use Rattle.ordered_gates.specs.Circuits.{ordered_gate, ordered_netlist}
 pub gate_there : (net : Netlist) (place : ℕ) → place < length net.gates →
     (place < length (ordered_netlist net).gates)
     × (get_or (ordered_netlist net).gates place (ordered_gate (gate_at net place)) ≡ ordered_gate (gate_at net place))
-gate_there net place below =
-    let long = length-map net.gates ordered_gate in (
-      omega (arith, below, long),
-      get_or-map ordered_gate net.gates place (gate_at net place) (ordered_gate (gate_at net place)) below
-          ∙ ap ordered_gate (get_or_default net.gates place _ _ below),
-    )
+gate_there net place below = (
+  omega (arith, below, length-map net.gates ordered_gate),
+  get_or-map ordered_gate net.gates place (gate_at net place) (ordered_gate (gate_at net place)) below
+      ∙ ap ordered_gate (get_or_default net.gates place _ _ below),
+)

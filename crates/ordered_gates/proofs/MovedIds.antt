@@ -59,9 +59,8 @@ from_place gates (suc place) some = ap (λ p. suc (turned_place gates p)) (omega
 
 pub id_past : (gates : List Gate) (id : ℕ) → 1 ≤ id → length gates ≤ (id - 1) / 3 → id ≡ turned_id gates id
 id_past gates id some past =
-    let same = place_past gates (id - 1) (omega (arith, past)) in
     let is = from_place gates id some in
-    omega (arith, same, is, some)
+    omega (arith, place_past gates (id - 1) (omega (arith, past)), is, some)
 
 id_moved : (net : Netlist) (id : ℕ) → 1 ≤ id → (id - 1) / 3 < length net.gates →
     turned_id net.gates id ≡ suc (moved (is_turned (gate_at net ((id - 1) / 3))) ((id - 1) % 3) (id - 1))
@@ -72,8 +71,7 @@ pub id_straight : (net : Netlist) (id : ℕ) → 1 ≤ id → (id - 1) / 3 < len
     (gate_at net ((id - 1) / 3)).right ≤ (gate_at net ((id - 1) / 3)).left → id ≡ turned_id net.gates id
 id_straight net id some below greater =
     elim (cases_Bool (is_turned (gate_at net ((id - 1) / 3)))) [
-      | inl turns ↦ let less = ltb-true (gate_at net ((id - 1) / 3)).left (gate_at net ((id - 1) / 3)).right turns in
-          absurd (omega (arith, less, greater))
+      | inl turns ↦ absurd (omega (arith, ltb-true (gate_at net ((id - 1) / 3)).left (gate_at net ((id - 1) / 3)).right turns, greater))
       | inr stays ↦
           let is = id_moved net id some below
           ∙ ap (λ b. suc (moved b ((id - 1) % 3) (id - 1))) stays in

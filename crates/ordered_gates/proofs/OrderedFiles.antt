@@ -47,8 +47,7 @@ variables_same (g ∷ gates) =
 -- a literal has a meaning by the variables that are defined, and these stay
 pub spellable : (file : AagFile) → IsSpellable file → IsSpellable (ordered_file file)
 spellable file is = record {
-  enough = (let long = length-map file.circuit.gates ordered_gate in let enough = is.enough in
-      omega (arith, long, enough));
+  enough = (omega (arith, length-map file.circuit.gates ordered_gate, is.enough));
   few_variables = is.few_variables;
   few_outputs = is.few_outputs;
   lawful = ordered_is_netlist file.circuit is.lawful;
@@ -91,7 +90,7 @@ gate_in_order v g sorted = by_bit (is_turned g) refl where
   by_bit true e = record {
     variable = variable;
     left = sides.1;
-    right = (let less = ltb-true g.left g.right e in omega (arith, less));
+    right = (omega (arith, ltb-true g.left g.right e));
   }
   by_bit false e = record { variable = variable; left = sides.0; right = ltb-false g.left g.right e }
 
@@ -119,11 +118,9 @@ binary file is sorted =
     let net = file.circuit in
     let all = and_parts (net.max_var == length net.inputs + length net.gates) _ sorted in
     let parts = and_parts (are_from 1 net.inputs) (are_sorted (length net.inputs + 1) net.gates) all.1 in
-    let long = length-map net.gates ordered_gate in
-    let whole = eqb-true net.max_var (length net.inputs + length net.gates) all.0 in
     record {
       spellable = spellable file is;
       inputs = numbers_from 1 net.inputs parts.0;
-      all_defined = omega (arith, long, whole);
+      all_defined = omega (arith, length-map net.gates ordered_gate, eqb-true net.max_var (length net.inputs + length net.gates) all.0);
       gates = in_order (length net.inputs + 1) net.gates parts.1;
     }

@@ -29,7 +29,7 @@ module _ (gates : List Gate) where
       (1 ≤ turned_id gates hint) × (turned_id gates hint < next)
   hint_before hint next behind (some, less) = elim (id_turned gates hint) [
     | inl same ↦ (omega (arith, same, some), omega (arith, same, less))
-    | inr both ↦ (both.2, (let low = both.3 in omega (arith, low, behind)))
+    | inr both ↦ (both.2, (omega (arith, both.3, behind)))
   ]
 
   -- ---- what is deleted
@@ -57,9 +57,9 @@ module _ (gates : List Gate) where
   -- ---- the items
 
   next_behind : (n : Numbering) → IsBehindGates n → IsBehindGates (with_next n)
-  next_behind n is = record { next = (let less = is.next in omega (arith, less)); live = live } where
+  next_behind n is = record { next = (omega (arith, is.next)); live = live } where
     by_bit : (id : ℕ) (b : Bool) → (id == n.next) ≡ b → (b || n.live id) ≡ true → 3 * length gates < id
-    by_bit id true e h = let same = eqb-true id n.next e in let less = is.next in omega (arith, same, less)
+    by_bit id true e h = omega (arith, eqb-true id n.next e, is.next)
     by_bit id false e h = is.live id h
 
     live : (id : ℕ) → (with_next n).live id ≡ true → 3 * length gates < id
@@ -69,7 +69,7 @@ module _ (gates : List Gate) where
       AreItems is_variable n items → AllByRecursion (IsBehind gates) items
   items_behind is_variable n [] is are = tt
   items_behind is_variable n (derived step ∷ items) is (here, are) = (
-    (let less = is.next in let same = here.numbered in omega (arith, same, less)),
+    (omega (arith, here.numbered, is.next)),
     items_behind is_variable (with_next n) items (next_behind n is) are,
   )
   items_behind is_variable n (gone ids ∷ items) is (here, are) = (
@@ -112,8 +112,7 @@ same_first f net = ap (λ n. 3 * n + sum_by length f.matrix + 1 + 1) (length-map
 pub ordered_allowed : (f : Dqbf) (net : Netlist) (proof : Dqp) → IsDqpOf f net proof →
     IsDqpOf f (ordered_netlist net) (ordered_proof net proof)
 ordered_allowed f net proof is = record {
-  few_items = (let long = length-map proof.items (ordered_item net.gates) in let few = is.few_items in
-      omega (arith, long, few));
+  few_items = (omega (arith, length-map proof.items (ordered_item net.gates), is.few_items));
   items = subst (λ first. AreItems (is_proof_variable f net) (numbered_from first)
       (map (ordered_item net.gates) proof.items)) (sym (same_first f net))
       (ordered_are_items net.gates (is_proof_variable f net) (numbered_from (first_proof_id f net)) proof.items

@@ -44,8 +44,7 @@ or_turned_is g = by_bit (is_turned g) where
 module _ (net : Netlist) where
   twin_before : (h : Gate) → Contains (ordered_netlist net).gates h → Twin net h
   twin_before h (place, below, is) =
-      let long = length-map net.gates ordered_gate in
-      let inside : place < length net.gates = omega (arith, below, long) in
+      let inside : place < length net.gates = omega (arith, below, length-map net.gates ordered_gate) in
       let g = get_or net.gates place h in
       let same : h ≡ ordered_gate g = sym is ∙ get_or-map ordered_gate net.gates place h h inside in
       record {
@@ -59,8 +58,7 @@ module _ (net : Netlist) where
 
   twin_behind : (g : Gate) → Contains net.gates g → Twin (ordered_netlist net) g
   twin_behind g (place, below, is) =
-      let long = length-map net.gates ordered_gate in
-      let inside : place < length (map ordered_gate net.gates) = omega (arith, below, long) in
+      let inside : place < length (map ordered_gate net.gates) = omega (arith, below, length-map net.gates ordered_gate) in
       record {
         twin = ordered_gate g;
         inside = (place, inside, get_or-map ordered_gate net.gates place g (ordered_gate g) below ∙ ap ordered_gate is);
@@ -87,8 +85,7 @@ module _ (net : Netlist) where
         net.gates is.gates_fit);
     inputs_once = is.inputs_once;
     gates_once = λ i j d low high.
-        let long = length-map net.gates ordered_gate in
-        let below : j < length net.gates = omega (arith, high, long) in
+        let below : j < length net.gates = omega (arith, high, length-map net.gates ordered_gate) in
         λ e. is.gates_once i j d low below
         (sym (variable_at i d (omega (arith, low, below))) ∙ e ∙ variable_at j d below);
     apart = All-weaker (λ x. All (λ g. x ≢ g.variable) net.gates)

@@ -44,10 +44,8 @@ pub turned_same : (gates : List Gate) (id line : ℕ) → 3 * length gates < lin
 turned_same gates id line behind = elim (id_turned gates id) [
   | inl same ↦ ap (λ i. i == line) same
   | inr both ↦
-      let less = both.1 in
-      let low = both.3 in
-      ne_eqb (turned_id gates id) line (λ e. omega (arith, e, low, behind))
-      ∙ sym (ne_eqb id line (λ e. omega (arith, e, less, behind)))
+      ne_eqb (turned_id gates id) line (λ e. omega (arith, e, both.3, behind))
+      ∙ sym (ne_eqb id line (λ e. omega (arith, e, both.1, behind)))
 ]
 
 -- ids of lines

@@ -1,23 +1,25 @@
 -- Places among all declared variables: universals first, then existentials.
-use Rattle.std.proofs.Common.{◌≡◌, ◌⊎◌, ℕ, zero, suc, ◌+◌, ◌<◌, ◌≤◌, Bool, false, inl, inr, List, [], ◌∷◌, ◌++◌, map, length, get_or, slice_get, Some, refl, sym, ◌∙◌, ap, subst, arith}
+use Rattle.std.proofs.Common.{◌≡◌, ◌⊎◌, ℕ, zero, suc, ◌+◌, ◌<◌, ◌≤◌, Bool, false, inl, inr, List, [], ◌∷◌, ◌++◌, map, length, get_or, slice_get, Some, refl, sym, ◌∙◌, ap, subst, arith, set, ◌-◌, IsSome, IfSome}
 use Rattle.std.specs.List.{All, Contains}
 use Rattle.std.proofs.lemmas.List.{get_or_default, length-append, length-map}
-use Rattle.std.proofs.lemmas.List.Elements.{All-contains, Contains-append_left, Contains-append_right, Contains-append_cases}
-use Rattle.std.proofs.lemmas.Option.{slice_get_within}
+use Rattle.std.proofs.lemmas.List.Elements.{All-contains, Contains-append_left, Contains-append_right, Contains-append_cases, Contains-push}
+use Rattle.std.proofs.lemmas.Option.{slice_get_within, slice_get-get_or}
 use Rattle.list_laws.proofs.Elements.{kept_there}
 use Rattle.list_laws.proofs.Members.{element_at, place_of}
 use Rattle.dq_lits.specs.Literal.{Literal}
 use Rattle.dq_lits.specs.Formula.{Dqbf, Existential, declared, existential_of}
-use Rattle.dq_lits.proofs.FormulaVariables.{few_declared, find_sound}
+use Rattle.dq_lits.proofs.FormulaVariables.{few_declared, find_sound, seen_as}
 use Rattle.definition_order.specs.Order.{MayRead, ArePlacesOfShared}
 use Rattle.dq_formula.specs.Prefix.{IsLawful, existential_variables}
 use Rattle.hint_log.specs.Entries.{Entry}
 use Rattle.hint_log.specs.Naming.{named_literal}
 use Rattle.hint_log.specs.declared.names.Name.TheVariants.{Copy as CopyOf}
 use Rattle.padoa_definitions.specs.Copies.{AreCopies, AreCopiesOf, IsCopied, copies_of}
-use Rattle.padoa_definitions.specs.Seeing.{ArePlaces}
+use Rattle.padoa_definitions.specs.Seeing.{ArePlaces, ArePlacesSoFar}
 use Rattle.padoa_definitions.specs.declared.copies.MatrixCopy.{MatrixCopy}
 use Rattle.padoa_definitions.proofs.CopiedVariables.{by_places, copy_at, named_length}
+use Rattle.std.proofs.lemmas.Bool.{cases_lt}
+use Rattle.definition_order.proofs.Declared.{sees_universals, some_existential}
 
 pub declared_long : (f : Dqbf) → length (declared f) ≡ length f.universals + length f.existentials
 declared_long f = length-append f.universals (existential_variables f) ∙ ap (λ n. length f.universals + n)
@@ -35,6 +37,20 @@ pub at_second : {X : Type 0} (xs ys : List X) (p : ℕ) (y : X) → slice_get ys
 at_second [] ys p y h = subst (λ k. slice_get ys k ≡ Some y) (let same : p ≡ 0 + p = omega arith in same) h
 at_second (x ∷ xs) ys p y h = subst (λ k. slice_get (x ∷ xs ++ ys) k ≡ Some y)
     (let same : suc (length xs + p) ≡ suc (length xs) + p = omega arith in same) (at_second xs ys p y h)
+
+-- a place that is set in two lists, one behind the other
+pub set_first : {X : Type 0} (xs ys : List X) (i : ℕ) (x : X) → i < length xs → set xs i x ++ ys ≡ set (xs ++ ys) i x
+set_first [] ys i x below = absurd (omega (arith, below))
+set_first (z ∷ xs) ys zero x below = refl
+set_first (z ∷ xs) ys (suc i) x below = ap (λ zs. z ∷ zs) (set_first xs ys i x (omega (arith, below)))
+
+pub set_second : {X : Type 0} (xs ys : List X) (i : ℕ) (x : X) → length xs ≤ i →
+    xs ++ set ys (i - length xs) x ≡ set (xs ++ ys) i x
+set_second [] ys i x past = let same : i - 0 ≡ i = omega arith in ap (λ k. set ys k x) same
+set_second (z ∷ xs) ys zero x past = absurd (omega (arith, past))
+set_second (z ∷ xs) ys (suc i) x past =
+    let same : suc i - length (z ∷ xs) ≡ i - length xs = omega arith in
+    ap (λ k. z ∷ (xs ++ set ys k x)) same ∙ ap (λ zs. z ∷ zs) (set_second xs ys i x (omega (arith, past)))
 
 at_mapped : (ys : List Existential) (p : ℕ) (z : Existential) → slice_get ys p ≡ Some z →
     slice_get (map (λ y. y.variable) ys) p ≡ Some z.variable
@@ -159,3 +175,49 @@ pub shared_within : (f : Dqbf) (ranks : List ℕ) (y : Existential) (shared : Li
 shared_within f ranks y shared are k d lt =
     let z = (are (get_or shared k d)).0 (k, lt, get_or_default shared k (get_or shared k d) d lt) in
     slice_get_within f.existentials (get_or shared k d) z.0 z.1
+
+pub seen_among : (f : Dqbf) → IsLawful f → (v : ℕ) (xs : List ℕ) → IsSome (existential_of f v) →
+    IfSome (existential_of f v) (λ y. xs ≡ y.sees) → All (Contains f.universals) xs
+seen_among f lawful v xs is h = some_existential f v (All (Contains f.universals) xs) is (λ y found.
+    subst (All (Contains f.universals)) (sym (seen_as f v xs h y found)) (sees_universals f lawful v y found))
+
+pub no_places : (us xs : List ℕ) (places : List ℕ) → places ≡ [] → ArePlacesSoFar us xs 0 places
+no_places us xs places empty = subst (ArePlacesSoFar us xs 0) (sym empty) (record {
+  sound = λ p among. absurd (nothing among);
+  complete = λ k x lt at. absurd (omega (arith, lt));
+})
+  where
+    nothing : {p : ℕ} → Contains {X = ℕ} [] p → ⊥
+    nothing (k, lt, at) = omega (arith, lt)
+
+pub places_more : (us xs : List ℕ) (i x p : ℕ) (old new : List ℕ) → slice_get xs i ≡ Some x → slice_get us p ≡ Some x →
+    new ≡ old ++ p ∷ [] → ArePlacesSoFar us xs i old →
+    ArePlacesSoFar us xs (i + 1) new
+places_more us xs i x p old new at there pushed before = subst (ArePlacesSoFar us xs (i + 1)) (sym pushed) (record {
+  sound = λ q among. elim (Contains-append_cases old (p ∷ []) q among) [
+    | inl early ↦ before.sound q early
+    | inr last ↦ (let same = only p q last in (x, ap (slice_get us) (sym same) ∙ there, element_at xs i x at))
+  ];
+  complete = λ k z lt z_at. elim (cases_lt k i) [
+    | inl early ↦ (let r = before.complete k z early z_at in (r.0, r.1, Contains-append_left old (p ∷ []) r.0 r.2))
+    | inr late ↦ (
+        let same : k ≡ i = omega (arith, lt, late) in
+        let both : Some x ≡ Some z = sym at ∙ ap (slice_get xs) (sym same) ∙ z_at in
+        let is : x ≡ z = cc in
+        (p, there ∙ ap Some is, Contains-push old p))
+  ];
+})
+  where
+    only : (p q : ℕ) → Contains (p ∷ []) q → p ≡ q
+    only p q (zero, lt, at) = at
+    only p q (suc k, lt, at) = absurd (omega (arith, lt))
+
+pub all_places : (us xs sees : List ℕ) (i : ℕ) (places : List ℕ) → xs ≡ sees → length xs ≤ i →
+    ArePlacesSoFar us xs i places → ArePlaces us (Contains sees) places
+all_places us xs sees i places same all so_far = subst (λ ys. ArePlaces us (Contains ys) places) same (record {
+  sound = so_far.sound;
+  complete = λ x among. here x among;
+})
+  where
+    here : (x : ℕ) → Contains xs x → (p : ℕ) × (slice_get us p ≡ Some x) × Contains places p
+    here x (k, lt, at) = so_far.complete k x (omega (arith, lt, all)) (slice_get-get_or xs k x lt ∙ ap Some at)

@@ -1,5 +1,5 @@
 -- A frame of a store gets its groups.
-use Rattle.std.proofs.Common.{◌≡◌, ◌≢◌, ℕ, zero, suc, true, false, cond, ◌⊎◌, inl, inr, List, [], ◌∷◌, map, set, slice_get, Option, Some, None, refl, sym, ◌∙◌, ap, subst, arith}
+use Rattle.std.proofs.Common.{◌≡◌, ◌≢◌, ℕ, zero, suc, false, cond, ◌⊎◌, inl, inr, List, [], ◌∷◌, map, length, set, slice_get, Option, Some, None, refl, sym, ◌∙◌, ap, subst, arith}
 use Rattle.std.specs.List.{Contains}
 use Rattle.std.proofs.lemmas.Bool.{eq-eqb}
 use Rattle.std.proofs.lemmas.List.Elements.{Contains-append_cases, Contains-append_left, Contains-append_right}
@@ -11,29 +11,31 @@ use Rattle.hint_log.specs.Entries.{Entry, Named, ProofLog, with_entry, name_of}
 use Rattle.hint_log.specs.ProductiveSession.{frame_of}
 use Rattle.hint_log.specs.declared.names.Name.TheVariants.{Selector}
 use Rattle.hint_log.proofs.NamedEntries.{unnamed_before}
-use Rattle.log_laws.specs.Engines.{copies}
-use Rattle.log_laws.specs.Sessions.{IsAddedLive}
 use Rattle.log_laws.proofs.Kept.{NamesStay, name_stays_by}
 use Rattle.log_laws.proofs.LargerLogs.{grown_by, grown_then}
 use Rattle.oracle.specs.Calls.{IsMade}
 use Rattle.oracle.specs.declared.groups.Group.{Group}
 use Rattle.padoa_definitions.specs.Copies.{group_variable}
-use Rattle.padoa_definitions.specs.Following.{AreOldOrNew, IsFollowing}
-use Rattle.padoa_definitions.specs.Store.{StoreState, HasGroup, side_group, Slot, of_frame, of_link, both_groups, store_groups, IsStore}
+use Rattle.padoa_definitions.specs.Following.{AreOldOrNew, IsFollowing, IsCopyAdded}
+use Rattle.padoa_definitions.specs.Store.{StoreState, HasGroup, side_group, Slot, of_frame, of_link, both_groups, store_groups, IsPartialStore}
 use Rattle.padoa_definitions.specs.declared.frames.Sides.{Sides}
-use Rattle.padoa_definitions.proofs.GrownStores.{IsGrown, AreNewGroups, entries_kept}
-use Rattle.padoa_definitions.proofs.StandingStores.{AreKept, given_stays, groups_stay, parts_stay, store_stands}
+use Rattle.padoa_definitions.proofs.StandingStores.{IsGrown, AreNewGroups, entries_kept, AreKept, given_stays, groups_stay, parts_stay, store_stands}
 use Rattle.padoa_definitions.proofs.StoreSteps.{set_cases, set_there, following_entry}
 
 -- a group that is made for nothing
 pub following_group : (all : Dqbf) (numbered : List ℕ) (s : StoreState) (log new : ProofLog) (g : ℕ) →
-    IsStore all numbered s log.entries → name_of log.entries g ≡ None → new ≡ with_entry log (Named g (Selector g)) →
-    IsFollowing all numbered s log s new
+    IsPartialStore all numbered s log.entries → name_of log.entries g ≡ None →
+    new ≡ with_entry log (Named g (Selector g)) → IsFollowing all numbered s log s new
 following_group all numbered s log new g store unnamed is =
     following_entry all numbered s s log new (Named g (Selector g)) is
-    (record { unnamed = unnamed; own = inl refl; rightly = tt }) refl refl (λ n has. inl has)
-    (store_stands all numbered s (Named g (Selector g)) log.entries (name_stays_by log.entries g (Selector g) unnamed) tt
-    store) (λ side j has. has) (λ k flag. flag)
+    (record { unnamed = unnamed; own = inl refl; rightly = tt }) refl refl refl (λ n has. inl has)
+    (store_stands (length all.universals) all numbered s (Named g (Selector g)) log.entries
+    (name_stays_by log.entries g (Selector g) unnamed) tt store) (record {
+      kept_groups = λ slot h has. has;
+      more_given = λ side j has. has;
+      more_parts = λ k. omega arith;
+      kept_links = λ k h low there. there;
+    }) (λ k flag. flag)
 
 pub side_cases : (side : ℕ) (sides : Sides) (g : Group) → side_group side sides ≡ Some g →
     ((side ≡ 1) × (sides.first ≡ g)) ⊎ ((side ≡ 2) × (sides.second ≡ g))
@@ -77,7 +79,7 @@ both_kept (Some x ∷ frames) (suc F) sides n is (suc (suc k), below, at) =
     (suc (suc r.0), omega (arith, less), r.2)
 
 module _ (all : Dqbf) (numbered : List ℕ) (s : StoreState) (log middle : ProofLog)
-    (store : IsStore all numbered s log.entries) (logged : AreLogged log.entries) (F : ℕ)
+    (store : IsPartialStore all numbered s log.entries) (logged : AreLogged log.entries) (F : ℕ)
     (free : slice_get s.frames F ≡ Some None) (sides : Sides) (first_plain : is_negative sides.first.selector ≡ false)
     (second_plain : is_negative sides.second.selector ≡ false)
     (first_unnamed : name_of log.entries (group_variable sides.first) ≡ None)
@@ -85,18 +87,7 @@ module _ (all : Dqbf) (numbered : List ℕ) (s : StoreState) (log middle : Proof
     (Named (group_variable sides.first) (Selector (group_variable sides.first))))
     (second_unnamed : name_of middle.entries (group_variable sides.second) ≡ None) where
   abbrev pub opened : StoreState
-  opened = record {
-    first_universals = s.first_universals;
-    second_universals = s.second_universals;
-    first_existentials = s.first_existentials;
-    second_existentials = s.second_existentials;
-    copied = s.copied;
-    parts = s.parts;
-    links = s.links;
-    given = s.given;
-    frames = set s.frames F (Some sides);
-    active = s.active;
-  }
+  opened = record s { frames = set s.frames F (Some sides) }
 
   abbrev a : ℕ
   a = group_variable sides.first
@@ -173,7 +164,7 @@ module _ (all : Dqbf) (numbered : List ℕ) (s : StoreState) (log middle : Proof
   grown : IsGrown s opened
   grown = record {
     kept_groups = kept_group;
-    more_given = λ side j has. record { from_one = has.from_one; within = has.within };
+    more_given = λ side j has. has;
     more_parts = λ k. omega arith;
     kept_links = λ k g low is. is;
   }
@@ -243,25 +234,13 @@ module _ (all : Dqbf) (numbered : List ℕ) (s : StoreState) (log middle : Proof
       by (inl frame) = in_frames (set_both s.frames F sides n free frame)
       by (inr link) = inl (Contains-append_right (both_groups s.frames) (map group_variable s.links) n link)
 
-  opened_store : IsStore all numbered opened after
+  opened_store : IsPartialStore all numbered opened after
   opened_store =
-      let parts = parts_stay all numbered s es after kept store.parts in
       let groups = groups_stay all numbered s es after kept store.groups in
       record {
-        places = record {
-          parts = store.places.parts;
-          flags = store.places.flags;
-          first = store.places.first;
-          second = store.places.second;
-          links = store.places.links;
-        };
+        places = store.places;
         whole = store.whole;
-        parts = record {
-          universals = parts.universals;
-          first_existentials = parts.first_existentials;
-          second_existentials = parts.second_existentials;
-          equations = parts.equations;
-        };
+        parts = parts_stay all numbered s es after kept store.parts;
         groups = record {
           made = λ slot g has. elim (which slot g has)
               [ inl new ↦ new_made g new.0 new.2 | inr old ↦ groups.made slot g old ];
@@ -269,8 +248,7 @@ module _ (all : Dqbf) (numbered : List ℕ) (s : StoreState) (log middle : Proof
           apart = λ x y g h has has' same. alone x y g h (which x g has) (which y h has') same;
         };
         givens = λ side j low has.
-            let there = given_stays all numbered s es after kept side j
-            (store.givens side j low (record { from_one = has.from_one; within = has.within })) in
+            let there = given_stays all numbered s es after kept side j (store.givens side j low has) in
             record {
               clause = there.clause;
               clause_is = there.clause_is;
@@ -285,20 +263,21 @@ module _ (all : Dqbf) (numbered : List ℕ) (s : StoreState) (log middle : Proof
 
   pub opened_following : (new : ProofLog) → new ≡ with_entry middle two → IsFollowing all numbered s log opened new
   opened_following new is =
-      let P : List Entry → Entry → Type 0 = IsAddedLive all copies (store_groups s) true es in
+      let P : List Entry → Entry → Type 0 = IsCopyAdded all (store_groups s) es in
       let entries : new.entries ≡ after = ap (λ (l : ProofLog). l.entries) is ∙ ap (λ xs. two ∷ xs) middle_entries in
       subst (λ (l : ProofLog). IsFollowing all numbered s log opened l)
       (sym (is ∙ ap (λ l. with_entry l two) middle_is)) (record {
         grew = grown_then P log (with_entry log one) (with_entry (with_entry log one) two)
             (grown_by P log (with_entry log one) one refl
-            (record { unnamed = first_unnamed; own = inl refl; rightly = tt }))
+            ((record { unnamed = first_unnamed; own = inl refl; rightly = tt }), refl))
             (grown_by P (with_entry log one) (with_entry (with_entry log one) two) two refl
-            (record { unnamed = b_fresh; own = inl refl; rightly = tt }));
+            ((record { unnamed = b_fresh; own = inl refl; rightly = tt }), refl));
         new_groups = old_or_new;
         names = λ v none. unnamed_before one es v (unnamed_before two (one ∷ es) v none);
         faults = refl;
         room = refl;
         store = opened_store;
-        given = λ side j has. record { from_one = has.from_one; within = has.within };
+        given = λ side j has. has;
+        parts = λ k. omega arith;
         copied = λ k flag. flag;
       })

@@ -75,10 +75,10 @@ given_id (e ∷ es) o c (suc k, lt, at) =
               (cond (b && (id == last_id es + 1)) (Some e) (numbered has_id es id))) h ∙ is,
         )
 
-literal_at : (ls : List Literal) (k : ℕ) → k < length ls → (l : Literal) × (slice_get ls k ≡ Some l)
-literal_at [] k lt = absurd (omega (arith, lt))
-literal_at (l ∷ ls) zero lt = (l, refl)
-literal_at (l ∷ ls) (suc k) lt = literal_at ls k (omega (arith, lt))
+there_at : {X : Type 0} (xs : List X) (k : ℕ) → k < length xs → (x : X) × (slice_get xs k ≡ Some x)
+there_at [] k lt = absurd (omega (arith, lt))
+there_at (x ∷ xs) zero lt = (x, refl)
+there_at (x ∷ xs) (suc k) lt = there_at xs k (omega (arith, lt))
 
 missing_universal : (us : List ℕ) (v : ℕ) → list_any (λ x. x == v) us ≡ false → Contains us v → ⊥
 missing_universal us v h (k, lt, at) = true≢false (sym (list_any_at (λ x. x == v) us k v lt
@@ -145,7 +145,7 @@ module _ (f : Dqbf) (es : List Entry) (values : Assignment) (formula : IsWellFor
         let there : slice_get us k ≡ Some v = slice_get-get_or us k v lt ∙ ap Some at in
         let flag = has k (kept_there us (existential_variables f) k v there) in
         let long = is.universals.long in
-        let l = literal_at copy.universals.items k (omega (arith, lt, long)) in
+        let l = there_at copy.universals.items k (omega (arith, lt, long)) in
         let l_named = named_variable es l.0 (CopyOf side v) false (name_of es (variable_of l.0)) refl
         (is.universals.named k v l.0 flag there l.1) in
         bit_at us row k v (universals_distinct f formula.prefix) there ∙ row_is.copied k l.0 flag l.1
@@ -285,11 +285,6 @@ all_there P (x ∷ xs) more all =
         (All-head P x.selector (map (λ g. g.selector) xs ++ more) all)
     here g (suc k, lt, at) later = later g (k, omega (arith, lt), at)
 
-group_at : (gs : List Group) (k : ℕ) → k < length gs → (g : Group) × (slice_get gs k ≡ Some g)
-group_at [] k lt = absurd (omega (arith, lt))
-group_at (g ∷ gs) zero lt = (g, refl)
-group_at (g ∷ gs) (suc k) lt = group_at gs k (omega (arith, lt))
-
 pub all_parts : (P : Literal → Type 0) (xs ys : List Literal) → All P (xs ++ ys) → All P xs × All P ys
 all_parts P [] ys all = (All-nil P, all)
 all_parts P (x ∷ xs) ys all = let rest = all_parts P xs ys (All-tail P x (xs ++ ys) all) in
@@ -388,7 +383,7 @@ module _ (f : Dqbf) (places : List ℕ) (v : ℕ) (conditions : List Literal) (p
   copy_named side lits named k x flag at =
       let lt = slice_get_within (declared f) k x at in
       let long = named.long in
-      let l = literal_at lits k (omega (arith, lt, long)) in
+      let l = there_at lits k (omega (arith, lt, long)) in
       let is = named.named k x l.0 flag at l.1 in
       (variable_of l.0, (named_variable es l.0 (CopyOf side x) false (name_of es (variable_of l.0)) refl is).0)
 
@@ -397,7 +392,7 @@ module _ (f : Dqbf) (places : List ℕ) (v : ℕ) (conditions : List Literal) (p
       let lt = slice_get_within (declared f) place.0 x place.1 in
       let long = padoa.as_many in
       let flag = All-contains (λ k. is_copied_at flags k ≡ true) places place.0 posed.places_copied place.2 in
-      let g = group_at p.links.items place.0 (omega (arith, lt, long)) in
+      let g = there_at p.links.items place.0 (omega (arith, lt, long)) in
       let link = padoa.links place.0 x g.0 flag place.1 g.1 in
       let on = link_on g.0 (models.are_active.complete place.0 g.0 place.2 g.1) link.made in
       let a = copy_named 1 (copies_of p.first) (copies_declared f 1 flags p.first es padoa.first.universals

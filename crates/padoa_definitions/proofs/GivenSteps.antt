@@ -17,9 +17,8 @@ use Rattle.log_laws.proofs.Kept.{NamesStay}
 use Rattle.oracle.specs.declared.groups.Group.{Group}
 use Rattle.padoa_definitions.specs.Copies.{IsCopied, copy_names, group_variable}
 use Rattle.padoa_definitions.specs.Following.{IsFollowing, IsStanding}
-use Rattle.padoa_definitions.specs.Store.{StoreState, HasGiven, HasGroup, Slot, of_frame, of_link, IsStoredCopy, IsStoreEntry, IsGivenThere, IsStore}
-use Rattle.padoa_definitions.proofs.GrownStores.{IsGrown, entries_kept}
-use Rattle.padoa_definitions.proofs.StandingStores.{kept_by, given_stays, groups_stay, has_number, parts_stay}
+use Rattle.padoa_definitions.specs.Store.{StoreState, HasGiven, HasGroup, of_frame, IsStoredCopy, IsStoreEntry, IsGivenThere, IsPartialStore}
+use Rattle.padoa_definitions.proofs.StandingStores.{IsGrown, entries_kept, kept_by, given_stays, groups_stay, has_number, parts_stay}
 use Rattle.padoa_definitions.proofs.StoreSteps.{following_entry}
 
 -- a copy in the log is noted
@@ -44,18 +43,7 @@ module _ (all : Dqbf) (numbered : List ℕ) (f : Dqbf) (s : StoreState) (log : P
     (has_group : HasGroup s (of_frame side (frame_of numbered j)) g) (rest : List Literal)
     (named : AreNamedAs log.entries rest (copy_names side clause)) where
   abbrev pub given_more : StoreState
-  given_more = record {
-    first_universals = s.first_universals;
-    second_universals = s.second_universals;
-    first_existentials = s.first_existentials;
-    second_existentials = s.second_existentials;
-    copied = s.copied;
-    parts = s.parts;
-    links = s.links;
-    given = set s.given (j - 1) side;
-    frames = s.frames;
-    active = s.active;
-  }
+  given_more = record s { given = set s.given (j - 1) side }
 
   abbrev e : Entry
   e = Given (Copy side j) (negative (group_variable g) ∷ rest)
@@ -107,17 +95,9 @@ module _ (all : Dqbf) (numbered : List ℕ) (f : Dqbf) (s : StoreState) (log : P
           let less = has.within in
           inl (record { from_one = has.from_one; within = omega (arith, same, less) })
 
-  kept_group : (slot : Slot) (m : Group) → HasGroup s slot m → HasGroup given_more slot m
-  kept_group (of_frame sd F) m has = has
-  kept_group (of_link k) m has = has
-
-  old_group : (slot : Slot) (m : Group) → HasGroup given_more slot m → HasGroup s slot m
-  old_group (of_frame sd F) m has = has
-  old_group (of_link k) m has = has
-
   grown : IsGrown s given_more
   grown = record {
-    kept_groups = kept_group;
+    kept_groups = λ slot m has. has;
     more_given = more;
     more_parts = λ k. omega arith;
     kept_links = λ k m few is. is;
@@ -156,15 +136,7 @@ module _ (all : Dqbf) (numbered : List ℕ) (f : Dqbf) (s : StoreState) (log : P
   given_there : (sd i : ℕ) → 1 ≤ i → HasGiven s sd i ⊎ ((sd ≡ side) × (i ≡ j)) →
       IsGivenThere all numbered given_more (e ∷ es) sd i
   given_there sd i one (inl old) =
-      let there = given_stays all numbered s es (e ∷ es) (kept_by e es names) sd i (h.store.givens sd i one old) in
-      record {
-        clause = there.clause;
-        clause_is = there.clause_is;
-        covered = there.covered;
-        group = there.group;
-        has_group = there.has_group;
-        given = there.given;
-      }
+      given_stays all numbered s es (e ∷ es) (kept_by e es names) sd i (h.store.givens sd i one old)
   given_there sd i one (inr (sd_is, i_is)) =
       subst (λ n. IsGivenThere all numbered given_more (e ∷ es) n i) (sym sd_is)
       (subst (λ n. IsGivenThere all numbered given_more (e ∷ es) side n) (sym i_is) (record {
@@ -176,37 +148,16 @@ module _ (all : Dqbf) (numbered : List ℕ) (f : Dqbf) (s : StoreState) (log : P
         given = record { rest = rest; given = contains_first e es; named = named };
       }))
 
-  given_store : IsStore all numbered given_more (e ∷ es)
-  given_store =
-      let parts = parts_stay all numbered s es (e ∷ es) (kept_by e es names) h.store.parts in
-      let groups = groups_stay all numbered s es (e ∷ es) (kept_by e es names) h.store.groups in
-      record {
-        places = record {
-          parts = h.store.places.parts;
-          flags = h.store.places.flags;
-          first = h.store.places.first;
-          second = h.store.places.second;
-          links = h.store.places.links;
-        };
-        whole = h.store.whole;
-        parts = record {
-          universals = parts.universals;
-          first_existentials = parts.first_existentials;
-          second_existentials = parts.second_existentials;
-          equations = parts.equations;
-        };
-        groups = record {
-          made = λ slot m has. groups.made slot m (old_group slot m has);
-          links = groups.links;
-          apart = λ x y m n has has' same. groups.apart x y m n (old_group x m has) (old_group y n has') same;
-        };
-        givens = λ sd i one has. given_there sd i one (which sd i one has);
-        own = (
-          own,
-          entries_kept all numbered s given_more grown es (λ slot m has. inl (old_group slot m has)) logged h.store.own,
-        );
-        active = h.store.active;
-      }
+  given_store : IsPartialStore all numbered given_more (e ∷ es)
+  given_store = record {
+    places = h.store.places;
+    whole = h.store.whole;
+    parts = parts_stay all numbered s es (e ∷ es) (kept_by e es names) h.store.parts;
+    groups = groups_stay all numbered s es (e ∷ es) (kept_by e es names) h.store.groups;
+    givens = λ sd i one has. given_there sd i one (which sd i one has);
+    own = (own, entries_kept all numbered s given_more grown es (λ slot m has. inl has) logged h.store.own);
+    active = h.store.active;
+  }
 
   pub given_following : (new : ProofLog) → new ≡ with_entry log e → IsFollowing all numbered s log given_more new
   given_following new is = following_entry all numbered s given_more log new e is
@@ -219,4 +170,4 @@ module _ (all : Dqbf) (numbered : List ℕ) (f : Dqbf) (s : StoreState) (log : P
         );
         matches_origin = right;
         not_repeated = record { first = λ no_fault d inside. first d inside; groups = h.few };
-      }) refl refl (λ n has. inl has) given_store more (λ k flag. flag)
+      }) refl refl refl (λ n has. inl has) given_store grown (λ k flag. flag)

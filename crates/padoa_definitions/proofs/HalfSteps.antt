@@ -1,14 +1,12 @@
--- A universal of a store gets half of its equation.
+-- A variable of a store gets half of its equation.
 use Rattle.std.proofs.Common.{◌≡◌, ◌≢◌, ℕ, suc, ◌+◌, ◌<◌, ◌≤◌, false, ◌⊎◌, inl, inr, List, [], ◌∷◌, map, length, slice_get, Some, refl, sym, ◌∙◌, ap, subst, arith}
 use Rattle.std.specs.List.{AllPairs, Contains}
 use Rattle.std.proofs.lemmas.List.Elements.{Contains-append_right}
 use Rattle.std.proofs.lemmas.Option.{slice_get_within}
-use Rattle.list_laws.proofs.Elements.{kept_there}
 use Rattle.list_laws.proofs.Quantified.{one_place}
 use Rattle.list_laws.proofs.Members.{contains_first, contains_cases}
 use Rattle.dq_lits.specs.Literal.{Literal, negative}
 use Rattle.dq_lits.specs.Formula.{Dqbf, declared}
-use Rattle.dq_formula.specs.Prefix.{existential_variables}
 use Rattle.hint_log.specs.Conditions.{AreLogged}
 use Rattle.hint_log.specs.Entries.{Entry, Given, ProofLog, with_entry}
 use Rattle.hint_log.specs.Growth.{Each}
@@ -21,10 +19,11 @@ use Rattle.log_laws.proofs.Kept.{NamesStay}
 use Rattle.oracle.specs.declared.groups.Group.{Group}
 use Rattle.padoa_definitions.specs.Copies.{IsGivenIn, group_variable}
 use Rattle.padoa_definitions.specs.Following.{IsFollowing, IsStanding}
-use Rattle.padoa_definitions.specs.Store.{StoreState, parts_at, side_universals, both_groups, IsStoredLink, IsStoreEntry, HasParts, IsStore}
-use Rattle.padoa_definitions.proofs.PartSteps.{raised, raised_here, held_before, raised_store, raised_new, raised_groups, raised_old}
+use Rattle.padoa_definitions.specs.Store.{StoreState, parts_at, side_copies, both_groups, IsStoredLink, IsStoreEntry, HasParts, IsPartialStore}
+use Rattle.padoa_definitions.proofs.PartSteps.{raised, raised_here, raised_grown, held_before, raised_store, raised_new, raised_groups, raised_old}
 use Rattle.padoa_definitions.proofs.StandingStores.{kept_by, given_in_stays, parts_stay, link_number}
 use Rattle.padoa_definitions.proofs.StoreSteps.{following_entry}
+use Rattle.padoa_definitions.specs.Store.{side_copies}
 
 -- half of an equation
 record IsLinkGiven (all : Dqbf) (s : StoreState) (x i : ℕ) : Type 0 where
@@ -47,11 +46,11 @@ stored_link all numbered s (e ∷ es) x i c own inside =
 
 module _ (all : Dqbf) (numbered : List ℕ) (f : Dqbf) (once : AllPairs (λ v w. v ≢ w) (declared all)) (s : StoreState) (log : ProofLog)
     (h : IsStanding all numbered f s log.entries) (logged : AreLogged log.entries) (place x i : ℕ)
-    (x_is : slice_get all.universals place ≡ Some x) (half : (i ≡ 1) ⊎ (i ≡ 2)) (next : parts_at s place ≡ i + 2)
+    (x_is : slice_get (declared all) place ≡ Some x) (half : (i ≡ 1) ⊎ (i ≡ 2)) (next : parts_at s place ≡ i + 2)
     (g : Group) (g_is : slice_get s.links place ≡ Some g) (rest : List Literal)
     (named : AreNamedAs log.entries rest (link_names x i)) where
   abbrev pub equated : StoreState
-  equated = raised s place (i + 3) s.first_universals s.second_universals s.links
+  equated = raised s place (i + 3) s.first s.second s.links
 
   abbrev c : List Literal
   c = negative (group_variable g) ∷ rest
@@ -65,7 +64,7 @@ module _ (all : Dqbf) (numbered : List ℕ) (f : Dqbf) (once : AllPairs (λ v w.
   within : place < length s.parts
   within =
       let long = h.store.places.parts in
-      let below = slice_get_within all.universals place x x_is in
+      let below = slice_get_within (declared all) place x x_is in
       omega (arith, long, below)
 
   one_more : parts_at s place + 1 ≡ i + 3
@@ -80,30 +79,24 @@ module _ (all : Dqbf) (numbered : List ℕ) (f : Dqbf) (once : AllPairs (λ v w.
   names : NamesStay es (e ∷ es)
   names v n is = is
 
-  at_place : slice_get (declared all) place ≡ Some x
-  at_place = kept_there all.universals (existential_variables all) place x x_is
-
   parts : HasParts all equated (e ∷ es)
   parts =
-      let kept = parts_stay all numbered s es (e ∷ es) (kept_by e es names) h.store.parts in
       record {
-        universals = λ sd k y l low y_is l_is. copy sd k y l y_is l_is
-            (held_before s place (i + 3) s.first_universals s.second_universals s.links within one_more k sd low);
-        first_existentials = kept.first_existentials;
-        second_existentials = kept.second_existentials;
+        copies = λ sd k y l low y_is l_is. copy sd k y l y_is l_is
+            (held_before s place (i + 3) s.first s.second s.links within one_more k sd low);
         equations = λ k y j m low one two y_is m_is. equation k y j m one two y_is m_is
-            (held_before s place (i + 3) s.first_universals s.second_universals s.links within one_more k (j + 3) low);
+            (held_before s place (i + 3) s.first s.second s.links within one_more k (j + 3) low);
       }
     where
-      copy : (sd k y : ℕ) (l : Literal) → slice_get all.universals k ≡ Some y →
-          slice_get (side_universals s sd) k ≡ Some l → (sd ≤ parts_at s k) ⊎ ((k ≡ place) × (sd ≡ i + 3)) →
+      copy : (sd k y : ℕ) (l : Literal) → slice_get (declared all) k ≡ Some y →
+          slice_get (side_copies s sd) k ≡ Some l → (sd ≤ parts_at s k) ⊎ ((k ≡ place) × (sd ≡ i + 3)) →
           name_literal (e ∷ es) l ≡ Some (named_literal (CopyOf sd y) false)
       copy sd k y l y_is l_is (inl low) =
-          (parts_stay all numbered s es (e ∷ es) (kept_by e es names) h.store.parts).universals sd k y l low y_is l_is
+          (parts_stay all numbered s es (e ∷ es) (kept_by e es names) h.store.parts).copies sd k y l low y_is l_is
       copy sd k y l y_is l_is (inr (here, many)) =
           let past : suc (suc (suc i)) ≡ sd = omega (arith, many) in
-          let gone : slice_get (side_universals s (suc (suc (suc i)))) k ≡ Some l =
-          ap (λ n. slice_get (side_universals s n) k) past ∙ l_is in
+          let gone : slice_get (side_copies s (suc (suc (suc i)))) k ≡ Some l =
+          ap (λ n. slice_get (side_copies s n) k) past ∙ l_is in
           cc
 
       equation : (k y j : ℕ) (m : Group) → 1 ≤ j → j ≤ 2 → slice_get (declared all) k ≡ Some y →
@@ -113,7 +106,7 @@ module _ (all : Dqbf) (numbered : List ℕ) (f : Dqbf) (once : AllPairs (λ v w.
           (group_variable m) (Link y j) (link_names y j) (h.store.parts.equations k y j m low one two y_is m_is)
       equation k y j m one two y_is m_is (inr (here, many)) =
           let j_is : i ≡ j = omega (arith, many) in
-          let both : Some x ≡ Some y = sym at_place ∙ ap (slice_get (declared all)) (sym here) ∙ y_is in
+          let both : Some x ≡ Some y = sym x_is ∙ ap (slice_get (declared all)) (sym here) ∙ y_is in
           let x_same : x ≡ y = cc in
           let groups : Some g ≡ Some m = sym g_is ∙ ap (slice_get s.links) (sym here) ∙ m_is in
           let g_same : g ≡ m = cc in
@@ -134,11 +127,11 @@ module _ (all : Dqbf) (numbered : List ℕ) (f : Dqbf) (once : AllPairs (λ v w.
 
   own : IsStoreEntry all numbered equated es e
   own =
-      let here = raised_here s place (i + 3) s.first_universals s.second_universals s.links within one_more in
+      let here = raised_here s place (i + 3) s.first s.second s.links within one_more in
       record {
         right = right;
         place = place;
-        variable_is = at_place;
+        variable_is = x_is;
         done = omega (arith, here);
         group = g;
         group_is = g_is;
@@ -150,17 +143,17 @@ module _ (all : Dqbf) (numbered : List ℕ) (f : Dqbf) (once : AllPairs (λ v w.
       let there = stored_link all numbered s es x i d h.store.own inside in
       let done = there.done in
       let same = ap (parts_at s)
-      (one_place (declared all) there.place place x once there.variable_is at_place) in
+      (one_place (declared all) there.place place x once there.variable_is x_is) in
       let before = next in
       omega (arith, done, same, before)
 
-  equated_store : IsStore all numbered equated (e ∷ es)
+  equated_store : IsPartialStore all numbered equated (e ∷ es)
   equated_store =
-      raised_store s place (i + 3) s.first_universals s.second_universals s.links within one_more (λ k m low is. is)
+      raised_store s place (i + 3) s.first s.second s.links within one_more (λ k m low is. is)
       all numbered e es h.store logged names
-      (raised_new s place (i + 3) s.first_universals s.second_universals s.links within one_more es refl no_link)
-      h.store.places.first h.store.places.second h.store.places.links parts
-      (raised_groups s place (i + 3) s.first_universals s.second_universals s.links within one_more e es refl no_link
+      (raised_new s place (i + 3) s.first s.second s.links within one_more es refl no_link)
+      (refl, refl) (refl, refl) h.store.places.links parts
+      (raised_groups s place (i + 3) s.first s.second s.links within one_more e es refl no_link
       names h.store.groups) own
 
   pub equated_following : (new : ProofLog) → new ≡ with_entry log e → IsFollowing all numbered s log equated new
@@ -175,6 +168,6 @@ module _ (all : Dqbf) (numbered : List ℕ) (f : Dqbf) (once : AllPairs (λ v w.
         );
         matches_origin = right;
         not_repeated = record { first = λ no_fault d inside. first d inside; groups = h.few };
-      }) refl refl
-      (raised_old s place (i + 3) s.first_universals s.second_universals s.links within one_more es refl) equated_store
-      (λ sd j has. record { from_one = has.from_one; within = has.within }) (λ k flag. flag)
+      }) refl refl refl
+      (raised_old s place (i + 3) s.first s.second s.links within one_more es refl) equated_store
+      (raised_grown s place (i + 3) s.first s.second s.links within one_more (λ k m low is. is)) (λ k flag. flag)

@@ -1,7 +1,7 @@
 -- What stays of the copies as the log grows.
-use Rattle.std.proofs.Common.{◌≡◌, ◌≢◌, ℕ, zero, suc, ◌+◌, Bool, true, false, inl, inr, List, [], ◌∷◌, ◌++◌, map, get_or, Some, None, slice_get, refl, sym, ◌∙◌, ap, subst, arith}
+use Rattle.std.proofs.Common.{◌≡◌, ◌≢◌, ℕ, zero, suc, Bool, false, inl, inr, List, [], ◌∷◌, ◌++◌, map, get_or, Some, None, slice_get, refl, sym, ◌∙◌, ap, subst, arith}
 use Rattle.std.specs.List.{All, Contains}
-use Rattle.std.proofs.lemmas.List.Elements.{All-head, All-tail, All-cons, All-nil, Contains-append_left, Contains-append_right}
+use Rattle.std.proofs.lemmas.List.Elements.{All-head, All-tail, All-cons, All-nil, Contains-append_left, Contains-append_right, All-contains, Contains-append_cases}
 use Rattle.std.proofs.lemmas.Option.{slice_get_within, get_or_from_slice_get}
 use Rattle.list_laws.proofs.Members.{contains_later}
 use Rattle.dq_lits.specs.Literal.{Literal, negative, variable_of}
@@ -12,15 +12,15 @@ use Rattle.hint_log.specs.Naming.{NamedLiteral, named_literal}
 use Rattle.hint_log.specs.declared.names.Name.{Name}
 use Rattle.hint_log.specs.declared.names.Name.TheVariants.{Selector, Copy as CopyOf}
 use Rattle.hint_log.specs.declared.origins.Origin.{Origin}
-use Rattle.log_laws.specs.Engines.{Engine, copies, IsInGroup, IsAddedBy}
+use Rattle.log_laws.specs.Engines.{Engine, IsInGroup, IsAddedBy}
 use Rattle.log_laws.proofs.LargerLogs.{each_grown, name_kept}
 use Rattle.log_laws.proofs.Kept.{NamesStay, named_stay, literal_stays}
 use Rattle.oracle.specs.Calls.{IsMade}
 use Rattle.oracle.specs.declared.groups.Group.{Group}
-use Rattle.padoa_definitions.specs.Copies.{IsGroupGiven, IsSideGiven, IsGivenIn, AreCopies, IsMatrixCopy, IsLink, IsPadoa, all_groups, copy_names, group_variable, groups_of}
-use Rattle.padoa_definitions.specs.Growing.{GrewAnew}
+use Rattle.padoa_definitions.specs.Copies.{IsGroupGiven, IsSideGiven, IsGivenIn, AreCopies, IsMatrixCopy, IsLink, IsPadoa, all_groups, copy_names, group_variable, groups_of, IsCopyGiven}
 use Rattle.padoa_definitions.specs.declared.copies.MatrixCopy.{MatrixCopy}
 use Rattle.padoa_definitions.specs.declared.padoa.Padoa.{Padoa}
+use Rattle.padoa_definitions.specs.Standing.{EnginesLeaveCopies, RoundsLeaveCopies}
 
 -- names and clauses stay, and groups of these get no other clauses
 pub record Keeps (f : Dqbf) (apart : ℕ → Type 0) (old new : List Entry) : Type 0 where
@@ -33,8 +33,8 @@ pub record Keeps (f : Dqbf) (apart : ℕ → Type 0) (old new : List Entry) : Ty
 abbrev pub IsNamed : List Entry → ℕ → Type 0
 IsNamed entries v = (n : Name) × (name_of entries v ≡ Some n)
 
-in_one_group : (g mine : ℕ) (c : List Literal) → IsInGroup mine c → IsInGroup g c → mine ≡ g
-in_one_group g mine c a b = let e : negative mine ∷ a.0 ≡ negative g ∷ b.0 = sym a.1 ∙ b.1 in cc
+pub in_one_group : (g h : ℕ) (c : List Literal) → IsInGroup g c → IsInGroup h c → g ≡ h
+in_one_group g h c a b = let e : negative g ∷ a.0 ≡ negative h ∷ b.0 = sym a.1 ∙ b.1 in cc
 
 module _ (f : Dqbf) (engine : Engine) (group : ℕ) (silent : Bool) (old : List Entry) where
   -- no clause is given to another group
@@ -43,7 +43,7 @@ module _ (f : Dqbf) (engine : Engine) (group : ℕ) (silent : Bool) (old : List 
       IsInGroup mine c → ⊥
   not_given mine n apart named earlier origin c h inside =
       let g = h.in_group.0 in
-      let same = in_one_group g mine c inside h.in_group.1 in
+      let same = in_one_group mine g c inside h.in_group.1 in
       elim h.in_group.2 [
         | inl is_group ↦ apart (same ∙ is_group)
         | inr unnamed ↦ (let none : name_of old mine ≡ None = ap (name_of old) same ∙ unnamed in cc)
@@ -87,22 +87,6 @@ keeps_by_engine f engine group silent old new grew =
           (other_side f engine group silent old.entries side mine apart.1.0 apart.0 apart.1.1) grew.more old.entries
           grew.each;
     })
-
-next_differs : (n : ℕ) → n ≢ n + 1
-next_differs n e = omega (arith, e)
-
--- what was named before
-pub keeps_anew : (f : Dqbf) (old new : ProofLog) → GrewAnew f old new →
-    Keeps f (IsNamed old.entries) old.entries new.entries
-keeps_anew f old new grew =
-    let by = λ (standing : ℕ). keeps_by_engine f copies standing true old new
-    (grew standing old.entries (λ v none. none)) in
-    record {
-      names = (by 0).names;
-      contains = (by 0).contains;
-      groups = λ test mine named. (by (mine + 1)).groups test mine (next_differs mine, named);
-      sides = λ side mine named. (by (mine + 1)).sides side mine (next_differs mine, named);
-    }
 
 -- entries that neither name nor give
 pub keeps_entry : (f : Dqbf) (e : Entry) (es : List Entry) → NamesStay es (e ∷ es) →
@@ -211,3 +195,50 @@ padoa_stays f apart old new keeps p all is =
           (Contains-append_right p.second.groups.items p.links.items g (group_element p.links.items i g g_is))))
           (is.links i x g flag x_is g_is);
     }
+
+-- what is a copy stays one as the log grows
+pub copy_given_stays : (old new : List Entry) (f : Dqbf) (side : ℕ) (c : List Literal) → NamesStay old new →
+    IsCopyGiven old f side c → IsCopyGiven new f side c
+copy_given_stays old new f side c stay given = record {
+  group = given.group;
+  rest = given.rest;
+  original = given.original;
+  is_group = stay given.group (Selector given.group) given.is_group;
+  clause_is = given.clause_is;
+  original_is = given.original_is;
+  copied = named_stay old new stay given.rest (copy_names side given.original) given.copied;
+}
+
+-- every group was made
+pub groups_made : (f : Dqbf) (p : Padoa) (es : List Entry) → IsPadoa f p es → (g : Group) →
+    Contains (all_groups p) g → IsMade es g
+groups_made f p es padoa g among =
+    elim (Contains-append_cases p.first.groups.items (p.second.groups.items ++ p.links.items) g among) [
+      | inl first ↦ All-contains (IsMade es) p.first.groups.items g padoa.first.made first
+      | inr behind ↦ elim (Contains-append_cases p.second.groups.items p.links.items g behind) [
+        | inl second ↦ All-contains (IsMade es) p.second.groups.items g padoa.second.made second
+        | inr link ↦ All-contains (IsMade es) p.links.items g padoa.links_made link
+      ]
+    ]
+
+-- and so has a name
+pub groups_named : (f : Dqbf) (p : Padoa) (es : List Entry) → IsPadoa f p es → All (IsNamed es) (groups_of p)
+groups_named f p es padoa = to_mapped (IsNamed es) (all_groups p)
+    (λ g among. (Selector (group_variable g), (groups_made f p es padoa g among).named))
+
+all_both : (P Q : ℕ → Type 0) (xs : List ℕ) → All P xs → All Q xs → All (λ x. P x × Q x) xs
+all_both P Q xs ps qs i d lt = (ps i d lt, qs i d lt)
+
+pub all_plain : (xs : List ℕ) → All (λ x. Unit {0}) xs
+all_plain xs i d lt = tt
+
+pub engines_leave : EnginesLeaveCopies
+engines_leave f p engine group silent old new grew apart padoa =
+    padoa_stays f (λ mine. (mine ≢ group) × IsNamed old.entries mine) old.entries new.entries
+    (keeps_by_engine f engine group silent old new grew) p
+    (all_both (λ g. g ≢ group) (IsNamed old.entries) (groups_of p) apart (groups_named f p old.entries padoa)) padoa
+
+pub rounds_leave : RoundsLeaveCopies
+rounds_leave f p entries row values j padoa =
+    padoa_stays f (λ mine. Unit {0}) entries (Round row values j ∷ entries)
+    (keeps_entry f (Round row values j) entries (λ v n is. is) (λ test mine. tt) (λ side mine. tt)) p (all_plain (groups_of p)) padoa

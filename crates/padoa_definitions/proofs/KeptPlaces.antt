@@ -151,13 +151,18 @@ held [] l (k, lt, at) = absurd (omega (arith, lt))
 held (m ∷ ls) l (zero, lt, at) = ap (holds (m ∷ ls)) (sym at) ∙ holds_here m ls
 held (m ∷ ls) l (suc k, lt, at) = or_right (same_literal l m) (holds ls l) (held ls l (k, omega (arith, lt), at))
 
-some_tautology : (ls all : List Literal) (l : Literal) → Contains ls l → holds all (opposite l) ≡ true →
-    list_any (λ m. holds all (opposite m)) ls ≡ true
-some_tautology [] all l (k, lt, at) h = absurd (omega (arith, lt))
-some_tautology (m ∷ ls) all l (zero, lt, at) h = or_left (holds all (opposite m))
-    (list_any (λ k. holds all (opposite k)) ls) (ap (λ k. holds all (opposite k)) at ∙ h)
-some_tautology (m ∷ ls) all l (suc k, lt, at) h = or_right (holds all (opposite m))
-    (list_any (λ k. holds all (opposite k)) ls) (some_tautology ls all l (k, omega (arith, lt), at) h)
+held_tautology : (ls : List Literal) (l : Literal) → holds ls l ≡ true → holds ls (opposite l) ≡ true →
+    is_tautology ls ≡ true
+held_tautology ls l h k = go ls ls l h k
+  where
+    go : (ms all : List Literal) (l : Literal) → holds ms l ≡ true → holds all (opposite l) ≡ true →
+        list_any (λ m. holds all (opposite m)) ms ≡ true
+    go [] all l h k = cc
+    go (m ∷ ms) all l h k = elim (or_cases (same_literal l m) (holds ms l) h) [
+      | inl here ↦ or_left (holds all (opposite m)) (list_any (λ n. holds all (opposite n)) ms)
+          (ap (λ n. holds all (opposite n)) (sym (same_literal-sound l m here)) ∙ k)
+      | inr behind ↦ or_right (holds all (opposite m)) (list_any (λ n. holds all (opposite n)) ms) (go ms all l behind k)
+    ]
 
 turned_literal : (a b : Literal) → variable_of a ≡ variable_of b → (is_negative a ≡ is_negative b → ⊥) → b ≡ opposite a
 turned_literal (positive v) (positive w) same differ = absurd (differ refl)
@@ -176,7 +181,8 @@ pub signs_agree : (ls : List Literal) (a b : Literal) → is_tautology ls ≡ fa
 signs_agree ls a b consistent a_in b_in same = elim (same_bit (is_negative a) (is_negative b)) [
   | inl differ ↦ (
       let turned = turned_literal a b same differ in
-      absurd (true≢false (sym (some_tautology ls ls a a_in (ap (holds ls) (sym turned) ∙ held ls b b_in)) ∙ consistent)))
+      absurd (true≢false (sym (held_tautology ls a (held ls a a_in) (ap (holds ls) (sym turned) ∙ held ls b b_in))
+      ∙ consistent)))
   | inr equal ↦ equal
 ]
 
@@ -199,19 +205,6 @@ tautology_of : (small large whole : List Literal) → ((l : Literal) → holds w
 tautology_of small large whole wider among some =
     let w = any_gives (λ l. holds whole (opposite l)) small some in
     (w.0, among w.0 w.1, wider (opposite w.0) w.2)
-
-held_tautology : (ls : List Literal) (l : Literal) → holds ls l ≡ true → holds ls (opposite l) ≡ true →
-    is_tautology ls ≡ true
-held_tautology ls l h k = go ls ls l h k
-  where
-    go : (ms all : List Literal) (l : Literal) → holds ms l ≡ true → holds all (opposite l) ≡ true →
-        list_any (λ m. holds all (opposite m)) ms ≡ true
-    go [] all l h k = cc
-    go (m ∷ ms) all l h k = elim (or_cases (same_literal l m) (holds ms l) h) [
-      | inl here ↦ or_left (holds all (opposite m)) (list_any (λ n. holds all (opposite n)) ms)
-          (ap (λ n. holds all (opposite n)) (sym (same_literal-sound l m here)) ∙ k)
-      | inr behind ↦ or_right (holds all (opposite m)) (list_any (λ n. holds all (opposite n)) ms) (go ms all l behind k)
-    ]
 
 pub kept_consistent : (p : Literal → Bool) (ls : List Literal) → is_tautology ls ≡ false →
     is_tautology (filter p ls) ≡ false

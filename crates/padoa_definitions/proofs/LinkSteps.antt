@@ -1,4 +1,4 @@
--- A universal of a store gets its equation's group.
+-- A variable of a store gets its equation's group.
 use Rattle.std.proofs.Common.{◌≡◌, ◌≢◌, ℕ, zero, suc, ◌+◌, ◌<◌, ◌≤◌, false, cond, ◌⊎◌, inl, inr, List, [], ◌∷◌, map, length, set, slice_get, Some, None, refl, sym, ◌∙◌, ap, subst, arith}
 use Rattle.std.specs.List.{Contains}
 use Rattle.std.proofs.lemmas.Bool.{eq-eqb}
@@ -17,11 +17,10 @@ use Rattle.oracle.specs.Calls.{IsMade}
 use Rattle.oracle.specs.declared.groups.Group.{Group}
 use Rattle.padoa_definitions.specs.Copies.{IsGivenIn, group_variable}
 use Rattle.padoa_definitions.specs.Following.{AreOldOrNew, IsFollowing, IsStanding}
-use Rattle.padoa_definitions.specs.Store.{StoreState, parts_at, side_universals, HasGroup, Slot, of_frame, of_link, both_groups, store_groups, HasParts, AreStoreGroups, IsStore}
-use Rattle.padoa_definitions.proofs.GrownStores.{AreNewGroups}
+use Rattle.padoa_definitions.specs.Store.{StoreState, parts_at, side_copies, HasGroup, Slot, of_frame, of_link, both_groups, store_groups, HasParts, AreStoreGroups, IsPartialStore}
+use Rattle.padoa_definitions.proofs.StandingStores.{AreNewGroups, kept_by, given_in_stays, parts_stay}
 use Rattle.padoa_definitions.proofs.KeptCopies.{made_stays}
-use Rattle.padoa_definitions.proofs.PartSteps.{raised, held_before, raised_store}
-use Rattle.padoa_definitions.proofs.StandingStores.{kept_by, given_in_stays, parts_stay}
+use Rattle.padoa_definitions.proofs.PartSteps.{raised, held_before, raised_store, raised_grown}
 use Rattle.padoa_definitions.proofs.StoreSteps.{set_cases, set_there, following_entry}
 
 -- a group that replaces another one
@@ -40,13 +39,13 @@ set_number (x ∷ gs) (suc place) g n (suc k, below, at) = by (set_number gs pla
 
 module _ (all : Dqbf) (numbered : List ℕ) (f : Dqbf) (s : StoreState) (log : ProofLog)
     (h : IsStanding all numbered f s log.entries) (logged : AreLogged log.entries) (place : ℕ)
-    (inside : place < length all.universals) (g : Group) (next : parts_at s place ≡ 2)
+    (inside : place < length (declared all)) (g : Group) (next : parts_at s place ≡ 2)
     (plain : is_negative g.selector ≡ false) (unnamed : name_of log.entries (group_variable g) ≡ None) where
   abbrev links : List Group
   links = set s.links place g
 
   abbrev pub linked : StoreState
-  linked = raised s place 3 s.first_universals s.second_universals links
+  linked = raised s place 3 s.first s.second links
 
   abbrev e : Entry
   e = Named (group_variable g) (Selector (group_variable g))
@@ -92,28 +91,25 @@ module _ (all : Dqbf) (numbered : List ℕ) (f : Dqbf) (s : StoreState) (log : P
       ((slot ≡ of_link place) × (g ≡ m)) ⊎ HasGroup s slot m
   which (of_frame side F) m has = inr has
   which (of_link k) m has = link_which k m has
-      (held_before s place 3 s.first_universals s.second_universals links within third k 3 has.0)
+      (held_before s place 3 s.first s.second links within third k 3 has.0)
 
   parts : HasParts all linked (e ∷ es)
   parts =
-      let kept = parts_stay all numbered s es (e ∷ es) (kept_by e es names) h.store.parts in
       record {
-        universals = λ sd k y l low y_is l_is. named sd k y l y_is l_is
-            (held_before s place 3 s.first_universals s.second_universals links within third k sd low);
-        first_existentials = kept.first_existentials;
-        second_existentials = kept.second_existentials;
+        copies = λ sd k y l low y_is l_is. named sd k y l y_is l_is
+            (held_before s place 3 s.first s.second links within third k sd low);
         equations = λ k y i m low one two y_is m_is. equation k y i m one two y_is m_is
-            (held_before s place 3 s.first_universals s.second_universals links within third k (i + 3) low);
+            (held_before s place 3 s.first s.second links within third k (i + 3) low);
       }
     where
-      named : (sd k y : ℕ) (l : Literal) → slice_get all.universals k ≡ Some y →
-          slice_get (side_universals s sd) k ≡ Some l → (sd ≤ parts_at s k) ⊎ ((k ≡ place) × (sd ≡ 3)) →
+      named : (sd k y : ℕ) (l : Literal) → slice_get (declared all) k ≡ Some y →
+          slice_get (side_copies s sd) k ≡ Some l → (sd ≤ parts_at s k) ⊎ ((k ≡ place) × (sd ≡ 3)) →
           name_literal (e ∷ es) l ≡ Some (named_literal (CopyOf sd y) false)
       named sd k y l y_is l_is (inl low) =
-          (parts_stay all numbered s es (e ∷ es) (kept_by e es names) h.store.parts).universals sd k y l low y_is l_is
+          (parts_stay all numbered s es (e ∷ es) (kept_by e es names) h.store.parts).copies sd k y l low y_is l_is
       named sd k y l y_is l_is (inr (here, three)) =
-          let gone : slice_get (side_universals s 3) k ≡ Some l =
-          ap (λ n. slice_get (side_universals s n) k) (sym three) ∙ l_is in
+          let gone : slice_get (side_copies s 3) k ≡ Some l =
+          ap (λ n. slice_get (side_copies s n) k) (sym three) ∙ l_is in
           cc
 
       equation : (k y i : ℕ) (m : Group) → 1 ≤ i → i ≤ 2 → slice_get (declared all) k ≡ Some y →
@@ -174,12 +170,12 @@ module _ (all : Dqbf) (numbered : List ℕ) (f : Dqbf) (s : StoreState) (log : P
       by (inl frame) = inl (Contains-append_left (both_groups s.frames) (map group_variable s.links) n frame)
       by (inr link) = in_links (set_number s.links place g n link)
 
-  linked_store : IsStore all numbered linked (e ∷ es)
-  linked_store = raised_store s place 3 s.first_universals s.second_universals links within third kept_links all numbered
-      e es h.store logged names new_groups h.store.places.first h.store.places.second
+  linked_store : IsPartialStore all numbered linked (e ∷ es)
+  linked_store = raised_store s place 3 s.first s.second links within third kept_links all numbered
+      e es h.store logged names new_groups (refl, refl) (refl, refl)
       (length-set s.links place g ∙ h.store.places.links) parts groups tt
 
   pub linked_following : (new : ProofLog) → new ≡ with_entry log e → IsFollowing all numbered s log linked new
   linked_following new is = following_entry all numbered s linked log new e is
-      (record { unnamed = unnamed; own = inl refl; rightly = tt }) refl refl old_or_new linked_store
-      (λ sd j has. record { from_one = has.from_one; within = has.within }) (λ k flag. flag)
+      (record { unnamed = unnamed; own = inl refl; rightly = tt }) refl refl refl old_or_new linked_store
+      (raised_grown s place 3 s.first s.second links within third kept_links) (λ k flag. flag)

@@ -133,15 +133,12 @@ module _ (all : Dqbf) (numbered : List ℕ) (s : StoreState) (more : List (List 
       flags = h.places.flags;
       first = h.places.first;
       second = h.places.second;
+      first_existentials = h.places.first_existentials;
+      second_existentials = h.places.second_existentials;
       links = h.places.links;
     };
     whole = h.whole;
-    parts = record {
-      universals = h.parts.universals;
-      first_existentials = h.parts.first_existentials;
-      second_existentials = h.parts.second_existentials;
-      equations = h.parts.equations;
-    };
+    parts = record { copies = h.parts.copies; equations = h.parts.equations };
     groups = h.groups;
     givens = λ side j one has. given_there es side j (h.givens side j one has);
     own = entries_there es h.own;

@@ -1,10 +1,9 @@
--- A universal of a store gets one part of its copies more: a copy, its equation's group, or half of the equation.
+-- A variable of a store gets one part of its copies more: a copy, its equation's group, or half of the equation.
 use Rattle.std.proofs.Common.{◌≡◌, ◌≢◌, ℕ, ◌+◌, ◌<◌, ◌≤◌, false, cond, ◌⊎◌, inl, inr, List, ◌∷◌, ◌++◌, map, length, set, slice_get, Option, Some, None, refl, sym, ◌∙◌, ap, subst, arith}
 use Rattle.std.specs.List.{AllPairs, Contains}
 use Rattle.std.proofs.lemmas.Bool.{eq-eqb}
 use Rattle.std.proofs.lemmas.List.{get_or-set_same, get_or-set_other, length-set}
 use Rattle.std.proofs.lemmas.Option.{slice_get_within}
-use Rattle.list_laws.proofs.Elements.{kept_there}
 use Rattle.list_laws.proofs.Quantified.{one_place}
 use Rattle.list_laws.proofs.Numbers.{same_or_not}
 use Rattle.dq_lits.specs.Literal.{Literal, positive}
@@ -20,27 +19,19 @@ use Rattle.log_laws.proofs.Kept.{NamesStay, name_stays_by, literal_stays}
 use Rattle.oracle.specs.declared.groups.Group.{Group}
 use Rattle.padoa_definitions.specs.Copies.{IsGivenIn, group_variable}
 use Rattle.padoa_definitions.specs.Following.{AreOldOrNew, IsFollowing, IsStanding}
-use Rattle.padoa_definitions.specs.Store.{StoreState, parts_at, side_universals, HasGroup, Slot, of_frame, of_link, both_groups, IsStoreEntry, HasParts, AreStoreGroups, IsStore}
-use Rattle.padoa_definitions.proofs.GrownStores.{IsGrown, AreNewGroups, entries_kept}
+use Rattle.padoa_definitions.specs.Store.{StoreState, parts_at, HasGroup, Slot, of_frame, of_link, both_groups, IsStoreEntry, HasParts, AreStoreGroups, SideCopies, copies_on, IsPartialStore, side_copies}
+use Rattle.padoa_definitions.proofs.StandingStores.{IsGrown, AreNewGroups, entries_kept, kept_by, given_in_stays, given_stays}
 use Rattle.padoa_definitions.proofs.KeptCopies.{made_stays}
-use Rattle.padoa_definitions.proofs.StandingStores.{kept_by, given_in_stays, given_stays, parts_stay}
-use Rattle.padoa_definitions.proofs.StoreSteps.{following_entry}
+use Rattle.padoa_definitions.proofs.StoreSteps.{following_entry, set_cases}
+
+-- lists of the same lengths
+abbrev pub HasSameLengths : SideCopies → SideCopies → Type 0
+HasSameLengths old new = (length new.universals ≡ length old.universals) × (length new.existentials ≡ length old.existentials)
 
 -- the variable at a place gets its n-th part
-module _ (s : StoreState) (place n : ℕ) (first second : List Literal) (links : List Group) where
+module _ (s : StoreState) (place n : ℕ) (first second : SideCopies) (links : List Group) where
   abbrev pub raised : StoreState
-  raised = record {
-    first_universals = first;
-    second_universals = second;
-    first_existentials = s.first_existentials;
-    second_existentials = s.second_existentials;
-    copied = s.copied;
-    parts = set s.parts place n;
-    links = links;
-    given = s.given;
-    frames = s.frames;
-    active = s.active;
-  }
+  raised = record s { first = first; second = second; parts = set s.parts place n; links = links }
 
   module _ (within : place < length s.parts) (next : parts_at s place + 1 ≡ n) where
     pub raised_here : parts_at raised place ≡ n
@@ -90,38 +81,32 @@ module _ (s : StoreState) (place n : ℕ) (first second : List Literal) (links :
       pub raised_grown : IsGrown s raised
       raised_grown = record {
         kept_groups = kept_groups;
-        more_given = λ side j has. record { from_one = has.from_one; within = has.within };
+        more_given = λ side j has. has;
         more_parts = raised_more;
         kept_links = kept_links;
       }
 
-      module _ (all : Dqbf) (numbered : List ℕ) (e : Entry) (es : List Entry) (store : IsStore all numbered s es)
+      module _ (all : Dqbf) (numbered : List ℕ) (e : Entry) (es : List Entry) (store : IsPartialStore all numbered s es)
           (logged : AreLogged es) (names : NamesStay es (e ∷ es)) (new : AreNewGroups s raised es) where
-        pub raised_store : length first ≡ length all.universals → length second ≡ length all.universals →
+        pub raised_store : HasSameLengths s.first first → HasSameLengths s.second second →
             length links ≡ length (declared all) → HasParts all raised (e ∷ es) → AreStoreGroups raised (e ∷ es) →
-            IsStoreEntry all numbered raised es e → IsStore all numbered raised (e ∷ es)
+            IsStoreEntry all numbered raised es e → IsPartialStore all numbered raised (e ∷ es)
         raised_store long_first long_second long_links parts groups own = record {
           places = record {
             parts = length-set s.parts place n ∙ store.places.parts;
             flags = store.places.flags;
-            first = long_first;
-            second = long_second;
+            first = long_first.0 ∙ store.places.first;
+            second = long_second.0 ∙ store.places.second;
+            first_existentials = long_first.1 ∙ store.places.first_existentials;
+            second_existentials = long_second.1 ∙ store.places.second_existentials;
             links = long_links;
           };
-          whole = λ k flag. let low = store.whole k flag in let more = raised_more k in omega (arith, low, more);
+          whole = λ k below flag.
+              let low = store.whole k below flag in let more = raised_more k in omega (arith, low, more);
           parts = parts;
           groups = groups;
           givens = λ side j one has.
-              let there = given_stays all numbered s es (e ∷ es) (kept_by e es names) side j
-              (store.givens side j one (record { from_one = has.from_one; within = has.within })) in
-              record {
-                clause = there.clause;
-                clause_is = there.clause_is;
-                covered = there.covered;
-                group = there.group;
-                has_group = there.has_group;
-                given = there.given;
-              };
+              given_stays all numbered s es (e ∷ es) (kept_by e es names) side j (store.givens side j one has);
           own = (own, entries_kept all numbered s raised raised_grown es new logged store.own);
           active = store.active;
         }
@@ -157,16 +142,15 @@ module _ (s : StoreState) (place n : ℕ) (first second : List Literal) (links :
     pub raised_old : (es : List Entry) → links ≡ s.links → AreOldOrNew s raised es
     raised_old es same g has = inl (subst (λ gs. Contains (both_groups s.frames ++ map group_variable gs) g) same has)
 
--- a copy of the variable
+-- a copy of the variable, on a side
 module _ (all : Dqbf) (numbered : List ℕ) (f : Dqbf) (once : AllPairs (λ v w. v ≢ w) (declared all)) (s : StoreState) (log : ProofLog)
     (h : IsStanding all numbered f s log.entries) (logged : AreLogged log.entries) (place x side v : ℕ)
-    (x_is : slice_get all.universals place ≡ Some x) (sides : (side ≡ 1) ⊎ (side ≡ 2))
+    (x_is : slice_get (declared all) place ≡ Some x) (sides : (side ≡ 1) ⊎ (side ≡ 2))
     (next : parts_at s place + 1 ≡ side) (unnamed : name_of log.entries v ≡ None)
-    (first second : List Literal) (long_first : length first ≡ length all.universals)
-    (long_second : length second ≡ length all.universals)
-    (shape : (sd k : ℕ) (l : Literal) → slice_get (side_universals (raised s place side first second s.links) sd) k ≡ Some l
-    → ((sd ≡ side) × (k ≡ place) × (positive v ≡ l))
-    ⊎ (((sd ≢ side) ⊎ (k ≢ place)) × (slice_get (side_universals s sd) k ≡ Some l))) where
+    (first second : SideCopies) (long_first : HasSameLengths s.first first)
+    (long_second : HasSameLengths s.second second)
+    (put : copies_on first second side ≡ set (side_copies s side) place (positive v))
+    (same : (sd : ℕ) → sd ≢ side → copies_on first second sd ≡ side_copies s sd) where
   abbrev t : StoreState
   t = raised s place side first second s.links
 
@@ -179,14 +163,26 @@ module _ (all : Dqbf) (numbered : List ℕ) (f : Dqbf) (once : AllPairs (λ v w.
   within : place < length s.parts
   within =
       let long = h.store.places.parts in
-      let below = slice_get_within all.universals place x x_is in
+      let below = slice_get_within (declared all) place x x_is in
       omega (arith, long, below)
+
+  -- the new copy, or an old one
+  shape : (sd k : ℕ) (l : Literal) → slice_get (copies_on first second sd) k ≡ Some l →
+      ((sd ≡ side) × (k ≡ place) × (positive v ≡ l))
+      ⊎ (((sd ≢ side) ⊎ (k ≢ place)) × (slice_get (side_copies s sd) k ≡ Some l))
+  shape sd k l at = by (same_or_not sd side)
+    where
+      by : (sd ≡ side) ⊎ (sd ≢ side) → ((sd ≡ side) × (k ≡ place) × (positive v ≡ l))
+          ⊎ (((sd ≢ side) ⊎ (k ≢ place)) × (slice_get (side_copies s sd) k ≡ Some l))
+      by (inl here) = elim (set_cases (side_copies s side) place k (positive v) l
+          (sym (ap (λ ls. slice_get ls k) (ap (copies_on first second) here ∙ put)) ∙ at)) [
+            | inl new ↦ inl (here, new.0, new.1)
+            | inr old ↦ inr (inr old.0, ap (λ sd. slice_get (side_copies s sd) k) here ∙ old.1)
+          ]
+      by (inr other) = inr (inl other, sym (ap (λ ls. slice_get ls k) (same sd other)) ∙ at)
 
   not_three : side ≢ 3
   not_three e = elim sides [ inl one ↦ omega (arith, one, e) | inr two ↦ omega (arith, two, e) ]
-
-  at_place : slice_get (declared all) place ≡ Some x
-  at_place = kept_there all.universals _ place x x_is
 
   names : NamesStay es (e ∷ es)
   names = name_stays_by es v (CopyOf side x) unnamed
@@ -200,11 +196,8 @@ module _ (all : Dqbf) (numbered : List ℕ) (f : Dqbf) (once : AllPairs (λ v w.
 
   parts : HasParts all t (e ∷ es)
   parts =
-      let kept = parts_stay all numbered s es (e ∷ es) (kept_by e es names) h.store.parts in
       record {
-        universals = λ sd k y l low y_is l_is. named sd k y l low y_is (shape sd k l l_is);
-        first_existentials = kept.first_existentials;
-        second_existentials = kept.second_existentials;
+        copies = λ sd k y l low y_is l_is. named sd k y l low y_is (shape sd k l l_is);
         equations = λ k y i g low one two y_is g_is. equation k y i g low one two y_is g_is
             (held_before s place side first second s.links within next k (i + 3) low);
       }
@@ -215,18 +208,18 @@ module _ (all : Dqbf) (numbered : List ℕ) (f : Dqbf) (once : AllPairs (λ v w.
       old_part sd k (inl differ) (inr (here, same)) = absurd (differ same)
       old_part sd k (inr differ) (inr (here, same)) = absurd (differ here)
 
-      named : (sd k y : ℕ) (l : Literal) → sd ≤ parts_at t k → slice_get all.universals k ≡ Some y →
+      named : (sd k y : ℕ) (l : Literal) → sd ≤ parts_at t k → slice_get (declared all) k ≡ Some y →
           ((sd ≡ side) × (k ≡ place) × (positive v ≡ l))
-          ⊎ (((sd ≢ side) ⊎ (k ≢ place)) × (slice_get (side_universals s sd) k ≡ Some l)) →
+          ⊎ (((sd ≢ side) ⊎ (k ≢ place)) × (slice_get (side_copies s sd) k ≡ Some l)) →
           name_literal (e ∷ es) l ≡ Some (named_literal (CopyOf sd y) false)
       named sd k y l low y_is (inl (sd_is, k_is, l_is)) =
-          let both : Some y ≡ Some x = sym y_is ∙ ap (slice_get all.universals) k_is ∙ x_is in
+          let both : Some y ≡ Some x = sym y_is ∙ ap (slice_get (declared all)) k_is ∙ x_is in
           let same : y ≡ x = cc in
           ap (name_literal (e ∷ es)) (sym l_is) ∙ named_here
           ∙ ap (λ m. Some (named_literal (CopyOf m x) false)) (sym sd_is)
           ∙ ap (λ m. Some (named_literal (CopyOf sd m) false)) (sym same)
       named sd k y l low y_is (inr (differ, old)) =
-          literal_stays es (e ∷ es) names l _ (h.store.parts.universals sd k y l (old_part sd k differ
+          literal_stays es (e ∷ es) names l _ (h.store.parts.copies sd k y l (old_part sd k differ
           (held_before s place side first second s.links within next k sd low)) y_is old)
 
       equation : (k y i : ℕ) (g : Group) → i + 3 ≤ parts_at t k → 1 ≤ i → i ≤ 2 → slice_get (declared all) k ≡ Some y →
@@ -239,12 +232,12 @@ module _ (all : Dqbf) (numbered : List ℕ) (f : Dqbf) (once : AllPairs (λ v w.
 
   own : IsStoreEntry all numbered t es e
   own k k_is =
-      let same = one_place (declared all) k place x once k_is at_place in
+      let same_place = one_place (declared all) k place x once k_is x_is in
       let here = raised_here s place side first second s.links within next in
-      let there = ap (parts_at t) same in
+      let there = ap (parts_at t) same_place in
       omega (arith, here, there)
 
-  pub named_store : IsStore all numbered t (e ∷ es)
+  named_store : IsPartialStore all numbered t (e ∷ es)
   named_store = raised_store s place side first second s.links within next (λ k g low is. is) all numbered e es h.store
       logged names (raised_new s place side first second s.links within next es refl not_three) long_first long_second
       h.store.places.links parts
@@ -252,6 +245,6 @@ module _ (all : Dqbf) (numbered : List ℕ) (f : Dqbf) (once : AllPairs (λ v w.
 
   pub named_following : (new : ProofLog) → new ≡ with_entry log e → IsFollowing all numbered s log t new
   named_following new is = following_entry all numbered s t log new e is
-      (record { unnamed = unnamed; own = inr refl; rightly = tt }) refl refl
+      (record { unnamed = unnamed; own = inr refl; rightly = tt }) refl refl refl
       (raised_old s place side first second s.links within next es refl) named_store
-      (λ sd j has. record { from_one = has.from_one; within = has.within }) (λ k flag. flag)
+      (raised_grown s place side first second s.links within next (λ k g low is. is)) (λ k flag. flag)

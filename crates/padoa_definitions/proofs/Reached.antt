@@ -22,7 +22,7 @@ use Rattle.log_laws.proofs.Kept.{NamesStay}
 use Rattle.hint_log.specs.ProductiveLog.{MatchesOrigin}
 use Rattle.oracle.specs.Searched.{IsSearched, IsGivenToGroup, IsOfGroup}
 use Rattle.padoa_definitions.specs.Copies.{is_copy_of, IsCopyGiven, IsGroupGiven, IsSideGiven}
-use Rattle.padoa_definitions.proofs.SideClauses.{copy_given_stays}
+use Rattle.padoa_definitions.proofs.KeptCopies.{copy_given_stays}
 
 -- the law of derived lines
 abbrev pub LinesAreImplied : Type 0

@@ -1,5 +1,5 @@
--- A store gets room for further clauses and frames, and other active groups.
-use Rattle.std.proofs.Common.{◌≡◌, ℕ, zero, suc, ◌-◌, inl, List, [], ◌∷◌, ◌++◌, map, replicate, slice_get, slice_index_or, Option, Some, None, refl, sym, ap, subst, arith}
+-- A store gets room for further clauses and frames.
+use Rattle.std.proofs.Common.{◌≡◌, ℕ, zero, suc, ◌-◌, inl, List, [], ◌∷◌, ◌++◌, map, replicate, slice_get, slice_index_or, Option, Some, None, refl, sym, ap, subst, arith, ◌<◌, false, length, get_or, is_some, ◌∙◌}
 use Rattle.std.specs.List.{Contains}
 use Rattle.list_laws.proofs.Elements.{zeros_there}
 use Rattle.dq_lits.specs.Formula.{Dqbf}
@@ -9,10 +9,12 @@ use Rattle.hint_log.specs.ProductiveSession.{frame_of}
 use Rattle.oracle.specs.declared.groups.Group.{Group}
 use Rattle.padoa_definitions.specs.Copies.{group_variable}
 use Rattle.padoa_definitions.specs.Following.{IsFollowing}
-use Rattle.padoa_definitions.specs.Store.{StoreState, HasGiven, HasGroup, Slot, of_frame, of_link, both_groups, IsStore}
+use Rattle.padoa_definitions.specs.Store.{StoreState, HasGiven, HasGroup, Slot, of_frame, of_link, both_groups, IsPartialStore}
 use Rattle.padoa_definitions.specs.declared.frames.Sides.{Sides}
-use Rattle.padoa_definitions.proofs.GrownStores.{IsGrown, entries_kept}
+use Rattle.padoa_definitions.proofs.StandingStores.{IsGrown, entries_kept}
 use Rattle.padoa_definitions.proofs.StoreSteps.{following_same}
+use Rattle.std.proofs.lemmas.List.{append_assoc}
+use Rattle.std.proofs.lemmas.Option.{slice_get-get_or}
 
 more_zeros : (xs : List ℕ) (n k : ℕ) → slice_index_or (xs ++ replicate n 0) k 0 ≡ slice_index_or xs k 0
 more_zeros [] n k = zeros_there n k
@@ -45,22 +47,10 @@ same_numbers [] n = no_numbers n
 same_numbers (None ∷ xs) n = same_numbers xs n
 same_numbers (Some x ∷ xs) n = ap (λ ys. group_variable x.first ∷ group_variable x.second ∷ ys) (same_numbers xs n)
 
-module _ (all : Dqbf) (numbered : List ℕ) (s : StoreState) (log : ProofLog) (store : IsStore all numbered s log.entries)
-    (logged : AreLogged log.entries) (m n : ℕ) (active : List Group)
-    (among : (g : Group) → Contains active g → Contains (both_groups s.frames) (group_variable g)) where
+module _ (all : Dqbf) (numbered : List ℕ) (s : StoreState) (log : ProofLog) (store : IsPartialStore all numbered s log.entries)
+    (logged : AreLogged log.entries) (m n : ℕ) where
   abbrev pub roomier : StoreState
-  roomier = record {
-    first_universals = s.first_universals;
-    second_universals = s.second_universals;
-    first_existentials = s.first_existentials;
-    second_existentials = s.second_existentials;
-    copied = s.copied;
-    parts = s.parts;
-    links = s.links;
-    given = s.given ++ replicate m 0;
-    frames = s.frames ++ replicate n None;
-    active = active;
-  }
+  roomier = record s { given = s.given ++ replicate m 0; frames = s.frames ++ replicate n None }
 
   kept_group : (slot : Slot) (g : Group) → HasGroup s slot g → HasGroup roomier slot g
   kept_group (of_frame side F) g (x, x_is, g_is) = (x, kept_frame s.frames n F x x_is, g_is)
@@ -93,22 +83,11 @@ module _ (all : Dqbf) (numbered : List ℕ) (s : StoreState) (log : ProofLog) (s
   numbers : both_groups (s.frames ++ replicate n None) ≡ both_groups s.frames
   numbers = same_numbers s.frames n
 
-  roomier_store : IsStore all numbered roomier log.entries
+  roomier_store : IsPartialStore all numbered roomier log.entries
   roomier_store = record {
-    places = record {
-      parts = store.places.parts;
-      flags = store.places.flags;
-      first = store.places.first;
-      second = store.places.second;
-      links = store.places.links;
-    };
+    places = store.places;
     whole = store.whole;
-    parts = record {
-      universals = store.parts.universals;
-      first_existentials = store.parts.first_existentials;
-      second_existentials = store.parts.second_existentials;
-      equations = store.parts.equations;
-    };
+    parts = store.parts;
     groups = record {
       made = λ slot g has. store.groups.made slot g (old_group slot g has);
       links = store.groups.links;
@@ -126,10 +105,32 @@ module _ (all : Dqbf) (numbered : List ℕ) (s : StoreState) (log : ProofLog) (s
         };
     own = entries_kept all numbered s roomier grown log.entries (λ slot g has. inl (old_group slot g has)) logged
         store.own;
-    active = λ g has. subst (λ ns. Contains ns (group_variable g)) (sym numbers) (among g has);
+    active = λ g has. subst (λ ns. Contains ns (group_variable g)) (sym numbers) (store.active g has);
   }
 
   pub roomier_following : (new : ProofLog) → new ≡ log → IsFollowing all numbered s log roomier new
   roomier_following new is = following_same all numbered s roomier log new is
-      (λ g has. inl (subst (λ ns. Contains (ns ++ map group_variable s.links) g) numbers has)) roomier_store more
+      (λ g has. inl (subst (λ ns. Contains (ns ++ map group_variable s.links) g) numbers has)) roomier_store grown
       (λ k flag. flag)
+
+replicate_last : {X : Type 0} (n : ℕ) (x : X) → replicate n x ++ x ∷ [] ≡ replicate (suc n) x
+replicate_last zero x = refl
+replicate_last (suc n) x = ap (λ xs. x ∷ xs) (replicate_last n x)
+
+-- so many equal elements were put behind a list
+abbrev pub IsLonger : {X : Type 0} → X → List X → List X → Type 0
+IsLonger x old new = (n : ℕ) × (new ≡ old ++ replicate n x)
+
+pub longer_more : {X : Type 0} (x : X) (old now new : List X) → IsLonger x old now → new ≡ now ++ x ∷ [] →
+    IsLonger x old new
+longer_more x old now new (n, is) pushed = (
+  suc n,
+  pushed ∙ ap (λ xs. xs ++ x ∷ []) is ∙ append_assoc old (replicate n x) (x ∷ [])
+      ∙ ap (λ xs. old ++ xs) (replicate_last n x),
+)
+
+-- a place that is found empty
+pub free_at : {X : Type 0} (xs : List (Option X)) (place : ℕ) → place < length xs → (o : Option X) →
+    o ≡ get_or xs place o → is_some o ≡ false → slice_get xs place ≡ Some None
+free_at xs place below None is none = slice_get-get_or xs place None below ∙ ap Some (sym is)
+free_at xs place below (Some x) is none = cc

@@ -25,11 +25,12 @@ use Rattle.padoa_definitions.specs.Copies.{all_groups, groups_of, is_copied_at, 
 use Rattle.padoa_definitions.specs.Dividing.{asked_of, IsAsked, AreActive, AreTold, ShowsDefinition}
 use Rattle.padoa_definitions.specs.declared.asking.Asked.{Asked}
 use Rattle.padoa_definitions.specs.declared.padoa.Padoa.{Padoa}
-use Rattle.padoa_definitions.proofs.KeptCopies.{Keeps, IsNamed, group_element, keeps_by_engine, keeps_entry, padoa_stays}
-use Rattle.padoa_definitions.proofs.StandingCopies.{groups_made, groups_named}
+use Rattle.padoa_definitions.proofs.KeptCopies.{Keeps, IsNamed, group_element, keeps_by_engine, keeps_entry, padoa_stays, groups_made, groups_named}
 use Rattle.padoa_definitions.proofs.Reached.{LinesAreImplied, undecided_answer}
 use Rattle.padoa_definitions.proofs.DividedAnswers.{divides, only_copies}
 use Rattle.definition_order.proofs.Declared.{some_existential}
+use Rattle.padoa_definitions.specs.Growing.{HasSearched}
+use Rattle.padoa_definitions.proofs.SameGivens.{learned_same, refuted_same}
 
 learned_is_added : (f : Dqbf) (group : ℕ) (silent : Bool) (old earlier : List Entry) (e : Entry) →
     IsLearnedEntry earlier e → IsAddedBy f copies group silent old earlier e
@@ -40,16 +41,20 @@ learned_is_added f group silent old earlier (Answer c hints) h = absurd h
 learned_is_added f group silent old earlier (Round row values j) h = absurd h
 learned_is_added f group silent old earlier (Begun live) h = absurd h
 
--- a search that logs no answer
-pub learned_grew : (f : Dqbf) (old new : ProofLog) → Grew IsLearnedEntry old new → (group : ℕ) →
-    Grew (IsAddedBy f copies group true old.entries) old new
-learned_grew f old new g group = record {
+-- a search that logs no answer, wherever one begins to look
+pub learned_from : (f : Dqbf) (start : List Entry) (old new : ProofLog) → Grew IsLearnedEntry old new → (group : ℕ) →
+    Grew (IsAddedBy f copies group true start) old new
+learned_from f start old new g group = record {
   more = g.more;
   grown = g.grown;
-  each = each_of_weaker IsLearnedEntry (IsAddedBy f copies group true old.entries)
-      (learned_is_added f group true old.entries) g.more old.entries g.each;
+  each = each_of_weaker IsLearnedEntry (IsAddedBy f copies group true start)
+      (learned_is_added f group true start) g.more old.entries g.each;
   limit = g.limit;
 }
+
+pub learned_grew : (f : Dqbf) (old new : ProofLog) → Grew IsLearnedEntry old new → (group : ℕ) →
+    Grew (IsAddedBy f copies group true old.entries) old new
+learned_grew f old new = learned_from f old.entries old new
 
 next_differs : (n : ℕ) → n ≢ n + 1
 next_differs n e = omega (arith, e)
@@ -72,6 +77,14 @@ pub padoa_learned : (f : Dqbf) (p : Padoa) (old new : ProofLog) → Grew IsLearn
     IsPadoa f p old.entries → IsPadoa f p new.entries
 padoa_learned f p old new grew padoa = padoa_stays f (IsNamed old.entries) old.entries new.entries
     (keeps_learned f old new grew) p (groups_named f p old.entries padoa) padoa
+
+pub searched_learned : (f : Dqbf) (p : Padoa) (old new : ProofLog) → Grew IsLearnedEntry old new →
+    IsPadoa f p old.entries → HasSearched f p old new
+searched_learned f p old new grew padoa = record {
+  copied = padoa_learned f p old new grew padoa;
+  same = learned_same old new grew;
+  grew = learned_grew f old new grew;
+}
 
 all_plain : (xs : List ℕ) → All (λ x. Unit {0}) xs
 all_plain xs i d lt = tt
@@ -117,7 +130,7 @@ module _ (f : Dqbf) (p : Padoa) (assumptions : List Literal) (old new : ProofLog
       (keeps_entry f answer r.before.entries (λ w n named. named) (λ test mine. tt) (λ side mine. tt)) p (all_plain (groups_of p))
       (padoa_learned f p old r.before r.learned padoa)
 
-  pub padoa_refuted : IsPadoa f p new.entries
+  padoa_refuted : IsPadoa f p new.entries
   padoa_refuted = subst (IsPadoa f p) (sym answered) padoa_answered
 
   pub names_answered : NamesStay old.entries (Answer r.clause r.hints ∷ r.before.entries)
@@ -133,6 +146,10 @@ module _ (f : Dqbf) (p : Padoa) (assumptions : List Literal) (old new : ProofLog
         each = (λ quiet. subst (λ es. DecidesNothing f es answer) g.grown undecided, g.each);
         limit = ap (λ (l : ProofLog). l.limit) r.answered ∙ g.limit;
       }
+
+  pub searched_refuted : ((group : ℕ) → Grew (IsAddedBy f copies group true old.entries) old new) →
+      HasSearched f p old new
+  searched_refuted grew = record { copied = padoa_refuted; same = refuted_same assumptions old new id r; grew = grew }
 
 -- a search in both copies that ends with an answer
 module _ (implied : LinesAreImplied)

@@ -13,9 +13,7 @@ use Rattle.log_laws.specs.Sessions.{IsAddedLive, EnginesLeaveSessions}
 use Rattle.log_laws.proofs.LargerLogs.{each_grown}
 use Rattle.padoa_definitions.specs.Copies.{IsGroupGiven, IsSideGiven, groups_of}
 use Rattle.padoa_definitions.specs.Leaving.{SessionsLeaveCopies}
-use Rattle.padoa_definitions.proofs.KeptCopies.{IsNamed, Keeps, padoa_stays}
-use Rattle.padoa_definitions.proofs.StandingCopies.{groups_named}
-use Rattle.padoa_definitions.proofs.StandingStores.{in_one_group}
+use Rattle.padoa_definitions.proofs.KeptCopies.{IsNamed, Keeps, padoa_stays, groups_named, in_one_group}
 
 module _ (f any : Dqbf) (engine : Engine) (groups : List ℕ) (silent : Bool) (old : List Entry) where
   abbrev IsApart : ℕ → Type 0

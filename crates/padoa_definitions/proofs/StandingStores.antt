@@ -1,26 +1,34 @@
 -- A store of copies stands where others add to the log.
-use Rattle.std.proofs.Common.{◌≡◌, ◌≢◌, ℕ, zero, suc, Bool, false, true≢false, ◌⊎◌, inl, inr, List, [], ◌∷◌, ◌++◌, map, slice_get, Option, Some, None, sym, ◌∙◌, ap, subst, arith}
+use Rattle.std.proofs.Common.{◌≡◌, ◌≢◌, ℕ, zero, suc, Bool, false, ◌⊎◌, inl, inr, List, [], ◌∷◌, ◌++◌, map, slice_get, Option, Some, None, sym, ◌∙◌, ap, subst, arith, length, ◌<◌, ◌≤◌, slice_index_or, refl, true, IsSome}
 use Rattle.std.specs.List.{Contains}
 use Rattle.std.proofs.lemmas.List.Elements.{Contains-append_left, Contains-append_right}
 use Rattle.list_laws.proofs.Members.{contains_later}
 use Rattle.dq_lits.specs.Literal.{Literal, negative}
-use Rattle.dq_lits.specs.Formula.{Dqbf}
+use Rattle.dq_lits.specs.Formula.{Dqbf, declared}
 use Rattle.hint_log.specs.Entries.{Entry, Named, Given, Learned, Answer, Round, Begun, name_of}
-use Rattle.hint_log.specs.Growth.{EachOf}
+use Rattle.hint_log.specs.Growth.{EachOf, Each}
 use Rattle.hint_log.specs.Naming.{NamedLiteral}
 use Rattle.hint_log.specs.declared.names.Name.{Name}
 use Rattle.hint_log.specs.declared.names.Name.TheVariants.{Selector, Pair, Input, And, Bad, Copy as CopyOf, Term}
 use Rattle.hint_log.specs.declared.origins.Origin.{Origin}
 use Rattle.hint_log.specs.declared.origins.Origin.TheVariants.{Instance, Gate, Fault, Copy, Link, TermGate, Differ}
-use Rattle.log_laws.specs.Engines.{Engine, copies, same_engine, origin_engine, name_engine, IsInGroup}
+use Rattle.log_laws.specs.Engines.{Engine, copies, same_engine, origin_engine, name_engine, IsInGroup, is_engine, circuits, instances}
 use Rattle.log_laws.specs.Sessions.{IsInOneOf, IsAddedLive}
 use Rattle.log_laws.proofs.Kept.{NamesStay, named_stay, name_stays_by, literal_stays}
 use Rattle.oracle.specs.declared.groups.Group.{Group}
-use Rattle.padoa_definitions.specs.Copies.{IsGivenIn, group_variable}
+use Rattle.padoa_definitions.specs.Copies.{IsGivenIn, group_variable, is_copied_at}
 use Rattle.padoa_definitions.specs.Leaving.{EnginesLeaveStores, RoundsLeaveStores, BeginningsLeaveStores}
-use Rattle.padoa_definitions.specs.Store.{StoreState, store_of, HasGroup, side_group, Slot, of_frame, of_link, both_groups, store_groups, IsStoredName, IsInNoGroup, IsStoreEntry, HasParts, AreStoreGroups, IsGivenThere, IsStore}
+use Rattle.padoa_definitions.specs.Store.{StoreState, store_of, HasGroup, side_group, Slot, of_frame, of_link, both_groups, store_groups, IsStoredName, IsInNoGroup, IsStoreEntry, HasParts, AreStoreGroups, IsGivenThere, IsStore, IsStoreTo, IsPartialStore, parts_at, HasGiven, IsStoredCopy, IsStoredLink}
 use Rattle.padoa_definitions.specs.declared.frames.Sides.{Sides}
-use Rattle.padoa_definitions.proofs.KeptCopies.{made_stays}
+use Rattle.padoa_definitions.proofs.KeptCopies.{in_one_group, made_stays}
+use Rattle.padoa_definitions.specs.Following.{AreComplete}
+use Rattle.padoa_definitions.proofs.KeptPlaces.{flag_past}
+use Rattle.std.proofs.lemmas.Bool.{cases_lt}
+use Rattle.std.proofs.lemmas.List.{length-append}
+use Rattle.dq_formula.specs.Prefix.{existential_variables}
+use Rattle.hint_log.specs.Conditions.{AreNamed, MayFollow}
+use Rattle.hint_log.specs.ProductiveSession.{frame_of}
+use Rattle.hint_log.proofs.NamedEntries.{unnamed_before}
 
 -- names stay, and clauses
 pub record AreKept (old new : List Entry) : Type 0 where
@@ -41,9 +49,7 @@ given_in_stays old new kept group origin names given = record {
 module _ (all : Dqbf) (numbered : List ℕ) (s : StoreState) (old new : List Entry) (kept : AreKept old new) where
   pub parts_stay : HasParts all s old → HasParts all s new
   parts_stay h = record {
-    universals = λ side k x l low x_is l_is. literal_stays old new kept.names l _ (h.universals side k x l low x_is l_is);
-    first_existentials = named_stay old new kept.names s.first_existentials _ h.first_existentials;
-    second_existentials = named_stay old new kept.names s.second_existentials _ h.second_existentials;
+    copies = λ side k x l low x_is l_is. literal_stays old new kept.names l _ (h.copies side k x l low x_is l_is);
     equations = λ k x i g low one two x_is g_is.
         given_in_stays old new kept (group_variable g) _ _ (h.equations k x i g low one two x_is g_is);
   }
@@ -66,10 +72,10 @@ module _ (all : Dqbf) (numbered : List ℕ) (s : StoreState) (old new : List Ent
   }
 
 -- an entry that is none of the store's business
-pub store_stands : (all : Dqbf) (numbered : List ℕ) (s : StoreState) (e : Entry) (es : List Entry)
-    → NamesStay es (e ∷ es) → IsStoreEntry all numbered s es e → IsStore all numbered s es
-    → IsStore all numbered s (e ∷ es)
-store_stands all numbered s e es names own store =
+pub store_stands : (count : ℕ) (all : Dqbf) (numbered : List ℕ) (s : StoreState) (e : Entry) (es : List Entry)
+    → NamesStay es (e ∷ es) → IsStoreEntry all numbered s es e → IsStoreTo count all numbered s es
+    → IsStoreTo count all numbered s (e ∷ es)
+store_stands count all numbered s e es names own store =
     let kept = kept_by e es names in
     record {
       places = store.places;
@@ -80,9 +86,6 @@ store_stands all numbered s e es names own store =
       own = (own, store.own);
       active = store.active;
     }
-
-pub in_one_group : (g h : ℕ) (c : List Literal) → IsInGroup g c → IsInGroup h c → g ≡ h
-in_one_group g h c a b = let e : negative g ∷ a.0 ≡ negative h ∷ b.0 = sym a.1 ∙ b.1 in cc
 
 -- a group's number stands among those of all groups
 frame_first : (frames : List (Option Sides)) (F : ℕ) (sides : Sides) → slice_get frames F ≡ Some (Some sides) →
@@ -130,18 +133,39 @@ has_number s (of_link k) g has = Contains-append_right (both_groups s.frames) (m
     (link_number s.links k g has.1)
 
 -- other engines
-no_copy : (all : Dqbf) (s : StoreState) (engine : Engine) (n : Name) → same_engine engine copies ≡ false →
-    (name_engine n ≡ None) ⊎ (name_engine n ≡ Some engine) → IsStoredName all s n
-no_copy all s engine (Selector g) other own = tt
-no_copy all s engine (Pair k y) other own = tt
-no_copy all s engine (Input x) other own = tt
-no_copy all s engine (And a b) other own = tt
-no_copy all s engine (Bad g j) other own = tt
-no_copy all s engine (CopyOf side x) other (inl none) = cc
-no_copy all s engine (CopyOf side x) other (inr same) =
-    let e : copies ≡ engine = cc in
-    absurd (true≢false (ap (λ y. same_engine y copies) e ∙ other))
-no_copy all s engine (Term a b) other own = tt
+pub other_name : (all : Dqbf) (s : StoreState) (n : Name) → (is_engine copies (name_engine n) ≡ true → ⊥) →
+    IsStoredName all s n
+other_name all s (Selector g) off = tt
+other_name all s (Pair k y) off = tt
+other_name all s (Input x) off = tt
+other_name all s (And a b) off = tt
+other_name all s (Bad g j) off = tt
+other_name all s (CopyOf side x) off = absurd (off refl)
+other_name all s (Term a b) off = tt
+
+pub other_given : (all : Dqbf) (numbered : List ℕ) (s : StoreState) (earlier : List Entry) (origin : Origin)
+    (c : List Literal) → (same_engine copies (origin_engine origin) ≡ true → ⊥) → IsInNoGroup s c →
+    IsStoreEntry all numbered s earlier (Given origin c)
+other_given all numbered s earlier (Instance k j) c off h = h
+other_given all numbered s earlier (Gate v i) c off h = h
+other_given all numbered s earlier (Fault j i leaf) c off h = h
+other_given all numbered s earlier (Copy side j) c off h = absurd (off refl)
+other_given all numbered s earlier (Link x i) c off h = absurd (off refl)
+other_given all numbered s earlier (TermGate v i) c off h = absurd (off refl)
+other_given all numbered s earlier (Differ y leaf i) c off h = absurd (off refl)
+
+not_copies : (engine other : Engine) → same_engine engine copies ≡ false → other ≡ engine →
+    same_engine copies other ≡ true → ⊥
+not_copies circuits other apart is own = let e : same_engine copies circuits ≡ true = ap (same_engine copies) (sym is) ∙ own in cc
+not_copies instances other apart is own = let e : same_engine copies instances ≡ true = ap (same_engine copies) (sym is) ∙ own in cc
+not_copies copies other apart is own = cc
+
+name_off : (engine : Engine) (o : Option Engine) → same_engine engine copies ≡ false →
+    (o ≡ None) ⊎ (o ≡ Some engine) → is_engine copies o ≡ true → ⊥
+name_off engine None apart which own = cc
+name_off engine (Some other) apart (inl none) own = cc
+name_off engine (Some other) apart (inr is) own =
+    let same : other ≡ engine = cc in not_copies engine other apart same own
 
 module _ (all : Dqbf) (numbered : List ℕ) (s : StoreState) (any : Dqbf) (engine : Engine) (groups : List ℕ)
     (silent : Bool) (old : List Entry) (other : same_engine engine copies ≡ false)
@@ -157,20 +181,13 @@ module _ (all : Dqbf) (numbered : List ℕ) (s : StoreState) (any : Dqbf) (engin
       let named = (store.groups.made slot mine has).named in
       cc
 
-  foreign_given : (earlier : List Entry) (origin : Origin) (c : List Literal) → origin_engine origin ≡ engine →
-      IsInNoGroup s c → IsStoreEntry all numbered s earlier (Given origin c)
-  foreign_given earlier (Instance k j) c own h = h
-  foreign_given earlier (Gate v i) c own h = h
-  foreign_given earlier (Fault j i leaf) c own h = h
-  foreign_given earlier (Copy side j) c own h = absurd (true≢false (ap (λ y. same_engine y copies) own ∙ other))
-  foreign_given earlier (Link x i) c own h = absurd (true≢false (ap (λ y. same_engine y copies) own ∙ other))
-  foreign_given earlier (TermGate v i) c own h = h
-  foreign_given earlier (Differ y leaf i) c own h = h
-
   foreign : (earlier : List Entry) (e : Entry) → IsAddedLive any engine groups silent old earlier e →
       NamesStay earlier (e ∷ earlier) × IsStoreEntry all numbered s earlier e
-  foreign earlier (Named v n) h = (name_stays_by earlier v n h.unnamed, no_copy all s engine n other h.own)
-  foreign earlier (Given origin c) h = ((λ v n is. is), foreign_given earlier origin c h.own (off c h.in_group))
+  foreign earlier (Named v n) h = (name_stays_by earlier v n h.unnamed, other_name all s n (name_off engine (name_engine n) other h.own))
+  foreign earlier (Given origin c) h = (
+    (λ v n is. is),
+    other_given all numbered s earlier origin c (not_copies engine (origin_engine origin) other h.own) (off c h.in_group),
+  )
   foreign earlier (Learned c hs) h = ((λ v n is. is), tt)
   foreign earlier (Answer c hs) h = ((λ v n is. is), tt)
   foreign earlier (Round r bits j) h = absurd h
@@ -181,7 +198,7 @@ module _ (all : Dqbf) (numbered : List ℕ) (s : StoreState) (any : Dqbf) (engin
   all_foreign [] each = store
   all_foreign (e ∷ more) each =
       let h = foreign (more ++ old) e each.0 in
-      store_stands all numbered s e (more ++ old) h.0 h.1 (all_foreign more each.1)
+      store_stands (length (declared all)) all numbered s e (more ++ old) h.0 h.1 (all_foreign more each.1)
 
 pub engines_left : EnginesLeaveStores
 engines_left all any numbered p engine groups silent old new grew other apart store =
@@ -190,8 +207,149 @@ engines_left all any numbered p engine groups silent old new grew other apart st
 
 pub rounds_left : RoundsLeaveStores
 rounds_left all numbered p entries row values j store =
-    store_stands all numbered (store_of p) (Round row values j) entries (λ v n is. is) tt store
+    store_stands (length (declared all)) all numbered (store_of p) (Round row values j) entries (λ v n is. is) tt store
 
 pub beginnings_left : BeginningsLeaveStores
 beginnings_left all numbered p entries live store =
-    store_stands all numbered (store_of p) (Begun live) entries (λ v n is. is) tt store
+    store_stands (length (declared all)) all numbered (store_of p) (Begun live) entries (λ v n is. is) tt store
+
+-- which variables with copies have all parts, told for more variables or for fewer
+pub store_to : (m n : ℕ) (all : Dqbf) (numbered : List ℕ) (s : StoreState) (es : List Entry) →
+    IsStoreTo m all numbered s es → ((k : ℕ) → k < n → is_copied_at s.copied k ≡ true → 5 ≤ parts_at s k) →
+    IsStoreTo n all numbered s es
+store_to m n all numbered s es store whole = record {
+  places = store.places;
+  whole = whole;
+  parts = store.parts;
+  groups = store.groups;
+  givens = store.givens;
+  own = store.own;
+  active = store.active;
+}
+
+pub partial : (all : Dqbf) (numbered : List ℕ) (s : StoreState) (es : List Entry) → IsStore all numbered s es →
+    IsPartialStore all numbered s es
+partial all numbered s es store = store_to (length (declared all)) (length all.universals) all numbered s es store
+    (λ k below. store.whole k (let parts = length-append all.universals (existential_variables all) in
+    omega (arith, below, parts)))
+
+-- where all existentials have copies
+pub completed : (all : Dqbf) (numbered : List ℕ) (s : StoreState) (es : List Entry) →
+    IsPartialStore all numbered s es → AreComplete all s → IsStore all numbered s es
+completed all numbered s es store complete =
+    store_to (length all.universals) (length (declared all)) all numbered s es store
+    (λ k below flag. elim (cases_lt k (length all.universals)) [
+      | inl universal ↦ store.whole k universal flag
+      | inr past ↦ complete k past
+    ])
+
+pub index_past : (xs : List ℕ) (i d : ℕ) → length xs ≤ i → slice_index_or xs i d ≡ d
+index_past [] i d past = refl
+index_past (x ∷ xs) zero d past = absurd (omega (arith, past))
+index_past (x ∷ xs) (suc i) d past = index_past xs i d (omega (arith, past))
+
+pub complete_store : (all : Dqbf) (numbered : List ℕ) (s : StoreState) (es : List Entry) →
+    IsStore all numbered s es → AreComplete all s
+complete_store all numbered s es store k past = elim (cases_lt k (length s.parts)) [
+  | inl within ↦ (
+      let long = store.places.parts in
+      let flags = store.places.flags in
+      store.whole k (omega (arith, within, long)) (flag_past s.copied k (omega (arith, flags, past))))
+  | inr behind ↦ (let none = index_past s.parts k 5 behind in omega (arith, none))
+]
+
+-- a clause of a group stands on the group's variable, which has a name
+pub in_unnamed : (es : List Entry) (g : ℕ) (c : List Literal) → AreNamed es c → name_of es g ≡ None → IsInGroup g c → ⊥
+in_unnamed es g c named none inside =
+    let first : IsSome (name_of es g) = subst (λ ls. AreNamed es ls) inside.1 named 0 (negative g) (omega arith) in
+    let gone : IsSome (name_of es g) = first in
+    cc
+
+-- clauses, groups and parts stay, and there may be further ones
+pub record IsGrown (s t : StoreState) : Type 0 where
+  pub kept_groups : (slot : Slot) (g : Group) → HasGroup s slot g → HasGroup t slot g
+  pub more_given : (side j : ℕ) → HasGiven s side j → HasGiven t side j
+  pub more_parts : (k : ℕ) → parts_at s k ≤ parts_at t k
+  pub kept_links : (k : ℕ) (g : Group) → 3 ≤ parts_at s k → slice_get s.links k ≡ Some g → slice_get t.links k ≡ Some g
+
+-- a group that is there now was there, or has no name yet
+abbrev pub AreNewGroups : StoreState → StoreState → List Entry → Type 0
+AreNewGroups s t es =
+    (slot : Slot) (g : Group) → HasGroup t slot g → HasGroup s slot g ⊎ (name_of es (group_variable g) ≡ None)
+
+module _ (all : Dqbf) (numbered : List ℕ) (s t : StoreState) (grown : IsGrown s t) where
+  name_kept : (n : Name) → IsStoredName all s n → IsStoredName all t n
+  name_kept (Selector g) h = tt
+  name_kept (Pair k y) h = tt
+  name_kept (Input x) h = tt
+  name_kept (And a b) h = tt
+  name_kept (Bad g j) h = tt
+  name_kept (CopyOf side x) h = λ k is.
+      let low = h k is in
+      let more = grown.more_parts k in
+      omega (arith, low, more)
+  name_kept (Term a b) h = tt
+
+  copy_kept : (earlier : List Entry) (side j : ℕ) (c : List Literal) → IsStoredCopy all numbered s earlier side j c →
+      IsStoredCopy all numbered t earlier side j c
+  copy_kept earlier side j c h = record {
+    right = h.right;
+    given = grown.more_given side j h.given;
+    group = h.group;
+    has_group = grown.kept_groups (of_frame side (frame_of numbered j)) h.group h.has_group;
+    in_group = h.in_group;
+  }
+
+  link_kept : (earlier : List Entry) (x i : ℕ) (c : List Literal) → IsStoredLink all s earlier x i c →
+      IsStoredLink all t earlier x i c
+  link_kept earlier x i c h =
+      let done = h.done in
+      let more = grown.more_parts h.place in
+      record {
+        right = h.right;
+        place = h.place;
+        variable_is = h.variable_is;
+        done = omega (arith, done, more);
+        group = h.group;
+        group_is = grown.kept_links h.place h.group (omega (arith, done)) h.group_is;
+        in_group = h.in_group;
+      }
+
+  no_group : (earlier : List Entry) (c : List Literal) → AreNewGroups s t earlier → AreNamed earlier c →
+      IsInNoGroup s c → IsInNoGroup t c
+  no_group earlier c new named none slot g has inside = by (new slot g has)
+    where
+      by : HasGroup s slot g ⊎ (name_of earlier (group_variable g) ≡ None) → ⊥
+      by (inl old) = none slot g old inside
+      by (inr unnamed) = in_unnamed earlier (group_variable g) c named unnamed inside
+
+  entry_kept : (earlier : List Entry) (e : Entry) → AreNewGroups s t earlier → MayFollow earlier e →
+      IsStoreEntry all numbered s earlier e → IsStoreEntry all numbered t earlier e
+  entry_kept earlier (Named v n) new may h = name_kept n h
+  entry_kept earlier (Given (Instance k j) c) new may h = no_group earlier c new may h
+  entry_kept earlier (Given (Gate v i) c) new may h = no_group earlier c new may h
+  entry_kept earlier (Given (Fault j i leaf) c) new may h = no_group earlier c new may h
+  entry_kept earlier (Given (Copy side j) c) new may h = copy_kept earlier side j c h
+  entry_kept earlier (Given (Link x i) c) new may h = link_kept earlier x i c h
+  entry_kept earlier (Given (TermGate v i) c) new may h = no_group earlier c new may h
+  entry_kept earlier (Given (Differ y leaf i) c) new may h = no_group earlier c new may h
+  entry_kept earlier (Learned c hs) new may h = tt
+  entry_kept earlier (Answer c hs) new may h = tt
+  entry_kept earlier (Round r bits j) new may h = tt
+  entry_kept earlier (Begun numbers) new may h = tt
+
+  new_before : (e : Entry) (es : List Entry) → AreNewGroups s t (e ∷ es) → AreNewGroups s t es
+  new_before e es new slot g has = by (new slot g has)
+    where
+      by : HasGroup s slot g ⊎ (name_of (e ∷ es) (group_variable g) ≡ None) →
+          HasGroup s slot g ⊎ (name_of es (group_variable g) ≡ None)
+      by (inl old) = inl old
+      by (inr none) = inr (unnamed_before e es (group_variable g) none)
+
+  pub entries_kept : (es : List Entry) → AreNewGroups s t es → Each MayFollow es → Each (IsStoreEntry all numbered s) es →
+      Each (IsStoreEntry all numbered t) es
+  entries_kept [] new logged h = tt
+  entries_kept (e ∷ es) new logged h = (
+    entry_kept es e (new_before e es new) logged.0 h.0,
+    entries_kept es (new_before e es new) logged.1 h.1,
+  )

@@ -1,5 +1,5 @@
 -- Steps of a store that follows a session: places of lists that are set, and how steps compose.
-use Rattle.std.proofs.Common.{◌≡◌, ◌≢◌, ℕ, zero, suc, ◌<◌, ◌≤◌, true, ◌⊎◌, inl, inr, List, [], ◌∷◌, length, set, slice_get, Some, None, refl, sym, ◌∙◌, ap, subst, arith}
+use Rattle.std.proofs.Common.{◌≡◌, ◌≢◌, ℕ, zero, suc, ◌<◌, ◌≤◌, true, ◌⊎◌, inl, inr, List, [], ◌∷◌, length, set, slice_get, Some, None, refl, sym, ◌∙◌, ap, subst, arith, ◌++◌}
 use Rattle.std.specs.List.{Contains}
 use Rattle.dq_lits.specs.Literal.{Literal}
 use Rattle.dq_lits.specs.Formula.{Dqbf}
@@ -8,11 +8,15 @@ use Rattle.hint_log.specs.ProductiveLog.{fault_groups, fault_room}
 use Rattle.hint_log.proofs.NamedEntries.{unnamed_before}
 use Rattle.log_laws.specs.Engines.{copies}
 use Rattle.log_laws.specs.Sessions.{IsInOneOf, IsAddedLive}
-use Rattle.log_laws.proofs.Kept.{each_of_weaker}
+use Rattle.log_laws.proofs.Kept.{each_of_weaker, name_cases}
 use Rattle.log_laws.proofs.LargerLogs.{grown_by, grown_by_none, grown_then}
 use Rattle.padoa_definitions.specs.Copies.{is_copied_at}
-use Rattle.padoa_definitions.specs.Following.{AreOldOrNew, IsFollowing, IsStanding}
-use Rattle.padoa_definitions.specs.Store.{StoreState, store_groups, HasGiven, IsStore}
+use Rattle.padoa_definitions.specs.Following.{AreOldOrNew, IsFollowing, IsStanding, is_copy_entry, IsCopyAdded}
+use Rattle.padoa_definitions.specs.Store.{StoreState, store_groups, IsPartialStore}
+use Rattle.padoa_definitions.specs.Growing.{HasCopied, is_copy_name, is_copy_origin}
+use Rattle.list_laws.proofs.Members.{contains_cases}
+use Rattle.padoa_definitions.proofs.StandingStores.{IsGrown}
+use Rattle.hint_log.specs.Growth.{EachOf, Grew}
 
 -- what stands in a list after one place was set
 pub set_cases : {X : Type 0} (xs : List X) (i k : ℕ) (y z : X) → slice_get (set xs i y) k ≡ Some z →
@@ -41,45 +45,96 @@ set_here [] i y below = absurd (omega (arith, below))
 set_here (z ∷ xs) zero y below = refl
 set_here (z ∷ xs) (suc i) y below = set_here xs i y (omega (arith, below))
 
+-- only copies are named, and only their clauses given
+pub copied_none : (es : List Entry) → HasCopied es es
+copied_none es = record { names = λ v n is. inl is; givens = λ o c inside. inl inside }
+
+pub copied_then : (a b c : List Entry) → HasCopied a b → HasCopied b c → HasCopied a c
+copied_then a b c x y = record {
+  names = λ v n is. elim (y.names v n is) [ inl before ↦ x.names v n before | inr new ↦ inr new ];
+  givens = λ o d inside. elim (y.givens o d inside) [ inl before ↦ x.givens o d before | inr new ↦ inr new ];
+}
+
+pub copied_entry : (e : Entry) (es : List Entry) → is_copy_entry e ≡ true → HasCopied es (e ∷ es)
+copied_entry (Named w m) es own = record {
+  names = λ v n is. elim (name_cases es w v m n is)
+      [ inl same ↦ inr (ap is_copy_name (sym same.1) ∙ own) | inr before ↦ inl before ];
+  givens = λ o c inside. elim (contains_cases (Named w m) (Given o c) es inside)
+      [ inl same ↦ cc | inr before ↦ inl before ];
+}
+copied_entry (Given origin d) es own = record {
+  names = λ v n is. inl is;
+  givens = λ o c inside. elim (contains_cases (Given origin d) (Given o c) es inside) [
+    | inl same ↦ (let o_is : origin ≡ o = cc in inr (ap is_copy_origin (sym o_is) ∙ own))
+    | inr before ↦ inl before
+  ];
+}
+copied_entry (Learned c hs) es own = cc
+copied_entry (Answer c hs) es own = cc
+copied_entry (Round r values j) es own = cc
+copied_entry (Begun live) es own = cc
+
+pub copied_all : (P : List Entry → Entry → Type 0) → ((earlier : List Entry) (e : Entry) → P earlier e →
+    is_copy_entry e ≡ true) → (more old : List Entry) → EachOf P more old → HasCopied old (more ++ old)
+copied_all P own [] old each = copied_none old
+copied_all P own (e ∷ more) old each = copied_then old (more ++ old) (e ∷ (more ++ old)) (copied_all P own more old each.1)
+    (copied_entry e (more ++ old) (own (more ++ old) e each.0))
+
+pub live_grew : (all : Dqbf) (groups : List ℕ) (old new : ProofLog) → Grew (IsCopyAdded all groups old.entries) old new →
+    Grew (IsAddedLive all copies groups true old.entries) old new
+live_grew all groups old new grew = record {
+  more = grew.more;
+  grown = grew.grown;
+  each = each_of_weaker (IsCopyAdded all groups old.entries) (IsAddedLive all copies groups true old.entries)
+      (λ earlier e h. h.0) grew.more old.entries grew.each;
+  limit = grew.limit;
+}
+
 -- a step without an entry, and with one
 pub following_same : (all : Dqbf) (numbered : List ℕ) (s t : StoreState) (log new : ProofLog) → new ≡ log →
-    AreOldOrNew s t log.entries → IsStore all numbered t log.entries
-    → ((side j : ℕ) → HasGiven s side j → HasGiven t side j)
+    AreOldOrNew s t log.entries → IsPartialStore all numbered t log.entries → IsGrown s t
     → ((k : ℕ) → is_copied_at s.copied k ≡ true → is_copied_at t.copied k ≡ true)
     → IsFollowing all numbered s log t new
-following_same all numbered s t log new is groups store given copied =
+following_same all numbered s t log new is groups store grown copied =
     subst (IsFollowing all numbered s log t) (sym is) (record {
-      grew = grown_by_none (IsAddedLive all copies (store_groups s) true log.entries) log log refl;
+      grew = grown_by_none (IsCopyAdded all (store_groups s) log.entries) log log refl;
       new_groups = groups;
       names = λ v none. none;
       faults = refl;
       room = refl;
       store = store;
-      given = given;
+      given = grown.more_given;
+      parts = grown.more_parts;
       copied = copied;
     })
 
 pub following_none : (all : Dqbf) (numbered : List ℕ) (s : StoreState) (log new : ProofLog) → new ≡ log →
-    IsStore all numbered s log.entries → IsFollowing all numbered s log s new
-following_none all numbered s log new is store =
-    following_same all numbered s s log new is (λ g has. inl has) store (λ side j has. has) (λ k has. has)
+    IsPartialStore all numbered s log.entries → IsFollowing all numbered s log s new
+following_none all numbered s log new is store = following_same all numbered s s log new is (λ g has. inl has) store
+    (record {
+      kept_groups = λ slot g has. has;
+      more_given = λ side j has. has;
+      more_parts = λ k. omega arith;
+      kept_links = λ k g low is. is;
+    }) (λ k has. has)
 
 pub following_entry : (all : Dqbf) (numbered : List ℕ) (s t : StoreState) (log new : ProofLog) (e : Entry) →
     new ≡ with_entry log e → IsAddedLive all copies (store_groups s) true log.entries log.entries e
-    → fault_groups (e ∷ log.entries) ≡ fault_groups log.entries → fault_room (e ∷ log.entries) ≡ fault_room log.entries
-    → AreOldOrNew s t log.entries → IsStore all numbered t (e ∷ log.entries)
-    → ((side j : ℕ) → HasGiven s side j → HasGiven t side j)
+    → is_copy_entry e ≡ true → fault_groups (e ∷ log.entries) ≡ fault_groups log.entries
+    → fault_room (e ∷ log.entries) ≡ fault_room log.entries → AreOldOrNew s t log.entries
+    → IsPartialStore all numbered t (e ∷ log.entries) → IsGrown s t
     → ((k : ℕ) → is_copied_at s.copied k ≡ true → is_copied_at t.copied k ≡ true)
     → IsFollowing all numbered s log t new
-following_entry all numbered s t log new e is added faults room groups store given copied =
+following_entry all numbered s t log new e is added own faults room groups store grown copied =
     subst (IsFollowing all numbered s log t) (sym is) (record {
-      grew = grown_by (IsAddedLive all copies (store_groups s) true log.entries) log (with_entry log e) e refl added;
+      grew = grown_by (IsCopyAdded all (store_groups s) log.entries) log (with_entry log e) e refl (added, own);
       new_groups = groups;
       names = λ v none. unnamed_before e log.entries v none;
       faults = faults;
       room = room;
       store = store;
-      given = given;
+      given = grown.more_given;
+      parts = grown.more_parts;
       copied = copied;
     })
 
@@ -111,21 +166,21 @@ module _ (all : Dqbf) (numbered : List ℕ) (a b c : StoreState) (first middle l
 
   pub following_then : IsFollowing all numbered a first c last
   following_then = record {
-    grew = grown_then (IsAddedLive all copies (store_groups a) true first.entries) first middle last x.grew
-        (record {
-          more = y.grew.more;
-          grown = y.grew.grown;
-          each = each_of_weaker (IsAddedLive all copies (store_groups b) true middle.entries)
-              (IsAddedLive all copies (store_groups a) true first.entries) added y.grew.more middle.entries
-              y.grew.each;
-          limit = y.grew.limit;
-        });
+    grew = grown_then (IsCopyAdded all (store_groups a) first.entries) first middle last x.grew (record {
+      more = y.grew.more;
+      grown = y.grew.grown;
+      each = each_of_weaker (IsCopyAdded all (store_groups b) middle.entries)
+          (IsCopyAdded all (store_groups a) first.entries) (λ earlier e h. (added earlier e h.0, h.1)) y.grew.more
+          middle.entries y.grew.each;
+      limit = y.grew.limit;
+    });
     new_groups = λ g has. old_group g (y.new_groups g has);
     names = λ v none. x.names v (y.names v none);
     faults = y.faults ∙ x.faults;
     room = y.room ∙ x.room;
     store = y.store;
     given = λ side j has. y.given side j (x.given side j has);
+    parts = λ k. let one = x.parts k in let two = y.parts k in omega (arith, one, two);
     copied = λ k has. y.copied k (x.copied k has);
   }
 

@@ -1,6 +1,6 @@
 -- Two copies of the matrix in a log, and equations between the copies of each variable, all in
 -- groups of their own (A. Padoa, 1900). Universals that stand in no clause need no copies.
-use Rattle.std.specs.Prelude.{◌≡◌, ◌⊎◌, ◌==◌, ℕ, Bool, true, false, List, ◌∷◌, ◌++◌, map, length, Some, slice_get, slice_index_or}
+use Rattle.std.specs.Prelude.{◌≡◌, ◌⊎◌, ◌==◌, ℕ, Bool, true, false, List, ◌∷◌, ◌++◌, map, length, set, Some, slice_get, slice_index_or}
 use Rattle.std.specs.List.{All, Contains}
 use Rattle.dq_lits.specs.Literal.{Literal, negative, variable_of, is_negative}
 use Rattle.dq_lits.specs.Formula.{Dqbf, declared}
@@ -58,6 +58,19 @@ AreTwins entries twins = (name_literal entries twins.first
 -- the copies of the universals, and then those of the existentials
 abbrev pub copies_of : MatrixCopy → List Literal
 copies_of copy = copy.universals.items ++ copy.existentials.items
+
+-- the copy has other places for its variables
+pub record IsBlank (f : Dqbf) (old new : MatrixCopy) : Type 0 where
+  pub groups : new.groups ≡ old.groups
+  pub universals : length new.universals.items ≡ length f.universals
+  pub existentials : length new.existentials.items ≡ length f.existentials
+
+-- another literal stands at a place
+pub record IsPut (place : ℕ) (l : Literal) (old new : MatrixCopy) : Type 0 where
+  pub groups : new.groups ≡ old.groups
+  pub universals : length new.universals.items ≡ length old.universals.items
+  pub existentials : length new.existentials.items ≡ length old.existentials.items
+  pub copies : copies_of new ≡ set (copies_of old) place l
 
 abbrev pub copy_names : ℕ → List Literal → List NamedLiteral
 copy_names side clause =

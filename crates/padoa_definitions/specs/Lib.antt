@@ -10,4 +10,5 @@ pub mod Ruling
 pub mod Conditions
 pub mod Store
 pub mod Following
+pub mod Making
 pub mod Leaving

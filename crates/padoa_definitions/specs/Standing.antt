@@ -1,13 +1,12 @@
--- What leaves the copies as they stand: what other engines add to the log, and rounds; and which
--- variables stand in clauses, for private contracts.
-use Rattle.std.specs.Prelude.{◌≡◌, ◌≢◌, ◌<◌, ℕ, Bool, true, List, ◌∷◌, length, Some, slice_get}
+-- What leaves the copies as they stand: what other engines add to the log, and rounds; and flags that
+-- are set, for private contracts.
+use Rattle.std.specs.Prelude.{◌≡◌, ◌≢◌, ℕ, Bool, true, List, ◌∷◌, length}
 use Rattle.std.specs.List.{All}
 use Rattle.dq_lits.specs.Formula.{Dqbf}
-use Rattle.dq_lits.specs.Literal.{Literal, variable_of}
 use Rattle.hint_log.specs.Entries.{Entry, Round, ProofLog}
 use Rattle.hint_log.specs.Growth.{Grew}
 use Rattle.log_laws.specs.Engines.{Engine, IsAddedBy}
-use Rattle.padoa_definitions.specs.Copies.{IsCopied, IsPadoa, groups_of, is_copied_at}
+use Rattle.padoa_definitions.specs.Copies.{IsPadoa, groups_of, is_copied_at}
 use Rattle.padoa_definitions.specs.declared.padoa.Padoa.{Padoa}
 
 -- the standing group of the other call is none of the copies' groups
@@ -26,9 +25,3 @@ RoundsLeaveCopies =
 pub record IsMarkedMore (old new : List Bool) : Type 0 where
   pub as_many : length new ≡ length old
   pub stays : (k : ℕ) → is_copied_at old k ≡ true → is_copied_at new k ≡ true
-
--- the variables of the first so many clauses are marked
-pub record AreMarked (f : Dqbf) (i : ℕ) (marks : List Bool) : Type 0 where
-  pub as_many : length marks ≡ length f.universals
-  pub marked : (k : ℕ) (clause : List Literal) → k < i → slice_get f.matrix k ≡ Some clause
-      → All (λ l. IsCopied f marks (variable_of l)) clause

@@ -1,6 +1,6 @@
 //! The groups of the frames that are live.
 
-ghost use Rattle.std.specs.Prelude.{◌≡◌, ◌⊎◌, ◌≤◌, ◌<◌, ◌+◌, ◌-◌, ℕ, false, IfOk, OnOk, OnErr, Some, length, slice_get, slice_index_or};
+ghost use Rattle.std.specs.Prelude.{◌≡◌, ◌⊎◌, ◌≤◌, ◌<◌, ◌+◌, ◌-◌, false, IfOk, OnOk, OnErr, Some, length, slice_get, slice_index_or};
 ghost use Rattle.padoa_definitions.specs.Following.{AreActiveGroups, AreActiveSoFar, AreOpen};
 ghost use Rattle.padoa_definitions.specs.Store.{side_group, store_of};
 ghost use Rattle.padoa_definitions.specs.declared.frames.Sides.{Sides as SidesValue};

@@ -1,6 +1,6 @@
 //! Conditions of a question, and which of them copies can meet.
 
-ghost use Rattle.std.specs.Prelude.{◌≡◌, Bool, false, List, IfOk, length};
+ghost use Rattle.std.specs.Prelude.{◌≡◌, false, IfOk, length};
 ghost use Rattle.std.specs.List.{filter};
 ghost use Rattle.dq_lits.specs.Derivation.{is_tautology};
 ghost use Rattle.dq_lits.specs.Literal.{variable_of};

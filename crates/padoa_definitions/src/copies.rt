@@ -1,20 +1,17 @@
 //! A copy of the matrix: its variables, and literals on them.
 
-ghost use Rattle.std.specs.Prelude.{◌≡◌, ◌≢◌, ℕ, Bool, List, All, Contains, IfOk, OnOk, OnErr, Some, false, length, slice_get, ◌<◌};
-ghost use Rattle.std.specs.List.{AllPairs};
+ghost use Rattle.std.specs.Prelude.{◌≡◌, [], ℕ, Bool, List, All, Contains, IfOk, OnOk, Some, false, length, slice_get, ◌<◌};
 ghost use Rattle.dq_lits.specs.Literal.{variable_of, is_negative};
-ghost use Rattle.dq_lits.specs.Formula.{Dqbf, declared};
+ghost use Rattle.dq_lits.specs.Formula.{declared};
 ghost use Rattle.dq_formula.specs.Prefix.{existential_variables};
-ghost use Rattle.hint_log.specs.Entries.{Entry, name_of};
+ghost use Rattle.hint_log.specs.Entries.{Entry};
 ghost use Rattle.hint_log.specs.Naming.{named_literal, name_literal, AreNamedAs};
 ghost use Rattle.hint_log.specs.declared.names.Name.TheVariants.{Copy as CopyOf};
-ghost use Rattle.padoa_definitions.specs.Copies.{AreCopies, AreCopiesOf, IsCopied, copies_of, copy_names, is_copied_at};
-ghost use Rattle.padoa_definitions.specs.Growing.{GrewAnew, AreUncopied, IsNamedIfWanted, LeavesUncopied, NamesCopies};
+ghost use Rattle.padoa_definitions.specs.Copies.{AreCopies, AreCopiesOf, IsBlank, IsCopied, IsPut, copies_of, copy_names, is_copied_at};
 
 use dq_formula::Formula;
 use dq_lits::{Lit, Memory};
-use hint_log::{Log, Name};
-use oracle::{Group, Oracle};
+use oracle::Group;
 use std::alloc::Global;
 
 /// A copy of the matrix: the groups of its clauses, and the copies of the universals and of the
@@ -40,6 +37,51 @@ impl MatrixCopy {
             self.existentials[place - universals]
         }
     }
+
+    /// A copy without variables.
+    pub(crate) fn new(alloc: Global) -> MatrixCopy
+        ensures { result.groups.items ≡ [] }
+    {
+        MatrixCopy {
+            groups: Vec::new(alloc),
+            universals: Vec::new(alloc),
+            existentials: Vec::new(alloc),
+        }
+    }
+
+    /// Makes places for copies of a formula's variables, at which any literals stand.
+    pub(crate) fn make_places(&mut self, alloc: Global, f: &Formula) -> Result<(), Memory>
+        ensures { OnOk result (IsBlank f.now self.old self.new) }
+    {
+        f.every_formula_is_lawful();
+        self.universals = any_literals(alloc, f.universals().len())?;
+        self.existentials = any_literals(alloc, f.existentials().len())?;
+        Ok(())
+    }
+
+    /// Puts the copy of the variable at a place, universals first.
+    pub(crate) fn put(&mut self, place: usize, copy: Lit)
+        requires { place < length (copies_of self.old) }
+        ensures { IsPut place copy self.old self.new }
+    {
+        let universals = self.universals.len();
+        if place < universals {
+            self.universals[place] = copy;
+        } else {
+            self.existentials[place - universals] = copy;
+        }
+    }
+}
+
+// So many literals.
+fn any_literals(alloc: Global, count: usize) -> Result<Vec<Lit>, Memory>
+    ensures { IfOk result (λ lits. length lits.items ≡ count) }
+{
+    let mut lits = Vec::new(alloc);
+    for _ in 0..count {
+        lits.push(Lit::pos(1))?;
+    }
+    Ok(lits)
 }
 
 /// A variable with its copies, the first and the second.
@@ -57,57 +99,6 @@ pub(crate) fn is_copied(flags: &[bool], place: usize) -> bool
     match flags.get(place) {
         Some(flag) => *flag,
         None => true,
-    }
-}
-
-/// Names a copy of each of these variables that is to have one.
-pub(crate) fn name_copies<O: Oracle>(
-    alloc: Global,
-    oracle: &mut O,
-    side: u64,
-    variables: &[u64],
-    flags: &[bool],
-    log: &mut Log,
-) -> Result<Vec<Lit>, Memory>
-    requires fit { O.Fits oracle.old log.old }
-    requires distinct { AllPairs (λ v w. v ≢ w) variables.now }
-    requires fresh { AreUncopied side variables.now log.old.entries }
-    ensures fit { O.Fits oracle.new log.new }
-    ensures grew { (f : Dqbf) → GrewAnew f log.old log.new }
-    ensures only { NamesCopies side variables.now log.old.entries log.new.entries }
-    ensures named { IfOk result
-        (λ lits. AreCopies log.new.entries side flags.now variables.now lits.items) }
-    ensures unflagged { OnOk result (LeavesUncopied side flags.now variables.now log.new.entries) }
-{
-    let mut lits = Vec::with_capacity(alloc, variables.len())?;
-    for x in variables {
-        let name = Name::Copy { side, variable: *x };
-        let l = name_if_wanted(oracle, name, is_copied(flags, lits.len()), log)?;
-        lits.push(l)?;
-    }
-    Ok(lits)
-}
-
-// The copy of a variable by its name, where it is to have one; any literal else.
-fn name_if_wanted<O: Oracle>(
-    oracle: &mut O,
-    name: Name,
-    wanted: bool,
-    log: &mut Log,
-) -> Result<Lit, Memory>
-    requires fit { O.Fits oracle.old log.old }
-    requires copy { (side : ℕ) × (x : ℕ) × (name ≡ CopyOf side x) }
-    requires fresh { (v : ℕ) → name_of log.old.entries v ≡ Some name → ⊥ }
-    ensures fit { O.Fits oracle.new log.new }
-    ensures named { (side x : ℕ) → name ≡ CopyOf side x
-        → IfOk result (IsNamedIfWanted wanted side x log.old log.new) }
-    ensures err { OnErr result (log.new ≡ log.old) }
-{
-    if wanted {
-        let v = oracle.new_var(name, log)?;
-        Ok(Lit::pos(v))
-    } else {
-        Ok(Lit::pos(1))
     }
 }
 

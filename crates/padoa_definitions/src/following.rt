@@ -1,17 +1,15 @@
 //! Copies that follow a session, in which clauses come and go in frames.
 
-ghost use Rattle.std.specs.Prelude.{◌≡◌, ◌⊎◌, ◌≤◌, ◌+◌, ◌-◌, ℕ, List, true, All, OnOk, Some, length, slice_get, slice_index_or};
+ghost use Rattle.std.specs.Prelude.{◌≡◌, ◌⊎◌, ◌+◌, ◌-◌, ℕ, List, true, OnOk, length, slice_index_or};
 ghost use Rattle.dq_lits.specs.Formula.{Dqbf, IsWellFormed};
-ghost use Rattle.dq_lits.specs.Literal.{Literal, variable_of};
 ghost use Rattle.hint_log.specs.Growth.{Grew};
 ghost use Rattle.hint_log.specs.ProductiveLog.{fault_groups, fault_room};
 ghost use Rattle.log_laws.specs.Engines.{copies};
 ghost use Rattle.log_laws.specs.Sessions.{IsAddedLive};
-ghost use Rattle.padoa_definitions.specs.Copies.{IsCopied, IsPadoa};
-ghost use Rattle.padoa_definitions.specs.Following.{AreGiven, AreOldOrNew, IsFollowing, IsLiveClause, IsLiveFormula, IsStanding};
+ghost use Rattle.padoa_definitions.specs.Copies.{IsPadoa};
+ghost use Rattle.padoa_definitions.specs.Following.{AreGiven, AreOldOrNew, CanReceive, IsLiveFormula, IsPrepared, Receives, FollowsLive};
 ghost use Rattle.padoa_definitions.specs.Growing.{HasFewFaults};
 ghost use Rattle.padoa_definitions.specs.Store.{HasGiven, IsCopyStore, copy_groups, store_of};
-ghost use Rattle.padoa_definitions.specs.declared.frames.Sides.{Sides as SidesValue};
 
 use crate::copies::{MatrixCopy, copied_clause};
 use crate::padoa::Padoa;
@@ -63,6 +61,30 @@ impl Padoa {
         ensures room { fault_room log.new.entries ≡ fault_room log.old.entries }
         ensures nothing { AreGiven (store_of self.old) live.now → log.new ≡ log.old }
     {
+        self.follow_live(oracle, f, live, frames, log)
+    }
+
+    // Gives the copies that these clauses lack, and makes the groups of their frames the active ones.
+    fn follow_live<O: Oracle>(
+        &mut self,
+        oracle: &mut O,
+        f: &Formula,
+        live: &[u64],
+        frames: &[u64],
+        log: &mut Log,
+    ) -> Result<(), Memory>
+        requires fit { O.Fits oracle.old log.old }
+        requires formula { IsWellFormed f.now }
+        requires store { (all : Dqbf) × (numbered : List ℕ)
+            × IsCopyStore all numbered self.old log.old.entries
+            × IsLiveFormula all numbered f.now live.now frames.now }
+        requires few { HasFewFaults log.old.entries }
+        ensures fit { O.Fits oracle.new log.new }
+        ensures following { FollowsLive f.now live.now frames.now self.old log.old self.new log.new }
+        ensures ready { OnOk result (IsPadoa f.now self.new log.new.entries) }
+        ensures given { OnOk result (AreGiven (store_of self.new) live.now) }
+        ensures nothing { AreGiven (store_of self.old) live.now → log.new ≡ log.old }
+    {
         self.give_live(oracle, f, live, frames, log)?;
         self.activate(frames)?;
         Ok(())
@@ -84,10 +106,7 @@ impl Padoa {
             × IsLiveFormula all numbered f.now live.now frames.now }
         requires few { HasFewFaults log.old.entries }
         ensures fit { O.Fits oracle.new log.new }
-        ensures following { (all : Dqbf) (numbered : List ℕ)
-            → IsCopyStore all numbered self.old log.old.entries
-            → IsLiveFormula all numbered f.now live.now frames.now
-            → IsFollowing all numbered (store_of self.old) log.old (store_of self.new) log.new }
+        ensures following { FollowsLive f.now live.now frames.now self.old log.old self.new log.new }
         ensures given { OnOk result (AreGiven (store_of self.new) live.now) }
         ensures nothing { AreGiven (store_of self.old) live.now → log.new ≡ log.old }
     {
@@ -112,14 +131,9 @@ impl Padoa {
     ) -> Result<(), Memory>
         requires fit { O.Fits oracle.old log.old }
         requires formula { IsWellFormed f.now }
-        requires standing { (all : Dqbf) × (numbered : List ℕ)
-            × IsStanding all numbered f.now (store_of self.old) log.old.entries
-            × IsLiveClause all numbered f.now clause }
+        requires standing { CanReceive f.now self.old clause log.old.entries }
         ensures fit { O.Fits oracle.new log.new }
-        ensures following { (all : Dqbf) (numbered : List ℕ)
-            → IsStanding all numbered f.now (store_of self.old) log.old.entries
-            → IsLiveClause all numbered f.now clause
-            → IsFollowing all numbered (store_of self.old) log.old (store_of self.new) log.new }
+        ensures following { Receives f.now self.old log.old clause self.new log.new }
         ensures given { OnOk result (HasGiven (store_of self.new) 2 clause.number) }
         ensures nothing { HasGiven (store_of self.old) 2 clause.number → log.new ≡ log.old }
     {
@@ -139,14 +153,9 @@ impl Padoa {
     ) -> Result<(), Memory>
         requires fit { O.Fits oracle.old log.old }
         requires formula { IsWellFormed f.now }
-        requires standing { (all : Dqbf) × (numbered : List ℕ)
-            × IsStanding all numbered f.now (store_of self.old) log.old.entries
-            × IsLiveClause all numbered f.now clause }
+        requires standing { CanReceive f.now self.old clause log.old.entries }
         ensures fit { O.Fits oracle.new log.new }
-        ensures following { (all : Dqbf) (numbered : List ℕ)
-            → IsStanding all numbered f.now (store_of self.old) log.old.entries
-            → IsLiveClause all numbered f.now clause
-            → IsFollowing all numbered (store_of self.old) log.old (store_of self.new) log.new }
+        ensures following { Receives f.now self.old log.old clause self.new log.new }
         ensures given { OnOk result (HasGiven (store_of self.new) 2 clause.number) }
     {
         f.every_formula_is_lawful();
@@ -156,8 +165,8 @@ impl Padoa {
         self.give_sides(oracle, f, clause, log)
     }
 
-    // Gives the copies that a clause lacks, where its variables have copies and its frame groups.
-    fn give_sides<O: Oracle>(
+    /// Gives the copies that a clause lacks, where its variables have copies and its frame groups.
+    pub(crate) fn give_sides<O: Oracle>(
         &mut self,
         oracle: &mut O,
         f: &Formula,
@@ -166,19 +175,12 @@ impl Padoa {
     ) -> Result<(), Memory>
         requires fit { O.Fits oracle.old log.old }
         requires formula { IsWellFormed f.now }
-        requires standing { (all : Dqbf) × (numbered : List ℕ)
-            × IsStanding all numbered f.now (store_of self.old) log.old.entries
-            × IsLiveClause all numbered f.now clause }
-        requires room { clause.number ≤ length self.old.given.items }
-        requires opened { (sides : SidesValue)
-            × (slice_get self.old.frames.items clause.frame ≡ Some (Some sides)) }
-        requires covered { (c : List Literal) → slice_get f.now.matrix clause.place ≡ Some c
-            → All (λ l. IsCopied f.now self.old.copied.items (variable_of l)) c }
+        requires standing { CanReceive f.now self.old clause log.old.entries }
+        requires prepared { IsPrepared f.now self.old clause }
         ensures fit { O.Fits oracle.new log.new }
-        ensures following { (all : Dqbf) (numbered : List ℕ)
-            → IsStanding all numbered f.now (store_of self.old) log.old.entries
-            → IsLiveClause all numbered f.now clause
-            → IsFollowing all numbered (store_of self.old) log.old (store_of self.new) log.new }
+        ensures following { Receives f.now self.old log.old clause self.new log.new }
+        ensures same { self.new ≡ record self.old { given = self.new.given } }
+        ensures long { length self.new.given.items ≡ length self.old.given.items }
         ensures given { OnOk result (HasGiven (store_of self.new) 2 clause.number) }
     {
         for side in self.sides_of(clause.number)..2 {
@@ -198,21 +200,12 @@ impl Padoa {
     ) -> Result<(), Memory>
         requires fit { O.Fits oracle.old log.old }
         requires formula { IsWellFormed f.now }
-        requires standing { (all : Dqbf) × (numbered : List ℕ)
-            × IsStanding all numbered f.now (store_of self.old) log.old.entries
-            × IsLiveClause all numbered f.now clause }
-        requires room { clause.number ≤ length self.old.given.items }
-        requires opened { (sides : SidesValue)
-            × (slice_get self.old.frames.items clause.frame ≡ Some (Some sides)) }
-        requires covered { (c : List Literal) → slice_get f.now.matrix clause.place ≡ Some c
-            → All (λ l. IsCopied f.now self.old.copied.items (variable_of l)) c }
+        requires standing { CanReceive f.now self.old clause log.old.entries }
+        requires prepared { IsPrepared f.now self.old clause }
         requires side { (side ≡ 1) ⊎ (side ≡ 2) }
         requires next { slice_index_or self.old.given.items (clause.number - 1) 0 + 1 ≡ side }
         ensures fit { O.Fits oracle.new log.new }
-        ensures following { (all : Dqbf) (numbered : List ℕ)
-            → IsStanding all numbered f.now (store_of self.old) log.old.entries
-            → IsLiveClause all numbered f.now clause
-            → IsFollowing all numbered (store_of self.old) log.old (store_of self.new) log.new }
+        ensures following { Receives f.now self.old log.old clause self.new log.new }
         ensures same { self.new ≡ record self.old { given = self.new.given } }
         ensures long { length self.new.given.items ≡ length self.old.given.items }
         ensures given { OnOk result

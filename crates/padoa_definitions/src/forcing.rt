@@ -1,6 +1,6 @@
 //! Bits that existentials are forced to have where they see what they see at a row.
 
-ghost use Rattle.std.specs.Prelude.{◌≡◌, ◌<◌, ◌∷◌, [], ℕ, List, true, false, All, length, IfOk, IsErrOf, IsSome, Some, Ok};
+ghost use Rattle.std.specs.Prelude.{◌≡◌, ◌<◌, ◌∷◌, ℕ, List, true, false, All, length, IfOk, IsErrOf, IsSome, Some, Ok};
 ghost use Rattle.dq_lits.specs.Derivation.{is_tautology};
 ghost use Rattle.dq_lits.specs.Formula.{Existential, IsWellFormed, existential_of};
 ghost use Rattle.dq_lits.specs.Literal.{Literal, variable_of};
@@ -121,6 +121,7 @@ impl Padoa {
         derived_line_is_implied();
         ids_stay();
         reached_are_ids();
+        // The call shows the formula's invariant.
         let _ = f.vars();
         let answer = oracle.solve(&self.first.groups, asked, log)?;
         Ok(answer)

@@ -1,10 +1,9 @@
 //! Which clauses of a session have copies, and the groups of each frame's copies.
 
-ghost use Rattle.std.specs.Prelude.{◌≡◌, ◌⊎◌, ◌≤◌, ◌<◌, ◌-◌, ◌++◌, ◌∷◌, [], ℕ, List, map, length, replicate, OnOk, None, Some, slice_get, slice_index_or};
+ghost use Rattle.std.specs.Prelude.{◌≡◌, ◌⊎◌, ◌≤◌, ◌<◌, ◌-◌, ◌++◌, ℕ, List, length, replicate, OnOk, None, Some, slice_get, slice_index_or};
 ghost use Rattle.dq_lits.specs.Formula.{Dqbf};
-ghost use Rattle.oracle.specs.declared.groups.Group.{Group as GroupValue};
 ghost use Rattle.padoa_definitions.specs.Following.{IsFollowing, IsStanding};
-ghost use Rattle.padoa_definitions.specs.Store.{parts_of, side_group, store_of};
+ghost use Rattle.padoa_definitions.specs.Store.{side_group, store_of};
 ghost use Rattle.padoa_definitions.specs.declared.frames.Sides.{Sides as SidesValue};
 
 use crate::padoa::Padoa;
@@ -30,34 +29,6 @@ impl Sides {
 }
 
 impl Padoa {
-    /// Notes that so many clauses were given on both sides, in frame 0.
-    pub(crate) fn note_file(&mut self, clauses: usize) -> Result<(), Memory>
-        requires parts { self.old.parts.items ≡ [] }
-        requires given { self.old.given.items ≡ [] }
-        requires frames { self.old.frames.items ≡ [] }
-        requires first { (g : GroupValue) × (self.old.first.groups.items ≡ g ∷ []) }
-        requires second { (g : GroupValue) × (self.old.second.groups.items ≡ g ∷ []) }
-        ensures same { self.new ≡ record self.old {
-          parts = self.new.parts;
-          given = self.new.given;
-          frames = self.new.frames;
-        } }
-        ensures parts { OnOk result (self.new.parts.items ≡ map parts_of self.old.copied.items) }
-        ensures given { OnOk result (self.new.given.items ≡ replicate clauses 2) }
-        ensures frames { OnOk result ((g h : GroupValue) → self.old.first.groups.items ≡ g ∷ []
-            → self.old.second.groups.items ≡ h ∷ []
-            → self.new.frames.items ≡ Some (record { first = g; second = h }) ∷ []) }
-    {
-        push_parts(&mut self.parts, &self.copied)?;
-        push_given(&mut self.given, clauses)?;
-        let sides = Sides {
-            first: self.first.groups[0],
-            second: self.second.groups[0],
-        };
-        self.frames.push(Some(sides))?;
-        Ok(())
-    }
-
     /// On how many sides a clause was given.
     pub(crate) fn sides_of(&self, number: u64) -> u8
         requires { 1 ≤ number }
@@ -100,6 +71,7 @@ impl Padoa {
             → IsStanding all numbered f (store_of self.old) log.old.entries
             → IsFollowing all numbered (store_of self.old) log.old (store_of self.new) log.new }
         ensures same { self.new ≡ record self.old { frames = self.new.frames } }
+        ensures long { length self.new.frames.items ≡ length self.old.frames.items }
         ensures opened { OnOk result ((sides : SidesValue)
             × (slice_get self.new.frames.items frame ≡ Some (Some sides))) }
     {
@@ -113,34 +85,6 @@ impl Padoa {
         self.frames[place] = Some(Sides { first, second });
         Ok(())
     }
-}
-
-// How many parts of the copies stand, by flags of what has copies.
-fn push_parts(parts: &mut Vec<u8>, copied: &[bool]) -> Result<(), Memory>
-    requires { parts.old.items ≡ [] }
-    ensures { OnOk result (parts.new.items ≡ map parts_of copied.now) }
-{
-    for flag in copied {
-        parts.push(parts_by(*flag))?;
-    }
-    Ok(())
-}
-
-fn parts_by(copied: bool) -> u8
-    ensures { result ≡ parts_of copied }
-{
-    if copied { 5 } else { 0 }
-}
-
-// So many clauses that were given on both sides.
-fn push_given(given: &mut Vec<u8>, clauses: usize) -> Result<(), Memory>
-    requires { given.old.items ≡ [] }
-    ensures { OnOk result (given.new.items ≡ replicate clauses 2) }
-{
-    for _ in 0..clauses {
-        given.push(2)?;
-    }
-    Ok(())
 }
 
 // Makes a list of numbers at least so long.

@@ -12,7 +12,7 @@
 //! In a session clauses come and go in frames, each of which has a group on either side. A clause is
 //! given when it is first live, a universal gets copies when it first stands in such a clause, and
 //! the groups of the live frames alone are active (N. Eén, N. Sörensson, "Temporal induction by
-//! incremental SAT solving", 2003).
+//! incremental SAT solving", 2003). The copies of a file are made in the same way, in the frame 0.
 #![tactic(auto)]
 
 pub use copies::{MatrixCopy, copied_variable};
@@ -29,13 +29,10 @@ mod defining;
 mod following;
 mod forcing;
 mod frames;
-mod giving;
 mod guessing;
 pub mod laws;
-mod links;
 mod padoa;
 mod parts;
 mod reading;
 mod searching;
 mod seeing;
-mod standing;

@@ -3,22 +3,23 @@
 //! A universal that stands in no clause has no copies and no equation: it takes a flag and three
 //! words. Whether the matrix is true doesn't depend on it, and so no question needs it.
 
-ghost use Rattle.std.specs.Prelude.{◌≡◌, ℕ, List, true, All, Contains, IfOk, OnOk, None, length, replicate};
+ghost use Rattle.std.specs.Prelude.{◌≡◌, ◌≤◌, ◌<◌, ◌+◌, ◌∷◌, [], ℕ, true, false, All, IfOk, OnOk, None, Some, length, replicate, slice_get};
 ghost use Rattle.std.specs.List.{range_with_len};
-ghost use Rattle.dq_lits.specs.Literal.{Literal, variable_of};
 ghost use Rattle.dq_lits.specs.Formula.{IsWellFormed};
 ghost use Rattle.hint_log.specs.Entries.{name_of};
 ghost use Rattle.hint_log.specs.Growth.{Grew};
 ghost use Rattle.log_laws.specs.Engines.{copies, IsAddedBy, HasNone};
-ghost use Rattle.padoa_definitions.specs.Copies.{IsCopied, IsPadoa, IsWhole, groups_of};
-ghost use Rattle.padoa_definitions.specs.Following.{AreGiven};
+ghost use Rattle.padoa_definitions.specs.Copies.{IsPadoa, IsWhole, groups_of};
+ghost use Rattle.padoa_definitions.specs.Following.{AreGiven, IsFollowing, IsStanding};
 ghost use Rattle.padoa_definitions.specs.Growing.{HasCopied, HasFewFaults};
-ghost use Rattle.padoa_definitions.specs.Store.{IsCopyStore, copy_groups, store_of};
+ghost use Rattle.padoa_definitions.specs.Making.{AreFileCopies, AreGivenBefore, HasMoreGiven, HasNoCopies, HasNothing, IsAllGiven, IsFileActive, IsFileMade, CanGiveFile};
+ghost use Rattle.padoa_definitions.specs.Store.{HasGiven, IsCopyStore, copy_groups, store_of};
+ghost use Rattle.padoa_definitions.specs.declared.frames.Sides.{Sides as SidesValue};
 
 use crate::copies::MatrixCopy;
+use crate::following::LiveClause;
 use crate::frames::Sides;
-use crate::giving::Setup;
-use crate::standing::{all_flags, standing};
+use crate::seeing::declared_count;
 use dq_formula::Formula;
 use dq_lits::Memory;
 use hint_log::Log;
@@ -37,7 +38,7 @@ pub struct Padoa {
     pub(crate) copied: Vec<bool>,
     /// The groups of the equations, universals first.
     pub(crate) links: Vec<Group>,
-    // How many parts of a universal's copies were made: the first copy, the second, the group of
+    // How many parts of a variable's copies were made: the first copy, the second, the group of
     // their equation, and the equation's two clauses. Where memory was wanting between two of them,
     // the next call goes on there.
     pub(crate) parts: Vec<u8>,
@@ -73,8 +74,9 @@ impl Padoa {
         ensures given { IfOk result
             (λ p. AreGiven (store_of p) (range_with_len 1 (length f.now.matrix))) }
     {
-        let copied = standing(alloc, f)?;
-        Padoa::with_copies(alloc, oracle, f, copied, log)
+        f.every_formula_is_lawful();
+        let padoa = Padoa::with_copies(alloc, oracle, f, f.universals().len(), log)?;
+        Ok(padoa)
     }
 
     /// The same with copies of all variables, for questions on functions that may read them.
@@ -102,61 +104,202 @@ impl Padoa {
             (λ p. AreGiven (store_of p) (range_with_len 1 (length f.now.matrix))) }
         ensures whole { IfOk result (IsWhole f.now) }
     {
-        let copied = all_flags(alloc, f)?;
-        Padoa::with_copies(alloc, oracle, f, copied, log)
+        let padoa = Padoa::with_copies(alloc, oracle, f, 0, log)?;
+        Ok(padoa)
     }
 
-    // Gives the copies of the universals with a flag, and of the existentials.
+    // Gives the copies, of the variables that stand in clauses, and of those from a place on.
     fn with_copies<O: Oracle>(
         alloc: Global,
         oracle: &mut O,
         f: &Formula,
-        copied: Vec<bool>,
+        from: usize,
         log: &mut Log,
     ) -> Result<Padoa, Memory>
         requires fit { O.Fits oracle.old log.old }
         requires formula { IsWellFormed f.now }
         requires none { HasNone copies log.old.entries }
         requires few { HasFewFaults log.old.entries }
-        requires as_many { length copied.items ≡ length f.now.universals }
-        requires covered { (clause : List Literal) → Contains f.now.matrix clause
-            → All (λ l. IsCopied f.now copied.items (variable_of l)) clause }
+        requires from { from ≤ length f.now.universals }
         ensures fit { O.Fits oracle.new log.new }
-        ensures grew { (group : ℕ)
-            → Grew (IsAddedBy f.now copies group true log.old.entries) log.old log.new }
-        ensures only { OnOk result (HasCopied log.old.entries log.new.entries) }
-        ensures made { IfOk result (λ p. IsPadoa f.now p log.new.entries) }
-        ensures fresh { IfOk result
-            (λ p. All (λ g. name_of log.old.entries g ≡ None) (groups_of p)) }
-        ensures all_active { IfOk result (λ p. copy_groups p ≡ groups_of p) }
-        ensures store { IfOk result (λ p.
-            IsCopyStore f.now (replicate (length f.now.matrix) 0) p log.new.entries) }
-        ensures given { IfOk result
-            (λ p. AreGiven (store_of p) (range_with_len 1 (length f.now.matrix))) }
-        ensures flags { IfOk result (λ p. p.copied.items ≡ copied.items) }
+        ensures made { IsFileMade f.now log.old log.new }
+        ensures copies { IfOk result (AreFileCopies f.now from log.old log.new) }
     {
-        let who = oracle.tenant()?;
-        let setup = Setup {
-            alloc,
-            who: &who,
-            f,
-            flags: &copied,
-        };
-        let first = setup.copy_matrix(oracle, 1, log)?;
-        let second = setup.copy_matrix(oracle, 2, log)?;
-        let spare = first.groups[0];
-        let links = setup.link_copies(oracle, &first, &second, &spare, log)?;
         let mut padoa = Padoa {
             alloc,
-            first,
-            second,
-            copied,
-            links,
+            first: MatrixCopy::new(alloc),
+            second: MatrixCopy::new(alloc),
+            copied: Vec::new(alloc),
+            links: Vec::new(alloc),
             parts: Vec::new(alloc),
             given: Vec::new(alloc),
             frames: Vec::new(alloc),
         };
-        padoa.note_file(f.clauses())?;
+        padoa.copy_file(oracle, f, from, log)?;
         Ok(padoa)
     }
+
+    // Makes the copies of a file, where there are none.
+    fn copy_file<O: Oracle>(
+        &mut self,
+        oracle: &mut O,
+        f: &Formula,
+        from: usize,
+        log: &mut Log,
+    ) -> Result<(), Memory>
+        requires fit { O.Fits oracle.old log.old }
+        requires formula { IsWellFormed f.now }
+        requires none { HasNone copies log.old.entries }
+        requires few { HasFewFaults log.old.entries }
+        requires from { from ≤ length f.now.universals }
+        requires nothing { HasNothing self.old }
+        ensures fit { O.Fits oracle.new log.new }
+        ensures made { IsFileMade f.now log.old log.new }
+        ensures copies { OnOk result (AreFileCopies f.now from log.old log.new self.new) }
+    {
+        let who = oracle.tenant()?;
+        let spare = oracle.group(&who, log)?;
+        self.make_places(f, &spare)?;
+        self.give_file(oracle, f, from, log)?;
+        self.activate_file()?;
+        Ok(())
+    }
+
+    // Makes places for the copies of all variables and for all clauses.
+    fn make_places(&mut self, f: &Formula, spare: &Group) -> Result<(), Memory>
+        requires nothing { HasNothing self.old }
+        ensures { OnOk result (HasNoCopies f.now spare.now self.new) }
+    {
+        let declared = declared_count(f);
+        self.first.make_places(self.alloc, f)?;
+        self.second.make_places(self.alloc, f)?;
+        self.copied = no_flags(self.alloc, f.universals().len())?;
+        self.parts = zeros(self.alloc, declared)?;
+        self.given = zeros(self.alloc, f.clauses())?;
+        self.links = same_groups(self.alloc, spare, declared)?;
+        self.frames = no_frame(self.alloc)?;
+        Ok(())
+    }
+
+    // Makes the groups of the frame 0, the copies of variables, and then those of all clauses.
+    fn give_file<O: Oracle>(
+        &mut self,
+        oracle: &mut O,
+        f: &Formula,
+        from: usize,
+        log: &mut Log,
+    ) -> Result<(), Memory>
+        requires fit { O.Fits oracle.old log.old }
+        requires formula { IsWellFormed f.now }
+        requires standing { IsStanding f.now (replicate (length f.now.matrix) 0) f.now
+            (store_of self.old) log.old.entries }
+        requires from { from ≤ length f.now.universals }
+        requires given { length self.old.given.items ≡ length f.now.matrix }
+        requires frames { length self.old.frames.items ≡ 1 }
+        ensures fit { O.Fits oracle.new log.new }
+        ensures following { IsFollowing f.now (replicate (length f.now.matrix) 0)
+            (store_of self.old) log.old (store_of self.new) log.new }
+        ensures given { OnOk result (IsAllGiven f.now from self.new) }
+        ensures first_groups { self.new.first.groups ≡ self.old.first.groups }
+        ensures second_groups { self.new.second.groups ≡ self.old.second.groups }
+    {
+        self.open_frame(oracle, 0, log)?;
+        self.copy_places(oracle, f, from, log)?;
+        self.give_matrix(oracle, f, log)
+    }
+
+    // Gives the copies of all clauses, in the frame 0.
+    fn give_matrix<O: Oracle>(
+        &mut self,
+        oracle: &mut O,
+        f: &Formula,
+        log: &mut Log,
+    ) -> Result<(), Memory>
+        requires fit { O.Fits oracle.old log.old }
+        requires formula { IsWellFormed f.now }
+        requires open_file { CanGiveFile f.now self.old log.old.entries }
+        ensures fit { O.Fits oracle.new log.new }
+        ensures more { HasMoreGiven f.now self.old log.old self.new log.new }
+        ensures given { OnOk result (AreGivenBefore (store_of self.new) (length f.now.matrix)) }
+    {
+        for place in 0..f.clauses() {
+            self.give_clause(oracle, f, place, log)?;
+        }
+        Ok(())
+    }
+
+    // Gives the copies of a clause, by its place, in the frame 0.
+    fn give_clause<O: Oracle>(
+        &mut self,
+        oracle: &mut O,
+        f: &Formula,
+        place: usize,
+        log: &mut Log,
+    ) -> Result<(), Memory>
+        requires fit { O.Fits oracle.old log.old }
+        requires formula { IsWellFormed f.now }
+        requires open_file { CanGiveFile f.now self.old log.old.entries }
+        requires place { place < length f.now.matrix }
+        ensures fit { O.Fits oracle.new log.new }
+        ensures more { HasMoreGiven f.now self.old log.old self.new log.new }
+        ensures given { OnOk result (HasGiven (store_of self.new) 2 (place + 1)) }
+    {
+        f.every_formula_is_lawful();
+        let clause = LiveClause {
+            place,
+            number: place as u64 + 1,
+            frame: 0,
+        };
+        self.copy_variables(oracle, f, f.clause(place), log)?;
+        self.give_sides(oracle, f, clause, log)
+    }
+
+    // Makes the groups of the frame 0 the active ones.
+    fn activate_file(&mut self) -> Result<(), Memory>
+        requires opened { (sides : SidesValue)
+            × (slice_get self.old.frames.items 0 ≡ Some (Some sides)) }
+        requires first { self.old.first.groups.items ≡ [] }
+        requires second { self.old.second.groups.items ≡ [] }
+        ensures { OnOk result (IsFileActive self.old self.new) }
+    {
+        let first = self.frame_group(0, 1);
+        let second = self.frame_group(0, 2);
+        self.first.groups.push(first)?;
+        self.second.groups.push(second)?;
+        Ok(())
+    }
+}
+
+// So many flags, and none is set.
+fn no_flags(alloc: Global, count: usize) -> Result<Vec<bool>, Memory>
+    ensures { IfOk result (λ flags. flags.items ≡ replicate count false) }
+{
+    Ok(vec![in alloc; false; count]?)
+}
+
+// So many zeros.
+fn zeros(alloc: Global, count: usize) -> Result<Vec<u8>, Memory>
+    ensures { IfOk result (λ zeros. zeros.items ≡ replicate count 0) }
+{
+    Ok(vec![in alloc; 0; count]?)
+}
+
+// A group so many times.
+fn same_groups(alloc: Global, group: &Group, count: usize) -> Result<Vec<Group>, Memory>
+    ensures { IfOk result (λ groups. groups.items ≡ replicate count group.now) }
+{
+    let mut groups = Vec::new(alloc);
+    for _ in 0..count {
+        groups.push(*group)?;
+    }
+    Ok(groups)
+}
+
+// A frame without groups.
+fn no_frame(alloc: Global) -> Result<Vec<Option<Sides>>, Memory>
+    ensures { IfOk result (λ frames. frames.items ≡ None ∷ []) }
+{
+    let mut frames = Vec::new(alloc);
+    frames.push(None)?;
+    Ok(frames)
 }

@@ -1,23 +1,46 @@
-//! Copies of universals that come to stand in a clause, and equations between them, part by part.
+//! Copies of variables that come to stand in a clause, and equations between them, part by part.
 
-ghost use Rattle.std.specs.Prelude.{◌≡◌, ◌⊎◌, ◌≤◌, ◌<◌, ◌+◌, ◌∷◌, [], ℕ, List, true, All, Contains, length, OnOk, Some, slice_get};
-ghost use Rattle.dq_lits.specs.Formula.{Dqbf, HasLawfulPrefix, declared};
+ghost use Rattle.std.specs.Prelude.{◌≡◌, ◌⊎◌, ◌≤◌, ◌<◌, ◌+◌, List, true, All, length, set, OnOk};
+ghost use Rattle.dq_lits.specs.Formula.{declared};
 ghost use Rattle.dq_lits.specs.Literal.{variable_of};
 ghost use Rattle.hint_log.specs.Entries.{Entry};
 ghost use Rattle.hint_log.specs.Naming.{AreNamedAs};
 ghost use Rattle.hint_log.specs.Origins.{link_names};
 ghost use Rattle.padoa_definitions.specs.Copies.{AreTwins, IsCopied, is_copied_at};
-ghost use Rattle.padoa_definitions.specs.Following.{IsFollowing, IsStanding};
+ghost use Rattle.padoa_definitions.specs.Following.{CanFollow, HasMore};
+ghost use Rattle.padoa_definitions.specs.Making.{AreCopiedFrom};
 ghost use Rattle.padoa_definitions.specs.Store.{parts_at, store_of};
 
 use crate::copies::Twins;
 use crate::padoa::Padoa;
+use crate::seeing::{declared_at, declared_count};
 use dq_formula::Formula;
 use dq_lits::{Lit, Memory};
 use hint_log::{Log, Name, Origin};
 use oracle::Oracle;
 
 impl Padoa {
+    /// Makes the copies of the declared variables from a place on that have none yet, with their
+    /// equations.
+    pub(crate) fn copy_places<O: Oracle>(
+        &mut self,
+        oracle: &mut O,
+        f: &Formula,
+        from: usize,
+        log: &mut Log,
+    ) -> Result<(), Memory>
+        requires fit { O.Fits oracle.old log.old }
+        requires standing { CanFollow f.now self.old log.old.entries }
+        ensures fit { O.Fits oracle.new log.new }
+        ensures more { HasMore f.now self.old log.old self.new log.new }
+        ensures copied { OnOk result (AreCopiedFrom from self.new) }
+    {
+        for place in from..declared_count(f) {
+            self.copy_place(oracle, f, place, log)?;
+        }
+        Ok(())
+    }
+
     /// Makes the copies of a clause's universals that have none yet, with their equations.
     pub(crate) fn copy_variables<O: Oracle>(
         &mut self,
@@ -27,14 +50,9 @@ impl Padoa {
         log: &mut Log,
     ) -> Result<(), Memory>
         requires fit { O.Fits oracle.old log.old }
-        requires standing { (all : Dqbf) × (numbered : List ℕ)
-            × IsStanding all numbered f.now (store_of self.old) log.old.entries }
+        requires standing { CanFollow f.now self.old log.old.entries }
         ensures fit { O.Fits oracle.new log.new }
-        ensures following { (all : Dqbf) (numbered : List ℕ)
-            → IsStanding all numbered f.now (store_of self.old) log.old.entries
-            → IsFollowing all numbered (store_of self.old) log.old (store_of self.new) log.new }
-        ensures same_given { self.new.given ≡ self.old.given }
-        ensures same_frames { self.new.frames ≡ self.old.frames }
+        ensures more { HasMore f.now self.old log.old self.new log.new }
         ensures covered { OnOk result
             (All (λ l. IsCopied f.now self.new.copied.items (variable_of l)) clause.now) }
     {
@@ -53,28 +71,23 @@ impl Padoa {
         log: &mut Log,
     ) -> Result<(), Memory>
         requires fit { O.Fits oracle.old log.old }
-        requires standing { (all : Dqbf) × (numbered : List ℕ)
-            × IsStanding all numbered f.now (store_of self.old) log.old.entries }
+        requires standing { CanFollow f.now self.old log.old.entries }
         ensures fit { O.Fits oracle.new log.new }
-        ensures following { (all : Dqbf) (numbered : List ℕ)
-            → IsStanding all numbered f.now (store_of self.old) log.old.entries
-            → IsFollowing all numbered (store_of self.old) log.old (store_of self.new) log.new }
-        ensures same_given { self.new.given ≡ self.old.given }
-        ensures same_frames { self.new.frames ≡ self.old.frames }
+        ensures more { HasMore f.now self.old log.old self.new log.new }
         ensures covered { OnOk result (IsCopied f.now self.new.copied.items v) }
     {
         f.every_formula_is_lawful();
         match f.universal_place(v) {
             Some(place) => {
-                self.copy_universal(oracle, f, place, log)?;
+                self.copy_place(oracle, f, place, log)?;
                 Ok(())
             }
             None => Ok(()),
         }
     }
 
-    // Makes the parts of a universal's copies that it lacks.
-    fn copy_universal<O: Oracle>(
+    // Makes the parts that the copies of the variable at a place lack.
+    fn copy_place<O: Oracle>(
         &mut self,
         oracle: &mut O,
         f: &Formula,
@@ -82,22 +95,30 @@ impl Padoa {
         log: &mut Log,
     ) -> Result<(), Memory>
         requires fit { O.Fits oracle.old log.old }
-        requires standing { (all : Dqbf) × (numbered : List ℕ)
-            × IsStanding all numbered f.now (store_of self.old) log.old.entries }
-        requires place { place < length f.now.universals }
+        requires standing { CanFollow f.now self.old log.old.entries }
+        requires place { place < length (declared f.now) }
         ensures fit { O.Fits oracle.new log.new }
-        ensures following { (all : Dqbf) (numbered : List ℕ)
-            → IsStanding all numbered f.now (store_of self.old) log.old.entries
-            → IsFollowing all numbered (store_of self.old) log.old (store_of self.new) log.new }
-        ensures same_given { self.new.given ≡ self.old.given }
-        ensures same_frames { self.new.frames ≡ self.old.frames }
+        ensures more { HasMore f.now self.old log.old self.new log.new }
+        ensures parts { OnOk result (5 ≤ parts_at (store_of self.new) place) }
         ensures copied { OnOk result (is_copied_at self.new.copied.items place ≡ true) }
     {
         for part in self.parts[place]..5 {
             self.add_part(oracle, f, place, part, log)?;
         }
-        self.copied[place] = true;
+        self.flag(place);
         Ok(())
+    }
+
+    // Notes that the variable at a place has copies: existentials have no flags.
+    fn flag(&mut self, place: usize)
+        ensures same { self.new ≡ record self.old { copied = self.new.copied } }
+        ensures flag { place < length self.old.copied.items
+            → self.new.copied.items ≡ set self.old.copied.items place true }
+        ensures none { length self.old.copied.items ≤ place → self.new ≡ self.old }
+    {
+        if place < self.copied.len() {
+            self.copied[place] = true;
+        }
     }
 
     // Makes the part behind so many.
@@ -110,17 +131,12 @@ impl Padoa {
         log: &mut Log,
     ) -> Result<(), Memory>
         requires fit { O.Fits oracle.old log.old }
-        requires standing { (all : Dqbf) × (numbered : List ℕ)
-            × IsStanding all numbered f.now (store_of self.old) log.old.entries }
-        requires place { place < length f.now.universals }
+        requires standing { CanFollow f.now self.old log.old.entries }
+        requires place { place < length (declared f.now) }
         requires so_far { parts_at (store_of self.old) place ≡ part }
         requires few { part < 5 }
         ensures fit { O.Fits oracle.new log.new }
-        ensures following { (all : Dqbf) (numbered : List ℕ)
-            → IsStanding all numbered f.now (store_of self.old) log.old.entries
-            → IsFollowing all numbered (store_of self.old) log.old (store_of self.new) log.new }
-        ensures same_given { self.new.given ≡ self.old.given }
-        ensures same_frames { self.new.frames ≡ self.old.frames }
+        ensures more { HasMore f.now self.old log.old self.new log.new }
         ensures part { OnOk result (parts_at (store_of self.new) place ≡ part + 1) }
     {
         match part {
@@ -132,7 +148,7 @@ impl Padoa {
         }
     }
 
-    // Names the first copy of the universal at a place.
+    // Names the first copy of the variable at a place.
     fn name_first<O: Oracle>(
         &mut self,
         oracle: &mut O,
@@ -141,30 +157,25 @@ impl Padoa {
         log: &mut Log,
     ) -> Result<(), Memory>
         requires fit { O.Fits oracle.old log.old }
-        requires standing { (all : Dqbf) × (numbered : List ℕ)
-            × IsStanding all numbered f.now (store_of self.old) log.old.entries }
-        requires place { place < length f.now.universals }
+        requires standing { CanFollow f.now self.old log.old.entries }
+        requires place { place < length (declared f.now) }
         requires so_far { parts_at (store_of self.old) place ≡ 0 }
         ensures fit { O.Fits oracle.new log.new }
-        ensures following { (all : Dqbf) (numbered : List ℕ)
-            → IsStanding all numbered f.now (store_of self.old) log.old.entries
-            → IsFollowing all numbered (store_of self.old) log.old (store_of self.new) log.new }
-        ensures same_given { self.new.given ≡ self.old.given }
-        ensures same_frames { self.new.frames ≡ self.old.frames }
+        ensures more { HasMore f.now self.old log.old self.new log.new }
         ensures part { OnOk result (parts_at (store_of self.new) place ≡ 1) }
     {
         f.every_formula_is_lawful();
         let name = Name::Copy {
             side: 1,
-            variable: f.universals()[place],
+            variable: declared_at(f, place),
         };
         let v = oracle.new_var(name, log)?;
-        self.first.universals[place] = Lit::pos(v);
+        self.first.put(place, Lit::pos(v));
         self.parts[place] = 1;
         Ok(())
     }
 
-    // Names the second copy of the universal at a place.
+    // Names the second copy of the variable at a place.
     fn name_second<O: Oracle>(
         &mut self,
         oracle: &mut O,
@@ -173,30 +184,25 @@ impl Padoa {
         log: &mut Log,
     ) -> Result<(), Memory>
         requires fit { O.Fits oracle.old log.old }
-        requires standing { (all : Dqbf) × (numbered : List ℕ)
-            × IsStanding all numbered f.now (store_of self.old) log.old.entries }
-        requires place { place < length f.now.universals }
+        requires standing { CanFollow f.now self.old log.old.entries }
+        requires place { place < length (declared f.now) }
         requires so_far { parts_at (store_of self.old) place ≡ 1 }
         ensures fit { O.Fits oracle.new log.new }
-        ensures following { (all : Dqbf) (numbered : List ℕ)
-            → IsStanding all numbered f.now (store_of self.old) log.old.entries
-            → IsFollowing all numbered (store_of self.old) log.old (store_of self.new) log.new }
-        ensures same_given { self.new.given ≡ self.old.given }
-        ensures same_frames { self.new.frames ≡ self.old.frames }
+        ensures more { HasMore f.now self.old log.old self.new log.new }
         ensures part { OnOk result (parts_at (store_of self.new) place ≡ 2) }
     {
         f.every_formula_is_lawful();
         let name = Name::Copy {
             side: 2,
-            variable: f.universals()[place],
+            variable: declared_at(f, place),
         };
         let v = oracle.new_var(name, log)?;
-        self.second.universals[place] = Lit::pos(v);
+        self.second.put(place, Lit::pos(v));
         self.parts[place] = 2;
         Ok(())
     }
 
-    // Makes the group of an equation, for the universal at a place.
+    // Makes the group of an equation, for the variable at a place.
     fn open_link<O: Oracle>(
         &mut self,
         oracle: &mut O,
@@ -205,16 +211,11 @@ impl Padoa {
         log: &mut Log,
     ) -> Result<(), Memory>
         requires fit { O.Fits oracle.old log.old }
-        requires standing { (all : Dqbf) × (numbered : List ℕ)
-            × IsStanding all numbered f.now (store_of self.old) log.old.entries }
-        requires place { place < length f.now.universals }
+        requires standing { CanFollow f.now self.old log.old.entries }
+        requires place { place < length (declared f.now) }
         requires so_far { parts_at (store_of self.old) place ≡ 2 }
         ensures fit { O.Fits oracle.new log.new }
-        ensures following { (all : Dqbf) (numbered : List ℕ)
-            → IsStanding all numbered f.now (store_of self.old) log.old.entries
-            → IsFollowing all numbered (store_of self.old) log.old (store_of self.new) log.new }
-        ensures same_given { self.new.given ≡ self.old.given }
-        ensures same_frames { self.new.frames ≡ self.old.frames }
+        ensures more { HasMore f.now self.old log.old self.new log.new }
         ensures part { OnOk result (parts_at (store_of self.new) place ≡ 3) }
     {
         f.every_formula_is_lawful();
@@ -225,7 +226,7 @@ impl Padoa {
         Ok(())
     }
 
-    // Gives half of an equation, for the universal at a place.
+    // Gives half of an equation, for the variable at a place.
     fn give_half<O: Oracle>(
         &mut self,
         oracle: &mut O,
@@ -235,24 +236,19 @@ impl Padoa {
         log: &mut Log,
     ) -> Result<(), Memory>
         requires fit { O.Fits oracle.old log.old }
-        requires standing { (all : Dqbf) × (numbered : List ℕ)
-            × IsStanding all numbered f.now (store_of self.old) log.old.entries }
-        requires place { place < length f.now.universals }
+        requires standing { CanFollow f.now self.old log.old.entries }
+        requires place { place < length (declared f.now) }
         requires half { (half ≡ 1) ⊎ (half ≡ 2) }
         requires so_far { parts_at (store_of self.old) place ≡ half + 2 }
         ensures fit { O.Fits oracle.new log.new }
-        ensures following { (all : Dqbf) (numbered : List ℕ)
-            → IsStanding all numbered f.now (store_of self.old) log.old.entries
-            → IsFollowing all numbered (store_of self.old) log.old (store_of self.new) log.new }
-        ensures same_given { self.new.given ≡ self.old.given }
-        ensures same_frames { self.new.frames ≡ self.old.frames }
+        ensures more { HasMore f.now self.old log.old self.new log.new }
         ensures part { OnOk result (parts_at (store_of self.new) place ≡ half + 3) }
     {
         f.every_formula_is_lawful();
         let twins = Twins {
-            variable: f.universals()[place],
-            first: self.first.universals[place],
-            second: self.second.universals[place],
+            variable: declared_at(f, place),
+            first: self.first.copy_at(place),
+            second: self.second.copy_at(place),
         };
         let group = self.links[place];
         let origin = Origin::Link {

@@ -13,6 +13,7 @@ use Rattle.list_laws.proofs.Quantified.{right-distinct}
 use Rattle.dq_lits.specs.Literal.{Assignment}
 use Rattle.dq_lits.specs.Formula.{Existential}
 use Rattle.dq_lits.specs.Henkin.{HenkinChoice, choice_value, restriction, same_bit}
+use Rattle.dq_lits.proofs.Followers.{map-agree}
 use Rattle.circuit_plain.specs.Netlist.{Netlist, literal_bit, literal_variable}
 use Rattle.circuit_plain.specs.declared.circuits.Gate.{Gate}
 use Rattle.circuit_plain.specs.Ground.{IsGrounded}
@@ -168,11 +169,6 @@ driven-value s i low high =
     ∙ ap (λ w. cond (nat_lt w (first_specified d)) (drive_of s.p w bits) (all_of s.p bits w)) is
     ∙ cond-true (nat_lt v (first_specified d)) (drive_of s.p v bits) (all_of s.p bits v) small
     ∙ ap (λ k. s.p.h (2 * input_of s.p k) bits) back
-
-map-agree : (m n : Assignment) (xs : List ℕ) → All (λ x. m x ≡ n x) xs → map m xs ≡ map n xs
-map-agree m n [] h = refl
-map-agree m n (x ∷ xs) h = ap (λ b. b ∷ map m xs) (h 0 x (omega arith))
-    ∙ ap (λ bs. n x ∷ bs) (map-agree m n xs (λ k d below. h (suc k) d (omega (arith, below))))
 
 -- the copies that a driven input sees have their bits in the row
 copies-in-row : (s : Site) (out : ℕ) → map s.m (copies_for (first_copy s.p.d) s.p.d.boxes out)

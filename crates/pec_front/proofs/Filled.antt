@@ -5,12 +5,13 @@ use Rattle.std.specs.Prelude.{slice_index}
 use Rattle.std.proofs.Math.ListN.{get_or-append}
 use Rattle.std.proofs.lemmas.Bool.{lt-ltb, le-ltb, ltb-true, ltb-false, cond-true, cond-false}
 use Rattle.std.proofs.lemmas.List.{length-map}
-use Rattle.std.proofs.lemmas.List.Elements.{All-head, All-tail, All-contains, All-from_recursion, All-map}
+use Rattle.std.proofs.lemmas.List.Elements.{All-contains, All-from_recursion, All-map}
 use Rattle.std.proofs.lemmas.List.FromFn.{get_or-range_with_len, length-range_with_len, get_or-map-range_with_len}
 use Rattle.list_laws.proofs.Sequences.{all_behind, all_before}
 use Rattle.dq_lits.specs.Literal.{Assignment}
 use Rattle.dq_lits.specs.Formula.{Existential, Dqbf, HasLawfulPrefix}
 use Rattle.dq_lits.specs.Henkin.{HenkinChoice, Follows, Solves, choice_value, same_bits}
+use Rattle.dq_lits.proofs.Followers.{map-agree}
 use Rattle.circuit_plain.specs.Netlist.{literal_bit, literal_variable}
 use Rattle.circuit_plain.specs.Ground.{IsGrounded}
 use Rattle.circuit_plain.specs.Value.{IsValuation, GroundedHaveValues, ValuationsAgree}
@@ -75,12 +76,6 @@ copy-bit c j below =
     ∙ cond-false (nat_lt v (first_copy c.d)) (c.bits (v - 1))
     (literal_bit c.mi (get_or (signals c.d.boxes) (v - first_copy c.d) 0)) late
     ∙ ap (λ k. literal_bit c.mi (get_or (signals c.d.boxes) k 0)) back
-
-map-agree : (m n : Assignment) (xs : List ℕ) → All (λ x. m x ≡ n x) xs → map m xs ≡ map n xs
-map-agree m n [] h = refl
-map-agree m n (x ∷ xs) h =
-    ap (λ b. b ∷ map m xs) (All-head (λ z. m z ≡ n z) x xs h)
-    ∙ ap (λ bs. n x ∷ bs) (map-agree m n xs (All-tail (λ z. m z ≡ n z) x xs h))
 
 driven-bit : (c : Case) (i : ℕ) → inputs_of c.d ≤ i → i < length c.d.implementation.inputs
     → c.a (implemented_input c.d i) ≡ c.mi (get_or c.d.implementation.inputs i 0)

@@ -54,6 +54,7 @@ impl<'c> Design<'c> {
     pub fn every_design_is_lawful(&self)
         ensures { IsLawfulDesign self.now }
     {
+        // A look at a field shows the invariant.
         let _ = &self.boxes;
     }
 

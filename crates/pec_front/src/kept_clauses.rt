@@ -71,6 +71,7 @@ pub(crate) fn add_clause(
     if clause.contains(&1) {
         return Ok(());
     }
+    // The call shows the formula's invariant.
     let _ = f.vars();
     buffer.clear();
     for literal in clause {
@@ -89,6 +90,7 @@ pub(crate) fn add_gate(f: &mut Formula, buffer: &mut Vec<Lit>, gate: Gate) -> Re
         (f.new ≡ record f.old { matrix = f.old.matrix ++ kept (gate_clauses gate) }) }
     ensures few { OnOk result (length f.new.matrix ≤ length f.old.matrix + 3) }
 {
+    // The call shows the formula's invariant.
     let _ = f.vars();
     let variable = 2 * gate.variable;
     let never = opposite_of(variable);
@@ -115,6 +117,7 @@ pub(crate) fn add_agreement(
         (f.new ≡ record f.old { matrix = f.old.matrix ++ kept (agreement_clauses flag a b) }) }
     ensures few { OnOk result (length f.new.matrix ≤ length f.old.matrix + 4) }
 {
+    // The call shows the formula's invariant.
     let _ = f.vars();
     let agree = 2 * flag;
     let differ = opposite_of(agree);

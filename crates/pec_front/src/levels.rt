@@ -123,6 +123,7 @@ impl<'v> Levels<'v> {
         ensures sized { IsSized self.new }
         ensures variables { SameVariables self.old self.new }
     {
+        // Only the contract speaks of it.
         let _ = circuit;
         for (i, black_box) in boxes.iter().enumerate() {
             self.mark(black_box.outs(), i + 1);
@@ -138,6 +139,7 @@ impl<'v> Levels<'v> {
         requires marked { AreMarked circuit.now boxes.now (length boxes.now) (level_in self.old) }
         ensures latest { IsLatest circuit.now boxes.now (level_in self.new) }
     {
+        // Only the contract speaks of it.
         let _ = boxes;
         circuit.every_circuit_is_a_netlist();
         for place in order.places() {

@@ -75,6 +75,7 @@ fn declare_driven(
       existentials = map (driven_existential d) (range_with_len (inputs_of d) (driven_of d));
     }) }
 {
+    // The call shows the formula's invariant.
     let _ = f.vars();
     design.every_design_is_lawful();
     let inputs = design.implementation().inputs();
@@ -94,6 +95,7 @@ fn declare_universals(f: &mut Formula, count: u64) -> Result<(), Memory>
     requires in_range { count ≤ f.old.variables }
     ensures { OnOk result (f.new ≡ record f.old { universals = range_with_len 1 count }) }
 {
+    // The call shows the formula's invariant.
     let _ = f.vars();
     for x in 0..count {
         f.add_universal(1 + x)?;
@@ -111,6 +113,7 @@ fn declare_seeing_all(f: &mut Formula, first: u64, count: u64) -> Result<(), Mem
           ++ map (seeing f.old.universals) (range_with_len (first + 1) count);
     }) }
 {
+    // The call shows the formula's invariant.
     let _ = f.vars();
     for y in 0..count {
         f.add_first(first + 1 + y)?;

@@ -11,8 +11,9 @@ use Rattle.dq_io.specs.State.{FilesState}
 use Rattle.dq_lits.specs.Formula.{Dqbf}
 use Rattle.dq_lits.specs.declared.memory.Memory.{Memory as OutOfMemory}
 use Rattle.dq_runs.specs.FileTexts.{IsLong, IsShortText, IsUnreadable, IsTooLong, PickedOnce, PickedTwice}
-use Rattle.dq_runs.specs.Printed.{Printed, printed}
+use Rattle.dq_runs.specs.Printed.{printed}
 use Rattle.dq_runs.specs.declared.outputs.Output.{Output}
+use Rattle.dq_runs.proofs.SaidFormulas.{status_of}
 use Rattle.pec_runs.specs.DesignFiles.{max_circuit, IsNoDesign, IsDesignFormula, IsDesignRead}
 use Rattle.pec_runs.specs.Encoded.{IsEncodeOutput, printed_formula}
 use Rattle.pec_runs.specs.DesignTexts.{IsTextReading, spec_spelled, spec_faulty, no_room_for_spec, IsImplementationReading, imp_spelled, imp_faulty, no_room_for_imp, IsCircuitReading, circuits_make, design_refused, no_room_for_design}
@@ -122,15 +123,12 @@ read-both before mid now spec imp text r passes short (inr is) =
 
 -- ---- what is written
 
-status-of : (output : Output) (p : Printed) → printed output ≡ p → output.status ≡ p.status
-status-of output p same = ap (λ (q : Printed). q.status) same
-
 pub formula-written : (before now : FilesState) (spec imp : List ℕ) (f : Dqbf) (r : Result Output OutOfMemory)
     → IsDesignFormula (before.held spec) (before.held imp) f × PickedTwice before now → now.faults ≡ before.faults
     → IfOk r (λ output. printed output ≡ printed_formula f) → IfOk r (IsEncodeOutput before now spec imp)
 formula-written before now spec imp f (Ok output) is unfaulted same = record {
   due = inr (f, is.0, is.1, same);
-  long = λ six. let zero = status-of output (printed_formula f) same in absurd (omega (arith, six, zero));
+  long = λ six. let zero = status_of output (printed_formula f) same in absurd (omega (arith, six, zero));
   unfaulted = λ other. unfaulted;
 }
 formula-written before now spec imp f (Err e) is unfaulted same = tt

@@ -15,7 +15,8 @@ use Rattle.dq_runs.specs.Printed.{Printed, unreadable_line, long_line, fault_lin
 use Rattle.pec_front.specs.Formulas.{IsFormulaReading}
 use Rattle.pec_front.specs.declared.faults.PecFault.{PecFault}
 use Rattle.pec_front.specs.declared.faults.PecStop.TheVariants.{Refused}
-use Rattle.pec_runs.specs.RefusalNames.{circuit_fault_name, imp_fault_name}
+use Rattle.aiger_text.specs.FaultNames.{circuit_fault_name}
+use Rattle.pec_runs.specs.RefusalNames.{imp_fault_name}
 use Rattle.pec_runs.specs.declared.designs.DesignStop.{DesignStop}
 use Rattle.pec_runs.specs.declared.designs.DesignStop.TheVariants.{Memory, Said}
 use Rattle.pec_runs.specs.declared.designs.ImpFault.TheVariants.{Circuit, Design}

@@ -1,31 +1,17 @@
--- The names of the refusals of circuits and designs, as they are written.
+-- The names of the refusals of designs, as they are written.
 use Rattle.std.specs.Prelude.{ℕ, List, codes}
-use Rattle.aiger_text.specs.declared.faults.AagFault.{AagFault}
-use Rattle.aiger_text.specs.declared.faults.AagFault.TheVariants.{BadHeader, NotCombinational, BadLine, TooBig, Range, DefinedTwice, Undefined, Cyclic, BadSymbol, Truncated, BadDelta}
+use Rattle.aiger_text.specs.FaultNames.{circuit_fault_name}
 use Rattle.pec_front.specs.declared.faults.PecFault.{PecFault}
-use Rattle.pec_front.specs.declared.faults.PecFault.TheVariants.{InputShort, OutputCount, NoPec, Limit, Truncated as BoxesTruncated, BadBox, BoxTwice, BoxMissing, BoxOrder}
+use Rattle.pec_front.specs.declared.faults.PecFault.TheVariants.{InputShort, OutputCount, NoPec, Limit, Truncated, BadBox, BoxTwice, BoxMissing, BoxOrder}
 use Rattle.pec_runs.specs.declared.designs.ImpFault.{ImpFault}
 use Rattle.pec_runs.specs.declared.designs.ImpFault.TheVariants.{Circuit, Design}
-
-abbrev pub circuit_fault_name : AagFault → List ℕ
-circuit_fault_name BadHeader = codes "BadHeader"
-circuit_fault_name NotCombinational = codes "NotCombinational"
-circuit_fault_name BadLine = codes "BadLine"
-circuit_fault_name TooBig = codes "TooBig"
-circuit_fault_name Range = codes "Range"
-circuit_fault_name DefinedTwice = codes "DefinedTwice"
-circuit_fault_name Undefined = codes "Undefined"
-circuit_fault_name Cyclic = codes "Cyclic"
-circuit_fault_name BadSymbol = codes "BadSymbol"
-circuit_fault_name Truncated = codes "Truncated"
-circuit_fault_name BadDelta = codes "BadDelta"
 
 abbrev pub pec_fault_name : PecFault → List ℕ
 pec_fault_name InputShort = codes "InputShort"
 pec_fault_name OutputCount = codes "OutputCount"
 pec_fault_name NoPec = codes "NoPec"
 pec_fault_name Limit = codes "Limit"
-pec_fault_name BoxesTruncated = codes "Truncated"
+pec_fault_name Truncated = codes "Truncated"
 pec_fault_name BadBox = codes "BadBox"
 pec_fault_name BoxTwice = codes "BoxTwice"
 pec_fault_name BoxMissing = codes "BoxMissing"

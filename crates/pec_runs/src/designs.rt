@@ -6,7 +6,7 @@ ghost use Rattle.dq_runs.specs.Printed.{printed};
 ghost use Rattle.pec_runs.specs.DesignFiles.{max_circuit, IsDesignRead, IsUnreadableStop, design_line};
 ghost use Rattle.pec_runs.specs.TextFiles.{IsTextRead, IsUnreadableText, IsReadBehind};
 
-use crate::refusal_names::{circuit_fault_name, imp_fault_name};
+use crate::refusal_names::imp_fault_name;
 use crate::texts::formula_of_texts;
 use aiger_text::AagFault;
 use dq_formula::Formula;
@@ -54,7 +54,7 @@ impl NoDesign {
             NoDesign::LongSpec => too_long(alloc, "spec"),
             NoDesign::LongImp => too_long(alloc, "impl"),
             NoDesign::RefusedSpec { line, name } => {
-                faulty(alloc, REFUSED, "spec", line, circuit_fault_name(name))
+                faulty(alloc, REFUSED, "spec", line, name.name())
             }
             NoDesign::RefusedImp { line, name } => {
                 faulty(alloc, REFUSED, "impl", line, imp_fault_name(name))

@@ -98,6 +98,7 @@ impl<'f, 'c, 't> NegatedMatrix<'f, 'c, 't> {
             ≡ option_and_then without_constants (slice_get (formula_clauses self.now) i) }
     {
         let literals: &[(u64, Lit)] = self.literals;
+        // The call shows the formula's invariant.
         let _ = self.formula.clauses();
         if i < literals.len() as u64 {
             let entry = literals[i as usize];
@@ -131,6 +132,7 @@ impl<'f, 'c, 't> NegatedMatrix<'f, 'c, 't> {
         requires { i < length self.now.formula.matrix }
         ensures { slice_get (last_literals self.now) i ≡ Some result }
     {
+        // The call shows the formula's invariant.
         let _ = self.formula.clauses();
         Lit::pos(self.circuit.circuit().max_var() + 1 + i as u64)
     }

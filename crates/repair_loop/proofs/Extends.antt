@@ -13,12 +13,12 @@ use Rattle.dq_lits.specs.Skolem.{OutputFunction}
 use Rattle.dq_lits.specs.Expansion.{row_assignment, agree_on, pair_number, pair_literal, universal_literal_true, InstanceHolds, IsExpansionModel}
 use Rattle.dq_lits.proofs.Choices.{same_bits-sound, same_bits-refl}
 use Rattle.dq_lits.proofs.FormulaVariables.{find_sound}
+use Rattle.dq_lits.proofs.Followers.{find_own, existentials_once}
 use Rattle.hint_log.specs.ProductiveLog.{HasModelWith}
 use Rattle.expansion.specs.Table.{PointBits, ArePoints}
 use Rattle.candidate_functions.specs.Candidates.{AgreeAtPairs}
 use Rattle.circuit_cnf.specs.Failing.{IsFailure}
 use Rattle.candidate_functions.proofs.AtRows.{contains_mapped}
-use Rattle.expansion.proofs.FoundPoints.{find_own, existentials_once}
 use Rattle.log_laws.proofs.Found.{variable, slice_get_at, position_small}
 
 mapped_same : (g h : Existential → Bool) (ys : List Existential) → All (λ y. g y ≡ h y) ys → map g ys ≡ map h ys

@@ -2,9 +2,10 @@
 use Rattle.std.proofs.Common.{◌≡◌, ◌+◌, ◌≤◌, ◌<◌, ◌⊎◌, inl, inr, ℕ, zero, suc, List, [], ◌∷◌, ◌++◌, length, map, slice_get, Some, refl, sym, ◌∙◌, ap, arith, append_assoc}
 use Rattle.std.specs.List.{Contains, filter_map, cons_option, range_with_len}
 use Rattle.std.proofs.lemmas.Bool.{cases_lt}
-use Rattle.std.proofs.lemmas.List.{append-nil, length-append}
+use Rattle.std.proofs.lemmas.List.{append-nil}
 use Rattle.dq_lits.specs.Formula.{Dqbf}
 use Rattle.dq_lits.specs.Literal.{Literal}
+use Rattle.dq_formula.proofs.ClauseBlocks.{size}
 use Rattle.hint_log.specs.Live.{with_matrix, formula_of}
 use Rattle.hint_log.specs.Naming.{numbered_from_one}
 use Rattle.dq_session.specs.Books.{all_of, live_of, now_of}
@@ -20,16 +21,13 @@ at_end : (xs : List (List Literal)) (y : List Literal) (ys : List (List Literal)
 at_end [] y ys = refl
 at_end (x ∷ xs) y ys = at_end xs y ys
 
-one_longer : (xs : List (List Literal)) (y : List Literal) → length (xs ++ y ∷ []) ≡ length xs + 1
-one_longer xs y = length-append xs (y ∷ [])
-
 -- the clauses behind some are taken by their numbers
 behind : (front m : List (List Literal)) (a : ℕ) → a ≡ suc (length front) →
     filter_map (numbered_from_one (front ++ m)) (numbers a (length m)) ≡ m
 behind front [] a at = refl
 behind front (x ∷ m) a at =
     let whole : (front ++ x ∷ []) ++ m ≡ front ++ x ∷ m = append_assoc front (x ∷ []) m in
-    let long = one_longer front x in
+    let long = size front x in
     let next : a + 1 ≡ suc (length (front ++ x ∷ [])) = omega (arith, at, long) in
     let taken : filter_map (numbered_from_one (front ++ x ∷ m)) (numbers (a + 1) (length m)) ≡ m =
     ap (λ xs. filter_map (numbered_from_one xs) (numbers (a + 1) (length m))) (sym whole)

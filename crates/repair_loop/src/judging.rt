@@ -126,6 +126,7 @@ impl<'f, 'p> Search<'f, 'p> {
         ensures stopped { IsStoppedAs self.now.f.now book.now log.new result }
     {
         failures_are_rounds();
+        // A look at a field shows the invariant.
         let _ = &self.alloc;
         let _ = log.steps();
         log.round(&failure.row, &failure.values, failure.j)?;

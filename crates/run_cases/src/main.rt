@@ -34,7 +34,7 @@ fn run_table(rt: &HostRuntime, program: Program) -> Result<()> {
     let mut settings = Settings::new(alloc, program)?;
     let mut log = Log::new(alloc, 0);
     for line in table.lines() {
-        if let Some(printed) = tables::take_line(alloc, &mut settings, &mut log, line)? {
+        if let Some(printed) = tables::take_line(rt, &mut settings, &mut log, line)? {
             println!(rt; "{printed}")?;
         }
     }

@@ -3,7 +3,9 @@
 use crate::programs::Program;
 use crate::texts;
 use anyhow::Result;
-use dq_io::{MemFiles, MemSink, NeverFailFiles, NeverFailSink, ReadStop, read_all};
+use dq_io::{
+    Files, MemFiles, MemSink, NeverFailFiles, NeverFailSink, ReadStop, RealFiles, Sink, read_all,
+};
 use dqcheck_core::dqcheck_run;
 use dqsolve_core::dqsolve_run;
 use hint_log::Log;
@@ -111,7 +113,16 @@ impl Settings {
         if let Some(certificate) = &self.certificate {
             files.hold("certificate", certificate)?;
         }
-        Ok(unfailing_status(alloc, self.program, &self.words, &mut files, log))
+        let mut sink = NeverFailSink::new();
+        Ok(status_of(alloc, self.program, &self.words, &mut files, &mut sink, log))
+    }
+
+    /// Runs the program over the system's files.
+    pub fn run_real(&self, rt: &HostRuntime, log: &mut Log) -> Result<Ran> {
+        let alloc = rt.alloc();
+        let mut files = RealFiles::new(rt);
+        let sink = MemSink::new(alloc, usize::MAX, &[])?;
+        run_into(alloc, self.program, &self.words, &mut files, sink, log)
     }
 
     /// What the checker says of a certificate for the formula.
@@ -194,65 +205,48 @@ fn judge_over(alloc: Global, words: &[String], files: &mut MemFiles, log: &mut L
 }
 
 // Runs a program, and gives its status and what was written.
-fn run_into(
+fn run_into<F: Files>(
     alloc: Global,
     program: Program,
     words: &[String],
-    files: &mut MemFiles,
+    files: &mut F,
     mut sink: MemSink,
     log: &mut Log,
 ) -> Result<Ran> {
-    let status = match program {
-        Program::Checker => check(alloc, words, files, &mut sink),
-        Program::Solver => solve(alloc, words, files, &mut sink, log),
-    };
+    let status = status_of(alloc, program, words, files, &mut sink, log);
     let text = sink.taken().to_vec(alloc)?;
     Ok(Ran { status, text })
 }
 
-// Runs the checker, and gives its status.
-fn check(alloc: Global, words: &[String], files: &mut MemFiles, sink: &mut MemSink) -> u8 {
-    dqcheck_run(alloc, words, files, sink)
-}
-
-// Runs the solver, and gives its status.
-fn solve(
-    alloc: Global,
-    words: &[String],
-    files: &mut MemFiles,
-    sink: &mut MemSink,
-    log: &mut Log,
-) -> u8 {
-    dqsolve_run(alloc, words, files, sink, log)
-}
-
-// The same over files and a sink that never fail.
-fn unfailing_status(
+// Runs a program, and gives its status.
+fn status_of<F: Files, K: Sink>(
     alloc: Global,
     program: Program,
     words: &[String],
-    files: &mut NeverFailFiles,
+    files: &mut F,
+    sink: &mut K,
     log: &mut Log,
 ) -> u8 {
     match program {
-        Program::Checker => check_unfailing(alloc, words, files),
-        Program::Solver => solve_unfailing(alloc, words, files, log),
+        Program::Checker => check(alloc, words, files, sink),
+        Program::Solver => solve(alloc, words, files, sink, log),
     }
 }
 
-fn check_unfailing(alloc: Global, words: &[String], files: &mut NeverFailFiles) -> u8 {
-    let mut sink = NeverFailSink::new();
-    dqcheck_run(alloc, words, files, &mut sink)
+// The one call of the checker: it costs the prover more than all that stands around it.
+fn check<F: Files, K: Sink>(alloc: Global, words: &[String], files: &mut F, sink: &mut K) -> u8 {
+    dqcheck_run(alloc, words, files, sink)
 }
 
-fn solve_unfailing(
+// The one call of the solver.
+fn solve<F: Files, K: Sink>(
     alloc: Global,
     words: &[String],
-    files: &mut NeverFailFiles,
+    files: &mut F,
+    sink: &mut K,
     log: &mut Log,
 ) -> u8 {
-    let mut sink = NeverFailSink::new();
-    dqsolve_run(alloc, words, files, &mut sink, log)
+    dqsolve_run(alloc, words, files, sink, log)
 }
 
 /// A program's name, and then these words.

@@ -14,8 +14,8 @@
 //! a verdict or definitions, what the checker says, but no text. `compare` does it with a verdict
 //! on two circuits: the formula is the one that `encode` writes, and of the text the status alone
 //! is printed, and what the checker says. `unfailing` runs the program over files and a sink that
-//! never fail, and prints the status alone; `read` reads the formula's file, of at most so many
-//! bytes. `canonical` prints the canonical text of the formula, `refutation` that of the
+//! never fail, and prints the status alone; `real` runs it over the system's files. `read` reads the
+//! formula's file, of at most so many bytes. `canonical` prints the canonical text of the formula, `refutation` that of the
 //! certificate as a refutation of it, `proof` that of the proof in the certificate, a circuit, and
 //! `circuit` that of the circuit. `values` prints the values of the outputs of the certificate, a
 //! circuit in either form, under the row whose bits stand before the name, and `check` what is wrong
@@ -32,11 +32,12 @@ use std::alloc::Global;
 
 /// Takes a line: a setting, or a case, of which it gives what is to be printed.
 pub fn take_line(
-    alloc: Global,
+    rt: &HostRuntime,
     settings: &mut Settings,
     log: &mut Log,
     line: &str,
 ) -> Result<Option<String>> {
+    let alloc = rt.alloc();
     let (word, rest) = line.split_once(' ').unwrap_or((line, ""));
     match word {
         "" | "#" => Ok(None),
@@ -57,6 +58,7 @@ pub fn take_line(
         "blocks" => run_blocks(alloc, settings, log, rest),
         "verdict" => run_verdict(alloc, settings, log, rest),
         "unfailing" => run_unfailing(alloc, settings, log, rest),
+        "real" => run_real(rt, settings, log, rest),
         "read" => read(alloc, settings, rest),
         "canonical" => named(alloc, rest, texts::canonical_formula(alloc, settings)),
         "refutation" => named(alloc, rest, texts::canonical_refutation(alloc, settings)),
@@ -252,6 +254,19 @@ fn run_unfailing(
 ) -> Result<Option<String>> {
     let status = settings.run_unfailing(alloc, log)?;
     Ok(Some(format!(in alloc; "{name}: {status}")?))
+}
+
+fn run_real(
+    rt: &HostRuntime,
+    settings: &mut Settings,
+    log: &mut Log,
+    name: &str,
+) -> Result<Option<String>> {
+    let alloc = rt.alloc();
+    let ran = settings.run_real(rt, log)?;
+    settings.reset(alloc)?;
+    let shown = shown_run(alloc, &ran)?;
+    Ok(Some(format!(in alloc; "{name}: {shown}")?))
 }
 
 // What is read of the formula's file, of at most so many bytes.

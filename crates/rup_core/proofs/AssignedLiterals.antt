@@ -11,12 +11,12 @@ use Rattle.std.proofs.lemmas.List.Sorted.{list_any-IsPermutation, IsPermutation-
 use Rattle.dq_lits.specs.Literal.{Literal, positive, negative, variable_of, same_literal}
 use Rattle.dq_lits.specs.Derivation.{holds}
 use Rattle.rup_core.specs.Table.{TellsFar, far_value, StandsOnlyOn}
-use Rattle.truth_values.specs.Table.{IsTold, Tells}
-use Rattle.truth_values.specs.Truth.{literal_value, is_assigned}
-use Rattle.truth_values.specs.declared.values.TruthValue.{TruthValue}
-use Rattle.truth_values.specs.declared.values.TruthValue.TheVariants.{Unassigned}
-use Rattle.truth_values.proofs.AssignedLiterals.{value_where_true, told_free, told_along, free_at, has_value, one_more_counted, room_left, tells_more}
-use Rattle.truth_values.proofs.HeldLiterals.{other_positive, other_negative, value_free}
+use Rattle.dq_lits.specs.Table.{IsTold, Tells}
+use Rattle.dq_lits.specs.Truth.{literal_value, is_assigned}
+use Rattle.dq_lits.specs.declared.truth_values.TruthValue.{TruthValue}
+use Rattle.dq_lits.specs.declared.truth_values.TruthValue.TheVariants.{Unassigned}
+use Rattle.dq_lits.proofs.AssignedLiterals.{value_where_true, told_free, told_along, free_at, has_value, one_more_counted, room_left, tells_more}
+use Rattle.dq_lits.proofs.LiteralValues.{other_positive, other_negative, value_free}
 
 holds-reverse : (literals : List Literal) (l : Literal) → holds literals l ≡ false → holds (reverse literals) l ≡ false
 holds-reverse literals l h = sym (list_any-IsPermutation (same_literal l) literals (reverse literals)

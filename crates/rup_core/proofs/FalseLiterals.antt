@@ -1,18 +1,18 @@
 -- A line's literals, made false one by one.
-use Rattle.std.proofs.Common.{◌≡◌, ℕ, ◌<◌, Bool, true, false, not, cond, ◌||◌, List, [], ◌∷◌, map, take, drop, length, Option, Some, Result, Ok, Err, IfOk, refl, sym, ◌∙◌, ap, get_or}
+use Rattle.std.proofs.Common.{◌≡◌, ℕ, ◌<◌, Bool, true, false, not, cond, List, [], ◌∷◌, map, take, drop, length, Option, Some, Result, Ok, Err, IfOk, refl, sym, ◌∙◌, ap, get_or}
 use Rattle.std.specs.List.{list_any}
 use Rattle.std.proofs.lemmas.Bool.{not-true, or_from, or_left, or_right}
 use Rattle.std.proofs.lemmas.List.{take-append-drop}
 use Rattle.std.proofs.lemmas.List.Folds.{list_any_at}
 use Rattle.dq_lits.specs.Literal.{Literal, opposite, same_literal}
 use Rattle.dq_lits.specs.Derivation.{LiveClauses, holds, is_tautology, hint_fault, line_fault}
-use Rattle.dq_lits.proofs.HeldLiterals.{any_one, holds-append}
-use Rattle.dq_lits.proofs.SignedLiterals.{same_literal-refl, opposite-opposite, same_opposite}
+use Rattle.dq_lits.proofs.HeldLiterals.{any_one, holds-append, holds-map}
+use Rattle.dq_lits.proofs.SignedLiterals.{same_literal-refl, opposite-opposite}
 use Rattle.rup_core.specs.Truth.{AreSame}
-use Rattle.truth_values.specs.Truth.{literal_value}
-use Rattle.truth_values.specs.declared.values.TruthValue.TheVariants.{True}
+use Rattle.dq_lits.specs.Truth.{literal_value}
+use Rattle.dq_lits.specs.declared.truth_values.TruthValue.TheVariants.{True}
 use Rattle.rup_core.proofs.EqualTruths.{hint_fault-same}
-use Rattle.truth_values.proofs.HeldLiterals.{value_true}
+use Rattle.dq_lits.proofs.LiteralValues.{value_true}
 
 -- no literal beside its negation
 abbrev pub IsConsistent : List Literal → Type 0
@@ -24,11 +24,6 @@ any_none p [] none = refl
 any_none p (l ∷ line) none =
     or_from (p l) (list_any p line) (none l (or_left (same_literal l l) (holds line l) (same_literal-refl l)))
     (any_none p line (λ k h. none k (or_right (same_literal k l) (holds line k) h)))
-
-holds-map : (line : List Literal) (l : Literal) → holds (map opposite line) (opposite l) ≡ holds line l
-holds-map [] l = refl
-holds-map (k ∷ line) l = ap (λ b. b || holds (map opposite line) (opposite l)) (same_opposite l k) ∙ ap
-    (λ b. same_literal l k || b) (holds-map line l)
 
 -- all literals of a line are false without a conflict
 pub no_tautology : (trues line : List Literal) → IsConsistent trues → AreSame trues (map opposite line) →

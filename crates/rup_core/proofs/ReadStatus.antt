@@ -7,15 +7,15 @@ use Rattle.std.proofs.lemmas.List.Elements.{All-get_or}
 use Rattle.std.proofs.lemmas.Option.{get_or_from_slice_get, slice_get-get_or}
 use Rattle.dq_lits.specs.Literal.{Literal, positive, variable_of, same_literal}
 use Rattle.dq_lits.specs.Derivation.{Status, falsified, unit, stuck, status_by, status_of}
-use Rattle.truth_values.specs.Extension.{not_false}
+use Rattle.dq_lits.specs.Extension.{not_false}
 use Rattle.rup_core.specs.Extension.{UnitIsFree, UnitStandsWithin}
-use Rattle.truth_values.specs.Extension.{with_literal}
+use Rattle.dq_lits.specs.Extension.{with_literal}
 use Rattle.rup_core.specs.Range.{StandsWithin}
 use Rattle.rup_core.specs.Reading.{clause_size, literal_at}
-use Rattle.truth_values.specs.Truth.{literal_value}
-use Rattle.truth_values.specs.declared.values.TruthValue.{TruthValue}
-use Rattle.truth_values.specs.declared.values.TruthValue.TheVariants.{True, False, Unassigned}
-use Rattle.truth_values.proofs.ReadStatus.{status_more}
+use Rattle.dq_lits.specs.Truth.{literal_value}
+use Rattle.dq_lits.specs.declared.truth_values.TruthValue.{TruthValue}
+use Rattle.dq_lits.specs.declared.truth_values.TruthValue.TheVariants.{True, False, Unassigned}
+use Rattle.dq_lits.proofs.ReadStatus.{status_more}
 
 -- the literal of a unit clause stays unassigned
 free_more : (trues : List Literal) (s : Status) (l : Literal) (t : TruthValue) → UnitIsFree trues s →

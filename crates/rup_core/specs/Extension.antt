@@ -2,8 +2,8 @@
 use Rattle.std.specs.Prelude.{◌≡◌, ℕ, ◌≤◌, List}
 use Rattle.dq_lits.specs.Literal.{Literal, variable_of}
 use Rattle.dq_lits.specs.Derivation.{Status, falsified, unit, stuck}
-use Rattle.truth_values.specs.Truth.{literal_value}
-use Rattle.truth_values.specs.declared.values.TruthValue.TheVariants.{Unassigned}
+use Rattle.dq_lits.specs.Truth.{literal_value}
+use Rattle.dq_lits.specs.declared.truth_values.TruthValue.TheVariants.{Unassigned}
 use Rattle.rup_core.specs.declared.statuses.Status.{Status as Stands}
 use Rattle.rup_core.specs.declared.statuses.Status.TheVariants.{Falsified, Unit as UnitClause, Stuck}
 

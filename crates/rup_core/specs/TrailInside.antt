@@ -2,8 +2,8 @@
 use Rattle.std.specs.Prelude.{◌+◌, ◌≤◌, length, reverse, count_by, vec_capacity}
 use Rattle.rup_core.specs.Assigned.{Assigned}
 use Rattle.rup_core.specs.Table.{TellsFar}
-use Rattle.truth_values.specs.Table.{Tells}
-use Rattle.truth_values.specs.Truth.{is_assigned}
+use Rattle.dq_lits.specs.Table.{Tells}
+use Rattle.dq_lits.specs.Truth.{is_assigned}
 use Rattle.rup_core.specs.declared.trails.Trail.TheInside.{Inside}
 
 abbrev pub assigned_in : Inside → Assigned

@@ -36,6 +36,7 @@ pub trait Base {
     fn held(&self, id: u64) -> Option<&[Lit]>
         ensures { IfSome result (λ literals. clauses self.now id ≡ Some literals.now) }
     {
+        // Only the contract speaks of it.
         let _ = id;
         None
     }
@@ -47,6 +48,7 @@ pub trait Base {
             (λ few. clauses self.now id ≡ Some (take few.count few.literals)) }
         ensures within { IfSome result (λ few. few.count ≤ 3) }
     {
+        // Only the contract speaks of it.
         let _ = id;
         None
     }

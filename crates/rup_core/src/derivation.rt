@@ -12,8 +12,7 @@ use crate::marks::Marks;
 use crate::progress::{Progress, propagate};
 use crate::statuses::status_of;
 use crate::trails::Trail;
-use dq_lits::{Lit, Memory};
-use truth_values::TruthValue;
+use dq_lits::{Lit, Memory, TruthValue};
 
 /// Whether a line is derived.
 #[derive(Clone, Copy, PartialEq, Eq)]

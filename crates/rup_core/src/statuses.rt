@@ -5,12 +5,11 @@ ghost use Rattle.dq_lits.specs.Literal.{same_literal};
 ghost use Rattle.dq_lits.specs.Derivation.{status_of, stuck};
 ghost use Rattle.rup_core.specs.Range.{StandsWithin};
 ghost use Rattle.rup_core.specs.Extension.{seen, UnitIsFree, UnitStandsWithin};
-ghost use Rattle.truth_values.specs.Extension.{with_free, with_literal};
+ghost use Rattle.dq_lits.specs.Extension.{with_free, with_literal};
 
 use crate::bases::Base;
 use crate::trails::Trail;
-use dq_lits::Lit;
-use truth_values::TruthValue;
+use dq_lits::{Lit, TruthValue};
 
 /// How a clause stands under a trail.
 #[derive(Clone, Copy)]

@@ -4,15 +4,14 @@ ghost use Rattle.std.specs.Prelude.{◌≡◌, ◌+◌, ◌<◌, ◌≤◌, [], 
 ghost use Rattle.std.specs.Option.{option_copied};
 ghost use Rattle.dq_lits.specs.Derivation.{holds};
 ghost use Rattle.dq_lits.specs.Literal.{variable_of, positive, negative};
-ghost use Rattle.truth_values.specs.Truth.{literal_value};
+ghost use Rattle.dq_lits.specs.Truth.{literal_value};
 ghost use Rattle.rup_core.specs.Table.{AreSameValues, StandsOnlyOn, far_value};
-ghost use Rattle.truth_values.specs.Table.{IsTold};
+ghost use Rattle.dq_lits.specs.Table.{IsTold};
 
-use dq_lits::{Lit, Memory};
+use dq_lits::{Lit, Memory, TruthValue, truth_value};
 use std::alloc::Global;
 use std::collections::BTreeMap;
 use std::marker::Model;
-use truth_values::{TruthValue, truth};
 
 /// The literals that were made true, in order.
 ///
@@ -60,8 +59,8 @@ impl Trail {
     {
         match self.variable_value(l) {
             TruthValue::Unassigned => TruthValue::Unassigned,
-            TruthValue::True => truth(!l.is_neg()),
-            TruthValue::False => truth(l.is_neg()),
+            TruthValue::True => truth_value(!l.is_neg()),
+            TruthValue::False => truth_value(l.is_neg()),
         }
     }
 
@@ -97,7 +96,7 @@ impl Trail {
         requires unassigned { literal_value self.old.trues l ≡ TruthValue.Unassigned }
         ensures { self.new ≡ record self.old { trues = l ∷ self.old.trues } }
     {
-        self.near[place_of(l)] = truth(!l.is_neg());
+        self.near[place_of(l)] = truth_value(!l.is_neg());
         if self.literals.push(l).is_err() {
             unreachable!();
         }

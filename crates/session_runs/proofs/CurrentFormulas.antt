@@ -7,7 +7,7 @@ use Rattle.script_text.specs.Commands.{ScriptCommand, push, add, pop, solve}
 use Rattle.dq_session.specs.Books.{BookState, all_of, now_of}
 use Rattle.dq_session.specs.Changes.{newest}
 use Rattle.dq_session.specs.declared.live.Live.{Live}
-use Rattle.script_books.specs.Following.{book_behind}
+use Rattle.session_runs.specs.Following.{book_behind}
 
 whole-taken : {X : Type 0} (n : ℕ) (xs : List X) → length (take n xs) ≡ length xs → take n xs ≡ xs
 whole-taken zero [] same = refl

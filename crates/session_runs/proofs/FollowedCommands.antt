@@ -10,9 +10,9 @@ use Rattle.script_text.specs.Reading.{depth_behind, clauses_behind, max_clauses}
 use Rattle.dq_session.specs.Books.{BookState, live_of, now_of}
 use Rattle.dq_session.specs.Changes.{begun}
 use Rattle.expansion.specs.Table.{TableState}
-use Rattle.script_books.specs.Following.{book_behind, MayCome, AreOpenFrames}
-use Rattle.script_books.specs.Laws.{BooksFollow, StandsFor, FollowingBooksStand}
-use Rattle.script_books.specs.Numbering.{NumberedFrame, Numbering, numbering_at_start, numbering_behind, with_number, without_newest, live_in, live_from}
+use Rattle.session_runs.specs.Following.{book_behind, MayCome, AreOpenFrames}
+use Rattle.session_runs.specs.Laws.{BooksFollow, StandsFor, FollowingBooksStand}
+use Rattle.session_runs.specs.Numbering.{NumberedFrame, Numbering, numbering_at_start, numbering_behind, with_number, without_newest, live_in, live_from}
 use Rattle.session_runs.specs.Blocks.{Search}
 use Rattle.session_runs.specs.Followed.{is_search, IsFollowed}
 

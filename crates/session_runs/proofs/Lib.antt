@@ -8,3 +8,7 @@ mod SearchedLogs
 mod TakenCommands
 mod TwoFiles
 mod WholeSessions
+pub mod Followed
+pub mod GrownSessions
+mod Lists
+pub mod Standing

@@ -3,7 +3,7 @@ use Rattle.std.proofs.Common.{◌≡◌, ℕ, List, [], ◌∷◌, ◌++◌, ref
 use Rattle.hint_log.specs.Entries.{Entry, Named, Given, Learned, Answer, Round, Begun, beginnings_of}
 use Rattle.hint_log.specs.Growth.{Each}
 use Rattle.hint_log.specs.declared.origins.Origin.TheVariants.{Instance, Gate, Fault, Copy, Link, TermGate, Differ}
-use Rattle.script_books.specs.LargerSessions.{IsOfSearch}
+use Rattle.session_runs.specs.LargerSessions.{IsOfSearch}
 use Rattle.repair_loop.proofs.LogGrowth.{some_live}
 use Rattle.session_runs.specs.Ends.{ends_behind, ends_of}
 

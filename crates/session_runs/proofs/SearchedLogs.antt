@@ -12,7 +12,7 @@ use Rattle.oracle.specs.Searched.{IsSearched}
 use Rattle.dq_session.specs.Books.{BookState, all_of, frames_of, live_of}
 use Rattle.repair_loop.specs.Desks.{IsReady, IsKept, HasBegun, IsOfSearch as IsOfItsSearch}
 use Rattle.repair_loop.specs.declared.desks.Desk.{Desk}
-use Rattle.script_books.specs.LargerSessions.{IsOfSearch}
+use Rattle.session_runs.specs.LargerSessions.{IsOfSearch}
 use Rattle.session_runs.specs.SessionFiles.{IsWorkOver}
 use Rattle.session_runs.specs.Standing.{IsSoFar}
 use Rattle.session_runs.proofs.SearchEnds.{of-search-behind}

@@ -17,10 +17,10 @@ use Rattle.repair_loop.specs.declared.desks.Desk.{Desk}
 use Rattle.script_text.specs.Commands.{ScriptCommand, push, add, pop, solve}
 use Rattle.script_text.specs.Lawful.{AreAllowed}
 use Rattle.script_text.specs.Reading.{max_clauses}
-use Rattle.script_books.specs.Following.{book_behind, MayCome}
-use Rattle.script_books.specs.Laws.{BooksFollow, FollowingBooksStand}
-use Rattle.script_books.specs.LargerSessions.{SessionsTakeClauses, UndecidedTakesClauses}
-use Rattle.script_books.specs.Numbering.{all_clauses}
+use Rattle.session_runs.specs.Following.{book_behind, MayCome}
+use Rattle.session_runs.specs.Laws.{BooksFollow, FollowingBooksStand}
+use Rattle.session_runs.specs.LargerSessions.{SessionsTakeClauses, UndecidedTakesClauses}
+use Rattle.session_runs.specs.Numbering.{all_clauses}
 use Rattle.verdict_texts.specs.Verdicts.{Verdict, is_true, is_false, is_unknown}
 use Rattle.session_runs.specs.Blocks.{Search, block_text, blocks_text}
 use Rattle.session_runs.specs.Followed.{is_search, IsFollowed}

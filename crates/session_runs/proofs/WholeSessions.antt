@@ -8,11 +8,11 @@ use Rattle.hint_log.specs.Live.{with_matrix, live_numbers}
 use Rattle.hint_log.specs.ProductiveSession.{IsProductiveSession, IsUndecidedSince}
 use Rattle.script_text.specs.Commands.{ScriptCommand}
 use Rattle.dq_session.specs.Books.{BookState, all_of, frames_of}
-use Rattle.script_books.specs.Laws.{FollowingBooksStand}
-use Rattle.script_books.specs.LargerSessions.{IsOfSearch, SessionsTakeClauses, UndecidedTakesClauses}
-use Rattle.script_books.specs.Numbering.{all_clauses, all_frames}
-use Rattle.script_books.proofs.GrownSessions.{origins-more, rows-more, models-more}
-use Rattle.script_books.proofs.Standing.{clauses-come, frames-come}
+use Rattle.session_runs.specs.Laws.{FollowingBooksStand}
+use Rattle.session_runs.specs.LargerSessions.{IsOfSearch, SessionsTakeClauses, UndecidedTakesClauses}
+use Rattle.session_runs.specs.Numbering.{all_clauses, all_frames}
+use Rattle.session_runs.proofs.GrownSessions.{origins-more, rows-more, models-more}
+use Rattle.session_runs.proofs.Standing.{clauses-come, frames-come}
 use Rattle.session_runs.specs.Blocks.{Search}
 use Rattle.session_runs.specs.SessionFiles.{IsWorkOver}
 use Rattle.session_runs.specs.Followed.{IsFollowed}

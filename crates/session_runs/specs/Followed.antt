@@ -7,8 +7,8 @@ use Rattle.script_text.specs.Frames.{Frames, formulas_from, formulas_of}
 use Rattle.script_text.specs.Lawful.{AreAllowed}
 use Rattle.script_text.specs.Reading.{max_clauses}
 use Rattle.dq_session.specs.Books.{BookState}
-use Rattle.script_books.specs.Following.{Follows, AreFramesOf}
-use Rattle.script_books.specs.Numbering.{Numbering, numbering_from, numbering_of, live_from, live_of_searches}
+use Rattle.session_runs.specs.Following.{Follows, AreFramesOf}
+use Rattle.session_runs.specs.Numbering.{Numbering, numbering_from, numbering_of, live_from, live_of_searches}
 use Rattle.session_runs.specs.Blocks.{Search}
 
 abbrev pub is_search : ScriptCommand → Bool

@@ -6,3 +6,7 @@ pub mod SessionFiles
 pub mod ScriptFiles
 pub mod Followed
 pub mod Standing
+pub mod Numbering
+pub mod Following
+pub mod Laws
+pub mod LargerSessions

@@ -8,7 +8,7 @@ use Rattle.hint_log.specs.ProductiveSession.{IsProductiveSession, IsUndecidedSin
 use Rattle.repair_loop.specs.Stopping.{HasNextStep}
 use Rattle.script_text.specs.Commands.{ScriptCommand}
 use Rattle.script_text.specs.Frames.{formulas_of}
-use Rattle.script_books.specs.Numbering.{all_clauses, all_frames, live_of_searches}
+use Rattle.session_runs.specs.Numbering.{all_clauses, all_frames, live_of_searches}
 use Rattle.verdict_texts.specs.Forms.{plain}
 use Rattle.verdict_texts.specs.Shown.{IsShownTrue, IsShownFalse}
 use Rattle.verdict_texts.specs.Verdicts.{Verdict, is_true, is_false, is_unknown}

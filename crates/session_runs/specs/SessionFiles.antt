@@ -15,7 +15,7 @@ use Rattle.repair_loop.specs.Desks.{IsKept}
 use Rattle.script_text.specs.Commands.{ScriptCommand}
 use Rattle.script_text.specs.Reading.{read_script}
 use Rattle.script_text.specs.declared.faults.ScriptFault.{ScriptFault}
-use Rattle.script_books.specs.Numbering.{all_clauses}
+use Rattle.session_runs.specs.Numbering.{all_clauses}
 use Rattle.session_runs.specs.Blocks.{Search, printed_session}
 use Rattle.session_runs.specs.FaultNames.{script_fault_name}
 use Rattle.session_runs.specs.Searches.{AreSearched}

@@ -9,8 +9,8 @@ use Rattle.dq_session.specs.Books.{BookState, all_of, live_of, now_of}
 use Rattle.dq_session.specs.Changes.{begun}
 use Rattle.repair_loop.specs.Desks.{IsReady, IsBookAfter, HasBegun}
 use Rattle.script_text.specs.Commands.{ScriptCommand}
-use Rattle.script_books.specs.LargerSessions.{IsOfSearch}
-use Rattle.script_books.specs.Numbering.{all_clauses}
+use Rattle.session_runs.specs.LargerSessions.{IsOfSearch}
+use Rattle.session_runs.specs.Numbering.{all_clauses}
 use Rattle.verdict_texts.specs.Forms.{plain}
 use Rattle.verdict_texts.specs.Verdicts.{Verdict, verdict_text}
 use Rattle.session_runs.specs.Blocks.{Search, block_text, blocks_text}

@@ -10,13 +10,17 @@ ghost use Rattle.dq_session.specs.Books.{all_of, now_of, IsBook};
 ghost use Rattle.repair_loop.specs.Desks.{IsReady};
 ghost use Rattle.script_text.specs.Commands.{command_seen};
 ghost use Rattle.script_text.specs.Lawful.{AreAllowed};
-ghost use Rattle.script_books.specs.Following.{book_behind, MayCome};
+ghost use Rattle.session_runs.specs.Following.{book_behind, MayCome};
 ghost use Rattle.session_runs.specs.Followed.{is_search};
 ghost use Rattle.session_runs.specs.ScriptFiles.{IsSessionText};
 ghost use Rattle.session_runs.specs.SessionFiles.{IsWorkOf};
 ghost use Rattle.session_runs.specs.Standing.{IsSoFar, IsCurrent, IsBegun, IsStanding, IsSearchedOn};
 
 use crate::blocks::write_block;
+use crate::commands::take;
+use crate::laws::{
+    books_follow, following_books_stand, sessions_take_clauses, undecided_takes_clauses,
+};
 use crate::searches::search_text;
 use aig_graph::Graph;
 use cdcl_core::Cdcl;
@@ -30,10 +34,6 @@ use repair_loop::Desk;
 use repair_loop::laws::{
     added_clauses_leave_desks, closed_frames_leave_desks, opened_frames_leave_desks,
 };
-use script_books::laws::{
-    books_follow, following_books_stand, sessions_take_clauses, undecided_takes_clauses,
-};
-use script_books::take;
 use script_text::{Command, Script};
 use std::alloc::Global;
 

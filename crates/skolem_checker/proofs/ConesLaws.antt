@@ -18,6 +18,7 @@ use Rattle.skolem_checker.specs.Mapping.{Mapping}
 use Rattle.dq_formula.specs.Prefix.{existential_variables}
 use Rattle.skolem_checker.proofs.ReadsLaws.{variable_at, places-below, named_at}
 use Rattle.circuit_plain.specs.Words.{marked}
+use Rattle.circuit_plain.proofs.ValueLaws.{Contains-place}
 use Rattle.skolem_checker.specs.declared.cones.Cone.{Cone}
 use Rattle.skolem_checker.proofs.SightsLaws.{whole_written}
 
@@ -84,9 +85,6 @@ walked_alone net literals universals sees slots cone root clean member q below r
     (clean (slice_index slots (circuit_variable literals x)) there.since there.before).seen x
     (Contains-get_or universals q 0 below) (sym there.is)
 
-contains_at : (xs : List ℕ) (i v : ℕ) → i < length xs → slice_index xs i ≡ v → Contains xs v
-contains_at xs i v below is = (i, below, get_or_default xs i v 0 below ∙ is)
-
 module _ (net : Netlist) (kept : IsNetlist net) (literals universals by_input sees slots : List ℕ) (cone : Cone)
     (inputs : AreInputs net literals universals by_input) where
   -- a gate whose sides were come to
@@ -102,7 +100,7 @@ module _ (net : Netlist) (kept : IsNetlist net) (literals universals by_input se
         );
     seen = λ x x_in x_is.
         let at = inputs x x_in in
-        absurd (input_apart net kept v g (contains_at net.inputs at.0 v at.1 (at.2 ∙ x_is)) g_in (sym is));
+        absurd (input_apart net kept v g (Contains-place net.inputs at.0 v at.1 (at.2 ∙ x_is)) g_in (sym is));
   }
 
   -- the constant, and an input
@@ -111,11 +109,11 @@ module _ (net : Netlist) (kept : IsNetlist net) (literals universals by_input se
     sides = λ g g_in is. absurd (omega (arith, (gate_fits net kept g g_in).variable.0, is, zero));
     seen = λ x x_in x_is.
         let at = inputs x x_in in
-        absurd (omega (arith, (input_fits net kept v (contains_at net.inputs at.0 v at.1 (at.2 ∙ x_is))).0, zero));
+        absurd (omega (arith, (input_fits net kept v (Contains-place net.inputs at.0 v at.1 (at.2 ∙ x_is))).0, zero));
   }
   seen_passes v (inr (i, i_in, is, sees_it)) = record {
     sides = λ g g_in g_is.
-        absurd (input_apart net kept v g (contains_at net.inputs i v i_in is) g_in (sym g_is));
+        absurd (input_apart net kept v g (Contains-place net.inputs i v i_in is) g_in (sym g_is));
     seen = λ x x_in x_is.
         let at = inputs x x_in in
         let same : at.0 ≡ i = same_place (λ w. w) net.inputs at.0 i 0 kept.inputs_once at.1 i_in

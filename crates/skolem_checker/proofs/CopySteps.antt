@@ -5,10 +5,10 @@ use Rattle.std.proofs.lemmas.List.{take_more, map_more}
 use Rattle.std.proofs.lemmas.List.Elements.{Contains-get_or}
 use Rattle.circuit_plain.specs.Netlist.{Netlist, IsNetlist, IsDefined, IsVariable, IsLiteral, literal_variable, gate_at}
 use Rattle.circuit_plain.proofs.NetlistLaws.{gate_at_member}
+use Rattle.circuit_plain.proofs.NetlistParts.{half}
 use Rattle.skolem_checker.specs.Renaming.{renamed_literal, known_variables, number_in, dense_number, renumbered_first}
 use Rattle.skolem_checker.specs.SkolemCircuit.{IsComplete}
 use Rattle.skolem_checker.proofs.LeastNumbers.{not_before, known_length, gate_among, known_once, literal_fits, input_is_variable, input_is_new, input_copied, gate_is_variable, gate_is_new}
-use Rattle.skolem_checker.proofs.TablesLaws.{half-even}
 use Rattle.skolem_checker.proofs.RenamedNetlists.{renamed_variable, known_input, known_gate, grounded_known, sides_grounded}
 
 -- the next gate to be known
@@ -16,7 +16,7 @@ module _ (net : Netlist) (kept : IsNetlist net) (keys : List ℕ) (j : ℕ) (bel
     (learnt : keys ≡ take (length net.inputs + j + 1) (known_variables net)) (v : ℕ)
     (is : v ≡ 2 * (gate_at net j).variable) where
   gate_is : get_or (known_variables net) (length net.inputs + j + 1) 0 ≡ v / 2
-  gate_is = gate_among net j 0 below ∙ sym (ap (λ l. l / 2) is ∙ half-even (gate_at net j).variable)
+  gate_is = gate_among net j 0 below ∙ sym (ap (λ l. l / 2) is ∙ half (gate_at net j).variable)
 
   pub gate_unlearnt : Contains keys (v / 2) → ⊥
   gate_unlearnt among =
@@ -98,7 +98,7 @@ module _ (net : Netlist) (keys : List ℕ) (same : keys ≡ known_variables net)
 module _ (net : Netlist) (kept : IsNetlist net) (complete : IsComplete net) (j : ℕ) (below : j < length net.gates) where
   pub gate_variable_known : Contains (known_variables net) (literal_variable (2 * (gate_at net j).variable))
   gate_variable_known =
-      subst (Contains (known_variables net)) (sym (half-even (gate_at net j).variable))
+      subst (Contains (known_variables net)) (sym (half (gate_at net j).variable))
       (known_gate net (gate_at net j) (gate_at_member net j below))
 
   pub gate_sides_known : Contains (known_variables net) (literal_variable (gate_at net j).left) × Contains
@@ -112,7 +112,7 @@ module _ (net : Netlist) (kept : IsNetlist net) (complete : IsComplete net) (j :
     gate_number_is : v / 2 ≡ dense_number net (gate_at net j).variable
     gate_number_is =
         ap (λ l. l / 2) renamed ∙ renamed_variable (dense_number net) (2 * (gate_at net j).variable)
-        ∙ ap (dense_number net) (half-even (gate_at net j).variable)
+        ∙ ap (dense_number net) (half (gate_at net j).variable)
 
     pub next_gate_in_range : IsVariable copy.max_var (v / 2)
     next_gate_in_range =

@@ -9,7 +9,7 @@ use Rattle.circuit_plain.specs.Ground.{IsGrounded, constant, input}
 use Rattle.circuit_plain.specs.Netlist.{Netlist, literal_variable, gate_variables, variable_of_gate}
 use Rattle.skolem_checker.specs.SkolemCircuit.{IsComplete}
 
-gate_grounded : (net : Netlist) (v : ℕ) → AllGrounded net → Contains (gate_variables net) v → IsGrounded net v
+pub gate_grounded : (net : Netlist) (v : ℕ) → AllGrounded net → Contains (gate_variables net) v → IsGrounded net v
 gate_grounded net v grounded is_gate =
     All-contains (IsGrounded net) (gate_variables net) v (All-map
     (IsGrounded net) variable_of_gate net.gates grounded) is_gate

@@ -26,7 +26,7 @@ name_or_none : Option (List ℕ) → List ℕ
 name_or_none None = []
 name_or_none (Some name) = name
 
-same_name : (a b : List ℕ) → Some a ≡ Some b → a ≡ b
+pub same_name : (a b : List ℕ) → Some a ≡ Some b → a ≡ b
 unfolding name_or_none
 same_name a b h = ap name_or_none h
 

@@ -1,5 +1,5 @@
 -- What the tables say of the circuit.
-use Rattle.std.proofs.Common.{◌≡◌, ℕ, ◌+◌, ◌*◌, ◌/◌, ◌%◌, ◌<◌, ◌≤◌, ◌==◌, eqb, Bool, true, false, not, List, [], length, get_or, inl, inr, refl, sym, ap, ◌∙◌, subst, arith, true≢false}
+use Rattle.std.proofs.Common.{◌≡◌, ℕ, ◌+◌, ◌*◌, ◌%◌, ◌<◌, ◌≤◌, ◌==◌, eqb, Bool, true, false, not, List, [], length, get_or, inl, inr, refl, sym, ap, ◌∙◌, subst, arith, true≢false}
 use Rattle.std.specs.Prelude.{slice_index}
 use Rattle.std.specs.Int.{bit_at}
 use Rattle.std.specs.List.{All, Contains, IsDistinct, list_all}
@@ -19,13 +19,11 @@ use Rattle.circuit_plain.specs.Netlist.{Netlist, IsNetlist, literal_variable, li
 use Rattle.circuit_plain.specs.Reach.{Reaches}
 use Rattle.circuit_plain.specs.Value.{HasValue, IsValuation}
 use Rattle.circuit_plain.proofs.ValueLaws.{grounded_have_values, valuations_agree, values_follow_reach}
+use Rattle.circuit_plain.proofs.NetlistParts.{half}
 use Rattle.skolem_checker.specs.Mapping.{Mapping}
 use Rattle.skolem_checker.specs.SkolemCircuit.{MappedCircuit, IsComplete, input_bits, HasOutputValue, ReadsUniversal, FollowsCircuit}
 use Rattle.skolem_checker.specs.Checks.{IsRow, RowHolds, RowFails}
 use Rattle.skolem_checker.specs.Tables.{AreTables, HasLiteral, ReadsByTables, circuit_assignment, AreRowBits, universal_places}
-
-pub half-even : (w : ℕ) → 2 * w / 2 ≡ w
-half-even w = omega arith
 
 rest-even : (w : ℕ) → 2 * w % 2 ≡ 0
 rest-even w = omega arith
@@ -33,7 +31,7 @@ rest-even w = omega arith
 even-bit : (values : ℕ → Bool) (l w : ℕ) → l ≡ 2 * w → literal_bit values l ≡ values w
 even-bit values l w e =
     let unsigned : literal_negated l ≡ false = rw e (rw (rest-even w) refl) in
-    rw unsigned (rw e (ap values (half-even w)))
+    rw unsigned (rw e (ap values (half w)))
 
 pub list_all-each : {X : Type 0} (p : X → Bool) (xs : List X) → list_all p xs ≡ true → All (λ x. p x ≡ true) xs
 list_all-each p xs h k d below =
@@ -85,7 +83,7 @@ module _ (f : Dqbf) (net : Netlist) (mapping : Mapping) (literals places : List 
       let i = input_for x x_in in
       let o = output_for y y_in in
       let reached : literal_variable (slice_index literals x) ≡ slice_index net.inputs i.at =
-      ap literal_variable (input_literal x i) ∙ half-even (slice_index net.inputs i.at) in
+      ap literal_variable (input_literal x i) ∙ half (slice_index net.inputs i.at) in
       record {
         out = o.at;
         out_in_range = o.in_range;
@@ -103,7 +101,7 @@ module _ (f : Dqbf) (net : Netlist) (mapping : Mapping) (literals places : List 
       let i : InputFor x = record { at = reads.input; in_range = reads.input_in_range; is = reads.input_stands_for } in
       let o : OutputFor y = record { at = reads.out; in_range = reads.out_in_range; is = reads.out_stands_for } in
       let reached : literal_variable (slice_index literals x) ≡ slice_index net.inputs i.at =
-      ap literal_variable (input_literal x i) ∙ half-even (slice_index net.inputs i.at) in
+      ap literal_variable (input_literal x i) ∙ half (slice_index net.inputs i.at) in
       subst (λ p. Reaches net (literal_variable (slice_index net.outputs p))
       (literal_variable (slice_index literals x))) (sym (output_place y o))
       (subst (λ v. Reaches net (literal_variable (slice_index net.outputs o.at)) v) (sym reached) reads.reaches)
@@ -123,7 +121,7 @@ module _ (f : Dqbf) (net : Netlist) (mapping : Mapping) (literals places : List 
             ) in
             let fits = kept.inputs_fit i.at 0 in_net in
             let reached : literal_variable (slice_index literals v) ≡ slice_index net.inputs i.at =
-            ap literal_variable (input_literal v i) ∙ half-even (slice_index net.inputs i.at) in
+            ap literal_variable (input_literal v i) ∙ half (slice_index net.inputs i.at) in
             omega (arith, fits.1, reached)
         | inr existential ↦
             let o = output_for v existential in

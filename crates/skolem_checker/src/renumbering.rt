@@ -52,6 +52,7 @@ fn number(known: &NumberSet, variable: u64) -> u64
     ensures is { result ≡ number_in known.now variable }
     ensures small { result < 2 ^ 63 }
 {
+    // The call shows the numbers' invariant.
     let _ = known.len();
     match known.place(variable) {
         Some(place) => place as u64,

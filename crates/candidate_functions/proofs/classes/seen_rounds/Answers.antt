@@ -1,6 +1,6 @@
 use Rattle.std.proofs.Common.{◌≡◌, ◌<◌, List, Bool, length, All, refl, sym, subst}
 use Rattle.std.proofs.lemmas.List.Elements.{All-weaker}
-use Rattle.candidate_functions.specs.Pairs.{HasPlaces}
+use Rattle.row_pairs.specs.Pairs.{HasPlaces}
 use Rattle.candidate_functions.proofs.DependencyClasses.{places_below, places_told}
 use Rattle.candidate_functions.proofs.classes.seen_rounds.Goals as goal
 

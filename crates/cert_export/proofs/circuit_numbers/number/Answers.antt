@@ -6,16 +6,17 @@ use Rattle.cert_export.proofs.SmallNumbers.{place_one, numbers_small, clause_sma
 use Rattle.cert_export.proofs.circuit_numbers.number.Goals as goal
 
 pub behind-requires-clause-few : goal.behind-requires-clause-few
-behind-requires-clause-few c = let few = c.requires.small.few_inputs in let same = ap length c.universals.ensures in
-    omega (arith, few, same)
+behind-requires-clause-few c = omega (arith, c.requires.small.few_inputs, ap length c.universals.ensures)
 
 pub behind-requires-then-group-part-clause-few : goal.behind-requires-then-group-part-clause-few
 behind-requires-then-group-part-clause-few c =
-    let few = c.requires.small.few_inputs in
-    let some = c.requires.small.few_gates in
-    let same = ap length c.universals.ensures in
-    let gates = c.len-gates.ensures.value in
-    omega (arith, few, some, same, gates)
+    omega (
+      arith,
+      c.requires.small.few_inputs,
+      c.requires.small.few_gates,
+      ap length c.universals.ensures,
+      c.len-gates.ensures.value,
+    )
 
 pub behind-requires-then-group-part-clause-range : goal.behind-requires-then-group-part-clause-range
 behind-requires-then-group-part-clause-range c = clause_small c.args.f.now.matrix c.in-Bad.clause c.clause_number.result

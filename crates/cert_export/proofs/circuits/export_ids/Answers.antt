@@ -7,8 +7,8 @@ pub invariant_of-numbers : goal.invariant_of-numbers
 invariant_of-numbers c =
     record {
       small = small_part c.args.f.now c.in_ok-part.part.gates c.requires.well_formed.prefix
-          c.requires.few_variables c.requires.few_clauses (let n = c.len.ensures.value in let few =
-          c.if-len-gt-MOST.false in omega (arith, n, few));
+          c.requires.few_variables c.requires.few_clauses (let few =
+          c.if-len-gt-MOST.false in omega (arith, c.len.ensures.value, few));
     }
 
 pub proof_items-requires-clause-ids : goal.proof_items-requires-clause-ids
@@ -16,7 +16,7 @@ proof_items-requires-clause-ids c = record {
   decided = c.requires;
   part = c.in_ok-part.ensures.part;
   small = small_part c.args.f.now c.in_ok-part.part.gates c.requires.well_formed.prefix c.requires.few_variables
-      c.requires.few_clauses (let n = c.len.ensures.value in let few = c.if-len-gt-MOST.false in omega (arith, n, few));
+      c.requires.few_clauses (omega (arith, c.len.ensures.value, c.if-len-gt-MOST.false));
   few_literals = c.in_ok-before.ensures.few;
 }
 
@@ -25,7 +25,7 @@ circuit_file-requires c = record {
   decided = c.requires;
   part = c.in_ok-part.ensures.part;
   small = small_part c.args.f.now c.in_ok-part.part.gates c.requires.well_formed.prefix c.requires.few_variables
-      c.requires.few_clauses (let n = c.len.ensures.value in let few = c.if-len-gt-MOST.false in omega (arith, n, few));
+      c.requires.few_clauses (omega (arith, c.len.ensures.value, c.if-len-gt-MOST.false));
   few_literals = c.in_ok-before.ensures.few;
 }
 
@@ -36,8 +36,7 @@ returns c = record {
     decided = c.requires;
     part = c.in_ok-part.ensures.part;
     small = small_part c.args.f.now c.in_ok-part.part.gates c.requires.well_formed.prefix c.requires.few_variables
-        c.requires.few_clauses (let n = c.len.ensures.value in let few = c.if-len-gt-MOST.false in
-        omega (arith, n, few));
+        c.requires.few_clauses (omega (arith, c.len.ensures.value, c.if-len-gt-MOST.false));
     few_literals = c.in_ok-before.ensures.few;
   };
   few_gates = c.in_ok-part.ensures.few;

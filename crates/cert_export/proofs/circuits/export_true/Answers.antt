@@ -1,4 +1,5 @@
-use Rattle.std.proofs.Common.{subst, sym}
+use Rattle.std.proofs.Common.{subst, sym, arith}
+use Rattle.std.proofs.lemmas.Grind.{common_steps}
 use Rattle.hint_log.specs.Reached.{AreReached}
 use Rattle.cert_export.proofs.ExportableCircuits.{decided_ids, decided_id, is_proved, is_few, is_writable, is_allowed}
 use Rattle.cert_export.proofs.GateVariables.{is_numbered}
@@ -14,27 +15,21 @@ export_ids-requires c =
     c.requires.decided.decided)
     (subst (AreReached entries c.args.id) (sym c.items.ensures) c.in_ok-ids.ensures)
 
-pub returns-clause-proved : goal.returns-clause-proved
-returns-clause-proved c =
-    if_ok_more c.export_ids.result (λ r x. is_proved c.args.f.now c.args.log.now.entries c.args.id c.items.result.now
-    r.0 r.1 x c.exported_answer_is_proved.ensures) c.export_ids.ensures
-
-pub returns-clause-few : goal.returns-clause-few
-returns-clause-few c = if_ok_more c.export_ids.result (λ r x. is_few c.args.f.now c.args.log.now.entries c.args.id
-    c.items.result.now r.0 r.1 x) c.export_ids.ensures
-
-pub returns-clause-spelled : goal.returns-clause-spelled
-returns-clause-spelled c =
-    if_ok_more c.export_ids.result (λ r x. is_writable c.args.f.now c.args.log.now.entries c.args.id c.items.result.now
-    r.0 r.1 x c.exported_file_is_spellable.ensures) c.export_ids.ensures
-
-pub returns-clause-allowed : goal.returns-clause-allowed
-returns-clause-allowed c = if_ok_more c.export_ids.result (λ r x. is_allowed c.args.f.now c.args.log.now.entries
-    c.args.id c.items.result.now r.0 r.1 x) c.export_ids.ensures
-
-pub returns-clause-exported : goal.returns-clause-exported
-returns-clause-exported c = if_ok_more c.export_ids.result (λ r x. (c.items.result.now, x)) c.export_ids.ensures
-
-pub returns-clause-numbers : goal.returns-clause-numbers
-returns-clause-numbers c = if_ok_more c.export_ids.result (λ r x. is_numbered c.args.f.now c.args.log.now.entries
-    c.args.id c.items.result.now r.0 r.1 x) c.export_ids.ensures
+pub returns : goal.returns
+returns c =
+    let f = c.args.f.now in
+    let entries = c.args.log.now.entries in
+    let id = c.args.id in
+    let ids = c.items.result.now in
+    let made = c.export_ids.ensures in
+    record {
+      proved = if_ok_more c.export_ids.result
+          (λ r x. is_proved f entries id ids r.0 r.1 x c.exported_answer_is_proved.ensures) made;
+      gates = grind (arith, common_steps);
+      numbers = if_ok_more c.export_ids.result (λ r x. is_numbered f entries id ids r.0 r.1 x) made;
+      few = if_ok_more c.export_ids.result (λ r x. is_few f entries id ids r.0 r.1 x) made;
+      spelled = if_ok_more c.export_ids.result
+          (λ r x. is_writable f entries id ids r.0 r.1 x c.exported_file_is_spellable.ensures) made;
+      allowed = if_ok_more c.export_ids.result (λ r x. is_allowed f entries id ids r.0 r.1 x) made;
+      exported = if_ok_more c.export_ids.result (λ r x. (ids, x)) made;
+    }

@@ -15,8 +15,12 @@ invariant_of-base c =
     let e = part_of c.args.numbers.now.part.now in
     let is = last_is f entries c.args.id c.args.ids.now e c.requires.ids c.len.result c.clauses.result c.args.before.now
     c.requires.lengths c.len.ensures.value c.clauses.ensures.value in
-    let small = last_small f entries c.args.id c.args.ids.now e c.requires.ids in
-    record { lengths = c.requires.lengths; whole = is; few = omega (arith, is, small) }
+    record {
+      lengths = c.requires.lengths;
+      whole = is;
+      few =
+          omega (arith, is, last_small f entries c.args.id c.args.ids.now e c.requires.ids);
+    }
 
 pub write_lines-requires-clause-can : goal.write_lines-requires-clause-can
 write_lines-requires-clause-can c =

@@ -1,75 +1,38 @@
-use Rattle.std.proofs.Common.{◌*◌, ◌/◌, ◌++◌, [], ◌∷◌, ℕ, slice_index, sym, ◌∙◌, ap, subst, arith}
+use Rattle.std.proofs.Common.{◌*◌, ◌/◌, ◌++◌, [], ◌∷◌, ℕ, slice_index, ◌∙◌, ap, arith}
 use Rattle.hint_log.specs.Entries.{name_of}
-use Rattle.circuit_plain.specs.Netlist.{Netlist, IsDefined, IsLiteral, IsVariable}
-use Rattle.circuit_plain.proofs.NetlistParts.{MayBeAdded, may_be_added}
+use Rattle.circuit_plain.proofs.NetlistParts.{gate_added}
 use Rattle.cert_export.specs.CircuitPart.{circuit_renaming, exported_netlist, gate_of}
 use Rattle.cert_export.specs.Parts.{part_of}
-use Rattle.cert_export.proofs.FileGates.{gate_added, gate_at_place}
+use Rattle.cert_export.proofs.FileGates.{gate_at_place, gate_may}
 use Rattle.cert_export.proofs.netlists.add_gates.Goals as goal
 
 pub add_gate-requires-clause-in_range : goal.add_gate-requires-clause-in_range
 add_gate-requires-clause-in_range c =
-    let f = c.args.f.now in
-    let entries = c.args.log.now.entries in
-    let e = part_of c.args.part.now in
-    let net = exported_netlist f entries e in
-    let v = slice_index c.items.result.now c.loop-place.place in
-    let g = gate_of (circuit_renaming f entries e) v (name_of entries v) in
-    let there = gate_at_place f entries e c.items.result.now c.loop-place.place c.items.ensures
-    (let t = c.loop-place-test.true in let n = c.len-place-end.ensures.value in omega (arith, t, n)) in
-    let may = subst (λ (r : ℕ × ℕ × ℕ). MayBeAdded net c.loop-place.place (2 * r.0) r.1 r.2)
-    (sym c.file_gate-variable.ensures.value) (may_be_added net c.requires.can.netlist c.loop-place.place g there.0
-    there.1) in
-    subst (λ (n : Netlist). IsVariable n.max_var (2 * c.file_gate-variable.result.0 / 2))
-    (sym c.loop-place.invariant) may.variable
+    (gate_may c.args.f.now c.args.log.now.entries (part_of c.args.part.now) c.items.result.now c.loop-place.place
+    c.loop-place.circuit c.file_gate-variable.result c.requires.can.netlist c.items.ensures
+    (omega (arith, c.loop-place-test.true, c.len-place-end.ensures.value)) c.loop-place.invariant
+    c.file_gate-variable.ensures.value).variable
 
 pub add_gate-requires-clause-undefined : goal.add_gate-requires-clause-undefined
 add_gate-requires-clause-undefined c =
-    let f = c.args.f.now in
-    let entries = c.args.log.now.entries in
-    let e = part_of c.args.part.now in
-    let net = exported_netlist f entries e in
-    let v = slice_index c.items.result.now c.loop-place.place in
-    let g = gate_of (circuit_renaming f entries e) v (name_of entries v) in
-    let there = gate_at_place f entries e c.items.result.now c.loop-place.place c.items.ensures
-    (let t = c.loop-place-test.true in let n = c.len-place-end.ensures.value in omega (arith, t, n)) in
-    let may = subst (λ (r : ℕ × ℕ × ℕ). MayBeAdded net c.loop-place.place (2 * r.0) r.1 r.2)
-    (sym c.file_gate-variable.ensures.value) (may_be_added net c.requires.can.netlist c.loop-place.place g there.0
-    there.1) in
-    λ defined. may.undefined (subst (λ (n : Netlist). IsDefined n (2 * c.file_gate-variable.result.0 / 2))
-    c.loop-place.invariant defined)
+    (gate_may c.args.f.now c.args.log.now.entries (part_of c.args.part.now) c.items.result.now c.loop-place.place
+    c.loop-place.circuit c.file_gate-variable.result c.requires.can.netlist c.items.ensures
+    (omega (arith, c.loop-place-test.true, c.len-place-end.ensures.value)) c.loop-place.invariant
+    c.file_gate-variable.ensures.value).undefined
 
 pub add_gate-requires-clause-a_in_range : goal.add_gate-requires-clause-a_in_range
 add_gate-requires-clause-a_in_range c =
-    let f = c.args.f.now in
-    let entries = c.args.log.now.entries in
-    let e = part_of c.args.part.now in
-    let net = exported_netlist f entries e in
-    let v = slice_index c.items.result.now c.loop-place.place in
-    let g = gate_of (circuit_renaming f entries e) v (name_of entries v) in
-    let there = gate_at_place f entries e c.items.result.now c.loop-place.place c.items.ensures
-    (let t = c.loop-place-test.true in let n = c.len-place-end.ensures.value in omega (arith, t, n)) in
-    let may = subst (λ (r : ℕ × ℕ × ℕ). MayBeAdded net c.loop-place.place (2 * r.0) r.1 r.2)
-    (sym c.file_gate-variable.ensures.value) (may_be_added net c.requires.can.netlist c.loop-place.place g there.0
-    there.1) in
-    subst (λ (n : Netlist). IsLiteral n.max_var c.file_gate-variable.result.1)
-    (sym c.loop-place.invariant) may.left_fits
+    (gate_may c.args.f.now c.args.log.now.entries (part_of c.args.part.now) c.items.result.now c.loop-place.place
+    c.loop-place.circuit c.file_gate-variable.result c.requires.can.netlist c.items.ensures
+    (omega (arith, c.loop-place-test.true, c.len-place-end.ensures.value)) c.loop-place.invariant
+    c.file_gate-variable.ensures.value).left
 
 pub add_gate-requires-clause-b_in_range : goal.add_gate-requires-clause-b_in_range
 add_gate-requires-clause-b_in_range c =
-    let f = c.args.f.now in
-    let entries = c.args.log.now.entries in
-    let e = part_of c.args.part.now in
-    let net = exported_netlist f entries e in
-    let v = slice_index c.items.result.now c.loop-place.place in
-    let g = gate_of (circuit_renaming f entries e) v (name_of entries v) in
-    let there = gate_at_place f entries e c.items.result.now c.loop-place.place c.items.ensures
-    (let t = c.loop-place-test.true in let n = c.len-place-end.ensures.value in omega (arith, t, n)) in
-    let may = subst (λ (r : ℕ × ℕ × ℕ). MayBeAdded net c.loop-place.place (2 * r.0) r.1 r.2)
-    (sym c.file_gate-variable.ensures.value) (may_be_added net c.requires.can.netlist c.loop-place.place g there.0
-    there.1) in
-    subst (λ (n : Netlist). IsLiteral n.max_var c.file_gate-variable.result.2)
-    (sym c.loop-place.invariant) may.right_fits
+    (gate_may c.args.f.now c.args.log.now.entries (part_of c.args.part.now) c.items.result.now c.loop-place.place
+    c.loop-place.circuit c.file_gate-variable.result c.requires.can.netlist c.items.ensures
+    (omega (arith, c.loop-place-test.true, c.len-place-end.ensures.value)) c.loop-place.invariant
+    c.file_gate-variable.ensures.value).right
 
 pub loop-place-preserved : goal.loop-place-preserved
 loop-place-preserved c =
@@ -80,7 +43,7 @@ loop-place-preserved c =
     let v = slice_index c.items.result.now c.loop-place.place in
     let g = gate_of (circuit_renaming f entries e) v (name_of entries v) in
     let there = gate_at_place f entries e c.items.result.now c.loop-place.place c.items.ensures
-    (let t = c.loop-place-test.true in let n = c.len-place-end.ensures.value in omega (arith, t, n)) in
+    (omega (arith, c.loop-place-test.true, c.len-place-end.ensures.value)) in
     let old = c.loop-place.circuit in
     gate_added net c.loop-place.place g old c.add_gate.new.self there.0 there.1 c.loop-place.invariant
     (c.in_ok-add_gate.ensures.ok

@@ -1,10 +1,11 @@
 use Rattle.std.proofs.Common.{sym, ◌∙◌, ap, subst, ℕ, ◌++◌, [], ◌∷◌, slice_index}
 use Rattle.circuit_plain.specs.Netlist.{Netlist, IsLiteral}
+use Rattle.circuit_plain.proofs.NetlistParts.{output_added}
 use Rattle.cert_export.specs.CircuitPart.{circuit_renaming, exported_netlist, leaf_code}
 use Rattle.cert_export.specs.FaultLeaves.{leaf_of, or_false}
 use Rattle.cert_export.specs.Netlists.{IsLeafNamed}
 use Rattle.cert_export.specs.Parts.{part_of}
-use Rattle.cert_export.proofs.FileGates.{leaf_named, output_at_place, output_added}
+use Rattle.cert_export.proofs.FileGates.{leaf_named, output_at_place}
 use Rattle.cert_export.proofs.netlists.add_outputs.Goals as goal
 
 pub leaf_number-requires-clause-named : goal.leaf_number-requires-clause-named

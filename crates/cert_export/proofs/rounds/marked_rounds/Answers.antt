@@ -22,8 +22,7 @@ mark_round-requires c k j is =
     (i, c.loop-id-test.true, sym (get_or_default ids i 0 id c.loop-id-test.true)) (c.origin.ensures ∙ is) in
     let many : length c.loop-id.marks.items ≡ rounds_of entries = ap length c.loop-id.invariant
     ∙ length-map-range_with_len (has_instance entries (take i ids)) 1 (rounds_of entries) in
-    let high = within.1 in
-    (within.0, omega (arith, many, high))
+    (within.0, omega (arith, many, within.1))
 
 pub loop-id-preserved : goal.loop-id-preserved
 loop-id-preserved c =

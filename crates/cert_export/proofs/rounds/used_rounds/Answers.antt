@@ -15,9 +15,7 @@ loop-k-preserved c =
     let n = rounds_of entries in
     let many : length c.in_ok-marks.marks.items ≡ n = ap length c.in_ok-marks.ensures
     ∙ length-map-range_with_len has 1 n in
-    let len = c.len-k-end.ensures in
-    let below = c.loop-k-test.true in
-    let small : k < n = omega (arith, many, len, below) in
+    let small : k < n = omega (arith, many, c.len-k-end.ensures, c.loop-k-test.true) in
     let bit = c.index.result.now in
     let mark : bit ≡ has (1 + k) = c.index.ensures ∙ ap (λ xs. slice_index_or xs k bit) c.in_ok-marks.ensures
     ∙ get_or-map-range_with_len has 1 n k (1 + k) bit small refl in
@@ -34,8 +32,6 @@ returns c =
     let has = has_instance entries c.args.ids.now in
     let many : length c.in_ok-marks.marks.items ≡ rounds_of entries = ap length c.in_ok-marks.ensures
     ∙ length-map-range_with_len has 1 (rounds_of entries) in
-    let len = c.len-k-end.ensures in
-    let past = c.loop-k-test.false in
-    let within = c.loop-k.auto.k-end in
-    let all : c.loop-k.k ≡ rounds_of entries = omega (arith, many, len, past, within) in
+    let all : c.loop-k.k ≡ rounds_of entries =
+    omega (arith, many, c.len-k-end.ensures, c.loop-k-test.false, c.loop-k.auto.k-end) in
     c.loop-k.invariant ∙ ap (λ n. filter has (range_with_len 1 n)) all

@@ -1,6 +1,6 @@
 use Rattle.std.proofs.Common.{None, sym, ◌∙◌, ap, subst}
 use Rattle.cert_text.specs.Numbering.{Numbering}
-use Rattle.cert_lines.specs.ItemsToCome.{item_of}
+use Rattle.cert_stream.specs.ItemsToCome.{item_of}
 use Rattle.proof_checker.specs.Judging.{IsJudging}
 use Rattle.cert_stream.proofs.ProofAnswers.{numbered_next}
 use Rattle.cert_stream.proofs.proofs.judge_next.Goals as goal

@@ -1,6 +1,7 @@
 use Rattle.std.proofs.Common.{sym, ◌∙◌}
-use Rattle.definition_order.proofs.Declared.{is_variable, none_contained, place_is}
+use Rattle.definition_order.proofs.Declared.{is_variable, place_is}
 use Rattle.dq_formula.specs.Prefix.{existential_variables}
+use Rattle.dq_formula.proofs.Subsets.{none_contained}
 use Rattle.definition_order.proofs.shared.place_of.Goals as goal
 
 pub unreachable-requires : goal.unreachable-requires

@@ -1,5 +1,4 @@
-use Rattle.definition_proofs.proofs.GrownProofs.{no_formula}
-use Rattle.definition_proofs.proofs.TermParts.{one, two, three, whole, stopped}
+use Rattle.definition_proofs.proofs.KnownTerms.{no_formula, one, two, three, whole, stopped}
 use Rattle.definition_proofs.proofs.terms.give_clauses.Goals as goal
 
 pub returns-in_err-add-2-clause-gives : goal.returns-in_err-add-2-clause-gives

@@ -1,15 +1,12 @@
-use Rattle.std.proofs.Common.{◌≡◌, Some, None, true, false, ◌&&◌, Bool, refl, sym, ◌∙◌, ap, subst}
+use Rattle.std.proofs.Common.{◌≡◌, Some, None, true, false, ◌&&◌, sym, ◌∙◌, ap, subst}
 use Rattle.std.specs.Option.{is_some}
+use Rattle.list_laws.proofs.Truths.{and-false}
 use Rattle.dq_lits.specs.Literal.{variable_of, opposite}
 use Rattle.dq_lits.specs.Derivation.{holds}
 use Rattle.dq_lits.proofs.SignedLiterals.{opposite_variable}
 use Rattle.interpolants.specs.Interpolant.{node_of}
 use Rattle.interpolants.proofs.Steps.{IsLiteralNode, asked_more, asked_past}
 use Rattle.interpolants.proofs.shared.and_asked.Goals as goal
-
-and_false : (b : Bool) → (b && false) ≡ false
-and_false true = refl
-and_false false = refl
 
 pub returns-then-not-has-clause-more : goal.returns-then-not-has-clause-more
 returns-then-not-has-clause-more c = λ old clause p part.
@@ -48,5 +45,5 @@ returns-in-None-clause-more c = λ old clause p part.
     let none : node_of c.args.shared.now (variable_of c.args.l) ≡ None =
     ap (node_of c.args.shared.now) (sym c.var.ensures.value) ∙ sym c.get.ensures ∙ c.in-None.is in
     asked_past c.args.shared.now c.args.assumed.now clause old c.args.graph.now c.args.l p c.args.node
-    (ap (λ o. holds c.args.assumed.now (opposite c.args.l) && is_some o) none ∙ and_false
+    (ap (λ o. holds c.args.assumed.now (opposite c.args.l) && is_some o) none ∙ and-false
     (holds c.args.assumed.now (opposite c.args.l))) part

@@ -3,7 +3,7 @@ use Rattle.std.proofs.lemmas.Bool.{or_cases, eqb-true}
 use Rattle.dq_lits.specs.Literal.{variable_of}
 use Rattle.dq_lits.specs.Derivation.{holds}
 use Rattle.learning_trail.specs.Marks.{marked}
-use Rattle.truth_values.proofs.HeldLiterals.{all_give}
+use Rattle.dq_lits.proofs.LiteralValues.{all_give}
 use Rattle.learning_trail.proofs.analysis.redundant_by.Goals as goal
 
 pub returns-then-are_others_marked : goal.returns-then-are_others_marked

@@ -2,7 +2,7 @@ use Rattle.std.proofs.Common.{sym, ◌∙◌}
 use Rattle.dq_lits.proofs.HeldLiterals.{held-at}
 use Rattle.learning_trail.specs.Steps.{literals_of}
 use Rattle.learning_trail.proofs.TrueAssumptions.{true_more, true_all, none_from}
-use Rattle.truth_values.proofs.HeldLiterals.{value_true, value_false, value_free}
+use Rattle.dq_lits.proofs.LiteralValues.{value_true, value_false, value_free}
 use Rattle.learning_trail.proofs.assumptions.next_assumption.Goals as goal
 
 pub loop-l-preserved : goal.loop-l-preserved

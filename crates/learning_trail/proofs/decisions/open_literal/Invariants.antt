@@ -2,7 +2,7 @@ use Rattle.std.proofs.Common.{◌≡◌, take, true, MatchOption}
 use Rattle.dq_lits.specs.Literal.{Literal, opposite}
 use Rattle.dq_lits.specs.Derivation.{holds}
 use Rattle.learning_trail.specs.Steps.{literals_of}
-use Rattle.truth_values.specs.Truth.{IsFree}
+use Rattle.dq_lits.specs.Truth.{IsFree}
 use Rattle.learning_trail.proofs.decisions.open_literal.Given as goal
 
 abbrev pub invariant-loop-l : goal.invariant-loop-l

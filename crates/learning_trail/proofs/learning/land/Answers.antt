@@ -4,7 +4,7 @@ use Rattle.dq_lits.specs.Derivation.{holds}
 use Rattle.dq_lits.proofs.SignedLiterals.{opposite-opposite}
 use Rattle.learning_trail.specs.declared.trails.Step.{Step}
 use Rattle.learning_trail.specs.Steps.{literals_of}
-use Rattle.truth_values.specs.Truth.{IsFree}
+use Rattle.dq_lits.specs.Truth.{IsFree}
 use Rattle.learning_trail.proofs.Lessons.{free_suffix}
 use Rattle.learning_trail.proofs.learning.land.Goals as goal
 

@@ -1,8 +1,8 @@
 use Rattle.std.proofs.Common.{◌≡◌, ◌<◌, ℕ, suc, true, false, length, slice_index_or}
 use Rattle.dq_lits.specs.Literal.{positive}
 use Rattle.learning_trail.specs.Steps.{literals_of}
-use Rattle.truth_values.specs.Truth.{literal_value}
-use Rattle.truth_values.specs.declared.values.TruthValue.TheVariants.{True}
+use Rattle.dq_lits.specs.Truth.{literal_value}
+use Rattle.dq_lits.specs.declared.truth_values.TruthValue.TheVariants.{True}
 use Rattle.learning_trail.proofs.models.keep_values.Given as goal
 
 abbrev pub invariant-loop-i : goal.invariant-loop-i

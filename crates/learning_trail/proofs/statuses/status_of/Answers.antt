@@ -2,7 +2,7 @@ use Rattle.std.proofs.Common.{sym, ◌∙◌, ap, ◌≡◌, ◌+◌}
 use Rattle.dq_lits.specs.Derivation.{stuck}
 use Rattle.learning_trail.specs.Steps.{literals_of}
 use Rattle.learning_trail.specs.Extension.{seen}
-use Rattle.truth_values.specs.Extension.{with_literal}
+use Rattle.dq_lits.specs.Extension.{with_literal}
 use Rattle.learning_trail.proofs.ReadStatus.{read_more, stuck_stays, status_whole}
 use Rattle.learning_trail.proofs.statuses.status_of.Goals as goal
 

@@ -1,7 +1,6 @@
-use Rattle.std.proofs.Common.{◌≡◌, ◌<◌, ◌+◌, ◌*◌, ◌∙◌, ℕ, List, length, refl, ap, subst, sym, arith}
+use Rattle.std.proofs.Common.{◌≡◌, ◌<◌, ◌+◌, ℕ, List, length, refl, ap, subst, sym, arith}
 use Rattle.std.specs.List.{All}
 use Rattle.lifted_proofs.specs.CarriedProofs.{Carrying}
-use Rattle.lifted_proofs.specs.KeptPlaces.{kept_places}
 use Rattle.lifted_proofs.specs.Liftables.{carrying_of}
 use Rattle.lifted_proofs.specs.Liftings.{formula_of, units_of}
 use Rattle.lifted_proofs.proofs.LiftedCircuits.{kept-small, carried-small, all-lines}
@@ -39,37 +38,25 @@ returns c =
     let l = c.args.lifting.now in
     let it = c.requires.lifting in
     let w = c.in_ok-ids.field-0 in
-    let base = it.base in
-    let Made : ℕ → ℕ → List ℕ → ℕ → List ℕ → ℕ → Carrying = λ gates largest places clauses ids first. record {
-      gates = gates;
-      largest = largest;
-      places = places;
-      clauses = clauses;
-      ids = ids;
-      some_false = first;
+    let k : Carrying = record {
+      gates = l.base.gates;
+      largest = l.base.largest;
+      places = c.deref.result.now;
+      clauses = c.clauses.result;
+      ids = c.deref-2.result.now;
+      some_false = l.base.first + c.len.result;
     } in
-    let k : Carrying = Made l.base.gates l.base.largest c.deref.result.now c.clauses.result c.deref-2.result.now
-    (l.base.first + c.len.result) in
     let same : k ≡ carrying_of (formula_of l) (units_of l) l.bench.now w.ids.items w.steps =
-    ap (λ n. Made n l.base.largest c.deref.result.now c.clauses.result c.deref-2.result.now
-    (l.base.first + c.len.result)) base.gates
-    ∙ ap (λ n. Made (3 * length l.bench.now.circuit.netlist.gates) n c.deref.result.now c.clauses.result
-    c.deref-2.result.now (l.base.first + c.len.result)) base.largest
-    ∙ ap (λ ps. Made (3 * length l.bench.now.circuit.netlist.gates) l.bench.now.circuit.netlist.max_var ps
-    c.clauses.result c.deref-2.result.now (l.base.first + c.len.result)) (c.deref.ensures.value ∙ it.kept)
-    ∙ ap (λ n. Made (3 * length l.bench.now.circuit.netlist.gates) l.bench.now.circuit.netlist.max_var
-    (kept_places (formula_of l) (units_of l) 0 (formula_of l).matrix) n c.deref-2.result.now
-    (l.base.first + c.len.result))
-    c.clauses.ensures.value
-    ∙ ap (λ ids. Made (3 * length l.bench.now.circuit.netlist.gates) l.bench.now.circuit.netlist.max_var
-    (kept_places (formula_of l) (units_of l) 0 (formula_of l).matrix) (length (formula_of l).matrix) ids
-    (l.base.first + c.len.result)) c.deref-2.ensures.value
-    ∙ ap (λ n. Made (3 * length l.bench.now.circuit.netlist.gates) l.bench.now.circuit.netlist.max_var
-    (kept_places (formula_of l) (units_of l) 0 (formula_of l).matrix) (length (formula_of l).matrix) w.ids.items
-    (l.base.first + n)) c.len.ensures.value
-    ∙ ap (λ n. Made (3 * length l.bench.now.circuit.netlist.gates) l.bench.now.circuit.netlist.max_var
-    (kept_places (formula_of l) (units_of l) 0 (formula_of l).matrix) (length (formula_of l).matrix) w.ids.items
-    (n + length w.steps)) base.first in
+    cc (
+      it.base.gates,
+      it.base.largest,
+      it.base.first,
+      it.kept,
+      c.deref.ensures.value,
+      c.deref-2.ensures.value,
+      c.clauses.ensures.value,
+      c.len.ensures.value,
+    ) in
     all-lines l w c.add_some_false.new.steps c.carry.new.steps k c.args.p.now it c.in_ok-ids.ensures
     c.in_ok-add_some_false.ensures c.requires.allowed c.requires.derives same c.in_ok-carry.ensures
     (omega (arith, c.if-len-gt-MOST_LINES.false, c.len-2.ensures.value))

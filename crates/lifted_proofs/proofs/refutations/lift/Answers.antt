@@ -36,7 +36,7 @@ of_lines-requires c =
 pub returns-clause-allowed : goal.returns-clause-allowed
 returns-clause-allowed c =
     lifted-allowed c.args.table.now c.in_ok-plan.plan c.in_ok-steps.steps
-    (record { rows = c.in_ok-plan.plan.rows; items = c.of_lines.result }) c.in_ok-plan.ensures.whole.plan
+    (record { rows = c.in_ok-plan.plan.rows; items = c.of_lines.result }) c.in_ok-plan.ensures.whole.plan.plan
     c.in_ok-steps.ensures.lifted c.in_ok-steps.ensures.few refl c.of_lines.ensures
 
 pub returns-clause-refutes : goal.returns-clause-refutes

@@ -18,7 +18,7 @@ carry-requires-clause-can c =
     let wanted = few-wanted c.args.sources.now c.args.wanted.now c.requires.plan.first p.goals.items
     c.requires.plan.goals c.requires.plan.goals_kept in
     let same = ap (λ (xs : List ℕ). length xs) c.deref.ensures.value in
-    let few = few-rows (length p.rows) c.clauses.result (omega (arith, c.requires.whole.plan.few_rows))
+    let few = few-rows (length p.rows) c.clauses.result (omega (arith, c.requires.whole.plan.plan.few_rows))
     (omega (arith, c.clauses.ensures.few)) in
     let rows = ap (λ xs. length xs * c.clauses.result) c.items.ensures in
     record {
@@ -38,19 +38,14 @@ returns-clause-lifted c =
     let w = c.in_ok-written.written in
     let sources = c.args.sources.now in
     let wanted = c.args.wanted.now in
-    let Made : List ℕ → ℕ → ℕ → Renumbering =
-    λ ids o n. record { wanted = wanted; ids = ids; old_last = o; new_last = n } in
-    let old = length c.items-2.result.now * length sources in
-    let new = length c.items.result.now * c.clauses.result + c.len.result in
-    let same : Made c.deref.result.now old new ≡ renumber t d sources wanted p w =
-    ap (λ ids. Made ids old new) c.deref.ensures.value
-    ∙ ap (λ rs. Made w.ids.items (length rs * length sources) new) c.items-2.ensures
-    ∙ ap (λ rs. Made w.ids.items (length d.rows * length sources) (length rs * c.clauses.result + c.len.result))
-    c.items.ensures
-    ∙ ap (λ n. Made w.ids.items (length d.rows * length sources) (length p.rows * n + c.len.result))
-    c.clauses.ensures.value
-    ∙ ap (λ n. Made w.ids.items (length d.rows * length sources) (length p.rows * length t.formula.now.matrix + n))
-    c.len.ensures.value in
+    let r : Renumbering = record {
+      wanted = wanted;
+      ids = c.deref.result.now;
+      old_last = length c.items-2.result.now * length sources;
+      new_last = length c.items.result.now * c.clauses.result + c.len.result;
+    } in
+    let same : r ≡ renumber t d sources wanted p w =
+    cc (c.deref.ensures.value, c.items-2.ensures, c.items.ensures, c.clauses.ensures.value, c.len.ensures.value) in
     all-lifted t d sources wanted p w c.carry.new.steps
     (record {
       right = c.requires.right;

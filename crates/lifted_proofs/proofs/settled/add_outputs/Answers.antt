@@ -21,8 +21,7 @@ loop-place-preserved c =
     c.outputs-place-end.ensures ∙ ap (λ (n : Netlist). n.outputs) c.circuit-circuit.ensures in
     let below : place < length net.outputs = subst (λ xs. place < length xs) read c.loop-place-test.true in
     let enough = outputs-enough t net mapping place c.requires.mapped below in
-    let long = as-long trues mapping.outputs net.outputs in
-    let inside : place < length (settled_outputs trues mapping.outputs net.outputs) = omega (arith, below, long) in
+    let inside : place < length (settled_outputs trues mapping.outputs net.outputs) = omega (arith, below, as-long trues mapping.outputs net.outputs) in
     output_added (settled_netlist trues mapping.outputs net) place out c.loop-place.settled c.add_output.new.self inside
     (get_or_default (settled_outputs trues mapping.outputs net.outputs) place out 0 inside
     ∙ settled-at trues mapping.outputs net.outputs place enough below ∙ sym c.output_at-out.ensures)
@@ -38,6 +37,5 @@ returns c =
     c.outputs-place-end.ensures ∙ ap (λ (n : Netlist). n.outputs) c.circuit-circuit.ensures in
     let past : length net.outputs ≤ c.loop-place.place =
     subst (λ xs. length xs ≤ c.loop-place.place) read c.loop-place-test.false in
-    let long = as-long trues mapping.outputs net.outputs in
     c.loop-place.invariant
-    ∙ ap (λ os. record net { outputs = os }) (take_all c.loop-place.place outs (omega (arith, past, long)))
+    ∙ ap (λ os. record net { outputs = os }) (take_all c.loop-place.place outs (omega (arith, past, as-long trues mapping.outputs net.outputs)))

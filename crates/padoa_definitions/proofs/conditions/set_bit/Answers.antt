@@ -1,9 +1,9 @@
 use Rattle.std.proofs.Common.{Some, not, refl, sym, ◌∙◌, ap, subst}
 use Rattle.std.specs.List.{Contains}
 use Rattle.list_laws.proofs.Folds.{place_holds}
-use Rattle.padoa_definitions.proofs.CopiedVariables.{none_contained}
 use Rattle.padoa_definitions.proofs.MetConditions.{bit_kept, bit_set}
 use Rattle.padoa_definitions.proofs.conditions.set_bit.Goals as goal
+use Rattle.dq_formula.proofs.Subsets.{none_contained}
 
 pub returns-in-Some : goal.returns-in-Some
 returns-in-Some c =

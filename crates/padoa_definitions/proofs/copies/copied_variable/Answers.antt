@@ -5,8 +5,9 @@ use Rattle.list_laws.proofs.Elements.{kept_there}
 use Rattle.list_laws.proofs.Folds.{place_holds, placed_below}
 use Rattle.dq_lits.specs.Formula.{Existential}
 use Rattle.dq_formula.specs.Prefix.{existential_variables}
-use Rattle.padoa_definitions.proofs.CopiedVariables.{copy_at, none_contained, found_at}
+use Rattle.padoa_definitions.proofs.CopiedVariables.{copy_at, found_at}
 use Rattle.padoa_definitions.proofs.copies.copied_variable.Goals as goal
+use Rattle.dq_formula.proofs.Subsets.{none_contained}
 
 pub unreachable-requires : goal.unreachable-requires
 unreachable-requires c =

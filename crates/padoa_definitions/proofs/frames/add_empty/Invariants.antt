@@ -1,5 +1,5 @@
 use Rattle.std.proofs.Common.{◌≤◌, None, length}
-use Rattle.padoa_definitions.proofs.MadeRoom.{IsLonger}
+use Rattle.padoa_definitions.proofs.RoomSteps.{IsLonger}
 use Rattle.padoa_definitions.proofs.frames.add_empty.Given as goal
 
 abbrev pub invariant-loop : goal.invariant-loop

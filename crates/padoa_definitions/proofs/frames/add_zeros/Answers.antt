@@ -1,6 +1,6 @@
 use Rattle.std.proofs.Common.{◌∷◌, [], length, ap, arith}
 use Rattle.std.proofs.lemmas.List.{length-append}
-use Rattle.padoa_definitions.proofs.MadeRoom.{longer_more}
+use Rattle.padoa_definitions.proofs.RoomSteps.{longer_more}
 use Rattle.padoa_definitions.proofs.frames.add_zeros.Goals as goal
 
 pub loop-preserved : goal.loop-preserved

@@ -1,5 +1,5 @@
 use Rattle.std.proofs.Common.{◌≤◌, length}
-use Rattle.padoa_definitions.proofs.MadeRoom.{IsLonger}
+use Rattle.padoa_definitions.proofs.RoomSteps.{IsLonger}
 use Rattle.padoa_definitions.proofs.frames.add_zeros.Given as goal
 
 abbrev pub invariant-loop : goal.invariant-loop

@@ -1,6 +1,7 @@
 use Rattle.std.proofs.Common.{get_or}
 use Rattle.std.proofs.lemmas.Option.{slice_get-get_or}
-use Rattle.padoa_definitions.proofs.SeenPlaces.{seen_among, seen_is, no_places, places_more, all_places}
+use Rattle.dq_lits.proofs.FormulaVariables.{seen_as}
+use Rattle.padoa_definitions.proofs.DeclaredPlaces.{seen_among, no_places, places_more, all_places}
 use Rattle.padoa_definitions.proofs.seeing.seen_places.Goals as goal
 
 pub loop-x-init : goal.loop-x-init
@@ -19,5 +20,5 @@ loop-x-preserved c =
 pub returns : goal.returns
 returns c = λ e found.
     all_places c.args.f.now.universals c.seen-x-items.result.now e.sees c.loop-x.x-index c.loop-x.places.items
-    (seen_is c.args.f.now c.args.y c.seen-x-items.result.now e found c.seen-x-items.ensures.set)
+    (seen_as c.args.f.now c.args.y c.seen-x-items.result.now c.seen-x-items.ensures.set e found)
     c.loop-x-test.false c.loop-x.invariant

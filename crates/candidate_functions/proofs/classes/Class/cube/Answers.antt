@@ -1,9 +1,9 @@
 use Rattle.std.proofs.Common.{◌-◌, ◌<◌, Some, length, refl, sym, ◌∙◌, ap, arith}
 use Rattle.std.proofs.lemmas.Option.{slice_get-get_or}
 use Rattle.std.specs.Vec.{with_item}
-use Rattle.candidate_functions.specs.Pairs.{HasPlaces}
+use Rattle.row_pairs.specs.Pairs.{HasPlaces}
 use Rattle.candidate_functions.proofs.PatchedPairs.{cube_put, own_cube}
-use Rattle.candidate_functions.proofs.RowCubes.{row_has}
+use Rattle.row_pairs.proofs.PairRounds.{row_has}
 use Rattle.candidate_functions.proofs.classes.Class.cube.Goals as goal
 
 pub returns-in-Some-clause-cube : goal.returns-in-Some-clause-cube

@@ -6,7 +6,8 @@ use Rattle.aig_graph.specs.Graph.{IsNode}
 use Rattle.aig_graph.proofs.LargerGraphs.{grown_twice}
 use Rattle.definition_order.proofs.Declared.{is_variable, some_existential}
 use Rattle.expansion.specs.Table.{point_bits}
-use Rattle.candidate_functions.specs.Pairs.{HasPlaces, AreRounds, IsClass, IsPlacedClass, universal_places, IsPatched, IsCandidate}
+use Rattle.candidate_functions.specs.Pairs.{AreRounds, IsClass, IsPlacedClass, universal_places, IsPatched, IsCandidate}
+use Rattle.row_pairs.specs.Pairs.{HasPlaces}
 use Rattle.candidate_functions.specs.Differing.{ArePatches}
 use Rattle.candidate_functions.specs.declared.cubes.Pair.{Pair}
 use Rattle.candidate_functions.proofs.DependencyClasses.{places_below, places_told, placed_there, class_put}

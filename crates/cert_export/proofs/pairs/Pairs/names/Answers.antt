@@ -1,11 +1,11 @@
-use Rattle.std.proofs.Common.{◌+◌, sym, ◌∙◌, ap, subst, slice_index, is_some, take}
+use Rattle.std.proofs.Common.{◌+◌, sym, ap, subst, slice_index, is_some, take}
 use Rattle.std.proofs.lemmas.List.{get_or_default}
 use Rattle.cert_export.specs.Expansion.{rows_among, pair_renaming}
 use Rattle.cert_export.specs.Exported.{normal_names}
 use Rattle.cert_export.specs.Names.{renaming, NameTable}
 use Rattle.cert_export.specs.Pairing.{AreNamedAt}
-use Rattle.cert_export.proofs.GivenNames.{given_here, none_here}
-use Rattle.cert_export.proofs.NamedPairs.{GivenPairs, one_instance, all_instances, known_clause}
+use Rattle.cert_export.proofs.GivenNames.{given_here, none_here, known_clause}
+use Rattle.cert_export.proofs.NamedPairs.{GivenPairs, one_instance, all_instances}
 use Rattle.cert_export.proofs.pairs.Pairs.names.Goals.{in-Some+in_ok-name_instance, in_default}
 use Rattle.cert_export.proofs.pairs.Pairs.names.Goals as goal
 

@@ -1,10 +1,11 @@
 use Rattle.std.proofs.Common.{◌≡◌, ◌∙◌, ◌+◌, take, length, slice_index, ap, sym, subst}
 use Rattle.std.proofs.lemmas.List.{get_or_default}
 use Rattle.std.proofs.lemmas.List.Elements.{Contains-get_or}
+use Rattle.list_laws.proofs.Results.{on_ok}
 use Rattle.cert_export.specs.Names.{renaming}
 use Rattle.cert_export.specs.Written.{WrittenLines, IsWritten}
 use Rattle.cert_export.specs.Lines.{derived_ids, line_number}
-use Rattle.cert_export.proofs.WrittenLines.{on_ok_more, hints_there, places_before, line_consistent, written_line}
+use Rattle.cert_export.proofs.WrittenLines.{hints_there, places_before, line_consistent, written_line}
 use Rattle.cert_export.proofs.written.Written.add.Goals as goal
 
 pub add_line-requires-clause-there : goal.add_line-requires-clause-there
@@ -56,7 +57,7 @@ returns g c =
     let number = c.args.source.now.last + c.len.result + 1 in
     let steps : c.len.result ≡ length c.args.self.now.steps =
     c.len.ensures.value ∙ ap (λ (w : WrittenLines). length w.steps) c.self.view_is in
-    on_ok_more c.add_line.result (λ is. subst (IsWritten r base_id entries
+    on_ok c.add_line.result (λ is. subst (IsWritten r base_id entries
     (line_number c.args.source.now.last (derived_ids entries ids)) (take (i + 1) ids)) (sym is)
     (written_line r base_id (g.B.Ground.Knows c.args.source.now.base.now) entries ids c.requires.can i id
     c.requires.place (get_or_default ids i 0 id c.requires.place) c.args.self.now c.args.source.now.last

@@ -1,6 +1,6 @@
 use Rattle.std.proofs.Common.{◌≡◌, ◌∷◌, Ok, ◌∙◌, ap, subst}
-use Rattle.cert_lines.specs.KeptLines.{proof_seen}
-use Rattle.cert_lines.specs.ProofLines.{ProofLines, with_line}
+use Rattle.cert_stream.specs.KeptLines.{proof_seen}
+use Rattle.cert_stream.specs.ProofLines.{ProofLines, with_line}
 use Rattle.cert_stream.specs.ProofInside.{proof_state_in}
 use Rattle.cert_stream.specs.ProofState.{AnswersLines, MayAnswer, ProofState, run_in}
 use Rattle.cert_stream.proofs.ProofAnswers.{answers_going, read_on, stopped_back, unless_failed}

@@ -1,6 +1,6 @@
 use Rattle.std.proofs.Common.{◌∷◌, ap, subst}
-use Rattle.cert_lines.specs.KeptLines.{seen}
-use Rattle.cert_lines.specs.RefutationLines.{RefutationLines}
+use Rattle.cert_stream.specs.KeptLines.{seen}
+use Rattle.cert_stream.specs.RefutationLines.{RefutationLines}
 use Rattle.cert_stream.specs.RefutationInside.{state_in}
 use Rattle.cert_stream.specs.RefutationState.{AnswersLines, MayAnswer, RefutationState}
 use Rattle.cert_stream.proofs.StreamAnswers.{answers_going, if_none_holds, none_stopped, read_on, stopped_back, unless_failed}

@@ -1,4 +1,4 @@
-use Rattle.std.proofs.Common.{ap}
+use Rattle.std.proofs.Common.{◌∙◌, ap}
 use Rattle.hint_log.specs.Entries.{ProofLog}
 use Rattle.padoa_definitions.specs.Copies.{group_variable}
 use Rattle.definition_proofs.proofs.GivenDifferences.{group_grew, group_alone, group_leaves, undiffered_still}
@@ -21,15 +21,17 @@ returns-clause-grew g c =
     (g.met.O.Oracle.searched c.args.oracle.now c.args.log.now c.requires.fit).logged c.in_ok-group.ensures.unnamed
     c.in_ok-group.ensures.ok c.give_parts.ensures.differing
 
-pub returns-clause-alone : goal.returns-clause-alone
-returns-clause-alone g c =
-    group_alone (group_variable c.in_ok-group.group) c.args.self.now c.args.log.now c.group.new.log c.give_parts.new.log
-    (g.met.O.Oracle.searched c.args.oracle.now c.args.log.now c.requires.fit).logged c.in_ok-group.ensures.unnamed
-    c.in_ok-group.ensures.ok c.give_parts.ensures.differing
-
-pub returns-clause-leaves : goal.returns-clause-leaves
-returns-clause-leaves g c =
-    group_leaves (group_variable c.in_ok-group.group) c.args.self.now c.args.log.now c.group.new.log
-    c.give_parts.new.log
-    (g.met.O.Oracle.searched c.args.oracle.now c.args.log.now c.requires.fit).logged c.in_ok-group.ensures.unnamed
-    c.in_ok-group.ensures.ok c.give_parts.ensures.differing
+pub returns-clause-given : goal.returns-clause-given
+returns-clause-given g c = record {
+  made = record {
+    positive = c.in_ok-group.ensures.made.positive;
+    named = c.give_parts.ensures.differing.names (group_variable c.in_ok-group.group) ∙ c.in_ok-group.ensures.made.named;
+  };
+  given = c.in_ok-give_parts.ensures.given;
+  alone = group_alone (group_variable c.in_ok-group.group) c.args.self.now c.args.log.now c.group.new.log
+      c.give_parts.new.log (g.met.O.Oracle.searched c.args.oracle.now c.args.log.now c.requires.fit).logged
+      c.in_ok-group.ensures.unnamed c.in_ok-group.ensures.ok c.give_parts.ensures.differing;
+  leaves = group_leaves (group_variable c.in_ok-group.group) c.args.self.now c.args.log.now c.group.new.log
+      c.give_parts.new.log (g.met.O.Oracle.searched c.args.oracle.now c.args.log.now c.requires.fit).logged
+      c.in_ok-group.ensures.unnamed c.in_ok-group.ensures.ok c.give_parts.ensures.differing;
+}

@@ -8,9 +8,8 @@ use Rattle.hint_log.specs.Entries.{ProofLog, name_of}
 use Rattle.hint_log.specs.declared.names.Name.TheVariants.{Term}
 use Rattle.padoa_definitions.specs.Copies.{group_variable}
 use Rattle.definition_proofs.specs.Terms.{by_both}
-use Rattle.definition_proofs.proofs.GrownProofs.{no_formula, proof_named, proof_gives, proof_then}
+use Rattle.definition_proofs.proofs.KnownTerms.{no_formula, gate_grew, key_of, key_is, none_yet, gate_more}
 use Rattle.definition_proofs.proofs.DeclaredSides.{gate_sides}
-use Rattle.definition_proofs.proofs.KnownTerms.{key_of, key_is, none_yet, gate_more}
 use Rattle.definition_proofs.proofs.terms.Terms.gate.Goals as goal
 
 pub new_var-requires-clause-fresh : goal.new_var-requires-clause-fresh
@@ -29,28 +28,19 @@ give_clauses-requires-clause-none g c =
     c.requires.terms c.in_ok-v.ensures.unnamed (ap (λ (l : ProofLog). l.entries) c.in_ok-v.ensures.ok)
 
 pub returns-in_err-give_clauses-clause-grew : goal.returns-in_err-give_clauses-clause-grew
-returns-in_err-give_clauses-clause-grew g c = λ f y.
-    let group = group_variable c.args.self.now.group in
-    proof_then f group y c.args.log.now c.new_var.new.log c.give_clauses.new.log
-    (proof_named f group y c.args.log.now c.new_var.new.log c.in_ok-v.v c.args.a c.args.b c.in_ok-v.ensures.unnamed
-    c.in_ok-v.ensures.ok)
-    (proof_gives f group c.in_ok-v.v y c.new_var.new.log c.give_clauses.new.log (c.give_clauses.ensures.gives f))
+returns-in_err-give_clauses-clause-grew g c = gate_grew (group_variable c.args.self.now.group) c.args.log.now
+    c.new_var.new.log c.give_clauses.new.log c.in_ok-v.v c.args.a c.args.b c.in_ok-v.ensures.unnamed
+    c.in_ok-v.ensures.ok c.give_clauses.ensures.gives
 
 pub returns-in_err-insert-clause-grew : goal.returns-in_err-insert-clause-grew
-returns-in_err-insert-clause-grew g c = λ f y.
-    let group = group_variable c.args.self.now.group in
-    proof_then f group y c.args.log.now c.new_var.new.log c.give_clauses.new.log
-    (proof_named f group y c.args.log.now c.new_var.new.log c.in_ok-v.v c.args.a c.args.b c.in_ok-v.ensures.unnamed
-    c.in_ok-v.ensures.ok)
-    (proof_gives f group c.in_ok-v.v y c.new_var.new.log c.give_clauses.new.log (c.give_clauses.ensures.gives f))
+returns-in_err-insert-clause-grew g c = gate_grew (group_variable c.args.self.now.group) c.args.log.now
+    c.new_var.new.log c.give_clauses.new.log c.in_ok-v.v c.args.a c.args.b c.in_ok-v.ensures.unnamed
+    c.in_ok-v.ensures.ok c.give_clauses.ensures.gives
 
 pub returns-clause-grew : goal.returns-clause-grew
-returns-clause-grew g c = λ f y.
-    let group = group_variable c.args.self.now.group in
-    proof_then f group y c.args.log.now c.new_var.new.log c.give_clauses.new.log
-    (proof_named f group y c.args.log.now c.new_var.new.log c.in_ok-v.v c.args.a c.args.b c.in_ok-v.ensures.unnamed
-    c.in_ok-v.ensures.ok)
-    (proof_gives f group c.in_ok-v.v y c.new_var.new.log c.give_clauses.new.log (c.give_clauses.ensures.gives f))
+returns-clause-grew g c = gate_grew (group_variable c.args.self.now.group) c.args.log.now
+    c.new_var.new.log c.give_clauses.new.log c.in_ok-v.v c.args.a c.args.b c.in_ok-v.ensures.unnamed
+    c.in_ok-v.ensures.ok c.give_clauses.ensures.gives
 
 pub returns-clause-terms : goal.returns-clause-terms
 returns-clause-terms g c =

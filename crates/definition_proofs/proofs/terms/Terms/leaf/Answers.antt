@@ -1,14 +1,9 @@
-use Rattle.std.proofs.Common.{◌≡◌, ℕ, List, ◌+◌, ◌-◌, ◌<◌, ◌≤◌, length, get_or, slice_get, Some, sym, ◌∙◌, ap, subst, arith}
-use Rattle.std.proofs.lemmas.Option.{slice_get-get_or}
+use Rattle.std.proofs.Common.{◌≡◌, arith}
 use Rattle.log_laws.proofs.Kept.{named_stay}
 use Rattle.padoa_definitions.specs.Copies.{copies_of, group_variable}
-use Rattle.definition_proofs.proofs.ConeLiterals.{AreLiteralsFrom, sides_known, stopped, literal_more, known_found, node_known}
-use Rattle.definition_proofs.proofs.GrownProofs.{no_formula, names_stay, few_still}
+use Rattle.definition_proofs.proofs.NodeLiterals.{sides_known, stopped, literal_more, known_found, node_known}
+use Rattle.definition_proofs.proofs.KnownTerms.{no_formula, names_stay, few_still}
 use Rattle.definition_proofs.proofs.terms.Terms.leaf.Goals as goal
-
-there : (gates : List ℕ) (at g : ℕ) → 0 < at → at ≤ length gates → g ≡ get_or gates (at - 1) g →
-    slice_get gates (at - 1) ≡ Some g
-there gates at g some within is = slice_get-get_or gates (at - 1) g (omega (arith, some, within)) ∙ ap Some (sym is)
 
 pub gate_literal-requires-clause-few : goal.gate_literal-requires-clause-few
 gate_literal-requires-clause-few g c =
@@ -22,67 +17,31 @@ gate_literal-requires-clause-copies g c =
     (c.loop-at.invariant.1.grew no_formula 0)) (copies_of c.args.inputs.now.copy.now) _ c.requires.copies
 
 pub gate_literal-requires-clause-sides : goal.gate_literal-requires-clause-sides
-gate_literal-requires-clause-sides g c =
-    let f = c.args.inputs.now.f.now in
-    let graph = c.args.inputs.now.graph.now in
-    let gates = c.in_ok-gates.gates.items in
-    let at = c.loop-at.at in
-    let below : at ≡ at - 1 + 1 = let test = c.loop-at-test.true in omega (arith, test) in
-    let far = subst (AreLiteralsFrom f graph gates c.args.self.now c.args.log.now c.loop-at.self c.loop-at.log
-    c.loop-at.literals) below c.loop-at.invariant.1 in
-    let here = there gates at c.index-g.result.now c.loop-at-test.true c.loop-at.invariant.1.within c.index-g.ensures in
-    sides_known f graph c.args.node gates c.args.self.now c.args.log.now c.loop-at.self c.loop-at.log
-    c.loop-at.literals (at - 1) c.index-g.result.now c.every_graph_is_lawful.ensures c.in_ok-gates.ensures
-    far here
+gate_literal-requires-clause-sides g c = sides_known c.args.inputs.now.f.now c.args.inputs.now.graph.now c.args.node c.in_ok-gates.gates.items
+    c.args.self.now c.args.log.now c.loop-at.self c.loop-at.log c.loop-at.literals c.loop-at.at c.index-g.result.now
+    c.every_graph_is_lawful.ensures c.in_ok-gates.ensures c.loop-at.invariant.1 c.loop-at-test.true c.index-g.ensures
 
 pub returns-in_err-l-clause-grew : goal.returns-in_err-l-clause-grew
-returns-in_err-l-clause-grew g c =
-    let f = c.args.inputs.now.f.now in
-    let graph = c.args.inputs.now.graph.now in
-    let gates = c.in_ok-gates.gates.items in
-    let at = c.loop-at.at in
-    let below : at ≡ at - 1 + 1 = let test = c.loop-at-test.true in omega (arith, test) in
-    let far = subst (AreLiteralsFrom f graph gates c.args.self.now c.args.log.now c.loop-at.self c.loop-at.log
-    c.loop-at.literals) below c.loop-at.invariant.1 in
-    let here = there gates at c.index-g.result.now c.loop-at-test.true c.loop-at.invariant.1.within c.index-g.ensures in
-    stopped f graph c.args.node gates c.args.self.now c.args.log.now c.loop-at.self c.loop-at.log
-    c.loop-at.literals (at - 1) c.index-g.result.now c.every_graph_is_lawful.ensures c.in_ok-gates.ensures
-    far here
+returns-in_err-l-clause-grew g c = stopped c.args.inputs.now.f.now c.args.inputs.now.graph.now c.args.node c.in_ok-gates.gates.items
+    c.args.self.now c.args.log.now c.loop-at.self c.loop-at.log c.loop-at.literals c.loop-at.at c.index-g.result.now
+    c.every_graph_is_lawful.ensures c.in_ok-gates.ensures c.loop-at.invariant.1 c.loop-at-test.true c.index-g.ensures
     c.gate_literal.new.self c.gate_literal.new.log c.gate_literal.ensures.grew
 
 pub returns-in_err-insert-clause-grew : goal.returns-in_err-insert-clause-grew
-returns-in_err-insert-clause-grew g c =
-    let f = c.args.inputs.now.f.now in
-    let graph = c.args.inputs.now.graph.now in
-    let gates = c.in_ok-gates.gates.items in
-    let at = c.loop-at.at in
-    let below : at ≡ at - 1 + 1 = let test = c.loop-at-test.true in omega (arith, test) in
-    let far = subst (AreLiteralsFrom f graph gates c.args.self.now c.args.log.now c.loop-at.self c.loop-at.log
-    c.loop-at.literals) below c.loop-at.invariant.1 in
-    let here = there gates at c.index-g.result.now c.loop-at-test.true c.loop-at.invariant.1.within c.index-g.ensures in
-    stopped f graph c.args.node gates c.args.self.now c.args.log.now c.loop-at.self c.loop-at.log
-    c.loop-at.literals (at - 1) c.index-g.result.now c.every_graph_is_lawful.ensures c.in_ok-gates.ensures
-    far here
+returns-in_err-insert-clause-grew g c = stopped c.args.inputs.now.f.now c.args.inputs.now.graph.now c.args.node c.in_ok-gates.gates.items
+    c.args.self.now c.args.log.now c.loop-at.self c.loop-at.log c.loop-at.literals c.loop-at.at c.index-g.result.now
+    c.every_graph_is_lawful.ensures c.in_ok-gates.ensures c.loop-at.invariant.1 c.loop-at-test.true c.index-g.ensures
     c.gate_literal.new.self c.gate_literal.new.log c.gate_literal.ensures.grew
 
 pub loop-at-preserved : goal.loop-at-preserved
-loop-at-preserved g c =
-    let f = c.args.inputs.now.f.now in
-    let graph = c.args.inputs.now.graph.now in
-    let gates = c.in_ok-gates.gates.items in
-    let at = c.loop-at.at in
-    let below : at ≡ at - 1 + 1 = let test = c.loop-at-test.true in omega (arith, test) in
-    let far = subst (AreLiteralsFrom f graph gates c.args.self.now c.args.log.now c.loop-at.self c.loop-at.log
-    c.loop-at.literals) below c.loop-at.invariant.1 in
-    let within = c.loop-at.invariant.1.within in
-    let here = there gates at c.index-g.result.now c.loop-at-test.true within c.index-g.ensures in (
-      c.gate_literal.ensures.fit,
-      literal_more f graph c.args.node gates c.args.self.now c.args.log.now c.loop-at.self c.loop-at.log
-          c.loop-at.literals (at - 1) c.index-g.result.now c.every_graph_is_lawful.ensures c.in_ok-gates.ensures
-          far here
-          c.gate_literal.new.self c.gate_literal.new.log c.gate_literal.ensures.grew c.gate_literal.ensures.group
-          c.in_ok-l.ensures.terms c.in_ok-l.ensures.sides c.in_ok-l.l c.in_ok-l.ensures.stands c.insert.new.self c.in_ok-insert.ensures.updates,
-    )
+loop-at-preserved g c = (
+  c.gate_literal.ensures.fit,
+  literal_more c.args.inputs.now.f.now c.args.inputs.now.graph.now c.args.node c.in_ok-gates.gates.items
+      c.args.self.now c.args.log.now c.loop-at.self c.loop-at.log c.loop-at.literals c.loop-at.at c.index-g.result.now
+      c.every_graph_is_lawful.ensures c.in_ok-gates.ensures c.loop-at.invariant.1 c.loop-at-test.true c.index-g.ensures
+      c.gate_literal.new.self c.gate_literal.new.log c.gate_literal.ensures.grew c.in_ok-l.l c.in_ok-l.ensures.leaf
+      c.insert.new.self c.in_ok-insert.ensures.updates,
+)
 
 pub leaf-requires-clause-found : goal.leaf-requires-clause-found
 leaf-requires-clause-found g c =
@@ -103,12 +62,15 @@ returns-clause-leaf g c =
     let at = c.loop-at.at in
     let none : at ≡ 0 = let test = c.loop-at-test.false in omega (arith, test) in
     let es = c.loop-at.log.entries in
-    c.leaf.ensures es
-    (named_stay c.args.log.now.entries es
-    (names_stay no_formula (group_variable c.args.self.now.group) 0 c.args.log.now c.loop-at.log
-    (c.loop-at.invariant.1.grew no_formula 0)) (copies_of c.args.inputs.now.copy.now) _ c.requires.copies)
-    (node_known f graph c.args.node gates c.args.self.now c.args.log.now c.loop-at.self c.loop-at.log c.loop-at.literals
-    at none c.in_ok-gates.ensures c.loop-at.invariant.1)
-
-pub returns-clause-sides : goal.returns-clause-sides
-returns-clause-sides g c = c.loop-at.invariant.1.sides
+    record {
+      grew = c.loop-at.invariant.1.grew;
+      group = c.loop-at.invariant.1.group;
+      terms = c.loop-at.invariant.1.terms_known;
+      sides = c.loop-at.invariant.1.sides;
+      leaf_is = c.leaf.ensures es
+          (named_stay c.args.log.now.entries es
+          (names_stay no_formula (group_variable c.args.self.now.group) 0 c.args.log.now c.loop-at.log
+          (c.loop-at.invariant.1.grew no_formula 0)) (copies_of c.args.inputs.now.copy.now) _ c.requires.copies)
+          (node_known f graph c.args.node gates c.args.self.now c.args.log.now c.loop-at.self c.loop-at.log
+          c.loop-at.literals at none c.in_ok-gates.ensures c.loop-at.invariant.1);
+    }

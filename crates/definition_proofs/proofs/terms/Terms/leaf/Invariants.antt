@@ -1,4 +1,4 @@
-use Rattle.definition_proofs.proofs.ConeLiterals.{AreLiteralsFrom}
+use Rattle.definition_proofs.proofs.NodeLiterals.{AreLiteralsFrom}
 use Rattle.definition_proofs.proofs.terms.Terms.leaf.Given as goal
 
 abbrev pub invariant-loop-at : goal.invariant-loop-at

@@ -5,7 +5,6 @@ use Rattle.hint_log.specs.Entries.{ProofLog}
 use Rattle.padoa_definitions.specs.Copies.{group_variable}
 use Rattle.padoa_definitions.proofs.GivenClauses.{group_anew}
 use Rattle.definition_proofs.specs.Terms.{by_both}
-use Rattle.definition_proofs.specs.declared.terms.Terms.{Terms}
 use Rattle.definition_proofs.proofs.DeclaredSides.{no_sides}
 use Rattle.definition_proofs.proofs.KnownTerms.{no_gates, beside_group}
 use Rattle.definition_proofs.proofs.terms.Terms.new.Goals as goal
@@ -20,13 +19,10 @@ returns-clause-made g c =
 
 pub returns-clause-beside : goal.returns-clause-beside
 returns-clause-beside g c = λ f p padoa whole few.
-    let t : Terms = record { alloc = c.args.alloc; group = c.in_ok-group.group; literals = c.new.result } in
     let is = ap (λ (l : ProofLog). l.entries) c.in_ok-group.ensures.ok in
-    beside_group f p t c.args.log.now.entries c.group.new.log.entries c.in_ok-group.ensures.unnamed is
-    (no_gates t c.args.log.now.entries c.group.new.log.entries
-    (g.met.O.Oracle.searched c.args.oracle.now c.args.log.now c.requires.fit).logged c.requires.none
-    c.in_ok-group.ensures.unnamed c.in_ok-group.ensures.made is
-    (λ q. ap (lookup (is_at (by_both q))) c.new.ensures.empty)) padoa whole few
+    beside_group f p (record { alloc = c.args.alloc; group = c.in_ok-group.group; literals = c.new.result })
+    c.args.log.now.entries c.group.new.log.entries c.in_ok-group.ensures.unnamed is (returns-clause-made g c) padoa whole
+    few
     (no_sides f c.args.log.now.entries c.group.new.log.entries (group_variable c.in_ok-group.group) c.requires.none is)
 
 pub returns-clause-grew : goal.returns-clause-grew

@@ -6,7 +6,7 @@ use Rattle.std.proofs.lemmas.List.Quantifiers.{position-Some}
 use Rattle.dq_lits.specs.Literal.{variable_of}
 use Rattle.dq_formula.specs.Prefix.{existential_variables}
 use Rattle.dq_formula.proofs.Subsets.{none_contained}
-use Rattle.truth_values.specs.declared.values.TruthValue.TheVariants.{True, False}
+use Rattle.dq_lits.specs.declared.truth_values.TruthValue.TheVariants.{True, False}
 use Rattle.dq_prep.specs.Units.{taken_literals, AreUnits}
 use Rattle.dq_prep.specs.Takings.{ValuesTell, unit_at}
 use Rattle.dq_prep.proofs.ToldValues.{unit-existential, unit-fresh, values-told, value_of}
@@ -38,15 +38,15 @@ returns-clause-right c =
     omega (arith, at.0, right.many, length-map f.existentials (λ y. y.variable)) in
     let told = values-told f trues values l c.in-Some.at right.values found below
     (unit-fresh f old u c.requires.is_unit) in
-    let value : c.truth.result ≡ value_of l = c.truth.ensures ∙ ap (λ b. cond (not b) True False) c.is_neg.ensures in
+    let value : c.truth_value.result ≡ value_of l = c.truth_value.ensures ∙ ap (λ b. cond (not b) True False) c.is_neg.ensures in
     let trace : c.push.new.self ≡ u ∷ old = c.in_ok-push.ensures.ok in
     record {
       well = right.well;
       lawful = right.lawful;
       tautologies = right.tautologies;
       units = subst (AreUnits f) (sym trace) (c.requires.is_unit, right.units);
-      many = length-set values c.in-Some.at c.truth.result ∙ right.many;
-      values = subst (λ us. ValuesTell f (taken_literals us) (slice_set values c.in-Some.at c.truth.result))
+      many = length-set values c.in-Some.at c.truth_value.result ∙ right.many;
+      values = subst (λ us. ValuesTell f (taken_literals us) (slice_set values c.in-Some.at c.truth_value.result))
           (sym trace)
           (subst (λ x. ValuesTell f (l ∷ trues) (slice_set values c.in-Some.at x)) (sym value) told);
     }

@@ -1,7 +1,7 @@
 use Rattle.std.proofs.Common.{rules, ◌≡◌, ◌≢◌, ◌<◌, ◌-◌, ◌==◌, ◌∙◌, [], length, get_or, sym, ap, subst, arith}
 use Rattle.std.specs.List.{AllPairs, position_or_len}
+use Rattle.dq_lits.proofs.Followers.{existentials_once}
 use Rattle.expansion.specs.Table.{TableState}
-use Rattle.expansion.proofs.FoundPoints.{existentials_once}
 use Rattle.expansion.proofs.GivenInstances.{row_pairs_many}
 use Rattle.expansion.proofs.VariableBits.{place_within}
 use Rattle.expansion.proofs.tables.Table.pair.Goals as goal

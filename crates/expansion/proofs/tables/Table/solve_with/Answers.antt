@@ -1,10 +1,10 @@
 use Rattle.std.proofs.Common.{◌≡◌, ◌∙◌, ap, subst, Ok, refl, false, ◌≢◌, sym}
 use Rattle.std.specs.List.{AllPairs}
+use Rattle.dq_lits.proofs.Followers.{existentials_once}
 use Rattle.oracle.specs.Calls.{IsRefutedUnder}
 use Rattle.expansion.specs.Searches.{switches}
 use Rattle.expansion.specs.Silence.{is_silent}
 use Rattle.expansion.proofs.TableAnswers.{learned_grew, refuted_grew, table_searched, full_searched, table_shown, assumed_are}
-use Rattle.expansion.proofs.FoundPoints.{existentials_once}
 use Rattle.expansion.proofs.Told.{table_told}
 use Rattle.expansion.proofs.tables.Table.solve_with.Goals as goal
 

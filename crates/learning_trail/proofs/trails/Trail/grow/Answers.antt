@@ -2,8 +2,8 @@ use Rattle.std.proofs.Common.{◌≡◌, ◌++◌, ◌∷◌, [], reverse, lengt
 use Rattle.learning_trail.specs.Steps.{starts_of}
 use Rattle.learning_trail.specs.TrailInside.{IsKept, ArePlaced}
 use Rattle.learning_trail.specs.declared.trails.Step.{Step}
-use Rattle.truth_values.specs.declared.values.TruthValue.{TruthValue}
-use Rattle.truth_values.specs.declared.values.TruthValue.TheVariants.{Unassigned}
+use Rattle.dq_lits.specs.declared.truth_values.TruthValue.{TruthValue}
+use Rattle.dq_lits.specs.declared.truth_values.TruthValue.TheVariants.{Unassigned}
 use Rattle.learning_trail.proofs.KeptTrails.{kept_grown}
 use Rattle.learning_trail.proofs.PlacedSteps.{placed_grown}
 use Rattle.learning_trail.proofs.trails.Trail.grow.Goals as goal

@@ -4,9 +4,10 @@ use Rattle.dq_lits.specs.Literal.{variable_of}
 use Rattle.learning_trail.specs.Steps.{starts_of}
 use Rattle.learning_trail.specs.TrailInside.{IsKept, ArePlaced}
 use Rattle.learning_trail.specs.declared.trails.Step.{Step}
-use Rattle.truth_values.specs.declared.values.TruthValue.{TruthValue}
-use Rattle.truth_values.specs.declared.values.TruthValue.TheVariants.{Unassigned}
-use Rattle.learning_trail.proofs.KeptTrails.{kept_popped, newest}
+use Rattle.dq_lits.specs.declared.truth_values.TruthValue.{TruthValue}
+use Rattle.dq_lits.specs.declared.truth_values.TruthValue.TheVariants.{Unassigned}
+use Rattle.hint_log.proofs.KeptEntries.{newest}
+use Rattle.learning_trail.proofs.KeptTrails.{kept_popped}
 use Rattle.learning_trail.proofs.trails.Trail.pop.Goals as goal
 
 pub invariant_of-self-2 : goal.invariant_of-self-2

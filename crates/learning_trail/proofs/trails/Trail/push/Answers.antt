@@ -2,13 +2,14 @@ use Rattle.std.proofs.Common.{◌≡◌, ◌<◌, ◌++◌, ◌∷◌, [], suc, 
 use Rattle.std.proofs.lemmas.List.{length-set, length-reverse}
 use Rattle.dq_lits.specs.Literal.{variable_of}
 use Rattle.learning_trail.specs.Steps.{Trailed, literals_of, is_decision, starts_of}
-use Rattle.truth_values.specs.Truth.{IsFree}
+use Rattle.dq_lits.specs.Truth.{IsFree}
 use Rattle.learning_trail.specs.TrailInside.{IsKept, ArePlaced}
 use Rattle.learning_trail.specs.declared.trails.Step.{Step}
-use Rattle.truth_values.specs.declared.values.TruthValue.{TruthValue}
-use Rattle.truth_values.specs.declared.values.TruthValue.TheVariants.{True, False}
-use Rattle.truth_values.proofs.AssignedLiterals.{value_where_true}
-use Rattle.learning_trail.proofs.KeptTrails.{kept_pushed, newest}
+use Rattle.dq_lits.specs.declared.truth_values.TruthValue.{TruthValue}
+use Rattle.dq_lits.specs.declared.truth_values.TruthValue.TheVariants.{True, False}
+use Rattle.dq_lits.proofs.AssignedLiterals.{value_where_true}
+use Rattle.hint_log.proofs.KeptEntries.{newest}
+use Rattle.learning_trail.proofs.KeptTrails.{kept_pushed}
 use Rattle.learning_trail.proofs.LevelStarts.{few_starts}
 use Rattle.learning_trail.proofs.PlacedSteps.{placed_pushed}
 use Rattle.learning_trail.proofs.trails.Trail.push.Goals as goal
@@ -62,8 +63,8 @@ invariant_of-self c =
     (sym c.self.view_is) c.requires.free in
     let all = kept_pushed inside.values (reverse inside.steps.items) step place at in_range free
     c.self.invariant.kept in
-    let value : c.truth.result ≡ value_where_true step.literal =
-    c.truth.ensures ∙ ap (λ b. cond (not b) True False) c.is_neg.ensures in
+    let value : c.truth_value.result ≡ value_where_true step.literal =
+    c.truth_value.ensures ∙ ap (λ b. cond (not b) True False) c.is_neg.ensures in
     let longer : more ≡ inside.steps.items ++ step ∷ [] =
     c.push_reserved.ensures.items in
     let again : variable_of step.literal ≡ suc c.place_of-2.result = omega (arith, c.place_of-2.ensures) in
@@ -73,7 +74,7 @@ invariant_of-self c =
     omega (arith, c.len.ensures, length-reverse inside.steps.items, inside.steps.ok.0) in
     let count_again : c.len-2.result ≡ length (reverse inside.steps.items) =
     omega (arith, c.len-2.ensures, length-reverse inside.steps.items, inside.steps.ok.0) in
-    let P : List Step → Type 0 = λ xs. IsKept (set inside.values place c.truth.result) xs in
+    let P : List Step → Type 0 = λ xs. IsKept (set inside.values place c.truth_value.result) xs in
     let Q : TruthValue → Type 0 = λ t. IsKept (set inside.values place t) (step ∷ reverse inside.steps.items) in
     record {
       starts = c.put_start.ensures.starts ∙ ap (λ n. cond (is_decision step) (n ∷ reverse inside.starts.items)
@@ -82,7 +83,7 @@ invariant_of-self c =
           ∙ ap starts_of (sym (ap reverse longer ∙ newest inside.steps.items step));
       starts_room = omega (
         arith,
-        length-set inside.values place c.truth.result,
+        length-set inside.values place c.truth_value.result,
         ap length c.set.ensures,
         c.self.invariant.starts_room,
         c.put_start.ensures.capacity,
@@ -91,7 +92,7 @@ invariant_of-self c =
           (subst P (sym (ap reverse longer ∙ newest inside.steps.items step)) (subst Q (sym value) all.0));
       room = omega (
         arith,
-        length-set inside.values place c.truth.result,
+        length-set inside.values place c.truth_value.result,
         ap length c.set.ensures,
         c.self.invariant.room,
         c.push_reserved.ensures.capacity,
@@ -106,7 +107,7 @@ invariant_of-self c =
         arith,
         n,
         length-set inside.places.items c.place_of-2.result c.len.result,
-        length-set inside.values place c.truth.result,
+        length-set inside.values place c.truth_value.result,
         ap length c.set.ensures,
       );
     }
@@ -130,6 +131,6 @@ returns-clause-few c =
       arith,
       ap length (ap reverse longer ∙ newest inside.steps.items step),
       all.1,
-      length-set inside.values place c.truth.result,
+      length-set inside.values place c.truth_value.result,
       ap length c.set.ensures,
     )

@@ -1,6 +1,6 @@
 use Rattle.std.proofs.Common.{◌<◌, ◌∙◌, ap, arith, length, reverse}
 use Rattle.dq_lits.specs.Literal.{variable_of}
-use Rattle.truth_values.specs.Truth.{literal_value}
+use Rattle.dq_lits.specs.Truth.{literal_value}
 use Rattle.learning_trail.specs.Steps.{Trailed, literals_of}
 use Rattle.learning_trail.proofs.KeptTrails.{far_value}
 use Rattle.learning_trail.proofs.trails.Trail.value.Goals as goal

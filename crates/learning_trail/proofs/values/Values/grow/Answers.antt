@@ -1,6 +1,6 @@
 use Rattle.std.proofs.Common.{◌≡◌, ◌++◌, ◌∷◌, [], List, sym, ◌∙◌, ap, subst}
-use Rattle.truth_values.specs.declared.values.TruthValue.{TruthValue}
-use Rattle.truth_values.specs.declared.values.TruthValue.TheVariants.{Unassigned}
+use Rattle.dq_lits.specs.declared.truth_values.TruthValue.{TruthValue}
+use Rattle.dq_lits.specs.declared.truth_values.TruthValue.TheVariants.{Unassigned}
 use Rattle.learning_trail.specs.Valued.{plain, ArePaired}
 use Rattle.learning_trail.proofs.PairedValues.{paired_grown, plain_grown}
 use Rattle.learning_trail.proofs.values.Values.grow.Goals as goal

@@ -1,8 +1,8 @@
 use Rattle.std.proofs.Common.{◌≡◌, ◌-◌, ◌<◌, List, length, get_or, ◌∙◌, ap, arith}
 use Rattle.std.proofs.lemmas.List.{get_or_default}
 use Rattle.dq_lits.specs.Literal.{is_negative}
-use Rattle.truth_values.specs.declared.values.TruthValue.{TruthValue}
-use Rattle.truth_values.specs.declared.values.TruthValue.TheVariants.{Unassigned}
+use Rattle.dq_lits.specs.declared.truth_values.TruthValue.{TruthValue}
+use Rattle.dq_lits.specs.declared.truth_values.TruthValue.TheVariants.{Unassigned}
 use Rattle.learning_trail.specs.Valued.{plain, signed}
 use Rattle.learning_trail.proofs.PairedValues.{paired_length, read_signed, sign_low}
 use Rattle.learning_trail.proofs.values.Values.of.Goals as goal

@@ -1,11 +1,7 @@
 use Rattle.std.proofs.Common.{◌≤◌, ◌∙◌, ap, subst, length, get_or, []}
 use Rattle.lifted_proofs.specs.Liftings.{formula_of}
-use Rattle.lifted_proofs.proofs.LiftedNames.{kept-in, naming-begun, naming-done}
+use Rattle.lifted_proofs.proofs.LiftedNames.{naming-begun, naming-done}
 use Rattle.lifted_proofs.proofs.liftings.Lifting.name_clause.Goals as goal
-
-pub clause-q-end-requires : goal.clause-q-end-requires
-clause-q-end-requires c =
-    (kept-in c.args.self.now c.args.j c.index.result.now c.requires.lifting c.requires.within c.index.ensures).1
 
 pub loop-q-init : goal.loop-q-init
 loop-q-init c =
@@ -14,8 +10,7 @@ loop-q-init c =
 pub returns : goal.returns
 returns c =
     let l = c.args.self.now in
-    let place = kept-in l c.args.j c.index.result.now c.requires.lifting c.requires.within c.index.ensures in
     naming-done l c.requires.lifting c.args.j c.loop-q.found c.loop-q.q c.loop-q.named c.requires.within
     c.loop-q.invariant
     (subst (λ xs. length xs ≤ c.loop-q.q)
-    (c.clause-q-end.ensures ∙ ap (λ p. get_or (formula_of l).matrix p []) place.0) c.loop-q-test.false)
+    (c.clause-q-end.ensures ∙ ap (λ p. get_or (formula_of l).matrix p []) c.place.ensures.is) c.loop-q-test.false)

@@ -11,7 +11,7 @@ pub name-requires-clause-hints : goal.name-requires-clause-hints
 name-requires-clause-hints c =
     let order = c.args.order.now in
     let i = c.loop-turn.turn-index in
-    hints-first c.args.table.now c.args.plan.now c.loop-turn.self order i (get_or order i none) c.requires.right
+    hints-first c.args.table.now c.args.plan.now c.loop-turn.self order i (get_or order i none)
     c.requires.plan c.requires.order c.loop-turn-test.true
     (get_or_default order i none (get_or order i none) c.loop-turn-test.true) c.loop-turn.invariant.1
 

@@ -1,6 +1,6 @@
 use Rattle.std.proofs.Common.{arith}
 use Rattle.padoa_definitions.specs.Store.{store_of}
-use Rattle.padoa_definitions.proofs.ActiveFrames.{active_all, active_none}
+use Rattle.padoa_definitions.proofs.Activated.{active_all, active_none}
 use Rattle.padoa_definitions.proofs.padoa.Padoa.active_groups.Goals as goal
 
 pub loop-i-init : goal.loop-i-init

@@ -1,14 +1,16 @@
 use Rattle.std.proofs.Common.{refl, ◌∙◌, arith}
 use Rattle.std.proofs.lemmas.Option.{slice_get-get_or}
 use Rattle.padoa_definitions.specs.Store.{store_of}
-use Rattle.padoa_definitions.proofs.LiveClauses.{all_given_at, clause_at, followed, given_all, given_none, given_one, live_standing}
-use Rattle.padoa_definitions.proofs.StoreSteps.{following_none, standing_on}
+use Rattle.padoa_definitions.proofs.FollowedClauses.{all_given_at, followed, given_all, given_none, given_one, live_receiving}
+use Rattle.padoa_definitions.proofs.StoreSteps.{following_none}
 use Rattle.padoa_definitions.proofs.padoa.Padoa.give_live.Goals as goal
+use Rattle.padoa_definitions.proofs.StandingStores.{partial}
 
 pub loop-i-init : goal.loop-i-init
 loop-i-init g c = (
   c.requires.fit,
-  (λ all numbered store now. following_none all numbered (store_of c.args.self.now) c.args.log.now c.args.log.now refl store),
+  (λ all numbered store now. following_none all numbered (store_of c.args.self.now) c.args.log.now c.args.log.now refl
+      (partial all numbered (store_of c.args.self.now) c.args.log.now.entries store)),
   given_none (store_of c.args.self.now) c.args.live.now,
   (λ given. refl),
 )
@@ -18,14 +20,12 @@ follow-requires-clause-standing g c =
     let all = c.requires.store.0 in
     let numbered = c.requires.store.1 in
     let store = c.requires.store.2 in
-    let now = c.requires.store.3 in
-    let f = c.args.f.now in (
+    let now = c.requires.store.3 in (
       all,
       numbered,
-      standing_on all numbered f (store_of c.args.self.now) (store_of c.loop-i.self) c.args.log.now c.loop-i.log
-          (live_standing all numbered f c.args.live.now c.args.frames.now now (store_of c.args.self.now)
-          c.args.log.now.entries store c.requires.few) (c.loop-i.invariant.1 all numbered store now),
-      clause_at all numbered f c.args.live.now c.args.frames.now now c.loop-i.i c.loop-i-test.true,
+      live_receiving all numbered c.args.f.now c.args.live.now c.args.frames.now now (store_of c.args.self.now)
+          (store_of c.loop-i.self) c.args.log.now c.loop-i.log store c.requires.few
+          (c.loop-i.invariant.1 all numbered store now) c.loop-i.i c.loop-i-test.true,
     )
 
 pub returns-in_err-follow-clause-following : goal.returns-in_err-follow-clause-following
@@ -49,11 +49,8 @@ loop-i-preserved g c =
     let n = store_of c.follow.new.self in
     let f = c.args.f.now in
     let y = c.follow.ensures.following c.requires.store.0 c.requires.store.1
-    (standing_on c.requires.store.0 c.requires.store.1 f s m c.args.log.now c.loop-i.log
-    (live_standing c.requires.store.0 c.requires.store.1 f c.args.live.now c.args.frames.now c.requires.store.3 s
-    c.args.log.now.entries c.requires.store.2 c.requires.few) x)
-    (clause_at c.requires.store.0 c.requires.store.1 f c.args.live.now c.args.frames.now c.requires.store.3 c.loop-i.i
-    c.loop-i-test.true) in (
+    (live_receiving c.requires.store.0 c.requires.store.1 f c.args.live.now c.args.frames.now c.requires.store.3 s m
+    c.args.log.now c.loop-i.log c.requires.store.2 c.requires.few x c.loop-i.i c.loop-i-test.true) in (
       c.follow.ensures.fit,
       (λ all numbered store now.
           followed all numbered f c.args.live.now c.args.frames.now now s m n c.args.log.now c.loop-i.log

@@ -2,7 +2,7 @@ use Rattle.std.proofs.Common.{◌≡◌, ℕ, List}
 use Rattle.dq_lits.specs.Formula.{Dqbf}
 use Rattle.padoa_definitions.specs.Following.{AreGiven, IsFollowing, IsLiveFormula}
 use Rattle.padoa_definitions.specs.Store.{IsCopyStore, store_of}
-use Rattle.padoa_definitions.proofs.LiveClauses.{AreGivenSoFar}
+use Rattle.padoa_definitions.proofs.FollowedClauses.{AreGivenSoFar}
 use Rattle.padoa_definitions.proofs.padoa.Padoa.give_live.Given as goal
 
 abbrev pub invariant-loop-i : goal.invariant-loop-i

@@ -1,53 +1,40 @@
-use Rattle.std.proofs.Common.{◌≡◌, ◌+◌, slice_get, Some, sym, refl, ◌∙◌, ap, subst, arith}
+use Rattle.std.proofs.Common.{◌≡◌, Some, refl, sym, ◌∙◌, ap, subst, slice_get, arith, ◌+◌}
 use Rattle.std.specs.List.{All}
 use Rattle.dq_lits.specs.Literal.{variable_of}
 use Rattle.padoa_definitions.specs.Copies.{IsCopied}
 use Rattle.padoa_definitions.specs.Store.{store_of}
 use Rattle.padoa_definitions.specs.declared.frames.Sides.{Sides}
 use Rattle.padoa_definitions.specs.declared.padoa.Padoa.{Padoa}
-use Rattle.padoa_definitions.proofs.FollowedClauses.{following_on, one_or_two}
-use Rattle.padoa_definitions.proofs.StoreSteps.{following_none, standing_on}
+use Rattle.padoa_definitions.proofs.FollowedClauses.{can_receive, one_or_two, received_then}
+use Rattle.padoa_definitions.proofs.StoreSteps.{following_none}
 use Rattle.padoa_definitions.proofs.padoa.Padoa.give_sides.Goals as goal
 
 pub sides_of-side-requires : goal.sides_of-side-requires
-sides_of-side-requires g c = c.requires.standing.3.from_one
+sides_of-side-requires g c = c.requires.standing.2.live.from_one
 
 pub loop-side-init : goal.loop-side-init
 loop-side-init g c = (
   c.requires.fit,
-  (λ all numbered h live. following_none all numbered (store_of c.args.self.now) c.args.log.now c.args.log.now refl h.store),
+  (λ all numbered h.
+      following_none all numbered (store_of c.args.self.now) c.args.log.now c.args.log.now refl h.standing.store),
   refl,
   refl,
   sym c.sides_of-side.ensures,
 )
 
 pub give_copy-requires-clause-standing : goal.give_copy-requires-clause-standing
-give_copy-requires-clause-standing g c =
-    let all = c.requires.standing.0 in
-    let numbered = c.requires.standing.1 in
-    let h = c.requires.standing.2 in (
-      all,
-      numbered,
-      standing_on all numbered c.args.f.now (store_of c.args.self.now) (store_of c.loop-side.self) c.args.log.now
-          c.loop-side.log h (c.loop-side.invariant.1 all numbered h c.requires.standing.3),
-      c.requires.standing.3,
-    )
+give_copy-requires-clause-standing g c = can_receive c.args.f.now c.args.self.now c.loop-side.self c.args.clause
+    c.args.log.now c.loop-side.log c.requires.standing c.loop-side.invariant.1
 
-pub give_copy-requires-clause-room : goal.give_copy-requires-clause-room
-give_copy-requires-clause-room g c =
-    let room = c.requires.room in
-    let long = c.loop-side.invariant.3 in
-    omega (arith, room, long)
-
-pub give_copy-requires-clause-opened : goal.give_copy-requires-clause-opened
-give_copy-requires-clause-opened g c =
-    subst (λ (p : Padoa). (sides : Sides) × (slice_get p.frames.items c.args.clause.frame ≡ Some (Some sides)))
-    (sym c.loop-side.invariant.2) c.requires.opened
-
-pub give_copy-requires-clause-covered : goal.give_copy-requires-clause-covered
-give_copy-requires-clause-covered g c = λ d d_is.
-    subst (λ (p : Padoa). All (λ l. IsCopied c.args.f.now p.copied.items (variable_of l)) d)
-    (sym c.loop-side.invariant.2) (c.requires.covered d d_is)
+pub give_copy-requires-clause-prepared : goal.give_copy-requires-clause-prepared
+give_copy-requires-clause-prepared g c = record {
+  room = (let room = c.requires.prepared.room in let long = c.loop-side.invariant.3 in omega (arith, room, long));
+  opened = subst
+      (λ (p : Padoa). (sides : Sides) × (slice_get p.frames.items c.args.clause.frame ≡ Some (Some sides)))
+      (sym c.loop-side.invariant.2) c.requires.prepared.opened;
+  covered = λ d d_is. subst (λ (p : Padoa). All (λ l. IsCopied c.args.f.now p.copied.items (variable_of l)) d)
+      (sym c.loop-side.invariant.2) (c.requires.prepared.covered d d_is);
+}
 
 pub give_copy-requires-clause-side : goal.give_copy-requires-clause-side
 give_copy-requires-clause-side g c = let test = c.loop-side-test.true in
@@ -57,18 +44,22 @@ pub give_copy-requires-clause-next : goal.give_copy-requires-clause-next
 give_copy-requires-clause-next g c = ap (λ n. n + 1) c.loop-side.invariant.4
 
 pub returns-in_err-give_copy-clause-following : goal.returns-in_err-give_copy-clause-following
-returns-in_err-give_copy-clause-following g c = λ all numbered h live.
-    following_on all numbered c.args.f.now (store_of c.args.self.now) (store_of c.loop-side.self)
-    (store_of c.give_copy.new.self) c.args.log.now c.loop-side.log c.give_copy.new.log h
-    (c.loop-side.invariant.1 all numbered h live) (λ x. c.give_copy.ensures.following all numbered x live)
+returns-in_err-give_copy-clause-following g c = received_then c.args.f.now c.args.self.now c.loop-side.self
+    c.give_copy.new.self c.args.clause c.args.log.now c.loop-side.log c.give_copy.new.log c.loop-side.invariant.1
+    c.give_copy.ensures.following
+
+pub returns-in_err-give_copy-clause-same : goal.returns-in_err-give_copy-clause-same
+returns-in_err-give_copy-clause-same g c = c.give_copy.ensures.same
+    ∙ ap (λ (p : Padoa). record p { given = c.give_copy.new.self.given }) c.loop-side.invariant.2
+
+pub returns-in_err-give_copy-clause-long : goal.returns-in_err-give_copy-clause-long
+returns-in_err-give_copy-clause-long g c = c.give_copy.ensures.long ∙ c.loop-side.invariant.3
 
 pub loop-side-preserved : goal.loop-side-preserved
 loop-side-preserved g c = (
   c.give_copy.ensures.fit,
-  (λ all numbered h live.
-      following_on all numbered c.args.f.now (store_of c.args.self.now) (store_of c.loop-side.self)
-      (store_of c.give_copy.new.self) c.args.log.now c.loop-side.log c.give_copy.new.log h
-      (c.loop-side.invariant.1 all numbered h live) (λ x. c.give_copy.ensures.following all numbered x live)),
+  received_then c.args.f.now c.args.self.now c.loop-side.self c.give_copy.new.self c.args.clause c.args.log.now
+      c.loop-side.log c.give_copy.new.log c.loop-side.invariant.1 c.give_copy.ensures.following,
   c.give_copy.ensures.same
       ∙ ap (λ (p : Padoa). record p { given = c.give_copy.new.self.given }) c.loop-side.invariant.2,
   c.give_copy.ensures.long ∙ c.loop-side.invariant.3,

@@ -2,7 +2,7 @@ use Rattle.std.proofs.Common.{Some, sym, ◌∙◌}
 use Rattle.padoa_definitions.specs.Store.{store_of}
 use Rattle.padoa_definitions.specs.declared.frames.Sides.{Sides}
 use Rattle.padoa_definitions.proofs.FrameSteps.{following_group, opened_following}
-use Rattle.padoa_definitions.proofs.MadeRoom.{free_at}
+use Rattle.padoa_definitions.proofs.RoomSteps.{free_at}
 use Rattle.padoa_definitions.proofs.StoreSteps.{set_here}
 use Rattle.padoa_definitions.proofs.padoa.Padoa.open_frame.Goals as goal
 

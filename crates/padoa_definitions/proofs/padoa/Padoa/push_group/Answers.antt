@@ -1,5 +1,5 @@
 use Rattle.padoa_definitions.specs.Store.{store_of}
-use Rattle.padoa_definitions.proofs.ActiveFrames.{active_more, open_at}
+use Rattle.padoa_definitions.proofs.Activated.{active_more, open_at}
 use Rattle.padoa_definitions.proofs.padoa.Padoa.push_group.Goals as goal
 
 pub frame_group-requires-clause-opened : goal.frame_group-requires-clause-opened

@@ -6,8 +6,7 @@ use Rattle.dq_lits.specs.Derivation.{is_tautology}
 use Rattle.oracle.specs.Calls.{IsMade, IsPlain, assumed}
 use Rattle.oracle.specs.declared.oracles.Answer.TheVariants.{Unsat}
 use Rattle.padoa_definitions.proofs.ApartLiterals.{asked_plain, both_apart}
-use Rattle.padoa_definitions.proofs.SearchAnswers.{places_below, active_made, padoa_learned, learned_grew, padoa_refuted, refuted_grew, shows, on_answer, two_joined, refuted_under}
-use Rattle.padoa_definitions.proofs.SameGivens.{learned_same, refuted_same}
+use Rattle.padoa_definitions.proofs.SearchAnswers.{places_below, active_made, refuted_grew, shows, on_answer, two_joined, refuted_under, searched_learned, searched_refuted}
 use Rattle.padoa_definitions.proofs.padoa.Padoa.search.Goals as goal
 
 pub active-requires : goal.active-requires
@@ -41,50 +40,33 @@ solve-requires-clause-apart g c =
     c.requires.posed.consistent c.requires.posed.others
 
 pub returns-in_err-answer-clause-searched : goal.returns-in_err-answer-clause-searched
-returns-in_err-answer-clause-searched g c = record {
-  copied = padoa_learned c.args.question.now.f.now c.args.self.now c.args.log.now
-      c.solve.new.log c.in_err-answer.ensures.stop c.requires.padoa;
-  same = learned_same c.args.log.now c.solve.new.log c.in_err-answer.ensures.stop;
-  grew = learned_grew c.args.question.now.f.now c.args.log.now c.solve.new.log
-      c.in_err-answer.ensures.stop;
-}
+returns-in_err-answer-clause-searched g c = searched_learned c.args.question.now.f.now c.args.self.now c.args.log.now
+    c.solve.new.log c.in_err-answer.ensures.stop c.requires.padoa
 
 pub returns-clause-searched : goal.returns-clause-searched
-returns-clause-searched g c = record {
-  copied = let f = c.args.question.now.f.now in
-      let p = c.args.self.now in
-      let old = c.args.log.now in
-      let new = c.solve.new.log in
-      on_answer c.in_ok-answer.answer
-      (λ e. padoa_learned f p old new (c.solve.ensures.sat (c.in_ok-answer.was ∙ ap Ok e)).0 c.requires.padoa)
-      (λ id e. padoa_refuted f p (assumed c.deref-3.result.now c.deref-4.result.now) old new id c.requires.padoa
-      (c.solve.ensures.unsat id (c.in_ok-answer.was ∙ ap Ok e)));
-  same = let old = c.args.log.now in
-      let new = c.solve.new.log in
-      on_answer c.in_ok-answer.answer
-      (λ e. learned_same old new (c.solve.ensures.sat (c.in_ok-answer.was ∙ ap Ok e)).0)
-      (λ id e. refuted_same (assumed c.deref-3.result.now c.deref-4.result.now) old new id
-      (c.solve.ensures.unsat id (c.in_ok-answer.was ∙ ap Ok e)));
-  grew = λ group. let question = c.args.question.now in
-      let asked = c.args.asked.now in
-      let p = c.args.self.now in
-      let old = c.args.log.now in
-      let new = c.solve.new.log in
-      let active = c.in_ok-active.active.items in
-      let both = two_joined c.deref.result.now c.deref-2.result.now asked.first.items asked.second.items
-      c.in_ok-assume.assume.items c.deref-4.result.now c.deref.ensures.value c.deref-2.ensures.value
-      c.in_ok-assume.ensures c.deref-4.ensures.value in
-      on_answer c.in_ok-answer.answer
-      (λ e. learned_grew question.f.now old new (c.solve.ensures.sat (c.in_ok-answer.was ∙ ap Ok e)).0 group)
-      (λ id e. refuted_grew c.derived_line_is_implied.ensures c.ids_stay.ensures
-      c.reached_are_ids.ensures question.f.now
-      question.places.now question.y question.conditions.now p active asked old new id
-      c.requires.padoa c.requires.posed.places_within c.requires.posed.places_copied c.in_ok-active.ensures c.requires.copied
-      (g.met.O.Oracle.searched c.solve.new.self new c.solve.ensures.fit)
-      (refuted_under old new c.deref-3.result.now active c.deref-4.result.now
-      (asked.first.items ++ asked.second.items) id c.deref-3.ensures.value both
-      (c.solve.ensures.unsat id (c.in_ok-answer.was ∙ ap Ok e))) group);
-}
+returns-clause-searched g c =
+    let question = c.args.question.now in
+    let asked = c.args.asked.now in
+    let p = c.args.self.now in
+    let old = c.args.log.now in
+    let new = c.solve.new.log in
+    let active = c.in_ok-active.active.items in
+    let both = two_joined c.deref.result.now c.deref-2.result.now asked.first.items asked.second.items
+    c.in_ok-assume.assume.items c.deref-4.result.now c.deref.ensures.value c.deref-2.ensures.value
+    c.in_ok-assume.ensures c.deref-4.ensures.value in
+    on_answer c.in_ok-answer.answer
+    (λ e. searched_learned question.f.now p old new (c.solve.ensures.sat (c.in_ok-answer.was ∙ ap Ok e)).0
+    c.requires.padoa)
+    (λ id e.
+    let refuted = c.solve.ensures.unsat id (c.in_ok-answer.was ∙ ap Ok e) in
+    searched_refuted question.f.now p (assumed c.deref-3.result.now c.deref-4.result.now) old new id c.requires.padoa
+    refuted
+    (refuted_grew c.derived_line_is_implied.ensures c.ids_stay.ensures c.reached_are_ids.ensures question.f.now
+    question.places.now question.y question.conditions.now p active asked old new id
+    c.requires.padoa c.requires.posed.places_within c.requires.posed.places_copied c.in_ok-active.ensures c.requires.copied
+    (g.met.O.Oracle.searched c.solve.new.self new c.solve.ensures.fit)
+    (refuted_under old new c.deref-3.result.now active c.deref-4.result.now
+    (asked.first.items ++ asked.second.items) id c.deref-3.ensures.value both refuted)))
 
 pub returns-clause-unsat : goal.returns-clause-unsat
 returns-clause-unsat g c = λ id is.

@@ -1,4 +1,5 @@
+use Rattle.std.proofs.Common.{arith}
 use Rattle.padoa_definitions.proofs.padoa.Padoa.whole.Goals as goal
 
-pub with_copies-requires-clause-covered : goal.with_copies-requires-clause-covered
-with_copies-requires-clause-covered g c = λ clause inside k d lt. c.in_ok-copied.ensures.copied _
+pub returns-clause-whole : goal.returns-clause-whole
+returns-clause-whole g c = λ v k is. c.in_ok-padoa.ensures.copies.flags k (omega arith)

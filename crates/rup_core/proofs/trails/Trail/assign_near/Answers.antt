@@ -3,10 +3,10 @@ use Rattle.std.specs.Result.{is_ok}
 use Rattle.std.proofs.lemmas.Bool.{both_ways}
 use Rattle.std.proofs.lemmas.List.{length-set}
 use Rattle.dq_lits.specs.Literal.{variable_of}
-use Rattle.truth_values.specs.Truth.{literal_value}
-use Rattle.truth_values.specs.declared.values.TruthValue.TheVariants.{True, False, Unassigned}
+use Rattle.dq_lits.specs.Truth.{literal_value}
+use Rattle.dq_lits.specs.declared.truth_values.TruthValue.TheVariants.{True, False, Unassigned}
 use Rattle.rup_core.proofs.AssignedLiterals.{assign_room, assign_counted, assign_told, near_keeps_far}
-use Rattle.truth_values.proofs.AssignedLiterals.{value_where_true}
+use Rattle.dq_lits.proofs.AssignedLiterals.{value_where_true}
 use Rattle.rup_core.proofs.trails.Trail.assign_near.Goals as goal
 
 pub unreachable-requires : goal.unreachable-requires
@@ -41,18 +41,18 @@ invariant_of-self c =
     ) in
     let free : literal_value (reverse inside.literals.items) c.args.l ≡ Unassigned =
     ap (λ a. literal_value a.trues c.args.l) c.self.view_is ∙ c.requires.unassigned in
-    let value : c.truth.result ≡ value_where_true c.args.l =
-    c.truth.ensures ∙ ap (λ b. cond (not b) True False) c.is_neg.ensures in
+    let value : c.truth_value.result ≡ value_where_true c.args.l =
+    c.truth_value.ensures ∙ ap (λ b. cond (not b) True False) c.is_neg.ensures in
     let longer : more ≡ inside.literals.items ++ c.args.l ∷ [] =
     c.push.ensures.items ∙ ap (λ b. cond b (inside.literals.items ++ c.args.l ∷ []) inside.literals.items)
     (c.is_err.ensures.negation ∙ ap not c.if-is_err.false) in
-    let same = length-set inside.near.items place c.truth.result in
-    let counted = assign_counted inside.near.items inside.literals.items c.args.l place c.truth.result
+    let same = length-set inside.near.items place c.truth_value.result in
+    let counted = assign_counted inside.near.items inside.literals.items c.args.l place c.truth_value.result
     c.self.invariant.told at in_range free value in
     let long : length more ≡ length inside.literals.items + 1 =
     ap length longer ∙ length-append inside.literals.items (c.args.l ∷ []) in
     record {
-      told = assign_told inside.near.items inside.literals.items more c.args.l place c.truth.result
+      told = assign_told inside.near.items inside.literals.items more c.args.l place c.truth_value.result
           c.self.invariant.told at in_range free value longer;
       far_told = near_keeps_far _ _ inside.far inside.literals.items more c.args.l c.self.invariant.far_told
           (omega (arith, at, in_range)) same longer;

@@ -1,2 +1,0 @@
-pub mod AagLinesInside
-pub mod CircuitLines

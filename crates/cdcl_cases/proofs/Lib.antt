@@ -1,2 +1,0 @@
-pub mod MadeVariables
-pub mod Ids

@@ -1,4 +1,0 @@
-pub mod ItemsInPlace
-pub mod KeptBodies
-pub mod ProofSteps
-pub mod RefutationSteps

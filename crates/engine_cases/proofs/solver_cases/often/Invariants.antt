@@ -1,0 +1,5 @@
+use Rattle.engine_cases.specs.Making.{AreMade}
+use Rattle.engine_cases.proofs.solver_cases.often.Given as goal
+
+abbrev pub invariant-loop : goal.invariant-loop
+invariant-loop g l = g.O.Oracle.Fits l.oracle l.log × AreMade l.case.made l.log.entries

@@ -1,4 +1,0 @@
-pub mod Followed
-pub mod GrownSessions
-mod Lists
-pub mod Standing

@@ -1,4 +1,0 @@
-pub mod Numbering
-pub mod Following
-pub mod Laws
-pub mod LargerSessions

@@ -1,3 +1,0 @@
-pub mod AssignedLiterals
-pub mod HeldLiterals
-pub mod ReadStatus

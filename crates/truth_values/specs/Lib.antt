@@ -1,3 +1,0 @@
-pub mod Extension
-pub mod Table
-pub mod Truth
