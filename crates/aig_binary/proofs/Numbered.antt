@@ -7,6 +7,7 @@ use Rattle.circuit_plain.specs.Netlist.{Netlist, IsDefined, variable_of_gate}
 use Rattle.circuit_plain.specs.declared.circuits.Gate.{Gate}
 use Rattle.aig_binary.specs.BareReading.{AreNumbered}
 use Rattle.aig_binary.specs.Scan.{first_variables}
+use Rattle.list_laws.proofs.Numbers.{range_more}
 
 pub numbered_push : (gs : List Gate) (v : ℕ) (g : Gate) → AreNumbered v gs → g.variable ≡ v + length gs →
     AreNumbered v (gs ++ g ∷ [])
@@ -52,17 +53,10 @@ fresh_input net n i are_inputs are below =
     omega arith)
     (λ k inside is. omega arith)
 
--- one more of the first variables
-range_more : (n a : ℕ) → range_with_len a (suc n) ≡ range_with_len a n ++ (a + n) ∷ []
-range_more zero a = ap (λ k. k ∷ []) (let e : a ≡ a + 0 = omega arith in e)
-range_more (suc n) a =
-    ap (λ xs. a ∷ xs) (range_more n (a + 1))
-    ∙ ap (λ k. a ∷ (range_with_len (a + 1) n ++ k ∷ [])) (let e : a + 1 + n ≡ a + suc n = omega arith in e)
-
 pub one_more_input : (net : Netlist) (i : ℕ) →
     record net { inputs = first_variables i ++ (i + 1) ∷ [] } ≡ record net { inputs = first_variables (i + 1) }
 one_more_input net i =
     let next : suc i ≡ i + 1 = omega arith in
     let last : 1 + i ≡ i + 1 = omega arith in
-    let more = ap (range_with_len 1) (sym next) ∙ range_more i 1 ∙ ap (λ k. range_with_len 1 i ++ k ∷ []) last in
+    let more = ap (range_with_len 1) (sym next) ∙ range_more 1 i ∙ ap (λ k. range_with_len 1 i ++ k ∷ []) last in
     ap (λ xs. record net { inputs = xs }) (sym more)

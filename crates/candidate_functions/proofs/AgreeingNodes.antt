@@ -4,9 +4,8 @@ use Rattle.std.specs.List.{All, Contains, list_any, position_or_len}
 use Rattle.std.proofs.lemmas.Bool.{and_parts, cases_lt}
 use Rattle.std.proofs.lemmas.List.{get_or_past}
 use Rattle.std.proofs.lemmas.List.Elements.{All-contains, All-head, All-tail}
-use Rattle.std.proofs.lemmas.List.Folds.{list_any_at}
 use Rattle.std.proofs.lemmas.Option.{slice_get_within, get_or_from_slice_get}
-use Rattle.list_laws.proofs.Members.{mapped_from, all_from_contains, one_mapped}
+use Rattle.list_laws.proofs.Members.{mapped_from, all_from_contains, one_mapped, one_passes}
 use Rattle.list_laws.proofs.Truths.{both_true}
 use Rattle.dq_lits.specs.Literal.{Assignment}
 use Rattle.dq_lits.specs.Formula.{Existential, Dqbf}
@@ -98,9 +97,6 @@ none_pass p [] each = refl
 none_pass p (x ∷ xs) each =
     ap (λ b. b || list_any p xs) (each x (0, omega arith, refl))
     ∙ none_pass p xs (λ z among. each z (let (k, below, is) = among in (suc k, omega (arith, below), is)))
-
-one_passes : {X : Type 0} (p : X → Bool) (xs : List X) (x : X) → Contains xs x → p x ≡ true → list_any p xs ≡ true
-one_passes p xs x (k, below, is) pass = list_any_at p xs k x below (ap p is ∙ pass)
 
 and_none : (a b : Bool) → (b ≡ true → a ≡ false) → (a && b) ≡ false
 and_none a true h = ap (λ c. c && true) (h refl)

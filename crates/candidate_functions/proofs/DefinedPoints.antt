@@ -1,5 +1,5 @@
 -- A definition has the points' bits at the pairs of the rows.
-use Rattle.std.proofs.Common.{◌≡◌, ℕ, suc, ◌+◌, ◌-◌, ◌<◌, ◌≤◌, Bool, true, false, cond, List, [], ◌∷◌, ◌++◌, map, length, get_or, slice_get, slice_index, nat_lt, Option, None, Some, refl, sym, ◌∙◌, ap, subst, inl, inr, ◌⊎◌, arith}
+use Rattle.std.proofs.Common.{◌≡◌, ℕ, suc, ◌+◌, ◌-◌, ◌<◌, ◌≤◌, Bool, true, false, cond, List, [], ◌∷◌, ◌++◌, map, length, get_or, slice_get, slice_index, nat_lt, Option, None, Some, sym, ◌∙◌, ap, subst, inl, inr, ◌⊎◌, arith}
 use Rattle.std.specs.List.{All, Contains}
 use Rattle.std.proofs.Math.ListN.{get_or-append}
 use Rattle.std.proofs.lemmas.Bool.{cases_Bool, cases_lt, lt-ltb, le-ltb}
@@ -28,6 +28,7 @@ use Rattle.definition_order.specs.Order.{IsShared, MayRead}
 use Rattle.aig_graph.proofs.Supported.{node_same}
 use Rattle.aig_graph.specs.Substituting.{first_inputs, values_put_in, IsPutIn}
 use Rattle.aig_graph.specs.declared.nodes.Node.TheVariants.{Constant}
+use Rattle.list_laws.proofs.Elements.{map_agree}
 
 abbrev existential_value : Dqbf → List (List Bool) → List Bool → Assignment → Option Existential → Bool
 existential_value f rows row m None = false
@@ -64,12 +65,6 @@ pub same_bits_seen : (m n : Assignment) (xs : List ℕ) (x : ℕ) → map m xs �
 same_bits_seen m n xs x same (k, below, is) =
     ap m (sym is) ∙ sym (get_or-map m xs k x (m x) below) ∙ ap (λ bs. get_or bs k (m x)) same ∙ get_or-map n xs k x
     (m x) below ∙ ap n is
-
-map_agree : (m n : Assignment) (xs : List ℕ) → ((x : ℕ) → Contains xs x → m x ≡ n x) → map m xs ≡ map n xs
-map_agree m n [] each = refl
-map_agree m n (x ∷ xs) each =
-    ap (λ b. b ∷ map m xs) (each x (0, omega arith, refl)) ∙ ap (λ bs. n x ∷ bs)
-    (map_agree m n xs (λ z among. each z (let (k, below, is) = among in (suc k, omega (arith, below), is))))
 
 -- an existential of which less is seen sees the row too
 pub sees_row_too : (f : Dqbf) (y z : Existential) (row : List Bool) (m : Assignment) → All (Contains y.sees) z.sees →

@@ -22,6 +22,7 @@ use Rattle.candidate_functions.specs.Pairs.{universal_places, IsByRules, AreByRu
 use Rattle.candidate_functions.specs.Trees.{IsOver}
 use Rattle.candidate_functions.proofs.DeclaredPlaces.{all_mapped}
 use Rattle.candidate_functions.proofs.LargerGraphs.{rule_node_stays}
+use Rattle.list_laws.proofs.Options.{none_is_some}
 
 pub over_stays : (old new : AigGraph) → Extends old new → (places : List ℕ) (n : Node) → IsOver old places n →
     IsOver new places n
@@ -96,16 +97,13 @@ tree_more old mid new places at nodes n some far grown is = record {
   over = put_over new places nodes (at - 1) n (all_over_stay mid new grown places nodes far.over) is;
 }
 
-none_is : {X : Type 0} (x : X) → None ≡ Some x → ⊥
-none_is x e = cc
-
 -- without rules nothing is said of its values
 pub unruled : (f : Dqbf) → IsLawful f → (v : ℕ) (y : Existential) → existential_of f v ≡ Some y →
     (g : AigGraph) (places : List ℕ) → places ≡ universal_places f y.sees
     → (n : Node) → IsOver g places n → IsByRules f g [] y n
 unruled f lawful v y found g places are n is = record {
   is_node = is.is_node;
-  value = λ m bit first. absurd (none_is bit first);
+  value = λ m bit first. absurd (none_is_some first);
   reads = all_mapped (Contains y.sees) (slice_index f.universals) (node_support g n) (λ i has.
       let from = mapped_from (place f.universals) y.sees i (subst (λ ps. Contains ps i) are (is.reads i has)) in
       let x = from.0 in
@@ -121,7 +119,7 @@ pub guess_there : (f : Dqbf) → IsLawful f → (g : AigGraph) (guesses : List (
     → get_or guesses p None ≡ Some n → IsByRules f g [] y n
 guess_there f lawful g guesses p y n are at is = record {
   is_node = guess.is_node;
-  value = λ m bit first. absurd (none_is bit first);
+  value = λ m bit first. absurd (none_is_some first);
   reads = guess.reads;
 } where
   guess : IsGuess f g y n

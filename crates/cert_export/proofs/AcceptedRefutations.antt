@@ -8,14 +8,13 @@ use Rattle.std.proofs.lemmas.List.Kept.{AllPairs-from_increasing}
 use Rattle.dq_lits.specs.Literal.{Literal, variable_of, on_variable, opposite}
 use Rattle.dq_lits.specs.Formula.{Dqbf, IsWellFormed}
 use Rattle.dq_lits.specs.Expansion.{instance_at}
-use Rattle.dq_lits.specs.Derivation.{ProofStep}
 use Rattle.dq_lits.proofs.SignedLiterals.{variable_of-on, on-on}
 use Rattle.hint_log.specs.Entries.{has_id, numbered, clause_at}
 use Rattle.hint_log.specs.Reached.{Reaches, AreReached}
 use Rattle.hint_log.specs.declared.origins.Origin.{Origin}
 use Rattle.hint_log.specs.Entries.{Given}
 use Rattle.hint_log.specs.Entries.{Entry}
-use Rattle.refutation_checker.specs.Refutation.{normal_number, normal_literal, normal_step, normal_item, refutation_fault}
+use Rattle.refutation_checker.specs.Refutation.{normal_number, normal_literal, normal_step, refutation_fault}
 use Rattle.rup_core.specs.Items.{derived, items_fault}
 use Rattle.rup_core.proofs.DeletedClauses.{steps_alone}
 use Rattle.hint_log.specs.Naming.{rows_of}
@@ -42,6 +41,7 @@ use Rattle.cert_export.proofs.Instances.{instances_are_expansion}
 use Rattle.cert_export.proofs.Answers.{answer_at, answer_empty}
 use Rattle.cert_export.proofs.DerivedLines.{lines_are_derived}
 use Rattle.cert_export.proofs.ReachedLines.{rising_of, are_lines, are_finished}
+use Rattle.refutation_checker.proofs.NormalLines.{normal_lines}
 
 module _ (f : Dqbf) (rows : List (List Bool)) (r : Renaming) where
   abbrev named : Renaming
@@ -96,12 +96,6 @@ module _ (f : Dqbf) (rows : List (List Bool)) (r : Renaming) where
         }) (same_hints id) in
         ap (λ s. s ∷ map (normal_step f rows) (line_steps r base_id entries number ids)) here
         ∙ ap (λ ss. line_step named base_id entries number id ∷ ss) (normal_steps base_id number ids)
-
--- lines are put on their pairs one by one
-normal_lines : (f : Dqbf) (all : List (List Bool)) (steps : List ProofStep) →
-    map (normal_item f all) (map derived steps) ≡ map derived (map (normal_step f all) steps)
-normal_lines f all [] = refl
-normal_lines f all (s ∷ ss) = ap (λ items. derived (normal_step f all s) ∷ items) (normal_lines f all ss)
 
 module _ (f : Dqbf) (live : List ℕ) (entries : List Entry) (id : ℕ) (ids : List ℕ) (r : Renaming)
     (well : IsWellFormed f) (lawful : AreLogged entries)

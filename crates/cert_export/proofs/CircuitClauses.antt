@@ -6,11 +6,10 @@ use Rattle.std.specs.Option.{option_map, option_and_then}
 use Rattle.std.proofs.lemmas.Bool.{cases_Bool, true≢false, eq-eqb, cond-true, cond-false}
 use Rattle.std.proofs.lemmas.List.{length-map}
 use Rattle.std.proofs.lemmas.List.FromFn.{get_or-range_with_len}
-use Rattle.std.proofs.lemmas.List.Sums.{sum_by-cons}
 use Rattle.std.proofs.lemmas.List.Elements.{All-contains, Contains-append_cases}
 use Rattle.list_laws.proofs.Elements.{kept_there, place_within, mapped_at, get-append_right}
 use Rattle.list_laws.proofs.Members.{tested_inside}
-use Rattle.list_laws.proofs.Sequences.{sum-none, sum-taken}
+use Rattle.list_laws.proofs.Sequences.{sum-none, sum-taken, before_below}
 use Rattle.dq_lits.specs.Literal.{Literal, positive, negative, variable_of, is_negative, opposite, on_variable}
 use Rattle.dq_lits.specs.Formula.{Dqbf, Existential, declared, is_universal, existential_of, IsWellFormed}
 use Rattle.dq_lits.specs.Derivation.{LiveClauses}
@@ -38,13 +37,14 @@ use Rattle.cert_export.specs.Given.{HasUniversalInputs}
 use Rattle.cert_export.specs.Renaming.{Renaming, renamed_clause}
 use Rattle.cert_export.specs.CircuitPart.{CircuitPart, max_number, circuit_number, circuit_renaming, or_zero, literal_code, leaf_code, gate_of, exported_netlist, exported_mapping, exported_candidate, last_base_id, circuit_id, IsOwnLeaf, IsCircuitClause, IsLeafInFile, IsCircuitPart}
 use Rattle.cert_export.specs.ExportedCircuit.{CircuitClausesAreNegatedMatrix}
-use Rattle.cert_export.proofs.Codes.{opposite_even, as_odd, no_constants, false_behind}
+use Rattle.cert_export.proofs.Codes.{no_constants, false_behind}
 use Rattle.cert_export.proofs.CircuitNumbers.{IsPlace, position_is, HasNumber, circuit_numbered, as_code, code_big, opposite_code, opposite_number, renamed_is, clause_codes}
 use Rattle.log_laws.proofs.ReachedClauses.{name_stays}
 use Rattle.log_laws.proofs.Found.{named_variable, find_there, numbered_among, split_at, variable}
 use Rattle.log_laws.proofs.Solved.{split_literal, sides}
 use Rattle.cert_export.proofs.PairNames.{from_one}
 use Rattle.cert_export.proofs.Instances.{same_on}
+use Rattle.cert_text.proofs.CircuitLiterals.{opposite_even, as_odd}
 
 pub behind : {X : Type 0} (xs ys : List X) (n k : ℕ) → n ≡ length xs → slice_get (xs ++ ys) (n + k) ≡ slice_get ys k
 behind xs ys n k h = ap (λ m. slice_get (xs ++ ys) (m + k)) h ∙ get-append_right xs ys k
@@ -91,16 +91,6 @@ falsity_at cl bad (c ∷ cs) rest (suc j) i clause l h k =
     (sum_by length (take j cs) + i) long
     ∙ falsity_at cl (bad + 1) cs rest j i clause l h k
     ∙ ap (λ n. Some (falsity cl n l)) b
-
-before_below : (matrix : List (List Literal)) (j i : ℕ) (clause : List Literal) → slice_get matrix j ≡ Some clause →
-    i < length clause → sum_by length (take j matrix) + i < sum_by length matrix
-before_below [] j i clause h k = cc
-before_below (c ∷ cs) zero i clause h k =
-    let same : c ≡ clause = cc in
-    let long : length c ≡ length clause = ap length same in
-    omega (arith, long, k, sum_by-cons length c cs, sum-none (c ∷ cs))
-before_below (c ∷ cs) (suc j) i clause h k =
-    omega (arith, before_below cs j i clause h k, sum_by-cons length c cs, sum-taken c cs j)
 
 -- the literals of outputs
 output_at : (g : Existential → ℕ) (ys : List Existential) (v : ℕ) (y : Existential) →

@@ -21,7 +21,8 @@ use Rattle.cert_export.specs.ExportedCircuit.{CircuitNumbersAreInjective}
 use Rattle.hint_log.specs.ProductiveLog.{IsRightlyNamed}
 use Rattle.hint_log.proofs.Lawful.{names_are_unique_lem}
 use Rattle.hint_log.proofs.NamedEntries.{number_below}
-use Rattle.cert_export.proofs.Codes.{opposite_even, opposite_odd, as_even, as_odd, AreVariables, no_constants}
+use Rattle.cert_export.proofs.Codes.{AreVariables, no_constants}
+use Rattle.cert_text.proofs.CircuitLiterals.{opposite_even, opposite_odd, as_even, as_odd}
 
 pub position_below : (v : ℕ) (xs : List ℕ) → list_any (λ x. x == v) xs ≡ true →
     position_or_len (λ x. x == v) xs < length xs

@@ -27,10 +27,10 @@ use Rattle.cert_export.specs.Given.{HasUniversalInputs}
 use Rattle.cert_export.specs.Renaming.{Renaming}
 use Rattle.hint_log.specs.Deciding.{ReadsInput, itself, left, right, LeafReads}
 use Rattle.cert_export.proofs.CircuitNumbers.{IsNumbered, number_cases, HasNumber, code_at, circuit_numbered, circuit_numbers_are_injective}
-use Rattle.cert_export.proofs.Codes.{half_even, half_odd}
 use Rattle.log_laws.proofs.ReachedClauses.{name_stays}
 use Rattle.log_laws.proofs.Solved.{sides}
 use Rattle.log_laws.proofs.Found.{variable}
+use Rattle.cert_text.proofs.CircuitLiterals.{half_even, half_odd}
 
 pub variable_of_code : (r : Renaming) (l : Literal) (h : HasNumber r l) → literal_variable (literal_code r l) ≡ h.number
 variable_of_code r (positive v) h = ap (λ o. literal_variable (2 * or_zero o)) h.is ∙ half_even h.number

@@ -21,11 +21,6 @@ use Rattle.cert_export.proofs.CutHints.{cut_by_ids}
 use Rattle.cert_export.proofs.Numbers.{rising_filter}
 use Rattle.cert_export.proofs.ReachedLines.{rising_of, Rising}
 
-pub if_ok_more : {T E : Type 0} (result : Result T E) {P Q : T → Type 0} → ((x : T) → P x → Q x) → IfOk result P →
-    IfOk result Q
-if_ok_more (Ok x) more h = more x h
-if_ok_more (Err e) more h = tt
-
 -- lines have ids from 1 on
 pub ids_from_one : (r : Renaming) (base_id : Origin → ℕ) (entries : List Entry) (last : ℕ) (lines ids : List ℕ) →
     All (λ s. 1 ≤ s.id) (line_steps r base_id entries (line_number last lines) ids)

@@ -1,5 +1,5 @@
 -- Faults of a clause, one literal after the other.
-use Rattle.std.proofs.Common.{◌≡◌, ℕ, ◌≤◌, ◌<◌, Bool, true, false, cond, ◌||◌, inl, inr, List, ◌∷◌, length, get_or, slice_get, Some, refl, sym, ◌∙◌, ap, subst}
+use Rattle.std.proofs.Common.{◌≡◌, ℕ, ◌≤◌, ◌<◌, Bool, true, false, cond, ◌||◌, inl, inr, List, ◌∷◌, length, get_or, Some, refl, sym, ◌∙◌, ap, subst}
 use Rattle.std.specs.List.{list_any}
 use Rattle.std.specs.Option.{option_map}
 use Rattle.std.proofs.lemmas.List.{get_or_default}
@@ -15,7 +15,6 @@ use Rattle.hint_log.specs.Entries.{name_of}
 use Rattle.hint_log.specs.declared.origins.Leaf.TheVariants.{Constant, Literal as LeafLiteral}
 use Rattle.hint_log.specs.Conditions.{is_circuit_name}
 use Rattle.hint_log.specs.Origins.{matrix_literal, IsLeafOf}
-use Rattle.log_laws.proofs.Found.{slice_get_at}
 use Rattle.hint_log.specs.ProductiveLog.{fault_groups, with_group, fault_room}
 use Rattle.circuit_cnf.specs.Faults.{HasFault, HaveOneLeaf, AreFewWith}
 
@@ -62,11 +61,6 @@ one_leaf_more f group j place leaf l rest es at before k i v out more inside own
           sym same ∙ ap leaf variable)
       | inr old ↦ before k i v out more old own
     ]
-
--- the literal at a place
-pub literal_there : (clause : List Literal) (i : ℕ) (l : Literal) → i < length clause → l ≡ get_or clause i l →
-    slice_get clause i ≡ Some l
-literal_there clause i l below is = slice_get_at clause i l below ∙ ap Some (sym is)
 
 pub same_element : (clause : List Literal) (i : ℕ) (k l : Literal) → i < length clause → k ≡ get_or clause i k →
     l ≡ get_or clause i l → k ≡ l

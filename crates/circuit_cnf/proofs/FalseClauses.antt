@@ -1,12 +1,10 @@
 -- Values that make the clauses of a turn true falsify a clause of the matrix.
 use Rattle.std.proofs.Common.{◌≡◌, ℕ, suc, ◌+◌, ◌≤◌, ◌<◌, ◌==◌, Bool, true, false, not, cond, ◌||◌, ◌&&◌, inl, inr, List, [], ◌∷◌, length, get_or, slice_get, Some, None, refl, sym, ◌∙◌, ap, subst, arith}
 use Rattle.std.specs.List.{Contains}
-use Rattle.std.specs.Option.{option_and_then}
-use Rattle.std.proofs.lemmas.Bool.{false≢true, eqb-true, eq-eqb}
+use Rattle.std.proofs.lemmas.Bool.{false≢true}
 use Rattle.std.proofs.lemmas.List.Elements.{Contains-append_right}
 use Rattle.list_laws.proofs.Truths.{gate_bit}
 use Rattle.list_laws.proofs.Elements.{place_within}
-use Rattle.list_laws.proofs.Members.{contains_cases}
 use Rattle.dq_lits.specs.Literal.{Assignment, Literal, positive, negative, variable_of, is_negative, opposite, literal_true, clause_true}
 use Rattle.dq_lits.specs.Formula.{Dqbf}
 use Rattle.dq_lits.specs.Derivation.{LiveClauses, MakesTrue}
@@ -18,38 +16,16 @@ use Rattle.hint_log.specs.declared.origins.Leaf.{Leaf}
 use Rattle.hint_log.specs.declared.origins.Leaf.TheVariants.{Constant, Literal as LeafLiteral}
 use Rattle.hint_log.specs.declared.origins.Origin.{Origin}
 use Rattle.hint_log.specs.declared.origins.Origin.TheVariants.{Gate, Fault}
-use Rattle.hint_log.specs.Entries.{ProofLog, name_of, clause_at, clause_of, has_id, numbered, last_id}
+use Rattle.hint_log.specs.Entries.{ProofLog, name_of, clause_at}
 use Rattle.hint_log.specs.Growth.{Grew}
 use Rattle.hint_log.specs.Origins.{leaf_with_sign, leaf_clause}
 use Rattle.log_laws.specs.Circuits.{leaf_value}
-use Rattle.log_laws.proofs.Kept.{small_id}
+use Rattle.log_laws.proofs.Kept.{given_id}
 use Rattle.oracle.specs.Calls.{IsModelUnder, IsLearnedEntry}
 use Rattle.circuit_cnf.specs.declared.gates.Gates.{Gates}
 use Rattle.circuit_cnf.specs.Faults.{AreGiven, HasFault, IsFaulted}
 use Rattle.circuit_cnf.specs.Gates.{HasGateClauses, AreKnown}
 use Rattle.circuit_cnf.specs.Turning.{NamesAreKept, AreFailing}
-
--- a given clause has an id
-given_id : (es : List Entry) (o : Origin) (c : List Literal) → Contains es (Given o c) →
-    (id : ℕ) × (clause_at es id ≡ Some c)
-given_id [] o c (k, lt, at) = absurd (omega (arith, lt))
-given_id (x ∷ es) o c h = elim (contains_cases x (Given o c) es h) [
-  | inl here ↦ (
-    last_id es + 1,
-    subst (λ e. clause_at (e ∷ es) (last_id es + 1) ≡ Some c) (sym here)
-        (ap (λ b. option_and_then clause_of (cond b (Some (Given o c)) (numbered has_id es (last_id es + 1))))
-        (eq-eqb (last_id es + 1) (last_id es + 1) refl)),
-  )
-  | inr behind ↦
-      (let before = given_id es o c behind in
-      let small = small_id es before.0 c before.1 in
-      (before.0, past before.0 (has_id x) (before.0 == last_id es + 1) refl small before.1))
-] where
-  past : (id : ℕ) (a b : Bool) → (id == last_id es + 1) ≡ b → id ≤ last_id es → clause_at es id ≡ Some c →
-      option_and_then clause_of (cond (a && b) (Some x) (numbered has_id es id)) ≡ Some c
-  past id true true same small is = let at = eqb-true id (last_id es + 1) same in absurd (omega (arith, at, small))
-  past id true false other small is = is
-  past id false b other small is = is
 
 -- the selectors that were assumed are true
 pub switched_on : (values : Assignment) (live : LiveClauses) (g h : Literal) → is_negative g ≡ false →

@@ -9,7 +9,7 @@ use Rattle.dq_lits.specs.Formula.{Dqbf}
 use Rattle.hint_log.specs.Entries.{Entry}
 use Rattle.hint_log.specs.Entries.{Given}
 use Rattle.hint_log.specs.declared.names.Name.{Name}
-use Rattle.hint_log.specs.declared.names.Name.TheVariants.{Selector, Bad}
+use Rattle.hint_log.specs.declared.names.Name.TheVariants.{Bad}
 use Rattle.hint_log.specs.declared.origins.Leaf.{Leaf}
 use Rattle.hint_log.specs.declared.origins.Leaf.TheVariants.{Constant, Literal as LeafLiteral}
 use Rattle.hint_log.specs.declared.origins.Origin.TheVariants.{Fault}
@@ -23,8 +23,6 @@ use Rattle.log_laws.specs.Engines.{circuits, IsAddedBy, LeavesRest}
 use Rattle.log_laws.proofs.Found.{named_variable}
 use Rattle.log_laws.proofs.LargerLogs.{leaves_rest, grown_then}
 use Rattle.log_laws.proofs.Kept.{NamesStay, named_stay}
-use Rattle.oracle.specs.Calls.{IsMade}
-use Rattle.oracle.specs.declared.groups.Group.{Group}
 use Rattle.circuit_cnf.specs.Faults.{HaveOneLeaf, AreFewWith, IsBadAt, HaveAllFaults, IsFaulted, IsNamingBads, AreGiven, AreGivenUpTo, AreNamedAndSaid, AreSaid}
 use Rattle.circuit_cnf.proofs.NamedBads.{bad_name}
 use Rattle.circuit_cnf.proofs.ClauseFaults.{fault_stays}
@@ -68,13 +66,6 @@ some_leaf_more f group leaf bads es before j i v out rest inside own =
           ap (λ x. option_map variable_of (matrix_literal f x i)) left ∙ own in cc)
       | inr earlier ↦ before j i v out rest earlier own
     ]
-
-pub made_stays : (old new : List Entry) (g : Group) → NamesStay old new → IsMade old g → IsMade new g
-made_stays old new g stay made = record {
-  positive = made.positive;
-  named =
-      stay (variable_of g.selector) (Selector (variable_of g.selector)) made.named;
-}
 
 circuit_stays : (old new : List Entry) → NamesStay old new → (v : ℕ) → is_circuit_name (name_of old v) ≡ true →
     is_circuit_name (name_of new v) ≡ true

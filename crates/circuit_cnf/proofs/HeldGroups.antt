@@ -1,5 +1,5 @@
 -- An answer to the gates' group and the faults' group.
-use Rattle.std.proofs.Common.{◌≡◌, ℕ, true, false, inl, inr, ◌⊎◌, List, [], ◌∷◌, ◌++◌, Some, refl, sym, ◌∙◌, ap, subst}
+use Rattle.std.proofs.Common.{◌≡◌, ℕ, true, false, inl, inr, ◌⊎◌, List, [], ◌∷◌, ◌++◌, Some, sym, ◌∙◌, ap, subst}
 use Rattle.std.specs.List.{Contains}
 use Rattle.std.proofs.lemmas.Bool.{true≢false, or_cases}
 use Rattle.std.proofs.lemmas.List.Elements.{Contains-append_right}
@@ -27,6 +27,7 @@ use Rattle.oracle.specs.Calls.{IsLearnedEntry, IsRefutedUnder}
 use Rattle.oracle.specs.Searched.{IsSearched, IsGivenToGroup, IsOfGroup}
 use Rattle.circuit_cnf.specs.Gates.{IsGateClause, IsGateGiven}
 use Rattle.circuit_cnf.specs.Turning.{AreTwoGroups, IsHeldBy}
+use Rattle.oracle.proofs.LearnedEntries.{learned_names}
 
 -- a literal whose opposite is one of two selectors
 only_selectors : (g h : ℕ) (l : Literal) → holds (positive g ∷ positive h ∷ []) (opposite l) ≡ true →
@@ -55,16 +56,6 @@ learned_givens (Learned d hints ∷ more) old h origin c inside =
 learned_givens (Answer d hints ∷ more) old h origin c inside = absurd h.0
 learned_givens (Round row values j ∷ more) old h origin c inside = absurd h.0
 learned_givens (Begun live ∷ more) old h origin c inside = absurd h.0
-
-pub learned_names : (more old : List Entry) (v : ℕ) → EachOf IsLearnedEntry more old →
-    name_of (more ++ old) v ≡ name_of old v
-learned_names [] old v h = refl
-learned_names (Named w n ∷ more) old v h = absurd h.0
-learned_names (Given origin c ∷ more) old v h = absurd h.0
-learned_names (Learned c hints ∷ more) old v h = learned_names more old v h.1
-learned_names (Answer c hints ∷ more) old v h = absurd h.0
-learned_names (Round row values j ∷ more) old v h = absurd h.0
-learned_names (Begun live ∷ more) old v h = absurd h.0
 
 learned_gate_given : (group : ℕ) (earlier : List Entry) (e : Entry) → IsLearnedEntry earlier e →
     IsGateGiven group earlier e

@@ -4,14 +4,11 @@ use Rattle.std.specs.List.{Contains}
 use Rattle.std.proofs.Common.{BTreeMap}
 use Rattle.std.specs.BTreeMap.{get, is_at}
 use Rattle.std.specs.Map.{lookup}
-use Rattle.std.specs.Ordering.{nat_cmp, ordering_then, is_eq}
-use Rattle.std.specs.declared.cmp.Ordering.{Ordering}
-use Rattle.std.specs.declared.cmp.Ordering.TheVariants.{Less, Equal, Greater}
+use Rattle.std.specs.Ordering.{is_eq}
 use Rattle.std.proofs.lemmas.Bool.{eqb-true, eq-eqb, false≢true, cond-true, cond-false}
-use Rattle.list_laws.proofs.Numbers.{below_or_here, nat_cmp-same}
+use Rattle.list_laws.proofs.Numbers.{below_or_here, equal_pairs, same_pair}
 use Rattle.list_laws.proofs.Members.{contains_later, contains_first, contains_cases}
-use Rattle.list_laws.proofs.Truths.{equal_numbers}
-use Rattle.dq_lits.specs.Literal.{Literal, positive, negative, variable_of}
+use Rattle.dq_lits.specs.Literal.{Literal, positive, negative, variable_of, literal_code}
 use Rattle.hint_log.specs.Entries.{Entry}
 use Rattle.hint_log.specs.Entries.{Named, Given, Learned, Answer, Round, Begun}
 use Rattle.hint_log.specs.declared.names.Name.{Name}
@@ -23,28 +20,11 @@ use Rattle.oracle.specs.Calls.{IsMade}
 use Rattle.oracle.specs.declared.groups.Group.{Group}
 use Rattle.hint_log.specs.Growth.{Each}
 use Rattle.hint_log.specs.Origins.{gate_rest}
-use Rattle.log_laws.proofs.Kept.{NamesStay, name_stays_by, name_cases}
+use Rattle.log_laws.proofs.Kept.{NamesStay, name_stays_by, name_cases, some_stays}
 use Rattle.circuit_cnf.specs.declared.gates.Gates.{Gates}
 use Rattle.circuit_cnf.specs.declared.gates.Unfinished.{Unfinished}
-use Rattle.circuit_cnf.specs.Gates.{literal_code, pair_cmp, HasGateClauses, IsGateClause, IsGateGiven, IsUnfinished, AreKnown}
-
--- literals have codes of their own
-pub same_code : (a b : Literal) → literal_code a ≡ literal_code b → a ≡ b
-same_code (positive v) (positive w) h = let e : v ≡ w = omega (arith, h) in ap positive e
-same_code (positive v) (negative w) h = absurd (omega (arith, h))
-same_code (negative v) (positive w) h = absurd (omega (arith, h))
-same_code (negative v) (negative w) h = let e : v ≡ w = omega (arith, h) in ap negative e
-
-pub equal_pairs : (p q : ℕ × ℕ) → is_eq (pair_cmp p q) ≡ true → (p.0 ≡ q.0) × (p.1 ≡ q.1)
-equal_pairs p q h = by (nat_cmp p.0 q.0) refl h where
-  by : (o : Ordering) → nat_cmp p.0 q.0 ≡ o → is_eq (ordering_then o (nat_cmp p.1 q.1)) ≡ true →
-      (p.0 ≡ q.0) × (p.1 ≡ q.1)
-  by Less e h = cc
-  by Equal e h = (equal_numbers p.0 q.0 (ap is_eq e), equal_numbers p.1 q.1 h)
-  by Greater e h = cc
-
-pub same_pair : (p : ℕ × ℕ) → is_eq (pair_cmp p p) ≡ true
-same_pair p = ap (λ o. is_eq (ordering_then o (nat_cmp p.1 p.1))) (nat_cmp-same p.0) ∙ ap is_eq (nat_cmp-same p.1)
+use Rattle.circuit_cnf.specs.Gates.{pair_cmp, HasGateClauses, IsGateClause, IsGateGiven, IsUnfinished, AreKnown}
+use Rattle.dq_lits.proofs.SignedLiterals.{same_code}
 
 not_some : (o : Option Name) → o ≡ None → IsSome o → ⊥
 not_some None none some = absurd (false≢true some)
@@ -66,12 +46,6 @@ unfinished_gate v a b parts = record { left = a; right = b; variable = v; parts 
 
 no_part : (v : ℕ) (a b : Literal) (rest : List Literal) → gate_rest v a b 0 ≡ Some rest → ⊥
 no_part v a b rest is = cc
-
-pub some_stays : (old new : List Entry) → NamesStay old new → (v : ℕ) → IsSome (name_of old v) → IsSome (name_of new v)
-some_stays old new stay v some = by (name_of old v) refl some where
-  by : (o : Option Name) → name_of old v ≡ o → IsSome o → IsSome (name_of new v)
-  by None e s = absurd (false≢true s)
-  by (Some n) e s = subst IsSome (sym (stay v n e)) refl
 
 -- clauses stay as logs grow
 clauses_stay : (old new : List Entry) → ((x : Entry) → Contains old x → Contains new x) →

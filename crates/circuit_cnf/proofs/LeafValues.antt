@@ -2,7 +2,7 @@
 use Rattle.std.proofs.Common.{◌≡◌, ℕ, zero, suc, ◌<◌, ◌==◌, Bool, false, not, ◌||◌, ◌&&◌, List, [], ◌∷◌, map, length, get_or, slice_get, position, Some, refl, sym, ◌∙◌, ap, arith}
 use Rattle.std.proofs.lemmas.List.{get_or-map}
 use Rattle.list_laws.proofs.Sequences.{mapped_long}
-use Rattle.dq_lits.specs.Literal.{Assignment, Literal, positive, negative, variable_of, literal_true, clause_true}
+use Rattle.dq_lits.specs.Literal.{Assignment, Literal, positive, variable_of, literal_true}
 use Rattle.dq_lits.specs.Formula.{Dqbf, Existential}
 use Rattle.dq_lits.specs.Row.{bit_of}
 use Rattle.aig_graph.specs.declared.nodes.Node.{Node}
@@ -27,19 +27,12 @@ use Rattle.circuit_cnf.specs.Turning.{AreLeavesOf, AreFailing}
 use Rattle.circuit_cnf.proofs.PrefixPlaces.{round_is, leaf_is, same_at_places}
 use Rattle.circuit_cnf.proofs.SideLeaves.{input_at}
 use Rattle.circuit_cnf.proofs.LeafNodes.{signed_leaf}
+use Rattle.dq_lits.proofs.TrueClauses.{clause_same}
 
 get_at : {X : Type 0} (xs : List X) (k : ℕ) (x d : X) → slice_get xs k ≡ Some x → (k < length xs) × (get_or xs k d ≡ x)
 get_at [] k x d h = cc
 get_at (y ∷ ys) zero x d h = (omega arith, cc)
 get_at (y ∷ ys) (suc k) x d h = let r = get_at ys k x d h in let below = r.0 in (omega (arith, below), r.1)
-
-clause_same : (m n : Assignment) (c : List Literal) → ((v : ℕ) → m v ≡ n v) → clause_true m c ≡ clause_true n c
-clause_same m n [] h = refl
-clause_same m n (l ∷ c) h = ap (λ b. b || clause_true m c) (literal l) ∙ ap (λ b. literal_true n l || b)
-    (clause_same m n c h) where
-      literal : (k : Literal) → literal_true m k ≡ literal_true n k
-      literal (positive v) = h v
-      literal (negative v) = ap not (h v)
 
 module _ (f : Dqbf) (graph : AigGraph) (es : List Entry) (inputs : List Literal) (values : Assignment)
     (logged : AreLogged es) (are : AreInputs f.universals inputs es) (count : length inputs ≡ length f.universals)

@@ -3,7 +3,8 @@ use Rattle.hint_log.specs.Entries.{ProofLog}
 use Rattle.circuit_cnf.specs.Saying.{MaySay, leaf_in, selector_in}
 use Rattle.circuit_cnf.specs.declared.fault_clauses.Faults.{Faults}
 use Rattle.circuit_cnf.specs.Faults.{AreNamedAndSaid}
-use Rattle.circuit_cnf.proofs.GroupFaults.{made_stays, leaf_of_stays}
+use Rattle.circuit_cnf.proofs.GroupFaults.{leaf_of_stays}
+use Rattle.oracle.proofs.MadeGroups.{made_stays}
 
 pub may_say_named : (s : Faults) (old new : ProofLog) → MaySay s old.entries →
     AreNamedAndSaid s.f.now (selector_in s) (leaf_in s) old new → MaySay s new.entries

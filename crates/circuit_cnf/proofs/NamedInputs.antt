@@ -1,5 +1,5 @@
 -- Inputs that are named one after the other.
-use Rattle.std.proofs.Common.{◌≡◌, ℕ, zero, suc, ◌+◌, ◌≤◌, ◌<◌, ◌==◌, Bool, true, false, cond, inl, inr, ◌⊎◌, List, [], ◌∷◌, ◌++◌, map, length, take, get_or, Some, None, IsSome, refl, sym, ◌∙◌, ap, subst, arith}
+use Rattle.std.proofs.Common.{◌≡◌, ℕ, suc, ◌+◌, ◌≤◌, ◌<◌, ◌==◌, Bool, true, false, cond, inl, inr, ◌⊎◌, List, [], ◌∷◌, ◌++◌, map, length, take, get_or, Some, None, IsSome, refl, sym, ◌∙◌, ap, subst, arith}
 use Rattle.std.specs.List.{Contains}
 use Rattle.std.specs.BTreeMap.{get, is_at}
 use Rattle.std.specs.Map.{lookup}
@@ -8,7 +8,7 @@ use Rattle.std.proofs.lemmas.Bool.{eq-eqb, cond-true}
 use Rattle.std.proofs.lemmas.List.{take_more, map-append, get_or-take, length-take, get_or_default, length-append, get_or_append_left}
 use Rattle.std.proofs.lemmas.List.Elements.{Contains-append_left, Contains-push, Contains-get_or}
 use Rattle.list_laws.proofs.Members.{contains_cases}
-use Rattle.dq_lits.specs.Literal.{Literal, positive, variable_of}
+use Rattle.dq_lits.specs.Literal.{Literal, positive, variable_of, literal_code}
 use Rattle.dq_lits.specs.Formula.{Dqbf, HasLawfulPrefix}
 use Rattle.hint_log.specs.Entries.{Entry, Named, Given}
 use Rattle.hint_log.specs.declared.names.Name.{Name}
@@ -26,9 +26,10 @@ use Rattle.log_laws.proofs.Kept.{named_stay, name_stays_by, name_cases}
 use Rattle.oracle.specs.Calls.{IsMade}
 use Rattle.circuit_cnf.specs.declared.checkers.Checker.{Checker}
 use Rattle.circuit_cnf.specs.Checking.{AreInputs, IsChecker}
-use Rattle.circuit_cnf.specs.Gates.{literal_code, pair_cmp, IsGateGiven, AreKnown}
+use Rattle.circuit_cnf.specs.Gates.{pair_cmp, IsGateGiven, AreKnown}
 use Rattle.circuit_cnf.proofs.EmptyGroups.{no_gates_given}
 use Rattle.circuit_cnf.specs.Inputs.{HasNoGates, AreInputsOf}
+use Rattle.list_laws.proofs.Sequences.{take_past}
 
 -- the first universals have inputs
 pub record InputsSoFar (f : Dqbf) (old log : ProofLog) (inputs : List Literal) (i : ℕ) : Type 0 where
@@ -138,14 +139,6 @@ input_more f old log new inputs i v before below unnamed is =
           (Contains-push (take i f.universals) (get_or f.universals i 0))
       by_name w y (inr old') = Contains-append_left (take i f.universals) (get_or f.universals i 0 ∷ []) y
           (before.names w y old')
-
-take_past : {X : Type 0} (n : ℕ) (xs : List X) → length xs ≤ n → take n xs ≡ xs
-take_past n [] h = take-nil n where
-  take-nil : {X : Type 0} (n : ℕ) → take {A = X} n [] ≡ []
-  take-nil zero = refl
-  take-nil (suc n) = refl
-take_past zero (x ∷ xs) h = absurd (omega (arith, h))
-take_past (suc n) (x ∷ xs) h = let most : length xs ≤ n = omega (arith, h) in ap (λ ys. x ∷ ys) (take_past n xs most)
 
 pub all_inputs : (f : Dqbf) (old log : ProofLog) (inputs : List Literal) (i : ℕ) → length f.universals ≤ i →
     InputsSoFar f old log inputs i → AreInputs f.universals inputs log.entries

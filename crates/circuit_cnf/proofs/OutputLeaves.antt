@@ -19,14 +19,13 @@ use Rattle.hint_log.specs.ProductiveLog.{fault_groups, fault_room}
 use Rattle.log_laws.specs.Engines.{circuits, LeavesRest}
 use Rattle.log_laws.proofs.Found.{numbered_among}
 use Rattle.log_laws.proofs.LargerLogs.{leaves_rest}
-use Rattle.log_laws.proofs.Kept.{named_stay}
+use Rattle.log_laws.proofs.Kept.{named_stay, some_stays}
 use Rattle.circuit_cnf.specs.declared.checkers.Checker.{Checker}
 use Rattle.circuit_cnf.specs.declared.gates.Gates.{Gates}
 use Rattle.circuit_cnf.specs.Checking.{AreInputs, IsChecker}
 use Rattle.circuit_cnf.specs.Gates.{AreKnown, AreBadsStill, GrewByGates}
 use Rattle.circuit_cnf.specs.Leaves.{HasLeaf, AreClosed, AreMarkedUniversals, HaveLeaves, leaf_by}
 use Rattle.circuit_cnf.specs.Turning.{AreLeavesOf}
-use Rattle.circuit_cnf.proofs.KnownGates.{some_stays}
 use Rattle.circuit_cnf.proofs.SideLeaves.{side_has_leaf}
 
 pub few_same : (group : ℕ) (old new : ProofLog) → GrewByGates group old new →

@@ -5,7 +5,6 @@ use Rattle.dq_lits.specs.Literal.{Literal, negative, same_literal}
 use Rattle.dq_lits.specs.Formula.{Dqbf}
 use Rattle.hint_log.specs.Entries.{Entry}
 use Rattle.hint_log.specs.Entries.{Named, Given, Learned, Answer, Round, Begun}
-use Rattle.hint_log.specs.declared.names.Name.{Name}
 use Rattle.hint_log.specs.declared.names.Name.TheVariants.{Selector}
 use Rattle.hint_log.specs.declared.origins.Leaf.TheVariants.{Constant}
 use Rattle.hint_log.specs.Entries.{ProofLog, with_entry, name_of}
@@ -13,7 +12,7 @@ use Rattle.hint_log.specs.Growth.{EachOf, Grew}
 use Rattle.hint_log.specs.ProductiveLog.{fault_groups, fault_room}
 use Rattle.log_laws.specs.Engines.{Engine, circuits, IsAddedBy, IsNamedBy}
 use Rattle.log_laws.proofs.LargerLogs.{leaves_rest, grown_by, grown_then}
-use Rattle.log_laws.proofs.Kept.{NamesStay, each_of_weaker}
+use Rattle.log_laws.proofs.Kept.{NamesStay, each_of_weaker, unnamed_earlier}
 use Rattle.oracle.specs.Calls.{IsLearnedEntry, IsRefutedUnder}
 use Rattle.circuit_cnf.specs.Faults.{AreFewWith}
 
@@ -74,14 +73,6 @@ module _ (f : Dqbf) (engine : Engine) (group : ℕ) (silent : Bool) (start : Lis
       let named : IsNamedBy f engine old.entries sel (Selector sel) =
       record { unnamed = unnamed; own = inl refl; rightly = tt } in
       grown_by (IsAddedBy f engine group silent start) old new (Named sel (Selector sel)) is named
-
--- what has no name later had none earlier
-unnamed_earlier : (first start : List Entry) → NamesStay first start → (v : ℕ) → name_of start v ≡ None →
-    name_of first v ≡ None
-unnamed_earlier first start stay v unnamed = by (name_of first v) refl where
-  by : (o : Option Name) → name_of first v ≡ o → o ≡ None
-  by None e = refl
-  by (Some n) e = let both : None ≡ Some n = sym unnamed ∙ stay v n e in cc
 
 pub unnamed_before_gates : (f : Dqbf) (group : ℕ) (old log : ProofLog) →
     ((h : Dqbf) (start : List Entry) → Grew (IsAddedBy h circuits group true start) old log) → (v : ℕ) →

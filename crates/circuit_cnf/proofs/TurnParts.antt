@@ -23,12 +23,13 @@ use Rattle.circuit_cnf.specs.Faults.{AreBads, AreFewWith, AreGivenUpTo, AreNamed
 use Rattle.circuit_cnf.specs.Saying.{AreBound, HasNoBads, MaySay, leaf_in, selector_in}
 use Rattle.circuit_cnf.specs.Turning.{AreLeavesOf, HasTurned, IsGroupMade, IsSaying}
 use Rattle.circuit_cnf.proofs.GroupFaults.{after_all, after_bads, bads_stay, leaf_of_stays}
-use Rattle.circuit_cnf.proofs.HeldGroups.{learned_givens, learned_names}
+use Rattle.circuit_cnf.proofs.HeldGroups.{learned_givens}
 use Rattle.circuit_cnf.proofs.NamedGroups.{may_say_named}
 use Rattle.circuit_cnf.proofs.SaidFaults.{faulted_then, may_say_on}
 use Rattle.circuit_cnf.proofs.TurnAnswers.{inputs_count, leaf_is_one}
 use Rattle.circuit_cnf.proofs.TurnGrowth.{learned_faults, learned_grew}
 use Rattle.circuit_cnf.proofs.TurnStages.{faults_turned, group_one_leaf}
+use Rattle.oracle.proofs.LearnedEntries.{learned_names}
 
 module _ (f : Dqbf) (checker : Checker) (old first : ProofLog) (group : Group)
     (m : IsGroupMade f checker old first group) where

@@ -4,7 +4,7 @@ use Rattle.std.specs.List.{Contains}
 use Rattle.std.proofs.lemmas.Bool.{false≢true}
 use Rattle.std.proofs.lemmas.List.Elements.{Contains-append_right}
 use Rattle.list_laws.proofs.Members.{contains_later, contains_cases}
-use Rattle.dq_lits.specs.Literal.{Literal, negative, variable_of}
+use Rattle.dq_lits.specs.Literal.{Literal, variable_of}
 use Rattle.dq_lits.specs.Formula.{Dqbf}
 use Rattle.hint_log.specs.Entries.{Entry}
 use Rattle.hint_log.specs.Entries.{Named, Given, Learned, Answer, Round, Begun}
@@ -18,14 +18,14 @@ use Rattle.hint_log.specs.Naming.{named_literal}
 use Rattle.hint_log.specs.Origins.{IsGateRest, IsOriginsClause}
 use Rattle.log_laws.specs.Engines.{Engine, circuits, same_engine, name_engine, is_engine, is_own, IsInGroup, IsAddedBy}
 use Rattle.log_laws.proofs.LargerLogs.{each_grown}
-use Rattle.log_laws.proofs.Kept.{NamesStay, named_stay, name_stays_by, name_cases, each_of_weaker}
+use Rattle.log_laws.proofs.Kept.{NamesStay, named_stay, name_stays_by, name_cases, each_of_weaker, some_stays, in_one_group}
 use Rattle.oracle.specs.Calls.{IsLearnedEntry}
 use Rattle.circuit_cnf.specs.declared.checkers.Checker.{Checker}
 use Rattle.circuit_cnf.specs.declared.gates.Gates.{Gates}
 use Rattle.circuit_cnf.specs.Checking.{group_of, IsChecker, CheckersStay}
 use Rattle.circuit_cnf.specs.Faults.{NamesBadsAlone}
 use Rattle.circuit_cnf.specs.Gates.{IsGateGiven}
-use Rattle.circuit_cnf.proofs.KnownGates.{LeavesGates, known_stay, some_stays}
+use Rattle.circuit_cnf.proofs.KnownGates.{LeavesGates, known_stay}
 
 pub checker_stays : (f : Dqbf) (checker : Checker) (old new : List Entry) → LeavesGates checker.gates old new →
     IsChecker f checker old → IsChecker f checker new
@@ -164,16 +164,13 @@ learned_leaves gates old new g = subst (LeavesGates gates old.entries) (sym g.gr
     (IsElsewhere (variable_of gates.group.selector)) (learned_elsewhere (variable_of gates.group.selector)) g.more
     old.entries g.each))
 
-in_one_group : (g mine : ℕ) (c : List Literal) → IsInGroup mine c → IsInGroup g c → mine ≡ g
-in_one_group g mine c a b = let e : negative mine ∷ a.0 ≡ negative g ∷ b.0 = sym a.1 ∙ b.1 in cc
-
 -- a clause that goes into this group or into one that was made since is in no third one
 not_in : (group mine : ℕ) (n : Name) (start : List Entry) (c : List Literal) → mine ≢ group →
     name_of start mine ≡ Some n → (g : ℕ) → IsInGroup g c → (g ≡ group) ⊎ (name_of start g ≡ None) →
     IsInGroup mine c → ⊥
-not_in group mine n start c apart named g there (inl is) inside = apart (in_one_group g mine c inside there ∙ is)
+not_in group mine n start c apart named g there (inl is) inside = apart (in_one_group mine g c inside there ∙ is)
 not_in group mine n start c apart named g there (inr unnamed) inside =
-    let none : None ≡ Some n = sym unnamed ∙ ap (name_of start) (sym (in_one_group g mine c inside there)) ∙ named in cc
+    let none : None ≡ Some n = sym unnamed ∙ ap (name_of start) (sym (in_one_group mine g c inside there)) ∙ named in cc
 
 module _ (f : Dqbf) (engine : Engine) (group : ℕ) (silent : Bool) (start : List Entry) where
   abbrev Added : List Entry → Entry → Type 0

@@ -4,7 +4,7 @@ use Rattle.std.specs.List.{Contains}
 use Rattle.std.specs.BTreeMap.{get}
 use Rattle.std.specs.declared.cmp.Ordering.{Ordering}
 use Rattle.std.specs.Ordering.{nat_cmp, ordering_then}
-use Rattle.dq_lits.specs.Literal.{Literal, positive, negative, variable_of}
+use Rattle.dq_lits.specs.Literal.{Literal, positive, negative, variable_of, literal_code}
 use Rattle.dq_lits.specs.Formula.{Dqbf}
 use Rattle.hint_log.specs.Entries.{Entry}
 use Rattle.hint_log.specs.Entries.{Given}
@@ -18,11 +18,6 @@ use Rattle.log_laws.specs.Engines.{circuits, IsInGroup, IsAddedBy}
 use Rattle.oracle.specs.Calls.{IsMade}
 use Rattle.circuit_cnf.specs.declared.gates.Gates.{Gates}
 use Rattle.circuit_cnf.specs.declared.gates.Unfinished.{Unfinished}
-
--- the number of a literal
-abbrev pub literal_code : Literal → ℕ
-literal_code (positive v) = 2 * v
-literal_code (negative v) = 2 * v + 1
 
 abbrev pub pair_cmp : ℕ × ℕ → ℕ × ℕ → Ordering
 pair_cmp p q = ordering_then (nat_cmp p.0 q.0) (nat_cmp p.1 q.1)

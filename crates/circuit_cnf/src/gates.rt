@@ -1,14 +1,17 @@
 //! A circuit's gates as clauses, each given once (Tseitin's encoding).
+//!
+//! Gates are found by an ordered map from the codes of their two literals, and it is exact: a gate
+//! that it doesn't know has no name and no clauses.
 
 ghost use Rattle.std.specs.Prelude.{◌≡◌, ◌≤◌, ◌<◌, ◌+◌, ◌^◌, ℕ, length, OnOk, OnErr, IfOk, Some, None};
-ghost use Rattle.dq_lits.specs.Literal.{variable_of};
+ghost use Rattle.dq_lits.specs.Literal.{variable_of, literal_code};
 ghost use Rattle.hint_log.specs.declared.names.Name.TheVariants.{And};
 ghost use Rattle.hint_log.specs.declared.origins.Origin.TheVariants.{Gate};
 ghost use Rattle.hint_log.specs.Conditions.{HasSides};
 ghost use Rattle.hint_log.specs.Entries.{name_of, rounds_of};
 ghost use Rattle.hint_log.specs.ProductiveLog.{fault_groups, fault_room};
 ghost use Rattle.oracle.specs.Calls.{IsMade};
-ghost use Rattle.circuit_cnf.specs.Gates.{literal_code, AreKnown, AreBadsStill, IsPartGiven, GrewByGates};
+ghost use Rattle.circuit_cnf.specs.Gates.{AreKnown, AreBadsStill, IsPartGiven, GrewByGates};
 
 use dq_lits::{Lit, Memory};
 use hint_log::{Log, Name, Origin};

@@ -29,7 +29,6 @@ use Rattle.definition_proofs.specs.Shown.{ReadsCopy, itself as reads_itself, lef
 use Rattle.cert_export.specs.CircuitPart.{aiger_literal, leaf_code, literal_code, or_zero}
 use Rattle.cert_export.specs.Renaming.{Renaming}
 use Rattle.cert_export.proofs.CircuitNumbers.{position_below, HasNumber, code_at}
-use Rattle.cert_export.proofs.Codes.{half_even, half_odd}
 use Rattle.definition_export.specs.ExportedDefinition.{definition_renaming, exported_definition, exported_gates, term_gate}
 use Rattle.definition_proofs.specs.Shown.{IsDeclaredCopy, IsLeafDeclared}
 use Rattle.definition_export.specs.Exporting.{IsLeafListed, IsTermBefore}
@@ -37,6 +36,7 @@ use Rattle.definition_export.specs.Parts.{AreDefinitionIds}
 use Rattle.definition_export.proofs.BlockLines.{inside_before, term_in_log}
 use Rattle.definition_export.proofs.OrderedTerms.{term_sides}
 use Rattle.definition_export.proofs.NumberedVariables.{IsNumbered, number_cases, number_bounds, injective, gate_numbered, term_numbered, in_range}
+use Rattle.cert_text.proofs.CircuitLiterals.{half_even, half_odd}
 
 -- a code stands on its number
 code_variable : (negated : Bool) (n : ℕ) → literal_variable (aiger_literal negated n) ≡ n

@@ -33,7 +33,7 @@ use Rattle.cert_export.specs.CircuitPart.{leaf_code, literal_code}
 use Rattle.cert_export.specs.Renaming.{Renaming, renamed_clause}
 use Rattle.cert_export.proofs.CircuitClauses.{behind, gate_at, gate_codes}
 use Rattle.cert_export.proofs.CircuitNumbers.{IsPlace, position_is, HasNumber, code_at, clause_codes, opposite_code, opposite_number, renamed_is}
-use Rattle.cert_export.proofs.Codes.{opposite_even, opposite_odd, as_even, as_odd, false_behind}
+use Rattle.cert_export.proofs.Codes.{false_behind}
 use Rattle.cert_export.proofs.Instances.{same_on}
 use Rattle.cert_export.proofs.PairNames.{from_one}
 use Rattle.definition_export.specs.ExportedDefinition.{definition_number, definition_renaming, definition_id, last_definition_id, exported_definition, exported_gates, term_gate}
@@ -41,6 +41,7 @@ use Rattle.definition_proofs.specs.Shown.{IsDeclaredCopy, ReadDeclaredCopies, Is
 use Rattle.definition_export.specs.Exporting.{IsLeafListed, IsTermBefore}
 use Rattle.definition_export.proofs.OrderedTerms.{term_sides}
 use Rattle.definition_export.proofs.NumberedVariables.{copy_numbered, gate_numbered, term_numbered, in_range}
+use Rattle.cert_text.proofs.CircuitLiterals.{opposite_even, opposite_odd, as_even, as_odd}
 
 -- a literal on its own variable
 own_literal : (l : Literal) → on_variable (variable_of l) l ≡ l

@@ -22,6 +22,7 @@ use Rattle.dq_formula.specs.Prefix.{IsLawful, existential_variables}
 use Rattle.definition_order.specs.Order.{existential_place, RanksBefore, ComesBefore, IsShared, AreInOrder, ArePlacesOfShared}
 use Rattle.definition_order.specs.Sizes.{nobody, sized_place}
 use Rattle.definition_order.proofs.Declared.{existential_at}
+use Rattle.dq_formula.proofs.Places.{existential_below}
 
 -- the existentials at the first places that a definition may read
 pub record AreSharedSoFar (f : Dqbf) (ranks : List ℕ) (y : ℕ) (places : List ℕ) (count : ℕ) : Type 0 where
@@ -30,14 +31,14 @@ pub record AreSharedSoFar (f : Dqbf) (ranks : List ℕ) (y : ℕ) (places : List
       (slice_get f.existentials p ≡ Some z) × IsShared f ranks e z)))
 
 module _ (f : Dqbf) (ranks : List ℕ) (y : ℕ) (places : List ℕ) (count : ℕ) (shared : Bool)
-    (before : AreSharedSoFar f ranks y places count) (within : count < length f.existentials)
+    (before : AreSharedSoFar f ranks y places count) (existential_below : count < length f.existentials)
     (tells : (e z : Existential) → existential_of f y ≡ Some e → slice_get f.existentials count ≡ Some z →
     (IsTrue shared ↔ IsShared f ranks e z)) where
   abbrev IsOne : Existential → ℕ → Type 0
   IsOne e p = (z : Existential) × (slice_get f.existentials p ≡ Some z) × IsShared f ranks e z
 
   here : (z : Existential) × (slice_get f.existentials count ≡ Some z)
-  here = (get_or f.existentials count nobody, slice_get-get_or f.existentials count nobody within)
+  here = (get_or f.existentials count nobody, slice_get-get_or f.existentials count nobody existential_below)
 
   pub one_shared : shared ≡ true → AreSharedSoFar f ranks y (places ++ count ∷ []) (count + 1)
   one_shared is = record { each = λ e known p. (forth e known p, back e known p) } where
@@ -227,11 +228,6 @@ module _ (f : Dqbf) (ranks : List ℕ) (lawful : IsLawful f) (sized sorted : Lis
 
   pub in_order : AreInOrder f ranks places
   in_order = record { distinct = distinct; each = each; earlier = earlier }
-
-pub within : (f : Dqbf) (vs : List ℕ) (place : ℕ) → vs ≡ existential_variables f → place < length vs →
-    place < length f.existentials
-within f vs place are below = let long = length-map f.existentials (λ (z : Existential). z.variable) in let size =
-    ap length are in omega arith
 
 pub past : (f : Dqbf) (vs : List ℕ) (place : ℕ) → vs ≡ existential_variables f → length vs ≤ place →
     length f.existentials ≤ place

@@ -2,15 +2,12 @@
 use Rattle.std.proofs.Common.{◌≡◌, ◌⊎◌, ℕ, true, false, cond, inl, inr, List, ◌∷◌, Some, None, IsSome, refl, sym, ◌∙◌, ap, subst, arith, BTreeMap, ◌≢◌, ◌≤◌, [], length, zero, suc, ◌+◌, ◌<◌}
 use Rattle.std.specs.List.{Contains, All}
 use Rattle.std.specs.BTreeMap.{get}
-use Rattle.std.specs.Ordering.{nat_cmp, ordering_then, is_eq}
-use Rattle.std.specs.declared.cmp.Ordering.{Ordering}
-use Rattle.std.specs.declared.cmp.Ordering.TheVariants.{Less, Equal, Greater}
+use Rattle.std.specs.Ordering.{is_eq}
 use Rattle.std.proofs.lemmas.Bool.{false≢true, eq-eqb, cases_Bool, eqb-true, cases_lt}
-use Rattle.list_laws.proofs.Numbers.{nat_cmp-same}
+use Rattle.list_laws.proofs.Numbers.{equal_pairs, same_pair}
 use Rattle.list_laws.proofs.Options.{some_of}
 use Rattle.list_laws.proofs.Members.{contains_later, contains_cases, contains_first}
-use Rattle.list_laws.proofs.Truths.{equal_numbers}
-use Rattle.dq_lits.specs.Literal.{Literal, positive, negative, opposite}
+use Rattle.dq_lits.specs.Literal.{Literal, positive, negative, opposite, literal_code}
 use Rattle.dq_lits.specs.Formula.{Dqbf}
 use Rattle.hint_log.specs.Conditions.{AreLogged}
 use Rattle.hint_log.specs.Entries.{Entry, Named, Given, ProofLog, with_entry, name_of}
@@ -19,14 +16,14 @@ use Rattle.hint_log.specs.declared.names.Name.TheVariants.{Selector, Term}
 use Rattle.hint_log.specs.declared.origins.Origin.{Origin}
 use Rattle.hint_log.specs.declared.origins.Origin.TheVariants.{TermGate, Instance, Gate, Fault, Copy, Link, Differ}
 use Rattle.hint_log.proofs.NamedEntries.{each_one}
-use Rattle.log_laws.proofs.Kept.{NamesStay, name_stays_by, name_cases}
+use Rattle.log_laws.proofs.Kept.{NamesStay, name_stays_by, name_cases, unnamed_earlier, some_stays}
 use Rattle.oracle.specs.Calls.{IsMade}
 use Rattle.padoa_definitions.specs.Copies.{IsPadoa, IsWhole, IsGroupGiven, group_variable, groups_of}
 use Rattle.padoa_definitions.specs.Growing.{Gives, HasFewFaults}
 use Rattle.padoa_definitions.specs.declared.padoa.Padoa.{Padoa}
-use Rattle.padoa_definitions.proofs.GivenClauses.{fresh_group, unnamed_back, in_by, few_more, gives_none, gives_more}
-use Rattle.padoa_definitions.proofs.KeptCopies.{made_stays, keeps_entry, padoa_stays, groups_named, Keeps, IsNamed, keeps_by_engine, engines_leave}
-use Rattle.definition_proofs.specs.Terms.{literal_number, by_both, is_gate_of, HasTermClauses, HasNoTerms, AreTerms, is_term_gate, is_proof_origin, GrewByProof, AreParts}
+use Rattle.padoa_definitions.proofs.GivenClauses.{fresh_group, in_by, few_more, gives_none, gives_more}
+use Rattle.padoa_definitions.proofs.KeptCopies.{keeps_entry, padoa_stays, groups_named, Keeps, IsNamed, keeps_by_engine, engines_leave}
+use Rattle.definition_proofs.specs.Terms.{by_both, is_gate_of, HasTermClauses, HasNoTerms, AreTerms, is_term_gate, is_proof_origin, GrewByProof, AreParts}
 use Rattle.definition_proofs.specs.Differing.{LeavesTerms}
 use Rattle.definition_proofs.specs.Proving.{AreBeside}
 use Rattle.definition_proofs.specs.Shown.{ReadDeclaredCopies}
@@ -35,9 +32,10 @@ use Rattle.hint_log.specs.Growth.{Grew}
 use Rattle.hint_log.specs.ProductiveLog.{fault_groups, fault_room}
 use Rattle.log_laws.specs.Engines.{copies, IsAddedBy}
 use Rattle.log_laws.proofs.LargerLogs.{leaves_rest, grown_by, grown_then}
-use Rattle.dq_lits.proofs.SignedLiterals.{negated-positive}
+use Rattle.dq_lits.proofs.SignedLiterals.{negated-positive, same_code}
 use Rattle.hint_log.specs.Origins.{gate_rest, IsRestOf}
 use Rattle.oracle.specs.declared.groups.Group.{Group}
+use Rattle.oracle.proofs.MadeGroups.{made_stays}
 
 -- a formula, where any will do
 pub no_formula : Dqbf
@@ -69,7 +67,7 @@ pub proof_then : (f : Dqbf) (group y : ℕ) (a b c : ProofLog) → GrewByProof f
     GrewByProof f group y a c
 proof_then f group y a b c first second = record {
   grew = λ start names. grown_then (IsAddedBy f copies group true start) a b c (first.grew start names)
-      (second.grew start (λ v none. names v (unnamed_back a.entries b.entries
+      (second.grew start (λ v none. names v (unnamed_earlier a.entries b.entries
       (names_stay f group y a b first) v none)));
   givens = λ o d inside. elim (second.givens o d inside) [ inl before ↦ first.givens o d before | inr new ↦ inr new ];
 }
@@ -115,37 +113,16 @@ pub gate_grew : (group : ℕ) (old named new : ProofLog) (v : ℕ) (a b : Litera
 gate_grew group old named new v a b unnamed is gives f y = proof_then f group y old named new
     (proof_named f group y old named v a b unnamed is) (proof_gives f group v y named new (gives f))
 
--- literals have numbers of their own
-same_literals : (a b : Literal) → literal_number a ≡ literal_number b → a ≡ b
-same_literals (positive v) (positive w) h = let e : v ≡ w = omega (arith, h) in ap positive e
-same_literals (positive v) (negative w) h = absurd (omega (arith, h))
-same_literals (negative v) (positive w) h = absurd (omega (arith, h))
-same_literals (negative v) (negative w) h = let e : v ≡ w = omega (arith, h) in ap negative e
-
-equal_by_both : (p q : ℕ × ℕ) → is_eq (by_both p q) ≡ true → (p.0 ≡ q.0) × (p.1 ≡ q.1)
-equal_by_both p q h = by (nat_cmp p.0 q.0) refl h where
-  by : (o : Ordering) → nat_cmp p.0 q.0 ≡ o → is_eq (ordering_then o (nat_cmp p.1 q.1)) ≡ true →
-      (p.0 ≡ q.0) × (p.1 ≡ q.1)
-  by Less e h = cc
-  by Equal e h = (equal_numbers p.0 q.0 (ap is_eq e), equal_numbers p.1 q.1 h)
-  by Greater e h = cc
-
-itself_by_both : (p : ℕ × ℕ) → is_eq (by_both p p) ≡ true
-itself_by_both p = ap (λ o. is_eq (ordering_then o (nat_cmp p.1 p.1))) (nat_cmp-same p.0) ∙ ap is_eq (nat_cmp-same p.1)
-
 abbrev pub key_of : Literal → Literal → ℕ × ℕ
-key_of a b = (literal_number a, literal_number b)
+key_of a b = (literal_code a, literal_code b)
 
-pub key_is : (x y : ℕ) (a b : Literal) → x ≡ literal_number a → y ≡ literal_number b → (x, y) ≡ key_of a b
-key_is x y a b x_is y_is = ap (λ z. (z, y)) x_is ∙ ap (λ z. (literal_number a, z)) y_is
-
-some_stays : (old new : List Entry) → NamesStay old new → (v : ℕ) → IsSome (name_of old v) → IsSome (name_of new v)
-some_stays old new stay v some = let n = some_of (name_of old v) some in subst IsSome (sym (stay v n.0 n.1)) refl
+pub key_is : (x y : ℕ) (a b : Literal) → x ≡ literal_code a → y ≡ literal_code b → (x, y) ≡ key_of a b
+key_is x y a b x_is y_is = ap (λ z. (z, y)) x_is ∙ ap (λ z. (literal_code a, z)) y_is
 
 pub terms_stay : (t : Terms) (old new : List Entry) → LeavesTerms (group_variable t.group) old new → AreTerms t old →
     AreTerms t new
 terms_stay t old new leaves before = record {
-  made = made_stays old new leaves.names t.group before.made;
+  made = made_stays old new t.group leaves.names before.made;
   known = λ v a b is. before.known v a b (leaves.terms v a b is);
   sound = λ a b l found. (let s = before.sound a b l found in (s.0, s.1, leaves.names s.0 (Term a b) s.2));
   clauses = λ v a b is i rest rest_is. leaves.entries (Given (TermGate v i) (negative (group_variable t.group) ∷ rest))
@@ -252,9 +229,9 @@ module _ (t : Terms) (literals : BTreeMap (ℕ × ℕ) Literal) (old mid new : P
   looked : (c d : Literal) → ((a ≡ c) × (b ≡ d) × (get by_both literals (key_of c d) ≡ Some (positive v)))
       ⊎ (get by_both literals (key_of c d) ≡ get by_both t.literals (key_of c d))
   looked c d = elim (cases_Bool (is_eq (by_both (key_of a b) (key_of c d)))) [
-    | inl same ↦ (let numbers = equal_by_both (key_of a b) (key_of c d) same in inl (
-      same_literals a c numbers.0,
-      same_literals b d numbers.1,
+    | inl same ↦ (let numbers = equal_pairs (key_of a b) (key_of c d) same in inl (
+      same_code a c numbers.0,
+      same_code b d numbers.1,
       updates (key_of c d) ∙ ap (λ x. cond x (Some (positive v)) (get by_both t.literals (key_of c d))) same,
     ))
     | inr other ↦ inr (updates (key_of c d) ∙ ap (λ x. cond x (Some (positive v)) (get by_both t.literals (key_of c d)))
@@ -263,7 +240,7 @@ module _ (t : Terms) (literals : BTreeMap (ℕ × ℕ) Literal) (old mid new : P
 
   there : get by_both literals (key_of a b) ≡ Some (positive v)
   there = updates (key_of a b) ∙ ap (λ x. cond x (Some (positive v)) (get by_both t.literals (key_of a b)))
-      (itself_by_both (key_of a b))
+      (same_pair (key_of a b))
 
   known : (w : ℕ) (c d : Literal) → ((w ≡ v) × (Term a b ≡ Term c d)) ⊎ (name_of old.entries w ≡ Some (Term c d)) →
       get by_both literals (key_of c d) ≡ Some (positive w)
@@ -303,7 +280,7 @@ module _ (t : Terms) (literals : BTreeMap (ℕ × ℕ) Literal) (old mid new : P
 
   pub gate_more : AreTerms (record t { literals = literals }) new.entries
   gate_more = record {
-    made = made_stays old.entries new.entries stay t.group before.made;
+    made = made_stays old.entries new.entries t.group stay before.made;
     known = λ w c d is. known w c d (cases w (Term c d) is);
     sound = sound;
     clauses = λ w c d is. clauses w c d (cases w (Term c d) is);

@@ -4,7 +4,7 @@ use Rattle.std.specs.List.{Contains}
 use Rattle.std.specs.BTreeMap.{get}
 use Rattle.std.specs.declared.cmp.Ordering.{Ordering}
 use Rattle.std.specs.Ordering.{nat_cmp, ordering_then}
-use Rattle.dq_lits.specs.Literal.{Literal, positive, negative}
+use Rattle.dq_lits.specs.Literal.{Literal, positive, negative, literal_code}
 use Rattle.dq_lits.specs.Formula.{Dqbf}
 use Rattle.hint_log.specs.Entries.{Entry, Given, ProofLog, name_of}
 use Rattle.hint_log.specs.Growth.{Grew}
@@ -17,11 +17,6 @@ use Rattle.oracle.specs.Calls.{IsMade}
 use Rattle.padoa_definitions.specs.Copies.{group_variable}
 use Rattle.padoa_definitions.specs.Growing.{Gives, HasFewFaults}
 use Rattle.definition_proofs.specs.declared.terms.Terms.{Terms}
-
--- the number of a literal
-abbrev pub literal_number : Literal → ℕ
-literal_number (positive v) = 2 * v
-literal_number (negative v) = 2 * v + 1
 
 abbrev pub by_both : ℕ × ℕ → ℕ × ℕ → Ordering
 by_both p q = ordering_then (nat_cmp p.0 q.0) (nat_cmp p.1 q.1)
@@ -50,9 +45,9 @@ pub record HasNoTerms (entries : List Entry) : Type 0 where
 pub record AreTerms (terms : Terms) (entries : List Entry) : Type 0 where
   pub made : IsMade entries terms.group
   pub known : (v : ℕ) (a b : Literal) → name_of entries v ≡ Some (Term a b)
-      → get by_both terms.literals (literal_number a, literal_number b) ≡ Some (positive v)
+      → get by_both terms.literals (literal_code a, literal_code b) ≡ Some (positive v)
   pub sound : (a b l : Literal)
-      → get by_both terms.literals (literal_number a, literal_number b) ≡ Some l
+      → get by_both terms.literals (literal_code a, literal_code b) ≡ Some l
       → (v : ℕ) × (l ≡ positive v) × (name_of entries v ≡ Some (Term a b))
   pub clauses : (v : ℕ) (a b : Literal) → name_of entries v ≡ Some (Term a b)
       → HasTermClauses entries (group_variable terms.group) v a b

@@ -1,9 +1,12 @@
 //! Gates over first copies, each given once (Tseitin's encoding).
+//!
+//! Gates over first copies are shared by their sides, not by a graph's numbers, so that what is
+//! known of them doesn't ask for the graph.
 
 ghost use Rattle.std.specs.Prelude.{◌≡◌, ◌≤◌, ◌<◌, ◌^◌, ℕ, true, List, IfOk, OnOk, OnErr, Some};
 ghost use Rattle.std.specs.List.{Contains};
 ghost use Rattle.dq_lits.specs.Formula.{Dqbf};
-ghost use Rattle.dq_lits.specs.Literal.{Literal, positive};
+ghost use Rattle.dq_lits.specs.Literal.{Literal, positive, literal_code};
 ghost use Rattle.hint_log.specs.Conditions.{HasSides};
 ghost use Rattle.hint_log.specs.Entries.{Named, Given, with_entry, name_of};
 ghost use Rattle.hint_log.specs.Growth.{Grew};
@@ -16,7 +19,7 @@ ghost use Rattle.padoa_definitions.specs.Growing.{Gives, HasFewFaults};
 ghost use Rattle.padoa_definitions.specs.declared.padoa.Padoa.{Padoa as PadoaValue};
 ghost use Rattle.definition_proofs.specs.Proving.{AreBeside};
 ghost use Rattle.definition_proofs.specs.Shown.{IsDeclaredCopy, ReadDeclaredCopies};
-ghost use Rattle.definition_proofs.specs.Terms.{literal_number, is_gate_of, HasTermClauses, HasNoTerms, AreTerms, GrewByProof};
+ghost use Rattle.definition_proofs.specs.Terms.{is_gate_of, HasTermClauses, HasNoTerms, AreTerms, GrewByProof};
 
 use dq_lits::{Lit, Memory};
 use hint_log::{Log, Name, Origin};
@@ -149,7 +152,7 @@ fn part_of(variable: u64, part: u64) -> Origin
 
 // The number of a literal.
 fn number(l: Lit) -> u64
-    ensures { result ≡ literal_number l }
+    ensures { result ≡ literal_code l }
 {
     if l.is_neg() {
         2 * l.var() + 1

@@ -4,7 +4,7 @@ use Rattle.std.specs.List.{All, Contains}
 use Rattle.aig_graph.specs.Graph.{AigGraph}
 use Rattle.std.proofs.lemmas.List.{length-map, get_or-map}
 use Rattle.std.proofs.lemmas.Option.{slice_get_within, slice_get-get_or, get_or_from_slice_get}
-use Rattle.dq_lits.specs.Formula.{Dqbf, Existential, HasLawfulPrefix, existential_of}
+use Rattle.dq_lits.specs.Formula.{Dqbf, Existential, HasLawfulPrefix}
 use Rattle.dq_lits.specs.Literal.{Literal}
 use Rattle.dq_formula.specs.Prefix.{IsLawful, existential_variables}
 use Rattle.hint_log.specs.Entries.{Entry, Given, ProofLog}
@@ -14,7 +14,7 @@ use Rattle.hint_log.specs.declared.origins.Leaf.{Leaf}
 use Rattle.hint_log.specs.declared.origins.Origin.TheVariants.{Differ}
 use Rattle.log_laws.specs.Engines.{copies, IsAddedBy, EnginesLeaveRest}
 use Rattle.oracle.specs.Searched.{IsSearched}
-use Rattle.definition_order.proofs.Declared.{known_at, one_place, variable}
+use Rattle.definition_order.proofs.Declared.{one_place, variable}
 use Rattle.padoa_definitions.specs.Copies.{IsPadoa, IsWhole, groups_of}
 use Rattle.padoa_definitions.specs.Growing.{HasFewFaults, HasSameGivens}
 use Rattle.padoa_definitions.specs.Copies.{group_variable}
@@ -27,16 +27,6 @@ use Rattle.definition_search.specs.Searching.{IsSearch}
 use Rattle.definition_search.specs.Texts.{GoesOn}
 use Rattle.definition_search.specs.declared.searching.Search.{Search}
 use Rattle.definition_search.proofs.ReadNames.{read_stays}
-
--- the existential at a place
-pub existential_there : (f : Dqbf) → IsLawful f → (vs : List ℕ) → vs ≡ existential_variables f → (p : ℕ) →
-    p < length f.existentials
-    → (y : Existential) × (slice_get f.existentials p ≡ Some y) × (existential_of f (get_or vs p 0) ≡ Some y)
-existential_there f lawful vs are p below =
-    let none : Existential = record { variable = 0; sees = [] } in
-    let y = get_or f.existentials p none in
-    let at = slice_get-get_or f.existentials p none below in
-    (y, at, known_at f lawful vs p y are at)
 
 pub some_at : (f : Dqbf) → IsLawful f → (vs : List ℕ) → vs ≡ existential_variables f → (p : ℕ) →
     p < length f.existentials → slice_get (existential_variables f) p ≡ Some (get_or vs p 0)

@@ -4,7 +4,7 @@ use Rattle.std.specs.List.{All, Contains, list_any}
 use Rattle.std.proofs.lemmas.List.Elements.{All-contains, All-nil, All-cons}
 use Rattle.dq_lits.specs.Formula.{Dqbf, Existential, existential_of}
 use Rattle.dq_lits.specs.Henkin.{MatrixHolds}
-use Rattle.dq_lits.specs.Literal.{Assignment, Literal, positive, negative, clause_true, literal_true}
+use Rattle.dq_lits.specs.Literal.{Assignment, Literal, positive, negative, literal_true}
 use Rattle.dq_lits.specs.Row.{assignment_of}
 use Rattle.dq_formula.specs.Prefix.{existential_variables}
 use Rattle.aig_graph.specs.Graph.{AigGraph}
@@ -26,6 +26,7 @@ use Rattle.padoa_definitions.specs.declared.defining.Pair.{Pair}
 use Rattle.definition_proofs.specs.Shown.{TermLeafReads}
 use Rattle.definition_export.specs.Exporting.{IsExportedDefinition}
 use Rattle.definition_search.specs.Texts.{AreRightBlocks}
+use Rattle.dq_lits.proofs.TrueClauses.{clause_same}
 
 -- a block more
 pub block_more : (f : Dqbf) (ys : List ℕ) (y : ℕ) (blocks : List DefinitionBlock) (block : DefinitionBlock) →
@@ -77,14 +78,9 @@ literal_same : (m n : Assignment) → ((v : ℕ) → m v ≡ n v) → (l : Liter
 literal_same m n same (positive v) = same v
 literal_same m n same (negative v) = ap not (same v)
 
-clause_same : (m n : Assignment) → ((v : ℕ) → m v ≡ n v) → (c : List Literal) → clause_true m c ≡ clause_true n c
-clause_same m n same [] = refl
-clause_same m n same (l ∷ c) = ap (λ b. b || clause_true m c) (literal_same m n same l)
-    ∙ ap (λ b. literal_true n l || b) (clause_same m n same c)
-
 matrix_same : (f : Dqbf) (m n : Assignment) → ((v : ℕ) → m v ≡ n v) → MatrixHolds f m → MatrixHolds f n
 matrix_same f m n same holds k d within =
-    sym (clause_same m n same _) ∙ holds k d within
+    sym (clause_same m n _ same) ∙ holds k d within
 
 -- a pair that shows that an existential has no definition
 pub pair_right : (f : Dqbf) (y : Existential) (variable : ℕ) (pair : Pair) (p : FreePair) →

@@ -1,6 +1,6 @@
 -- What holds of every formula, from what its fields keep.
 use Rattle.std.proofs.Common.{◌≡◌, ℕ, zero, suc, ◌+◌, ◌-◌, ◌≤◌, ◌<◌, ◌≢◌, List, ◌++◌, length, map, take, get_or, ap, sym, ◌∙◌, subst, arith, eqb, filter, Some, Contains, get_or-take}
-use Rattle.std.proofs.lemmas.List.{length-take-le, length-map, get_or-map}
+use Rattle.std.proofs.lemmas.List.{length-take-le, length-map, get_or-map, length-append}
 use Rattle.std.proofs.lemmas.List.Elements.{All-append, All-map, Contains-get_or}
 use Rattle.std.proofs.lemmas.List.FromFn.{fill_by_all}
 use Rattle.std.proofs.lemmas.Cmp.{nat_eq_equiv}
@@ -9,15 +9,16 @@ use Rattle.std.specs.Option.{option_map}
 use Rattle.std.specs.List.{All, AllPairs, IsDistinct, find, range_with_len}
 use Rattle.std.specs.Map.{keys_of}
 use Rattle.dq_lits.specs.Literal.{Literal}
-use Rattle.dq_lits.specs.Formula.{Existential, existential_of}
+use Rattle.dq_lits.specs.Formula.{Existential, existential_of, Dqbf}
 use Rattle.dq_formula.specs.declared.dependencies.Deps.{Deps}
 use Rattle.dq_formula.specs.declared.dependencies.Deps.TheVariants.{FirstOf, Listed}
 use Rattle.dq_formula.specs.Dependencies.{dependencies, listed_universals, IsDependencySet}
 use Rattle.dq_formula.specs.Layout.{existential, formula_of, IsInRange, IsKept}
-use Rattle.dq_formula.specs.Prefix.{IsLawful}
+use Rattle.dq_formula.specs.Prefix.{IsLawful, existential_variables}
 use Rattle.dq_formula.proofs.Distinct.{AllPairs-append, All-dependencies}
 use Rattle.dq_formula.proofs.Entries.{map-variable, find-existential}
 use Rattle.dq_formula.proofs.Places.{has, Rise, at, at-filter}
+use Rattle.dq_lits.proofs.FormulaVariables.{few_declared}
 
 -- places from a number on
 Rise-range : (low n high : ℕ) → low + n ≤ high → Rise low high (range_with_len low n)
@@ -73,3 +74,11 @@ lawful variables us es matrix kept =
       few_variables = kept.few_variables;
       few_clauses = kept.few_clauses;
     }
+
+pub few_places : (f : Dqbf) → IsLawful f → length f.universals + length f.existentials ≤ 1000001
+few_places f lawful =
+    let few = few_declared f lawful.prefix in
+    let long = length-append f.universals (existential_variables f) in
+    let mapped = length-map f.existentials (λ (y : Existential). y.variable) in
+    let most = lawful.few_variables in
+    omega (arith, few, long, mapped, most)

@@ -2,7 +2,7 @@
 use Rattle.std.proofs.Common.{◌≡◌, ℕ, suc, ◌+◌, ◌-◌, ◌≤◌, ◌<◌, ◌≢◌, Bool, true, false, not, List, [], ◌∷◌, length, map, get_or, refl, ap, sym, ◌∙◌, subst, arith, eqb, None, Some, filter, Contains, true≢false, ltb, position, ⊎_elim}
 use Rattle.std.proofs.lemmas.Bool.{eqb-true, eq-eqb, lt-ltb, cases_lt}
 use Rattle.std.proofs.lemmas.Bool.Decides.{nat_tests}
-use Rattle.std.proofs.lemmas.List.{get_or_default}
+use Rattle.std.proofs.lemmas.List.{get_or_default, length-map}
 use Rattle.std.proofs.lemmas.Map.Keys.{apart_from_distinct, IsDistinct-head, IsDistinct-tail}
 use Rattle.std.proofs.lemmas.List.Quantifiers.{position-Some}
 use Rattle.std.proofs.lemmas.List.Folds.{Any-from_list_any, list_any-from_Any}
@@ -11,6 +11,8 @@ use Rattle.std.proofs.lemmas.List.Elements.{All-from_recursion}
 use Rattle.std.specs.List.{list_any, AllByRecursion, IsDistinct, position_or_len}
 use Rattle.std.specs.List.Sorted.{IsNonDecreasingBy}
 use Rattle.list_laws.proofs.Numbers.{eqb-flip}
+use Rattle.dq_lits.specs.Formula.{Existential, Dqbf}
+use Rattle.dq_formula.specs.Prefix.{existential_variables}
 
 abbrev pub place : List ℕ → ℕ → ℕ
 place xs x = position_or_len (λ u. eqb u x) xs
@@ -144,3 +146,8 @@ has-contains us x h = list_any-from_Any (λ u. eqb u x) us (h.0, x, h.1, h.2, eq
 pub contains-has : (us : List ℕ) (x : ℕ) → has us x ≡ true → Contains us x
 contains-has us x h = let k = Any-from_list_any (λ u. eqb u x) us h in
     (k.0, k.2, get_or_default us k.0 x k.1 k.2 ∙ k.3 ∙ eqb-true k.1 x k.4)
+
+pub existential_below : (f : Dqbf) (vs : List ℕ) (place : ℕ) → vs ≡ existential_variables f → place < length vs →
+    place < length f.existentials
+existential_below f vs place are below = let long = length-map f.existentials (λ (z : Existential). z.variable) in let size =
+    ap length are in omega arith

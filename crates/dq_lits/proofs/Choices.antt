@@ -6,7 +6,8 @@ use Rattle.std.proofs.lemmas.List.Folds.{list_any-append}
 use Rattle.list_laws.proofs.Truths.{or_true}
 use Rattle.dq_lits.specs.Literal.{Assignment}
 use Rattle.dq_lits.specs.Formula.{Existential}
-use Rattle.dq_lits.specs.Henkin.{same_bits, restriction, HenkinChoice, choice_value}
+use Rattle.dq_lits.specs.Henkin.{same_bits, restriction, HenkinChoice, choice_value, same_bit}
+use Rattle.std.proofs.lemmas.Bool.{true≢false}
 
 pub same_bits-refl : (bits : List Bool) → same_bits bits bits ≡ true
 same_bits-refl [] = refl
@@ -83,3 +84,8 @@ choice_of-value values y m =
     kept (values y) bits (all_bits (length y.sees))
     ∙ ap (λ r. r && values y bits) (ap (λ n. list_any (same_bits bits) (all_bits n)) (sym (length-map y.sees m))
     ∙ all_bits-complete bits)
+
+pub bits_same : (a b : Bool) → a ≡ b → same_bit a b ≡ true
+bits_same true b e = sym e
+bits_same false true e = absurd (true≢false (sym e))
+bits_same false false e = refl

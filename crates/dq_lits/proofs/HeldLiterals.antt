@@ -162,3 +162,17 @@ pub holds_cases : (x : Literal) (xs : List Literal) (l : Literal) → holds (x �
     (l ≡ x) ⊎ (holds xs l ≡ true)
 holds_cases x xs l h = elim (or_cases (same_literal l x) (holds xs l) h)
     [ inl same ↦ inl (same_literal-sound l x same) | inr later ↦ inr later ]
+
+-- a literal of a part is one of the clause
+pub holds_of_filter : (l : Literal) (g : Literal → Bool) (clause : List Literal) → holds (filter g clause) l ≡ true
+    → holds clause l ≡ true
+holds_of_filter l g [] h = h
+holds_of_filter l g (k ∷ ks) h = by (g k) (holds_of_filter l g ks) h
+  where
+    by : (b : Bool) → (holds (filter g ks) l ≡ true → holds ks l ≡ true)
+        → holds (cond b (k ∷ filter g ks) (filter g ks)) l ≡ true → holds (k ∷ ks) l ≡ true
+    by true step h = elim (or_cases (same_literal l k) (holds (filter g ks) l) h) [
+      | inl here ↦ or_left (same_literal l k) (holds ks l) here
+      | inr later ↦ or_right (same_literal l k) (holds ks l) (step later)
+    ]
+    by false step h = or_right (same_literal l k) (holds ks l) (step h)

@@ -1,7 +1,7 @@
 -- Lemmas on literals, their variables and their negations.
-use Rattle.std.proofs.Common.{◌≡◌, true, refl, ℕ, ◌∙◌, false, inl, inr, sym, subst, ◌⊎◌, ap, not}
+use Rattle.std.proofs.Common.{◌≡◌, true, refl, ℕ, ◌∙◌, false, inl, inr, sym, subst, ◌⊎◌, ap, not, arith}
 use Rattle.std.proofs.lemmas.Bool.{eq-eqb, cases_Bool, true≢false}
-use Rattle.dq_lits.specs.Literal.{Literal, positive, negative, same_literal, variable_of, opposite, on_variable, is_negative}
+use Rattle.dq_lits.specs.Literal.{Literal, positive, negative, same_literal, variable_of, opposite, on_variable, is_negative, literal_code}
 use Rattle.dq_lits.proofs.Truth.{same_literal-sound}
 
 pub same_literal-refl : (l : Literal) → same_literal l l ≡ true
@@ -60,3 +60,10 @@ on-on x y (negative v) = refl
 pub opposite-negative : (l : Literal) → is_negative (opposite l) ≡ not (is_negative l)
 opposite-negative (positive v) = refl
 opposite-negative (negative v) = refl
+
+-- literals have codes of their own
+pub same_code : (a b : Literal) → literal_code a ≡ literal_code b → a ≡ b
+same_code (positive v) (positive w) h = let e : v ≡ w = omega (arith, h) in ap positive e
+same_code (positive v) (negative w) h = absurd (omega (arith, h))
+same_code (negative v) (positive w) h = absurd (omega (arith, h))
+same_code (negative v) (negative w) h = let e : v ≡ w = omega (arith, h) in ap negative e

@@ -100,3 +100,7 @@ Derives live steps = proof_fault live steps ≡ None
 abbrev pub MakesTrue : Assignment → LiveClauses → Type 0
 MakesTrue m live =
     (id : ℕ) (clause : List Literal) → live id ≡ Some clause → clause_true m clause ≡ true
+
+-- as sets
+abbrev pub AreSame : List Literal → List Literal → Type 0
+AreSame xs ys = (l : Literal) → holds xs l ≡ holds ys l

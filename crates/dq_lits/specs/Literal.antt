@@ -53,3 +53,8 @@ literal_true m (negative v) = not (m v)
 -- a clause is true where one of its literals is; the empty clause is false
 abbrev pub clause_true : Assignment → List Literal → Bool
 clause_true m clause = list_any (literal_true m) clause
+
+-- the number of a literal, by which literals are ordered
+abbrev pub literal_code : Literal → ℕ
+literal_code (positive v) = 2 * v
+literal_code (negative v) = 2 * v + 1

@@ -7,12 +7,12 @@ use Rattle.list_laws.proofs.Folds.{filter-wider}
 use Rattle.dq_lits.specs.Literal.{Literal, positive, negative, variable_of, opposite}
 use Rattle.dq_lits.specs.Formula.{Dqbf, is_universal, existential_of}
 use Rattle.dq_lits.specs.Derivation.{holds, is_tautology}
-use Rattle.dq_lits.proofs.HeldLiterals.{filter-holds}
+use Rattle.dq_lits.proofs.HeldLiterals.{filter-holds, holds_of_filter}
 use Rattle.dq_lits.proofs.SignedLiterals.{opposite-opposite}
 use Rattle.dq_prep.specs.Reduction.{sees_in, is_seen, stays}
 use Rattle.dq_prep.specs.Units.{is_satisfied, without_false, left_of}
 use Rattle.dq_prep.specs.Roles.{open_literals}
-use Rattle.dq_prep.proofs.Units.{satisfied-by, part-holds}
+use Rattle.dq_prep.proofs.Units.{satisfied-by}
 use Rattle.dq_prep.proofs.SeenUniversals.{same-test, filters-agree}
 use Rattle.dq_prep.proofs.SignedLiterals.{pair-in, pair-any}
 
@@ -62,8 +62,8 @@ tautology-stays trues clause unsatisfied = same-test (is_tautology rest) (is_tau
     there : is_tautology rest ≡ true → is_tautology clause ≡ true
     there h =
         let r = pair-in rest rest h in
-        pair-any clause clause r.0 (part-holds r.0 open-test clause r.1)
-        (part-holds (opposite r.0) open-test clause r.2)
+        pair-any clause clause r.0 (holds_of_filter r.0 open-test clause r.1)
+        (holds_of_filter (opposite r.0) open-test clause r.2)
 
     back : is_tautology clause ≡ true → is_tautology rest ≡ true
     back h =

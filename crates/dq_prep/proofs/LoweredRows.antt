@@ -18,10 +18,11 @@ use Rattle.dq_prep.specs.Reduction.{sees_in, is_seen, stays}
 use Rattle.dq_prep.specs.Units.{taken_literals, without_false, left_of}
 use Rattle.dq_prep.specs.LoweredRows.{is_lost, lowered, lowered_row, LoweredRowsServe}
 use Rattle.dq_prep.proofs.SignedLiterals.{pair-any}
-use Rattle.dq_prep.proofs.Reduction.{lost_false, literal-agree, unlost, unlost_value, kept_by, holds-at}
+use Rattle.dq_prep.proofs.Reduction.{lost_false, unlost, unlost_value, kept_by, holds-at}
 use Rattle.dq_prep.proofs.OpenLiterals.{none-universal}
 use Rattle.dq_prep.proofs.LeftLiterals.{tautology-stays}
 use Rattle.dq_prep.proofs.LiteralRoles.{find-Some}
+use Rattle.dq_lits.proofs.LiftedExpansion.{literal_true-agree}
 
 -- a variable of a row that is made of an assignment
 made-bit : (xs : List ℕ) (m : Assignment) (x : ℕ) → list_any (λ z. z == x) xs ≡ true
@@ -81,10 +82,10 @@ low-false f trues clause row l here plain none universal =
     let bit = low-bit f rest row v (contains_tested f.universals v universal) in
     elim (cases_Bool (is_lost f rest v)) [
       | inl lost ↦
-          literal-agree (lowered f rest m) (row_assignment f (lowered_row f rest row)) l bit
+          literal_true-agree (row_assignment f (lowered_row f rest row)) (lowered f rest m) l bit
           ∙ lost_false f rest m l here (alone l here) lost
       | inr kept ↦
-          literal-agree m (row_assignment f (lowered_row f rest row)) l (bit ∙ unlost_value f rest m v kept)
+          literal_true-agree (row_assignment f (lowered_row f rest row)) m l (bit ∙ unlost_value f rest m v kept)
           ∙ false-left (kept_by f rest l kept)
     ]
   where

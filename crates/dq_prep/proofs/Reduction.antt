@@ -15,6 +15,7 @@ use Rattle.dq_lits.proofs.Followers.{map-agree}
 use Rattle.dq_formula.specs.Prefix.{IsLawful}
 use Rattle.dq_prep.specs.Reduction.{sees_in, is_seen, stays, reduced}
 use Rattle.dq_prep.specs.LoweredRows.{is_lost, lowered}
+use Rattle.dq_lits.proofs.LiftedExpansion.{literal_true-agree}
 
 any-cond : (q : Literal → Bool) (b : Bool) (x : Literal) (xs : List Literal) → list_any q xs ≡ true
     → list_any q (cond b (x ∷ xs) xs) ≡ true
@@ -99,11 +100,6 @@ lost_false f clause m (negative v) here none lost =
     ap (λ a. Value a (holds clause (negative v)) (holds clause (positive v))) lost
     ∙ ap (λ b. Value true b (holds clause (positive v))) here
 
-pub literal-agree : (m n : Assignment) (l : Literal) → n (variable_of l) ≡ m (variable_of l)
-    → literal_true n l ≡ literal_true m l
-literal-agree m n (positive v) h = h
-literal-agree m n (negative v) h = ap not h
-
 pub kept_by : (f : Dqbf) (clause : List Literal) (l : Literal) → is_lost f clause (variable_of l) ≡ false
     → stays f clause l ≡ true
 kept_by f clause l h = closed (is_universal f (variable_of l)) (is_seen f clause (variable_of l)) h
@@ -172,14 +168,14 @@ literal_stays s k d below truth =
           let there = universal_same s v (contains_tested f.universals v universal) in
           let low = lost_false f s.clause s.m l (holds-at s.clause k d below)
           (no_opposite s.clause k d below s.plain) lost in
-          absurd (true≢false (sym truth ∙ literal-agree (lowered f s.clause s.m) s.n l there ∙ low))
+          absurd (true≢false (sym truth ∙ literal_true-agree s.n (lowered f s.clause s.m) l there ∙ low))
       | inr kept ↦
           let same : s.n v ≡ s.m v =
           elim (Contains-append_cases f.universals (map (λ y. y.variable) f.existentials) v (s.bound k d below)) [
             | inl universal ↦ universal_same s v universal ∙ unlost_value f s.clause s.m v kept
             | inr existential ↦ existential_same s k d below existential
           ] in
-          (kept_by f s.clause l kept, sym (literal-agree s.m s.n l same) ∙ truth)
+          (kept_by f s.clause l kept, sym (literal_true-agree s.n s.m l same) ∙ truth)
     ]
 
 -- universal reduction: what is true wherever the choice is followed stays so

@@ -17,9 +17,9 @@ use Rattle.dq_prep.specs.Reduction.{sees_in, is_seen, stays, reduced}
 use Rattle.dq_prep.specs.Units.{taken_literals, is_satisfied, left_of, IsUnit, AreUnits}
 use Rattle.dq_prep.specs.Roles.{is_open, open_literals, AreOpen}
 use Rattle.dq_prep.specs.Takings.{IsNoUnit, IsStanding, standing_of_none, standing_of_one}
-use Rattle.dq_prep.proofs.Units.{some-same}
 use Rattle.dq_prep.proofs.OpenLiterals.{none-universal}
 use Rattle.dq_prep.proofs.LeftLiterals.{UniversalsSeeNothing, left-opens, left-is-open, seen-left, tautology-stays, alone-plain}
+use Rattle.list_laws.proofs.Options.{some_same}
 
 -- what an existential sees is a universal
 abbrev pub UniversalsAreSeen : Dqbf → Type 0
@@ -35,7 +35,7 @@ pub record Looked (f : Dqbf) (units : List Taken) (place : ℕ) (clause : List L
 unit-of : (f : Dqbf) (units : List Taken) (place : ℕ) (clause : List Literal) (u : Taken)
     → Looked f units place clause → u.place ≡ place → (it : IsUnit f units u) → it.clause ≡ clause
 unit-of f units place clause u looked same it =
-    some-same it.clause clause (sym it.at ∙ ap (slice_get f.matrix) same ∙ looked.at)
+    some_same it.clause clause (sym it.at ∙ ap (slice_get f.matrix) same ∙ looked.at)
 
 pub satisfied-other : (f : Dqbf) (units : List Taken) (place : ℕ) (clause : List Literal)
     → Looked f units place clause → is_satisfied (taken_literals units) clause ≡ true → IsNoUnit f units place

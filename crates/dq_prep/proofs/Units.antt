@@ -17,6 +17,8 @@ use Rattle.dq_prep.specs.Reduction.{stays}
 use Rattle.dq_prep.specs.Units.{taken_literals, AreUnits, is_satisfied, without_false, left_of}
 use Rattle.dq_prep.specs.Simplified.{taken_at}
 use Rattle.dq_prep.proofs.Reduction.{Extending, reduced-true, any-kept, true-or-false}
+use Rattle.dq_lits.proofs.HeldLiterals.{holds_of_filter}
+use Rattle.list_laws.proofs.Options.{some_same}
 
 -- each literal that was taken is true
 abbrev pub AllTrue : Assignment → List Literal → Type 0
@@ -113,31 +115,17 @@ units-true s (u ∷ earlier) are solves m follows =
     let one : clause_true m (u.literal ∷ []) ≡ true = ap (clause_true m) (sym are.0.left) ∙ left in
     (elim (or_cases (literal_true m u.literal) false one) [ inl here ↦ here | inr none ↦ cc ], all m follows)
 
--- a literal of a part is one of the clause
-pub part-holds : (l : Literal) (g : Literal → Bool) (clause : List Literal) → holds (filter g clause) l ≡ true
-    → holds clause l ≡ true
-part-holds l g [] h = h
-part-holds l g (k ∷ ks) h = by (g k) (part-holds l g ks) h
-  where
-    by : (b : Bool) → (holds (filter g ks) l ≡ true → holds ks l ≡ true)
-        → holds (cond b (k ∷ filter g ks) (filter g ks)) l ≡ true → holds (k ∷ ks) l ≡ true
-    by true step h = elim (or_cases (same_literal l k) (holds (filter g ks) l) h) [
-      | inl here ↦ or_left (same_literal l k) (holds ks l) here
-      | inr later ↦ or_right (same_literal l k) (holds ks l) (step later)
-    ]
-    by false step h = or_right (same_literal l k) (holds ks l) (step h)
-
 pub left-holds : (f : Dqbf) (l : Literal) (trues clause : List Literal) → holds (left_of f trues clause) l ≡ true
     → holds clause l ≡ true
 left-holds f l trues clause h =
-    part-holds l (λ k. not (holds trues (opposite k))) clause (by (is_tautology (without_false trues clause)) h)
+    holds_of_filter l (λ k. not (holds trues (opposite k))) clause (by (is_tautology (without_false trues clause)) h)
   where
     rest : List Literal
     rest = without_false trues clause
 
     by : (b : Bool) → holds (cond b rest (filter (stays f rest) rest)) l ≡ true → holds rest l ≡ true
     by true h = h
-    by false h = part-holds l (stays f rest) rest h
+    by false h = holds_of_filter l (stays f rest) rest h
 
 -- a clause with a literal that was taken is satisfied
 pub satisfied-by : (trues clause : List Literal) (l : Literal) → holds clause l ≡ true → holds trues l ≡ true
@@ -171,16 +159,13 @@ unit-clause f (u ∷ us) zero d are below =
     (are.0.clause, are.0.at, left-holds f l (taken_literals us) are.0.clause (ap (λ c. holds c l) left ∙ inside))
 unit-clause f (u ∷ us) (suc k) d are below = unit-clause f us k d are.1 (omega arith)
 
-pub some-same : (a b : List Literal) → Some a ≡ Some b → a ≡ b
-some-same a b e = cc
-
 -- an earlier unit has another place
 pub unit-apart : (f : Dqbf) (u : Taken) (us : List Taken) (k : ℕ) (d : Taken) → AreUnits f (u ∷ us) → k < length us
     → u.place ≢ (get_or us k d).place
 unit-apart f u us k d are inside e =
     let v = get_or us k d in
     let c = unit-clause f us k d are.1 inside in
-    let same : are.0.clause ≡ c.0 = some-same are.0.clause c.0 (sym are.0.at ∙ ap (slice_get f.matrix) e ∙ c.1) in
+    let same : are.0.clause ≡ c.0 = some_same are.0.clause c.0 (sym are.0.at ∙ ap (slice_get f.matrix) e ∙ c.1) in
     let held : holds are.0.clause v.literal ≡ true = ap (λ x. holds x v.literal) same ∙ c.2 in
     true≢false (sym (satisfied-by (taken_literals us) are.0.clause v.literal held (taken-holds us k d inside))
     ∙ are.0.unsatisfied)

@@ -5,7 +5,7 @@ use Rattle.std.proofs.lemmas.List.{append-nil, length-map}
 use Rattle.std.proofs.lemmas.List.FromFn.{get_or-map-range_with_len, length-map-range_with_len}
 use Rattle.std.proofs.lemmas.Option.{slice_get-get_or, slice_get_within, get_or_from_slice_get, slice_get-map}
 use Rattle.std.specs.Option.{option_map}
-use Rattle.list_laws.proofs.Members.{element_at, place_of}
+use Rattle.list_laws.proofs.Members.{element_at, place_of, contains_later}
 use Rattle.dq_lits.specs.Literal.{Literal}
 use Rattle.dq_lits.specs.Formula.{Dqbf, IsWellFormed}
 use Rattle.hint_log.specs.Entries.{Entry, Named, Given, Learned, Answer, Round, Begun, ProofLog, with_entry, name_of}
@@ -18,7 +18,6 @@ use Rattle.log_laws.specs.Sessions.{IsAddedLive}
 use Rattle.log_laws.proofs.LargerLogs.{grown_by}
 use Rattle.oracle.specs.declared.groups.Group.{Group}
 use Rattle.expansion.specs.Table.{TableState, IsTable}
-use Rattle.expansion.proofs.InstanceModels.{later}
 use Rattle.dq_session.specs.Books.{BookState, HasGroup, IsStack, IsBookEntry, IsBook, HasDoneInstances}
 use Rattle.dq_session.specs.Changes.{begun, file_live}
 use Rattle.dq_session.specs.declared.live.Live.{Live}
@@ -100,7 +99,7 @@ module _ (f : Dqbf) (t : TableState) where
   all_none [] none = tt
   all_none (e ∷ es) none = (
     none_given e es (λ own. none e own (0, omega arith, refl)),
-    all_none es (λ x own has. none x own (later x e es has)),
+    all_none es (λ x own has. none x own (contains_later e x es has)),
   )
 
   no_instances : (own : List Entry) → HasDoneInstances b own

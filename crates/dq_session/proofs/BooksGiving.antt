@@ -4,7 +4,7 @@ use Rattle.std.specs.List.{Contains, filter_map}
 use Rattle.std.specs.Option.{option_map}
 use Rattle.std.proofs.lemmas.List.{length-set}
 use Rattle.std.proofs.lemmas.Option.{slice_get-get_or}
-use Rattle.list_laws.proofs.Members.{filter_map-from, place_of}
+use Rattle.list_laws.proofs.Members.{filter_map-from, place_of, contains_cases}
 use Rattle.dq_lits.specs.Literal.{Literal, is_negative}
 use Rattle.hint_log.specs.Conditions.{AreLogged}
 use Rattle.hint_log.specs.Entries.{Entry, Named, Given, Learned, Answer, Round, Begun, ProofLog, with_entry, name_of}
@@ -17,7 +17,6 @@ use Rattle.log_laws.specs.Sessions.{IsInOneOf, IsAddedLive}
 use Rattle.log_laws.proofs.Kept.{each_of_weaker}
 use Rattle.log_laws.proofs.LargerLogs.{grown_by, grown_by_none, grown_then}
 use Rattle.oracle.specs.declared.groups.Group.{Group}
-use Rattle.expansion.proofs.InstanceModels.{head_or_tail}
 use Rattle.dq_session.specs.Books.{BookState, all_of, live_of, HasGroup, number_of, IsFullBook}
 use Rattle.dq_session.specs.Changes.{groups_of, IsCaughtUp}
 use Rattle.dq_session.specs.Changing.{with_group}
@@ -62,7 +61,7 @@ module _ (a b c : BookState) (first middle last : ProofLog) (x : IsGiving a firs
       by (inr none) = inr (ap (name_of first.entries) (sym same) ∙ none)
 
   old_group : (g : ℕ) → Contains (groups_of b) g → Contains (groups_of a) g ⊎ (name_of first.entries g ≡ None)
-  old_group g has = by (head_or_tail g b.table.group (filter_map (option_map number_of) b.groups) has)
+  old_group g has = by (contains_cases b.table.group g (filter_map (option_map number_of) b.groups) has)
     where
       by : (b.table.group ≡ g) ⊎ Contains (filter_map (option_map number_of) b.groups) g →
           Contains (groups_of a) g ⊎ (name_of first.entries g ≡ None)

@@ -19,20 +19,21 @@ use Rattle.hint_log.proofs.NamedEntries.{each_one}
 use Rattle.log_laws.specs.Engines.{instances, part}
 use Rattle.log_laws.specs.Sessions.{IsAddedLive}
 use Rattle.log_laws.proofs.LargerLogs.{grown_by, grown_by_none}
-use Rattle.log_laws.proofs.Kept.{named_stay}
+use Rattle.log_laws.proofs.Kept.{named_stay, in_one_group}
 use Rattle.oracle.specs.Calls.{IsMade}
 use Rattle.oracle.specs.declared.groups.Group.{Group}
 use Rattle.expansion.specs.Giving.{IsGivenInstance}
 use Rattle.expansion.specs.Table.{HasInstance, IsTable}
 use Rattle.expansion.proofs.GivenInstances.{rounds_are_rows}
-use Rattle.expansion.proofs.InstanceModels.{own_name, head_or_tail}
+use Rattle.expansion.proofs.InstanceModels.{own_name}
 use Rattle.expansion.proofs.TableGrowth.{KeepsNames, KeepsEntries, more_keeps, instance_kept}
 use Rattle.dq_session.specs.Books.{BookState, all_of, number_at, frame_at, given_at, HasGroup, number_of, IsStack, IsFrameInstance, IsBookEntry, AreFrameGroups, HasDoneInstances, IsBook, IsFullBook}
 use Rattle.dq_session.specs.Changes.{groups_of, IsCaughtUp}
 use Rattle.dq_session.specs.Giving.{IsGiving}
 use Rattle.dq_session.proofs.GrownBooks.{entries_same}
 use Rattle.dq_session.proofs.LiveRefutations.{frame_of_added}
-use Rattle.dq_session.proofs.StandingBooks.{in_one_group, has_number}
+use Rattle.dq_session.proofs.StandingBooks.{has_number}
+use Rattle.list_laws.proofs.Members.{contains_cases}
 
 -- the row of a round, by its number
 pub row_there : (es : List Entry) (k : ℕ) (row : List Bool) → slice_get (rows_of es) k ≡ Some row →
@@ -264,7 +265,7 @@ module _ (b : BookState) (place k : ℕ) (g : Group) (row : List Bool) (clause :
         whole = book.table.own.whole;
         pairs_long = book.table.own.pairs_long;
         names = book.table.own.names;
-        given = λ i j d there. by i j d (head_or_tail (Given (Instance i j) d) e mine there);
+        given = λ i j d there. by i j d (contains_cases e (Given (Instance i j) d) mine there);
         arbiters = book.table.own.arbiters;
         complete = λ i j r d r_is d_is open_row. instance_kept b.file b.table.group b.table.rows mine (e ∷ mine)
             (λ v n is. is) (more_keeps mine e) i j r d (book.table.own.complete i j r d r_is d_is open_row);

@@ -8,7 +8,7 @@ use Rattle.hint_log.specs.declared.origins.Origin.TheVariants.{Instance}
 use Rattle.hint_log.proofs.NamedEntries.{each_one}
 use Rattle.dq_session.specs.Books.{BookState, frames_of, number_of, IsInFrame, IsBookEntry, IsBook}
 use Rattle.dq_session.specs.Grouped.{InstancesAreGrouped}
-use Rattle.dq_session.proofs.StandingBooks.{in_one_group}
+use Rattle.log_laws.proofs.Kept.{in_one_group}
 
 module _ (b : BookState) (es : List Entry) (book : IsBook b es) where
   pub frame_group : (k j group : ℕ) (rest : List Literal) → Contains es (Given (Instance k j) (negative group ∷ rest)) →

@@ -1,6 +1,6 @@
 -- What was given stays right where a book gets further clauses, groups and rows.
 use Rattle.std.proofs.Common.{◌≡◌, ℕ, ◌≤◌, ◌⊎◌, inl, inr, List, [], ◌∷◌, Option, Some, None, IsSome, sym, subst, arith}
-use Rattle.dq_lits.specs.Literal.{Literal, negative}
+use Rattle.dq_lits.specs.Literal.{Literal}
 use Rattle.dq_lits.specs.Formula.{Dqbf}
 use Rattle.hint_log.specs.Conditions.{AreNamed, MayFollow}
 use Rattle.hint_log.specs.Entries.{Entry, Named, Given, Learned, Answer, Round, Begun, name_of}
@@ -18,6 +18,7 @@ use Rattle.expansion.specs.Table.{TableState}
 use Rattle.dq_session.specs.Books.{BookState, all_of, frames_of, number_at, given_at, HasGroup, number_of, IsInFrame, IsFrameInstance, IsInNoFrame, IsBookEntry}
 use Rattle.dq_session.specs.declared.live.Live.{Live}
 use Rattle.dq_session.specs.declared.live.OpenFrame.{OpenFrame}
+use Rattle.log_laws.proofs.Kept.{in_unnamed}
 
 -- an instance is right by every matrix that has its clause under the same number
 pub instance_by : (f : Dqbf) (matrix : List (List Literal)) (earlier : List Entry) (k j : ℕ) (c : List Literal)
@@ -39,13 +40,6 @@ instance_by f matrix earlier k j c same o = record {
   };
   one_leaf = λ v a i a' i' leaf leaf' rest' is. cc;
 }
-
--- a clause of a group stands on the group's variable, which has a name
-pub in_unnamed : (es : List Entry) (g : ℕ) (c : List Literal) → AreNamed es c → name_of es g ≡ None → IsInGroup g c → ⊥
-in_unnamed es g c named none inside =
-    let first : IsSome (name_of es g) = subst (λ ls. AreNamed es ls) inside.1 named 0 (negative g) (omega arith) in
-    let gone : IsSome (name_of es g) = first in
-    cc
 
 module _ (b : BookState) (table : TableState) (added : List (List Literal)) (frames given : List ℕ)
     (groups : List (Option Group)) (open_frames : List OpenFrame) (live : List Live) where

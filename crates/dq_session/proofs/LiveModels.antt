@@ -22,7 +22,7 @@ use Rattle.log_laws.proofs.Found.{numbered_among}
 use Rattle.oracle.specs.declared.groups.Group.{Group}
 use Rattle.expansion.specs.Searches.{switches, IsSearchEntry}
 use Rattle.expansion.specs.Table.{HasInstance, ArePoints}
-use Rattle.expansion.proofs.InstanceModels.{own_entry, given_id, pair_values}
+use Rattle.expansion.proofs.InstanceModels.{own_entry, pair_values}
 use Rattle.expansion.proofs.FoundPoints.{by_names, row_bits}
 use Rattle.expansion.proofs.TableAnswers.{found_rows}
 use Rattle.dq_session.specs.Books.{BookState, all_of, live_of, now_of, number_at, frame_at, HasGroup, number_of, IsOpen, IsBook}
@@ -32,6 +32,7 @@ use Rattle.dq_session.specs.Searching.{SearchesLeaveBooks, FoundPointsAreLive}
 use Rattle.dq_session.specs.declared.live.Live.{Live}
 use Rattle.dq_session.proofs.StandingBooks.{IsForeign, books_stand}
 use Rattle.dq_session.proofs.Stacks.{live_at}
+use Rattle.log_laws.proofs.Kept.{given_id}
 
 pub left_of : {X : Type 0} (xs ys : List X) (i : ℕ) (x : X) → i < length xs → slice_get (xs ++ ys) i ≡ Some x →
     slice_get xs i ≡ Some x

@@ -4,7 +4,7 @@ use Rattle.std.specs.List.{All, Contains}
 use Rattle.std.proofs.lemmas.Bool.{cases_lt}
 use Rattle.std.proofs.lemmas.List.{length-append, length-replicate, get_or_append_left, get_or_default, get_or-append-add}
 use Rattle.std.proofs.lemmas.Option.{slice_get-get_or}
-use Rattle.list_laws.proofs.Members.{contains-filter_map, filter_map-from, place_of}
+use Rattle.list_laws.proofs.Members.{contains-filter_map, filter_map-from, place_of, contains_cases}
 use Rattle.dq_lits.specs.Literal.{Literal, positive, variable_of}
 use Rattle.dq_lits.specs.Formula.{declared, IsWellFormed}
 use Rattle.dq_lits.specs.Expansion.{IsExpansionUnsatisfiable}
@@ -27,14 +27,13 @@ use Rattle.oracle.specs.Searched.{IsSearched}
 use Rattle.oracle.specs.declared.groups.Group.{Group}
 use Rattle.expansion.specs.Searches.{switches}
 use Rattle.expansion.specs.Table.{IsFullTable}
-use Rattle.expansion.proofs.InstanceModels.{head_or_tail}
 use Rattle.expansion.proofs.TableAnswers.{learned_grew, found_rows, searched, in_active, negated_selectors, by_numbers, active_named, own_instance}
 use Rattle.dq_session.specs.Books.{BookState, all_of, frames_of, live_of, now_of, number_at, frame_at, HasGroup, number_of, IsOpen, IsInFrame, IsBookEntry, IsBook, IsFullBook}
 use Rattle.dq_session.specs.Changes.{open_groups}
 use Rattle.dq_session.specs.Shown.{IsRefutedLive}
 use Rattle.dq_session.specs.Searching.{LiveAnswersRefute}
 use Rattle.dq_session.proofs.LiveModels.{books_searched}
-use Rattle.dq_session.proofs.StandingBooks.{in_one_group}
+use Rattle.log_laws.proofs.Kept.{in_one_group}
 
 -- a group that is open is an open frame's
 pub group_open : (b : BookState) (es : List Entry) → IsBook b es → (g : Group) → Contains (open_groups b) g →
@@ -224,7 +223,7 @@ module _ (implied : LinesAreImplied) (b : BookState) (old new : ProofLog) (id : 
   is_active : (origin : Origin) (c : List Literal) → ReachesGiven es q.hints origin c → IsActive b c
   is_active origin c reached =
       let one = in_active gs old new id searched_new named q origin c reached in
-      by one.0 one.2 (head_or_tail one.0 b.table.group (map (λ g. variable_of g.selector) (open_groups b)) one.1)
+      by one.0 one.2 (contains_cases b.table.group one.0 (map (λ g. variable_of g.selector) (open_groups b)) one.1)
     where
       by : (v : ℕ) → IsInGroup v c → (b.table.group ≡ v) ⊎ Contains (map (λ g. variable_of g.selector) (open_groups b)) v
           → IsActive b c

@@ -3,7 +3,7 @@ use Rattle.std.proofs.Common.{◌≡◌, ◌≢◌, ℕ, zero, suc, ◌==◌, Bo
 use Rattle.std.specs.List.{Contains, filter_map, cons_option}
 use Rattle.std.specs.Option.{option_map}
 use Rattle.std.proofs.lemmas.Bool.{eqb-true}
-use Rattle.dq_lits.specs.Literal.{Literal, negative}
+use Rattle.dq_lits.specs.Literal.{Literal}
 use Rattle.dq_lits.specs.Formula.{Dqbf}
 use Rattle.hint_log.specs.Entries.{Entry, Named, Given, Learned, Answer, Round, Begun, name_of}
 use Rattle.hint_log.specs.Growth.{EachOf}
@@ -18,6 +18,7 @@ use Rattle.expansion.specs.Table.{IsTablePart}
 use Rattle.dq_session.specs.Books.{BookState, HasGroup, number_of, IsInNoFrame, IsBookEntry, HasDoneInstances, IsBook}
 use Rattle.dq_session.specs.Changes.{groups_of}
 use Rattle.dq_session.specs.Standing.{EnginesLeaveBooks, RoundsLeaveBooks, BeginningsLeaveBooks}
+use Rattle.log_laws.proofs.Kept.{in_one_group}
 
 -- what is none of the book's business: names, clauses off its groups, and all that is no given clause
 abbrev pub IsForeign : BookState → List Entry → Entry → Type 0
@@ -115,9 +116,6 @@ not_own_name : (engine : Engine) (o : Option Engine) → same_engine engine inst
     (o ≡ None) ⊎ (o ≡ Some engine) → is_engine instances o ≡ false
 not_own_name engine o other (inl none) = ap (is_engine instances) none
 not_own_name engine o other (inr some) = ap (is_engine instances) some ∙ other_engine engine other
-
-pub in_one_group : (g h : ℕ) (c : List Literal) → IsInGroup g c → IsInGroup h c → g ≡ h
-in_one_group g h c a b = let e : negative g ∷ a.0 ≡ negative h ∷ b.0 = sym a.1 ∙ b.1 in cc
 
 pub contains_group : (groups : List (Option Group)) (frame : ℕ) (g : Group) → slice_get groups frame ≡ Some (Some g) →
     Contains (filter_map (option_map number_of) groups) (number_of g)

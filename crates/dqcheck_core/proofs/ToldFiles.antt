@@ -11,7 +11,6 @@ use Rattle.dq_lits.specs.declared.memory.Memory.{Memory}
 use Rattle.dqdimacs_reader.specs.Grammar.{SpellsFormula}
 use Rattle.dqdimacs_reader.specs.Machine.{TextFault, reading}
 use Rattle.dq_runs.specs.Ending.{IsWritten, IsEnd}
-use Rattle.dq_runs.specs.FileTexts.{IsTextOf, IsLong}
 use Rattle.dq_runs.specs.FormulaFiles.{max_formula, IsFaultOf, IsFormulaOf}
 use Rattle.dq_runs.specs.Printed.{printed, line}
 use Rattle.dq_runs.specs.Sinks.{SinkState}
@@ -26,6 +25,7 @@ use Rattle.dqcheck_core.specs.Outputs.{IsReported}
 use Rattle.dqcheck_core.specs.Report.{Report, no_formula, unreadable_certificate, long_certificate, judged, printed_report, answer_text, answer_status}
 use Rattle.dqcheck_core.specs.Running.{max_certificate, IsAnswerTo, IsDueFor, IsDue}
 use Rattle.dqcheck_core.specs.Told.{AreTold, IsAnswered, IsProvedTrue, IsProvedFalse, IsProvedDefined, IsAcceptance, JudgesTold}
+use Rattle.dq_runs.proofs.ToldFiles.{held_long, held_text}
 
 -- what the law of the formulas' grammar gives
 pub record FormulaLaw : Type 0 where
@@ -39,13 +39,6 @@ pub record AcceptanceLaw : Type 0 where
   pub is_false : (f : Dqbf) (text : List ℕ) → IsWellFormed f → IsJudgement f text ValidFalse → IsFalseFormula f
   pub definitions : (f : Dqbf) (text : List ℕ) (counts : Counts) → IsWellFormed f →
       IsJudgement f text (ValidDefinitions counts) → HoldsRightDefinitions f text counts
-
-held_text : (holding : Holding) (bytes text : List ℕ) → holding ≡ Holds bytes → IsTextOf holding text → text ≡ bytes
-held_text holding bytes text is has = subst (λ h. IsTextOf h text) is has
-
-held_long : (limit : ℕ) (holding : Holding) (bytes : List ℕ) → holding ≡ Holds bytes → IsLong limit holding →
-    limit < length bytes
-held_long limit holding bytes is long = subst (λ h. IsLong limit h) is long
 
 no_fault : FormulaLaw → (formula : List ℕ) (f : Dqbf) (holding : Holding) (fault : TextFault) →
     holding ≡ Holds formula → SpellsFormula formula f → IsFaultOf holding fault → ⊥

@@ -1,19 +1,12 @@
 -- A literal's key tells it from the others.
 use Rattle.std.proofs.Common.{◌≡◌, ℕ, Result, Ok, Err, IfOk, OnOk, ◌+◌, ◌*◌, ◌==◌, Bool, true, false, not, cond, ◌||◌, inl, inr, List, [], ◌∷◌, ◌++◌, map, refl, sym, ◌∙◌, ap, arith}
 use Rattle.std.specs.List.{list_any}
-use Rattle.std.proofs.lemmas.Bool.{false≢true, cases_eq, eq-eqb, ne_eqb}
-use Rattle.list_laws.proofs.Truths.{last, or_assoc}
+use Rattle.std.proofs.lemmas.Bool.{false≢true, cases_eq, ne_eqb}
+use Rattle.list_laws.proofs.Truths.{last, or_assoc, same_test}
 use Rattle.dq_lits.specs.Literal.{Literal, positive, negative, same_literal}
 use Rattle.dqdimacs_reader.specs.Building.{add_literal}
 use Rattle.number_tables.specs.Numbers.{has_number}
 use Rattle.dqdimacs_reader.specs.LiteralKey.{literal_key, AreKeysOf}
-
-same_test : (a b c d : ℕ) → (c ≡ d → a ≡ b) → (a ≡ b → c ≡ d) → (a == b) ≡ (c == d)
-same_test a b c d to from =
-    elim (cases_eq c d) [
-      | inl same ↦ eq-eqb a b (to same) ∙ sym (eq-eqb c d same)
-      | inr other ↦ ne_eqb a b (λ e. other (from e)) ∙ sym (ne_eqb c d other)
-    ]
 
 key_same : (k l : Literal) → (literal_key k == literal_key l) ≡ same_literal l k
 key_same (positive v) (positive w) = same_test (2 * v) (2 * w) w v (λ e. omega arith) (λ e. omega arith)

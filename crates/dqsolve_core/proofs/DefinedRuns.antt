@@ -22,7 +22,8 @@ use Rattle.dqsolve_core.specs.Outputs.{IsReported}
 use Rattle.dqsolve_core.specs.Running.{IsDue, IsRunLog}
 use Rattle.dqsolve_core.specs.ToldDefinitions.{AreDefined, AreDefinedOf, DefinesTold}
 use Rattle.dqsolve_core.proofs.Statuses.{Reasons}
-use Rattle.dqsolve_core.proofs.ToldFiles.{FormulaLaw, held_long, no_fault, read_spells}
+use Rattle.dqsolve_core.proofs.ToldFiles.{FormulaLaw, no_fault, read_spells}
+use Rattle.dq_runs.proofs.ToldFiles.{held_long}
 
 -- ---- the parts
 

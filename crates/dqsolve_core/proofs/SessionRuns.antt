@@ -24,7 +24,8 @@ use Rattle.dqsolve_core.specs.Outputs.{IsReported}
 use Rattle.dqsolve_core.specs.Running.{IsDue, IsRunLog}
 use Rattle.dqsolve_core.specs.ToldSessions.{AreAnswered, AreAnsweredOf, ConversesTold}
 use Rattle.dqsolve_core.proofs.Statuses.{Reasons}
-use Rattle.dqsolve_core.proofs.ToldFiles.{FormulaLaw, held_text, held_long, no_fault, read_spells}
+use Rattle.dqsolve_core.proofs.ToldFiles.{FormulaLaw, no_fault, read_spells}
+use Rattle.dq_runs.proofs.ToldFiles.{held_long, held_text}
 
 -- ---- the parts
 

@@ -35,7 +35,7 @@ use Rattle.dqsolve_core.specs.Outputs.{IsReported}
 use Rattle.dqsolve_core.specs.Report.{ComparisonReport, no_design, compared, printed_comparison}
 use Rattle.dqsolve_core.specs.Running.{IsDueForCircuits, IsDue}
 use Rattle.dqsolve_core.specs.ToldCircuits.{NamesCircuits, AreCircuitsTold, AreSpelled, AreDesignTexts, IsTextRefusal, IsSaid, SaysOfBoxes, IsCompared, AnswersFor, ComparesTold}
-use Rattle.dqsolve_core.proofs.ToldFiles.{held_text, held_long}
+use Rattle.dq_runs.proofs.ToldFiles.{held_long, held_text}
 
 -- what the laws of the encoding give
 pub record DesignLaws : Type 0 where

@@ -10,7 +10,6 @@ use Rattle.hint_log.specs.Entries.{ProofLog}
 use Rattle.dqdimacs_reader.specs.Grammar.{SpellsFormula}
 use Rattle.dqdimacs_reader.specs.Machine.{TextFault, reading}
 use Rattle.dq_runs.specs.Ending.{IsWritten, IsEnd}
-use Rattle.dq_runs.specs.FileTexts.{IsTextOf, IsLong}
 use Rattle.dq_runs.specs.FormulaFiles.{max_formula, IsFaultOf, IsFormulaOf}
 use Rattle.dq_runs.specs.Printed.{Printed, printed}
 use Rattle.dq_runs.specs.Sinks.{SinkState}
@@ -22,18 +21,12 @@ use Rattle.dqsolve_core.specs.Outputs.{IsReported}
 use Rattle.dqsolve_core.specs.Report.{SearchReport, no_formula, solved, printed_search}
 use Rattle.dqsolve_core.specs.Running.{IsDueFor, IsDemoDue, IsDue}
 use Rattle.dqsolve_core.specs.Told.{IsSolved, IsSolution, IsDemonstratedRun, SolvesTold}
+use Rattle.dq_runs.proofs.ToldFiles.{held_long, held_text}
 
 -- what the law of the formulas' grammar gives
 pub record FormulaLaw : Type 0 where
   pub exact : (text : List ℕ) (f : Dqbf) → SpellsFormula text f → reading text ≡ Ok f
   pub unique : (text : List ℕ) (f g : Dqbf) → SpellsFormula text f → SpellsFormula text g → f ≡ g
-
-pub held_text : (holding : Holding) (bytes text : List ℕ) → holding ≡ Holds bytes → IsTextOf holding text → text ≡ bytes
-held_text holding bytes text is has = subst (λ h. IsTextOf h text) is has
-
-pub held_long : (limit : ℕ) (holding : Holding) (bytes : List ℕ) → holding ≡ Holds bytes → IsLong limit holding →
-    limit < length bytes
-held_long limit holding bytes is long = subst (λ h. IsLong limit h) is long
 
 -- a formula that was read of a told file is spelled there
 pub read_spells : (holding : Holding) (bytes : List ℕ) (f : Dqbf) → holding ≡ Holds bytes → IsFormulaOf holding f →

@@ -166,10 +166,6 @@ module _ (f : Dqbf) (t : TableState) (row : List Bool) (vs : List ℕ) (es : Lis
       (subst (λ is. IsFullTable f (build t.group t.existentials (with_row t row) (t.pairs ++ vs ∷ []) is) es)
       (sym index) (finish_full formula)))))
 
-pub on_both : {X E : Type 0} (A B C : Type 0) (r : Result X E) → (A → B → C) → OnOk r A → OnOk r B → OnOk r C
-on_both A B C (Ok x) both a b = both a b
-on_both A B C (Err e) both a b = tt
-
 -- a table that looked at more of its rows
 pub looked : (f : Dqbf) (t new : TableState) (es : List Entry) → new ≡ record t { first_rows = new.first_rows } →
     IsTable f t es → IsRowIndex f new.rows new.first_rows → IsTable f new es

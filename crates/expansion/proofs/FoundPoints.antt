@@ -20,7 +20,8 @@ use Rattle.hint_log.specs.Naming.{named_literal, name_literal, arbiter, on_arbit
 use Rattle.log_laws.specs.Engines.{instances, part}
 use Rattle.log_laws.proofs.Found.{variable, named_variable}
 use Rattle.expansion.specs.Table.{TableState, AreArbiters, HasInstance, IsTablePart, IsTable, ArePoints}
-use Rattle.expansion.proofs.InstanceModels.{own_name, own_entry, given_id, pair_values, arbiter_value}
+use Rattle.expansion.proofs.InstanceModels.{own_name, own_entry, pair_values, arbiter_value}
+use Rattle.log_laws.proofs.Kept.{given_id}
 
 module _ (f : Dqbf) (formula : IsWellFormed f) (es : List Entry) (logged : AreLogged es) (rows : List (List Bool))
     (values : Assignment) where

@@ -27,8 +27,9 @@ use Rattle.expansion.specs.Table.{TableState, AreArbiters, HasInstance, IsTable}
 use Rattle.expansion.specs.Adding.{with_row, IsRowEntry, IsAddingPart, IsAdding, AreNewArbiters, AreInRange, IsGivenNext}
 use Rattle.expansion.proofs.TableGrowth.{KeepsNames, more_keeps, instance_kept, one_more_done}
 use Rattle.expansion.proofs.NamedArbiters.{as_many}
-use Rattle.expansion.proofs.InstanceModels.{own_name, head_or_tail, later}
+use Rattle.expansion.proofs.InstanceModels.{own_name}
 use Rattle.expansion.proofs.Told.{switch_is}
+use Rattle.list_laws.proofs.Members.{contains_cases, contains_later}
 
 -- the row of the newest round
 pub rounds_are_rows : (es : List Entry) → rounds_of es ≡ length (rows_of es)
@@ -76,14 +77,14 @@ pub own_contains : (es : List Entry) (e : Entry) → is_own instances e ≡ true
     Contains (part instances es) e
 own_contains [] e mine (k, lt, at) = absurd (omega (arith, lt))
 own_contains (x ∷ es) e mine has =
-    elim (head_or_tail e x es has) [
+    elim (contains_cases x e es has) [
       | inl here ↦ subst (λ b. Contains (cond b (x ∷ part instances es) (part instances es)) e)
           (sym (ap (is_own instances) here ∙ mine)) (0, omega arith, here)
       | inr behind ↦ past (is_own instances x) (own_contains es e mine behind)
     ]
   where
     past : (b : Bool) → Contains (part instances es) e → Contains (cond b (x ∷ part instances es) (part instances es)) e
-    past true h = later e x (part instances es) h
+    past true h = contains_later x e (part instances es) h
     past false h = h
 
 -- variables that have names are in range
@@ -165,10 +166,6 @@ row_pairs_many f t es table k low high =
     as_many (name_of (part instances es)) (λ y. Some (arbiter f t.rows row y)) (get_or t.pairs (k - 1) [])
     f.existentials are ∙ sym (ap length table.existentials ∙ length-map f.existentials (λ y. y.variable))
 
-pub on_ok : {X E : Type 0} (A B : Type 0) (r : Result X E) → (A → B) → OnOk r A → OnOk r B
-on_ok A B (Ok x) both a = both a
-on_ok A B (Err e) both a = tt
-
 -- a clause's instance in a group
 module _ (f : Dqbf) (group : ℕ) (rows : List (List Bool)) (row : List Bool) (k j : ℕ) (clause : List Literal)
     (log : ProofLog) where
@@ -207,7 +204,7 @@ given_more f t row named given c own here p = record {
   whole = p.whole;
   pairs_long = p.pairs_long;
   names = p.names;
-  given_before = λ k j d has. by_entry k j (head_or_tail (Given (Instance k j) d) e own has);
+  given_before = λ k j d has. by_entry k j (contains_cases e (Given (Instance k j) d) own has);
   arbiters = p.arbiters;
   complete = λ k j r clause row_is clause_is live. instance_kept f t.group (with_row t row) own after keeps
       (more_keeps own e) k j r clause (p.complete k j r clause row_is clause_is live);

@@ -1,20 +1,18 @@
 -- The values that a search found, as a model of the instances.
-use Rattle.std.proofs.Common.{◌≡◌, ℕ, zero, suc, ◌+◌, ◌-◌, ◌/◌, ◌%◌, ◌≤◌, ◌==◌, Bool, true, false, true≢false, cond, ◌&&◌, ◌⊎◌, inl, inr, List, [], ◌∷◌, None, Some, refl, sym, ◌∙◌, ap, subst, arith}
+use Rattle.std.proofs.Common.{◌≡◌, ℕ, suc, ◌+◌, ◌-◌, ◌/◌, ◌%◌, ◌≤◌, ◌==◌, Bool, true, false, true≢false, cond, ◌&&◌, ◌⊎◌, inl, inr, List, [], ◌∷◌, None, Some, refl, sym, ◌∙◌, ap, arith}
 use Rattle.std.specs.List.{Contains, position_or_len}
-use Rattle.std.specs.Option.{option_and_then}
 use Rattle.std.proofs.lemmas.Bool.{eqb-true, eq-eqb, and_parts}
 use Rattle.list_laws.proofs.Numbers.{pair_variable, pair_row}
-use Rattle.dq_lits.specs.Literal.{Assignment, Literal}
+use Rattle.dq_lits.specs.Literal.{Assignment}
 use Rattle.dq_lits.specs.Formula.{Dqbf, Existential}
 use Rattle.dq_lits.specs.Expansion.{agree_on, pair_number}
 use Rattle.hint_log.specs.Conditions.{AreLogged}
-use Rattle.hint_log.specs.Entries.{Entry, Named, Given, Learned, Answer, Round, Begun, has_id, last_id, numbered, clause_of, clause_at, name_of}
+use Rattle.hint_log.specs.Entries.{Entry, Named, Given, Learned, Answer, Round, Begun, name_of}
 use Rattle.hint_log.specs.declared.names.Name.{Name}
 use Rattle.hint_log.specs.declared.names.Name.TheVariants.{Selector, Pair, Input, And, Bad, Copy, Term}
-use Rattle.hint_log.specs.declared.origins.Origin.{Origin}
 use Rattle.hint_log.specs.Naming.{arbiter}
 use Rattle.log_laws.specs.Engines.{Engine, is_own, part}
-use Rattle.log_laws.proofs.Kept.{small_id}
+use Rattle.list_laws.proofs.Members.{contains_cases, contains_later}
 
 -- a name in an engine's part is a name in the log
 pub own_name : (engine : Engine) (es : List Entry) (v : ℕ) (n : Name) → AreLogged es →
@@ -49,13 +47,6 @@ own_name engine (Answer c hs ∷ es) v n logged h = own_name engine es v n logge
 own_name engine (Round r b j ∷ es) v n logged h = own_name engine es v n logged.1 h
 own_name engine (Begun live ∷ es) v n logged h = own_name engine es v n logged.1 h
 
-pub later : {X : Type 0} (x e : X) (es : List X) → Contains es x → Contains (e ∷ es) x
-later x e es (k, lt, at) = (suc k, omega (arith, lt), at)
-
-pub head_or_tail : {X : Type 0} (x e : X) (es : List X) → Contains (e ∷ es) x → (e ≡ x) ⊎ Contains es x
-head_or_tail x e es (zero, lt, at) = inl at
-head_or_tail x e es (suc k, lt, at) = inr (k, omega (arith, lt), at)
-
 -- an entry of an engine's part is one of the log
 pub own_entry : (engine : Engine) (es : List Entry) (e : Entry) → Contains (part engine es) e → Contains es e
 own_entry engine [] e h = h
@@ -63,33 +54,9 @@ own_entry engine (x ∷ es) e h = by_own (is_own engine x) (own_entry engine es 
   where
     by_own : (b : Bool) → (Contains (part engine es) e → Contains es e) →
         Contains (cond b (x ∷ part engine es) (part engine es)) e → Contains (x ∷ es) e
-    by_own true before has = elim (head_or_tail e x (part engine es) has)
-        [ inl here ↦ (0, omega arith, here) | inr behind ↦ later e x es (before behind) ]
-    by_own false before has = later e x es (before has)
-
--- a given clause has an id
-pub given_id : (es : List Entry) (o : Origin) (c : List Literal) → Contains es (Given o c) →
-    (id : ℕ) × (clause_at es id ≡ Some c)
-given_id [] o c (k, lt, at) = absurd (omega (arith, lt))
-given_id (x ∷ es) o c h =
-    elim (head_or_tail (Given o c) x es h) [
-      | inl here ↦ (
-        last_id es + 1,
-        subst (λ e. clause_at (e ∷ es) (last_id es + 1) ≡ Some c) (sym here)
-            (ap (λ b. option_and_then clause_of (cond b (Some (Given o c)) (numbered has_id es (last_id es + 1))))
-            (eq-eqb (last_id es + 1) (last_id es + 1) refl)),
-      )
-      | inr behind ↦
-          (let before = given_id es o c behind in
-          let small = small_id es before.0 c before.1 in
-          (before.0, past before.0 (has_id x) (before.0 == last_id es + 1) refl small before.1))
-    ]
-  where
-    past : (id : ℕ) (a b : Bool) → (id == last_id es + 1) ≡ b → id ≤ last_id es → clause_at es id ≡ Some c
-        → option_and_then clause_of (cond (a && b) (Some x) (numbered has_id es id)) ≡ Some c
-    past id true true same small is = let at = eqb-true id (last_id es + 1) same in absurd (omega (arith, at, small))
-    past id true false other small is = is
-    past id false b other small is = is
+    by_own true before has = elim (contains_cases x e (part engine es) has)
+        [ inl here ↦ (0, omega arith, here) | inr behind ↦ contains_later x e es (before behind) ]
+    by_own false before has = contains_later x e es (before has)
 
 -- the variable that is named as a pair's arbiter
 abbrev pub is_pair : Name → ℕ → ℕ → Bool

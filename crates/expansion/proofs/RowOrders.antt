@@ -19,10 +19,7 @@ use Rattle.log_laws.proofs.Found.{position_append}
 use Rattle.expansion.specs.FirstRows.{RowOrder, RowIndex, no_order, IsRowOrder, IsRowIndex, seen_by, row_at, bits_cmp, found_cmp}
 use Rattle.expansion.proofs.ComparedRows.{bits_total, cmp_self, cmp_equal}
 use Rattle.expansion.proofs.Firsts.{first_is, none_is}
-use Rattle.expansion.proofs.InstanceModels.{head_or_tail, later}
-
-in_list : {X : Type 0} (xs : List X) (i : ℕ) (d : X) → i < length xs → Contains xs (get_or xs i d)
-in_list xs i d below = (i, below, get_or_default xs i (get_or xs i d) d below)
+use Rattle.list_laws.proofs.Members.{contains_cases, contains_later, contained_at}
 
 not_less : {o : Ordering} → o ≡ Greater → is_lt o ≡ false
 not_less e = ap is_lt e
@@ -35,12 +32,12 @@ no_greater e = cc
 
 -- what stands among the elements of a longer list
 inserted_or_old : (xs : List ℕ) (i y x : ℕ) → Contains (insert xs i y) x → (y ≡ x) ⊎ Contains xs x
-inserted_or_old xs i y x has = head_or_tail x y xs (Contains-permutation (insert xs i y) (y ∷ xs) x
+inserted_or_old xs i y x has = contains_cases y x xs (Contains-permutation (insert xs i y) (y ∷ xs) x
     (IsPermutation-sym (y ∷ xs) (insert xs i y) (IsPermutation-insert xs i y)) has)
 
 old_inserted : (xs : List ℕ) (i y x : ℕ) → Contains xs x → Contains (insert xs i y) x
 old_inserted xs i y x has = Contains-permutation (y ∷ xs) (insert xs i y) x (IsPermutation-insert xs i y)
-    (later x y xs has)
+    (contains_later y x xs has)
 
 new_inserted : (xs : List ℕ) (i y : ℕ) → Contains (insert xs i y) y
 new_inserted xs i y = Contains-permutation (y ∷ xs) (insert xs i y) y (IsPermutation-insert xs i y)
@@ -83,8 +80,8 @@ module _ (f : Dqbf) (sees : List ℕ) (rows : List (List Bool)) (o : RowOrder) (
     rises : IsNonDecreasingBy (λ k. ordering_index (against k)) o.places
     rises i j d le below =
         let at_i = against_is (get_or o.places i d) (in_rows (get_or o.places i d)
-        (in_list o.places i d (omega (arith, le, below)))) in
-        let at_j = against_is (get_or o.places j d) (in_rows (get_or o.places j d) (in_list o.places j d below)) in
+        (contained_at o.places i d (omega (arith, le, below)))) in
+        let at_j = against_is (get_or o.places j d) (in_rows (get_or o.places j d) (contained_at o.places j d below)) in
         let up = searchable_from_sorted bits_total key o.places (seen_by f sees row) order.sorted i j d le below in
         subst (λ x. ordering_index x ≤ ordering_index (against (get_or o.places j d))) (sym at_i)
         (subst (λ x. ordering_index (bits_cmp (key (get_or o.places i d)) (seen_by f sees row)) ≤ ordering_index x)
@@ -95,13 +92,13 @@ module _ (f : Dqbf) (sees : List ℕ) (rows : List (List Bool)) (o : RowOrder) (
         key (get_or o.places at d) ≡ seen_by f sees row
     found_key at d below equal =
         let k = get_or o.places at d in
-        cmp_equal (key k) (seen_by f sees row) (sym (against_is k (in_rows k (in_list o.places at d below))) ∙ equal d)
+        cmp_equal (key k) (seen_by f sees row) (sym (against_is k (in_rows k (contained_at o.places at d below))) ∙ equal d)
 
     pub found_first : (at d : ℕ) → at < length o.places → IsBinarySearchResult against o.places (Ok at) →
         get_or o.places at d ≡ position_or_len (agrees row) rows
     found_first at d below equal =
         let k = get_or o.places at d in
-        sym (order.firsts k (in_list o.places at d below)).1 ∙ ap
+        sym (order.firsts k (contained_at o.places at d below)).1 ∙ ap
         (λ bits. position_or_len (λ r. same_bits bits (seen_by f sees r)) rows) (found_key at d below equal)
 
     -- where none is found, no row agrees that was looked at
@@ -172,7 +169,7 @@ module _ (f : Dqbf) (sees : List ℕ) (rows : List (List Bool)) (o : RowOrder) (
         by_place k (inl old) = order.whole k old
         by_place k (inr now) = (
           found,
-          in_list o.places at d below,
+          contained_at o.places at d below,
           subst (λ i. same_bits (key i) (key found) ≡ true) (sym now)
               (subst (λ bits. same_bits (key here) bits ≡ true) (sym (found_key (row_at rows here) at d below equal))
               (same_bits-refl (key here))),
@@ -186,14 +183,14 @@ module _ (f : Dqbf) (sees : List ℕ) (rows : List (List Bool)) (o : RowOrder) (
       before_less : (j d : ℕ) → j < at → bits_cmp (key (get_or o.places j d)) (key here) ≡ Less
       before_less j d low =
           sym (against_is (row_at rows here) (get_or o.places j d)
-          (in_rows (get_or o.places j d) (in_list o.places j d (omega (arith, low, at_most)))))
+          (in_rows (get_or o.places j d) (contained_at o.places j d (omega (arith, low, at_most)))))
           ∙ (parted (rises (row_at rows here))).0 j d (omega arith) low
 
       after_greater : (j d : ℕ) → at ≤ j → j < length o.places →
           bits_cmp (key (get_or o.places j d)) (key here) ≡ Greater
       after_greater j d high below =
           sym (against_is (row_at rows here) (get_or o.places j d)
-          (in_rows (get_or o.places j d) (in_list o.places j d below)))
+          (in_rows (get_or o.places j d) (contained_at o.places j d below)))
           ∙ (parted (rises (row_at rows here))).1 j d high below
 
       -- of two neighbours
@@ -282,7 +279,7 @@ module _ (f : Dqbf) (sees : List ℕ) (rows : List (List Bool)) (o : RowOrder) (
     order_kept = record {
       within = (let n = length-append rows further in let within = order.within in omega (arith, n, within));
       sorted = λ j d low below. pair_kept (get_or o.places j d) (get_or o.places (j + 1) d)
-          (in_list o.places j d (omega (arith, below))) (in_list o.places (j + 1) d below) (order.sorted j d low below);
+          (contained_at o.places j d (omega (arith, below))) (contained_at o.places (j + 1) d below) (order.sorted j d low below);
       firsts = λ k has. ((order.firsts k has).0, first_kept k has);
       whole = λ k learnt. (let w = order.whole k learnt in (
         w.0,

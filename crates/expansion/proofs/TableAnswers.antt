@@ -4,7 +4,7 @@ use Rattle.std.specs.List.{All, Contains}
 use Rattle.std.proofs.lemmas.Bool.{or_cases}
 use Rattle.std.proofs.lemmas.List.{append-nil}
 use Rattle.std.proofs.lemmas.List.Elements.{All-nil, All-tail, All-contains, Contains-append_right}
-use Rattle.list_laws.proofs.Members.{mapped_from}
+use Rattle.list_laws.proofs.Members.{mapped_from, contains_cases, contains_later}
 use Rattle.dq_lits.specs.Literal.{Literal, positive, negative, variable_of, opposite, same_literal}
 use Rattle.dq_lits.specs.Formula.{Dqbf}
 use Rattle.dq_lits.specs.Derivation.{holds}
@@ -28,7 +28,6 @@ use Rattle.oracle.specs.declared.groups.Group.{Group}
 use Rattle.oracle.specs.Searched.{IsSearched, IsGivenToGroup, IsOfGroup}
 use Rattle.expansion.specs.Searches.{switches, HoldInstances, IsSearchEntry}
 use Rattle.expansion.specs.Table.{TableState, IsTable, IsFullTable, IsRefutedBy}
-use Rattle.expansion.proofs.InstanceModels.{head_or_tail, later}
 use Rattle.expansion.proofs.Told.{switch_is}
 use Rattle.log_laws.proofs.LargerLogs.{each_grown, filter_grown}
 use Rattle.log_laws.proofs.Kept.{each_of_weaker}
@@ -127,7 +126,7 @@ pub found_givens : (silent : Bool) (more old : List Entry) (origin : Origin) (c 
     EachOf (IsSearchEntry silent) more old → Contains (more ++ old) (Given origin c) → Contains old (Given origin c)
 found_givens silent [] old origin c h has = has
 found_givens silent (e ∷ more) old origin c h has =
-    elim (head_or_tail (Given origin c) e (more ++ old) has) [
+    elim (contains_cases e (Given origin c) (more ++ old) has) [
       | inl here ↦ absurd (subst (IsSearchEntry silent (more ++ old)) here h.0)
       | inr behind ↦ found_givens silent more old origin c h.1 behind
     ]
@@ -167,7 +166,7 @@ one_of_groups [] l h = cc
 one_of_groups (g ∷ gs) l h =
     elim (or_cases (same_literal (opposite l) (positive g)) (holds (map positive gs) (opposite l)) h) [
       | inl here ↦ (g, (0, omega arith, refl), only_selector g l here)
-      | inr behind ↦ (let r = one_of_groups gs l behind in (r.0, later r.0 g gs r.1, r.2))
+      | inr behind ↦ (let r = one_of_groups gs l behind in (r.0, contains_later g r.0 gs r.1, r.2))
     ]
 
 instance_of : (origin : Origin) → origin_engine origin ≡ instances → IsInstance origin
@@ -262,7 +261,7 @@ module _ (f : Dqbf) (t : TableState) (more : List Group) (old new : ProofLog) (i
 
   pub active_named : (g : ℕ) → Contains active g → name_of old.entries g ≡ Some (Selector g)
   active_named g has =
-      elim (head_or_tail g t.group (map (λ h. variable_of h.selector) more) has) [
+      elim (contains_cases t.group g (map (λ h. variable_of h.selector) more) has) [
         | inl here ↦ subst (λ v. name_of old.entries v ≡ Some (Selector v)) here full.table.group
         | inr behind ↦ among behind
       ]
@@ -290,7 +289,7 @@ module _ (f : Dqbf) (t : TableState) (more : List Group) (old new : ProofLog) (i
       right origin c reached =
           let place = split_at by_numbers.before.entries reached.id (Given origin c) reached.is_given in
           let one = in_active active old new id searched_new active_named by_numbers origin c reached in
-          elim (head_or_tail one.0 t.group (map (λ h. variable_of h.selector) more) one.1) [
+          elim (contains_cases t.group one.0 (map (λ h. variable_of h.selector) more) one.1) [
             | inl here ↦ (own_instance origin c reached
                 (subst (λ g. IsInGroup g c) (sym here) one.2) place.0 place.1 place.2).0
             | inr behind ↦

@@ -1,5 +1,5 @@
 -- A circuit's text in the binary form spells it on the page.
-use Rattle.std.proofs.Common.{◌≡◌, ◌≢◌, ℕ, zero, suc, ◌+◌, ◌-◌, ◌*◌, ◌<◌, inl, inr, List, [], ◌∷◌, ◌++◌, length, map, drop, Option, Some, None, codes, refl, sym, ◌∙◌, ap, subst, arith, append_assoc, append-nil, length-append}
+use Rattle.std.proofs.Common.{◌≡◌, ◌≢◌, ℕ, suc, ◌+◌, ◌-◌, ◌*◌, ◌<◌, inl, inr, List, [], ◌∷◌, ◌++◌, length, map, drop, Option, Some, None, codes, refl, sym, ◌∙◌, ap, subst, arith, append_assoc, append-nil, length-append}
 use Rattle.std.specs.List.{All, AllByRecursion, AllZip, range_with_len}
 use Rattle.std.proofs.lemmas.List.Elements.{All-append, All-from_recursion}
 use Rattle.circuit_plain.specs.declared.circuits.Gate.{Gate as ReadGate}
@@ -18,6 +18,7 @@ use Rattle.headline_laws.proofs.Formulas.{up_to_is}
 use Rattle.headline_laws.proofs.NamedPlaces.{blank_same, names_spelled}
 use Rattle.headline_laws.proofs.Skolems.{page_names}
 use Rattle.headline_laws.proofs.Tokens.{lines_are, texts, words_are}
+use Rattle.list_laws.proofs.Numbers.{range_append}
 
 -- the gates
 difference : (bytes : List ℕ) (n : ℕ) → AreGroups bytes n → IsDifference bytes n
@@ -48,15 +49,6 @@ gate_range v code [] s = refl
 gate_range v code (g ∷ gates) (own, others, parts, spelled, rest) =
     ap (λ w. w ∷ map (λ (h : Gate). h.variable) (map page_gate gates)) spelled.variable
     ∙ ap (λ ws. v ∷ ws) (gate_range (v + 1) others gates rest)
-
-range_append : (start a b : ℕ) → range_with_len start a ++ range_with_len (start + a) b ≡ range_with_len start (a + b)
-range_append start zero b =
-    ap (λ s. range_with_len s b) (let e : start + 0 ≡ start = omega arith in e)
-    ∙ ap (range_with_len start) (let e : b ≡ 0 + b = omega arith in e)
-range_append start (suc a) b =
-    ap (λ s. start ∷ (range_with_len (start + 1) a ++ range_with_len s b)) (let e : start + suc a ≡ start + 1 + a = omega arith in e)
-    ∙ (ap (λ xs. start ∷ xs) (range_append (start + 1) a b)
-    ∙ ap (range_with_len start) (let e : suc (a + b) ≡ suc a + b = omega arith in e))
 
 -- lines with their ends
 no_feed_ends : (l : List ℕ) (ls : List (List ℕ)) (others : List ℕ) → [] ≡ with_feeds (l ∷ ls) ++ others → ⊥

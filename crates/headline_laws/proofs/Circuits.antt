@@ -4,8 +4,7 @@ use Rattle.std.specs.List.{All, AllPairs, AllByRecursion, Contains, flat_map, li
 use Rattle.std.proofs.lemmas.Bool.{cases_lt, eq-eqb, eqb-true, or_cases, or_left, or_right, and_from, and_parts}
 use Rattle.std.proofs.lemmas.List.{get_or-map, length-map}
 use Rattle.std.proofs.lemmas.List.Elements.{All-append, All-map, All-from_recursion}
-use Rattle.std.proofs.lemmas.List.Folds.{list_any_at}
-use Rattle.list_laws.proofs.Members.{contains_cases, contains_first, contains_later, contains_tested, mapped_from}
+use Rattle.list_laws.proofs.Members.{contains_cases, contains_first, contains_later, contains_tested, mapped_from, one_passes}
 use Rattle.circuit_plain.specs.Ground.{IsGrounded, constant, input, gate}
 use Rattle.circuit_plain.specs.Netlist.{Netlist, IsNetlist}
 use Rattle.circuit_plain.specs.Value.{IsValuation}
@@ -15,9 +14,10 @@ use Rattle.circuit_plain.proofs.NetlistLaws.{same_gate}
 use Rattle.circuit_plain.specs.Netlist.{IsDefined, variable_of_gate}
 use Rattle.aiger_text.specs.Grammar.{HasMeaning}
 use Rattle.aiger_text.specs.Scan.{AllGrounded}
-use Rattle.headline_laws.proofs.Declarations.{apart_append, apart_pairs, pairs_rec, rec_append}
+use Rattle.headline_laws.proofs.Declarations.{apart_append, apart_pairs, pairs_rec}
 use Rattle.headline.specs.Headline.{Circuit, Gate, IsCircuit, Fits, Reaches, itself, left, right, among}
 use Rattle.dqdimacs_reader.proofs.CanonicalFormula.{each as rec_each}
+use Rattle.list_laws.proofs.Quantified.{rec_append}
 
 abbrev pub page_gate : ReadGate → Gate
 page_gate g = record { variable = g.variable; left = g.left; right = g.right }
@@ -75,10 +75,6 @@ passing p (x ∷ xs) h = by (or_cases (p x) (list_any p xs) h) (λ later. passin
       let one = rest later in
       (one.0, (contains_later x one.0 xs one.1.0, one.1.1))
 
-passes_there : {X : Type 0} (p : X → Bool) (xs : List X) (x : X) → Contains xs x → p x ≡ true → list_any p xs ≡ true
-passes_there p xs x there passes =
-    list_any_at p xs there.0 x there.1 (ap p there.2 ∙ passes)
-
 module _ (net : Netlist) where
   -- the variable is the constant or an input, or a gate whose sides came earlier
   abbrev is_leaf : ℕ → Bool
@@ -103,7 +99,7 @@ module _ (net : Netlist) where
 
   grounded_level : {v : ℕ} → IsGrounded net v → (n : ℕ) × (level n v ≡ true)
   grounded_level constant = (0, refl)
-  grounded_level (input {v} there) = (0, or_right (v == 0) (among net.inputs v) (passes_there (λ w. w == v) net.inputs v there (eq-eqb v v refl)))
+  grounded_level (input {v} there) = (0, or_right (v == 0) (among net.inputs v) (one_passes (λ w. w == v) net.inputs v there (eq-eqb v v refl)))
   grounded_level (gate g there one other) =
       let a = grounded_level one in
       let b = grounded_level other in
@@ -112,7 +108,7 @@ module _ (net : Netlist) where
       let low' : b.0 ≤ n = omega arith in (
         suc n,
         or_right (level n g.variable) _
-            (passes_there (λ (h : ReadGate). (h.variable == g.variable) && (level n (h.left / 2) && level n (h.right / 2))) net.gates g there
+            (one_passes (λ (h : ReadGate). (h.variable == g.variable) && (level n (h.left / 2) && level n (h.right / 2))) net.gates g there
             (and_from (g.variable == g.variable) (level n (g.left / 2) && level n (g.right / 2)) (eq-eqb g.variable g.variable refl)
             (and_from (level n (g.left / 2)) (level n (g.right / 2)) (higher n a.0 (g.left / 2) low a.1)
             (higher n b.0 (g.right / 2) low' b.1)))),

@@ -14,8 +14,9 @@ use Rattle.dqdimacs_reader.specs.Grammar.{IsNew, AreNew, IsSeen, IsLawfulPart, A
 use Rattle.dqdimacs_reader.specs.Grammar.{Part as ReadPart, universals as read_universals, existentials as read_existentials, dependent as read_dependent}
 use Rattle.headline_laws.specs.Formulas.{read_existential}
 use Rattle.headline.specs.Headline.{Part, universals, existentials, dependent, AreListed, among, declared_in, existentials_from, seeing, universals_in}
-use Rattle.list_laws.proofs.Truths.{unequal}
+use Rattle.list_laws.proofs.Truths.{unequal, or_second, or_assoc_left}
 use Rattle.dqdimacs_reader.proofs.CanonicalFormula.{each as rec_each}
+use Rattle.list_laws.proofs.Quantified.{rec_append}
 
 abbrev pub page_part : ReadPart → Part
 page_part (read_universals vs) = universals vs
@@ -27,12 +28,6 @@ page_parts parts = map page_part parts
 
 abbrev pub variables_in : List ReadPart → List ℕ
 variables_in parts = flat_map declared_in (page_parts parts)
-
--- all of a list, by recursion
-pub rec_append : {X : Type 0} (P : X → Type 0) (xs ys : List X) → AllByRecursion P xs → AllByRecursion P ys →
-    AllByRecursion P (xs ++ ys)
-rec_append P [] ys one other = other
-rec_append P (x ∷ xs) ys one other = (one.0, rec_append P xs ys one.1 other)
 
 -- pairwise different, by recursion
 abbrev pub Apart : List ℕ → Type 0
@@ -66,10 +61,6 @@ pub or_false : (a b : Bool) → (a || b) ≡ false → a ≡ false
 or_false false b h = refl
 or_false true b h = h
 
-pub or_second : (a b : Bool) → (a || b) ≡ false → b ≡ false
-or_second false b h = h
-or_second true b h = cc
-
 or_moved : (a b c : Bool) → ((a || (b || false)) || c) ≡ ((a || c) || b)
 or_moved false false false = refl
 or_moved false false true = refl
@@ -85,10 +76,6 @@ or_last false false true = refl
 or_last false true false = refl
 or_last false true true = refl
 or_last true b c = refl
-
-or_assoc : (a b c : Bool) → ((a || b) || c) ≡ (a || (b || c))
-or_assoc false b c = refl
-or_assoc true b c = refl
 
 -- a call that declares one variable
 record Declares (add : Dqbf → ℕ → Dqbf) : Type 0 where
@@ -155,7 +142,7 @@ module _ (add : Dqbf → ℕ → Dqbf) (declares : Declares add) where
   set_declares f (v ∷ vs) w =
       set_declares (add f v) vs w
       ∙ (ap (λ b. b || among vs w) (declares.one f v w)
-      ∙ or_assoc (is_declared f w) (v == w) (among vs w))
+      ∙ or_assoc_left (is_declared f w) (v == w) (among vs w))
 
   set_range : (f : Dqbf) (vs : List ℕ) → (fold add f vs).variables ≡ f.variables
   set_range f [] = refl
@@ -236,7 +223,7 @@ all_declared f [] w = or_none (is_declared f w) where
 all_declared f (part ∷ parts) w =
     all_declared (declare f part) parts w
     ∙ (ap (λ b. b || among (variables_in parts) w) (part_declares f part w)
-    ∙ (or_assoc (is_declared f w) (among (declared_in (page_part part)) w) (among (variables_in parts) w)
+    ∙ (or_assoc_left (is_declared f w) (among (declared_in (page_part part)) w) (among (variables_in parts) w)
     ∙ ap (λ b. is_declared f w || b) (sym (among_append (declared_in (page_part part)) (variables_in parts) w))))
 
 pub all_range : (f : Dqbf) (parts : List ReadPart) → (fold declare f parts).variables ≡ f.variables

@@ -6,7 +6,7 @@ use Rattle.std.proofs.lemmas.List.Elements.{All-from_recursion}
 use Rattle.std.proofs.lemmas.List.Sums.{AllPass-from_list_all, list_all-from_AllPass}
 use Rattle.list_laws.proofs.Folds.{filter-same}
 use Rattle.list_laws.proofs.Numbers.{range_more}
-use Rattle.list_laws.proofs.Quantified.{right-distinct}
+use Rattle.list_laws.proofs.Quantified.{right-distinct, rec_append}
 use Rattle.dq_lits.specs.Formula.{Dqbf, existential_of, IsWellFormed}
 use Rattle.dq_lits.specs.Formula.{Existential as ReadExistential}
 use Rattle.dq_lits.specs.Henkin.{HenkinChoice, choice_value, same_bits, restriction, Follows, MatrixHolds}
@@ -29,7 +29,7 @@ use Rattle.headline.specs.Headline.{Formula, Existential, Constraint, natural, S
 use Rattle.headline.specs.Headline.{numbers as page_numbers, variable_of as page_variable, declared as page_declared}
 use Rattle.headline_laws.specs.Formulas.{IsOnPage, read_existential}
 use Rattle.headline_laws.proofs.Constraints.{page_literal, page_literals, page_constraint, page_constraints, all_occur, all_same, all_sizes}
-use Rattle.headline_laws.proofs.Declarations.{page_part, page_parts, variables_in, all_apart, all_declared, all_existentials, all_in_range, all_listed, all_universals, apart_pairs, rec_append}
+use Rattle.headline_laws.proofs.Declarations.{page_part, page_parts, variables_in, all_apart, all_declared, all_existentials, all_in_range, all_listed, all_universals, apart_pairs}
 use Rattle.headline_laws.proofs.Symbols.{Stands, stands_p, stands_cnf, stands_a, stands_d, stands_e, stands_x, stands_natural, stands_negative, all_spelled, zip_append}
 
 -- what stands for what

@@ -32,8 +32,9 @@ use Rattle.skolem_checker.proofs.LiteralNumbers.{meaning_grounded}
 use Rattle.headline.specs.Headline.{Named, Formula, Existential, Fits, Holds, IsSkolem, StandsFor, existentials_of, literal_bit, universals_of}
 use Rattle.headline_laws.specs.Formulas.{read_existential}
 use Rattle.headline_laws.proofs.Circuits.{fits_valuation, page_circuit, page_reaches}
-use Rattle.headline_laws.proofs.Declarations.{or_false, or_second}
+use Rattle.headline_laws.proofs.Declarations.{or_false}
 use Rattle.headline_laws.proofs.Symbols.{natural_number}
+use Rattle.list_laws.proofs.Truths.{or_second}
 
 abbrev pub page_name : SymbolLine → Named
 page_name s = record { letter = letter_of s.of_input; place = s.place; name = s.name }

@@ -2,7 +2,7 @@
 use Rattle.std.proofs.Common.{◌≡◌, ℕ, ◌+◌, ◌≤◌, ◌==◌, Bool, true, false, true≢false, ◌&&◌, if◌then◌else◌, List, [], ◌∷◌, Option, Some, None, IsSome, Contains, slice_index_or, refl, sym, ap, ◌∙◌, subst, arith}
 use Rattle.std.specs.Option.{option_and_then}
 use Rattle.std.proofs.lemmas.Bool.{eqb-true}
-use Rattle.list_laws.proofs.Options.{some_is}
+use Rattle.list_laws.proofs.Options.{some_is, none_is_some}
 use Rattle.dq_lits.specs.Literal.{Literal, variable_of}
 use Rattle.hint_log.specs.Conditions.{AreNamed, HasSides, IsId, MayFollow, AreLogged, is_circuit_name, is_term_name}
 use Rattle.hint_log.specs.Entries.{has_id, last_id, steps_of, rounds_of, numbered, clause_of, clause_at, hints_of, name_of}
@@ -13,9 +13,6 @@ use Rattle.hint_log.specs.declared.names.Name.{Name}
 use Rattle.hint_log.specs.declared.names.Name.TheVariants.{Selector, Pair, Input, And, Bad, Copy, Term}
 use Rattle.hint_log.proofs.Logged.{are_earlier}
 use Rattle.hint_log.proofs.ReachedIds.{hint_earlier}
-
-none_is_some : {X : Type 0} {x : X} → None ≡ Some x → ⊥
-none_is_some is = cc
 
 found_hints : (e : Option Entry) (hints : List ℕ) → option_and_then (λ e. Some (hints_of e)) e ≡ Some hints →
     (x : Entry) × (e ≡ Some x) × (hints ≡ hints_of x)

@@ -1,13 +1,12 @@
 -- A partition as it is kept: with the same set of assumptions, and the same nodes of shared variables.
 use Rattle.std.proofs.Common.{◌≡◌, ℕ, Bool, true, ◌&&◌, inl, inr, List, IsSome, sym, ◌∙◌, ap, subst}
 use Rattle.dq_lits.specs.Literal.{Assignment, Literal, variable_of, opposite}
-use Rattle.dq_lits.specs.Derivation.{holds}
+use Rattle.dq_lits.specs.Derivation.{holds, AreSame}
 use Rattle.hint_log.specs.Entries.{Entry}
 use Rattle.hint_log.specs.Naming.{is_selector}
 use Rattle.aig_graph.specs.Graph.{AigGraph}
 use Rattle.aig_graph.specs.declared.nodes.Node.{Node}
 use Rattle.interpolants.specs.Interpolant.{Partition, partition, node_of, is_on_a, IsReachedGiven, SideHolds, IsOther, IsInSide, IsOfA, IsOfB, SharesAll, AreNodes, Agrees, IsInterpolant}
-use Rattle.interpolants.specs.Replay.{AreSame}
 use Rattle.interpolants.proofs.Truth.{any_same, stands_same}
 
 module _ (es : List Entry) (id : ℕ) (a_side assumed : List Literal) (shared kept : List (ℕ × Node))

@@ -17,7 +17,8 @@ use Rattle.interpolants.specs.Parts.{AreTrueOn, IsPart, is_true_shared, IsShared
 use Rattle.interpolants.specs.Sides.{is_local, AreOfA}
 use Rattle.aig_graph.specs.declared.nodes.Node.{Node}
 use Rattle.aig_graph.specs.declared.nodes.Node.TheVariants.{Constant}
-use Rattle.interpolants.proofs.Truth.{all_one, all_from, stands_there}
+use Rattle.interpolants.proofs.Truth.{all_from, stands_there}
+use Rattle.dq_lits.proofs.LiteralValues.{all_give}
 
 -- what holds of shared nodes as a graph grows
 pub agrees_before : (shared : List (ℕ × Node)) (old new : AigGraph) → Extends old new → AreNodes shared old →
@@ -321,7 +322,7 @@ answer_part q variables old new clause p n of_a shares nodes e found part asked 
         | inl of_side ↦
             let of : IsOfA q (variable_of l) = inl (stands_there q.a_side l of_side) in
             let shared = other_is_shared q variables of_a (variable_of l) of other in
-            let here = all_one (is_asked_true q.shared q.a_side m) clause both.1 (opposite l) in_clause in
+            let here = all_give (is_asked_true q.shared q.a_side m) clause (opposite l) both.1 in_clause in
             asked_is (holds q.a_side (opposite (opposite l))) (is_some (node_of q.shared (variable_of (opposite l))))
             (literal_true m (opposite (opposite l))) (literal_true m l)
             here (ap (holds q.a_side) (opposite-opposite l) ∙ of_side)

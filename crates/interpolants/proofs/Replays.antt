@@ -4,36 +4,14 @@ use Rattle.std.specs.List.{list_all, filter, find}
 use Rattle.std.proofs.Math.Seq.{drop-cons}
 use Rattle.std.proofs.lemmas.Bool.{cases_Bool, and_parts, or_cases}
 use Rattle.std.proofs.lemmas.List.{get_or_default, drop_all}
-use Rattle.list_laws.proofs.Folds.{filter-same}
 use Rattle.dq_lits.specs.Literal.{Literal, opposite, same_literal}
-use Rattle.dq_lits.specs.Derivation.{LiveClauses, unit, stuck, holds, status_by, status_of, fault_by, hint_fault, is_tautology, IsDerived}
+use Rattle.dq_lits.specs.Derivation.{LiveClauses, unit, stuck, holds, status_by, status_of, fault_by, hint_fault, is_tautology, IsDerived, AreSame}
 use Rattle.dq_lits.proofs.Truth.{same_literal-sound}
-use Rattle.dq_lits.proofs.HeldLiterals.{fault_by-same, filter-holds}
-use Rattle.interpolants.specs.Replay.{trues_of, Leads, IsReplay, AreSame, is_open, IsReplaying}
+use Rattle.dq_lits.proofs.HeldLiterals.{filter-holds}
+use Rattle.interpolants.specs.Replay.{trues_of, Leads, IsReplay, is_open, IsReplaying}
 use Rattle.interpolants.specs.declared.chains.Link.{Link}
-use Rattle.interpolants.proofs.Truth.{all_one}
-
-status_by-same : (xs ys rest : List Literal) → AreSame xs ys → status_by xs rest ≡ status_by ys rest
-status_by-same xs ys [] same = refl
-status_by-same xs ys (l ∷ rest) same = ap (λ b. cond (list_all (same_literal l) rest && not b) (unit l) stuck) (same l)
-
-status_of-same : (xs ys : List Literal) (clause : Option (List Literal)) → AreSame xs ys →
-    status_of xs clause ≡ status_of ys clause
-status_of-same xs ys None same = refl
-status_of-same xs ys (Some clause) same =
-    ap (status_by xs) (filter-same (λ l. not (holds xs (opposite l))) (λ l. not (holds ys (opposite l)))
-    (λ l. ap not (same (opposite l))) clause)
-    ∙ status_by-same xs ys (filter (λ l. not (holds ys (opposite l))) clause) same
-
-pub hint_fault-same : (live : LiveClauses) (hints : List ℕ) (xs ys : List Literal) (place : ℕ) → AreSame xs ys →
-    hint_fault live xs place hints ≡ hint_fault live ys place hints
-hint_fault-same live [] xs ys place same = refl
-hint_fault-same live (hint ∷ hints) xs ys place same =
-    ap (λ s. fault_by s place hints (λ l. hint_fault live (l ∷ xs) (place + 1) hints))
-    (status_of-same xs ys (live hint) same)
-    ∙ fault_by-same (status_of ys (live hint)) place hints (λ l. hint_fault live (l ∷ xs) (place + 1) hints)
-    (λ l. hint_fault live (l ∷ ys) (place + 1) hints)
-    (λ l. hint_fault-same live hints (l ∷ xs) (l ∷ ys) (place + 1) (λ k. ap (λ b. same_literal k l || b) (same k)))
+use Rattle.dq_lits.proofs.LiteralValues.{all_give}
+use Rattle.dq_lits.proofs.EqualTruths.{hint_fault-same}
 
 -- the first open literal, and the others
 none_open : (p : Literal → Bool) (xs : List Literal) → find p xs ≡ None → (l : Literal) → holds xs l ≡ true →
@@ -100,7 +78,7 @@ hint_leads live trues place hint hints clause l found first h =
                 (is_open trues) clause k is opened in
                 elim (or_cases (same_literal k l) (holds f.0 k) kept) [
                   | inl this ↦ inl (same_literal-sound k l this)
-                  | inr rest ↦ inl (sym (same_literal-sound l k (all_one (same_literal l) f.0 same k rest)))
+                  | inr rest ↦ inl (sym (same_literal-sound l k (all_give (same_literal l) f.0 k same rest)))
                 ]
             | inr closed ↦ inr (open_is trues k closed)
           ],

@@ -17,7 +17,7 @@ use Rattle.aig_graph.specs.declared.nodes.Node.{Node}
 use Rattle.aig_graph.proofs.LargerGraphs.{grown_twice, extends-refl}
 use Rattle.interpolants.specs.declared.chains.Link.{Link}
 use Rattle.interpolants.proofs.PartialInterpolants.{nodes_after, part_kept, part_weaker, resolve_local, resolve_other}
-use Rattle.interpolants.proofs.Sided.{some_is}
+use Rattle.list_laws.proofs.Options.{some_same}
 
 pub negated_value : (m : Assignment) (l : Literal) (a b : Bool) → is_negative l ≡ true → a ≡ m (variable_of l) →
     b ≡ not a → b ≡ literal_true m l
@@ -133,4 +133,4 @@ pub part_of_clause : (q : Partition) (local : ℕ → Bool) (g : AigGraph) (at :
     IsPart q local g (map opposite clause) n → IsPartOf q local g at n
 part_of_clause q local g at clause n found part other other_found =
     let P : List Literal → Type 0 = λ c. IsPart q local g (map opposite c) n in
-    subst P (some_is clause other (sym found ∙ other_found)) part
+    subst P (some_same clause other (sym found ∙ other_found)) part

@@ -5,12 +5,11 @@ use Rattle.std.proofs.lemmas.Bool.{cases_Bool, eqb-true}
 use Rattle.std.proofs.lemmas.List.{take_more}
 use Rattle.std.proofs.lemmas.List.Folds.{list_any-append}
 use Rattle.dq_lits.specs.Literal.{Literal, positive, negative, variable_of, is_negative, same_literal}
-use Rattle.dq_lits.specs.Derivation.{holds}
+use Rattle.dq_lits.specs.Derivation.{holds, AreSame}
 use Rattle.dq_lits.proofs.Truth.{same_literal-sound}
 use Rattle.hint_log.specs.Entries.{Entry}
 use Rattle.hint_log.specs.Naming.{is_selector}
 use Rattle.interpolants.specs.Interpolant.{stands_on}
-use Rattle.interpolants.specs.Replay.{AreSame}
 use Rattle.interpolants.specs.Sides.{AreSelectors}
 use Rattle.interpolants.proofs.Truth.{stands_same}
 

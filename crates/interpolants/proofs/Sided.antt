@@ -16,9 +16,7 @@ use Rattle.hint_log.specs.Reached.{AreReached}
 use Rattle.interpolants.specs.Interpolant.{Partition, is_on_a, IsReachedGiven, stands_on}
 use Rattle.interpolants.specs.Sides.{AreSelectors, AreOfA, AreOfSome}
 use Rattle.interpolants.proofs.Truth.{any_same}
-
-pub some_is : (xs ys : List Literal) → Some xs ≡ Some ys → xs ≡ ys
-some_is xs ys e = cc
+use Rattle.list_laws.proofs.Options.{some_same}
 
 -- a given clause has an origin
 pub is_given : (o found : Option Origin) → o ≡ found → is_some found ≡ true → IsSome o
@@ -76,7 +74,7 @@ some_more q ids i variables more clause before lt given on_a are =
   where
     same_clause : (q : Partition) (at other : ℕ) (c d : List Literal) → at ≡ other → IsReachedGiven q at c →
         IsReachedGiven q other d → c ≡ d
-    same_clause q at other c d same g h = some_is c d (sym g.clause_is ∙ ap (clause_at q.entries) same ∙ h.clause_is)
+    same_clause q at other c d same g h = some_same c d (sym g.clause_is ∙ ap (clause_at q.entries) same ∙ h.clause_is)
 
 pub some_past : (q : Partition) (ids : List ℕ) (i : ℕ) (variables : List Literal) → AreOfSome q (take i ids) variables →
     i < length ids →

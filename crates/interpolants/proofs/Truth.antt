@@ -1,27 +1,11 @@
 -- Lemmas on the truth of literals and clauses.
-use Rattle.std.proofs.Common.{◌≡◌, ℕ, ◌==◌, Bool, true, false, ◌||◌, ◌&&◌, inl, inr, List, [], ◌∷◌, refl, sym, ◌∙◌, ap}
+use Rattle.std.proofs.Common.{◌≡◌, ℕ, ◌==◌, Bool, true, ◌||◌, ◌&&◌, inl, inr, List, [], ◌∷◌, refl, sym, ◌∙◌, ap}
 use Rattle.std.specs.List.{list_any, list_all}
-use Rattle.std.proofs.lemmas.Bool.{eq-eqb, or_cases, or_right}
+use Rattle.std.proofs.lemmas.Bool.{eq-eqb, or_right}
 use Rattle.dq_lits.specs.Literal.{Literal, variable_of, same_literal}
-use Rattle.dq_lits.specs.Derivation.{holds}
-use Rattle.dq_lits.proofs.Truth.{same_literal-sound}
+use Rattle.dq_lits.specs.Derivation.{holds, AreSame}
 use Rattle.dq_lits.proofs.HeldLiterals.{any_one, any_gives, holds_here}
 use Rattle.interpolants.specs.Interpolant.{stands_on}
-use Rattle.interpolants.specs.Replay.{AreSame}
-
-pub all_one : (p : Literal → Bool) (xs : List Literal) → list_all p xs ≡ true → (l : Literal) → holds xs l ≡ true →
-    p l ≡ true
-all_one p [] all l h = cc
-all_one p (x ∷ xs) all l h =
-    let both : (p x ≡ true) × (list_all p xs ≡ true) = parts (p x) (list_all p xs) all in
-    elim (or_cases (same_literal l x) (holds xs l) h) [
-      | inl same ↦ ap p (same_literal-sound l x same) ∙ both.0
-      | inr later ↦ all_one p xs both.1 l later
-    ]
-  where
-    parts : (a b : Bool) → (a && b) ≡ true → (a ≡ true) × (b ≡ true)
-    parts true b h = (refl, h)
-    parts false b h = cc
 
 pub all_from : (p : Literal → Bool) (xs : List Literal) → ((l : Literal) → holds xs l ≡ true → p l ≡ true) →
     list_all p xs ≡ true

@@ -2,7 +2,7 @@
 use Rattle.std.specs.Prelude.{◌≡◌, ℕ, ◌+◌, ◌⊎◌, Bool, true, not, List, [], ◌∷◌, drop, None, Some}
 use Rattle.std.specs.List.{Contains}
 use Rattle.dq_lits.specs.Literal.{Literal, opposite}
-use Rattle.dq_lits.specs.Derivation.{LiveClauses, holds, hint_fault, IsDerived}
+use Rattle.dq_lits.specs.Derivation.{LiveClauses, holds, hint_fault, IsDerived, AreSame}
 use Rattle.hint_log.specs.Entries.{Entry}
 use Rattle.hint_log.specs.Entries.{clause_at, hints_at, origin_at}
 use Rattle.interpolants.specs.declared.chains.Link.{Link}
@@ -39,10 +39,6 @@ pub record IsReplay (live : LiveClauses) (first : List Literal) (hints : List �
   pub hinted : AreHinted hints links
   pub last_hinted : Contains hints last
   pub conflict : IsFalseAt live (trues_of first links) last
-
--- as sets
-abbrev pub AreSame : List Literal → List Literal → Type 0
-AreSame xs ys = (l : Literal) → holds xs l ≡ holds ys l
 
 abbrev pub is_open : List Literal → Literal → Bool
 is_open trues l = not (holds trues (opposite l))

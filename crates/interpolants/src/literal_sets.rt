@@ -2,8 +2,7 @@
 
 ghost use Rattle.std.specs.Prelude.{◌≡◌, ◌||◌, [], OnOk};
 ghost use Rattle.dq_lits.specs.Literal.{Literal, same_literal};
-ghost use Rattle.dq_lits.specs.Derivation.{holds};
-ghost use Rattle.interpolants.specs.Replay.{AreSame};
+ghost use Rattle.dq_lits.specs.Derivation.{holds, AreSame};
 
 use dq_lits::{Lit, Memory};
 use indexmap::IndexSet;

@@ -1,11 +1,14 @@
 //! A line's hints, propagated once more.
+//!
+//! No hint is left out; each line's node is noted by its id. No text chooses ids, so these maps may
+//! hash.
 
 ghost use Rattle.std.specs.Prelude.{◌≡◌, [], map, IfOk};
 ghost use Rattle.dq_lits.specs.Literal.{opposite};
-ghost use Rattle.dq_lits.specs.Derivation.{IsDerived};
+ghost use Rattle.dq_lits.specs.Derivation.{IsDerived, AreSame};
 ghost use Rattle.hint_log.specs.Conditions.{AreIds};
 ghost use Rattle.hint_log.specs.Entries.{clause_at};
-ghost use Rattle.interpolants.specs.Replay.{AreSame, IsReplay, is_open};
+ghost use Rattle.interpolants.specs.Replay.{IsReplay, is_open};
 ghost use Rattle.std.specs.List.{find};
 
 use crate::chains::{Chain, Link};

@@ -1,14 +1,16 @@
 //! Which given clauses are on the A side, and which variables stand there.
+//!
+//! A given clause is on the A side where it negates a selector of that side, so that neither groups
+//! nor origins are known here.
 
 ghost use Rattle.std.specs.Prelude.{◌≡◌, ◌||◌, ℕ, List, [], IfOk, OnOk, Some};
 ghost use Rattle.std.specs.List.{list_any};
 ghost use Rattle.dq_lits.specs.Literal.{Literal, positive, opposite};
-ghost use Rattle.dq_lits.specs.Derivation.{holds};
+ghost use Rattle.dq_lits.specs.Derivation.{holds, AreSame};
 ghost use Rattle.hint_log.specs.Conditions.{AreNamed, IsId};
 ghost use Rattle.hint_log.specs.Naming.{is_selector_name};
 ghost use Rattle.hint_log.specs.Reached.{AreReached};
 ghost use Rattle.interpolants.specs.Interpolant.{stands_on};
-ghost use Rattle.interpolants.specs.Replay.{AreSame};
 ghost use Rattle.interpolants.specs.Sides.{AreSelectors, AreOfA, IsSide};
 ghost use Rattle.interpolants.specs.Splits.{divided};
 ghost use Rattle.aig_graph.specs.declared.nodes.Node.{Node as NodeValue};

@@ -141,14 +141,6 @@ named_at f lawful variables all i v below is =
           (lawful.named i none within),
     )
 
--- the existential at a place, by its variable
-pub existential_there : (f : Dqbf) → IsLawful f → (variables : List ℕ) → variables ≡ existential_variables f → (i : ℕ) →
-    i < length f.existentials
-    → (y : Existential) × (slice_get f.existentials i ≡ Some y) × (existential_of f (get_or variables i 0) ≡ Some y)
-existential_there f lawful variables all i below =
-    let many = ap length all ∙ length-map f.existentials variable in
-    named_at f lawful variables all i (get_or variables i 0) (omega (arith, below, many)) refl
-
 -- what was found defines it, where it is a definition
 pub found_defines : (f : Dqbf) (ranks : List ℕ) (graph : AigGraph) (y : Existential) (found : Found) →
     IsFound f ranks graph y found → (node : Node) → definition_in found ≡ Some node → IsDefinition f ranks graph y node

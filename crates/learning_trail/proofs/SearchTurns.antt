@@ -9,7 +9,6 @@ use Rattle.dq_lits.specs.Derivation.{LiveClauses, holds, status_of, unit}
 use Rattle.dq_lits.proofs.HeldLiterals.{holds_cases, holds_here, holds_later}
 use Rattle.dq_lits.proofs.SignedLiterals.{one_variable}
 use Rattle.hint_log.specs.Entries.{Entry}
-use Rattle.hint_log.specs.Entries.{Named, Given, Learned, Answer, Round, Begun}
 use Rattle.hint_log.specs.Entries.{ProofLog, name_of}
 use Rattle.hint_log.specs.Growth.{EachOf}
 use Rattle.hint_log.specs.Naming.{is_selector_name}
@@ -30,6 +29,7 @@ use Rattle.learning_trail.specs.Searching.{Searched, AreAssumptions, IsAnswered}
 use Rattle.learning_trail.proofs.ConflictAnalysis.{sound_consistent}
 use Rattle.learning_trail.proofs.Lessons.{sound_later, guided_later, trail_assumed}
 use Rattle.learning_trail.proofs.LargerTrails.{clause_read}
+use Rattle.oracle.proofs.LearnedEntries.{learned_names}
 
 -- below an assumption that isn't true yet, assumptions alone were decided
 pub assumed_before : (entries : List Entry) (assumptions : List Literal) (steps : List Step) (a : Literal) →
@@ -114,18 +114,8 @@ opening_stands held resting variables es trues l fit opening =
     let k = opening.2 in
     held_stand held resting variables es fit (suc k.0) c l (clause_read held k.0 c k.1 k.2) opening.3
 
--- what was learned names nothing
-name_same : (es more : List Entry) → EachOf IsLearnedEntry more es → (v : ℕ) → name_of (more ++ es) v ≡ name_of es v
-name_same es [] each v = refl
-name_same es (Named w name ∷ more) each v = absurd each.0
-name_same es (Given o c ∷ more) each v = absurd each.0
-name_same es (Learned c hs ∷ more) each v = name_same es more each.1 v
-name_same es (Answer c hs ∷ more) each v = absurd each.0
-name_same es (Round r vs j ∷ more) each v = absurd each.0
-name_same es (Begun live ∷ more) each v = absurd each.0
-
 pub names_same : (old new : ProofLog) → HasLearned old new → (v : ℕ) → name_of new.entries v ≡ name_of old.entries v
-names_same old new learned v = ap (λ es. name_of es v) learned.grown ∙ name_same old.entries learned.more learned.each v
+names_same old new learned v = ap (λ es. name_of es v) learned.grown ∙ learned_names learned.more old.entries v learned.each
 
 pub assumptions_same : (old new : ProofLog) (assumptions : List Literal) → HasLearned old new →
     AreAssumptions old assumptions → AreAssumptions new assumptions

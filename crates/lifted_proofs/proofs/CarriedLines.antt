@@ -16,11 +16,11 @@ use Rattle.dq_lits.proofs.Derivations.{no_step_fault}
 use Rattle.dq_prep.specs.Lifted.{IsCarried}
 use Rattle.dq_prep.proofs.Carried.{carries}
 use Rattle.rup_core.specs.Items.{ProofItem, derived, gone, items_fault, without_clauses, is_among}
-use Rattle.refutation_checker.specs.Refutation.{normal_number, normal_literal, normal_step, normal_item, normal_of}
+use Rattle.refutation_checker.specs.Refutation.{normal_number, normal_literal, normal_of}
 use Rattle.cert_text.specs.Pairs.{is_pair_number}
 use Rattle.lifted_proofs.specs.Goals.{Keeps}
 use Rattle.lifted_proofs.specs.Carried.{lines_of}
-use Rattle.lifted_proofs.specs.Lines.{behind_steps, AreDerived, normal_steps}
+use Rattle.lifted_proofs.specs.Lines.{behind_steps, AreDerived}
 
 -- whether the last step is empty, where `finished` tells it of the last one before
 abbrev pub EndsEmpty : Bool → List ProofStep → Type 0
@@ -44,11 +44,6 @@ pub derived-append : (live : LiveClauses) (xs ys : List ProofStep) → AreDerive
     → AreDerived (behind_steps live xs) ys → AreDerived live (xs ++ ys)
 derived-append live [] ys a b = b
 derived-append live (x ∷ xs) ys a b = (a.0, derived-append (with_clause live x.id x.literals) xs ys a.1 b)
-
-pub normal-derived : (f : Dqbf) (rows : List (List Bool)) (ss : List ProofStep)
-    → map (normal_item f rows) (map derived ss) ≡ map derived (normal_steps f rows ss)
-normal-derived f rows [] = refl
-normal-derived f rows (s ∷ ss) = ap (λ xs. derived (normal_step f rows s) ∷ xs) (normal-derived f rows ss)
 
 -- a line is that of another refutation under other ids
 pub record IsMoved (to : ℕ → ℕ) (s t : ProofStep) : Type 0 where

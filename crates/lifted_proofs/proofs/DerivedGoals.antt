@@ -11,7 +11,7 @@ use Rattle.dq_lits.specs.Literal.{Literal, variable_of, opposite, on_variable, s
 use Rattle.dq_lits.specs.Formula.{Existential, Dqbf, is_universal, existential_of, IsWellFormed}
 use Rattle.dq_lits.specs.Derivation.{LiveClauses, holds, is_tautology, IsDerived}
 use Rattle.dq_lits.specs.Expansion.{agree_on, pair_number, pair_literal}
-use Rattle.dq_lits.proofs.HeldLiterals.{any_one, filter-holds, negated-held, filter-passes}
+use Rattle.dq_lits.proofs.HeldLiterals.{any_one, filter-holds, negated-held, filter-passes, holds_of_filter}
 use Rattle.dq_lits.proofs.SignedLiterals.{same_literal-refl, opposite_variable, opposite-opposite, variable_of-on, one_variable}
 use Rattle.dq_prep.specs.declared.traces.Taken.{Taken}
 use Rattle.dq_prep.specs.Lifted.{AreFalsifying}
@@ -23,7 +23,7 @@ use Rattle.dq_prep.proofs.SeenUniversals.{filters-agree}
 use Rattle.dq_prep.proofs.Reduction.{holds-at}
 use Rattle.dq_prep.proofs.SignedLiterals.{pair-in, pair-any}
 use Rattle.dq_prep.proofs.ToldValues.{unit-existential}
-use Rattle.dq_prep.proofs.Units.{get-at, satisfied-by, part-holds}
+use Rattle.dq_prep.proofs.Units.{get-at, satisfied-by}
 use Rattle.dq_prep.proofs.WellFormed.{IsBound}
 use Rattle.dq_prep.proofs.Carried.{derives}
 use Rattle.refutation_checker.specs.Pairs.{pair_of, existential_part}
@@ -270,7 +270,7 @@ module _ (f : Dqbf) (units : List Taken) (rows : List (List Bool)) (goals : List
   is-bound l inside = bound-in f (clause_at f g.source.place) l bound inside
 
   open-inside : (l : Literal) → holds (open_of f units g) l ≡ true → holds (clause_at f g.source.place) l ≡ true
-  open-inside l h = part-holds l (is_open f (first_literals units g.source.taken)) (clause_at f g.source.place) h
+  open-inside l h = holds_of_filter l (is_open f (first_literals units g.source.taken)) (clause_at f g.source.place) h
 
   -- the goal's line on the lowered row
   pub line-low : goal_line f units rows g ≡ map (paired f rows s.reason.lowered.low) (open_of f units g)
@@ -371,7 +371,7 @@ module _ (f : Dqbf) (units : List Taken) (rows : List (List Bool)) (goals : List
           → (holds (map opposite (map (paired f rows s.reason.lowered.low) (open_of f units g)))
           (opposite (paired f rows s.reason.lowered.low l)) ≡ true) ⊎ Has c.hinted (opposite l)
       covered c l inside =
-          let part = part-holds l (λ k. is_some (existential_of f (variable_of k))) (clause_at f g.source.place)
+          let part = holds_of_filter l (λ k. is_some (existential_of f (variable_of k))) (clause_at f g.source.place)
           inside in
           elim (cases_Bool (holds trues (opposite l))) [
             | inl false' ↦

@@ -9,12 +9,11 @@ use Rattle.dq_lits.specs.Formula.{Dqbf}
 use Rattle.dq_lits.specs.Derivation.{holds, is_tautology}
 use Rattle.dq_lits.proofs.Truth.{same_literal-sound}
 use Rattle.dq_lits.proofs.SignedLiterals.{same_literal-refl, opposite-opposite}
-use Rattle.dq_lits.proofs.HeldLiterals.{filter-passes}
+use Rattle.dq_lits.proofs.HeldLiterals.{filter-passes, holds_of_filter}
 use Rattle.dq_prep.specs.declared.traces.Taken.{Taken}
 use Rattle.dq_prep.specs.Reduction.{stays}
 use Rattle.dq_prep.specs.Units.{AreUnits, taken_literals, is_satisfied, left_of, without_false}
 use Rattle.dq_prep.specs.Simplified.{taken_at, kept_clause, kept_clauses}
-use Rattle.dq_prep.proofs.Units.{part-holds}
 use Rattle.dq_prep.proofs.ToldValues.{unit-fresh}
 use Rattle.dq_prep.proofs.SignedLiterals.{not-same}
 use Rattle.lifted_proofs.specs.Goals.{clause_at}
@@ -23,7 +22,7 @@ use Rattle.std.proofs.lemmas.List.FromFn.{get_or-range_with_len, length-range_wi
 use Rattle.list_laws.proofs.Members.{filter_keeps, place_of, place_within}
 use Rattle.std.proofs.lemmas.List.Elements.{filter-append, All-filter, filter_passes}
 use Rattle.std.specs.Bool.{beq}
-use Rattle.list_laws.proofs.Numbers.{range_more}
+use Rattle.list_laws.proofs.Numbers.{range_more, range_distinct}
 use Rattle.std.proofs.lemmas.List.Kept.{AllPairs-filter}
 
 part-filter : (p : Literal → Bool) (ys : List Literal) → IsPart (filter p ys) ys
@@ -146,7 +145,7 @@ left-open f trues clause l held = by (is_tautology rest) held
 
     by : (b : Bool) → holds (cond b rest (filter (stays f rest) rest)) l ≡ true → holds trues (opposite l) ≡ false
     by true h = from h
-    by false h = from (part-holds l (stays f rest) rest h)
+    by false h = from (holds_of_filter l (stays f rest) rest h)
 
 pub left-is : (f : Dqbf) (units : List Taken) (place : ℕ) (clause left : List Literal) → AreUnits f units
     → slice_get f.matrix place ≡ Some clause → kept_clause f units place clause ≡ Some left → IsLeft units clause left
@@ -182,10 +181,6 @@ left-is f units place clause left are at kept = by (is_satisfied trues clause) k
 -- a number stands in a list of them
 abbrev pub StandsIn : List ℕ → ℕ → Type 0
 StandsIn ps p = (j : ℕ) × (slice_get ps j ≡ Some p)
-
-range-distinct : (a n : ℕ) → AllPairs (λ i j. i ≢ j) (range_with_len a n)
-range-distinct a n i j d before within same =
-    omega (arith, before, within, length-range_with_len a n, same, get_or-range_with_len a n i d, get_or-range_with_len a n j d)
 
 pub range-more : (count : ℕ) → range_with_len 0 (count + 1) ≡ range_with_len 0 count ++ count ∷ []
 range-more count =
@@ -224,7 +219,7 @@ module _ (f : Dqbf) (units : List Taken) (kept : Bool) where
       by a b h = grind arith
 
   pub places-distinct : (count : ℕ) → AllPairs (λ i j. i ≢ j) (places_of f units kept count)
-  places-distinct count = AllPairs-filter (λ i j. i ≢ j) chosen (range_with_len 0 count) (range-distinct 0 count)
+  places-distinct count = AllPairs-filter (λ i j. i ≢ j) chosen (range_with_len 0 count) (range_distinct 0 count)
 
   -- one clause more
   pub places-more : (count : ℕ) → places_of f units kept (count + 1)

@@ -20,8 +20,9 @@ use Rattle.lifted_proofs.specs.Liftables.{falsity, is_false as false_at, IsLiter
 use Rattle.lifted_proofs.specs.SettledCircuits.{settled_candidate}
 use Rattle.lifted_proofs.proofs.CarriedProofs.{carried-circuit, carried-clause}
 use Rattle.lifted_proofs.proofs.KeptPlaces.{units-agree}
-use Rattle.lifted_proofs.proofs.NegatedIds.{Stands, is_false, is_true, is_free, stands-by, at-literal, literal-before, falsity-false, falsity-true, falsity-free, in-gates, in-falsity, in-last, behind-all, AreOn, gate-clause-fits, literal-fits, opposite-fits}
+use Rattle.lifted_proofs.proofs.NegatedIds.{Stands, is_false, is_true, is_free, stands-by, at-literal, falsity-false, falsity-true, falsity-free, in-gates, in-falsity, in-last, behind-all, AreOn, gate-clause-fits, literal-fits, opposite-fits}
 use Rattle.lifted_proofs.proofs.SettledOutputs.{literal-same, literal-settled, unit-output, literal-in-range}
+use Rattle.list_laws.proofs.Sequences.{before_below}
 
 -- a circuit's literals stay
 on-same : (n : ℕ) (l : Literal) → n ≡ variable_of l → on_variable n l ≡ l
@@ -59,7 +60,7 @@ module _ (f : Dqbf) (units : List Taken) (c : Candidate) (can : IsLiftable f uni
   base-literal p l id it =
       at-literal f (settled_candidate f trues c).circuit.netlist (circuit_literal (settled_candidate f trues c).circuit)
       p it.place id it.clause l it.clause_at it.at it.is
-      (literal-before f.matrix p it.place it.clause it.clause_at (slice_get_within it.clause it.place l it.at))
+      (before_below f.matrix p it.place it.clause it.clause_at (slice_get_within it.clause it.place l it.at))
 
   -- a literal that was taken is true
   pub base-true : (p : ℕ) (l : Literal) (id : ℕ) → IsLiteralId f c p l id → holds (taken_literals units) l ≡ true

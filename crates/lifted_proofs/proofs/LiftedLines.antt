@@ -36,11 +36,12 @@ use Rattle.lifted_proofs.specs.declared.goals.Goal.{Goal}
 use Rattle.lifted_proofs.specs.declared.goals.Plan.{Plan}
 use Rattle.lifted_proofs.specs.declared.lines.Written.{Written}
 use Rattle.lifted_proofs.specs.declared.units.UnitTable.{UnitTable}
-use Rattle.lifted_proofs.proofs.CarriedLines.{AreNumbered, AreMoved, EndsEmpty, move-items, items-derived, ends-behind, derived-append, normal-derived, pairs-stay, literals-stay}
+use Rattle.lifted_proofs.proofs.CarriedLines.{AreNumbered, AreMoved, EndsEmpty, move-items, items-derived, ends-behind, derived-append, pairs-stay, literals-stay}
 use Rattle.lifted_proofs.proofs.GatheredHints.{first-at}
 use Rattle.lifted_proofs.proofs.HintedInstances.{AreFrom, hinted-plain, instance-parts, plain-source}
 use Rattle.list_laws.proofs.Truths.{both_true}
 use Rattle.lifted_proofs.proofs.WrittenLines.{steps-append}
+use Rattle.refutation_checker.proofs.NormalLines.{normal_lines}
 
 -- the formula that is left
 abbrev pub left_formula : UnitTable → Dqbf
@@ -373,7 +374,7 @@ all-lifted t d sources wanted p w steps l is =
           l.written.lines.allowed
           (subst (λ m. AreSteps (is_pair_number f (length p.rows)) m carried) (omega (arith, count)) allowed);
       refutes =
-          ap (items_fault false (instance_at f p.rows)) (normal-derived f p.rows (w.steps ++ carried)
+          ap (items_fault false (instance_at f p.rows)) (normal_lines f p.rows (w.steps ++ carried)
           ∙ ap (map derived) (map-append (normal_step f p.rows) w.steps carried))
           ∙ items-derived false (instance_at f p.rows)
           (normal_steps f p.rows w.steps ++ normal_steps f p.rows carried)

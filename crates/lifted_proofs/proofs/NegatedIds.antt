@@ -15,6 +15,7 @@ use Rattle.circuit_plain.specs.declared.circuits.Gate.{Gate}
 use Rattle.cert_text.specs.NegatedMatrix.{opposite_of, gate_clauses, literal_under, falsity_clauses, all_falsity_clauses, some_clause_false, as_literal, without_constants, negated_matrix}
 use Rattle.cert_text.proofs.NegatedClauses.{falsity_counted, gates_counted}
 use Rattle.lifted_proofs.specs.Liftables.{falsity}
+use Rattle.cert_text.proofs.CircuitLiterals.{opposite_even, as_odd}
 
 append-right : {X : Type 0} (xs ys : List X) (i k : ℕ) → k ≡ length xs + i → slice_get (xs ++ ys) k ≡ slice_get ys i
 append-right xs ys i k is = ap (slice_get (xs ++ ys)) is ∙ get-append_right xs ys i
@@ -103,21 +104,7 @@ at-literal f net lit p q id clause l there at is below =
     in-falsity f net lit id (sum_by length (take p f.matrix) + q) (Some (falsity lit (net.max_var + 1 + p) l)) is below
     (in-clauses lit (net.max_var + 1) f.matrix p q (sum_by length (take p f.matrix) + q) clause l there at refl)
 
-pub literal-before : (clauses : List (List Literal)) (p q : ℕ) (clause : List Literal) → slice_get clauses p ≡ Some clause
-    → q < length clause → sum_by length (take p clauses) + q < sum_by length clauses
-literal-before [] p q clause at below = cc
-literal-before (c ∷ cs) zero q clause at below =
-    let same = ap (λ (x : List Literal). length x) (same_Some c clause at) in
-    omega (arith, below, same, sum-first c cs, sum-none (c ∷ cs))
-literal-before (c ∷ cs) (suc p) q clause at below =
-    omega (arith, literal-before cs p q clause at below, sum-first c cs, sum-taken c cs p)
-
 -- ---- constants
-
-opposite-even : (bad : ℕ) → opposite_of (2 * bad) ≡ 2 * bad + 1
-opposite-even bad =
-    let even : 2 * bad % 2 ≡ 0 = omega arith in
-    ap (λ r. cond (r == 1) (2 * bad - 1) (2 * bad + 1)) even
 
 -- where the clause is false, its literal's own circuit literal is
 pub data Stands : ℕ → Type 0 where
@@ -137,12 +124,6 @@ opposite-free x free = by (x % 2 == 1) refl
     by true e = omega (arith, eqb-true (x % 2) 1 e, free)
     by false e = omega (arith, free)
 
-negated-number : (bad : ℕ) → as_literal (2 * bad + 1) ≡ negative bad
-negated-number bad =
-    let odd : (2 * bad + 1) % 2 ≡ 1 = omega arith in
-    let half : (2 * bad + 1) / 2 ≡ bad = omega arith in
-    ap (λ r. cond (r == 1) (negative ((2 * bad + 1) / 2)) (positive ((2 * bad + 1) / 2))) odd ∙ ap negative half
-
 two-kept : (a b : ℕ) (p q r s : Bool) → (a == 1) ≡ p → (b == 1) ≡ q → (a == 0) ≡ r → (b == 0) ≡ s
     → without_constants (a ∷ b ∷ [])
     ≡ cond (p || (q || false)) None
@@ -151,13 +132,13 @@ two-kept a b p q r s e1 e2 e3 e4 = rw (e1, e2, e3, e4)
 
 module _ (bad x : ℕ) (some : 1 ≤ bad) where
   first-free : (opposite_of (2 * bad) == 1) ≡ false
-  first-free = ne_eqb (opposite_of (2 * bad)) 1 (λ e. absurd (omega (arith, e, opposite-even bad, some)))
+  first-free = ne_eqb (opposite_of (2 * bad)) 1 (λ e. absurd (omega (arith, e, opposite_even bad, some)))
 
   first-kept : (opposite_of (2 * bad) == 0) ≡ false
-  first-kept = ne_eqb (opposite_of (2 * bad)) 0 (λ e. absurd (omega (arith, e, opposite-even bad)))
+  first-kept = ne_eqb (opposite_of (2 * bad)) 0 (λ e. absurd (omega (arith, e, opposite_even bad)))
 
   first-is : as_literal (opposite_of (2 * bad)) ≡ negative bad
-  first-is = ap as_literal (opposite-even bad) ∙ negated-number bad
+  first-is = ap as_literal (opposite_even bad) ∙ as_odd bad
 
   pub falsity-false : x ≡ 0 → without_constants (opposite_of (2 * bad) ∷ opposite_of x ∷ []) ≡ None
   falsity-false is =

@@ -1,8 +1,9 @@
 -- Lemmas on the elements at places of lists.
 use Rattle.std.proofs.Common.{◌≡◌, ℕ, zero, suc, ◌⊎◌, inl, inr, List, [], ◌∷◌, ◌++◌, length, slice_get, Some, refl, ap, ◌+◌, drop, ◌∙◌, add-one, ◌<◌, arith, get_or, sym, map, slice_index, replicate, slice_index_or}
 use Rattle.std.proofs.Math.Seq.{drop-cons}
-use Rattle.std.proofs.lemmas.Option.{get_or_from_slice_get, slice_get_within}
+use Rattle.std.proofs.lemmas.Option.{get_or_from_slice_get, slice_get_within, slice_get-get_or}
 use Rattle.std.proofs.lemmas.List.{get_or_default}
+use Rattle.std.specs.List.{Contains}
 
 -- an element more behind
 pub old_or_last : {X : Type 0} (xs : List X) (y x : X) (p : ℕ) → slice_get (xs ++ y ∷ []) p ≡ Some x →
@@ -94,3 +95,13 @@ drop_at xs i d below = rw (add-one) (drop-cons xs i d below)
 pub at_front : {X : Type 0} (front back : List X) (l d : X) → get_or (front ++ l ∷ back) (length front) d ≡ l
 at_front [] back l d = refl
 at_front (k ∷ front) back l d = at_front front back l d
+
+pub map_agree : {X Y : Type 0} (m n : X → Y) (xs : List X) → ((x : X) → Contains xs x → m x ≡ n x) → map m xs ≡ map n xs
+map_agree m n [] each = refl
+map_agree m n (x ∷ xs) each =
+    ap (λ b. b ∷ map m xs) (each x (0, omega arith, refl)) ∙ ap (λ bs. n x ∷ bs)
+    (map_agree m n xs (λ z among. each z (let (k, below, is) = among in (suc k, omega (arith, below), is))))
+
+-- the element at a place
+pub found_at : {X : Type 0} (xs : List X) (i : ℕ) (x : X) → i < length xs → x ≡ get_or xs i x → slice_get xs i ≡ Some x
+found_at xs i x below is = slice_get-get_or xs i x below ∙ ap Some (sym is)

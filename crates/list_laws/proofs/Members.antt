@@ -1,10 +1,10 @@
 -- Lemmas on what lists contain.
 use Rattle.std.proofs.Common.{◌≡◌, ℕ, ◌==◌, true, List, sym, suc, Bool, false, ◌||◌, [], ◌∷◌, refl, arith, eqb, get_or, map, ◌∙◌, ap, zero, inl, inr, Option, Some, subst, None, cond, ◌⊎◌, slice_get, ◌++◌, ◌+◌, ◌<◌, ◌≢◌, length, length-append, Contains, ◌-◌, ◌≤◌}
-use Rattle.std.specs.List.{list_any, filter_map, cons_option, filter, range_with_len, AllPairs, All}
+use Rattle.std.specs.List.{list_any, filter_map, cons_option, filter, range_with_len, AllPairs, All, Contains}
 use Rattle.std.proofs.lemmas.Bool.{eqb-true, eq-eqb, or_cases}
 use Rattle.std.proofs.lemmas.Map.Views.{Contains-from_any}
 use Rattle.std.proofs.lemmas.List.Folds.{list_any_at}
-use Rattle.std.proofs.lemmas.List.{length-map, get_or-map, get_or-append-add}
+use Rattle.std.proofs.lemmas.List.{length-map, get_or-map, get_or-append-add, get_or_default}
 use Rattle.std.proofs.lemmas.Option.{slice_get_within, get_or_from_slice_get, slice_get-get_or}
 use Rattle.std.proofs.Math.ListN.{get_or-append}
 use Rattle.std.proofs.lemmas.List.Elements.{Contains-get_or}
@@ -156,3 +156,9 @@ place_of xs x (k, below, is) = (k, slice_get-get_or xs k x below ∙ ap Some is)
 pub contains_cases : {X : Type 0} (e x : X) (es : List X) → Contains (e ∷ es) x → (e ≡ x) ⊎ Contains es x
 contains_cases e x es (zero, below, is) = inl is
 contains_cases e x es (suc k, below, is) = inr (k, (let b : k < length es = omega arith in b), is)
+
+pub one_passes : {X : Type 0} (p : X → Bool) (xs : List X) (x : X) → Contains xs x → p x ≡ true → list_any p xs ≡ true
+one_passes p xs x (k, below, is) pass = list_any_at p xs k x below (ap p is ∙ pass)
+
+pub contained_at : {X : Type 0} (xs : List X) (i : ℕ) (d : X) → i < length xs → Contains xs (get_or xs i d)
+contained_at xs i d below = (i, below, get_or_default xs i (get_or xs i d) d below)

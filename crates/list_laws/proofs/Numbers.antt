@@ -1,12 +1,15 @@
 -- Lemmas on numbers.
-use Rattle.std.proofs.Common.{◌≡◌, ℕ, ◌+◌, ◌<◌, inl, inr, ◌⊎◌, arith, ◌-◌, ◌*◌, ◌/◌, ◌%◌, ◌≤◌, ap, ◌∙◌, ◌≢◌, ◌==◌, false, true, sym, eqb, ◌||◌, max, eq-eqb, zero, suc, [], ◌∷◌, ◌++◌}
+use Rattle.std.proofs.Common.{◌≡◌, ℕ, ◌+◌, ◌<◌, inl, inr, ◌⊎◌, arith, ◌-◌, ◌*◌, ◌/◌, ◌%◌, ◌≤◌, ap, ◌∙◌, ◌≢◌, ◌==◌, false, true, sym, eqb, ◌||◌, max, eq-eqb, zero, suc, [], ◌∷◌, ◌++◌, refl}
 use Rattle.std.proofs.lemmas.Bool.{cases_lt, cases_Bool, eqb-true, cases_eq, ne_eqb}
 use Rattle.std.proofs.Math.Nat.{mod-eq-sub-div-mul}
 use Rattle.std.proofs.lemmas.Nat.{div-mul-add, mul-le}
-use Rattle.std.specs.Ordering.{nat_cmp}
-use Rattle.std.specs.declared.cmp.Ordering.TheVariants.{Equal}
+use Rattle.std.specs.Ordering.{nat_cmp, ordering_then, is_eq}
+use Rattle.std.specs.declared.cmp.Ordering.TheVariants.{Equal, Less, Greater}
 use Rattle.std.proofs.lemmas.Bool.Decides.{nat_tests}
-use Rattle.std.specs.List.{range_with_len}
+use Rattle.std.specs.List.{range_with_len, AllPairs}
+use Rattle.std.specs.declared.cmp.Ordering.{Ordering}
+use Rattle.list_laws.proofs.Truths.{equal_numbers}
+use Rattle.std.proofs.lemmas.List.FromFn.{get_or-range_with_len, length-range_with_len}
 
 pub below_or_here : (p count : ℕ) → p < count + 1 → (p < count) ⊎ (p ≡ count)
 below_or_here p count below = elim (cases_lt p count) [ inl early ↦ inl early | inr late ↦ inr (omega arith) ]
@@ -55,3 +58,27 @@ range_more a (suc n) = ap (λ xs. a ∷ xs) (range_more (a + 1) n ∙ ap (λ x. 
 
 pub few-rows : (k c : ℕ) → k ≤ 1000000000 → c ≤ 10000000 → k * c ≤ 10000000000000000
 few-rows k c low low-c = mul-le k c 1000000000 10000000 low low-c
+
+pub range_append : (start a b : ℕ) → range_with_len start a ++ range_with_len (start + a) b ≡ range_with_len start (a + b)
+range_append start zero b =
+    ap (λ s. range_with_len s b) (let e : start + 0 ≡ start = omega arith in e)
+    ∙ ap (range_with_len start) (let e : b ≡ 0 + b = omega arith in e)
+range_append start (suc a) b =
+    ap (λ s. start ∷ (range_with_len (start + 1) a ++ range_with_len s b)) (let e : start + suc a ≡ start + 1 + a = omega arith in e)
+    ∙ (ap (λ xs. start ∷ xs) (range_append (start + 1) a b)
+    ∙ ap (range_with_len start) (let e : suc (a + b) ≡ suc a + b = omega arith in e))
+
+pub equal_pairs : (p q : ℕ × ℕ) → is_eq (ordering_then (nat_cmp p.0 q.0) (nat_cmp p.1 q.1)) ≡ true → (p.0 ≡ q.0) × (p.1 ≡ q.1)
+equal_pairs p q h = by (nat_cmp p.0 q.0) refl h where
+  by : (o : Ordering) → nat_cmp p.0 q.0 ≡ o → is_eq (ordering_then o (nat_cmp p.1 q.1)) ≡ true →
+      (p.0 ≡ q.0) × (p.1 ≡ q.1)
+  by Less e h = cc
+  by Equal e h = (equal_numbers p.0 q.0 (ap is_eq e), equal_numbers p.1 q.1 h)
+  by Greater e h = cc
+
+pub same_pair : (p : ℕ × ℕ) → is_eq (ordering_then (nat_cmp p.0 p.0) (nat_cmp p.1 p.1)) ≡ true
+same_pair p = ap (λ o. is_eq (ordering_then o (nat_cmp p.1 p.1))) (nat_cmp-same p.0) ∙ ap is_eq (nat_cmp-same p.1)
+
+pub range_distinct : (a n : ℕ) → AllPairs (λ i j. i ≢ j) (range_with_len a n)
+range_distinct a n i j d before within same =
+    omega (arith, before, within, length-range_with_len a n, same, get_or-range_with_len a n i d, get_or-range_with_len a n j d)

@@ -21,3 +21,6 @@ then_some f (Some x) y h = (x, refl, h)
 pub cond-none : (b : Bool) (o : Option ℕ) → cond b (Some 0) o ≡ None → (b ≡ false) × (o ≡ None)
 cond-none true o h = cc
 cond-none false o h = (refl, h)
+
+pub none_is_some : {X : Type 0} {x : X} → None ≡ Some x → ⊥
+none_is_some is = cc

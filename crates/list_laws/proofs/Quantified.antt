@@ -1,6 +1,6 @@
 -- Lemmas on what holds of all elements.
-use Rattle.std.proofs.Common.{◌≡◌, ◌≢◌, ℕ, inl, inr, List, slice_get, Some, sym, ◌∙◌, arith, ◌++◌, ◌+◌, length, length-append}
-use Rattle.std.specs.List.{AllPairs}
+use Rattle.std.proofs.Common.{◌≡◌, ◌≢◌, ℕ, inl, inr, List, slice_get, Some, sym, ◌∙◌, arith, ◌++◌, ◌+◌, length, length-append, [], ◌∷◌}
+use Rattle.std.specs.List.{AllPairs, AllByRecursion}
 use Rattle.std.proofs.lemmas.Bool.{cases_lt}
 use Rattle.std.proofs.lemmas.Option.{slice_get_within, get_or_from_slice_get}
 use Rattle.std.proofs.lemmas.List.{get_or-append-add}
@@ -29,3 +29,9 @@ right-distinct xs ys once i j d less below e =
     let long = length-append xs ys in
     once (length xs + i) (length xs + j) d (omega (arith, less)) (omega (arith, below, long))
     (get_or-append-add xs ys i d ∙ e ∙ sym (get_or-append-add xs ys j d))
+
+-- all of a list, by recursion
+pub rec_append : {X : Type 0} (P : X → Type 0) (xs ys : List X) → AllByRecursion P xs → AllByRecursion P ys →
+    AllByRecursion P (xs ++ ys)
+rec_append P [] ys one other = other
+rec_append P (x ∷ xs) ys one other = (one.0, rec_append P xs ys one.1 other)

@@ -1,5 +1,5 @@
 -- Lemmas on lists and their lengths.
-use Rattle.std.proofs.Common.{List, [], ◌∷◌, ◌++◌, ◌≡◌, ℕ, zero, suc, ◌≤◌, drop, length, refl, arith, ◌+◌, take, length-drop, ◌<◌, Bool, true, false, cond, not, nat_lt, Some, None, ◌∙◌, ap, map, Option}
+use Rattle.std.proofs.Common.{List, [], ◌∷◌, ◌++◌, ◌≡◌, ℕ, zero, suc, ◌≤◌, drop, length, refl, arith, ◌+◌, take, length-drop, ◌<◌, Bool, true, false, cond, not, nat_lt, Some, None, ◌∙◌, ap, map, Option, slice_get}
 use Rattle.std.specs.List.{AllByRecursion, position_or_len, position, sum_by}
 use Rattle.std.proofs.lemmas.List.{take-append-le, drop-append-le, length-take}
 use Rattle.std.specs.Option.{unwrap_or}
@@ -80,3 +80,21 @@ mapped_long h (x ∷ xs) = let e = mapped_long h xs in omega (arith, e)
 pub none-gone : {X : Type 0} (b : Bool) (o : Option (List X)) (c : List X) → cond b None o ≡ Some c → o ≡ Some c
 none-gone true o c h = cc
 none-gone false o c h = h
+
+pub before_below : {X : Type 0} (lists : List (List X)) (j i : ℕ) (list : List X) → slice_get lists j ≡ Some list →
+    i < length list → sum_by length (take j lists) + i < sum_by length lists
+before_below [] j i list h k = cc
+before_below (c ∷ cs) zero i list h k =
+    let same : c ≡ list = cc in
+    let long : length c ≡ length list = ap length same in
+    omega (arith, long, k, sum_by-cons length c cs, sum-none (c ∷ cs))
+before_below (c ∷ cs) (suc j) i list h k =
+    omega (arith, before_below cs j i list h k, sum_by-cons length c cs, sum-taken c cs j)
+
+pub take_past : {X : Type 0} (n : ℕ) (xs : List X) → length xs ≤ n → take n xs ≡ xs
+take_past n [] h = take-nil n where
+  take-nil : {X : Type 0} (n : ℕ) → take {A = X} n [] ≡ []
+  take-nil zero = refl
+  take-nil (suc n) = refl
+take_past zero (x ∷ xs) h = absurd (omega (arith, h))
+take_past (suc n) (x ∷ xs) h = let most : length xs ≤ n = omega (arith, h) in ap (λ ys. x ∷ ys) (take_past n xs most)

@@ -1,6 +1,6 @@
 -- Lemmas on truth values.
-use Rattle.std.proofs.Common.{◌≡◌, Bool, true, false, not, ◌||◌, ◌&&◌, refl, true≢false, sym, ◌∙◌, ap, ℕ, ◌==◌, cond, nat_lt, ◌≢◌, zero, suc, ◌≤◌, arith}
-use Rattle.std.proofs.lemmas.Bool.{false≢true, eqb-true, eq-eqb}
+use Rattle.std.proofs.Common.{◌≡◌, Bool, true, false, not, ◌||◌, ◌&&◌, refl, true≢false, sym, ◌∙◌, ap, ℕ, ◌==◌, cond, nat_lt, ◌≢◌, zero, suc, ◌≤◌, arith, inl, inr, []}
+use Rattle.std.proofs.lemmas.Bool.{false≢true, eqb-true, eq-eqb, cases_eq, ne_eqb}
 use Rattle.std.specs.Ordering.{nat_cmp, is_eq}
 use Rattle.std.specs.declared.cmp.Ordering.TheVariants.{Less, Equal, Greater}
 
@@ -97,3 +97,18 @@ and-false false = refl
 pub or_right : (a b : Bool) → b ≡ true → (a || b) ≡ true
 or_right true b h = refl
 or_right false b h = h
+
+pub same_test : (a b c d : ℕ) → (c ≡ d → a ≡ b) → (a ≡ b → c ≡ d) → (a == b) ≡ (c == d)
+same_test a b c d to from =
+    elim (cases_eq c d) [
+      | inl same ↦ eq-eqb a b (to same) ∙ sym (eq-eqb c d same)
+      | inr other ↦ ne_eqb a b (λ e. other (from e)) ∙ sym (ne_eqb c d other)
+    ]
+
+pub or_second : (a b : Bool) → (a || b) ≡ false → b ≡ false
+or_second false b h = h
+or_second true b h = cc
+
+pub or_assoc_left : (a b c : Bool) → ((a || b) || c) ≡ (a || (b || c))
+or_assoc_left false b c = refl
+or_assoc_left true b c = refl

@@ -22,7 +22,7 @@ use Rattle.padoa_definitions.specs.Ruling.{AreFirstCopies, signed_literal, row_c
 use Rattle.padoa_definitions.specs.Seeing.{AreCopiedPlaces}
 use Rattle.padoa_definitions.specs.declared.copies.MatrixCopy.{MatrixCopy}
 use Rattle.padoa_definitions.proofs.KeptPlaces.{bit_at, copied_there}
-use Rattle.padoa_definitions.proofs.GivenClauses.{universals_distinct}
+use Rattle.definition_order.proofs.Firsts.{universals_apart}
 
 -- the copy of the existential, which is true where the bit is false
 abbrev pub IsOwn : List Entry → Existential → Bool → Literal → Type 0
@@ -106,7 +106,7 @@ module _ (f : Dqbf) (lawful : HasLawfulPrefix f) (es : List Entry) (y : Existent
       (slice_get-get_or lits p (positive 0) (omega (arith, lt, long))) in
       signed_name es (get_or lits p (positive 0)) (CopyOf 1 x) (get_or row p false) is
       ∙ ap (λ b. Some (named_literal (CopyOf 1 x) (not b))) (sym
-      (bit_at f.universals row p x (universals_distinct f lawful) at))
+      (bit_at f.universals row p x (universals_apart f lawful) at))
 
   pub are_asked : AreAsked f es y row bit (own ∷ row_copies copy row places)
   are_asked = record {

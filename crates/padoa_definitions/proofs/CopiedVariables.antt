@@ -2,7 +2,6 @@
 use Rattle.std.proofs.Common.{◌≡◌, ℕ, zero, suc, ◌+◌, ◌<◌, true, false, List, [], ◌∷◌, ◌++◌, map, length, take, get_or, slice_get, Option, Some, None, refl, sym, ◌∙◌, ap, subst, arith}
 use Rattle.std.specs.Option.{option_map}
 use Rattle.std.proofs.lemmas.List.{take_more, map-append}
-use Rattle.std.proofs.lemmas.Option.{slice_get-get_or}
 use Rattle.list_laws.proofs.Elements.{mapped_at}
 use Rattle.dq_lits.specs.Literal.{Literal, positive, negative, variable_of, is_negative, opposite}
 use Rattle.hint_log.specs.Entries.{Entry, name_of}
@@ -42,9 +41,6 @@ copy_at es side xs lits i v l are at is =
     named_at es lits (map (λ w. named_literal (CopyOf side w) false) xs) i l
     (named_literal (CopyOf side v) false) are is (mapped_at
     (λ w. named_literal (CopyOf side w) false) xs i v at)
-
-pub found_at : (xs : List Literal) (i : ℕ) (x : Literal) → i < length xs → x ≡ get_or xs i x → slice_get xs i ≡ Some x
-found_at xs i x lt is = slice_get-get_or xs i x lt ∙ ap Some (sym is)
 
 pub opposite_name : (es : List Entry) (l : Literal) (n : Name) → name_literal es l ≡ Some (named_literal n false) →
     name_literal es (opposite l) ≡ Some (named_literal n true)

@@ -8,7 +8,7 @@ use Rattle.list_laws.proofs.Elements.{kept_there}
 use Rattle.list_laws.proofs.Members.{element_at, place_of}
 use Rattle.dq_lits.specs.Literal.{Literal}
 use Rattle.dq_lits.specs.Formula.{Dqbf, Existential, declared, existential_of}
-use Rattle.dq_lits.proofs.FormulaVariables.{few_declared, find_sound, seen_as}
+use Rattle.dq_lits.proofs.FormulaVariables.{find_sound, seen_as}
 use Rattle.definition_order.specs.Order.{MayRead, ArePlacesOfShared}
 use Rattle.dq_formula.specs.Prefix.{IsLawful, existential_variables}
 use Rattle.hint_log.specs.Entries.{Entry}
@@ -24,13 +24,6 @@ use Rattle.definition_order.proofs.Declared.{sees_universals, some_existential}
 pub declared_long : (f : Dqbf) → length (declared f) ≡ length f.universals + length f.existentials
 declared_long f = length-append f.universals (existential_variables f) ∙ ap (λ n. length f.universals + n)
     (length-map f.existentials (λ y. y.variable))
-
-pub few_places : (f : Dqbf) → IsLawful f → length f.universals + length f.existentials ≤ 1000001
-few_places f lawful =
-    let few = few_declared f lawful.prefix in
-    let long = declared_long f in
-    let most = lawful.few_variables in
-    omega (arith, few, long, most)
 
 pub at_second : {X : Type 0} (xs ys : List X) (p : ℕ) (y : X) → slice_get ys p ≡ Some y →
     slice_get (xs ++ ys) (length xs + p) ≡ Some y

@@ -34,10 +34,10 @@ use Rattle.padoa_definitions.specs.declared.copies.MatrixCopy.{MatrixCopy}
 use Rattle.padoa_definitions.specs.declared.defining.Pair.{Pair}
 use Rattle.padoa_definitions.specs.declared.padoa.Padoa.{Padoa}
 use Rattle.padoa_definitions.proofs.CopiedVariables.{named_length}
-use Rattle.padoa_definitions.proofs.GivenClauses.{universals_distinct}
 use Rattle.padoa_definitions.proofs.KeptPlaces.{bit_at, copied_there}
 use Rattle.padoa_definitions.proofs.LinkedInterpolants.{signed, literal_signed}
 use Rattle.padoa_definitions.proofs.DeclaredPlaces.{copies_declared}
+use Rattle.definition_order.proofs.Firsts.{universals_apart}
 
 -- a given clause has an id
 pub given_id : (es : List Entry) (o : Origin) (c : List Literal) → Contains es (Given o c) →
@@ -148,7 +148,7 @@ module _ (f : Dqbf) (es : List Entry) (values : Assignment) (formula : IsWellFor
         let l = there_at copy.universals.items k (omega (arith, lt, long)) in
         let l_named = named_variable es l.0 (CopyOf side v) false (name_of es (variable_of l.0)) refl
         (is.universals.named k v l.0 flag there l.1) in
-        bit_at us row k v (universals_distinct f formula.prefix) there ∙ row_is.copied k l.0 flag l.1
+        bit_at us row k v (universals_apart f formula.prefix) there ∙ row_is.copied k l.0 flag l.1
         ∙ ap values (unique (variable_of l.0) w (CopyOf side v) l_named.0 named)
 
     -- a declared variable has its copy's value

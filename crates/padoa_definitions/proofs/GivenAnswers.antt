@@ -27,11 +27,11 @@ use Rattle.padoa_definitions.specs.Seeing.{AreCopiedPlaces}
 use Rattle.padoa_definitions.specs.declared.defining.Pair.{Pair}
 use Rattle.padoa_definitions.specs.declared.guessing.Guess.{Guess}
 use Rattle.padoa_definitions.specs.declared.guessing.Guess.TheVariants.{Node as NodeFound, Pair as PairFound}
-use Rattle.padoa_definitions.proofs.GivenClauses.{universals_distinct}
 use Rattle.padoa_definitions.proofs.KeptPlaces.{all_flagged, bit_at, copied_within, declared_cases, declared_copies, flag_past, has_copies_sound, has_no_copies, in_filter, kept_consistent, of_filter}
 use Rattle.padoa_definitions.proofs.MetConditions.{existential_has_copies}
 use Rattle.padoa_definitions.proofs.FreePairs.{all_parts, universal_value}
 use Rattle.padoa_definitions.proofs.SearchAnswers.{existential_declared, found_variable}
+use Rattle.definition_order.proofs.Firsts.{universals_apart}
 
 -- whether a condition is kept
 abbrev kept_test : Dqbf → List Bool → Literal → Bool
@@ -58,7 +58,7 @@ posed_of f lawful flags set v conditions kept places as_many is are bound consis
           (of_filter (kept_test f flags) conditions (get_or (filter (kept_test f flags) conditions) k d)
           (Contains-get_or (filter (kept_test f flags) conditions) k d lt)).0;
       are_copied = λ k d lt. has_copies_sound f flags as_many (variable_of (get_or (filter (kept_test f flags) conditions) k d))
-          (universals_distinct f lawful.prefix) (of_filter (kept_test f flags) conditions (get_or (filter (kept_test f flags) conditions) k d)
+          (universals_apart f lawful.prefix) (of_filter (kept_test f flags) conditions (get_or (filter (kept_test f flags) conditions) k d)
           (Contains-get_or (filter (kept_test f flags) conditions) k d lt)).1;
       consistent = kept_consistent (kept_test f flags) conditions consistent;
       others = λ k d lt. All-contains (λ l. variable_of l ≢ v) conditions _ others
@@ -96,7 +96,7 @@ module _ (f : Dqbf) (lawful : IsLawful f) (flags others : List Bool) (places : L
       round_assignment f row values x ≡ bit_of others k
   value_of_rest row values rest k x at_k none =
       universal_value f row values x (k, slice_get_within f.universals k x at_k, get_or_from_slice_get f.universals k x x at_k)
-      ∙ bit_at f.universals row k x (universals_distinct f lawful.prefix) at_k ∙ rest k none
+      ∙ bit_at f.universals row k x (universals_apart f lawful.prefix) at_k ∙ rest k none
 
   pub agree_everywhere : (set : ℕ → Type 0) → AreCopiedPlaces (declared f) set flags places → (x : ℕ) → set x →
       round_assignment f pair.row1 pair.values1 x ≡ round_assignment f pair.row2 pair.values2 x

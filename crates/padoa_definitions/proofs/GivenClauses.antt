@@ -1,12 +1,10 @@
 -- Clauses that are given to a group, and how steps compose.
 use Rattle.std.proofs.Common.{◌≡◌, ◌≢◌, ℕ, ◌≤◌, ◌==◌, Bool, true, false, inl, inr, List, [], ◌∷◌, map, length, Option, Some, None, IsSome, refl, sym, ◌∙◌, ap, subst, arith}
-use Rattle.std.specs.List.{All, AllPairs, Contains}
-use Rattle.std.proofs.lemmas.List.{length-append, get_or_append_left}
+use Rattle.std.specs.List.{All, Contains}
 use Rattle.std.proofs.lemmas.List.Elements.{All-head, All-cons}
 use Rattle.list_laws.proofs.Members.{contains_cases}
 use Rattle.dq_lits.specs.Literal.{Literal, negative, variable_of, is_negative}
-use Rattle.dq_lits.specs.Formula.{Dqbf, HasLawfulPrefix}
-use Rattle.dq_formula.specs.Prefix.{existential_variables}
+use Rattle.dq_lits.specs.Formula.{Dqbf}
 use Rattle.hint_log.specs.Conditions.{AreLogged}
 use Rattle.hint_log.specs.Entries.{Entry, Named, Given, Learned, Answer, Round, Begun, ProofLog, with_entry, name_of}
 use Rattle.hint_log.specs.Growth.{Each}
@@ -21,18 +19,9 @@ use Rattle.hint_log.proofs.NamedEntries.{none_below}
 use Rattle.log_laws.specs.Engines.{circuits, copies, origin_engine, IsAddedBy}
 use Rattle.log_laws.proofs.Found.{named_variable}
 use Rattle.log_laws.proofs.LargerLogs.{grown_by, grown_by_none, grown_then}
-use Rattle.log_laws.proofs.Kept.{NamesStay}
 use Rattle.oracle.specs.Calls.{IsPlain}
 use Rattle.padoa_definitions.specs.Copies.{IsGroupGiven, copy_names}
 use Rattle.padoa_definitions.specs.Growing.{GrewAnew, GrewIn, HasFewFaults, Gives}
-
--- growth composes
-pub unnamed_back : (old new : List Entry) → NamesStay old new → (v : ℕ) → name_of new v ≡ None → name_of old v ≡ None
-unnamed_back old new stay v none = by (name_of old v) refl
-  where
-    by : (o : Option Name) → name_of old v ≡ o → name_of old v ≡ None
-    by None e = e
-    by (Some n) e = let h : None ≡ Some n = sym none ∙ stay v n e in cc
 
 pub group_anew : (f : Dqbf) (old new : ProofLog) (g : ℕ) → name_of old.entries g ≡ None →
     new ≡ with_entry old (Named g (Selector g)) → GrewAnew f old new
@@ -155,12 +144,3 @@ copies_plain es side (l ∷ clause) (k ∷ ks) are =
     let later : map (name_literal es) ks ≡ map Some (copy_names side clause) = cc in
     All-cons (IsPlain es) k ks (plain_copy es k side (variable_of l) (is_negative l) here)
     (copies_plain es side clause ks later)
-
-pub universals_distinct : (f : Dqbf) → HasLawfulPrefix f → AllPairs (λ v w. v ≢ w) f.universals
-universals_distinct f lawful i j d before within =
-    let ys = existential_variables f in
-    let whole = length-append f.universals ys in
-    λ same.
-    lawful.declared_once i j d before (omega (arith, within, whole))
-    (get_or_append_left f.universals ys d i (omega (arith, before, within)) ∙ same ∙ sym
-    (get_or_append_left f.universals ys d j within))

@@ -16,7 +16,7 @@ use Rattle.padoa_definitions.specs.Copies.{all_groups, group_variable}
 use Rattle.padoa_definitions.specs.Leaving.{CopiesAreGrouped, CopiesAreStored, ActiveGroupsAreStored}
 use Rattle.padoa_definitions.specs.Store.{StoreState, store_of, HasGroup, Slot, of_frame, of_link, both_groups, store_groups, IsStoredCopy, IsStoreEntry}
 use Rattle.padoa_definitions.proofs.StandingStores.{has_number, link_number}
-use Rattle.padoa_definitions.proofs.KeptCopies.{in_one_group}
+use Rattle.log_laws.proofs.Kept.{in_one_group}
 
 -- the slot of a copy that was given
 pub record IsInSlot (numbered : List ℕ) (s : StoreState) (side j : ℕ) (c : List Literal) : Type 0 where

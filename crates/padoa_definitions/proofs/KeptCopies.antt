@@ -4,7 +4,7 @@ use Rattle.std.specs.List.{All, Contains}
 use Rattle.std.proofs.lemmas.List.Elements.{All-head, All-tail, All-cons, All-nil, Contains-append_left, Contains-append_right, All-contains, Contains-append_cases}
 use Rattle.std.proofs.lemmas.Option.{slice_get_within, get_or_from_slice_get}
 use Rattle.list_laws.proofs.Members.{contains_later}
-use Rattle.dq_lits.specs.Literal.{Literal, negative, variable_of}
+use Rattle.dq_lits.specs.Literal.{Literal, negative}
 use Rattle.dq_lits.specs.Formula.{Dqbf}
 use Rattle.hint_log.specs.Entries.{Entry, Named, Given, Learned, Answer, Round, Begun, ProofLog, name_of}
 use Rattle.hint_log.specs.Growth.{Each, Grew}
@@ -14,13 +14,14 @@ use Rattle.hint_log.specs.declared.names.Name.TheVariants.{Selector, Copy as Cop
 use Rattle.hint_log.specs.declared.origins.Origin.{Origin}
 use Rattle.log_laws.specs.Engines.{Engine, IsInGroup, IsAddedBy}
 use Rattle.log_laws.proofs.LargerLogs.{each_grown, name_kept}
-use Rattle.log_laws.proofs.Kept.{NamesStay, named_stay, literal_stays}
+use Rattle.log_laws.proofs.Kept.{NamesStay, named_stay, literal_stays, in_one_group}
 use Rattle.oracle.specs.Calls.{IsMade}
 use Rattle.oracle.specs.declared.groups.Group.{Group}
 use Rattle.padoa_definitions.specs.Copies.{IsGroupGiven, IsSideGiven, IsGivenIn, AreCopies, IsMatrixCopy, IsLink, IsPadoa, all_groups, copy_names, group_variable, groups_of, IsCopyGiven}
 use Rattle.padoa_definitions.specs.declared.copies.MatrixCopy.{MatrixCopy}
 use Rattle.padoa_definitions.specs.declared.padoa.Padoa.{Padoa}
 use Rattle.padoa_definitions.specs.Standing.{EnginesLeaveCopies, RoundsLeaveCopies}
+use Rattle.oracle.proofs.MadeGroups.{made_stays}
 
 -- names and clauses stay, and groups of these get no other clauses
 pub record Keeps (f : Dqbf) (apart : ℕ → Type 0) (old new : List Entry) : Type 0 where
@@ -32,9 +33,6 @@ pub record Keeps (f : Dqbf) (apart : ℕ → Type 0) (old new : List Entry) : Ty
 
 abbrev pub IsNamed : List Entry → ℕ → Type 0
 IsNamed entries v = (n : Name) × (name_of entries v ≡ Some n)
-
-pub in_one_group : (g h : ℕ) (c : List Literal) → IsInGroup g c → IsInGroup h c → g ≡ h
-in_one_group g h c a b = let e : negative g ∷ a.0 ≡ negative h ∷ b.0 = sym a.1 ∙ b.1 in cc
 
 module _ (f : Dqbf) (engine : Engine) (group : ℕ) (silent : Bool) (old : List Entry) where
   -- no clause is given to another group
@@ -110,13 +108,6 @@ given_stays f apart old new keeps group origin names given =
           named_stay old new keeps.names given.rest names given.named;
     }
 
-pub made_stays : (old new : List Entry) → NamesStay old new → (g : Group) → IsMade old g → IsMade new g
-made_stays old new stay g made = record {
-  positive = made.positive;
-  named =
-      stay (variable_of g.selector) (Selector (variable_of g.selector)) made.named;
-}
-
 pub copies_stay : (old new : List Entry) → NamesStay old new → (side : ℕ) (flags : List Bool) (xs : List ℕ)
     (lits : List Literal) → AreCopies old side flags xs lits → AreCopies new side flags xs lits
 copies_stay old new stay side flags xs lits are = record {
@@ -130,7 +121,7 @@ pub matrix_stays : (f : Dqbf) (apart : ℕ → Type 0) (old new : List Entry) �
     ((g : Group) → Contains copy.groups.items g → apart (group_variable g)) →
     IsMatrixCopy f side flags copy old → IsMatrixCopy f side flags copy new
 matrix_stays f apart old new keeps side flags copy are_apart m = record {
-  made = λ k d lt. made_stays old new keeps.names (get_or copy.groups.items k d) (m.made k d lt);
+  made = λ k d lt. made_stays old new (get_or copy.groups.items k d) keeps.names (m.made k d lt);
   universals = copies_stay old new keeps.names side flags f.universals copy.universals.items m.universals;
   existentials = named_stay old new keeps.names copy.existentials.items _ m.existentials;
   own = λ g among. keeps.sides side (group_variable g) (are_apart g among) (m.own g among);
@@ -148,7 +139,7 @@ matrix_stays f apart old new keeps side flags copy are_apart m = record {
 pub link_stays : (f : Dqbf) (apart : ℕ → Type 0) (old new : List Entry) → Keeps f apart old new → (x : ℕ) (g : Group) →
     apart (group_variable g) → IsLink f x g old → IsLink f x g new
 link_stays f apart old new keeps x g is_apart l = record {
-  made = made_stays old new keeps.names g l.made;
+  made = made_stays old new g keeps.names l.made;
   own = keeps.groups _ (group_variable g) is_apart l.own;
   whole = λ i is. given_stays f apart old new keeps (group_variable g) _ _ (l.whole i is);
 }
@@ -189,7 +180,7 @@ padoa_stays f apart old new keeps p all is =
           (λ g among. each g (Contains-append_right p.first.groups.items of_second g
           (Contains-append_left p.second.groups.items p.links.items g among))) is.second;
       as_many = is.as_many;
-      links_made = λ k d lt. made_stays old new keeps.names (get_or p.links.items k d) (is.links_made k d lt);
+      links_made = λ k d lt. made_stays old new (get_or p.links.items k d) keeps.names (is.links_made k d lt);
       links = λ i x g flag x_is g_is. link_stays f apart old new keeps x g
           (each g (Contains-append_right p.first.groups.items of_second g
           (Contains-append_right p.second.groups.items p.links.items g (group_element p.links.items i g g_is))))

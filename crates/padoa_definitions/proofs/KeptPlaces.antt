@@ -12,7 +12,7 @@ use Rattle.dq_lits.specs.Row.{assignment_of}
 use Rattle.std.proofs.lemmas.List.{length-append, get_or_append_left, get_or-append-add}
 use Rattle.dq_lits.specs.Literal.{Literal, positive, negative, variable_of, is_negative, opposite, same_literal}
 use Rattle.dq_lits.proofs.Truth.{same_literal-sound}
-use Rattle.dq_lits.proofs.HeldLiterals.{any_gives, holds_here}
+use Rattle.dq_lits.proofs.HeldLiterals.{any_gives, holds_here, holds_of_filter}
 use Rattle.dq_formula.specs.Prefix.{existential_variables}
 use Rattle.padoa_definitions.specs.Conditions.{has_copies}
 use Rattle.padoa_definitions.specs.Copies.{IsCopied, is_copied_at}
@@ -186,19 +186,6 @@ signs_agree ls a b consistent a_in b_in same = elim (same_bit (is_negative a) (i
   | inr equal ↦ equal
 ]
 
-holds_of_filter : (p : Literal → Bool) (ls : List Literal) (l : Literal) → holds (filter p ls) l ≡ true →
-    holds ls l ≡ true
-holds_of_filter p [] l h = h
-holds_of_filter p (m ∷ ls) l h = by (p m) h (holds_of_filter p ls l)
-  where
-    by : (b : Bool) → holds (cond b (m ∷ filter p ls) (filter p ls)) l ≡ true →
-        (holds (filter p ls) l ≡ true → holds ls l ≡ true) → holds (m ∷ ls) l ≡ true
-    by true h later = elim (or_cases (same_literal l m) (holds (filter p ls) l) h) [
-      | inl here ↦ or_left (same_literal l m) (holds ls l) here
-      | inr behind ↦ or_right (same_literal l m) (holds ls l) (later behind)
-    ]
-    by false h later = or_right (same_literal l m) (holds ls l) (later h)
-
 tautology_of : (small large whole : List Literal) → ((l : Literal) → holds whole l ≡ true → holds large l ≡ true) →
     ((l : Literal) → holds small l ≡ true → holds large l ≡ true) → list_any (λ l. holds whole (opposite l)) small ≡ true →
     (l : Literal) × (holds large l ≡ true) × (holds large (opposite l) ≡ true)
@@ -210,7 +197,8 @@ pub kept_consistent : (p : Literal → Bool) (ls : List Literal) → is_tautolog
     is_tautology (filter p ls) ≡ false
 kept_consistent p ls consistent = elim (cases_Bool (is_tautology (filter p ls))) [
   | inl some ↦ (
-      let w = tautology_of (filter p ls) ls (filter p ls) (holds_of_filter p ls) (holds_of_filter p ls) some in
+      let w = tautology_of (filter p ls) ls (filter p ls) (λ l. holds_of_filter l p ls)
+      (λ l. holds_of_filter l p ls) some in
       absurd (true≢false (sym (held_tautology ls w.0 w.1 w.2) ∙ consistent)))
   | inr none ↦ none
 ]

@@ -19,9 +19,9 @@ use Rattle.padoa_definitions.specs.Copies.{IsGivenIn, group_variable}
 use Rattle.padoa_definitions.specs.Following.{AreOldOrNew, IsFollowing, IsStanding}
 use Rattle.padoa_definitions.specs.Store.{StoreState, parts_at, side_copies, HasGroup, Slot, of_frame, of_link, both_groups, store_groups, HasParts, AreStoreGroups, IsPartialStore}
 use Rattle.padoa_definitions.proofs.StandingStores.{AreNewGroups, kept_by, given_in_stays, parts_stay}
-use Rattle.padoa_definitions.proofs.KeptCopies.{made_stays}
 use Rattle.padoa_definitions.proofs.PartSteps.{raised, held_before, raised_store, raised_grown}
 use Rattle.padoa_definitions.proofs.StoreSteps.{set_cases, set_there, following_entry}
+use Rattle.oracle.proofs.MadeGroups.{made_stays}
 
 -- a group that replaces another one
 set_number : (gs : List Group) (place : ℕ) (g : Group) (n : ℕ) → Contains (map group_variable (set gs place g)) n →
@@ -129,12 +129,12 @@ module _ (all : Dqbf) (numbered : List ℕ) (f : Dqbf) (s : StoreState) (log : P
     where
       made : (slot : Slot) (m : Group) → ((slot ≡ of_link place) × (g ≡ m)) ⊎ HasGroup s slot m → IsMade (e ∷ es) m
       made slot m (inl (here, same)) = subst (IsMade (e ∷ es)) same made_here
-      made slot m (inr old) = made_stays es (e ∷ es) names m (h.store.groups.made slot m old)
+      made slot m (inr old) = made_stays es (e ∷ es) m names (h.store.groups.made slot m old)
 
       link_made : (k : ℕ) (m : Group) → ((k ≡ place) × (g ≡ m)) ⊎ ((k ≢ place) × (slice_get s.links k ≡ Some m)) →
           IsMade (e ∷ es) m
       link_made k m (inl (here, same)) = subst (IsMade (e ∷ es)) same made_here
-      link_made k m (inr (apart, old)) = made_stays es (e ∷ es) names m (h.store.groups.links k m old)
+      link_made k m (inr (apart, old)) = made_stays es (e ∷ es) m names (h.store.groups.links k m old)
 
       fresh : (slot : Slot) (m : Group) → HasGroup s slot m → group_variable m ≡ group_variable g → ⊥
       fresh slot m has same =

@@ -1,5 +1,5 @@
 -- Values of the first copy, as a sample in which an existential has the other bit.
-use Rattle.std.proofs.Common.{◌≡◌, ℕ, suc, Bool, true, false, not, inl, inr, List, [], ◌∷◌, map, Some, refl, sym, ◌∙◌, ap, arith}
+use Rattle.std.proofs.Common.{◌≡◌, ℕ, suc, Bool, true, false, not, inl, inr, List, [], ◌∷◌, map, Some, refl, sym, ◌∙◌, ap}
 use Rattle.std.specs.List.{All, Contains}
 use Rattle.list_laws.proofs.Truths.{not-not}
 use Rattle.dq_lits.specs.Derivation.{holds}
@@ -20,17 +20,10 @@ use Rattle.padoa_definitions.specs.Forcing.{IsLoose}
 use Rattle.padoa_definitions.specs.declared.padoa.Padoa.{Padoa}
 use Rattle.padoa_definitions.proofs.AskedLiterals.{AreAsked, IsSeenAsked}
 use Rattle.padoa_definitions.proofs.FreePairs.{all_there, groups_on, sample, copied_value, universal_bit}
-use Rattle.padoa_definitions.proofs.GivenClauses.{universals_distinct}
 use Rattle.padoa_definitions.proofs.KeptPlaces.{bit_at}
 use Rattle.padoa_definitions.proofs.LinkedInterpolants.{signed, literal_signed}
-
-same_map : (m n : Assignment) (xs : List ℕ) → ((x : ℕ) → Contains xs x → m x ≡ n x) → map m xs ≡ map n xs
-same_map m n [] each = refl
-same_map m n (x ∷ xs) each = ap (λ b. b ∷ map m xs) (each x (0, omega arith, refl)) ∙ ap (λ bs. n x ∷ bs)
-    (same_map m n xs (λ z among. each z (later z among)))
-  where
-    later : (z : ℕ) → Contains xs z → Contains (x ∷ xs) z
-    later z (k, lt, at) = (suc k, omega (arith, lt), at)
+use Rattle.definition_order.proofs.Firsts.{universals_apart}
+use Rattle.list_laws.proofs.Elements.{map_agree}
 
 -- a signed bit that is true
 signed_true : (s b : Bool) → signed s b ≡ true → b ≡ not s
@@ -77,7 +70,7 @@ module _ (f : Dqbf) (y : Existential) (p : Padoa) (row : List Bool) (bit : Bool)
         ∙ v.1 ∙ not-not (row_assignment f row x))
     | inr none ↦ (
         let us = f.universals in
-        let distinct = universals_distinct f formula.prefix in
+        let distinct = universals_apart f formula.prefix in
         bit_at us other none.0 x distinct none.1 ∙ other_is.rest none.0 none.2
         ∙ sym (bit_at us row none.0 x distinct none.1))
   ]
@@ -86,7 +79,7 @@ module _ (f : Dqbf) (y : Existential) (p : Padoa) (row : List Bool) (bit : Bool)
   loose = record {
     sample = sample f es values formula unique model.clauses 1 p.copied.items p.first padoa.first padoa.covered row
         other bits other_is bits_are first_on;
-    agree = same_map (row_assignment f other) (row_assignment f row) y.sees agree_at;
+    agree = map_agree (row_assignment f other) (row_assignment f row) y.sees agree_at;
     differs =
         let v = value_of are.own.0 y.variable bit are.own.1 are.own.2 in
         copied_value f es values formula unique model.clauses 1 p.copied.items p.first padoa.first padoa.covered row

@@ -16,9 +16,9 @@ use Rattle.dq_formula.specs.Prefix.{IsLawful}
 use Rattle.definition_order.proofs.Declared.{some_existential}
 use Rattle.padoa_definitions.specs.Conditions.{IsBitSet, MeetsLiterals}
 use Rattle.padoa_definitions.specs.Copies.{IsCopied}
-use Rattle.padoa_definitions.proofs.GivenClauses.{universals_distinct}
 use Rattle.padoa_definitions.proofs.KeptPlaces.{existential_copied, signs_agree}
 use Rattle.padoa_definitions.proofs.SearchAnswers.{found_variable, mapped_existential}
+use Rattle.definition_order.proofs.Firsts.{universals_apart}
 
 pub existential_has_copies : (f : Dqbf) → IsLawful f → (flags : List Bool) (v : ℕ) →
     length flags ≡ length f.universals → IsSome (existential_of f v) → IsCopied f flags v
@@ -66,7 +66,7 @@ pub bit_set : (f : Dqbf) → IsLawful f → (l : Literal) (i : ℕ) (bit : Bool)
 bit_set f lawful l i bit old new long at bit_is is = subst (IsBitSet f l old) (sym is) (record {
   long = length-set old i bit;
   is_true = λ k there.
-      let same = one_place f.universals i k (variable_of l) (universals_distinct f lawful.prefix) at there in
+      let same = one_place f.universals i k (variable_of l) (universals_apart f lawful.prefix) at there in
       let within = slice_get_within f.universals i (variable_of l) at in
       ap (bit_of (set old i bit)) (sym same) ∙ get_or-set_same old i bit false (omega (arith, within, long)) ∙ bit_is;
   rest = λ k x there other. get_or-set_other old i k bit false (λ same. other_place k x there other (sym same));

@@ -21,8 +21,8 @@ use Rattle.padoa_definitions.specs.Copies.{IsGivenIn, group_variable}
 use Rattle.padoa_definitions.specs.Following.{AreOldOrNew, IsFollowing, IsStanding}
 use Rattle.padoa_definitions.specs.Store.{StoreState, parts_at, HasGroup, Slot, of_frame, of_link, both_groups, IsStoreEntry, HasParts, AreStoreGroups, SideCopies, copies_on, IsPartialStore, side_copies}
 use Rattle.padoa_definitions.proofs.StandingStores.{IsGrown, AreNewGroups, entries_kept, kept_by, given_in_stays, given_stays}
-use Rattle.padoa_definitions.proofs.KeptCopies.{made_stays}
 use Rattle.padoa_definitions.proofs.StoreSteps.{following_entry, set_cases}
+use Rattle.oracle.proofs.MadeGroups.{made_stays}
 
 -- lists of the same lengths
 abbrev pub HasSameLengths : SideCopies → SideCopies → Type 0
@@ -116,9 +116,8 @@ module _ (s : StoreState) (place n : ℕ) (first second : SideCopies) (links : L
         AreStoreGroups s es → AreStoreGroups raised (e ∷ es)
     raised_groups e es same no_link names h =
         let kept = kept_by e es names in record {
-          made = λ slot g has. made_stays es (e ∷ es) names g (h.made slot g (before slot g has));
-          links = λ k g is. made_stays es (e ∷ es) names g
-              (h.links k g (subst (λ gs. slice_get gs k ≡ Some g) same is));
+          made = λ slot g has. made_stays es (e ∷ es) g names (h.made slot g (before slot g has));
+          links = λ k g is. made_stays es (e ∷ es) g names (h.links k g (subst (λ gs. slice_get gs k ≡ Some g) same is));
           apart = λ a b g k has has' is. h.apart a b g k (before a g has) (before b k has') is;
         }
       where

@@ -28,7 +28,7 @@ use Rattle.std.proofs.lemmas.List.{length-map}
 use Rattle.padoa_definitions.proofs.KeptPlaces.{flag_past}
 use Rattle.padoa_definitions.proofs.DeclaredPlaces.{at_second}
 use Rattle.hint_log.specs.declared.names.Name.TheVariants.{Copy as CopyOf}
-use Rattle.padoa_definitions.proofs.KeptCopies.{in_one_group}
+use Rattle.log_laws.proofs.Kept.{in_one_group}
 
 -- the clauses of these frames, each of which was given on both sides
 pub record AreLiveClauses (all : Dqbf) (numbered : List ℕ) (s : StoreState) (frames : List ℕ)

@@ -13,7 +13,8 @@ use Rattle.log_laws.specs.Sessions.{IsAddedLive, EnginesLeaveSessions}
 use Rattle.log_laws.proofs.LargerLogs.{each_grown}
 use Rattle.padoa_definitions.specs.Copies.{IsGroupGiven, IsSideGiven, groups_of}
 use Rattle.padoa_definitions.specs.Leaving.{SessionsLeaveCopies}
-use Rattle.padoa_definitions.proofs.KeptCopies.{IsNamed, Keeps, padoa_stays, groups_named, in_one_group}
+use Rattle.padoa_definitions.proofs.KeptCopies.{IsNamed, Keeps, padoa_stays, groups_named}
+use Rattle.log_laws.proofs.Kept.{in_one_group}
 
 module _ (f any : Dqbf) (engine : Engine) (groups : List ℕ) (silent : Bool) (old : List Entry) where
   abbrev IsApart : ℕ → Type 0

@@ -12,15 +12,14 @@ use Rattle.hint_log.specs.declared.names.Name.{Name}
 use Rattle.hint_log.specs.declared.names.Name.TheVariants.{Selector, Pair, Input, And, Bad, Copy as CopyOf, Term}
 use Rattle.hint_log.specs.declared.origins.Origin.{Origin}
 use Rattle.hint_log.specs.declared.origins.Origin.TheVariants.{Instance, Gate, Fault, Copy, Link, TermGate, Differ}
-use Rattle.log_laws.specs.Engines.{Engine, copies, same_engine, origin_engine, name_engine, IsInGroup, is_engine, circuits, instances}
+use Rattle.log_laws.specs.Engines.{Engine, copies, same_engine, origin_engine, name_engine, is_engine, circuits, instances}
 use Rattle.log_laws.specs.Sessions.{IsInOneOf, IsAddedLive}
-use Rattle.log_laws.proofs.Kept.{NamesStay, named_stay, name_stays_by, literal_stays}
+use Rattle.log_laws.proofs.Kept.{NamesStay, named_stay, name_stays_by, literal_stays, in_unnamed, in_one_group}
 use Rattle.oracle.specs.declared.groups.Group.{Group}
 use Rattle.padoa_definitions.specs.Copies.{IsGivenIn, group_variable, is_copied_at}
 use Rattle.padoa_definitions.specs.Leaving.{EnginesLeaveStores, RoundsLeaveStores, BeginningsLeaveStores}
 use Rattle.padoa_definitions.specs.Store.{StoreState, store_of, HasGroup, side_group, Slot, of_frame, of_link, both_groups, store_groups, IsStoredName, IsInNoGroup, IsStoreEntry, HasParts, AreStoreGroups, IsGivenThere, IsStore, IsStoreTo, IsPartialStore, parts_at, HasGiven, IsStoredCopy, IsStoredLink}
 use Rattle.padoa_definitions.specs.declared.frames.Sides.{Sides}
-use Rattle.padoa_definitions.proofs.KeptCopies.{in_one_group, made_stays}
 use Rattle.padoa_definitions.specs.Following.{AreComplete}
 use Rattle.padoa_definitions.proofs.KeptPlaces.{flag_past}
 use Rattle.std.proofs.lemmas.Bool.{cases_lt}
@@ -29,6 +28,7 @@ use Rattle.dq_formula.specs.Prefix.{existential_variables}
 use Rattle.hint_log.specs.Conditions.{AreNamed, MayFollow}
 use Rattle.hint_log.specs.ProductiveSession.{frame_of}
 use Rattle.hint_log.proofs.NamedEntries.{unnamed_before}
+use Rattle.oracle.proofs.MadeGroups.{made_stays}
 
 -- names stay, and clauses
 pub record AreKept (old new : List Entry) : Type 0 where
@@ -56,8 +56,8 @@ module _ (all : Dqbf) (numbered : List ℕ) (s : StoreState) (old new : List Ent
 
   pub groups_stay : AreStoreGroups s old → AreStoreGroups s new
   groups_stay h = record {
-    made = λ slot g has. made_stays old new kept.names g (h.made slot g has);
-    links = λ k g is. made_stays old new kept.names g (h.links k g is);
+    made = λ slot g has. made_stays old new g kept.names (h.made slot g has);
+    links = λ k g is. made_stays old new g kept.names (h.links k g is);
     apart = h.apart;
   }
 
@@ -257,13 +257,6 @@ complete_store all numbered s es store k past = elim (cases_lt k (length s.parts
       store.whole k (omega (arith, within, long)) (flag_past s.copied k (omega (arith, flags, past))))
   | inr behind ↦ (let none = index_past s.parts k 5 behind in omega (arith, none))
 ]
-
--- a clause of a group stands on the group's variable, which has a name
-pub in_unnamed : (es : List Entry) (g : ℕ) (c : List Literal) → AreNamed es c → name_of es g ≡ None → IsInGroup g c → ⊥
-in_unnamed es g c named none inside =
-    let first : IsSome (name_of es g) = subst (λ ls. AreNamed es ls) inside.1 named 0 (negative g) (omega arith) in
-    let gone : IsSome (name_of es g) = first in
-    cc
 
 -- clauses, groups and parts stay, and there may be further ones
 pub record IsGrown (s t : StoreState) : Type 0 where

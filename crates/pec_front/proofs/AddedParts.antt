@@ -8,7 +8,8 @@ use Rattle.pec_front.specs.Encoder.{AreAdded}
 use Rattle.pec_front.specs.Encoding.{first_copy, first_same, first_agree, specified_variable, implemented_variable, on_number, agreement_clauses, all_copies, all_outputs, demand}
 use Rattle.pec_front.specs.Kept.{kept}
 use Rattle.pec_front.proofs.AddedClauses.{with_clauses, added}
-use Rattle.pec_front.proofs.Numbers.{range-join, map-join}
+use Rattle.pec_front.proofs.Numbers.{map-join}
+use Rattle.list_laws.proofs.Numbers.{range_append}
 
 -- clauses behind others
 pub part-added : (f g h : Dqbf) (xs ys zs : List (List ℕ)) (m n : ℕ) → AreAdded f g xs m
@@ -79,5 +80,5 @@ next-output d first (s ∷ ss) (suc o) below =
 pub next-demand : (d : PartialDesign) (o : ℕ)
     → map (demand d) (range_with_len 0 (o + 1)) ≡ map (demand d) (range_with_len 0 o) ++ demand d o ∷ []
 next-demand d o =
-    ap (map (demand d)) (sym (range-join 0 o 1)) ∙ map-join (demand d) (range_with_len 0 o) ((0 + o) ∷ [])
+    ap (map (demand d)) (sym (range_append 0 o 1)) ∙ map-join (demand d) (range_with_len 0 o) ((0 + o) ∷ [])
     ∙ ap (λ k. map (demand d) (range_with_len 0 o) ++ demand d k ∷ []) (let e : 0 + o ≡ o = omega arith in e)

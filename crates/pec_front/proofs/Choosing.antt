@@ -7,9 +7,9 @@ use Rattle.std.proofs.lemmas.List.{length-map, get_or-append-add}
 use Rattle.std.proofs.lemmas.List.Elements.{All-contains, All-map, recursion_from_All, Contains-append_left, Contains-append_right}
 use Rattle.std.proofs.lemmas.List.Folds.{list_any_at}
 use Rattle.std.proofs.lemmas.List.FromFn.{length-range_with_len, get_or-map-range_with_len}
-use Rattle.list_laws.proofs.Members.{contains_map, in_one_part}
+use Rattle.list_laws.proofs.Members.{contains_map, in_one_part, contained_at}
 use Rattle.list_laws.proofs.Truths.{unnot}
-use Rattle.list_laws.proofs.Quantified.{right-distinct}
+use Rattle.list_laws.proofs.Quantified.{right-distinct, rec_append}
 use Rattle.dq_lits.specs.Literal.{Assignment}
 use Rattle.dq_lits.specs.Formula.{Existential}
 use Rattle.dq_lits.specs.Henkin.{HenkinChoice, choice_value, restriction, same_bit}
@@ -25,10 +25,11 @@ use Rattle.pec_front.specs.Laws.{FittingBoxesChoose}
 use Rattle.pec_front.proofs.Clauses.{with_constant, raw_true, opposite-bit}
 use Rattle.pec_front.proofs.Circuits.{even-bit, seen_by, on_number-bit, same-bits}
 use Rattle.pec_front.proofs.Fitting.{Raw}
-use Rattle.pec_front.proofs.Values.{Ground, value_in, valuation, sides, contained_at, contained, any-contained}
+use Rattle.pec_front.proofs.Values.{Ground, value_in, valuation, sides, contained, any-contained}
 use Rattle.pec_front.proofs.Rows.{drives-box}
 use Rattle.pec_front.proofs.Numbers.{number-cases, range-all, range-contains, copies-inside}
-use Rattle.pec_front.proofs.Truths.{gate-true, agreement-true, join-parts, join-each, clauses-true}
+use Rattle.pec_front.proofs.Truths.{gate-true, agreement-true, join-each, clauses-true}
+use Rattle.dq_lits.proofs.Choices.{bits_same}
 
 pub record Plan : Type 0 where
   pub d : PartialDesign
@@ -338,7 +339,7 @@ copies-true : (d : PartialDesign) (m : Assignment) (i : ℕ) (rest : List ℕ) �
 copies-true d m i [] each = tt
 copies-true d m i (l ∷ rest) each =
     let here : i + 0 ≡ i = omega arith in
-    join-parts (Raw m)
+    rec_append (Raw m)
     (agreement_clauses (first_same d + i) (2 * (first_copy d + i)) (on_number (implemented_variable d) l))
     (all_copies d (suc i) rest)
     (subst (λ (n : ℕ). AllByRecursion (Raw m)
@@ -359,7 +360,7 @@ outputs-true : (d : PartialDesign) (m : Assignment) (i : ℕ) (rest : List ℕ) 
 outputs-true d m i [] each = tt
 outputs-true d m i (l ∷ rest) each =
     let here : i + 0 ≡ i = omega arith in
-    join-parts (Raw m)
+    rec_append (Raw m)
     (agreement_clauses (first_agree d + i) (on_number (specified_variable d) l)
     (on_number (implemented_variable d) (get_or d.implementation.outputs i 0))) (all_outputs d (suc i) rest)
     (subst (λ (n : ℕ). AllByRecursion (Raw m)
@@ -495,11 +496,6 @@ same-means true b e = sym e
 same-means false true e = absurd (true≢false (sym e))
 same-means false false e = refl
 
-means-same : (a b : Bool) → a ≡ b → same_bit a b ≡ true
-means-same true b e = sym e
-means-same false true e = absurd (true≢false (sym e))
-means-same false false e = refl
-
 demand-true : (s : Site) (o : ℕ) → o < length s.p.d.specification.outputs → Raw s.m (demand s.p.d o)
 demand-true s o below = by (raw_true s.m downs) refl
   where
@@ -524,7 +520,7 @@ demand-true s o below = by (raw_true s.m downs) refl
         or_left (literal_bit (with_constant s.m) (2 * (first_agree s.p.d + o)))
         (raw_true s.m (map (λ i. opposite_of (2 * (first_same s.p.d + i))) (range_with_len 0 (signals_of s.p.d))))
         (even-bit (with_constant s.m) (first_agree s.p.d + o) ∙ agree-flag s o below
-        ∙ means-same (literal_bit (spec_values s.p (row_of s)) (get_or s.p.d.specification.outputs o 0))
+        ∙ bits_same (literal_bit (spec_values s.p (row_of s)) (get_or s.p.d.specification.outputs o 0))
         (literal_bit (imp_values s.p (row_of s)) (get_or s.p.d.implementation.outputs o 0))
         (outputs-fit s
         (λ j low. same-means (in_row (row_of s) (first_copy s.p.d + j))
@@ -567,18 +563,18 @@ raw-clauses-true s =
     let outputs = all_outputs d 0 outs in
     let demands = map (demand d) (range_with_len 0 (length outs)) in
     let zero-plus : (j : ℕ) → j ≡ 0 + j = λ j. omega arith in
-    join-parts P spec-part (imp-part ++ (copies ++ (outputs ++ demands)))
+    rec_append P spec-part (imp-part ++ (copies ++ (outputs ++ demands)))
     (gates-true (on_spec s.p) (specified_variable d) s.m bits (spec_values s.p (row_of s))
     (valuation (on_spec s.p) bits) (spec-seen s))
-    (join-parts P imp-part (copies ++ (outputs ++ demands))
+    (rec_append P imp-part (copies ++ (outputs ++ demands))
     (gates-true (on_imp s.p) (implemented_variable d) s.m bits (imp_values s.p (row_of s))
     (valuation (on_imp s.p) bits) (imp-seen s))
-    (join-parts P copies (outputs ++ demands)
+    (rec_append P copies (outputs ++ demands)
     (copies-true d s.m 0 (signals d.boxes) (λ j low.
     subst (λ (n : ℕ). AllByRecursion P
     (agreement_clauses (first_same d + n) (2 * (first_copy d + n))
     (on_number (implemented_variable d) (get_or (signals d.boxes) j 0)))) (zero-plus j) (copy-clauses s j low)))
-    (join-parts P outputs demands
+    (rec_append P outputs demands
     (outputs-true d s.m 0 outs (λ j low.
     subst (λ (n : ℕ). AllByRecursion P
     (agreement_clauses (first_agree d + n) (on_number (specified_variable d) (get_or outs j 0))

@@ -5,7 +5,8 @@ use Rattle.std.proofs.lemmas.Bool.{ne_eqb}
 use Rattle.std.proofs.lemmas.List.Folds.{list_any-append}
 use Rattle.dq_lits.specs.Formula.{Existential, Dqbf, declared}
 use Rattle.pec_front.specs.Prefixes.{seeing}
-use Rattle.pec_front.proofs.Numbers.{range-join, map-join}
+use Rattle.pec_front.proofs.Numbers.{map-join}
+use Rattle.list_laws.proofs.Numbers.{range_append}
 
 pub range-misses : (a n v : ℕ) → a + n ≤ v → list_any (λ x. x == v) (range_with_len a n) ≡ false
 range-misses a zero v low = refl
@@ -18,7 +19,7 @@ pub universal-more : (f old new : Dqbf) (x : ℕ) → old ≡ record f { univers
     → new ≡ record f { universals = range_with_len 1 (x + 1) }
 universal-more f old new x so_far added =
     added ∙ ap (λ (g : Dqbf). record g { universals = g.universals ++ (1 + x) ∷ [] }) so_far
-    ∙ ap (λ us. record f { universals = us }) (range-join 1 x 1)
+    ∙ ap (λ us. record f { universals = us }) (range_append 1 x 1)
 
 pub universal-new : (f old : Dqbf) (x : ℕ) → declared f ≡ [] → f.universals ≡ []
     → old ≡ record f { universals = range_with_len 1 x } → list_any (λ y. y == 1 + x) (declared old) ≡ false
@@ -51,7 +52,7 @@ seeing-more f old new first y so_far added =
     (seeing f.universals (first + 1 + y) ∷ [])
     ∙ ap (λ es. f.existentials ++ es)
     (sym (map-join (seeing f.universals) (range_with_len (first + 1) y) ((first + 1 + y) ∷ []))
-    ∙ ap (map (seeing f.universals)) (range-join (first + 1) y 1)))
+    ∙ ap (map (seeing f.universals)) (range_append (first + 1) y 1)))
 
 pub seeing-new : (f old : Dqbf) (first y : ℕ) → declared f ≡ range_with_len 1 first
     → old ≡ record f { existentials = f.existentials ++ map (seeing f.universals) (range_with_len (first + 1) y) }

@@ -13,32 +13,23 @@ use Rattle.pec_front.specs.Boxes.{PartialDesign}
 use Rattle.pec_front.specs.Encoder.{demand_clause}
 use Rattle.pec_front.specs.Encoding.{signals_of, first_same, first_agree, demand}
 use Rattle.pec_front.specs.Kept.{kept}
+use Rattle.cert_text.proofs.CircuitLiterals.{as_even, opposite_even}
 
 -- the negated literals of numbers
 abbrev negated : ℕ → List ℕ → List ℕ
 negated s is = map (λ i. opposite_of (2 * (s + i))) is
 
-opposite-up : (v : ℕ) → opposite_of (2 * v) ≡ 2 * v + 1
-opposite-up v =
-    cond-false (2 * v % 2 == 1) (2 * v - 1) (2 * v + 1) (ne_eqb (2 * v % 2) 1 (λ e. omega (arith, e)))
-
 as-negative : (v : ℕ) → as_literal (opposite_of (2 * v)) ≡ negative v
 as-negative v =
-    ap as_literal (opposite-up v)
+    ap as_literal (opposite_even v)
     ∙ cond-true ((2 * v + 1) % 2 == 1) (negative ((2 * v + 1) / 2)) (positive ((2 * v + 1) / 2))
     (ap (λ n. n == 1) (let e : (2 * v + 1) % 2 ≡ 1 = omega arith in e))
     ∙ ap negative (let e : (2 * v + 1) / 2 ≡ v = omega arith in e)
 
-as-positive : (v : ℕ) → as_literal (2 * v) ≡ positive v
-as-positive v =
-    cond-false (2 * v % 2 == 1) (negative (2 * v / 2)) (positive (2 * v / 2))
-    (ne_eqb (2 * v % 2) 1 (λ e. omega (arith, e)))
-    ∙ ap positive (let e : 2 * v / 2 ≡ v = omega arith in e)
-
 no-ones : (s : ℕ) → 1 ≤ s → (a n : ℕ) → list_any (λ l. l == 1) (negated s (range_with_len a n)) ≡ false
 no-ones s low a zero = refl
 no-ones s low a (suc n) =
-    let up = opposite-up (s + a) in
+    let up = opposite_even (s + a) in
     ap (λ b. b || list_any (λ l. l == 1) (negated s (range_with_len (a + 1) n)))
     (ne_eqb (opposite_of (2 * (s + a))) 1 (λ e. omega (arith, up, e, low)))
     ∙ no-ones s low (a + 1) n
@@ -48,7 +39,7 @@ no-zeros s a zero = refl
 no-zeros s a (suc n) =
     let l = opposite_of (2 * (s + a)) in
     let rest = negated s (range_with_len (a + 1) n) in
-    let up = opposite-up (s + a) in
+    let up = opposite_even (s + a) in
     ap (λ b. cond (not b) (l ∷ filter (λ k. not (k == 0)) rest) (filter (λ k. not (k == 0)) rest))
     (ne_eqb l 0 (λ e. omega (arith, up, e)))
     ∙ ap (λ ks. l ∷ ks) (no-zeros s (a + 1) n)
@@ -102,7 +93,7 @@ demand-kept d o =
     (ne_eqb (2 * u) 0 (λ e. omega (arith, e)))
     ∙ ap (λ ls. 2 * u ∷ ls) (no-zeros s 0 q) in
     let plain : map as_literal (2 * u ∷ flags) ≡ positive u ∷ literals =
-    ap (λ l. l ∷ map as_literal flags) (as-positive u) ∙ ap (λ ls. positive u ∷ ls) (as-negatives s 0 q) in
+    ap (λ l. l ∷ map as_literal flags) (as_even u) ∙ ap (λ ls. positive u ∷ ls) (as-negatives s 0 q) in
     ap (λ b. keep b (map as_literal (filter (λ l. not (l == 0)) (2 * u ∷ flags)))) one
     ∙ ap (λ ls. distinct (map as_literal ls) ∷ []) zero-free
     ∙ ap (λ ls. distinct ls ∷ []) plain

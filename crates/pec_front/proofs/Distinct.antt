@@ -7,14 +7,11 @@ use Rattle.std.proofs.lemmas.List.Folds.{list_any-append}
 use Rattle.dq_lits.specs.Literal.{Assignment, Literal, positive, negative, literal_true, clause_true, same_literal}
 use Rattle.dqdimacs_reader.specs.Building.{add_literal, distinct}
 use Rattle.pec_front.proofs.Values.{contained, any-contained}
+use Rattle.list_laws.proofs.Truths.{or_assoc_left}
 
 or-nothing : (b : Bool) → b ≡ (b || false)
 or-nothing true = refl
 or-nothing false = refl
-
-or-more : (a b c : Bool) → ((a || b) || c) ≡ (a || (b || c))
-or-more true b c = refl
-or-more false b c = refl
 
 same-truth : (m : Assignment) (k l : Literal) → same_literal k l ≡ true → literal_true m k ≡ literal_true m l
 same-truth m (positive v) (positive w) e = ap m (eqb-true v w e)
@@ -47,7 +44,7 @@ fold-truth m clause [] = or-nothing (clause_true m clause)
 fold-truth m clause (l ∷ ls) =
     fold-truth m (add_literal clause l) ls
     ∙ ap (λ b. b || clause_true m ls) (add-truth m clause l)
-    ∙ or-more (clause_true m clause) (literal_true m l) (clause_true m ls)
+    ∙ or_assoc_left (clause_true m clause) (literal_true m l) (clause_true m ls)
 
 pub distinct-truth : (m : Assignment) (clause : List Literal) → clause_true m (distinct clause) ≡ clause_true m clause
 distinct-truth m clause = fold-truth m [] clause

@@ -14,8 +14,10 @@ use Rattle.pec_front.specs.Copies.{numbers_in, AreCopies, IsKnownOut}
 use Rattle.pec_front.specs.Encoding.{signals_of, driven_of, first_copy, first_driven, first_specified, implemented_input, copies_for, driven_existential, design_universals}
 use Rattle.pec_front.specs.declared.copies.Span.{Span}
 use Rattle.pec_front.proofs.DeclaredRanges.{range-misses}
-use Rattle.pec_front.proofs.Numbers.{range-join, range-contains, map-join, driven-numbers, copies-inside, copies-seen}
+use Rattle.pec_front.proofs.Numbers.{map-join, driven-numbers, copies-inside, copies-seen}
 use Rattle.pec_front.proofs.Values.{any-contained}
+use Rattle.dqdimacs_reader.proofs.SpelledClauses.{in_range_listed}
+use Rattle.list_laws.proofs.Numbers.{range_append}
 
 -- a filter that passes nothing, and one that passes all
 filter-none : (p : ℕ → Bool) (a n : ℕ) → ((v : ℕ) → a ≤ v → v < a + n → p v ≡ false)
@@ -50,11 +52,6 @@ before-range a (suc n) v low =
     ap (λ b. b || list_any (λ x. x == v) (range_with_len (a + 1) n)) (ne_eqb a v (λ e. omega (arith, e, low)))
     ∙ before-range (a + 1) n v (omega (arith, low))
 
-in-range : (a n v : ℕ) → a ≤ v → v < a + n → list_any (λ x. x == v) (range_with_len a n) ≡ true
-in-range a n v low high =
-    let c = range-contains a n v low high in
-    any-contained (λ x. x == v) (range_with_len a n) c.0 v c.1 c.2 (eq-eqb v v refl)
-
 -- universals in a range, in order
 listed-range : (s n a k : ℕ) → s ≤ a → a + k ≤ s + n
     → listed_universals (range_with_len s n) (range_with_len a k) ≡ range_with_len a k
@@ -66,15 +63,15 @@ listed-range s n a k low high =
     let start : s + (a - s) ≡ a = omega (arith, low) in
     let whole : range_with_len s n ≡ before ++ (middle ++ behind) =
     ap (range_with_len s) (let e : n ≡ a - s + (k + (s + n - (a + k))) = omega (arith, low, high) in e)
-    ∙ sym (range-join s (a - s) (k + (s + n - (a + k))))
+    ∙ sym (range_append s (a - s) (k + (s + n - (a + k))))
     ∙ ap (λ t. before ++ range_with_len t (k + (s + n - (a + k)))) start
-    ∙ ap (λ vs. before ++ vs) (sym (range-join a k (s + n - (a + k)))) in
+    ∙ ap (λ vs. before ++ vs) (sym (range_append a k (s + n - (a + k)))) in
     ap (filter p) whole
     ∙ filter-join p before (middle ++ behind)
     ∙ ap (λ vs. vs ++ filter p (middle ++ behind))
     (filter-none p s (a - s) (λ v from to. before-range a k v (omega (arith, to, low))))
     ∙ filter-join p middle behind
-    ∙ ap (λ vs. vs ++ filter p behind) (filter-all p a k (λ v from to. in-range a k v from to))
+    ∙ ap (λ vs. vs ++ filter p behind) (filter-all p a k (λ v from to. in_range_listed k a v from to))
     ∙ ap (λ vs. middle ++ vs)
     (filter-none p (a + k) (s + n - (a + k)) (λ v from to. range-misses a k v from))
     ∙ append-nil middle
@@ -163,7 +160,7 @@ driven-more d f old new i k vs number place is are so_far sees added =
     ∙ ap (λ j. record f { existentials = driven-part d k ++ driven_existential d j ∷ [] }) place
     ∙ ap (λ es. record f { existentials = es })
     (sym (map-join (driven_existential d) (range_with_len (inputs_of d) k) ((inputs_of d + k) ∷ [])))
-    ∙ ap (λ js. record f { existentials = map (driven_existential d) js }) (range-join (inputs_of d) k 1)
+    ∙ ap (λ js. record f { existentials = map (driven_existential d) js }) (range_append (inputs_of d) k 1)
 
 -- it wasn't declared
 pub driven-new : (d : PartialDesign) (f old : Dqbf) (k number : ℕ) → f.universals ≡ design_universals d
@@ -230,5 +227,5 @@ declared-further d f n are drives is =
     ∙ ap (λ vs. design_universals d ++ vs)
     (driven-numbers d r p fd (omega arith) (let e : fd ≡ fd + (p - p) = omega arith in e))
     ∙ ap (λ a. design_universals d ++ range_with_len a r) (sym after)
-    ∙ range-join 1 (p + q) r
+    ∙ range_append 1 (p + q) r
     ∙ ap (range_with_len 1) (let e : p + q + r ≡ n - 1 = omega (arith, is) in e)

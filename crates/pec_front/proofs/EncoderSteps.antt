@@ -21,9 +21,10 @@ use Rattle.pec_front.proofs.AddedClauses.{with_clauses, three-within}
 use Rattle.pec_front.proofs.AddedParts.{part-added, parts-join, next-part, copy_clauses, next-copy, output_clauses, next-output, next-demand}
 use Rattle.pec_front.proofs.Demands.{demand-kept}
 use Rattle.pec_front.proofs.NumberedVariables.{gate-sides}
-use Rattle.pec_front.proofs.Numbers.{first-place, map-join, range-join, range-all}
+use Rattle.pec_front.proofs.Numbers.{first-place, map-join, range-all}
 use Rattle.pec_front.proofs.RaisedLevels.{no-gate}
 use Rattle.pec_front.proofs.WellFormed.{double-small, on-small, spec-small, imp-small}
+use Rattle.list_laws.proofs.Numbers.{range_append}
 use mathlib.Core.Path.{fun_ext}
 
 -- a gate's literals stand on variables up to a number where all that can be evaluated do
@@ -189,7 +190,7 @@ flag-more d items new flag i number so_far added is-flag is-number =
     added ∙ ap (λ (ls : List Literal). ls ++ flag ∷ []) so_far
     ∙ ap (λ (l : Literal). positive (first_agree d) ∷ (map negated (range_with_len 0 i) ++ l ∷ [])) here
     ∙ ap (λ (ls : List Literal). positive (first_agree d) ∷ ls)
-    (sym (map-join negated (range_with_len 0 i) ((0 + i) ∷ [])) ∙ ap (map negated) (range-join 0 i 1))
+    (sym (map-join negated (range_with_len 0 i) ((0 + i) ∷ [])) ∙ ap (map negated) (range_append 0 i 1))
 
 -- another first literal
 pub demand-set : (d : PartialDesign) (items : List Literal) (o number : ℕ) (first : Literal) → 1 ≤ length items

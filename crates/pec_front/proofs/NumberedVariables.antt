@@ -12,7 +12,8 @@ use Rattle.pec_front.specs.BoxLine.{variables_of}
 use Rattle.pec_front.specs.Encoding.{numbered_variable}
 use Rattle.pec_front.proofs.Numbers.{first-place}
 use Rattle.pec_front.proofs.RaisedLevels.{input-known, gate-known, no-gate}
-use Rattle.pec_front.proofs.Values.{ground_cases, sides, contained_at}
+use Rattle.pec_front.proofs.Values.{ground_cases, sides}
+use Rattle.list_laws.proofs.Members.{contained_at}
 
 place-joined : (p : ℕ → Bool) (xs ys : List ℕ) → position_or_len p (xs ++ ys)
     ≡ cond (list_any p xs) (position_or_len p xs) (length xs + position_or_len p ys)

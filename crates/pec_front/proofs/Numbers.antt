@@ -12,6 +12,7 @@ use Rattle.circuit_plain.specs.Ground.{IsGrounded}
 use Rattle.pec_front.specs.Boxes.{BlackBox, PartialDesign, signals, inputs_of}
 use Rattle.pec_front.specs.Encoding.{signals_of, driven_of, first_copy, first_driven, first_specified, end_of, numbered_variable, implemented_input, copies_for, driven_existential, design_universals, seeing_all, design_formula}
 use Rattle.pec_front.proofs.Values.{ground_cases, any-contained}
+use Rattle.list_laws.proofs.Numbers.{range_append, range_distinct}
 
 -- the first place that passes a test
 pub record First {X : Type 0} (p : X → Bool) (xs : List X) (d : X) : Type 0 where
@@ -116,14 +117,6 @@ number-cases net input first_gate (suc u) ground = by (list_any (λ x. x == suc 
               }))
         ]
 
-pub range-join : (a m n : ℕ) → range_with_len a m ++ range_with_len (a + m) n ≡ range_with_len a (m + n)
-range-join a zero n = ap (λ b. range_with_len b n) (let e : a + 0 ≡ a = omega arith in e)
-    ∙ ap (range_with_len a) (let e : n ≡ 0 + n = omega arith in e)
-range-join a (suc m) n =
-    ap (λ b. a ∷ (range_with_len (a + 1) m ++ range_with_len b n)) (let e : a + suc m ≡ a + 1 + m = omega arith in e)
-    ∙ ap (λ xs. a ∷ xs) (range-join (a + 1) m n)
-    ∙ ap (range_with_len a) (let e : suc (m + n) ≡ suc m + n = omega arith in e)
-
 pub range-contains : (a n v : ℕ) → a ≤ v → v < a + n → Contains (range_with_len a n) v
 range-contains a n v low high =
     let long = length-range_with_len a n in (
@@ -138,13 +131,6 @@ range-all P a n each k d below =
     let long = length-range_with_len a n in
     let inside : k < n = omega (arith, below, long) in
     subst P (sym (get_or-range_with_len a n k d inside)) (each (a + k) (omega arith) (omega (arith, inside)))
-
-range-once : (a n : ℕ) → AllPairs (λ v w. v ≢ w) (range_with_len a n)
-range-once a n i j d less below e =
-    let long = length-range_with_len a n in
-    let one = get_or-range_with_len a n i d (omega (arith, less, below, long)) in
-    let two = get_or-range_with_len a n j d (omega (arith, below, long)) in
-    omega (arith, less, (let s : a + i ≡ a + j = sym one ∙ e ∙ two in s))
 
 pub map-join : {X Y : Type 0} (f : X → Y) (xs ys : List X) → map f (xs ++ ys) ≡ map f xs ++ map f ys
 map-join f [] ys = refl
@@ -183,9 +169,9 @@ declared-is d =
     ∙ ap (λ xs. us ++ (xs ++ map variable (map (seeing_all d) (range_with_len fs n))))
     (driven-numbers d r p fd (omega arith) start)
     ∙ ap (λ xs. us ++ (range_with_len fd r ++ xs)) (seeing-numbers d (range_with_len fs n))
-    ∙ ap (λ xs. us ++ xs) (range-join fd r n)
+    ∙ ap (λ xs. us ++ xs) (range_append fd r n)
     ∙ ap (λ a. us ++ range_with_len a (r + n)) (sym after)
-    ∙ range-join 1 (p + q) (r + n)
+    ∙ range_append 1 (p + q) (r + n)
     ∙ ap (range_with_len 1) whole
 
 pub copies-inside : (boxes : List BlackBox) (next out : ℕ)
@@ -224,7 +210,7 @@ lawful-prefix d = record {
   in_range = subst (λ (vs : List ℕ). All (λ v. (1 ≤ v) × (v ≤ end_of d - 1)) vs) (sym (declared-is d))
       (range-all (λ v. (1 ≤ v) × (v ≤ end_of d - 1)) 1 (end_of d - 1) (λ v low high. (low, omega (arith, high))));
   declared_once = subst (λ (vs : List ℕ). AllPairs (λ v w. v ≢ w) vs) (sym (declared-is d))
-      (range-once 1 (end_of d - 1));
+      (range_distinct 1 (end_of d - 1));
   sees_universals = All-append (λ (y : Existential). All (Contains (design_universals d)) y.sees)
       (map (driven_existential d) (range_with_len (inputs_of d) (driven_of d)))
       (map (seeing_all d) (range_with_len (first_specified d) (end_of d - first_specified d)))

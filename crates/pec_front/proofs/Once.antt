@@ -11,8 +11,9 @@ use Rattle.circuit_plain.specs.Value.{IsValuation, GroundedHaveValues, ValuesFol
 use Rattle.pec_front.specs.Boxes.{BlackBox, PartialDesign, BoxFunctions, BoxesFit, bits_read, AreBoxes, AreFilled, signals, IsDesign, AllDriven, inputs_of}
 use Rattle.pec_front.specs.Rows.{FilledRow, OutputsAgree, BoxesExtendEveryRow, FitsByRows}
 use Rattle.pec_front.proofs.Circuits.{same-bits}
-use Rattle.pec_front.proofs.Values.{contained, contained_at}
+use Rattle.pec_front.proofs.Values.{contained}
 use Rattle.pec_front.proofs.Rows.{bits-agree}
+use Rattle.list_laws.proofs.Members.{contained_at}
 
 reads-box : (boxes : List BlackBox) (box : BlackBox) (l : ℕ) → Contains boxes box → Contains box.ins l
     → Contains (signals boxes) l

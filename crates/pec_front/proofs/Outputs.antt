@@ -15,10 +15,11 @@ use Rattle.pec_front.specs.Encoding.{first_copy, driven_existential, design_form
 use Rattle.pec_front.specs.Choices.{chosen_functions, signal_bits, ChosenBoxesFit}
 use Rattle.pec_front.specs.Laws.{DesignFormulasAreWellFormed}
 use Rattle.pec_front.specs.Outputs.{placed_at, driven_by_literal, OutputsAreBoxes}
-use Rattle.pec_front.proofs.Values.{contained_at, any-contained}
+use Rattle.pec_front.proofs.Values.{any-contained}
 use Rattle.pec_front.proofs.Rows.{drives-box}
 use Rattle.pec_front.proofs.Numbers.{first-place}
 use Rattle.pec_front.proofs.Choosing.{Choosing, box-copies}
+use Rattle.list_laws.proofs.Members.{contained_at}
 
 -- what stands at a variable's place of a restriction is its bit
 placed-bit : (sees : List ℕ) (m : Assignment) (v : ℕ) → Contains sees v → placed_at sees (map m sees) v ≡ m v

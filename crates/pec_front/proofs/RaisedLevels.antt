@@ -19,7 +19,8 @@ use Rattle.pec_front.specs.Latest.{ReachesBox, IsLatest, LatestShowsOrder}
 use Rattle.pec_front.specs.Reading.{IsFirstOutOfOrder}
 use Rattle.pec_front.specs.Steps.{DriveInputs, level_at, IsMarked, AreMarked, IsRaised, IsBelow, IsAbove, IsFirstAbove}
 use Rattle.pec_front.proofs.Latest.{later}
-use Rattle.pec_front.proofs.Values.{contained, contained_at, any-contained}
+use Rattle.pec_front.proofs.Values.{contained, any-contained}
+use Rattle.list_laws.proofs.Members.{contained_at}
 
 abbrev pub no-gate : Gate
 no-gate = record { variable = 0; left = 0; right = 0 }

@@ -5,7 +5,7 @@ use Rattle.std.proofs.Math.ListN.{get_or-append}
 use Rattle.std.proofs.lemmas.Bool.{true≢false, eqb-true, eq-eqb, or_cases, or_parts, cond-true, cond-false}
 use Rattle.std.proofs.lemmas.List.{get_or_default, get_or-append-add}
 use Rattle.std.proofs.lemmas.List.Elements.{All-contains, Contains-append_left, Contains-append_right}
-use Rattle.list_laws.proofs.Members.{in_one_part}
+use Rattle.list_laws.proofs.Members.{in_one_part, contained_at}
 use Rattle.list_laws.proofs.Quantified.{right-distinct}
 use Rattle.circuit_plain.specs.Netlist.{Netlist, literal_bit, literal_variable}
 use Rattle.circuit_plain.specs.Ground.{IsGrounded}
@@ -14,7 +14,7 @@ use Rattle.circuit_plain.specs.Value.{ValuesAreUnique, GroundedHaveValues, Value
 use Rattle.pec_front.specs.Boxes.{BlackBox, BoxFunctions, bits_read, driven, IsFurtherInput, StandInOrder, AreFilled, signals, inputs_of}
 use Rattle.pec_front.specs.Rows.{BoxesExtendEveryRow}
 use Rattle.pec_front.proofs.Circuits.{same-bits}
-use Rattle.pec_front.proofs.Values.{Ground, value_in, has-value, valuation, contained, any-contained, contained_at}
+use Rattle.pec_front.proofs.Values.{Ground, value_in, has-value, valuation, contained, any-contained}
 
 -- some box drives the literal
 abbrev pub drives : List BlackBox → ℕ → Bool

@@ -16,6 +16,7 @@ use Rattle.pec_front.proofs.Distinct.{distinct-truth}
 use Rattle.pec_front.proofs.Clauses.{with_constant, raw_true, opposite-bit, plain-literal}
 use Rattle.pec_front.proofs.Circuits.{even-bit, seen_by, on_number-bit}
 use Rattle.pec_front.proofs.Fitting.{Raw}
+use Rattle.list_laws.proofs.Quantified.{rec_append}
 
 pub gate-true : (number : ℕ → ℕ) (m : Assignment) (g : Gate) → seen_by number m g.variable
     ≡ (literal_bit (seen_by number m) g.left && literal_bit (seen_by number m) g.right) →
@@ -103,15 +104,10 @@ agreement-true m flag a b is =
       ),
     )
 
-pub join-parts : {X : Type 0} (P : X → Type 0) (xs ys : List X) → AllByRecursion P xs → AllByRecursion P ys
-    → AllByRecursion P (xs ++ ys)
-join-parts P [] ys left right = right
-join-parts P (x ∷ xs) ys left right = (left.0, join-parts P xs ys left.1 right)
-
 pub join-each : {X Y : Type 0} (P : Y → Type 0) (f : X → List Y) (xs : List X)
     → ((k : ℕ) (d : X) → k < length xs → AllByRecursion P (f (get_or xs k d))) → AllByRecursion P (flat_map f xs)
 join-each P f [] each = tt
-join-each P f (x ∷ xs) each = join-parts P (f x) (flat_map f xs) (each 0 x (omega arith))
+join-each P f (x ∷ xs) each = rec_append P (f x) (flat_map f xs) (each 0 x (omega arith))
     (join-each P f xs (λ k d below. each (suc k) d (omega (arith, below))))
 
 zero-false : (m : Assignment) (l : ℕ) → (l == 0) ≡ true → literal_bit (with_constant m) l ≡ false

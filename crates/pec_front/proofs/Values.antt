@@ -2,16 +2,13 @@
 use Rattle.std.proofs.Common.{◌≡◌, ℕ, zero, suc, ◌<◌, ◌==◌, Bool, true, false, ◌||◌, ◌⊎◌, inl, inr, List, [], ◌∷◌, length, get_or, refl, sym, ◌∙◌, ap, subst, arith}
 use Rattle.std.specs.List.{All, Contains, list_any}
 use Rattle.std.proofs.lemmas.Bool.{true≢false, eqb-true, eq-eqb, or_cases}
-use Rattle.std.proofs.lemmas.List.{get_or_default}
 use Rattle.std.proofs.lemmas.List.Elements.{All-contains}
 use Rattle.circuit_plain.specs.Netlist.{Netlist, IsNetlist, left_variable, right_variable}
 use Rattle.circuit_plain.specs.declared.circuits.Gate.{Gate}
 use Rattle.circuit_plain.specs.Ground.{IsGrounded, constant as ground_constant, input as ground_input, gate as ground_gate}
 use Rattle.circuit_plain.specs.Value.{HasValue, constant, input, gate, IsValuation, ValuesAreUnique, GroundedHaveValues, ValuesFollowReach}
 use Rattle.circuit_plain.proofs.NetlistLaws.{same_gate, gate_fits, input_apart}
-
-pub contained_at : {X : Type 0} (xs : List X) (i : ℕ) (d : X) → i < length xs → Contains xs (get_or xs i d)
-contained_at xs i d below = (i, below, get_or_default xs i (get_or xs i d) d below)
+use Rattle.list_laws.proofs.Members.{contained_at}
 
 pub contained : {X : Type 0} (p : X → Bool) (xs : List X) → list_any p xs ≡ true → (x : X) × Contains xs x
     × (p x ≡ true)

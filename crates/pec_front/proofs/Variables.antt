@@ -6,7 +6,7 @@ use Rattle.std.proofs.lemmas.List.Elements.{Contains-append_cases}
 use Rattle.circuit_plain.specs.Netlist.{Netlist, IsNetlist, gate_at, gate_variables, variable_of_gate}
 use Rattle.circuit_plain.proofs.NetlistLaws.{input_apart}
 use Rattle.pec_front.proofs.RaisedLevels.{no-gate}
-use Rattle.pec_front.proofs.Values.{contained_at}
+use Rattle.list_laws.proofs.Members.{contained_at}
 
 gate-variable-at : (net : Netlist) (i d : ℕ) → i < length net.gates
     → get_or (gate_variables net) i d ≡ (gate_at net i).variable

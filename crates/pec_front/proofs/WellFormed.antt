@@ -16,10 +16,12 @@ use Rattle.pec_front.specs.Boxes.{PartialDesign, IsAcyclic, signals, IsDesign, i
 use Rattle.pec_front.specs.Encoding.{signals_of, first_copy, first_driven, first_specified, first_implemented, first_same, first_agree, end_of, numbered_variable, specified_variable, implemented_input, implemented_variable, on_number, numbered_gate, agreement_clauses, all_copies, all_outputs, demand, raw_clauses, design_formula}
 use Rattle.pec_front.specs.Choices.{ChosenBoxesFit, chosen_functions}
 use Rattle.pec_front.specs.Laws.{FittingBoxesChoose, DesignFormulasAreWellFormed, EncodingIsFaithful}
-use Rattle.pec_front.proofs.Values.{sides, contained_at}
+use Rattle.pec_front.proofs.Values.{sides}
 use Rattle.pec_front.proofs.Numbers.{number-cases, range-all, range-contains, declared-is, lawful-prefix}
 use Rattle.pec_front.proofs.Distinct.{distinct-each}
-use Rattle.pec_front.proofs.Truths.{join-parts, join-each}
+use Rattle.pec_front.proofs.Truths.{join-each}
+use Rattle.list_laws.proofs.Quantified.{rec_append}
+use Rattle.list_laws.proofs.Members.{contained_at}
 
 -- a literal is that of a number below the end
 abbrev Small : ℕ → ℕ → Type 0
@@ -125,7 +127,7 @@ copies-small : (d : PartialDesign) (i : ℕ) (rest : List ℕ) → i + length re
     AllByRecursion (SmallClause (end_of d)) (all_copies d i rest)
 copies-small d i [] few each = tt
 copies-small d i (l ∷ rest) few each =
-    join-parts (SmallClause (end_of d))
+    rec_append (SmallClause (end_of d))
     (agreement_clauses (first_same d + i) (2 * (first_copy d + i)) (on_number (implemented_variable d) l))
     (all_copies d (suc i) rest)
     (agreement-small (end_of d) (first_same d + i) (2 * (first_copy d + i)) (on_number (implemented_variable d) l)
@@ -139,7 +141,7 @@ outputs-small : (d : PartialDesign) (i : ℕ) (rest : List ℕ) → i + length r
     → AllByRecursion (SmallClause (end_of d)) (all_outputs d i rest)
 outputs-small d i [] few each others = tt
 outputs-small d i (l ∷ rest) few each others =
-    join-parts (SmallClause (end_of d))
+    rec_append (SmallClause (end_of d))
     (agreement_clauses (first_agree d + i) (on_number (specified_variable d) l)
     (on_number (implemented_variable d) (get_or d.implementation.outputs i 0))) (all_outputs d (suc i) rest)
     (agreement-small (end_of d) (first_agree d + i) (on_number (specified_variable d) l)
@@ -168,17 +170,17 @@ raw-small d keeps acyclic =
     let outputs = all_outputs d 0 outs in
     let demands = map (demand d) (range_with_len 0 (length outs)) in
     let many = keeps.outputs in
-    join-parts P spec-part (imp-part ++ (copies ++ (outputs ++ demands)))
+    rec_append P spec-part (imp-part ++ (copies ++ (outputs ++ demands)))
     (gates-small (end_of d) d.specification (specified_variable d) keeps.specification acyclic.specification
     (spec-small d))
-    (join-parts P imp-part (copies ++ (outputs ++ demands))
+    (rec_append P imp-part (copies ++ (outputs ++ demands))
     (gates-small (end_of d) d.implementation (implemented_variable d) keeps.implementation acyclic.implementation
     (imp-small d keeps))
-    (join-parts P copies (outputs ++ demands)
+    (rec_append P copies (outputs ++ demands)
     (copies-small d 0 (signals d.boxes) (omega arith)
     (λ j low. on-small (end_of d) (implemented_variable d) (get_or (signals d.boxes) j 0)
     (imp-small d keeps (get_or (signals d.boxes) j 0 / 2) (keeps.signals_stand j low))))
-    (join-parts P outputs demands
+    (rec_append P outputs demands
     (outputs-small d 0 outs (omega arith)
     (λ j low. on-small (end_of d) (specified_variable d) (get_or outs j 0)
     (spec-small d (get_or outs j 0 / 2) (keeps.specified_outputs j low)))

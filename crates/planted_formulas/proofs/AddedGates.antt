@@ -1,6 +1,6 @@
 -- What a gate more adds to the formula, and what the formula keeps meanwhile.
-use Rattle.std.proofs.Common.{◌≡◌, ◌∙◌, ◌+◌, ◌*◌, ◌<◌, ◌≤◌, ◌==◌, ◌%◌, ◌/◌, ◌||◌, ℕ, zero, suc, Bool, cond, true, false, refl, sym, ap, subst, arith, List, [], ◌∷◌, ◌++◌, map, length}
-use Rattle.std.specs.List.{All, Contains, flat_map, list_any, range_with_len}
+use Rattle.std.proofs.Common.{◌≡◌, ◌∙◌, ◌+◌, ◌*◌, ◌<◌, ◌≤◌, ◌==◌, ◌%◌, ◌/◌, ◌||◌, ℕ, suc, Bool, cond, true, false, refl, sym, ap, subst, arith, List, [], ◌∷◌, ◌++◌, map, length}
+use Rattle.std.specs.List.{All, flat_map, range_with_len}
 use Rattle.std.proofs.Math.Nat.{mod-lt}
 use Rattle.std.proofs.Math.ListN.{get_or}
 use Rattle.std.proofs.lemmas.Bool.{eqb-false}
@@ -10,8 +10,7 @@ use Rattle.std.proofs.lemmas.List.Folds.{list_any_none}
 use Rattle.std.proofs.lemmas.List.FromFn.{map-range_with_len_more, length-map-range_with_len}
 use Rattle.std.proofs.lemmas.Grind.{flat_map-append}
 use Rattle.list_laws.proofs.Folds.{below-differs}
-use Rattle.list_laws.proofs.Members.{contains-range_from_one}
-use Rattle.list_laws.proofs.Truths.{or_right}
+use Rattle.list_laws.proofs.Members.{contains-range_from_one, tested_inside}
 use Rattle.dq_lits.specs.Formula.{Existential, Dqbf, declared, is_universal}
 use Rattle.dq_formula.specs.Prefix.{is_declared}
 use Rattle.planted_formulas.specs.Planted.{next_state, state_after, drawn, other_than, next_gate, planted_gate, planted_gates, gate_clauses, and_clauses, xor_clauses, gate_existential, formula_of_gates}
@@ -108,12 +107,6 @@ same_number x y is = go (x == y) refl
     go true by = refl
     go false by = absurd (eqb-false x y by is)
 
-among : (x : ℕ) (xs : List ℕ) → Contains xs x → list_any (λ u. u == x) xs ≡ true
-among x [] (k, below, is) = absurd (omega (arith, below))
-among x (y ∷ ys) (zero, below, is) = ap (λ b. b || list_any (λ u. u == x) ys) (same_number y x is)
-among x (y ∷ ys) (suc k, below, is) = or_right (y == x) (list_any (λ u. u == x) ys)
-    (among x ys (k, omega (arith, below), is))
-
 differ : (y : ℕ) (xs : List ℕ) → All (λ x. x < y) xs → All (λ x. (x == y) ≡ false) xs
 differ y xs less k d below = below-differs (get_or xs k d) y (less k d below)
 
@@ -129,7 +122,7 @@ undeclared variables seed n place y is =
 
 pub universal : (variables n : ℕ) (gates : List PlantedGate) (x : ℕ) → 1 ≤ x → x ≤ n →
     is_universal (formula_of_gates variables n gates) x ≡ true
-universal variables n gates x one most = among x (range_with_len 1 n) (contains-range_from_one n x one most)
+universal variables n gates x one most = tested_inside (range_with_len 1 n) x (contains-range_from_one n x one most)
 
 -- ---- clauses
 

@@ -1,7 +1,6 @@
 -- Items that are judged one after another.
 use Rattle.std.proofs.Common.{◌≡◌, ℕ, ◌+◌, ◌<◌, ◌≤◌, Bool, true, false, not, List, [], ◌∷◌, drop, length, slice_get, Option, None, Some, Result, Ok, Err, is_some, refl, sym, ◌∙◌, ap, subst, arith}
 use Rattle.std.specs.List.{All, AllByRecursion}
-use Rattle.std.specs.Prelude.{OnOk}
 use Rattle.std.proofs.lemmas.List.Elements.{All-from_recursion, recursion_from_All}
 use Rattle.list_laws.proofs.Elements.{drop-next}
 use Rattle.list_laws.proofs.Sequences.{drop_end, all_later}
@@ -45,10 +44,6 @@ without_above : (fault : Option ℕ) (ids : List ℕ) (p : ProofState) (next : �
 without_above (Some _) ids p next above = above
 without_above None ids p next above = some_left (λ line. line.0 < next)
     (λ line. not (is_among ids line.0)) p.lines above
-
-pub on_ok : {E A B : Type 0} (r : Result (Unit {0}) E) → OnOk r A → (A → B) → OnOk r B
-on_ok (Ok _) holds next = next holds
-on_ok (Err stop) holds next = tt
 
 module _ (f : Dqbf) (net : Netlist) where
   abbrev is_variable : ℕ → Bool

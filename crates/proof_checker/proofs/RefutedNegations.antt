@@ -24,11 +24,12 @@ use Rattle.skolem_checker.specs.Mapping.{Mapping, mapping_of}
 use Rattle.skolem_checker.specs.SkolemCircuit.{MappedCircuit, IsComplete, input_bits, HasOutputValue, FollowsCircuit}
 use Rattle.skolem_checker.specs.Tables.{IsMapping}
 use Rattle.skolem_checker.specs.declared.mapping.MapError.{MapError}
-use Rattle.skolem_checker.proofs.OntoLaws.{IsMapped, mapped, apart}
+use Rattle.skolem_checker.proofs.OntoLaws.{IsMapped, mapped}
 use Rattle.skolem_checker.proofs.TablesLaws.{list_all-each}
 use Rattle.proof_checker.specs.CircuitProof.{circuit_literal, circuit_proof_fault}
 use Rattle.proof_checker.proofs.NegatedClauses.{even_bit, HasItsBit, MeetsGate, TellFalsity, negated_true, makes_true}
 use Rattle.proof_checker.proofs.WitnessAssignments.{each, witness, witness_value, witness_tells, witness_meets}
+use Rattle.list_laws.proofs.Members.{in_one_part}
 
 mapping_or : Mapping → Result Candidate MapError → Mapping
 mapping_or other (Ok c) = c.circuit.mapping
@@ -77,8 +78,7 @@ module _ (f : Dqbf) (c : MappedCircuit) (formed : IsWellFormed f) (kept : IsNetl
   no_input v existential =
       elim (cases_Bool (has c.mapping.inputs v)) [
         | inl among ↦
-            absurd (apart f.universals (existential_variables f) formed.prefix.declared_once v
-            (All-contains (Contains f.universals) c.mapping.inputs v is_mapping.inputs.declared_alone
+            absurd (in_one_part f.universals (existential_variables f) v formed.prefix.declared_once (All-contains (Contains f.universals) c.mapping.inputs v is_mapping.inputs.declared_alone
             (contains-has c.mapping.inputs v among)) existential)
         | inr none ↦ none
       ]

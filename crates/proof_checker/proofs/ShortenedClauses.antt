@@ -2,21 +2,15 @@
 use Rattle.std.proofs.Common.{◌≡◌, ◌≢◌, ℕ, zero, suc, ◌+◌, ◌*◌, ◌/◌, ◌%◌, ◌<◌, ◌≤◌, ◌==◌, true, false, not, cond, List, ◌∷◌, map, length, slice_get, None, Some, refl, sym, ◌∙◌, ap, arith}
 use Rattle.std.specs.List.{filter, list_any, range_with_len}
 use Rattle.list_laws.proofs.Truths.{both_false}
-use Rattle.dq_lits.specs.Literal.{positive, negative}
+use Rattle.dq_lits.specs.Literal.{positive}
 use Rattle.dq_formula.proofs.Places.{ne-false}
 use Rattle.cert_text.specs.NegatedMatrix.{as_literal, without_constants}
 use Rattle.proof_checker.specs.ShortClause.{kept_literals}
+use Rattle.cert_text.proofs.CircuitLiterals.{as_even}
 
 kept_where_not : (literals : List ℕ) → list_any (λ l. l == 1) literals ≡ false →
     Some (kept_literals literals) ≡ without_constants literals
 kept_where_not literals is = sym (ap (λ t. cond t None (Some (kept_literals literals))) is)
-
--- the clause that some clause of the formula is false has no constants
-even_literal : (bad : ℕ) → as_literal (2 * bad) ≡ positive bad
-even_literal bad =
-    let even : 2 * bad % 2 ≡ 0 = omega arith in
-    let half : 2 * bad / 2 ≡ bad = omega arith in
-    ap (λ r. cond (r == 1) (negative (2 * bad / 2)) (positive (2 * bad / 2))) even ∙ ap positive half
 
 pub range_kept : (bad n : ℕ) → 1 ≤ bad → kept_literals (map (λ b. 2 * b) (range_with_len bad n)) ≡ map (λ b. positive b)
     (range_with_len bad n)
@@ -26,7 +20,7 @@ range_kept bad (suc n) some =
     let is : not (2 * bad == 0) ≡ true = ap not (ne-false (2 * bad) 0 other) in
     let rest = map (λ b. 2 * b) (range_with_len (bad + 1) n) in
     ap (λ t. map as_literal (cond t (2 * bad ∷ filter (λ x. not (x == 0)) rest) (filter (λ x. not (x == 0)) rest))) is
-    ∙ ap (λ l. l ∷ kept_literals rest) (even_literal bad)
+    ∙ ap (λ l. l ∷ kept_literals rest) (as_even bad)
     ∙ ap (λ ls. positive bad ∷ ls) (range_kept (bad + 1) n (omega arith))
 
 range_not_true : (bad n : ℕ) → list_any (λ l. l == 1) (map (λ b. 2 * b) (range_with_len bad n)) ≡ false

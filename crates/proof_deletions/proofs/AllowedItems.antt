@@ -4,7 +4,7 @@ use Rattle.std.specs.List.{All, range_with_len}
 use Rattle.std.proofs.lemmas.Bool.{cases_eq, eqb-true, eq-eqb, or_left, or_right}
 use Rattle.std.proofs.lemmas.List.{length-map}
 use Rattle.std.proofs.lemmas.List.Elements.{All-nil, All-cons, All-head, All-tail}
-use Rattle.list_laws.proofs.Truths.{false_unless, both_true}
+use Rattle.list_laws.proofs.Truths.{false_unless, both_true, or_second}
 use Rattle.list_laws.proofs.Numbers.{eqb-flip}
 use Rattle.dq_lits.specs.Derivation.{ProofStep}
 use Rattle.rup_core.specs.Items.{ProofItem, derived, gone, is_among}
@@ -37,10 +37,6 @@ kept_live : (b c d : Bool) → c ≡ true → (b || d) ≡ false → (not b && c
 kept_live true c d live h = absurd (true≢false h)
 kept_live false c d live h = live
 
-later_false : (b c : Bool) → (b || c) ≡ false → c ≡ false
-later_false true c h = absurd (true≢false h)
-later_false false c h = h
-
 -- and others live
 live_same : (n : Numbering) (ids : List ℕ) (id : ℕ) → n.live id ≡ true → is_among ids id ≡ false →
     (without_all n ids).live id ≡ true
@@ -48,7 +44,7 @@ live_same n [] id live h = live
 live_same n (other ∷ ids) id live h =
     live_same (without n other) ids id
     (kept_live (eqb id other) (n.live id) (is_among ids id) live (flipped h))
-    (later_false (eqb other id) (is_among ids id) h)
+    (or_second (eqb other id) (is_among ids id) h)
   where
     flipped : (eqb other id || is_among ids id) ≡ false → (eqb id other || is_among ids id) ≡ false
     flipped g = subst (λ (b : Bool). (b || is_among ids id) ≡ false) (eqb-flip other id) g

@@ -4,7 +4,6 @@ use Rattle.std.specs.List.{find}
 use Rattle.std.proofs.lemmas.Bool.{cases_Bool, cases_eq, cases_lt, eqb-true, both_ways}
 use Rattle.std.proofs.lemmas.List.{length-set, length-append, length-map, get_or_append_left, get_or-append_right, get_or-append-add}
 use Rattle.dq_lits.specs.Formula.{Dqbf, Existential, existential_of, is_universal}
-use Rattle.dq_lits.proofs.FormulaVariables.{few_declared}
 use Rattle.dq_formula.specs.Prefix.{IsLawful, existential_variables}
 use Rattle.dq_formula.specs.Sets.{IsLeader}
 use Rattle.dq_formula.proofs.Places.{place}
@@ -17,14 +16,7 @@ use Rattle.refutation_checker.specs.Bindings.{set_at, binding_at, with_one_more,
 use Rattle.refutation_checker.specs.declared.bindings.Binding.{Binding}
 use Rattle.refutation_checker.specs.declared.bindings.Binding.TheVariants.{Universal, Existential as Bound, Free}
 use Rattle.refutation_checker.specs.declared.bindings.DependencySet.{DependencySet}
-
-pub few_places : (f : Dqbf) → IsLawful f → length f.universals + length f.existentials ≤ 1000001
-few_places f lawful =
-    let few = few_declared f lawful.prefix in
-    let long = length-append f.universals (existential_variables f) in
-    let mapped = length-map f.existentials (λ (y : Existential). y.variable) in
-    let most = lawful.few_variables in
-    omega (arith, few, long, mapped, most)
+use Rattle.dq_formula.proofs.Lawful.{few_places}
 
 bound_is : (b : Binding) (c p d q : ℕ) → b ≡ Bound c p → b ≡ Bound d q → (c ≡ d) × (p ≡ q)
 bound_is b c p d q h e = (cc, cc)

@@ -1,7 +1,6 @@
 -- Items that are judged one after another.
 use Rattle.std.proofs.Common.{◌≡◌, ℕ, ◌+◌, ◌<◌, ◌≤◌, Bool, true, false, not, cond, List, [], ◌∷◌, ◌++◌, map, drop, length, slice_get, Option, None, Some, Result, Ok, Err, is_none, is_some, inl, inr, ◌⊎◌, refl, sym, ◌∙◌, ap, ap₂, subst, arith}
 use Rattle.std.specs.List.{All, AllByRecursion, filter}
-use Rattle.std.specs.Prelude.{OnOk}
 use Rattle.std.proofs.lemmas.List.Elements.{All-from_recursion}
 use Rattle.std.proofs.lemmas.Option.{slice_get_within, get_or_from_slice_get}
 use Rattle.list_laws.proofs.Sequences.{all_later}
@@ -397,10 +396,6 @@ module _ (f : Dqbf) (rows : List (List Bool)) where
       run_is = ap (λ b. record { finished = b; live = instance_at f rows; fault = None }) (sym open_end);
     });
   }
-
-pub on_ok : {E A B : Type 0} (r : Result (Unit {0}) E) → OnOk r A → (A → B) → OnOk r B
-on_ok (Ok _) holds next = next holds
-on_ok (Err stop) holds next = tt
 
 pub not_settled : (o : Option ℕ) → is_some o ≡ false → o ≡ None
 not_settled None none = refl

@@ -219,12 +219,6 @@ universal_within x k place v r frame k_in is r_is =
     ∙ frame.whole k [] k_in in
     omega (arith, low, long)
 
-pub take_end : {X : Type 0} (xs : List X) (i : ℕ) → length xs ≤ i → take i xs ≡ xs
-take_end [] zero le = refl
-take_end [] (suc i) le = refl
-take_end (x ∷ xs) zero le = absurd (omega (arith, le))
-take_end (x ∷ xs) (suc i) le = ap (λ ys. x ∷ ys) (take_end xs i (omega (arith, le)))
-
 -- one literal more of a line
 pub line_named_more : (x : Frame) (n m : Names) (literals named now : List Literal) (i k y v : ℕ) (l a : Literal) →
     All (λ r. length r ≡ length x.formula.universals) x.rows

@@ -6,9 +6,9 @@ use Rattle.std.proofs.lemmas.Bool.{cases_Bool, cases_lt, cases_eq, eqb-true, eq-
 use Rattle.list_laws.proofs.Elements.{drop_at}
 use Rattle.dq_lits.specs.Expansion.{row_assignment}
 use Rattle.dq_lits.specs.Formula.{Dqbf}
-use Rattle.dq_lits.specs.Henkin.{same_bit, same_bits}
+use Rattle.dq_lits.specs.Henkin.{same_bits}
 use Rattle.dq_lits.specs.Row.{bit_of}
-use Rattle.dq_lits.proofs.Choices.{same_bits-sound, same_bits-refl}
+use Rattle.dq_lits.proofs.Choices.{same_bits-sound, same_bits-refl, bits_same}
 use Rattle.dq_formula.proofs.Restrictions.{assignment_of-place}
 use Rattle.refutation_checker.specs.Rows.{agree_over, row_of}
 use Rattle.refutation_checker.specs.RowTrees.{node_at, next_of, walk_by, walk, reached, number_by, found, IsSeenPlace, Differ, IsOrderedNode, IsOrdered, IsKeyNode, IsTree, IsNodeSplit, AreNumbered, IsStanding}
@@ -305,12 +305,6 @@ differ_at f sees r s i at v r_whole s_whole lt v_is at_is apart = record {
   ];
 }
 
-same_itself : (b c : Bool) → b ≡ c → same_bit b c ≡ true
-same_itself true true h = refl
-same_itself true false h = cc
-same_itself false true h = cc
-same_itself false false h = refl
-
 -- one universal more on which the rows agree
 pub agree_more : (f : Dqbf) (sees : List ℕ) (r s : List Bool) (i at v : ℕ) → length r ≡ length f.universals →
     length s ≡ length f.universals → i < length sees
@@ -323,7 +317,7 @@ agree_more f sees r s i at v r_whole s_whole lt v_is at_is same =
     let bits : row_assignment f r x ≡ row_assignment f s x =
     sym (bit_at_place f r x at r_whole is) ∙ same ∙ bit_at_place f s x at s_whole is in
     sym (ap (λ xs. agree_over f xs r s) (drop_at sees i 0 lt)
-    ∙ ap (λ b. b && agree_over f (drop (i + 1) sees) r s) (same_itself (row_assignment f r x)
+    ∙ ap (λ b. b && agree_over f (drop (i + 1) sees) r s) (bits_same (row_assignment f r x)
     (row_assignment f s x) bits))
 
 -- a row that differs from that of its leaf

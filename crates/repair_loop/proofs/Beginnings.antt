@@ -82,10 +82,6 @@ no_start b before after graph old new r checker padoa named same = record {
   limit = ap (λ (l : ProofLog). l.limit) same;
 }
 
-pub on_ok : {T E : Type 0} (r : Result T E) (A B : Type 0) → (A → B) → OnOk r A → OnOk r B
-on_ok (Ok x) A B f a = f a
-on_ok (Err e) A B f a = tt
-
 -- what follows from success and from failure
 pub either_way : {T E : Type 0} (r : Result T E) (A B P : Type 0) → (A → P) → (B → P) → OnOk r A → OnErr r B → P
 either_way (Ok x) A B P f g a b = f a

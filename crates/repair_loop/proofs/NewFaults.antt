@@ -11,9 +11,9 @@ use Rattle.hint_log.specs.declared.origins.Origin.TheVariants.{Instance, Gate, F
 use Rattle.log_laws.specs.Engines.{Engine, circuits, same_engine, origin_engine, IsInGroup}
 use Rattle.log_laws.specs.Sessions.{IsAddedLive}
 use Rattle.circuit_cnf.specs.Gates.{IsGateGiven}
-use Rattle.dq_session.proofs.StandingBooks.{in_one_group}
 use Rattle.repair_loop.specs.Turning.{AreFaultsNew}
 use Rattle.repair_loop.proofs.UnnamedBefore.{unnamed_since}
+use Rattle.log_laws.proofs.Kept.{in_one_group}
 
 -- what is no fault adds nothing
 other_given : (before earlier : List Entry) (engine : Engine) (origin : Origin) (c : List Literal) →

@@ -1,7 +1,6 @@
 -- What an engine adds for a formula's prefix, without its clauses, it adds for the formula.
 use Rattle.std.proofs.Common.{◌≡◌, ℕ, zero, suc, true, Result, Ok, Err, List, [], ◌∷◌, ◌++◌, length, replicate, Some, refl, sym, ◌∙◌, ap, arith}
 use Rattle.std.specs.Option.{option_map}
-use Rattle.std.specs.Result.{IfOk}
 use Rattle.dq_lits.specs.Literal.{Literal, variable_of}
 use Rattle.dq_lits.specs.Formula.{Dqbf, IsWellFormed}
 use Rattle.hint_log.specs.Deciding.{DecidesNothing, DecidesTrue, IsFaultLeaf}
@@ -136,7 +135,3 @@ module _ (f : Dqbf) where
   pub store_there : ClausesLeaveStores → (p : Padoa) (es : List Entry) → IsCopyStore bare [] p es →
       IsCopyStore f (replicate (length f.matrix) 0) p es
   store_there law p es store = law bare [] p es f.matrix (replicate (length f.matrix) 0) refl store
-
-pub if_ok : {T E : Type 0} (r : Result T E) (A B : T → Type 0) → ((x : T) → A x → B x) → IfOk r A → IfOk r B
-if_ok (Ok x) A B f a = f x a
-if_ok (Err e) A B f a = a

@@ -22,7 +22,7 @@ use Rattle.dq_session.specs.Changes.{groups_of}
 use Rattle.dq_session.specs.Grouped.{InstancesAreGrouped}
 use Rattle.dq_session.specs.Standing.{EnginesLeaveBooks, RoundsLeaveBooks}
 use Rattle.dq_session.proofs.GroupedFrames.{frame_group}
-use Rattle.dq_session.proofs.StandingBooks.{in_one_group, has_number}
+use Rattle.dq_session.proofs.StandingBooks.{has_number}
 use Rattle.padoa_definitions.specs.Leaving.{EnginesLeaveStores, RoundsLeaveStores, SessionsLeaveCopies, CopiesAreGrouped, CopiesAreStored, ActiveGroupsAreStored}
 use Rattle.padoa_definitions.specs.Standing.{RoundsLeaveCopies}
 use Rattle.padoa_definitions.specs.Store.{IsCopyStore, copy_groups}
@@ -36,6 +36,7 @@ use Rattle.repair_loop.proofs.LogGrowth.{log_grew}
 use Rattle.repair_loop.proofs.NewFaults.{others_new, turns_new}
 use Rattle.repair_loop.proofs.Rows.{no_old_row}
 use Rattle.repair_loop.proofs.StoredGroups.{apart_still}
+use Rattle.log_laws.proofs.Kept.{in_one_group}
 
 pub same_book : (b : BookState) → IsBookAfter b b
 same_book b = record { same = refl; many_groups = refl }

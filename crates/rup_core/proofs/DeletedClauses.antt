@@ -4,7 +4,7 @@ use Rattle.std.specs.List.{AllByRecursion}
 use Rattle.dq_lits.specs.Literal.{Assignment, Literal, opposite, clause_true}
 use Rattle.dq_lits.specs.Derivation.{LiveClauses, MakesTrue, with_clause, status_of, fault_by, hint_fault, is_tautology, line_fault, IsDerived, ProofStep, ProofFault, underived, fault_of_step, is_empty, steps_fault}
 use Rattle.dq_lits.proofs.HeldLiterals.{fault_by-same}
-use Rattle.dq_lits.proofs.Derivations.{no_step_fault, one_of_two, end_fault, empty_is_false}
+use Rattle.dq_lits.proofs.Derivations.{no_step_fault, end_fault, empty_is_false, with_clause-true}
 use Rattle.rup_core.specs.Items.{ProofItem, derived, gone, is_among, without_clauses, items_fault, ItemsDerive, AreUnused}
 use Rattle.rup_core.specs.Runs.{Run, with_line, with_item, with_items, run_fault}
 
@@ -55,10 +55,6 @@ pub fewer_true : (m : Assignment) (live : LiveClauses) (ids : List ℕ) → Make
     MakesTrue m (without_clauses live ids)
 fewer_true m live ids truth id clause h = if_kept m (is_among ids id) clause (live id) (truth id clause) h
 
-pub one_more_true : (m : Assignment) (live : LiveClauses) (id : ℕ) (clause : List Literal) → MakesTrue m live →
-    clause_true m clause ≡ true → MakesTrue m (with_clause live id clause)
-one_more_true m live id clause truth here i c h = one_of_two m (i == id) clause c (live i) here (truth i c) h
-
 -- a derivation with deletions is sound, where a derived line is implied
 abbrev LineIsImplied : Type 0
 LineIsImplied = (live : LiveClauses) (literals : List Literal) (hints : List ℕ) → IsDerived live literals hints →
@@ -73,7 +69,7 @@ items_refute implied m (derived step ∷ items) finished live truth before h =
     (items_fault (is_empty step.literals) (with_clause live step.id step.literals) items) h in
     let here = implied live step.literals step.hints r.0 m truth in
     items_refute implied m items (is_empty step.literals) (with_clause live step.id step.literals)
-    (one_more_true m live step.id step.literals truth here) (empty_is_false m step.literals here) r.1
+    (with_clause-true m live truth step.id step.literals here) (empty_is_false m step.literals here) r.1
 items_refute implied m (gone ids ∷ items) finished live truth before h =
     items_refute implied m items finished (without_clauses live ids) (fewer_true m live ids truth) before h
 
@@ -86,8 +82,7 @@ line_keeps : LineIsImplied → (m : Assignment) (o : Option ℕ) (run : Run) (st
     line_fault run.live step.literals step.hints ≡ o →
     MakesTrue m run.live → MakesTrue m (with_line o run step).live
 line_keeps implied m (Some place) run step is truth = truth
-line_keeps implied m None run step is truth = one_more_true m run.live step.id step.literals truth
-    (implied run.live step.literals step.hints is m truth)
+line_keeps implied m None run step is truth = with_clause-true m run.live truth step.id step.literals (implied run.live step.literals step.hints is m truth)
 
 item_keeps : LineIsImplied → (m : Assignment) (finished : Bool) (live : LiveClauses) (fault : Option ℕ)
     (item : ProofItem) →

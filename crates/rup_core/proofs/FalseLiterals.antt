@@ -5,14 +5,13 @@ use Rattle.std.proofs.lemmas.Bool.{not-true, or_from, or_left, or_right}
 use Rattle.std.proofs.lemmas.List.{take-append-drop}
 use Rattle.std.proofs.lemmas.List.Folds.{list_any_at}
 use Rattle.dq_lits.specs.Literal.{Literal, opposite, same_literal}
-use Rattle.dq_lits.specs.Derivation.{LiveClauses, holds, is_tautology, hint_fault, line_fault}
+use Rattle.dq_lits.specs.Derivation.{LiveClauses, holds, is_tautology, hint_fault, line_fault, AreSame}
 use Rattle.dq_lits.proofs.HeldLiterals.{any_one, holds-append, holds-map}
 use Rattle.dq_lits.proofs.SignedLiterals.{same_literal-refl, opposite-opposite}
-use Rattle.rup_core.specs.Truth.{AreSame}
 use Rattle.dq_lits.specs.Truth.{literal_value}
 use Rattle.dq_lits.specs.declared.truth_values.TruthValue.TheVariants.{True}
-use Rattle.rup_core.proofs.EqualTruths.{hint_fault-same}
 use Rattle.dq_lits.proofs.LiteralValues.{value_true}
+use Rattle.dq_lits.proofs.EqualTruths.{hint_fault-same}
 
 -- no literal beside its negation
 abbrev pub IsConsistent : List Literal → Type 0

@@ -7,14 +7,13 @@ use Rattle.std.proofs.lemmas.List.Folds.{list_any-append}
 use Rattle.list_laws.proofs.Numbers.{equal-swap}
 use mathlib.Core.Path.{fun_ext}
 use Rattle.dq_lits.specs.Literal.{Literal, opposite, same_literal}
-use Rattle.dq_lits.specs.Derivation.{LiveClauses, with_clause, Status, falsified, unit, stuck, status_of, fault_by, hint_fault, is_tautology, line_fault, ProofStep, is_empty}
+use Rattle.dq_lits.specs.Derivation.{LiveClauses, with_clause, Status, falsified, unit, stuck, status_of, fault_by, hint_fault, is_tautology, line_fault, ProofStep, is_empty, AreSame}
 use Rattle.rup_core.specs.Items.{derived, gone, is_among, without_clauses}
 use Rattle.rup_core.specs.Judging.{Hinted, no_line, is_last, refute_by, refute, derive_line}
 use Rattle.rup_core.specs.Lines.{clause_of_id}
 use Rattle.rup_core.specs.Proving.{ProofState, or_clause, with_lines, run_over, with_derived, ended, without_lines}
 use Rattle.rup_core.specs.Runs.{with_line, with_item, unless_faulty, advanced}
-use Rattle.rup_core.specs.Truth.{AreSame}
-use Rattle.rup_core.proofs.EqualTruths.{status_of-same}
+use Rattle.dq_lits.proofs.EqualTruths.{status_of-same}
 
 -- what is true as a set is all that counts
 refute_by-same : (s : Status) (last : Bool) (f g : Literal → Bool) → ((l : Literal) → f l ≡ g l) →

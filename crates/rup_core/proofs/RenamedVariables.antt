@@ -2,21 +2,11 @@
 use Rattle.std.proofs.Common.{◌≡◌, ℕ, ◌+◌, ◌==◌, Bool, true, false, not, cond, ◌||◌, ◌&&◌, inl, inr, List, [], ◌∷◌, map, Option, None, Some, refl, sym, ◌∙◌, ap, ap₂}
 use Rattle.std.specs.List.{AllByRecursion, list_any, list_all, filter}
 use Rattle.std.specs.Option.{option_map}
-use Rattle.std.proofs.lemmas.Bool.{cases_Bool, eqb-true, eq-eqb}
 use Rattle.dq_lits.specs.Literal.{Literal, positive, negative, variable_of, opposite, on_variable, same_literal}
 use Rattle.dq_lits.specs.Derivation.{LiveClauses, with_clause, Status, falsified, unit, stuck, holds, status_by, status_of, fault_by, hint_fault, is_tautology, line_fault}
 use Rattle.rup_core.specs.Items.{is_among, without_clauses}
 use Rattle.rup_core.specs.Renaming.{KeepsApart, AreKnown as AreKnownLiterals, IsKnownClause as IsKnownHint, renamed, AreRenamed}
-
-same_tests : (a b c d : ℕ) → (a ≡ b → c ≡ d) → (c ≡ d → a ≡ b) → (a == b) ≡ (c == d)
-same_tests a b c d to from =
-    elim (cases_Bool (a == b)) [
-      | inl same ↦ same ∙ sym (eq-eqb c d (to (eqb-true a b same)))
-      | inr apart ↦ elim (cases_Bool (c == d)) [
-        | inl same ↦ let t : true ≡ false = sym (eq-eqb a b (from (eqb-true c d same))) ∙ apart in cc
-        | inr other ↦ apart ∙ sym other
-      ]
-    ]
+use Rattle.list_laws.proofs.Truths.{same_test}
 
 module _ (number : ℕ → ℕ) (told : ℕ → Bool) (apart : KeepsApart number told) where
   abbrev IsKnown : Literal → Type 0
@@ -37,10 +27,10 @@ module _ (number : ℕ → ℕ) (told : ℕ → Bool) (apart : KeepsApart number
   name l = on_variable (number (variable_of l)) l
 
   same-renamed : (k l : Literal) → IsKnown k → IsKnown l → same_literal (name k) (name l) ≡ same_literal k l
-  same-renamed (positive v) (positive w) kv kw = same_tests (number v) (number w) v w (apart v w kv kw) (ap number)
+  same-renamed (positive v) (positive w) kv kw = same_test (number v) (number w) v w (ap number) (apart v w kv kw)
   same-renamed (positive v) (negative w) kv kw = refl
   same-renamed (negative v) (positive w) kv kw = refl
-  same-renamed (negative v) (negative w) kv kw = same_tests (number v) (number w) v w (apart v w kv kw) (ap number)
+  same-renamed (negative v) (negative w) kv kw = same_test (number v) (number w) v w (ap number) (apart v w kv kw)
 
   holds-renamed : (trues : List Literal) (l : Literal) → AreKnown trues → IsKnown l →
       holds (map name trues) (name l) ≡ holds trues l

@@ -1,11 +1,15 @@
 //! Whether a line is derived by its hints.
+//!
+//! A hint is looked at once and whole, literal by literal, so that a clause that holds a literal
+//! twice, or one beside its negation, needs no rule of its own. A clause is read up to its second
+//! literal that isn't false: so a hint costs more than the line and the hints before it only where
+//! a clause is stuck, and a stuck clause ends the proof.
 
 ghost use Rattle.std.specs.Prelude.{◌≡◌, true, [], All, IfSome, IfOk, IsOk, not, map};
 ghost use Rattle.dq_lits.specs.Literal.{opposite};
-ghost use Rattle.dq_lits.specs.Derivation.{line_fault, hint_fault, is_tautology};
+ghost use Rattle.dq_lits.specs.Derivation.{line_fault, hint_fault, is_tautology, AreSame};
 ghost use Rattle.rup_core.specs.Range.{StandsWithin, LineStandsWithin};
 ghost use Rattle.rup_core.specs.Verdict.{fault_in};
-ghost use Rattle.rup_core.specs.Truth.{AreSame};
 
 use crate::bases::Base;
 use crate::marks::Marks;

@@ -1,4 +1,9 @@
 //! Clauses by their places in a page, some of them gone.
+//!
+//! A page has 256 ids: with fewer more is paid where no line stays, with more where a few lines
+//! stay in many pages. It packs its literals into new memory once those that are gone are more than
+//! the live ones and as many as the page's ids, so that no clause moves in place and a refusal
+//! leaves the page as it is.
 
 ghost use Rattle.std.specs.Prelude.{◌≡◌, ◌<◌, ◌++◌, ◌^◌, ℕ, [], length, slice_set, Some, None, IfOk, OnOk, OnErr, MatchOption, IsSome};
 ghost use Rattle.rup_core.specs.Paging.{clause_at, AreSameClauses, Sets};

@@ -1,4 +1,8 @@
 //! Proofs that are judged as their items come: lines, and ids that are deleted.
+//!
+//! A line is taken as its literals, its hinted clauses one by one, and its id, and no list of hints
+//! is kept. Whether a proof ends on the empty clause is carried along, so that a proof without
+//! lines and one that ends on another clause have one fault.
 
 ghost use Rattle.std.specs.Prelude.{◌≡◌, ◌∷◌, ◌<◌, ◌≤◌, ℕ, [], false, not, All, Some, None, List, Option, map, max, IfOk, IfSome, IsOk, OnOk, OnErr};
 ghost use Rattle.dq_lits.specs.Literal.{Literal};

@@ -1,4 +1,7 @@
 //! Lines that are held, by their ids.
+//!
+//! A look-up touches memory as often as in a flat list. Ids are asked to be above those held, and
+//! begin at 1, so that no count of lines passes the end of its type.
 
 ghost use Rattle.std.specs.Prelude.{◌≡◌, ◌<◌, ◌≤◌, ◌+◌, ◌*◌, ◌^◌, ◌==◌, ◌++◌, ◌∷◌, ℕ, [], All, Some, None, length, not, OnOk, OnErr, MatchOption, IsSome, is_some};
 ghost use Rattle.std.specs.List.{filter};

@@ -1,4 +1,7 @@
 //! The literals that a line's hints made true.
+//!
+//! A table has the first variables and an ordered map the others, so that what a trail takes
+//! follows what a line assigns, whichever numbers its variables have.
 
 ghost use Rattle.std.specs.Prelude.{◌≡◌, ◌+◌, ◌<◌, ◌≤◌, [], ◌∷◌, length, max, All, IfOk, IsOk, OnOk, OnErr, if◌then◌else◌};
 ghost use Rattle.std.specs.Option.{option_copied};

@@ -85,9 +85,5 @@ so-far-behind b d g old new ready kept searched began = record {
         subst (λ (log : ProofLog). Each IsOfSearch log.entries) (sym same)
         (same-searched old.entries ready.searched)
 
-pub on-err : {X E P : Type 0} (r : Result X E) → P → OnErr r P
-on-err (Ok x) h = tt
-on-err (Err e) h = h
-
 pub limit-other : Limit ≡ Memory → ⊥
 limit-other same = cc

@@ -14,10 +14,6 @@ use Rattle.session_runs.specs.declared.sessions.Session.{Session}
 some-is : (a b : Dqbf) → Some a ≡ Some b → a ≡ b
 some-is a b e = cc
 
-pub both-ok : {X E P Q R : Type 0} (r : Result X E) → (P → Q → R) → OnOk r P → OnOk r Q → OnOk r R
-both-ok (Ok x) step p q = step p q
-both-ok (Err e) step p q = p
-
 pub on-err-weaker : {X E P Q : Type 0} (r : Result X E) → (P → Q) → OnErr r P → OnErr r Q
 on-err-weaker (Ok x) step h = h
 on-err-weaker (Err e) step h = step h

@@ -14,8 +14,8 @@ use Rattle.skolem_checker.specs.Mapping.{Mapping}
 use Rattle.skolem_checker.specs.SkolemCircuit.{IsComplete, ReadsUniversal}
 use Rattle.skolem_checker.specs.Checks.{existential_at, ReadsDeclaredBefore, IsReadsAnswer, IsFirstBad, IsRowsAnswer}
 use Rattle.skolem_checker.specs.Tables.{IsOneToOne, IsMapping, IsWritten, IsKeptElsewhere, IsLiteralTable, AreTables, HasLiteral, ReadsByTables, RowTest, universal_places}
-use Rattle.skolem_checker.proofs.OntoLaws.{apart}
 use Rattle.skolem_checker.proofs.TablesLaws.{reads_by_tables, tables_by_reads, has_literal, row_holds, row_fails}
+use Rattle.list_laws.proofs.Members.{in_one_part}
 
 -- keys are within a table over the variables
 keys_in : (f : Dqbf) (variables keys : List ℕ) → HasLawfulPrefix f →
@@ -49,8 +49,7 @@ literal_table f net mapping inputs first second lawful mapped room doubled writt
       let v = slice_index mapping.inputs i in
       let in_net : i < length net.inputs = omega (arith, mapped.inputs_length, mapped.inputs.same_length) in
       elsewhere v (λ there.
-      apart f.universals (existential_variables f) lawful.declared_once v (mapped.inputs.declared_alone i 0 below)
-      (All-contains (Contains (existential_variables f)) mapping.outputs v mapped.outputs.declared_alone there))
+      in_one_part f.universals (existential_variables f) v lawful.declared_once (mapped.inputs.declared_alone i 0 below) (All-contains (Contains (existential_variables f)) mapping.outputs v mapped.outputs.declared_alone there))
       ∙ written i below
       ∙ ap (λ xs. slice_index xs i) doubled
       ∙ get_or-map (λ v. 2 * v) net.inputs i 0 0 in_net;

@@ -16,11 +16,12 @@ use Rattle.skolem_checker.specs.Reads.{has_bit, root_of, IsAt, IsBatchAnswer}
 use Rattle.skolem_checker.specs.Tables.{ReadsByTables, AreTables}
 use Rattle.skolem_checker.specs.Mapping.{Mapping}
 use Rattle.dq_formula.specs.Prefix.{existential_variables}
-use Rattle.skolem_checker.proofs.ReadsLaws.{variable_at, places-below, named_at}
+use Rattle.skolem_checker.proofs.ReadsLaws.{variable_at, named_at}
 use Rattle.circuit_plain.specs.Words.{marked}
 use Rattle.circuit_plain.proofs.ValueLaws.{Contains-place}
 use Rattle.skolem_checker.specs.declared.cones.Cone.{Cone}
 use Rattle.skolem_checker.proofs.SightsLaws.{whole_written}
+use Rattle.dq_formula.proofs.Places.{existential_below}
 
 pub grows_on : (slots slots' slots'' : List ℕ) (cone cone' cone'' : Cone) → Grows slots slots' cone cone' →
     Grows slots' slots'' cone' cone'' → Grows slots slots'' cone cone''
@@ -225,7 +226,7 @@ pub all_declared : (f : Dqbf) (ys : List ℕ) → ys ≡ existential_variables f
     → All (λ y. existential_of f y.variable ≡ Some y) f.existentials → All (λ y. IsSome (existential_of f y)) ys
 all_declared f ys same named k d below =
     rw (get_or_default ys k d 0 below ∙ variable_at f ys k same below)
-    (rw (named_at f k named (places-below f ys k same below)) refl)
+    (rw (named_at f k named (existential_below f ys k same below)) refl)
 
 -- each universal's input, by the tables
 pub are_inputs : (f : Dqbf) (net : Netlist) (mapping : Mapping) (literals places : List ℕ) →

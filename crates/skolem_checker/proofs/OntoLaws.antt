@@ -5,7 +5,7 @@ use Rattle.std.specs.Set.{is_member}
 use Rattle.std.proofs.lemmas.Cmp.{nat_eq_equiv}
 use Rattle.std.proofs.lemmas.Bool.{cases_Bool, eqb-true}
 use Rattle.std.proofs.lemmas.Bool.Decides.{Decides-eqb}
-use Rattle.std.proofs.lemmas.List.{length-append, length-map, get_or-append-add}
+use Rattle.std.proofs.lemmas.List.{length-append, length-map}
 use Rattle.std.proofs.lemmas.List.Elements.{All-push, All-contains, All-contains_itself}
 use Rattle.std.proofs.lemmas.Map.Keys.{IsDistinct-push}
 use Rattle.std.proofs.lemmas.Map.Made.{length-le_from_is_member, AllPairs-from_IsDistinct}
@@ -154,12 +154,6 @@ pub get_or-append_left : (xs ys : List ℕ) (i d : ℕ) → i < length xs → ge
 get_or-append_left [] ys i d below = absurd (omega arith)
 get_or-append_left (x ∷ xs) ys zero d below = refl
 get_or-append_left (x ∷ xs) ys (suc i) d below = get_or-append_left xs ys i d (omega arith)
-
-pub apart : (xs ys : List ℕ) → AllPairs (λ v w. v ≢ w) (xs ++ ys) → (v : ℕ) → Contains xs v → Contains ys v → ⊥
-apart xs ys once v (i, i_in, i_is) (j, j_in, j_is) =
-    let longer : length (xs ++ ys) ≡ length xs + length ys = length-append xs ys in
-    once i (length xs + j) v (omega arith) (omega arith)
-    (get_or-append_left xs ys i v i_in ∙ i_is ∙ sym (get_or-append-add xs ys j v ∙ j_is))
 
 mapped-in_order : (f : Dqbf) (net : Netlist) → HasLawfulPrefix f
     → length net.inputs ≡ length f.universals → length net.outputs ≡ length f.existentials →

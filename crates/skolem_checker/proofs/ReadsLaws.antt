@@ -23,13 +23,6 @@ variable_at f ys p same below =
         (λ (y : Existential). y.variable) in
         omega arith
 
-pub places-below : (f : Dqbf) (ys : List ℕ) (p : ℕ) → ys ≡ existential_variables f → p < length ys →
-    p < length f.existentials
-places-below f ys p same below =
-    let lengths : length ys ≡ length f.existentials = ap length same ∙ length-map f.existentials
-    (λ (y : Existential). y.variable) in
-    omega arith
-
 pub named_at : (f : Dqbf) (p : ℕ) → All (λ y. existential_of f y.variable ≡ Some y) f.existentials →
     p < length f.existentials
     → existential_of f (existential_at f p).variable ≡ Some (existential_at f p)

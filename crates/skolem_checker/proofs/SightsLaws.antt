@@ -20,7 +20,8 @@ use Rattle.circuit_plain.specs.Words.{marked}
 use Rattle.skolem_checker.specs.Checks.{ReadsDeclaredBefore, existential_at, IsFirstUndeclared}
 use Rattle.skolem_checker.specs.Reads.{has_bit, root_of, AreReached, IsAt, AreDeclared, IsSetNoted, IsNoted, IsAllowed, AreSameAt, IsFirstIn, IsBatchAnswer}
 use Rattle.skolem_checker.specs.Tables.{ReadsByTables}
-use Rattle.skolem_checker.proofs.ReadsLaws.{variable_at, places-below, named_at, before-from_marks, first-from_marks}
+use Rattle.skolem_checker.proofs.ReadsLaws.{variable_at, named_at, before-from_marks, first-from_marks}
+use Rattle.dq_formula.proofs.Places.{existential_below}
 
 -- words that are all 0 mark nothing
 pub none_marked : (words : List ℕ) (n : ℕ) → length words ≤ n → ((k : ℕ) → k < n → get_or words k 0 ≡ 0) → (i v : ℕ) →
@@ -225,12 +226,12 @@ module _ (f : Dqbf) (ys : List ℕ) (s n : ℕ) (same : ys ≡ existential_varia
   pub batch_is_at : (k : ℕ) → k < length (take n (drop s ys)) → IsAt f (take n (drop s ys)) k (existential_at f (s + k))
   batch_is_at k lt =
       let inside = in_batch k lt in
-      (lt, rw (batch_at k 0 lt) (named_at f (s + k) named (places-below f ys (s + k) same inside.1)))
+      (lt, rw (batch_at k 0 lt) (named_at f (s + k) named (existential_below f ys (s + k) same inside.1)))
 
   pub batch_declared : All (λ y. IsSome (existential_of f y)) (take n (drop s ys))
   batch_declared k d lt =
       let inside = in_batch k lt in
-      rw (batch_at k d lt) (rw (named_at f (s + k) named (places-below f ys (s + k) same inside.1)) refl)
+      rw (batch_at k d lt) (rw (named_at f (s + k) named (existential_below f ys (s + k) same inside.1)) refl)
 
   pub in_this_batch : (p : ℕ) → s ≤ p → p < s + n → p < length f.existentials → p - s < length (take n (drop s ys))
   in_this_batch p from before below =
@@ -259,7 +260,7 @@ module _ (f : Dqbf) (ys : List ℕ) (s n : ℕ) (same : ys ≡ existential_varia
         IsFirstUndeclared Reads f (slice_index_or ys (s + i) 0) x
     batch_fails i x h =
         let inside = in_batch i h.0 in
-        let below = places-below f ys (s + i) same inside.1 in
+        let below = existential_below f ys (s + i) same inside.1 in
         record {
           place = s + i;
           in_range = below;

@@ -1,6 +1,7 @@
 use Rattle.std.proofs.Common.{ℕ, ◌+◌, subst, sym, Vec, Global}
-use Rattle.definition_order.proofs.SortedExistentials.{AreSharedSoFar, one_shared, none_shared, all_shared, within, past}
+use Rattle.definition_order.proofs.SortedExistentials.{AreSharedSoFar, one_shared, none_shared, all_shared, past}
 use Rattle.definition_order.proofs.shared_existentials.Goals.{then-is_shared_at+in_ok-push, else-is_shared_at}
+use Rattle.dq_formula.proofs.Places.{existential_below}
 use Rattle.definition_order.proofs.shared_existentials.Goals as goal
 
 pub loop-place-preserved : goal.loop-place-preserved
@@ -9,7 +10,7 @@ loop-place-preserved c =
     let y = c.args.y in
     let ranks = c.args.ranks.now in
     let place = c.loop-place.place in
-    let below = within f c.existentials-place-end.result.now place c.existentials-place-end.ensures
+    let below = existential_below f c.existentials-place-end.result.now place c.existentials-place-end.ensures
     c.loop-place-test.true in
     elim c.if-is_shared_at.branch [
       | then-is_shared_at+in_ok-push w ↦ subst (λ (v : Vec ℕ Global). AreSharedSoFar f ranks y v.items (place + 1))

@@ -3,20 +3,16 @@ use Rattle.learning_trail.specs.Growing.{HasLearned}
 use Rattle.oracle.specs.declared.oracles.Answer.{Answer}
 use Rattle.cdcl_scan.specs.Searching.{IsTurn, IsAnswered, searched}
 use Rattle.learning_trail.proofs.SearchTurns.{assumptions_same, learned_both, found_later}
+use Rattle.list_laws.proofs.Results.{on_err}
 use Rattle.cdcl_scan.proofs.search.search.Goals as goal
 
 pub turn-requires-clause-assumptions : goal.turn-requires-clause-assumptions
 turn-requires-clause-assumptions c = assumptions_same c.args.log.now c.turns.log c.args.assumptions.now
     c.turns.invariant.learned c.requires.assumptions
 
-on_err : {X E : Type 0} (P : Type 0) (r : Result X E) → P → OnErr r P
-on_err P (Ok x) p = tt
-on_err P (Err e) p = p
-
 pub returns-in_err-turn-clause-stop : goal.returns-in_err-turn-clause-stop
 returns-in_err-turn-clause-stop c =
-    on_err (HasLearned c.args.log.now c.turn.new.log) c.from_residual.result
-    (learned_both c.args.log.now c.turns.log c.turn.new.log c.turns.invariant.learned c.in_err-turn.ensures.stop)
+    on_err c.from_residual.result (learned_both c.args.log.now c.turns.log c.turn.new.log c.turns.invariant.learned c.in_err-turn.ensures.stop)
 
 pub turns-preserved : goal.turns-preserved
 turns-preserved c =

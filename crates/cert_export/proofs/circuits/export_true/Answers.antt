@@ -3,7 +3,7 @@ use Rattle.std.proofs.lemmas.Grind.{common_steps}
 use Rattle.hint_log.specs.Reached.{AreReached}
 use Rattle.cert_export.proofs.ExportableCircuits.{decided_ids, decided_id, is_proved, is_few, is_writable, is_allowed}
 use Rattle.cert_export.proofs.GateVariables.{is_numbered}
-use Rattle.cert_export.proofs.WrittenLines.{if_ok_more}
+use Rattle.list_laws.proofs.Results.{if_ok}
 use Rattle.cert_export.proofs.circuits.export_true.Goals as goal
 
 pub export_ids-requires : goal.export_ids-requires
@@ -23,13 +23,13 @@ returns c =
     let ids = c.items.result.now in
     let made = c.export_ids.ensures in
     record {
-      proved = if_ok_more c.export_ids.result
+      proved = if_ok c.export_ids.result
           (λ r x. is_proved f entries id ids r.0 r.1 x c.exported_answer_is_proved.ensures) made;
       gates = grind (arith, common_steps);
-      numbers = if_ok_more c.export_ids.result (λ r x. is_numbered f entries id ids r.0 r.1 x) made;
-      few = if_ok_more c.export_ids.result (λ r x. is_few f entries id ids r.0 r.1 x) made;
-      spelled = if_ok_more c.export_ids.result
+      numbers = if_ok c.export_ids.result (λ r x. is_numbered f entries id ids r.0 r.1 x) made;
+      few = if_ok c.export_ids.result (λ r x. is_few f entries id ids r.0 r.1 x) made;
+      spelled = if_ok c.export_ids.result
           (λ r x. is_writable f entries id ids r.0 r.1 x c.exported_file_is_spellable.ensures) made;
-      allowed = if_ok_more c.export_ids.result (λ r x. is_allowed f entries id ids r.0 r.1 x) made;
-      exported = if_ok_more c.export_ids.result (λ r x. (ids, x)) made;
+      allowed = if_ok c.export_ids.result (λ r x. is_allowed f entries id ids r.0 r.1 x) made;
+      exported = if_ok c.export_ids.result (λ r x. (ids, x)) made;
     }

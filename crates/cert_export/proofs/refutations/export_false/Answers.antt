@@ -3,7 +3,7 @@ use Rattle.hint_log.specs.Reached.{AreReached}
 use Rattle.cert_export.specs.Exportable.{AreExportable}
 use Rattle.cert_export.proofs.ExportableAnswers.{refuted_exportable, exported_accepted, exported_spelled}
 use Rattle.cert_export.proofs.LineCounts.{few_items}
-use Rattle.cert_export.proofs.WrittenLines.{if_ok_more}
+use Rattle.list_laws.proofs.Results.{if_ok}
 use Rattle.cert_export.proofs.refutations.export_false.Goals as goal
 
 pub refutation-requires : goal.refutation-requires
@@ -26,11 +26,11 @@ returns c =
     c.every_formula_is_lawful.ensures.few_clauses c.requires.refuted c.every_log_is_lawful.ensures c.requires.limit
     c.steps.ensures.within c.steps.ensures.value c.rounds_are_steps.ensures c.reached_are_ids.ensures are in
     record {
-      accepted = if_ok_more c.refutation.result
+      accepted = if_ok c.refutation.result
           (λ d x. exported_accepted f live entries c.args.id ids d can c.requires.refuted are x) c.refutation.ensures;
-      few = if_ok_more c.refutation.result (λ d x. few_items f live entries ids d.items are.ascending x.items)
+      few = if_ok c.refutation.result (λ d x. few_items f live entries ids d.items are.ascending x.items)
           c.refutation.ensures;
-      spelled = if_ok_more c.refutation.result
+      spelled = if_ok c.refutation.result
           (λ d x. exported_spelled f live entries c.args.id ids d can c.requires.refuted are x) c.refutation.ensures;
-      lines = if_ok_more c.refutation.result (λ d x. (ids, are, x)) c.refutation.ensures;
+      lines = if_ok c.refutation.result (λ d x. (ids, are, x)) c.refutation.ensures;
     }

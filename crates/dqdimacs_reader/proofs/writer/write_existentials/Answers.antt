@@ -2,7 +2,8 @@ use Rattle.std.proofs.Common.{get_or}
 use Rattle.dq_lits.specs.Formula.{existential_of}
 use Rattle.dq_formula.specs.Prefix.{unseeing}
 use Rattle.dqdimacs_reader.specs.Canonical.{existential_text}
-use Rattle.dqdimacs_reader.proofs.ExistentialPlaces.{existential_at, below_existentials, named_in, is_of, is_some, one_more}
+use Rattle.dqdimacs_reader.proofs.ExistentialPlaces.{existential_at, named_in, is_of, is_some, one_more}
+use Rattle.dq_formula.proofs.Places.{existential_below}
 use Rattle.dqdimacs_reader.proofs.writer.write_existentials.Goals as goal
 
 pub write_existential-requires : goal.write_existential-requires
@@ -24,4 +25,4 @@ loop-i-preserved c =
     let grown = c.in_ok-write_existential.ensures (existential_at f i) named is in
     one_more (existential_text f.universals) f.existentials i
     (unseeing 0) c.loop-i.text.items c.write_existential.new.text.items
-    _ (below_existentials f vars i c.existentials-existentials.ensures c.loop-i-test.true) grown c.loop-i.invariant
+    _ (existential_below f vars i c.existentials-existentials.ensures c.loop-i-test.true) grown c.loop-i.invariant

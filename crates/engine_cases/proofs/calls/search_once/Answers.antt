@@ -21,9 +21,9 @@ returns-clause-id g c = λ id is.
     (c.solve.ensures.unsat id (c.in_ok-answer.was ∙ is))
 
 pub returns-in_err-answer-clause-groups : goal.returns-in_err-answer-clause-groups
-returns-in_err-answer-clause-groups g c = on_err _ _ (groups_stay c.args.log.now c.solve.new.log
+returns-in_err-answer-clause-groups g c = on_err _ (groups_stay c.args.log.now c.solve.new.log
     c.args.active.now c.in_err-answer.ensures.stop c.requires.groups)
 
 pub returns-in_err-answer-clause-plain : goal.returns-in_err-answer-clause-plain
-returns-in_err-answer-clause-plain g c = on_err _ _ (plain_stays c.args.log.now c.solve.new.log
+returns-in_err-answer-clause-plain g c = on_err _ (plain_stays c.args.log.now c.solve.new.log
     c.args.assume.now c.in_err-answer.ensures.stop c.requires.plain)

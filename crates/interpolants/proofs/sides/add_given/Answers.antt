@@ -3,9 +3,10 @@ use Rattle.hint_log.specs.Entries.{origin_at}
 use Rattle.interpolants.specs.Interpolant.{is_on_a, IsReachedGiven}
 use Rattle.interpolants.specs.Sides.{AreOfSome}
 use Rattle.interpolants.specs.Splits.{divided}
-use Rattle.interpolants.proofs.Sided.{contains_place, some_more, some_past, some_all, some_first, on_a_by_selectors, is_given, given_is, some_is}
+use Rattle.interpolants.proofs.Sided.{contains_place, some_more, some_past, some_all, some_first, on_a_by_selectors, is_given, given_is}
 use Rattle.interpolants.proofs.sides.add_given.Goals as goal
 use Rattle.interpolants.proofs.sides.add_given.Goals.{then-is_some+then-is_on_side+in_ok-add_variables, then-is_some+else-is_on_side, else-is_some}
+use Rattle.list_laws.proofs.Options.{some_same}
 
 pub origin-requires : goal.origin-requires
 origin-requires c =
@@ -46,7 +47,7 @@ loop-at-preserved c = λ assumed shared selectors first.
       | then-is_some+else-is_on_side w ↦
           subst (AreOfSome q (take (i + 1) ids)) (sym w.variables-is)
           (some_past q ids i c.loop-at.variables before c.loop-at-test.true (λ clause given on_a.
-          let same : clause ≡ w.clause-clause.result.now = some_is clause w.clause-clause.result.now
+          let same : clause ≡ w.clause-clause.result.now = some_same clause w.clause-clause.result.now
           (sym given.clause_is ∙ w.clause-clause.ensures) in
           true≢false (sym on_a ∙ ap (is_on_a q) same ∙ sym (on_a_by_selectors q c.args.selectors.now selectors
           w.clause-clause.result.now) ∙ sym w.is_on_side.ensures ∙ w.if-is_on_side.false)))

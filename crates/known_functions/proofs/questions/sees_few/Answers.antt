@@ -1,5 +1,5 @@
 use Rattle.std.proofs.Common.{refl}
-use Rattle.known_functions.proofs.Defined.{existential_there}
+use Rattle.definition_order.proofs.Places.{existential_there}
 use Rattle.known_functions.proofs.questions.sees_few.Goals as goal
 
 pub seen-requires : goal.seen-requires

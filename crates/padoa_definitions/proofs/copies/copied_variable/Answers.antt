@@ -1,11 +1,11 @@
 use Rattle.std.proofs.Common.{◌<◌, inl, inr, sym, ◌∙◌, subst}
 use Rattle.std.proofs.lemmas.List.{length-map}
 use Rattle.std.proofs.lemmas.List.Elements.{Contains-append_cases}
-use Rattle.list_laws.proofs.Elements.{kept_there}
+use Rattle.list_laws.proofs.Elements.{kept_there, found_at}
 use Rattle.list_laws.proofs.Folds.{place_holds, placed_below}
 use Rattle.dq_lits.specs.Formula.{Existential}
 use Rattle.dq_formula.specs.Prefix.{existential_variables}
-use Rattle.padoa_definitions.proofs.CopiedVariables.{copy_at, found_at}
+use Rattle.padoa_definitions.proofs.CopiedVariables.{copy_at}
 use Rattle.padoa_definitions.proofs.copies.copied_variable.Goals as goal
 use Rattle.dq_formula.proofs.Subsets.{none_contained}
 

@@ -1,5 +1,5 @@
 use Rattle.std.proofs.Common.{length, ap, arith}
-use Rattle.padoa_definitions.proofs.DeclaredPlaces.{few_places}
+use Rattle.dq_formula.proofs.Lawful.{few_places}
 use Rattle.padoa_definitions.proofs.seeing.push_existentials.Goals as goal
 
 pub overflow_add-first : goal.overflow_add-first

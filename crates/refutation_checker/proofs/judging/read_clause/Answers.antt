@@ -1,9 +1,9 @@
 use Rattle.std.proofs.Common.{refl}
-use Rattle.list_laws.proofs.Sequences.{drop_end}
+use Rattle.list_laws.proofs.Sequences.{drop_end, take_past}
 use Rattle.refutation_checker.specs.PairNames.{frame, names_in}
 use Rattle.refutation_checker.specs.Rows.{row_of}
 use Rattle.refutation_checker.proofs.NamedLines.{then_extends}
-use Rattle.refutation_checker.proofs.ReadClauses.{read_more, true_read, all_read, take_end}
+use Rattle.refutation_checker.proofs.ReadClauses.{read_more, true_read, all_read}
 use Rattle.refutation_checker.proofs.judging.read_clause.Goals as goal
 
 pub returns-in_err-is_true-clause-extends : goal.returns-in_err-is_true-clause-extends
@@ -49,4 +49,4 @@ returns-clause-read c =
     all_read x (names_in c.loop-l.names) c.args.k c.args.j (row_of x.rows c.args.k) c.clause-l-items.result.now
     c.loop-l.clause.items c.loop-l.l-index refl
     c.clause-l-items.ensures (drop_end c.clause-l-items.result.now c.loop-l.l-index c.loop-l-test.false)
-    (take_end c.clause-l-items.result.now c.loop-l.l-index c.loop-l-test.false) c.loop-l.invariant.read
+    (take_past c.loop-l.l-index c.clause-l-items.result.now c.loop-l-test.false) c.loop-l.invariant.read

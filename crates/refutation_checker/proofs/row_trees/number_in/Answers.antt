@@ -3,8 +3,8 @@ use Rattle.std.proofs.lemmas.List.{get_or_default}
 use Rattle.refutation_checker.specs.RowTrees.{sees_of, number_or, reached, IsStanding}
 use Rattle.refutation_checker.specs.Rows.{row_of}
 use Rattle.refutation_checker.specs.declared.row_trees.Standing.TheVariants.{Numbered, Differs}
-use Rattle.refutation_checker.proofs.BoundVariables.{few_places}
 use Rattle.refutation_checker.proofs.TreeNumbers.{numbered_already, parted_all, place_small}
+use Rattle.dq_formula.proofs.Lawful.{few_places}
 use Rattle.refutation_checker.proofs.row_trees.number_in.Goals as goal
 
 pub part-requires-clause-place : goal.part-requires-clause-place

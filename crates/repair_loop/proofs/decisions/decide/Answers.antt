@@ -22,7 +22,7 @@ pub returns-in_err-book-clause-limit_same : goal.returns-in_err-book-clause-limi
 returns-in_err-book-clause-limit_same g c = c.new.ensures.grew.limit
 
 pub returns-in_err-book-clause-undecided : goal.returns-in_err-book-clause-undecided
-returns-in_err-book-clause-undecided g c = on_err _ _ (alone_log c.engines_leave_sessions.ensures
+returns-in_err-book-clause-undecided g c = on_err _ (alone_log c.engines_leave_sessions.ensures
     c.plain_logs_are_sessions.ensures c.args.f.now c.args.log.now c.new.new.log c.requires.empty
     c.new.ensures.grew).undecided
 
@@ -46,7 +46,7 @@ pub returns-in_err-desk-clause-limit_same : goal.returns-in_err-desk-clause-limi
 returns-in_err-desk-clause-limit_same g c = c.new-2.ensures.limit_same ∙ c.new.ensures.grew.limit
 
 pub returns-in_err-desk-clause-undecided : goal.returns-in_err-desk-clause-undecided
-returns-in_err-desk-clause-undecided g c = on_err _ _ c.new-2.ensures.undecided
+returns-in_err-desk-clause-undecided g c = on_err _ c.new-2.ensures.undecided
 
 pub decide_now-requires-clause-ready : goal.decide_now-requires-clause-ready
 decide_now-requires-clause-ready g c =

@@ -8,7 +8,8 @@ use Rattle.verdict_texts.specs.Verdicts.{verdict_text}
 use Rattle.repair_loop.proofs.LiveBooks.{now_formed}
 use Rattle.session_runs.specs.Standing.{IsFound}
 use Rattle.session_runs.proofs.FoundVerdicts.{rests-on-live, true-found, false-found, unknown-found}
-use Rattle.session_runs.proofs.SearchedLogs.{surely, surely-at, so-far-behind, on-err, limit-other}
+use Rattle.session_runs.proofs.SearchedLogs.{surely, surely-at, so-far-behind, limit-other}
+use Rattle.list_laws.proofs.Results.{on_err}
 use Rattle.session_runs.proofs.searches.decide.Goals as goal
 
 pub text_of_true-requires-clause-formula : goal.text_of_true-requires-clause-formula
@@ -37,7 +38,7 @@ returns-in-Ok-True-clause-found g c =
 
 pub returns-in-Ok-True-clause-err : goal.returns-in-Ok-True-clause-err
 returns-in-Ok-True-clause-err g c =
-    on-err c.text_of_true.result
+    on_err c.text_of_true.result
     (so-far-behind c.args.book.now c.args.desk.now c.args.graph.now c.args.log.now c.decide_now.new.log
     c.requires.ready c.in-Ok-True.ensures.kept
     (g.met.O.Oracle.searched c.decide_now.new.oracle c.decide_now.new.log c.in-Ok-True.ensures.fit) c.in-Ok-True.ensures.began)
@@ -70,7 +71,7 @@ returns-in-Ok-False-clause-found g c =
 
 pub returns-in-Ok-False-clause-err : goal.returns-in-Ok-False-clause-err
 returns-in-Ok-False-clause-err g c =
-    on-err c.text_of_false.result
+    on_err c.text_of_false.result
     (so-far-behind c.args.book.now c.args.desk.now c.args.graph.now c.args.log.now c.decide_now.new.log
     c.requires.ready c.in-Ok-False.ensures.kept
     (g.met.O.Oracle.searched c.decide_now.new.oracle c.decide_now.new.log c.in-Ok-False.ensures.fit) c.in-Ok-False.ensures.began)
@@ -93,7 +94,7 @@ returns-in-Err-Limit-clause-found g c =
 
 pub returns-in-Err-Limit-clause-err : goal.returns-in-Err-Limit-clause-err
 returns-in-Err-Limit-clause-err g c =
-    on-err c.unknown_text.result
+    on_err c.unknown_text.result
     (so-far-behind c.args.book.now c.args.desk.now c.args.graph.now c.args.log.now c.decide_now.new.log
     c.requires.ready c.in-Err-Limit.ensures.kept
     (g.met.O.Oracle.searched c.decide_now.new.oracle c.decide_now.new.log c.in-Err-Limit.ensures.fit) c.in-Err-Limit.ensures.began)

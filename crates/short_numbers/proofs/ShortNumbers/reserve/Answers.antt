@@ -8,14 +8,14 @@ pub returns-in_err-reserve-clause-full : goal.returns-in_err-reserve-clause-full
 returns-in_err-reserve-clause-full c =
     let s = c.self.inside in
     let full : vec_capacity s.low ≤ length s.low.items = omega (arith, c.in_err-reserve.ensures.full, s.low.ok.0) in
-    on_err c.from_residual.result _ (subst (λ (v : Numbers). v.capacity ≤ length v.items) c.self.view_is
+    on_err c.from_residual.result (subst (λ (v : Numbers). v.capacity ≤ length v.items) c.self.view_is
     (full_low s.is_wide s.low.items s.high.items (vec_capacity s.low) (vec_capacity s.high) c.self.invariant full))
 
 pub returns-in_err-reserve-2-clause-full : goal.returns-in_err-reserve-2-clause-full
 returns-in_err-reserve-2-clause-full c =
     let s = c.self.inside in
     let full : vec_capacity s.high ≤ length s.high.items = omega (arith, c.in_err-reserve-2.ensures.full, s.high.ok.0) in
-    on_err c.from_residual-in_err-reserve-2.result _ (subst (λ (v : Numbers). v.capacity ≤ length v.items)
+    on_err c.from_residual-in_err-reserve-2.result (subst (λ (v : Numbers). v.capacity ≤ length v.items)
     c.self.view_is (full_high s.is_wide s.low.items s.high.items (vec_capacity s.low) (vec_capacity s.high)
     c.if-self.true c.self.invariant full))
 

@@ -1,13 +1,13 @@
 use Rattle.std.proofs.Common.{◌≡◌, ◌+◌, ◌<◌, [], inr, length, get_or, sym, ◌∙◌, ap, subst, not, false, Some}
 use Rattle.std.specs.List.{Contains}
 use Rattle.std.proofs.lemmas.Result.{on_ok_weaker}
-use Rattle.list_laws.proofs.Elements.{place_within}
+use Rattle.list_laws.proofs.Elements.{place_within, found_at}
 use Rattle.dq_lits.specs.Literal.{is_negative, variable_of}
 use Rattle.dq_lits.specs.Formula.{declared}
 use Rattle.hint_log.specs.Origins.{leaf_with_sign}
 use Rattle.hint_log.specs.declared.origins.Leaf.TheVariants.{Constant}
 use Rattle.circuit_cnf.specs.Saying.{leaf_in, selector_in}
-use Rattle.circuit_cnf.proofs.ClauseFaults.{literal_there, same_element}
+use Rattle.circuit_cnf.proofs.ClauseFaults.{same_element}
 use Rattle.circuit_cnf.proofs.SaidFaults.{never_bad}
 use Rattle.circuit_cnf.proofs.fault_clauses.Faults.clause_faults.Goals as goal
 
@@ -41,7 +41,7 @@ returns-clause-given g c =
     let out_is : c.leaf.result ≡ leaf (variable_of l) = c.leaf.ensures ∙ ap leaf
     (c.var.ensures.value ∙ ap variable_of same) in
     let both : Some c.in-Some.ensures.0 ≡ Some l = sym c.in-Some.ensures.1
-    ∙ literal_there clause i l below c.index-clause-i.is in
+    ∙ found_at clause i l below c.index-clause-i.is in
     let literal : c.in-Some.ensures.0 ≡ l = cc in
     let anyway = subst (λ k. leaf_with_sign (not (is_negative k)) (leaf (variable_of k)) ≡ Constant false) literal
     c.in-Some.ensures.2 in

@@ -4,8 +4,9 @@ use Rattle.dq_lits.specs.Literal.{variable_of}
 use Rattle.dq_lits.specs.Formula.{declared}
 use Rattle.circuit_cnf.specs.Faults.{HasFault}
 use Rattle.circuit_cnf.specs.Saying.{leaf_in, selector_in}
-use Rattle.circuit_cnf.proofs.ClauseFaults.{literal_there, same_element}
+use Rattle.circuit_cnf.proofs.ClauseFaults.{same_element}
 use Rattle.circuit_cnf.proofs.SaidFaults.{nothing_said, may_say_on, said_then, next_fault}
+use Rattle.list_laws.proofs.Elements.{found_at}
 use Rattle.circuit_cnf.proofs.fault_clauses.Faults.literal_faults.Goals as goal
 
 pub loop-i-init : goal.loop-i-init
@@ -56,7 +57,7 @@ loop-i-preserved g c =
     c.index-clause-i-in-loop-i.is c.index-clause-i.is in
     let out_is : c.leaf.result ≡ leaf (variable_of l) = c.leaf.ensures ∙ ap leaf
     (c.var.ensures.value ∙ ap variable_of same) in
-    let at = literal_there clause i l c.loop-i-test.true c.index-clause-i.is in
+    let at = found_at clause i l c.loop-i-test.true c.index-clause-i.is in
     let here = subst (λ out. HasFault sel (variable_of c.args.bad) (c.args.j + 1)
     (i + 1) l out c.give_fault.new.log.entries) out_is c.in_ok-give_fault.ensures.given in (
       c.give_fault.ensures.fit,

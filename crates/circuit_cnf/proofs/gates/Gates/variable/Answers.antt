@@ -1,13 +1,13 @@
 use Rattle.std.proofs.Common.{◌≡◌, true, inl, inr, Some, None, sym, ◌∙◌, ap, refl, subst}
 use Rattle.std.specs.BTreeMap.{get}
 use Rattle.std.specs.Option.{option_copied}
-use Rattle.dq_lits.specs.Literal.{variable_of}
+use Rattle.dq_lits.specs.Literal.{variable_of, literal_code}
 use Rattle.hint_log.specs.Entries.{Named}
 use Rattle.hint_log.specs.declared.names.Name.TheVariants.{And}
 use Rattle.log_laws.specs.Engines.{circuits, IsAddedBy, IsNamedBy}
 use Rattle.log_laws.proofs.LargerLogs.{grown_by, grown_then}
 use Rattle.hint_log.specs.Entries.{ProofLog}
-use Rattle.circuit_cnf.specs.Gates.{literal_code, pair_cmp, AreKnown}
+use Rattle.circuit_cnf.specs.Gates.{pair_cmp, AreKnown}
 use Rattle.circuit_cnf.proofs.KnownGates.{pair_is, name_in_range, unfinished_gate, named_more}
 use Rattle.circuit_cnf.proofs.gates.Gates.variable.Goals as goal
 

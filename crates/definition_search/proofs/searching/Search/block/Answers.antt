@@ -3,8 +3,9 @@ use Rattle.cert_text.specs.DefinitionBlocks.{free}
 use Rattle.cert_text.specs.DefinitionsRead.{pair_seen}
 use Rattle.padoa_definitions.specs.Defining.{IsFound}
 use Rattle.definition_search.specs.Texts.{AreRightBlocks}
-use Rattle.definition_search.proofs.KeptSearches.{existential_there, later_search, named_there, variable_at}
+use Rattle.definition_search.proofs.KeptSearches.{later_search, named_there, variable_at}
 use Rattle.definition_search.proofs.RightBlocks.{pair_right, valuation}
+use Rattle.definition_order.proofs.Places.{existential_there}
 use Rattle.definition_search.proofs.searching.Search.block.Goals as goal
 
 pub returns-in-Free-clause-search : goal.returns-in-Free-clause-search

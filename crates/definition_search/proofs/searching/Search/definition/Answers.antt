@@ -4,9 +4,10 @@ use Rattle.padoa_definitions.specs.Copies.{group_variable}
 use Rattle.cert_text.specs.DefinitionBlocks.{defined}
 use Rattle.cert_text.specs.DefinitionsRead.{definition_seen}
 use Rattle.definition_search.specs.Texts.{AreRightBlocks}
-use Rattle.definition_search.proofs.KeptSearches.{existential_there, on_by, proved_search, some_at, still_productive, variable_at}
+use Rattle.definition_search.proofs.KeptSearches.{on_by, proved_search, some_at, still_productive, variable_at}
 use Rattle.definition_search.proofs.ReadNames.{read_stays}
 use Rattle.definition_search.proofs.RightBlocks.{definition_right}
+use Rattle.definition_order.proofs.Places.{existential_there}
 use Rattle.definition_search.proofs.searching.Search.definition.Goals as goal
 
 pub prove-requires-clause-definition : goal.prove-requires-clause-definition

@@ -1,6 +1,7 @@
 use Rattle.std.proofs.Common.{refl, ◌∙◌}
 use Rattle.definition_order.proofs.Declared.{known_at}
-use Rattle.definition_search.proofs.KeptSearches.{existential_there, asked_search, on_by}
+use Rattle.definition_search.proofs.KeptSearches.{asked_search, on_by}
+use Rattle.definition_order.proofs.Places.{existential_there}
 use Rattle.definition_search.proofs.searching.Search.find.Goals as goal
 
 pub read-requires-clause-existential : goal.read-requires-clause-existential

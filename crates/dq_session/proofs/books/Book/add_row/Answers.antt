@@ -3,10 +3,10 @@ use Rattle.dq_lits.specs.Formula.{IsWellFormed}
 use Rattle.hint_log.specs.Growth.{Grew}
 use Rattle.expansion.specs.Adding.{IsRowEntry}
 use Rattle.expansion.specs.Table.{IsFullTable}
-use Rattle.expansion.proofs.AddedRows.{on_both}
 use Rattle.dq_session.specs.Books.{BookState, IsFullBook}
 use Rattle.dq_session.proofs.AddedRows.{row_grew, row_answer}
 use Rattle.dq_session.proofs.LiveRefutations.{file_formed}
+use Rattle.list_laws.proofs.Results.{on_both}
 use Rattle.dq_session.proofs.books.Book.add_row.Goals as goal
 
 pub add_row-requires-clause-formula : goal.add_row-requires-clause-formula
@@ -26,8 +26,6 @@ returns-clause-book g c =
     let new = c.add_row.new.log in
     let t = c.add_row.new.self in
     let inside = c.self.inside in
-    on_both (IsFullTable inside.file.now t new.entries) (t.rows ≡ inside.table.rows ++ c.args.row.now ∷ [])
-    (IsFullBook _ new.entries) c.add_row.result
-    (λ table rows. row_answer _ c.args.self.now c.self.view_is t c.args.row.now log new c.requires.book
+    on_both c.add_row.result (λ table rows. row_answer _ c.args.self.now c.self.view_is t c.args.row.now log new c.requires.book
     (g.met.O.Oracle.searched c.add_row.new.oracle new c.add_row.ensures.fit).logged c.add_row.ensures.group
     c.add_row.ensures.added table rows) c.add_row.ensures.table c.add_row.ensures.rows

@@ -2,7 +2,8 @@ use Rattle.std.proofs.Common.{◌≡◌, ◌++◌, ◌∷◌, [], ◌∙◌, ap,
 use Rattle.log_laws.proofs.LargerLogs.{grown_then}
 use Rattle.expansion.specs.Table.{IsFullTable}
 use Rattle.expansion.specs.Adding.{IsRowEntry, AreNewArbiters}
-use Rattle.expansion.proofs.AddedRows.{begin, finish_as, on_both}
+use Rattle.expansion.proofs.AddedRows.{begin, finish_as}
+use Rattle.list_laws.proofs.Results.{on_both}
 use Rattle.expansion.proofs.tables.Table.add_found.Goals as goal
 
 pub row_pairs-requires-clause-adding : goal.row_pairs-requires-clause-adding
@@ -27,14 +28,10 @@ returns-clause-table g c =
     let entries = c.give_instances.new.log.entries in
     let variables : AreNewArbiters f t row entries c.in_ok-variables.variables.items =
     subst (AreNewArbiters f t row entries) c.deref.ensures.value c.in_ok-give_instances.ensures.variables in
-    on_both (c.push.new.self.rows ≡ t.rows ++ c.in_ok-copy.copy ∷ [])
-    (c.push.new.self.pairs ≡ t.pairs ++ c.deref-2.result.now ∷ [])
-    (IsFullTable f c.push.new.self entries) c.push.result
-    (λ rows pairs.
+    on_both c.push.result (λ rows pairs.
     finish_as f t row c.in_ok-variables.variables.items entries c.in_ok-give_instances.ensures.adding
     (g.met.O.Oracle.searched c.give_instances.new.oracle c.give_instances.new.log
     c.give_instances.ensures.fit).logged c.requires.table.first_rows variables c.push.new.self
     c.requires.formula c.push.ensures.group c.push.ensures.existentials
     (rows ∙ ap (λ r. t.rows ++ r ∷ []) c.in_ok-copy.ensures)
-    (pairs ∙ ap (λ vs. t.pairs ++ vs ∷ []) c.deref-2.ensures.value) c.push.ensures.first_rows)
-    c.push.ensures.rows c.push.ensures.pairs
+    (pairs ∙ ap (λ vs. t.pairs ++ vs ∷ []) c.deref-2.ensures.value) c.push.ensures.first_rows) c.push.ensures.rows c.push.ensures.pairs

@@ -4,7 +4,7 @@ use Rattle.defining_nodes.specs.Definitions.{IsDefinition}
 use Rattle.padoa_definitions.specs.Defining.{IsFound}
 use Rattle.aig_graph.proofs.LargerGraphs.{grown_twice}
 use Rattle.known_functions.proofs.Asked.{asked_by, grown_asked}
-use Rattle.known_functions.proofs.Defined.{existential_there}
+use Rattle.definition_order.proofs.Places.{existential_there}
 use Rattle.known_functions.proofs.definitions.Definitions.ask.Goals as goal
 
 pub read-requires-clause-existential : goal.read-requires-clause-existential

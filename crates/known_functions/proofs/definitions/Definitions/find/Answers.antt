@@ -3,7 +3,8 @@ use Rattle.padoa_definitions.specs.Defining.{IsFound}
 use Rattle.dq_formula.specs.Prefix.{existential_variables}
 use Rattle.known_functions.specs.declared.definitions.Definitions.{Definitions}
 use Rattle.known_functions.specs.Searching.{AreKnown, definition_in}
-use Rattle.known_functions.proofs.Defined.{known_at, known_stays, existential_there, found_defines}
+use Rattle.known_functions.proofs.Defined.{known_at, known_stays, found_defines}
+use Rattle.definition_order.proofs.Places.{existential_there}
 use Rattle.known_functions.proofs.definitions.Definitions.find.Goals as goal
 
 pub returns-in_default-clause-known : goal.returns-in_default-clause-known

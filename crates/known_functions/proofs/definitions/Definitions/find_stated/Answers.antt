@@ -1,5 +1,5 @@
 use Rattle.std.proofs.Common.{refl}
-use Rattle.known_functions.proofs.Defined.{existential_there}
+use Rattle.definition_order.proofs.Places.{existential_there}
 use Rattle.known_functions.proofs.definitions.Definitions.find_stated.Goals as goal
 
 pub stated_rule-requires-clause-existential : goal.stated_rule-requires-clause-existential

@@ -1,6 +1,7 @@
 use Rattle.std.proofs.Common.{refl}
-use Rattle.known_functions.proofs.Defined.{existential_there, forced_rule}
+use Rattle.known_functions.proofs.Defined.{forced_rule}
 use Rattle.known_functions.proofs.Forced.{forced_by}
+use Rattle.definition_order.proofs.Places.{existential_there}
 use Rattle.known_functions.proofs.definitions.Definitions.force_bit.Goals as goal
 
 pub force-requires-clause-existential : goal.force-requires-clause-existential

@@ -2,7 +2,8 @@ use Rattle.std.proofs.Common.{◌≡◌, ◌∙◌, ◌<◌, length, refl, ap, a
 use Rattle.std.proofs.lemmas.List.{length-map}
 use Rattle.dq_formula.specs.Prefix.{existential_variables}
 use Rattle.known_functions.proofs.Asked.{nothing_asked, asked_then}
-use Rattle.known_functions.proofs.Defined.{existential_there, guess_known, left_known}
+use Rattle.known_functions.proofs.Defined.{guess_known, left_known}
+use Rattle.definition_order.proofs.Places.{existential_there}
 use Rattle.known_functions.proofs.definitions.Definitions.guess_each.Goals as goal
 
 pub guess-requires-clause-may : goal.guess-requires-clause-may

@@ -1,7 +1,7 @@
 use Rattle.std.proofs.Common.{get_or, refl, sym, subst}
 use Rattle.definition_order.proofs.Declared.{known_at}
 use Rattle.known_functions.specs.Guessing.{AreConditions}
-use Rattle.known_functions.proofs.Defined.{existential_there}
+use Rattle.definition_order.proofs.Places.{existential_there}
 use Rattle.known_functions.proofs.definitions.Definitions.guess_under.Goals as goal
 
 pub guess_within-requires-clause-existential : goal.guess_within-requires-clause-existential

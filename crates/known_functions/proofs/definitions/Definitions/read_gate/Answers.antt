@@ -3,7 +3,8 @@ use Rattle.aig_graph.specs.declared.nodes.Node.{Node}
 use Rattle.dq_formula.specs.Prefix.{existential_variables}
 use Rattle.defining_nodes.specs.Definitions.{IsDefinition}
 use Rattle.known_functions.specs.Searching.{AreKnown}
-use Rattle.known_functions.proofs.Defined.{known_at, known_stays, existential_there}
+use Rattle.known_functions.proofs.Defined.{known_at, known_stays}
+use Rattle.definition_order.proofs.Places.{existential_there}
 use Rattle.known_functions.proofs.definitions.Definitions.read_gate.Goals as goal
 
 pub read-requires-clause-existential : goal.read-requires-clause-existential

@@ -5,14 +5,15 @@ use Rattle.rup_core.specs.Judging.{derive_line}
 use Rattle.rup_core.specs.Proving.{with_lines}
 use Rattle.proof_checker.specs.CircuitProof.{negated_candidate}
 use Rattle.proof_checker.specs.declared.judging.CircuitProving.{CircuitProving}
-use Rattle.proof_checker.proofs.DerivedLines.{line_judging, line_run, on_ok}
+use Rattle.proof_checker.proofs.DerivedLines.{line_judging, line_run}
+use Rattle.list_laws.proofs.Results.{on_ok}
 use Rattle.proof_checker.proofs.judging.CircuitProving.line.Goals as goal
 
 pub returns-clause-run : goal.returns-clause-run
 returns-clause-run c =
-    on_ok c.line.result c.line.ensures.run (λ run.
+    on_ok c.line.result (λ run.
     line_run c.args.f.now c.args.c.now c.args.self.now c.widen.new.self c.new-matrix.result c.line.new.self
-    (derived (step_seen c.args.step)) c.new-matrix.ensures c.widen.ensures.tables c.widen.ensures.rest run)
+    (derived (step_seen c.args.step)) c.new-matrix.ensures c.widen.ensures.tables c.widen.ensures.rest run) c.line.ensures.run
 
 pub returns-clause-judging : goal.returns-clause-judging
 returns-clause-judging c =
@@ -26,6 +27,6 @@ returns-clause-judging c =
     } in
     let is_derived = derive_line step.literals (map (with_lines (negated_candidate c.new-matrix.result) w.proving.lines)
     step.hints) in
-    on_ok c.line.result c.line.ensures.value (λ value at judging lawful.
+    on_ok c.line.result (λ value at judging lawful.
     line_judging c.args.f.now c.args.c.now c.args.self.now w new step is_derived c.widen.ensures.tables
-    c.widen.ensures.rest value at judging lawful)
+    c.widen.ensures.rest value at judging lawful) c.line.ensures.value

@@ -1,6 +1,7 @@
 use Rattle.std.proofs.Common.{◌≡◌, ◌+◌, length, get_or, ap, ◌∙◌, arith}
 use Rattle.refutation_checker.specs.Bindings.{variable_at}
-use Rattle.refutation_checker.proofs.BoundVariables.{few_places, variable_small, bind_done}
+use Rattle.refutation_checker.proofs.BoundVariables.{variable_small, bind_done}
+use Rattle.dq_formula.proofs.Lawful.{few_places}
 use Rattle.refutation_checker.proofs.bindings.Bindings.bind.Goals as goal
 
 pub join-requires : goal.join-requires

@@ -1,5 +1,6 @@
 use Rattle.cert_text.specs.Steps.{step_seen}
-use Rattle.refutation_checker.proofs.JudgedItems.{line_above, line_from_one, line_judging, on_ok}
+use Rattle.refutation_checker.proofs.JudgedItems.{line_above, line_from_one, line_judging}
+use Rattle.list_laws.proofs.Results.{on_ok}
 use Rattle.refutation_checker.proofs.proving.RefutationProving.line.Goals as goal
 
 pub judge-requires-clause-frame : goal.judge-requires-clause-frame
@@ -21,6 +22,6 @@ judge-requires-clause-above c =
 
 pub returns : goal.returns
 returns c =
-    on_ok c.judge.result c.judge.ensures.judged (λ judged at run judging lawful.
+    on_ok c.judge.result (λ judged at run judging lawful.
     line_judging c.args.f.now c.args.rows.now c.args.self.now c.judge.new.self (step_seen c.args.step)
-    c.requires.going c.judge.ensures.names judged at run judging lawful)
+    c.requires.going c.judge.ensures.names judged at run judging lawful) c.judge.ensures.judged

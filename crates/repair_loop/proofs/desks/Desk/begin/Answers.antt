@@ -5,7 +5,8 @@ use Rattle.padoa_definitions.specs.declared.padoa.Padoa.{Padoa}
 use Rattle.circuit_cnf.specs.declared.checkers.Checker.{Checker}
 use Rattle.repair_loop.specs.Beginning.{HasBegunUndecided, HasStarted}
 use Rattle.repair_loop.specs.Turning.{IsSearch}
-use Rattle.repair_loop.proofs.Beginnings.{begun_search, begun_undecided, either_way, no_start, on_ok, only_begun}
+use Rattle.repair_loop.proofs.Beginnings.{begun_search, begun_undecided, either_way, no_start, only_begun}
+use Rattle.list_laws.proofs.Results.{on_ok}
 use Rattle.repair_loop.proofs.desks.Desk.begin.Goals as goal
 
 pub returns-clause-started : goal.returns-clause-started
@@ -25,9 +26,7 @@ pub returns-clause-begun : goal.returns-clause-begun
 returns-clause-begun g c =
     let b = c.args.book.now in
     let (graph, ready) = c.requires.ready in
-    on_ok c.log_beginning.result (c.log_beginning.new.log ≡ with_entry c.args.log.now (Begun (live_of b)))
-    (HasBegunUndecided b c.args.log.now c.log_beginning.new.log)
-    (λ logged. begun_undecided c.beginnings_leave_books.ensures c.beginnings_leave_stores.ensures c.args.f.now b
+    on_ok c.log_beginning.result (λ logged. begun_undecided c.beginnings_leave_books.ensures c.beginnings_leave_stores.ensures c.args.f.now b
     c.args.self.now graph c.args.log.now c.log_beginning.new.log ready logged c.requires.now) c.log_beginning.ensures.logged
 
 pub returns-clause-ready : goal.returns-clause-ready
@@ -36,9 +35,7 @@ returns-clause-ready g c more inputs =
     let k = c.log_beginning.ensures in
     let es = c.log_beginning.new.log.entries in
     let (graph, ready) = c.requires.ready in
-    on_ok c.log_beginning.result (c.log_beginning.new.log ≡ with_entry c.args.log.now (Begun (live_of b)))
-    (IsSearch c.args.f.now more b c.log_beginning.new.self.checker c.log_beginning.new.self.padoa false es)
-    (λ logged. subst (λ (q : Checker). IsSearch c.args.f.now more b q c.log_beginning.new.self.padoa false es) (sym k.checker)
+    on_ok c.log_beginning.result (λ logged. subst (λ (q : Checker). IsSearch c.args.f.now more b q c.log_beginning.new.self.padoa false es) (sym k.checker)
     (subst (λ (p : Padoa). IsSearch c.args.f.now more b c.args.self.now.checker p false es) (sym k.padoa)
     (begun_search c.beginnings_leave_books.ensures c.beginnings_leave_stores.ensures c.args.f.now b c.args.self.now graph
     c.args.log.now c.log_beginning.new.log ready logged c.requires.now more inputs))) k.logged

@@ -24,7 +24,7 @@ returns-in_err-begin-clause-limit_same g c = c.begin.ensures.started.limit
 
 pub returns-in_err-begin-clause-undecided : goal.returns-in_err-begin-clause-undecided
 returns-in_err-begin-clause-undecided g c begun =
-    on_err _ _ (start_undecided c.args.book.now c.begin.new.self c.args.log.now c.begin.new.log
+    on_err _ (start_undecided c.args.book.now c.begin.new.self c.args.log.now c.begin.new.log
     c.begin.ensures.started begun)
 
 pub returns-in_err-begin-clause-new_faults : goal.returns-in_err-begin-clause-new_faults

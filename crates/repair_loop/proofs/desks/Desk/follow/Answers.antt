@@ -4,9 +4,9 @@ use Rattle.dq_session.specs.Books.{all_of, frames_of, live_of}
 use Rattle.padoa_definitions.specs.Copies.{IsPadoa}
 use Rattle.padoa_definitions.specs.Following.{IsLiveFormula}
 use Rattle.repair_loop.specs.Turning.{IsSearch}
-use Rattle.repair_loop.proofs.Beginnings.{on_ok}
 use Rattle.repair_loop.proofs.FollowedCopies.{copies_left, copies_search}
 use Rattle.repair_loop.proofs.LiveBooks.{live_formula_is}
+use Rattle.list_laws.proofs.Results.{on_ok}
 use Rattle.repair_loop.proofs.desks.Desk.follow.Goals as goal
 
 pub set_live-requires-clause-store : goal.set_live-requires-clause-store
@@ -49,10 +49,7 @@ returns-clause-search g c graph before =
     (subst (λ ns. IsLiveFormula (all_of b) (frames_of b) c.args.f.now ns (map (λ (l : Live). l.frame) b.live)) (sym live)
     (live_formula_is b c.args.log.now.entries way.book c.args.f.now way.now_is)) in
     let p = c.set_live.new.self in
-    on_ok c.set_live.result (IsPadoa c.args.f.now p c.set_live.new.log.entries)
-    (IsSearch c.args.f.now graph b c.args.self.now.checker p true c.set_live.new.log.entries)
-    (λ copied. copies_search c.engines_leave_sessions.ensures c.engines_leave_books.ensures c.checkers_stay.ensures
+    on_ok c.set_live.result (λ copied. copies_search c.engines_leave_sessions.ensures c.engines_leave_books.ensures c.checkers_stay.ensures
     c.args.f.now graph b c.args.self.now.checker c.args.self.now.padoa p c.args.log.now c.set_live.new.log before
     (c.set_live.ensures.grew (all_of b) (frames_of b) way.stored formula)
-    (c.set_live.ensures.store (all_of b) (frames_of b) way.stored formula) c.set_live.ensures.fresh copied graph refl)
-    c.set_live.ensures.ready
+    (c.set_live.ensures.store (all_of b) (frames_of b) way.stored formula) c.set_live.ensures.fresh copied graph refl) c.set_live.ensures.ready

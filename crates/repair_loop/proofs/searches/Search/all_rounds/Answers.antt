@@ -37,7 +37,7 @@ pub returns-in_err-verdict-clause-stopped : goal.returns-in_err-verdict-clause-s
 returns-in_err-verdict-clause-stopped g c =
     let s = c.in_err-verdict.ensures.stopped in
     record {
-      undecided = on_err _ _ s.undecided;
+      undecided = on_err _ s.undecided;
       limit = λ is.
           let stop : c.in_err-verdict.field-0.0 ≡ Limit = search rules in
           s.limit (ap (λ e. Err e) stop);

@@ -39,7 +39,7 @@ returns-in_err-id-clause-stopped g c =
     (caught_up_after c.args.book.now c.solve.new.self c.solve.ensures.same) c.solve.ensures.book.book c.solve.ensures.fresh
     before.here.way in
     record {
-      undecided = on_err _ _ (after_undecided c.args.book.now c.solve.new.self c.solve.new.log.entries left.0.went.book
+      undecided = on_err _ (after_undecided c.args.book.now c.solve.new.self c.solve.new.log.entries left.0.went.book
           (left.0.undecided (ap is_silent c.in_err-id.was) before.here.undecided));
       limit = λ is.
           let stop : c.in_err-id.field-0.0 ≡ Limit = search rules in
@@ -134,7 +134,7 @@ returns-in_err-outputs-in-Model-clause-stopped g c =
     (ap is_silent (c.in_ok-id.was ∙ ap Ok c.in-Model.is)) left.0 left.1 c.solve.ensures.book.rows refl before in
     let more = c.propose.ensures.left checker next in
     record {
-      undecided = on_err _ _ (more.undecided refl next.here.undecided);
+      undecided = on_err _ (more.undecided refl next.here.undecided);
       limit = λ is.
           let stop : c.in_err-outputs-in-Model.field-0.0 ≡ Limit = search rules in
           by_lemma s.f.now c.propose.new.log

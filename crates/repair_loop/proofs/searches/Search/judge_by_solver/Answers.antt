@@ -45,7 +45,7 @@ returns-in_err-id-clause-stopped g c =
     let left = c.turns_leave_searches.ensures s.f.now c.args.book.now c.args.checker.now c.turn.new.self s.padoa.now s.may_ask
     (is_silent c.turn.result) c.args.log.now c.turn.new.log c.turn.ensures.turned c.requires.search.here.way in
     record {
-      undecided = on_err _ _ (left.undecided (ap is_silent c.in_err-id.was) c.requires.search.here.undecided);
+      undecided = on_err _ (left.undecided (ap is_silent c.in_err-id.was) c.requires.search.here.undecided);
       limit = λ is.
           let stop : c.in_err-id.field-0.0 ≡ Limit = search rules in
           by_lemma s.f.now c.turn.new.log (some_limit c.turn.new.log
@@ -130,7 +130,7 @@ pub returns-in_err-log_failure-in-Fails-clause-stopped : goal.returns-in_err-log
 returns-in_err-log_failure-in-Fails-clause-stopped g c =
     let s = c.in_err-log_failure-in-Fails.ensures.stopped in
     record {
-      undecided = on_err _ _ s.undecided;
+      undecided = on_err _ s.undecided;
       limit = λ is.
           let stop : c.in_err-log_failure-in-Fails.field-0.0 ≡ Limit = search rules in
           s.limit (ap (λ e. Err e) stop);

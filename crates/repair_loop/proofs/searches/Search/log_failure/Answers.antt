@@ -58,7 +58,7 @@ returns-in_err-round-clause-stopped g c =
     let f = s.f.now in
     let x = c.args.failure.now in
     record {
-      undecided = on_err _ _ (subst (λ (l : ProofLog). IsUndecidedSince (all_of c.args.book.now) l.entries)
+      undecided = on_err _ (subst (λ (l : ProofLog). IsUndecidedSince (all_of c.args.book.now) l.entries)
           (sym c.in_err-round.ensures.err) c.requires.here.undecided);
       limit = λ is.
           let stop : c.in_err-round.field-0.0 ≡ Limit = search rules in

@@ -36,7 +36,7 @@ returns-in_err-id-clause-stopped g c =
     (caught_up_after c.args.book.now c.solve.new.self c.solve.ensures.same) c.solve.ensures.book.book c.solve.ensures.fresh
     before.here.way in
     record {
-      undecided = on_err _ _ (after_undecided c.args.book.now c.solve.new.self c.solve.new.log.entries left.0.went.book
+      undecided = on_err _ (after_undecided c.args.book.now c.solve.new.self c.solve.new.log.entries left.0.went.book
           (left.0.undecided (ap is_silent c.in_err-id.was) before.here.undecided));
       limit = λ is.
           let stop : c.in_err-id.field-0.0 ≡ Limit = search rules in

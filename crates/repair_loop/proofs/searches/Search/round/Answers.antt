@@ -30,7 +30,7 @@ pub returns-in_err-outputs-clause-stopped : goal.returns-in_err-outputs-clause-s
 returns-in_err-outputs-clause-stopped g c =
     let s = c.in_err-outputs.ensures.stopped in
     record {
-      undecided = on_err _ _ s.undecided;
+      undecided = on_err _ s.undecided;
       limit = λ is.
           let stop : c.in_err-outputs.field-0.0 ≡ Limit = search rules in
           s.limit (ap (λ e. Err e) stop);
@@ -88,7 +88,7 @@ pub returns-in_err-id-clause-stopped : goal.returns-in_err-id-clause-stopped
 returns-in_err-id-clause-stopped g c =
     let s = c.in_err-id.ensures.stopped in
     record {
-      undecided = on_err _ _ s.undecided;
+      undecided = on_err _ s.undecided;
       limit = λ is.
           let stop : c.in_err-id.field-0.0 ≡ Limit = search rules in
           s.limit (ap (λ e. Err e) stop);
@@ -162,7 +162,7 @@ returns-in_err-add_row-in-Fail-clause-stopped g c =
     let s = c.args.self.now in
     let round = c.judge.ensures.fail c.in-Fail.row (c.in_ok-id.was ∙ ap Ok c.in-Fail.is) in
     record {
-      undecided = on_err _ _ (row_undecided c.instances_leave_logs.ensures s.f.now
+      undecided = on_err _ (row_undecided c.instances_leave_logs.ensures s.f.now
           c.find_candidates.new.book c.add_row.new.self c.judge.new.checker s.padoa.now s.may_ask c.in-Fail.row
           c.judge.new.log c.add_row.new.log round.logged c.add_row.ensures.grew c.add_row.ensures.same);
       limit = search rules;

@@ -48,7 +48,7 @@ returns-in_err-known-clause-stopped g c =
     let left = c.questions_leave_searches.ensures s.f.now c.args.book.now c.args.checker.now s.padoa.now s.may_ask c.args.log.now
     c.find_known.new.log asked.grew (λ on. asked.may.padoa) c.requires.search.here.way in
     record {
-      undecided = on_err _ _ (left.0.undecided refl c.requires.search.here.undecided);
+      undecided = on_err _ (left.0.undecided refl c.requires.search.here.undecided);
       limit = λ is.
           let stop : c.in_err-known.field-0.0 ≡ Limit = search rules in
           by_lemma s.f.now c.find_known.new.log (c.in_err-known.ensures.limit (ap (λ e. Err e) stop));

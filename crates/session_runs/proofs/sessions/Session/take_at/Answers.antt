@@ -1,8 +1,8 @@
 use Rattle.std.proofs.Common.{◌∙◌, Some, sym, ap, arith}
-use Rattle.list_laws.proofs.Results.{on_ok}
+use Rattle.list_laws.proofs.Results.{on_ok, on_both, on_err}
 use Rattle.script_text.specs.Commands.{command_seen}
-use Rattle.session_runs.proofs.SearchedLogs.{ready-so-far, on-err}
-use Rattle.session_runs.proofs.SearchedSessions.{both-ok, on-err-weaker}
+use Rattle.session_runs.proofs.SearchedLogs.{ready-so-far}
+use Rattle.session_runs.proofs.SearchedSessions.{on-err-weaker}
 use Rattle.session_runs.proofs.TakenCommands.{search-is, may-take, work-of, standing-change, standing-search}
 use Rattle.session_runs.proofs.sessions.Session.take_at.Goals as goal
 
@@ -38,7 +38,7 @@ returns-then-is_search-clause-err g c =
 
 pub returns-else-is_search-clause-ok : goal.returns-else-is_search-clause-ok
 returns-else-is_search-clause-ok g c =
-    both-ok c.change.result
+    on_both c.change.result
     (λ book current. standing-change c.books_follow.ensures c.following_books_stand.ensures
     c.opened_frames_leave_desks.ensures c.closed_frames_leave_desks.ensures c.added_clauses_leave_desks.ensures
     c.args.script.now c.args.place c.args.self.now c.args.log.now (command_seen c.get-command.result)
@@ -48,7 +48,7 @@ returns-else-is_search-clause-ok g c =
 
 pub returns-else-is_search-clause-err : goal.returns-else-is_search-clause-err
 returns-else-is_search-clause-err g c =
-    on-err c.change.result
+    on_err c.change.result
     (work-of c.following_books_stand.ensures c.args.script.now c.args.place c.args.self.now c.args.log.now
     (command_seen c.get-command.result) c.get-command.ensures c.requires.standing
     c.args.log.now
