@@ -5,7 +5,7 @@ seconds, and the rows of a refutation or the gates of a circuit, whose certifica
 the formulas that the other one decides the built one does too, those that it loses, the geometric mean of how many times the other's time
 it takes where both decide, and what it alone decides. Verdicts that differ, or a certificate that isn't VALID, end the run with 1.
 
-Usage: bench/beside.py --beside PROGRAM [--seconds N] [--seed N] [--csv FILE] [FAMILY..]
+Usage: bench/beside.py --beside PROGRAM [--seconds N] [--seed N] [--summary] [--csv FILE] [FAMILY..]
 
 The PROGRAM is told a file in DQDIMACS, and ends with 10 or 20. The variables DQSOLVE and DQCHECK, or flags, name the programs.
 """
@@ -91,6 +91,8 @@ class Beside:
         shown = {name: f"{it:.2f}" if isinstance(it, float) else str("-" if it is None else it) for name, it in row.items()}
         if self.csv:
             self.csv.writerow(shown)
+        if self.words.summary:
+            return
         print(f"{shown['family']:16} {shown['size']:>6} beside {shown['other']:5} {shown['other_seconds']:>6}", end="")
         print(f" dqsolve {shown['verdict']:5} {shown['seconds']:>6} {shown.get('rows', ''):>6} {shown.get('gates', ''):>7}", flush=True)
 
@@ -125,6 +127,7 @@ def words_of(arguments):
     reader.add_argument("--seconds", type=float, default=3, metavar="N", help="of the other one's processor time (3)")
     reader.add_argument("--largest", type=int, default=1 << 14, metavar="N", help="the largest size (2^14)")
     reader.add_argument("--seed", type=int, default=1, metavar="N", help="of the formulas (1)")
+    reader.add_argument("--summary", action="store_true", help="tell what the runs say together, and none of them")
     reader.add_argument("--csv", metavar="FILE", help="where the table is written")
     reader.add_argument("--solver", default=SOLVER, metavar="FILE", help="the built dqsolve")
     reader.add_argument("--checker", default=CHECKER, metavar="FILE", help="the built dqcheck")

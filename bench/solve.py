@@ -127,21 +127,33 @@ class Bench:
         return row
 
     def show(self, row):
-        shown = {key: f"{value:.2f}" if isinstance(value, float) else str(value) for key, value in row.items()}
-        print(" ".join(f"{shown.get(name, ''):{aligned(width)}}" for name, width in WIDTHS.items()).rstrip(), flush=True)
+        if not self.words.largest:
+            self.tell(row)
         if self.csv:
-            self.csv.writerow(shown)
+            self.csv.writerow(shown(row))
+
+    def tell(self, row):
+        values = shown(row)
+        print(" ".join(f"{values.get(name, ''):{aligned(width)}}" for name, width in WIDTHS.items()).rstrip(), flush=True)
 
     def family(self, family):
         """Sizes that are given, or that double as long as runs are decided below the limit."""
+        largest = None
         for size in self.words.sizes or (FAMILIES[family][1] << k for k in itertools.count()):
             row = self.measure(family, size) if size >= FAMILIES[family][1] else None
             if not self.words.sizes and (row is None or row["verdict"] not in VERDICTS.values() or row["seconds"] >= self.words.limit):
-                return
+                break
+            largest = row
+        if self.words.largest and largest:
+            self.tell(largest)
 
 
 class Fault(Exception):
     pass
+
+
+def shown(row):
+    return {key: f"{value:.2f}" if isinstance(value, float) else str(value) for key, value in row.items()}
 
 
 def aligned(width):
@@ -174,6 +186,7 @@ def words_of(arguments):
     reader.add_argument("--seed", type=int, default=1, help="of the formulas (1)")
     reader.add_argument("--form", choices=FORMS, default="forward", help="of the declarations: gates behind their inputs, or any way")
     reader.add_argument("--sizes", type=sizes_of, metavar="N,..", help="these sizes only, as far as a family has them")
+    reader.add_argument("--largest", action="store_true", help="tell of each family the largest size that was decided")
     reader.add_argument("--csv", metavar="FILE", help="where the table is written, a row for each run and solver")
     reader.add_argument("--solver", default=SOLVER, metavar="FILE", help="the built dqsolve")
     reader.add_argument("--checker", default=CHECKER, metavar="FILE", help="the built dqcheck")

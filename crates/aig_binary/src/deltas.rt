@@ -1,4 +1,6 @@
 //! Differences of literals.
+//!
+//! A difference is read by a recursion of at most five calls, one a byte, which is its definition.
 
 ghost use Rattle.std.specs.Prelude.{◌≡◌, ◌<◌, ◌≤◌, ◌^◌, length, Ok, Err, IfOk, MatchResult};
 ghost use Rattle.aig_binary.specs.Deltas.{most_groups, read_delta};

@@ -1,4 +1,8 @@
 //! A graph of inputs and hashed and-gates, as one value.
+//!
+//! A gate is found by an ordered map from its two sides, compared with the gate that stands there;
+//! a refused call only cuts the gates that it added. Graphs simplify by rules of one level, and
+//! where a gate stands beside one of its own sides.
 
 ghost use Rattle.std.specs.Prelude.{◌≡◌, false, ◌<◌, ◌≤◌, ◌^◌, ◌+◌, [], ◌∷◌, ℕ, length, OnOk, OnErr, IfOk, IfSome, Some};
 ghost use Rattle.aig_graph.specs.Graph.{IsGraph, IsNode, AreSides, IsLook, place_of, size_of, gate_at, gate_count};

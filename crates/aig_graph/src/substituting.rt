@@ -1,4 +1,6 @@
 //! Nodes put in for inputs.
+//!
+//! It follows the cone: a definition of one gate costs one gate however many the graph has.
 
 ghost use Rattle.std.specs.Prelude.{◌≡◌, ◌≤◌, ◌<◌, false, length, All, IfOk, OnErr};
 ghost use Rattle.aig_graph.specs.Graph.{IsNode};

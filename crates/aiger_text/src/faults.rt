@@ -1,4 +1,7 @@
 //! What can be wrong with a circuit's text.
+//!
+//! Each fault but a cycle is a fold over the lines; a cycle is a property of the netlist. The
+//! grammar says nothing of an order of checks.
 
 ghost use Rattle.std.specs.Prelude.{◌≡◌};
 ghost use Rattle.aiger_text.specs.FaultNames.{circuit_fault_name};

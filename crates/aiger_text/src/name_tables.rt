@@ -1,5 +1,8 @@
 //! Names by place, with their bytes end to end: a name costs these and what finds it, and no block of
 //! its own.
+//!
+//! As blocks of their own in a map a million inputs' names took more than the search for their
+//! circuit.
 
 ghost use Rattle.std.specs.Prelude.{◌≡◌, ◌++◌, ◌∷◌, ◌<◌, [], None, false, nat_eq, length, slice_index_or, OnOk, OnErr};
 ghost use Rattle.std.specs.Option.{option_copied};

@@ -1,4 +1,9 @@
 //! Reading a circuit file.
+//!
+//! It goes line by line in functions over a plain struct: after an error it holds nothing that is
+//! promised, as a growth may have been refused between two of its lists. A gate's line is three
+//! numbers until its checks have passed, and a `Gate` from then on, so that no `Gate` has a literal
+//! where its variable belongs.
 
 ghost use Rattle.std.specs.Prelude.{◌≡◌, ℕ, ◌+◌, ◌<◌, ◌^◌, List, Option, length, Some, None, OnOk, IfOk, MatchOption};
 ghost use Rattle.std.specs.Option.{option_copied};

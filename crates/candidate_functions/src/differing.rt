@@ -1,5 +1,9 @@
 //! Where nodes have other bits than the points: there alone they are patched, so that a circuit
 //! doesn't grow where a guess was right.
+//!
+//! Patched at all pairs, circuits are so large that counterexamples teach little (94 rounds in
+//! place of 14). The walks stop at 2^23 gates in a call; at the rows that are left all is patched
+//! unseen.
 
 ghost use Rattle.std.specs.Prelude.{◌≡◌, ◌≤◌, ◌<◌, ◌+◌, ℕ, length, map, All, Contains, IfOk, IsTrue};
 ghost use Rattle.dq_lits.specs.Row.{bit_of};

@@ -1,5 +1,8 @@
 //! How often rows refuted guesses. One that is wrong again and again is dropped: the points then say
 //! more than it does.
+//!
+//! A guess that is wrong at the newest row of eight turns, and of more than half of its turns, is
+//! dropped; it comes back if it is right more often later.
 
 ghost use Rattle.std.specs.Prelude.{◌≡◌, ◌≤◌, ◌<◌, ℕ, length, All, IfOk, None, Some, slice_index_or};
 ghost use Rattle.aig_graph.specs.Graph.{IsNode};

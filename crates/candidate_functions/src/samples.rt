@@ -1,5 +1,7 @@
 //! Values that make the matrix true, which guide trees where points don't: what a tree is before the
 //! first row, and which of tests that part the points equally well it takes.
+//!
+//! They are the pairs that show existentials free, at most 64 values.
 
 ghost use Rattle.std.specs.Prelude.{◌≡◌, ◌++◌, ◌∷◌, [], length, OnErr, OnOk};
 

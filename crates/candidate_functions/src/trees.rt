@@ -4,6 +4,10 @@
 //! No contract speaks of the tests: a tree becomes a node, whatever it says, and rules and points
 //! are put over it. Tests stay from call to call, and a tree grows only where points disagree, so
 //! that candidates change little from round to round.
+//!
+//! The best test is that of Gini's measure, in integers; of the universals in which the first two
+//! examples with other bits differ the first 64 are compared. Trees made anew in each turn need
+//! several times as many rounds.
 
 ghost use Rattle.std.specs.Prelude.{◌≡◌, ◌≤◌, false, length, replicate, slice_index_or, All, Contains, IfOk};
 ghost use Rattle.aig_graph.specs.Made.{Extends};

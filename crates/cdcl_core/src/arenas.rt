@@ -1,4 +1,7 @@
 //! The arena: the literals of all clauses stand end to end in one list.
+//!
+//! Literals stay where they are, in the log's order, as codes: a watch is a literal beside the
+//! clause's id, not a place, so that the other watched literal is seen without the clause.
 
 ghost use Rattle.std.specs.Prelude.{◌≡◌, ◌≤◌, ◌<◌, ◌+◌, ◌++◌, ◌∷◌, [], List, true, length, OnOk, Some, slice_get, vec_capacity};
 ghost use Rattle.dq_lits.specs.Literal.{Literal};

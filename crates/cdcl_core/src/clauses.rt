@@ -1,4 +1,9 @@
 //! The clauses that a solver holds, each watched at two of its literals.
+//!
+//! Links, heads, ends and starts take 4 bytes as long as they fit in 32 bits; from 2^32 on a second
+//! list has the higher halves. A clause that begins with the same literal as the one before belongs
+//! to its run: where that literal is true, a pass skips the run, so that it takes a step for each
+//! group that is off.
 
 ghost use Rattle.std.specs.Prelude.{◌≡◌, ◌≤◌, ◌<◌, ◌-◌, ◌^◌, ◌++◌, ◌∷◌, ◌⊎◌, [], List, ℕ, None, length, true, suc, Contains, OnOk, Some, vec_capacity};
 ghost use Rattle.dq_lits.specs.Literal.{Literal, positive, same_literal};

@@ -2,6 +2,10 @@
 //! selector of a group that rests, the solver holds one of two such selectors. No search makes one of
 //! them false, so that propagation never comes to such a clause; all of them begin alike, so that a
 //! look for an open clause passes them in one step. The log has the clauses themselves.
+//!
+//! What is held goes with the log place by place, but for placeholders of groups that rest. That no
+//! placeholder is hinted follows from what an analysis keeps anyway: selectors of hinted clauses
+//! are negated assumptions.
 
 ghost use Rattle.std.specs.Prelude.{◌≡◌, ◌≤◌, ◌<◌, ◌+◌, ◌^◌, ◌++◌, ◌∷◌, ◌&&◌, [], ℕ, true, length, IfOk, OnOk, IfSome, Some, IsSome};
 ghost use Rattle.std.specs.List.{list_any};

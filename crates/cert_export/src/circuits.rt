@@ -1,4 +1,8 @@
 //! The circuit and the proof of a true formula, from an answer that decides so.
+//!
+//! Faults that the answer reaches tell each existential's leaf; where they tell none nothing rests
+//! on the output, and it is constant false. So time and memory go with what is reached, a pass over
+//! the log's names apart.
 
 ghost use Rattle.std.specs.Prelude.{◌≡◌, ◌≤◌, ◌+◌, ℕ, List, length, IfOk};
 ghost use Rattle.std.specs.List.{sum_by};

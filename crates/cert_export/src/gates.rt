@@ -3,6 +3,9 @@
 //! A gate was named behind its sides. So gates are looked at by their places among the log's names,
 //! the last one first: its sides come into the set of those that are still to be looked at, each
 //! gate is looked at once, and no name that isn't needed.
+//!
+//! Places, not variables: a log says nothing of the order of variables. A pass over all names took
+//! 19 parts of 20 of a long session.
 
 ghost use Rattle.std.specs.Prelude.{◌≡◌, ◌<◌, ℕ, true, reverse, All, IfOk, OnOk};
 ghost use Rattle.std.specs.List.{AllPairs};

@@ -1,4 +1,8 @@
 //! The expansion refutation of a formula, from an answer that rests on instances.
+//!
+//! The rows listed are those of the rounds of which the answer reaches an instance, in their order.
+//! A line's hints are cut where its fault is found, which is the first hint that is falsified too
+//! early; by which rows the pairs are named doesn't move that place.
 
 ghost use Rattle.std.specs.Prelude.{◌≡◌, ◌≤◌, ℕ, List, None, length, IfOk};
 ghost use Rattle.std.specs.List.{range_with_len};

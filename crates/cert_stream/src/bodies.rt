@@ -1,4 +1,7 @@
 //! A refutation behind its header, line by line.
+//!
+//! An item stands in the buffers until the next line: a line takes no block of memory, and the rows
+//! can be looked at beside it. Contracts see a mark for each line of the proof (`KeptLines`).
 
 ghost use Rattle.std.specs.Prelude.{◌≡◌, ◌<◌, None, Ok, IfOk, IfSome, OnOk};
 ghost use Rattle.dq_text.specs.Line.{line_tokens};

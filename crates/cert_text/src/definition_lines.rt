@@ -1,4 +1,7 @@
 //! The lines of a text of definitions.
+//!
+//! Lines of a block are words and the numbers behind them, and one predicate says what spells a
+//! line, as the kinds of lines differ in nothing else.
 
 ghost use Rattle.std.specs.Prelude.{◌≡◌, ◌*◌, ◌≤◌, ◌<◌, ◌^◌, length, IfOk};
 ghost use Rattle.circuit_plain.specs.declared.circuits.Gate.{Gate};

@@ -1,4 +1,8 @@
 //! Lines of a proof.
+//!
+//! The checks of a line run one after the other over the whole line, and each is a line of the
+//! definition: not a number, too big, the shape, the id, the variables, the hints. What stands
+//! before a line is a state of its format: the next id, and which ids may be deleted.
 
 ghost use Rattle.std.specs.Prelude.{◌≡◌, ◌<◌, ◌^◌, nat_abs, map};
 ghost use Rattle.std.specs.Option.{option_map};

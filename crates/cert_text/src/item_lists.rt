@@ -1,4 +1,7 @@
 //! Lists of items.
+//!
+//! A list of items is a list of steps of which some have the id 0: these are deletions, and their
+//! hints are the ids. So a list of lines becomes one of items as it is.
 
 ghost use Rattle.std.specs.Prelude.{◌≡◌, ◌+◌, ◌≤◌, ◌<◌, ◌^◌, [], ◌∷◌, ◌++◌, IsTrue, OnOk};
 ghost use Rattle.cert_text.specs.ItemLine.{item_lines};

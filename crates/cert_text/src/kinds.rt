@@ -1,4 +1,8 @@
 //! Which kind of certificate a text is, by its first lines.
+//!
+//! Behind a line that states another verdict a `p` line is WrongVerdict whatever its second token
+//! is, so the first token of a header alone is looked at as long as the second can't change an
+//! answer.
 
 /// What a certificate shows, and where its header line begins.
 #[derive(Clone, Copy, PartialEq, Eq)]

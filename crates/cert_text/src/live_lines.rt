@@ -1,4 +1,6 @@
 //! Which of the lines that were read weren't deleted.
+//!
+//! A bit for each line, in rows of 4,096 that never move, so that no growth holds the bits twice.
 
 ghost use Rattle.std.specs.Prelude.{◌≡◌, ◌<◌, ◌≤◌, ◌*◌, ◌^◌, ◌++◌, ◌∷◌, [], true, false, length, slice_index_or, slice_set, OnOk, OnErr};
 ghost use Rattle.std.specs.List.{All};

@@ -1,4 +1,7 @@
 //! Steps that are as they should be, read in one pass.
+//!
+//! Where the quick pass gives up, the exact reader says what the line is, so that no refusal has a
+//! second way. A deletion goes through the exact reader at once.
 
 ghost use Rattle.std.specs.Prelude.{◌≡◌, ◌≤◌, ◌<◌, ◌^◌, ◌∷◌, [], ◌++◌, nat_abs, pos, map, IfSome, IfOk, OnOk};
 ghost use Rattle.std.specs.List.{All};

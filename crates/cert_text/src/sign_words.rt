@@ -1,4 +1,6 @@
 //! Signed universals, compared with the universals' own texts: no number is computed.
+//!
+//! The texts take as much as one row's line, and 8 bytes a universal.
 
 ghost use Rattle.std.specs.Prelude.{◌≡◌, ◌++◌, ◌<◌, ◌≤◌, ℕ, true, map, length, slice_index, IfOk, IfSome};
 ghost use Rattle.dq_text.specs.Written.{number_text};

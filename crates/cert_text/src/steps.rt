@@ -1,4 +1,6 @@
 //! The steps of a proof, end to end in memory.
+//!
+//! A step is a view of three lists, so that it takes no block of memory of its own.
 
 ghost use Rattle.std.specs.Prelude.{◌≡◌, ◌<◌, ◌^◌, [], ◌∷◌, ◌++◌, length, Some, OnOk, OnErr};
 ghost use Rattle.std.specs.List.{slice_get};

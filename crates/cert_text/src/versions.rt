@@ -1,4 +1,7 @@
 //! The versions of a proof's text.
+//!
+//! The version is the header's word and no field of what was read: a proof is written in version 2
+//! exactly where it has a deletion.
 
 /// The version that a header announces.
 #[derive(Clone, Copy, PartialEq, Eq)]

@@ -1,4 +1,7 @@
 //! Writing refutations and circuits' proofs.
+//!
+//! `write_dqr` asks for nothing: a row is written as far as there are universals and bits. That a
+//! text reads back is a law about what a text can hold.
 
 ghost use Rattle.std.specs.Prelude.{◌≡◌, ◌++◌, ℕ, not, length, Ok, IfOk, OnOk, codes};
 ghost use Rattle.std.specs.List.{flat_map, zip};

@@ -1,4 +1,7 @@
 //! The clauses of a group of faults: some clause of the matrix is false under the circuit's leaves.
+//!
+//! A clause with a literal that is true whatever the values are gets this literal's fault alone: it
+//! says that the clause is never false.
 
 ghost use Rattle.std.specs.Prelude.{◌≡◌, ◌≤◌, ◌<◌, ◌+◌, ◌∷◌, ◌⊎◌, ℕ, true, false, not, List, length, slice_get, slice_index_or, [], IfOk, IfSome, OnOk, OnErr, Some, Contains};
 ghost use Rattle.dq_lits.specs.Formula.{Dqbf, declared};

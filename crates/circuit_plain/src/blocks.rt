@@ -1,4 +1,7 @@
 //! The bits of a circuit's variables under 256 rows.
+//!
+//! Four words of 64 are two registers on any x86-64. The words of the six lowest bits of a row's
+//! number are fixed.
 
 ghost use Rattle.std.specs.Prelude.{◌≡◌, ◌+◌, ◌^◌, ◌<◌, ℕ, [], length, replicate, slice_index_or, slice_set, IfOk};
 ghost use Rattle.circuit_plain.specs.Blocks.{lane_bit, block_bits};

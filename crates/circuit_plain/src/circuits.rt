@@ -1,4 +1,6 @@
 //! A netlist as a value.
+//!
+//! Variable 0 is the constant, with a bit that is false in each row of values.
 
 ghost use Rattle.std.specs.Prelude.{◌≡◌, ◌==◌, ◌<◌, ◌%◌, ◌/◌, ◌*◌, ◌^◌, [], ◌∷◌, ◌++◌, length, IsTrue, ◌↔◌, OnOk, OnErr};
 ghost use Rattle.std.specs.List.{list_any};

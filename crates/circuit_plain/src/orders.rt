@@ -1,4 +1,9 @@
 //! A topological order of a netlist's gates.
+//!
+//! Where the walk meets a cycle, exact rounds find the first gate outside the least set. A gate
+//! that reads a variable neither constant, input nor gate can't be ordered either. Each gate comes
+//! once and none is missing, so that a value of the whole circuit needs no look at what outputs
+//! reach.
 
 ghost use Rattle.std.specs.Prelude.{◌≡◌, ℕ, Option, None, Some, Result, Err, IfOk};
 ghost use Rattle.circuit_plain.specs.Ground.{IsFirstUngrounded};

@@ -1,4 +1,7 @@
 //! The judgement of a block.
+//!
+//! A block is judged when it was read, and isn't kept: memory follows the longest block. Behind the
+//! first fault the text is read on, since a refusal comes first.
 
 ghost use Rattle.std.specs.Prelude.{◌≡◌, ℕ, IsSome, IfOk, Some};
 ghost use Rattle.dq_lits.specs.Formula.{Existential, existential_of};

@@ -1,4 +1,8 @@
 //! The variables of the formula that a definition reads.
+//!
+//! A definition's cone is walked from its last gate to its first, and each leaf is tested once,
+//! however often it is read: a test compares two dependency sets. What it reads counts by its
+//! structure, as in a circuit.
 
 ghost use Rattle.std.specs.Prelude.{◌≡◌, ◌+◌, ◌-◌, ◌≤◌, ◌<◌, ◌/◌, ◌↔◌, ℕ, length, Contains, OnOk, IfOk};
 ghost use Rattle.circuit_plain.specs.Netlist.{literal_variable};

@@ -1,4 +1,7 @@
 //! The search for an existential's definition, and its block.
+//!
+//! Existentials are asked for in order of declaration, without ranks, as the text's rule has it:
+//! first for a gate that the clauses state, else the copies. Blocks are written as they are found.
 
 ghost use Rattle.std.specs.Prelude.{◌≡◌, ◌+◌, ◌<◌, ℕ, [], ◌∷◌, length, IfOk, OnOk, IsErrOf, Some, slice_get};
 ghost use Rattle.dq_lits.specs.Formula.{Existential, IsWellFormed};

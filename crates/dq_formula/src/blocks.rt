@@ -3,6 +3,10 @@
 //! A clause lies within one block, and a block is at least as large as the clause that begins it.
 //! So what is left unused at a block's end is less than the clause that begins the next block: in
 //! all blocks but the last less than there are literals.
+//!
+//! Where clauses begin is one vector that grows by an eighth, so that little more than twice its 8
+//! bytes a clause is held while it is copied. Blocks of equal numbers of clauses would have no
+//! bound for long ones.
 
 ghost use Rattle.std.specs.Prelude.{◌≡◌, ◌≤◌, ◌<◌, ◌+◌, ℕ, true, ◌∷◌, [], length, map, drop, slice_index_or, OnOk, vec_capacity};
 ghost use Rattle.dq_formula.specs.Blocks.{block_at, end_of, clauses_of, blocks_of, AreArranged, HasRoom, ArePut};

@@ -1,4 +1,7 @@
 //! A DQBF as a value, made a piece at a time.
+//!
+//! `Formula::new` takes no memory. What is declared at a text's end is put into a copy of the set,
+//! which takes its place when all is there, so that a refused growth changes nothing.
 
 ghost use Rattle.std.specs.Prelude.{◌≡◌, ◌≢◌, ◌+◌, ◌-◌, ◌==◌, ◌≤◌, ◌<◌, false, true, not, ◌&&◌, Some, None, [], ◌∷◌, ◌++◌, List, length, map, is_some, slice_get, slice_index, slice_index_or, filter, All, Contains, nat_eq, IsTrue, IsSome, IfSome, IfOk, OnOk, OnErr, position, ◌↔◌};
 ghost use Rattle.std.specs.List.{AllPairs, position_or_len};

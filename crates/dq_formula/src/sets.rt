@@ -1,4 +1,8 @@
 //! Dependency sets against each other, and rows and clauses against the universals.
+//!
+//! A set is looked up by a key that is kept, so that the second of two equal sets costs its reading
+//! and one descent. `is_subset` walks through places, linear in both sets. A listed set is sorted
+//! by place, never by a pass over all universals.
 
 ghost use Rattle.std.specs.Prelude.{◌≡◌, ◌==◌, ◌≤◌, ◌<◌, ◌↔◌, ℕ, All, Contains, IsSome, IfSome, IfOk, IsTrue, Some, length, take, slice_get, slice_index};
 ghost use Rattle.std.specs.List.{list_any, position_or_len};

@@ -1,4 +1,6 @@
 //! The clauses of XOR lines.
+//!
+//! Room for all clauses of a line is taken first, so that all come or none.
 
 ghost use Rattle.std.specs.Prelude.{◌≡◌, ◌≤◌, ◌+◌, ◌*◌, ◌++◌, length, map, drop};
 ghost use Rattle.dq_lits.specs.Literal.{Literal};

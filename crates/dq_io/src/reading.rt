@@ -1,4 +1,7 @@
 //! A file, read whole.
+//!
+//! A read asks for at least one byte: with room for none, the end and a short read would look
+//! alike.
 
 ghost use Rattle.std.specs.Prelude.{◌≡◌, ℕ, ◌<◌, ◌≤◌, ◌↔◌, true, List, length, vec_len, IfOk, OnOk, IsErrOf, Err};
 ghost use Rattle.std.specs.Io.KnownBytes.{IsAtEnd};

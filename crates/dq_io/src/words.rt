@@ -1,4 +1,7 @@
 //! The trusted edge: the words of the command line that the program was started by.
+//!
+//! The program's own name isn't looked at, so it need not be text. A later word that is no text
+//! gives the usage line.
 
 use std::env::FillError;
 use std::rt::Env;

@@ -1,4 +1,7 @@
 //! Rows of bits, 64 to a word.
+//!
+//! Rows are packed, 64 bits a word, behind a contract that sees a list of bits: searches keep them
+//! by the thousand.
 
 ghost use Rattle.std.specs.Prelude.{◌≡◌, ◌≢◌, ◌==◌, ◌<◌, ℕ, false, length, replicate, IfOk, slice_set};
 ghost use Rattle.std.specs.Int.{bit_at};

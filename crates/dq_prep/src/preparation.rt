@@ -1,4 +1,9 @@
 //! The whole preparation: units are taken until none is left or a clause is empty.
+//!
+//! What is left is defined by the units taken, places and literals, in any order, until none is
+//! left or a clause is empty. Reduction by steps comes to one reduction at the end, since a clause
+//! only loses existentials. A trace is the list of these units; what changed follows from it clause
+//! by clause. A clause that holds a literal twice is no unit by it.
 
 ghost use Rattle.std.specs.Prelude.{◌≡◌, ◌+◌, true, length, map, IfOk, OnOk};
 ghost use Rattle.std.specs.Bool.{OnTrue, OnFalse};

@@ -1,4 +1,8 @@
 //! What the existentials of a clause depend on, and what universal reduction leaves.
+//!
+//! What a clause's existentials see is collected once a clause: the largest set of first universals
+//! as a number, and of each listed set its members or the clause's universals that are in it,
+//! whichever list is shorter.
 
 ghost use Rattle.std.specs.Prelude.{◌≡◌, ◌||◌, ◌&&◌, ℕ, [], map, IsSome, IfOk, OnOk};
 ghost use Rattle.std.specs.List.{list_any, filter};

@@ -1,4 +1,7 @@
 //! Which clauses hold a literal beside its negation.
+//!
+//! They are found once, before any unit is taken: pair by pair in short clauses, by a set of
+//! numbers in long ones.
 
 ghost use Rattle.std.specs.Prelude.{◌≡◌, ◌==◌, ℕ, [], map, IfOk, OnOk};
 ghost use Rattle.std.specs.List.{list_any};

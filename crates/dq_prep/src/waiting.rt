@@ -1,4 +1,7 @@
 //! The clauses that may have become units.
+//!
+//! Behind the queue one pass over all clauses looks for a unit; it is the pass that the contract
+//! rests on.
 
 use dq_formula::Formula;
 use dq_lits::{Lit, Memory};

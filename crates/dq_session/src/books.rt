@@ -1,4 +1,9 @@
 //! The clauses of a session, and their instances.
+//!
+//! A book borrows its file: only added clauses have a copy. A frame's group lies at the frame's
+//! number and stays there when it is closed, so that no two frames share one. How many rows a
+//! clause's instances were given under is kept for each clause; a refused growth half-way leaves a
+//! book that stands, and the next search goes on where it ended.
 
 ghost use Rattle.std.specs.Prelude.{◌≡◌, ◌⊎◌, ◌≤◌, ◌<◌, ◌-◌, ◌+◌, ◌++◌, ◌∷◌, [], ℕ, true, map, length, slice_index_or, None, Ok, All, IfOk, OnOk, OnErr, IsErrOf, Contains};
 ghost use Rattle.std.specs.List.{range_with_len};

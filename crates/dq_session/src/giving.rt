@@ -1,4 +1,8 @@
 //! The instances of clauses that were added, in their frames' groups, and searches over them.
+//!
+//! `solve_with` says what its values and its answer are, and not what they show of a formula: a
+//! book's formula is not its table's. A search costs a look at each live clause that was added and
+//! at each open frame, and an instance for each clause and row that lacks one.
 
 ghost use Rattle.std.specs.Prelude.{◌≡◌, ◌≤◌, ◌<◌, ◌+◌, ◌++◌, [], ℕ, List, length, slice_get, slice_index_or, Ok, IfOk, OnOk, IsErrOf, Some, None};
 ghost use Rattle.std.specs.List.{cons_option};

@@ -1,4 +1,6 @@
 //! What is kept of a token whose bytes come one by one: enough to tell a short word, and a number.
+//!
+//! A token of any length takes no memory: no more of it is ever asked for.
 
 ghost use Rattle.std.specs.Prelude.{◌≡◌};
 ghost use Rattle.dq_text.specs.Number.{begins_with_minus, number_of};

@@ -1,4 +1,8 @@
 //! A whole run: the words, both files, the judgement, and what is written.
+//!
+//! A certificate's stream is ended also where its file failed or is too long, and what it says is
+//! thrown away: to drop a stream costs the prover more than all else here. The row in `INVALID row`
+//! is read off the row's number, lowest bit first.
 
 ghost use Rattle.std.specs.Prelude.{◌≡◌, ℕ, List, map, string_bytes, vec_len, codes, Some, IfOk, OnOk, IsErrOf};
 ghost use Rattle.dq_io.specs.State.{state_of};

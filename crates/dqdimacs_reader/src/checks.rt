@@ -1,5 +1,9 @@
 //! The checks of a token where it stands, in their order; see `specs/Machine.antt` for the whole
 //! table.
+//!
+//! Clauses and XOR lines are counted, not the matrix's clauses, since a header counts them; the
+//! most clauses of a matrix are tested at each clause's zero. An XOR line of more than five
+//! literals is refused: its clauses double with each literal, and fresh existentials part it.
 
 ghost use Rattle.std.specs.Prelude.{◌≡◌, ◌≤◌, ◌<◌, length};
 ghost use Rattle.std.specs.List.{list_any};

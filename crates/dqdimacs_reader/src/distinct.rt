@@ -1,4 +1,8 @@
 //! A clause's distinct literals, in time that doesn't depend on which they are.
+//!
+//! A clause's literals are compared one by one up to sixteen, and by a set of keys from there on.
+//! The set is made anew for each long clause: to clear a large one for each small clause would be
+//! quadratic.
 
 ghost use Rattle.std.specs.Prelude.{◌≡◌, [], IfOk, IfSome, OnOk, OnErr, not};
 ghost use Rattle.std.specs.List.{list_any};

@@ -1,4 +1,8 @@
 //! Reading a text, whole or in pieces.
+//!
+//! An answer that the reader's state allows is right for the whole text, whatever bytes come behind
+//! what was fed (`StandsFor`). A line's number that would pass 64 bits ends with want of memory; no
+//! text is that long.
 
 ghost use Rattle.std.specs.Prelude.{◌≡◌, ℕ, List, [], IfOk};
 ghost use Rattle.dq_lits.specs.Formula.{HasLawfulPrefix, IsWellFormed};

@@ -1,4 +1,6 @@
 //! Writing a formula.
+//!
+//! A dependency set with as many universals as the prefix has all of them.
 
 ghost use Rattle.std.specs.Prelude.{◌≡◌, ◌++◌, Some, IfOk, OnOk, IsSome};
 ghost use Rattle.std.specs.List.{flat_map};

@@ -1,4 +1,6 @@
 //! What is written of a planted formula.
+//!
+//! The text is judged as `solve` writes it, with the line with the verdict.
 
 ghost use Rattle.std.specs.Prelude.{◌≡◌, ◌≤◌, [], IfOk};
 ghost use Rattle.dq_lits.specs.Formula.{IsWellFormed};

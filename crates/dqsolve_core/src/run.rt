@@ -1,4 +1,9 @@
 //! A whole run: the words, the files, the search, and what is written.
+//!
+//! What is shown over two circuits is one clause by statuses (`ComparesTold`): at each status but
+//! those of failures, what was written is the texts' first refusal or the command's answer for
+//! their design. `told` is a record of one record a kind of command, so that a new command adds a
+//! field and no clause.
 
 ghost use Rattle.std.specs.Prelude.{◌≡◌, ◌≤◌, ◌⊎◌, [], map, string_bytes, Some, IfOk};
 ghost use Rattle.dq_io.specs.State.{state_of};

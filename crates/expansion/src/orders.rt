@@ -1,4 +1,8 @@
 //! Rows in order of what an existential sees of them.
+//!
+//! A place for each first row and no bits are kept, and rows are compared themselves: no key goes
+//! into a hash. A row is put in when the next one comes, so that a refused growth leaves each order
+//! right for fewer rows.
 
 ghost use Rattle.std.specs.Prelude.{◌≡◌, ◌≤◌, ◌<◌, ◌+◌, ◌++◌, [], true, All, map, length, IfOk, OnOk, OnErr, IsSome};
 ghost use Rattle.std.specs.List.{position_or_len, insert, slice_get};

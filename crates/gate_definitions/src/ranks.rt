@@ -1,4 +1,9 @@
 //! Ranks by which the gates that the clauses state can be read: behind a gate's inputs its output.
+//!
+//! What could be a gate is collected, and outputs are placed as soon as their inputs are; where
+//! nothing is ready the first existential by declaration, one that could be turned into an input
+//! before the output of a gate that can't. An existential whose clauses decide as many rows as a
+//! table has is looked at for one, again when they decide twice as many.
 
 use crate::coverage::Coverage;
 use crate::index::{Index, add_up};

@@ -1,6 +1,10 @@
 //! Tables: clauses that decide an output's bit for each row of few inputs.
 //!
 //! No contract speaks of what is found here: whoever takes a clause from a table reads it.
+//!
+//! A table's inputs are the ten variables that decide most rows (a clause with k others decides
+//! 2^-k of them). Each clause is looked at 64 times at most on average, and the tree is found
+//! before a node is made.
 
 use crate::clauses::clause_at;
 use crate::outputs::Output;

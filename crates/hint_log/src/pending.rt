@@ -1,4 +1,7 @@
 //! Numbers that are still to be looked at, the greatest first.
+//!
+//! What an answer rests on is found from its newest id downwards, as a hint is an earlier id. The
+//! export looks at gates in the same way.
 
 ghost use Rattle.std.specs.Prelude.{◌≡◌, ◌==◌, ℕ, if◌then◌else◌, ◌<◌, ◌⊎◌, ◌↔◌, true, false, IfSome, IfNone, OnErr, OnOk, Contains};
 ghost use Rattle.hint_log.specs.Pending.{is_pending, Takes};

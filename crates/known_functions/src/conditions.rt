@@ -4,6 +4,10 @@
 //! makes true say that outputs are equal wherever the boxes' inputs are as they should be: they
 //! share the literals that say that they aren't. Under the negations of these a box's output is
 //! often defined, and what defines it there serves everywhere.
+//!
+//! Four sets of conditions are tried, those of the last clauses first, of 1,024 literals at most;
+//! after 32 existentials in a row without a guess none is asked for. Conditions on existentials
+//! without a definition would give functions of what isn't known yet.
 
 use crate::suspects::Defined;
 use dq_lits::{Lit, Memory, Row};

@@ -1,4 +1,7 @@
 //! The definitions that the clauses force, which are asked for before the first candidates.
+//!
+//! An existential in no clause is asked for nothing. After 32 questions in a row that found none no
+//! definition is asked for; gates are read off all the same.
 
 ghost use Rattle.std.specs.Prelude.{◌≡◌, ◌<◌, ℕ, true, length, replicate, None, Some, All, OnOk, IfOk, IfSome, IsErrOf, slice_get, slice_set};
 ghost use Rattle.dq_lits.specs.Formula.{Existential, IsWellFormed};

@@ -1,4 +1,9 @@
 //! The rules that the clauses force, which are asked for at each new row.
+//!
+//! A rule is asked for where it pays: not where an existential sees at most five universals, nor
+//! after eight answers that its bit wasn't forced, nor where its bit can be turned in the model at
+//! the newest row; at most 64 in a round. Each answer stays in the solver as a clause of as many
+//! literals as the existential sees.
 
 ghost use Rattle.std.specs.Prelude.{◌≡◌, ◌<◌, ◌≤◌, length, All, IfOk, IfSome, IsErrOf};
 ghost use Rattle.dq_lits.specs.Formula.{Dqbf, IsWellFormed};

@@ -1,5 +1,10 @@
 //! Guesses: nodes that existentials without a definition equal under conditions. They are asked for
 //! before the first candidates, and candidates take them where neither a row nor a rule says a bit.
+//!
+//! A question learns at most 8,000 clauses, and 1,000 where the existential before has no guess: it
+//! may be as hard as the formula, and nothing is lost without its answer. One that is cut off gives
+//! no guess. No guess is asked for at a failing row: what the box before has to give isn't in the
+//! conditions there.
 
 ghost use Rattle.std.specs.Prelude.{◌≡◌, ◌≤◌, ◌<◌, ℕ, true, length, None, Some, IfOk, IfSome, IsErrOf, IsSome, Ok, OnOk, slice_get};
 ghost use Rattle.dq_lits.specs.Formula.{Existential, IsWellFormed, existential_of};

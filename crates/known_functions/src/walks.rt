@@ -1,5 +1,9 @@
 //! Walks from values that make the matrix true to others, an existential turned at each step. One
 //! that was turned has no definition, if what was turned with it may not be read by a definition.
+//!
+//! A turn takes along at most eight others, looks for them in clauses of at most 64 literals and at
+//! 16 times the occurrences at most: an at-most-one constraint over thousands would else be walked
+//! once for each of its literals.
 
 use crate::occurrences::Occurrences;
 use crate::samples::Sample;

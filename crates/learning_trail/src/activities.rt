@@ -1,4 +1,7 @@
 //! How active literals are: a policy that no contract speaks of.
+//!
+//! Scores stand on pages, and a page comes with the first conflict that touches one of its
+//! variables. A score is scaled down where it is read, by how often all were since it was written.
 
 use crate::codes::Code;
 use dq_lits::Lit;

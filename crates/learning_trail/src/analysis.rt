@@ -5,6 +5,9 @@
 //! literal that is resolved adds its reason in front. Where only one marked literal is left of the
 //! newest level, the trail below it stays as it is; marked literals there whose reasons rest on
 //! marked ones alone are resolved too, and the negations of the others are the clause.
+//!
+//! Marks that aren't clear are listed, so that a conflict costs what it touches; minimisation sorts
+//! the places of the marked literals and passes these alone.
 
 ghost use Rattle.std.specs.Prelude.{◌≡◌, ◌<◌, ◌≤◌, ◌==◌, ◌||◌, ◌&&◌, ◌++◌, ◌∷◌, [], not, ℕ, List, true, length, All, OnOk, IfOk, Some, IsSome, IfSome};
 ghost use Rattle.std.specs.List.{list_all};

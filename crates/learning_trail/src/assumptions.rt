@@ -1,4 +1,7 @@
 //! What was assumed, against the trail.
+//!
+//! An assumption that is false answers from its reason. Those that are true are counted from the
+//! first on, until a conflict takes the trail back.
 
 ghost use Rattle.std.specs.Prelude.{◌≡◌, ◌≤◌, ◌<◌, ◌+◌, ◌-◌, ◌^◌, true, false, All, Some, IfSome, MatchOption, slice_get, length, take};
 ghost use Rattle.std.specs.List.{list_any};

@@ -1,4 +1,8 @@
 //! A trail of literals that were made true, with reasons and levels.
+//!
+//! A trail's room is taken at once, with an eighth more, as propagation takes no memory; a variable
+//! beyond it has no value. It notes where each level begins, so that a level that stays isn't
+//! passed.
 
 ghost use Rattle.std.specs.Prelude.{◌≡◌, ◌+◌, ◌<◌, ◌≤◌, ◌++◌, [], ◌∷◌, ℕ, Some, length, reverse, vec_capacity, OnErr, OnOk, IfSome, MatchOption, All};
 ghost use Rattle.dq_lits.specs.Literal.{Literal, variable_of};

@@ -1,4 +1,8 @@
 //! Goals for units: one for each unit and the bits that its existential sees.
+//!
+//! Without one goal for a unit and the bits that its existential sees, units that use one another
+//! twice would ask exponentially often. Whether the goal that the map proposes is the one asked for
+//! is compared.
 
 ghost use Rattle.std.specs.Prelude.{◌≡◌, ◌<◌, true, [], length, All, IfOk};
 ghost use Rattle.std.specs.List.{AllZip};

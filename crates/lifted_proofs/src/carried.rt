@@ -1,4 +1,6 @@
 //! The lines of a refutation, with other ids.
+//!
+//! Deletions are left out: a clause that is there longer harms no line.
 
 ghost use Rattle.std.specs.Prelude.{◌≡◌, ◌<◌, ◌++◌, ◌∷◌, [], ◌^◌, map, All, IfOk, OnOk};
 ghost use Rattle.cert_text.specs.Items.{item_seen};

@@ -1,4 +1,9 @@
 //! Which clauses under which rows have to be derived, and why each follows.
+//!
+//! A goal is what is left of a clause under a row. It follows of the clause itself under the row
+//! with its universal literals false, and of the units that make its other literals false there: so
+//! it asks for units that were taken before. Goals are looked at in a queue; nothing recurses.
+//! Where no literal is false the instance is hinted at itself.
 
 ghost use Rattle.std.specs.Prelude.{◌≡◌, ◌<◌, length, Some};
 ghost use Rattle.std.specs.List.{slice_get};

@@ -1,4 +1,7 @@
 //! Rows under which the universal literals of a clause are false.
+//!
+//! Rows are added behind those that there are, so that the first row that agrees with another stays
+//! and old lines keep their literals.
 
 ghost use Rattle.std.specs.Prelude.{◌≡◌, ◌==◌, ◌<◌, ℕ, false, true, length, OnOk, IfOk};
 ghost use Rattle.std.specs.List.{list_any};

@@ -1,5 +1,8 @@
 //! A circuit in which the output for each unit's existential is the constant that makes the unit
 //! true. Gates and numbers stay.
+//!
+//! So a clause that goes isn't false by a constant, and nothing is asked of it. Gates that no
+//! output reads any more stay, since the proof may hint at their clauses by their places.
 
 ghost use Rattle.std.specs.Prelude.{◌≡◌, ◌<◌, [], length, reverse, slice_index, IfOk, OnOk};
 ghost use Rattle.circuit_plain.specs.Netlist.{Netlist, gate_at};

@@ -1,4 +1,6 @@
 //! Bits that existentials are forced to have where they see what they see at a row.
+//!
+//! A rule's cube is what is left of the row in the answer's clause; no smaller one is searched for.
 
 ghost use Rattle.std.specs.Prelude.{◌≡◌, ◌<◌, ◌∷◌, ℕ, List, true, false, All, length, IfOk, IsErrOf, IsSome, Some, Ok};
 ghost use Rattle.dq_lits.specs.Derivation.{is_tautology};

@@ -2,6 +2,11 @@
 //!
 //! A universal that stands in no clause has no copies and no equation: it takes a flag and three
 //! words. Whether the matrix is true doesn't depend on it, and so no question needs it.
+//!
+//! The copies of a file are made as those of a session: places for all variables, then names and
+//! equations part by part, then the clauses in the frame 0. That the copies stand is said without
+//! clauses' numbers (`IsPadoa`), so it may be said of any formula whose clauses are some of those
+//! that the log numbers.
 
 ghost use Rattle.std.specs.Prelude.{◌≡◌, ◌≤◌, ◌<◌, ◌+◌, ◌∷◌, [], ℕ, true, false, All, IfOk, OnOk, None, Some, length, replicate, slice_get};
 ghost use Rattle.std.specs.List.{range_with_len};

@@ -1,4 +1,7 @@
 //! A partial design: an implementation with its boxes, and its specification.
+//!
+//! A design's reading carries what was read as its invariant, so that no law on designs asks for a
+//! premise.
 
 ghost use Rattle.std.specs.Prelude.{◌≡◌, ◌≤◌, ◌<◌, ◌+◌, ◌^◌, not, length, Some};
 ghost use Rattle.std.specs.List.{position};

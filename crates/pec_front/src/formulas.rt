@@ -1,4 +1,9 @@
 //! The formula of a design.
+//!
+//! Only the count of variables is tested: a gate has three clauses, a copy four over two variables,
+//! a pair of outputs five over one, so that a formula of 1,000,000 variables has 5,000,000 clauses
+//! at most. Room that grows as a product is asked for at once: that of all demands, and of what
+//! driven inputs see.
 
 ghost use Rattle.std.specs.Prelude.{◌≡◌, IfOk};
 ghost use Rattle.pec_front.specs.Encoder.{IsEncoder};

@@ -1,4 +1,8 @@
 //! What the encoding is for.
+//!
+//! Boxes fit by valuations: whatever bits the inputs have, where both circuits' gates have their
+//! values and the boxes are filled, outputs agree. For boxes in a cycle there may be no such
+//! values, so that their order is asked beside it.
 ghost use Rattle.pec_front.specs.Rows.{BoxesExtendEveryRow, FitsByRows};
 ghost use Rattle.pec_front.specs.Latest.{LatestShowsOrder};
 ghost use Rattle.pec_front.specs.Choices.{ChoicesFillBoxes, ChosenBoxesFit};

@@ -1,4 +1,6 @@
 //! The order of boxes, tested in one pass over the gates.
+//!
+//! One number a variable, the latest box that it hangs on, tells it.
 
 ghost use Rattle.std.specs.Prelude.{◌≡◌, ◌≤◌, ◌<◌, ◌+◌, ◌/◌, ℕ, true, nat_lt, length, replicate, All, IfOk, MatchOption};
 ghost use Rattle.std.specs.List.{list_any};

@@ -1,4 +1,6 @@
 //! The formula of the design in two files, or what is said of them.
+//!
+//! A refusal of a text waits until both files were read.
 
 ghost use Rattle.std.specs.Prelude.{◌≡◌, ◌≤◌, length, IfOk};
 ghost use Rattle.dq_io.specs.State.{state_of};

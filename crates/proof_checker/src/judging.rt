@@ -1,4 +1,6 @@
 //! Circuits' proofs that are judged as their items come.
+//!
+//! It judges items as they come and borrows neither formula nor circuit.
 
 ghost use Rattle.std.specs.Prelude.{◌≡◌, ◌≤◌, is_some, IfOk, OnOk};
 ghost use Rattle.dq_lits.specs.Formula.{Dqbf};

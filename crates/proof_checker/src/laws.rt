@@ -1,5 +1,9 @@
 //! What a circuit's proof without a fault shows. Each law is the contract of a function that does
 //! nothing: who calls it may use what it ensures.
+//!
+//! These laws speak of no rows: the assignment that shows a clause false extends to the circuit's
+//! variables by their values and to the clauses' variables by their falsity, and makes the negated
+//! matrix true. A variable that the circuit doesn't define is false there.
 
 ghost use Rattle.std.specs.Prelude.{◌≡◌, ℕ, ◌*◌, Bool, true, false, not, ◌&&◌, List, Ok, None, Some};
 ghost use Rattle.std.specs.List.{AllByRecursion, list_any};

@@ -1,4 +1,9 @@
 //! The clauses of the negated matrix, one at a time.
+//!
+//! The negated matrix is read on demand: a clause is at most three literals in registers, or the
+//! last one, whose length is computed. So a proof takes memory for its lines and for the variables
+//! that occur. Each literal of the formula is kept beside its clause's variable, so that an id
+//! finds its clause without a search.
 
 ghost use Rattle.std.specs.Prelude.{◌≡◌, ◌+◌, ◌-◌, ◌*◌, ◌/◌, ◌<◌, length, Some};
 ghost use Rattle.std.specs.List.{flat_map, slice_get};

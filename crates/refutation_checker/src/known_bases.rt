@@ -1,4 +1,7 @@
 //! Names of pairs by blocks of rows, so that a name is found without a walk.
+//!
+//! Names are kept by dependency set and block of 16 rows, so that a pair that occurred is one look-
+//! up.
 
 ghost use Rattle.std.specs.Prelude.{◌≡◌, ◌*◌, ◌+◌, ◌<◌, ◌++◌, ◌∷◌, [], length, replicate, OnOk, OnErr, IfOk, Some};
 ghost use Rattle.number_tables.specs.Numbers.{place_of};

@@ -3,6 +3,9 @@
 //! Names are numbers from 1 on. A dependency set and a row get as many as there are existentials
 //! with the set, one after another in order of declaration; rows that agree on the set get them
 //! once. So names are dense in what occurs, and the existentials of one set stand side by side.
+//!
+//! Numbers are consecutive for the existentials of a dependency set under rows that agree on it, so
+//! that they are dense in what occurs, and nothing is learnt before the first line.
 
 ghost use Rattle.std.specs.Prelude.{[], ◌≡◌, ◌<◌, ◌≤◌, ◌^◌, replicate, length, Some, IfOk, OnOk, IsSome};
 ghost use Rattle.refutation_checker.specs.Rows.{row_of};

@@ -1,4 +1,9 @@
 //! Refutations that are judged as their items come.
+//!
+//! An instance is made once for each hint, into one buffer. A pair without a name stands for a
+//! number behind all names; that a line's fault doesn't depend on names is a law of rup_core. Marks
+//! grow between lines, where none is set. Formula and rows are handed in with each item, so that
+//! whoever owns them may own this too.
 
 ghost use Rattle.std.specs.Prelude.{◌≡◌, Bool, false, List, [], is_some, length, None, IfOk, OnOk};
 ghost use Rattle.dq_lits.specs.Expansion.{instance_at};

@@ -1,4 +1,6 @@
 //! Rows at which a formula is false by a clause without existential literals.
+//!
+//! Candidates are evaluated at such a row first, so that it takes the way of every failing row.
 
 ghost use Rattle.std.specs.Prelude.{◌≡◌, length};
 

@@ -1,5 +1,10 @@
 //! A round before any question: the candidates are constants, and where they hold there is nothing
 //! to ask.
+//!
+//! Two copies were half of what a clause costs, so a large formula has this round first. Where most
+//! clauses are gates and some existential has none it is left out: constants fail there at once. A
+//! smaller formula goes without it, as a row that constants fail at is a worse row than one found
+//! beside definitions.
 
 ghost use Rattle.std.specs.Prelude.{◌≡◌, ℕ, IfOk, IfSome, None, Some, Ok, Err};
 ghost use Rattle.aig_graph.specs.Made.{Extends};

@@ -1,5 +1,8 @@
 //! Failing rows at which more clauses are false. Where a formula is clauses rather than circuits, a
 //! row tells the more the more clauses are false there, and the solver looks for one alone.
+//!
+//! Where most clauses state gates it costs rounds: a row at which many outputs are wrong makes
+//! several boxes wrong at once. What is answered is a failure, and that is the contract.
 
 ghost use Rattle.std.specs.Prelude.{◌≡◌, List, Bool, length, IfSome};
 ghost use Rattle.dq_lits.specs.Formula.{IsWellFormed};

@@ -1,4 +1,8 @@
 //! Reading a script line by line.
+//!
+//! A script is read whole before anything is searched. A line is judged in the state behind the
+//! lines before it, so that 'the first refusal' is a recursion over lines and needs no order of
+//! faults beside it. Commands have a byte each and their clauses lie end to end.
 
 ghost use Rattle.std.specs.Prelude.{◌≡◌, ◌+◌, ◌<◌, ◌^◌, length, Ok, Some, OnOk};
 ghost use Rattle.dq_text.specs.BlankLine.{has_no_token};

@@ -1,4 +1,6 @@
 //! The searches of a script's commands, one after another.
+//!
+//! The formula of now is made anew only where clauses came or went since the search before.
 
 ghost use Rattle.std.specs.Prelude.{◌≡◌, ◌≤◌, ◌<◌, ◌+◌, ◌^◌, [], List, Some, length, IfOk, OnOk, OnErr};
 ghost use Rattle.dq_lits.specs.Formula.{IsWellFormed};

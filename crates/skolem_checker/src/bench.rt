@@ -1,4 +1,9 @@
 //! A circuit that is tested against a formula.
+//!
+//! Rows are tried on a copy of the circuit with the least numbers, the inputs from 1 on and then
+//! the gates as they stand: a header may state the variable 10^9 over three lines. Contracts speak
+//! of the circuit itself. With more than 20 universals no row is tried, and room is taken for the
+//! constant alone.
 
 ghost use Rattle.std.specs.Prelude.{◌≡◌, ◌≢◌, ◌≤◌, ◌+◌, length, AllPairs, IfOk};
 ghost use Rattle.dq_lits.specs.Formula.{IsWellFormed};

@@ -1,6 +1,12 @@
 //! Walks through what outputs read, one after another: each visits the cone that is there. A walk
 //! goes on where the last one ended if both existentials have one dependency set, and visits nothing
 //! twice.
+//!
+//! Other outputs are walked one by one as long as their cones are short. What was come to is a
+//! list, and a variable's slot holds its place there (P. Briggs, L. Torczon, "An efficient
+//! representation for sparse sets", 1993), so that a walk is forgotten by two numbers. A batch that
+//! walks don't settle has one pass for 64 outputs at a time, a bit for each in every word; only the
+//! last look, one by one, names who reads what.
 
 ghost use Rattle.std.specs.Prelude.{◌≡◌, ◌<◌, ◌≤◌, ◌⊎◌, ◌+◌, ℕ, true, false, List, length, slice_index, All, Contains, IsSome, IfOk, Some};
 ghost use Rattle.dq_lits.specs.Formula.{Existential, Dqbf, existential_of};

@@ -1,4 +1,9 @@
 //! Whether the existentials of a batch read declared universals alone, by whole words.
+//!
+//! An output whose existential sees the first universals is settled by the last one that it reads:
+//! one pass through the gates writes behind which place no universal is reached, for all outputs at
+//! once. That pass has no contract: a second one tests that no gate's number is below what it
+//! reads.
 
 ghost use Rattle.std.specs.Prelude.{◌≡◌, ◌≢◌, ◌⊎◌, false, ◌+◌, ◌<◌, ◌≤◌, ◌*◌, ℕ, true, length, slice_index, All, Contains, IsSome};
 ghost use Rattle.dq_lits.specs.Formula.{Existential, existential_of};
