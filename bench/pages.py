@@ -1,8 +1,8 @@
 #!/usr/bin/env python3
 """pages.py: runs the commands that README and the pages show, as written, in a folder of their own, and compares statuses and first lines with
 what stands here. Commands of the pages that aren't listed here, and the other way round, are differences too,
-and so is a launcher's usage line that isn't its program's, and a table or a count of what has to be believed that
-tools/believed.py doesn't print. DQCHECK and DQSOLVE may name built programs.
+and so is a launcher's usage line that isn't its program's, a table or a count of what has to be believed that
+tools/believed.py doesn't print, and what links.py tells of links, files' names and crates. DQCHECK and DQSOLVE may name built programs.
 """
 
 import os
@@ -16,6 +16,8 @@ TOP = os.path.dirname(os.path.dirname(os.path.abspath(__file__)))
 sys.path.insert(0, os.path.join(TOP, "tools"))
 
 import believed
+import links
+
 PAGES = ("README.md", "docs/SOLVING.md", "docs/BLACK_BOX.md", "docs/CONTROL.md", "docs/FORMATS.md")
 
 # What each command ends with, and the first line that it prints, or None where nothing is printed or the line says little.
@@ -104,7 +106,7 @@ def main(words):
         print(__doc__.strip())
         return 0 if words == ["--help"] else 1
     differences, seen = 0, set()
-    for difference in wrong_counts():
+    for difference in [*wrong_counts(), *links.differences()]:
         print(difference)
         differences += 1
     for page in PAGES:
