@@ -1,11 +1,14 @@
 #!/usr/bin/env python3
-"""gate_times.py LOG [COMMAND..]: what a gate's CPU minutes go to, by crate.
+"""gate_times.py [--table] LOG [COMMAND..]: what a gate's CPU minutes go to, by crate.
 
 With a command, such as `tools/gate_times.py LOG rt ci`, it runs the command, keeps its output in LOG, looks four times a second in
 /proc which crate each process under it is at, and puts what each took behind the output. Then, or without a command, it prints the
 table out of LOG: CPU seconds of libraries, of programs with their builds, and of edits with the proofs that they begin with. The
 machine's measure is hint_log with the crates below it, which take 98 seconds on the fast kind: minutes in brackets are for such a
 machine, so that figures of two machines compare. What was kept from an earlier run costs nothing and isn't in it.
+
+With --table it prints the table of docs/PROVING.md: of each crate its lines that aren't blank, its edits, and its seconds on
+the fast kind.
 """
 import os
 import re
@@ -148,7 +151,44 @@ def show(text):
         print(f"hint_log with the crates below it: {measure:.0f} CPU seconds, {1 / scale:.2f} times the fast kind's {FAST:.0f}")
 
 
+def lines_of(crate, part, ending):
+    """A crate's lines in a part that aren't blank."""
+    count = 0
+    for folder, _, names in os.walk(os.path.join(TOP, "crates", crate, part)):
+        for name in names:
+            if name.endswith(ending):
+                with open(os.path.join(folder, name), encoding="utf-8") as file:
+                    count += sum(1 for line in file if line.strip())
+    return count
+
+
+def rows(text):
+    """The rows of docs/PROVING.md, crates as crates.txt has them."""
+    times = {(kind, crate): float(seconds) for kind, crate, seconds in LINE.findall(text)}
+    scale = FAST / sum(times.get(("libraries", crate), 0) for crate in below(MEASURE))
+    with open(os.path.join(TOP, "crates.txt"), encoding="utf-8") as file:
+        crates = [line.partition(":")[0] for line in file if ":" in line and not line.startswith("#")]
+    for crate in crates:
+        folder = os.path.join(TOP, "crates", crate, "must-fail")
+        edits = sum(name.endswith(".edit") for name in os.listdir(folder)) if os.path.isdir(folder) else 0
+        counts = lines_of(crate, "src", ".rt"), lines_of(crate, "specs", ".antt"), lines_of(crate, "proofs", ".antt"), edits
+        proof = times.get(("libraries", crate), 0) + times.get(("programs", crate), 0)
+        yield crate, *counts, round(proof * scale), round(times.get(("edits", crate), 0) * scale)
+
+
+def table(text):
+    found = list(rows(text))
+    found.append(("all", *(sum(row[k] for row in found) for k in range(1, 7))))
+    print("| Crate | code | specs | proofs | edits | proof, s | edits, s |\n|---|---|---|---|---|---|---|")
+    for crate, *counts in found:
+        print(f"| {crate} | " + " | ".join(f"{count:,}" for count in counts) + " |")
+
+
 def main(words):
+    if words[:1] == ["--table"] and len(words) == 2:
+        with open(words[1], encoding="utf-8", errors="replace") as file:
+            table(file.read())
+        return 0
     if not words or words[0].startswith("-"):
         print(__doc__.strip())
         return 0 if words == ["--help"] else 2
