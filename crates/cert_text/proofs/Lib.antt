@@ -36,3 +36,4 @@ pub mod Marks
 mod WrittenBlocks
 mod WrittenDefinitions
 pub mod TakenDefinitions
+pub mod CircuitLiterals

@@ -1,7 +1,8 @@
 pub mod Declared
-mod Firsts
+pub mod Firsts
 mod SortedExistentials
 mod ReadableExistentials
 mod SeenUniversals
 mod SizePlaces
 mod OrderedUniversals
+pub mod Places

@@ -12,10 +12,10 @@ use Rattle.list_laws.proofs.Numbers.{nat_cmp-same}
 use Rattle.dq_formula.proofs.Places.{place, has, has-contains, place-rises}
 use Rattle.dq_formula.proofs.Sorted.{get_or-place}
 
-index-rises : (a b p : ℕ) → a ≤ b → ordering_index (nat_cmp a p) ≤ ordering_index (nat_cmp b p)
+pub index-rises : (a b p : ℕ) → a ≤ b → ordering_index (nat_cmp a p) ≤ ordering_index (nat_cmp b p)
 index-rises a b p le = grind (arith, nat_tests)
 
-same-from_equal : (a b : ℕ) → nat_cmp a b ≡ Equal → a ≡ b
+pub same-from_equal : (a b : ℕ) → nat_cmp a b ≡ Equal → a ≡ b
 same-from_equal a b e = grind (arith, nat_tests)
 
 -- the elements stand in the order of the list

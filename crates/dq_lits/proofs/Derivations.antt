@@ -81,7 +81,7 @@ pub one_of_two : (m : Assignment) (b : Bool) (clause c : List Literal) (other : 
 one_of_two m true clause c other here there h = let same : clause ≡ c = cc in ap (clause_true m) (sym same) ∙ here
 one_of_two m false clause c other here there h = there h
 
-with_clause-true : (m : Assignment) (live : LiveClauses) → MakesTrue m live → (id : ℕ) (clause : List Literal) →
+pub with_clause-true : (m : Assignment) (live : LiveClauses) → MakesTrue m live → (id : ℕ) (clause : List Literal) →
     clause_true m clause ≡ true → MakesTrue m (with_clause live id clause)
 with_clause-true m live truth id clause here i c h = one_of_two m (i == id) clause c (live i) here (truth i c) h
 

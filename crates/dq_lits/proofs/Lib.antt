@@ -14,3 +14,4 @@ pub mod TrueClauses
 pub mod AssignedLiterals
 pub mod LiteralValues
 pub mod ReadStatus
+pub mod EqualTruths

@@ -1,5 +1,5 @@
 -- Literals and clauses, and their truth under an assignment (propositional logic).
-use Rattle.std.specs.Prelude.{ℕ, suc, ◌==◌, ℤ, pos, negsuc, neg_ℤ, Bool, true, false, not, List}
+use Rattle.std.specs.Prelude.{ℕ, suc, ◌+◌, ◌*◌, ◌==◌, ℤ, pos, negsuc, neg_ℤ, Bool, true, false, not, List}
 use Rattle.std.specs.List.{list_any}
 
 -- a bit for each variable

@@ -1,3 +1,4 @@
 pub mod ReadFormulas
 pub mod SaidFormulas
 pub mod ToldTexts
+pub mod ToldFiles

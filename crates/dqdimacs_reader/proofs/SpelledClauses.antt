@@ -131,7 +131,7 @@ kept_by_filter p (x ∷ xs) v listed passes =
           ]
     ]
 
-in_range_listed : (n a v : ℕ) → a ≤ v → v < a + n → list_any (λ x. x == v) (range_with_len a n) ≡ true
+pub in_range_listed : (n a v : ℕ) → a ≤ v → v < a + n → list_any (λ x. x == v) (range_with_len a n) ≡ true
 in_range_listed zero a v low high = absurd (omega arith)
 in_range_listed (suc n) a v low high =
     elim (cases_eq a v) [

@@ -1,7 +1,6 @@
 pub mod AssignedLiterals
 pub mod FalseLiterals
 pub mod ReadStatus
-pub mod EqualTruths
 pub mod DeletedClauses
 pub mod RenamedVariables
 pub mod PagedClauses

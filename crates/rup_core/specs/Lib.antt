@@ -17,5 +17,4 @@ pub mod Spans
 pub mod StoreInside
 pub mod Table
 pub mod TrailInside
-pub mod Truth
 pub mod Verdict
