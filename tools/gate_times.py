@@ -7,8 +7,8 @@ table out of LOG: CPU seconds of libraries, of programs with their builds, and o
 machine's measure is hint_log with the crates below it, which take 98 seconds on the fast kind: minutes in brackets are for such a
 machine, so that figures of two machines compare. What was kept from an earlier run costs nothing and isn't in it.
 
-With --table it prints the table of docs/PROVING.md: of each crate its lines that aren't blank, its edits, and its seconds on
-the fast kind.
+With --table it prints the table of docs/PROVING.md: of each crate its lines that aren't blank, its edits, and its CPU seconds
+on the fast kind, with builds and edits.
 """
 import os
 import re
@@ -74,7 +74,7 @@ def place_of(pid):
     if b"--crate-name" not in words[:-1]:
         return None
     crate = words[words.index(b"--crate-name") + 1].decode()
-    if "rt-edits" in folder_of(pid):
+    if "/rt-edit" in folder_of(pid):
         return "edits", crate
     is_program = os.path.exists(os.path.join(TOP, "crates", crate, "src", "main.rt"))
     return "programs" if is_program else "libraries", crate
@@ -172,14 +172,13 @@ def rows(text):
         folder = os.path.join(TOP, "crates", crate, "must-fail")
         edits = sum(name.endswith(".edit") for name in os.listdir(folder)) if os.path.isdir(folder) else 0
         counts = lines_of(crate, "src", ".rt"), lines_of(crate, "specs", ".antt"), lines_of(crate, "proofs", ".antt"), edits
-        proof = times.get(("libraries", crate), 0) + times.get(("programs", crate), 0)
-        yield crate, *counts, round(proof * scale), round(times.get(("edits", crate), 0) * scale)
+        yield crate, *counts, round(sum(times.get((kind, crate), 0) for kind in KINDS) * scale)
 
 
 def table(text):
     found = list(rows(text))
-    found.append(("all", *(sum(row[k] for row in found) for k in range(1, 7))))
-    print("| Crate | code | specs | proofs | edits | proof, s | edits, s |\n|---|---|---|---|---|---|---|")
+    found.append(("all", *(sum(row[k] for row in found) for k in range(1, 6))))
+    print("| Crate | code | specs | proofs | edits | CPU seconds |\n|---|---|---|---|---|---|")
     for crate, *counts in found:
         print(f"| {crate} | " + " | ".join(f"{count:,}" for count in counts) + " |")
 
