@@ -296,6 +296,16 @@ def children_of(parent):
     return found
 
 
+def lasting_children(parent):
+    """The children that are still there half a second later: first runs are short, and one comes after the other."""
+    for _ in range(60):
+        found = children_of(parent)
+        time.sleep(0.5)
+        if found and found == children_of(parent):
+            return found
+    return []
+
+
 def is_gone(process):
     for _ in range(100):
         if not os.path.exists(f"/proc/{process}"):
@@ -317,13 +327,7 @@ def endings(bench):
     ):
         command = [os.path.join(TOOLS, words[0]), *words[1:]]
         process = subprocess.Popen(command, stdout=subprocess.PIPE, stderr=subprocess.PIPE, text=True, cwd=bench.folder, env=environment)
-        children = []
-        for _ in range(300):
-            children = children or children_of(process.pid)
-            time.sleep(0.1)
-            if children and all(os.path.exists(f"/proc/{it}") for it in children_of(process.pid)) and children_of(process.pid):
-                children = children_of(process.pid)
-                break
+        children = lasting_children(process.pid)
         process.send_signal(number)
         written, said = process.communicate(timeout=SECONDS)
         found = process.returncode, written, said.strip().split("\n")[-1] if says[1] else ""
