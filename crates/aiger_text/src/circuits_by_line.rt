@@ -79,7 +79,7 @@ impl AagLines {
         ) {
             Ok(()) => Ok(()),
             Err(stop) => {
-                self.reader = None;
+                let_go(&mut self.reader);
                 self.in_comment = false;
                 self.stopped = Some(stop);
                 Err(stop)
@@ -174,11 +174,33 @@ fn take(
 {
     match reader {
         Some(reader) => take_next(alloc, number, reader, in_comment, text),
-        None => {
-            *reader = Some(begin(alloc, number, text)?);
-            Ok(())
-        }
+        None => take_header(alloc, number, reader, text),
     }
+}
+
+// Keeps nothing of what was read. Like `take_header`, it isn't written where it is called, since a
+// call pays for each reader that it may have in hand.
+fn let_go(reader: &mut Option<CircuitReader>)
+    ensures { reader.new ≡ None }
+{
+    *reader = None;
+}
+
+// Reads the header line, which has this number, and keeps what it begins.
+fn take_header(
+    alloc: Global,
+    number: u64,
+    reader: &mut Option<CircuitReader>,
+    text: &[u8],
+) -> Result<(), AagStop>
+    requires { number < 2 ^ 62 }
+    ensures line { Reads None false number text.now result (option_map body_of reader.new) false }
+    ensures so_far { OnOk result (IfSome reader.new (λ r. IsReadSoFar r false)) }
+    ensures some { OnOk result (IsSome reader.new) }
+    ensures header { OnOk result (IfSome reader.new (λ r. r.header_line ≡ number)) }
+{
+    *reader = Some(begin(alloc, number, text)?);
+    Ok(())
 }
 
 // Reads a line behind the header.

@@ -9,7 +9,7 @@ ghost use Rattle.aiger_text.specs.LineStop.{IsLineOf};
 
 use crate::faults::{AagFault, LineStop};
 use dq_lits::Memory;
-use dq_text::{LineTokens, Number, natural};
+use dq_text::{LineTokens, is_blank, natural, short_number};
 
 /// Puts the numbers that the tokens are in place of those in the buffer, and says whether all
 /// tokens are natural numbers.
@@ -29,6 +29,24 @@ pub fn take_numbers(tokens: &mut LineTokens, numbers: &mut Vec<u64>) -> Result<b
 
 /// The one natural number of a line.
 pub fn one_number(line: &[u8], numbers: &mut Vec<u64>) -> Result<u64, LineStop>
+    ensures { IsLineOf (one_of (numbers_of (line_tokens line.now))) result }
+{
+    match plain_number(line) {
+        Some(n) => Ok(n),
+        None => any_number(line, numbers),
+    }
+}
+
+// The same where it is below 10^18, read in one pass; nothing is known where it answers none.
+fn plain_number(line: &[u8]) -> Option<u64>
+    ensures { IfSome result (λ n. one_of (numbers_of (line_tokens line.now)) ≡ Ok n) }
+{
+    let (n, behind) = plain_natural(line)?;
+    if is_blank(behind) { Some(n) } else { None }
+}
+
+// The same of any line.
+fn any_number(line: &[u8], numbers: &mut Vec<u64>) -> Result<u64, LineStop>
     ensures { IsLineOf (one_of (numbers_of (line_tokens line.now))) result }
 {
     let all = take_numbers(&mut LineTokens::new(line), numbers)?;
@@ -62,22 +80,25 @@ pub fn three_numbers(line: &[u8], numbers: &mut Vec<u64>) -> Result<GateNumbers,
 fn plain_numbers(line: &[u8]) -> Option<GateNumbers>
     ensures { IfSome result (λ plain. three_of (numbers_of (line_tokens line.now)) ≡ Ok plain) }
 {
-    let mut tokens = LineTokens::new(line);
-    let lhs = plain_natural(&mut tokens)?;
-    let left = plain_natural(&mut tokens)?;
-    let right = plain_natural(&mut tokens)?;
-    if tokens.next_number().is_some() {
-        return None;
+    let (lhs, line) = plain_natural(line)?;
+    let (left, line) = plain_natural(line)?;
+    let (right, behind) = plain_natural(line)?;
+    if is_blank(behind) {
+        Some(GateNumbers { lhs, left, right })
+    } else {
+        None
     }
-    Some(GateNumbers { lhs, left, right })
 }
 
-fn plain_natural(tokens: &mut LineTokens) -> Option<u64>
+// The natural number that a line begins with, and what stands behind it.
+#[inline(always)]
+fn plain_natural(line: &[u8]) -> Option<(u64, &[u8])>
     ensures { IfSome result
-        (λ n. map number_of tokens.old ≡ Int (pos n) ∷ map number_of tokens.new) }
+        (λ found. map number_of (line_tokens line.now)
+        ≡ Int (pos found.0) ∷ map number_of (line_tokens found.1.now)) }
 {
-    match tokens.next_number() {
-        Some(Number::Int(n)) if n >= 0 => Some(n as u64),
+    match short_number(line) {
+        Some((n, behind)) if n >= 0 => Some((n as u64, behind)),
         _ => None,
     }
 }

@@ -1,6 +1,7 @@
 -- Items that are judged as their lines come.
 use Rattle.std.proofs.Common.{◌≡◌, ◌≤◌, Bool, List, length, Option, None, Some, Result, Ok, Err, refl, sym, ◌∙◌, ap, subst, arith}
-use Rattle.std.specs.Prelude.{IfSome, OnOk}
+use Rattle.std.specs.Prelude.{IfSome, IsSome, OnOk}
+use Rattle.std.proofs.lemmas.Bool.{false≢true}
 use Rattle.dq_lits.specs.Expansion.{instance_at}
 use Rattle.dq_lits.specs.Formula.{Dqbf}
 use Rattle.rup_core.specs.Items.{ProofItem}
@@ -224,3 +225,12 @@ module _ (new : KeptLines) (item : ProofItem) (is : new.item ≡ Some item)
         (first_goes_on q (back (λ g rs. IsJudging g rs q
         (behind_item (numbered_from (first_id g (length rs))) item)
         (with_item (start (instance_at g rs)) (normal_item g rs item))) judging))
+
+    -- the first item was judged, unless memory wanted
+    pub first_put : {E : Type 0} (result : Result (Unit {0}) E) (before after : Option RefutationProving) → before ≡ None →
+        OnOk result (IsSome after) → OnOk result (IfSome after (λ q. IsJudging f rows q
+        (behind_item (numbered_from (first_id f (length rows))) item)
+        (with_item (start (instance_at f rows)) (normal_item f rows item)))) → OnOk result (GoesOn new before after)
+    first_put (Err stop) before after none some judging = tt
+    first_put (Ok _) before None none some judging = absurd (false≢true some)
+    first_put (Ok _) before (Some q) none some judging = first_judged before q none judging

@@ -1,6 +1,7 @@
 pub mod JudgedItems
 pub mod JudgedLines
 pub mod LineSteps
+pub mod SettledStreams
 pub mod StreamAnswers
 pub mod ProofLineSteps
 pub mod ProofAnswers

@@ -1,6 +1,6 @@
 -- A circuit's proof that is read line by line: what a line does, and what the lines to come give.
 -- The items aren't kept.
-use Rattle.std.specs.Prelude.{ℕ, ◌+◌, ◌-◌, ◌≤◌, nat_lt, List, [], ◌∷◌, length, Option, None, Some, Result, Ok, Err, if◌then◌else◌}
+use Rattle.std.specs.Prelude.{◌≡◌, ℕ, ◌+◌, ◌-◌, ◌≤◌, nat_lt, List, [], ◌∷◌, length, Option, None, Some, Result, Ok, Err, if◌then◌else◌}
 use Rattle.dq_lits.specs.Formula.{Dqbf}
 use Rattle.dq_text.specs.Line.{TextLine, line_tokens}
 use Rattle.circuit_plain.specs.Netlist.{Netlist}
@@ -144,6 +144,11 @@ whole_of read = and_read read (λ _. Ok tt)
 -- what was read behind the header has ids from the first line's on
 abbrev pub IsBody : ℕ → ProofBody → Type 0
 IsBody first_id body = first_id ≤ body.numbering.next
+
+-- what follows is free text
+abbrev pub HaveAllCome : Option ProofBody → Type 0
+HaveAllCome None = ⊥
+HaveAllCome (Some body) = body.items_left ≡ 0
 
 -- an item may stand behind what was read
 abbrev pub MayCome : ℕ → Option ProofBody → ProofItem → Type 0

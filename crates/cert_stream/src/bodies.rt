@@ -54,11 +54,31 @@ pub(crate) fn take_line(
 {
     match body {
         Some(body) => body.take(alloc, f, line),
-        None => {
-            *body = Some(begin(alloc, f, line)?);
-            Ok(())
-        }
+        None => take_header(alloc, f, body, line),
     }
+}
+
+/// Keeps nothing of what was read. Like `take_header`, it isn't written where it is called, since a
+/// call pays for each body that it may have in hand.
+pub(crate) fn let_go(body: &mut Option<Body>)
+    ensures { body.new ≡ None }
+{
+    *body = None;
+}
+
+// Reads the header, and keeps what it begins.
+fn take_header(
+    alloc: Global,
+    f: &Formula,
+    body: &mut Option<Body>,
+    line: &[u8],
+) -> Result<(), LineStop>
+    ensures line { IsReadBody (and_then (λ counts. Ok (without_item (body_behind f.now counts)))
+        (header_of (line_tokens line.now))) result body.new }
+    ensures kept { OnOk result (IfSome body.new (IsKept f.now)) }
+{
+    *body = Some(begin(alloc, f, line)?);
+    Ok(())
 }
 
 // Reads the header.

@@ -1,6 +1,6 @@
 //! Circuits' proofs that are judged line by line.
 
-ghost use Rattle.std.specs.Prelude.{◌≡◌, ◌∷◌, ◌+◌, ℕ, false, List, [], Option, Some, Result, OnOk, IfNone, IfSome};
+ghost use Rattle.std.specs.Prelude.{◌≡◌, ◌∷◌, ◌+◌, ℕ, true, false, List, [], Option, Some, Result, OnOk, IfNone, IfSome};
 ghost use Rattle.std.specs.Option.{option_map};
 ghost use Rattle.dq_lits.specs.Derivation.{ProofFault as Fault};
 ghost use Rattle.dq_lits.specs.Formula.{Dqbf};
@@ -105,6 +105,21 @@ impl<'f> ProofStream<'f> {
             Ok(()) => {}
             Err(Memory) => self.failed = true,
         }
+    }
+
+    /// Whether no line that comes changes what is said.
+    pub fn is_settled(&self) -> bool
+        ensures { result ≡ true → (some other : List TextLine)
+            (answer : Result (Option (Option Fault)) Stop)
+            → MayAnswer self.now some answer → MayAnswer self.now other answer }
+    {
+        if self.failed {
+            return true;
+        }
+        if self.lines.is_stopped() {
+            return true;
+        }
+        self.lines.have_all_come()
     }
 
     /// What is wrong with the proof, where one is judged and the text ends here, or what stopped its

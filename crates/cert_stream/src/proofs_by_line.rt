@@ -1,13 +1,13 @@
 //! Circuits' proofs that come line by line.
 
-ghost use Rattle.std.specs.Prelude.{◌≡◌, ℕ, ◌+◌, ◌<◌, ◌^◌, [], Err, IfSome, IfNone, IfErr, OnOk, OnErr};
+ghost use Rattle.std.specs.Prelude.{◌≡◌, ℕ, ◌+◌, ◌<◌, ◌^◌, true, [], is_some, Err, None, IfSome, IfNone, IfErr, OnOk, OnErr};
 ghost use Rattle.cert_text.specs.LineStop.{IsMadeOf};
 ghost use Rattle.cert_text.specs.Lines.{IsReading};
 ghost use Rattle.cert_stream.specs.DqpLinesInside.{body_of, body_read, maybe_body, IsKept, IsReadAt, IsReadInto};
 ghost use Rattle.cert_stream.specs.ItemsToCome.{item_of};
 ghost use Rattle.cert_stream.specs.KeptLines.{proof_seen};
 ghost use Rattle.cert_stream.specs.LineAnswer.{IsLineAnswer};
-ghost use Rattle.cert_stream.specs.ProofLines.{no_lines, body_line, gives, line_read, lines_give, whole_of, with_line, with_stop, IsBody, MayCome};
+ghost use Rattle.cert_stream.specs.ProofLines.{no_lines, body_line, gives, line_read, lines_give, whole_of, with_line, with_stop, HaveAllCome, IsBody, MayCome};
 
 use crate::items_to_come::ItemsToCome;
 use cert_text::laws::lines_are_lawful;
@@ -88,7 +88,7 @@ impl DqpLines {
         ) {
             Ok(()) => Ok(()),
             Err(stop) => {
-                self.items = None;
+                let_go(&mut self.items);
                 self.stopped = Some(stop);
                 Err(stop)
             }
@@ -114,6 +114,23 @@ impl DqpLines {
             return Err(stop);
         }
         finish(self.number, self.items)
+    }
+
+    /// Whether a line was refused, or memory wanted: then no line is read any more.
+    pub fn is_stopped(&self) -> bool
+        ensures { result ≡ is_some self.now.stopped }
+    {
+        self.stopped.is_some()
+    }
+
+    /// Whether all announced lines came, so that what follows is free text.
+    pub fn have_all_come(&self) -> bool
+        ensures { result ≡ true → HaveAllCome (proof_seen self.now).body }
+    {
+        match &self.items {
+            Some(items) => items.left == 0,
+            None => false,
+        }
     }
 
     /// What holds of every reader behind the header.
@@ -170,12 +187,32 @@ fn take_line(
 {
     match items {
         Some(items) => take_behind(last, items, text),
-        None => {
-            let count = read_proof_header(text)?;
-            *items = Some(ItemsToCome::new(alloc, count.version, first_id, count.items));
-            Ok(())
-        }
+        None => take_header(alloc, first_id, items, text),
     }
+}
+
+// Reads the header. Like `let_go`, it isn't written where it is called, since a call pays for what
+// it may have in hand.
+fn take_header(
+    alloc: Global,
+    first_id: u128,
+    items: &mut Option<ItemsToCome>,
+    text: &[u8],
+) -> Result<(), LineStop>
+    requires small { first_id < 2 ^ 127 }
+    ensures line { (last : ℕ) → IsReadInto (line_read last first_id None text.now) result items.new }
+    ensures kept { OnOk result (IfSome items.new (IsKept first_id)) }
+{
+    let count = read_proof_header(text)?;
+    *items = Some(ItemsToCome::new(alloc, count.version, first_id, count.items));
+    Ok(())
+}
+
+// Keeps nothing of what was read.
+fn let_go(items: &mut Option<ItemsToCome>)
+    ensures { items.new ≡ None }
+{
+    *items = None;
 }
 
 // Reads the next line behind the header.

@@ -1,6 +1,6 @@
 //! Refutations that are judged line by line.
 
-ghost use Rattle.std.specs.Prelude.{◌≡◌, ◌∷◌, ◌+◌, ℕ, false, List, [], length, Option, Some, Result, OnOk, IfNone, IfOk};
+ghost use Rattle.std.specs.Prelude.{◌≡◌, ◌∷◌, ◌+◌, ℕ, true, false, List, [], length, Option, Some, Result, OnOk, IfNone, IfOk, IfSome, IsSome};
 ghost use Rattle.dq_lits.specs.Derivation.{ProofFault as Fault};
 ghost use Rattle.dq_lits.specs.Expansion.{instance_at};
 ghost use Rattle.dq_text.specs.Line.{TextLine};
@@ -98,6 +98,17 @@ impl<'f> RefutationStream<'f> {
         }
     }
 
+    /// Whether no line that comes changes what is said.
+    pub fn is_settled(&self) -> bool
+        ensures { result ≡ true → (some other : List TextLine) (answer : Result (Option Fault) Stop)
+            → MayAnswer self.now some answer → MayAnswer self.now other answer }
+    {
+        if self.failed {
+            return true;
+        }
+        self.lines.is_stopped()
+    }
+
     /// What is wrong with the refutation, where the text ends here, or what stopped its reading.
     pub fn end(self) -> Result<Option<ProofFault>, CertStop>
         ensures { MayAnswer self.entry [] (answer_in result) }
@@ -157,15 +168,34 @@ fn judge(
     let rows = lines.rows();
     match proving {
         Some(proving) => proving.item(f, rows, item),
-        None => {
-            *proving = Some(judge_first(alloc, f, rows, item)?);
-            Ok(())
-        }
+        None => judge_first(alloc, f, rows, item, proving),
     }
 }
 
-// Judges the first item.
+// Judges the first item, and keeps what was judged. It isn't written where it is called, since a
+// call pays for what it may have in hand.
 fn judge_first(
+    alloc: Global,
+    f: &Formula,
+    rows: &[Row],
+    item: Item,
+    proving: &mut Option<RefutationProving>,
+) -> Result<(), Memory>
+    requires rows { AreRows f.now rows.now }
+    requires item { IsItem (is_pair_number f.now (length rows.now))
+        (numbered_from (first_id f.now (length rows.now))) (item_seen item) }
+    ensures some { OnOk result (IsSome proving.new) }
+    ensures judging { OnOk result (IfSome proving.new (λ p. IsJudging f.now rows.now p
+        (behind_item (numbered_from (first_id f.now (length rows.now))) (item_seen item.entry))
+        (with_item (start (instance_at f.now rows.now))
+        (normal_item f.now rows.now (item_seen item.entry))))) }
+{
+    *proving = Some(first_judged(alloc, f, rows, item)?);
+    Ok(())
+}
+
+// Judges the first item.
+fn first_judged(
     alloc: Global,
     f: &Formula,
     rows: &[Row],

@@ -1,6 +1,6 @@
 //! Refutations that come line by line.
 
-ghost use Rattle.std.specs.Prelude.{◌≡◌, ◌+◌, [], Err, IfSome, IfNone, IfErr, OnOk, OnErr};
+ghost use Rattle.std.specs.Prelude.{◌≡◌, ◌+◌, [], is_some, Err, IfSome, IfNone, IfErr, OnOk, OnErr};
 ghost use Rattle.dq_lits.specs.Formula.{Dqbf};
 ghost use Rattle.cert_text.specs.Lines.{IsReading};
 ghost use Rattle.cert_stream.specs.Bodies.{body_of, maybe_body, IsKept, IsReadAt};
@@ -9,7 +9,7 @@ ghost use Rattle.cert_stream.specs.KeptLines.{seen};
 ghost use Rattle.cert_stream.specs.LineAnswer.{IsLineAnswer};
 ghost use Rattle.cert_stream.specs.RefutationLines.{no_lines, body_gives, gives, line_read, lines_give, rows_of, rows_so_far, with_line, with_stop, IsBody, MayCome};
 
-use crate::bodies::{Body, take_line};
+use crate::bodies::{Body, let_go, take_line};
 use cert_text::laws::lines_are_lawful;
 use cert_text::{CertFault, CertStop, Item, at_line, refused};
 use dq_formula::Formula;
@@ -78,7 +78,7 @@ impl<'f> DqrLines<'f> {
         ) {
             Ok(()) => Ok(()),
             Err(stop) => {
-                self.body = None;
+                let_go(&mut self.body);
                 self.stopped = Some(stop);
                 Err(stop)
             }
@@ -115,6 +115,13 @@ impl<'f> DqrLines<'f> {
             return Err(stop);
         }
         finish(self.number, self.body)
+    }
+
+    /// Whether a line was refused, or memory wanted: then no line is read any more.
+    pub fn is_stopped(&self) -> bool
+        ensures { result ≡ is_some self.now.stopped }
+    {
+        self.stopped.is_some()
     }
 
     /// What holds of every reader behind the header.

@@ -1,5 +1,6 @@
 pub mod EvaluationLaws
 pub mod NetlistLaws
+pub mod NumberedGates
 pub mod OrderLaws
 pub mod ReachLaws
 pub mod SortSteps

@@ -19,6 +19,7 @@ mod circuits;
 mod cones;
 pub mod lanes;
 pub mod laws;
+mod numbered;
 mod orders;
 mod sorting;
 mod values;

@@ -5,7 +5,7 @@
 //! once and none is missing, so that a value of the whole circuit needs no look at what outputs
 //! reach.
 
-ghost use Rattle.std.specs.Prelude.{◌≡◌, ℕ, Option, None, Some, Result, Err, IfOk};
+ghost use Rattle.std.specs.Prelude.{◌≡◌, ℕ, true, Option, None, Some, Result, Err, IfOk};
 ghost use Rattle.circuit_plain.specs.Ground.{IsFirstUngrounded};
 ghost use Rattle.circuit_plain.specs.Order.{IsOrder};
 ghost use Rattle.number_tables.specs.Numbers.{has_number};
@@ -71,7 +71,37 @@ impl Circuit {
         ensures cyclic { (place : ℕ) → result ≡ Err (OrderStop.Cyclic place)
             → IsFirstUngrounded self.now place }
     {
+        if let Some(places) = self.places_as_numbered()? {
+            return Ok(Order { places });
+        }
+        self.order_as_it_stands()
+    }
+
+    // The same, however the variables are numbered.
+    fn order_as_it_stands(&self) -> Result<Order, OrderStop>
+        ensures ok { IfOk result (IsOrder self.now) }
+        ensures cyclic { (place : ℕ) → result ≡ Err (OrderStop.Cyclic place)
+            → IsFirstUngrounded self.now place }
+    {
         let mut draft = self.empty_draft()?;
+        self.put_round(&mut draft)?;
+        if self.is_whole(&draft) {
+            return Ok(Order {
+                places: draft.places,
+            });
+        }
+        self.order_by_walk(draft)
+    }
+
+    // The same where the gates don't all stand behind those that they read: a round put what could be
+    // put as it stands.
+    #[inline(never)]
+    fn order_by_walk(&self, mut draft: Draft) -> Result<Order, OrderStop>
+        requires { IsDraft self.now draft.places.items (has_number draft.settled) }
+        ensures ok { IfOk result (IsOrder self.now) }
+        ensures cyclic { (place : ℕ) → result ≡ Err (OrderStop.Cyclic place)
+            → IsFirstUngrounded self.now place }
+    {
         let walked = depth_first(*self.gates.allocator(), &self.gates)?;
         self.put_all(&walked, &mut draft)?;
         // The walk leaves every gate that can be put behind those that it reads, so that one round,
@@ -83,6 +113,19 @@ impl Circuit {
                 places: draft.places,
             }),
         }
+    }
+
+    // Whether every gate is put.
+    fn is_whole(&self, draft: &Draft) -> bool
+        requires { IsDraft self.now draft.now.places.items (has_number draft.now.settled) }
+        ensures { result ≡ true → IsOrder self.now draft.now.places.items }
+    {
+        for place in 0..self.gates.len() {
+            if !draft.settled.contains(self.gates[place].variable) {
+                return false;
+            }
+        }
+        true
     }
 
     // The first gate that isn't put.

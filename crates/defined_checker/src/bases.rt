@@ -40,7 +40,7 @@ impl<'f, 'd> Model for DefinitionBase<'f, 'd> {
 }
 
 /// A clause that the proof stands on.
-#[derive(Clone, Copy)]
+#[derive(Drop)]
 pub(crate) enum DefinitionClause {
     /// There is none with the id, or a constant makes it true.
     Missing,

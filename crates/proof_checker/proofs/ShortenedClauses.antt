@@ -1,8 +1,9 @@
 -- The clause that some clause of the formula is false, with the constants put in.
-use Rattle.std.proofs.Common.{◌≡◌, ◌≢◌, ℕ, zero, suc, ◌+◌, ◌*◌, ◌/◌, ◌%◌, ◌<◌, ◌≤◌, ◌==◌, true, false, not, cond, List, ◌∷◌, map, length, slice_get, None, Some, refl, sym, ◌∙◌, ap, arith}
+use Rattle.std.proofs.Common.{◌≡◌, ◌≢◌, ℕ, zero, suc, ◌+◌, ◌*◌, ◌/◌, ◌%◌, ◌<◌, ◌≤◌, ◌==◌, true, false, not, cond, List, ◌∷◌, map, length, take, slice_get, None, Some, refl, sym, ◌∙◌, ap, arith}
 use Rattle.std.specs.List.{filter, list_any, range_with_len}
+use Rattle.std.proofs.lemmas.List.{length-take}
 use Rattle.list_laws.proofs.Truths.{both_false}
-use Rattle.dq_lits.specs.Literal.{positive}
+use Rattle.dq_lits.specs.Literal.{Literal, positive, negative}
 use Rattle.dq_formula.proofs.Places.{ne-false}
 use Rattle.cert_text.specs.NegatedMatrix.{as_literal, without_constants}
 use Rattle.proof_checker.specs.ShortClause.{kept_literals}
@@ -47,3 +48,11 @@ range_literal bad (suc n) (suc i) below =
 pub range_length : (bad n : ℕ) → length (map (λ b. positive b) (range_with_len bad n)) ≡ n
 range_length bad zero = refl
 range_length bad (suc n) = ap suc (range_length (bad + 1) n)
+
+-- a place among the first literals
+pub count_below : (count : ℕ) (literals clause : List Literal) (i : ℕ) → take count literals ≡ clause →
+    i < length clause → i < count
+count_below count literals clause i is below =
+    let long = length-take count literals in
+    let same = ap length is in
+    omega (arith, long, same, below)

@@ -1,24 +1,20 @@
 -- Words of private contracts: the clauses of the negated matrix one at a time, in the forms that
 -- take no memory.
-use Rattle.std.specs.Prelude.{ℕ, ◌+◌, ◌==◌, not, List, [], ◌∷◌, ◌++◌, map, length, Option, None, Some}
+use Rattle.std.specs.Prelude.{ℕ, ◌+◌, ◌==◌, not, List, map, length, Option, None, Some}
 use Rattle.std.specs.List.{filter, range_with_len}
 use Rattle.dq_lits.specs.Literal.{Literal, positive}
 use Rattle.cert_text.specs.NegatedMatrix.{as_literal}
 use Rattle.skolem_checker.specs.Checks.{Candidate}
 use Rattle.proof_checker.specs.declared.negated.NegatedClause.{NegatedClause}
 use Rattle.proof_checker.specs.declared.negated.NegatedClause.TheVariants.{Missing, Short, Last}
-use Rattle.proof_checker.specs.declared.short_clauses.ShortClause.{ShortClause}
-
-abbrev pub optional : Option Literal → List Literal
-optional None = []
-optional (Some l) = l ∷ []
 
 -- a circuit's literals without the false ones
 abbrev pub kept_literals : List ℕ → List Literal
 kept_literals literals = map as_literal (filter (λ l. not (l == 0)) literals)
 
-abbrev pub short_literals : ShortClause → List Literal
-short_literals c = optional c.first ++ (optional c.second ++ optional c.third)
+-- a short clause stands for its literals
+abbrev pub short_literals : List Literal → List Literal
+short_literals clause = clause
 
 -- the clause that some clause of the formula is false
 abbrev pub last_literals : Candidate → List Literal

@@ -36,9 +36,10 @@ use std::alloc::Global;
 pub struct CircuitProving {
     pub(crate) tables: NegatedTables,
     pub(crate) proving: Proving,
-    // How many lines came, and how many variables have a mark at hand.
-    lines: usize,
+    // How many numbers came, how many variables have a mark at hand, and how many there are.
+    numbers: usize,
     marks: usize,
+    variables: usize,
 }
 
 impl CircuitProving {
@@ -54,11 +55,14 @@ impl CircuitProving {
     {
         let tables = NegatedTables::new(alloc, bench)?;
         let proving = Proving::new(alloc, 0)?;
+        let largest = bench.circuit().max_var() as usize;
+        let variables = largest.saturating_add(bench.formula().clauses());
         Ok(CircuitProving {
             tables,
             proving,
-            lines: 0,
+            numbers: 0,
             marks: 0,
+            variables,
         })
     }
 
@@ -93,23 +97,23 @@ impl CircuitProving {
             → IsJudging f.now c.now self.new (behind_item at (derived (step_seen step.entry)))) }
         ensures tables { self.new.tables ≡ self.old.tables }
     {
-        self.widen()?;
+        self.widen(step.lits.len().saturating_add(step.hints.len()))?;
         let matrix = NegatedMatrix::new(f, c, &self.tables);
         self.proving.line(&matrix, step.id, step.lits, step.hints)
     }
 
-    // A mark for a variable a line, and twice as many where they don't suffice. The variables beyond
-    // take memory while a line assigns them.
-    fn widen(&mut self) -> Result<(), Memory>
+    // A mark for each number of a line, and twice as many where they don't suffice, but for no more
+    // variables than there are. Those beyond take memory while a line assigns them.
+    fn widen(&mut self, numbers: usize) -> Result<(), Memory>
         ensures rest { self.new.proving ≡ record self.old.proving {
           marks = self.new.proving.marks;
           line = self.new.proving.line;
         } }
         ensures tables { self.new.tables ≡ self.old.tables }
     {
-        self.lines = self.lines.saturating_add(1);
-        if self.lines > self.marks {
-            let wanted = self.lines.saturating_mul(2);
+        self.numbers = self.numbers.saturating_add(numbers);
+        if self.numbers > self.marks && self.marks < self.variables {
+            let wanted = self.numbers.saturating_mul(2).min(self.variables);
             self.proving.widen(wanted)?;
             self.marks = wanted;
         }

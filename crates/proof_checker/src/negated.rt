@@ -45,7 +45,7 @@ impl<'f, 'c, 't> Model for NegatedMatrix<'f, 'c, 't> {
 }
 
 /// A clause of the negated matrix.
-#[derive(Clone, Copy)]
+#[derive(Drop)]
 pub(crate) enum NegatedClause {
     /// There is none with the id, or a constant makes it true.
     Missing,

@@ -1,21 +1,33 @@
 //! Clauses of at most three of a circuit's literals, with the constants put in. They take no
 //! memory.
 
-ghost use Rattle.std.specs.Prelude.{◌≡◌, ◌≢◌, ◌==◌, ◌<◌, ◌≤◌, ◌∷◌, [], length, take, Some, IsSome};
-ghost use Rattle.std.specs.List.{list_any, slice_get};
+ghost use Rattle.std.specs.Prelude.{◌≡◌, ◌<◌, ◌≤◌, ◌∷◌, [], length, take, Some};
+ghost use Rattle.std.specs.List.{slice_get};
 ghost use Rattle.std.specs.Option.{option_map};
 ghost use Rattle.cert_text.specs.NegatedMatrix.{as_literal, without_constants};
-ghost use Rattle.proof_checker.specs.ShortClause.{optional, kept_literals, short_literals};
+ghost use Rattle.proof_checker.specs.ShortClause.{short_literals};
 
 use dq_lits::Lit;
 use rup_core::FewLiterals;
+use std::marker::Model;
 
 /// The literals of a clause that aren't constant.
-#[derive(Clone, Copy)]
+#[derive(Drop)]
 pub struct ShortClause {
-    pub first: Option<Lit>,
-    pub second: Option<Lit>,
-    pub third: Option<Lit>,
+    // The literals, and others behind them.
+    literals: [Lit; 3],
+    count: usize,
+}
+
+impl Model for ShortClause {
+    ghost use Rattle.std.specs.Prelude.{List, length, take, ◌≡◌, ◌≤◌};
+    ghost use Rattle.dq_lits.specs.Literal.{Literal};
+
+    ghost Value = { List Literal };
+
+    ghost view = { λ c. take c.count c.literals };
+
+    ghost invariant = { λ c. (c.count ≤ 3) × (length c.literals ≡ 3) };
 }
 
 /// The clause of two literals, where a false one is dropped; none where one is true.
@@ -30,11 +42,13 @@ pub fn short_of_two(k: u64, l: u64) -> Option<ShortClause>
     if l == 1 {
         return None;
     }
-    Some(ShortClause {
-        first: kept(k),
-        second: kept(l),
-        third: None,
-    })
+    if k == 0 {
+        return short_of_one(l);
+    }
+    if l == 0 {
+        return Some(one(as_literal(k)));
+    }
+    Some(two(as_literal(k), as_literal(l)))
 }
 
 /// The same of three literals.
@@ -47,29 +61,36 @@ pub fn short_of_three(j: u64, k: u64, l: u64) -> Option<ShortClause>
     if j == 1 {
         return None;
     }
+    if j == 0 {
+        return short_of_two(k, l);
+    }
+    if k == 0 {
+        return short_of_two(j, l);
+    }
+    if l == 0 {
+        return short_of_two(j, k);
+    }
     if k == 1 {
         return None;
     }
     if l == 1 {
         return None;
     }
-    Some(ShortClause {
-        first: kept(j),
-        second: kept(k),
-        third: kept(l),
-    })
+    Some(three(as_literal(j), as_literal(k), as_literal(l)))
 }
 
-// The literal, unless it is false.
-fn kept(literal: u64) -> Option<Lit>
-    requires not_true { literal ≢ 1 }
-    requires in_range { literal ≤ 9223372036854775807 }
-    ensures { optional result ≡ kept_literals (literal ∷ []) }
+// The same of one literal.
+fn short_of_one(l: u64) -> Option<ShortClause>
+    requires { l ≤ 9223372036854775807 }
+    ensures { option_map short_literals result ≡ without_constants (l ∷ []) }
 {
-    if literal == 0 {
+    if l == 1 {
         return None;
     }
-    Some(as_literal(literal))
+    if l == 0 {
+        return Some(none());
+    }
+    Some(one(as_literal(l)))
 }
 
 fn as_literal(literal: u64) -> Lit
@@ -90,15 +111,9 @@ impl ShortClause {
         ensures clause { take result.count result.literals ≡ short_literals self.now }
         ensures within { result.count ≤ 3 }
     {
-        match (&self.first, &self.second, &self.third) {
-            (Some(k), Some(l), Some(m)) => three(*k, *l, *m),
-            (Some(k), Some(l), None) => two(*k, *l),
-            (Some(k), None, Some(l)) => two(*k, *l),
-            (None, Some(k), Some(l)) => two(*k, *l),
-            (Some(k), None, None) => one(*k),
-            (None, Some(k), None) => one(*k),
-            (None, None, Some(k)) => one(*k),
-            (None, None, None) => none(),
+        FewLiterals {
+            literals: self.literals,
+            count: self.count,
         }
     }
 
@@ -106,7 +121,7 @@ impl ShortClause {
     pub fn len(&self) -> usize
         ensures { result ≡ length (short_literals self.now) }
     {
-        count(&self.first) + count(&self.second) + count(&self.third)
+        self.count
     }
 
     /// The literal at a place; places are counted from 0.
@@ -114,76 +129,45 @@ impl ShortClause {
         requires { i < length (short_literals self.now) }
         ensures { slice_get (short_literals self.now) i ≡ Some result }
     {
-        let second = count(&self.first);
-        let third = second + count(&self.second);
-        if i < second {
-            given(&self.first)
-        } else if i < third {
-            given(&self.second)
-        } else {
-            given(&self.third)
-        }
+        // A look at a field shows the invariant.
+        let _ = &self.count;
+        self.literals[i]
     }
 }
 
-fn three(k: Lit, l: Lit, m: Lit) -> FewLiterals
-    ensures clause { take result.count result.literals ≡ k ∷ l ∷ m ∷ [] }
-    ensures within { result.count ≤ 3 }
+fn three(k: Lit, l: Lit, m: Lit) -> ShortClause
+    ensures { result ≡ k ∷ l ∷ m ∷ [] }
 {
-    FewLiterals {
+    ShortClause {
         literals: [k, l, m],
         count: 3,
     }
 }
 
-fn two(k: Lit, l: Lit) -> FewLiterals
-    ensures clause { take result.count result.literals ≡ k ∷ l ∷ [] }
-    ensures within { result.count ≤ 3 }
+fn two(k: Lit, l: Lit) -> ShortClause
+    ensures { result ≡ k ∷ l ∷ [] }
 {
-    FewLiterals {
+    ShortClause {
         literals: [k, l, l],
         count: 2,
     }
 }
 
-fn one(k: Lit) -> FewLiterals
-    ensures clause { take result.count result.literals ≡ k ∷ [] }
-    ensures within { result.count ≤ 3 }
+fn one(k: Lit) -> ShortClause
+    ensures { result ≡ k ∷ [] }
 {
-    FewLiterals {
+    ShortClause {
         literals: [k, k, k],
         count: 1,
     }
 }
 
-fn none() -> FewLiterals
-    ensures clause { take result.count result.literals ≡ [] }
-    ensures within { result.count ≤ 3 }
+fn none() -> ShortClause
+    ensures { result ≡ [] }
 {
     let any = Lit::pos(1);
-    FewLiterals {
+    ShortClause {
         literals: [any, any, any],
         count: 0,
-    }
-}
-
-fn count(l: &Option<Lit>) -> usize
-    ensures value { result ≡ length (optional l.now) }
-    ensures small { result ≤ 1 }
-{
-    match l {
-        Some(_) => 1,
-        None => 0,
-    }
-}
-
-// The literal that is there.
-fn given(l: &Option<Lit>) -> Lit
-    requires { IsSome l.now }
-    ensures { l.now ≡ Some result }
-{
-    match l {
-        Some(l) => *l,
-        None => unreachable!(),
     }
 }

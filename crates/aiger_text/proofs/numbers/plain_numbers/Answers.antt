@@ -1,20 +1,20 @@
-use Rattle.std.proofs.Common.{◌≡◌, ◌∷◌, [], pos, map, rules, sym, ◌∙◌, ap}
+use Rattle.std.proofs.Common.{◌≡◌, ◌∷◌, [], pos, map, sym, ◌∙◌, ap}
 use Rattle.dq_text.specs.Line.{line_tokens}
 use Rattle.dq_text.specs.Number.{number_of}
 use Rattle.dq_text.specs.declared.numbers.Number.TheVariants.{Int}
 use Rattle.aiger_text.specs.Lines.{three_of}
-use Rattle.aiger_text.proofs.NaturalTokens.{numbers_from}
+use Rattle.aiger_text.proofs.NaturalTokens.{blank_behind, numbers_from}
 use Rattle.aiger_text.proofs.numbers.plain_numbers.Goals as goal
 
-pub returns : goal.returns
-returns c =
+pub returns-then-is_blank : goal.returns-then-is_blank
+returns-then-is_blank c =
     let a = c.in_ok-lhs.lhs in
     let b = c.in_ok-left.left in
     let d = c.in_ok-right.right in
-    let end : map number_of c.plain_natural-3.new.tokens ≡ [] = search rules in
+    let end : map number_of (line_tokens c.in_ok-right.behind.now) ≡ [] =
+    blank_behind c.in_ok-right.behind.now (sym c.is_blank.ensures ∙ c.if-is_blank.true) in
     let numbers : map number_of (line_tokens c.args.line.now) ≡ Int (pos a) ∷ Int (pos b) ∷ Int (pos d) ∷ [] =
-    ap (map number_of) (sym c.new-tokens.ensures)
-    ∙ c.in_ok-lhs.ensures
+    c.in_ok-lhs.ensures
     ∙ ap (λ ns. Int (pos a) ∷ ns) (c.in_ok-left.ensures ∙ ap (λ ns. Int (pos b) ∷ ns)
     (c.in_ok-right.ensures ∙ ap (λ ns. Int (pos d) ∷ ns) end)) in
     ap three_of (numbers_from (line_tokens c.args.line.now) (a ∷ b ∷ d ∷ []) numbers)

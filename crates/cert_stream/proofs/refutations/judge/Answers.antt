@@ -1,5 +1,5 @@
 use Rattle.cert_text.specs.Items.{item_seen}
-use Rattle.cert_stream.proofs.JudgedItems.{first_judged, item_judged_on, lawful_first, may_item}
+use Rattle.cert_stream.proofs.JudgedItems.{first_put, item_judged_on, lawful_first, may_item}
 use Rattle.cert_stream.proofs.refutations.judge.Goals as goal
 
 pub item-requires : goal.item-requires
@@ -19,8 +19,9 @@ returns-in-Some c =
     c.args.f.now c.rows-rows.result.now c.requires.formula c.rows-rows.ensures c.item.result c.args.proving.now
     c.in-Some.proving c.item.new.self c.in-Some.is c.item.ensures
 
-pub returns-in_ok-judge_first-in-None : goal.returns-in_ok-judge_first-in-None
-returns-in_ok-judge_first-in-None c =
-    first_judged c.args.lines.now (item_seen c.args.item) c.requires.item c.every_reader_is_lawful.ensures
-    c.args.f.now c.rows-rows.result.now c.requires.formula c.rows-rows.ensures c.args.proving.now
-    c.in_ok-judge_first-in-None.field-0 c.in-None.is c.in_ok-judge_first-in-None.ensures
+pub returns-in-None : goal.returns-in-None
+returns-in-None c =
+    first_put c.args.lines.now (item_seen c.args.item) c.requires.item c.every_reader_is_lawful.ensures
+    c.args.f.now c.rows-rows.result.now c.requires.formula c.rows-rows.ensures c.judge_first.result
+    c.args.proving.now c.judge_first.new.proving c.in-None.is c.judge_first.ensures.some
+    c.judge_first.ensures.judging

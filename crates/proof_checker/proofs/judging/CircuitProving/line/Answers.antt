@@ -22,8 +22,9 @@ returns-clause-judging c =
     let new : CircuitProving = record {
       tables = w.tables;
       proving = c.line.new.self;
-      lines = w.lines;
+      numbers = w.numbers;
       marks = w.marks;
+      variables = w.variables;
     } in
     let is_derived = derive_line step.literals (map (with_lines (negated_candidate c.new-matrix.result) w.proving.lines)
     step.hints) in

@@ -1,7 +1,7 @@
 use Rattle.std.proofs.Common.{◌≡◌, ◌<◌, length, arith}
 use Rattle.std.proofs.lemmas.Bool.{OnTrue_at}
 use Rattle.circuit_plain.proofs.SortSteps.{length-draft}
-use Rattle.circuit_plain.proofs.circuits.Circuit.order.Goals as goal
+use Rattle.circuit_plain.proofs.circuits.Circuit.order_by_walk.Goals as goal
 
 pub loop-walked-smaller : goal.loop-walked-smaller
 loop-walked-smaller c =
