@@ -9,3 +9,4 @@ mod NamedPlaces
 mod AsciiTexts
 mod BinaryTexts
 mod HeldCircuits
+pub mod Definitions
