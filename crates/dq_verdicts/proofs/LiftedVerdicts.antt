@@ -31,7 +31,7 @@ use Rattle.ordered_gates.specs.Circuits.{is_sorted}
 use Rattle.lifted_proofs.specs.LiftedCircuits.{IsLiftedProof}
 use Rattle.lifted_proofs.specs.Laws.{SettledFilesAreSpellable}
 use Rattle.lifted_proofs.specs.SettledCircuits.{IsSettledFile}
-use Rattle.verdict_texts.specs.Accepted.{ProvedCircuitsAreAccepted, RefutationsAreAccepted}
+use Rattle.verdict_texts.specs.Accepted.{ProvedCircuitsAreAccepted, RefutationsAreAccepted, ShortTextsAreWithinLimits}
 use Rattle.dq_verdicts.specs.Prepared.{IsPrep, IsPreparedOutput, IsCertificate}
 use Rattle.verdict_texts.specs.Shown.{IsShownTrue, IsShownFalse, unknown_by}
 use Rattle.verdict_texts.specs.Verdicts.{verdict_text}
@@ -47,16 +47,17 @@ true-kept law f g units well lawful are left it =
     let was : IsTrueFormula (simplified_formula f units) = subst IsTrueFormula left it in
     (was.0, (law f units was.0 well lawful are).1 was.1)
 
-pub shown-true : ProvedCircuitsAreAccepted → (f g : Dqbf) (log : ProofLog) (id : ℕ) (form : Form) (file : AagFile)
-    (proof : Dqp) → f ≢ g → IsTrueFormula f → IsDecidedTrue g log.entries id → IsCertificate f file proof
-    → IsShownTrue f g log form file proof
-shown-true accepted f g log id form file proof other is decided e = record {
+pub shown-true : ProvedCircuitsAreAccepted → ShortTextsAreWithinLimits → (f g : Dqbf) (log : ProofLog) (id : ℕ)
+    (form : Form) (file : AagFile) (proof : Dqp) → IsLawful f → f ≢ g → IsTrueFormula f
+    → IsDecidedTrue g log.entries id → IsCertificate f file proof → IsShownTrue f g log form file proof
+shown-true accepted short f g log id form file proof lawful other is decided e = record {
   true_formula = is;
   circuit = e.circuit;
   answered = (id, decided);
   exported = λ same. absurd (other same);
   accepted = accepted f file proof form e.circuit e.lines e.writable (λ _. e.sorted) e.allowed;
   within = λ same. absurd (other same);
+  short = short f file proof form lawful e.circuit e.sorted;
 }
 
 pub shown-false : RefutationsAreAccepted → DerivationsRefute → (f g : Dqbf) (log : ProofLog) (form : Form) (d : Dqr)

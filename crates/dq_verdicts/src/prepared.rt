@@ -36,7 +36,9 @@ use lifted_proofs::{lift_false, lift_true};
 use proof_deletions::laws::allowed_lines_are_numbered;
 use refutation_checker::laws::refutation_shows_false;
 use std::alloc::Global;
-use verdict_texts::laws::{proved_circuits_are_accepted, refutations_are_accepted};
+use verdict_texts::laws::{
+    proved_circuits_are_accepted, refutations_are_accepted, short_texts_are_within_limits,
+};
 use verdict_texts::{Form, circuit_text, refutation_text, unknown_text, with_verdict};
 
 /// The most lines of a refutation's text.
@@ -109,6 +111,7 @@ fn lifted_true(p: &Prepared, log: &Log, id: u64, form: Form) -> Result<Output, M
     p.formula.every_formula_is_lawful();
     simplification_keeps_choices();
     proved_circuits_are_accepted();
+    short_texts_are_within_limits();
     let (file, proof) = certificate(p, log, id)?;
     let evidence = circuit_text(p.alloc, file, proof, form)?;
     let text = with_verdict(p.alloc, "s TRUE\n", form, evidence)?;

@@ -29,7 +29,9 @@ use dq_lits::Memory;
 use dq_runs::{FormulaStop, Output, deliver, outputs, read_formula};
 use dqcheck_words::{FileNames, file_names};
 use dqdimacs_reader::laws::formula_or_first_fault;
-use headline_laws::laws::{formulas_are_on_the_page, skolem_circuits_are_on_the_page};
+use headline_laws::laws::{
+    definitions_are_on_the_page, formulas_are_on_the_page, skolem_circuits_are_on_the_page,
+};
 use std::alloc::{AllocError, Global};
 
 /// The most bytes of a certificate.
@@ -81,6 +83,7 @@ pub fn dqcheck_run<F: Files, K: Sink>(
     formula_or_first_fault();
     formulas_are_on_the_page();
     skolem_circuits_are_on_the_page();
+    definitions_are_on_the_page();
     let output = report(alloc, words, files);
     deliver(out, output)
 }

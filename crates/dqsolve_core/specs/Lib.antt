@@ -1,4 +1,5 @@
 pub mod OneAnswer
+pub mod OnePage
 pub mod Outputs
 pub mod Report
 pub mod Running

@@ -5,7 +5,7 @@
 //! their design. `told` is a record of one record a kind of command, so that a new command adds a
 //! field and no clause.
 
-ghost use Rattle.std.specs.Prelude.{◌≡◌, ◌≤◌, ◌⊎◌, [], map, string_bytes, Some, IfOk};
+ghost use Rattle.std.specs.Prelude.{◌≡◌, ℕ, ◌≤◌, ◌⊎◌, List, [], map, string_bytes, Some, IfOk};
 ghost use Rattle.dq_io.specs.State.{state_of};
 ghost use Rattle.dq_lits.specs.Formula.{IsWellFormed};
 ghost use Rattle.cert_text.specs.Header.{max_count};
@@ -16,10 +16,11 @@ ghost use Rattle.dq_runs.specs.Sinks.{sink_of};
 ghost use Rattle.dqsolve_words.specs.Command.{Command, solve, pec, defined, session, most_seed, least_size, most_size, default_steps};
 ghost use Rattle.dqsolve_words.specs.Spelling.{spelled_command};
 ghost use Rattle.dqsolve_words.specs.Words.{options_of, search_of, planting_of, comparison_of, defining_of, session_of};
+ghost use Rattle.dqsolve_core.specs.OnePage.{ShowsHeadline};
 ghost use Rattle.dqsolve_core.specs.Outputs.{IsReported, IsSolveOutput, IsSolveLog, IsDemoOutput};
 ghost use Rattle.dqsolve_core.specs.Report.{form_of};
 ghost use Rattle.dqsolve_core.specs.Running.{IsDue, IsRunLog, IsOwnLog, steps_asked};
-ghost use Rattle.dqsolve_core.specs.Told.{ShowsTold};
+ghost use Rattle.dqsolve_core.specs.Told.{IsTold, ShowsTold};
 
 use crate::demos::demo_output;
 use definition_runs::define_file;
@@ -34,6 +35,7 @@ use dqsolve_words::{
     CommandWords, DefiningWords, DemoWords, PecWords, SessionWords, SolveOptions, SolveWords,
     command_words,
 };
+use headline_laws::laws::{accepted_circuits_are_on_the_page, formulas_are_on_the_page};
 use hint_log::Log;
 use pec_front::laws::{certified_boxes_fit, design_formulas_are_well_formed, fitting_boxes_choose};
 use pec_runs::{DesignStop, encode, read_design_formula};
@@ -91,6 +93,13 @@ pub fn dqsolve_run<F: Files, K: Sink>(
         (spelled_command (map string_bytes words.now)) log.new
         (sink_of K.Sink out.old) (sink_of K.Sink out.new) result }
 
+    // On one page: over a formula that is told, what is written with 10 and with 20 is right of its
+    // text.
+    ensures headline { (formula : List ℕ)
+        → IsTold (F.held files.old) (spelled_command (map string_bytes words.now)) formula
+        → (result ≡ 10) ⊎ (result ≡ 20) → ShowsHeadline formula (sink_of K.Sink out.old).taken
+        (sink_of K.Sink out.new).taken result }
+
     // Each refusal has its cause, and no fault is passed over, over all files and sinks.
     ensures causes { HasCauses (spelled_command (map string_bytes words.now))
         (state_of F.Files files.old) (state_of F.Files files.new)
@@ -99,6 +108,8 @@ pub fn dqsolve_run<F: Files, K: Sink>(
     formula_or_first_fault();
     certified_boxes_fit();
     fitting_boxes_choose();
+    formulas_are_on_the_page();
+    accepted_circuits_are_on_the_page();
     let output = report(alloc, words, files, log);
     deliver(out, output)
 }

@@ -35,13 +35,13 @@ is_false value solve = apart (not (value 2 [])) (value 2 []) refl (solve (agains
   own zero d below = refl
   own (suc k) d below = absurd (omega (arith, below))
 
-one_digit : (digit n : ℕ) → is_ascii_digit digit ≡ true → n ≡ 0 * 10 + (digit - 48) → n < 10 ^ 18 → IsNatural (digit ∷ []) n
+pub one_digit : (digit n : ℕ) → is_ascii_digit digit ≡ true → n ≡ 0 * 10 + (digit - 48) → n < 10 ^ 18 → IsNatural (digit ∷ []) n
 one_digit digit n is value small = record { some = λ e. cc; digits = ap (λ b. b && true) is; value = value; small = small }
 
-zero_is : IsNatural (codes "0") 0
+pub zero_is : IsNatural (codes "0") 0
 zero_is = one_digit 48 0 refl refl (omega arith)
 
-one_is : IsNatural (codes "1") 1
+pub one_is : IsNatural (codes "1") 1
 one_is = one_digit 49 1 refl refl (omega arith)
 
 two_is : IsNatural (codes "2") 2
@@ -69,7 +69,7 @@ wire_spelled = record {
   };
 }
 
-one_place : (P : ℕ → Type 0) → P 1 → All P (1 ∷ [])
+pub one_place : (P : ℕ → Type 0) → P 1 → All P (1 ∷ [])
 one_place P here zero d below = here
 one_place P here (suc k) d below = absurd (omega (arith, below))
 

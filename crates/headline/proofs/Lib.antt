@@ -1,1 +1,5 @@
 pub mod Copies
+pub mod OneFormula
+pub mod Xors
+pub mod Negations
+pub mod DefinedCopies

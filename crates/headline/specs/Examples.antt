@@ -1,6 +1,6 @@
 -- Two formulas and a circuit, in the page's own words.
 use Rattle.std.specs.Prelude.{ℕ, List, [], ◌∷◌, ◌++◌, codes}
-use Rattle.headline.specs.Headline.{Formula, Circuit, universals, dependent, clause, positive, opposite}
+use Rattle.headline.specs.Headline.{Circuit, Formula, clause, dependent, existentials, opposite, positive, universals, xor}
 
 abbrev line : List ℕ → List ℕ
 line text = text ++ 10 ∷ []
@@ -32,3 +32,42 @@ wire_text = line (codes "aag 1 1 0 1 0") ++ (line (codes "2") ++ line (codes "2"
 
 abbrev pub wire : Circuit
 wire = record { largest = 1; inputs = 1 ∷ []; outputs = 2 ∷ []; gates = [] }
+
+-- one of two variables is true, an odd number
+abbrev pub one_of_two : Formula
+one_of_two = record {
+  variables = 2;
+  parts = existentials (1 ∷ 2 ∷ []) ∷ [];
+  constraints = xor (positive 1 ∷ positive 2 ∷ []) ∷ [];
+}
+
+-- and so are both
+abbrev pub both_and_one : Formula
+both_and_one = record {
+  variables = 2;
+  parts = existentials (1 ∷ 2 ∷ []) ∷ [];
+  constraints = xor (positive 1 ∷ positive 2 ∷ []) ∷ clause (positive 1 ∷ [])
+      ∷ clause (positive 2 ∷ []) ∷ [];
+}
+
+-- y2 is x1's negation, and in the binary form the negated wire
+abbrev pub opposites : Formula
+opposites = record {
+  variables = 2;
+  parts = universals (1 ∷ []) ∷ dependent 2 (1 ∷ []) ∷ [];
+  constraints = clause (positive 1 ∷ positive 2 ∷ []) ∷ clause (opposite 1 ∷ opposite 2 ∷ []) ∷ [];
+}
+
+abbrev pub negated_text : List ℕ
+negated_text = line (codes "aig 1 1 0 1 0") ++ line (codes "3")
+
+abbrev pub negated_wire : Circuit
+negated_wire = record { largest = 1; inputs = 1 ∷ []; outputs = 3 ∷ []; gates = [] }
+
+-- nothing is asked of y2
+abbrev pub loose : Formula
+loose = record {
+  variables = 2;
+  parts = universals (1 ∷ []) ∷ dependent 2 (1 ∷ []) ∷ [];
+  constraints = [];
+}

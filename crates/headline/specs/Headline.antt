@@ -1,5 +1,5 @@
--- What `VALID TRUE` and `VALID FALSE` say, from bytes to functions, on one page. It stands on lists
--- and numbers alone; a law ties it to the definitions that the contracts cite.
+-- What `VALID TRUE`, `VALID FALSE` and `VALID DEFINED` say, from bytes to functions, on one page. It
+-- stands on lists and numbers alone; laws tie it to the definitions that the contracts cite.
 use Rattle.std.specs.Prelude.{◌≡◌, ◌≢◌, ℕ, zero, suc, ◌+◌, ◌-◌, ◌*◌, ◌/◌, ◌%◌, ◌^◌, ◌<◌, ◌≤◌, ◌==◌, ◌⊎◌, Bool, true, false, not, ◌&&◌, ◌||◌, List, [], ◌∷◌, ◌++◌, map, length, replicate, codes, if◌then◌else◌, slice_index, All, AllPairs, Contains}
 use Rattle.std.specs.Char.{is_ascii_digit}
 use Rattle.std.specs.Fmt.{decimal}
@@ -401,6 +401,34 @@ pub record HoldsSkolem (f : Formula) (text : List ℕ) : Type 0 where
   pub circuit : IsCircuit c
   pub skolem : IsSkolem f c names
 
+-- DEFINITIONS: what a definition of an existential may read are the universals that it sees, and the
+-- existentials that see no others, and see fewer or stand before it
+
+abbrev pub standing_before : Existential → List Existential → List Existential
+standing_before y [] = []
+standing_before y (z ∷ zs) =
+    if z.variable == y.variable then [] else z ∷ standing_before y zs
+
+abbrev pub MayRead : Formula → Existential → ℕ → Type 0
+MayRead f y v =
+    Contains y.sees v
+    ⊎ ((z : Existential) × (z.variable ≡ v) × All (Contains y.sees) z.sees
+    × ((Contains (existentials_of f) z × (length z.sees < length y.sees))
+    ⊎ (Contains (standing_before y (existentials_of f)) z × (length z.sees ≡ length y.sees))))
+
+-- wherever the constraints hold, the existential has the value of a function of what it may read
+pub record IsDefined (f : Formula) (y : Existential) : Type 0 where
+  pub value : (ℕ → Bool) → Bool
+  pub reads : (m n : ℕ → Bool) → ((v : ℕ) → MayRead f y v → m v ≡ n v) → value m ≡ value n
+  pub is : (m : ℕ → Bool) → Holds f m → m y.variable ≡ value m
+
+-- so many of these existentials are defined, and so many aren't
+abbrev pub AreDefined : Formula → List Existential → ℕ → ℕ → Type 0
+AreDefined f [] d r = (d ≡ 0) × (r ≡ 0)
+AreDefined f (y ∷ ys) d r =
+    (IsDefined f y × ((k : ℕ) × (d ≡ suc k) × AreDefined f ys k r))
+    ⊎ ((IsDefined f y → ⊥) × ((k : ℕ) × (r ≡ suc k) × AreDefined f ys d k))
+
 -- THE HEADLINE: of the texts of two files, and what was written with status 0
 
 abbrev pub true_line : List ℕ
@@ -410,18 +438,12 @@ abbrev pub false_line : List ℕ
 false_line = codes "VALID FALSE" ++ 10 ∷ []
 
 abbrev pub defined_line : ℕ → ℕ → List ℕ
-defined_line defined free =
-    (codes "VALID DEFINED " ++ (decimal defined ++ (codes " FREE " ++ decimal free))) ++ 10 ∷ []
-
-abbrev pub IsLine : List ℕ → Type 0
-IsLine written =
-    (written ≡ true_line) ⊎ ((written ≡ false_line)
-    ⊎ ((defined : ℕ) × ((free : ℕ) × (written ≡ defined_line defined free))))
+defined_line d r =
+    (codes "VALID DEFINED " ++ (decimal d ++ (codes " FREE " ++ decimal r))) ++ 10 ∷ []
 
 pub record Headline (formula certificate written : List ℕ) : Type 0 where
   pub f : Formula
   pub spelled : SpellsFormula formula f
-  pub line : IsLine written
-  pub is_true : written ≡ true_line → IsTrueFormula f
-  pub circuit : written ≡ true_line → HoldsSkolem f certificate
-  pub is_false : written ≡ false_line → IsFalseFormula f
+  pub says : ((written ≡ true_line) × IsTrueFormula f × HoldsSkolem f certificate)
+      ⊎ (((written ≡ false_line) × IsFalseFormula f)
+      ⊎ ((d : ℕ) × (r : ℕ) × (written ≡ defined_line d r) × AreDefined f (existentials_of f) d r))

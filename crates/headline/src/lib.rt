@@ -1,13 +1,14 @@
-//! What `VALID TRUE` and `VALID FALSE` say, from bytes to functions, on one page
-//! (`specs/Headline.antt`), and examples in its own words.
+//! What `VALID TRUE`, `VALID FALSE` and `VALID DEFINED` say, from bytes to functions, on one page
+//! (`specs/Headline.antt`), what is said of black boxes on a second one (`specs/BlackBoxes.antt`),
+//! and examples in the first one's own words.
 //!
-//! Whoever has read the page needs no other definition of a formula, its truth or a circuit. Each
-//! law here is the contract of a function without parameters and with an empty body.
+//! Whoever has read the pages needs no other definition of a formula, its truth, a circuit or a box.
+//! Each law here is the contract of a function without parameters and with an empty body.
 #![tactic(auto)]
 
-ghost use Rattle.std.specs.Prelude.{◌≡◌, [], ◌∷◌, codes};
-ghost use Rattle.headline.specs.Examples.{copies_text, copies, blind_copies, wire_text, wire};
-ghost use Rattle.headline.specs.Headline.{tokens, Formula, HoldsSkolem, IsTrueFormula, IsFalseFormula, SpellsAscii, SpellsFormula, existentials_of, seeing, universals, existentials, dependent, clause, xor, positive, opposite};
+ghost use Rattle.std.specs.Prelude.{◌≡◌, ℕ, List, [], ◌∷◌, codes};
+ghost use Rattle.headline.specs.Examples.{copies_text, copies, blind_copies, wire_text, wire, one_of_two, both_and_one, opposites, negated_text, negated_wire, loose};
+ghost use Rattle.headline.specs.Headline.{tokens, Formula, HoldsSkolem, IsDefined, IsTrueFormula, IsFalseFormula, SpellsAscii, SpellsBinary, SpellsFormula, StandsFor, existentials_of, seeing, universals, existentials, dependent, clause, xor, positive, opposite};
 
 /// Comments are left out, and a line may have several tokens.
 pub fn tokens_are_read()
@@ -31,6 +32,14 @@ pub fn no_formula_is_both()
     ensures { (f : Formula) → IsTrueFormula f → IsFalseFormula f → ⊥ }
 {}
 
+/// A text spells one formula, so that no text is both true and false.
+pub fn texts_spell_one_formula()
+    ensures one { (text : List ℕ) (f g : Formula) → SpellsFormula text f → SpellsFormula text g
+        → f ≡ g }
+    ensures never_both { (text : List ℕ) (f g : Formula) → SpellsFormula text f
+        → SpellsFormula text g → IsTrueFormula f → IsFalseFormula g → ⊥ }
+{}
+
 /// The text of five lines spells the formula of copies.
 pub fn copies_are_spelled()
     ensures { SpellsFormula copies_text copies }
@@ -46,4 +55,29 @@ pub fn copies_are_true()
 pub fn a_wire_copies()
     ensures spelled { SpellsAscii wire_text wire [] }
     ensures skolem { HoldsSkolem copies wire_text }
+{}
+
+/// An XOR line asks for an odd number of true literals, and not for one or more.
+pub fn xors_are_odd()
+    ensures one { IsTrueFormula one_of_two }
+    ensures both { IsFalseFormula both_and_one }
+{}
+
+/// An input without a name stands for the universal at its place in the prefix, and not for the one
+/// with the place's number.
+pub fn inputs_stand_in_order()
+    ensures place { StandsFor [] 105 (2 ∷ 1 ∷ []) 0 2 }
+    ensures number { StandsFor [] 105 (2 ∷ 1 ∷ []) 1 2 → ⊥ }
+{}
+
+/// In the binary form too an odd literal is a negation.
+pub fn a_negated_wire_negates()
+    ensures spelled { SpellsBinary negated_text negated_wire [] }
+    ensures skolem { HoldsSkolem opposites negated_text }
+{}
+
+/// A copy is defined, and a variable of which nothing is asked isn't.
+pub fn copies_are_defined()
+    ensures copy { IsDefined copies (seeing (1 ∷ []) 2) }
+    ensures loose { IsDefined loose (seeing (1 ∷ []) 2) → ⊥ }
 {}

@@ -319,6 +319,7 @@ on_page text m s formed exact choices texts = record {
   universals = universals_are text m s;
   existentials = existentials_are text m s;
   holds = page_holds text m s exact;
+  holds_there = matrix_holds text m s exact;
   is_true = is_true text m s exact formed;
   is_false = is_false text m s exact choices;
 }

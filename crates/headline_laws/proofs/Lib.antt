@@ -1,11 +1,12 @@
-mod Tokens
-mod Symbols
-mod Declarations
-mod Constraints
-mod Formulas
-mod Circuits
-mod Skolems
-mod NamedPlaces
-mod AsciiTexts
-mod BinaryTexts
-mod HeldCircuits
+pub mod Tokens
+pub mod Symbols
+pub mod Declarations
+pub mod Constraints
+pub mod Formulas
+pub mod Circuits
+pub mod Skolems
+pub mod NamedPlaces
+pub mod AsciiTexts
+pub mod BinaryTexts
+pub mod HeldCircuits
+pub mod Definitions

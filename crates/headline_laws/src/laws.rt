@@ -5,11 +5,14 @@ ghost use Rattle.std.specs.Prelude.{◌≡◌, ℕ, List, map};
 ghost use Rattle.dq_lits.specs.Formula.{Dqbf, IsWellFormed};
 ghost use Rattle.dq_text.specs.Token.{tokens_of};
 ghost use Rattle.dqdimacs_reader.specs.Grammar.{SpellsFormula};
-ghost use Rattle.cert_judge.specs.Judgement.{HoldsSkolemCircuit};
-ghost use Rattle.headline.specs.Headline.{Formula, HoldsSkolem, tokens};
+ghost use Rattle.defined_checker.specs.declared.checks.Counts.{Counts};
+ghost use Rattle.cert_judge.specs.Judgement.{HoldsRightDefinitions, HoldsSkolemCircuit, IsJudgement};
+ghost use Rattle.cert_judge.specs.declared.answers.Judgement.TheVariants.{ValidTrue};
+ghost use Rattle.headline.specs.Headline.{AreDefined, Formula, HoldsSkolem, existentials_of, tokens};
 ghost use Rattle.headline_laws.specs.Formulas.{IsOnPage};
 
 use aig_binary::laws::binary_circuits_are_lawful;
+use cert_judge::laws::acceptance_is_sound;
 use dq_formula::xor_clauses_are_exact;
 use dq_lits::laws::functions_are_choices;
 use dq_text::laws::tokens_are_those_of_lines;
@@ -41,3 +44,21 @@ pub fn skolem_circuits_are_on_the_page()
     binary_circuits_are_lawful();
     mapping_is_as_told();
 }
+
+/// A certificate that is accepted as a true formula's holds a Skolem circuit on the page, of the page's
+/// formula.
+pub fn accepted_circuits_are_on_the_page()
+    ensures { (formula certificate : List ℕ) (read : Dqbf) (f : Formula) → IsOnPage formula read f
+        → IsWellFormed read → IsJudgement read certificate ValidTrue → HoldsSkolem f certificate }
+{
+    acceptance_is_sound();
+    skolem_circuits_are_on_the_page();
+}
+
+/// Definitions that are right to the reader are right on the page, of the page's formula.
+pub fn definitions_are_on_the_page()
+    ensures { (formula certificate : List ℕ) (read : Dqbf) (f : Formula) (counts : Counts)
+        → IsOnPage formula read f → IsWellFormed read
+        → HoldsRightDefinitions read certificate counts
+        → AreDefined f (existentials_of f) counts.defined counts.free }
+{}

@@ -25,7 +25,7 @@ count_few test (e ∷ earlier) =
     let more = one_more (count test earlier) (length earlier) (test e) (count_few test earlier) in
     omega (arith, more)
 
-universals_few : (f : Dqbf) → HasLawfulPrefix f → length f.universals ≤ f.variables + 1
+pub universals_few : (f : Dqbf) → HasLawfulPrefix f → length f.universals ≤ f.variables + 1
 universals_few f prefix =
     let all = few_declared f prefix in
     let both = length-append f.universals (map (λ (y : Existential). y.variable) f.existentials) in

@@ -6,3 +6,4 @@ pub mod Counts
 pub mod NumberedFiles
 pub mod RefutedRows
 pub mod ShownTexts
+pub mod ShortTexts

@@ -27,7 +27,7 @@ use Rattle.proof_checker.specs.ProvedCircuit.{IsProvedCircuit}
 use Rattle.refutation_checker.specs.Refutation.{refutation_fault}
 use Rattle.proof_deletions.specs.Deletions.{AreNumberedLines}
 use Rattle.proof_deletions.specs.Laws.{AllowedLinesAreNumbered, DeletionsAreAllowed}
-use Rattle.verdict_texts.specs.Accepted.{ProvedCircuitsAreAccepted, RefutationsAreAccepted, SmallLogsAreWithinLimits}
+use Rattle.verdict_texts.specs.Accepted.{ProvedCircuitsAreAccepted, RefutationsAreAccepted, ShortTextsAreWithinLimits, SmallLogsAreWithinLimits}
 use Rattle.verdict_texts.specs.Forms.{written_items}
 use Rattle.verdict_texts.specs.declared.forms.Form.{Form}
 use Rattle.verdict_texts.specs.Shown.{IsShownTrue, IsShownFalse, few_entries}
@@ -69,11 +69,11 @@ refutation_numbered allowed numbered f live entries id ids items well logged can
     (numbered _ (first_id f (length (used_rows entries ids))) (exported_steps f live entries ids r) (omega arith)
     (allowed f live entries id ids r well logged can.instances can.refuted reached renaming))
 
-pub shown_true : ProvedCircuitsAreAccepted → SmallLogsAreWithinLimits →
+pub shown_true : ProvedCircuitsAreAccepted → SmallLogsAreWithinLimits → ShortTextsAreWithinLimits →
     (f : Dqbf) (log : ProofLog) (id : ℕ) (form : Form) (file : AagFile) (proof : Dqp)
     → IsLawful f → IsTrueFormula f → IsDecidedTrue f log.entries id → IsWrittenCircuit f log.entries id file proof →
     IsShownTrue f f log form file proof
-shown_true accepted within f log id form file proof lawful is_so decided e = record {
+shown_true accepted within short f log id form file proof lawful is_so decided e = record {
   true_formula = is_so;
   circuit = e.proved;
   answered = (id, decided);
@@ -88,6 +88,7 @@ shown_true accepted within f log id form file proof lawful is_so decided e = rec
   accepted = accepted f file proof form e.proved e.lines e.spelled
       (λ _. are_sorted f file e.numbers) e.allowed;
   within = λ _. within f log.entries file proof form lawful e.gates e.numbers.max_var e.few;
+  short = short f file proof form lawful e.proved (are_sorted f file e.numbers);
 }
 
 -- what the export of a refutation gives

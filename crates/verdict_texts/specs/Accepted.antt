@@ -1,5 +1,5 @@
--- That the checker accepts what is written with a verdict, and that what small logs give is within
--- the formats' limits.
+-- That the checker accepts what is written with a verdict, and that what small logs give and what
+-- short texts hold is within the formats' limits.
 use Rattle.std.specs.Prelude.{◌≡◌, ◌+◌, ◌≤◌, true, List, length, None}
 use Rattle.dq_lits.specs.Formula.{Dqbf}
 use Rattle.dq_formula.specs.Prefix.{IsLawful}
@@ -40,6 +40,14 @@ RefutationsAreAccepted =
     → AreNumberedLines d.items → (length d.items ≤ max_count → IsDqrOf f d)
     → length (written_items form d.items) ≤ max_count
     → IsJudgement f (verdict_text form f (is_false d)) ValidFalse
+
+-- a text has a byte or more for each gate and for each line of a proof, and a circuit has an input for
+-- each universal
+abbrev pub ShortTextsAreWithinLimits : Type 0
+ShortTextsAreWithinLimits =
+    (f : Dqbf) (file : AagFile) (proof : Dqp) (form : Form) → IsLawful f → IsProvedCircuit f file proof
+    → is_sorted file.circuit ≡ true → length (verdict_text form f (is_true file proof)) ≤ max_count
+    → IsWithinLimits form file proof
 
 -- a circuit has an input for each universal and no more gates than the log has names of gates, and
 -- a proof no more lines than the log has learned clauses and answers, and no more deletions

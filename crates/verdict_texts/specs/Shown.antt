@@ -43,8 +43,9 @@ pub record IsExportedOf (searched : Dqbf) (log : ProofLog) (file : AagFile)
   pub numbers : IsNumberedFile searched file
 
 -- The circuit has Skolem functions, its proof shows it, and the checker accepts what is written
--- where it is within the formats' limits. The formula that is decided may be another than the one
--- that was searched; where it is the same, what is written is exported of the log.
+-- where it is within the formats' limits, as a text of at most 10^9 bytes is. The formula that is
+-- decided may be another than the one that was searched; where it is the same, what is written is
+-- exported of the log.
 pub record IsShownTrue (decided searched : Dqbf) (log : ProofLog) (form : Form) (file : AagFile)
     (proof : Dqp) : Type 0 where
   pub true_formula : IsTrueFormula decided
@@ -54,6 +55,8 @@ pub record IsShownTrue (decided searched : Dqbf) (log : ProofLog) (form : Form) 
   pub accepted : IsWithinLimits form file proof
       → IsJudgement decided (verdict_text form decided (is_true file proof)) ValidTrue
   pub within : decided ≡ searched → length log.entries ≤ few_entries
+      → IsWithinLimits form file proof
+  pub short : length (verdict_text form decided (is_true file proof)) ≤ max_count
       → IsWithinLimits form file proof
 
 -- An answer of the log rests on instances of the searched formula alone, whose clauses have these

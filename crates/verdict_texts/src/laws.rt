@@ -1,7 +1,7 @@
 //! What the checker says of what is written. A law is the contract of a function without
 //! parameters.
 
-ghost use Rattle.verdict_texts.specs.Accepted.{ProvedCircuitsAreAccepted, RefutationsAreAccepted, SmallLogsAreWithinLimits};
+ghost use Rattle.verdict_texts.specs.Accepted.{ProvedCircuitsAreAccepted, RefutationsAreAccepted, ShortTextsAreWithinLimits, SmallLogsAreWithinLimits};
 
 use ordered_gates::laws::{
     ordered_files_are_binary, ordered_lines_are_numbered, ordered_proofs_stand,
@@ -42,3 +42,9 @@ pub fn small_logs_are_within_limits()
 {
     deletions_are_allowed();
 }
+
+/// Where a text has at most 1,000,000,000 bytes, a circuit with sorted gates and its proof, which it
+/// holds, are within the formats' limits.
+pub fn short_texts_are_within_limits()
+    ensures { ShortTextsAreWithinLimits }
+{}

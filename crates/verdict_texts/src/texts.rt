@@ -18,7 +18,8 @@ ghost use Rattle.verdict_texts.specs.Verdicts.{with_proof, circuit_text, counts_
 
 use crate::forms::{Form, written_items};
 use crate::laws::{
-    proved_circuits_are_accepted, refutations_are_accepted, small_logs_are_within_limits,
+    proved_circuits_are_accepted, refutations_are_accepted, short_texts_are_within_limits,
+    small_logs_are_within_limits,
 };
 use aig_binary::write_binary;
 use aiger_text::{AagFile, Text};
@@ -55,6 +56,7 @@ pub fn true_text(
     allowed_lines_are_numbered();
     proved_circuits_are_accepted();
     small_logs_are_within_limits();
+    short_texts_are_within_limits();
     let (file, proof) = export_true(alloc, log, id, f)?;
     let evidence = circuit_text(alloc, file, proof, form)?;
     let text = with_verdict(alloc, "s TRUE\n", form, evidence)?;

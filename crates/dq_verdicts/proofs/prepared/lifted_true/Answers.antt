@@ -20,8 +20,9 @@ returns c =
       verdict = is_true file proof;
       is = record {
         productive = c.requires.productive;
-        shown = shown-true c.proved_circuits_are_accepted.ensures f c.args.p.now.left.now c.args.log.now c.args.id c.args.form
-            file proof c.requires.prepared.other is c.requires.decided c.in_ok-file.ensures;
+        shown = shown-true c.proved_circuits_are_accepted.ensures c.short_texts_are_within_limits.ensures f
+            c.args.p.now.left.now c.args.log.now c.args.id c.args.form file proof c.every_formula_is_lawful.ensures
+            c.requires.prepared.other is c.requires.decided c.in_ok-file.ensures;
       };
       is_printed = printed_as (is_true file proof) c.code.result c.in_ok-text.text.items
           (verdict_text c.args.form f (is_true file proof)) c.code.ensures

@@ -38,6 +38,7 @@ returns-clause-headline g c formula certificate held status =
     (record {
       formulas = c.formulas_are_on_the_page.ensures;
       circuits = c.skolem_circuits_are_on_the_page.ensures;
+      definitions = c.definitions_are_on_the_page.ensures;
     })
     formula certificate (sink_of g.K.Sink c.args.out.now).taken (sink_of g.K.Sink c.deliver.new.out).taken
     ((returns-clause-told g c).accepted formula certificate held status)

@@ -4,6 +4,7 @@ use Rattle.dq_runs.specs.Sinks.{sink_of}
 use Rattle.dqsolve_words.specs.Spelling.{spelled_command}
 use Rattle.dqsolve_core.proofs.Runs.{ends, causes, own_log}
 use Rattle.dqsolve_core.proofs.DefinedRuns.{defines_told}
+use Rattle.dqsolve_core.proofs.OnePage.{is_verdict, shows}
 use Rattle.dqsolve_core.proofs.SessionRuns.{converses_told}
 use Rattle.dqsolve_core.proofs.ToldDesigns.{compares_told}
 use Rattle.dqsolve_core.proofs.ToldFiles.{solves_told}
@@ -60,6 +61,18 @@ returns-clause-told g c =
           before now asked c.report-output.new.log sink sink_now c.report-output.result c.deliver.result
           c.report-output.ensures.reported c.deliver.ensures;
     }
+
+pub returns-clause-headline : goal.returns-clause-headline
+returns-clause-headline g c formula told either =
+    let status = c.deliver.result in
+    shows
+    (record {
+      formulas = c.formulas_are_on_the_page.ensures;
+      circuits = c.accepted_circuits_are_on_the_page.ensures;
+    })
+    formula c.report-output.new.log told.command (sink_of g.K.Sink c.args.out.now).taken
+    (sink_of g.K.Sink c.deliver.new.out).taken status either
+    ((returns-clause-told g c).formula.right formula told (is_verdict status either))
 
 pub returns-clause-causes : goal.returns-clause-causes
 returns-clause-causes g c =

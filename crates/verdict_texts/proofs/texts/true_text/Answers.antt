@@ -19,8 +19,8 @@ returns c =
     record {
       file = c.in_ok-file.file;
       proof = c.in_ok-file.proof;
-      shown = shown_true c.proved_circuits_are_accepted.ensures c.small_logs_are_within_limits.ensures c.args.f.now
-          c.args.log.now c.args.id c.args.form
+      shown = shown_true c.proved_circuits_are_accepted.ensures c.small_logs_are_within_limits.ensures
+          c.short_texts_are_within_limits.ensures c.args.f.now c.args.log.now c.args.id c.args.form
           c.in_ok-file.file c.in_ok-file.proof c.every_formula_is_lawful.ensures
           c.requires.is_true c.requires.decided.decided
           (record {
