@@ -61,9 +61,6 @@ use_at_most first steps k = by (use_in first 0 steps k)
     by (inl h) = omega (arith, h)
     by (inr h) = let g = h.1 in omega (arith, g)
 
-lt-true : (k place : ℕ) → k < place → nat_lt k place ≡ true
-lt-true k place h = lt-ltb k place h
-
 lt-false : (k place : ℕ) → place ≤ k → nat_lt k place ≡ false
 lt-false k place h = false_unless (nat_lt k place) (λ e. let l = ltb-true k place e in absurd (omega (arith, h, l)))
 
@@ -80,7 +77,7 @@ none_by first place [] k h = refl
 none_by first place (step ∷ steps) k h =
     by (last_use first (place + 1) steps k) (is_hinted steps (first + k)) (is_among step.hints (first + k))
     (nat_lt k place)
-    (lt-true k place h) (none_by first (place + 1) steps k (omega (arith, h)))
+    (lt-ltb k place h) (none_by first (place + 1) steps k (omega (arith, h)))
   where
     by : (later : ℕ) (hinted b lt : Bool) → lt ≡ true → eqb later 0 ≡ not hinted →
         eqb (later_of (if lt && b then place + 1 else 0) later) 0 ≡ not (b || hinted)
@@ -101,7 +98,7 @@ here_by first before step later k h =
     ap (λ u. eqb u (p + 1)) (last_use-append first 0 before (step ∷ later) k)
     ∙ by (last_use first 0 before k) (last_use first (0 + p + 1) later k) (is_among step.hints (first + k))
     (nat_lt k (0 + p)) (not (is_hinted later (first + k))) (use_at_most first before k)
-    (use_in first (0 + p + 1) later k) (lt-true k (0 + p) (omega (arith, h)))
+    (use_in first (0 + p + 1) later k) (lt-ltb k (0 + p) (omega (arith, h)))
     (none_by first (0 + p + 1) later k (omega (arith, h)))
   where
     p : ℕ
