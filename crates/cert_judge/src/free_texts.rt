@@ -76,11 +76,17 @@ fn free_text<'f>(first: u64, lines: AagLines) -> Result<Phase<'f>, Memory>
     Ok(Phase::FreeText { first, file })
 }
 
+// A line that is longer isn't looked at any more, so that one of blanks isn't with each piece.
+const MOST_BYTES: usize = 1 << 20;
+
 // Whether a comment whose first line begins with these bytes is no proof, whatever follows.
 fn is_no_proof(bytes: &[u8]) -> bool
     requires { HasNoEnd bytes.now }
     ensures { result ≡ true → (more : List ℕ) → begins_proof (bytes.now ++ more) ≡ false }
 {
+    if bytes.len() > MOST_BYTES {
+        return false;
+    }
     let mut tokens = LineTokens::new(bytes);
     let Some(word) = tokens.next() else {
         return false;
