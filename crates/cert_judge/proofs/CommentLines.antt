@@ -40,9 +40,9 @@ use Rattle.skolem_checker.specs.SkolemCircuit.{IsComplete}
 use Rattle.skolem_checker.specs.declared.mapping.MapError.{MapError}
 use Rattle.skolem_checker.specs.declared.mapping.MapPlace.{MapPlace}
 use Rattle.skolem_checker.proofs.LiteralNumbers.{spelled_complete}
-use Rattle.cert_judge.specs.CircuitPhases.{BeginsComment, BeginsProof, FollowsLine, IsWholeCircuit}
+use Rattle.cert_judge.specs.CircuitPhases.{BeginsComment, BeginsProof, FollowsLine, GivesFreeText, IsStoppedPhase, IsWholeCircuit}
 use Rattle.cert_judge.specs.Judgement.{as_proof, begins_proof, begins_with, comment_line, first_line, line_ends, mapping_line, proof_in, proof_on, BehindMapping, BehindProof, IsTested}
-use Rattle.cert_judge.specs.Phases.{found_or_derived, line_end, AnswersFile, AreLinesFrom, CircuitGives, HasNoEnd, IsJudged, IsLastUnless, ProofGives, SaysProof}
+use Rattle.cert_judge.specs.Phases.{found_or_derived, line_end, AnswersFile, AreLinesFrom, CircuitGives, Gives, HasNoEnd, IsJudged, IsLastUnless, ProofGives, SaysProof}
 use Rattle.cert_judge.specs.Places.{AnswersStop, HasFewLines}
 use Rattle.cert_judge.specs.Standing.{IsStanding, SaysRead}
 use Rattle.cert_judge.specs.declared.answers.Judgement.{Judgement}
@@ -88,10 +88,10 @@ feed_missed text free =
     ap (λ n. cond (nat_lt n (length text)) (Some n) None) (no_feed text free)
     ∙ ap (λ b. cond b (Some (length text)) None) none
 
-one_line_first : (text : List ℕ) → HasNoEnd text → first_line text ≡ text
+pub one_line_first : (text : List ℕ) → HasNoEnd text → first_line text ≡ text
 one_line_first text free = rw (feed_missed text free) refl
 
-fed_line_first : (text behind : List ℕ) → HasNoEnd text → first_line (text ++ (10 ∷ behind)) ≡ text
+pub fed_line_first : (text behind : List ℕ) → HasNoEnd text → first_line (text ++ (10 ∷ behind)) ≡ text
 fed_line_first text behind free = rw (feed_found text behind free) (take-append_seam text (10 ∷ behind))
 
 first_is_line : (ended : Bool) (text behind : List ℕ) → HasNoEnd text → IsLastUnless ended text behind →
@@ -202,6 +202,49 @@ module _ (law : ReadIsSpelled) (first : ℕ) (l : CircuitLines) (net : Netlist) 
               (candidate_of f net symbols) answer) (sym counted) given),
         );
       }
+
+  -- whatever bytes the comment has, if these are no proof
+  pub free_gives : IsWholeCircuit l → (f : Dqbf) (bytes behind : List ℕ) (answer : Judgement) →
+      begins_proof bytes ≡ false → BehindMapping (mapping_line first net) None (candidate_of f net symbols) answer →
+      CircuitGives f l bytes answer
+  free_gives whole f bytes behind answer free given =
+      record {
+        reading = Ok (record { circuit = net; symbols = symbols; comment = Some bytes });
+        is_reading = subst (λ r. IsAagReading (header_line l) r
+            (Ok (record { circuit = net; symbols = symbols; comment = Some bytes })))
+            (sym (ap (commented l.in_comment bytes) (same_file l whole bytes ∙ read.0)
+            ∙ ap (λ b. commented b bytes (Ok (bare_file net symbols))) whole.comment)) (refl, read.1);
+        answers = (
+          record { before = []; parts = refl },
+          subst (λ h. BehindProof (mapping_line h net)
+              (proof_in f l.number (line_ends bytes) net (Some bytes)) (candidate_of f net symbols) answer)
+              (sym are.header)
+              (subst (λ b. BehindProof (mapping_line first net)
+              (cond b (as_proof (circuit_proof_of f net bytes (comment_line l.number (line_ends bytes) bytes)))
+              (Ok None)) (candidate_of f net symbols) answer) (sym free) given),
+        );
+      }
+
+-- the circuit's lines stopped there
+refused_free : (l : CircuitLines) (stop : AagStop) (phase : Phase) → l.stopped ≡ None → IsWholeCircuit l →
+    IfNone l.stopped (IsAagReading (header_line l) (lines_give l []) (Err stop)) → IsStoppedPhase stop phase →
+    GivesFreeText l phase
+refused_free l (RefusedFile line name) phase none whole reading is f bytes behind answer free says =
+    let stop = RefusedFile line name in
+    record {
+      reading = Err stop;
+      is_reading = commented_stop (header_line l) bytes l.in_comment (lines_give l (lines_from l.number bytes)) stop
+          (subst (λ r. IsAagReading (header_line l) r (Err stop)) (sym (same_file l whole bytes))
+          (subst (λ o. IfNone o (IsAagReading (header_line l) (lines_give l []) (Err stop))) none reading));
+      answers = subst (λ p. Gives f p behind answer) is says;
+    }
+refused_free l NoFile phase none whole reading is f bytes behind answer free says = absurd is
+
+pub stop_free : (l : CircuitLines) (stop : AagStop) (r : Result Phase Memory) → l.stopped ≡ None → IsWholeCircuit l →
+    IfNone l.stopped (IsAagReading (header_line l) (lines_give l []) (Err stop)) → IfOk r (IsStoppedPhase stop) →
+    IfOk r (GivesFreeText l)
+stop_free l stop (Ok phase) none whole reading is = refused_free l stop phase none whole reading is
+stop_free l stop (Err _) none whole reading is = tt
 
 -- a comment that is no proof
 pub free_text_begins : (f : Dqbf) (first number : ℕ) (file : AagFile) (text : List ℕ) (is_proof : Bool) →

@@ -11,3 +11,5 @@ pub mod Places
 pub mod Soundness
 pub mod Starts
 pub mod Turns
+pub mod SettledPhases
+pub mod FreeTexts

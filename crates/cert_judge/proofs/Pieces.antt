@@ -1,6 +1,6 @@
 -- A certificate that comes in pieces.
 use Rattle.std.proofs.Common.{◌≡◌, ℕ, List, [], ◌∷◌, ◌++◌, Result, Ok, Err, sym, ◌∙◌, ap, subst, append_assoc, append-nil}
-use Rattle.std.specs.Prelude.{IfOk}
+use Rattle.std.specs.Prelude.{IfOk, OnOk}
 use Rattle.dq_lits.specs.Formula.{Dqbf}
 use Rattle.dq_lits.specs.declared.memory.Memory.{Memory}
 use Rattle.cert_judge.specs.Judgement.{IsJudgement}
@@ -43,3 +43,8 @@ ended s text phase (Ok answer) last says stands =
     (stands [] answer (subst (λ b. Gives s.formula s.phase b answer) (sym (append-nil s.unfinished))
     (last answer says)))
 ended s text phase (Err _) last says stands = tt
+
+-- what holds of a call that was answered
+pub goes_on : {E : Type 0} (result : Result (Unit {0}) E) (P Q : Type 0) → OnOk result P → (P → Q) → OnOk result Q
+goes_on (Ok _) P Q holds then = then holds
+goes_on (Err _) P Q holds then = tt

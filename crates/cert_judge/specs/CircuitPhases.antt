@@ -1,5 +1,5 @@
 -- What a line of a circuit's text does, and the first line of its comment.
-use Rattle.std.specs.Prelude.{◌≡◌, ℕ, Bool, List, ◌++◌, true, Option, None, Some, IsSome}
+use Rattle.std.specs.Prelude.{◌≡◌, ℕ, Bool, List, ◌++◌, true, false, Option, None, Some, IsSome}
 use Rattle.dq_lits.specs.Formula.{Dqbf}
 use Rattle.aiger_text.specs.CircuitLines.{CircuitLines}
 use Rattle.circuit_plain.specs.Netlist.{Netlist}
@@ -8,7 +8,7 @@ use Rattle.cert_text.specs.CircuitProof.{circuit_proof_of}
 use Rattle.aiger_text.specs.declared.faults.AagStop.{AagStop}
 use Rattle.aiger_text.specs.declared.faults.AagStop.TheVariants.{Refused as RefusedFile, Memory as NoFile}
 use Rattle.aiger_text.specs.declared.files.AagFile.{AagFile}
-use Rattle.cert_judge.specs.Judgement.{mapping_line, proof_on, BehindProof}
+use Rattle.cert_judge.specs.Judgement.{begins_proof, mapping_line, proof_on, BehindProof}
 use Rattle.cert_judge.specs.Phases.{line_end, AreLinesFrom, CircuitGives, Gives, IsLastUnless, IsLawful}
 use Rattle.cert_judge.specs.Standing.{SaysRead}
 use Rattle.cert_judge.specs.declared.answers.Judgement.{Judgement}
@@ -58,3 +58,9 @@ pub record IsWholeCircuit (l : CircuitLines) : Type 0 where
 abbrev pub IsStoppedPhase : AagStop → Phase → Type 0
 IsStoppedPhase (RefusedFile line name) phase = phase ≡ Decided (Refused line (CircuitFault name))
 IsStoppedPhase NoFile phase = ⊥
+
+-- what a phase gives where the comment to come is no proof
+abbrev pub GivesFreeText : CircuitLines → Phase → Type 0
+GivesFreeText lines phase =
+    (f : Dqbf) (comment behind : List ℕ) (answer : Judgement) → begins_proof comment ≡ false
+    → Gives f phase behind answer → CircuitGives f lines comment answer

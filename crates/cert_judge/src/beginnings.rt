@@ -1,6 +1,7 @@
 //! The lines of a certificate up to its header line, which says what it is.
 
 ghost use Rattle.std.specs.Prelude.{◌≡◌, ◌++◌, ◌≤◌, Ok, OnOk, IfOk, None, Some};
+ghost use Rattle.std.specs.Option.{option_map};
 ghost use Rattle.dq_lits.specs.Formula.{IsWellFormed};
 ghost use Rattle.cert_text.specs.Beginning.{header_number};
 ghost use Rattle.cert_judge.specs.Beginnings.{BeginsAs, Starts, StartsCircuit};
@@ -9,7 +10,7 @@ ghost use Rattle.cert_judge.specs.declared.phases.Phase.TheVariants.{Beginning};
 
 use crate::answers::{CertificateFault, refused};
 use crate::comments::stopped_phase;
-use crate::phases::{Phase, gather};
+use crate::phases::{Phase, boxed, gather};
 use aiger_text::AagLines;
 use aiger_text::laws::circuit_or_first_fault;
 use cert_stream::RefutationStream;
@@ -20,7 +21,27 @@ use std::alloc::Global;
 
 /// Takes a line before the header line, or that line: the phase that follows, if it says which kind
 /// of certificate this is.
-pub(crate) fn begin<'f>(
+pub(crate) fn take_first_line<'f>(
+    alloc: Global,
+    f: &'f Formula,
+    lines: &mut Vec<u8>,
+    missing: &mut CertRefusal,
+    line: &[u8],
+    ended: bool,
+) -> Result<Option<Box<Phase<'f>>>, Memory>
+    requires one_line { HasNoEnd line.now }
+    requires lawful { IsBeginning lines.old.items missing.old }
+    ensures { IfOk result (λ next. BeginsAs f.now lines.old.items line.now ended lines.new.items
+        missing.new (option_map (λ b. b.value) next)) }
+{
+    match begin(alloc, f, lines, missing, line, ended)? {
+        Some(next) => Ok(Some(boxed(alloc, next)?)),
+        None => Ok(None),
+    }
+}
+
+// The same, as it is.
+fn begin<'f>(
     alloc: Global,
     f: &'f Formula,
     lines: &mut Vec<u8>,

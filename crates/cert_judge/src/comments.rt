@@ -12,7 +12,7 @@ ghost use Rattle.cert_judge.specs.Phases.{AreLinesFrom, HasNoEnd, IsJudged, IsLa
 
 use crate::answers::{CertificateFault, Judgement, refused};
 use crate::circuits::begins_proof;
-use crate::phases::Phase;
+use crate::phases::{Phase, boxed};
 use crate::standings::{Standing, standing_of};
 use aiger_text::laws::circuit_or_first_fault;
 use aiger_text::{AagFile, AagLines, AagStop};
@@ -32,21 +32,47 @@ pub(crate) fn take_circuit_line<'f>(
     first: u64,
     lines: &mut AagLines,
     line: &[u8],
-) -> Result<Option<Phase<'f>>, Memory>
+) -> Result<Option<Box<Phase<'f>>>, Memory>
     requires well_formed { IsWellFormed f.now }
     requires one_line { HasNoEnd line.now }
     requires lawful { AreLinesFrom first lines.old }
-    ensures { IfOk result (TakesCircuit f.now first lines.old line.now lines.new) }
+    ensures { IfOk result
+        (λ next. TakesCircuit f.now first lines.old line.now lines.new (option_map (λ b. b.value) next)) }
 {
     if lines.in_comment() {
-        let read = mem::replace(lines, AagLines::new(alloc, first));
-        let next = end_circuit_text(alloc, f, first, read, line)?;
-        return Ok(Some(next));
+        return Ok(Some(leave_circuit(alloc, f, first, lines, line)?));
     }
     match lines.line(line) {
         Ok(()) => Ok(None),
-        Err(stop) => Ok(Some(stopped_phase(stop)?)),
+        Err(stop) => Ok(Some(stop_circuit(alloc, stop)?)),
     }
+}
+
+// Takes the first line of the comment of a circuit whose lines were read, and lets these go.
+fn leave_circuit<'f>(
+    alloc: Global,
+    f: &'f Formula,
+    first: u64,
+    lines: &mut AagLines,
+    line: &[u8],
+) -> Result<Box<Phase<'f>>, Memory>
+    requires well_formed { IsWellFormed f.now }
+    requires one_line { HasNoEnd line.now }
+    requires lawful { AreLinesFrom first lines.old }
+    requires comment { IsWholeCircuit lines.old }
+    ensures lawful { IfOk result (λ next. IsLawful next.value) }
+    ensures follows { IfOk result (λ next. FollowsLine f.now lines.old line.now next.value) }
+{
+    let read = mem::replace(lines, AagLines::new(alloc, first));
+    let next = end_circuit_text(alloc, f, first, read, line)?;
+    boxed(alloc, next)
+}
+
+// What follows where the reading of a circuit stopped.
+fn stop_circuit<'f>(alloc: Global, stop: AagStop) -> Result<Box<Phase<'f>>, Memory>
+    ensures { IfOk result (λ next. IsStoppedPhase stop next.value) }
+{
+    boxed(alloc, stopped_phase(stop)?)
 }
 
 /// What follows where the reading of a circuit stopped.

@@ -16,6 +16,7 @@ mod circuits;
 mod comments;
 mod definitions;
 mod endings;
+mod free_texts;
 mod judging;
 pub mod laws;
 mod phases;

@@ -1,11 +1,13 @@
 //! What was read of a certificate, and what its next line does.
 
-ghost use Rattle.std.specs.Prelude.{◌≡◌, ◌++◌, OnOk};
-ghost use Rattle.dq_lits.specs.Formula.{IsWellFormed};
-ghost use Rattle.cert_judge.specs.Phases.{line_end, next_phase, HasNoEnd, IsLawful, Takes};
+ghost use Rattle.std.specs.Prelude.{◌≡◌, ◌++◌, ℕ, true, List, IfOk, OnOk};
+ghost use Rattle.std.specs.Option.{option_map};
+ghost use Rattle.dq_lits.specs.Formula.{Dqbf, IsWellFormed};
+ghost use Rattle.cert_judge.specs.Phases.{line_end, next_phase, Gives, HasNoEnd, IsLawful, Takes};
+ghost use Rattle.cert_judge.specs.declared.answers.Judgement.{Judgement as Answer};
 
 use crate::answers::Judgement;
-use crate::beginnings::begin;
+use crate::beginnings::take_first_line;
 use crate::comments::take_circuit_line;
 use aiger_text::{AagFile, AagLines};
 use cert_stream::{ProofStream, RefutationStream};
@@ -87,7 +89,7 @@ pub(crate) fn take_line<'f>(
         Phase::Binary { text, .. } => gather(text, line, ended),
         Phase::Definitions { text, .. } => gather(text, line, ended),
         Phase::Beginning { lines, missing } => {
-            let next = begin(alloc, f, lines, missing, line, ended)?;
+            let next = take_first_line(alloc, f, lines, missing, line, ended)?;
             turn(phase, next);
             Ok(())
         }
@@ -97,12 +99,27 @@ pub(crate) fn take_line<'f>(
     }
 }
 
-fn turn<'f>(phase: &mut Phase<'f>, next: Option<Phase<'f>>)
-    ensures { phase.new ≡ next_phase phase.old next.entry }
+// A phase is large, and a call pays for each that it may have in hand: what most lines call knows
+// the next one in a box.
+fn turn<'f>(phase: &mut Phase<'f>, next: Option<Box<Phase<'f>>>)
+    ensures { phase.new ≡ next_phase phase.old (option_map (λ b. b.value) next.entry) }
 {
     if let Some(next) = next {
-        put(phase, next);
+        unbox(phase, next);
     }
+}
+
+fn unbox<'f>(phase: &mut Phase<'f>, next: Box<Phase<'f>>)
+    ensures { phase.new ≡ next.entry.value }
+{
+    put(phase, Box::into_inner(next));
+}
+
+/// The next phase in a box.
+pub(crate) fn boxed<'f>(alloc: Global, next: Phase<'f>) -> Result<Box<Phase<'f>>, Memory>
+    ensures { IfOk result (λ b. b.value ≡ next.entry) }
+{
+    Ok(Box::new(alloc, next)?)
 }
 
 /// Puts a phase in the place of another, which is let go by a call: where a value goes out of scope
@@ -111,6 +128,24 @@ pub(crate) fn put<'f>(phase: &mut Phase<'f>, next: Phase<'f>)
     ensures { phase.new ≡ next.entry }
 {
     drop(mem::replace(phase, next));
+}
+
+/// Whether nothing that comes changes what is said.
+pub(crate) fn is_settled(phase: &Phase) -> bool
+    ensures { result ≡ true → (f : Dqbf) (some other : List ℕ) (answer : Answer)
+        → Gives f phase.now some answer → Gives f phase.now other answer }
+{
+    match phase {
+        Phase::Refutation(refutation) => refutation.is_settled(),
+        Phase::Proof { proof, .. } => proof.is_settled(),
+        Phase::FreeText { .. } => true,
+        Phase::Decided(_) => true,
+        Phase::NoMemory => true,
+        Phase::Beginning { .. } => false,
+        Phase::Circuit { .. } => false,
+        Phase::Binary { .. } => false,
+        Phase::Definitions { .. } => false,
+    }
 }
 
 /// Puts a line behind a text.

@@ -1,7 +1,7 @@
 //! Certificates that come in pieces.
 
 ghost use Rattle.std.specs.Prelude.{◌≡◌, ◌++◌, [], ℕ, List, OnOk, MatchOption, IfOk};
-ghost use Rattle.dq_lits.specs.Formula.{IsWellFormed};
+ghost use Rattle.dq_lits.specs.Formula.{Dqbf, IsWellFormed};
 ghost use Rattle.cert_judge.specs.Judgement.{IsJudgement};
 ghost use Rattle.cert_judge.specs.Phases.{Gives, HasNoEnd, IsLawful};
 ghost use Rattle.cert_judge.specs.Streams.{IsCut, IsTaken, StandsFor};
@@ -9,7 +9,8 @@ ghost use Rattle.cert_judge.specs.declared.answers.Judgement.{Judgement as Answe
 
 use crate::answers::Judgement;
 use crate::endings::finish;
-use crate::phases::{Phase, put, take_line};
+use crate::free_texts::pass_over;
+use crate::phases::{Phase, is_settled, put, take_line};
 use cert_text::{CertFault, CertRefusal};
 use dq_formula::Formula;
 use dq_io::Feed;
@@ -20,9 +21,10 @@ use std::marker::Model;
 
 /// Judges a certificate for a formula as it comes, however it is cut.
 ///
-/// It holds the line whose end didn't come yet, a refutation's rows or the circuit, which ids are
-/// live, and the lines that are live; of a circuit in the binary form and of definitions it keeps
-/// all bytes. What is wrong with the certificate, and want of memory, is told at the end.
+/// It holds the line whose end didn't come yet, unless nothing that comes changes what is said, a
+/// refutation's rows or the circuit, which ids are live, and the lines that are live; of a circuit in
+/// the binary form and of definitions it keeps all bytes. What is wrong with the certificate, and want
+/// of memory, is told at the end.
 #[derive(Drop)]
 pub struct Stream<'f> {
     alloc: Global,
@@ -123,6 +125,22 @@ fn take_piece<'f>(
     while let Some((line, behind)) = cut_line(rest) {
         take_next(alloc, f, phase, unfinished, line)?;
         rest = behind;
+    }
+    keep_rest(phase, unfinished, rest)?;
+    pass_over(alloc, phase, unfinished)
+}
+
+// Keeps the bytes of a line whose LF didn't come yet, unless nothing that comes changes what is said.
+fn keep_rest(phase: &Phase, unfinished: &mut Vec<u8>, rest: &[u8]) -> Result<(), Memory>
+    requires begun { HasNoEnd unfinished.old.items }
+    requires one_line { HasNoEnd rest.now }
+    ensures gives { OnOk result ((f : Dqbf) (bytes : List ℕ) (answer : Answer)
+        → Gives f phase.now (unfinished.new.items ++ bytes) answer
+        → Gives f phase.now (unfinished.old.items ++ (rest.now ++ bytes)) answer) }
+    ensures one_line { OnOk result (HasNoEnd unfinished.new.items) }
+{
+    if is_settled(phase) {
+        return Ok(());
     }
     unfinished.extend_from_slice(rest)?;
     Ok(())

@@ -14,9 +14,9 @@ returns-in-Ok c =
           c.in-Ok.ensures.going c.args.f.now,
     )
 
-pub returns-in_ok-stopped_phase-in-Err : goal.returns-in_ok-stopped_phase-in-Err
-returns-in_ok-stopped_phase-in-Err c =
+pub returns-in_ok-stop_circuit-in-Err : goal.returns-in_ok-stop_circuit-in-Err
+returns-in_ok-stop_circuit-in-Err c =
     stop_taken c.args.f.now c.args.lines.now c.args.line.now c.line.new.self c.in-Err.stop
-    c.in_ok-stopped_phase-in-Err.field-0 c.requires.one_line
+    c.in_ok-stop_circuit-in-Err.field-0.value c.requires.one_line
     (sym c.in_comment.ensures.comment ∙ c.if-in_comment.false) c.requires.lawful.reads c.in-Err.ensures.line
-    c.in_ok-stopped_phase-in-Err.ensures
+    c.in_ok-stop_circuit-in-Err.ensures

@@ -1,4 +1,5 @@
 use Rattle.std.proofs.Common.{◌++◌, sym, subst}
+use Rattle.std.specs.Option.{option_map}
 use Rattle.cert_judge.specs.Phases.{line_end, Gives, Takes}
 use Rattle.cert_judge.proofs.CommentLines.{proof_takes}
 use Rattle.cert_judge.proofs.Starts.{refutation_takes}
@@ -26,4 +27,4 @@ returns-in_ok-next-in-Circuit-clause-takes c =
     let after = c.turn.new.phase in
     subst (λ p. Takes f p text c.args.ended after) (sym c.in-Circuit.is)
     (circuit_takes f c.in-Circuit.first c.in-Circuit.lines c.take_circuit_line.new.lines text
-    c.in_ok-next-in-Circuit.next after c.in_ok-next-in-Circuit.ensures c.turn.ensures c.args.ended)
+    (option_map (λ b. b.value) c.in_ok-next-in-Circuit.next) after c.in_ok-next-in-Circuit.ensures c.turn.ensures c.args.ended)

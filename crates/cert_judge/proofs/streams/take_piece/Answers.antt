@@ -1,7 +1,7 @@
 use Rattle.std.proofs.Common.{◌≢◌, ◌++◌, ℕ, sym, subst}
-use Rattle.std.proofs.lemmas.List.Elements.{All-append, All-nil}
+use Rattle.std.proofs.lemmas.List.Elements.{All-nil}
 use Rattle.cert_judge.specs.Phases.{Gives, HasNoEnd}
-use Rattle.cert_judge.proofs.Pieces.{line_back, rest_back}
+use Rattle.cert_judge.proofs.Pieces.{goes_on, line_back}
 use Rattle.cert_judge.proofs.streams.take_piece.Goals as goal
 
 abbrev NoFeed : ℕ → Type 0
@@ -26,13 +26,7 @@ loop-line-preserved c =
     }
 
 pub returns-clause-gives : goal.returns-clause-gives
-returns-clause-gives c bytes answer says =
-    c.loop-line.invariant.gives bytes answer
-    (rest_back c.args.f.now c.loop-line.phase c.loop-line.unfinished.items c.loop-line.rest.now
-    c.extend_from_slice.new.self.items bytes answer c.in_ok-extend_from_slice.ensures.items says)
-
-pub returns-clause-one_line : goal.returns-clause-one_line
-returns-clause-one_line c =
-    subst HasNoEnd (sym c.in_ok-extend_from_slice.ensures.items)
-    (All-append NoFeed c.loop-line.unfinished.items c.loop-line.rest.now c.loop-line.invariant.one_line
-    c.in_default.ensures)
+returns-clause-gives c =
+    goes_on c.pass_over.result _ _ c.pass_over.ensures.gives
+    (λ passes bytes answer says. c.loop-line.invariant.gives bytes answer
+    (c.in_ok-keep_rest.ensures.gives c.args.f.now bytes answer (passes c.args.f.now bytes answer says)))

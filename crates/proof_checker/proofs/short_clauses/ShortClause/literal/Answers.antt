@@ -1,4 +1,4 @@
-use Rattle.std.proofs.Common.{length, ap, ◌∙◌, arith}
+use Rattle.std.proofs.Common.{arith}
 use Rattle.proof_checker.proofs.ShortenedClauses.{count_below}
 use Rattle.proof_checker.proofs.short_clauses.ShortClause.literal.Goals as goal
 
