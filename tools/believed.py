@@ -25,8 +25,9 @@ WHOLE = "all clauses of `dqcheck_run` and `dqsolve_run`"
 
 # What is asked, and from where the names are followed.
 QUESTIONS = (
-    ("what `VALID` says, on the headline's page", ["dqcheck_core::dqcheck_run.headline"]),
-    ("what `solve` says by 10 and 20, on the same page", ["dqsolve_core::dqsolve_run.headline"]),
+    ("`VALID TRUE`, `VALID FALSE` and `VALID DEFINED`, on the headline's page", ["dqcheck_core::dqcheck_run.headline"]),
+    ("10 and 20 of `solve`, on the headline's page", ["dqsolve_core::dqsolve_run.headline"]),
+    ("10 and 20 of `pec`, on the page on black boxes", ["dqsolve_core::dqsolve_run.boxes"]),
     ("`VALID TRUE`: the outputs are Skolem functions of the formula", TOLD + ["dqcheck_core::IsProvedTrue.circuit,is_true,written"]),
     ("`VALID FALSE`: the formula is false", TOLD + ["dqcheck_core::IsProvedFalse.is_false,written"]),
     ("`VALID DEFINED D FREE R`", TOLD + ["dqcheck_core::IsProvedDefined.counts,definitions,written"]),

@@ -7,7 +7,7 @@ use Rattle.cert_judge.specs.Judgement.{HoldsRightDefinitions, HoldsSkolemCircuit
 use Rattle.headline.specs.Headline.{AreDefined, Formula, HoldsSkolem, defined_line, existentials_of, false_line, true_line}
 use Rattle.headline_laws.specs.Formulas.{IsOnPage}
 use Rattle.dqcheck_core.specs.OnePage.{ShowsHeadline}
-use Rattle.dqcheck_core.specs.Told.{IsAcceptance, IsProvedTrue, IsProvedFalse, IsProvedDefined}
+use Rattle.dqcheck_core.specs.Told.{IsAcceptance}
 
 -- what the page's laws give
 pub record PageLaw : Type 0 where

@@ -2,6 +2,7 @@ pub mod CircuitRuns
 pub mod CommentLines
 pub mod OneAnswer
 pub mod OnePage
+pub mod BoxPage
 pub mod OneReading
 pub mod Runs
 pub mod Statuses

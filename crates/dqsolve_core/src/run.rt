@@ -7,22 +7,25 @@
 
 ghost use Rattle.std.specs.Prelude.{◌≡◌, ℕ, ◌≤◌, ◌⊎◌, List, [], map, string_bytes, Some, IfOk};
 ghost use Rattle.dq_io.specs.State.{state_of};
+ghost use Rattle.headline.specs.BlackBoxes.{AnswersBoxes};
 ghost use Rattle.dq_lits.specs.Formula.{IsWellFormed};
 ghost use Rattle.cert_text.specs.Header.{max_count};
 ghost use Rattle.hint_log.specs.ProductiveLog.{IsProductiveLog};
 ghost use Rattle.planted_formulas.specs.Planted.{planted_formula};
 ghost use Rattle.dq_runs.specs.Ending.{Ends, HasCauses};
 ghost use Rattle.dq_runs.specs.Sinks.{sink_of};
-ghost use Rattle.dqsolve_words.specs.Command.{Command, solve, pec, defined, session, most_seed, least_size, most_size, default_steps};
+ghost use Rattle.dqsolve_words.specs.Command.{Command, Comparison, solve, pec, defined, session, most_seed, least_size, most_size, default_steps};
 ghost use Rattle.dqsolve_words.specs.Spelling.{spelled_command};
 ghost use Rattle.dqsolve_words.specs.Words.{options_of, search_of, planting_of, comparison_of, defining_of, session_of};
 ghost use Rattle.dqsolve_core.specs.OnePage.{ShowsHeadline};
 ghost use Rattle.dqsolve_core.specs.Outputs.{IsReported, IsSolveOutput, IsSolveLog, IsDemoOutput};
 ghost use Rattle.dqsolve_core.specs.Report.{form_of};
 ghost use Rattle.dqsolve_core.specs.Running.{IsDue, IsRunLog, IsOwnLog, steps_asked};
+ghost use Rattle.dqsolve_core.specs.ToldCircuits.{AreCircuitsTold};
 ghost use Rattle.dqsolve_core.specs.Told.{IsTold, ShowsTold};
 
 use crate::demos::demo_output;
+use box_laws::laws::designs_are_on_the_page;
 use definition_runs::define_file;
 use dq_formula::Formula;
 use dq_io::{Files, Sink};
@@ -100,6 +103,13 @@ pub fn dqsolve_run<F: Files, K: Sink>(
         → (result ≡ 10) ⊎ (result ≡ 20) → ShowsHeadline formula (sink_of K.Sink out.old).taken
         (sink_of K.Sink out.new).taken result }
 
+    // On the page of black boxes: over two circuits that are told, 10 and 20 are right of their
+    // texts.
+    ensures boxes { (c : Comparison) (specification implementation : List ℕ)
+        → spelled_command (map string_bytes words.now) ≡ Some (pec c)
+        → AreCircuitsTold (F.held files.old) c.circuits specification implementation
+        → (result ≡ 10) ⊎ (result ≡ 20) → AnswersBoxes specification implementation result }
+
     // Each refusal has its cause, and no fault is passed over, over all files and sinks.
     ensures causes { HasCauses (spelled_command (map string_bytes words.now))
         (state_of F.Files files.old) (state_of F.Files files.new)
@@ -110,6 +120,7 @@ pub fn dqsolve_run<F: Files, K: Sink>(
     fitting_boxes_choose();
     formulas_are_on_the_page();
     accepted_circuits_are_on_the_page();
+    designs_are_on_the_page();
     let output = report(alloc, words, files, log);
     deliver(out, output)
 }

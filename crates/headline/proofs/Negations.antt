@@ -1,5 +1,5 @@
 -- The examples of a negation: a circuit in the binary form, whose output is a negated input.
-use Rattle.std.proofs.Common.{◌≡◌, ◌≢◌, ℕ, zero, suc, ◌/◌, ◌<◌, ◌==◌, Bool, true, false, not, ◌&&◌, ◌||◌, List, [], ◌∷◌, codes, inl, inr, refl, sym, ◌∙◌, ap, arith}
+use Rattle.std.proofs.Common.{◌≡◌, ◌≢◌, ℕ, zero, suc, ◌/◌, ◌<◌, ◌==◌, Bool, true, false, not, ◌&&◌, ◌||◌, List, [], ◌∷◌, codes, inl, inr, refl, ◌∙◌, ap, arith}
 use Rattle.std.specs.List.{All, AllPairs, Contains, list_all}
 use Rattle.std.proofs.lemmas.Bool.{and_parts, eq-eqb}
 use Rattle.headline.specs.Examples.{negated_text, negated_wire, opposites}

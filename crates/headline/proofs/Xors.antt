@@ -1,5 +1,5 @@
 -- The examples of an odd number.
-use Rattle.std.proofs.Common.{◌≡◌, ℕ, zero, suc, ◌==◌, Bool, true, false, not, ◌&&◌, ◌||◌, cond, List, [], ◌∷◌, map, refl, arith}
+use Rattle.std.proofs.Common.{◌≡◌, zero, suc, ◌==◌, Bool, true, false, not, ◌&&◌, ◌||◌, cond, [], map, refl, arith}
 use Rattle.std.specs.List.{All}
 use Rattle.headline.specs.Examples.{both_and_one, one_of_two}
 use Rattle.headline.specs.Headline.{Existential, IsFalseFormula, IsTrueFormula, existentials_of}

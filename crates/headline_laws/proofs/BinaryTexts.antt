@@ -10,7 +10,7 @@ use Rattle.aig_binary.specs.Gates.{SpellsGate, SpellsGates}
 use Rattle.aig_binary.specs.Grammar.{EndsOn, SpellsOutputs, SpellsBinary as IsReadBinary}
 use Rattle.cert_text.specs.Beginning.{Begins, header_place, verdict_word}
 use Rattle.cert_text.specs.declared.kinds.Kind.{Kind}
-use Rattle.headline.specs.Headline.{Gate, AreGateCodes, AreLinesBefore, IsDifference, IsEnd, IsGateCode, IsVerdict, Spells, SpellsBinary, natural, lines, with_feeds, words}
+use Rattle.headline.specs.Headline.{Gate, AreGateCodes, AreLinesBefore, IsDifference, IsEnd, IsGateCode, IsVerdict, Spells, SpellsBinary, natural, with_feeds, words}
 use Rattle.skolem_checker.proofs.NamedMappings.{same_name}
 use Rattle.headline_laws.proofs.AsciiTexts.{body_lines, drop_first, header_spelled, split}
 use Rattle.headline_laws.proofs.Circuits.{page_circuit, page_gate}

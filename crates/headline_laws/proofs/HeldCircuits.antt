@@ -1,5 +1,5 @@
 -- A certificate that holds a Skolem circuit holds one on the page.
-use Rattle.std.proofs.Common.{◌≡◌, ℕ, List, map, drop, ◌⊎◌, inl, inr, ◌↔◌, Option, Some, Result, Ok, Err, codes, refl, sym, ◌∙◌, ap, subst}
+use Rattle.std.proofs.Common.{◌≡◌, ℕ, List, map, drop, ◌⊎◌, inl, inr, ◌↔◌, Result, Ok, Err, refl, subst}
 use Rattle.std.specs.List.{All}
 use Rattle.dq_lits.specs.Formula.{Dqbf, HasLawfulPrefix}
 use Rattle.dq_lits.specs.Henkin.{MatrixHolds}

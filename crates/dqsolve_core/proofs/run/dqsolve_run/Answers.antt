@@ -1,10 +1,11 @@
-use Rattle.std.proofs.Common.{map, string_bytes}
+use Rattle.std.proofs.Common.{arith, inr, map, refl, string_bytes}
 use Rattle.dq_io.specs.State.{state_of}
 use Rattle.dq_runs.specs.Sinks.{sink_of}
 use Rattle.dqsolve_words.specs.Spelling.{spelled_command}
 use Rattle.dqsolve_core.proofs.Runs.{ends, causes, own_log}
 use Rattle.dqsolve_core.proofs.DefinedRuns.{defines_told}
-use Rattle.dqsolve_core.proofs.OnePage.{is_verdict, shows}
+use Rattle.dqsolve_core.proofs.BoxPage.{shows_boxes}
+use Rattle.dqsolve_core.proofs.OnePage.{is_verdict, no_other, shows}
 use Rattle.dqsolve_core.proofs.SessionRuns.{converses_told}
 use Rattle.dqsolve_core.proofs.ToldDesigns.{compares_told}
 use Rattle.dqsolve_core.proofs.ToldFiles.{solves_told}
@@ -73,6 +74,16 @@ returns-clause-headline g c formula told either =
     formula c.report-output.new.log told.command (sink_of g.K.Sink c.args.out.now).taken
     (sink_of g.K.Sink c.deliver.new.out).taken status either
     ((returns-clause-told g c).formula.right formula told (is_verdict status either))
+
+pub returns-clause-boxes : goal.returns-clause-boxes
+returns-clause-boxes g c command specification implementation asked told either =
+    let status = c.deliver.result in
+    shows_boxes c.designs_are_on_the_page.ensures (spelled_command (map string_bytes c.args.words.now)) command
+    specification implementation c.report-output.new.log (sink_of g.K.Sink c.args.out.now).taken
+    (sink_of g.K.Sink c.deliver.new.out).taken status asked either
+    ((returns-clause-told g c).circuits.answered command.circuits specification implementation
+    (inr (command, asked, refl)) told (no_other status 3 either (λ e. omega (arith, e)) (λ e. omega (arith, e)))
+    (no_other status 4 either (λ e. omega (arith, e)) (λ e. omega (arith, e))) (no_other status 5 either (λ e. omega (arith, e)) (λ e. omega (arith, e))))
 
 pub returns-clause-causes : goal.returns-clause-causes
 returns-clause-causes g c =

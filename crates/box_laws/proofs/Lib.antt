@@ -1,0 +1,4 @@
+pub mod StatedBoxes
+pub mod BoxTexts
+pub mod LawfulDesigns
+pub mod FittingContents
