@@ -18,7 +18,7 @@ ghost use Rattle.cdcl_core.specs.Watching.{IsWatched, IsReady, IsGuarded, AreLev
 use crate::arenas::Arena;
 use crate::cursors::Cursors;
 use crate::propagation::propagate;
-use crate::watches::{Watches, add_watch, make_lists, make_room, no_watches};
+use crate::watches::{Watches, add_watch, is_watched, make_lists, make_room, no_watches};
 use dq_lits::{Lit, Memory};
 use learning_trail::{Clauses, Code, Trail};
 use std::alloc::Global;
@@ -114,6 +114,12 @@ impl ClauseStore {
             first: self.first.literals[id as usize - 1],
             second: self.second.literals[id as usize - 1],
         }
+    }
+
+    /// Whether some clause is watched at the negation of a literal.
+    pub(crate) fn is_opposed(&self, l: Code) -> bool {
+        let negation = Code::of(l.lit().not());
+        is_watched(&self.first, negation) || is_watched(&self.second, negation)
     }
 
     /// A place to decide a literal of the next clause from, if it is long.

@@ -18,7 +18,9 @@ ghost use Rattle.cdcl_core.specs.Passes.{AreTrueWithin};
 use crate::clauses::{ClauseStore, Watched};
 use crate::positions::{Positions, Span};
 use dq_lits::Lit;
-use learning_trail::{Activities, Clauses, Code, Trail, is_true, next_not_false, open_literal_at};
+use learning_trail::{
+    Activities, Clauses, Code, Trail, is_false, is_true, next_not_false, open_literal_at,
+};
 
 /// A clause that has no true literal, and a literal of it without a value.
 #[derive(Clone, Copy)]
@@ -160,9 +162,23 @@ fn place_in(trail: &Trail, clauses: &ClauseStore, lits: &[Code], id: u64) -> usi
     requires { All (λ l. variable_of l ≤ trail.now.room) lits.now }
 {
     match clauses.cursor(id, lits) {
-        Some(from) => next_not_false(trail, lits, from),
+        Some(from) => next_opposed(trail, clauses, lits, from),
         None => lits.len(),
     }
+}
+
+// The place itself, where its literal isn't false; else the next one of a literal that isn't false and
+// whose negation some clause is watched at. Where there is none, the next one of a literal that isn't
+// false: a literal that no clause opposes can always be made true, and nothing is learned from it.
+fn next_opposed(trail: &Trail, clauses: &ClauseStore, lits: &[Code], from: usize) -> usize
+    requires { All (λ l. variable_of l ≤ trail.now.room) lits.now }
+{
+    for place in from..lits.len() {
+        if !is_false(trail, lits[place]) && (place == from || clauses.is_opposed(lits[place])) {
+            return place;
+        }
+    }
+    next_not_false(trail, lits, from)
 }
 
 // Whether one of two literals is true, where they differ.

@@ -125,6 +125,11 @@ pub(crate) fn has_list(watches: &Watches, l: Code) -> bool
     l.place() < watches.heads.len()
 }
 
+/// Whether some clause is on a literal's list.
+pub(crate) fn is_watched(watches: &Watches, l: Code) -> bool {
+    has_list(watches, l) && watches.heads.get(l.place()) != 0
+}
+
 /// The first clause of a literal's list, all of which are left to visit.
 pub(crate) fn first_of(watches: &Watches, l: Code) -> u64
     requires linked { IsLinked watches.now 0 [] }
