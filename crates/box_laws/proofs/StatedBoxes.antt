@@ -1,5 +1,5 @@
 -- The lines that the reader takes boxes from spell them on the page.
-use Rattle.std.proofs.Common.{◌≡◌, ℕ, zero, suc, ◌+◌, ◌<◌, ◌≤◌, ◌^◌, pos, negsuc, nat_lt, Bool, true, false, cond, List, [], ◌∷◌, ◌++◌, length, map, take, drop, Option, Some, None, Result, Ok, Err, codes, refl, sym, ◌∙◌, ap, subst, arith, append_assoc, append-nil, length-append, length-drop}
+use Rattle.std.proofs.Common.{◌≡◌, ℕ, zero, suc, ◌+◌, ◌<◌, ◌≤◌, ◌^◌, nat_lt, Bool, true, false, cond, List, [], ◌∷◌, ◌++◌, length, map, take, drop, Option, Some, None, Result, Ok, Err, codes, refl, sym, ◌∙◌, ap, subst, arith, append_assoc, append-nil, length-append, length-drop}
 use Rattle.std.specs.List.{AllZip}
 use Rattle.std.specs.Option.{option_and_then, option_map}
 use Rattle.std.specs.Prelude.{slice_index}
@@ -10,9 +10,8 @@ use Rattle.std.proofs.lemmas.Slice.Eq.{bytes_eq-Decides}
 use Rattle.circuit_plain.specs.Netlist.{Netlist}
 use Rattle.list_laws.proofs.Options.{some_same, then_some}
 use Rattle.dq_text.specs.Line.{TextLine, line_tokens}
-use Rattle.dq_text.specs.Number.{begins_with_minus, natural_number, natural_of, number_of}
-use Rattle.dq_text.specs.declared.numbers.Number.{Number}
-use Rattle.dq_text.specs.declared.numbers.Number.TheVariants.{Int, NotANumber, TooBig}
+use Rattle.dq_text.specs.Number.{natural_of}
+use Rattle.dq_text.proofs.Naturals.{natural_spelled as number_spelled}
 use Rattle.headline.specs.BlackBoxes.{Box, box_symbols}
 use Rattle.headline.specs.Headline.{Spells, natural, word}
 use Rattle.headline_laws.proofs.Symbols.{natural_number as natural_spelled}
@@ -27,17 +26,9 @@ page_box box = record { reads = box.ins; drives = box.outs }
 
 -- ---- numbers
 
-number_so : (minus : Bool) (number : Number) (n : ℕ) → natural_number minus number ≡ Some n → n < 10 ^ 18 →
-    number ≡ Int (pos n)
-number_so minus NotANumber n h small = cc
-number_so true TooBig n h small = cc
-number_so false TooBig n h small = let large = some_same (10 ^ 18) n h in absurd (omega (arith, large, small))
-number_so minus (Int (pos k)) n h small = ap (λ x. Int (pos x)) (some_same k n h)
-number_so minus (Int (negsuc k)) n h small = cc
-
 spells_number : (token : List ℕ) (n : ℕ) → natural_of token ≡ Some n → n < 10 ^ 18 → Spells token (natural n)
 spells_number token n h small =
-    natural_spelled token n (number_so (begins_with_minus token) (number_of token) n h small)
+    natural_spelled token n (number_spelled token n h small)
 
 small_spelled : (token : List ℕ) (n : ℕ) → small_number token ≡ Some n → Spells token (natural n)
 small_spelled token n h =

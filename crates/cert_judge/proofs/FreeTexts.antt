@@ -12,6 +12,7 @@ use Rattle.cert_text.specs.declared.versions.Version.TheVariants.{One, Two}
 use Rattle.cert_judge.specs.Judgement.{begins_proof, begins_with, first_line}
 use Rattle.cert_judge.specs.Phases.{HasNoEnd}
 use Rattle.cert_judge.proofs.CommentLines.{fed_line_first, one_line_first}
+use Rattle.list_laws.proofs.Truths.{both_false, false_unless}
 
 -- The first word of bytes, as others come behind them: where it isn't the last one it is as it was.
 pub record FirstWord (bytes more token : List ℕ) (tokens : List (List ℕ)) : Type 0 where
@@ -181,9 +182,6 @@ pub record IsNoProof (token : List ℕ) (tokens : List (List ℕ)) : Type 0 wher
   pub one : (added : List ℕ) → (tokens ≢ [] → added ≡ []) → bytes_eq (token ++ added) (proof_word One) ≡ false
   pub two : (added : List ℕ) → (tokens ≢ [] → added ≡ []) → bytes_eq (token ++ added) (proof_word Two) ≡ false
 
-neither : (a b : Bool) → a ≡ false → b ≡ false → (a || b) ≡ false
-neither a b a_is b_is = ap (λ t. t || b) a_is ∙ b_is
-
 pub no_proof : (bytes : List ℕ) (token : List ℕ) (tokens : List (List ℕ)) → HasNoEnd bytes →
     line_tokens bytes ≡ token ∷ tokens → IsNoProof token tokens → (more : List ℕ) → begins_proof (bytes ++ more) ≡ false
 no_proof bytes token tokens free is not_one more =
@@ -192,12 +190,8 @@ no_proof bytes token tokens free is not_one more =
     ap (λ line. begins_with (proof_word One) (line_tokens line) || begins_with (proof_word Two) (line_tokens line))
     (first_line_of bytes more free c)
     ∙ ap (λ ts. begins_with (proof_word One) ts || begins_with (proof_word Two) ts) word.is
-    ∙ neither (bytes_eq (token ++ word.added) (proof_word One)) (bytes_eq (token ++ word.added) (proof_word Two))
+    ∙ both_false (bytes_eq (token ++ word.added) (proof_word One)) (bytes_eq (token ++ word.added) (proof_word Two))
     (not_one.one word.added word.whole) (not_one.two word.added word.whole)
-
-false_unless : (b : Bool) → (b ≡ true → ⊥) → b ≡ false
-false_unless true wrong = absurd (wrong refl)
-false_unless false wrong = refl
 
 not_longer : (token added word : List ℕ) → length word < length token → bytes_eq (token ++ added) word ≡ false
 not_longer token added word less =
