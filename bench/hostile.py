@@ -221,6 +221,11 @@ def long_circuit_comment(n):
     return formula(1, 2, ["2 -1", "-2 1"]), lines("aig 1 1 0 1 0", 2, "c", "x" * n)
 
 
+def long_ascii_comment(n):
+    """A circuit with so many bytes of comment in one line."""
+    return formula(1, 2, ["2 -1", "-2 1"]), lines("aag 1 1 0 1 0", 2, 2, "c", "x" * n)
+
+
 @dataclass
 class Kind:
     """A kind of texts: what is run on them, a size, and the status by its making."""
@@ -265,6 +270,7 @@ KINDS = [
     Kind(CHECK, binary_deleted_lines, 500_000, DONE),
     Kind(CHECK, long_comment, 20_000_000, DONE),
     Kind(CHECK, long_circuit_comment, 20_000_000, DONE),
+    Kind(CHECK, long_ascii_comment, 20_000_000, DONE),
     Kind(CHECK, pair_blocks, 250, DONE),
 ]
 
