@@ -104,7 +104,7 @@ are_failing f gates leaf sel values old log new learned model gates_on sel_on kn
   gates = λ v a b is. gate v a b (names v (And a b) is);
   j = j;
   among = among;
-  is_false = by (given.all j among);
+  is_false = by (given.all j among refl);
 } where
   true_there : (o : Origin) (c : List Literal) → Contains log.entries (Given o c) → clause_true values c ≡ true
   true_there o c inside =

@@ -1,5 +1,5 @@
 -- What a new group says of the clauses, call by call.
-use Rattle.std.proofs.Common.{◌≡◌, ℕ, zero, suc, ◌+◌, ◌≤◌, ◌<◌, true, false, inl, inr, List, [], ◌∷◌, map, length, get_or, Option, Some, None, refl, sym, ◌∙◌, ap, subst, arith}
+use Rattle.std.proofs.Common.{◌≡◌, ℕ, Bool, zero, suc, ◌+◌, ◌≤◌, ◌<◌, true, false, inl, inr, List, [], ◌∷◌, map, length, get_or, Option, Some, None, refl, sym, ◌∙◌, ap, subst, arith}
 use Rattle.std.specs.List.{range_with_len}
 use Rattle.std.specs.Option.{option_map}
 use Rattle.std.proofs.lemmas.Bool.{false≢true}
@@ -23,7 +23,7 @@ use Rattle.log_laws.specs.Engines.{circuits, IsAddedBy, LeavesRest}
 use Rattle.log_laws.proofs.Found.{named_variable}
 use Rattle.log_laws.proofs.LargerLogs.{leaves_rest, grown_then}
 use Rattle.log_laws.proofs.Kept.{NamesStay, named_stay}
-use Rattle.circuit_cnf.specs.Faults.{HaveOneLeaf, AreFewWith, IsBadAt, HaveAllFaults, IsFaulted, IsNamingBads, AreGiven, AreGivenUpTo, AreNamedAndSaid, AreSaid}
+use Rattle.circuit_cnf.specs.Faults.{HaveOneLeaf, AreFewWith, IsBadAt, HasItsFaults, HaveChosenFaults, IsNamingBads, AreGiven, AreChosenGiven, AreNamedAndSaid, AreSaid}
 use Rattle.circuit_cnf.proofs.NamedBads.{bad_name}
 use Rattle.circuit_cnf.proofs.ClauseFaults.{fault_stays}
 
@@ -124,22 +124,21 @@ pub bads_stay : (old new : List Entry) (group count : ℕ) (bads : List Literal)
 bads_stay old new group count bads names are = named_stay old new (λ v n h. names v ∙ h) bads
     (map (bad_name group) (range_with_len 1 count)) are
 
--- that some clause is false is given behind the faults of the first clauses
-pub given_up_to : (f : Dqbf) (group : ℕ) (leaf : ℕ → Leaf) (bads : List Literal) (count : ℕ) (log new : ProofLog) →
-    HaveAllFaults f group bads leaf count log.entries →
+-- that some clause is false is given behind the faults of the chosen clauses
+pub chosen_given : (f : Dqbf) (group : ℕ) (leaf : ℕ → Leaf) (bads : List Literal) (chosen : ℕ → Bool)
+    (log new : ProofLog) → HaveChosenFaults f group bads leaf chosen log.entries →
     new ≡ with_entry log (Given (Fault 0 0 (Constant false)) (negative group ∷ bads)) →
-    AreGivenUpTo f group leaf bads count new.entries
-given_up_to f group leaf bads count log new all is =
-    subst (AreGivenUpTo f group leaf bads count) (sym (ap (λ (l : ProofLog). l.entries) is)) (record {
+    AreChosenGiven f group leaf bads chosen new.entries
+chosen_given f group leaf bads chosen log new all is =
+    subst (AreChosenGiven f group leaf bads chosen) (sym (ap (λ (l : ProofLog). l.entries) is)) (record {
       some = contains_first e log.entries;
-      all = λ j below. by j (all j below);
+      all = λ j below mine. by j (all j below mine);
     }) where
       e : Entry
       e = Given (Fault 0 0 (Constant false)) (negative group ∷ bads)
 
-      by : (j : ℕ) → IsFaulted f group (variable_of (get_or bads j (positive 0))) (j + 1) leaf (get_or f.matrix j [])
-          log.entries → IsFaulted f group (variable_of (get_or bads j (positive 0))) (j + 1) leaf
-          (get_or f.matrix j []) (e ∷ log.entries)
+      by : (j : ℕ) → HasItsFaults f group bads leaf j log.entries →
+          HasItsFaults f group bads leaf j (e ∷ log.entries)
       by j (inl have) = inl (λ i l small at. fault_stays group (variable_of (get_or bads j (positive 0))) (j + 1)
           (i + 1) l (leaf (variable_of l)) e log.entries (have i l small at))
       by j (inr never) = inr (
@@ -149,13 +148,14 @@ given_up_to f group leaf bads count log new all is =
       )
 
 -- where all clauses have their faults, the group says what it is to say
-pub all_given : (f : Dqbf) (group : ℕ) (leaf : ℕ → Leaf) (bads : List Literal) (count : ℕ) (es : List Entry) →
-    count ≡ length f.matrix → AreNamedAs es bads (map (bad_name group) (range_with_len 1 (length f.matrix))) →
-    AreGivenUpTo f group leaf bads count es → AreGiven f group leaf es
-all_given f group leaf bads count es whole are given = record {
+pub all_given : (f : Dqbf) (group : ℕ) (leaf : ℕ → Leaf) (bads : List Literal) (chosen : ℕ → Bool)
+    (es : List Entry) → ((j : ℕ) → chosen j ≡ true) →
+    AreNamedAs es bads (map (bad_name group) (range_with_len 1 (length f.matrix))) →
+    AreChosenGiven f group leaf bads chosen es → AreGiven f group leaf es
+all_given f group leaf bads chosen es whole are given = record {
   bads = bads;
   count = bads_count es group (length f.matrix) bads are;
   bads_are = bads_are_at es group (length f.matrix) bads are;
   some = given.some;
-  all = subst (λ n. HaveAllFaults f group bads leaf n es) whole given.all;
+  all = λ j below always. given.all j below (whole j);
 }

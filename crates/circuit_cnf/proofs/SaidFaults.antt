@@ -1,10 +1,12 @@
 -- What a group says, fault after fault.
-use Rattle.std.proofs.Common.{◌≡◌, ℕ, ◌+◌, ◌≤◌, ◌<◌, true, false, inl, inr, ◌⊎◌, not, List, [], ◌∷◌, ◌++◌, length, get_or, slice_get, Some, None, refl, sym, ◌∙◌, ap, subst}
+use Rattle.std.proofs.Common.{◌≡◌, ℕ, ◌+◌, ◌≤◌, ◌<◌, Bool, true, false, ◌&&◌, ◌||◌, inl, inr, ◌⊎◌, not, List, [], ◌∷◌, ◌++◌, length, get_or, slice_get, Some, None, refl, sym, ◌∙◌, ap, subst, arith}
 use Rattle.std.specs.List.{Contains}
+use Rattle.std.proofs.lemmas.Bool.{false≢true}
 use Rattle.std.proofs.lemmas.List.Elements.{Contains-append_right}
 use Rattle.list_laws.proofs.Numbers.{below_or_here}
 use Rattle.dq_lits.specs.Literal.{Literal, positive, negative, variable_of, is_negative, opposite}
 use Rattle.dq_lits.specs.Formula.{Dqbf, declared}
+use Rattle.dq_lits.specs.Row.{bit_of}
 use Rattle.dq_lits.proofs.SignedLiterals.{negated-positive}
 use Rattle.hint_log.specs.Entries.{Entry, Given, ProofLog, name_of, with_entry}
 use Rattle.hint_log.specs.declared.names.Name.TheVariants.{Bad}
@@ -14,9 +16,10 @@ use Rattle.hint_log.specs.declared.origins.Origin.TheVariants.{Fault}
 use Rattle.hint_log.specs.Origins.{matrix_literal, leaf_clause, leaf_with_sign, IsLeafOf}
 use Rattle.log_laws.specs.Engines.{circuits, IsAddedBy}
 use Rattle.log_laws.proofs.LargerLogs.{grown_then}
-use Rattle.circuit_cnf.specs.Faults.{AreSaid, HasFault, HaveFaults, HaveAllFaults, IsFaulted, IsNeverBad, AreFewWith, HaveOneLeaf, AreBads}
-use Rattle.circuit_cnf.specs.Saying.{MaySay, leaf_in, selector_in}
+use Rattle.circuit_cnf.specs.Faults.{AreSaid, HasFault, HasItsFaults, HaveChosenFaults, HaveFaults, IsFaulted, IsNeverBad, AreFewWith, HaveOneLeaf, AreBads}
+use Rattle.circuit_cnf.specs.Saying.{MaySay, given_after, given_before, leaf_in, selector_in}
 use Rattle.circuit_cnf.specs.declared.fault_clauses.Faults.{Faults}
+use Rattle.circuit_cnf.specs.declared.fault_clauses.Part.{Part}
 use Rattle.circuit_cnf.proofs.ClauseFaults.{few_more, one_leaf_more, leaf_stays_leaf}
 use Rattle.circuit_cnf.proofs.GivenFaults.{IsFaultReady, fault_grown}
 use Rattle.circuit_cnf.proofs.GroupFaults.{some_leaf_more}
@@ -100,27 +103,45 @@ next_fault f group bad j leaf clause old log new i l before said at here = recor
       subst (λ x. HasFault group bad j (x + 1) m (leaf (variable_of m)) new.entries) (sym same)
       (subst (λ x. HasFault group bad j (i + 1) x (leaf (variable_of x)) new.entries) literal here)
 
--- the first clauses have their faults
-pub record AllSoFar (f : Dqbf) (group : ℕ) (bads : List Literal) (leaf : ℕ → Leaf) (old log : ProofLog)
-    (j : ℕ) : Type 0 where
+-- the first clauses of a part have their faults, and those that had theirs before it
+pub record PartSoFar (f : Dqbf) (group : ℕ) (bads : List Literal) (leaf : ℕ → Leaf) (part : Part)
+    (old log : ProofLog) (j : ℕ) : Type 0 where
   pub said : AreSaid f group leaf old log
-  pub given : HaveAllFaults f group bads leaf j log.entries
+  pub before : HaveChosenFaults f group bads leaf (given_before part) log.entries
+  pub given : (k : ℕ) → k < j → bit_of part.marks.now k ≡ part.are_set → HasItsFaults f group bads leaf k log.entries
 
-pub next_clause : (f : Dqbf) (group : ℕ) (bads : List Literal) (leaf : ℕ → Leaf) (old log new : ProofLog) (j : ℕ) →
-    AllSoFar f group bads leaf old log j → AreSaid f group leaf log new →
-    IsFaulted f group (variable_of (get_or bads j (positive 0))) (j + 1) leaf (get_or f.matrix j [])
-    new.entries → AllSoFar f group bads leaf old new (j + 1)
-next_clause f group bads leaf old log new j before said here = record {
-  said = said_then f group leaf old log new before.said said;
-  given = λ k below. by k (below_or_here k j below);
-} where
-  by : (k : ℕ) → (k < j) ⊎ (k ≡ j) → IsFaulted f group (variable_of (get_or bads k (positive 0))) (k + 1) leaf
-      (get_or f.matrix k []) new.entries
-  by k (inl below) =
-      faulted_then f group (variable_of (get_or bads k (positive 0))) (k + 1) leaf (get_or f.matrix k [])
-      log new said (before.given k below)
-  by k (inr is) = subst (λ n. IsFaulted f group (variable_of (get_or bads n (positive 0))) (n + 1) leaf
-      (get_or f.matrix n []) new.entries) (sym is) here
+module _ (f : Dqbf) (group : ℕ) (bads : List Literal) (leaf : ℕ → Leaf) (part : Part) (old log : ProofLog) (j : ℕ)
+    (so_far : PartSoFar f group bads leaf part old log j) where
+  pub next_clause : (new : ProofLog) → AreSaid f group leaf log new →
+      (bit_of part.marks.now j ≡ part.are_set → HasItsFaults f group bads leaf j new.entries) →
+      PartSoFar f group bads leaf part old new (j + 1)
+  next_clause new said here = record {
+    said = said_then f group leaf old log new so_far.said said;
+    before = λ k below is. stays k (so_far.before k below is);
+    given = λ k below mine. by k mine (below_or_here k j below);
+  } where
+    stays : (k : ℕ) → HasItsFaults f group bads leaf k log.entries → HasItsFaults f group bads leaf k new.entries
+    stays k have = faulted_then f group (variable_of (get_or bads k (positive 0))) (k + 1) leaf (get_or f.matrix k [])
+        log new said have
+
+    by : (k : ℕ) → bit_of part.marks.now k ≡ part.are_set → (k < j) ⊎ (k ≡ j) →
+        HasItsFaults f group bads leaf k new.entries
+    by k mine (inl below) = stays k (so_far.given k below mine)
+    by k mine (inr is) = subst (λ n. HasItsFaults f group bads leaf n new.entries) (sym is)
+        (here (subst (λ n. bit_of part.marks.now n ≡ part.are_set) is mine))
+
+  pub part_given : length f.matrix ≤ j → HaveChosenFaults f group bads leaf (given_after part) log.entries
+  part_given whole k below is = by part.are_set (bit_of part.marks.now k) refl refl is where
+    soon : k < j
+    soon = omega (arith, below, whole)
+
+    by : (set bit : Bool) → part.are_set ≡ set → bit_of part.marks.now k ≡ bit → (not set || bit) ≡ true →
+        HasItsFaults f group bads leaf k log.entries
+    by true true is_set is_bit h = so_far.given k soon (is_bit ∙ sym is_set)
+    by true false is_set is_bit h = absurd (false≢true h)
+    by false true is_set is_bit h = so_far.before k below
+        (ap (λ b. not b && bit_of part.marks.now k) is_set ∙ is_bit)
+    by false false is_set is_bit h = so_far.given k soon (is_bit ∙ sym is_set)
 
 module _ (s : Faults) (log : ProofLog) (may : MaySay s log.entries) where
   pub nothing_said : AreSaid s.f.now (selector_in s) (leaf_in s) log log

@@ -1,6 +1,7 @@
 -- What a turn's group says, part after part of the clauses, and searches between two parts.
 use Rattle.std.proofs.Common.{◌≡◌, ℕ, ◌+◌, ◌≤◌, Bool, true, false, cond, inl, inr, List, [], ◌∷◌, ◌++◌, length, get_or, Some, None, IsSome, sym, ◌∙◌, ap, subst, arith}
 use Rattle.std.specs.List.{list_any}
+use Rattle.std.proofs.lemmas.Bool.{false≢true}
 use Rattle.dq_lits.specs.Literal.{Literal, positive, negative, variable_of, same_literal}
 use Rattle.dq_lits.specs.Formula.{Dqbf}
 use Rattle.hint_log.specs.Entries.{Entry, Named, Given, ProofLog, name_of}
@@ -19,7 +20,7 @@ use Rattle.oracle.specs.Calls.{IsLearnedEntry}
 use Rattle.oracle.specs.declared.groups.Group.{Group}
 use Rattle.circuit_cnf.specs.declared.checkers.Checker.{Checker}
 use Rattle.circuit_cnf.specs.declared.fault_clauses.Faults.{Faults}
-use Rattle.circuit_cnf.specs.Faults.{AreBads, AreFewWith, AreGivenUpTo, AreNamedAndSaid, AreSaid, HaveOneLeaf, IsNamingBads, leaf_of}
+use Rattle.circuit_cnf.specs.Faults.{AreBads, AreFewWith, AreChosenGiven, AreNamedAndSaid, AreSaid, HaveOneLeaf, IsNamingBads, leaf_of}
 use Rattle.circuit_cnf.specs.Saying.{AreBound, HasNoBads, MaySay, leaf_in, selector_in}
 use Rattle.circuit_cnf.specs.Turning.{AreLeavesOf, HasTurned, IsGroupMade, IsSaying}
 use Rattle.circuit_cnf.proofs.GroupFaults.{after_all, after_bads, bads_stay, leaf_of_stays}
@@ -81,14 +82,14 @@ pub begun_saying : (graph : AigGraph) (nodes : List Node) (s : Faults) (checker 
     Grew (IsAddedBy h circuits standing true start) first log) →
     fault_groups log.entries ≡ fault_groups first.entries →
     IsNamingBads (selector_in s) first.entries log.entries → AreBads s.f.now (selector_in s) bads log.entries →
-    IsSaying checker s bads 0 old log
+    IsSaying checker s bads (λ j. false) old log
 begun_saying graph nodes s checker old first m same count have bound bads log grew faults alone named = record {
   first = first;
   group_made = m;
   said = said;
   may = may_say_named s first log may_first said;
   named = named;
-  given = λ j below. absurd (omega (arith, below));
+  given = λ j below is. absurd (false≢true is);
 } where
   f : Dqbf
   f = s.f.now
@@ -112,28 +113,28 @@ begun_saying graph nodes s checker old first m same count have bound bads log gr
     one_leaf = group_one_leaf s.f.now checker (leaf_in s) old first s.group.now m;
   }
 
-module _ (checker : Checker) (s : Faults) (bads : List Literal) (count : ℕ) (old log : ProofLog)
-    (w : IsSaying checker s bads count old log) where
+module _ (checker : Checker) (s : Faults) (bads : List Literal) (chosen : ℕ → Bool) (old log : ProofLog)
+    (w : IsSaying checker s bads chosen old log) where
   pub saying_turned : (silent : Bool) → HasTurned s.f.now checker checker silent old log
   saying_turned silent = faults_turned s.f.now checker (leaf_in s) old w.first s.group.now w.group_made log w.said
       silent
 
   -- what is said then leaves what was said
   pub saying_on : (new : ProofLog) → AreSaid s.f.now (selector_in s) (leaf_in s) log new →
-      IsSaying checker s bads count old new
+      IsSaying checker s bads chosen old new
   saying_on new said = record {
     first = w.first;
     group_made = w.group_made;
     said = after_all s.f.now (selector_in s) (leaf_in s) w.first log new w.said said;
     may = may_say_on s log w.may new said;
     named = bads_stay log.entries new.entries (selector_in s) (length s.f.now.matrix) bads said.names w.named;
-    given = λ j below. faulted_then s.f.now (selector_in s) (variable_of (get_or bads j (positive 0))) (j + 1)
-        (leaf_in s) (get_or s.f.now.matrix j []) log new said (w.given j below);
+    given = λ j below is. faulted_then s.f.now (selector_in s) (variable_of (get_or bads j (positive 0))) (j + 1)
+        (leaf_in s) (get_or s.f.now.matrix j []) log new said (w.given j below is);
   }
 
-  pub saying_more : (upto : ℕ) (new : ProofLog) → AreSaid s.f.now (selector_in s) (leaf_in s) log new →
-      AreGivenUpTo s.f.now (selector_in s) (leaf_in s) bads upto new.entries → IsSaying checker s bads upto old new
-  saying_more upto new said given =
+  pub saying_more : (more : ℕ → Bool) (new : ProofLog) → AreSaid s.f.now (selector_in s) (leaf_in s) log new →
+      AreChosenGiven s.f.now (selector_in s) (leaf_in s) bads more new.entries → IsSaying checker s bads more old new
+  saying_more more new said given =
       let on = saying_on new said in
       record {
         first = on.first;

@@ -1,5 +1,5 @@
 -- Faults that are given to a group.
-use Rattle.std.specs.Prelude.{◌≡◌, ◌⊎◌, ◌+◌, ◌≤◌, ◌<◌, ◌==◌, ℕ, true, false, not, List, [], ◌∷◌, map, length, Option, Some, None, position, slice_get, slice_index_or}
+use Rattle.std.specs.Prelude.{◌≡◌, ◌⊎◌, ◌+◌, ◌≤◌, ◌<◌, ◌==◌, ℕ, Bool, true, false, not, List, [], ◌∷◌, map, length, Option, Some, None, position, slice_get, slice_index_or}
 use Rattle.std.specs.List.{Contains, range_with_len}
 use Rattle.std.specs.Option.{option_map}
 use Rattle.dq_lits.specs.Literal.{Literal, positive, negative, variable_of, is_negative}
@@ -74,11 +74,17 @@ abbrev pub IsFaulted : Dqbf → ℕ → ℕ → ℕ → (ℕ → Leaf) → List 
 IsFaulted f group bad j leaf clause entries =
     HaveFaults f group bad j leaf clause (length clause) entries ⊎ IsNeverBad group bad entries
 
--- each of the first clauses has its faults
-abbrev pub HaveAllFaults : Dqbf → ℕ → List Literal → (ℕ → Leaf) → ℕ → List Entry → Type 0
-HaveAllFaults f group bads leaf count entries = (j : ℕ) → j < count
-    → IsFaulted f group (variable_of (slice_index_or bads j (positive 0))) (j + 1) leaf
+-- the clause of this number, from 0 on, has its faults
+abbrev pub HasItsFaults : Dqbf → ℕ → List Literal → (ℕ → Leaf) → ℕ → List Entry → Type 0
+HasItsFaults f group bads leaf j entries =
+    IsFaulted f group (variable_of (slice_index_or bads j (positive 0))) (j + 1) leaf
     (slice_index_or f.matrix j []) entries
+
+-- each of the chosen clauses has its faults
+abbrev pub HaveChosenFaults : Dqbf → ℕ → List Literal → (ℕ → Leaf) → (ℕ → Bool) → List Entry
+    → Type 0
+HaveChosenFaults f group bads leaf chosen entries =
+    (j : ℕ) → j < length f.matrix → chosen j ≡ true → HasItsFaults f group bads leaf j entries
 
 -- how a log grows by a group's clauses: whatever stood before the group, they go into a group that
 -- was made since
@@ -111,7 +117,7 @@ pub record AreGiven (f : Dqbf) (group : ℕ) (leaf : ℕ → Leaf) (entries : Li
   pub count : length bads ≡ length f.matrix
   pub bads_are : (j : ℕ) → j < length f.matrix → IsBadAt group j bads entries
   pub some : Contains entries (Given (Fault 0 0 (Constant false)) (negative group ∷ bads))
-  pub all : HaveAllFaults f group bads leaf (length f.matrix) entries
+  pub all : HaveChosenFaults f group bads leaf (λ j. true) entries
 
 -- what is left by clauses that a group gets: how the log grew, names, few groups with faults, and
 -- one leaf for a variable
@@ -131,8 +137,8 @@ pub record AreNamedAndSaid (f : Dqbf) (group : ℕ) (leaf : ℕ → Leaf)
   pub few : AreFewWith group new.entries
   pub one_leaf : HaveOneLeaf f group leaf new.entries
 
--- the first clauses have their faults, and some clause is said to be false
-pub record AreGivenUpTo (f : Dqbf) (group : ℕ) (leaf : ℕ → Leaf) (bads : List Literal) (count : ℕ)
-    (entries : List Entry) : Type 0 where
+-- the chosen clauses have their faults, and some clause is said to be false
+pub record AreChosenGiven (f : Dqbf) (group : ℕ) (leaf : ℕ → Leaf) (bads : List Literal)
+    (chosen : ℕ → Bool) (entries : List Entry) : Type 0 where
   pub some : Contains entries (Given (Fault 0 0 (Constant false)) (negative group ∷ bads))
-  pub all : HaveAllFaults f group bads leaf count entries
+  pub all : HaveChosenFaults f group bads leaf chosen entries

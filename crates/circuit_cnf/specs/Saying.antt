@@ -1,8 +1,9 @@
 -- What a group is to say.
-use Rattle.std.specs.Prelude.{◌≡◌, ℕ, List, length, Some}
+use Rattle.std.specs.Prelude.{◌≡◌, ◌&&◌, ◌||◌, ℕ, Bool, not, List, length, Some}
 use Rattle.std.specs.List.{All, Contains}
 use Rattle.dq_lits.specs.Literal.{variable_of}
 use Rattle.dq_lits.specs.Formula.{Dqbf, declared}
+use Rattle.dq_lits.specs.Row.{bit_of}
 use Rattle.hint_log.specs.Entries.{Entry, name_of}
 use Rattle.hint_log.specs.declared.names.Name.TheVariants.{Bad}
 use Rattle.hint_log.specs.declared.origins.Leaf.{Leaf}
@@ -10,6 +11,7 @@ use Rattle.hint_log.specs.Origins.{IsLeafOf}
 use Rattle.oracle.specs.Calls.{IsMade}
 use Rattle.circuit_cnf.specs.Faults.{leaf_of, AreFewWith, HaveOneLeaf}
 use Rattle.circuit_cnf.specs.declared.fault_clauses.Faults.{Faults}
+use Rattle.circuit_cnf.specs.declared.fault_clauses.Part.{Part}
 
 -- the variable of the group
 abbrev pub selector_in : Faults → ℕ
@@ -18,6 +20,14 @@ selector_in faults = variable_of faults.group.now.selector
 -- the leaf of a variable
 abbrev pub leaf_in : Faults → ℕ → Leaf
 leaf_in faults = leaf_of faults.f.now faults.inputs.now faults.outputs.now
+
+-- which clauses have their faults before a part of the clauses gets them, and behind it: a part of
+-- the marked clauses comes first, and the others then
+abbrev pub given_before : Part → ℕ → Bool
+given_before part = λ j. not part.are_set && bit_of part.marks.now j
+
+abbrev pub given_after : Part → ℕ → Bool
+given_after part = λ j. not part.are_set || bit_of part.marks.now j
 
 -- each declared variable has this leaf
 abbrev pub AreLeaves : Dqbf → (ℕ → Leaf) → List Entry → Type 0

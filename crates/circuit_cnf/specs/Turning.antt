@@ -20,7 +20,7 @@ use Rattle.oracle.specs.Calls.{IsMade}
 use Rattle.oracle.specs.Searched.{IsGivenToGroup}
 use Rattle.oracle.specs.declared.groups.Group.{Group}
 use Rattle.circuit_cnf.specs.Checking.{group_of, IsChecker}
-use Rattle.circuit_cnf.specs.Faults.{AreBads, AreNamedAndSaid, HaveAllFaults, HaveOneLeaf}
+use Rattle.circuit_cnf.specs.Faults.{AreBads, AreNamedAndSaid, HaveChosenFaults, HaveOneLeaf}
 use Rattle.circuit_cnf.specs.Saying.{MaySay, leaf_in, selector_in}
 use Rattle.circuit_cnf.specs.Gates.{IsGateGiven}
 use Rattle.circuit_cnf.specs.Leaves.{HasLeaf}
@@ -95,16 +95,17 @@ pub record IsGroupMade (f : Dqbf) (checker : Checker) (old log : ProofLog) (grou
   pub grouped : Each IsGivenToGroup old.entries
   pub few : length (fault_groups old.entries) < fault_room old.entries
 
--- since then the group said of the first clauses which are false, searches learned, and it may say
+-- since then the group said of the chosen clauses which are false, searches learned, and it may say
 -- more
-pub record IsSaying (checker : Checker) (faults : Faults) (bads : List Literal) (count : ℕ)
+pub record IsSaying (checker : Checker) (faults : Faults) (bads : List Literal) (chosen : ℕ → Bool)
     (old log : ProofLog) : Type 0 where
   pub first : ProofLog
   pub group_made : IsGroupMade faults.f.now checker old first faults.group.now
   pub said : AreNamedAndSaid faults.f.now (selector_in faults) (leaf_in faults) first log
   pub may : MaySay faults log.entries
   pub named : AreBads faults.f.now (selector_in faults) bads log.entries
-  pub given : HaveAllFaults faults.f.now (selector_in faults) bads (leaf_in faults) count log.entries
+  pub given : HaveChosenFaults faults.f.now (selector_in faults) bads (leaf_in faults) chosen
+      log.entries
 
 -- a search that answers an id may decide
 abbrev pub is_silent_search : Result (Option ℕ) Stop → Bool

@@ -7,6 +7,7 @@ ghost use Rattle.std.specs.Prelude.{◌≡◌, ◌≤◌, ◌<◌, ◌+◌, ◌�
 ghost use Rattle.dq_lits.specs.Formula.{Dqbf, declared};
 ghost use Rattle.std.specs.Option.{option_map};
 ghost use Rattle.dq_lits.specs.Literal.{Literal, negative, is_negative, variable_of};
+ghost use Rattle.dq_lits.specs.Row.{bit_of};
 ghost use Rattle.hint_log.specs.Entries.{Entry};
 ghost use Rattle.hint_log.specs.Entries.{Given};
 ghost use Rattle.hint_log.specs.declared.names.Name.TheVariants.{Bad};
@@ -17,11 +18,11 @@ ghost use Rattle.hint_log.specs.Growth.{Grew};
 ghost use Rattle.hint_log.specs.Origins.{leaf_with_sign, matrix_literal, IsLeafOf};
 ghost use Rattle.hint_log.specs.ProductiveLog.{fault_groups, fault_room};
 ghost use Rattle.log_laws.specs.Engines.{circuits, IsAddedBy};
-ghost use Rattle.circuit_cnf.specs.Faults.{AreBads, AreGivenUpTo, AreSaid, HasFault, HaveAllFaults, HaveFaults, IsBadAt, IsFaulted, IsNamingBads};
-ghost use Rattle.circuit_cnf.specs.Saying.{HasNoBads, MaySay, leaf_in, selector_in};
+ghost use Rattle.circuit_cnf.specs.Faults.{AreBads, AreChosenGiven, AreSaid, HasFault, HaveChosenFaults, HaveFaults, IsBadAt, IsFaulted, IsNamingBads};
+ghost use Rattle.circuit_cnf.specs.Saying.{HasNoBads, MaySay, given_after, given_before, leaf_in, selector_in};
 
 use dq_formula::Formula;
-use dq_lits::{Lit, Memory};
+use dq_lits::{Lit, Memory, Row};
 use hint_log::{Leaf, Log, Name, Origin};
 use oracle::{Group, Oracle};
 use std::alloc::Global;
@@ -36,11 +37,11 @@ pub(crate) struct Faults<'g, 'f, 'l> {
     pub outputs: &'l [Leaf],
 }
 
-/// The clauses from one place on up to another.
-#[derive(Clone, Copy)]
-pub(crate) struct Part {
-    pub from: usize,
-    pub upto: usize,
+/// The clauses whose marks, a bit for each clause, are set, or the others.
+#[derive(Drop)]
+pub(crate) struct Part<'m> {
+    pub marks: &'m Row,
+    pub are_set: bool,
 }
 
 /// A literal of the matrix, by the numbers of its clause and of its place there, both from 1 on,
@@ -54,27 +55,27 @@ pub(crate) struct Occurrence {
 }
 
 impl<'g, 'f, 'l> Faults<'g, 'f, 'l> {
-    /// Gives the faults of a part of the clauses, and that some clause is false: again, where an
-    /// earlier part was given, so that a search begins with the clauses one by one.
+    /// Gives the faults of a part of the clauses, those of the marked ones first or then those of the
+    /// others, and that some clause is false: again, where an earlier part was given, so that a search
+    /// begins with the clauses one by one.
     pub(crate) fn say<O: Oracle>(
         &self,
         oracle: &mut O,
         bads: &[Lit],
-        part: Part,
+        part: &Part,
         log: &mut Log,
     ) -> Result<(), Memory>
         requires fit { O.Fits oracle.old log.old }
         requires may { MaySay self.now log.old.entries }
         requires bads { AreBads self.now.f.now (selector_in self.now) bads.now log.old.entries }
-        requires order { part.from ≤ part.upto }
-        requires within { part.upto ≤ length self.now.f.now.matrix }
-        requires before { HaveAllFaults self.now.f.now (selector_in self.now) bads.now
-            (leaf_in self.now) part.from log.old.entries }
+        requires a_bit_a_clause { length part.now.marks.now ≡ length self.now.f.now.matrix }
+        requires before { HaveChosenFaults self.now.f.now (selector_in self.now) bads.now
+            (leaf_in self.now) (given_before part.now) log.old.entries }
         ensures fit { O.Fits oracle.new log.new }
         ensures said { AreSaid self.now.f.now (selector_in self.now) (leaf_in self.now) log.old
             log.new }
-        ensures given { OnOk result (AreGivenUpTo self.now.f.now (selector_in self.now)
-            (leaf_in self.now) bads.now part.upto log.new.entries) }
+        ensures given { OnOk result (AreChosenGiven self.now.f.now (selector_in self.now)
+            (leaf_in self.now) bads.now (given_after part.now) log.new.entries) }
     {
         self.part_faults(oracle, bads, part, log)?;
         self.some_fault(oracle, bads, log)?;
@@ -115,7 +116,7 @@ impl<'g, 'f, 'l> Faults<'g, 'f, 'l> {
         &self,
         oracle: &mut O,
         bads: &[Lit],
-        part: Part,
+        part: &Part,
         log: &mut Log,
     ) -> Result<(), Memory>
         requires fit { O.Fits oracle.old log.old }
@@ -123,20 +124,48 @@ impl<'g, 'f, 'l> Faults<'g, 'f, 'l> {
         requires bad_count { length bads.now ≡ length self.now.f.now.matrix }
         requires bads { (j : ℕ) → j < length self.now.f.now.matrix
             → IsBadAt (selector_in self.now) j bads.now log.old.entries }
-        requires order { part.from ≤ part.upto }
-        requires within { part.upto ≤ length self.now.f.now.matrix }
-        requires before { HaveAllFaults self.now.f.now (selector_in self.now) bads.now
-            (leaf_in self.now) part.from log.old.entries }
+        requires a_bit_a_clause { length part.now.marks.now ≡ length self.now.f.now.matrix }
+        requires before { HaveChosenFaults self.now.f.now (selector_in self.now) bads.now
+            (leaf_in self.now) (given_before part.now) log.old.entries }
         ensures fit { O.Fits oracle.new log.new }
         ensures said { AreSaid self.now.f.now (selector_in self.now) (leaf_in self.now) log.old
             log.new }
-        ensures given { OnOk result (HaveAllFaults self.now.f.now (selector_in self.now)
-            bads.now (leaf_in self.now) part.upto log.new.entries) }
+        ensures given { OnOk result (HaveChosenFaults self.now.f.now (selector_in self.now)
+            bads.now (leaf_in self.now) (given_after part.now) log.new.entries) }
     {
-        for j in part.from..part.upto {
-            self.clause_faults(oracle, bads[j], j, log)?;
+        for j in 0..self.f.clauses() {
+            self.part_fault(oracle, bads[j], part, j, log)?;
         }
         Ok(())
+    }
+
+    // Gives the faults of a clause, by its number from 0 on, if it is of the part.
+    fn part_fault<O: Oracle>(
+        &self,
+        oracle: &mut O,
+        bad: Lit,
+        part: &Part,
+        j: usize,
+        log: &mut Log,
+    ) -> Result<(), Memory>
+        requires fit { O.Fits oracle.old log.old }
+        requires may { MaySay self.now log.old.entries }
+        requires clause { j < length self.now.f.now.matrix }
+        requires a_bit_a_clause { length part.now.marks.now ≡ length self.now.f.now.matrix }
+        requires bad { name_of log.old.entries (variable_of bad)
+            ≡ Some (Bad (selector_in self.now) (j + 1)) }
+        requires positive { is_negative bad ≡ false }
+        ensures fit { O.Fits oracle.new log.new }
+        ensures said { AreSaid self.now.f.now (selector_in self.now) (leaf_in self.now) log.old
+            log.new }
+        ensures given { OnOk result (bit_of part.now.marks.now j ≡ part.now.are_set
+            → IsFaulted self.now.f.now (selector_in self.now) (variable_of bad) (j + 1)
+            (leaf_in self.now) (slice_index_or self.now.f.now.matrix j []) log.new.entries) }
+    {
+        if part.marks.get(j) != part.are_set {
+            return Ok(());
+        }
+        self.clause_faults(oracle, bad, j, log)
     }
 
     // Gives the faults of a clause, by its number from 0 on: that of a literal alone that is true

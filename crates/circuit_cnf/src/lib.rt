@@ -8,6 +8,7 @@ pub use turns::Turn;
 
 mod checkers;
 mod circuits;
+mod doubts;
 mod failures;
 mod fault_clauses;
 mod gates;

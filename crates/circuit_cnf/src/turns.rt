@@ -17,7 +17,7 @@ ghost use Rattle.circuit_cnf.specs.Failing.{IsFailure, HasFalseClause, IsFailing
 ghost use Rattle.circuit_cnf.specs.Faults.{leaf_of};
 ghost use Rattle.circuit_cnf.specs.Gates.{GrewByGates};
 ghost use Rattle.circuit_cnf.specs.Shown.{HoldEverywhere, IsShownSince};
-ghost use Rattle.circuit_cnf.specs.Saying.{leaf_in};
+ghost use Rattle.circuit_cnf.specs.Saying.{given_after, given_before, leaf_in};
 ghost use Rattle.circuit_cnf.specs.Turning.{AreFailing, AreLeavesOf, HasTurned, IsHeldBy, IsSaying, is_silent_search};
 
 use crate::checkers::Checker;
@@ -33,9 +33,6 @@ use hint_log::{Leaf, Log, Stop};
 use oracle::{Answer, Oracle};
 use std::alloc::Global;
 
-// So many clauses have their faults given first, beside those that the last failure needed.
-const FEW: usize = 64;
-
 /// Whether outputs make every clause true.
 #[derive(Drop)]
 pub enum Turn {
@@ -49,13 +46,16 @@ pub enum Turn {
 impl Checker {
     /// Whether every clause is true on every row, where the existentials have the values of these
     /// outputs, in order. It stops for want of memory or at the log's limit. Before the next call
-    /// the log needs a round, once the faults of this one were given.
+    /// the log needs a round, once the faults of this one were given. It looks at the
+    /// clauses of the suspects' numbers, from 0 on, first, and at nothing but them where one of them
+    /// is false; no more comes of them, whichever they are.
     pub fn turn<O: Oracle>(
         &mut self,
         oracle: &mut O,
         graph: &Graph,
         f: &Formula,
         outputs: &[Node],
+        suspects: &[usize],
         log: &mut Log,
     ) -> Result<Turn, Stop>
         requires fit { O.Fits oracle.old log.old }
@@ -80,7 +80,8 @@ impl Checker {
         shown_outputs_hold();
         let circuit = Circuit { graph, f, outputs };
         let leaves = self.output_leaves(oracle, &circuit, log)?;
-        let found = self.search(oracle, &circuit, &leaves, log)?;
+        let first = self.first_clauses(f, &leaves, suspects)?;
+        let found = self.search(oracle, &circuit, &leaves, &first, log)?;
         self.note(&found);
         Ok(found)
     }
@@ -125,13 +126,15 @@ impl Checker {
     }
 
     // Searches for a row at which a clause is false under these leaves. Their faults go to a new
-    // group: those of the first clauses, and the others only where no clause is false at the row
-    // that was found by these. So a row that falsifies an early clause costs no more than it needs.
+    // group: those of the clauses that come first, and the others only where no clause is false at
+    // the row that was found by these. So a row that falsifies one of the first costs no more than
+    // it needs.
     fn search<O: Oracle>(
         &self,
         oracle: &mut O,
         circuit: &Circuit,
         leaves: &[Leaf],
+        first: &Row,
         log: &mut Log,
     ) -> Result<Turn, Stop>
         requires fit { O.Fits oracle.old log.old }
@@ -141,6 +144,7 @@ impl Checker {
         requires nodes { All (IsNode circuit.now.graph.now) circuit.now.outputs.now }
         requires leaves { AreLeavesOf circuit.now.f.now circuit.now.graph.now log.old.entries
             circuit.now.outputs.now leaves.now }
+        requires a_bit_a_clause { length first.now ≡ length circuit.now.f.now.matrix }
         requires few { length (fault_groups log.old.entries) < fault_room log.old.entries }
         ensures fit { O.Fits oracle.new log.new }
         ensures turned { HasTurned circuit.now.f.now self.now self.now (is_silent result) log.old
@@ -164,7 +168,7 @@ impl Checker {
             outputs: leaves,
         };
         let bads = faults.name_bads(self.alloc, oracle, log)?;
-        self.look_twice(oracle, circuit, &faults, &bads, log)
+        self.look_twice(oracle, circuit, &faults, &bads, first, log)
     }
 
     // The same, where the group has no clause yet.
@@ -174,6 +178,7 @@ impl Checker {
         circuit: &Circuit,
         faults: &Faults,
         bads: &[Lit],
+        first: &Row,
         log: &mut Log,
     ) -> Result<Turn, Stop>
         requires fit { O.Fits oracle.old log.old }
@@ -181,15 +186,18 @@ impl Checker {
         requires same_formula { faults.now.f.now ≡ circuit.now.f.now }
         requires same_inputs { faults.now.inputs.now ≡ self.now.inputs.items }
         requires nodes { All (IsNode circuit.now.graph.now) circuit.now.outputs.now }
+        requires a_bit_a_clause { length first.now ≡ length faults.now.f.now.matrix }
         requires saying { (start : ProofLog)
-            × IsSaying self.now faults.now bads.now 0 start log.old
+            × IsSaying self.now faults.now bads.now (λ j. false) start log.old
             × AreLeavesOf faults.now.f.now circuit.now.graph.now start.entries
             circuit.now.outputs.now faults.now.outputs.now }
         ensures fit { O.Fits oracle.new log.new }
-        ensures turned { (start : ProofLog) → IsSaying self.now faults.now bads.now 0 start log.old
+        ensures turned { (start : ProofLog)
+            → IsSaying self.now faults.now bads.now (λ j. false) start log.old
             → HasTurned faults.now.f.now self.now self.now (is_silent result) start log.new }
         ensures held { (start : ProofLog) (id : ℕ)
-            → IsSaying self.now faults.now bads.now 0 start log.old → result ≡ Ok (Turn.Holds id)
+            → IsSaying self.now faults.now bads.now (λ j. false) start log.old
+            → result ≡ Ok (Turn.Holds id)
             → IsHeldBy faults.now.f.now (leaf_in faults.now) start.entries log.new.entries id }
         ensures fails { (row values : List Bool) (j : ℕ) → result ≡ Ok (Turn.Fails row values j)
             → IsFailure circuit.now.f.now (outputs_of circuit.now.f.now circuit.now.graph.now
@@ -197,12 +205,11 @@ impl Checker {
         ensures limit { IsErrOf result Stop.Limit → (group : ℕ)
             × IsAtLimit log.new (positive (group_of self.now) ∷ positive group ∷ []) }
     {
-        let first = self.first_clauses(faults);
         let early = Part {
-            from: 0,
-            upto: first,
+            marks: first,
+            are_set: true,
         };
-        match self.look(oracle, faults, bads, early, log)? {
+        match self.look(oracle, faults, bads, &early, log)? {
             Some(id) => return Ok(Turn::Holds(id)),
             None => {
                 if let Some(turn) = self.failure(oracle, circuit)? {
@@ -211,10 +218,10 @@ impl Checker {
             }
         }
         let others = Part {
-            from: first,
-            upto: faults.f.clauses(),
+            marks: first,
+            are_set: false,
         };
-        match self.look(oracle, faults, bads, others, log)? {
+        match self.look(oracle, faults, bads, &others, log)? {
             Some(id) => Ok(Turn::Holds(id)),
             None => match self.failure(oracle, circuit)? {
                 Some(turn) => Ok(turn),
@@ -230,28 +237,30 @@ impl Checker {
         oracle: &mut O,
         faults: &Faults,
         bads: &[Lit],
-        part: Part,
+        part: &Part,
         log: &mut Log,
     ) -> Result<Option<u64>, Stop>
         requires fit { O.Fits oracle.old log.old }
         requires saying { (start : ProofLog)
-            × IsSaying self.now faults.now bads.now part.from start log.old }
-        requires order { part.from ≤ part.upto }
-        requires within { part.upto ≤ length faults.now.f.now.matrix }
+            × IsSaying self.now faults.now bads.now (given_before part.now) start log.old }
+        requires a_bit_a_clause { length part.now.marks.now ≡ length faults.now.f.now.matrix }
         ensures fit { O.Fits oracle.new log.new }
         ensures turned { (start : ProofLog)
-            → IsSaying self.now faults.now bads.now part.from start log.old
+            → IsSaying self.now faults.now bads.now (given_before part.now) start log.old
             → HasTurned faults.now.f.now self.now self.now (is_silent_search result) start log.new }
         ensures saying { (start : ProofLog)
-            → IsSaying self.now faults.now bads.now part.from start log.old → result ≡ Ok None
-            → IsSaying self.now faults.now bads.now part.upto start log.new }
+            → IsSaying self.now faults.now bads.now (given_before part.now) start log.old
+            → result ≡ Ok None
+            → IsSaying self.now faults.now bads.now (given_after part.now) start log.new }
         ensures held { (start : ProofLog) (id : ℕ)
-            → IsSaying self.now faults.now bads.now part.from start log.old → result ≡ Ok (Some id)
+            → IsSaying self.now faults.now bads.now (given_before part.now) start log.old
+            → result ≡ Ok (Some id)
             → IsHeldBy faults.now.f.now (leaf_in faults.now) start.entries log.new.entries id }
         ensures told { result ≡ Ok None → O.is_told oracle.new ≡ true }
         ensures failing { (start : ProofLog)
-            → IsSaying self.now faults.now bads.now part.from start log.old → result ≡ Ok None
-            → part.upto ≡ length faults.now.f.now.matrix
+            → IsSaying self.now faults.now bads.now (given_before part.now) start log.old
+            → result ≡ Ok None
+            → part.now.are_set ≡ false
             → AreFailing faults.now.f.now (leaf_in faults.now) start.entries (O.values oracle.new) }
         ensures limit { IsErrOf result Stop.Limit → (group : ℕ)
             × IsAtLimit log.new (positive (group_of self.now) ∷ positive group ∷ []) }
@@ -261,22 +270,6 @@ impl Checker {
             Answer::Unsat(id) => Ok(Some(id)),
             Answer::Sat => Ok(None),
         }
-    }
-
-    // How many clauses have their faults given first: twice as many as were needed at the last
-    // failure, and a few; all, where these are the greater part, and where nothing failed yet and no
-    // output is a constant, as where each has a definition.
-    fn first_clauses(&self, faults: &Faults) -> usize
-        ensures { result ≤ length faults.now.f.now.matrix }
-    {
-        let all = faults.f.clauses();
-        if self.last_false == 0 && !has_constant(faults.outputs) {
-            return all;
-        }
-        let few = (self.last_false as usize)
-            .saturating_mul(2)
-            .saturating_add(FEW);
-        if few > all / 2 { all } else { few }
     }
 
     // Notes which clause was false.
@@ -310,17 +303,6 @@ impl Checker {
             Some(j) => Ok(Some(Turn::Fails { row, values, j })),
             None => Ok(None),
         }
-    }
-}
-
-fn has_constant(leaves: &[Leaf]) -> bool {
-    leaves.iter().any(|leaf| is_constant(*leaf))
-}
-
-fn is_constant(leaf: Leaf) -> bool {
-    match leaf {
-        Leaf::Constant(_) => true,
-        Leaf::Literal(_) => false,
     }
 }
 

@@ -136,10 +136,14 @@ impl<O: Oracle> Judging<O> {
     {
         checkers_stay_with_rounds();
         self.graph.every_graph_is_lawful();
-        match self
-            .checker
-            .turn(&mut self.oracle, &self.graph, f, outputs, &mut self.log)
-        {
+        match self.checker.turn(
+            &mut self.oracle,
+            &self.graph,
+            f,
+            outputs,
+            &[],
+            &mut self.log,
+        ) {
             Ok(Turn::Holds(_)) => Ok(Told::Holds),
             Ok(Turn::Fails { row, values, j }) => {
                 self.log.round(&row, &values, j)?;

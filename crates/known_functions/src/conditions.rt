@@ -38,6 +38,8 @@ pub(crate) struct Conditions {
     sets: Vec<Vec<Lit>>,
     // For how many existentials in a row none of them gave a guess.
     in_vain: usize,
+    // The numbers of the clauses that no definition makes true, where they were looked for.
+    suspects: Vec<usize>,
     // Two rows that an existential can't tell apart, at which it has to have different bits: they
     // refute the formula.
     rows: Vec<Row>,
@@ -49,6 +51,7 @@ impl Conditions {
         Conditions {
             sets: Vec::new(alloc),
             in_vain: 0,
+            suspects: Vec::new(alloc),
             rows: Vec::new(alloc),
         }
     }
@@ -104,7 +107,20 @@ impl Conditions {
     /// of the last clauses first. Time follows the literals.
     pub(crate) fn put_all(&mut self, alloc: Global, defined: &Defined) -> Result<(), Memory> {
         let suspects = defined.suspects(alloc)?;
-        self.put_of(alloc, defined, &suspects)
+        self.put_of(alloc, defined, &suspects)?;
+        self.suspects = suspects;
+        Ok(())
+    }
+
+    /// Looks for the clauses that no definition makes true.
+    pub(crate) fn find_suspects(&mut self, alloc: Global, defined: &Defined) -> Result<(), Memory> {
+        self.suspects = defined.suspects(alloc)?;
+        Ok(())
+    }
+
+    /// The numbers of these clauses, ascending from 0 on; none, where it wasn't looked for them.
+    pub(crate) fn suspects(&self) -> &[usize] {
+        &self.suspects
     }
 
     fn put_of(

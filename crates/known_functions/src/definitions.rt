@@ -9,12 +9,13 @@ ghost use Rattle.aig_graph.specs.Made.{Extends};
 ghost use Rattle.hint_log.specs.Growth.{Grew};
 ghost use Rattle.padoa_definitions.specs.Copies.{IsPadoa};
 ghost use Rattle.padoa_definitions.specs.Defining.{IsFound};
-ghost use Rattle.known_functions.specs.Guessing.{HasAsked, MayAsk};
+ghost use Rattle.known_functions.specs.Guessing.{HasAsked, LeavesKnown, MayAsk};
 ghost use Rattle.known_functions.specs.Searching.{HasInputs, IsAsked, definition_in};
 ghost use Rattle.known_functions.specs.Forcing.{AreKnownIn};
 ghost use Rattle.oracle.specs.Limits.{IsAtSomeLimit};
 
 use crate::questions::Questions;
+use crate::suspects::Defined;
 use aig_graph::{Graph, Node};
 use candidate_functions::Samples;
 use definition_order::existentials_in_order;
@@ -94,6 +95,7 @@ impl Definitions {
         let gates = Gates::new(alloc, f)?;
         let mut definitions = Definitions::none(alloc, gates, f)?;
         definitions.read_gates(graph, f)?;
+        definitions.find_suspects(f, graph)?;
         Ok(definitions)
     }
 
@@ -106,6 +108,26 @@ impl Definitions {
     /// What the questions found that makes the matrix true, for the trees. No contract speaks of it.
     pub fn samples(&self) -> &Samples {
         &self.questions.samples
+    }
+
+    /// The numbers of the clauses, ascending from 0 on, that no definition makes true by itself; none
+    /// where that isn't known. No contract speaks of them: who uses one takes it for a guess.
+    pub fn suspects(&self) -> &[usize] {
+        self.questions.conditions.suspects()
+    }
+
+    // Looks for the clauses that no definition makes true.
+    fn find_suspects(&mut self, f: &Formula, graph: &Graph) -> Result<(), Memory>
+        ensures left { LeavesKnown self.old self.new }
+    {
+        let defined = Defined {
+            f,
+            graph,
+            nodes: &self.nodes,
+        };
+        self.questions
+            .conditions
+            .find_suspects(self.questions.alloc, &defined)
     }
 
     // Notes what was found of the existential at a place.

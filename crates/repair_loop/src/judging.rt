@@ -165,7 +165,8 @@ impl<'f, 'p> Search<'f, 'p> {
         shown_outputs_decide();
         let f = self.f;
         let nodes = candidates.outputs.items();
-        match checker.turn(oracle, candidates.graph, f, nodes, log)? {
+        let suspects = known.definitions.suspects();
+        match checker.turn(oracle, candidates.graph, f, nodes, suspects, log)? {
             Turn::Holds(id) => Ok(Judged::Hold(id)),
             Turn::Fails { row, values, j } => {
                 let found = Failure { row, values, j };

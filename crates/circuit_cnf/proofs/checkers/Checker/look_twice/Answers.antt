@@ -1,4 +1,4 @@
-use Rattle.std.proofs.Common.{◌≡◌, length, map, sym, ◌∙◌, ap, subst, Ok}
+use Rattle.std.proofs.Common.{◌≡◌, length, map, refl, sym, ◌∙◌, ap, subst, Ok}
 use Rattle.dq_lits.specs.Row.{bit_of}
 use Rattle.aig_graph.specs.Graph.{node_value}
 use Rattle.dq_lits.specs.Literal.{variable_of}
@@ -137,7 +137,7 @@ unreachable-requires g c =
     let values = g.O.Oracle.values c.look-2.new.oracle in
     let are = w.group_made.before.inputs in
     let more = c.look.ensures.saying start w (c.in_ok-id.was ∙ ap Ok c.in-None.is) in
-    let found = c.look-2.ensures.failing start more (c.in_ok-id-2.was ∙ ap Ok c.in-None-2.is) c.clauses.ensures.value in
+    let found = c.look-2.ensures.failing start more (c.in_ok-id-2.was ∙ ap Ok c.in-None-2.is) refl in
     let failing = subst (λ xs. AreFailing f (leaf_of f xs c.args.faults.now.outputs.now) start.entries values)
     c.requires.same_inputs found in
     let nodes : length c.args.circuit.now.outputs.now ≡ length f.existentials =

@@ -15,10 +15,17 @@ returns-in_err-leaves-clause-turned g c =
     (leaves_turned c.args.f.now c.args.self.now c.output_leaves.new.self c.args.log.now c.output_leaves.new.log
     leaves.checker leaves.group leaves.grew leaves.faults c.requires.few)
 
+pub returns-in_err-first-clause-turned : goal.returns-in_err-first-clause-turned
+returns-in_err-first-clause-turned g c =
+    let leaves = c.output_leaves.ensures in
+    quiet_turned c.args.f.now c.args.self.now c.output_leaves.new.self _ c.args.log.now c.output_leaves.new.log
+    (leaves_turned c.args.f.now c.args.self.now c.output_leaves.new.self c.args.log.now c.output_leaves.new.log
+    leaves.checker leaves.group leaves.grew leaves.faults c.requires.few)
+
 pub search-requires-clause-leaves : goal.search-requires-clause-leaves
 search-requires-clause-leaves g c = subst
     (AreLeavesOf c.args.f.now c.args.graph.now c.output_leaves.new.log.entries c.args.outputs.now)
-    (sym c.deref.ensures.value) c.in_ok-leaves.ensures.leaves
+    (sym c.deref-2.ensures.value) c.in_ok-leaves.ensures.leaves
 
 pub search-requires-clause-few : goal.search-requires-clause-few
 search-requires-clause-few g c = few_same (group_of c.args.self.now) c.args.log.now c.output_leaves.new.log
@@ -45,9 +52,9 @@ returns-clause-turned g c =
 pub returns-clause-shown : goal.returns-clause-shown
 returns-clause-shown g c id e =
     let have = subst (AreLeavesOf c.args.f.now c.args.graph.now c.output_leaves.new.log.entries c.args.outputs.now)
-    (sym c.deref.ensures.value) c.in_ok-leaves.ensures.leaves in
+    (sym c.deref-2.ensures.value) c.in_ok-leaves.ensures.leaves in
     shown_since c.args.f.now c.args.graph.now c.output_leaves.new.log.entries c.output_leaves.new.self.inputs.items
-    c.args.outputs.now c.deref.result.now c.output_leaves.ensures.checker.inputs have
+    c.args.outputs.now c.deref-2.result.now c.output_leaves.ensures.checker.inputs have
     c.args.log.now.entries c.search.new.log.entries id c.requires.formula c.requires.a_node_an_existential
     (unnamed_before_gates c.args.f.now (group_of c.args.self.now) c.args.log.now c.output_leaves.new.log
     c.output_leaves.ensures.grew) (c.search.ensures.held id (c.in_ok-found.was ∙ e))
@@ -55,8 +62,8 @@ returns-clause-shown g c id e =
 pub returns-clause-holds : goal.returns-clause-holds
 returns-clause-holds g c id e =
     let have = subst (AreLeavesOf c.args.f.now c.args.graph.now c.output_leaves.new.log.entries c.args.outputs.now)
-    (sym c.deref.ensures.value) c.in_ok-leaves.ensures.leaves in
+    (sym c.deref-2.ensures.value) c.in_ok-leaves.ensures.leaves in
     outputs_hold c.args.f.now c.args.graph.now c.output_leaves.new.log.entries c.output_leaves.new.self.inputs.items
-    c.args.outputs.now c.deref.result.now c.output_leaves.ensures.checker.inputs have
+    c.args.outputs.now c.deref-2.result.now c.output_leaves.ensures.checker.inputs have
     c.shown_outputs_hold.ensures c.search.new.log.entries id c.requires.formula
     c.requires.a_node_an_existential (c.search.ensures.held id (c.in_ok-found.was ∙ e))

@@ -1,6 +1,6 @@
 use Rattle.std.proofs.Common.{length}
-use Rattle.circuit_cnf.specs.Saying.{leaf_in, selector_in}
-use Rattle.circuit_cnf.proofs.GroupFaults.{bads_are_at, bads_count, given_up_to, bads_stay}
+use Rattle.circuit_cnf.specs.Saying.{given_after, leaf_in, selector_in}
+use Rattle.circuit_cnf.proofs.GroupFaults.{bads_are_at, bads_count, bads_stay, chosen_given}
 use Rattle.circuit_cnf.proofs.SaidFaults.{said_then, may_say_on}
 use Rattle.circuit_cnf.proofs.fault_clauses.Faults.say.Goals as goal
 
@@ -35,6 +35,6 @@ returns-clause-said g c =
 
 pub returns-clause-given : goal.returns-clause-given
 returns-clause-given g c =
-    given_up_to c.args.self.now.f.now (selector_in c.args.self.now)
-    (leaf_in c.args.self.now) c.args.bads.now c.args.part.upto c.part_faults.new.log c.some_fault.new.log
+    chosen_given c.args.self.now.f.now (selector_in c.args.self.now)
+    (leaf_in c.args.self.now) c.args.bads.now (given_after c.args.part.now) c.part_faults.new.log c.some_fault.new.log
     c.in_ok-part_faults.ensures.given c.in_ok-some_fault.ensures.ok
