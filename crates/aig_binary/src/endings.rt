@@ -2,7 +2,7 @@
 
 ghost use Rattle.std.specs.Prelude.{◌≡◌, ◌+◌, ◌≤◌, length, IfOk, IfSome};
 ghost use Rattle.dq_text.specs.Line.{lines_from};
-ghost use Rattle.aiger_text.specs.ReaderState.{IsReady};
+ghost use Rattle.aiger_text.specs.ReaderState.{IsCircuitReader};
 ghost use Rattle.aig_binary.specs.Scan.{read_symbols};
 ghost use Rattle.aig_binary.specs.Endings.{IsEndingOf};
 
@@ -24,7 +24,7 @@ pub fn read_ending<'a>(
     reader: &mut CircuitReader,
     lines: &mut Lines<'a>,
 ) -> Result<Option<Comment<'a>>, AagStop>
-    requires { IsReady reader.old }
+    requires { IsCircuitReader reader.old }
     ensures ending { IsEndingOf
         (read_symbols reader.old.header reader.old.symbols
         (lines_from lines.old.number lines.old.rest)) result reader.new.symbols }

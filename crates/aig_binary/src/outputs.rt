@@ -1,7 +1,7 @@
 //! The lines of the outputs.
 
 ghost use Rattle.std.specs.Prelude.{◌≡◌, ◌+◌, ◌<◌, ◌≤◌, [], length, OnOk};
-ghost use Rattle.aiger_text.specs.ReaderState.{IsReady};
+ghost use Rattle.aiger_text.specs.ReaderState.{IsCircuitReader};
 ghost use Rattle.aig_binary.specs.Scan.{read_outputs};
 ghost use Rattle.aig_binary.specs.Steps.{IsFresh, AreOutputsOf};
 
@@ -11,13 +11,13 @@ use dq_text::Lines;
 
 /// Reads a line for each output that the header states.
 pub fn take_outputs(reader: &mut CircuitReader, lines: &mut Lines) -> Result<(), AagStop>
-    requires ready { IsReady reader.old }
+    requires ready { IsCircuitReader reader.old }
     requires fresh { IsFresh reader.old }
     requires line { lines.old.number ≡ reader.old.header_line + 1 }
     ensures outputs { AreOutputsOf
         (read_outputs reader.old.header.outputs reader.old.circuit lines.old.number
         lines.old.rest) result reader.new.circuit lines.new.rest }
-    ensures ready { OnOk result (IsReady reader.new) }
+    ensures ready { OnOk result (IsCircuitReader reader.new) }
     ensures header_line { reader.new.header_line ≡ reader.old.header_line }
     ensures header { reader.new.header ≡ reader.old.header }
     ensures no_inputs { OnOk result (reader.new.circuit.inputs ≡ []) }

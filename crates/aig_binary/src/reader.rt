@@ -1,7 +1,7 @@
 //! Reading a circuit file.
 
 ghost use Rattle.std.specs.Prelude.{◌≡◌, ◌+◌, ◌<◌, ◌^◌, [], length, IfOk, IfErr, IfSome};
-ghost use Rattle.aiger_text.specs.ReaderState.{IsReady};
+ghost use Rattle.aiger_text.specs.ReaderState.{IsCircuitReader};
 ghost use Rattle.aig_binary.specs.BareReading.{listed, IsReadingBy};
 ghost use Rattle.aiger_text.specs.declared.faults.AagStop.TheVariants.{Memory as NoMemory};
 ghost use Rattle.aig_binary.specs.BareFile.{IsBare, IsBareOf, bare_with};
@@ -48,7 +48,7 @@ fn read_outputs(
     mut reader: CircuitReader,
     mut lines: Lines,
 ) -> Result<BareCircuit, AagStop>
-    requires ready { IsReady reader }
+    requires ready { IsCircuitReader reader }
     requires fresh { IsFresh reader }
     requires all_defined { reader.header.max_var ≡ reader.header.inputs + reader.header.gates }
     requires line { lines.number ≡ reader.header_line + 1 }
@@ -65,7 +65,7 @@ fn read_outputs(
 
 // The file behind the outputs' lines.
 fn read_gates(alloc: Global, reader: CircuitReader, bytes: &[u8]) -> Result<BareCircuit, AagStop>
-    requires ready { IsReady reader }
+    requires ready { IsCircuitReader reader }
     requires no_inputs { reader.circuit.inputs ≡ [] }
     requires no_gates { reader.circuit.gates ≡ [] }
     requires all_defined { reader.header.max_var ≡ reader.header.inputs + reader.header.gates }
@@ -99,7 +99,7 @@ fn read_symbols(
     circuit: Circuit,
     mut lines: Lines,
 ) -> Result<BareCircuit, AagStop>
-    requires ready { IsReady reader }
+    requires ready { IsCircuitReader reader }
     requires fresh { IsFresh reader }
     requires bare { IsBareOf reader.header circuit }
     requires line { lines.number ≡ reader.header_line + 1 + reader.header.outputs + 1 }

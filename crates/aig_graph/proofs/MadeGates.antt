@@ -14,7 +14,7 @@ use Rattle.aig_graph.specs.declared.nodes.Sides.{Sides}
 use Rattle.aig_graph.specs.Graph.{AigGraph, IsEarlierNode, IsNode, IsGraph, AreSides, gate_at}
 use Rattle.aig_graph.specs.Made.{HasMore}
 use Rattle.aig_graph.specs.Substituting.{IsPutIn}
-use Rattle.aig_graph.specs.Putting.{IsAmongGates, AreConeGates, HasPutIn, IsReady, AreReady}
+use Rattle.aig_graph.specs.Putting.{IsAmongGates, AreConeGates, HasPutIn, IsSubstituted, AreSidesSubstituted}
 use Rattle.aig_graph.proofs.Numbered.{sides_are, gate_there}
 use Rattle.aig_graph.proofs.LargerGraphs.{extends, more_more, number_of}
 use Rattle.aig_graph.proofs.GatheredCones.{gate_earlier}
@@ -61,7 +61,7 @@ module _ (old mid : AigGraph) (node : Node) (subs : List Node) (gates : List ℕ
     ])
   ]) (slice_get-get_or gates j h below ∙ ap Some is)
 
-  pub sides_ready : AreReady mid subs made g
+  pub sides_ready : AreSidesSubstituted mid subs made g
   sides_ready s there = (ready s.left sides.left closed.0, ready s.right sides.right closed.1) where
     own : (t : Sides) × (gate_at old.gates g ≡ Some t)
     own = gate_there old.gates g gate_within
@@ -78,7 +78,7 @@ module _ (old mid : AigGraph) (node : Node) (subs : List Node) (gates : List ℕ
     closed : IsAmongGates gates s.left × IsAmongGates gates s.right
     closed = cone.closed g s (at, slice_get_within gates at g here, get_or_from_slice_get gates at g g here) at_old
 
-    ready : (n : Node) → IsEarlierNode old.inputs g n → IsAmongGates gates n → IsReady mid subs made n
+    ready : (n : Node) → IsEarlierNode old.inputs g n → IsAmongGates gates n → IsSubstituted mid subs made n
     ready n earlier among h is = earlier_made h (among h is) (gate_earlier old.inputs g h n earlier is)
 
   pub put_in_more : (new : AigGraph) (n : Node) (after : BTreeMap ℕ Node) → All (IsNode old) subs → HasMore mid new →
@@ -128,7 +128,7 @@ module _ (old mid : AigGraph) (node : Node) (subs : List Node) (gates : List ℕ
 
 -- all are made
 pub node_ready : (old mid : AigGraph) (node : Node) (subs : List Node) (gates : List ℕ) (made : BTreeMap ℕ Node) →
-    AreConeGates old node gates → ArePutInFrom old mid subs gates made 0 → IsReady mid subs made node
+    AreConeGates old node gates → ArePutInFrom old mid subs gates made 0 → IsSubstituted mid subs made node
 node_ready old mid node subs gates made cone far g is =
     let (k, below, at) = cone.root g is in
     far.each k g (omega arith) (slice_get-get_or gates k g below ∙ ap Some at)

@@ -46,11 +46,11 @@ pub record HasPutIn (graph : AigGraph) (subs : List Node) (made : BTreeMap ℕ N
   pub put_in : IsPutIn graph graph (Gate g false) subs node
 
 -- if the node is a gate, something was made of it
-abbrev pub IsReady : AigGraph → List Node → BTreeMap ℕ Node → Node → Type 0
-IsReady graph subs made node = (g : ℕ) → gate_of node ≡ Some g → HasPutIn graph subs made g
+abbrev pub IsSubstituted : AigGraph → List Node → BTreeMap ℕ Node → Node → Type 0
+IsSubstituted graph subs made node = (g : ℕ) → gate_of node ≡ Some g → HasPutIn graph subs made g
 
 -- something was made of the gates among a gate's sides
-abbrev pub AreReady : AigGraph → List Node → BTreeMap ℕ Node → ℕ → Type 0
-AreReady graph subs made g =
+abbrev pub AreSidesSubstituted : AigGraph → List Node → BTreeMap ℕ Node → ℕ → Type 0
+AreSidesSubstituted graph subs made g =
     (sides : Sides) → gate_at graph.gates g ≡ Some sides
-    → IsReady graph subs made sides.left × IsReady graph subs made sides.right
+    → IsSubstituted graph subs made sides.left × IsSubstituted graph subs made sides.right

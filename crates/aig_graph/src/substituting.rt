@@ -5,7 +5,7 @@
 ghost use Rattle.std.specs.Prelude.{◌≡◌, ◌≤◌, ◌<◌, false, length, All, IfOk, OnErr};
 ghost use Rattle.aig_graph.specs.Graph.{IsNode};
 ghost use Rattle.aig_graph.specs.Made.{Extends, HasMore};
-ghost use Rattle.aig_graph.specs.Putting.{AreConeGates, IsReady, AreReady, HasPutIn};
+ghost use Rattle.aig_graph.specs.Putting.{AreConeGates, IsSubstituted, AreSidesSubstituted, HasPutIn};
 ghost use Rattle.aig_graph.specs.Substituting.{IsPutIn};
 
 use crate::graphs::Graph;
@@ -67,7 +67,7 @@ impl Graph {
         requires gate { g < length self.old.gates }
         requires subs { All (IsNode self.old) subs.now }
         requires few { length subs.now ≤ self.old.inputs }
-        requires ready { AreReady self.old subs.now made.now g }
+        requires ready { AreSidesSubstituted self.old subs.now made.now g }
         ensures grown { HasMore self.old self.new }
         ensures put_in { IfOk result (IsPutIn self.new self.new (Node.Gate g false) subs.now) }
     {
@@ -83,7 +83,7 @@ impl Graph {
         requires side { IsNode self.now side }
         requires subs { All (IsNode self.now) subs.now }
         requires few { length subs.now ≤ self.now.inputs }
-        requires ready { IsReady self.now subs.now made.now side }
+        requires ready { IsSubstituted self.now subs.now made.now side }
         ensures { IsPutIn self.now self.now side subs.now result }
     {
         match side {

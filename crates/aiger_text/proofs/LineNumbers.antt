@@ -11,8 +11,8 @@ use Rattle.aiger_text.specs.Symbol.{SymbolTable}
 use Rattle.aiger_text.specs.declared.headers.Header.{Header}
 use Rattle.aiger_text.specs.declared.files.AagFile.{AagFile}
 use Rattle.aiger_text.specs.declared.faults.AagFault.{AagFault}
-use Rattle.aiger_text.specs.declared.body.Part.{Part}
-use Rattle.aiger_text.specs.declared.body.Part.TheVariants.{InputLine, OutputLine, GateLine, SymbolLine}
+use Rattle.aiger_text.specs.declared.body.NextLine.{NextLine}
+use Rattle.aiger_text.specs.declared.body.NextLine.TheVariants.{InputLine, OutputLine, GateLine, SymbolLine}
 
 -- two lines but for their numbers
 record SameLine (k l : TextLine) : Type 0 where
@@ -70,7 +70,7 @@ module _ (file : AagFile) (line : ℕ) where
       (position (λ g. not (reads_defined b.netlist g)) b.netlist.gates)
       (record { circuit = b.netlist; symbols = b.symbols; comment = comment }) read
 
-  end_same : (part : Part) (b : Body) (n m : ℕ) → at_end part b n ≡ Ok file → at_end part (relined line b) m ≡ Ok file
+  end_same : (part : NextLine) (b : Body) (n m : ℕ) → at_end part b n ≡ Ok file → at_end part (relined line b) m ≡ Ok file
   end_same InputLine b n m read = cc
   end_same OutputLine b n m read = cc
   end_same GateLine b n m read = cc
@@ -101,7 +101,7 @@ module _ (file : AagFile) (line : ℕ) where
   choice_same false true n m b r comment next other goes read = finish_same b (Some comment) read
   choice_same false false n m b r comment next other goes read = table_same n m b r next other goes read
 
-  line_same : (part : Part) (b : Body) (text behind : List ℕ) (n m : ℕ) (next other : Body → Result AagFile LineFault) →
+  line_same : (part : NextLine) (b : Body) (text behind : List ℕ) (n m : ℕ) (next other : Body → Result AagFile LineFault) →
       GoesOnAs next other →
       read_line part b (record { text = text; number = n; behind = behind }) next ≡ Ok file →
       read_line part (relined line b) (record { text = text; number = m; behind = behind }) other ≡ Ok file

@@ -14,7 +14,7 @@ use Rattle.aiger_text.specs.declared.numbers.GateNumbers.{GateNumbers}
 use Rattle.aiger_text.specs.declared.files.AagFile.{AagFile}
 use Rattle.aiger_text.specs.declared.faults.AagFault.{AagFault}
 use Rattle.aiger_text.specs.declared.faults.AagFault.TheVariants.{TooBig, Range, DefinedTwice}
-use Rattle.aiger_text.specs.declared.body.Part.TheVariants.{InputLine, OutputLine, GateLine}
+use Rattle.aiger_text.specs.declared.body.NextLine.TheVariants.{InputLine, OutputLine, GateLine}
 use Rattle.aiger_text.proofs.NaturalTokens.{numbers_are}
 use Rattle.aiger_text.proofs.SpelledNetlist.{no_symbols, body_with, at_input, at_output, at_gate, on_part}
 use Rattle.aiger_text.proofs.Stages.{AddsItem, CompletesStage, stage_spelled}

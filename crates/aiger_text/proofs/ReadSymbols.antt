@@ -16,7 +16,7 @@ use Rattle.aiger_text.specs.declared.headers.Header.{Header}
 use Rattle.aiger_text.specs.declared.files.AagFile.{AagFile}
 use Rattle.aiger_text.specs.declared.faults.AagFault.{AagFault}
 use Rattle.aiger_text.specs.declared.faults.AagFault.TheVariants.{BadSymbol}
-use Rattle.aiger_text.specs.declared.body.Part.TheVariants.{SymbolLine as AtSymbol}
+use Rattle.aiger_text.specs.declared.body.NextLine.TheVariants.{SymbolLine as AtSymbol}
 use Rattle.aiger_text.proofs.SpelledNetlist.{body_with, at_symbol, on_part}
 use Rattle.aiger_text.proofs.SpelledSymbols.{joined, joined-nil, joined-cons, with_name}
 use Rattle.aiger_text.proofs.SpelledSymbolLines.{symbol_is}

@@ -16,8 +16,8 @@ use Rattle.aiger_text.specs.declared.headers.Header.{Header}
 use Rattle.aiger_text.specs.declared.numbers.GateNumbers.{GateNumbers}
 use Rattle.aiger_text.specs.declared.files.AagFile.{AagFile}
 use Rattle.aiger_text.specs.declared.faults.AagFault.TheVariants.{TooBig, Range}
-use Rattle.aiger_text.specs.declared.body.Part.{Part}
-use Rattle.aiger_text.specs.declared.body.Part.TheVariants.{InputLine, OutputLine, GateLine, SymbolLine}
+use Rattle.aiger_text.specs.declared.body.NextLine.{NextLine}
+use Rattle.aiger_text.specs.declared.body.NextLine.TheVariants.{InputLine, OutputLine, GateLine, SymbolLine}
 use Rattle.aiger_text.proofs.NaturalTokens.{numbers_from}
 use Rattle.aiger_text.proofs.Stages.{stage_read}
 use Rattle.aiger_text.proofs.Variables.{input_passes, gate_passes, gate_in_range}
@@ -64,7 +64,7 @@ at_symbol line h table is os gs full full_outputs full_gates =
     ∙ cond-false (nat_lt (length gs) h.gates) GateLine SymbolLine (le-ltb (length gs) h.gates (omega arith))
 
 -- the line is of this part
-pub on_part : (part : Part) (b : Body) (line : TextLine) (lines : List TextLine) (number : ℕ) → next_part b ≡ part →
+pub on_part : (part : NextLine) (b : Body) (line : TextLine) (lines : List TextLine) (number : ℕ) → next_part b ≡ part →
     read_body b (line ∷ lines) number ≡ read_line part b line (λ c. read_body c lines (line.number + 1))
 on_part part b line lines number h = ap (λ p. read_line p b line (λ c. read_body c lines (line.number + 1))) h
 

@@ -16,7 +16,7 @@ use Rattle.aiger_text.specs.Symbol.{SymbolTable, name_at}
 use Rattle.aiger_text.specs.declared.headers.Header.{Header}
 use Rattle.aiger_text.specs.declared.files.AagFile.{AagFile}
 use Rattle.aiger_text.specs.declared.faults.AagFault.TheVariants.{BadSymbol}
-use Rattle.aiger_text.specs.declared.body.Part.TheVariants.{SymbolLine as AtSymbol}
+use Rattle.aiger_text.specs.declared.body.NextLine.TheVariants.{SymbolLine as AtSymbol}
 use Rattle.aiger_text.proofs.SpelledNetlist.{body_with, at_symbol, on_part, is_member, not_before}
 use Rattle.aiger_text.proofs.SpelledSymbolLines.{symbol_from}
 

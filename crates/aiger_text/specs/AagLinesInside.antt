@@ -2,7 +2,7 @@
 use Rattle.std.specs.Prelude.{◌≡◌, ℕ, ◌+◌, ◌<◌, ◌^◌, Bool, true, false, List, ◌∷◌, Option, None, Some, Result, Ok, Err, IfSome, IfNone, []}
 use Rattle.std.specs.Option.{option_map}
 use Rattle.dq_text.specs.Line.{TextLine}
-use Rattle.aiger_text.specs.ReaderState.{IsReady, body_of}
+use Rattle.aiger_text.specs.ReaderState.{IsCircuitReader, body_of}
 use Rattle.aiger_text.specs.Scan.{Body, IsAagReading, finish, read_body, read_lines}
 use Rattle.aiger_text.specs.Steps.{line_of}
 use Rattle.aiger_text.specs.declared.body.CircuitReader.{CircuitReader}
@@ -23,7 +23,7 @@ lines_in l =
 
 -- a file that is read, and whether its comment began
 pub record IsReadSoFar (r : CircuitReader) (in_comment : Bool) : Type 0 where
-  pub ready : IsReady r
+  pub ready : IsCircuitReader r
   pub whole : in_comment ≡ true → IsWhole (body_of r)
 
 pub record IsReader (l : Inside) : Type 0 where

@@ -30,7 +30,7 @@ pub record IsSmall (h : Header) : Type 0 where
   pub gates : h.gates ≤ MAX_COUNT
 
 -- the set has the variables of the inputs and gates, and the circuit the header's range
-pub record IsReady (r : CircuitReader) : Type 0 where
+pub record IsCircuitReader (r : CircuitReader) : Type 0 where
   pub defined : (v : ℕ) → has_number r.defined v ≡ is_defined r.circuit v
   pub max_var : r.circuit.max_var ≡ r.header.max_var
   pub small : IsSmall r.header

@@ -14,8 +14,8 @@ use Rattle.aiger_text.specs.declared.faults.AagFault.TheVariants.{BadHeader, Und
 use Rattle.aiger_text.specs.declared.faults.AagStop.{AagStop}
 use Rattle.aiger_text.specs.declared.faults.AagStop.TheVariants.{Refused, Memory}
 use Rattle.aiger_text.specs.declared.files.AagFile.{AagFile}
-use Rattle.aiger_text.specs.declared.body.Part.{Part}
-use Rattle.aiger_text.specs.declared.body.Part.TheVariants.{InputLine, OutputLine, GateLine, SymbolLine}
+use Rattle.aiger_text.specs.declared.body.NextLine.{NextLine}
+use Rattle.aiger_text.specs.declared.body.NextLine.TheVariants.{InputLine, OutputLine, GateLine, SymbolLine}
 
 -- a fault by its line and name
 pub record LineFault : Type 0 where
@@ -73,7 +73,7 @@ finish b comment =
     (record { circuit = b.netlist; symbols = b.symbols; comment = comment })
 
 -- which line comes next
-abbrev pub next_part : Body → Part
+abbrev pub next_part : Body → NextLine
 next_part b =
     if nat_lt (length b.netlist.inputs) b.header.inputs then InputLine else
     if nat_lt (length b.netlist.outputs) b.header.outputs then OutputLine else
@@ -98,7 +98,7 @@ behind_gates b line next =
     if begins_comment line.text then finish b (Some line.behind) else
     with_symbol line.number b (symbol_line b.header b.symbols (symbol_of line.text)) next
 
-abbrev pub read_line : Part → Body → TextLine → (Body → Result AagFile LineFault)
+abbrev pub read_line : NextLine → Body → TextLine → (Body → Result AagFile LineFault)
     → Result AagFile LineFault
 read_line InputLine b line next =
     go_on line.number b (input_line b.netlist (numbers_of (line_tokens line.text))) next
@@ -109,7 +109,7 @@ read_line GateLine b line next =
 read_line SymbolLine b line next = behind_gates b line next
 
 -- the end of the text, where the next line would have this number
-abbrev pub at_end : Part → Body → ℕ → Result AagFile LineFault
+abbrev pub at_end : NextLine → Body → ℕ → Result AagFile LineFault
 at_end InputLine b number = Err (record { line = number; name = Truncated })
 at_end OutputLine b number = Err (record { line = number; name = Truncated })
 at_end GateLine b number = Err (record { line = number; name = Truncated })

@@ -4,8 +4,8 @@ use Rattle.dq_text.specs.Line.{TextLine}
 use Rattle.dq_text.specs.BlankLine.{is_blank_line}
 use Rattle.aiger_text.specs.Lines.{begins_comment}
 use Rattle.aiger_text.specs.Scan.{Body, LineFault, next_part, read_line, finish}
-use Rattle.aiger_text.specs.declared.body.Part.{Part}
-use Rattle.aiger_text.specs.declared.body.Part.TheVariants.{InputLine, OutputLine, GateLine, SymbolLine}
+use Rattle.aiger_text.specs.declared.body.NextLine.{NextLine}
+use Rattle.aiger_text.specs.declared.body.NextLine.TheVariants.{InputLine, OutputLine, GateLine, SymbolLine}
 use Rattle.aiger_text.specs.declared.faults.AagStop.{AagStop}
 use Rattle.aiger_text.specs.declared.faults.AagStop.TheVariants.{Refused, Memory as NoMemory}
 use Rattle.aiger_text.specs.declared.faults.LineStop.{LineStop}
@@ -33,7 +33,7 @@ StopsAt line (Fault name) stop = stop ≡ Refused line name
 StopsAt line Memory stop = stop ≡ NoMemory
 
 -- where symbols stand, the line is neither blank nor the comment's mark
-abbrev pub IsSymbolIfLast : Part → List ℕ → Type 0
+abbrev pub IsSymbolIfLast : NextLine → List ℕ → Type 0
 IsSymbolIfLast InputLine text = Unit {0}
 IsSymbolIfLast OutputLine text = Unit {0}
 IsSymbolIfLast GateLine text = Unit {0}

@@ -5,7 +5,7 @@ ghost use Rattle.circuit_plain.specs.Netlist.{IsLiteral};
 ghost use Rattle.dq_text.specs.Line.{line_tokens};
 ghost use Rattle.aiger_text.specs.Lines.{numbers_of, is_positive, is_literal, with_input, with_output, with_gate, input_of, output_of, gate_of, input_line, output_line, gate_line};
 ghost use Rattle.aiger_text.specs.Scan.{start, next_part};
-ghost use Rattle.aiger_text.specs.ReaderState.{body_of, IsSmall, IsReady, IsNetlistOf, SameElse, IsNewVariable, IsNewGate};
+ghost use Rattle.aiger_text.specs.ReaderState.{body_of, IsSmall, IsCircuitReader, IsNetlistOf, SameElse, IsNewVariable, IsNewGate};
 
 use crate::faults::{AagFault, LineStop};
 use crate::headers::Header;
@@ -31,7 +31,7 @@ pub struct CircuitReader {
 
 /// Which line comes next.
 #[derive(Clone, Copy, PartialEq, Eq)]
-pub enum Part {
+pub enum NextLine {
     InputLine,
     OutputLine,
     GateLine,
@@ -49,7 +49,7 @@ pub fn start_reader(
     requires small { IsSmall header }
     requires line { header_line < 2 ^ 62 }
     ensures body { body_of result ≡ start header_line header }
-    ensures ready { IsReady result }
+    ensures ready { IsCircuitReader result }
 {
     CircuitReader {
         header_line,
@@ -79,7 +79,7 @@ fn is_literal_in_range(max_var: u64, literal: u64) -> bool
 
 // The variable of an input.
 fn input_variable(reader: &CircuitReader, literal: u64) -> Result<u64, AagFault>
-    requires { IsReady reader.now }
+    requires { IsCircuitReader reader.now }
     ensures { MatchResult result
         (λ v. (input_of reader.now.circuit literal ≡ Ok (with_input reader.now.circuit v))
         × IsNewVariable reader.now.circuit v)
@@ -99,13 +99,13 @@ fn input_variable(reader: &CircuitReader, literal: u64) -> Result<u64, AagFault>
 
 /// Reads the line of an input.
 pub fn take_input(reader: &mut CircuitReader, line: &[u8]) -> Result<(), LineStop>
-    requires ready { IsReady reader.old }
+    requires ready { IsCircuitReader reader.old }
     requires room { length reader.old.circuit.inputs < reader.old.header.inputs }
     ensures netlist { IsNetlistOf
         (input_line reader.old.circuit (numbers_of (line_tokens line.now))) result
         reader.new.circuit }
     ensures same { SameElse reader.old reader.new }
-    ensures ready { OnOk result (IsReady reader.new) }
+    ensures ready { OnOk result (IsCircuitReader reader.new) }
 {
     let literal = one_number(line, &mut reader.numbers)?;
     let variable = input_variable(reader, literal)?;
@@ -116,7 +116,7 @@ pub fn take_input(reader: &mut CircuitReader, line: &[u8]) -> Result<(), LineSto
 
 // The literal of an output.
 fn output_literal(reader: &CircuitReader, literal: u64) -> Result<u64, AagFault>
-    requires { IsReady reader.now }
+    requires { IsCircuitReader reader.now }
     ensures { MatchResult result
         (λ l. (output_of reader.now.circuit literal ≡ Ok (with_output reader.now.circuit l))
         × IsLiteral reader.now.circuit.max_var l)
@@ -133,13 +133,13 @@ fn output_literal(reader: &CircuitReader, literal: u64) -> Result<u64, AagFault>
 
 /// Reads the line of an output.
 pub fn take_output(reader: &mut CircuitReader, line: &[u8]) -> Result<(), LineStop>
-    requires ready { IsReady reader.old }
+    requires ready { IsCircuitReader reader.old }
     requires room { length reader.old.circuit.outputs < reader.old.header.outputs }
     ensures netlist { IsNetlistOf
         (output_line reader.old.circuit (numbers_of (line_tokens line.now))) result
         reader.new.circuit }
     ensures same { SameElse reader.old reader.new }
-    ensures ready { OnOk result (IsReady reader.new) }
+    ensures ready { OnOk result (IsCircuitReader reader.new) }
 {
     let number = one_number(line, &mut reader.numbers)?;
     let literal = output_literal(reader, number)?;
@@ -149,7 +149,7 @@ pub fn take_output(reader: &mut CircuitReader, line: &[u8]) -> Result<(), LineSt
 
 // The variable of the gate that a line's numbers are.
 fn gate_variable(reader: &CircuitReader, numbers: GateNumbers) -> Result<u64, AagFault>
-    requires { IsReady reader.now }
+    requires { IsCircuitReader reader.now }
     ensures { MatchResult result
         (λ v. (gate_of reader.now.circuit numbers.lhs numbers.left numbers.right
         ≡ Ok (with_gate reader.now.circuit
@@ -184,12 +184,12 @@ fn is_gate_in_range(max_var: u64, numbers: GateNumbers) -> bool
 
 /// Reads the line of a gate.
 pub fn take_gate(reader: &mut CircuitReader, line: &[u8]) -> Result<(), LineStop>
-    requires ready { IsReady reader.old }
+    requires ready { IsCircuitReader reader.old }
     requires room { length reader.old.circuit.gates < reader.old.header.gates }
     ensures netlist { IsNetlistOf (gate_line reader.old.circuit (numbers_of (line_tokens line.now)))
         result reader.new.circuit }
     ensures same { SameElse reader.old reader.new }
-    ensures ready { OnOk result (IsReady reader.new) }
+    ensures ready { OnOk result (IsCircuitReader reader.new) }
 {
     let numbers = three_numbers(line, &mut reader.numbers)?;
     let variable = gate_variable(reader, numbers)?;
@@ -201,16 +201,16 @@ pub fn take_gate(reader: &mut CircuitReader, line: &[u8]) -> Result<(), LineStop
 }
 
 /// Which line comes next.
-pub fn part_of(reader: &CircuitReader) -> Part
+pub fn part_of(reader: &CircuitReader) -> NextLine
     ensures { result ≡ next_part (body_of reader.now) }
 {
     if (reader.circuit.inputs().len() as u64) < reader.header.inputs {
-        Part::InputLine
+        NextLine::InputLine
     } else if (reader.circuit.outputs().len() as u64) < reader.header.outputs {
-        Part::OutputLine
+        NextLine::OutputLine
     } else if (reader.circuit.gates() as u64) < reader.header.gates {
-        Part::GateLine
+        NextLine::GateLine
     } else {
-        Part::SymbolLine
+        NextLine::SymbolLine
     }
 }

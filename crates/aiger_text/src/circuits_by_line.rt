@@ -2,7 +2,7 @@
 
 ghost use Rattle.std.specs.Prelude.{◌≡◌, ◌+◌, ◌<◌, ◌^◌, true, false, [], Some, None, Err, IsSome, IfSome, IfNone, IfErr, IfOk, OnOk, OnErr};
 ghost use Rattle.std.specs.Option.{option_map};
-ghost use Rattle.aiger_text.specs.ReaderState.{body_of, IsReady};
+ghost use Rattle.aiger_text.specs.ReaderState.{body_of, IsCircuitReader};
 ghost use Rattle.aiger_text.specs.Scan.{IsAagReading, finish, read_body};
 ghost use Rattle.aiger_text.specs.AagLinesInside.{BeginsWith, IsReadSoFar, TakesBehind};
 ghost use Rattle.aiger_text.specs.CircuitLines.{as_file, gives, header_line, header_line_or, lines_give, netlist_so_far, no_lines, with_stop, GoesOn, IsWhole, Reads, ReadsLine};
@@ -234,7 +234,7 @@ fn take_next(
 fn begin(alloc: Global, number: u64, text: &[u8]) -> Result<CircuitReader, AagStop>
     requires { number < 2 ^ 62 }
     ensures line { BeginsWith number text.now result }
-    ensures ready { IfOk result IsReady }
+    ensures ready { IfOk result IsCircuitReader }
     ensures at { IfOk result (λ reader. reader.header_line ≡ number) }
 {
     let mut numbers = Vec::new(alloc);
@@ -251,9 +251,9 @@ fn take_behind(
     reader: &mut CircuitReader,
     text: &[u8],
 ) -> Result<Taken, AagStop>
-    requires ready { IsReady reader.old }
+    requires ready { IsCircuitReader reader.old }
     ensures line { TakesBehind (body_of reader.old) number text.now result (body_of reader.new) }
-    ensures ready { OnOk result (IsReady reader.new) }
+    ensures ready { OnOk result (IsCircuitReader reader.new) }
     ensures at { reader.new.header_line ≡ reader.old.header_line }
 {
     match take_line(alloc, reader, text) {
@@ -311,7 +311,7 @@ fn parts_at_end(
     number: u64,
     reader: CircuitReader,
 ) -> Result<(Circuit, Symbols), AagStop>
-    requires { IsReady reader }
+    requires { IsCircuitReader reader }
     ensures { IsAagReading reader.header_line (read_body (body_of reader) [] number)
         (as_file result) }
 {

@@ -12,9 +12,11 @@ ghost use Rattle.aiger_text.specs.Scan.{scan, finish, checked_file, next_part, a
 ghost use Rattle.circuit_plain.specs.Ground.{IsFirstUngrounded};
 ghost use Rattle.aiger_text.specs.Steps.{TakesLine, TakesAnyLine, StopsAt, IsSymbolIfLast};
 ghost use Rattle.aiger_text.specs.CommentLine.{IsCommentLine, file_of};
-ghost use Rattle.aiger_text.specs.ReaderState.{body_of, IsReady};
+ghost use Rattle.aiger_text.specs.ReaderState.{body_of, IsCircuitReader};
 
-use crate::body::{CircuitReader, Part, part_of, start_reader, take_gate, take_input, take_output};
+use crate::body::{
+    CircuitReader, NextLine, part_of, start_reader, take_gate, take_input, take_output,
+};
 use crate::faults::{AagFault, AagStop, LineStop};
 use crate::files::{AagFile, ReadCircuit, Text};
 use crate::headers::read_header;
@@ -86,7 +88,7 @@ fn behind_mark(
     comment: &[u8],
     line: u64,
 ) -> Result<ReadCircuit, AagStop>
-    requires { IsReady reader }
+    requires { IsCircuitReader reader }
     ensures exact { IsAagReading reader.header_line (finish (body_of reader) (Some comment.now))
         (file_of result) }
     ensures comment { IfOk result (λ read. read.file.comment ≡ Some comment.now) }
@@ -101,20 +103,20 @@ fn behind_mark(
 
 /// The file where the text ends, and the next line would have this number.
 pub fn at_end(alloc: Global, reader: CircuitReader, number: u64) -> Result<ReadCircuit, AagStop>
-    requires { IsReady reader }
+    requires { IsCircuitReader reader }
     ensures exact { IsAagReading reader.header_line
         (at_end (next_part (body_of reader)) (body_of reader) number) (file_of result) }
     ensures comment { IfOk result (λ read. read.file.comment ≡ None) }
     ensures line { IfOk result (λ read. read.comment_line ≡ None) }
 {
     match part_of(&reader) {
-        Part::SymbolLine => without_comment(alloc, reader),
+        NextLine::SymbolLine => without_comment(alloc, reader),
         _ => Err(refused(number, AagFault::Truncated)),
     }
 }
 
 fn without_comment(alloc: Global, reader: CircuitReader) -> Result<ReadCircuit, AagStop>
-    requires { IsReady reader }
+    requires { IsCircuitReader reader }
     ensures exact { IsAagReading reader.header_line (finish (body_of reader) None)
         (file_of result) }
     ensures comment { IfOk result (λ read. read.file.comment ≡ None) }
@@ -145,14 +147,14 @@ pub fn at_line(line: u64, stop: LineStop) -> AagStop
 
 /// Reads the next line behind the header.
 pub fn take_line(alloc: Global, reader: &mut CircuitReader, line: &[u8]) -> Result<Taken, LineStop>
-    requires ready { IsReady reader.old }
+    requires ready { IsCircuitReader reader.old }
     ensures line { TakesAnyLine (body_of reader.old) line.now result (body_of reader.new) }
-    ensures ready { OnOk result (IsReady reader.new) }
+    ensures ready { OnOk result (IsCircuitReader reader.new) }
     ensures header_line { reader.new.header_line ≡ reader.old.header_line }
 {
     match part_of(reader) {
-        Part::SymbolLine if is_blank(line) => Ok(Taken::Line),
-        Part::SymbolLine if is_comment_mark(line) => Ok(Taken::CommentMark),
+        NextLine::SymbolLine if is_blank(line) => Ok(Taken::Line),
+        NextLine::SymbolLine if is_comment_mark(line) => Ok(Taken::CommentMark),
         part => {
             take_part(alloc, reader, part, line)?;
             Ok(Taken::Line)
@@ -164,27 +166,27 @@ pub fn take_line(alloc: Global, reader: &mut CircuitReader, line: &[u8]) -> Resu
 fn take_part(
     alloc: Global,
     reader: &mut CircuitReader,
-    part: Part,
+    part: NextLine,
     line: &[u8],
 ) -> Result<(), LineStop>
-    requires ready { IsReady reader.old }
+    requires ready { IsCircuitReader reader.old }
     requires part { part ≡ next_part (body_of reader.old) }
     requires symbol { IsSymbolIfLast part line.now }
     ensures line { TakesLine (body_of reader.old) line.now result (body_of reader.new) }
-    ensures ready { OnOk result (IsReady reader.new) }
+    ensures ready { OnOk result (IsCircuitReader reader.new) }
     ensures header_line { reader.new.header_line ≡ reader.old.header_line }
 {
     match part {
-        Part::InputLine => take_input(reader, line),
-        Part::OutputLine => take_output(reader, line),
-        Part::GateLine => take_gate(reader, line),
-        Part::SymbolLine => take_symbol(alloc, reader, line),
+        NextLine::InputLine => take_input(reader, line),
+        NextLine::OutputLine => take_output(reader, line),
+        NextLine::GateLine => take_gate(reader, line),
+        NextLine::SymbolLine => take_symbol(alloc, reader, line),
     }
 }
 
 /// Whether a file names only what it defines and has no cycle, as it stands, whatever its comment is.
 pub fn check_file(reader: &CircuitReader) -> Result<(), AagStop>
-    requires { IsReady reader.now }
+    requires { IsCircuitReader reader.now }
     ensures { (comment : Option (List ℕ)) → IsAagReading reader.now.header_line
         (finish (body_of reader.now) comment)
         (checked_file (body_of reader.now) comment result) }
@@ -204,7 +206,7 @@ pub fn finish_file(
     reader: CircuitReader,
     comment: Option<&[u8]>,
 ) -> Result<AagFile, AagStop>
-    requires { IsReady reader }
+    requires { IsCircuitReader reader }
     ensures comment { IfOk result (λ file. file.comment ≡ option_copied comment.entry) }
     ensures exact { IsAagReading reader.header_line
         (finish (body_of reader) (option_copied comment.entry)) result }
@@ -240,7 +242,7 @@ fn cyclic_gate(circuit: &Circuit) -> Result<Option<usize>, Memory>
 
 // The line of the gate at a place.
 fn gate_line(reader: &CircuitReader, place: usize) -> u64
-    requires ready { IsReady reader.now }
+    requires ready { IsCircuitReader reader.now }
     requires in_range { place < length reader.now.circuit.gates }
     ensures { result
         ≡ reader.now.header_line + 1 + length reader.now.circuit.inputs

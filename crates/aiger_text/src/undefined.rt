@@ -4,14 +4,14 @@ ghost use Rattle.std.specs.Prelude.{◌≡◌, ◌+◌, ◌<◌, ◌/◌, not, S
 ghost use Rattle.std.specs.List.{position};
 ghost use Rattle.circuit_plain.specs.Netlist.{gate_at};
 ghost use Rattle.aiger_text.specs.Scan.{stands_on_defined, reads_defined, undefined_line};
-ghost use Rattle.aiger_text.specs.ReaderState.{body_of, IsReady};
+ghost use Rattle.aiger_text.specs.ReaderState.{body_of, IsCircuitReader};
 
 use crate::body::CircuitReader;
 
 /// The line of the first output, or else of the first gate, that names a variable that is neither
 /// input nor gate.
 pub fn first_undefined_line(reader: &CircuitReader) -> Option<u64>
-    requires { IsReady reader.now }
+    requires { IsCircuitReader reader.now }
     ensures { result ≡ undefined_line (body_of reader.now) }
 {
     let behind_inputs = reader.header_line + 1 + reader.header.inputs;
@@ -24,14 +24,14 @@ pub fn first_undefined_line(reader: &CircuitReader) -> Option<u64>
 
 // Whether a literal stands on the constant, an input or a gate.
 fn is_named(reader: &CircuitReader, literal: u64) -> bool
-    requires { IsReady reader.now }
+    requires { IsCircuitReader reader.now }
     ensures { result ≡ stands_on_defined reader.now.circuit literal }
 {
     literal / 2 == 0 || reader.defined.contains(literal / 2)
 }
 
 fn undefined_output(reader: &CircuitReader) -> Option<usize>
-    requires { IsReady reader.now }
+    requires { IsCircuitReader reader.now }
     ensures { result
         ≡ position (λ l. not (stands_on_defined reader.now.circuit l)) reader.now.circuit.outputs }
 {
@@ -43,7 +43,7 @@ fn undefined_output(reader: &CircuitReader) -> Option<usize>
 }
 
 fn undefined_gate(reader: &CircuitReader) -> Option<usize>
-    requires { IsReady reader.now }
+    requires { IsCircuitReader reader.now }
     ensures { result
         ≡ position (λ g. not (reads_defined reader.now.circuit g)) reader.now.circuit.gates }
 {
@@ -57,7 +57,7 @@ fn undefined_gate(reader: &CircuitReader) -> Option<usize>
 
 // Whether the gate at place `i` reads a variable that is neither input nor gate.
 fn names_undefined(reader: &CircuitReader, i: usize) -> bool
-    requires ready { IsReady reader.now }
+    requires ready { IsCircuitReader reader.now }
     requires in_range { i < length reader.now.circuit.gates }
     ensures { result ≡ not (reads_defined reader.now.circuit (gate_at reader.now.circuit i)) }
 {

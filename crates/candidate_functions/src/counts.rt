@@ -5,16 +5,16 @@ const SCALE: u64 = 1024;
 
 // How many examples there are at each branch of a test, by their bits.
 #[derive(Drop)]
-pub(crate) struct Counts {
+pub(crate) struct BranchCounts {
     yes_ones: u64,
     yes_zeros: u64,
     no_ones: u64,
     no_zeros: u64,
 }
 
-impl Counts {
-    pub(crate) fn none() -> Counts {
-        Counts {
+impl BranchCounts {
+    pub(crate) fn none() -> BranchCounts {
+        BranchCounts {
             yes_ones: 0,
             yes_zeros: 0,
             no_ones: 0,

@@ -2,7 +2,7 @@
 
 ghost use Rattle.std.specs.Prelude.{◌≡◌, ◌≤◌, length, Contains};
 
-use crate::counts::Counts;
+use crate::counts::BranchCounts;
 use crate::samples::Samples;
 use dq_formula::Formula;
 use dq_lits::{Memory, Row};
@@ -109,7 +109,7 @@ impl Examples<'_> {
 
     // How mixed the bits of examples are at both branches of a test.
     fn impurity(&self, some: &[usize], place: usize) -> u64 {
-        let mut counts = Counts::none();
+        let mut counts = BranchCounts::none();
         for number in some {
             counts.add(self.is_one(*number, place), self.bit(*number));
         }

@@ -5,7 +5,7 @@
 
 ghost use Rattle.std.specs.Prelude.{◌≡◌, ◌++◌, ◌∷◌, [], length, OnErr, OnOk};
 
-use crate::counts::Counts;
+use crate::counts::BranchCounts;
 use dq_lits::{Memory, Row};
 use std::alloc::Global;
 use std::marker::Model;
@@ -76,7 +76,7 @@ impl Samples {
     // How mixed the existential's bits are where the universal at a place is true, and where it is
     // false.
     pub(crate) fn impurity(&self, universal: usize, existential: usize) -> u64 {
-        let mut counts = Counts::none();
+        let mut counts = BranchCounts::none();
         for sample in &self.samples {
             counts.add(
                 bit_at(&sample.row, universal),

@@ -40,7 +40,7 @@ pub(crate) struct Tree {
 
 // The examples that come to a branch, by their numbers.
 #[derive(Drop)]
-struct Part {
+struct OpenBranch {
     at: usize,
     examples: Vec<usize>,
 }
@@ -60,7 +60,7 @@ impl Tree {
         }
         let mut parts = Vec::new(alloc);
         let all = examples.numbers(alloc)?;
-        parts.push(Part {
+        parts.push(OpenBranch {
             at: 0,
             examples: all,
         })?;
@@ -78,8 +78,8 @@ impl Tree {
         &mut self,
         alloc: Global,
         examples: &Examples,
-        part: Part,
-        parts: &mut Vec<Part>,
+        part: OpenBranch,
+        parts: &mut Vec<OpenBranch>,
     ) -> Result<(), Memory> {
         if part.examples.is_empty() {
             return Ok(());
@@ -90,11 +90,11 @@ impl Tree {
                 let ones = examples.with(alloc, &part.examples, *tested, true)?;
                 let zeros = examples.with(alloc, &part.examples, *tested, false)?;
                 let (yes, no) = (*yes, *no);
-                parts.push(Part {
+                parts.push(OpenBranch {
                     at: yes,
                     examples: ones,
                 })?;
-                parts.push(Part {
+                parts.push(OpenBranch {
                     at: no,
                     examples: zeros,
                 })?;
@@ -108,8 +108,8 @@ impl Tree {
     fn settle(
         &mut self,
         examples: &Examples,
-        part: Part,
-        parts: &mut Vec<Part>,
+        part: OpenBranch,
+        parts: &mut Vec<OpenBranch>,
     ) -> Result<(), Memory> {
         match examples.best_test(&part.examples) {
             None => {

@@ -12,7 +12,7 @@ use Rattle.dq_lits.specs.Truth.{IsFree}
 use Rattle.learning_trail.specs.Marks.{marked}
 use Rattle.learning_trail.specs.Sound.{IsSound}
 use Rattle.cdcl_core.specs.Chains.{watch_at}
-use Rattle.cdcl_core.specs.Watching.{Guards, AreShortTrue, IsGuarded, AreLevelsGuarded, IsReady}
+use Rattle.cdcl_core.specs.Watching.{Guards, AreShortTrue, IsGuarded, AreLevelsGuarded, CanPropagate}
 use Rattle.cdcl_core.specs.Storage.{Stored, IsHeldWatched}
 use Rattle.learning_trail.specs.Lessons.{LandsInLevel, landed}
 use Rattle.cdcl_core.proofs.GuardedClauses.{among_suffix, guarded_grown, levels_later}
@@ -177,7 +177,7 @@ module _ (old : Stored) (live : LiveClauses) (steps : List Step) (mid : Trailed)
 
     pub ready_landed : (new : Stored) (c : List Literal) → new.clauses ≡ old.clauses ++ c ∷ [] →
         IsHeldWatched old new (opposite step.literal) (opposite t)
-        → IsReady new.clauses new.first new.second now.steps
+        → CanPropagate new.clauses new.first new.second now.steps
     ready_landed new c held watched =
         let k = opposite step.literal in
         let l = opposite t in
@@ -194,7 +194,7 @@ module _ (old : Stored) (live : LiveClauses) (steps : List Step) (mid : Trailed)
         let l_on : holds (level_of back) (opposite l) ≡ true =
         ap (holds (level_of back)) (opposite-opposite t) ∙ lands.level.level in
         let now_steps : now.steps ≡ landed step id ∷ back = ap (λ (x : Trailed). x.steps) lands.behind.is in
-        let R : List (List Literal) → List Literal → List Literal → List Step → Type 0 = IsReady in
+        let R : List (List Literal) → List Literal → List Literal → List Step → Type 0 = CanPropagate in
         let ready : R (old.clauses ++ c ∷ []) (old.first ++ k ∷ []) (old.second ++ l ∷ []) (landed step id ∷ back) =
         record {
           levels = (
@@ -213,7 +213,7 @@ module _ (old : Stored) (live : LiveClauses) (steps : List Step) (mid : Trailed)
   pub ready_after : (now : Trailed) (new : Stored) (c : List Literal) (level : Option Literal) →
       MatchOption level (now.steps ≡ []) (λ t. LandsInLevel mid now step marks id t)
       → new.clauses ≡ old.clauses ++ c ∷ [] → IfSome level (λ t. IsHeldWatched old new (opposite step.literal)
-      (opposite t)) → IsReady new.clauses new.first new.second now.steps
+      (opposite t)) → CanPropagate new.clauses new.first new.second now.steps
   ready_after now new c None ended held watched = rw ended (record { levels = tt; top = tt })
   ready_after now new c (Some t) ended held watched = ready_landed now t ended new c held watched
 

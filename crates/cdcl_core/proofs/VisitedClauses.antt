@@ -19,7 +19,7 @@ use Rattle.learning_trail.specs.Steps.{Trailed, literals_of, Grown, IsAt}
 use Rattle.learning_trail.specs.Sound.{IsSound}
 use Rattle.learning_trail.specs.Passes.{AreWithin}
 use Rattle.cdcl_core.specs.Chains.{left_to_visit, watch_at, place_of, has, IsLinked, HasList, FitIds, with_open, IsTaken, IsLeft}
-use Rattle.cdcl_core.specs.Watching.{IsWatched, AreWatched, AreSame, AreShort, IsGuarded, AreLevelsGuarded, IsMove, AreMoved, IsReady}
+use Rattle.cdcl_core.specs.Watching.{IsWatched, AreWatched, AreSame, AreShort, IsGuarded, AreLevelsGuarded, IsMove, AreMoved, CanPropagate}
 use Rattle.cdcl_core.specs.Visits.{IsVisitable, IsLooked, IsDone, IsVisited, IsListVisited, IsVisiting, AreVisited, IsTrailVisited, IsProcessed, AreOnTrail, IsPuttingBack, IsPassing}
 use Rattle.learning_trail.proofs.ConflictAnalysis.{sound_consistent, contains_cases}
 use Rattle.cdcl_core.proofs.GuardedClauses.{Among, among_grown, among_suffix, any_more, same_stuck, watched_turned, guarded_moved, guarded_turned, levels_moved, levels_turned, levels_grown, short_kept, short_notes_turned, guards_visited, moved_both}
@@ -678,7 +678,7 @@ passed_first clauses old new first second short watched notes levels grown passe
 }
 
 pub processed_top : (clauses : List (List Literal)) (first second : List Literal) (steps : List Step) (at : ℕ) →
-    length steps ≢ 0 → at ≡ length steps - 1 → IsReady clauses first second steps
+    length steps ≢ 0 → at ≡ length steps - 1 → CanPropagate clauses first second steps
     → IsProcessed clauses first second steps at
 processed_top clauses first second [] at n is ready = absurd (n refl)
 processed_top clauses first second (s ∷ earlier) at n is ready = record {

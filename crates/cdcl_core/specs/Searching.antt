@@ -34,8 +34,8 @@ pub record IsSearching (assumptions : List Literal) (s : Searcher) (log : ProofL
   pub levels : AreLevelsGuarded s.clauses.clauses s.clauses.first s.clauses.second s.trail.steps
 
 -- all literals of the trail but the newest were processed
-abbrev pub IsReady : Searcher → Type 0
-IsReady s = IsTopGuarded s.clauses.clauses s.clauses.first s.clauses.second s.trail.steps
+abbrev pub IsPropagatedButNewest : Searcher → Type 0
+IsPropagatedButNewest s = IsTopGuarded s.clauses.clauses s.clauses.first s.clauses.second s.trail.steps
 
 -- all literals of the trail were processed
 abbrev pub IsAllGuarded : Searcher → Type 0
@@ -58,14 +58,14 @@ pub record KeepsPlaces (s t : Searcher) : Type 0 where
 pub record HasTurned (assumptions : List Literal) (s t : Searcher)
     (old new : ProofLog) : Type 0 where
   pub searching : IsSearching assumptions t new
-  pub ready : IsReady t
+  pub ready : IsPropagatedButNewest t
   pub learned : HasLearned old new
   pub room : t.trail.room ≡ s.trail.room
 
 -- a turn that doesn't end the search, which is closer to its end
 pub record IsTurn (assumptions : List Literal) (s t : Searcher) (old new : ProofLog) : Type 0 where
   pub searching : IsSearching assumptions t new
-  pub ready : IsReady t
+  pub ready : IsPropagatedButNewest t
   pub learned : HasLearned old new
   pub few : length t.trail.steps ≤ t.trail.room
   pub closer : left_of t new < left_of s old
@@ -77,7 +77,7 @@ IsAnswered assumptions s old new found = IsAnsweredBy assumptions (searched s) o
 pub record IsRunning (assumptions : List Literal) (s t : Searcher)
     (old new : ProofLog) : Type 0 where
   pub searching : IsSearching assumptions t new
-  pub ready : IsReady t
+  pub ready : IsPropagatedButNewest t
   pub few : length t.trail.steps ≤ t.trail.room
   pub learned : HasLearned old new
   pub places : KeepsPlaces s t

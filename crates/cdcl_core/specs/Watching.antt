@@ -62,7 +62,7 @@ IsTopGuarded clauses first second (s ∷ earlier) =
     IsGuarded clauses first second (literals_of earlier) (s.literal ∷ literals_of earlier)
 
 -- propagation goes on from the newest literal
-pub record IsReady (clauses : List (List Literal)) (first second : List Literal)
+pub record CanPropagate (clauses : List (List Literal)) (first second : List Literal)
     (steps : List Step) : Type 0 where
   pub levels : AreLevelsGuarded clauses first second steps
   pub top : IsTopGuarded clauses first second steps

@@ -11,7 +11,7 @@ ghost use Rattle.oracle.specs.Limits.{IsAtLimit};
 ghost use Rattle.learning_trail.specs.Growing.{HasLearned};
 ghost use Rattle.learning_trail.specs.Searching.{AreAssumptions};
 ghost use Rattle.cdcl_core.specs.Solver.{value_on};
-ghost use Rattle.cdcl_core.specs.Searching.{IsReady, KeepsPlaces, IsSearching};
+ghost use Rattle.cdcl_core.specs.Searching.{IsPropagatedButNewest, KeepsPlaces, IsSearching};
 
 use crate::clauses::ClauseStore;
 use crate::search::search;
@@ -108,7 +108,7 @@ fn search_and_keep(
     log: &mut Log,
 ) -> Result<Answer, Stop>
     requires searching { IsSearching assumptions.now s.old log.old }
-    requires ready { IsReady s.old }
+    requires ready { IsPropagatedButNewest s.old }
     requires few_steps { length s.old.trail.steps ≤ s.old.trail.room }
     requires assumptions { AreAssumptions log.old assumptions.now }
     requires few { s.old.variables < 2 ^ 62 }

@@ -13,7 +13,7 @@ ghost use Rattle.cdcl_core.specs.Runs.{BeginAlike};
 ghost use Rattle.learning_trail.specs.Steps.{literals_of, Grown};
 ghost use Rattle.learning_trail.specs.Sound.{IsSound};
 ghost use Rattle.learning_trail.specs.Passes.{AreWithin, IsPropagated};
-ghost use Rattle.cdcl_core.specs.Watching.{IsWatched, IsReady, IsGuarded, AreLevelsGuarded, NotesShort};
+ghost use Rattle.cdcl_core.specs.Watching.{IsWatched, CanPropagate, IsGuarded, AreLevelsGuarded, NotesShort};
 
 use crate::arenas::Arena;
 use crate::cursors::Cursors;
@@ -207,7 +207,7 @@ impl ClauseStore {
         requires in_range { AreWithin trail.old.room self.old.clauses }
         requires sound { IsSound (live_in self.old.clauses) trail.old.steps }
         requires few { length trail.old.steps ≤ trail.old.room }
-        requires ready { IsReady self.old.clauses self.old.first self.old.second trail.old.steps }
+        requires ready { CanPropagate self.old.clauses self.old.first self.old.second trail.old.steps }
         ensures clauses { self.new.clauses ≡ self.old.clauses }
         ensures room { trail.new.room ≡ trail.old.room }
         ensures sound { IsSound (live_in self.new.clauses) trail.new.steps }

@@ -16,14 +16,14 @@ ghost use Rattle.learning_trail.specs.Steps.{literals_of, Grown};
 ghost use Rattle.learning_trail.specs.Sound.{IsSound};
 ghost use Rattle.learning_trail.specs.Passes.{AreWithin};
 ghost use Rattle.cdcl_core.specs.Chains.{watch_at, IsLinked, HasList, FitIds, with_open, IsLeft};
-ghost use Rattle.cdcl_core.specs.Watching.{AreShort, IsReady, AreSame};
+ghost use Rattle.cdcl_core.specs.Watching.{AreShort, CanPropagate, AreSame};
 ghost use Rattle.cdcl_core.specs.Visits.{IsOtherAt, IsVisitable, IsLooked, IsOther, AreOthersFalse, IsVisited, IsListVisited, AreVisited, IsTrailVisited, IsProcessed};
 
 use crate::arenas::Arena;
 use crate::cursors::{Cursors, has_place};
 use crate::watches::{OpenList, Watches, close, first_of, has_list, put_back, put_elsewhere};
 use dq_lits::TruthValue;
-use learning_trail::{Code, Status, Step, Trail, is_false, is_true, status_of};
+use learning_trail::{ClauseStatus, Code, Step, Trail, is_false, is_true, status_of};
 
 /// Propagates to the end, or to a falsified clause, whose id it answers. All literals but the
 /// newest one were processed.
@@ -40,7 +40,7 @@ pub(crate) fn propagate(
     requires second_linked { IsLinked second.old 0 [] }
     requires short { AreShort arena.now.clauses first.old.literals.items second.old.literals.items
         short.now }
-    requires ready { IsReady arena.now.clauses first.old.literals.items second.old.literals.items
+    requires ready { CanPropagate arena.now.clauses first.old.literals.items second.old.literals.items
         trail.old.steps }
     ensures { IsTrailVisited arena.now.clauses trail.old trail.new first.old first.new second.old
         second.new result }
@@ -73,12 +73,12 @@ fn pass_short(trail: &mut Trail, arena: &Arena, short: &[u64]) -> Option<u64>
 {
     for id in short {
         match status_of(trail, arena.lits(*id)) {
-            Status::Falsified => return Some(*id),
-            Status::Unit(l) => trail.push(Step {
+            ClauseStatus::Falsified => return Some(*id),
+            ClauseStatus::Unit(l) => trail.push(Step {
                 literal: l,
                 reason: Some(*id),
             }),
-            Status::Stuck => {}
+            ClauseStatus::Stuck => {}
         }
     }
     None

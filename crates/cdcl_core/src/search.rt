@@ -18,7 +18,7 @@ ghost use Rattle.learning_trail.specs.Growing.{HasLearned};
 ghost use Rattle.learning_trail.specs.Steps.{literals_of};
 ghost use Rattle.dq_lits.specs.Truth.{IsFree};
 ghost use Rattle.learning_trail.specs.Searching.{AreAssumptions};
-ghost use Rattle.cdcl_core.specs.Searching.{IsReady, IsAllGuarded, IsTurn, KeepsPlaces, IsSearching, IsAnswered};
+ghost use Rattle.cdcl_core.specs.Searching.{IsPropagatedButNewest, IsAllGuarded, IsTurn, KeepsPlaces, IsSearching, IsAnswered};
 ghost use Rattle.learning_trail.specs.Sound.{AreTrue};
 
 use crate::decisions::open_clause;
@@ -38,7 +38,7 @@ pub(crate) fn search(
     log: &mut Log,
 ) -> Result<Answer, Stop>
     requires searching { IsSearching assumptions.now s.old log.old }
-    requires ready { IsReady s.old }
+    requires ready { IsPropagatedButNewest s.old }
     requires few { length s.old.trail.steps ≤ s.old.trail.room }
     requires assumptions { AreAssumptions log.old assumptions.now }
     ensures ok { IfOk result (λ found. IsAnswered assumptions.now s.new log.old log.new found) }
@@ -65,7 +65,7 @@ fn turn(
     log: &mut Log,
 ) -> Result<Option<Answer>, Stop>
     requires searching { IsSearching assumptions.now s.old log.old }
-    requires ready { IsReady s.old }
+    requires ready { IsPropagatedButNewest s.old }
     requires few { length s.old.trail.steps ≤ s.old.trail.room }
     requires assumptions { AreAssumptions log.old assumptions.now }
     requires made { AreTrue (take made.old assumptions.now) (literals_of s.old.trail.steps) }
@@ -256,7 +256,7 @@ fn decide(s: &mut Searcher, assumptions: &Assumptions, l: Lit, log: &Log)
         ⊎ (AreTrue assumptions.now (literals_of s.old.trail.steps)
         × (is_selector log.now.entries (variable_of l) ≡ true → is_negative l ≡ true)) }
     ensures searching { IsSearching assumptions.now s.new log.now }
-    ensures ready { IsReady s.new }
+    ensures ready { IsPropagatedButNewest s.new }
     ensures longer { length s.new.trail.steps ≡ length s.old.trail.steps + 1 }
     ensures few { length s.new.trail.steps ≤ s.new.trail.room }
     ensures more { (t : Literal) → holds (literals_of s.old.trail.steps) t ≡ true

@@ -17,7 +17,7 @@ ghost use Rattle.cdcl_scan.specs.Passes.{IsPassed, IsRunPassed};
 use crate::clauses::{ClauseStore, Run};
 use crate::passes::Pass;
 use dq_lits::{Lit, TruthValue};
-use learning_trail::{Clauses, Status, Step, Trail, status_of};
+use learning_trail::{ClauseStatus, Clauses, Step, Trail, status_of};
 
 /// Propagates to the end, or to a falsified clause, whose id it answers.
 pub(crate) fn propagate(trail: &mut Trail, clauses: &ClauseStore) -> Option<u64>
@@ -115,15 +115,15 @@ fn pass_clauses(trail: &mut Trail, clauses: &ClauseStore, first: u64, last: u64)
     let mut quiet = true;
     for at in first..last {
         match status_of(trail, clauses.lits(at + 1)) {
-            Status::Falsified => return Pass::Conflict(at + 1),
-            Status::Unit(l) => {
+            ClauseStatus::Falsified => return Pass::Conflict(at + 1),
+            ClauseStatus::Unit(l) => {
                 trail.push(Step {
                     literal: l,
                     reason: Some(at + 1),
                 });
                 quiet = false;
             }
-            Status::Stuck => {}
+            ClauseStatus::Stuck => {}
         }
     }
     if quiet { Pass::Quiet } else { Pass::More }

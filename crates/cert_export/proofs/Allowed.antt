@@ -5,7 +5,7 @@ use Rattle.std.specs.Option.{option_map}
 use Rattle.std.proofs.lemmas.Bool.{eq-eqb, ne_eqb}
 use Rattle.std.proofs.lemmas.List.Elements.{All-nil, All-cons, Contains-get_or}
 use Rattle.dq_lits.specs.Literal.{Literal, variable_of, on_variable, opposite}
-use Rattle.dq_lits.specs.Derivation.{LiveClauses, Status, falsified, unit, stuck, status_of}
+use Rattle.dq_lits.specs.Derivation.{LiveClauses, ClauseStatus, falsified, unit, stuck, status_of}
 use Rattle.dq_lits.proofs.SignedLiterals.{variable_of-on}
 use Rattle.hint_log.specs.Entries.{has_id, numbered}
 use Rattle.hint_log.specs.Entries.{Entry}
@@ -55,7 +55,7 @@ module _ (P : ℕ → Type 0) where
       (h 0 hint (omega arith))
       (by_status (status_of trues (live hint)) (λ l. cut_all live hints (l ∷ trues)
       (λ k d below. h (suc k) d (omega arith)))) where
-        by_status : (s : Status) → ((l : Literal) → All P (cut_hints live (l ∷ trues) hints)) →
+        by_status : (s : ClauseStatus) → ((l : Literal) → All P (cut_hints live (l ∷ trues) hints)) →
             All P (cut_by s (λ l. cut_hints live (l ∷ trues) hints))
         by_status falsified later = All-nil P
         by_status (unit l) later = later l

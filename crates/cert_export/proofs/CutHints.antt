@@ -3,7 +3,7 @@ use Rattle.std.proofs.Common.{◌≡◌, ℕ, zero, suc, ◌+◌, ◌-◌, ◌�
 use Rattle.std.specs.List.{All}
 use Rattle.std.proofs.lemmas.List.Elements.{All-head, All-tail}
 use Rattle.dq_lits.specs.Literal.{Literal}
-use Rattle.dq_lits.specs.Derivation.{LiveClauses, Status, falsified, unit, stuck, status_of, fault_by, hint_fault}
+use Rattle.dq_lits.specs.Derivation.{LiveClauses, ClauseStatus, falsified, unit, stuck, status_of, fault_by, hint_fault}
 use Rattle.cert_export.specs.Renaming.{cut_by, cut_hints}
 
 -- the clauses are the same by other ids
@@ -16,7 +16,7 @@ cut_by_ids to live own (h ∷ hs) same trues =
     ap (λ xs. to h ∷ xs) (ap (λ s. cut_by s (λ l. cut_hints live (l ∷ trues) (map to hs)))
     (ap (status_of trues) (All-head P h hs same))
     ∙ by_status (status_of trues (own h)) (λ l. cut_by_ids to live own hs (All-tail P h hs same) (l ∷ trues))) where
-      by_status : (s : Status) → ((l : Literal) → cut_hints live (l ∷ trues) (map to hs) ≡ map to
+      by_status : (s : ClauseStatus) → ((l : Literal) → cut_hints live (l ∷ trues) (map to hs) ≡ map to
           (cut_hints own (l ∷ trues) hs)) →
           cut_by s (λ l. cut_hints live (l ∷ trues) (map to hs)) ≡ map to (cut_by s (λ l. cut_hints own (l ∷ trues) hs))
       by_status falsified later = refl
@@ -33,7 +33,7 @@ not_before : (live : LiveClauses) (hints : List ℕ) (trues : List Literal) (pla
 not_before live [] trues place fault h = let same : place ≡ fault = cc in omega (arith, same)
 not_before live (x ∷ xs) trues place fault h = by_status (status_of trues (live x)) xs
     (λ l g. not_before live xs (l ∷ trues) (place + 1) fault g) h where
-      by_status : (s : Status) (ys : List ℕ) → ((l : Literal) →
+      by_status : (s : ClauseStatus) (ys : List ℕ) → ((l : Literal) →
           hint_fault live (l ∷ trues) (place + 1) xs ≡ Some fault →
           place + 1 ≤ fault) →
           fault_by s place ys (λ l. hint_fault live (l ∷ trues) (place + 1) xs) ≡ Some fault → place ≤ fault
@@ -60,7 +60,7 @@ cut_at_fault live (x ∷ xs) trues place = by_status (status_of trues (live x)) 
       longer (Some fault) most = ap (λ n. take n (x ∷ xs))
           (let s : suc (fault + 1 - (place + 1)) ≡ fault + 1 - place = omega (arith, most fault refl) in s)
 
-      by_status : (s : Status) (ys : List ℕ) → xs ≡ ys → ((l : Literal) →
+      by_status : (s : ClauseStatus) (ys : List ℕ) → xs ≡ ys → ((l : Literal) →
           cut_hints live (l ∷ trues) xs ≡ up_to_fault (hint_fault live (l ∷ trues) (place + 1) xs) (place + 1) xs) →
           ((l : Literal) (fault : ℕ) → hint_fault live (l ∷ trues) (place + 1) xs ≡ Some fault → place + 1 ≤ fault) →
           x ∷ cut_by s (λ l. cut_hints live (l ∷ trues) xs) ≡ up_to_fault

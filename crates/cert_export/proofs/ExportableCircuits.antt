@@ -39,7 +39,7 @@ use Rattle.cert_export.specs.Lines.{is_derived, is_lemma, clause_or_empty, line_
 use Rattle.cert_export.specs.Negated.{IsOfCircuit, HasNegatedId, AreLengthsBefore}
 use Rattle.cert_export.specs.Netlists.{IsExportable}
 use Rattle.cert_export.specs.Parts.{part_of, IsSmall, AreDecided, AreCircuitIds, AreProofSteps, IsExportedCircuit}
-use Rattle.cert_export.specs.declared.parts.Part.{Part}
+use Rattle.cert_export.specs.declared.parts.ExportedPart.{ExportedPart}
 use Rattle.cert_export.specs.Renaming.{Renaming, IsInjective, renamed_clause}
 use Rattle.cert_export.specs.Written.{CanBeWritten}
 use Rattle.cert_export.proofs.CircuitClauses.{circuit_clauses_are_negated_matrix}
@@ -157,7 +157,7 @@ module _ (f : Dqbf) (entries : List Entry) (id : ℕ) (ids : List ℕ) (e : Circ
         (derived_ids entries ids)) last_is,
   )
 
-pub exportable : (f : Dqbf) (entries : List Entry) (id : ℕ) (ids : List ℕ) (p : Part) →
+pub exportable : (f : Dqbf) (entries : List Entry) (id : ℕ) (ids : List ℕ) (p : ExportedPart) →
     AreCircuitIds f entries id ids (part_of p) → IsExportable f entries p
 exportable f entries id ids p d = record {
   logged = d.decided.logged;

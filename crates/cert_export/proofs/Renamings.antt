@@ -7,7 +7,7 @@ use Rattle.std.proofs.lemmas.List.Elements.{All-head, All-tail}
 use Rattle.std.proofs.lemmas.Bool.{cases_Bool, and_parts, eqb-true, eq-eqb, ne_eqb, eqb-false, false≢true, or_cases, or_left, or_right, cond-false}
 use Rattle.list_laws.proofs.Options.{cond-none}
 use Rattle.dq_lits.specs.Literal.{Literal, positive, negative, variable_of, on_variable, opposite, same_literal}
-use Rattle.dq_lits.specs.Derivation.{LiveClauses, Status, falsified, unit, stuck, holds, status_by, status_of, fault_by, hint_fault, is_tautology, IsDerived}
+use Rattle.dq_lits.specs.Derivation.{LiveClauses, ClauseStatus, falsified, unit, stuck, holds, status_by, status_of, fault_by, hint_fault, is_tautology, IsDerived}
 use Rattle.dq_lits.proofs.Truth.{same_literal-sound}
 use Rattle.dq_lits.proofs.SignedLiterals.{same_literal-refl, opposite_variable}
 use Rattle.cert_export.specs.Renaming.{Renaming, IsInjective, renamed_literal, renamed_clause, cut_by, cut_hints, IsRenamedAt, RenamedLinesAreDerived}
@@ -130,18 +130,18 @@ module _ (r : Renaming) (injective : IsInjective r) where
         hint_fault live trues place hints ≡ None → hint_fault renamed (filter_map ren trues) place'
         (cut_hints renamed (filter_map ren trues) (map to hints)) ≡ None
 
-    stopped : (s : Status) (place : ℕ) (next : Literal → List ℕ) (follow : List ℕ → Literal → Option ℕ) →
+    stopped : (s : ClauseStatus) (place : ℕ) (next : Literal → List ℕ) (follow : List ℕ → Literal → Option ℕ) →
         s ≡ falsified → fault_by s place (cut_by s next) (follow (cut_by s next)) ≡ None
     stopped s place next follow h = subst (λ q. fault_by q place (cut_by q next) (follow (cut_by q next)) ≡ None)
         (sym h) refl
 
-    went_on : (s : Status) (l' : Literal) (place : ℕ) (next : Literal → List ℕ) (follow : List ℕ → Literal → Option ℕ) →
+    went_on : (s : ClauseStatus) (l' : Literal) (place : ℕ) (next : Literal → List ℕ) (follow : List ℕ → Literal → Option ℕ) →
         s ≡ unit l' → follow (next l') l' ≡ None →
         fault_by s place (cut_by s next) (follow (cut_by s next)) ≡ None
     went_on s l' place next follow h t = subst (λ q. fault_by q place (cut_by q next) (follow (cut_by q next)) ≡ None)
         (sym h) t
 
-    abbrev status_after : List Literal → List Literal → Status
+    abbrev status_after : List Literal → List Literal → ClauseStatus
     status_after trues open' = status_by (filter_map ren trues) (filter_map ren open')
 
     abbrev next_hints : List Literal → List ℕ → Literal → List ℕ
@@ -151,7 +151,7 @@ module _ (r : Renaming) (injective : IsInjective r) where
     follow_hints trues place hs k = hint_fault renamed (k ∷ filter_map ren trues) (place + 1) hs
 
     -- the hint and those behind it, cut, have no fault
-    abbrev IsCutRight : List Literal → ℕ → List ℕ → Status → Type 0
+    abbrev IsCutRight : List Literal → ℕ → List ℕ → ClauseStatus → Type 0
     IsCutRight trues place hints s = fault_by s place (cut_by s (next_hints trues hints))
         (follow_hints trues place (cut_by s (next_hints trues hints))) ≡ None
 

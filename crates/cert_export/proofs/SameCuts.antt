@@ -3,7 +3,7 @@ use Rattle.std.proofs.Common.{◌≡◌, ℕ, Bool, true, false, not, cond, ◌&
 use Rattle.std.specs.List.{list_all, filter_map, cons_option}
 use Rattle.std.specs.Option.{option_map}
 use Rattle.dq_lits.specs.Literal.{Literal, variable_of, on_variable, opposite, same_literal}
-use Rattle.dq_lits.specs.Derivation.{LiveClauses, Status, falsified, unit, stuck, holds, status_by, status_of}
+use Rattle.dq_lits.specs.Derivation.{LiveClauses, ClauseStatus, falsified, unit, stuck, holds, status_by, status_of}
 use Rattle.cert_export.specs.Renaming.{Renaming, IsInjective, renamed_literal, renamed_clause, cut_by, cut_hints}
 use Rattle.cert_export.proofs.Renamings.{same_renamed, holds_renamed, open_in, open_renamed}
 
@@ -45,7 +45,7 @@ module _ (r s : Renaming) (to : ℕ → ℕ) (made : (v : ℕ) → s v ≡ optio
             ∙ ap (λ b. same_literal k' z && b) later
 
   -- the same becomes of a clause: its one open literal has its names
-  abbrev AreAlike : Status → Status → Type 0
+  abbrev AreAlike : ClauseStatus → ClauseStatus → Type 0
   AreAlike falsified falsified = Unit {0}
   AreAlike stuck stuck = Unit {0}
   AreAlike (unit k) (unit k') = (l : Literal) × (renamed_literal r l ≡ Some k) × (renamed_literal s l ≡ Some k')
@@ -100,7 +100,7 @@ module _ (r s : Renaming) (to : ℕ → ℕ) (made : (v : ℕ) → s v ≡ optio
     cut_alike (h ∷ hs) trues = ap (λ xs. h ∷ xs) (by_status (status_of (renamed_clause r trues) (by r h))
         (status_of (renamed_clause s trues) (by s h)) (status_alike trues (live h))
         (λ l. cut_alike hs (l ∷ trues))) where
-          by_status : (a b : Status) → AreAlike a b → ((l : Literal) →
+          by_status : (a b : ClauseStatus) → AreAlike a b → ((l : Literal) →
               cut_hints (by r) (renamed_clause r (l ∷ trues)) hs ≡ cut_hints (by s) (renamed_clause s (l ∷ trues)) hs) →
               cut_by a (λ k. cut_hints (by r) (k ∷ renamed_clause r trues) hs)
               ≡ cut_by b (λ k. cut_hints (by s) (k ∷ renamed_clause s trues) hs)

@@ -16,9 +16,9 @@ use Rattle.cert_export.specs.ExportedCircuit.{IsDecidedTrue, IsExportedPart, IsC
 use Rattle.cert_export.specs.FaultLeaves.{output_leaf}
 use Rattle.cert_export.specs.Given.{HasUniversalInputs, IsGivenRightly, EachGivenReached}
 use Rattle.cert_export.specs.Renaming.{Renaming}
-use Rattle.cert_export.specs.declared.parts.Part.{Part}
+use Rattle.cert_export.specs.declared.parts.ExportedPart.{ExportedPart}
 
-abbrev pub part_of : Part → CircuitPart
+abbrev pub part_of : ExportedPart → CircuitPart
 part_of p = record { group = p.group; gates = p.gates; leaf = output_leaf p.leaves }
 
 -- few enough to be numbered

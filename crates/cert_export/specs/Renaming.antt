@@ -5,7 +5,7 @@ use Rattle.std.specs.Option.{option_map}
 use Rattle.dq_lits.specs.Literal.{Literal, variable_of, on_variable, opposite}
 use Rattle.hint_log.specs.Entries.{Entry, Given, has_id, numbered}
 use Rattle.hint_log.specs.declared.origins.Origin.{Origin}
-use Rattle.dq_lits.specs.Derivation.{LiveClauses, Status, falsified, unit, stuck, status_of, IsDerived}
+use Rattle.dq_lits.specs.Derivation.{LiveClauses, ClauseStatus, falsified, unit, stuck, status_of, IsDerived}
 
 abbrev pub Renaming : Type 0
 Renaming = ℕ → Option ℕ
@@ -43,7 +43,7 @@ pub record IsRenamingOf (target : Renaming) (entries : List Entry) (ids : List �
       → renamed_clause r c ≡ renamed_clause target c
 
 -- hints up to the first that is falsified
-abbrev pub cut_by : Status → (Literal → List ℕ) → List ℕ
+abbrev pub cut_by : ClauseStatus → (Literal → List ℕ) → List ℕ
 cut_by falsified next = []
 cut_by (unit l) next = next l
 cut_by stuck next = []

@@ -9,7 +9,7 @@ ghost use Rattle.cert_export.specs.CircuitPart.{circuit_renaming, literal_code, 
 ghost use Rattle.cert_export.specs.Parts.{part_of, IsSmall};
 
 use crate::naming::Naming;
-use crate::parts::Part;
+use crate::parts::ExportedPart;
 use dq_formula::Formula;
 use dq_lits::Lit;
 use hint_log::{Log, Name};
@@ -20,7 +20,7 @@ use hint_log::{Log, Name};
 pub(crate) const MOST: u64 = 10_000_000_000_000_000;
 
 /// The number of a variable, if the circuit and its proof speak of it.
-pub(crate) fn number(log: &Log, f: &Formula, part: &Part, variable: u64) -> Option<u64>
+pub(crate) fn number(log: &Log, f: &Formula, part: &ExportedPart, variable: u64) -> Option<u64>
     requires named { IsSome (name_of log.now.entries variable) }
     requires small { IsSmall f.now part.now.gates }
     ensures value { result ≡ circuit_renaming f.now log.now.entries (part_of part.now) variable }
@@ -77,7 +77,7 @@ fn clause_number(f: &Formula, clause: u64) -> Option<u64>
 }
 
 /// A literal, as AIGER writes it.
-pub(crate) fn code(log: &Log, f: &Formula, part: &Part, l: &Lit) -> u64
+pub(crate) fn code(log: &Log, f: &Formula, part: &ExportedPart, l: &Lit) -> u64
     requires named { IsSome (name_of log.now.entries (variable_of l.now)) }
     requires small { IsSmall f.now part.now.gates }
     ensures { result
@@ -92,7 +92,7 @@ pub(crate) fn code(log: &Log, f: &Formula, part: &Part, l: &Lit) -> u64
 }
 
 /// The number of a variable, and 0 where it has none.
-pub(crate) fn number_or_zero(log: &Log, f: &Formula, part: &Part, variable: u64) -> u64
+pub(crate) fn number_or_zero(log: &Log, f: &Formula, part: &ExportedPart, variable: u64) -> u64
     requires named { IsSome (name_of log.now.entries variable) }
     requires small { IsSmall f.now part.now.gates }
     ensures value { result
@@ -110,7 +110,7 @@ pub(crate) fn number_or_zero(log: &Log, f: &Formula, part: &Part, variable: u64)
 pub(crate) struct CircuitNumbers<'a, 'b, 'c> {
     pub(crate) f: &'a Formula,
     pub(crate) log: &'b Log,
-    pub(crate) part: &'c Part,
+    pub(crate) part: &'c ExportedPart,
     ghost small: { IsSmall f.now part.now.gates },
 }
 

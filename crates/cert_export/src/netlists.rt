@@ -8,7 +8,7 @@ ghost use Rattle.cert_export.specs.Netlists.{IsExportable, IsLeafNamed};
 ghost use Rattle.cert_export.specs.Parts.{part_of, IsSmall};
 
 use crate::circuit_numbers::{code, number_or_zero};
-use crate::parts::Part;
+use crate::parts::ExportedPart;
 use circuit_plain::Circuit;
 use dq_formula::Formula;
 use dq_lits::Memory;
@@ -16,7 +16,12 @@ use hint_log::{Leaf, Log, Name};
 use std::alloc::Global;
 
 /// The circuit of the gates and the leaves.
-pub(crate) fn netlist(alloc: Global, log: &Log, f: &Formula, part: &Part) -> Result<Circuit, Memory>
+pub(crate) fn netlist(
+    alloc: Global,
+    log: &Log,
+    f: &Formula,
+    part: &ExportedPart,
+) -> Result<Circuit, Memory>
     requires { IsExportable f.now log.now.entries part.now }
     ensures { IfOk result (λ c. c ≡ exported_netlist f.now log.now.entries (part_of part.now)) }
 {
@@ -43,7 +48,12 @@ fn add_inputs(circuit: &mut Circuit, count: u64) -> Result<(), Memory>
 }
 
 // Adds the gates in their order.
-fn add_gates(log: &Log, f: &Formula, part: &Part, circuit: &mut Circuit) -> Result<(), Memory>
+fn add_gates(
+    log: &Log,
+    f: &Formula,
+    part: &ExportedPart,
+    circuit: &mut Circuit,
+) -> Result<(), Memory>
     requires can { IsExportable f.now log.now.entries part.now }
     requires so_far { circuit.old
         ≡ record (exported_netlist f.now log.now.entries (part_of part.now))
@@ -60,7 +70,7 @@ fn add_gates(log: &Log, f: &Formula, part: &Part, circuit: &mut Circuit) -> Resu
 }
 
 // A gate's number and the codes of its sides.
-fn file_gate(log: &Log, f: &Formula, part: &Part, v: u64) -> (u64, u64, u64)
+fn file_gate(log: &Log, f: &Formula, part: &ExportedPart, v: u64) -> (u64, u64, u64)
     requires can { IsExportable f.now log.now.entries part.now }
     requires inside { Contains part.now.gates v }
     ensures value { let gate = gate_of (circuit_renaming f.now log.now.entries (part_of part.now)) v
@@ -82,7 +92,12 @@ fn file_gate(log: &Log, f: &Formula, part: &Part, v: u64) -> (u64, u64, u64)
 }
 
 // Adds the outputs, one for each existential.
-fn add_outputs(log: &Log, f: &Formula, part: &Part, circuit: &mut Circuit) -> Result<(), Memory>
+fn add_outputs(
+    log: &Log,
+    f: &Formula,
+    part: &ExportedPart,
+    circuit: &mut Circuit,
+) -> Result<(), Memory>
     requires can { IsExportable f.now log.now.entries part.now }
     requires so_far { circuit.old
         ≡ record (exported_netlist f.now log.now.entries (part_of part.now)) { outputs = [] } }
@@ -96,7 +111,7 @@ fn add_outputs(log: &Log, f: &Formula, part: &Part, circuit: &mut Circuit) -> Re
 }
 
 // The code of a leaf.
-fn leaf_number(log: &Log, f: &Formula, part: &Part, leaf: Leaf) -> u64
+fn leaf_number(log: &Log, f: &Formula, part: &ExportedPart, leaf: Leaf) -> u64
     requires named { IsLeafNamed log.now.entries leaf }
     requires small { IsSmall f.now part.now.gates }
     ensures { result ≡ leaf_code (circuit_renaming f.now log.now.entries (part_of part.now)) leaf }

@@ -17,7 +17,7 @@ use std::alloc::Global;
 /// The group of the faults that the answer reaches, the leaves of the existentials in them, and the
 /// gates that these leaves and the proof rest on.
 #[derive(Drop)]
-pub(crate) struct Part {
+pub(crate) struct ExportedPart {
     pub(crate) group: u64,
     pub(crate) gates: NumberSet,
     pub(crate) leaves: Leaves,
@@ -30,7 +30,7 @@ pub(crate) fn exported_part(
     id: u64,
     ids: &[u64],
     f: &Formula,
-) -> Result<Part, Memory>
+) -> Result<ExportedPart, Memory>
     requires { AreDecided f.now log.now.entries id ids.now }
     ensures part { IfOk result (λ part. IsExportedPart f.now log.now.entries id (part_of part)) }
     ensures order { IfOk result (λ part. AreGatesInOrder log.now.entries part.gates) }
@@ -39,7 +39,7 @@ pub(crate) fn exported_part(
     let group = fault_group(log, ids);
     let leaves = fault_leaves(alloc, log, ids, f)?;
     let gates = needed_gates(alloc, log, ids, &leaves)?;
-    Ok(Part {
+    Ok(ExportedPart {
         group,
         gates,
         leaves,

@@ -44,11 +44,11 @@ use Rattle.cert_judge.specs.CircuitPhases.{BeginsComment, BeginsProof, FollowsLi
 use Rattle.cert_judge.specs.Judgement.{as_proof, begins_proof, begins_with, comment_line, first_line, line_ends, mapping_line, proof_in, proof_on, BehindMapping, BehindProof, IsTested}
 use Rattle.cert_judge.specs.Phases.{found_or_derived, line_end, AnswersFile, AreLinesFrom, CircuitGives, Gives, HasNoEnd, IsJudged, IsLastUnless, ProofGives, SaysProof}
 use Rattle.cert_judge.specs.Places.{AnswersStop, HasFewLines}
-use Rattle.cert_judge.specs.Standing.{IsStanding, SaysRead}
+use Rattle.cert_judge.specs.ProofStart.{IsProofStart, SaysRead}
 use Rattle.cert_judge.specs.declared.answers.Judgement.{Judgement}
 use Rattle.cert_judge.specs.declared.phases.Phase.{Phase}
 use Rattle.cert_judge.specs.declared.phases.Phase.TheVariants.{FreeText}
-use Rattle.cert_judge.specs.declared.standings.Standing.TheVariants.{Found, Proving}
+use Rattle.cert_judge.specs.declared.proof_starts.ProofStart.TheVariants.{Found, Proving}
 use Rattle.cert_judge.proofs.LinesToCome.{first_is, line_of}
 use Rattle.cert_judge.proofs.Places.{spelled_few}
 
@@ -313,7 +313,7 @@ proof_begins f net number finding run fresh first begun bytes answer p =
 
 -- the proof is judged behind what was found
 found_says : (line_of : MapPlace → ℕ) (mapped : Result Candidate MapError) (d : Dqp) (found answer : Judgement) →
-    IsStanding line_of mapped (Found found) → answer ≡ found → BehindMapping line_of (Some d) mapped answer
+    IsProofStart line_of mapped (Found found) → answer ≡ found → BehindMapping line_of (Some d) mapped answer
 found_says line_of (Err fault) d found answer is same = same ∙ is
 found_says line_of (Ok c) d found answer is same = subst (IsTested (Some d) c) (sym same) (inl is)
 
@@ -324,7 +324,7 @@ RunIsFault = (live : LiveClauses) (items : List ProofItem) →
 derived_says : RunIsFault → (f : Dqbf) (net : Netlist) (symbols : SymbolTable) (line_of : MapPlace → ℕ)
     (mapped : Result Candidate MapError) (d : Dqp) (p : CircuitProving) (answer : Judgement) →
     ((c : Candidate) → mapped ≡ Ok c → (c.formula ≡ f) × (c.circuit.netlist ≡ net)) →
-    IsStanding line_of mapped (Proving p) →
+    IsProofStart line_of mapped (Proving p) →
     answer ≡ found_or_derived None (Some (run_fault (with_items (run_of f net p) d.items))) →
     BehindMapping line_of (Some d) mapped answer
 derived_says law f net symbols line_of (Err fault) d p answer parts is says = absurd is
@@ -363,14 +363,14 @@ module _ (f : Dqbf) (first number : ℕ) (file : AagFile) (text : List ℕ) (pha
       (cond b (as_proof (circuit_proof_of f file.circuit bytes number)) (Ok None)) mapped answer) (sym same) says
 
   found_read : (found : Judgement) (run : Option Run) (read : Result Dqp CertRefusal) (answer : Judgement) →
-      IsStanding (mapping_line first file.circuit) mapped (Found found) → SaysRead (Some found) run read answer →
+      IsProofStart (mapping_line first file.circuit) mapped (Found found) → SaysRead (Some found) run read answer →
       BehindProof (mapping_line first file.circuit) (as_proof read) mapped answer
   found_read found run (Ok d) answer stands says =
       found_says (mapping_line first file.circuit) mapped d found answer stands says
   found_read found run (Err refusal) answer stands says = says
 
   pub found_begins : (found : Judgement) (run : Option Run) →
-      IsStanding (mapping_line first file.circuit) mapped (Found found) →
+      IsProofStart (mapping_line first file.circuit) mapped (Found found) →
       BeginsProof f file.circuit number (Some found) run text phase → BeginsComment f first number file text phase
   found_begins found run stands begins ended behind answer last says =
       behind_text ended behind answer last
@@ -378,7 +378,7 @@ module _ (f : Dqbf) (first number : ℕ) (file : AagFile) (text : List ℕ) (pha
       (begins ended behind answer last says))
 
   derived_read : RunIsFault → (p : CircuitProving) (read : Result Dqp CertRefusal) (answer : Judgement) →
-      IsStanding (mapping_line first file.circuit) mapped (Proving p) →
+      IsProofStart (mapping_line first file.circuit) mapped (Proving p) →
       SaysRead None (Some (run_of f file.circuit p)) read answer →
       BehindProof (mapping_line first file.circuit) (as_proof read) mapped answer
   derived_read law p (Ok d) answer stands says =
@@ -387,7 +387,7 @@ module _ (f : Dqbf) (first number : ℕ) (file : AagFile) (text : List ℕ) (pha
   derived_read law p (Err refusal) answer stands says = says
 
   pub derived_begins : RunIsFault → (p : CircuitProving) →
-      IsStanding (mapping_line first file.circuit) mapped (Proving p) →
+      IsProofStart (mapping_line first file.circuit) mapped (Proving p) →
       BeginsProof f file.circuit number None (Some (run_of f file.circuit p)) text phase →
       BeginsComment f first number file text phase
   derived_begins law p stands begins ended behind answer last says =
@@ -398,7 +398,7 @@ module _ (f : Dqbf) (first number : ℕ) (file : AagFile) (text : List ℕ) (pha
 -- a proof that is judged is one for the circuit
 pub judging_fresh : (f : Dqbf) (net : Netlist) (line_of : MapPlace → ℕ) (mapped : Result Candidate MapError)
     (p : CircuitProving) → ((c : Candidate) → mapped ≡ Ok c → (c.formula ≡ f) × (c.circuit.netlist ≡ net)) →
-    IsStanding line_of mapped (Proving p) → IsJudging f net p (numbered_from (first_proof_id f net))
+    IsProofStart line_of mapped (Proving p) → IsJudging f net p (numbered_from (first_proof_id f net))
 judging_fresh f net line_of (Err fault) p parts is = absurd is
 judging_fresh f net line_of (Ok c) p parts is =
     let same = parts c refl in
@@ -406,7 +406,7 @@ judging_fresh f net line_of (Ok c) p parts is =
     (subst (λ g. IsJudging g c.circuit.netlist p (numbered_from (first_proof_id g c.circuit.netlist))) same.0 is.judging)
 
 pub standing_judges : (f : Dqbf) (first : ℕ) (file : AagFile) (p : CircuitProving) →
-    IsStanding (mapping_line first file.circuit) (candidate_of f file.circuit file.symbols) (Proving p) →
+    IsProofStart (mapping_line first file.circuit) (candidate_of f file.circuit file.symbols) (Proving p) →
     IsJudging f file.circuit p (numbered_from (first_proof_id f file.circuit))
 standing_judges f first file p is =
     judging_fresh f file.circuit (mapping_line first file.circuit) (candidate_of f file.circuit file.symbols) p

@@ -10,7 +10,7 @@ use Rattle.cert_text.specs.declared.faults.CertRefusal.{CertRefusal}
 use Rattle.cert_text.specs.declared.kinds.Kind.TheVariants.{Definitions}
 use Rattle.defined_checker.specs.Forced.{AcceptedTextsAreRight, TextsAreJudgedOnce}
 use Rattle.defined_checker.specs.Judging.{AreJudged, IsChecked, counts_of, no_counts}
-use Rattle.defined_checker.specs.declared.checks.Counts.{Counts}
+use Rattle.defined_checker.specs.declared.checks.DefinedCounts.{DefinedCounts}
 use Rattle.defined_checker.specs.declared.faults.DefStop.{DefStop}
 use Rattle.defined_checker.specs.declared.faults.DefStop.TheVariants.{Refused as RefusedText, Invalid, Memory as NoMemory}
 use Rattle.defined_checker.specs.declared.faults.DefinitionFault.{DefinitionFault}
@@ -21,18 +21,18 @@ use Rattle.cert_judge.specs.declared.answers.Judgement.TheVariants.{Refused, NoE
 use Rattle.cert_judge.specs.declared.answers.CertificateFault.TheVariants.{Text}
 
 -- what a check that has memory says
-abbrev answer_of_check : Result Counts DefStop → Judgement
+abbrev answer_of_check : Result DefinedCounts DefStop → Judgement
 answer_of_check (Ok counts) = ValidDefinitions counts
 answer_of_check (Err (RefusedText refusal)) = Refused refusal.line (Text refusal.name)
 answer_of_check (Err (Invalid fault)) = BadBlock fault
 answer_of_check (Err NoMemory) = NoEmptyClause
 
-abbrev HadMemory : Result Counts DefStop → Type 0
+abbrev HadMemory : Result DefinedCounts DefStop → Type 0
 HadMemory check = check ≡ Err NoMemory → ⊥
 
 -- an answer as the result of a check
 record IsCheckOf (f : Dqbf) (text : List ℕ) (first : ℕ) (answer : Judgement) : Type 0 where
-  check : Result Counts DefStop
+  check : Result DefinedCounts DefStop
   checked : IsChecked f text first check
   had_memory : HadMemory check
   said : answer ≡ answer_of_check check
@@ -101,7 +101,7 @@ never_false f (Ok blocks) says = false_is_no_blocks blocks says.0 says.1.1
 never_false f (Err refusal) says = cc
 
 -- what is accepted
-by_counts : (f : Dqbf) (blocks : List DefinitionBlock) (fault : Option DefinitionFault) (counts : Counts) →
+by_counts : (f : Dqbf) (blocks : List DefinitionBlock) (fault : Option DefinitionFault) (counts : DefinedCounts) →
     AreJudged f blocks fault → ValidDefinitions counts ≡ answer_of_blocks blocks fault →
     (AreJudged f blocks None) × (counts ≡ counts_of no_counts blocks)
 by_counts f blocks None counts judged same =
@@ -114,7 +114,7 @@ ReadTextsAreSpelled =
     (text : List ℕ) (first : ℕ) (f : Dqbf) (blocks : List DefinitionBlock) → definitions_of f text first ≡ Ok blocks
     → SpellsDefinitions text f blocks
 
-right_of : ReadTextsAreSpelled → AcceptedTextsAreRight → (f : Dqbf) (text : List ℕ) (at h : ℕ) (counts : Counts)
+right_of : ReadTextsAreSpelled → AcceptedTextsAreRight → (f : Dqbf) (text : List ℕ) (at h : ℕ) (counts : DefinedCounts)
     (read : Result (List DefinitionBlock) CertRefusal) → IsWellFormed f →
     certificate_kind text ≡ Ok (Definitions at h) → definitions_of f (drop at text) h ≡ read →
     IsDefinitionsAnswer f read (ValidDefinitions counts) → HoldsRightDefinitions f text counts
@@ -130,7 +130,7 @@ right_of grammar law f text at h counts (Ok blocks) formed kind read says =
 right_of grammar law f text at h counts (Err refusal) formed kind read says = cc
 
 pub accepted_blocks : ReadTextsAreSpelled → AcceptedTextsAreRight → (f : Dqbf) (text : List ℕ) (at h : ℕ)
-    (counts : Counts) → IsWellFormed f → certificate_kind text ≡ Ok (Definitions at h) →
+    (counts : DefinedCounts) → IsWellFormed f → certificate_kind text ≡ Ok (Definitions at h) →
     IsDefinitionsAnswer f (definitions_of f (drop at text) h) (ValidDefinitions counts) →
     HoldsRightDefinitions f text counts
 accepted_blocks grammar law f text at h counts formed kind says =

@@ -23,7 +23,7 @@ use Rattle.cert_text.specs.declared.kinds.Kind.{Kind}
 use Rattle.cert_text.specs.declared.kinds.Kind.TheVariants.{Circuit as CircuitText, BinaryCircuit as BinaryText, Refutation, Definitions}
 use Rattle.cert_text.specs.declared.refutations.Dqr.{Dqr}
 use Rattle.defined_checker.specs.Forced.{AcceptedTextsAreRight}
-use Rattle.defined_checker.specs.declared.checks.Counts.{Counts}
+use Rattle.defined_checker.specs.declared.checks.DefinedCounts.{DefinedCounts}
 use Rattle.proof_checker.specs.CircuitProof.{circuit_proof_fault}
 use Rattle.refutation_checker.specs.Refutation.{refutation_fault}
 use Rattle.skolem_checker.specs.Checks.{Candidate, candidate_of, with_mapping, IsReadsAnswer, IsRowsAnswer}
@@ -268,20 +268,20 @@ pub accepted_is_false : RefutationLaw → (f : Dqbf) (text : List ℕ) → IsWel
 accepted_is_false law f text formed r = false_by_kind law (certificate_kind text) f text formed r
 
 -- definitions
-counts_are_no_refusal : (counts : Counts) (line : ℕ) (name : CertificateFault) →
+counts_are_no_refusal : (counts : DefinedCounts) (line : ℕ) (name : CertificateFault) →
     ValidDefinitions counts ≡ Refused line name → ⊥
 counts_are_no_refusal counts line name same = cc
 
-counts_are_no_read : (counts : Counts) (y x : ℕ) → ValidDefinitions counts ≡ UndeclaredRead y x → ⊥
+counts_are_no_read : (counts : DefinedCounts) (y x : ℕ) → ValidDefinitions counts ≡ UndeclaredRead y x → ⊥
 counts_are_no_read counts y x same = cc
 
-counts_are_no_proof : (counts : Counts) (fault : Option ProofFault) →
+counts_are_no_proof : (counts : DefinedCounts) (fault : Option ProofFault) →
     ValidDefinitions counts ≡ answer_of_derivation ValidTrue fault → ⊥
 counts_are_no_proof counts None same = cc
 counts_are_no_proof counts (Some (underived id)) same = cc
 counts_are_no_proof counts (Some unfinished) same = cc
 
-counts_are_foreign : (counts : Counts) → IsForeign (ValidDefinitions counts)
+counts_are_foreign : (counts : DefinedCounts) → IsForeign (ValidDefinitions counts)
 counts_are_foreign counts = record {
   no_refusal = counts_are_no_refusal counts;
   no_read = counts_are_no_read counts;
@@ -289,20 +289,20 @@ counts_are_foreign counts = record {
   no_rows = λ c impossible. impossible;
 }
 
-counts_are_no_derivation : (counts : Counts) (fault : Option ProofFault) →
+counts_are_no_derivation : (counts : DefinedCounts) (fault : Option ProofFault) →
     ValidDefinitions counts ≡ answer_of_derivation ValidFalse fault → ⊥
 counts_are_no_derivation counts None same = cc
 counts_are_no_derivation counts (Some (underived id)) same = cc
 counts_are_no_derivation counts (Some unfinished) same = cc
 
-counts_are_no_refutation : (f : Dqbf) (counts : Counts) (read : Result Dqr CertRefusal) →
+counts_are_no_refutation : (f : Dqbf) (counts : DefinedCounts) (read : Result Dqr CertRefusal) →
     ValidDefinitions counts ≡ answer_of_refutation f read → ⊥
 counts_are_no_refutation f counts (Ok d) same = counts_are_no_derivation counts (refutation_fault f d) same
 counts_are_no_refutation f counts (Err refusal) same =
     counts_are_no_refusal counts refusal.line (Text refusal.name) same
 
 blocks_by_kind : ReadTextsAreSpelled → AcceptedTextsAreRight → (kind : Result Kind CertRefusal) (f : Dqbf)
-    (text : List ℕ) (counts : Counts) → certificate_kind text ≡ kind → IsWellFormed f →
+    (text : List ℕ) (counts : DefinedCounts) → certificate_kind text ≡ kind → IsWellFormed f →
     IsJudgementOf f text kind (ValidDefinitions counts) → HoldsRightDefinitions f text counts
 blocks_by_kind grammar law (Ok (CircuitText at h)) f text counts is formed r =
     absurd (foreign_by_file (ValidDefinitions counts) (counts_are_foreign counts) f h (drop at text) r)
@@ -316,7 +316,7 @@ blocks_by_kind grammar law (Err refusal) f text counts is formed r =
     absurd (counts_are_no_refusal counts refusal.line (Text refusal.name) r)
 
 pub accepted_definitions : ReadTextsAreSpelled → AcceptedTextsAreRight → (f : Dqbf) (text : List ℕ)
-    (counts : Counts) → IsWellFormed f → IsJudgement f text (ValidDefinitions counts) →
+    (counts : DefinedCounts) → IsWellFormed f → IsJudgement f text (ValidDefinitions counts) →
     HoldsRightDefinitions f text counts
 accepted_definitions grammar law f text counts formed r =
     blocks_by_kind grammar law (certificate_kind text) f text counts refl formed r

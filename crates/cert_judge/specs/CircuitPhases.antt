@@ -10,7 +10,7 @@ use Rattle.aiger_text.specs.declared.faults.AagStop.TheVariants.{Refused as Refu
 use Rattle.aiger_text.specs.declared.files.AagFile.{AagFile}
 use Rattle.cert_judge.specs.Judgement.{begins_proof, mapping_line, proof_on, BehindProof}
 use Rattle.cert_judge.specs.Phases.{line_end, AreLinesFrom, CircuitGives, Gives, IsLastUnless, IsLawful}
-use Rattle.cert_judge.specs.Standing.{SaysRead}
+use Rattle.cert_judge.specs.ProofStart.{SaysRead}
 use Rattle.cert_judge.specs.declared.answers.Judgement.{Judgement}
 use Rattle.cert_judge.specs.declared.answers.Judgement.TheVariants.{Refused}
 use Rattle.cert_judge.specs.declared.answers.CertificateFault.TheVariants.{Circuit as CircuitFault}

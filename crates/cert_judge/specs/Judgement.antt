@@ -29,7 +29,7 @@ use Rattle.cert_text.specs.declared.refutations.Dqr.{Dqr}
 use Rattle.cert_text.specs.declared.versions.Version.TheVariants.{One, Two}
 use Rattle.defined_checker.specs.Forced.{AreRight}
 use Rattle.defined_checker.specs.Judging.{AreJudged, counts_of, no_counts}
-use Rattle.defined_checker.specs.declared.checks.Counts.{Counts}
+use Rattle.defined_checker.specs.declared.checks.DefinedCounts.{DefinedCounts}
 use Rattle.defined_checker.specs.declared.faults.DefinitionFault.{DefinitionFault}
 use Rattle.proof_checker.specs.CircuitProof.{circuit_proof_fault}
 use Rattle.refutation_checker.specs.Refutation.{refutation_fault}
@@ -236,7 +236,7 @@ SpellsBlocks f text (Ok _) blocks = ⊥
 SpellsBlocks f text (Err refusal) blocks = ⊥
 
 -- the text spells a block for each existential, so many of each kind, and what they say is right
-pub record HoldsRightDefinitions (f : Dqbf) (text : List ℕ) (counts : Counts) : Type 0 where
+pub record HoldsRightDefinitions (f : Dqbf) (text : List ℕ) (counts : DefinedCounts) : Type 0 where
   pub blocks : List DefinitionBlock
   pub spelled : SpellsBlocks f text (certificate_kind text) blocks
   pub counted : counts ≡ counts_of no_counts blocks

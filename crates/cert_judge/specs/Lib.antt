@@ -3,6 +3,6 @@ pub mod CircuitPhases
 pub mod Judgement
 pub mod Phases
 pub mod Places
-pub mod Standing
+pub mod ProofStart
 pub mod StreamInside
 pub mod Streams

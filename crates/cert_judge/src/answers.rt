@@ -5,7 +5,7 @@ ghost use Rattle.cert_judge.specs.declared.answers.Judgement.TheVariants.{Refuse
 
 use aiger_text::AagFault;
 use cert_text::CertFault;
-use defined_checker::{Counts, DefinitionFault};
+use defined_checker::{DefinedCounts, DefinitionFault};
 use skolem_checker::MapName;
 
 /// What is wrong with a certificate's text.
@@ -45,7 +45,7 @@ pub enum Judgement {
     BadBlock { fault: DefinitionFault },
     /// Each block of definitions is right: so many existentials are functions of what they may read,
     /// wherever the matrix is true, and so many aren't.
-    ValidDefinitions { counts: Counts },
+    ValidDefinitions { counts: DefinedCounts },
 }
 
 /// The certificate's text has this fault.

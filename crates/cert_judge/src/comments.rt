@@ -13,7 +13,7 @@ ghost use Rattle.cert_judge.specs.Phases.{AreLinesFrom, HasNoEnd, IsJudged, IsLa
 use crate::answers::{CertificateFault, Judgement, refused};
 use crate::circuits::begins_proof;
 use crate::phases::{Phase, boxed};
-use crate::standings::{Standing, standing_of};
+use crate::proof_starts::{ProofStart, proof_start_of};
 use aiger_text::laws::circuit_or_first_fault;
 use aiger_text::{AagFile, AagLines, AagStop};
 use cert_stream::ProofStream;
@@ -136,20 +136,20 @@ fn begin_comment<'f>(
         return Ok(Phase::FreeText { first, file });
     }
     run_is_fault();
-    let standing = standing_of(alloc, f, first, &file);
+    let proof_start = proof_start_of(alloc, f, first, &file);
     let circuit = circuit_in(file);
-    let standing = match standing {
-        Ok(standing) => standing,
+    let proof_start = match proof_start {
+        Ok(proof_start) => proof_start,
         Err(Memory) => {
             drop(circuit);
             return Err(Memory);
         }
     };
-    match standing {
-        Standing::Found(finding) => {
+    match proof_start {
+        ProofStart::Found(finding) => {
             Ok(begin_proof(alloc, f, number, circuit, None, Some(finding), line))
         }
-        Standing::Proving(proving) => {
+        ProofStart::Proving(proving) => {
             Ok(begin_proof(alloc, f, number, circuit, Some(proving), None, line))
         }
     }

@@ -2,7 +2,7 @@
 //! who calls it may use what it ensures.
 
 ghost use Rattle.std.specs.Prelude.{◌≡◌, ℕ, List};
-ghost use Rattle.defined_checker.specs.declared.checks.Counts.{Counts};
+ghost use Rattle.defined_checker.specs.declared.checks.DefinedCounts.{DefinedCounts};
 ghost use Rattle.dq_lits.specs.Formula.{Dqbf, IsWellFormed};
 ghost use Rattle.dq_lits.specs.Henkin.{IsTrueFormula, IsFalseFormula};
 ghost use Rattle.cert_judge.specs.Judgement.{IsJudgement, HoldsSkolemCircuit, HoldsRightDefinitions};
@@ -35,7 +35,7 @@ pub fn acceptance_is_sound()
         → HoldsSkolemCircuit f text }
     ensures is_false { (f : Dqbf) (text : List ℕ) → IsWellFormed f → IsJudgement f text ValidFalse
         → IsFalseFormula f }
-    ensures definitions { (f : Dqbf) (text : List ℕ) (counts : Counts) → IsWellFormed f
+    ensures definitions { (f : Dqbf) (text : List ℕ) (counts : DefinedCounts) → IsWellFormed f
         → IsJudgement f text (ValidDefinitions counts) → HoldsRightDefinitions f text counts }
 {
     binary_circuit_or_first_fault();

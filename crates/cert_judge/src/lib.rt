@@ -20,5 +20,5 @@ mod free_texts;
 mod judging;
 pub mod laws;
 mod phases;
-mod standings;
+mod proof_starts;
 mod streams;

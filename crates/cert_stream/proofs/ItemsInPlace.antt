@@ -17,7 +17,7 @@ use Rattle.cert_text.specs.RowLine.{row_line}
 use Rattle.cert_text.specs.Variables.{is_up_to}
 use Rattle.cert_text.specs.declared.faults.CertFault.{CertFault}
 use Rattle.cert_text.specs.declared.faults.CertFault.TheVariants.{BadLine, Truncated}
-use Rattle.cert_text.specs.declared.headers.Counts.{Counts}
+use Rattle.cert_text.specs.declared.headers.RowsAndItems.{RowsAndItems}
 use Rattle.cert_text.specs.declared.headers.ItemCount.{ItemCount}
 use Rattle.cert_text.specs.declared.versions.Version.{Version}
 use Rattle.cert_text.proofs.Numberings.{next_kept}
@@ -42,7 +42,7 @@ no_item f body read made is =
     let same : without_item made ≡ read = cc in
     subst (λ (r : BodyRead). IfSome r.item (MayCome f body)) same tt
 
-header_stands : (f : Dqbf) (read : BodyRead) (h : Result Counts CertFault) →
+header_stands : (f : Dqbf) (read : BodyRead) (h : Result RowsAndItems CertFault) →
     Stands f None read (and_then (λ counts. Ok (without_item (body_behind f counts))) h)
 header_stands f read (Ok counts) = no_item f None read (body_behind f counts)
 header_stands f read (Err name) = λ is. cc

@@ -10,11 +10,11 @@ use Rattle.cert_text.specs.Pairs.{is_pair_number}
 use Rattle.cert_text.specs.RowLine.{row_line}
 use Rattle.cert_text.specs.declared.faults.CertFault.{CertFault}
 use Rattle.cert_text.specs.declared.faults.CertFault.TheVariants.{BadLine}
-use Rattle.cert_text.specs.declared.headers.Counts.{Counts}
+use Rattle.cert_text.specs.declared.headers.RowsAndItems.{RowsAndItems}
 use Rattle.cert_stream.specs.RefutationLines.{BodyRead, RefutationBody, RefutationLines, behind_line, body_behind, line_read, with_item_read, with_line, with_row, without_item}
 
 pub data LineStep (r : RefutationLines) : RefutationLines → Type 0 where
-  header_step : (counts : Counts) → r.body ≡ None →
+  header_step : (counts : RowsAndItems) → r.body ≡ None →
       LineStep r (behind_line r (without_item (body_behind r.formula counts)))
   row_step : (body : RefutationBody) (row : List Bool) → r.body ≡ Some body → nat_lt 0 body.rows_left ≡ true →
       LineStep r (behind_line r (with_row body row))
@@ -29,7 +29,7 @@ module _ (r next : RefutationLines) where
   step_by : (read : BodyRead) → LineStep r (behind_line r read) → Steps (Ok read)
   step_by read step is = let same : behind_line r read ≡ next = cc in subst (LineStep r) same step
 
-  by_header : (h : Result Counts CertFault) → r.body ≡ None →
+  by_header : (h : Result RowsAndItems CertFault) → r.body ≡ None →
       Steps (and_then (λ counts. Ok (without_item (body_behind r.formula counts))) h)
   by_header (Ok counts) none = step_by (without_item (body_behind r.formula counts)) (header_step counts none)
   by_header (Err name) none = λ is. cc

@@ -17,7 +17,7 @@ use Rattle.cert_text.specs.Scan.{blank_lines, read_body, row_lines}
 use Rattle.cert_text.specs.declared.faults.CertFault.{CertFault}
 use Rattle.cert_text.specs.declared.faults.CertFault.TheVariants.{BadLine}
 use Rattle.cert_text.specs.declared.faults.CertRefusal.{CertRefusal}
-use Rattle.cert_text.specs.declared.headers.Counts.{Counts}
+use Rattle.cert_text.specs.declared.headers.RowsAndItems.{RowsAndItems}
 use Rattle.cert_text.specs.declared.refutations.Dqr.{Dqr}
 use Rattle.cert_text.specs.declared.versions.Version.{Version}
 use Rattle.cert_stream.specs.RefutationLines.{BodyRead, RefutationBody, RefutationLines, behind_line, body_behind, body_gives, body_line, gives, in_front, line_read, lines_give, with_item_read, with_line, with_row, without_item}
@@ -32,7 +32,7 @@ then_gives f lines number read = in_front read.item (body_gives f read.body line
 abbrev after : Dqbf → ℕ → Result BodyRead CertFault → List TextLine → Reading
 after f number read lines = and_read (at_line number read) (then_gives f lines (number + 1))
 
-header_read : (f : Dqbf) (h : Result Counts CertFault) (lines : List TextLine) (number : ℕ) →
+header_read : (f : Dqbf) (h : Result RowsAndItems CertFault) (lines : List TextLine) (number : ℕ) →
     and_read (at_line number h) (λ counts. read_body f counts lines (number + 1))
     ≡ after f number (and_then (λ counts. Ok (without_item (body_behind f counts))) h) lines
 header_read f (Ok counts) lines number = refl

@@ -18,7 +18,7 @@ use Rattle.cert_text.specs.declared.faults.CertFault.{CertFault}
 use Rattle.cert_text.specs.declared.faults.CertFault.TheVariants.{BadLine}
 use Rattle.cert_text.specs.declared.faults.CertRefusal.{CertRefusal}
 use Rattle.cert_text.specs.declared.faults.CertStop.{CertStop}
-use Rattle.cert_text.specs.declared.headers.Counts.{Counts}
+use Rattle.cert_text.specs.declared.headers.RowsAndItems.{RowsAndItems}
 use Rattle.cert_text.specs.declared.refutations.Dqr.{Dqr}
 use Rattle.cert_text.specs.declared.versions.Version.{Version}
 
@@ -51,7 +51,7 @@ no_lines f first =
     record { formula = f; number = first; body = None; item = None; stopped = None }
 
 -- behind the header
-abbrev pub body_behind : Dqbf → Counts → RefutationBody
+abbrev pub body_behind : Dqbf → RowsAndItems → RefutationBody
 body_behind f counts =
     record {
       version = counts.version;

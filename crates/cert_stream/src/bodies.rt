@@ -17,8 +17,8 @@ ghost use Rattle.cert_stream.specs.RefutationLines.{body_behind, body_line, line
 use crate::items_to_come::ItemsToCome;
 use cert_text::laws::lines_are_lawful;
 use cert_text::{
-    CertFault, Counts, LineStop, Pairs, RowUniversals, Variables, first_id, read_header, read_row,
-    universal_words,
+    CertFault, LineStop, Pairs, RowUniversals, RowsAndItems, Variables, first_id, read_header,
+    read_row, universal_words,
 };
 use dq_formula::Formula;
 use dq_lits::{Memory, RowList};
@@ -93,7 +93,7 @@ fn begin(alloc: Global, f: &Formula, line: &[u8]) -> Result<Body, LineStop>
 
 impl Body {
     // Nothing was read behind the header.
-    fn new(alloc: Global, f: &Formula, counts: Counts) -> Result<Body, Memory>
+    fn new(alloc: Global, f: &Formula, counts: RowsAndItems) -> Result<Body, Memory>
         requires small { AreSmall counts }
         ensures body { IfOk result (λ body. body_of body ≡ body_behind f.now counts) }
         ensures item { IfOk result (λ body. body.items.read ≡ None) }

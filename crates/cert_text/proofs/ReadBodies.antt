@@ -15,7 +15,7 @@ use Rattle.cert_text.specs.declared.circuit_proofs.Dqp.{Dqp}
 use Rattle.cert_text.specs.declared.faults.CertRefusal.{CertRefusal}
 use Rattle.cert_text.specs.declared.faults.CertStop.{CertStop}
 use Rattle.cert_text.specs.declared.faults.CertStop.TheVariants.{Refused, Memory}
-use Rattle.cert_text.specs.declared.headers.Counts.{Counts}
+use Rattle.cert_text.specs.declared.headers.RowsAndItems.{RowsAndItems}
 use Rattle.cert_text.specs.declared.headers.ItemCount.{ItemCount}
 use Rattle.cert_text.specs.declared.refutations.Dqr.{Dqr}
 
@@ -33,7 +33,7 @@ pub handed_on : {B : Type 0} (whole : Result B CertRefusal) (stop : CertStop) (m
     IsReading whole made
 handed_on whole stop made is same = subst (IsReading whole) (sym same) is
 
-module _ (f : Dqbf) (c : Counts) (at : LineCursor) (us : List ℕ) (us_are : us ≡ f.universals) where
+module _ (f : Dqbf) (c : RowsAndItems) (at : LineCursor) (us : List ℕ) (us_are : us ≡ f.universals) where
   abbrev all : Result Dqr CertRefusal
   all = read_body f c (lines_from at.number at.rest) at.number
 

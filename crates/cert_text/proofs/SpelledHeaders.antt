@@ -10,7 +10,7 @@ use Rattle.dq_text.proofs.Naturals.{natural_taken, natural_spelled}
 use Rattle.dq_text.specs.Number.{natural_of}
 use Rattle.cert_text.specs.declared.faults.CertFault.{CertFault}
 use Rattle.cert_text.specs.declared.faults.CertFault.TheVariants.{BadHeader, TooBig}
-use Rattle.cert_text.specs.declared.headers.Counts.{Counts}
+use Rattle.cert_text.specs.declared.headers.RowsAndItems.{RowsAndItems}
 use Rattle.cert_text.specs.declared.headers.ItemCount.{ItemCount}
 use Rattle.cert_text.specs.declared.versions.Version.{Version}
 use Rattle.cert_text.specs.declared.versions.Version.TheVariants.{One, Two}
@@ -51,7 +51,7 @@ header_taken tokens version rows items spelled few_rows few_items =
     (or_from (nat_lt max_count rows) (nat_lt max_count items) (le-ltb max_count rows (omega (arith, few_rows)))
     (le-ltb max_count items (omega (arith, few_items))))
 
-pub record IsHeader (tokens : Tokens) (c : Counts) : Type 0 where
+pub record IsHeader (tokens : Tokens) (c : RowsAndItems) : Type 0 where
   pub spelled : SpellsHeader tokens c.version c.rows c.items
   pub few_rows : c.rows ≤ max_count
   pub few_items : c.items ≤ max_count
@@ -62,20 +62,20 @@ passed_word : {A : Type 0} (word : Bool) (r : Result A CertFault) (c : A) → co
 passed_word true r c h = (refl, h)
 passed_word false r c h = cc
 
-record AreCounts (version : Option Version) (rows items : Option ℕ) (c : Counts) : Type 0 where
+record AreCounts (version : Option Version) (rows items : Option ℕ) (c : RowsAndItems) : Type 0 where
   version_is : version ≡ Some c.version
   rows_are : rows ≡ Some c.rows
   items_are : items ≡ Some c.items
   few_rows : c.rows ≤ max_count
   few_items : c.items ≤ max_count
 
-are_counts : (version : Option Version) (rows items : Option ℕ) (c : Counts) → counts_of version rows items ≡ Ok c →
+are_counts : (version : Option Version) (rows items : Option ℕ) (c : RowsAndItems) → counts_of version rows items ≡ Ok c →
     AreCounts version rows items c
 are_counts None rows items c h = cc
 are_counts (Some v) None items c h = cc
 are_counts (Some v) (Some k) None c h = cc
 are_counts (Some v) (Some k) (Some n) c h =
-    let made : Counts = record { version = v; rows = k; items = n } in
+    let made : RowsAndItems = record { version = v; rows = k; items = n } in
     let checked = passed (nat_lt max_count k || nat_lt max_count n) TooBig (Ok made) c h in
     let small = or_parts (nat_lt max_count k) (nat_lt max_count n) checked.0 in
     let is : made ≡ c = cc in
@@ -87,7 +87,7 @@ are_counts (Some v) (Some k) (Some n) c h =
       few_items = ltb-false max_count n small.1;
     })
 
-four_tokens : (letter word k n : List ℕ) (c : Counts) → header_of (letter ∷ word ∷ k ∷ n ∷ []) ≡ Ok c →
+four_tokens : (letter word k n : List ℕ) (c : RowsAndItems) → header_of (letter ∷ word ∷ k ∷ n ∷ []) ≡ Ok c →
     IsHeader (letter ∷ word ∷ k ∷ n ∷ []) c
 four_tokens letter word k n c h =
     let outer = passed_word (bytes_eq letter (codes "p")) (counts_of (version_of refutation_word word) (natural_of k)
@@ -108,7 +108,7 @@ four_tokens letter word k n c h =
       few_items = few_items;
     }
 
-pub header_spelled : (tokens : Tokens) (c : Counts) → header_of tokens ≡ Ok c → IsHeader tokens c
+pub header_spelled : (tokens : Tokens) (c : RowsAndItems) → header_of tokens ≡ Ok c → IsHeader tokens c
 header_spelled [] c h = cc
 header_spelled (a ∷ []) c h = cc
 header_spelled (a ∷ b ∷ []) c h = cc

@@ -19,7 +19,7 @@ use Rattle.cert_text.specs.declared.faults.CertFault.{CertFault}
 use Rattle.cert_text.specs.declared.faults.CertFault.TheVariants.{BadLine}
 use Rattle.cert_text.specs.declared.faults.CertRefusal.{CertRefusal}
 use Rattle.cert_text.specs.declared.faults.CertStop.{CertStop}
-use Rattle.cert_text.specs.declared.headers.Counts.{Counts}
+use Rattle.cert_text.specs.declared.headers.RowsAndItems.{RowsAndItems}
 use Rattle.cert_text.specs.declared.refutations.Dqr.{Dqr}
 use Rattle.cert_text.specs.declared.versions.Version.{Version}
 use Rattle.cert_text.proofs.SpelledHeaders.{IsHeader, header_taken, header_spelled}
@@ -63,7 +63,7 @@ Items = LinesRead ProofItem
 abbrev refutation : List (List Bool) → List ProofItem → Dqr
 refutation rows items = record { rows = rows; items = items }
 
-module _ (f : Dqbf) (c : Counts) where
+module _ (f : Dqbf) (c : RowsAndItems) where
   abbrev is_number : ℕ → Bool
   is_number = is_pair_number f c.rows
 
@@ -119,8 +119,8 @@ lines_read f d version header spelled_rows spelled_items n [] number lawful head
 lines_read f d version header spelled_rows spelled_items n (line ∷ lines) number lawful head rows items allowed are =
     let here : line_tokens line.text ≡ header = cc in
     let rest : by_tokens lines ≡ spelled_rows ++ (spelled_items ++ replicate n []) = cc in
-    let c : Counts = record { version = version; rows = length d.rows; items = length d.items } in
-    let next : Counts → Result Dqr CertRefusal = λ counts. read_body f counts lines (line.number + 1) in
+    let c : RowsAndItems = record { version = version; rows = length d.rows; items = length d.items } in
+    let next : RowsAndItems → Result Dqr CertRefusal = λ counts. read_body f counts lines (line.number + 1) in
     ap (λ r. and_read (at_line line.number r) next) (ap header_of here ∙ header_taken header version (length d.rows)
     (length d.items) head allowed.few_rows allowed.few_items)
     ∙ body_read f c d.rows d.items spelled_rows spelled_items n lines (line.number + 1) lawful refl refl rows
@@ -135,7 +135,7 @@ spelled_is_read text first f d lawful spelled =
     (same_tokens first 1 text ∙ spelled.lines)
 
 -- row lines, item lines, and then lines of blanks
-record AreBodyLines (f : Dqbf) (c : Counts) (lines : List TextLine) (d : Dqr) : Type 0 where
+record AreBodyLines (f : Dqbf) (c : RowsAndItems) (lines : List TextLine) (d : Dqr) : Type 0 where
   spelled_rows : List Tokens
   spelled_items : List Tokens
   blanks : ℕ
@@ -145,7 +145,7 @@ record AreBodyLines (f : Dqbf) (c : Counts) (lines : List TextLine) (d : Dqr) : 
   rows : AreRows f.universals spelled_rows d.rows
   items : AreItemLines c.version (is_number f c) (from_first f c) spelled_items d.items
 
-body_of : (f : Dqbf) (c : Counts) (lines : List TextLine) (rows : Rows) (items : Items) →
+body_of : (f : Dqbf) (c : RowsAndItems) (lines : List TextLine) (rows : Rows) (items : Items) →
     (r : IsReadFrom (row_lines f.universals) tt c.rows lines rows) → AreRows f.universals r.spelled rows.items →
     (s : IsReadFrom (lines_of f c) (from_first f c) c.items rows.rest items) →
     AreItemLines c.version (is_number f c) (from_first f c) s.spelled items.items →
@@ -161,7 +161,7 @@ body_of f c lines rows items r are_rows s are_items blank = record {
   items = are_items;
 }
 
-module _ (f : Dqbf) (c : Counts) (lines : List TextLine) (number : ℕ) (d : Dqr) where
+module _ (f : Dqbf) (c : RowsAndItems) (lines : List TextLine) (number : ℕ) (d : Dqr) where
   by_blanks : (rows : Rows) (items : Items) (blank : Result (Unit {0}) CertRefusal) →
       read_some (row_lines f.universals) tt c.rows lines number ≡ Ok rows →
       read_some (lines_of f c) (from_first f c) c.items rows.rest rows.number ≡ Ok items →
@@ -206,7 +206,7 @@ record AreLines (f : Dqbf) (lines : List TextLine) (d : Dqr) : Type 0 where
   items : AllZip (SpellsItem version) spelled_items d.items
   allowed : IsDqrOf f d
 
-with_header : (f : Dqbf) (c : Counts) (line : TextLine) (lines : List TextLine) (d : Dqr) →
+with_header : (f : Dqbf) (c : RowsAndItems) (line : TextLine) (lines : List TextLine) (d : Dqr) →
     IsHeader (line_tokens line.text) c → AreBodyLines f c lines d →
     AreLines f (line ∷ lines) d
 with_header f c line lines d h b =
@@ -232,7 +232,7 @@ with_header f c line lines d h b =
       };
     }
 
-by_header : (f : Dqbf) (line : TextLine) (lines : List TextLine) (d : Dqr) (counts : Result Counts CertFault) →
+by_header : (f : Dqbf) (line : TextLine) (lines : List TextLine) (d : Dqr) (counts : Result RowsAndItems CertFault) →
     header_of (line_tokens line.text) ≡ counts →
     and_read (at_line line.number counts) (λ c. read_body f c lines (line.number + 1)) ≡ Ok d →
     AreLines f (line ∷ lines) d

@@ -5,7 +5,7 @@ use Rattle.std.specs.Str.{bytes_eq}
 use Rattle.dq_text.specs.Number.{natural_of}
 use Rattle.cert_text.specs.declared.faults.CertFault.{CertFault}
 use Rattle.cert_text.specs.declared.faults.CertFault.TheVariants.{BadHeader, TooBig}
-use Rattle.cert_text.specs.declared.headers.Counts.{Counts}
+use Rattle.cert_text.specs.declared.headers.RowsAndItems.{RowsAndItems}
 use Rattle.cert_text.specs.declared.headers.ItemCount.{ItemCount}
 use Rattle.cert_text.specs.declared.versions.Version.{Version}
 use Rattle.cert_text.specs.declared.versions.Version.TheVariants.{One, Two}
@@ -27,7 +27,7 @@ version_of word_of word =
     if bytes_eq word (word_of One) then Some One else
     if bytes_eq word (word_of Two) then Some Two else None
 
-abbrev pub counts_of : Option Version → Option ℕ → Option ℕ → Result Counts CertFault
+abbrev pub counts_of : Option Version → Option ℕ → Option ℕ → Result RowsAndItems CertFault
 counts_of None _ _ = Err BadHeader
 counts_of (Some _) None _ = Err BadHeader
 counts_of (Some _) (Some _) None = Err BadHeader
@@ -36,7 +36,7 @@ counts_of (Some version) (Some rows) (Some items) =
     else Ok (record { version = version; rows = rows; items = items })
 
 -- `p`, `dqr` or `dqr2`, how many rows, how many lines of a proof
-abbrev pub header_of : List (List ℕ) → Result Counts CertFault
+abbrev pub header_of : List (List ℕ) → Result RowsAndItems CertFault
 header_of (letter ∷ word ∷ rows ∷ items ∷ []) =
     if bytes_eq letter (codes "p")
     then counts_of (version_of refutation_word word) (natural_of rows) (natural_of items)

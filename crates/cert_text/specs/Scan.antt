@@ -13,7 +13,7 @@ use Rattle.cert_text.specs.Pairs.{is_pair_number}
 use Rattle.cert_text.specs.RowLine.{row_line}
 use Rattle.cert_text.specs.declared.faults.CertFault.TheVariants.{BadHeader, BadLine}
 use Rattle.cert_text.specs.declared.faults.CertRefusal.{CertRefusal}
-use Rattle.cert_text.specs.declared.headers.Counts.{Counts}
+use Rattle.cert_text.specs.declared.headers.RowsAndItems.{RowsAndItems}
 use Rattle.cert_text.specs.declared.refutations.Dqr.{Dqr}
 
 -- the instances of the clauses have the ids before the first line's
@@ -31,7 +31,7 @@ abbrev pub row_lines : List ℕ → Format (Unit {0}) (List Bool)
 row_lines universals = record { line = λ _. row_line universals; behind = λ at _. at }
 
 -- the rows, the items of the proof, and nothing behind them
-abbrev pub read_body : Dqbf → Counts → List TextLine → ℕ → Result Dqr CertRefusal
+abbrev pub read_body : Dqbf → RowsAndItems → List TextLine → ℕ → Result Dqr CertRefusal
 read_body f counts lines number =
     and_read (read_some (row_lines f.universals) tt counts.rows lines number) (λ rows.
     and_read

@@ -11,7 +11,7 @@ use dq_text::{LineTokens, is_word, natural};
 
 /// How many rows and items of a proof a header announces, and the version of these.
 #[derive(Clone, Copy, PartialEq, Eq)]
-pub struct Counts {
+pub struct RowsAndItems {
     pub version: Version,
     pub rows: u64,
     pub items: u64,
@@ -28,7 +28,7 @@ pub struct ItemCount {
 pub const MAX_COUNT: u64 = 1_000_000_000;
 
 /// Reads the header line: exactly the tokens `p`, `dqr` or `dqr2`, and two natural numbers.
-pub fn read_header(line: &[u8]) -> Result<Counts, CertFault>
+pub fn read_header(line: &[u8]) -> Result<RowsAndItems, CertFault>
     ensures header { result ≡ header_of (line_tokens line.now) }
     ensures small { IfOk result AreSmall }
 {
@@ -60,7 +60,7 @@ fn counts_from(
     version: Option<Version>,
     rows: Option<u64>,
     items: Option<u64>,
-) -> Result<Counts, CertFault>
+) -> Result<RowsAndItems, CertFault>
     ensures counts { result ≡ counts_of version rows items }
     ensures small { IfOk result AreSmall }
 {
@@ -70,7 +70,7 @@ fn counts_from(
     if rows > MAX_COUNT || items > MAX_COUNT {
         return Err(CertFault::TooBig);
     }
-    Ok(Counts {
+    Ok(RowsAndItems {
         version,
         rows,
         items,

@@ -8,7 +8,7 @@ ghost use Rattle.cert_text.specs.Lines.{IsReading};
 ghost use Rattle.cert_text.specs.Scan.{blank_lines, first_id, read_body, refutation_of};
 
 use crate::faults::{CertFault, CertRefusal, CertStop, refused};
-use crate::headers::{Counts, MAX_COUNT, read_header};
+use crate::headers::{MAX_COUNT, RowsAndItems, read_header};
 use crate::item_lines::ProofLines;
 use crate::item_lists::{Announced, read_items};
 use crate::pairs::Pairs;
@@ -38,7 +38,12 @@ pub fn read_dqr(alloc: Global, bytes: &[u8], first: u64, f: &Formula) -> Result<
 }
 
 // Reads the lines behind the header.
-fn read_body(alloc: Global, f: &Formula, counts: Counts, lines: &mut Lines) -> Result<Dqr, CertStop>
+fn read_body(
+    alloc: Global,
+    f: &Formula,
+    counts: RowsAndItems,
+    lines: &mut Lines,
+) -> Result<Dqr, CertStop>
     requires { AreSmall counts }
     ensures { IsReading
         (read_body f.now counts (lines_from lines.old.number lines.old.rest) lines.old.number)

@@ -11,7 +11,7 @@ use Rattle.log_laws.proofs.LargerLogs.{grown_by, grown_then}
 use Rattle.circuit_cnf.specs.declared.gates.Gates.{Gates}
 use Rattle.circuit_cnf.specs.declared.gates.Unfinished.{Unfinished}
 use Rattle.circuit_cnf.specs.Gates.{IsUnfinished, AreKnown, IsPartGiven, GrewByGates}
-use Rattle.circuit_cnf.proofs.GivenGates.{IsReady, gate_added}
+use Rattle.circuit_cnf.proofs.GivenGates.{CanGiveGateFrom, gate_added}
 use Rattle.circuit_cnf.proofs.KnownGates.{part_more}
 
 -- the first parts stand in the log, and that is noted
@@ -57,7 +57,7 @@ part_given first old gate gates log new parts before below given =
       here : IsUnfinished gates log.entries (record gate { parts = parts })
       here = before.known.last (record gate { parts = parts }) before.last
 
-      ready : IsReady (variable_of gates.group.selector) gate.variable gate.left gate.right (parts + 1) log.entries
+      ready : CanGiveGateFrom (variable_of gates.group.selector) gate.variable gate.left gate.right (parts + 1) log.entries
       ready = record {
         is_group = before.known.made.named;
         is_gate = here.named;

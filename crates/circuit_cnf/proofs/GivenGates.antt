@@ -13,14 +13,14 @@ use Rattle.hint_log.specs.ProductiveLog.{fault_groups, fault_room}
 use Rattle.log_laws.specs.Engines.{circuits, IsGivenBy}
 
 -- no clause of the gate from this part on, and what its clauses ask for
-pub record IsReady (group v : ℕ) (a b : Literal) (part : ℕ) (es : List Entry) : Type 0 where
+pub record CanGiveGateFrom (group v : ℕ) (a b : Literal) (part : ℕ) (es : List Entry) : Type 0 where
   pub is_group : name_of es group ≡ Some (Selector group)
   pub is_gate : name_of es v ≡ Some (And a b)
   pub fresh : (i : ℕ) (c : List Literal) → part ≤ i → Contains es (Given (Gate v i) c) → ⊥
   pub few : length (fault_groups es) ≤ fault_room es
 
 pub gate_added : (f : Dqbf) (old es : List Entry) (group v part : ℕ) (a b : Literal) (rest : List Literal) →
-    IsReady group v a b part es → gate_rest v a b part ≡ Some rest →
+    CanGiveGateFrom group v a b part es → gate_rest v a b part ≡ Some rest →
     IsGivenBy f circuits group old es (Gate v part) (negative group ∷ rest)
 gate_added f old es group v part a b rest ready is = record {
   own = refl;

@@ -1,7 +1,7 @@
 pub mod LeafNodes
 mod ShownOutputs
 mod GivenGates
-mod StandingNames
+mod KeptNames
 mod EmptyGroups
 mod KnownGates
 mod NamedInputs

@@ -19,7 +19,7 @@ use Rattle.log_laws.proofs.LargerLogs.{grown_then}
 use Rattle.circuit_cnf.specs.Faults.{AreSaid, HasFault, HasItsFaults, HaveChosenFaults, HaveFaults, IsFaulted, IsNeverBad, AreFewWith, HaveOneLeaf, AreBads}
 use Rattle.circuit_cnf.specs.Saying.{MaySay, given_after, given_before, leaf_in, selector_in}
 use Rattle.circuit_cnf.specs.declared.fault_clauses.Faults.{Faults}
-use Rattle.circuit_cnf.specs.declared.fault_clauses.Part.{Part}
+use Rattle.circuit_cnf.specs.declared.fault_clauses.ClauseSelection.{ClauseSelection}
 use Rattle.circuit_cnf.proofs.ClauseFaults.{few_more, one_leaf_more, leaf_stays_leaf}
 use Rattle.circuit_cnf.proofs.GivenFaults.{IsFaultReady, fault_grown}
 use Rattle.circuit_cnf.proofs.GroupFaults.{some_leaf_more}
@@ -104,13 +104,13 @@ next_fault f group bad j leaf clause old log new i l before said at here = recor
       (subst (λ x. HasFault group bad j (i + 1) x (leaf (variable_of x)) new.entries) literal here)
 
 -- the first clauses of a part have their faults, and those that had theirs before it
-pub record PartSoFar (f : Dqbf) (group : ℕ) (bads : List Literal) (leaf : ℕ → Leaf) (part : Part)
+pub record PartSoFar (f : Dqbf) (group : ℕ) (bads : List Literal) (leaf : ℕ → Leaf) (part : ClauseSelection)
     (old log : ProofLog) (j : ℕ) : Type 0 where
   pub said : AreSaid f group leaf old log
   pub before : HaveChosenFaults f group bads leaf (given_before part) log.entries
   pub given : (k : ℕ) → k < j → bit_of part.marks.now k ≡ part.are_set → HasItsFaults f group bads leaf k log.entries
 
-module _ (f : Dqbf) (group : ℕ) (bads : List Literal) (leaf : ℕ → Leaf) (part : Part) (old log : ProofLog) (j : ℕ)
+module _ (f : Dqbf) (group : ℕ) (bads : List Literal) (leaf : ℕ → Leaf) (part : ClauseSelection) (old log : ProofLog) (j : ℕ)
     (so_far : PartSoFar f group bads leaf part old log j) where
   pub next_clause : (new : ProofLog) → AreSaid f group leaf log new →
       (bit_of part.marks.now j ≡ part.are_set → HasItsFaults f group bads leaf j new.entries) →

@@ -11,7 +11,7 @@ use Rattle.hint_log.specs.Origins.{IsLeafOf}
 use Rattle.oracle.specs.Calls.{IsMade}
 use Rattle.circuit_cnf.specs.Faults.{leaf_of, AreFewWith, HaveOneLeaf}
 use Rattle.circuit_cnf.specs.declared.fault_clauses.Faults.{Faults}
-use Rattle.circuit_cnf.specs.declared.fault_clauses.Part.{Part}
+use Rattle.circuit_cnf.specs.declared.fault_clauses.ClauseSelection.{ClauseSelection}
 
 -- the variable of the group
 abbrev pub selector_in : Faults → ℕ
@@ -23,10 +23,10 @@ leaf_in faults = leaf_of faults.f.now faults.inputs.now faults.outputs.now
 
 -- which clauses have their faults before a part of the clauses gets them, and behind it: a part of
 -- the marked clauses comes first, and the others then
-abbrev pub given_before : Part → ℕ → Bool
+abbrev pub given_before : ClauseSelection → ℕ → Bool
 given_before part = λ j. not part.are_set && bit_of part.marks.now j
 
-abbrev pub given_after : Part → ℕ → Bool
+abbrev pub given_after : ClauseSelection → ℕ → Bool
 given_after part = λ j. not part.are_set || bit_of part.marks.now j
 
 -- each declared variable has this leaf

@@ -39,7 +39,7 @@ pub(crate) struct Faults<'g, 'f, 'l> {
 
 /// The clauses whose marks, a bit for each clause, are set, or the others.
 #[derive(Drop)]
-pub(crate) struct Part<'m> {
+pub(crate) struct ClauseSelection<'m> {
     pub marks: &'m Row,
     pub are_set: bool,
 }
@@ -62,7 +62,7 @@ impl<'g, 'f, 'l> Faults<'g, 'f, 'l> {
         &self,
         oracle: &mut O,
         bads: &[Lit],
-        part: &Part,
+        part: &ClauseSelection,
         log: &mut Log,
     ) -> Result<(), Memory>
         requires fit { O.Fits oracle.old log.old }
@@ -116,7 +116,7 @@ impl<'g, 'f, 'l> Faults<'g, 'f, 'l> {
         &self,
         oracle: &mut O,
         bads: &[Lit],
-        part: &Part,
+        part: &ClauseSelection,
         log: &mut Log,
     ) -> Result<(), Memory>
         requires fit { O.Fits oracle.old log.old }
@@ -144,7 +144,7 @@ impl<'g, 'f, 'l> Faults<'g, 'f, 'l> {
         &self,
         oracle: &mut O,
         bad: Lit,
-        part: &Part,
+        part: &ClauseSelection,
         j: usize,
         log: &mut Log,
     ) -> Result<(), Memory>

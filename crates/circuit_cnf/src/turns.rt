@@ -23,7 +23,7 @@ ghost use Rattle.circuit_cnf.specs.Turning.{AreFailing, AreLeavesOf, HasTurned, 
 use crate::checkers::Checker;
 use crate::circuits::Circuit;
 use crate::failures::false_clause;
-use crate::fault_clauses::{Faults, Part};
+use crate::fault_clauses::{ClauseSelection, Faults};
 use crate::laws::shown_outputs_hold;
 use crate::leaves::{Cone, cone_literals, node_leaves};
 use aig_graph::{Graph, Node};
@@ -205,7 +205,7 @@ impl Checker {
         ensures limit { IsErrOf result Stop.Limit → (group : ℕ)
             × IsAtLimit log.new (positive (group_of self.now) ∷ positive group ∷ []) }
     {
-        let early = Part {
+        let early = ClauseSelection {
             marks: first,
             are_set: true,
         };
@@ -217,7 +217,7 @@ impl Checker {
                 }
             }
         }
-        let others = Part {
+        let others = ClauseSelection {
             marks: first,
             are_set: false,
         };
@@ -237,7 +237,7 @@ impl Checker {
         oracle: &mut O,
         faults: &Faults,
         bads: &[Lit],
-        part: &Part,
+        part: &ClauseSelection,
         log: &mut Log,
     ) -> Result<Option<u64>, Stop>
         requires fit { O.Fits oracle.old log.old }

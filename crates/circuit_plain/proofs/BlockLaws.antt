@@ -8,7 +8,7 @@ use Rattle.circuit_plain.specs.declared.circuits.Gate.{Gate}
 use Rattle.circuit_plain.specs.Blocks.{lane_bit, block_bits, row_number, number_bits, placed_bits}
 use Rattle.circuit_plain.specs.Steps.{GivesValues}
 use Rattle.circuit_plain.specs.Netlist.{Netlist, IsNetlist, gate_at, literal_bit}
-use Rattle.circuit_plain.specs.Order.{IsReady, IsOrder}
+use Rattle.circuit_plain.specs.Order.{AreSidesSettled, IsOrder}
 use Rattle.circuit_plain.specs.Value.{HasValue, constant, input, gate, IsValuation}
 use Rattle.circuit_plain.proofs.EvaluationLaws.{gate_read, settled_cases}
 use Rattle.circuit_plain.proofs.ValueLaws.{value_follows_reach}
@@ -50,7 +50,7 @@ patterns_give net places first old values n all_in written l b l_below b_below v
 
 -- a map that gives a further gate its value, and the others what they had
 give_gate : (net : Netlist) (bits old new : ℕ → Bool) (places : List ℕ) (p : ℕ) → p < length net.gates →
-    IsReady net places (gate_at net p)
+    AreSidesSettled net places (gate_at net p)
     → new (gate_at net p).variable ≡ (literal_bit old (gate_at net p).left && literal_bit old (gate_at net p).right)
     → ((v : ℕ) → v ≢ (gate_at net p).variable → new v ≡ old v)
     → GivesValues net bits old places → GivesValues net bits new (places ++ p ∷ [])
@@ -91,8 +91,8 @@ write_lanes net order places gates old values new n g lanes kept ordered room sa
     let e : p ≡ slice_index order n = ap (λ (xs : List ℕ). get_or xs n 0) same_places in
     let p_in : p < length net.gates = subst (λ (x : ℕ). x < length net.gates) (sym e) (ordered.in_range n 0 n_in) in
     let gate_is : g ≡ gate_at net p = gate_read net gates g p same_gates p_in read in
-    let ready : IsReady net (take n order) (gate_at net p) =
-    subst (λ (x : ℕ). IsReady net (take n order) (gate_at net x)) (sym e) (ordered.follows n n_in) in
+    let ready : AreSidesSettled net (take n order) (gate_at net p) =
+    subst (λ (x : ℕ). AreSidesSettled net (take n order) (gate_at net x)) (sym e) (ordered.follows n n_in) in
     let next : take (n + 1) order ≡ take n order ++ p ∷ [] =
     take_more order n 0 n_in ∙ ap (λ (x : ℕ). take n order ++ x ∷ []) (sym e) in
     let new_is : new ≡ set values (gate_at net p).variable lanes =

@@ -8,7 +8,7 @@ use Rattle.dq_lits.specs.Row.{bit_of}
 use Rattle.circuit_plain.specs.declared.circuits.Gate.{Gate}
 use Rattle.circuit_plain.specs.Steps.{GivesValues}
 use Rattle.circuit_plain.specs.Netlist.{Netlist, IsNetlist, IsDefined, IsLiteral, variable_of_gate, gate_variables, gate_at, literal_variable, literal_bit}
-use Rattle.circuit_plain.specs.Order.{IsSettled, IsReady, IsOrder}
+use Rattle.circuit_plain.specs.Order.{IsSettled, AreSidesSettled, IsOrder}
 use Rattle.circuit_plain.specs.Value.{HasValue, constant, input, gate, IsValuation}
 use Rattle.circuit_plain.proofs.NetlistLaws.{gate_fits, gate_at_member}
 use Rattle.circuit_plain.proofs.ValueLaws.{unique_value}
@@ -70,7 +70,7 @@ settled_cases net places p v settled =
 
 pub give_gate : (net : Netlist) (bits : ℕ → Bool) (values : List Bool) (places : List ℕ) (p : ℕ) (bit : Bool) →
     IsNetlist net
-    → length values ≡ net.max_var + 1 → p < length net.gates → IsReady net places (gate_at net p)
+    → length values ≡ net.max_var + 1 → p < length net.gates → AreSidesSettled net places (gate_at net p)
     → bit ≡ (literal_bit (bit_of values) (gate_at net p).left && literal_bit (bit_of values) (gate_at net p).right)
     → GivesValues net bits (bit_of values) places
     → GivesValues net bits (bit_of (set values (gate_at net p).variable bit)) (places ++ p ∷ [])
@@ -124,8 +124,8 @@ write_gate net order places gates old values new n g bit kept ordered same_place
     let e : p ≡ slice_index order n = ap (λ (xs : List ℕ). get_or xs n 0) same_places in
     let p_in : p < length net.gates = subst (λ (x : ℕ). x < length net.gates) (sym e) (ordered.in_range n 0 n_in) in
     let gate_is : g ≡ gate_at net p = gate_read net gates g p same_gates p_in read in
-    let ready : IsReady net (take n order) (gate_at net p) =
-    subst (λ (x : ℕ). IsReady net (take n order) (gate_at net x)) (sym e) (ordered.follows n n_in) in
+    let ready : AreSidesSettled net (take n order) (gate_at net p) =
+    subst (λ (x : ℕ). AreSidesSettled net (take n order) (gate_at net x)) (sym e) (ordered.follows n n_in) in
     let next : take (n + 1) order ≡ take n order ++ p ∷ [] =
     take_more order n 0 n_in ∙ ap (λ (x : ℕ). take n order ++ x ∷ []) (sym e) in
     let bit_is : bit ≡ (literal_bit (bit_of values) (gate_at net p).left && literal_bit (bit_of values)
@@ -160,9 +160,9 @@ gate_equation net bits m order p kept ordered gives p_in =
     let g : Gate = gate_at net p in
     let found = ordered.whole p p_in in
     let here : slice_index order found.0 ≡ p = get_or_default order found.0 0 p found.1 ∙ found.2 in
-    let follows : IsReady net (take found.0 order) g =
-    subst (λ (x : ℕ). IsReady net (take found.0 order) (gate_at net x)) here (ordered.follows found.0 found.1) in
-    let ready : IsReady net order g =
+    let follows : AreSidesSettled net (take found.0 order) g =
+    subst (λ (x : ℕ). AreSidesSettled net (take found.0 order) (gate_at net x)) here (ordered.follows found.0 found.1) in
+    let ready : AreSidesSettled net order g =
     (settled_take net order found.0 _ follows.0, settled_take net order found.0 _ follows.1) in
     let settled : IsSettled net order g.variable =
     inr (inr (Contains-map (λ q. variable_of_gate (gate_at net q)) order p g.variable found refl)) in

@@ -5,7 +5,7 @@ use Rattle.std.proofs.lemmas.List.{get_or_default, take_more, take_all}
 use Rattle.circuit_plain.specs.declared.circuits.Gate.{Gate}
 use Rattle.circuit_plain.specs.Ground.{IsGrounded, constant, input, gate}
 use Rattle.circuit_plain.specs.Netlist.{Netlist, gate_at}
-use Rattle.circuit_plain.specs.Order.{IsSettled, IsReady, IsOrder, OrdersGround}
+use Rattle.circuit_plain.specs.Order.{IsSettled, AreSidesSettled, IsOrder, OrdersGround}
 use Rattle.circuit_plain.specs.Steps.{IsPartialOrder, IsClosed}
 use Rattle.circuit_plain.proofs.EvaluationLaws.{settled_cases, settled_defined}
 use Rattle.circuit_plain.proofs.NetlistLaws.{gate_at_member}
@@ -56,12 +56,12 @@ orders_ground net order v ordered defined =
     settled_ground net order (partial_of_order net order ordered) v (settled_defined net order v ordered defined)
 
 put_since_ready : (net : Netlist) (places : List ℕ) → IsClosed net places → (g : Gate) → Contains net.gates g →
-    IsReady net places g → IsSettled net places g.variable
+    AreSidesSettled net places g → IsSettled net places g.variable
 put_since_ready net places closed g (p, p_in, is) ready =
     let gate_is : gate_at net p ≡ g = get_or_default net.gates p _ g p_in ∙ is in
     elim (closed p p_in) [
       | inl put ↦ subst (λ (h : Gate). IsSettled net places h.variable) gate_is put
-      | inr stuck ↦ absurd (stuck (subst (λ (h : Gate). IsReady net places h) (sym gate_is) ready))
+      | inr stuck ↦ absurd (stuck (subst (λ (h : Gate). AreSidesSettled net places h) (sym gate_is) ready))
     ]
 
 -- where no further gate can be put, what is in the least set is settled

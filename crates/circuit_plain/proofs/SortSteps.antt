@@ -13,7 +13,7 @@ use Rattle.std.proofs.lemmas.Map.Steps.{length-le_from_distinct_below}
 use Rattle.circuit_plain.specs.declared.circuits.Gate.{Gate}
 use Rattle.circuit_plain.specs.Ground.{IsFirstUngrounded}
 use Rattle.circuit_plain.specs.Netlist.{Netlist, IsNetlist, variable_of_gate, gate_at, literal_variable}
-use Rattle.circuit_plain.specs.Order.{IsSettled, IsReady, IsOrder}
+use Rattle.circuit_plain.specs.Order.{IsSettled, AreSidesSettled, IsOrder}
 use Rattle.circuit_plain.specs.Steps.{IsPartialOrder, IsDraft, IsPassed, IsClosed}
 use Rattle.circuit_plain.proofs.EvaluationLaws.{settled_cases, Contains-map, gate_read}
 use Rattle.circuit_plain.proofs.NetlistLaws.{same_place, gate_fits, input_apart, gate_at_member}
@@ -105,7 +105,7 @@ settled_last net places p v e =
     inr (inr (Contains-map (λ q. variable_of_gate (gate_at net q)) (places ++ p ∷ []) p v (Contains-push places p) e))
 
 partial_push : (net : Netlist) (places : List ℕ) (p : ℕ) → p < length net.gates → IsPartialOrder net places
-    → ¬ IsSettled net places (gate_at net p).variable → IsReady net places (gate_at net p) →
+    → ¬ IsSettled net places (gate_at net p).variable → AreSidesSettled net places (gate_at net p) →
     IsPartialOrder net (places ++ p ∷ [])
 partial_push net places p p_in partial fresh ready = record {
   in_range = All-push (λ q. q < length net.gates) places p partial.in_range p_in;
@@ -131,7 +131,7 @@ partial_push net places p p_in partial fresh ready = record {
 
 pub draft_push : (net : Netlist) (places after : List ℕ) (settled new : ℕ → Bool) (p v : ℕ) → p < length net.gates
     → v ≡ (gate_at net p).variable → IsDraft net places settled → settled v ≡ false
-    → IsReady net places (gate_at net p) → after ≡ places ++ p ∷ [] → Adds settled new v → IsDraft net after new
+    → AreSidesSettled net places (gate_at net p) → after ≡ places ++ p ∷ [] → Adds settled new v → IsDraft net after new
 draft_push net places after settled new p v p_in is draft off ready after_is updates =
     let fresh : ¬ IsSettled net places (gate_at net p).variable =
     λ h. both_ways (settled v) off ((draft.exact v).1 (subst (IsSettled net places) (sym is) h)) in
@@ -161,7 +161,7 @@ module _ (net : Netlist) (gates : List Gate) (places : List ℕ) (settled : ℕ 
   stuck_gate off =
       let g_is : g ≡ gate_at net p = gate_read net gates g p same p_in read in
       inr (λ ready.
-      let sides : IsReady net places g = subst (λ (h : Gate). IsReady net places h) (sym g_is) ready in
+      let sides : AreSidesSettled net places g = subst (λ (h : Gate). AreSidesSettled net places h) (sym g_is) ready in
       both_ways (settled (literal_variable g.left) && settled (literal_variable g.right)) off
       (and_from _ _ ((draft.exact _).1 sides.0) ((draft.exact _).1 sides.1)))
 
@@ -171,9 +171,9 @@ module _ (net : Netlist) (gates : List Gate) (places : List ℕ) (settled : ℕ 
   put_gate after new off on after_is updates =
       let g_is : g ≡ gate_at net p = gate_read net gates g p same p_in read in
       let both = and_parts (settled (literal_variable g.left)) (settled (literal_variable g.right)) on in
-      let ready : IsReady net places g = ((draft.exact _).0 both.0, (draft.exact _).0 both.1) in
+      let ready : AreSidesSettled net places g = ((draft.exact _).0 both.0, (draft.exact _).0 both.1) in
       draft_push net places after settled new p g.variable p_in (ap variable_of_gate g_is) draft off
-      (subst (λ (h : Gate). IsReady net places h) g_is ready) after_is updates
+      (subst (λ (h : Gate). AreSidesSettled net places h) g_is ready) after_is updates
 
 -- the places of a draft are no more than the gates
 any_below : (n q : ℕ) (xs : List ℕ) → All (λ p. p < n) xs → list_any (eqb q) xs ≡ true → q < n

@@ -11,8 +11,8 @@ IsSettled net places v =
     ⊎ Contains (map (λ p. variable_of_gate (gate_at net p)) places) v)
 
 -- both right sides of a gate are settled
-abbrev pub IsReady : Netlist → List ℕ → Gate → Type 0
-IsReady net places g =
+abbrev pub AreSidesSettled : Netlist → List ℕ → Gate → Type 0
+AreSidesSettled net places g =
     IsSettled net places (left_variable g) × IsSettled net places (right_variable g)
 
 -- the places of all gates, each once, such that each gate stands behind the gates that it reads
@@ -21,7 +21,7 @@ pub record IsOrder (net : Netlist) (order : List ℕ) : Type 0 where
   pub each_once : AllPairs (λ p q. p ≢ q) order
   pub whole : (p : ℕ) → p < length net.gates → Contains order p
   pub follows : (k : ℕ) → k < length order
-      → IsReady net (take k order) (gate_at net (slice_index order k))
+      → AreSidesSettled net (take k order) (gate_at net (slice_index order k))
 
 -- with an order the constant, every input and every gate is in the least set
 abbrev pub OrdersGround : Type 0

@@ -4,7 +4,7 @@ use Rattle.std.specs.Prelude.{◌≡◌, ◌≢◌, ℕ, ◌<◌, ◌⊎◌, ◌
 use Rattle.circuit_plain.specs.declared.walks.Task.{Task}
 use Rattle.circuit_plain.specs.declared.walks.Task.TheVariants.{Visit, Leave}
 use Rattle.circuit_plain.specs.Netlist.{Netlist, gate_at}
-use Rattle.circuit_plain.specs.Order.{IsSettled, IsReady}
+use Rattle.circuit_plain.specs.Order.{IsSettled, AreSidesSettled}
 use Rattle.circuit_plain.specs.Reach.{Reaches}
 use Rattle.circuit_plain.specs.Value.{HasValue}
 
@@ -26,7 +26,7 @@ pub record IsPartialOrder (net : Netlist) (places : List ℕ) : Type 0 where
   pub in_range : All (λ p. p < length net.gates) places
   pub each_once : AllPairs (λ p q. p ≢ q) places
   pub follows : (k : ℕ) → k < length places
-      → IsReady net (take k places) (gate_at net (slice_index places k))
+      → AreSidesSettled net (take k places) (gate_at net (slice_index places k))
 
 -- the beginning of an order, with the set of what it settles
 pub record IsDraft (net : Netlist) (places : List ℕ) (settled : ℕ → Bool) : Type 0 where
@@ -36,7 +36,7 @@ pub record IsDraft (net : Netlist) (places : List ℕ) (settled : ℕ → Bool) 
 -- the gate at a place is put already, or cannot be put
 abbrev pub IsPassed : Netlist → List ℕ → ℕ → Type 0
 IsPassed net places p =
-    IsSettled net places (gate_at net p).variable ⊎ (¬ IsReady net places (gate_at net p))
+    IsSettled net places (gate_at net p).variable ⊎ (¬ AreSidesSettled net places (gate_at net p))
 
 -- no further gate can be put
 abbrev pub IsClosed : Netlist → List ℕ → Type 0

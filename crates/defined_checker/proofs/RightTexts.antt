@@ -12,7 +12,7 @@ use Rattle.defined_checker.specs.DefinitionReads.{IsFirstForeign}
 use Rattle.defined_checker.specs.Forced.{AcceptedDefinitionsAreForced, AcceptedPairsAreFree, AreRight, IsRight}
 use Rattle.defined_checker.specs.FreePairs.{IsFreePair}
 use Rattle.defined_checker.specs.Judging.{AcceptsFaultless, AreJudged, IsChecked, IsJudged, ReadsItsOwn, SpellsFaultless, counts_of, defines, no_counts, open_end, pair, reads, separates, step}
-use Rattle.defined_checker.specs.declared.checks.Counts.{Counts}
+use Rattle.defined_checker.specs.declared.checks.DefinedCounts.{DefinedCounts}
 use Rattle.defined_checker.specs.declared.faults.DefStop.{DefStop}
 use Rattle.defined_checker.specs.declared.faults.DefStop.TheVariants.{Refused, Invalid, Memory}
 use Rattle.defined_checker.specs.declared.faults.DefinitionFault.{DefinitionFault}
@@ -156,7 +156,7 @@ some_once a b h = cc
 none_some : (a : DefinitionFault) → None ≡ Some a → ⊥
 none_some a h = cc
 
-pub checked_once : (f : Dqbf) (text : List ℕ) (first : ℕ) (a b : Result Counts DefStop) → IsChecked f text first a →
+pub checked_once : (f : Dqbf) (text : List ℕ) (first : ℕ) (a b : Result DefinedCounts DefStop) → IsChecked f text first a →
     IsChecked f text first b → (a ≡ Err Memory → ⊥) → (b ≡ Err Memory → ⊥) → a ≡ b
 checked_once f text first (Ok c) (Ok d) p q some more =
     ap Ok (p.1.1.1 ∙ ap (counts_of no_counts) (read_once _ p.0 q.0 p.1.0 q.1.0) ∙ sym q.1.1.1)
@@ -181,10 +181,10 @@ checked_once f text first (Err (Refused r)) (Err Memory) p q some more = absurd 
 checked_once f text first (Err (Invalid x)) (Err Memory) p q some more = absurd (more refl)
 
 -- what is accepted, by the grammar
-abbrev HadMemory : Result Counts DefStop → Type 0
+abbrev HadMemory : Result DefinedCounts DefStop → Type 0
 HadMemory result = result ≡ Err Memory → ⊥
 
-pub ok_had_memory : (counts : Counts) → HadMemory (Ok counts)
+pub ok_had_memory : (counts : DefinedCounts) → HadMemory (Ok counts)
 ok_had_memory counts h = cc
 
 pub refused_had_memory : (refusal : CertRefusal) → HadMemory (Err (Refused refusal))
@@ -193,20 +193,20 @@ refused_had_memory refusal h = cc
 pub invalid_had_memory : (fault : DefinitionFault) → HadMemory (Err (Invalid fault))
 invalid_had_memory fault h = cc
 
-not_accepted : (stop : DefStop) (counts : Counts) → ◌≡◌ {A = Result Counts DefStop} (Err stop) (Ok counts) → ⊥
+not_accepted : (stop : DefStop) (counts : DefinedCounts) → ◌≡◌ {A = Result DefinedCounts DefStop} (Err stop) (Ok counts) → ⊥
 not_accepted stop counts h = cc
 
 module _ (f : Dqbf) (text : List ℕ) (first : ℕ)
     (taken : (blocks : List DefinitionBlock) → SpellsDefinitions text f blocks → definitions_of f text first ≡ Ok blocks)
     (spelled : (blocks : List DefinitionBlock) → definitions_of f text first ≡ Ok blocks → SpellsDefinitions text f blocks)
   where
-    none_faultless : (stop : DefStop) → IsChecked f text first (Err stop) → HadMemory (Err stop) → (counts : Counts) →
+    none_faultless : (stop : DefStop) → IsChecked f text first (Err stop) → HadMemory (Err stop) → (counts : DefinedCounts) →
         SpellsFaultless f text counts → ⊥
     none_faultless stop checked some counts is =
         not_accepted stop counts (checked_once f text first (Err stop) (Ok counts) checked
         (is.blocks, (taken is.blocks is.spelled, (is.judged, is.counted))) some (ok_had_memory counts))
 
-    pub accepts_faultless : (result : Result Counts DefStop) → IsChecked f text first result →
+    pub accepts_faultless : (result : Result DefinedCounts DefStop) → IsChecked f text first result →
         AcceptsFaultless f text result
     accepts_faultless (Ok counts) checked = record {
       blocks = checked.0;

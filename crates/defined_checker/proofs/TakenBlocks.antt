@@ -13,7 +13,7 @@ use Rattle.cert_text.specs.declared.faults.CertRefusal.{CertRefusal}
 use Rattle.defined_checker.specs.Judging.{AreJudged, IsJudged, counted, counts_of, no_counts}
 use Rattle.defined_checker.specs.Answers.{IsFaultWith}
 use Rattle.defined_checker.specs.Tallies.{IsTalliedWith}
-use Rattle.defined_checker.specs.declared.checks.Counts.{Counts}
+use Rattle.defined_checker.specs.declared.checks.DefinedCounts.{DefinedCounts}
 use Rattle.defined_checker.specs.declared.faults.DefinitionFault.{DefinitionFault}
 
 abbrev pub Read : Type 0
@@ -60,7 +60,7 @@ module _ (f : Dqbf) (left : LineCursor) where
       by (Err refusal) = refl
 
 -- the blocks so far, with one more
-counts_behind : (counts : Counts) (blocks : List DefinitionBlock) (block : DefinitionBlock) →
+counts_behind : (counts : DefinedCounts) (blocks : List DefinitionBlock) (block : DefinitionBlock) →
     counts_of counts (blocks ++ block ∷ []) ≡ counted block (counts_of counts blocks)
 counts_behind counts [] block = refl
 counts_behind counts (b ∷ blocks) block = counts_behind (counted b counts) blocks block
@@ -90,7 +90,7 @@ fault_stays f (b ∷ blocks) block name before =
       | inr h ↦ inr h
     ]
 
-pub tallied_first : (f : Dqbf) (block : DefinitionBlock) (counts others : Counts) (fault : Option DefinitionFault) →
+pub tallied_first : (f : Dqbf) (block : DefinitionBlock) (counts others : DefinedCounts) (fault : Option DefinitionFault) →
     others ≡ counted block counts → IsJudged f block fault →
     IsTalliedWith f block (record { counts = counts; fault = None }) (record { counts = others; fault = fault })
 tallied_first f block counts others fault is judged blocks before = record {
@@ -98,7 +98,7 @@ tallied_first f block counts others fault is judged blocks before = record {
   counts = is ∙ ap (counted block) before.counts ∙ sym (counts_behind no_counts blocks block);
 }
 
-pub tallied_later : (f : Dqbf) (block : DefinitionBlock) (counts others : Counts) (name : DefinitionFault) →
+pub tallied_later : (f : Dqbf) (block : DefinitionBlock) (counts others : DefinedCounts) (name : DefinitionFault) →
     others ≡ counted block counts →
     IsTalliedWith f block (record { counts = counts; fault = Some name })
     (record { counts = others; fault = Some name })
@@ -107,7 +107,7 @@ tallied_later f block counts others name is blocks before = record {
   counts = is ∙ ap (counted block) before.counts ∙ sym (counts_behind no_counts blocks block);
 }
 
-pub tallied_by : (f : Dqbf) (block : DefinitionBlock) (fault : Option DefinitionFault) (counts others : Counts)
+pub tallied_by : (f : Dqbf) (block : DefinitionBlock) (fault : Option DefinitionFault) (counts others : DefinedCounts)
     (new : Option DefinitionFault) → IsFaultWith f block fault new → others ≡ counted block counts →
     IsTalliedWith f block (record { counts = counts; fault = fault }) (record { counts = others; fault = new })
 tallied_by f block None counts others new with_block is = tallied_first f block counts others new is with_block

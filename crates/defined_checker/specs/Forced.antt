@@ -11,7 +11,7 @@ use Rattle.cert_text.specs.DefinitionBlocks.{Definition, DefinitionBlock, FreePa
 use Rattle.cert_text.specs.DefinitionGrammar.{SpellsDefinitions}
 use Rattle.defined_checker.specs.FreePairs.{AreAlike}
 use Rattle.defined_checker.specs.Judging.{AreJudged, IsChecked, IsJudged}
-use Rattle.defined_checker.specs.declared.checks.Counts.{Counts}
+use Rattle.defined_checker.specs.declared.checks.DefinedCounts.{DefinedCounts}
 use Rattle.defined_checker.specs.declared.faults.DefStop.{DefStop}
 use Rattle.defined_checker.specs.declared.faults.DefStop.TheVariants.{Memory}
 
@@ -69,6 +69,6 @@ AcceptedTextsAreRight =
 -- a text is judged in one way, if there is memory
 abbrev pub TextsAreJudgedOnce : Type 0
 TextsAreJudgedOnce =
-    (f : Dqbf) (text : List ℕ) (first : ℕ) (a b : Result Counts DefStop)
+    (f : Dqbf) (text : List ℕ) (first : ℕ) (a b : Result DefinedCounts DefStop)
     → IsChecked f text first a → IsChecked f text first b → (a ≡ Err Memory → ⊥)
     → (b ≡ Err Memory → ⊥) → a ≡ b

@@ -12,7 +12,7 @@ use Rattle.defined_checker.specs.declared.faults.DefStop.{DefStop}
 use Rattle.defined_checker.specs.declared.faults.DefStop.TheVariants.{Refused, Invalid, Memory}
 use Rattle.defined_checker.specs.declared.faults.DefinitionFault.{DefinitionFault}
 use Rattle.defined_checker.specs.declared.faults.DefinitionFault.TheVariants.{Reads, Step, Unfinished, Pair}
-use Rattle.defined_checker.specs.declared.checks.Counts.{Counts}
+use Rattle.defined_checker.specs.declared.checks.DefinedCounts.{DefinedCounts}
 
 -- the definition reads only what it may
 abbrev pub ReadsItsOwn : Dqbf → Existential → Definition → Type 0
@@ -46,21 +46,21 @@ AreJudged f (block ∷ blocks) fault =
     (IsJudged f block None × AreJudged f blocks fault)
     ⊎ ((name : DefinitionFault) × (IsJudged f block (Some name) × (fault ≡ Some name)))
 
-abbrev pub counted : DefinitionBlock → Counts → Counts
+abbrev pub counted : DefinitionBlock → DefinedCounts → DefinedCounts
 counted (defined _) counts = record { defined = counts.defined + 1; free = counts.free }
 counted (free _) counts = record { defined = counts.defined; free = counts.free + 1 }
 
 -- how many blocks of each kind there are besides these
-abbrev pub counts_of : Counts → List DefinitionBlock → Counts
+abbrev pub counts_of : DefinedCounts → List DefinitionBlock → DefinedCounts
 counts_of counts [] = counts
 counts_of counts (block ∷ blocks) = counts_of (counted block counts) blocks
 
-abbrev pub no_counts : Counts
+abbrev pub no_counts : DefinedCounts
 no_counts = record { defined = 0; free = 0 }
 
 -- the counts of the blocks where none is at fault, or the first refusal of the text, or the first
 -- fault of a block, or want of memory
-abbrev pub IsChecked : Dqbf → List ℕ → ℕ → Result Counts DefStop → Type 0
+abbrev pub IsChecked : Dqbf → List ℕ → ℕ → Result DefinedCounts DefStop → Type 0
 IsChecked f text first (Ok counts) =
     (blocks : List DefinitionBlock) × ((definitions_of f text first ≡ Ok blocks)
     × (AreJudged f blocks None × (counts ≡ counts_of no_counts blocks)))
@@ -71,15 +71,15 @@ IsChecked f text first (Err (Invalid fault)) =
 IsChecked f text first (Err Memory) = Unit {0}
 
 -- the text spells blocks of which none is at fault, so many of each kind
-pub record SpellsFaultless (f : Dqbf) (text : List ℕ) (counts : Counts) : Type 0 where
+pub record SpellsFaultless (f : Dqbf) (text : List ℕ) (counts : DefinedCounts) : Type 0 where
   pub blocks : List DefinitionBlock
   pub spelled : SpellsDefinitions text f blocks
   pub judged : AreJudged f blocks None
   pub counted : counts ≡ counts_of no_counts blocks
 
 -- such texts alone are accepted, with these counts, if there is memory
-abbrev pub AcceptsFaultless : Dqbf → List ℕ → Result Counts DefStop → Type 0
+abbrev pub AcceptsFaultless : Dqbf → List ℕ → Result DefinedCounts DefStop → Type 0
 AcceptsFaultless f text (Ok counts) = SpellsFaultless f text counts
-AcceptsFaultless f text (Err (Refused _)) = (counts : Counts) → SpellsFaultless f text counts → ⊥
-AcceptsFaultless f text (Err (Invalid _)) = (counts : Counts) → SpellsFaultless f text counts → ⊥
+AcceptsFaultless f text (Err (Refused _)) = (counts : DefinedCounts) → SpellsFaultless f text counts → ⊥
+AcceptsFaultless f text (Err (Invalid _)) = (counts : DefinedCounts) → SpellsFaultless f text counts → ⊥
 AcceptsFaultless f text (Err Memory) = Unit {0}

@@ -8,7 +8,7 @@ use Rattle.cert_text.specs.Lines.{and_read}
 use Rattle.cert_text.specs.Scan.{blank_lines}
 use Rattle.cert_text.specs.declared.faults.CertRefusal.{CertRefusal}
 use Rattle.defined_checker.specs.Judging.{AreJudged, counts_of, no_counts}
-use Rattle.defined_checker.specs.declared.checks.Counts.{Counts}
+use Rattle.defined_checker.specs.declared.checks.DefinedCounts.{DefinedCounts}
 use Rattle.defined_checker.specs.declared.checks.Tally.{Tally}
 use Rattle.defined_checker.specs.declared.faults.DefStop.{DefStop}
 use Rattle.defined_checker.specs.declared.faults.DefStop.TheVariants.{Refused, Invalid, Memory}
@@ -51,12 +51,12 @@ AreTallied f read (Err (Refused refusal)) = read ≡ Err refusal
 AreTallied f read (Err (Invalid _)) = ⊥
 AreTallied f read (Err Memory) = Unit {0}
 
-abbrev pub conclusion : Option DefinitionFault → Counts → Result Counts DefStop
+abbrev pub conclusion : Option DefinitionFault → DefinedCounts → Result DefinedCounts DefStop
 conclusion None counts = Ok counts
 conclusion (Some fault) counts = Err (Invalid fault)
 
-abbrev pub concluded : Tally → Result Counts DefStop
+abbrev pub concluded : Tally → Result DefinedCounts DefStop
 concluded tally = conclusion tally.fault tally.counts
 
-abbrev pub IsOneMore : Counts → Counts → Type 0
+abbrev pub IsOneMore : DefinedCounts → DefinedCounts → Type 0
 IsOneMore old new = new.defined + new.free ≡ old.defined + old.free + 1

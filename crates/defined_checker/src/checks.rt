@@ -24,7 +24,7 @@ use std::alloc::Global;
 
 /// How many existentials are defined, and how many are shown to have no definition.
 #[derive(Clone, Copy, Debug, PartialEq, Eq)]
-pub struct Counts {
+pub struct DefinedCounts {
     pub defined: u64,
     pub free: u64,
 }
@@ -32,14 +32,14 @@ pub struct Counts {
 /// What was found in the blocks so far.
 #[derive(Clone, Copy)]
 pub(crate) struct Tally {
-    pub counts: Counts,
+    pub counts: DefinedCounts,
     pub fault: Option<DefinitionFault>,
 }
 
 /// Checks a text of definitions for a formula, whose first line has the number `first`: how many
 /// blocks of each kind it has where none is at fault, or the first refusal of the text, or else the
 /// first fault of a block.
-pub fn check(alloc: Global, f: &Formula, bytes: &[u8], first: u64) -> Result<Counts, DefStop>
+pub fn check(alloc: Global, f: &Formula, bytes: &[u8], first: u64) -> Result<DefinedCounts, DefStop>
     requires { first + length bytes.now < 2 ^ 64 }
     ensures checked { IsChecked f.now bytes.now first result }
     ensures accepted { AcceptsFaultless f.now bytes.now result }
@@ -50,7 +50,12 @@ pub fn check(alloc: Global, f: &Formula, bytes: &[u8], first: u64) -> Result<Cou
 }
 
 // The same, by the readers of its lines.
-fn check_text(alloc: Global, f: &Formula, bytes: &[u8], first: u64) -> Result<Counts, DefStop>
+fn check_text(
+    alloc: Global,
+    f: &Formula,
+    bytes: &[u8],
+    first: u64,
+) -> Result<DefinedCounts, DefStop>
     requires { first + length bytes.now < 2 ^ 64 }
     ensures { IsChecked f.now bytes.now first result }
 {
@@ -71,7 +76,7 @@ fn refused(line: u64, name: CertFault) -> DefStop
     DefStop::Refused(CertRefusal { line, name })
 }
 
-fn conclude(tally: Tally) -> Result<Counts, DefStop>
+fn conclude(tally: Tally) -> Result<DefinedCounts, DefStop>
     ensures { result ≡ concluded tally }
 {
     match tally.fault {
@@ -86,7 +91,7 @@ fn check_blocks(alloc: Global, f: &Formula, lines: &mut Lines) -> Result<Tally, 
         (lines_from lines.old.number lines.old.rest) lines.old.number) result }
 {
     let mut tally = Tally {
-        counts: Counts {
+        counts: DefinedCounts {
             defined: 0,
             free: 0,
         },
@@ -177,17 +182,17 @@ fn fault_with(
     }
 }
 
-fn with_block(counts: Counts, block: &DefinitionBlock) -> Counts
+fn with_block(counts: DefinedCounts, block: &DefinitionBlock) -> DefinedCounts
     requires { counts.defined + counts.free < 18446744073709551615 }
     ensures counts { result ≡ counted (block_seen block.now) counts }
     ensures one { IsOneMore counts result }
 {
     match block {
-        DefinitionBlock::Defined(_) => Counts {
+        DefinitionBlock::Defined(_) => DefinedCounts {
             defined: counts.defined + 1,
             free: counts.free,
         },
-        DefinitionBlock::Free(_) => Counts {
+        DefinitionBlock::Free(_) => DefinedCounts {
             defined: counts.defined,
             free: counts.free + 1,
         },

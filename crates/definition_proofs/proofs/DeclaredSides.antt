@@ -15,7 +15,7 @@ use Rattle.hint_log.specs.declared.names.Name.TheVariants.{Copy as CopyOf, Selec
 use Rattle.hint_log.specs.declared.origins.Leaf.{Leaf}
 use Rattle.log_laws.proofs.Found.{named_variable}
 use Rattle.log_laws.proofs.Kept.{name_cases}
-use Rattle.padoa_definitions.specs.Growing.{HasSameGivens}
+use Rattle.definability.specs.Growing.{HasSameGivens}
 use Rattle.definition_proofs.specs.Differing.{LeavesTerms}
 use Rattle.definition_proofs.specs.Leaves.{StandsFor, IsLeafFor, input, gate, not_input, not_gate}
 use Rattle.definition_proofs.specs.Shown.{IsDeclaredCopy, ReadDeclaredCopies, IsLeafDeclared}

@@ -20,9 +20,9 @@ use Rattle.log_laws.proofs.LargerLogs.{grown_by, grown_then}
 use Rattle.log_laws.proofs.Kept.{NamesStay, name_stays_by, name_cases}
 use Rattle.oracle.specs.Calls.{IsMade}
 use Rattle.oracle.specs.declared.groups.Group.{Group}
-use Rattle.padoa_definitions.specs.Copies.{group_variable}
-use Rattle.padoa_definitions.specs.Growing.{HasFewFaults}
-use Rattle.padoa_definitions.proofs.GivenClauses.{in_by, in_same, in_then}
+use Rattle.definability.specs.Copies.{group_variable}
+use Rattle.definability.specs.Growing.{HasFewFaults}
+use Rattle.definability.proofs.GivenClauses.{in_by, in_same, in_then}
 use Rattle.definition_proofs.specs.Terms.{is_proof_origin, GrewByProof}
 use Rattle.definition_proofs.specs.Differing.{differing, IsPut, IsDifferenceOf, IsDifference, IsExistential, AreUndiffered, HasDifferenceAlone, LeavesTerms, AreDiffering}
 use Rattle.definition_proofs.specs.declared.differing.Difference.{Difference}

@@ -18,11 +18,11 @@ use Rattle.hint_log.specs.declared.origins.Origin.TheVariants.{TermGate, Instanc
 use Rattle.hint_log.proofs.NamedEntries.{each_one}
 use Rattle.log_laws.proofs.Kept.{NamesStay, name_stays_by, name_cases, unnamed_earlier, some_stays}
 use Rattle.oracle.specs.Calls.{IsMade}
-use Rattle.padoa_definitions.specs.Copies.{IsPadoa, IsWhole, IsGroupGiven, group_variable, groups_of}
-use Rattle.padoa_definitions.specs.Growing.{Gives, HasFewFaults}
-use Rattle.padoa_definitions.specs.declared.padoa.Padoa.{Padoa}
-use Rattle.padoa_definitions.proofs.GivenClauses.{fresh_group, in_by, few_more, gives_none, gives_more}
-use Rattle.padoa_definitions.proofs.KeptCopies.{keeps_entry, padoa_stays, groups_named, Keeps, IsNamed, keeps_by_engine, engines_leave}
+use Rattle.definability.specs.Copies.{IsDefinability, IsWhole, IsGroupGiven, group_variable, groups_of}
+use Rattle.definability.specs.Growing.{Gives, HasFewFaults}
+use Rattle.definability.specs.declared.definability.Definability.{Definability}
+use Rattle.definability.proofs.GivenClauses.{fresh_group, in_by, few_more, gives_none, gives_more}
+use Rattle.definability.proofs.KeptCopies.{keeps_entry, definability_stays, groups_named, Keeps, IsNamed, keeps_by_engine, engines_leave}
 use Rattle.definition_proofs.specs.Terms.{by_both, is_gate_of, HasTermClauses, HasNoTerms, AreTerms, is_term_gate, is_proof_origin, GrewByProof, AreParts}
 use Rattle.definition_proofs.specs.Differing.{LeavesTerms}
 use Rattle.definition_proofs.specs.Proving.{AreBeside}
@@ -60,8 +60,8 @@ module _ (f : Dqbf) (group y : ℕ) (old new : ProofLog) (grew : GrewByProof f g
       subst (λ n. length (fault_groups new.entries) ≤ n) (sym rest.room)
       (subst (λ (gs : List ℕ). length gs ≤ fault_room old.entries) (sym (rest.faults refl)) few)
 
-  pub padoa_still : (p : Padoa) → All (λ g. g ≢ group) (groups_of p) → IsPadoa f p old.entries → IsPadoa f p new.entries
-  padoa_still p apart padoa = engines_leave f p copies group true old new own_growth apart padoa
+  pub definability_still : (p : Definability) → All (λ g. g ≢ group) (groups_of p) → IsDefinability f p old.entries → IsDefinability f p new.entries
+  definability_still p apart definability = engines_leave f p copies group true old new own_growth apart definability
 
 pub proof_then : (f : Dqbf) (group y : ℕ) (a b c : ProofLog) → GrewByProof f group y a b → GrewByProof f group y b c →
     GrewByProof f group y a c
@@ -173,19 +173,19 @@ no_gates t old new logged none unnamed made is empty = record {
       (subst (λ es. Contains es (Given o c)) is inside)
 
 -- a group more beside the copies
-pub beside_group : (f : Dqbf) (p : Padoa) (t : Terms) (old new : List Entry) →
+pub beside_group : (f : Dqbf) (p : Definability) (t : Terms) (old new : List Entry) →
     name_of old (group_variable t.group) ≡ None →
-    new ≡ Named (group_variable t.group) (Selector (group_variable t.group)) ∷ old → AreTerms t new → IsPadoa f p old → IsWhole f p →
+    new ≡ Named (group_variable t.group) (Selector (group_variable t.group)) ∷ old → AreTerms t new → IsDefinability f p old → IsWhole f p →
     HasFewFaults old → ReadDeclaredCopies f new → AreBeside f p t new
-beside_group f p t old new unnamed is terms padoa whole few sides = record {
+beside_group f p t old new unnamed is terms definability whole few sides = record {
   sides = sides;
   whole = whole;
-  padoa = subst (IsPadoa f p) (sym is) (padoa_stays f (λ mine. Unit {0}) old (Named g (Selector g) ∷ old)
+  definability = subst (IsDefinability f p) (sym is) (definability_stays f (λ mine. Unit {0}) old (Named g (Selector g) ∷ old)
       (keeps_entry f (Named g (Selector g)) old (name_stays_by old g (Selector g) unnamed) (λ test mine. tt) (λ side mine. tt)) p
-      (λ k d lt. tt) padoa);
+      (λ k d lt. tt) definability);
   terms = terms;
   apart = λ k d lt same. (
-      let named = groups_named f p old padoa k d lt in
+      let named = groups_named f p old definability k d lt in
       let both : None ≡ Some named.0 = sym unnamed ∙ ap (name_of old) (sym same) ∙ named.1 in
       cc);
   few = subst HasFewFaults (sym is) few;

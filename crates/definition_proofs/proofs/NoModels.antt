@@ -24,12 +24,12 @@ use Rattle.hint_log.specs.declared.origins.Origin.{Origin}
 use Rattle.hint_log.specs.declared.origins.Origin.TheVariants.{TermGate, Differ}
 use Rattle.log_laws.specs.Circuits.{leaf_value}
 use Rattle.log_laws.proofs.Found.{named_variable}
-use Rattle.padoa_definitions.specs.Copies.{group_variable, IsPadoa, IsWhole}
+use Rattle.definability.specs.Copies.{group_variable, IsDefinability, IsWhole}
 use Rattle.oracle.specs.declared.groups.Group.{Group}
-use Rattle.padoa_definitions.specs.Dividing.{values_at}
-use Rattle.padoa_definitions.specs.declared.padoa.Padoa.{Padoa}
-use Rattle.padoa_definitions.proofs.FreePairs.{bits_of_values, given_id, copied_value, matrix_holds}
-use Rattle.padoa_definitions.proofs.SearchAnswers.{found_declared, found_variable}
+use Rattle.definability.specs.Dividing.{values_at}
+use Rattle.definability.specs.declared.definability.Definability.{Definability}
+use Rattle.definability.proofs.FreePairs.{bits_of_values, given_id, copied_value, matrix_holds}
+use Rattle.definability.proofs.SearchAnswers.{found_declared, found_variable}
 use Rattle.definition_proofs.specs.Differing.{part_number, differing, IsDifference, HasDifference}
 use Rattle.definition_proofs.specs.Leaves.{StandsFor, input, gate, not_input, not_gate, IsLeafFor}
 use Rattle.definition_proofs.specs.Proving.{IsDefinedBy}
@@ -62,10 +62,10 @@ same_breaks values copy (LeafLiteral l) same parts =
     (ap (λ x. not x || (not b || false)) (sym same) ∙ ap (λ x. not (values copy) || (x || false))
     (sym (literal_true-opposite values l)) ∙ two)
 
-module _ (f : Dqbf) (graph : AigGraph) (p : Padoa) (terms : Terms) (es : List Entry) (values : Assignment)
+module _ (f : Dqbf) (graph : AigGraph) (p : Definability) (terms : Terms) (es : List Entry) (values : Assignment)
     (formula : IsWellFormed f)
     (unique : (v w : ℕ) (name : Name) → name_of es v ≡ Some name → name_of es w ≡ Some name → v ≡ w)
-    (padoa : IsPadoa f p es) (whole : IsWhole f p) (known : AreTerms terms es) (live : MakesTrue values (clause_at es))
+    (definability : IsDefinability f p es) (whole : IsWhole f p) (known : AreTerms terms es) (live : MakesTrue values (clause_at es))
     (first_on : (g : Group) → Contains p.first.groups.items g → values (group_variable g) ≡ true)
     (terms_on : values (group_variable terms.group) ≡ true) where
   abbrev row : List Bool
@@ -81,11 +81,11 @@ module _ (f : Dqbf) (graph : AigGraph) (p : Padoa) (terms : Terms) (es : List En
   inputs i = m (input_variable f i)
 
   holds_there : MatrixHolds f m
-  holds_there = matrix_holds f es values formula unique live 1 p.copied.items p.first padoa.first padoa.covered row row
+  holds_there = matrix_holds f es values formula unique live 1 p.copied.items p.first definability.first definability.covered row row
       bits (bits_of_values values p.copied.items p.first.universals.items) refl first_on
 
   copied : (v w : ℕ) → Contains (declared f) v → name_of es w ≡ Some (CopyOf 1 v) → m v ≡ values w
-  copied v w among = copied_value f es values formula unique live 1 p.copied.items p.first padoa.first padoa.covered row
+  copied v w among = copied_value f es values formula unique live 1 p.copied.items p.first definability.first definability.covered row
       row bits (bits_of_values values p.copied.items p.first.universals.items) refl first_on v w among (whole v)
 
   -- a clause that was given to a group that is active

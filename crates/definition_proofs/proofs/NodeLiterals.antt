@@ -19,8 +19,8 @@ use Rattle.hint_log.specs.Naming.{named_literal, name_literal}
 use Rattle.hint_log.specs.declared.names.Name.TheVariants.{Copy as CopyOf, Term}
 use Rattle.log_laws.proofs.Found.{named_variable}
 use Rattle.log_laws.proofs.Kept.{NamesStay, literal_stays}
-use Rattle.padoa_definitions.specs.Copies.{AreCopiesOf, group_variable}
-use Rattle.padoa_definitions.proofs.CopiedVariables.{copy_at}
+use Rattle.definability.specs.Copies.{AreCopiesOf, group_variable}
+use Rattle.definability.proofs.CopiedVariables.{copy_at}
 use Rattle.definition_proofs.specs.Shown.{ReadsCopy, itself, left, right, ReadDeclaredCopies}
 use Rattle.definition_proofs.specs.Leaves.{StandsFor, input, gate, not_input, not_gate, negated_by, HasLiteral, IsKnown, AreSidesKnown, HasGate, IsLeafFor}
 use Rattle.std.specs.BTreeMap.{BTreeMap, get, is_at, Updates}

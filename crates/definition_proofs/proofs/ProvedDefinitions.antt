@@ -25,11 +25,11 @@ use Rattle.log_laws.proofs.Found.{named_variable}
 use Rattle.log_laws.proofs.Kept.{NamesStay}
 use Rattle.oracle.specs.Calls.{IsMade}
 use Rattle.oracle.specs.declared.groups.Group.{Group}
-use Rattle.padoa_definitions.specs.Copies.{group_variable, groups_of, is_copy_of, IsSideGiven, IsPadoa}
-use Rattle.padoa_definitions.specs.Growing.{HasFewFaults, HasSameGivens}
-use Rattle.padoa_definitions.specs.declared.padoa.Padoa.{Padoa}
-use Rattle.padoa_definitions.proofs.FreePairs.{all_there, groups_on}
-use Rattle.padoa_definitions.proofs.SearchAnswers.{padoa_learned, found_declared, found_variable}
+use Rattle.definability.specs.Copies.{group_variable, groups_of, is_copy_of, IsSideGiven, IsDefinability}
+use Rattle.definability.specs.Growing.{HasFewFaults, HasSameGivens}
+use Rattle.definability.specs.declared.definability.Definability.{Definability}
+use Rattle.definability.proofs.FreePairs.{all_there, groups_on}
+use Rattle.definability.proofs.SearchAnswers.{definability_learned, found_declared, found_variable}
 use Rattle.definition_proofs.specs.Differing.{IsDifferenceOf, IsDifference, IsExistential, AreUndiffered, IsDifferenceGiven}
 use Rattle.definition_proofs.specs.Leaves.{IsLeafFor}
 use Rattle.definition_proofs.specs.Proving.{AreBeside, IsDefinedBy, HasLeaf, IsProvedBy}
@@ -39,10 +39,10 @@ use Rattle.definition_proofs.specs.Terms.{is_term_gate, AreTerms, GrewByProof}
 use Rattle.definition_proofs.specs.declared.differing.Difference.{Difference}
 use Rattle.definition_proofs.specs.declared.terms.Terms.{Terms}
 use Rattle.definition_proofs.proofs.GivenDifferences.{difference_stays, term_leaf_stays}
-use Rattle.definition_proofs.proofs.KnownTerms.{names_stay, few_still, padoa_still, proof_then, terms_stay}
+use Rattle.definition_proofs.proofs.KnownTerms.{names_stay, few_still, definability_still, proof_then, terms_stay}
 use Rattle.definition_proofs.proofs.NodeLiterals.{stands_still, on_term, reads_support}
 use Rattle.definition_proofs.proofs.NoModels.{no_values}
-use Rattle.padoa_definitions.proofs.SameGivens.{learned_same}
+use Rattle.definability.proofs.SameGivens.{learned_same}
 use Rattle.definition_proofs.proofs.Refutations.{same_leaves}
 use Rattle.definition_proofs.proofs.DeclaredSides.{leaves_sides, same_sides, leaf_declared}
 
@@ -126,21 +126,21 @@ one_of_two a b g (suc zero, lt, at) = inr at
 one_of_two a b g (suc (suc k), lt, at) = absurd (omega (arith, lt))
 
 -- behind the leaf
-module _ (f : Dqbf) (graph : AigGraph) (p : Padoa) (first t : Terms) (y : ℕ) (node : Node) (copy : Literal)
+module _ (f : Dqbf) (graph : AigGraph) (p : Definability) (first t : Terms) (y : ℕ) (node : Node) (copy : Literal)
     (output : Leaf) (old log : ProofLog) (beside : AreBeside f p first old.entries)
     (defined : IsDefinedBy f graph y node) (none : AreUndiffered y old.entries)
     (leaf : HasLeaf f graph node first old t log output)
-    (copied : IsPadoa f p log.entries → name_literal log.entries copy ≡ Some (named_literal (CopyOf 1 y) false)) where
+    (copied : IsDefinability f p log.entries → name_literal log.entries copy ≡ Some (named_literal (CopyOf 1 y) false)) where
   abbrev d : Difference
   d = record { existential = y; copy = copy; output = output }
 
-  padoa : IsPadoa f p log.entries
-  padoa = padoa_still f (group_variable first.group) y old log (leaf.grew f y) p beside.apart beside.padoa
+  definability : IsDefinability f p log.entries
+  definability = definability_still f (group_variable first.group) y old log (leaf.grew f y) p beside.apart beside.definability
 
   pub difference : IsDifference log.entries (record { existential = y; copy = copy; output = output })
   difference =
       let named = named_variable log.entries copy (CopyOf 1 y) false (name_of log.entries (variable_of copy)) refl
-      (copied padoa) in
+      (copied definability) in
       record {
         positive_copy = as_positive copy named.1;
         copy_is = named.0;
@@ -166,8 +166,8 @@ module _ (f : Dqbf) (graph : AigGraph) (p : Padoa) (first t : Terms) (y : ℕ) (
     stay : NamesStay log.entries given.entries
     stay = names_stay f (group_variable first.group) y log given grew_more
 
-    padoa_there : IsPadoa f p given.entries
-    padoa_there = padoa_still f (group_variable first.group) y log given grew_more p beside.apart padoa
+    definability_there : IsDefinability f p given.entries
+    definability_there = definability_still f (group_variable first.group) y log given grew_more p beside.apart definability
 
     known_there : AreTerms t given.entries
     known_there = terms_stay t log.entries given.entries
@@ -185,7 +185,7 @@ module _ (f : Dqbf) (graph : AigGraph) (p : Padoa) (first t : Terms) (y : ℕ) (
         Contains given.entries (Given origin (negative (group_variable g) ∷ rest)) → IsDefinitionGiven y output origin
     own g (inl among) origin rest inside =
         let e = Given origin (negative (group_variable g) ∷ rest) in
-        let one = each_one (IsSideGiven f 1 (group_variable g)) given.entries e (padoa_there.first.own g among) inside in
+        let one = each_one (IsSideGiven f 1 (group_variable g)) given.entries e (definability_there.first.own g among) inside in
         copy_is_right y output origin (one.1 (rest, refl)).0
     own g (inr (inl is)) origin rest inside = gate_is_right y output origin (known_there.own origin rest
         (subst (λ h. Contains given.entries (Given origin (negative (group_variable h) ∷ rest))) (sym is) inside))
@@ -193,7 +193,7 @@ module _ (f : Dqbf) (graph : AigGraph) (p : Padoa) (first t : Terms) (y : ℕ) (
         (subst (λ h. Contains given.entries (Given origin (negative (group_variable h) ∷ rest))) (sym is) inside))
 
     made_of : (g : Group) → Contains p.first.groups.items g ⊎ ((t.group ≡ g) ⊎ (group ≡ g)) → IsMade given.entries g
-    made_of g (inl among) = All-contains (IsMade given.entries) p.first.groups.items g padoa_there.first.made among
+    made_of g (inl among) = All-contains (IsMade given.entries) p.first.groups.items g definability_there.first.made among
     made_of g (inr (inl is)) = subst (IsMade given.entries) is known_there.made
     made_of g (inr (inr is)) = subst (IsMade given.entries) is different.made
 
@@ -214,11 +214,11 @@ module _ (f : Dqbf) (graph : AigGraph) (p : Padoa) (first t : Terms) (y : ℕ) (
         let firsts = p.first.groups.items in
         let rest = t.group ∷ group ∷ [] in
         no_values f graph p t new.entries values formula (λ v w name a b. names_unique new.entries v w name logged a b)
-        (padoa_learned f p given new learned padoa_there) beside.whole
+        (definability_learned f p given new learned definability_there) beside.whole
         (terms_stay t given.entries new.entries (same_leaves (group_variable t.group) given.entries new.entries same)
         known_there)
         model.clauses
-        (groups_on given.entries values firsts padoa_there.first.made (λ g among.
+        (groups_on given.entries values firsts definability_there.first.made (λ g among.
         on g (Contains-append_left firsts rest g among)))
         (positive_true values t.group.selector known_there.made.positive
         (on t.group (Contains-append_right firsts rest t.group (0, omega arith, refl))))
@@ -240,7 +240,7 @@ module _ (f : Dqbf) (graph : AigGraph) (p : Padoa) (first t : Terms) (y : ℕ) (
 
       pub still_beside : AreBeside f p t last.entries
       still_beside = record {
-        padoa = padoa_still f (group_variable first.group) y old last whole p beside.apart beside.padoa;
+        definability = definability_still f (group_variable first.group) y old last whole p beside.apart beside.definability;
         whole = beside.whole;
         terms = terms_stay t given.entries last.entries
             (same_leaves (group_variable t.group) given.entries last.entries same) known_there;

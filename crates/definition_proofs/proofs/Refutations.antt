@@ -20,18 +20,18 @@ use Rattle.log_laws.proofs.LargerLogs.{grown_by}
 use Rattle.oracle.specs.Calls.{IsMade, IsLearnedEntry, IsRefutedUnder, assumed}
 use Rattle.oracle.specs.Searched.{IsSearched}
 use Rattle.oracle.specs.declared.groups.Group.{Group}
-use Rattle.padoa_definitions.specs.Copies.{group_variable}
-use Rattle.padoa_definitions.proofs.DividedAnswers.{same_variable, element_of}
-use Rattle.padoa_definitions.proofs.Reached.{LinesAreImplied, of_answer, undecided_answer}
+use Rattle.definability.specs.Copies.{group_variable}
+use Rattle.definability.proofs.DividedAnswers.{same_variable, element_of}
+use Rattle.definability.proofs.Reached.{LinesAreImplied, of_answer, undecided_answer}
 use Rattle.definition_proofs.specs.Differing.{LeavesTerms}
-use Rattle.padoa_definitions.specs.Growing.{HasSameGivens}
-use Rattle.padoa_definitions.proofs.SameGivens.{learned_same, same_then, same_answer}
+use Rattle.definability.specs.Growing.{HasSameGivens}
+use Rattle.definability.proofs.SameGivens.{learned_same, same_then, same_answer}
 use Rattle.definition_proofs.specs.Searching.{ArePremises}
 use Rattle.definition_proofs.specs.Shown.{IsDefinitionGiven, IsShownDefinition}
 use Rattle.definition_proofs.specs.Terms.{GrewByProof}
 use Rattle.definition_proofs.proofs.GivenDifferences.{term_leaf_stays}
 use Rattle.definition_proofs.proofs.KnownTerms.{proof_then}
-use Rattle.padoa_definitions.proofs.SearchAnswers.{learned_from}
+use Rattle.definability.proofs.SearchAnswers.{learned_from}
 
 pub learned_proof : (f : Dqbf) (group y : ℕ) (old new : ProofLog) → Grew IsLearnedEntry old new →
     GrewByProof f group y old new

@@ -15,8 +15,8 @@ use Rattle.hint_log.specs.declared.origins.Origin.TheVariants.{TermGate, Differ}
 use Rattle.log_laws.specs.Engines.{IsInGroup}
 use Rattle.oracle.specs.Calls.{IsMade}
 use Rattle.oracle.specs.declared.groups.Group.{Group}
-use Rattle.padoa_definitions.specs.Copies.{group_variable}
-use Rattle.padoa_definitions.specs.Growing.{GrewIn, HasFewFaults}
+use Rattle.definability.specs.Copies.{group_variable}
+use Rattle.definability.specs.Growing.{GrewIn, HasFewFaults}
 use Rattle.definition_proofs.specs.declared.differing.Difference.{Difference}
 
 abbrev pub part_number : Bool → ℕ

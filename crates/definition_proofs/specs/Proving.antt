@@ -7,9 +7,9 @@ use Rattle.aig_graph.specs.declared.nodes.Node.{Node}
 use Rattle.defining_nodes.specs.Definitions.{IsDefinition, defining_output}
 use Rattle.hint_log.specs.Entries.{Entry, ProofLog}
 use Rattle.hint_log.specs.declared.origins.Leaf.{Leaf}
-use Rattle.padoa_definitions.specs.Copies.{IsPadoa, IsWhole, group_variable, groups_of}
-use Rattle.padoa_definitions.specs.Growing.{HasFewFaults}
-use Rattle.padoa_definitions.specs.declared.padoa.Padoa.{Padoa}
+use Rattle.definability.specs.Copies.{IsDefinability, IsWhole, group_variable, groups_of}
+use Rattle.definability.specs.Growing.{HasFewFaults}
+use Rattle.definability.specs.declared.definability.Definability.{Definability}
 use Rattle.definition_proofs.specs.Shown.{IsLeafDeclared, IsShownDefinition, ReadDeclaredCopies, TermLeafReads}
 use Rattle.definition_proofs.specs.Terms.{AreTerms, GrewByProof}
 use Rattle.definition_proofs.specs.Leaves.{IsLeafFor}
@@ -18,8 +18,8 @@ use Rattle.definition_proofs.specs.declared.terms.Terms.{Terms}
 
 -- the copies of the matrix, with copies of all variables, and the gates over the first one, which read
 -- copies of declared variables, stand in the log, in groups of their own, with room for clauses more
-pub record AreBeside (f : Dqbf) (p : Padoa) (t : Terms) (entries : List Entry) : Type 0 where
-  pub padoa : IsPadoa f p entries
+pub record AreBeside (f : Dqbf) (p : Definability) (t : Terms) (entries : List Entry) : Type 0 where
+  pub definability : IsDefinability f p entries
   pub whole : IsWhole f p
   pub terms : AreTerms t entries
   pub sides : ReadDeclaredCopies f entries
@@ -43,7 +43,7 @@ pub record HasLeaf (f : Dqbf) (graph : AigGraph) (node : Node) (t : Terms) (old 
   pub leaf_is : IsLeafFor f graph new.entries node leaf
 
 -- what a definition was proved by
-pub record IsProvedBy (f : Dqbf) (graph : AigGraph) (p : Padoa) (y : ℕ) (node : Node) (t : Terms)
+pub record IsProvedBy (f : Dqbf) (graph : AigGraph) (p : Definability) (y : ℕ) (node : Node) (t : Terms)
     (entries : List Entry) (proved : Proved) : Type 0 where
   pub beside : AreBeside f p t entries
   pub shown : IsShownDefinition entries y proved.leaf proved.id

@@ -10,7 +10,7 @@ use Rattle.hint_log.specs.declared.origins.Leaf.{Leaf}
 use Rattle.hint_log.specs.declared.origins.Origin.{Origin}
 use Rattle.oracle.specs.Calls.{IsMade, IsLearnedEntry, IsModelUnder, assumed}
 use Rattle.oracle.specs.declared.groups.Group.{Group}
-use Rattle.padoa_definitions.specs.Copies.{group_variable}
+use Rattle.definability.specs.Copies.{group_variable}
 use Rattle.definition_proofs.specs.Shown.{IsDefinitionGiven}
 
 -- the groups have clauses of these kinds alone

@@ -14,8 +14,8 @@ use Rattle.hint_log.specs.declared.origins.Origin.{Origin}
 use Rattle.hint_log.specs.declared.origins.Origin.TheVariants.{TermGate, Differ}
 use Rattle.log_laws.specs.Engines.{copies, IsAddedBy}
 use Rattle.oracle.specs.Calls.{IsMade}
-use Rattle.padoa_definitions.specs.Copies.{group_variable}
-use Rattle.padoa_definitions.specs.Growing.{Gives, HasFewFaults}
+use Rattle.definability.specs.Copies.{group_variable}
+use Rattle.definability.specs.Growing.{Gives, HasFewFaults}
 use Rattle.definition_proofs.specs.declared.terms.Terms.{Terms}
 
 abbrev pub by_both : ℕ × ℕ → ℕ × ℕ → Ordering

@@ -5,8 +5,8 @@ ghost use Rattle.dq_lits.specs.Formula.{Dqbf};
 ghost use Rattle.dq_lits.specs.Literal.{variable_of};
 ghost use Rattle.hint_log.specs.declared.origins.Origin.TheVariants.{Differ};
 ghost use Rattle.oracle.specs.Calls.{IsMade};
-ghost use Rattle.padoa_definitions.specs.Copies.{group_variable};
-ghost use Rattle.padoa_definitions.specs.Growing.{HasFewFaults};
+ghost use Rattle.definability.specs.Copies.{group_variable};
+ghost use Rattle.definability.specs.Growing.{HasFewFaults};
 ghost use Rattle.definition_proofs.specs.Differing.{part_number, differing, IsPut, IsDifference, IsDifferenceGiven, IsExistential, AreUndiffered, HasDifference, AreDiffering};
 ghost use Rattle.definition_proofs.specs.Terms.{GrewByProof};
 

@@ -5,8 +5,8 @@ ghost use Rattle.dq_lits.specs.Formula.{Dqbf, declared};
 ghost use Rattle.aig_graph.specs.Graph.{IsNode};
 ghost use Rattle.aig_graph.specs.Joining.{IsInner};
 ghost use Rattle.hint_log.specs.Entries.{Entry};
-ghost use Rattle.padoa_definitions.specs.Copies.{AreCopiesOf, copies_of, group_variable};
-ghost use Rattle.padoa_definitions.specs.Growing.{HasFewFaults};
+ghost use Rattle.definability.specs.Copies.{AreCopiesOf, copies_of, group_variable};
+ghost use Rattle.definability.specs.Growing.{HasFewFaults};
 ghost use Rattle.definition_proofs.specs.Terms.{AreTerms, GrewByProof};
 ghost use Rattle.definition_proofs.specs.Proving.{HasLeaf};
 ghost use Rattle.hint_log.specs.declared.origins.Leaf.TheVariants.{Literal as LeafLiteral};
@@ -14,11 +14,11 @@ ghost use Rattle.definition_proofs.specs.Leaves.{StandsFor, IsLeafFor, IsKnown, 
 
 use crate::terms::Terms;
 use aig_graph::{Graph, Look, Node};
+use definability::MatrixCopy;
 use dq_formula::Formula;
 use dq_lits::{Lit, Memory};
 use hint_log::{Leaf, Log};
 use oracle::Oracle;
-use padoa_definitions::MatrixCopy;
 use std::collections::BTreeMap;
 
 /// A graph whose inputs are a formula's declared variables, and the first copies of these.

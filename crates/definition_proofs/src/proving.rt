@@ -11,7 +11,7 @@ ghost use Rattle.hint_log.specs.declared.origins.Leaf.{Leaf as LeafValue};
 ghost use Rattle.hint_log.specs.declared.origins.Origin.TheVariants.{Differ};
 ghost use Rattle.log_laws.specs.Engines.{copies, IsAddedBy};
 ghost use Rattle.oracle.specs.Limits.{IsAtSomeLimit};
-ghost use Rattle.padoa_definitions.specs.Copies.{IsPadoa, group_variable};
+ghost use Rattle.definability.specs.Copies.{IsDefinability, group_variable};
 ghost use Rattle.definition_proofs.specs.Differing.{AreUndiffered};
 ghost use Rattle.definition_proofs.specs.Leaves.{IsLeafFor};
 ghost use Rattle.definition_proofs.specs.Proving.{AreBeside, IsDefinedBy, IsProvedBy};
@@ -23,11 +23,11 @@ use crate::leaves::Inputs;
 use crate::searching::{Proved, joined};
 use crate::terms::Terms;
 use aig_graph::{Graph, Node};
+use definability::{Definability, copied_variable};
 use dq_formula::Formula;
 use hint_log::laws::names_are_unique;
 use hint_log::{Log, Stop};
 use oracle::Oracle;
-use padoa_definitions::{Padoa, copied_variable};
 
 impl Terms {
     /// Proves a definition of an existential for which none was proved yet: where the first copy of
@@ -37,7 +37,7 @@ impl Terms {
     pub fn prove<O: Oracle>(
         &mut self,
         oracle: &mut O,
-        padoa: &Padoa,
+        definability: &Definability,
         graph: &Graph,
         f: &Formula,
         y: u64,
@@ -46,15 +46,15 @@ impl Terms {
     ) -> Result<Proved, Stop>
         requires fit { O.Fits oracle.old log.old }
         requires formula { IsWellFormed f.now }
-        requires beside { AreBeside f.now padoa.now self.old log.old.entries }
+        requires beside { AreBeside f.now definability.now self.old log.old.entries }
         requires inputs { graph.now.inputs ≡ length f.now.universals + length f.now.existentials }
         requires definition { IsDefinedBy f.now graph.now y node }
         requires none { AreUndiffered y log.old.entries }
         ensures fit { O.Fits oracle.new log.new }
         ensures grew { Grew (IsAddedBy f.now copies (group_variable self.old.group) true
             log.old.entries) log.old log.new }
-        ensures padoa { IsPadoa f.now padoa.now log.new.entries }
-        ensures beside { OnOk result (AreBeside f.now padoa.now self.new log.new.entries) }
+        ensures definability { IsDefinability f.now definability.now log.new.entries }
+        ensures beside { OnOk result (AreBeside f.now definability.now self.new log.new.entries) }
         ensures differs { (x part : ℕ) (leaf : LeafValue) (c : List Literal)
             → Contains log.new.entries (Given (Differ x leaf part) c)
             → Contains log.old.entries (Given (Differ x leaf part) c) ⊎ (x ≡ y) }
@@ -65,7 +65,7 @@ impl Terms {
             → Contains (defining_output f.now graph.now node).support v) }
         ensures limit { IsErrOf result Stop.Limit → IsAtSomeLimit log.new }
     {
-        let proved = self.prove_node(oracle, padoa, graph, f, y, node, log)?;
+        let proved = self.prove_node(oracle, definability, graph, f, y, node, log)?;
         Ok(proved)
     }
 
@@ -73,7 +73,7 @@ impl Terms {
     fn prove_node<O: Oracle>(
         &mut self,
         oracle: &mut O,
-        padoa: &Padoa,
+        definability: &Definability,
         graph: &Graph,
         f: &Formula,
         y: u64,
@@ -82,30 +82,30 @@ impl Terms {
     ) -> Result<Proved, Stop>
         requires fit { O.Fits oracle.old log.old }
         requires formula { IsWellFormed f.now }
-        requires beside { AreBeside f.now padoa.now self.old log.old.entries }
+        requires beside { AreBeside f.now definability.now self.old log.old.entries }
         requires inputs { graph.now.inputs ≡ length f.now.universals + length f.now.existentials }
         requires definition { IsDefinedBy f.now graph.now y node }
         requires none { AreUndiffered y log.old.entries }
         ensures fit { O.Fits oracle.new log.new }
         ensures grew { GrewByProof f.now (group_variable self.old.group) y log.old log.new }
         ensures proved { IfOk result
-            (IsProvedBy f.now graph.now padoa.now y node self.new log.new.entries) }
+            (IsProvedBy f.now graph.now definability.now y node self.new log.new.entries) }
         ensures limit { IsErrOf result Stop.Limit → IsAtSomeLimit log.new }
     {
         names_are_unique();
         let inputs = Inputs {
             graph,
-            copy: &padoa.first,
+            copy: &definability.first,
             f,
         };
         let leaf = self.leaf(oracle, &inputs, node, log)?;
         let difference = Difference {
             existential: y,
-            copy: copied_variable(&padoa.first, f, y),
+            copy: copied_variable(&definability.first, f, y),
             output: leaf,
         };
         let group = difference.give(oracle, log)?;
-        let active = joined(self.alloc, &padoa.first.groups, &[self.group, group])?;
+        let active = joined(self.alloc, &definability.first.groups, &[self.group, group])?;
         let proved = difference.refute(oracle, &active, log)?;
         Ok(proved)
     }

@@ -3,7 +3,7 @@
 ghost use Rattle.std.specs.Prelude.{◌≡◌, ◌++◌, ℕ, IfOk, IsErrOf};
 ghost use Rattle.dq_lits.specs.Formula.{Dqbf};
 ghost use Rattle.oracle.specs.Limits.{IsAtSomeLimit};
-ghost use Rattle.padoa_definitions.specs.Growing.{HasSameGivens};
+ghost use Rattle.definability.specs.Growing.{HasSameGivens};
 ghost use Rattle.definition_proofs.specs.Searching.{ArePremises, HaveNoModel};
 ghost use Rattle.definition_proofs.specs.Shown.{IsShownDefinition};
 ghost use Rattle.definition_proofs.specs.Terms.{GrewByProof};

@@ -14,9 +14,9 @@ ghost use Rattle.hint_log.specs.declared.names.Name.TheVariants.{Selector, Term}
 ghost use Rattle.hint_log.specs.declared.origins.Origin.TheVariants.{TermGate};
 ghost use Rattle.log_laws.specs.Engines.{copies, IsAddedBy};
 ghost use Rattle.oracle.specs.Calls.{IsMade};
-ghost use Rattle.padoa_definitions.specs.Copies.{IsPadoa, IsWhole, group_variable};
-ghost use Rattle.padoa_definitions.specs.Growing.{Gives, HasFewFaults};
-ghost use Rattle.padoa_definitions.specs.declared.padoa.Padoa.{Padoa as PadoaValue};
+ghost use Rattle.definability.specs.Copies.{IsDefinability, IsWhole, group_variable};
+ghost use Rattle.definability.specs.Growing.{Gives, HasFewFaults};
+ghost use Rattle.definability.specs.declared.definability.Definability.{Definability as DefinabilityValue};
 ghost use Rattle.definition_proofs.specs.Proving.{AreBeside};
 ghost use Rattle.definition_proofs.specs.Shown.{IsDeclaredCopy, ReadDeclaredCopies};
 ghost use Rattle.definition_proofs.specs.Terms.{is_gate_of, HasTermClauses, HasNoTerms, AreTerms, GrewByProof};
@@ -55,7 +55,7 @@ impl Terms {
         ensures grew { (f : Dqbf) (group : ℕ)
             → Grew (IsAddedBy f copies group true log.old.entries) log.old log.new }
         ensures made { IfOk result (λ terms. AreTerms terms log.new.entries) }
-        ensures beside { (f : Dqbf) (p : PadoaValue) → IsPadoa f p log.old.entries → IsWhole f p
+        ensures beside { (f : Dqbf) (p : DefinabilityValue) → IsDefinability f p log.old.entries → IsWhole f p
             → HasFewFaults log.old.entries
             → IfOk result (λ terms. AreBeside f p terms log.new.entries) }
         ensures err { OnErr result (log.new ≡ log.old) }

@@ -15,9 +15,9 @@ use Rattle.hint_log.specs.declared.origins.Origin.TheVariants.{Differ}
 use Rattle.log_laws.specs.Engines.{copies, IsAddedBy, EnginesLeaveRest}
 use Rattle.oracle.specs.Searched.{IsSearched}
 use Rattle.definition_order.proofs.Declared.{one_place, variable}
-use Rattle.padoa_definitions.specs.Copies.{IsPadoa, IsWhole, groups_of}
-use Rattle.padoa_definitions.specs.Growing.{HasFewFaults, HasSameGivens}
-use Rattle.padoa_definitions.specs.Copies.{group_variable}
+use Rattle.definability.specs.Copies.{IsDefinability, IsWhole, groups_of}
+use Rattle.definability.specs.Growing.{HasFewFaults, HasSameGivens}
+use Rattle.definability.specs.Copies.{group_variable}
 use Rattle.definition_proofs.specs.Proving.{AreBeside}
 use Rattle.definition_proofs.proofs.DeclaredSides.{same_sides}
 use Rattle.definition_proofs.proofs.KnownTerms.{terms_stay}
@@ -69,19 +69,19 @@ still_few law f group old new grew few =
 
 -- a question to the copies leaves the search as it is
 pub asked_search : EnginesLeaveRest → (f : Dqbf) (s t : Search) (place : ℕ) (old new : ProofLog) →
-    t.padoa ≡ s.padoa → t.terms ≡ s.terms → t.order ≡ s.order → t.graph.inputs ≡ s.graph.inputs →
+    t.definability ≡ s.definability → t.terms ≡ s.terms → t.order ≡ s.order → t.graph.inputs ≡ s.graph.inputs →
     Grew (IsAddedBy f copies 0 true old.entries) old new → HasSameGivens old.entries new.entries →
-    IsPadoa f t.padoa new.entries → IsSearched new.entries → IsSearch f s place old.entries →
+    IsDefinability f t.definability new.entries → IsSearched new.entries → IsSearch f s place old.entries →
     IsSearch f t place new.entries
-asked_search law f s t place old new padoa_is terms_is order_is inputs_are grew same padoa searched before = record {
+asked_search law f s t place old new definability_is terms_is order_is inputs_are grew same definability searched before = record {
   productive = still_productive law f 0 old new grew searched before.productive;
-  beside = subst (λ u. AreBeside f t.padoa u new.entries) (sym terms_is) (record {
-    padoa = padoa;
-    whole = subst (IsWhole f) (sym padoa_is) before.beside.whole;
+  beside = subst (λ u. AreBeside f t.definability u new.entries) (sym terms_is) (record {
+    definability = definability;
+    whole = subst (IsWhole f) (sym definability_is) before.beside.whole;
     terms = terms_stay s.terms old.entries new.entries (same_leaves (group_variable s.terms.group) old.entries
         new.entries same) before.beside.terms;
     sides = same_sides f old.entries new.entries same before.beside.sides;
-    apart = subst (λ p. All (λ g. g ≢ group_variable s.terms.group) (groups_of p)) (sym padoa_is) before.beside.apart;
+    apart = subst (λ p. All (λ g. g ≢ group_variable s.terms.group) (groups_of p)) (sym definability_is) before.beside.apart;
     few = still_few law f 0 old new grew before.beside.few;
   });
   read = subst (λ o. HasRead o new.entries) (sym order_is)
@@ -116,7 +116,7 @@ apart f lawful i p x y at_i at_p less same =
 pub proved_search : EnginesLeaveRest → (f : Dqbf) → IsLawful f → (s t : Search) (place y : ℕ) (old new : ProofLog) →
     slice_get (existential_variables f) place ≡ Some y → t.graph ≡ s.graph →
     Grew (IsAddedBy f copies (group_variable s.terms.group) true old.entries) old new → IsSearched new.entries →
-    AreBeside f t.padoa t.terms new.entries → HasRead t.order new.entries →
+    AreBeside f t.definability t.terms new.entries → HasRead t.order new.entries →
     ((x part : ℕ) (leaf : Leaf) (c : List Literal) → Contains new.entries (Given (Differ x leaf part) c) →
     Contains old.entries (Given (Differ x leaf part) c) ⊎ (x ≡ y)) → IsSearch f s place old.entries →
     IsSearch f t (place + 1) new.entries

@@ -9,8 +9,8 @@ use Rattle.hint_log.specs.declared.origins.Origin.TheVariants.{TermGate, Differ}
 use Rattle.hint_log.proofs.NamedEntries.{named_contains}
 use Rattle.log_laws.specs.Engines.{copies, IsAddedBy, EnginesLeaveRest, HasNone}
 use Rattle.oracle.specs.Searched.{IsSearched}
-use Rattle.padoa_definitions.specs.Copies.{group_variable}
-use Rattle.padoa_definitions.specs.Growing.{HasCopied}
+use Rattle.definability.specs.Copies.{group_variable}
+use Rattle.definability.specs.Growing.{HasCopied}
 use Rattle.definition_export.specs.TermOrder.{HasRead}
 use Rattle.definition_proofs.specs.Differing.{AreUndiffered}
 use Rattle.definition_proofs.specs.Proving.{AreBeside}
@@ -38,7 +38,7 @@ pub new_search : EnginesLeaveRest → (f : Dqbf) (s : Search) (old mid new : Pro
     HasCopied old.entries mid.entries → Grew (IsAddedBy f copies 0 true old.entries) old mid →
     IsSearched mid.entries → Grew (IsAddedBy f copies 0 true mid.entries) mid new → IsSearched new.entries →
     new ≡ with_entry mid (Named (group_variable s.terms.group) (Selector (group_variable s.terms.group))) →
-    IsProductiveLog f old.entries → AreBeside f s.padoa s.terms new.entries → HasRead s.order new.entries →
+    IsProductiveLog f old.entries → AreBeside f s.definability s.terms new.entries → HasRead s.order new.entries →
     s.graph.inputs ≡ length f.universals + length f.existentials → IsSearch f s 0 new.entries
 new_search law f s old mid new none copied first first_searched second second_searched is productive beside read inputs =
     record {

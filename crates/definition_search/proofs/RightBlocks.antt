@@ -21,8 +21,8 @@ use Rattle.defining_nodes.specs.Definitions.{IsDefinition, defining_output}
 use Rattle.definition_order.specs.Order.{MayRead}
 use Rattle.defined_checker.specs.FreePairs.{valuation_assignment}
 use Rattle.defined_checker.specs.Judging.{AreJudged, IsJudged, ReadsItsOwn, defines, separates}
-use Rattle.padoa_definitions.specs.Defining.{IsFreePair as ArePair}
-use Rattle.padoa_definitions.specs.declared.defining.Pair.{Pair}
+use Rattle.definability.specs.Defining.{IsFreePair as ArePair}
+use Rattle.definability.specs.declared.defining.Pair.{Pair}
 use Rattle.definition_proofs.specs.Shown.{TermLeafReads}
 use Rattle.definition_export.specs.Exporting.{IsExportedDefinition}
 use Rattle.definition_search.specs.Texts.{AreRightBlocks}

@@ -13,7 +13,7 @@ use Rattle.definition_search.specs.declared.searching.Search.{Search}
 -- no definition of an existential from this place on was proved
 pub record IsSearch (f : Dqbf) (s : Search) (place : ℕ) (entries : List Entry) : Type 0 where
   pub productive : IsProductiveLog f entries
-  pub beside : AreBeside f s.padoa s.terms entries
+  pub beside : AreBeside f s.definability s.terms entries
   pub read : HasRead s.order entries
   pub inputs : s.graph.inputs ≡ length f.universals + length f.existentials
   pub undiffered : (i y : ℕ) → place ≤ i → slice_get (existential_variables f) i ≡ Some y

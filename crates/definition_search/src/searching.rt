@@ -12,13 +12,14 @@ ghost use Rattle.cert_text.specs.DefinitionBlocks.{defined, free};
 ghost use Rattle.hint_log.specs.ProductiveLog.{IsProductiveLog};
 ghost use Rattle.log_laws.specs.Engines.{copies, HasNone};
 ghost use Rattle.oracle.specs.Limits.{IsAtSomeLimit};
-ghost use Rattle.padoa_definitions.specs.Defining.{IsFound, IsFreePair};
-ghost use Rattle.padoa_definitions.specs.Growing.{HasFewFaults};
+ghost use Rattle.definability.specs.Defining.{IsFound, IsFreePair};
+ghost use Rattle.definability.specs.Growing.{HasFewFaults};
 ghost use Rattle.definition_search.specs.Texts.{AreRightBlocks, GoesOn};
 ghost use Rattle.definition_search.specs.Searching.{IsSearch};
 
 use aig_graph::{Graph, Node};
 use cert_text::{Definition, DefinitionBlock, FreePair, Valuation};
+use definability::{Definability, Found, Pair};
 use definition_export::laws::productive_definitions_can_be_exported;
 use definition_export::{TermOrder, export_definition};
 use definition_proofs::Terms;
@@ -28,7 +29,6 @@ use gate_definitions::Gates;
 use hint_log::{Log, Stop};
 use log_laws::laws::engines_leave_the_rest;
 use oracle::Oracle;
-use padoa_definitions::{Found, Padoa, Pair};
 use std::alloc::Global;
 
 // More gates or lines than this a block can't have.
@@ -39,7 +39,7 @@ const MOST: usize = 1_000_000_000;
 pub(crate) struct Search {
     alloc: Global,
     gates: Gates,
-    padoa: Padoa,
+    definability: Definability,
     terms: Terms,
     order: TermOrder,
     graph: Graph,
@@ -64,12 +64,12 @@ impl Search {
     {
         engines_leave_the_rest();
         let gates = Gates::new(alloc, f)?;
-        let padoa = Padoa::whole(alloc, oracle, f, log)?;
+        let definability = Definability::whole(alloc, oracle, f, log)?;
         let terms = Terms::new(alloc, oracle, log)?;
         Ok(Search {
             alloc,
             gates,
-            padoa,
+            definability,
             terms,
             order: TermOrder::new(alloc),
             graph: Graph::new(alloc, f.universals().len() + f.existentials().len()),
@@ -132,7 +132,9 @@ impl Search {
         if let Some(node) = self.gates.read(f, &[], y, &mut self.graph)? {
             return Ok(Found::Defined(node));
         }
-        let found = self.padoa.define(oracle, &mut self.graph, f, &[], y, log)?;
+        let found = self
+            .definability
+            .define(oracle, &mut self.graph, f, &[], y, log)?;
         Ok(found)
     }
 
@@ -164,7 +166,7 @@ impl Search {
         let y = f.existentials()[place];
         let proved = self
             .terms
-            .prove(oracle, &self.padoa, &self.graph, f, y, node, log)?;
+            .prove(oracle, &self.definability, &self.graph, f, y, node, log)?;
         self.order.read_on(log)?;
         let d = export_definition(self.alloc, log, &self.order, proved.id, f, y, proved.leaf)?;
         if d.gates.len() > MOST || d.steps.len() > MOST {

@@ -5,7 +5,7 @@ ghost use Rattle.dq_lits.specs.Formula.{IsWellFormed};
 ghost use Rattle.hint_log.specs.ProductiveLog.{IsProductiveLog};
 ghost use Rattle.log_laws.specs.Engines.{copies, HasNone};
 ghost use Rattle.oracle.specs.Limits.{IsAtSomeLimit};
-ghost use Rattle.padoa_definitions.specs.Growing.{HasFewFaults};
+ghost use Rattle.definability.specs.Growing.{HasFewFaults};
 ghost use Rattle.definition_search.specs.Searching.{IsSearch};
 ghost use Rattle.definition_search.specs.Texts.{GoesOn, IsTextOfDefinitions};
 

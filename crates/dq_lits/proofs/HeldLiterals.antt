@@ -6,7 +6,7 @@ use Rattle.std.proofs.lemmas.List.Elements.{All-cons, All-nil, All-head, All-tai
 use Rattle.std.proofs.lemmas.List.Folds.{list_any-append}
 use Rattle.std.proofs.lemmas.Option.{same_Some}
 use Rattle.dq_lits.specs.Literal.{Literal, same_literal, opposite}
-use Rattle.dq_lits.specs.Derivation.{holds, Status, falsified, unit, stuck, fault_by, LiveClauses, is_tautology, IsDerived, status_of, hint_fault}
+use Rattle.dq_lits.specs.Derivation.{holds, ClauseStatus, falsified, unit, stuck, fault_by, LiveClauses, is_tautology, IsDerived, status_of, hint_fault}
 use Rattle.dq_lits.proofs.Truth.{same_literal-sound}
 use Rattle.dq_lits.proofs.SignedLiterals.{same_literal-refl, same_opposite, opposite-opposite}
 
@@ -70,7 +70,7 @@ left_among trues (x ∷ c) l h =
           ]
     ]
 
-pub fault_by-same : (s : Status) (place : ℕ) (hints : List ℕ) (f g : Literal → Option ℕ) → ((l : Literal) → f l ≡ g l) →
+pub fault_by-same : (s : ClauseStatus) (place : ℕ) (hints : List ℕ) (f g : Literal → Option ℕ) → ((l : Literal) → f l ≡ g l) →
     fault_by s place hints f ≡ fault_by s place hints g
 fault_by-same falsified place [] f g same = refl
 fault_by-same falsified place (_ ∷ _) f g same = refl

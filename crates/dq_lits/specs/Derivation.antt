@@ -15,28 +15,28 @@ abbrev pub holds : List Literal → Literal → Bool
 holds literals l = list_any (same_literal l) literals
 
 -- how a clause stands where these literals are true
-pub data Status : Type 0 where
+pub data ClauseStatus : Type 0 where
   -- each of its literals is false
-  falsified : Status
+  falsified : ClauseStatus
   -- as a set it has one literal that isn't false, and that one is unassigned
-  unit : Literal → Status
+  unit : Literal → ClauseStatus
   -- it has a true literal or two that aren't false
-  stuck : Status
+  stuck : ClauseStatus
 
 -- by its literals that aren't false
-abbrev pub status_by : List Literal → List Literal → Status
+abbrev pub status_by : List Literal → List Literal → ClauseStatus
 status_by trues [] = falsified
 status_by trues (l ∷ rest) =
     if list_all (same_literal l) rest && not (holds trues l) then unit l else stuck
 
 -- a missing clause is of no use
-abbrev pub status_of : List Literal → Option (List Literal) → Status
+abbrev pub status_of : List Literal → Option (List Literal) → ClauseStatus
 status_of trues None = stuck
 status_of trues (Some clause) =
     status_by trues (filter (λ l. not (holds trues (opposite l))) clause)
 
 -- a unit hint goes on; a falsified one has to be the last
-abbrev pub fault_by : Status → ℕ → List ℕ → (Literal → Option ℕ) → Option ℕ
+abbrev pub fault_by : ClauseStatus → ℕ → List ℕ → (Literal → Option ℕ) → Option ℕ
 fault_by falsified place [] _ = None
 fault_by falsified place (_ ∷ _) _ = Some place
 fault_by (unit l) place _ next = next l

@@ -2,18 +2,18 @@
 use Rattle.std.specs.Prelude.{List, not, if◌then◌else◌}
 use Rattle.std.specs.List.{filter}
 use Rattle.dq_lits.specs.Literal.{Literal, opposite, same_literal}
-use Rattle.dq_lits.specs.Derivation.{Status, falsified, unit, stuck, holds}
+use Rattle.dq_lits.specs.Derivation.{ClauseStatus, falsified, unit, stuck, holds}
 use Rattle.dq_lits.specs.declared.truth_values.TruthValue.{TruthValue}
 use Rattle.dq_lits.specs.declared.truth_values.TruthValue.TheVariants.{True, False, Unassigned}
 
 -- with one more unassigned literal
-abbrev pub with_free : Status → Literal → Status
+abbrev pub with_free : ClauseStatus → Literal → ClauseStatus
 with_free falsified l = unit l
 with_free (unit k) l = if same_literal k l then unit k else stuck
 with_free stuck l = stuck
 
 -- with one more literal, of this value
-abbrev pub with_literal : Status → Literal → TruthValue → Status
+abbrev pub with_literal : ClauseStatus → Literal → TruthValue → ClauseStatus
 with_literal status l False = status
 with_literal status l True = stuck
 with_literal status l Unassigned = with_free status l

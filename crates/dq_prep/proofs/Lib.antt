@@ -10,7 +10,7 @@ pub mod OpenLiterals
 pub mod Reduction
 pub mod SeenUniversals
 pub mod SignedLiterals
-mod Standings
+mod Remainders
 pub mod ToldValues
 pub mod Units
 pub mod WellFormed

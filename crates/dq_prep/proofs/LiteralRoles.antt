@@ -20,7 +20,7 @@ use Rattle.dq_prep.specs.Roles.{role_by, role_of, truth_role, is_open, open_lite
 use Rattle.dq_prep.specs.Takings.{ValuesTell}
 use Rattle.dq_prep.specs.Reduction.{sees_in}
 use Rattle.dq_prep.proofs.LeftLiterals.{UniversalsSeeNothing}
-use Rattle.dq_prep.proofs.Standings.{UniversalsAreSeen, Looked, clause-at}
+use Rattle.dq_prep.proofs.Remainders.{UniversalsAreSeen, Looked, clause-at}
 use Rattle.dq_prep.specs.declared.traces.Taken.{Taken}
 use Rattle.dq_prep.specs.Units.{AreUnits}
 

@@ -8,8 +8,8 @@ use Rattle.dq_formula.specs.Prefix.{IsLawful, existential_variables}
 use Rattle.dq_lits.specs.declared.truth_values.TruthValue.{TruthValue}
 use Rattle.dq_prep.specs.declared.traces.Taken.{Taken}
 use Rattle.dq_prep.specs.declared.takings.Taking.{Taking}
-use Rattle.dq_prep.specs.declared.takings.Standing.{Standing}
-use Rattle.dq_prep.specs.declared.takings.Standing.TheVariants.{Alone, Empty, Other}
+use Rattle.dq_prep.specs.declared.takings.Remainder.{Remainder}
+use Rattle.dq_prep.specs.declared.takings.Remainder.TheVariants.{Alone, Empty, Other}
 use Rattle.dq_prep.specs.declared.takings.Found.{Found}
 use Rattle.dq_prep.specs.declared.takings.Found.TheVariants.{NoUnit, Took, Emptied}
 use Rattle.dq_prep.specs.Reduction.{sees_in}
@@ -45,10 +45,10 @@ pub record IsEmptied (f : Dqbf) (units : List Taken) (place : ℕ) : Type 0 wher
 abbrev pub unit_at : ℕ → Literal → Taken
 unit_at place l = record { place = place; literal = l }
 
-abbrev pub IsStanding : Dqbf → List Taken → ℕ → Standing → Type 0
-IsStanding f units place (Alone l) = IsUnit f units (unit_at place l)
-IsStanding f units place Empty = IsEmptied f units place
-IsStanding f units place Other = IsNoUnit f units place
+abbrev pub IsRemainder : Dqbf → List Taken → ℕ → Remainder → Type 0
+IsRemainder f units place (Alone l) = IsUnit f units (unit_at place l)
+IsRemainder f units place Empty = IsEmptied f units place
+IsRemainder f units place Other = IsNoUnit f units place
 
 -- what came of the clause at a place, with the units before and after
 abbrev pub IsFound : Dqbf → List Taken → List Taken → ℕ → Found → Type 0
@@ -57,12 +57,12 @@ IsFound f old new place (Took l) = new ≡ unit_at place l ∷ old
 IsFound f old new place Emptied = (new ≡ old) × Contains (kept_clauses f old 0 f.matrix) []
 
 -- where no literal of a clause is open
-abbrev pub standing_of_none : Bool → Standing
-standing_of_none is_tautology = if is_tautology then Other else Empty
+abbrev pub remainder_of_none : Bool → Remainder
+remainder_of_none is_tautology = if is_tautology then Other else Empty
 
 -- where one literal is, and maybe more stays of the clause
-abbrev pub standing_of_one : Literal → Bool → Standing
-standing_of_one l more = if more then Other else Alone l
+abbrev pub remainder_of_one : Literal → Bool → Remainder
+remainder_of_one l more = if more then Other else Alone l
 
 -- it holds a literal beside its negation, or a variable that the literal's existential sees
 abbrev pub keeps_more : Dqbf → List Literal → Literal → Bool

@@ -6,7 +6,7 @@ ghost use Rattle.dq_lits.specs.Formula.{declared, existential_of, IsWellFormed};
 ghost use Rattle.dq_lits.specs.Derivation.{is_tautology, holds};
 ghost use Rattle.dq_prep.specs.Units.{taken_literals, is_satisfied, without_false, IsUnit};
 ghost use Rattle.dq_prep.specs.Roles.{role_of, AreOpen};
-ghost use Rattle.dq_prep.specs.Takings.{IsTaking, IsStanding, IsFound, unit_at, keeps_more, standing_of_none, standing_of_one};
+ghost use Rattle.dq_prep.specs.Takings.{IsTaking, IsRemainder, IsFound, unit_at, keeps_more, remainder_of_none, remainder_of_one};
 
 use crate::roles::{Opens, Role, role_by, with_role};
 use crate::sights::sees_any;
@@ -28,7 +28,7 @@ pub(crate) struct Taking<'f> {
 
 /// What is left of a clause.
 #[derive(Clone, Copy)]
-pub(crate) enum Standing {
+pub(crate) enum Remainder {
     /// This literal alone, on an existential.
     Alone(Lit),
     /// Nothing.
@@ -167,17 +167,17 @@ impl<'f> Taking<'f> {
     }
 
     // What is left of the clause at a place.
-    fn standing(&self, place: usize) -> Standing
+    fn remainder(&self, place: usize) -> Remainder
         requires right { IsTaking self.now }
         requires within { place < length self.now.formula.now.matrix }
-        ensures { IsStanding self.now.formula.now self.now.trace place result }
+        ensures { IsRemainder self.now.formula.now self.now.trace place result }
     {
         let clause = self.formula.clause(place);
         match self.opens(clause) {
-            Opens::Satisfied => Standing::Other,
-            Opens::Nothing => standing_of_none(self.tautologies[place]),
-            Opens::One(l) => standing_of_one(l, self.keeps_more(place, l)),
-            Opens::More => Standing::Other,
+            Opens::Satisfied => Remainder::Other,
+            Opens::Nothing => remainder_of_none(self.tautologies[place]),
+            Opens::One(l) => remainder_of_one(l, self.keeps_more(place, l)),
+            Opens::More => Remainder::Other,
         }
     }
 
@@ -208,35 +208,35 @@ impl<'f> Taking<'f> {
         ensures found { IfOk result
             (IsFound self.old.formula.now self.old.trace self.new.trace place) }
     {
-        match self.standing(place) {
-            Standing::Alone(l) => {
+        match self.remainder(place) {
+            Remainder::Alone(l) => {
                 self.take(place, l)?;
                 Ok(Found::Took(l))
             }
-            Standing::Empty => Ok(Found::Emptied),
-            Standing::Other => Ok(Found::NoUnit),
+            Remainder::Empty => Ok(Found::Emptied),
+            Remainder::Other => Ok(Found::NoUnit),
         }
     }
 }
 
 // Where no literal of a clause is open.
-fn standing_of_none(is_tautology: bool) -> Standing
-    ensures { result ≡ standing_of_none is_tautology }
+fn remainder_of_none(is_tautology: bool) -> Remainder
+    ensures { result ≡ remainder_of_none is_tautology }
 {
     if is_tautology {
-        Standing::Other
+        Remainder::Other
     } else {
-        Standing::Empty
+        Remainder::Empty
     }
 }
 
 // Where one literal of a clause is open, and whether more stays of it.
-fn standing_of_one(l: Lit, more: bool) -> Standing
-    ensures { result ≡ standing_of_one l more }
+fn remainder_of_one(l: Lit, more: bool) -> Remainder
+    ensures { result ≡ remainder_of_one l more }
 {
     if more {
-        Standing::Other
+        Remainder::Other
     } else {
-        Standing::Alone(l)
+        Remainder::Alone(l)
     }
 }

@@ -1,4 +1,4 @@
--- A clause that is added to a book.
+-- A clause that is added to a database.
 use Rattle.std.proofs.Common.{◌≡◌, ℕ, zero, suc, ◌+◌, ◌-◌, ◌≤◌, ◌<◌, ◌⊎◌, inl, inr, Bool, false, List, [], ◌∷◌, ◌++◌, length, replicate, slice_get, get_or, Some, refl, sym, ◌∙◌, ap, subst, arith, append_assoc}
 use Rattle.std.specs.List.{All, Contains, list_any}
 use Rattle.std.proofs.lemmas.Bool.{cases_lt}
@@ -16,10 +16,10 @@ use Rattle.hint_log.proofs.NamedEntries.{numbered_low}
 use Rattle.log_laws.specs.Engines.{instances, part}
 use Rattle.oracle.specs.declared.groups.Group.{Group}
 use Rattle.expansion.specs.Table.{HasInstance}
-use Rattle.dq_session.specs.Books.{BookState, frames_of, number_at, frame_at, given_at, HasGroup, number_of, IsBook}
+use Rattle.dq_session.specs.Databases.{DatabaseState, frames_of, number_at, frame_at, given_at, HasGroup, number_of, IsDatabase}
 use Rattle.dq_session.specs.Changes.{newest, with_clause}
 use Rattle.dq_session.specs.Changing.{ClausesCome}
-use Rattle.dq_session.proofs.GrownBooks.{IsGrown, entries_same}
+use Rattle.dq_session.proofs.GrownDatabases.{IsGrown, entries_same}
 use Rattle.dq_session.proofs.Stacks.{clause_added, same_frame}
 
 pub numbered_more : (xs ys : List (List Literal)) (j : ℕ) (c : List Literal) → numbered_from_one xs j ≡ Some c →
@@ -33,9 +33,9 @@ zero_behind [] (suc p) past = refl
 zero_behind (x ∷ xs) zero past = absurd (omega (arith, past))
 zero_behind (x ∷ xs) (suc p) past = zero_behind xs p (omega (arith, past))
 
-module _ (b : BookState) (clause : List Literal) (entries : List Entry) (some_open : 1 ≤ length b.open_frames)
-    (bound : All (λ l. Contains (declared b.file) (variable_of l)) clause) (book : IsBook b entries) where
-  abbrev after : BookState
+module _ (b : DatabaseState) (clause : List Literal) (entries : List Entry) (some_open : 1 ≤ length b.open_frames)
+    (bound : All (λ l. Contains (declared b.file) (variable_of l)) clause) (database : IsDatabase b entries) where
+  abbrev after : DatabaseState
   after = with_clause b clause
 
   abbrev matrix : List (List Literal)
@@ -52,7 +52,7 @@ module _ (b : BookState) (clause : List Literal) (entries : List Entry) (some_op
       let left = length-append zeros b.frames in
       let right = length-append matrix b.added in
       let none = length-replicate {A = ℕ} (length matrix) 0 in
-      let same = book.stack.many_frames in
+      let same = database.stack.many_frames in
       omega (arith, left, right, none, same)
 
   frame_stays : (j : ℕ) (c : List Literal) → numbered_from_one (matrix ++ b.added) j ≡ Some c →
@@ -67,7 +67,7 @@ module _ (b : BookState) (clause : List Literal) (entries : List Entry) (some_op
 
   given_stays : (place : ℕ) → place < length b.added → given_at after place ≡ given_at b place
   given_stays place below =
-      let same = book.stack.many_given in
+      let same = database.stack.many_given in
       get_or_append_left b.given (0 ∷ []) 0 place (omega (arith, below, same))
 
   grown : IsGrown b b.table after.added after.frames after.given b.groups b.open_frames after.live
@@ -88,33 +88,33 @@ module _ (b : BookState) (clause : List Literal) (entries : List Entry) (some_op
       by : (place < length b.given) ⊎ (length b.given ≤ place) → given_at after place ≤ length b.table.rows
       by (inl below) =
           let same = get_or_append_left b.given (0 ∷ []) 0 place below in
-          let before = book.done place in
+          let before = database.done place in
           omega (arith, same, before)
       by (inr past) = let none = zero_behind b.given place past in omega (arith, none)
 
-  pub clause_book : IsBook after entries
-  clause_book = record {
+  pub clause_database : IsDatabase after entries
+  clause_database = record {
     well_formed = record {
       prefix = record {
-        in_range = book.well_formed.prefix.in_range;
-        declared_once = book.well_formed.prefix.declared_once;
-        sees_universals = book.well_formed.prefix.sees_universals;
+        in_range = database.well_formed.prefix.in_range;
+        declared_once = database.well_formed.prefix.declared_once;
+        sees_universals = database.well_formed.prefix.sees_universals;
       };
       bound = subst (All (All (λ l. Contains (declared b.file) (variable_of l)))) (sym longer)
           (All-append (All (λ l. Contains (declared b.file) (variable_of l))) (matrix ++ b.added) (clause ∷ [])
-          book.well_formed.bound (All-cons (All (λ l. Contains (declared b.file) (variable_of l))) clause [] bound
+          database.well_formed.bound (All-cons (All (λ l. Contains (declared b.file) (variable_of l))) clause [] bound
           (All-nil (All (λ l. Contains (declared b.file) (variable_of l))))));
     };
-    stack = clause_added b clause book.stack some_open;
-    table = book.table;
+    stack = clause_added b clause database.stack some_open;
+    table = database.table;
     groups = record {
-      made = book.groups.made;
-      none_of_file = book.groups.none_of_file;
-      apart = book.groups.apart;
-      off_table = book.groups.off_table;
+      made = database.groups.made;
+      none_of_file = database.groups.none_of_file;
+      apart = database.groups.apart;
+      off_table = database.groups.off_table;
     };
     givens = entries_same b b.table after.added after.frames after.given b.groups b.open_frames after.live grown
-        (λ frame g has. has) entries book.givens;
+        (λ frame g has. has) entries database.givens;
     done = done;
     instances = λ k place row c row_is c_is less live. instance k place row c row_is
         (old_or_last b.added clause c place c_is) less live;
@@ -128,12 +128,12 @@ module _ (b : BookState) (clause : List Literal) (entries : List Entry) (some_op
       instance k place row c row_is (inl c_is) less live =
           let below = slice_get_within b.added place c c_is in
           let same = given_stays place below in
-          let r = book.instances k place row c row_is c_is (omega (arith, less, same)) live in
-          (r.0, subst (λ f. HasGroup b f r.0) (sym (same_frame b clause book.stack some_open place below)) r.1, r.2)
+          let r = database.instances k place row c row_is c_is (omega (arith, less, same)) live in
+          (r.0, subst (λ f. HasGroup b f r.0) (sym (same_frame b clause database.stack some_open place below)) r.1, r.2)
       instance k place row c row_is (inr (here, same)) less live =
-          let long = book.stack.many_given in
+          let long = database.stack.many_given in
           let none = zero_behind b.given place (omega (arith, here, long)) in
           absurd (omega (arith, less, none))
 
 pub clauses_come : ClausesCome
-clauses_come b clause entries some_open bound book = clause_book b clause entries some_open bound book
+clauses_come b clause entries some_open bound database = clause_database b clause entries some_open bound database

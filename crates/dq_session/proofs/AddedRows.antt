@@ -1,4 +1,4 @@
--- A book to whose table a row was added.
+-- A database to whose table a row was added.
 use Rattle.std.proofs.Common.{◌≡◌, ℕ, ◌+◌, ◌-◌, ◌≤◌, Bool, true, false, cond, inl, List, [], ◌∷◌, ◌++◌, length, replicate, slice_get, Some, refl, sym, ◌∙◌, ap, subst, arith}
 use Rattle.std.proofs.lemmas.List.{length-append, length-replicate, get_or-replicate, get_or_append_left}
 use Rattle.dq_lits.specs.Literal.{Literal}
@@ -21,10 +21,10 @@ use Rattle.expansion.specs.Adding.{IsRowEntry}
 use Rattle.expansion.specs.Table.{TableState, HasInstance, IsFullTable}
 use Rattle.expansion.proofs.AddedRows.{instance_behind}
 use Rattle.expansion.proofs.TableGrowth.{KeepsNames, KeepsEntries, more_keeps, unnamed_own, instance_kept}
-use Rattle.dq_session.specs.Books.{BookState, all_of, frames_of, number_of, IsStack, IsBookEntry, HasDoneInstances, IsBook, IsFullBook}
+use Rattle.dq_session.specs.Databases.{DatabaseState, all_of, frames_of, number_of, IsStack, IsDatabaseEntry, HasDoneInstances, IsDatabase, IsFullDatabase}
 use Rattle.dq_session.specs.Changes.{groups_of}
 use Rattle.dq_session.proofs.AddedClauses.{numbered_more}
-use Rattle.dq_session.proofs.GrownBooks.{instance_by, entries_same}
+use Rattle.dq_session.proofs.GrownDatabases.{instance_by, entries_same}
 use Rattle.dq_session.proofs.LiveModels.{left_of}
 
 -- an entry more in the part
@@ -94,7 +94,7 @@ rightly f matrix (CopyOf side v) h = tt
 rightly f matrix (Term l r) h = tt
 
 -- what a row adds is right in the session
-row_added : (b : BookState) (first earlier : List Entry) (e : Entry) → IsRowEntry b.file b.table.group earlier e →
+row_added : (b : DatabaseState) (first earlier : List Entry) (e : Entry) → IsRowEntry b.file b.table.group earlier e →
     IsAddedLive (all_of b) instances (groups_of b) true first earlier e
 row_added b first earlier (Named v n) h = record {
   unnamed = h.unnamed;
@@ -119,7 +119,7 @@ row_added b first earlier (Answer c hs) h = absurd h
 row_added b first earlier (Round r values j) h = absurd h
 row_added b first earlier (Begun live) h = absurd h
 
-pub row_grew : (b : BookState) (first : List Entry) (old new : ProofLog) →
+pub row_grew : (b : DatabaseState) (first : List Entry) (old new : ProofLog) →
     Grew (IsRowEntry b.file b.table.group) old new
     → Grew (IsAddedLive (all_of b) instances (groups_of b) true first) old new
 row_grew b first old new g = record {
@@ -130,11 +130,11 @@ row_grew b first old new g = record {
   limit = g.limit;
 }
 
-module _ (b : BookState) (t : TableState) (row : List Bool) (old : List Entry) (more : List Entry)
-    (book : IsBook b old) (logged : AreLogged (more ++ old)) (group : t.group ≡ b.table.group)
+module _ (b : DatabaseState) (t : TableState) (row : List Bool) (old : List Entry) (more : List Entry)
+    (database : IsDatabase b old) (logged : AreLogged (more ++ old)) (group : t.group ≡ b.table.group)
     (rows : t.rows ≡ b.table.rows ++ row ∷ []) (table : IsFullTable b.file t (more ++ old))
     (each : EachOf (IsRowEntry b.file b.table.group) more old) where
-  abbrev after : BookState
+  abbrev after : DatabaseState
   after = record b { table = t }
 
   file_frame : (j : ℕ) → 1 ≤ j → j ≤ length b.file.matrix → frame_of (frames_of b) j ≡ 0
@@ -144,7 +144,7 @@ module _ (b : BookState) (t : TableState) (row : List Bool) (old : List Entry) (
       ∙ get_or-replicate (length b.file.matrix) (j - 1) 0 0 (omega (arith, low, high))
 
   row_entry : (earlier : List Entry) (e : Entry) → IsRowEntry b.file b.table.group earlier e →
-      IsBookEntry after earlier e
+      IsDatabaseEntry after earlier e
   row_entry earlier (Named v n) h = tt
   row_entry earlier (Given (Instance k j) c) h =
       let inside = numbered_low b.file.matrix j h.matches_origin.rest_is.clause h.matches_origin.rest_is.clause_is in
@@ -166,8 +166,8 @@ module _ (b : BookState) (t : TableState) (row : List Bool) (old : List Entry) (
   row_entry earlier (Round r values j) h = tt
   row_entry earlier (Begun live) h = tt
 
-  givens : Each (IsBookEntry after) (more ++ old)
-  givens = each_grown (IsRowEntry b.file b.table.group) (IsBookEntry after) row_entry more old each
+  givens : Each (IsDatabaseEntry after) (more ++ old)
+  givens = each_grown (IsRowEntry b.file b.table.group) (IsDatabaseEntry after) row_entry more old each
       (entries_same b t b.added b.frames b.given b.groups b.open_frames b.live
       (record {
         table_group = group;
@@ -175,15 +175,15 @@ module _ (b : BookState) (t : TableState) (row : List Bool) (old : List Entry) (
         same_frames = λ j c is. refl;
         more_given = λ place c is. omega arith;
         kept_groups = λ frame g has. has;
-      }) (λ frame g has. has) old book.givens)
+      }) (λ frame g has. has) old database.givens)
 
   instances_stay : HasDoneInstances after (part instances (more ++ old))
   instances_stay k place r c r_is c_is less open_row =
-      let within = book.done place in
+      let within = database.done place in
       let there : slice_get (b.table.rows ++ row ∷ []) k ≡ Some r = subst (λ rs. slice_get rs k ≡ Some r) rows r_is in
       let before : slice_get b.table.rows k ≡ Some r =
       left_of b.table.rows (row ∷ []) k r (omega (arith, less, within)) there in
-      let x = book.instances k place r c before c_is less open_row in
+      let x = database.instances k place r c before c_is less open_row in
       let keeps = row_keeps b.file b.table.group more old each logged in
       let own : List Entry = part instances (more ++ old) in
       let kept : HasInstance b.file (number_of x.0) b.table.rows own k (length b.file.matrix + place) r c =
@@ -198,7 +198,7 @@ module _ (b : BookState) (t : TableState) (row : List Bool) (old : List Entry) (
 
   stack : IsStack after
   stack =
-      let s = book.stack in
+      let s = database.stack in
       record {
         many_frames = s.many_frames;
         many_given = s.many_given;
@@ -213,41 +213,41 @@ module _ (b : BookState) (t : TableState) (row : List Bool) (old : List Entry) (
         last = s.last;
       }
 
-  pub row_book : IsFullBook after (more ++ old)
-  row_book =
+  pub row_database : IsFullDatabase after (more ++ old)
+  row_database =
       let keeps = row_keeps b.file b.table.group more old each logged in
       let long = ap length rows ∙ length-append b.table.rows (row ∷ []) in
       record {
-        book = record {
-          well_formed = book.well_formed;
+        database = record {
+          well_formed = database.well_formed;
           stack = stack;
           table = table.table;
           groups = record {
             made = λ frame g has. record {
-              positive = (book.groups.made frame g has).positive;
-              named = keeps.2 (number_of g) (Selector (number_of g)) (book.groups.made frame g has).named;
+              positive = (database.groups.made frame g has).positive;
+              named = keeps.2 (number_of g) (Selector (number_of g)) (database.groups.made frame g has).named;
             };
-            none_of_file = book.groups.none_of_file;
-            apart = book.groups.apart;
-            off_table = λ frame g has same. book.groups.off_table frame g has (same ∙ group);
+            none_of_file = database.groups.none_of_file;
+            apart = database.groups.apart;
+            off_table = λ frame g has same. database.groups.off_table frame g has (same ∙ group);
           };
           givens = givens;
-          done = λ place. let before = book.done place in omega (arith, before, long);
+          done = λ place. let before = database.done place in omega (arith, before, long);
           instances = instances_stay;
         };
         rows = table.rows;
       }
 
-pub row_answer : (x b : BookState) → x ≡ b → (t : TableState) (row : List Bool) (old new : ProofLog) →
-    IsBook b old.entries → AreLogged new.entries → t.group ≡ x.table.group → Grew (IsRowEntry x.file x.table.group) old new
+pub row_answer : (x b : DatabaseState) → x ≡ b → (t : TableState) (row : List Bool) (old new : ProofLog) →
+    IsDatabase b old.entries → AreLogged new.entries → t.group ≡ x.table.group → Grew (IsRowEntry x.file x.table.group) old new
     → IsFullTable x.file t new.entries → t.rows ≡ x.table.rows ++ row ∷ []
-    → IsFullBook (record x { table = t }) new.entries
-row_answer x b view t row old new book logged group added table rows =
-    let g = subst (λ (y : BookState). Grew (IsRowEntry y.file y.table.group) old new) view added in
-    let here = subst (λ (y : BookState). IsFullTable y.file t new.entries) view table in
-    subst (λ (y : BookState). IsFullBook (record y { table = t }) new.entries) (sym view)
-    (subst (IsFullBook (record b { table = t })) (sym g.grown)
-    (row_book b t row old.entries g.more book (subst AreLogged g.grown logged)
-    (group ∙ ap (λ (y : BookState). y.table.group) view)
-    (rows ∙ ap (λ (y : BookState). y.table.rows ++ row ∷ []) view)
+    → IsFullDatabase (record x { table = t }) new.entries
+row_answer x b view t row old new database logged group added table rows =
+    let g = subst (λ (y : DatabaseState). Grew (IsRowEntry y.file y.table.group) old new) view added in
+    let here = subst (λ (y : DatabaseState). IsFullTable y.file t new.entries) view table in
+    subst (λ (y : DatabaseState). IsFullDatabase (record y { table = t }) new.entries) (sym view)
+    (subst (IsFullDatabase (record b { table = t })) (sym g.grown)
+    (row_database b t row old.entries g.more database (subst AreLogged g.grown logged)
+    (group ∙ ap (λ (y : DatabaseState). y.table.group) view)
+    (rows ∙ ap (λ (y : DatabaseState). y.table.rows ++ row ∷ []) view)
     (subst (IsFullTable b.file t) g.grown here) g.each))

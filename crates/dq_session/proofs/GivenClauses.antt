@@ -27,12 +27,12 @@ use Rattle.expansion.specs.Table.{HasInstance, IsTable}
 use Rattle.expansion.proofs.GivenInstances.{rounds_are_rows}
 use Rattle.expansion.proofs.InstanceModels.{own_name}
 use Rattle.expansion.proofs.TableGrowth.{KeepsNames, KeepsEntries, more_keeps, instance_kept}
-use Rattle.dq_session.specs.Books.{BookState, all_of, number_at, frame_at, given_at, HasGroup, number_of, IsStack, IsFrameInstance, IsBookEntry, AreFrameGroups, HasDoneInstances, IsBook, IsFullBook}
+use Rattle.dq_session.specs.Databases.{DatabaseState, all_of, number_at, frame_at, given_at, HasGroup, number_of, IsStack, IsFrameInstance, IsDatabaseEntry, AreFrameGroups, HasDoneInstances, IsDatabase, IsFullDatabase}
 use Rattle.dq_session.specs.Changes.{groups_of, IsCaughtUp}
 use Rattle.dq_session.specs.Giving.{IsGiving}
-use Rattle.dq_session.proofs.GrownBooks.{entries_same}
+use Rattle.dq_session.proofs.GrownDatabases.{entries_same}
 use Rattle.dq_session.proofs.LiveRefutations.{frame_of_added}
-use Rattle.dq_session.proofs.StandingBooks.{has_number}
+use Rattle.dq_session.proofs.PreservedDatabases.{has_number}
 use Rattle.list_laws.proofs.Members.{contains_cases}
 
 -- the row of a round, by its number
@@ -71,18 +71,18 @@ right_there (x ∷ xs) ys p c is =
     let same : length (x ∷ xs) + p ≡ suc (length xs + p) = omega arith in
     ap (slice_get (x ∷ xs ++ ys)) same ∙ right_there xs ys p c is
 
-module _ (b : BookState) (place k : ℕ) (g : Group) (row : List Bool) (clause : List Literal) (es : List Entry)
-    (book : IsBook b es) (below : place < length b.added) (next : k ≡ given_at b place + 1)
+module _ (b : DatabaseState) (place k : ℕ) (g : Group) (row : List Bool) (clause : List Literal) (es : List Entry)
+    (database : IsDatabase b es) (below : place < length b.added) (next : k ≡ given_at b place + 1)
     (last : k ≤ length b.table.rows) (has : HasGroup b (frame_at b place) g)
     (row_is : slice_get b.table.rows (k - 1) ≡ Some row) (clause_is : slice_get b.added place ≡ Some clause) where
-  abbrev after : BookState
+  abbrev after : DatabaseState
   after = record b { given = set b.given place k }
 
   abbrev mine : List Entry
   mine = part instances es
 
   given_here : given_at after place ≡ k
-  given_here = let many = book.stack.many_given in get_or-set_same b.given place k 0 (omega (arith, below, many))
+  given_here = let many = database.stack.many_given in get_or-set_same b.given place k 0 (omega (arith, below, many))
 
   given_cases : (p : ℕ) → ((p ≡ place) × (given_at after p ≡ k)) ⊎ (given_at after p ≡ given_at b p)
   given_cases p = by (p == place) refl
@@ -100,7 +100,7 @@ module _ (b : BookState) (place k : ℕ) (g : Group) (row : List Bool) (clause :
 
   stack : IsStack after
   stack =
-      let s = book.stack in
+      let s = database.stack in
       record {
         many_frames = s.many_frames;
         many_given = length-set b.given place k ∙ s.many_given;
@@ -115,7 +115,7 @@ module _ (b : BookState) (place k : ℕ) (g : Group) (row : List Bool) (clause :
         last = s.last;
       }
 
-  givens : Each (IsBookEntry after) es
+  givens : Each (IsDatabaseEntry after) es
   givens = entries_same b b.table b.added b.frames after.given b.groups b.open_frames b.live
       (record {
         table_group = refl;
@@ -123,7 +123,7 @@ module _ (b : BookState) (place k : ℕ) (g : Group) (row : List Bool) (clause :
         same_frames = λ j c is. refl;
         more_given = λ p c is. more_given p;
         kept_groups = λ F h there. there;
-      }) (λ F h there. there) es book.givens
+      }) (λ F h there. there) es database.givens
 
   done : (p : ℕ) → given_at after p ≤ length b.table.rows
   done p = by (given_cases p)
@@ -131,7 +131,7 @@ module _ (b : BookState) (place k : ℕ) (g : Group) (row : List Bool) (clause :
       by : ((p ≡ place) × (given_at after p ≡ k)) ⊎ (given_at after p ≡ given_at b p) →
           given_at after p ≤ length b.table.rows
       by (inl (same, is)) = omega (arith, is, last)
-      by (inr is) = let before = book.done p in omega (arith, is, before)
+      by (inr is) = let before = database.done p in omega (arith, is, before)
 
   abbrev Instances : List Entry → ℕ → ℕ → List Bool → List Literal → Type 0
   Instances own i p r c =
@@ -146,7 +146,7 @@ module _ (b : BookState) (place k : ℕ) (g : Group) (row : List Bool) (clause :
     where
       old : i < given_at b p → Instances own i p r c
       old before =
-          let there = book.instances i p r c r_is c_is before open_row in (
+          let there = database.instances i p r c r_is c_is before open_row in (
             there.0,
             there.1,
             instance_kept b.file (number_of there.0) b.table.rows mine own names entries i
@@ -177,21 +177,21 @@ module _ (b : BookState) (place k : ℕ) (g : Group) (row : List Bool) (clause :
 
   groups_stand : (more : List Entry) → ((h : Group) → IsMade es h → IsMade more h) → AreFrameGroups after more
   groups_stand more stays = record {
-    made = λ F h there. stays h (book.groups.made F h there);
-    none_of_file = book.groups.none_of_file;
-    apart = book.groups.apart;
-    off_table = book.groups.off_table;
+    made = λ F h there. stays h (database.groups.made F h there);
+    none_of_file = database.groups.none_of_file;
+    apart = database.groups.apart;
+    off_table = database.groups.off_table;
   }
 
   caught_up : IsCaughtUp b after
   caught_up = record { same = refl; more = more_given; many_groups = refl; made = λ F h there. there }
 
   -- a universal makes the clause true
-  passed_book : list_any (universal_literal_true b.file row) clause ≡ true → IsBook after es
-  passed_book passed = record {
-    well_formed = book.well_formed;
+  passed_database : list_any (universal_literal_true b.file row) clause ≡ true → IsDatabase after es
+  passed_database passed = record {
+    well_formed = database.well_formed;
     stack = stack;
-    table = book.table;
+    table = database.table;
     groups = groups_stand es (λ h made. made);
     givens = givens;
     done = done;
@@ -221,7 +221,7 @@ module _ (b : BookState) (place k : ℕ) (g : Group) (row : List Bool) (clause :
           group = number_of g;
           rest = rest;
           clause_is = refl;
-          is_group = (book.groups.made (frame_at b place) g has).named;
+          is_group = (database.groups.made (frame_at b place) g has).named;
           rest_is = record {
             row = row;
             clause = clause;
@@ -248,39 +248,39 @@ module _ (b : BookState) (place k : ℕ) (g : Group) (row : List Bool) (clause :
 
     not_yet : (d : List Literal) → Contains es (Given (Instance k (number_at b place)) d) → ⊥
     not_yet d there =
-        let entry = each_one (IsBookEntry b) es (Given (Instance k (number_at b place)) d) book.givens there in
+        let entry = each_one (IsDatabaseEntry b) es (Given (Instance k (number_at b place)) d) database.givens there in
         let before = entry.1.done place refl in
         omega (arith, before, next)
 
     table : IsTable b.file b.table (e ∷ es)
     table = record {
-      group = book.table.group;
-      existentials = book.table.existentials;
+      group = database.table.group;
+      existentials = database.table.existentials;
       own_group = (
-        λ inside. absurd (book.groups.off_table (frame_at b place) g has
+        λ inside. absurd (database.groups.off_table (frame_at b place) g has
             (in_one_group (number_of g) b.table.group c (rest, refl) inside)),
-        book.table.own_group,
+        database.table.own_group,
       );
       own = record {
-        whole = book.table.own.whole;
-        pairs_long = book.table.own.pairs_long;
-        names = book.table.own.names;
+        whole = database.table.own.whole;
+        pairs_long = database.table.own.pairs_long;
+        names = database.table.own.names;
         given = λ i j d there. by i j d (contains_cases e (Given (Instance i j) d) mine there);
-        arbiters = book.table.own.arbiters;
+        arbiters = database.table.own.arbiters;
         complete = λ i j r d r_is d_is open_row. instance_kept b.file b.table.group b.table.rows mine (e ∷ mine)
-            (λ v n is. is) (more_keeps mine e) i j r d (book.table.own.complete i j r d r_is d_is open_row);
+            (λ v n is. is) (more_keeps mine e) i j r d (database.table.own.complete i j r d r_is d_is open_row);
       };
-      first_rows = book.table.first_rows;
+      first_rows = database.table.first_rows;
     }
       where
         by : (i j : ℕ) (d : List Literal) → (e ≡ Given (Instance i j) d) ⊎ Contains mine (Given (Instance i j) d) →
             i ≤ length b.table.rows
         by i j d (inl is) = let number : k ≡ i = cc in omega (arith, number, last)
-        by i j d (inr behind) = book.table.own.given i j d behind
+        by i j d (inr behind) = database.table.own.given i j d behind
 
-    given_book : IsBook after (e ∷ es)
-    given_book = record {
-      well_formed = book.well_formed;
+    given_database : IsDatabase after (e ∷ es)
+    given_database = record {
+      well_formed = database.well_formed;
       stack = stack;
       table = table;
       groups = groups_stand (e ∷ es) (λ h made. record { positive = made.positive; named = made.named });
@@ -294,14 +294,14 @@ module _ (b : BookState) (place k : ℕ) (g : Group) (row : List Bool) (clause :
       });
     }
 
-abbrev with_given : BookState → ℕ → ℕ → BookState
+abbrev with_given : DatabaseState → ℕ → ℕ → DatabaseState
 with_given b place k = record b { given = set b.given place k }
 
-abbrev Added : BookState → ProofLog → Bool → List Entry → Entry → Type 0
+abbrev Added : DatabaseState → ProofLog → Bool → List Entry → Entry → Type 0
 Added b log silent = IsAddedLive (all_of b) instances (groups_of b) silent log.entries
 
-pub given_under : (b : BookState) (place k : ℕ) (g : Group) (row : List Bool) (clause : List Literal)
-    (log new : ProofLog) → IsFullBook b log.entries → AreLogged log.entries
+pub given_under : (b : DatabaseState) (place k : ℕ) (g : Group) (row : List Bool) (clause : List Literal)
+    (log new : ProofLog) → IsFullDatabase b log.entries → AreLogged log.entries
     → length (fault_groups log.entries) ≤ fault_room log.entries
     → place < length b.added → k ≡ given_at b place + 1 → k ≤ length b.table.rows → HasGroup b (frame_at b place) g
     → slice_get b.table.rows (k - 1) ≡ Some row → slice_get b.added place ≡ Some clause
@@ -312,12 +312,12 @@ given_under b place k g row clause log new full logged few below next last has r
   where
     by : (t : Bool) → list_any (universal_literal_true b.file row) clause ≡ t → IsGiving b log (with_given b place k) new
     by true passed = subst (IsGiving b log (with_given b place k)) (sym (given.passed passed)) (record {
-      caught_up = caught_up b place k g row clause log.entries full.book below next last has row_is clause_is;
+      caught_up = caught_up b place k g row clause log.entries full.database below next last has row_is clause_is;
       grew = λ silent. grown_by_none (Added b log silent) log log refl;
       new_groups = λ F h there. inl there;
       names = λ v none. none;
-      book = record {
-        book = passed_book b place k g row clause log.entries full.book below next last has row_is clause_is passed;
+      database = record {
+        database = passed_database b place k g row clause log.entries full.database below next last has row_is clause_is passed;
         rows = full.rows;
       };
       few = few;
@@ -326,22 +326,22 @@ given_under b place k g row clause log new full logged few below next last has r
         let a = given.given live in
         let entry : Entry = Given (Instance k (number_at b place)) (negative (number_of g) ∷ a.rest) in
         subst (IsGiving b log (with_given b place k)) (sym a.added) (record {
-          caught_up = caught_up b place k g row clause log.entries full.book below next last has row_is clause_is;
+          caught_up = caught_up b place k g row clause log.entries full.database below next last has row_is clause_is;
           grew = λ silent. grown_by (Added b log silent) log (with_entry log entry) entry refl (record {
             own = refl;
             in_group = (number_of g, (a.rest, refl), inl (has_number b (frame_at b place) g has));
-            matches_origin = right b place k g row clause log.entries full.book below next last has row_is clause_is
+            matches_origin = right b place k g row clause log.entries full.database below next last has row_is clause_is
                 logged full.rows a.rest a.named live;
             not_repeated = record {
-              first = λ h d there. not_yet b place k g row clause log.entries full.book below next last has row_is
+              first = λ h d there. not_yet b place k g row clause log.entries full.database below next last has row_is
                   clause_is logged full.rows a.rest a.named live d there;
               groups = few;
             };
           });
           new_groups = λ F h there. inl there;
           names = λ v none. none;
-          book = record {
-            book = given_book b place k g row clause log.entries full.book below next last has row_is clause_is logged
+          database = record {
+            database = given_database b place k g row clause log.entries full.database below next last has row_is clause_is logged
                 full.rows a.rest a.named live;
             rows = full.rows;
           };
@@ -349,21 +349,21 @@ given_under b place k g row clause log new full logged few below next last has r
         })
 
 -- the group that is read off the frames' groups
-pub group_at : (b : BookState) (es : List Entry) → IsBook b es → (place : ℕ) → place < length b.added
+pub group_at : (b : DatabaseState) (es : List Entry) → IsDatabase b es → (place : ℕ) → place < length b.added
     → (groups : List (Option Group)) (frames : List ℕ) → groups ≡ b.groups → frames ≡ b.frames
     → (frame : ℕ) → frame ≡ get_or frames place frame → (o : Option Group) → o ≡ get_or groups frame o
     → (g : Group) → o ≡ Some g → HasGroup b (frame_at b place) g
-group_at b es book place below groups frames groups_are frames_are frame frame_is o o_is g is =
-    let many = book.stack.many_frames in
-    let within = (book.stack.numbered place below).1 in
+group_at b es database place below groups frames groups_are frames_are frame frame_is o o_is g is =
+    let many = database.stack.many_frames in
+    let within = (database.stack.numbered place below).1 in
     let here : frame ≡ frame_at b place = frame_is ∙ ap (λ fs. get_or fs place frame) frames_are
     ∙ get_or_default b.frames place frame 0 (omega (arith, below, many)) in
     let there : o ≡ get_or b.groups (frame_at b place) o =
     o_is ∙ ap (λ gs. get_or gs frame o) groups_are ∙ ap (λ i. get_or b.groups i o) here in
     slice_get-get_or b.groups (frame_at b place) o within ∙ ap Some (sym there ∙ is)
 
-pub give_answer : (x b : BookState) → x ≡ b → (place k many : ℕ) (g : Group) (lits : List Literal) (log new : ProofLog)
-    → IsFullBook b log.entries → AreLogged log.entries
+pub give_answer : (x b : DatabaseState) → x ≡ b → (place k many : ℕ) (g : Group) (lits : List Literal) (log new : ProofLog)
+    → IsFullDatabase b log.entries → AreLogged log.entries
     → length (fault_groups log.entries) ≤ fault_room log.entries
     → place < length b.added → k ≡ given_at b place + 1 → k ≤ length b.table.rows → HasGroup b (frame_at b place) g
     → many ≡ length x.file.matrix → lits ≡ get_or x.added place []
@@ -375,12 +375,12 @@ give_answer x b view place k many g lits log new full logged few below next last
     let row_is : slice_get b.table.rows (k - 1) ≡ Some row =
     slice_get-get_or b.table.rows (k - 1) [] (omega (arith, next, last)) in
     let clause = get_or b.added place [] in
-    let by_view = subst (λ (y : BookState). (r : List Bool) → slice_get y.table.rows (k - 1) ≡ Some r →
+    let by_view = subst (λ (y : DatabaseState). (r : List Bool) → slice_get y.table.rows (k - 1) ≡ Some r →
     IsGivenInstance y.file (number_of g) y.table.rows r k (many + place + 1) lits log new) view given in
     let here = subst (λ m. IsGivenInstance b.file (number_of g) b.table.rows row k (m + place + 1) lits log new)
-    (many_is ∙ ap (λ (y : BookState). length y.file.matrix) view) (by_view row row_is) in
+    (many_is ∙ ap (λ (y : DatabaseState). length y.file.matrix) view) (by_view row row_is) in
     let there = subst (λ ls. IsGivenInstance b.file (number_of g) b.table.rows row k (number_at b place) ls log new)
-    (lits_are ∙ ap (λ (y : BookState). get_or y.added place []) view) here in
-    subst (λ (y : BookState). IsGiving b log (record y { given = set y.given place k }) new) (sym view)
+    (lits_are ∙ ap (λ (y : DatabaseState). get_or y.added place []) view) here in
+    subst (λ (y : DatabaseState). IsGiving b log (record y { given = set y.given place k }) new) (sym view)
     (given_under b place k g row clause log new full logged few below next last has row_is
     (slice_get-get_or b.added place [] below) there)

@@ -1,16 +1,16 @@
-mod GrownBooks
-pub mod StandingBooks
+mod GrownDatabases
+pub mod PreservedDatabases
 pub mod Stacks
-mod ChangedBooks
+mod ChangedDatabases
 pub mod AddedClauses
 mod LiveModels
 mod LiveRefutations
 pub mod GroupedFrames
 mod MadeGroups
 mod GivenClauses
-pub mod BooksGiving
+pub mod DatabasesGiving
 pub mod FreshGroups
-mod BegunBooks
+mod BegunDatabases
 mod AddedRows
 pub mod LivePlaces
 mod Searches

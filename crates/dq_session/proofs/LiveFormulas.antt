@@ -10,13 +10,13 @@ use Rattle.dq_lits.specs.Formula.{declared}
 use Rattle.hint_log.specs.Entries.{Entry}
 use Rattle.hint_log.specs.Naming.{numbered_from_one}
 use Rattle.log_laws.proofs.Found.{numbered_among}
-use Rattle.dq_session.specs.Books.{BookState, all_of, number_at, frame_at, IsOpen, IsBook}
+use Rattle.dq_session.specs.Databases.{DatabaseState, all_of, number_at, frame_at, IsOpen, IsDatabase}
 use Rattle.dq_session.specs.declared.live.Live.{Live}
 use Rattle.dq_session.proofs.LivePlaces.{number_above}
 use Rattle.dq_session.proofs.Searches.{taken_more}
 
 -- the clauses of the first so many live ones
-abbrev pub first_clauses : BookState → ℕ → List (List Literal)
+abbrev pub first_clauses : DatabaseState → ℕ → List (List Literal)
 first_clauses b i = filter_map (λ (l : Live). numbered_from_one (all_of b).matrix l.clause) (take i b.live)
 
 numbered_there : (m : List (List Literal)) (j : ℕ) → 1 ≤ j → j ≤ length m →
@@ -41,11 +41,11 @@ few_pass {Y = Y} h (x ∷ xs) (suc i) = by (h x) (few_pass h xs i)
     by (Some y) few = omega (arith, few)
 
 -- a live clause is one of those that were numbered
-pub live_within : (b : BookState) (es : List Entry) → IsBook b es → (i : ℕ) (l : Live) → slice_get b.live i ≡ Some l →
+pub live_within : (b : DatabaseState) (es : List Entry) → IsDatabase b es → (i : ℕ) (l : Live) → slice_get b.live i ≡ Some l →
     (i < l.clause) × (l.clause ≤ length (all_of b).matrix)
-live_within b es book i l is =
-    let up = number_above b book.stack i l is in
-    (omega (arith, up), by (book.stack.frames l (element_at b.live i l is)))
+live_within b es database i l is =
+    let up = number_above b database.stack i l is in
+    (omega (arith, up), by (database.stack.frames l (element_at b.live i l is)))
   where
     by : ((1 ≤ l.clause) × (l.clause ≤ length b.file.matrix) × (l.frame ≡ 0))
         ⊎ ((place : ℕ) × (l.clause ≡ number_at b place) × (place < length b.added)
@@ -54,34 +54,34 @@ live_within b es book i l is =
     by (inr (place, number, below, frame, is_open)) =
         let long = length-append b.file.matrix b.added in omega (arith, number, below, long)
 
-pub one_more : (b : BookState) (es : List Entry) → IsBook b es → (i : ℕ) (l : Live) → slice_get b.live i ≡ Some l
+pub one_more : (b : DatabaseState) (es : List Entry) → IsDatabase b es → (i : ℕ) (l : Live) → slice_get b.live i ≡ Some l
     → (lits : List Literal) → lits ≡ get_or (all_of b).matrix (l.clause - 1) []
     → first_clauses b (i + 1) ≡ first_clauses b i ++ lits ∷ []
-one_more b es book i l is lits lits_are =
-    let within = live_within b es book i l is in
+one_more b es database i l is lits lits_are =
+    let within = live_within b es database i l is in
     let low = within.0 in
     let m = (all_of b).matrix in
     taken_more (λ (x : Live). numbered_from_one m x.clause) b.live i l is
     ∙ ap (λ o. first_clauses b i ++ cons_option o [])
     (numbered_there m l.clause (omega (arith, low)) within.1 ∙ ap Some (sym lits_are))
 
-pub few_so_far : (b : BookState) (i : ℕ) → length (first_clauses b i) ≤ i
+pub few_so_far : (b : DatabaseState) (i : ℕ) → length (first_clauses b i) ≤ i
 few_so_far b i = few_pass (λ (l : Live). numbered_from_one (all_of b).matrix l.clause) b.live i
 
-pub all_clauses : (b : BookState) → filter_map (λ (l : Live). numbered_from_one (all_of b).matrix l.clause) b.live
+pub all_clauses : (b : DatabaseState) → filter_map (λ (l : Live). numbered_from_one (all_of b).matrix l.clause) b.live
     ≡ filter_map (numbered_from_one (all_of b).matrix) (map (λ (l : Live). l.clause) b.live)
 all_clauses b = by_number (numbered_from_one (all_of b).matrix) b.live
 
 -- its literals are on declared variables
-pub clause_bound : (b : BookState) (es : List Entry) → IsBook b es → (i : ℕ) (l : Live) → slice_get b.live i ≡ Some l
+pub clause_bound : (b : DatabaseState) (es : List Entry) → IsDatabase b es → (i : ℕ) (l : Live) → slice_get b.live i ≡ Some l
     → (lits : List Literal) → lits ≡ get_or (all_of b).matrix (l.clause - 1) []
     → All (λ x. variable_of x ≤ b.file.variables) lits
-clause_bound b es book i l is lits lits_are k d below =
-    let within = live_within b es book i l is in
+clause_bound b es database i l is lits lits_are k d below =
+    let within = live_within b es database i l is in
     let low = within.0 in
     let m = (all_of b).matrix in
     let there = numbered_there m l.clause (omega (arith, low)) within.1 ∙ ap Some (sym lits_are) in
-    let bound = All-contains (All (λ x. Contains (declared b.file) (variable_of x))) m lits book.well_formed.bound
+    let bound = All-contains (All (λ x. Contains (declared b.file) (variable_of x))) m lits database.well_formed.bound
     (numbered_among m l.clause lits there) in
     (All-contains (λ v. (1 ≤ v) × (v ≤ b.file.variables)) (declared b.file) (variable_of (get_or lits k d))
-    book.well_formed.prefix.in_range (bound k d below)).1
+    database.well_formed.prefix.in_range (bound k d below)).1

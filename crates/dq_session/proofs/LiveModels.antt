@@ -25,12 +25,12 @@ use Rattle.expansion.specs.Table.{HasInstance, ArePoints}
 use Rattle.expansion.proofs.InstanceModels.{own_entry, pair_values}
 use Rattle.expansion.proofs.FoundPoints.{by_names, row_bits}
 use Rattle.expansion.proofs.TableAnswers.{found_rows}
-use Rattle.dq_session.specs.Books.{BookState, all_of, live_of, now_of, number_at, frame_at, HasGroup, number_of, IsOpen, IsBook}
+use Rattle.dq_session.specs.Databases.{DatabaseState, all_of, live_of, now_of, number_at, frame_at, HasGroup, number_of, IsOpen, IsDatabase}
 use Rattle.dq_session.specs.Changes.{open_groups}
 use Rattle.dq_session.specs.Giving.{IsWhole}
-use Rattle.dq_session.specs.Searching.{SearchesLeaveBooks, FoundPointsAreLive}
+use Rattle.dq_session.specs.Searching.{SearchesLeaveDatabases, FoundPointsAreLive}
 use Rattle.dq_session.specs.declared.live.Live.{Live}
-use Rattle.dq_session.proofs.StandingBooks.{IsForeign, books_stand}
+use Rattle.dq_session.proofs.PreservedDatabases.{IsForeign, databases_stand}
 use Rattle.dq_session.proofs.Stacks.{live_at}
 use Rattle.log_laws.proofs.Kept.{given_id}
 
@@ -58,7 +58,7 @@ added_clause : (xs ys : List (List Literal)) (j p : ℕ) (c : List Literal) → 
 added_clause xs ys zero p c is same = cc
 added_clause xs ys (suc i) p c is same = right_of xs ys i p c (omega (arith, same)) is
 
-module _ (b : BookState) (es : List Entry) (book : IsBook b es) (whole : IsWhole b) (logged : AreLogged es)
+module _ (b : DatabaseState) (es : List Entry) (database : IsDatabase b es) (whole : IsWhole b) (logged : AreLogged es)
     (values : Assignment) (clauses : MakesTrue values (clause_at es)) (table_on : values b.table.group ≡ true)
     (frames_on : (frame : ℕ) (g : Group) → IsOpen b frame → HasGroup b frame g → values (number_of g) ≡ true) where
   abbrev now : Dqbf
@@ -76,15 +76,15 @@ module _ (b : BookState) (es : List Entry) (book : IsBook b es) (whole : IsWhole
   formula : IsWellFormed now
   formula = record {
     prefix = record {
-      in_range = book.well_formed.prefix.in_range;
-      declared_once = book.well_formed.prefix.declared_once;
-      sees_universals = book.well_formed.prefix.sees_universals;
+      in_range = database.well_formed.prefix.in_range;
+      declared_once = database.well_formed.prefix.declared_once;
+      sees_universals = database.well_formed.prefix.sees_universals;
     };
     bound = λ k d below.
         let c = slice_index_or now.matrix k d in
         let p = filter_map-from (numbered_from_one (all_of b).matrix) (live_of b) c
         (k, below, get_or_default now.matrix k c d below) in
-        All-contains (All (λ l. Contains (declared b.file) (variable_of l))) (all_of b).matrix c book.well_formed.bound
+        All-contains (All (λ l. Contains (declared b.file) (variable_of l))) (all_of b).matrix c database.well_formed.bound
         (numbered_among (all_of b).matrix p.0 c p.2);
   }
 
@@ -103,7 +103,7 @@ module _ (b : BookState) (es : List Entry) (book : IsBook b es) (whole : IsWhole
   live_true k row clause row_is has open_row =
       let p = filter_map-from (numbered_from_one (all_of b).matrix) (live_of b) clause has in
       let at = live_at b.live p.0 p.1 in
-      by p.0 at.1 p.1 p.2 at.3 (book.stack.frames at.1 (element_at b.live at.0 at.1 at.2))
+      by p.0 at.1 p.1 p.2 at.3 (database.stack.frames at.1 (element_at b.live at.0 at.1 at.2))
     where
       by : (j : ℕ) (l : Live) → Contains (live_of b) j → numbered_from_one (all_of b).matrix j ≡ Some clause →
           l.clause ≡ j → ((1 ≤ l.clause) × (l.clause ≤ length b.file.matrix) × (l.frame ≡ 0))
@@ -111,13 +111,13 @@ module _ (b : BookState) (es : List Entry) (book : IsBook b es) (whole : IsWhole
           × (l.frame ≡ frame_at b place) × IsOpen b l.frame)
           → clause_true model (filter_map (pair_literal now rows row) clause) ≡ true
       by j l live at is (inl (one, few, zero_is)) =
-          instance_true b.table.group k (j - 1) row clause (book.table.own.complete k (j - 1) row clause row_is
+          instance_true b.table.group k (j - 1) row clause (database.table.own.complete k (j - 1) row clause row_is
           (file_clause b.file.matrix b.added j clause at (omega (arith, few, is))) open_row) table_on
       by j l live at is (inr (place, number, below, frame, is_open)) =
           let same : j ≡ number_at b place = sym is ∙ number in
           let done = whole place below (subst (Contains (live_of b)) same live) in
           let inside = slice_get_within rows k row row_is in
-          let r = book.instances k place row clause row_is (added_clause b.file.matrix b.added j place clause at same)
+          let r = database.instances k place row clause row_is (added_clause b.file.matrix b.added j place clause at same)
           (omega (arith, done, inside)) open_row in
           instance_true (number_of r.0) k (length b.file.matrix + place) row clause r.2
           (frames_on (frame_at b place) r.0 (subst (IsOpen b) frame is_open) r.1)
@@ -147,7 +147,7 @@ module _ (b : BookState) (es : List Entry) (book : IsBook b es) (whole : IsWhole
       no_pairs : (k : ℕ) (row : List Bool) → slice_get rows k ≡ Some row → slice_get b.table.pairs k ≡ None → ⊥
       no_pairs k row row_is none =
           let below = slice_get_within rows k row row_is in
-          let long = book.table.own.pairs_long in
+          let long = database.table.own.pairs_long in
           let there = slice_get-get_or b.table.pairs k [] (omega (arith, below, long)) in cc
 
       at : (k : ℕ) (row : List Bool) → slice_get rows k ≡ Some row → (o : Option (List ℕ)) →
@@ -164,29 +164,29 @@ module _ (b : BookState) (es : List Entry) (book : IsBook b es) (whole : IsWhole
           let is : slice_index_or bits (k + 1 - 1) [] ≡ map values vs =
           ap (λ n. slice_index_or bits n []) back ∙ get_or_from_slice_get bits k (map values vs) [] here in
           rw is (row_bits now formula es logged rows values row variables vs
-          (variables_are ∙ book.table.existentials) (book.table.own.arbiters k row vs row_is pairs_are))
+          (variables_are ∙ database.table.existentials) (database.table.own.arbiters k row vs row_is pairs_are))
 
-pub open_group : (b : BookState) (frame : ℕ) (g : Group) → IsOpen b frame → HasGroup b frame g →
+pub open_group : (b : DatabaseState) (frame : ℕ) (g : Group) → IsOpen b frame → HasGroup b frame g →
     Contains (open_groups b) g
 open_group b frame g (o, has, is) group_is =
     contains-filter_map (λ x. slice_index_or b.groups x.number None) b.open_frames o g has
     (ap (λ n. slice_index_or b.groups n None) is ∙ get_or_from_slice_get b.groups frame (Some g) None group_is)
 
 pub found_live : FoundPointsAreLive
-found_live b es points book whole logged found =
+found_live b es points database whole logged found =
     let on : (l : Literal) → Contains (switches b.table (open_groups b)) l → literal_true found.values l ≡ true =
     λ l has. All-contains (λ x. literal_true found.values x ≡ true) (switches b.table (open_groups b)) l
     found.model.assumptions_true has in
-    live_points b es book whole logged found.values found.model.clauses
+    live_points b es database whole logged found.values found.model.clauses
     (on (positive b.table.group) (0, omega arith, refl))
     (λ frame g is_open has.
     let r = contains_map (λ (x : Group). x.selector) (open_groups b) g (open_group b frame g is_open has) in
     let less = r.1 in
-    positive_true found.values g.selector (book.groups.made frame g has).positive
+    positive_true found.values g.selector (database.groups.made frame g has).positive
     (on g.selector (suc r.0, omega (arith, less), r.2)))
     points.variables points.rows found.variables found.bits
 
-foreign : (b : BookState) (silent : Bool) (more old : List Entry) → EachOf (IsSearchEntry silent) more old →
+foreign : (b : DatabaseState) (silent : Bool) (more old : List Entry) → EachOf (IsSearchEntry silent) more old →
     EachOf (IsForeign b) more old
 foreign b silent [] old each = tt
 foreign b silent (Named v n ∷ more) old each = absurd each.0
@@ -196,13 +196,13 @@ foreign b silent (Answer c hs ∷ more) old each = (tt, foreign b silent more ol
 foreign b silent (Round r bits j ∷ more) old each = absurd each.0
 foreign b silent (Begun live ∷ more) old each = absurd each.0
 
-pub books_searched : SearchesLeaveBooks
-books_searched b silent old new grew =
-    let stands : IsBook b old.entries → IsBook b new.entries = λ book. subst (IsBook b) (sym grew.grown)
-    (books_stand b grew.more old.entries (foreign b silent grew.more old.entries grew.each) book) in (
+pub databases_searched : SearchesLeaveDatabases
+databases_searched b silent old new grew =
+    let stands : IsDatabase b old.entries → IsDatabase b new.entries = λ database. subst (IsDatabase b) (sym grew.grown)
+    (databases_stand b grew.more old.entries (foreign b silent grew.more old.entries grew.each) database) in (
       stands,
       (λ full. record {
-        book = stands full.book;
+        database = stands full.database;
         rows = ap rows_of grew.grown ∙ found_rows silent grew.more old.entries grew.each ∙ full.rows;
       }),
     )

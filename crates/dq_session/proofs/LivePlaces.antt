@@ -5,13 +5,13 @@ use Rattle.std.proofs.lemmas.Bool.{cases_lt}
 use Rattle.std.proofs.lemmas.Option.{slice_get-get_or, slice_get_within}
 use Rattle.list_laws.proofs.Members.{element_at}
 use Rattle.hint_log.specs.Entries.{ProofLog}
-use Rattle.dq_session.specs.Books.{BookState, number_at, frame_at, given_at, IsOpen, IsStack}
+use Rattle.dq_session.specs.Databases.{DatabaseState, number_at, frame_at, given_at, IsOpen, IsStack}
 use Rattle.dq_session.specs.Changes.{IsCaughtUp}
 use Rattle.dq_session.specs.Giving.{IsGiving, IsWhole}
 use Rattle.dq_session.specs.declared.live.Live.{Live}
 use Rattle.dq_session.proofs.Stacks.{live_at}
 
-module _ (b : BookState) (s : IsStack b) where
+module _ (b : DatabaseState) (s : IsStack b) where
   abbrev n : ℕ
   n = length b.file.matrix
 
@@ -94,32 +94,32 @@ module _ (b : BookState) (s : IsStack b) where
       by (inr (place, number, below, frame, is_open)) = (place, number, below)
 
 -- the added clauses at the first so many places of those that are live have their instances
-abbrev pub AreGivenTo : BookState → ℕ → Type 0
+abbrev pub AreGivenTo : DatabaseState → ℕ → Type 0
 AreGivenTo b at =
     (i place : ℕ) (l : Live) → i < at → slice_get b.live i ≡ Some l → l.clause ≡ number_at b place
     → given_at b place ≡ length b.table.rows
 
-pub given_to_none : (b : BookState) → IsStack b → AreGivenTo b (length b.file.matrix)
+pub given_to_none : (b : DatabaseState) → IsStack b → AreGivenTo b (length b.file.matrix)
 given_to_none b s i place l less is number =
     let past = added_behind b s i l is (omega (arith, number)) in
     absurd (omega (arith, past, less))
 
-pub given_to_more : (b c : BookState) (old new : ProofLog) (at done : ℕ) (l : Live) → IsGiving b old c new
+pub given_to_more : (b c : DatabaseState) (old new : ProofLog) (at done : ℕ) (l : Live) → IsGiving b old c new
     → slice_get b.live at ≡ Some l → l.clause ≡ number_at b done → given_at c done ≡ length c.table.rows
     → AreGivenTo b at → AreGivenTo c (at + 1)
 given_to_more b c old new at done l giving is number now before i place k less k_is k_number = by (cases_lt i at)
   where
     same_live : b.live ≡ c.live
-    same_live = sym (ap (λ (x : BookState). x.live) giving.caught_up.same)
+    same_live = sym (ap (λ (x : DatabaseState). x.live) giving.caught_up.same)
 
     there : slice_get b.live i ≡ Some k
     there = ap (λ ls. slice_get ls i) same_live ∙ k_is
 
     same_file : length c.file.matrix ≡ length b.file.matrix
-    same_file = ap (λ (x : BookState). length x.file.matrix) giving.caught_up.same
+    same_file = ap (λ (x : DatabaseState). length x.file.matrix) giving.caught_up.same
 
     same_rows : length c.table.rows ≡ length b.table.rows
-    same_rows = ap (λ (x : BookState). length x.table.rows) giving.caught_up.same
+    same_rows = ap (λ (x : DatabaseState). length x.table.rows) giving.caught_up.same
 
     by : (i < at) ⊎ (at ≤ i) → given_at c place ≡ length c.table.rows
     by (inl old) =
@@ -127,7 +127,7 @@ given_to_more b c old new at done l giving is number now before i place k less k
         let rows = same_rows in
         let had = before i place k old there (omega (arith, k_number, file)) in
         let more = giving.caught_up.more place in
-        let within = giving.book.book.done place in
+        let within = giving.database.database.done place in
         omega (arith, had, more, within, rows)
     by (inr here) =
         let i_is : i ≡ at = omega (arith, here, less) in
@@ -138,20 +138,20 @@ given_to_more b c old new at done l giving is number now before i place k less k
         let place_is : place ≡ done = omega (arith, numbers, number, k_number, file) in
         ap (given_at c) place_is ∙ now
 
-pub all_given : (b : BookState) (at : ℕ) → length b.live ≤ at → AreGivenTo b at → IsWhole b
+pub all_given : (b : DatabaseState) (at : ℕ) → length b.live ≤ at → AreGivenTo b at → IsWhole b
 all_given b at past given place below has =
     let r = live_at b.live (number_at b place) has in
     let within = slice_get_within b.live r.0 r.1 r.2 in
     given r.0 place r.1 (omega (arith, within, past)) r.2 r.3
 
 -- what stands at a place behind the file's clauses
-pub added_there : (b m : BookState) → IsCaughtUp b m → IsStack m → (items : List Live) → items ≡ m.live
+pub added_there : (b m : DatabaseState) → IsCaughtUp b m → IsStack m → (items : List Live) → items ≡ m.live
     → (at many : ℕ) → many ≡ length b.file.matrix → many ≤ at → at < length b.live → (l : Live)
     → l ≡ get_or items at l → (slice_get m.live at ≡ Some l) × (place : ℕ) × (l.clause ≡ number_at m place)
     × (place < length m.added)
 added_there b m caught stack items items_are at many many_is past below l l_is =
-    let long = ap (λ (x : BookState). length x.live) caught.same in
-    let file = ap (λ (x : BookState). length x.file.matrix) caught.same in
+    let long = ap (λ (x : DatabaseState). length x.live) caught.same in
+    let file = ap (λ (x : DatabaseState). length x.file.matrix) caught.same in
     let there : slice_get m.live at ≡ Some l =
     slice_get-get_or m.live at l (omega (arith, below, long))
     ∙ ap Some (sym (l_is ∙ ap (λ xs. get_or xs at l) items_are)) in

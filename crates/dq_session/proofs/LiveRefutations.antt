@@ -28,24 +28,24 @@ use Rattle.oracle.specs.declared.groups.Group.{Group}
 use Rattle.expansion.specs.Searches.{switches}
 use Rattle.expansion.specs.Table.{IsFullTable}
 use Rattle.expansion.proofs.TableAnswers.{learned_grew, found_rows, searched, in_active, negated_selectors, by_numbers, active_named, own_instance}
-use Rattle.dq_session.specs.Books.{BookState, all_of, frames_of, live_of, now_of, number_at, frame_at, HasGroup, number_of, IsOpen, IsInFrame, IsBookEntry, IsBook, IsFullBook}
+use Rattle.dq_session.specs.Databases.{DatabaseState, all_of, frames_of, live_of, now_of, number_at, frame_at, HasGroup, number_of, IsOpen, IsInFrame, IsDatabaseEntry, IsDatabase, IsFullDatabase}
 use Rattle.dq_session.specs.Changes.{open_groups}
 use Rattle.dq_session.specs.Shown.{IsRefutedLive}
 use Rattle.dq_session.specs.Searching.{LiveAnswersRefute}
-use Rattle.dq_session.proofs.LiveModels.{books_searched}
+use Rattle.dq_session.proofs.LiveModels.{databases_searched}
 use Rattle.log_laws.proofs.Kept.{in_one_group}
 
 -- a group that is open is an open frame's
-pub group_open : (b : BookState) (es : List Entry) → IsBook b es → (g : Group) → Contains (open_groups b) g →
+pub group_open : (b : DatabaseState) (es : List Entry) → IsDatabase b es → (g : Group) → Contains (open_groups b) g →
     (frame : ℕ) × IsOpen b frame × HasGroup b frame g
-group_open b es book g has =
+group_open b es database g has =
     let p = filter_map-from (λ o. slice_index_or b.groups o.number None) b.open_frames g has in
     let at = place_of b.open_frames p.0 p.1 in
-    let known = (book.stack.known at.0 p.0 at.1).1 in
+    let known = (database.stack.known at.0 p.0 at.1).1 in
     (p.0.number, (p.0, p.1, refl), slice_get-get_or b.groups p.0.number None known ∙ ap Some p.2)
 
 -- the frame of an added clause
-pub frame_of_added : (b : BookState) (place : ℕ) → frame_of (frames_of b) (number_at b place) ≡ frame_at b place
+pub frame_of_added : (b : DatabaseState) (place : ℕ) → frame_of (frames_of b) (number_at b place) ≡ frame_at b place
 frame_of_added b place =
     let zeros : List ℕ = replicate (length b.file.matrix) 0 in
     let long = length-replicate {A = ℕ} (length b.file.matrix) 0 in
@@ -53,23 +53,23 @@ frame_of_added b place =
     ap (λ i. get_or (zeros ++ b.frames) i 0) there ∙ get_or-append-add zeros b.frames place 0
 
 -- a clause of an open frame is live
-pub live_by_frame : (b : BookState) (es : List Entry) → IsBook b es → (j : ℕ) (c : List Literal) →
+pub live_by_frame : (b : DatabaseState) (es : List Entry) → IsDatabase b es → (j : ℕ) (c : List Literal) →
     numbered_from_one (all_of b).matrix j ≡ Some c
     → IsOpen b (frame_of (frames_of b) j) ⊎ (j ≤ length b.file.matrix) → Contains (live_of b) j
-live_by_frame b es book j c at where_it_is = by (cases_lt (length b.file.matrix) j)
+live_by_frame b es database j c at where_it_is = by (cases_lt (length b.file.matrix) j)
   where
     inside : (1 ≤ j) × (j ≤ length (b.file.matrix ++ b.added))
     inside = numbered_low (b.file.matrix ++ b.added) j c at
 
     by : (length b.file.matrix < j) ⊎ (j ≤ length b.file.matrix) → Contains (live_of b) j
-    by (inr few) = book.stack.file_live j inside.0 few
+    by (inr few) = database.stack.file_live j inside.0 few
     by (inl above) =
         let place = j - length b.file.matrix - 1 in
         let high = inside.1 in
         let long = length-append b.file.matrix b.added in
         let same : number_at b place ≡ j = omega (arith, above) in
         let below : place < length b.added = omega (arith, above, high, long) in
-        subst (Contains (live_of b)) same (book.stack.open_live place below (opened place same where_it_is))
+        subst (Contains (live_of b)) same (database.stack.open_live place below (opened place same where_it_is))
       where
         opened : (place : ℕ) → number_at b place ≡ j → IsOpen b (frame_of (frames_of b) j) ⊎ (j ≤ length b.file.matrix)
             → IsOpen b (frame_at b place)
@@ -78,17 +78,17 @@ live_by_frame b es book j c at where_it_is = by (cases_lt (length b.file.matrix)
         opened place same (inr few) = absurd (omega (arith, above, few))
 
 -- an instance of a live clause, right by all
-abbrev pub IsLiveInstance : BookState → List Entry → List Literal → Origin → Type 0
+abbrev pub IsLiveInstance : DatabaseState → List Entry → List Literal → Origin → Type 0
 IsLiveInstance b earlier c (Instance k j) = IsOriginsClause (all_of b) earlier (Instance k j) c × Contains (live_of b) j
 IsLiveInstance b earlier c origin = ⊥
 
-abbrev IsActive : BookState → List Literal → Type 0
+abbrev IsActive : DatabaseState → List Literal → Type 0
 IsActive b c =
     IsInGroup b.table.group c
     ⊎ ((frame : ℕ) × (g : Group) × IsOpen b frame × HasGroup b frame g × IsInGroup (number_of g) c)
 
-module _ (b : BookState) (es : List Entry) (book : IsBook b es) (earlier : List Entry) (c : List Literal) where
-  open_frame : (k j : ℕ) → IsBookEntry b earlier (Given (Instance k j) c) → IsActive b c →
+module _ (b : DatabaseState) (es : List Entry) (database : IsDatabase b es) (earlier : List Entry) (c : List Literal) where
+  open_frame : (k j : ℕ) → IsDatabaseEntry b earlier (Given (Instance k j) c) → IsActive b c →
       (IsInGroup b.table.group c → IsInstance (Instance k j) × IsOriginsClause b.file earlier (Instance k j) c)
       → IsOpen b (frame_of (frames_of b) j) ⊎ (j ≤ length b.file.matrix)
   open_frame k j entry (inl inside) own =
@@ -98,18 +98,18 @@ module _ (b : BookState) (es : List Entry) (book : IsBook b es) (earlier : List 
       by : IsInFrame b (frame_of (frames_of b) j) c →
           IsOpen b (frame_of (frames_of b) j) ⊎ (j ≤ length b.file.matrix)
       by (inl (zero_is, of_table)) =
-          absurd (book.groups.off_table frame g has (in_one_group (number_of g) b.table.group c inside of_table))
+          absurd (database.groups.off_table frame g has (in_one_group (number_of g) b.table.group c inside of_table))
       by (inr (h, other, in_other)) =
-          let same = book.groups.apart frame (frame_of (frames_of b) j) g h has other
+          let same = database.groups.apart frame (frame_of (frames_of b) j) g h has other
           (in_one_group (number_of g) (number_of h) c inside in_other) in
           inl (subst (IsOpen b) same is_open)
 
-  live_instance : (origin : Origin) → IsBookEntry b earlier (Given origin c) → IsActive b c →
+  live_instance : (origin : Origin) → IsDatabaseEntry b earlier (Given origin c) → IsActive b c →
       (IsInGroup b.table.group c → IsInstance origin × IsOriginsClause b.file earlier origin c)
       → IsLiveInstance b earlier c origin
   live_instance (Instance k j) entry is_active own = (
     entry.right,
-    live_by_frame b es book j entry.right.rest_is.clause entry.right.rest_is.clause_is
+    live_by_frame b es database j entry.right.rest_is.clause entry.right.rest_is.clause_is
         (open_frame k j entry is_active own),
   )
   live_instance (Gate v i) entry (inl inside) own = absurd (own inside).0
@@ -125,7 +125,7 @@ module _ (b : BookState) (es : List Entry) (book : IsBook b es) (earlier : List 
   live_instance (Differ y leaf i) entry (inl inside) own = absurd (own inside).0
   live_instance (Differ y leaf i) entry (inr (frame, g, is_open, has, inside)) own = absurd (entry frame g has inside)
 
-is_instance : (b : BookState) (earlier : List Entry) (c : List Literal) (origin : Origin) →
+is_instance : (b : DatabaseState) (earlier : List Entry) (c : List Literal) (origin : Origin) →
     IsLiveInstance b earlier c origin → IsInstance origin
 is_instance b earlier c (Instance k j) h = tt
 is_instance b earlier c (Gate v i) h = absurd h
@@ -135,7 +135,7 @@ is_instance b earlier c (Link v i) h = absurd h
 is_instance b earlier c (TermGate v i) h = absurd h
 is_instance b earlier c (Differ y leaf i) h = absurd h
 
-is_right : (b : BookState) (earlier : List Entry) (c : List Literal) (origin : Origin) →
+is_right : (b : DatabaseState) (earlier : List Entry) (c : List Literal) (origin : Origin) →
     IsLiveInstance b earlier c origin → IsOriginsClause (all_of b) earlier origin c
 is_right b earlier c (Instance k j) h = h.0
 is_right b earlier c (Gate v i) h = absurd h
@@ -145,7 +145,7 @@ is_right b earlier c (Link v i) h = absurd h
 is_right b earlier c (TermGate v i) h = absurd h
 is_right b earlier c (Differ y leaf i) h = absurd h
 
-is_among : (b : BookState) (earlier : List Entry) (c : List Literal) (origin : Origin) →
+is_among : (b : DatabaseState) (earlier : List Entry) (c : List Literal) (origin : Origin) →
     IsLiveInstance b earlier c origin → IsInstanceAmong (all_of b) (now_of b).matrix origin
 is_among b earlier c (Instance k j) h = λ clause at.
     contains-filter_map (numbered_from_one (all_of b).matrix) (live_of b) j clause h.1 at
@@ -167,7 +167,7 @@ contains_map (g ∷ gs) v (suc k, below, is) =
     (r.0, (suc n, omega (arith, less), r.1.2), r.2)
 
 -- the file's clauses are well-formed alone
-pub file_formed : (b : BookState) → IsWellFormed (all_of b) → IsWellFormed b.file
+pub file_formed : (b : DatabaseState) → IsWellFormed (all_of b) → IsWellFormed b.file
 file_formed b formed = record {
   prefix = record {
     in_range = formed.prefix.in_range;
@@ -181,29 +181,29 @@ file_formed b formed = record {
       (formed.bound k d (omega (arith, below, long)));
 }
 
-pub full_table : (b : BookState) (es : List Entry) → IsFullBook b es → IsFullTable b.file b.table es
+pub full_table : (b : DatabaseState) (es : List Entry) → IsFullDatabase b es → IsFullTable b.file b.table es
 full_table b es full = record {
-  formula = file_formed b full.book.well_formed;
-  table = full.book.table;
+  formula = file_formed b full.database.well_formed;
+  table = full.database.table;
   rows = full.rows;
 }
 
-pub open_made : (b : BookState) (es : List Entry) → IsBook b es → All (IsMade es) (open_groups b)
-open_made b es book k d below =
+pub open_made : (b : DatabaseState) (es : List Entry) → IsDatabase b es → All (IsMade es) (open_groups b)
+open_made b es database k d below =
     let g = slice_index_or (open_groups b) k d in
-    let at = group_open b es book g (k, below, get_or_default (open_groups b) k g d below) in
-    book.groups.made at.0 g at.2
+    let at = group_open b es database g (k, below, get_or_default (open_groups b) k g d below) in
+    database.groups.made at.0 g at.2
 
-module _ (implied : LinesAreImplied) (b : BookState) (old new : ProofLog) (id : ℕ) (full : IsFullBook b old.entries)
+module _ (implied : LinesAreImplied) (b : DatabaseState) (old new : ProofLog) (id : ℕ) (full : IsFullDatabase b old.entries)
     (searched_new : IsSearched new.entries) (r : IsRefutedUnder old new (switches b.table (open_groups b)) id) where
-  book : IsBook b old.entries
-  book = full.book
+  database : IsDatabase b old.entries
+  database = full.database
 
   table : IsFullTable b.file b.table old.entries
   table = full_table b old.entries full
 
   made : All (IsMade old.entries) (open_groups b)
-  made = open_made b old.entries book
+  made = open_made b old.entries database
 
   abbrev gs : List ℕ
   gs = b.table.group ∷ map (λ g. variable_of g.selector) (open_groups b)
@@ -217,8 +217,8 @@ module _ (implied : LinesAreImplied) (b : BookState) (old new : ProofLog) (id : 
   named : (g : ℕ) → Contains gs g → name_of old.entries g ≡ Some (Selector g)
   named = active_named b.file b.table (open_groups b) old new id table made searched_new r
 
-  before : IsBook b es
-  before = (books_searched b false old q.before (learned_grew false old q.before q.learned)).0 book
+  before : IsDatabase b es
+  before = (databases_searched b false old q.before (learned_grew false old q.before q.learned)).0 database
 
   is_active : (origin : Origin) (c : List Literal) → ReachesGiven es q.hints origin c → IsActive b c
   is_active origin c reached =
@@ -230,14 +230,14 @@ module _ (implied : LinesAreImplied) (b : BookState) (old new : ProofLog) (id : 
       by v inside (inl here) = inl (subst (λ g. IsInGroup g c) (sym here) inside)
       by v inside (inr later) =
           let m = contains_map (open_groups b) v later in
-          let at = group_open b old.entries book m.0 m.1 in
+          let at = group_open b old.entries database m.0 m.1 in
           inr (at.0, m.0, at.1, at.2, subst (λ g. IsInGroup g c) (sym m.2) inside)
 
   at_place : (origin : Origin) (c : List Literal) → ReachesGiven es q.hints origin c → (more earlier : List Entry) →
       es ≡ more ++ Given origin c ∷ earlier → IsLiveInstance b earlier c origin
   at_place origin c reached more earlier is =
       live_instance b es before earlier c origin
-      (each_at (IsBookEntry b) more earlier (Given origin c) (subst (Each (IsBookEntry b)) is before.givens))
+      (each_at (IsDatabaseEntry b) more earlier (Given origin c) (subst (Each (IsDatabaseEntry b)) is before.givens))
       (is_active origin c reached)
       (λ inside. own_instance b.file b.table (open_groups b) old new id table made searched_new r origin c reached
       inside more earlier is)

@@ -8,10 +8,10 @@ use Rattle.hint_log.specs.declared.names.Name.TheVariants.{Selector}
 use Rattle.oracle.specs.Calls.{IsMade}
 use Rattle.oracle.specs.declared.groups.Group.{Group}
 use Rattle.dq_lits.specs.Literal.{is_negative}
-use Rattle.dq_session.specs.Books.{BookState, HasGroup, number_of, IsStack, IsBook}
+use Rattle.dq_session.specs.Databases.{DatabaseState, HasGroup, number_of, IsStack, IsDatabase}
 use Rattle.dq_session.specs.Changing.{with_group}
-use Rattle.dq_session.proofs.GrownBooks.{entries_kept}
-use Rattle.dq_session.proofs.StandingBooks.{name_more, book_stands}
+use Rattle.dq_session.proofs.GrownDatabases.{entries_kept}
+use Rattle.dq_session.proofs.PreservedDatabases.{name_more, database_stands}
 
 set_or_old : {X : Type 0} (xs : List X) (i k : ℕ) (y z : X) → slice_get (set xs i y) k ≡ Some z →
     ((k ≡ i) × (y ≡ z)) ⊎ (slice_get xs k ≡ Some z)
@@ -40,10 +40,10 @@ set_other (x ∷ xs) zero (suc k) y z apart is = is
 set_other (x ∷ xs) (suc i) zero y z apart is = is
 set_other (x ∷ xs) (suc i) (suc k) y z apart is = set_other xs i k y z (λ e. apart (ap suc e)) is
 
-module _ (b : BookState) (frame : ℕ) (g : Group) (es : List Entry) (one : 1 ≤ frame)
+module _ (b : DatabaseState) (frame : ℕ) (g : Group) (es : List Entry) (one : 1 ≤ frame)
     (free : slice_get b.groups frame ≡ Some None) (logged : AreLogged es) (plain : is_negative g.selector ≡ false)
-    (unnamed : name_of es (number_of g) ≡ None) (book : IsBook b es) where
-  abbrev after : BookState
+    (unnamed : name_of es (number_of g) ≡ None) (database : IsDatabase b es) where
+  abbrev after : DatabaseState
   after = with_group b frame g
 
   abbrev e : Entry
@@ -68,13 +68,13 @@ module _ (b : BookState) (frame : ℕ) (g : Group) (es : List Entry) (one : 1 �
 
   named_apart : (F : ℕ) (h : Group) → HasGroup b F h → number_of h ≡ number_of g → ⊥
   named_apart F h has same =
-      let there = (book.groups.made F h has).named in
+      let there = (database.groups.made F h has).named in
       let gone : name_of es (number_of h) ≡ None = ap (name_of es) same ∙ unnamed in
       cc
 
   stack : IsStack after
   stack =
-      let s = book.stack in
+      let s = database.stack in
       let same = many in
       record {
         many_frames = s.many_frames;
@@ -100,16 +100,16 @@ module _ (b : BookState) (frame : ℕ) (g : Group) (es : List Entry) (one : 1 �
             (eq-eqb (number_of g) (number_of g) refl);
       })
       by (inr old) = record {
-        positive = (book.groups.made F h old).positive;
+        positive = (database.groups.made F h old).positive;
         named = name_more es (number_of g) (Selector (number_of g)) (number_of h) (Selector (number_of h)) unnamed
-            (book.groups.made F h old).named;
+            (database.groups.made F h old).named;
       }
 
-  pub group_book : IsBook after (e ∷ es)
-  group_book =
-      let stands = book_stands b e es (unnamed, refl) book in
+  pub group_database : IsDatabase after (e ∷ es)
+  group_database =
+      let stands = database_stands b e es (unnamed, refl) database in
       record {
-        well_formed = book.well_formed;
+        well_formed = database.well_formed;
         stack = stack;
         table = stands.table;
         groups = record {
@@ -127,32 +127,32 @@ module _ (b : BookState) (frame : ℕ) (g : Group) (es : List Entry) (one : 1 �
                 same_frames = λ j c is. refl;
                 more_given = λ place c is. omega arith;
                 kept_groups = kept;
-              }) es (λ F h has. fresh F h (new_or_old F h has)) logged book.givens,
+              }) es (λ F h has. fresh F h (new_or_old F h has)) logged database.givens,
         );
-        done = book.done;
+        done = database.done;
         instances = λ k place row c row_is c_is less live.
-            let r = book.instances k place row c row_is c_is less live in
+            let r = database.instances k place row c row_is c_is less live in
             (r.0, kept _ r.0 r.1, r.2);
       }
     where
       off_file : (F : ℕ) (h : Group) → ((F ≡ frame) × (g ≡ h)) ⊎ HasGroup b F h → 1 ≤ F
       off_file F h (inl (here, same)) = omega (arith, one, here)
-      off_file F h (inr old) = book.groups.none_of_file F h old
+      off_file F h (inr old) = database.groups.none_of_file F h old
 
       alone : (F G : ℕ) (h k : Group) → ((F ≡ frame) × (g ≡ h)) ⊎ HasGroup b F h →
           ((G ≡ frame) × (g ≡ k)) ⊎ HasGroup b G k → number_of h ≡ number_of k → F ≡ G
       alone F G h k (inl (here, same)) (inl (here', same')) e = here ∙ sym here'
       alone F G h k (inl (here, same)) (inr old) e = absurd (named_apart G k old (sym e ∙ sym (ap number_of same)))
       alone F G h k (inr old) (inl (here, same)) e = absurd (named_apart F h old (e ∙ sym (ap number_of same)))
-      alone F G h k (inr old) (inr old') e = book.groups.apart F G h k old old' e
+      alone F G h k (inr old) (inr old') e = database.groups.apart F G h k old old' e
 
       off : (F : ℕ) (h : Group) → ((F ≡ frame) × (g ≡ h)) ⊎ HasGroup b F h → number_of h ≢ b.table.group
       off F h (inl (here, same)) e =
-          let there = book.table.group in
+          let there = database.table.group in
           let gone : name_of es b.table.group ≡ None =
           ap (name_of es) (sym e ∙ sym (ap number_of same)) ∙ unnamed in
           cc
-      off F h (inr old) e = book.groups.off_table F h old e
+      off F h (inr old) e = database.groups.off_table F h old e
 
       fresh : (F : ℕ) (h : Group) → ((F ≡ frame) × (g ≡ h)) ⊎ HasGroup b F h →
           HasGroup b F h ⊎ (name_of es (number_of h) ≡ None)

@@ -14,7 +14,7 @@ use Rattle.log_laws.proofs.Kept.{each_of_weaker}
 use Rattle.oracle.specs.declared.groups.Group.{Group}
 use Rattle.expansion.specs.Searches.{HoldInstances, IsSearchEntry}
 use Rattle.expansion.specs.Table.{TableState}
-use Rattle.dq_session.specs.Books.{BookState, HasGroup, IsBookEntry, IsBook, IsFullBook}
+use Rattle.dq_session.specs.Databases.{DatabaseState, HasGroup, IsDatabaseEntry, IsDatabase, IsFullDatabase}
 use Rattle.dq_session.specs.Changes.{open_groups}
 use Rattle.dq_session.proofs.LiveRefutations.{group_open}
 
@@ -38,15 +38,15 @@ search_grew all groups silent first old new g = record {
   limit = g.limit;
 }
 
-module _ (b : BookState) (es : List Entry) (book : IsBook b es) where
+module _ (b : DatabaseState) (es : List Entry) (database : IsDatabase b es) where
   pub open_hold : HoldInstances (open_groups b) es
   open_hold g origin c has given inside =
-      let at = group_open b es book g has in
-      let entry = each_one (IsBookEntry b) es (Given origin c) book.givens given in
+      let at = group_open b es database g has in
+      let entry = each_one (IsDatabaseEntry b) es (Given origin c) database.givens given in
       by origin at.0 at.2 entry.0 entry.1
     where
       by : (o : Origin) (frame : ℕ) → HasGroup b frame g → (earlier : List Entry) →
-          IsBookEntry b earlier (Given o c) → IsInstance o
+          IsDatabaseEntry b earlier (Given o c) → IsInstance o
       by (Instance k j) frame mine earlier entry = tt
       by (Gate v i) frame mine earlier entry = absurd (entry frame g mine inside)
       by (Fault j i leaf) frame mine earlier entry = absurd (entry frame g mine inside)
@@ -69,13 +69,13 @@ taken_more {Y = Y} h (z ∷ xs) (suc i) x is =
     by None rest = rest
     by (Some y) rest = ap (λ ys. y ∷ ys) rest
 
--- what the table's search says, by the book's parts
-pub by_parts : (P : TableState → List Group → Type 0) (x b : BookState) → x ≡ b → (gs : List Group) →
+-- what the table's search says, by the database's parts
+pub by_parts : (P : TableState → List Group → Type 0) (x b : DatabaseState) → x ≡ b → (gs : List Group) →
     gs ≡ open_groups b → P x.table gs → P b.table (open_groups b)
 by_parts P x b view gs same holds =
-    subst (P b.table) same (subst (λ (y : BookState). P y.table gs) view holds)
+    subst (P b.table) same (subst (λ (y : DatabaseState). P y.table gs) view holds)
 
-pub same_book : (x b : BookState) → x ≡ b → (t : TableState) → t ≡ x.table → (es : List Entry) → IsFullBook b es →
-    IsFullBook (record x { table = t }) es
-same_book x b view t same es full =
-    subst (λ s. IsFullBook (record x { table = s }) es) (sym same) (subst (λ y. IsFullBook y es) (sym view) full)
+pub same_database : (x b : DatabaseState) → x ≡ b → (t : TableState) → t ≡ x.table → (es : List Entry) → IsFullDatabase b es →
+    IsFullDatabase (record x { table = t }) es
+same_database x b view t same es full =
+    subst (λ s. IsFullDatabase (record x { table = s }) es) (sym same) (subst (λ y. IsFullDatabase y es) (sym view) full)

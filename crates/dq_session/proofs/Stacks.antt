@@ -7,7 +7,7 @@ use Rattle.std.proofs.lemmas.Option.{slice_get-get_or, slice_get_within, get_or_
 use Rattle.list_laws.proofs.Elements.{old_or_last, kept_there, last_there}
 use Rattle.list_laws.proofs.Members.{element_at, place_of}
 use Rattle.dq_lits.specs.Literal.{Literal}
-use Rattle.dq_session.specs.Books.{BookState, live_of, number_at, frame_at, IsOpen, IsStack}
+use Rattle.dq_session.specs.Databases.{DatabaseState, live_of, number_at, frame_at, IsOpen, IsStack}
 use Rattle.dq_session.specs.Changes.{newest, with_frame, with_clause, without_frame}
 use Rattle.dq_session.specs.declared.live.Live.{Live}
 use Rattle.dq_session.specs.declared.live.OpenFrame.{OpenFrame}
@@ -34,11 +34,11 @@ there_take (suc n) [] i x less is = cc
 there_take (suc n) (y ∷ xs) zero x less is = is
 there_take (suc n) (y ∷ xs) (suc i) x less is = there_take n xs i x (omega (arith, less)) is
 
-open_more : (b : BookState) (frame : ℕ) → IsOpen b frame → IsOpen (with_frame b) frame
+open_more : (b : DatabaseState) (frame : ℕ) → IsOpen b frame → IsOpen (with_frame b) frame
 open_more b frame (o, has, is) = (o, contains_more b.open_frames _ o has, is)
 
 -- a frame that is opened
-pub frame_opened : (b : BookState) → IsStack b → IsStack (with_frame b)
+pub frame_opened : (b : DatabaseState) → IsStack b → IsStack (with_frame b)
 frame_opened b s = record {
   many_frames = s.many_frames;
   many_given = s.many_given;
@@ -143,7 +143,7 @@ live_there (x ∷ xs) (suc n) l is =
     let below = r.1 in
     (suc r.0, omega (arith, below), r.2)
 
-module _ (b : BookState) (clause : List Literal) (s : IsStack b) (some_open : 1 ≤ length b.open_frames) where
+module _ (b : DatabaseState) (clause : List Literal) (s : IsStack b) (some_open : 1 ≤ length b.open_frames) where
   abbrev o : OpenFrame
   o = newest b
 
@@ -157,7 +157,7 @@ module _ (b : BookState) (clause : List Literal) (s : IsStack b) (some_open : 1 
   abbrev fresh : Live
   fresh = record { clause = number; frame = o.number }
 
-  abbrev after : BookState
+  abbrev after : DatabaseState
   after = with_clause b clause
 
   more_added : length (b.added ++ clause ∷ []) ≡ length b.added + 1
@@ -296,7 +296,7 @@ module _ (b : BookState) (clause : List Literal) (s : IsStack b) (some_open : 1 
               let is : p ≡ o = cc in
               subst (λ (x : OpenFrame). p.number ≤ x.number) is (omega arith)
 
-module _ (b : BookState) (s : IsStack b) (some_open : 1 ≤ length b.open_frames) where
+module _ (b : DatabaseState) (s : IsStack b) (some_open : 1 ≤ length b.open_frames) where
   abbrev top : ℕ
   top = length b.open_frames - 1
 

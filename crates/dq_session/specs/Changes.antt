@@ -1,4 +1,4 @@
--- How a book changes.
+-- How a database changes.
 use Rattle.std.specs.Prelude.{◌≡◌, ℕ, ◌+◌, ◌-◌, ◌≤◌, List, [], ◌∷◌, ◌++◌, map, take, length, None, slice_index_or}
 use Rattle.std.specs.List.{filter_map, range_with_len}
 use Rattle.std.specs.Option.{option_map}
@@ -6,7 +6,7 @@ use Rattle.dq_lits.specs.Literal.{Literal}
 use Rattle.dq_lits.specs.Formula.{Dqbf}
 use Rattle.oracle.specs.declared.groups.Group.{Group}
 use Rattle.expansion.specs.Table.{TableState}
-use Rattle.dq_session.specs.Books.{BookState, HasGroup, number_of}
+use Rattle.dq_session.specs.Databases.{DatabaseState, HasGroup, number_of}
 use Rattle.dq_session.specs.declared.live.Live.{Live}
 use Rattle.dq_session.specs.declared.live.OpenFrame.{OpenFrame}
 
@@ -15,7 +15,7 @@ abbrev pub file_live : ℕ → Live
 file_live j = record { clause = j; frame = 0 }
 
 -- without frames: the file's clauses are live
-abbrev pub begun : Dqbf → TableState → BookState
+abbrev pub begun : Dqbf → TableState → DatabaseState
 begun f table = record {
   file = f;
   table = table;
@@ -28,17 +28,17 @@ begun f table = record {
 }
 
 -- the frame that was opened last
-abbrev pub newest : BookState → OpenFrame
+abbrev pub newest : DatabaseState → OpenFrame
 newest b = slice_index_or b.open_frames (length b.open_frames - 1) (record { number = 0; start = 0 })
 
-abbrev pub with_frame : BookState → BookState
+abbrev pub with_frame : DatabaseState → DatabaseState
 with_frame b = record b {
   groups = b.groups ++ None ∷ [];
   open_frames = b.open_frames ++ record { number = length b.groups; start = length b.live } ∷ [];
 }
 
 -- a clause more in the newest frame
-abbrev pub with_clause : BookState → List Literal → BookState
+abbrev pub with_clause : DatabaseState → List Literal → DatabaseState
 with_clause b clause = record b {
   added = b.added ++ clause ∷ [];
   frames = b.frames ++ (newest b).number ∷ [];
@@ -51,22 +51,22 @@ with_clause b clause = record b {
 }
 
 -- without the newest frame, whose clauses keep their numbers
-abbrev pub without_frame : BookState → BookState
+abbrev pub without_frame : DatabaseState → DatabaseState
 without_frame b = record b {
   open_frames = take (length b.open_frames - 1) b.open_frames;
   live = take (newest b).start b.live;
 }
 
 -- the numbers of all groups that hold instances
-abbrev pub groups_of : BookState → List ℕ
+abbrev pub groups_of : DatabaseState → List ℕ
 groups_of b = b.table.group ∷ filter_map (option_map number_of) b.groups
 
 -- the groups of the open frames, of those that have one
-abbrev pub open_groups : BookState → List Group
+abbrev pub open_groups : DatabaseState → List Group
 open_groups b = filter_map (λ o. slice_index_or b.groups o.number None) b.open_frames
 
 -- instances were given, and groups made for them
-pub record IsCaughtUp (old new : BookState) : Type 0 where
+pub record IsCaughtUp (old new : DatabaseState) : Type 0 where
   pub same : new ≡ record old { given = new.given; groups = new.groups }
   pub more : (place : ℕ) → slice_index_or old.given place 0 ≤ slice_index_or new.given place 0
   pub many_groups : length new.groups ≡ length old.groups

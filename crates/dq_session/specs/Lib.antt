@@ -1,8 +1,8 @@
-pub mod Books
+pub mod Databases
 pub mod Changes
 pub mod Changing
 pub mod Giving
 pub mod Grouped
 pub mod Shown
 pub mod Searching
-pub mod Standing
+pub mod Preservation

@@ -1,7 +1,7 @@
 //! The instances of clauses that were added, in their frames' groups, and searches over them.
 //!
 //! `solve_with` says what its values and its answer are, and not what they show of a formula: a
-//! book's formula is not its table's. A search costs a look at each live clause that was added and
+//! database's formula is not its table's. A search costs a look at each live clause that was added and
 //! at each open frame, and an instance for each clause and row that lacks one.
 
 ghost use Rattle.std.specs.Prelude.{◌≡◌, ◌≤◌, ◌<◌, ◌+◌, ◌++◌, [], ℕ, List, length, slice_get, slice_index_or, Ok, IfOk, OnOk, IsErrOf, Some, None};
@@ -17,13 +17,13 @@ ghost use Rattle.oracle.specs.Limits.{IsAtLimit};
 ghost use Rattle.expansion.specs.Searches.{switches};
 ghost use Rattle.expansion.specs.Silence.{is_silent};
 ghost use Rattle.expansion.specs.Table.{PointState, ArePoints, point_bits};
-ghost use Rattle.dq_session.specs.Books.{now_of, frame_at, given_at, HasGroup, IsFullBook};
+ghost use Rattle.dq_session.specs.Databases.{now_of, frame_at, given_at, HasGroup, IsFullDatabase};
 ghost use Rattle.dq_session.specs.Changes.{open_groups};
 ghost use Rattle.dq_session.specs.Giving.{IsGiving, IsWhole};
 ghost use Rattle.dq_session.specs.Shown.{IsRefutedLive};
 ghost use Rattle.oracle.specs.declared.groups.Group.{Group};
 
-use crate::books::Book;
+use crate::databases::ClauseDatabase;
 use crate::live::OpenFrame;
 use dq_lits::Memory;
 use dq_lits::laws::derived_line_is_implied;
@@ -31,7 +31,7 @@ use expansion::{Exp, NumberedClause};
 use hint_log::{Log, Stop};
 use oracle::{Group, Oracle};
 
-impl<'f> Book<'f> {
+impl<'f> ClauseDatabase<'f> {
     // Gives each live clause that was added its instances under the rows that it lacks.
     pub(crate) fn give_live<O: Oracle>(
         &mut self,
@@ -39,7 +39,7 @@ impl<'f> Book<'f> {
         log: &mut Log,
     ) -> Result<(), Memory>
         requires fit { O.Fits oracle.old log.old }
-        requires book { IsFullBook self.old log.old.entries }
+        requires database { IsFullDatabase self.old log.old.entries }
         requires few { length (fault_groups log.old.entries) ≤ fault_room log.old.entries }
         ensures fit { O.Fits oracle.new log.new }
         ensures giving { IsGiving self.old log.old self.new log.new }
@@ -62,7 +62,7 @@ impl<'f> Book<'f> {
     ) -> Result<(), Memory>
         requires fit { O.Fits oracle.old log.old }
         requires place { place < length self.old.added }
-        requires book { IsFullBook self.old log.old.entries }
+        requires database { IsFullDatabase self.old log.old.entries }
         requires few { length (fault_groups log.old.entries) ≤ fault_room log.old.entries }
         ensures fit { O.Fits oracle.new log.new }
         ensures giving { IsGiving self.old log.old self.new log.new }
@@ -91,7 +91,7 @@ impl<'f> Book<'f> {
         requires fit { O.Fits oracle.old log.old }
         requires from_one { 1 ≤ frame }
         requires frame { frame < length self.old.groups }
-        requires book { IsFullBook self.old log.old.entries }
+        requires database { IsFullDatabase self.old log.old.entries }
         requires few { length (fault_groups log.old.entries) ≤ fault_room log.old.entries }
         ensures fit { O.Fits oracle.new log.new }
         ensures giving { IsGiving self.old log.old self.new log.new }
@@ -121,7 +121,7 @@ impl<'f> Book<'f> {
         requires next { k ≡ given_at self.old place + 1 }
         requires last { k ≤ length self.old.table.rows }
         requires group { (g : Group) × HasGroup self.old (frame_at self.old place) g }
-        requires book { IsFullBook self.old log.old.entries }
+        requires database { IsFullDatabase self.old log.old.entries }
         requires few { length (fault_groups log.old.entries) ≤ fault_room log.old.entries }
         ensures fit { O.Fits oracle.new log.new }
         ensures giving { IsGiving self.old log.old self.new log.new }
@@ -143,13 +143,13 @@ impl<'f> Book<'f> {
     // Searches for a model of the instances of all live clauses, where these were given.
     pub(crate) fn search<O: Oracle>(&mut self, oracle: &mut O, log: &mut Log) -> Result<Exp, Stop>
         requires fit { O.Fits oracle.old log.old }
-        requires book { IsFullBook self.old log.old.entries }
+        requires database { IsFullDatabase self.old log.old.entries }
         requires whole { IsWhole self.old }
         ensures fit { O.Fits oracle.new log.new }
         ensures same { self.new ≡ self.old }
         ensures grew { (all : Dqbf) (groups : List ℕ) (first : List Entry)
             → Grew (IsAddedLive all instances groups (is_silent result) first) log.old log.new }
-        ensures book { IsFullBook self.new log.new.entries }
+        ensures database { IsFullDatabase self.new log.new.entries }
         ensures point_variables { (points : PointState) → result ≡ Ok (Exp.Model points)
             → points.variables ≡ self.old.table.existentials }
         ensures point_rows { (points : PointState) → result ≡ Ok (Exp.Model points)

@@ -4,10 +4,10 @@
 //! Eén, N. Sörensson, "Temporal induction by incremental SAT solving", 2003).
 #![tactic(auto)]
 
-pub use books::Book;
+pub use databases::ClauseDatabase;
 pub use live::Live;
 
-mod books;
+mod databases;
 mod formulas;
 mod giving;
 pub mod laws;

@@ -1,9 +1,9 @@
 -- The numbers of the statuses of verdicts.
 use Rattle.std.specs.Prelude.{ℕ}
-use Rattle.dq_verdicts.specs.declared.statuses.Status.{Status}
-use Rattle.dq_verdicts.specs.declared.statuses.Status.TheVariants.{True, False, Unknown}
+use Rattle.dq_verdicts.specs.declared.statuses.SolveStatus.{SolveStatus}
+use Rattle.dq_verdicts.specs.declared.statuses.SolveStatus.TheVariants.{True, False, Unknown}
 
-abbrev pub code : Status → ℕ
+abbrev pub code : SolveStatus → ℕ
 code True = 10
 code False = 20
 code Unknown = 0

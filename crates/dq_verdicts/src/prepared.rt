@@ -17,7 +17,7 @@ ghost use Rattle.repair_loop.specs.Searching.{IsShownFalse};
 ghost use Rattle.repair_loop.specs.Stopping.{IsStoppedAtLimit};
 ghost use Rattle.dq_verdicts.specs.Prepared.{IsPrep, IsPrepared, IsPreparedOutput, IsPreparedLog, IsCertificate};
 
-use crate::statuses::Status;
+use crate::statuses::SolveStatus;
 use crate::verdicts::{Decision, search, solve};
 use aiger_text::AagFile;
 use cert_export::laws::{exported_proof_is_allowed, productive_answers_can_be_exported};
@@ -116,7 +116,7 @@ fn lifted_true(p: &Prepared, log: &Log, id: u64, form: Form) -> Result<Output, M
     let evidence = circuit_text(p.alloc, file, proof, form)?;
     let text = with_verdict(p.alloc, "s TRUE\n", form, evidence)?;
     Ok(Output {
-        status: Status::True.code(),
+        status: SolveStatus::True.code(),
         text,
     })
 }
@@ -164,7 +164,7 @@ fn lifted_false(p: &Prepared, log: &Log, id: u64, form: Form) -> Result<Output, 
     let evidence = refutation_text(p.alloc, refutation, p.formula, form)?;
     let text = with_verdict(p.alloc, "s FALSE\n", form, evidence)?;
     Ok(Output {
-        status: Status::False.code(),
+        status: SolveStatus::False.code(),
         text,
     })
 }
@@ -200,7 +200,7 @@ fn undecided(p: &Prepared, log: &Log, form: Form) -> Result<Output, Memory>
     rounds_are_steps();
     let text = unknown_text(p.alloc, log, form)?;
     Ok(Output {
-        status: Status::Unknown.code(),
+        status: SolveStatus::Unknown.code(),
         text,
     })
 }

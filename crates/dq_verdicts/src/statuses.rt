@@ -5,7 +5,7 @@ ghost use Rattle.dq_verdicts.specs.Statuses.{code};
 
 /// A verdict, as the program's status tells it.
 #[derive(Clone, Copy, PartialEq, Eq)]
-pub enum Status {
+pub enum SolveStatus {
     /// The formula is true.
     True,
     /// The formula is false.
@@ -14,15 +14,15 @@ pub enum Status {
     Unknown,
 }
 
-impl Status {
+impl SolveStatus {
     /// The number that the program ends with.
     pub fn code(self) -> u8
         ensures { result ≡ code self }
     {
         match self {
-            Status::True => 10,
-            Status::False => 20,
-            Status::Unknown => 0,
+            SolveStatus::True => 10,
+            SolveStatus::False => 20,
+            SolveStatus::Unknown => 0,
         }
     }
 }

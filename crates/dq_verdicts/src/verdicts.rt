@@ -11,7 +11,7 @@ ghost use Rattle.repair_loop.specs.Searching.{IsShownFalse};
 ghost use Rattle.repair_loop.specs.Stopping.{IsStoppedAtLimit};
 ghost use Rattle.dq_verdicts.specs.Outputs.{IsVerdictOutput};
 
-use crate::statuses::Status;
+use crate::statuses::SolveStatus;
 use aig_graph::Graph;
 use cdcl_core::Cdcl;
 use cert_export::clause_numbers;
@@ -110,7 +110,7 @@ fn true_output(alloc: Global, log: &Log, id: u64, f: &Formula, form: Form) -> Re
     productive_answers_can_be_exported();
     let text = true_text(alloc, log, id, f, form)?;
     Ok(Output {
-        status: Status::True.code(),
+        status: SolveStatus::True.code(),
         text,
     })
 }
@@ -134,7 +134,7 @@ fn false_output(
     let numbers = clause_numbers(alloc, f)?;
     let text = false_text(alloc, log, id, f, &numbers, form)?;
     Ok(Output {
-        status: Status::False.code(),
+        status: SolveStatus::False.code(),
         text,
     })
 }
@@ -149,7 +149,7 @@ fn unknown_output(alloc: Global, log: &Log, f: &Formula, form: Form) -> Result<O
     rounds_are_steps();
     let text = unknown_text(alloc, log, form)?;
     Ok(Output {
-        status: Status::Unknown.code(),
+        status: SolveStatus::Unknown.code(),
         text,
     })
 }

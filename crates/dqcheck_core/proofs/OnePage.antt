@@ -2,7 +2,7 @@
 use Rattle.std.proofs.Common.{inl, inr, ℕ, List, Option, refl}
 use Rattle.dq_lits.specs.Formula.{Dqbf, IsWellFormed}
 use Rattle.dqdimacs_reader.specs.Grammar.{SpellsFormula}
-use Rattle.defined_checker.specs.declared.checks.Counts.{Counts}
+use Rattle.defined_checker.specs.declared.checks.DefinedCounts.{DefinedCounts}
 use Rattle.cert_judge.specs.Judgement.{HoldsRightDefinitions, HoldsSkolemCircuit}
 use Rattle.headline.specs.Headline.{AreDefined, Formula, HoldsSkolem, defined_line, existentials_of, false_line, true_line}
 use Rattle.headline_laws.specs.Formulas.{IsOnPage}
@@ -15,7 +15,7 @@ pub record PageLaw : Type 0 where
       (f : Formula) × IsOnPage text read f
   pub circuits : (formula certificate : List ℕ) (read : Dqbf) (f : Formula) → IsOnPage formula read f → IsWellFormed read →
       HoldsSkolemCircuit read certificate → HoldsSkolem f certificate
-  pub definitions : (formula certificate : List ℕ) (read : Dqbf) (f : Formula) (counts : Counts) → IsOnPage formula read f →
+  pub definitions : (formula certificate : List ℕ) (read : Dqbf) (f : Formula) (counts : DefinedCounts) → IsOnPage formula read f →
       IsWellFormed read → HoldsRightDefinitions read certificate counts →
       AreDefined f (existentials_of f) counts.defined counts.free
 

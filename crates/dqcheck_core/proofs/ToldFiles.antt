@@ -16,7 +16,7 @@ use Rattle.dq_runs.specs.Printed.{printed, line}
 use Rattle.dq_runs.specs.Sinks.{SinkState}
 use Rattle.dq_runs.specs.declared.formulas.NoFormula.TheVariants.{Unreadable, TooLong, Refused as RefusedFormula}
 use Rattle.dq_runs.specs.declared.outputs.Output.{Output}
-use Rattle.defined_checker.specs.declared.checks.Counts.{Counts}
+use Rattle.defined_checker.specs.declared.checks.DefinedCounts.{DefinedCounts}
 use Rattle.cert_judge.specs.Judgement.{IsJudgement, HoldsSkolemCircuit, HoldsRightDefinitions}
 use Rattle.cert_judge.specs.declared.answers.Judgement.{Judgement}
 use Rattle.cert_judge.specs.declared.answers.Judgement.TheVariants.{Refused, UndeclaredRead, BadRow, Unproved, UnderivedStep, NoEmptyClause, ValidTrue, ValidFalse, BadBlock, ValidDefinitions}
@@ -37,7 +37,7 @@ pub record AcceptanceLaw : Type 0 where
   pub circuit : (f : Dqbf) (text : List ℕ) → IsWellFormed f → IsJudgement f text ValidTrue → HoldsSkolemCircuit f text
   pub is_true : (f : Dqbf) (text : List ℕ) → IsWellFormed f → IsJudgement f text ValidTrue → IsTrueFormula f
   pub is_false : (f : Dqbf) (text : List ℕ) → IsWellFormed f → IsJudgement f text ValidFalse → IsFalseFormula f
-  pub definitions : (f : Dqbf) (text : List ℕ) (counts : Counts) → IsWellFormed f →
+  pub definitions : (f : Dqbf) (text : List ℕ) (counts : DefinedCounts) → IsWellFormed f →
       IsJudgement f text (ValidDefinitions counts) → HoldsRightDefinitions f text counts
 
 no_fault : FormulaLaw → (formula : List ℕ) (f : Dqbf) (holding : Holding) (fault : TextFault) →

@@ -11,7 +11,7 @@ use Rattle.dqdimacs_reader.specs.Grammar.{SpellsFormula}
 use Rattle.dq_runs.specs.FormulaFiles.{max_formula}
 use Rattle.dq_runs.specs.Printed.{line}
 use Rattle.dq_runs.specs.Sinks.{SinkState}
-use Rattle.defined_checker.specs.declared.checks.Counts.{Counts}
+use Rattle.defined_checker.specs.declared.checks.DefinedCounts.{DefinedCounts}
 use Rattle.cert_judge.specs.Judgement.{IsJudgement, HoldsSkolemCircuit, HoldsRightDefinitions}
 use Rattle.cert_judge.specs.declared.answers.Judgement.{Judgement}
 use Rattle.cert_judge.specs.declared.answers.Judgement.TheVariants.{ValidTrue, ValidFalse, ValidDefinitions}
@@ -44,7 +44,7 @@ pub record IsProvedFalse (f : Dqbf) (certificate : List ℕ)
 -- the line counts the blocks of each kind, and what they say of the existentials is right
 pub record IsProvedDefined (f : Dqbf) (certificate : List ℕ)
     (before now : Option (List ℕ)) : Type 0 where
-  pub counts : Counts
+  pub counts : DefinedCounts
   pub accepted : IsJudgement f certificate (ValidDefinitions counts)
   pub definitions : HoldsRightDefinitions f certificate counts
   pub written : now ≡ append_known before (line (codes "VALID DEFINED "

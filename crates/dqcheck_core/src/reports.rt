@@ -6,7 +6,7 @@ ghost use Rattle.dqcheck_core.specs.Report.{judged, row_text, block_text, answer
 ghost use Rattle.dqcheck_core.specs.Statuses.{code};
 
 use crate::fault_names::certificate_fault_name;
-use crate::statuses::Status;
+use crate::statuses::CheckStatus;
 use cert_judge::Judgement;
 use defined_checker::DefinitionFault;
 use dq_formula::Formula;
@@ -24,20 +24,20 @@ pub fn judged_output(alloc: Global, f: &Formula, answer: Judgement) -> Result<Ou
     Ok(Output { status, text })
 }
 
-fn answer_status(answer: Judgement) -> Status
+fn answer_status(answer: Judgement) -> CheckStatus
     ensures { code result ≡ answer_status answer }
 {
     match answer {
-        Judgement::Refused { .. } => Status::RefusedCertificate,
-        Judgement::UndeclaredRead { .. } => Status::WrongCertificate,
-        Judgement::BadRow { .. } => Status::WrongCertificate,
-        Judgement::Unproved { .. } => Status::Unproved,
-        Judgement::UnderivedStep { .. } => Status::WrongCertificate,
-        Judgement::NoEmptyClause => Status::WrongCertificate,
-        Judgement::ValidTrue => Status::Accepted,
-        Judgement::ValidFalse => Status::Accepted,
-        Judgement::BadBlock { .. } => Status::WrongCertificate,
-        Judgement::ValidDefinitions { .. } => Status::Accepted,
+        Judgement::Refused { .. } => CheckStatus::RefusedCertificate,
+        Judgement::UndeclaredRead { .. } => CheckStatus::WrongCertificate,
+        Judgement::BadRow { .. } => CheckStatus::WrongCertificate,
+        Judgement::Unproved { .. } => CheckStatus::Unproved,
+        Judgement::UnderivedStep { .. } => CheckStatus::WrongCertificate,
+        Judgement::NoEmptyClause => CheckStatus::WrongCertificate,
+        Judgement::ValidTrue => CheckStatus::Accepted,
+        Judgement::ValidFalse => CheckStatus::Accepted,
+        Judgement::BadBlock { .. } => CheckStatus::WrongCertificate,
+        Judgement::ValidDefinitions { .. } => CheckStatus::Accepted,
     }
 }
 

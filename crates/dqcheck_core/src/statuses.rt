@@ -5,7 +5,7 @@ ghost use Rattle.dqcheck_core.specs.Statuses.{code};
 
 /// What a certificate was judged to be, as the program's status tells it.
 #[derive(Clone, Copy, PartialEq, Eq)]
-pub enum Status {
+pub enum CheckStatus {
     Accepted,
     /// Its text has a fault.
     RefusedCertificate,
@@ -15,16 +15,16 @@ pub enum Status {
     Unproved,
 }
 
-impl Status {
+impl CheckStatus {
     /// The number that the program ends with.
     pub fn code(self) -> u8
         ensures { result ≡ code self }
     {
         match self {
-            Status::Accepted => 0,
-            Status::RefusedCertificate => 7,
-            Status::WrongCertificate => 8,
-            Status::Unproved => 9,
+            CheckStatus::Accepted => 0,
+            CheckStatus::RefusedCertificate => 7,
+            CheckStatus::WrongCertificate => 8,
+            CheckStatus::Unproved => 9,
         }
     }
 }

@@ -13,7 +13,7 @@ use Rattle.dq_text.specs.declared.cursors.LinePlace.{LinePlace}
 use Rattle.dq_text.specs.declared.cursors.LinePlace.TheVariants.{LineStart, InLine}
 use Rattle.dq_text.specs.Written.{number_text, line_end}
 use Rattle.dqdimacs_reader.specs.Canonical.{literal_text, numbers_line, header_text, universals_text, existential_text, clause_text, canonical}
-use Rattle.dqdimacs_reader.specs.Grammar.{Part, numbers, part_lexemes, clause_lexemes, literal_lexeme, header}
+use Rattle.dqdimacs_reader.specs.Grammar.{PrefixPart, numbers, part_lexemes, clause_lexemes, literal_lexeme, header}
 use Rattle.dqdimacs_reader.specs.Lexeme.{lexeme_of}
 use Rattle.dqdimacs_reader.specs.declared.lexemes.Lexeme.{Lexeme}
 use Rattle.dqdimacs_reader.specs.declared.lexemes.Lexeme.TheVariants.{P as LetterP, Cnf, A, Natural}
@@ -123,11 +123,11 @@ clauses_lexemes (ls ∷ clauses) are =
     ∙ ap (λ more. clause_lexemes ls ++ more) (clauses_lexemes clauses are.1)
 
 -- the part of an existential
-abbrev pub part_by : Bool → Existential → Part
-part_by true y = Part.existentials (y.variable ∷ [])
-part_by false y = Part.dependent y.variable y.sees
+abbrev pub part_by : Bool → Existential → PrefixPart
+part_by true y = PrefixPart.existentials (y.variable ∷ [])
+part_by false y = PrefixPart.dependent y.variable y.sees
 
-abbrev pub part_of : List ℕ → Existential → Part
+abbrev pub part_of : List ℕ → Existential → PrefixPart
 part_of universals y = part_by (length y.sees == length universals) y
 
 pub record IsSmall (y : Existential) : Type 0 where
@@ -154,11 +154,11 @@ existentials_lexemes universals (y ∷ es) rest are =
     (lexemes LineStart rest))
 
 -- the parts of a formula's canonical text
-abbrev pub universal_parts : List ℕ → List Part
+abbrev pub universal_parts : List ℕ → List PrefixPart
 universal_parts [] = []
-universal_parts (x ∷ xs) = Part.universals (x ∷ xs) ∷ []
+universal_parts (x ∷ xs) = PrefixPart.universals (x ∷ xs) ∷ []
 
-abbrev pub parts_of : Dqbf → List Part
+abbrev pub parts_of : Dqbf → List PrefixPart
 parts_of f = universal_parts f.universals ++ map (part_of f.universals) f.existentials
 
 universals_lexemes : (us rest : List ℕ) → AreSmall us →

@@ -9,7 +9,7 @@ use Rattle.dq_text.specs.Token.{TextToken}
 use Rattle.dq_formula.specs.Prefix.{is_declared}
 use Rattle.dq_formula.specs.Xor.{xor_clauses}
 use Rattle.dqdimacs_reader.specs.Building.{add_universal, add_first, add_listed, add_clause, add_xor, add_literal, with_free}
-use Rattle.dqdimacs_reader.specs.Grammar.{Part, universals, existentials, dependent, Constraint, plain, xor, numbers, part_lexemes, literal_lexeme, clause_lexemes, constraint_lexemes, IsNew, AreNew, IsSeen, IsLawfulPart, declare, AreLawfulParts, InRange, IsXor, IsLawfulConstraint, AreLawfulConstraints, add_constraint}
+use Rattle.dqdimacs_reader.specs.Grammar.{PrefixPart, universals, existentials, dependent, Constraint, plain, xor, numbers, part_lexemes, literal_lexeme, clause_lexemes, constraint_lexemes, IsNew, AreNew, IsSeen, IsLawfulPart, declare, AreLawfulParts, InRange, IsXor, IsLawfulConstraint, AreLawfulConstraints, add_constraint}
 use Rattle.dqdimacs_reader.specs.Machine.{Reading, State, before_header, before_format, before_variables, before_clauses, at_part, in_universals, in_existentials, at_dependent, in_dependencies, in_clause, in_xor, max_clauses, fault_if, check_natural, check_entry, check_range, check_room, check_literal, check_declared, check_dependent, check_dependency, check_part_letter, check_xor_end, check_xor_literal, stands_on, with_formula, with_constraint, check, advance, at_start, inside_clause, inside_xor, natural_or, at_end}
 use Rattle.dq_text.specs.Number.{number_of, begins_with_minus}
 use Rattle.dq_text.specs.declared.numbers.Number.{Number}
@@ -29,7 +29,7 @@ use Rattle.dqdimacs_reader.proofs.Runs.{formula_or_none, run, run_step, lexemes_
 -- parts, and clauses and XOR lines, that complete a reading to a formula; behind one of the latter no
 -- part stands
 pub record Completes (r : Reading) (lexemes : List Lexeme) (f : Dqbf) : Type 0 where
-  pub parts : List Part
+  pub parts : List PrefixPart
   pub constraints : List Constraint
   pub spelling : lexemes ≡ flat_map part_lexemes parts ++ flat_map constraint_lexemes constraints
   pub lawful : AreLawfulParts r.formula parts
@@ -610,7 +610,7 @@ xor_completes r lexemes f c =
     (c.in_range, c.is_xor) c.completed)
 
 -- a part in front
-part_completes : (part : Part) (r : Reading) (rest : List Lexeme) (f : Dqbf) → (r.constraints == 0) ≡ true →
+part_completes : (part : PrefixPart) (r : Reading) (rest : List Lexeme) (f : Dqbf) → (r.constraints == 0) ≡ true →
     IsLawfulPart r.formula part →
     Completes (with_formula r (declare r.formula part)) rest f → Completes r (part_lexemes part ++ rest) f
 part_completes part r rest f first lawful c =

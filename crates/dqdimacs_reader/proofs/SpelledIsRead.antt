@@ -9,7 +9,7 @@ use Rattle.dq_text.specs.Token.{tokens_of, last_line_of}
 use Rattle.dq_formula.specs.Prefix.{is_declared}
 use Rattle.dq_formula.specs.Xor.{xor_clauses}
 use Rattle.dqdimacs_reader.specs.Building.{empty_formula, add_universal, add_first, add_listed, add_clause, add_xor, add_literal, distinct, with_free}
-use Rattle.dqdimacs_reader.specs.Grammar.{Part, universals, existentials, dependent, Constraint, plain, xor, numbers, part_lexemes, literal_lexeme, clause_lexemes, constraint_lexemes, header, IsNew, AreNew, IsSeen, IsLawfulPart, declare, AreLawfulParts, InRange, IsXor, IsLawfulConstraint, AreLawfulConstraints, add_constraint, SpellsFormula}
+use Rattle.dqdimacs_reader.specs.Grammar.{PrefixPart, universals, existentials, dependent, Constraint, plain, xor, numbers, part_lexemes, literal_lexeme, clause_lexemes, constraint_lexemes, header, IsNew, AreNew, IsSeen, IsLawfulPart, declare, AreLawfulParts, InRange, IsXor, IsLawfulConstraint, AreLawfulConstraints, add_constraint, SpellsFormula}
 use Rattle.dqdimacs_reader.specs.Machine.{Reading, State, before_header, before_format, before_variables, before_clauses, check_limit, reading, at_part, in_universals, in_existentials, at_dependent, in_dependencies, in_clause, in_xor, max_variables, max_clauses, max_xor, fault_if, check_range, check_room, check_literal, check_declared, check_dependent, check_dependency, check_part_letter, check_xor_end, check_xor_literal, stands_on, with_formula, with_constraint, check, advance}
 use Rattle.dqdimacs_reader.specs.declared.faults.FormulaFault.{FormulaFault}
 use Rattle.dqdimacs_reader.specs.declared.faults.FormulaFault.TheVariants.{PrefixLate, TooFewClauses, VarRange, Limit, DeclaredTwice, NotUniversal, EmptyD, TooManyClauses, XorSize, XorRepeat}
@@ -89,7 +89,7 @@ dependent_passes r y new =
 letter_passes : (r : Reading) → r.constraints ≡ 0 → check_part_letter r ≡ None
 letter_passes r none = ap (λ n. fault_if (not (n == 0)) PrefixLate None) none
 
-read_part : (part : Part) (r : Reading) (rest : List Lexeme) → r.constraints ≡ 0 → IsLawfulPart r.formula part →
+read_part : (part : PrefixPart) (r : Reading) (rest : List Lexeme) → r.constraints ≡ 0 → IsLawfulPart r.formula part →
     run (at_part r) (part_lexemes part ++ rest) ≡ run (at_part (with_formula r (declare r.formula part))) rest
 read_part (universals vs) r rest none lawful =
     run_pass (at_part r) A (numbers vs ++ rest) (letter_passes r none) ∙ read_universals vs r rest lawful
@@ -113,12 +113,12 @@ keeps_fold add kept (v ∷ vs) f =
     let rest = keeps_fold add kept vs (add f v) in
     record { variables = rest.variables ∙ here.variables; matrix = rest.matrix ∙ here.matrix }
 
-pub declare-keeps : (part : Part) (f : Dqbf) → Keeps f (declare f part)
+pub declare-keeps : (part : PrefixPart) (f : Dqbf) → Keeps f (declare f part)
 declare-keeps (universals vs) f = keeps_fold add_universal (λ g v. record { variables = refl; matrix = refl }) vs f
 declare-keeps (existentials ys) f = keeps_fold add_first (λ g v. record { variables = refl; matrix = refl }) ys f
 declare-keeps (dependent y xs) f = record { variables = refl; matrix = refl }
 
-read_parts : (parts : List Part) (r : Reading) (rest : List Lexeme) → r.constraints ≡ 0 →
+read_parts : (parts : List PrefixPart) (r : Reading) (rest : List Lexeme) → r.constraints ≡ 0 →
     AreLawfulParts r.formula parts →
     run (at_part r) (flat_map part_lexemes parts ++ rest) ≡ run
     (at_part (with_formula r (fold declare r.formula parts))) rest
@@ -288,7 +288,7 @@ read_constraints (c ∷ cs) r counted few lawful =
     read_constraint c r (flat_map constraint_lexemes cs) (omega (arith, counted)) room lawful.0
     ∙ read_constraints cs next (omega (arith, counted)) few (subst (λ v. AreLawfulConstraints v cs) variables lawful.1)
 
-pub declares-keep : (parts : List Part) (f : Dqbf) → Keeps f (fold declare f parts)
+pub declares-keep : (parts : List PrefixPart) (f : Dqbf) → Keeps f (fold declare f parts)
 declares-keep [] f = record { variables = refl; matrix = refl }
 declares-keep (part ∷ parts) f =
     let here = declare-keeps part f in

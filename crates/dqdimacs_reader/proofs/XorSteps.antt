@@ -8,7 +8,7 @@ use Rattle.dq_lits.specs.Literal.{Literal, variable_of}
 use Rattle.dq_lits.specs.declared.memory.Memory.{Memory}
 use Rattle.dqdimacs_reader.specs.Building.{add_literal, add_xor}
 use Rattle.dqdimacs_reader.specs.Machine.{Reading, at_part, in_xor, with_constraint, check_xor_end, check_xor_literal, xor_literal_or_end, stands_on}
-use Rattle.dqdimacs_reader.specs.MachineState.{state_at, literal_on, IsReadyAt, IsClause, IsXorLine}
+use Rattle.dqdimacs_reader.specs.MachineState.{state_at, literal_on, IsReaderStateAt, IsClause, IsXorLine}
 use Rattle.dqdimacs_reader.specs.declared.machine.Stage.{Stage}
 use Rattle.dqdimacs_reader.specs.declared.machine.Stage.TheVariants.{Xor}
 use Rattle.dqdimacs_reader.proofs.XorLines.{Goes, goes, added_behind, stays_apart}
@@ -47,12 +47,12 @@ passes r ls v more passed = ap (λ b. cond b (check_xor_end r ls) (check_xor_lit
 
 module _ (s : Stage) (r : Reading) (y : ℕ) (xs : List ℕ) (ls new : List Literal) (v : ℕ) (k l : Literal) (same : k ≡ l)
     (at : s ≡ Xor) (on : variable_of l ≡ v) (other : v ≢ 0) (passed : cond (v == 0) (check_xor_end r ls)
-    (check_xor_literal r ls v) ≡ None) (ready : IsReadyAt s r y xs ls) where
+    (check_xor_literal r ls v) ≡ None) (ready : IsReaderStateAt s r y xs ls) where
   more : (v == 0) ≡ false
   more = ne_eqb v 0 other
 
-  here : IsReadyAt Xor r y xs ls
-  here = subst (λ t. IsReadyAt t r y xs ls) at ready
+  here : IsReaderStateAt Xor r y xs ls
+  here = subst (λ t. IsReaderStateAt t r y xs ls) at ready
 
   step : Grown r ls l
   step = grown r ls v l on (goes r ls v (passes r ls v more passed)) here.0 here.1
@@ -66,9 +66,9 @@ module _ (s : Stage) (r : Reading) (y : ℕ) (xs : List ℕ) (ls new : List Lite
   xor_state (Err e) added = tt
 
   pub xor_ready : (res : Result (Unit {0}) Memory) → OnOk res (new ≡ add_literal ls k) →
-      OnOk res (IsReadyAt s r y xs new)
+      OnOk res (IsReaderStateAt s r y xs new)
   xor_ready (Ok u) added =
-      subst (λ t. IsReadyAt t r y xs new) (sym at)
-      (subst (λ ms. IsReadyAt Xor r y xs ms) (sym (added ∙ ap (add_literal ls) same ∙ step.added))
+      subst (λ t. IsReaderStateAt t r y xs new) (sym at)
+      (subst (λ ms. IsReaderStateAt Xor r y xs ms) (sym (added ∙ ap (add_literal ls) same ∙ step.added))
       (step.clause, step.line))
   xor_ready (Err e) added = tt

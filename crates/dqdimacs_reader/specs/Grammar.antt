@@ -12,10 +12,10 @@ use Rattle.dqdimacs_reader.specs.declared.lexemes.Lexeme.{Lexeme}
 use Rattle.dqdimacs_reader.specs.declared.lexemes.Lexeme.TheVariants.{P, Cnf, A, D, E, X, Natural, Negative}
 
 -- a part of the prefix: `a v.. 0`, `e v.. 0` or `d y x.. 0`
-pub data Part : Type 0 where
-  universals : List ℕ → Part
-  existentials : List ℕ → Part
-  dependent : ℕ → List ℕ → Part
+pub data PrefixPart : Type 0 where
+  universals : List ℕ → PrefixPart
+  existentials : List ℕ → PrefixPart
+  dependent : ℕ → List ℕ → PrefixPart
 
 -- a clause, or an XOR line `x l.. 0`
 pub data Constraint : Type 0 where
@@ -25,7 +25,7 @@ pub data Constraint : Type 0 where
 abbrev pub numbers : List ℕ → List Lexeme
 numbers vs = map Natural vs ++ Natural 0 ∷ []
 
-abbrev pub part_lexemes : Part → List Lexeme
+abbrev pub part_lexemes : PrefixPart → List Lexeme
 part_lexemes (universals vs) = A ∷ numbers vs
 part_lexemes (existentials ys) = E ∷ numbers ys
 part_lexemes (dependent y xs) = D ∷ Natural y ∷ numbers xs
@@ -59,18 +59,18 @@ AreNew add f (v ∷ vs) = IsNew f v × AreNew add (add f v) vs
 abbrev pub IsSeen : Dqbf → ℕ → Type 0
 IsSeen f x = (1 ≤ x) × (x ≤ f.variables) × (is_universal f x ≡ true)
 
-abbrev pub IsLawfulPart : Dqbf → Part → Type 0
+abbrev pub IsLawfulPart : Dqbf → PrefixPart → Type 0
 IsLawfulPart f (universals vs) = AreNew add_universal f vs
 IsLawfulPart f (existentials ys) = AreNew add_first f ys
 IsLawfulPart f (dependent y xs) = IsNew f y × AllByRecursion (IsSeen f) xs
 
 -- the formula with a part's declarations
-abbrev pub declare : Dqbf → Part → Dqbf
+abbrev pub declare : Dqbf → PrefixPart → Dqbf
 declare f (universals vs) = fold add_universal f vs
 declare f (existentials ys) = fold add_first f ys
 declare f (dependent y xs) = add_listed f y xs
 
-abbrev pub AreLawfulParts : Dqbf → List Part → Type 0
+abbrev pub AreLawfulParts : Dqbf → List PrefixPart → Type 0
 AreLawfulParts f [] = Unit {0}
 AreLawfulParts f (part ∷ parts) = IsLawfulPart f part × AreLawfulParts (declare f part) parts
 
@@ -101,7 +101,7 @@ add_constraint f (xor literals) = add_xor f literals
 -- as the header says, in any order. The formula has what the parts declare, the clauses of these,
 -- and the free variables.
 pub record SpellsFormula (text : List ℕ) (f : Dqbf) : Type 0 where
-  pub parts : List Part
+  pub parts : List PrefixPart
   pub constraints : List Constraint
   pub spelling : map (λ token. lexeme_of token.text) (tokens_of text)
       ≡ header f.variables (length constraints)

@@ -8,14 +8,14 @@ use Rattle.dqdimacs_reader.specs.Building.{empty_formula}
 use Rattle.dqdimacs_reader.specs.Machine.{State, Reading, before_header, before_format, before_variables, before_clauses, at_part, in_universals, in_existentials, at_dependent, in_dependencies, in_clause, in_xor, max_xor}
 use Rattle.dqdimacs_reader.specs.declared.machine.Machine.{Machine}
 use Rattle.dqdimacs_reader.specs.declared.machine.Stage.{Stage}
-use Rattle.dqdimacs_reader.specs.declared.machine.Stage.TheVariants.{Header, Format, Variables, Clauses, Part, Universals, Existentials, Dependent, Dependencies, Clause, Xor}
+use Rattle.dqdimacs_reader.specs.declared.machine.Stage.TheVariants.{Header, Format, Variables, Clauses, PrefixPart, Universals, Existentials, Dependent, Dependencies, Clause, Xor}
 
 abbrev pub state_at : Stage → Reading → ℕ → List ℕ → List Literal → State
 state_at Header r y xs literals = before_header
 state_at Format r y xs literals = before_format
 state_at Variables r y xs literals = before_variables
 state_at Clauses r y xs literals = before_clauses r.formula.variables
-state_at Part r y xs literals = at_part r
+state_at PrefixPart r y xs literals = at_part r
 state_at Universals r y xs literals = in_universals r
 state_at Existentials r y xs literals = in_existentials r
 state_at Dependent r y xs literals = at_dependent r
@@ -55,19 +55,19 @@ pub record IsXorLine (literals : List Literal) : Type 0 where
   pub few : length literals ≤ max_xor
   pub apart : AllPairs (λ k l. variable_of k ≢ variable_of l) literals
 
-abbrev pub IsReadyAt : Stage → Reading → ℕ → List ℕ → List Literal → Type 0
-IsReadyAt Header r y xs literals = Unit {0}
-IsReadyAt Format r y xs literals = Unit {0}
-IsReadyAt Variables r y xs literals = Unit {0}
-IsReadyAt Clauses r y xs literals = r.formula ≡ empty_formula r.formula.variables
-IsReadyAt Part r y xs literals = IsCounted r
-IsReadyAt Universals r y xs literals = IsCounted r
-IsReadyAt Existentials r y xs literals = IsCounted r
-IsReadyAt Dependent r y xs literals = IsCounted r
-IsReadyAt Dependencies r y xs literals = IsCounted r × IsItem r.formula y xs
-IsReadyAt Clause r y xs literals = IsClause r literals
-IsReadyAt Xor r y xs literals = IsClause r literals × IsXorLine literals
+abbrev pub IsReaderStateAt : Stage → Reading → ℕ → List ℕ → List Literal → Type 0
+IsReaderStateAt Header r y xs literals = Unit {0}
+IsReaderStateAt Format r y xs literals = Unit {0}
+IsReaderStateAt Variables r y xs literals = Unit {0}
+IsReaderStateAt Clauses r y xs literals = r.formula ≡ empty_formula r.formula.variables
+IsReaderStateAt PrefixPart r y xs literals = IsCounted r
+IsReaderStateAt Universals r y xs literals = IsCounted r
+IsReaderStateAt Existentials r y xs literals = IsCounted r
+IsReaderStateAt Dependent r y xs literals = IsCounted r
+IsReaderStateAt Dependencies r y xs literals = IsCounted r × IsItem r.formula y xs
+IsReaderStateAt Clause r y xs literals = IsClause r literals
+IsReaderStateAt Xor r y xs literals = IsClause r literals × IsXorLine literals
 
 -- what the calls that build the formula ask for
-abbrev pub IsReady : Machine → Type 0
-IsReady m = IsReadyAt m.stage (reading_of m) m.dependent m.dependencies.items m.literals
+abbrev pub IsReaderState : Machine → Type 0
+IsReaderState m = IsReaderStateAt m.stage (reading_of m) m.dependent m.dependencies.items m.literals

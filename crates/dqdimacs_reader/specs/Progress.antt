@@ -4,7 +4,7 @@ use Rattle.dq_lits.specs.Formula.{Dqbf}
 use Rattle.dq_text.specs.Pieces.{SummarizedToken}
 use Rattle.dqdimacs_reader.specs.Lexeme.{summary_lexeme}
 use Rattle.dqdimacs_reader.specs.Machine.{State, TextFault, check, advance, at_end, on_line, unless_fault}
-use Rattle.dqdimacs_reader.specs.MachineState.{state_of, IsReady}
+use Rattle.dqdimacs_reader.specs.MachineState.{state_of, IsReaderState}
 use Rattle.dqdimacs_reader.specs.Reading.{IsReading}
 use Rattle.dqdimacs_reader.specs.declared.faults.ReadStop.{ReadStop}
 use Rattle.dqdimacs_reader.specs.declared.faults.ReadStop.TheVariants.{Refused, Memory}
@@ -31,7 +31,7 @@ progress_of t = progress_at t.stopped (state_of t.machine)
 
 -- the machine is ready for the next token
 abbrev pub CanGoOn : Inside → Type 0
-CanGoOn t = IfNone t.stopped (IsReady t.machine)
+CanGoOn t = IfNone t.stopped (IsReaderState t.machine)
 
 abbrev pub has_ended : Progress → Bool
 has_ended (goes_on _) = false

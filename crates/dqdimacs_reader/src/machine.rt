@@ -2,7 +2,7 @@
 
 ghost use Rattle.std.specs.Prelude.{◌≡◌};
 ghost use Rattle.dqdimacs_reader.specs.Machine.{check, before_header};
-ghost use Rattle.dqdimacs_reader.specs.MachineState.{state_of, IsReady};
+ghost use Rattle.dqdimacs_reader.specs.MachineState.{state_of, IsReaderState};
 
 use crate::checks;
 use crate::distinct::DistinctLiterals;
@@ -20,7 +20,7 @@ pub enum Stage {
     Variables,
     Clauses,
     /// At the start of a set, an item, a clause or an XOR line.
-    Part,
+    PrefixPart,
     Universals,
     Existentials,
     /// At the variable of an item.
@@ -49,7 +49,7 @@ pub struct Machine {
 /// The machine before the first token. It takes no memory.
 pub fn start(alloc: Global) -> Machine
     ensures state { state_of result ≡ before_header }
-    ensures ready { IsReady result }
+    ensures ready { IsReaderState result }
 {
     Machine {
         alloc,
@@ -65,7 +65,7 @@ pub fn start(alloc: Global) -> Machine
 
 /// The first check that a token fails.
 pub fn token_fault(machine: &Machine, lexeme: Lexeme) -> Option<FormulaFault>
-    requires { IsReady machine.now }
+    requires { IsReaderState machine.now }
     ensures { result ≡ check (state_of machine.now) lexeme }
 {
     match machine.stage {
@@ -73,7 +73,7 @@ pub fn token_fault(machine: &Machine, lexeme: Lexeme) -> Option<FormulaFault>
         Stage::Format => checks::format_fault(lexeme),
         Stage::Variables => checks::limit_fault(lexeme, MAX_VARIABLES),
         Stage::Clauses => checks::limit_fault(lexeme, MAX_CLAUSES as u64),
-        Stage::Part => checks::part_fault(
+        Stage::PrefixPart => checks::part_fault(
             &machine.formula,
             machine.constraints,
             machine.clauses,

@@ -2,7 +2,7 @@
 
 ghost use Rattle.std.specs.Prelude.{◌≡◌, ◌≢◌, ◌≤◌, ◌<◌, ◌+◌, ◌++◌, ◌∷◌, [], None, OnOk, length, if◌then◌else◌, ◌==◌};
 ghost use Rattle.dqdimacs_reader.specs.Machine.{check, advance, check_declared, check_dependency, check_literal, check_xor_end, check_xor_literal, at_start, in_clause, in_xor, literal_or_end, xor_literal_or_end};
-ghost use Rattle.dqdimacs_reader.specs.MachineState.{state_of, reading_of, literal_on, IsReady};
+ghost use Rattle.dqdimacs_reader.specs.MachineState.{state_of, reading_of, literal_on, IsReaderState};
 
 use crate::lexemes::Lexeme;
 use crate::machine::{Machine, Stage};
@@ -11,10 +11,10 @@ use dq_lits::{Lit, Memory};
 
 /// Goes on behind a token that passes its checks.
 pub fn step(machine: &mut Machine, lexeme: Lexeme) -> Result<(), Memory>
-    requires ready { IsReady machine.old }
+    requires ready { IsReaderState machine.old }
     requires passed { check (state_of machine.old) lexeme ≡ None }
     ensures state { OnOk result (state_of machine.new ≡ advance (state_of machine.old) lexeme) }
-    ensures ready { OnOk result (IsReady machine.new) }
+    ensures ready { OnOk result (IsReaderState machine.new) }
 {
     match (machine.stage, lexeme) {
         (Stage::Header, _) => {
@@ -33,10 +33,10 @@ pub fn step(machine: &mut Machine, lexeme: Lexeme) -> Result<(), Memory>
         (Stage::Clauses, Lexeme::Natural(n)) => {
             machine.clauses = n;
             machine.constraints = 0;
-            machine.stage = Stage::Part;
+            machine.stage = Stage::PrefixPart;
             Ok(())
         }
-        (Stage::Part, lexeme) => begin_part(machine, lexeme),
+        (Stage::PrefixPart, lexeme) => begin_part(machine, lexeme),
         (Stage::Universals, Lexeme::Natural(v)) => declare_universal(machine, v),
         (Stage::Existentials, Lexeme::Natural(v)) => declare_existential(machine, v),
         (Stage::Dependent, Lexeme::Natural(y)) => {
@@ -56,11 +56,11 @@ pub fn step(machine: &mut Machine, lexeme: Lexeme) -> Result<(), Memory>
 
 // At the start of a set, an item, a clause or an XOR line.
 fn begin_part(machine: &mut Machine, lexeme: Lexeme) -> Result<(), Memory>
-    requires stage { machine.old.stage ≡ Stage.Part }
-    requires ready { IsReady machine.old }
+    requires stage { machine.old.stage ≡ Stage.PrefixPart }
+    requires ready { IsReaderState machine.old }
     requires passed { check (state_of machine.old) lexeme ≡ None }
     ensures state { OnOk result (state_of machine.new ≡ at_start (reading_of machine.old) lexeme) }
-    ensures ready { OnOk result (IsReady machine.new) }
+    ensures ready { OnOk result (IsReaderState machine.new) }
 {
     match lexeme {
         Lexeme::A => machine.stage = Stage::Universals,
@@ -94,14 +94,14 @@ fn begin_literals(machine: &mut Machine, stage: Stage)
 // A variable of a universal set, or its end.
 fn declare_universal(machine: &mut Machine, v: u64) -> Result<(), Memory>
     requires stage { machine.old.stage ≡ Stage.Universals }
-    requires ready { IsReady machine.old }
+    requires ready { IsReaderState machine.old }
     requires passed { check_declared (reading_of machine.old) v ≡ None }
     ensures state { OnOk result
         (state_of machine.new ≡ advance (state_of machine.old) (Lexeme.Natural v)) }
-    ensures ready { OnOk result (IsReady machine.new) }
+    ensures ready { OnOk result (IsReaderState machine.new) }
 {
     if v == 0 {
-        machine.stage = Stage::Part;
+        machine.stage = Stage::PrefixPart;
         return Ok(());
     }
     machine.formula.add_universal(v)
@@ -110,14 +110,14 @@ fn declare_universal(machine: &mut Machine, v: u64) -> Result<(), Memory>
 // A variable of an existential set, or its end.
 fn declare_existential(machine: &mut Machine, v: u64) -> Result<(), Memory>
     requires stage { machine.old.stage ≡ Stage.Existentials }
-    requires ready { IsReady machine.old }
+    requires ready { IsReaderState machine.old }
     requires passed { check_declared (reading_of machine.old) v ≡ None }
     ensures state { OnOk result
         (state_of machine.new ≡ advance (state_of machine.old) (Lexeme.Natural v)) }
-    ensures ready { OnOk result (IsReady machine.new) }
+    ensures ready { OnOk result (IsReaderState machine.new) }
 {
     if v == 0 {
-        machine.stage = Stage::Part;
+        machine.stage = Stage::PrefixPart;
         return Ok(());
     }
     machine.formula.add_first(v)
@@ -126,17 +126,17 @@ fn declare_existential(machine: &mut Machine, v: u64) -> Result<(), Memory>
 // A dependency of an item, or its end.
 fn take_dependency(machine: &mut Machine, x: u64) -> Result<(), Memory>
     requires stage { machine.old.stage ≡ Stage.Dependencies }
-    requires ready { IsReady machine.old }
+    requires ready { IsReaderState machine.old }
     requires passed { check_dependency (reading_of machine.old) x ≡ None }
     ensures state { OnOk result
         (state_of machine.new ≡ advance (state_of machine.old) (Lexeme.Natural x)) }
-    ensures ready { OnOk result (IsReady machine.new) }
+    ensures ready { OnOk result (IsReaderState machine.new) }
 {
     if x == 0 {
         machine
             .formula
             .add_listed(machine.dependent, &machine.dependencies)?;
-        machine.stage = Stage::Part;
+        machine.stage = Stage::PrefixPart;
         return Ok(());
     }
     machine.dependencies.push(x)?;
@@ -146,18 +146,18 @@ fn take_dependency(machine: &mut Machine, x: u64) -> Result<(), Memory>
 // A literal of a clause by its variable, or the clause's end.
 fn take_literal(machine: &mut Machine, v: u64, negative: bool) -> Result<(), Memory>
     requires stage { machine.old.stage ≡ Stage.Clause }
-    requires ready { IsReady machine.old }
+    requires ready { IsReaderState machine.old }
     requires passed { check_literal (reading_of machine.old) v ≡ None }
     ensures state { OnOk result
         (state_of machine.new
         ≡ literal_or_end (reading_of machine.old) machine.old.literals v
         (literal_on negative v)) }
-    ensures ready { OnOk result (IsReady machine.new) }
+    ensures ready { OnOk result (IsReaderState machine.new) }
 {
     if v == 0 {
         machine.formula.add_clause(machine.literals.items())?;
         machine.constraints += 1;
-        machine.stage = Stage::Part;
+        machine.stage = Stage::PrefixPart;
         return Ok(());
     }
     let literal = literal_of(&machine.formula, v, negative);
@@ -167,19 +167,19 @@ fn take_literal(machine: &mut Machine, v: u64, negative: bool) -> Result<(), Mem
 // A literal of an XOR line by its variable, or the line's end.
 fn take_xor_literal(machine: &mut Machine, v: u64, negative: bool) -> Result<(), Memory>
     requires stage { machine.old.stage ≡ Stage.Xor }
-    requires ready { IsReady machine.old }
+    requires ready { IsReaderState machine.old }
     requires passed { (if v == 0 then check_xor_end (reading_of machine.old) machine.old.literals
         else check_xor_literal (reading_of machine.old) machine.old.literals v) ≡ None }
     ensures state { OnOk result
         (state_of machine.new
         ≡ xor_literal_or_end (reading_of machine.old) machine.old.literals v
         (literal_on negative v)) }
-    ensures ready { OnOk result (IsReady machine.new) }
+    ensures ready { OnOk result (IsReaderState machine.new) }
 {
     if v == 0 {
         machine.formula.add_xor(machine.literals.items())?;
         machine.constraints += 1;
-        machine.stage = Stage::Part;
+        machine.stage = Stage::PrefixPart;
         return Ok(());
     }
     let literal = literal_of(&machine.formula, v, negative);

@@ -5,7 +5,7 @@ ghost use Rattle.dq_lits.specs.Formula.{Dqbf, HasLawfulPrefix};
 ghost use Rattle.dq_text.specs.Pieces.{SummarizedToken};
 ghost use Rattle.dqdimacs_reader.specs.Lexeme.{summary_lexeme};
 ghost use Rattle.dqdimacs_reader.specs.Machine.{before_header, at_end, on_line};
-ghost use Rattle.dqdimacs_reader.specs.MachineState.{state_of, IsReady};
+ghost use Rattle.dqdimacs_reader.specs.MachineState.{state_of, IsReaderState};
 ghost use Rattle.dqdimacs_reader.specs.Progress.{goes_on, has_stopped, has_ended, may_answer, progress_at, goes_to};
 ghost use Rattle.dqdimacs_reader.specs.Reading.{IsReading, end_fault_of};
 ghost use Rattle.dqdimacs_reader.specs.declared.faults.ReadStop.{ReadStop as Stop};
@@ -108,10 +108,10 @@ impl TakesTokens for TokenReader {
 
 // What stops the reading at a token, if anything does; else the machine goes on behind it.
 fn stop_at(machine: &mut Machine, lexeme: Lexeme, line: u64) -> Option<ReadStop>
-    requires { IsReady machine.old }
+    requires { IsReaderState machine.old }
     ensures taken { goes_to (state_of machine.old) lexeme line
         (progress_at result (state_of machine.new)) }
-    ensures ready { IfNone result (IsReady machine.new) }
+    ensures ready { IfNone result (IsReaderState machine.new) }
 {
     if let Some(name) = token_fault(machine, lexeme) {
         return Some(ReadStop::Refused { line, name });
@@ -124,7 +124,7 @@ fn stop_at(machine: &mut Machine, lexeme: Lexeme, line: u64) -> Option<ReadStop>
 
 // What the end of the text decides.
 fn finish(machine: Machine, last_line: u64) -> Result<Formula, ReadStop>
-    requires { IsReady machine }
+    requires { IsReaderState machine }
     ensures exact { IsReading (on_line last_line (at_end (state_of machine))) result }
     ensures lawful { IfOk result HasLawfulPrefix }
 {
@@ -148,8 +148,10 @@ fn end_fault(machine: &Machine) -> Option<FormulaFault>
         Stage::Header | Stage::Format | Stage::Variables | Stage::Clauses => Some(
             FormulaFault::NoHeader,
         ),
-        Stage::Part if machine.constraints < machine.clauses => Some(FormulaFault::TooFewClauses),
-        Stage::Part => None,
+        Stage::PrefixPart if machine.constraints < machine.clauses => Some(
+            FormulaFault::TooFewClauses,
+        ),
+        Stage::PrefixPart => None,
         _ => Some(FormulaFault::MissingZero),
     }
 }

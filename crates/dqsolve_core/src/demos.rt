@@ -15,7 +15,7 @@ ghost use Rattle.dqsolve_core.specs.Report.{demo_text, demonstration_text, demon
 use dq_formula::Formula;
 use dq_lits::Memory;
 use dq_runs::Output;
-use dq_verdicts::{Demonstration, Status, demonstrate};
+use dq_verdicts::{Demonstration, SolveStatus, demonstrate};
 use dqsolve_words::DemoWords;
 use hint_log::Log;
 use planted_formulas::laws::planted_formulas_are_true;
@@ -43,13 +43,13 @@ pub fn demo_output(
     Ok(Output { status, text })
 }
 
-fn demonstration_status(shown: Demonstration) -> Status
+fn demonstration_status(shown: Demonstration) -> SolveStatus
     ensures { code result ≡ demonstration_status shown }
 {
     match shown {
-        Demonstration::Valid => Status::True,
-        Demonstration::Large => Status::True,
-        Demonstration::CutOff => Status::Unknown,
+        Demonstration::Valid => SolveStatus::True,
+        Demonstration::Large => SolveStatus::True,
+        Demonstration::CutOff => SolveStatus::Unknown,
     }
 }
 

@@ -7,24 +7,24 @@ use Rattle.hint_log.specs.Naming.{rows_of}
 use Rattle.hint_log.specs.ProductiveLog.{fault_groups, fault_room}
 use Rattle.log_laws.specs.Engines.{instances, IsAddedBy, EnginesLeaveRest}
 use Rattle.expansion.specs.Table.{TableState, IsTable, IsFullTable}
-use Rattle.expansion.specs.Standing.{RoundsLeaveTables}
+use Rattle.expansion.specs.Preservation.{RoundsLeaveTables}
 use Rattle.aig_graph.specs.Graph.{AigGraph}
 use Rattle.circuit_cnf.specs.declared.checkers.Checker.{Checker}
 use Rattle.circuit_cnf.specs.Checking.{IsChecker, CheckersStayWithRounds}
-use Rattle.engine_cases.specs.Ready.{IsOpen, IsReady}
+use Rattle.engine_cases.specs.Ready.{IsOpen, IsTableOfRounds}
 
 -- before the row is added
 pub table_with_round : RoundsLeaveTables → (f : Dqbf) (t : TableState) (old mid : ProofLog) (row values : List Bool)
-    (j : ℕ) → IsReady f t old.entries
+    (j : ℕ) → IsTableOfRounds f t old.entries
     → mid ≡ with_entry old (Round row values j) → IsTable f t mid.entries
 table_with_round law f t old mid row values j ready is =
     subst (λ (l : ProofLog). IsTable f t l.entries) (sym is) (law f t row values j old.entries ready.table).0
 
 pub row_added : EnginesLeaveRest → (f : Dqbf) → (t u : TableState) (old mid new : ProofLog) (row values : List Bool)
-    (j : ℕ) → IsReady f t old.entries
+    (j : ℕ) → IsTableOfRounds f t old.entries
     → mid ≡ with_entry old (Round row values j) → ((first : List Entry) →
     Grew (IsAddedBy f instances t.group true first) mid new) → IsFullTable f u new.entries
-    → IsReady f u new.entries
+    → IsTableOfRounds f u new.entries
 row_added law f t u old mid new row values j ready is grew table =
     let left = law f instances t.group true mid new (grew mid.entries) in
     record {
@@ -34,16 +34,16 @@ row_added law f t u old mid new row values j ready is grew table =
     }
 
 pub solved : EnginesLeaveRest → (f : Dqbf) → (t u : TableState) (silent : Bool) (old new : ProofLog) →
-    IsReady f t old.entries
+    IsTableOfRounds f t old.entries
     → ((h : Dqbf) → IsFullTable h t old.entries → Grew (IsAddedBy h instances t.group silent old.entries) old new)
-    → ((h : Dqbf) → IsFullTable h t old.entries → IsFullTable h u new.entries) → IsReady f u new.entries
+    → ((h : Dqbf) → IsFullTable h t old.entries → IsFullTable h u new.entries) → IsTableOfRounds f u new.entries
 solved law f t u silent old new ready grew table =
     let left = law f instances t.group silent old new (grew f ready.table) in
     record { table = table f ready.table; no_faults = left.faults refl ∙ ready.no_faults }
 
 pub begun : EnginesLeaveRest → (f : Dqbf) → IsWellFormed f → (t : TableState) (old new : ProofLog) → old.entries ≡ []
     → ((group : ℕ) → Grew (IsAddedBy f instances group true old.entries) old new) → IsTable f t new.entries →
-    t.rows ≡ [] → IsReady f t new.entries
+    t.rows ≡ [] → IsTableOfRounds f t new.entries
 begun law f well t old new empty grew table rows =
     let left = law f instances 0 true old new (grew 0) in
     record {

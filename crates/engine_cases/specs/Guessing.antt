@@ -4,7 +4,7 @@ use Rattle.std.specs.List.{All, Contains}
 use Rattle.dq_lits.specs.Derivation.{is_tautology}
 use Rattle.dq_lits.specs.Formula.{Dqbf, declared, existential_of}
 use Rattle.dq_lits.specs.Literal.{variable_of}
-use Rattle.padoa_definitions.specs.declared.defining.Pair.{Pair}
+use Rattle.definability.specs.declared.defining.Pair.{Pair}
 use Rattle.engine_cases.specs.declared.conditions.Question.{Question}
 
 -- the question may be asked of this formula

@@ -7,8 +7,8 @@ use Rattle.aig_graph.specs.Graph.{AigGraph}
 use Rattle.circuit_cnf.specs.Checking.{IsChecker}
 use Rattle.circuit_cnf.specs.declared.checkers.Checker.{Checker}
 use Rattle.expansion.specs.Table.{TableState, IsFullTable}
-use Rattle.padoa_definitions.specs.Copies.{IsPadoa}
-use Rattle.padoa_definitions.specs.declared.padoa.Padoa.{Padoa}
+use Rattle.definability.specs.Copies.{IsDefinability}
+use Rattle.definability.specs.declared.definability.Definability.{Definability}
 
 -- every turn so far had its round
 pub record IsOpen (f : Dqbf) (graph : AigGraph) (checker : Checker)
@@ -18,11 +18,11 @@ pub record IsOpen (f : Dqbf) (graph : AigGraph) (checker : Checker)
   pub faults : length (fault_groups entries) < fault_room entries
 
 -- the table's rows are those of all rounds, and no circuit was judged beside it
-pub record IsReady (f : Dqbf) (t : TableState) (entries : List Entry) : Type 0 where
+pub record IsTableOfRounds (f : Dqbf) (t : TableState) (entries : List Entry) : Type 0 where
   pub table : IsFullTable f t entries
   pub no_faults : fault_groups entries ≡ []
 
 -- the copies are linked
-pub record IsLinked (f : Dqbf) (graph : AigGraph) (p : Padoa) (entries : List Entry) : Type 0 where
+pub record IsLinked (f : Dqbf) (graph : AigGraph) (p : Definability) (entries : List Entry) : Type 0 where
   pub inputs : graph.inputs ≡ length f.universals + length f.existentials
-  pub padoa : IsPadoa f p entries
+  pub definability : IsDefinability f p entries

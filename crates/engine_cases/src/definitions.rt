@@ -10,10 +10,10 @@ use crate::shown::{Shown, push_signed, show_more};
 use aig_graph::{Graph, Node};
 use anyhow::{Result, anyhow};
 use cdcl_core::Cdcl;
+use definability::{Definability, Found};
 use dq_formula::Formula;
 use hint_log::{Log, Stop};
 use oracle::Oracle;
-use padoa_definitions::{Found, Padoa};
 use std::alloc::Global;
 
 // More steps than any case takes.
@@ -61,15 +61,15 @@ pub fn begin<O: Oracle + Drop>(
     requires fit { O.Fits oracle log }
     requires empty { log.entries ≡ [] }
     ensures fit { IfOk result (λ d. O.Fits d.oracle d.log) }
-    ensures linked { IfOk result (λ d. IsLinked f.now d.graph d.padoa d.log.entries) }
+    ensures linked { IfOk result (λ d. IsLinked f.now d.graph d.definability d.log.entries) }
 {
     let graph = Graph::new(alloc, f.universals().len() + f.existentials().len());
-    let padoa = Padoa::new(alloc, &mut oracle, f, &mut log)?;
+    let definability = Definability::new(alloc, &mut oracle, f, &mut log)?;
     Ok(Defining {
         oracle,
         log,
         graph,
-        padoa,
+        definability,
     })
 }
 
@@ -80,7 +80,7 @@ pub struct Defining<O> {
     pub oracle: O,
     pub log: Log,
     pub graph: Graph,
-    pub padoa: Padoa,
+    pub definability: Definability,
 }
 
 impl<O: Oracle> Defining<O> {
@@ -93,7 +93,7 @@ impl<O: Oracle> Defining<O> {
     ) -> Result<()>
         requires formula { IsWellFormed f.now }
         requires fit { O.Fits self.old.oracle self.old.log }
-        requires linked { IsLinked f.now self.old.graph self.old.padoa self.old.log.entries }
+        requires linked { IsLinked f.now self.old.graph self.old.definability self.old.log.entries }
     {
         let mut shown = show_more(alloc, &self.log, Shown { names: 0, id: 0 }, printed)?;
         for word in existentials.split_whitespace() {
@@ -107,16 +107,23 @@ impl<O: Oracle> Defining<O> {
     fn define(&mut self, alloc: Global, f: &Formula, y: u64, printed: &mut String) -> Result<()>
         requires formula { IsWellFormed f.now }
         requires fit { O.Fits self.old.oracle self.old.log }
-        requires linked { IsLinked f.now self.old.graph self.old.padoa self.old.log.entries }
+        requires linked { IsLinked f.now self.old.graph self.old.definability self.old.log.entries }
         ensures fit { IfOk result (λ u. O.Fits self.new.oracle self.new.log) }
         ensures linked { IfOk result (λ u.
-            IsLinked f.now self.new.graph self.new.padoa self.new.log.entries) }
+            IsLinked f.now self.new.graph self.new.definability self.new.log.entries) }
     {
         if !f.is_existential(y) {
             return Err(anyhow!("no existential: {y}"));
         }
         push_variable(alloc, y, printed)?;
-        let found = self.padoa.define(&mut self.oracle, &mut self.graph, f, &[], y, &mut self.log);
+        let found = self.definability.define(
+            &mut self.oracle,
+            &mut self.graph,
+            f,
+            &[],
+            y,
+            &mut self.log,
+        );
         match &found {
             Ok(Found::Defined(node)) => show_definition(alloc, f, &self.graph, *node, printed),
             Ok(Found::Free(_)) => push_word("free", printed),

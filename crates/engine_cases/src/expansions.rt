@@ -7,7 +7,7 @@ ghost use Rattle.hint_log.specs.Naming.{rows_of};
 ghost use Rattle.hint_log.specs.ProductiveLog.{fault_groups};
 ghost use Rattle.dq_formula.specs.Prefix.{existential_variables};
 ghost use Rattle.expansion.specs.Table.{ArePoints, point_bits};
-ghost use Rattle.engine_cases.specs.Ready.{IsReady};
+ghost use Rattle.engine_cases.specs.Ready.{IsTableOfRounds};
 
 use crate::evaluation::{Candidates, TableModel, show_candidates, show_rows};
 use crate::reports::{Detail, Report};
@@ -79,7 +79,7 @@ fn begin<O: Oracle + Drop>(
     requires fit { O.Fits oracle log }
     requires empty { log.entries ≡ [] }
     ensures fit { IfOk result (λ e. O.Fits e.oracle e.log) }
-    ensures ready { IfOk result (λ e. IsReady f.now e.table e.log.entries) }
+    ensures ready { IfOk result (λ e. IsTableOfRounds f.now e.table e.log.entries) }
 {
     engines_leave_the_rest();
     let table = Table::new(alloc, &mut oracle, f, &mut log)?;
@@ -111,7 +111,7 @@ impl<O: Oracle> Expanding<O> {
     ) -> Result<()>
         requires formula { IsWellFormed f.now }
         requires fit { O.Fits self.old.oracle self.old.log }
-        requires ready { IsReady f.now self.old.table self.old.log.entries }
+        requires ready { IsTableOfRounds f.now self.old.table self.old.log.entries }
     {
         let from = Shown { names: 0, id: 0 };
         let mut shown = show_more(alloc, &self.log, from, &mut report.text)?;
@@ -129,9 +129,9 @@ impl<O: Oracle> Expanding<O> {
     fn add_row(&mut self, alloc: Global, f: &Formula, text: &str) -> Result<()>
         requires formula { IsWellFormed f.now }
         requires fit { O.Fits self.old.oracle self.old.log }
-        requires ready { IsReady f.now self.old.table self.old.log.entries }
+        requires ready { IsTableOfRounds f.now self.old.table self.old.log.entries }
         ensures fit { IfOk result (λ u. O.Fits self.new.oracle self.new.log) }
-        ensures ready { IfOk result (λ u. IsReady f.now self.new.table self.new.log.entries) }
+        ensures ready { IfOk result (λ u. IsTableOfRounds f.now self.new.table self.new.log.entries) }
     {
         let row = row_of(alloc, f, text)?;
         let values = Row::new(alloc, f.existentials().len())?;
@@ -147,9 +147,9 @@ impl<O: Oracle> Expanding<O> {
     fn find(&mut self, alloc: Global, f: &Formula, report: &mut Report) -> Result<bool>
         requires formula { IsWellFormed f.now }
         requires fit { O.Fits self.old.oracle self.old.log }
-        requires ready { IsReady f.now self.old.table self.old.log.entries }
+        requires ready { IsTableOfRounds f.now self.old.table self.old.log.entries }
         ensures fit { IfOk result (λ b. O.Fits self.new.oracle self.new.log) }
-        ensures ready { IfOk result (λ b. IsReady f.now self.new.table self.new.log.entries) }
+        ensures ready { IfOk result (λ b. IsTableOfRounds f.now self.new.table self.new.log.entries) }
     {
         engines_leave_the_rest();
         match self.table.solve(&mut self.oracle, &mut self.log) {

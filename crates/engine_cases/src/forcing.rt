@@ -2,18 +2,18 @@
 
 ghost use Rattle.std.specs.Prelude.{◌≡◌, [], length, IfOk};
 ghost use Rattle.dq_lits.specs.Formula.{IsWellFormed};
-ghost use Rattle.padoa_definitions.specs.Copies.{IsPadoa};
+ghost use Rattle.definability.specs.Copies.{IsDefinability};
 
 use crate::definitions::push_variable;
 use crate::rows::{push_bits, row_of};
 use crate::shown::push_signed;
 use anyhow::{Result, anyhow};
 use cdcl_core::Cdcl;
+use definability::{Definability, Forced};
 use dq_formula::Formula;
 use dq_lits::Row;
 use hint_log::{Log, Stop};
 use oracle::Oracle;
-use padoa_definitions::{Forced, Padoa};
 use std::alloc::Global;
 
 // More steps than any case takes.
@@ -76,27 +76,27 @@ fn ask_by<O: Oracle + Drop>(
     requires fit { O.Fits oracle log }
     requires empty { log.entries ≡ [] }
 {
-    let mut padoa = Padoa::new(alloc, &mut oracle, f, &mut log)?;
-    force(&mut oracle, &mut log, &mut padoa, f, question)
+    let mut definability = Definability::new(alloc, &mut oracle, f, &mut log)?;
+    force(&mut oracle, &mut log, &mut definability, f, question)
 }
 
 fn force<O: Oracle>(
     oracle: &mut O,
     log: &mut Log,
-    padoa: &mut Padoa,
+    definability: &mut Definability,
     f: &Formula,
     question: &Question,
 ) -> Result<Forced>
     requires formula { IsWellFormed f.now }
     requires fit { O.Fits oracle.old log.old }
-    requires padoa { IsPadoa f.now padoa.old log.old.entries }
+    requires definability { IsDefinability f.now definability.old log.old.entries }
     requires row { length question.now.row ≡ length f.now.universals }
 {
     let y = question.y;
     if !f.is_existential(y) {
         return Err(anyhow!("no existential: {y}"));
     }
-    match padoa.force(oracle, f, y, &question.row, question.bit, log) {
+    match definability.force(oracle, f, y, &question.row, question.bit, log) {
         Ok(forced) => Ok(forced),
         Err(Stop::Limit) => Err(anyhow!("limit")),
         Err(Stop::Memory) => Err(anyhow!("out of memory")),

@@ -11,11 +11,11 @@ use crate::evaluation::{Point, holds, is_true};
 use crate::shown::{push_clause, push_signed};
 use anyhow::{Result, anyhow};
 use cdcl_core::Cdcl;
+use definability::{Guess, Pair};
 use dq_formula::Formula;
 use dq_lits::Lit;
 use hint_log::{Log, Stop};
 use oracle::Oracle;
-use padoa_definitions::{Guess, Pair};
 use std::alloc::Global;
 
 /// Asks for definitions under conditions: `LIMIT Y LITERAL .. ; LIMIT Y LITERAL ..`.
@@ -59,7 +59,7 @@ impl<O: Oracle> Defining<O> {
     ) -> Result<()>
         requires formula { IsWellFormed f.now }
         requires fit { O.Fits self.old.oracle self.old.log }
-        requires linked { IsLinked f.now self.old.graph self.old.padoa self.old.log.entries }
+        requires linked { IsLinked f.now self.old.graph self.old.definability self.old.log.entries }
     {
         for text in questions.split(';') {
             self.guess_stated(alloc, f, text, printed)?;
@@ -76,10 +76,10 @@ impl<O: Oracle> Defining<O> {
     ) -> Result<()>
         requires formula { IsWellFormed f.now }
         requires fit { O.Fits self.old.oracle self.old.log }
-        requires linked { IsLinked f.now self.old.graph self.old.padoa self.old.log.entries }
+        requires linked { IsLinked f.now self.old.graph self.old.definability self.old.log.entries }
         ensures fit { IfOk result (λ u. O.Fits self.new.oracle self.new.log) }
         ensures linked { IfOk result (λ u.
-            IsLinked f.now self.new.graph self.new.padoa self.new.log.entries) }
+            IsLinked f.now self.new.graph self.new.definability self.new.log.entries) }
     {
         let question = question_of(alloc, f, text)?;
         self.guess_within(alloc, f, &question, printed)
@@ -96,10 +96,10 @@ impl<O: Oracle> Defining<O> {
         requires formula { IsWellFormed f.now }
         requires posed { IsPosed f.now question.now }
         requires fit { O.Fits self.old.oracle self.old.log }
-        requires linked { IsLinked f.now self.old.graph self.old.padoa self.old.log.entries }
+        requires linked { IsLinked f.now self.old.graph self.old.definability self.old.log.entries }
         ensures fit { IfOk result (λ u. O.Fits self.new.oracle self.new.log) }
         ensures linked { IfOk result (λ u.
-            IsLinked f.now self.new.graph self.new.padoa self.new.log.entries) }
+            IsLinked f.now self.new.graph self.new.definability self.new.log.entries) }
     {
         set_limit(&mut self.log, question.limit)?;
         push_question(alloc, question, self.log.limit(), printed)?;
@@ -116,14 +116,14 @@ impl<O: Oracle> Defining<O> {
         requires formula { IsWellFormed f.now }
         requires posed { IsPosed f.now question.now }
         requires fit { O.Fits self.old.oracle self.old.log }
-        requires linked { IsLinked f.now self.old.graph self.old.padoa self.old.log.entries }
+        requires linked { IsLinked f.now self.old.graph self.old.definability self.old.log.entries }
         ensures fit { IfOk result (λ u. O.Fits self.new.oracle self.new.log) }
         ensures linked { IfOk result (λ u.
-            IsLinked f.now self.new.graph self.new.padoa self.new.log.entries) }
+            IsLinked f.now self.new.graph self.new.definability self.new.log.entries) }
     {
         let y = question.y.var();
         let asked = &question.conditions;
-        let found = self.padoa.guess(
+        let found = self.definability.guess(
             &mut self.oracle,
             &mut self.graph,
             f,

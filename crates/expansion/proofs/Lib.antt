@@ -11,7 +11,7 @@ mod NamedArbiters
 mod InstanceLiterals
 pub mod GivenInstances
 pub mod AddedRows
-mod StandingTables
+mod PreservedTables
 mod ComparedRows
 mod RowOrders
 mod SharedSets

@@ -4,4 +4,4 @@ pub mod Silence
 pub mod Searches
 pub mod Giving
 pub mod Adding
-pub mod Standing
+pub mod Preservation

@@ -33,7 +33,7 @@ pub(crate) struct Test {
 
 // The lines that are left at a branch by the tests above it, and the inputs that these are on.
 #[derive(Drop)]
-struct Part {
+struct OpenBranch {
     at: usize,
     tested: u64,
     lines: Vec<Line>,
@@ -44,7 +44,7 @@ struct Growth<'t> {
     alloc: Global,
     table: &'t Table,
     branches: Vec<Branch>,
-    parts: Vec<Part>,
+    parts: Vec<OpenBranch>,
     looks: usize,
 }
 
@@ -97,12 +97,12 @@ impl<'t> Growth<'t> {
     fn put(&mut self, tested: u64, lines: Vec<Line>) -> Result<usize, Memory> {
         let at = self.branches.len();
         self.branches.push(Branch::Leaf(0))?;
-        self.parts.push(Part { at, tested, lines })?;
+        self.parts.push(OpenBranch { at, tested, lines })?;
         Ok(at)
     }
 
     // Makes a branch. Where no line is left, or no look, there is no tree.
-    fn visit(&mut self, part: &Part) -> Result<bool, Memory> {
+    fn visit(&mut self, part: &OpenBranch) -> Result<bool, Memory> {
         if part.lines.is_empty() || part.lines.len() > self.looks {
             return Ok(false);
         }
@@ -117,7 +117,7 @@ impl<'t> Growth<'t> {
         Ok(true)
     }
 
-    fn test(&mut self, part: &Part) -> Result<Branch, Memory> {
+    fn test(&mut self, part: &OpenBranch) -> Result<Branch, Memory> {
         let place = heaviest(part);
         let Some(input) = self.table.inputs.get(place) else {
             return Ok(Branch::Leaf(0));
@@ -129,14 +129,14 @@ impl<'t> Growth<'t> {
     }
 
     // The branch for a value of an input, made later.
-    fn put_where(&mut self, part: &Part, place: usize, value: bool) -> Result<usize, Memory> {
+    fn put_where(&mut self, part: &OpenBranch, place: usize, value: bool) -> Result<usize, Memory> {
         let lines = lines_where(self.alloc, &part.lines, place, value)?;
         self.put(part.tested | bit(place), lines)
     }
 }
 
 // The clause of a line that reads no input that isn't tested yet.
-fn decided(part: &Part) -> Option<u32> {
+fn decided(part: &OpenBranch) -> Option<u32> {
     for line in &part.lines {
         if line.read & !part.tested == 0 {
             return Some(line.number);
@@ -147,7 +147,7 @@ fn decided(part: &Part) -> Option<u32> {
 
 // The input whose lines decide most rows of those that are left, each line counted alone; of equal
 // ones the first.
-fn heaviest(part: &Part) -> usize {
+fn heaviest(part: &OpenBranch) -> usize {
     let mut best = 0usize;
     let mut most = 0usize;
     for place in 0..MOST_INPUTS {
@@ -160,7 +160,7 @@ fn heaviest(part: &Part) -> usize {
     best
 }
 
-fn weight(part: &Part, place: usize) -> usize {
+fn weight(part: &OpenBranch, place: usize) -> usize {
     let mut weight = 0usize;
     for line in &part.lines {
         let open = line.read & !part.tested;

@@ -3,7 +3,7 @@ use Rattle.std.proofs.Common.{◌≡◌, ℕ, ◌≤◌, ◌==◌, ◌⊎◌, in
 use Rattle.std.specs.Char.{is_ascii_digit}
 use Rattle.std.specs.List.{All, AllByRecursion, AllZip, Contains, flat_map, list_all}
 use Rattle.std.proofs.lemmas.List.Elements.{All-contains, All-from_recursion, All-weaker, recursion_from_All}
-use Rattle.headline.specs.Headline.{AreListed, Constraint, Formula, IsNatural, Literal, Part, Spells, SpellsFormula, Symbol, clause, constraint_symbols, declared_in, dependent, existentials, formula_symbols, literal_symbol, literals_of, natural, negative, numbers, opposite, part_symbols, positive, tokens, universals, variable_of, word, xor}
+use Rattle.headline.specs.Headline.{AreListed, Constraint, Formula, IsNatural, Literal, PrefixPart, Spells, SpellsFormula, Symbol, clause, constraint_symbols, declared_in, dependent, existentials, formula_symbols, literal_symbol, literals_of, natural, negative, numbers, opposite, part_symbols, positive, tokens, universals, variable_of, word, xor}
 
 -- ---- a token spells one symbol
 
@@ -82,12 +82,12 @@ plain_numbers : (vs : List ℕ) → ArePlain (numbers vs)
 plain_numbers [] = (tt, tt)
 plain_numbers (v ∷ vs) = (tt, plain_numbers vs)
 
-plain_part : (p : Part) → ArePlain (part_symbols p)
+plain_part : (p : PrefixPart) → ArePlain (part_symbols p)
 plain_part (universals vs) = (refl, plain_numbers vs)
 plain_part (existentials ys) = (refl, plain_numbers ys)
 plain_part (dependent y xs) = (refl, (tt, plain_numbers xs))
 
-plain_parts : (ps : List Part) → ArePlain (flat_map part_symbols ps)
+plain_parts : (ps : List PrefixPart) → ArePlain (flat_map part_symbols ps)
 plain_parts [] = tt
 plain_parts (p ∷ ps) = plain_append (part_symbols p) (flat_map part_symbols ps) (plain_part p) (plain_parts ps)
 
@@ -233,12 +233,12 @@ constraints_same (c ∷ cs) (d ∷ ds) p q e =
 
 -- ---- parts
 
-abbrev IsNumbered : Part → Type 0
+abbrev IsNumbered : PrefixPart → Type 0
 IsNumbered (universals vs) = Positive vs
 IsNumbered (existentials ys) = Positive ys
 IsNumbered (dependent y xs) = Positive xs
 
-part_same : (p q : Part) (ss us : List Symbol) → IsNumbered p → IsNumbered q →
+part_same : (p q : PrefixPart) (ss us : List Symbol) → IsNumbered p → IsNumbered q →
     part_symbols p ++ ss ≡ part_symbols q ++ us → (p ≡ q) × (ss ≡ us)
 part_same (universals vs) (universals ws) ss us a b e =
     let same = numbers_same vs ws ss us a b (ap rest e) in (ap universals same.0, same.1)
@@ -255,7 +255,7 @@ part_same (dependent v vs) (dependent w ws) ss us a b e =
     (ap (λ y. dependent y vs) (ap (λ ps. first_number (rest ps)) e) ∙ ap (dependent w) same.0, same.1)
 
 -- `a`, `e` or `d` stands first
-part_kind : (p : Part) (ss us : List Symbol) →
+part_kind : (p : PrefixPart) (ss us : List Symbol) →
     (97 ≤ kind (part_symbols p ++ ss ++ us)) × (kind (part_symbols p ++ ss ++ us) ≤ 101)
 part_kind (universals vs) ss us = (omega arith, omega arith)
 part_kind (existentials ys) ss us = (omega arith, omega arith)
@@ -269,7 +269,7 @@ constraints_kind (c ∷ cs) = elim (constraint_kind c (flat_map constraint_symbo
   | inr is ↦ inr is
 ]
 
-not_both : (p : Part) (ss us : List Symbol) (cs : List Constraint) →
+not_both : (p : PrefixPart) (ss us : List Symbol) (cs : List Constraint) →
     kind (flat_map constraint_symbols cs) ≡ kind (part_symbols p ++ ss ++ us) → ⊥
 not_both p ss us cs same =
     let of_part = part_kind p ss us in
@@ -278,14 +278,14 @@ not_both p ss us cs same =
       | inr is ↦ omega (arith, is, same, of_part.1)
     ]
 
-abbrev AllNumbered : List Part → Type 0
+abbrev AllNumbered : List PrefixPart → Type 0
 AllNumbered [] = Unit {0}
 AllNumbered (p ∷ ps) = IsNumbered p × AllNumbered ps
 
-abbrev spelled_with : List Part → List Constraint → List Symbol
+abbrev spelled_with : List PrefixPart → List Constraint → List Symbol
 spelled_with ps cs = flat_map part_symbols ps ++ flat_map constraint_symbols cs
 
-parts_same : (ps qs : List Part) (cs ds : List Constraint) → AllNumbered ps → AllNumbered qs → AllNamed cs →
+parts_same : (ps qs : List PrefixPart) (cs ds : List Constraint) → AllNumbered ps → AllNumbered qs → AllNamed cs →
     AllNamed ds → spelled_with ps cs ≡ spelled_with qs ds → (ps ≡ qs) × (cs ≡ ds)
 parts_same [] [] cs ds a b p q e = (refl, constraints_same cs ds p q e)
 parts_same [] (other ∷ qs) cs ds a b p q e =
@@ -322,7 +322,7 @@ listed_positive before xs known listed =
     (All-weaker (Contains before) (λ x. 1 ≤ x)
     (λ x there. All-contains (λ v. 1 ≤ v) before x (All-from_recursion (λ v. 1 ≤ v) before known) there) xs listed)
 
-numbered_parts : (before : List ℕ) (ps : List Part) → Positive before → Positive (flat_map declared_in ps) →
+numbered_parts : (before : List ℕ) (ps : List PrefixPart) → Positive before → Positive (flat_map declared_in ps) →
     AreListed before ps → AllNumbered ps
 numbered_parts before [] known all listed = tt
 numbered_parts before (universals vs ∷ ps) known all listed =

@@ -64,10 +64,10 @@ pub data Literal : Type 0 where
   opposite : ℕ → Literal
 
 -- `a v.. 0`, `e v.. 0`, `d y x.. 0`
-pub data Part : Type 0 where
-  universals : List ℕ → Part
-  existentials : List ℕ → Part
-  dependent : ℕ → List ℕ → Part
+pub data PrefixPart : Type 0 where
+  universals : List ℕ → PrefixPart
+  existentials : List ℕ → PrefixPart
+  dependent : ℕ → List ℕ → PrefixPart
 
 -- `l.. 0`, `x l.. 0`
 pub data Constraint : Type 0 where
@@ -76,13 +76,13 @@ pub data Constraint : Type 0 where
 
 pub record Formula : Type 0 where
   pub variables : ℕ
-  pub parts : List Part
+  pub parts : List PrefixPart
   pub constraints : List Constraint
 
 abbrev pub numbers : List ℕ → List Symbol
 numbers vs = map natural vs ++ natural 0 ∷ []
 
-abbrev pub part_symbols : Part → List Symbol
+abbrev pub part_symbols : PrefixPart → List Symbol
 part_symbols (universals vs) = word (codes "a") ∷ numbers vs
 part_symbols (existentials ys) = word (codes "e") ∷ numbers ys
 part_symbols (dependent y xs) = word (codes "d") ∷ natural y ∷ numbers xs
@@ -111,7 +111,7 @@ abbrev pub literals_of : Constraint → List Literal
 literals_of (clause ls) = ls
 literals_of (xor ls) = ls
 
-abbrev pub declared_in : Part → List ℕ
+abbrev pub declared_in : PrefixPart → List ℕ
 declared_in (universals vs) = vs
 declared_in (existentials ys) = ys
 declared_in (dependent y _) = y ∷ []
@@ -119,7 +119,7 @@ declared_in (dependent y _) = y ∷ []
 abbrev pub declared : Formula → List ℕ
 declared f = flat_map declared_in f.parts
 
-abbrev pub universals_in : Part → List ℕ
+abbrev pub universals_in : PrefixPart → List ℕ
 universals_in (universals vs) = vs
 universals_in (existentials _) = []
 universals_in (dependent _ _) = []
@@ -136,7 +136,7 @@ abbrev pub seeing : List ℕ → ℕ → Existential
 seeing xs y = record { variable = y; sees = xs }
 
 -- an `e` variable sees the universals declared before it, a `d` variable those that it lists
-abbrev pub existentials_from : List ℕ → List Part → List Existential
+abbrev pub existentials_from : List ℕ → List PrefixPart → List Existential
 existentials_from before [] = []
 existentials_from before (universals vs ∷ parts) = existentials_from (before ++ vs) parts
 existentials_from before (existentials ys ∷ parts) =
@@ -159,7 +159,7 @@ existentials_of f =
     existentials_from [] f.parts ++ map (seeing []) (filter (is_free f) (up_to f.variables))
 
 -- what a `d` line lists was declared before
-abbrev pub AreListed : List ℕ → List Part → Type 0
+abbrev pub AreListed : List ℕ → List PrefixPart → Type 0
 AreListed before [] = Unit {0}
 AreListed before (universals vs ∷ parts) = AreListed (before ++ vs) parts
 AreListed before (existentials _ ∷ parts) = AreListed before parts

@@ -11,19 +11,19 @@ use Rattle.dq_lits.specs.Formula.{Existential as ReadExistential}
 use Rattle.dq_formula.specs.Prefix.{is_declared}
 use Rattle.dqdimacs_reader.specs.Building.{add_universal, add_existential, add_first, add_listed}
 use Rattle.dqdimacs_reader.specs.Grammar.{IsNew, AreNew, IsSeen, IsLawfulPart, AreLawfulParts, declare}
-use Rattle.dqdimacs_reader.specs.Grammar.{Part as ReadPart, universals as read_universals, existentials as read_existentials, dependent as read_dependent}
+use Rattle.dqdimacs_reader.specs.Grammar.{PrefixPart as ReadPart, universals as read_universals, existentials as read_existentials, dependent as read_dependent}
 use Rattle.headline_laws.specs.Formulas.{read_existential}
-use Rattle.headline.specs.Headline.{Part, universals, existentials, dependent, AreListed, among, declared_in, existentials_from, seeing, universals_in}
+use Rattle.headline.specs.Headline.{PrefixPart, universals, existentials, dependent, AreListed, among, declared_in, existentials_from, seeing, universals_in}
 use Rattle.list_laws.proofs.Truths.{unequal, or_second, or_assoc_left}
 use Rattle.dqdimacs_reader.proofs.CanonicalFormula.{each as rec_each}
 use Rattle.list_laws.proofs.Quantified.{rec_append}
 
-abbrev pub page_part : ReadPart → Part
+abbrev pub page_part : ReadPart → PrefixPart
 page_part (read_universals vs) = universals vs
 page_part (read_existentials ys) = existentials ys
 page_part (read_dependent y xs) = dependent y xs
 
-abbrev pub page_parts : List ReadPart → List Part
+abbrev pub page_parts : List ReadPart → List PrefixPart
 page_parts parts = map page_part parts
 
 abbrev pub variables_in : List ReadPart → List ℕ

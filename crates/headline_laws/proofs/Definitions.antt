@@ -20,7 +20,7 @@ use Rattle.cert_text.specs.declared.kinds.Kind.TheVariants.{Circuit as CircuitTe
 use Rattle.defined_checker.specs.DefinitionReads.{MayDefine}
 use Rattle.defined_checker.specs.Forced.{AreRight, IsForced, IsRight, definition_value}
 use Rattle.defined_checker.specs.Judging.{counted, counts_of, no_counts}
-use Rattle.defined_checker.specs.declared.checks.Counts.{Counts}
+use Rattle.defined_checker.specs.declared.checks.DefinedCounts.{DefinedCounts}
 use Rattle.cert_judge.specs.Judgement.{HoldsRightDefinitions, SpellsBlocks}
 use Rattle.headline.specs.Headline.{AreDefined, Existential, Formula, IsDefined, MayRead, existentials_of, standing_before}
 use Rattle.headline_laws.specs.Formulas.{IsOnPage, read_existential}
@@ -136,7 +136,7 @@ free_count [] = 0
 free_count (defined d ∷ blocks) = free_count blocks
 free_count (free p ∷ blocks) = suc (free_count blocks)
 
-counts_are : (blocks : List DefinitionBlock) (c : Counts) →
+counts_are : (blocks : List DefinitionBlock) (c : DefinedCounts) →
     ((counts_of c blocks).defined ≡ c.defined + defined_count blocks)
     × ((counts_of c blocks).free ≡ c.free + free_count blocks)
 counts_are [] c = (omega arith, omega arith)
@@ -248,7 +248,7 @@ module _ (text : List ℕ) (read : Dqbf) (f : Formula) (on : IsOnPage text read 
     (free_count blocks, refl, each zs blocks known.1 are.1 right.1),
   )
 
-  blocks_defined : (blocks : List DefinitionBlock) (counts : Counts) →
+  blocks_defined : (blocks : List DefinitionBlock) (counts : DefinedCounts) →
       AreBlocksOf read (existential_variables read) blocks → AreRight read blocks → counts ≡ counts_of no_counts blocks →
       AreDefined f all counts.defined counts.free
   blocks_defined blocks counts are right counted_so =
@@ -258,12 +258,12 @@ module _ (text : List ℕ) (read : Dqbf) (f : Formula) (on : IsOnPage text read 
       (subst (λ vs. AreBlocksOf read vs blocks) own are) right in
       let sums = counts_are blocks no_counts in
       let d : defined_count blocks ≡ counts.defined =
-      (let whole = sums.0 in let e = ap (λ (c : Counts). c.defined) counted_so in omega (arith, whole, e)) in
+      (let whole = sums.0 in let e = ap (λ (c : DefinedCounts). c.defined) counted_so in omega (arith, whole, e)) in
       let r : free_count blocks ≡ counts.free =
-      (let whole = sums.1 in let e = ap (λ (c : Counts). c.free) counted_so in omega (arith, whole, e)) in
+      (let whole = sums.1 in let e = ap (λ (c : DefinedCounts). c.free) counted_so in omega (arith, whole, e)) in
       subst (λ n. AreDefined f all n counts.free) d (subst (λ n. AreDefined f all (defined_count blocks) n) r said)
 
-  by_kind : (certificate : List ℕ) (counts : Counts) (kind : Result Kind CertRefusal) (blocks : List DefinitionBlock) →
+  by_kind : (certificate : List ℕ) (counts : DefinedCounts) (kind : Result Kind CertRefusal) (blocks : List DefinitionBlock) →
       SpellsBlocks read certificate kind blocks → AreRight read blocks → counts ≡ counts_of no_counts blocks →
       AreDefined f all counts.defined counts.free
   by_kind certificate counts (Ok (Definitions at h)) blocks s right counted_so =
@@ -273,7 +273,7 @@ module _ (text : List ℕ) (read : Dqbf) (f : Formula) (on : IsOnPage text read 
   by_kind certificate counts (Ok (Refutation at h)) blocks s right counted_so = absurd s
   by_kind certificate counts (Err refusal) blocks s right counted_so = absurd s
 
-  pub held_definitions : (certificate : List ℕ) (counts : Counts) → HoldsRightDefinitions read certificate counts →
+  pub held_definitions : (certificate : List ℕ) (counts : DefinedCounts) → HoldsRightDefinitions read certificate counts →
       AreDefined f all counts.defined counts.free
   held_definitions certificate counts h =
       by_kind certificate counts (certificate_kind certificate) h.blocks h.spelled h.right h.counted

@@ -19,7 +19,7 @@ use Rattle.dq_formula.specs.Xor.{XorIsItsClauses}
 use Rattle.dq_text.specs.Token.{TextToken, tokens_of}
 use Rattle.dqdimacs_reader.specs.Building.{empty_formula}
 use Rattle.dqdimacs_reader.specs.Grammar.{InRange, IsLawfulConstraint, AreLawfulConstraints, add_constraint, declare, numbers, part_lexemes, clause_lexemes, constraint_lexemes, literal_lexeme, header}
-use Rattle.dqdimacs_reader.specs.Grammar.{SpellsFormula as IsRead, Constraint as ReadConstraint, plain, xor as read_xor, Part as ReadPart, universals as read_universals, existentials as read_existentials, dependent as read_dependent}
+use Rattle.dqdimacs_reader.specs.Grammar.{SpellsFormula as IsRead, Constraint as ReadConstraint, plain, xor as read_xor, PrefixPart as ReadPart, universals as read_universals, existentials as read_existentials, dependent as read_dependent}
 use Rattle.dqdimacs_reader.specs.Lexeme.{lexeme_of}
 use Rattle.dqdimacs_reader.specs.declared.lexemes.Lexeme.TheVariants.{Natural}
 use Rattle.dqdimacs_reader.proofs.SpelledClauses.{matrix-spelled, spelled_matrix}

@@ -5,7 +5,7 @@ ghost use Rattle.std.specs.Prelude.{◌≡◌, ℕ, List, map};
 ghost use Rattle.dq_lits.specs.Formula.{Dqbf, IsWellFormed};
 ghost use Rattle.dq_text.specs.Token.{tokens_of};
 ghost use Rattle.dqdimacs_reader.specs.Grammar.{SpellsFormula};
-ghost use Rattle.defined_checker.specs.declared.checks.Counts.{Counts};
+ghost use Rattle.defined_checker.specs.declared.checks.DefinedCounts.{DefinedCounts};
 ghost use Rattle.cert_judge.specs.Judgement.{HoldsRightDefinitions, HoldsSkolemCircuit, IsJudgement};
 ghost use Rattle.cert_judge.specs.declared.answers.Judgement.TheVariants.{ValidTrue};
 ghost use Rattle.headline.specs.Headline.{AreDefined, Formula, HoldsSkolem, existentials_of, tokens};
@@ -57,7 +57,7 @@ pub fn accepted_circuits_are_on_the_page()
 
 /// Definitions that are right to the reader are right on the page, of the page's formula.
 pub fn definitions_are_on_the_page()
-    ensures { (formula certificate : List ℕ) (read : Dqbf) (f : Formula) (counts : Counts)
+    ensures { (formula certificate : List ℕ) (read : Dqbf) (f : Formula) (counts : DefinedCounts)
         → IsOnPage formula read f → IsWellFormed read
         → HoldsRightDefinitions read certificate counts
         → AreDefined f (existentials_of f) counts.defined counts.free }

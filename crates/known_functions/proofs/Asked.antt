@@ -8,14 +8,14 @@ use Rattle.hint_log.specs.Entries.{ProofLog}
 use Rattle.hint_log.specs.Growth.{Grew}
 use Rattle.log_laws.specs.Engines.{copies, IsAddedBy}
 use Rattle.log_laws.proofs.LargerLogs.{grown_by_none, grown_then}
-use Rattle.padoa_definitions.specs.Copies.{IsPadoa}
-use Rattle.padoa_definitions.specs.Growing.{HasSameGivens}
-use Rattle.padoa_definitions.specs.declared.padoa.Padoa.{Padoa}
+use Rattle.definability.specs.Copies.{IsDefinability}
+use Rattle.definability.specs.Growing.{HasSameGivens}
+use Rattle.definability.specs.declared.definability.Definability.{Definability}
 use Rattle.known_functions.specs.Searching.{IsAsked}
 use Rattle.known_functions.specs.Guessing.{MayAsk, HasAsked}
 use Rattle.known_functions.proofs.AskedEntries.{asked_alone}
 
-pub nothing_asked : (f : Dqbf) (graph : AigGraph) (p : Padoa) (log : ProofLog) → MayAsk f graph p log.entries →
+pub nothing_asked : (f : Dqbf) (graph : AigGraph) (p : Definability) (log : ProofLog) → MayAsk f graph p log.entries →
     HasAsked f graph graph p log log
 nothing_asked f graph p log may = record {
   may = may;
@@ -23,15 +23,15 @@ nothing_asked f graph p log may = record {
   extends = extends-refl graph;
 }
 
-pub grown_asked : (f : Dqbf) (graph grown : AigGraph) (p : Padoa) (log : ProofLog) → MayAsk f graph p log.entries →
+pub grown_asked : (f : Dqbf) (graph grown : AigGraph) (p : Definability) (log : ProofLog) → MayAsk f graph p log.entries →
     Extends graph grown → HasAsked f graph grown p log log
 grown_asked f graph grown p log may extends = record {
-  may = record { formula = may.formula; padoa = may.padoa; inputs = extends.inputs ∙ may.inputs };
+  may = record { formula = may.formula; definability = may.definability; inputs = extends.inputs ∙ may.inputs };
   grew = grown_by_none (IsAsked f) log log refl;
   extends = extends;
 }
 
-pub asked_then : (f : Dqbf) (graph middle grown : AigGraph) (p : Padoa) (old log new : ProofLog) →
+pub asked_then : (f : Dqbf) (graph middle grown : AigGraph) (p : Definability) (old log new : ProofLog) →
     HasAsked f graph middle p old log →
     HasAsked f middle grown p log new → HasAsked f graph grown p old new
 asked_then f graph middle grown p old log new one other = record {
@@ -40,12 +40,12 @@ asked_then f graph middle grown p old log new one other = record {
   extends = grown_twice graph middle grown one.extends other.extends;
 }
 
-pub asked_by : (f : Dqbf) (graph grown : AigGraph) (p : Padoa) (old new : ProofLog) → MayAsk f graph p old.entries →
+pub asked_by : (f : Dqbf) (graph grown : AigGraph) (p : Definability) (old new : ProofLog) → MayAsk f graph p old.entries →
     ((group : ℕ) → Grew (IsAddedBy f copies group true old.entries) old new) →
-    HasSameGivens old.entries new.entries → IsPadoa f p new.entries →
+    HasSameGivens old.entries new.entries → IsDefinability f p new.entries →
     Extends graph grown → HasAsked f graph grown p old new
 asked_by f graph grown p old new may grew same copied extends = record {
-  may = record { formula = may.formula; padoa = copied; inputs = extends.inputs ∙ may.inputs };
+  may = record { formula = may.formula; definability = copied; inputs = extends.inputs ∙ may.inputs };
   grew = asked_alone f old new (grew 0) same;
   extends = extends;
 }

@@ -9,8 +9,8 @@ use Rattle.hint_log.specs.Entries.{Entry, Named, Given, Learned, Answer, Round, 
 use Rattle.hint_log.specs.Growth.{EachOf, Grew}
 use Rattle.hint_log.specs.declared.names.Name.{Name}
 use Rattle.log_laws.specs.Engines.{copies, IsAddedBy}
-use Rattle.padoa_definitions.specs.Growing.{HasSameGivens}
-use Rattle.padoa_definitions.proofs.GivenClauses.{no_fault}
+use Rattle.definability.specs.Growing.{HasSameGivens}
+use Rattle.definability.proofs.GivenClauses.{no_fault}
 use Rattle.known_functions.specs.Searching.{IsAsked}
 
 -- what has a name later has no name before only where it was named between

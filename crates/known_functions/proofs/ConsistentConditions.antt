@@ -13,8 +13,8 @@ use Rattle.dq_formula.specs.Prefix.{IsLawful, is_declared, existential_variables
 use Rattle.dq_formula.proofs.Places.{contains-has}
 use Rattle.known_functions.specs.Guessing.{AreConditions}
 use Rattle.definition_order.proofs.Declared.{is_variable}
-use Rattle.padoa_definitions.proofs.KeptPlaces.{universal_differs}
-use Rattle.padoa_definitions.proofs.DividedAnswers.{held_in_either}
+use Rattle.definability.proofs.KeptPlaces.{universal_differs}
+use Rattle.definability.proofs.DividedAnswers.{held_in_either}
 
 is_last : (last j : Literal) → holds (last ∷ []) j ≡ true → j ≡ last
 is_last last j held = elim (holds_cases last [] j held) [ inl same ↦ same | inr none ↦ cc ]

@@ -22,14 +22,14 @@ use Rattle.aig_graph.specs.Graph.{AigGraph}
 use Rattle.candidate_functions.specs.Candidates.{IsGuess, AreGuesses, definition_of}
 use Rattle.definition_order.proofs.Declared.{existential_at, variable}
 use Rattle.candidate_functions.proofs.LargerGraphs.{definitions_stay, guesses_stay}
-use Rattle.padoa_definitions.specs.Defining.{IsFound}
-use Rattle.padoa_definitions.specs.declared.defining.Found.{Found}
-use Rattle.padoa_definitions.specs.declared.defining.Found.TheVariants.{Defined, Free}
-use Rattle.padoa_definitions.specs.Guessing.{IsGuess as IsRightGuess}
-use Rattle.padoa_definitions.specs.declared.guessing.Guess.TheVariants.{Node as NodeFound}
-use Rattle.padoa_definitions.specs.Forcing.{IsForced}
-use Rattle.padoa_definitions.specs.declared.forcing.Forced.{Forced}
-use Rattle.padoa_definitions.specs.declared.forcing.Forced.TheVariants.{Rule as ByRule, Loose}
+use Rattle.definability.specs.Defining.{IsFound}
+use Rattle.definability.specs.declared.defining.Found.{Found}
+use Rattle.definability.specs.declared.defining.Found.TheVariants.{Defined, Free}
+use Rattle.definability.specs.Guessing.{IsGuess as IsRightGuess}
+use Rattle.definability.specs.declared.guessing.Guess.TheVariants.{Node as NodeFound}
+use Rattle.definability.specs.Forcing.{IsForced}
+use Rattle.definability.specs.declared.forcing.Forced.{Forced}
+use Rattle.definability.specs.declared.forcing.Forced.TheVariants.{Rule as ByRule, Loose}
 use Rattle.known_functions.specs.declared.definitions.Definitions.{Definitions}
 use Rattle.known_functions.specs.Guessing.{LeavesKnown}
 use Rattle.known_functions.specs.Searching.{AreKnown, definition_in}

@@ -7,15 +7,15 @@ use Rattle.log_laws.specs.Engines.{copies, IsAddedBy}
 use Rattle.log_laws.proofs.LargerLogs.{grown_then}
 use Rattle.std.specs.List.{All}
 use Rattle.dq_formula.specs.Rules.{IsRule}
-use Rattle.padoa_definitions.specs.Copies.{IsPadoa}
-use Rattle.padoa_definitions.specs.Growing.{HasSameGivens}
-use Rattle.padoa_definitions.specs.declared.padoa.Padoa.{Padoa}
+use Rattle.definability.specs.Copies.{IsDefinability}
+use Rattle.definability.specs.Growing.{HasSameGivens}
+use Rattle.definability.specs.declared.definability.Definability.{Definability}
 use Rattle.known_functions.specs.declared.definitions.Definitions.{Definitions}
 use Rattle.known_functions.specs.Searching.{IsAsked}
 use Rattle.known_functions.specs.Forcing.{MayForce, HasForced}
 use Rattle.known_functions.proofs.AskedEntries.{asked_alone}
 
-pub forced_then : (f : Dqbf) (p : Padoa) (d e h : Definitions) (a b c : ProofLog) → HasForced f p d e a b →
+pub forced_then : (f : Dqbf) (p : Definability) (d e h : Definitions) (a b c : ProofLog) → HasForced f p d e a b →
     HasForced f p e h b c → HasForced f p d h a c
 forced_then f p d e h a b c one two = record {
   ranks = two.ranks ∙ one.ranks;
@@ -26,7 +26,7 @@ forced_then f p d e h a b c one two = record {
   grew = grown_then (IsAsked f) a b c one.grew two.grew;
 }
 
-pub may_force_on : (f : Dqbf) (p : Padoa) (d e : Definitions) (a b : ProofLog) → MayForce f d p a.entries →
+pub may_force_on : (f : Dqbf) (p : Definability) (d e : Definitions) (a b : ProofLog) → MayForce f d p a.entries →
     HasForced f p d e a b → MayForce f e p b.entries
 may_force_on f p d e a b may forced = record {
   formula = may.formula;
@@ -36,11 +36,11 @@ may_force_on f p d e a b may forced = record {
 }
 
 -- a rule was asked of the copies
-pub forced_by : (f : Dqbf) (p : Padoa) (d e : Definitions)
+pub forced_by : (f : Dqbf) (p : Definability) (d e : Definitions)
     (old new : ProofLog) → e.ranks.items ≡ d.ranks.items → e.nodes.items ≡ d.nodes.items →
     e.guesses.items ≡ d.guesses.items → All (IsRule f) e.rules.items →
     ((group : ℕ) → Grew (IsAddedBy f copies group true old.entries) old new) →
-    HasSameGivens old.entries new.entries → IsPadoa f p new.entries → HasForced f p d e old new
+    HasSameGivens old.entries new.entries → IsDefinability f p new.entries → HasForced f p d e old new
 forced_by f p d e old new ranks nodes guesses rules grew same copied = record {
   ranks = ranks;
   nodes = nodes;

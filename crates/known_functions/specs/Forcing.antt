@@ -7,8 +7,8 @@ use Rattle.dq_formula.specs.Rules.{IsRule}
 use Rattle.aig_graph.specs.Graph.{AigGraph}
 use Rattle.hint_log.specs.Entries.{Entry, ProofLog}
 use Rattle.hint_log.specs.Growth.{Grew}
-use Rattle.padoa_definitions.specs.Copies.{IsPadoa}
-use Rattle.padoa_definitions.specs.declared.padoa.Padoa.{Padoa}
+use Rattle.definability.specs.Copies.{IsDefinability}
+use Rattle.definability.specs.declared.definability.Definability.{Definability}
 use Rattle.known_functions.specs.declared.definitions.Definitions.{Definitions}
 use Rattle.known_functions.specs.declared.forcing.TableModel.{TableModel}
 use Rattle.known_functions.specs.Searching.{AreKnown, IsAsked}
@@ -24,18 +24,18 @@ pub record IsModelOf (f : Dqbf) (model : TableModel) : Type 0 where
   pub rows : length model.points.now.rows ≡ length model.table.now.rows
 
 -- before it is asked what a row forces
-pub record MayForce (f : Dqbf) (d : Definitions) (copies : Padoa) (entries : List Entry) : Type 0 where
+pub record MayForce (f : Dqbf) (d : Definitions) (copies : Definability) (entries : List Entry) : Type 0 where
   pub formula : IsWellFormed f
-  pub copied : IsPadoa f copies entries
+  pub copied : IsDefinability f copies entries
   pub one_each : length d.nodes.items ≡ length f.existentials
   pub forced : All (IsRule f) d.rules.items
 
 -- and behind a call that asked: rules alone may have come, and in the log what questions add
-pub record HasForced (f : Dqbf) (copies : Padoa) (before after : Definitions)
+pub record HasForced (f : Dqbf) (copies : Definability) (before after : Definitions)
     (old new : ProofLog) : Type 0 where
   pub ranks : after.ranks.items ≡ before.ranks.items
   pub nodes : after.nodes.items ≡ before.nodes.items
   pub guesses : after.guesses.items ≡ before.guesses.items
   pub forced : All (IsRule f) after.rules.items
-  pub copied : IsPadoa f copies new.entries
+  pub copied : IsDefinability f copies new.entries
   pub grew : Grew (IsAsked f) old new

@@ -9,8 +9,8 @@ use Rattle.dq_lits.specs.Formula.{Dqbf, IsWellFormed, declared}
 use Rattle.dq_lits.specs.Literal.{Literal, variable_of}
 use Rattle.hint_log.specs.Entries.{Entry, ProofLog}
 use Rattle.hint_log.specs.Growth.{Grew}
-use Rattle.padoa_definitions.specs.Copies.{IsPadoa}
-use Rattle.padoa_definitions.specs.declared.padoa.Padoa.{Padoa}
+use Rattle.definability.specs.Copies.{IsDefinability}
+use Rattle.definability.specs.declared.definability.Definability.{Definability}
 use Rattle.known_functions.specs.Searching.{IsAsked, HasInputs}
 use Rattle.known_functions.specs.declared.definitions.Definitions.{Definitions}
 
@@ -29,14 +29,14 @@ pub record LeavesKnown (old new : Definitions) : Type 0 where
   pub guesses : new.guesses.items ≡ old.guesses.items
 
 -- copies of the formula's matrix stand ready
-pub record MayAsk (f : Dqbf) (graph : AigGraph) (copies : Padoa) (entries : List Entry) : Type 0 where
+pub record MayAsk (f : Dqbf) (graph : AigGraph) (copies : Definability) (entries : List Entry) : Type 0 where
   pub formula : IsWellFormed f
-  pub padoa : IsPadoa f copies entries
+  pub definability : IsDefinability f copies entries
   pub inputs : HasInputs f graph
 
 -- and they still do behind a call, which adds to the log what questions add, and leaves its limit and
 -- what stands in the graph
-pub record HasAsked (f : Dqbf) (graph grown : AigGraph) (copies : Padoa)
+pub record HasAsked (f : Dqbf) (graph grown : AigGraph) (copies : Definability)
     (old new : ProofLog) : Type 0 where
   pub may : MayAsk f grown copies new.entries
   pub grew : Grew (IsAsked f) old new

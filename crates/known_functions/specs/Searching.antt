@@ -9,8 +9,8 @@ use Rattle.aig_graph.specs.Graph.{AigGraph}
 use Rattle.candidate_functions.specs.Candidates.{AreDefinitions, AreGuesses}
 use Rattle.dq_formula.specs.Rules.{IsRule}
 use Rattle.dq_formula.specs.declared.rules.Rule.{Rule}
-use Rattle.padoa_definitions.specs.declared.defining.Found.{Found}
-use Rattle.padoa_definitions.specs.declared.defining.Found.TheVariants.{Defined, Free}
+use Rattle.definability.specs.declared.defining.Found.{Found}
+use Rattle.definability.specs.declared.defining.Found.TheVariants.{Defined, Free}
 
 -- what questions add to the log: learned clauses, and answers that decide nothing
 abbrev pub IsAsked : Dqbf → List Entry → Entry → Type 0

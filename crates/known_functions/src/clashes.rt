@@ -6,7 +6,7 @@ ghost use Rattle.dq_lits.specs.Formula.{Existential, IsWellFormed, existential_o
 ghost use Rattle.aig_graph.specs.Made.{Extends};
 ghost use Rattle.hint_log.specs.Growth.{Grew};
 ghost use Rattle.oracle.specs.Limits.{IsAtSomeLimit};
-ghost use Rattle.padoa_definitions.specs.Copies.{IsPadoa};
+ghost use Rattle.definability.specs.Copies.{IsDefinability};
 ghost use Rattle.candidate_functions.specs.Candidates.{IsGuess};
 ghost use Rattle.known_functions.specs.Searching.{HasInputs, IsAsked};
 ghost use Rattle.known_functions.specs.Guessing.{AreConditions, HasAsked, LeavesKnown, MayAsk};
@@ -14,11 +14,11 @@ ghost use Rattle.known_functions.specs.Guessing.{AreConditions, HasAsked, Leaves
 use crate::definitions::Definitions;
 use crate::lawful_conditions::row_conditions;
 use aig_graph::{Graph, Node};
+use definability::{Definability, Guess, Pair};
 use dq_formula::Formula;
 use dq_lits::{Lit, Row};
 use hint_log::{Log, Stop};
 use oracle::Oracle;
-use padoa_definitions::{Guess, Padoa, Pair};
 
 impl Definitions {
     // A guess of an existential under conditions; where there is none, what its samples tell is
@@ -26,7 +26,7 @@ impl Definitions {
     pub(crate) fn guess_or_learn<O: Oracle>(
         &mut self,
         oracle: &mut O,
-        padoa: &Padoa,
+        definability: &Definability,
         graph: &mut Graph,
         f: &Formula,
         y: u64,
@@ -34,20 +34,20 @@ impl Definitions {
         log: &mut Log,
     ) -> Result<Option<Node>, Stop>
         requires fit { O.Fits oracle.old log.old }
-        requires may { MayAsk f.now graph.old padoa.now log.old.entries }
+        requires may { MayAsk f.now graph.old definability.now log.old.entries }
         requires existential { IsSome (existential_of f.now y) }
         requires conditions { AreConditions f.now y conditions.now }
         ensures fit { O.Fits oracle.new log.new }
-        ensures asked { HasAsked f.now graph.old graph.new padoa.now log.old log.new }
+        ensures asked { HasAsked f.now graph.old graph.new definability.now log.old log.new }
         ensures left { LeavesKnown self.old self.new }
         ensures guess { (e : Existential) → existential_of f.now y ≡ Some e
             → IfOk result (λ guess. IfSome guess (IsGuess f.now graph.new e)) }
         ensures limit { IsErrOf result Stop.Limit → IsAtSomeLimit log.new }
     {
-        match padoa.guess(oracle, graph, f, y, conditions, log)? {
+        match definability.guess(oracle, graph, f, y, conditions, log)? {
             Guess::Node(node) => Ok(Some(node)),
             Guess::Pair(pair) => {
-                self.learn_clash(oracle, padoa, graph, f, y, &pair, log)?;
+                self.learn_clash(oracle, definability, graph, f, y, &pair, log)?;
                 Ok(None)
             }
         }
@@ -58,7 +58,7 @@ impl Definitions {
     fn learn_clash<O: Oracle>(
         &mut self,
         oracle: &mut O,
-        padoa: &Padoa,
+        definability: &Definability,
         graph: &mut Graph,
         f: &Formula,
         y: u64,
@@ -66,17 +66,17 @@ impl Definitions {
         log: &mut Log,
     ) -> Result<(), Stop>
         requires fit { O.Fits oracle.old log.old }
-        requires may { MayAsk f.now graph.old padoa.now log.old.entries }
+        requires may { MayAsk f.now graph.old definability.now log.old.entries }
         requires existential { IsSome (existential_of f.now y) }
         ensures fit { O.Fits oracle.new log.new }
-        ensures asked { HasAsked f.now graph.old graph.new padoa.now log.old log.new }
+        ensures asked { HasAsked f.now graph.old graph.new definability.now log.old log.new }
         ensures left { LeavesKnown self.old self.new }
         ensures limit { IsErrOf result Stop.Limit → IsAtSomeLimit log.new }
     {
-        if !self.is_fixed(oracle, padoa, graph, f, y, &pair.row1, log)? {
+        if !self.is_fixed(oracle, definability, graph, f, y, &pair.row1, log)? {
             return Ok(());
         }
-        if !self.is_fixed(oracle, padoa, graph, f, y, &pair.row2, log)? {
+        if !self.is_fixed(oracle, definability, graph, f, y, &pair.row2, log)? {
             return Ok(());
         }
         self.questions.conditions.keep(pair)?;
@@ -87,7 +87,7 @@ impl Definitions {
     fn is_fixed<O: Oracle>(
         &mut self,
         oracle: &mut O,
-        padoa: &Padoa,
+        definability: &Definability,
         graph: &mut Graph,
         f: &Formula,
         y: u64,
@@ -95,10 +95,10 @@ impl Definitions {
         log: &mut Log,
     ) -> Result<bool, Stop>
         requires fit { O.Fits oracle.old log.old }
-        requires may { MayAsk f.now graph.old padoa.now log.old.entries }
+        requires may { MayAsk f.now graph.old definability.now log.old.entries }
         requires existential { IsSome (existential_of f.now y) }
         ensures fit { O.Fits oracle.new log.new }
-        ensures asked { HasAsked f.now graph.old graph.new padoa.now log.old log.new }
+        ensures asked { HasAsked f.now graph.old graph.new definability.now log.old log.new }
         ensures left { LeavesKnown self.old self.new }
         ensures limit { IsErrOf result Stop.Limit → IsAtSomeLimit log.new }
     {
@@ -106,7 +106,7 @@ impl Definitions {
             return Ok(false);
         }
         let conditions = row_conditions(self.questions.alloc, f, y, row)?;
-        let found = padoa.guess(oracle, graph, f, y, &conditions, log)?;
+        let found = definability.guess(oracle, graph, f, y, &conditions, log)?;
         Ok(is_node(&found))
     }
 }

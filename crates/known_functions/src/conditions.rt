@@ -10,8 +10,8 @@
 //! without a definition would give functions of what isn't known yet.
 
 use crate::suspects::Defined;
+use definability::Pair;
 use dq_lits::{Lit, Memory, Row};
-use padoa_definitions::Pair;
 use std::alloc::Global;
 
 // How many clauses share a literal at least that is a condition.
@@ -129,7 +129,7 @@ impl Conditions {
         defined: &Defined,
         suspects: &[usize],
     ) -> Result<(), Memory> {
-        let counts = Counts::new(alloc, defined, suspects)?;
+        let counts = LiteralCounts::new(alloc, defined, suspects)?;
         self.put_each(alloc, defined, suspects, &counts)
     }
 
@@ -138,7 +138,7 @@ impl Conditions {
         alloc: Global,
         defined: &Defined,
         suspects: &[usize],
-        counts: &Counts,
+        counts: &LiteralCounts,
     ) -> Result<(), Memory> {
         for number in suspects.iter().rev() {
             if self.sets.len() >= MOST_SETS {
@@ -162,14 +162,14 @@ impl Conditions {
 
 // How many clauses have each literal on an existential, by place and sign.
 #[derive(Drop)]
-struct Counts {
+struct LiteralCounts {
     counts: Vec<u32>,
 }
 
-impl Counts {
-    fn new(alloc: Global, defined: &Defined, suspects: &[usize]) -> Result<Counts, Memory> {
+impl LiteralCounts {
+    fn new(alloc: Global, defined: &Defined, suspects: &[usize]) -> Result<LiteralCounts, Memory> {
         let places = defined.nodes.len().saturating_mul(2);
-        let mut counts = Counts {
+        let mut counts = LiteralCounts {
             counts: vec![in alloc; 0u32; places]?,
         };
         for number in suspects {
@@ -226,7 +226,7 @@ fn slot(defined: &Defined, l: Lit) -> Option<usize> {
 fn conditions_of(
     alloc: Global,
     defined: &Defined,
-    counts: &Counts,
+    counts: &LiteralCounts,
     clause: &[Lit],
 ) -> Result<Vec<Lit>, Memory> {
     let shared = shared_literals(alloc, defined, counts, clause)?;
@@ -269,7 +269,7 @@ fn last_place(defined: &Defined, clause: &[Lit]) -> usize {
 fn shared_literals(
     alloc: Global,
     defined: &Defined,
-    counts: &Counts,
+    counts: &LiteralCounts,
     clause: &[Lit],
 ) -> Result<Vec<Lit>, Memory> {
     let mut set = Vec::new(alloc);

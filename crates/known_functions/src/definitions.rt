@@ -7,8 +7,8 @@ ghost use Rattle.std.specs.Prelude.{◌≡◌, ◌<◌, ℕ, true, length, repli
 ghost use Rattle.dq_lits.specs.Formula.{Existential, IsWellFormed};
 ghost use Rattle.aig_graph.specs.Made.{Extends};
 ghost use Rattle.hint_log.specs.Growth.{Grew};
-ghost use Rattle.padoa_definitions.specs.Copies.{IsPadoa};
-ghost use Rattle.padoa_definitions.specs.Defining.{IsFound};
+ghost use Rattle.definability.specs.Copies.{IsDefinability};
+ghost use Rattle.definability.specs.Defining.{IsFound};
 ghost use Rattle.known_functions.specs.Guessing.{HasAsked, LeavesKnown, MayAsk};
 ghost use Rattle.known_functions.specs.Searching.{HasInputs, IsAsked, definition_in};
 ghost use Rattle.known_functions.specs.Forcing.{AreKnownIn};
@@ -18,13 +18,13 @@ use crate::questions::Questions;
 use crate::suspects::Defined;
 use aig_graph::{Graph, Node};
 use candidate_functions::Samples;
+use definability::{Definability, Found};
 use definition_order::existentials_in_order;
 use dq_formula::{Formula, Rule};
 use dq_lits::{Memory, Row};
 use gate_definitions::Gates;
 use hint_log::{Log, Stop};
 use oracle::Oracle;
-use padoa_definitions::{Found, Padoa};
 use std::alloc::Global;
 
 /// What is known of the existentials of a formula.
@@ -47,7 +47,7 @@ pub struct Definitions {
 #[derive(Drop)]
 pub(crate) struct ExistentialAt<'f, 'p> {
     pub f: &'f Formula,
-    pub padoa: &'p Padoa,
+    pub definability: &'p Definability,
     pub place: usize,
 }
 
@@ -56,7 +56,7 @@ pub(crate) struct ExistentialAt<'f, 'p> {
 #[derive(Drop)]
 struct Order<'f, 'p, 's> {
     f: &'f Formula,
-    padoa: &'p Padoa,
+    definability: &'p Definability,
     places: &'s [usize],
 }
 
@@ -184,11 +184,11 @@ impl Definitions {
         log: &mut Log,
     ) -> Result<(), Stop>
         requires fit { O.Fits oracle.old log.old }
-        requires may { MayAsk order.now.f.now graph.old order.now.padoa.now log.old.entries }
+        requires may { MayAsk order.now.f.now graph.old order.now.definability.now log.old.entries }
         requires known { AreKnownIn order.now.f.now graph.old self.old }
         requires places { All (λ p. p < length order.now.f.now.existentials) order.now.places.now }
         ensures fit { O.Fits oracle.new log.new }
-        ensures asked { HasAsked order.now.f.now graph.old graph.new order.now.padoa.now
+        ensures asked { HasAsked order.now.f.now graph.old graph.new order.now.definability.now
             log.old log.new }
         ensures known { OnOk result (AreKnownIn order.now.f.now graph.new self.new) }
         ensures limit { IsErrOf result Stop.Limit → IsAtSomeLimit log.new }
@@ -196,7 +196,7 @@ impl Definitions {
         for place in order.places {
             let existential = ExistentialAt {
                 f: order.f,
-                padoa: order.padoa,
+                definability: order.definability,
                 place: *place,
             };
             self.find(oracle, graph, &existential, log)?;
@@ -213,13 +213,13 @@ impl Definitions {
         log: &mut Log,
     ) -> Result<(), Stop>
         requires fit { O.Fits oracle.old log.old }
-        requires may { MayAsk existential.now.f.now graph.old existential.now.padoa.now
+        requires may { MayAsk existential.now.f.now graph.old existential.now.definability.now
             log.old.entries }
         requires known { AreKnownIn existential.now.f.now graph.old self.old }
         requires place { existential.now.place < length existential.now.f.now.existentials }
         ensures fit { O.Fits oracle.new log.new }
         ensures asked { HasAsked existential.now.f.now graph.old graph.new
-            existential.now.padoa.now log.old log.new }
+            existential.now.definability.now log.old log.new }
         ensures known { OnOk result (AreKnownIn existential.now.f.now graph.new self.new) }
         ensures limit { IsErrOf result Stop.Limit → IsAtSomeLimit log.new }
     {
@@ -245,13 +245,13 @@ impl Definitions {
         log: &mut Log,
     ) -> Result<Option<Found>, Stop>
         requires fit { O.Fits oracle.old log.old }
-        requires may { MayAsk existential.now.f.now graph.old existential.now.padoa.now
+        requires may { MayAsk existential.now.f.now graph.old existential.now.definability.now
             log.old.entries }
         requires place { existential.now.place < length existential.now.f.now.existentials }
         ensures fit { O.Fits oracle.new log.new }
         ensures same { self.new ≡ self.old }
         ensures asked { HasAsked existential.now.f.now graph.old graph.new
-            existential.now.padoa.now log.old log.new }
+            existential.now.definability.now log.old log.new }
         ensures found { (e : Existential)
             → slice_get existential.now.f.now.existentials existential.now.place ≡ Some e
             → IfOk result (λ found. IfSome found (IsFound existential.now.f.now
@@ -268,7 +268,7 @@ impl Definitions {
             return Ok(None);
         }
         let found = existential
-            .padoa
+            .definability
             .define(oracle, graph, f, &self.ranks, y, log)?;
         Ok(Some(found))
     }
@@ -285,15 +285,15 @@ pub(crate) fn no_nodes(alloc: Global, n: usize) -> Result<Vec<Option<Node>>, Mem
 pub fn find_definitions<O: Oracle>(
     alloc: Global,
     oracle: &mut O,
-    padoa: &Padoa,
+    definability: &Definability,
     graph: &mut Graph,
     f: &Formula,
     log: &mut Log,
 ) -> Result<Definitions, Stop>
     requires fit { O.Fits oracle.old log.old }
-    requires may { MayAsk f.now graph.old padoa.now log.old.entries }
+    requires may { MayAsk f.now graph.old definability.now log.old.entries }
     ensures fit { O.Fits oracle.new log.new }
-    ensures asked { HasAsked f.now graph.old graph.new padoa.now log.old log.new }
+    ensures asked { HasAsked f.now graph.old graph.new definability.now log.old log.new }
     ensures known { IfOk result (AreKnownIn f.now graph.new) }
     ensures limit { IsErrOf result Stop.Limit → IsAtSomeLimit log.new }
 {
@@ -303,10 +303,10 @@ pub fn find_definitions<O: Oracle>(
     definitions.questions.set_order(&places)?;
     let order = Order {
         f,
-        padoa,
+        definability,
         places: &places,
     };
     definitions.find_all(oracle, graph, &order, log)?;
-    definitions.guess_all(oracle, padoa, graph, f, log)?;
+    definitions.guess_all(oracle, definability, graph, f, log)?;
     Ok(definitions)
 }

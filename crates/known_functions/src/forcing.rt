@@ -16,12 +16,12 @@ ghost use Rattle.oracle.specs.Limits.{IsAtSomeLimit};
 use crate::definitions::{Definitions, ExistentialAt};
 use crate::samples::Sample;
 use crate::stated_rules::stated_rule;
+use definability::{Definability, Forced};
 use dq_formula::{Formula, Rule};
 use dq_lits::Memory;
 use expansion::{Points, Table};
 use hint_log::{Log, Stop};
 use oracle::Oracle;
-use padoa_definitions::{Forced, Padoa};
 use std::alloc::Global;
 
 /// A model of the instances of a table's rows.
@@ -37,16 +37,16 @@ impl Definitions {
     pub fn force_all<O: Oracle>(
         &mut self,
         oracle: &mut O,
-        padoa: &Padoa,
+        definability: &Definability,
         f: &Formula,
         model: &TableModel,
         log: &mut Log,
     ) -> Result<(), Stop>
         requires fit { O.Fits oracle.old log.old }
-        requires may { MayForce f.now self.old padoa.now log.old.entries }
+        requires may { MayForce f.now self.old definability.now log.old.entries }
         requires model { IsModelOf f.now model.now }
         ensures fit { O.Fits oracle.new log.new }
-        ensures forced { HasForced f.now padoa.now self.old self.new log.old log.new }
+        ensures forced { HasForced f.now definability.now self.old self.new log.old log.new }
         ensures limit { IsErrOf result Stop.Limit → IsAtSomeLimit log.new }
     {
         if model.table.rows() == 0 {
@@ -55,7 +55,11 @@ impl Definitions {
         self.questions.begin_round();
         let mut sample = newest_sample(self.questions.alloc, f, model)?;
         for place in 0..f.existentials().len() {
-            let existential = ExistentialAt { f, padoa, place };
+            let existential = ExistentialAt {
+                f,
+                definability,
+                place,
+            };
             self.force(oracle, &existential, model, &mut sample, log)?;
         }
         Ok(())
@@ -71,13 +75,13 @@ impl Definitions {
         log: &mut Log,
     ) -> Result<(), Stop>
         requires fit { O.Fits oracle.old log.old }
-        requires may { MayForce existential.now.f.now self.old existential.now.padoa.now
+        requires may { MayForce existential.now.f.now self.old existential.now.definability.now
             log.old.entries }
         requires place { existential.now.place < length existential.now.f.now.existentials }
         requires some { 1 ≤ length model.now.table.now.rows }
         requires model { IsModelOf existential.now.f.now model.now }
         ensures fit { O.Fits oracle.new log.new }
-        ensures forced { HasForced existential.now.f.now existential.now.padoa.now self.old
+        ensures forced { HasForced existential.now.f.now existential.now.definability.now self.old
             self.new log.old log.new }
         ensures limit { IsErrOf result Stop.Limit → IsAtSomeLimit log.new }
     {
@@ -130,13 +134,13 @@ impl Definitions {
         log: &mut Log,
     ) -> Result<(), Stop>
         requires fit { O.Fits oracle.old log.old }
-        requires may { MayForce existential.now.f.now self.old existential.now.padoa.now
+        requires may { MayForce existential.now.f.now self.old existential.now.definability.now
             log.old.entries }
         requires place { existential.now.place < length existential.now.f.now.existentials }
         requires some { 1 ≤ length model.now.table.now.rows }
         requires model { IsModelOf existential.now.f.now model.now }
         ensures fit { O.Fits oracle.new log.new }
-        ensures forced { HasForced existential.now.f.now existential.now.padoa.now self.old
+        ensures forced { HasForced existential.now.f.now existential.now.definability.now self.old
             self.new log.old log.new }
         ensures limit { IsErrOf result Stop.Limit → IsAtSomeLimit log.new }
     {
@@ -146,7 +150,7 @@ impl Definitions {
         let newest = model.table.rows();
         let bit = model.points.bit(y, newest);
         let forced = existential
-            .padoa
+            .definability
             .force(oracle, f, y, model.table.row(newest), bit, log)?;
         self.questions.learn_bit(existential.place, &forced);
         self.keep(forced)?;

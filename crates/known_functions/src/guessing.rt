@@ -11,7 +11,7 @@ ghost use Rattle.dq_lits.specs.Formula.{Existential, IsWellFormed, existential_o
 ghost use Rattle.aig_graph.specs.Made.{Extends};
 ghost use Rattle.hint_log.specs.Entries.{steps_of};
 ghost use Rattle.oracle.specs.Limits.{IsAtSomeLimit};
-ghost use Rattle.padoa_definitions.specs.Copies.{IsPadoa};
+ghost use Rattle.definability.specs.Copies.{IsDefinability};
 ghost use Rattle.candidate_functions.specs.Candidates.{IsGuess};
 ghost use Rattle.known_functions.specs.Searching.{HasInputs, IsAsked};
 ghost use Rattle.known_functions.specs.Forcing.{AreKnownIn};
@@ -22,33 +22,33 @@ use crate::definitions::{Definitions, ExistentialAt, no_nodes};
 use crate::lawful_conditions::lawful_conditions;
 use crate::suspects::Defined;
 use aig_graph::{Graph, Node};
+use definability::Definability;
 use dq_formula::Formula;
 use dq_lits::{Lit, Memory};
 use hint_log::{Log, Stop};
 use oracle::Oracle;
-use padoa_definitions::Padoa;
 
 impl Definitions {
     // Asks for guesses of the existentials without a definition, and keeps them.
     pub(crate) fn guess_all<O: Oracle>(
         &mut self,
         oracle: &mut O,
-        padoa: &Padoa,
+        definability: &Definability,
         graph: &mut Graph,
         f: &Formula,
         log: &mut Log,
     ) -> Result<(), Stop>
         requires fit { O.Fits oracle.old log.old }
-        requires may { MayAsk f.now graph.old padoa.now log.old.entries }
+        requires may { MayAsk f.now graph.old definability.now log.old.entries }
         requires known { AreKnownIn f.now graph.old self.old }
         ensures fit { O.Fits oracle.new log.new }
-        ensures asked { HasAsked f.now graph.old graph.new padoa.now log.old log.new }
+        ensures asked { HasAsked f.now graph.old graph.new definability.now log.old log.new }
         ensures known { OnOk result (AreKnownIn f.now graph.new self.new) }
         ensures limit { IsErrOf result Stop.Limit → IsAtSomeLimit log.new }
     {
         self.guesses = no_nodes(self.questions.alloc, f.existentials().len())?;
         self.find_conditions(f, graph)?;
-        self.guess_each(oracle, padoa, graph, f, log)
+        self.guess_each(oracle, definability, graph, f, log)
     }
 
     // The conditions that are tried.
@@ -68,23 +68,27 @@ impl Definitions {
     fn guess_each<O: Oracle>(
         &mut self,
         oracle: &mut O,
-        padoa: &Padoa,
+        definability: &Definability,
         graph: &mut Graph,
         f: &Formula,
         log: &mut Log,
     ) -> Result<(), Stop>
         requires fit { O.Fits oracle.old log.old }
-        requires may { MayAsk f.now graph.old padoa.now log.old.entries }
+        requires may { MayAsk f.now graph.old definability.now log.old.entries }
         requires known { AreKnownIn f.now graph.old self.old }
         requires many { length self.old.guesses.items ≡ length f.now.existentials }
         ensures fit { O.Fits oracle.new log.new }
-        ensures asked { HasAsked f.now graph.old graph.new padoa.now log.old log.new }
+        ensures asked { HasAsked f.now graph.old graph.new definability.now log.old log.new }
         ensures known { OnOk result (AreKnownIn f.now graph.new self.new) }
         ensures limit { IsErrOf result Stop.Limit → IsAtSomeLimit log.new }
     {
         f.every_formula_is_lawful();
         for place in 0..f.existentials().len() {
-            let existential = ExistentialAt { f, padoa, place };
+            let existential = ExistentialAt {
+                f,
+                definability,
+                place,
+            };
             self.guesses[place] = self.guess(oracle, graph, &existential, log)?;
         }
         Ok(())
@@ -99,12 +103,12 @@ impl Definitions {
         log: &mut Log,
     ) -> Result<Option<Node>, Stop>
         requires fit { O.Fits oracle.old log.old }
-        requires may { MayAsk existential.now.f.now graph.old existential.now.padoa.now
+        requires may { MayAsk existential.now.f.now graph.old existential.now.definability.now
             log.old.entries }
         requires place { existential.now.place < length existential.now.f.now.existentials }
         ensures fit { O.Fits oracle.new log.new }
         ensures asked { HasAsked existential.now.f.now graph.old graph.new
-            existential.now.padoa.now log.old log.new }
+            existential.now.definability.now log.old log.new }
         ensures left { LeavesKnown self.old self.new }
         ensures guess { (e : Existential)
             → slice_get existential.now.f.now.existentials existential.now.place ≡ Some e
@@ -136,12 +140,12 @@ impl Definitions {
         log: &mut Log,
     ) -> Result<Option<Node>, Stop>
         requires fit { O.Fits oracle.old log.old }
-        requires may { MayAsk existential.now.f.now graph.old existential.now.padoa.now
+        requires may { MayAsk existential.now.f.now graph.old existential.now.definability.now
             log.old.entries }
         requires place { existential.now.place < length existential.now.f.now.existentials }
         ensures fit { O.Fits oracle.new log.new }
         ensures asked { HasAsked existential.now.f.now graph.old graph.new
-            existential.now.padoa.now log.old log.new }
+            existential.now.definability.now log.old log.new }
         ensures left { LeavesKnown self.old self.new }
         ensures guess { (e : Existential)
             → slice_get existential.now.f.now.existentials existential.now.place ≡ Some e
@@ -167,12 +171,12 @@ impl Definitions {
         log: &mut Log,
     ) -> Result<Option<Node>, Stop>
         requires fit { O.Fits oracle.old log.old }
-        requires may { MayAsk existential.now.f.now graph.old existential.now.padoa.now
+        requires may { MayAsk existential.now.f.now graph.old existential.now.definability.now
             log.old.entries }
         requires place { existential.now.place < length existential.now.f.now.existentials }
         ensures fit { O.Fits oracle.new log.new }
         ensures asked { HasAsked existential.now.f.now graph.old graph.new
-            existential.now.padoa.now log.old log.new }
+            existential.now.definability.now log.old log.new }
         ensures left { LeavesKnown self.old self.new }
         ensures guess { (e : Existential)
             → slice_get existential.now.f.now.existentials existential.now.place ≡ Some e
@@ -186,7 +190,15 @@ impl Definitions {
             return Ok(None);
         };
         let conditions = lawful_conditions(self.questions.alloc, f, y, set)?;
-        self.guess_within(oracle, existential.padoa, graph, f, y, &conditions, log)
+        self.guess_within(
+            oracle,
+            existential.definability,
+            graph,
+            f,
+            y,
+            &conditions,
+            log,
+        )
     }
 
     // A guess of an existential under conditions, if so many steps suffice. Where all that are left
@@ -194,7 +206,7 @@ impl Definitions {
     fn guess_within<O: Oracle>(
         &mut self,
         oracle: &mut O,
-        padoa: &Padoa,
+        definability: &Definability,
         graph: &mut Graph,
         f: &Formula,
         y: u64,
@@ -202,11 +214,11 @@ impl Definitions {
         log: &mut Log,
     ) -> Result<Option<Node>, Stop>
         requires fit { O.Fits oracle.old log.old }
-        requires may { MayAsk f.now graph.old padoa.now log.old.entries }
+        requires may { MayAsk f.now graph.old definability.now log.old.entries }
         requires existential { IsSome (existential_of f.now y) }
         requires conditions { AreConditions f.now y conditions.now }
         ensures fit { O.Fits oracle.new log.new }
-        ensures asked { HasAsked f.now graph.old graph.new padoa.now log.old log.new }
+        ensures asked { HasAsked f.now graph.old graph.new definability.now log.old log.new }
         ensures left { LeavesKnown self.old self.new }
         ensures guess { (e : Existential) → existential_of f.now y ≡ Some e
             → IfOk result (λ guess. IfSome guess (IsGuess f.now graph.new e)) }
@@ -215,7 +227,7 @@ impl Definitions {
         let whole = log.limit();
         let most = most_steps(log, self.questions.conditions.most_steps());
         log.set_limit(most);
-        let found = self.guess_or_learn(oracle, padoa, graph, f, y, conditions, log);
+        let found = self.guess_or_learn(oracle, definability, graph, f, y, conditions, log);
         // The call shows the log's invariant.
         let _ = log.steps();
         log.set_limit(whole);

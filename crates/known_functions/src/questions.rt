@@ -7,9 +7,9 @@ use crate::occurrences::Occurrences;
 use crate::samples::{Sample, bits_of};
 use crate::walks::Walk;
 use candidate_functions::Samples;
+use definability::{Forced, Found, Pair};
 use dq_formula::Formula;
 use dq_lits::{Memory, Row};
-use padoa_definitions::{Forced, Found, Pair};
 use std::alloc::Global;
 
 // How often a walk goes through all existentials at most.

@@ -4,7 +4,7 @@ use Rattle.std.specs.List.{list_any}
 use Rattle.std.proofs.lemmas.List.{append-nil, take_all, take_more, take-append-drop, append_assoc}
 use Rattle.std.proofs.lemmas.List.Folds.{list_any_at}
 use Rattle.dq_lits.specs.Literal.{Literal, opposite}
-use Rattle.dq_lits.specs.Derivation.{Status, falsified, stuck, holds, status_by, status_of}
+use Rattle.dq_lits.specs.Derivation.{ClauseStatus, falsified, stuck, holds, status_by, status_of}
 use Rattle.dq_lits.specs.Extension.{with_literal, not_false}
 use Rattle.dq_lits.specs.Truth.{literal_value}
 use Rattle.dq_lits.specs.declared.truth_values.TruthValue.{TruthValue}
@@ -13,7 +13,7 @@ use Rattle.dq_lits.proofs.LiteralValues.{value_true}
 use Rattle.dq_lits.proofs.ReadStatus.{status_more}
 use Rattle.learning_trail.proofs.ClauseStatus.{is_falsified}
 
-pub read_more : (trues clause : List Literal) (l : Literal) (i : ℕ) (s s' : Status) (t : TruthValue) →
+pub read_more : (trues clause : List Literal) (l : Literal) (i : ℕ) (s s' : ClauseStatus) (t : TruthValue) →
     i < length clause → get_or clause i l ≡ l
     → s ≡ status_of trues (Some (take i clause)) → t ≡ literal_value trues l → s' ≡ with_literal s l t →
     s' ≡ status_of trues (Some (take (i + 1) clause))
@@ -46,7 +46,7 @@ stuck_stays trues clause i h =
     sym (ap (λ c. status_of trues (Some c)) (sym (take-append-drop i clause)) ∙ stays trues (take i clause)
     (drop i clause) (sym h))
 
-pub status_whole : (trues clause : List Literal) (i : ℕ) (s : Status) → length clause ≤ i →
+pub status_whole : (trues clause : List Literal) (i : ℕ) (s : ClauseStatus) → length clause ≤ i →
     s ≡ status_of trues (Some (take i clause)) → s ≡ status_of trues (Some clause)
 status_whole trues clause i s all h = h ∙ ap (λ c. status_of trues (Some c)) (take_all i clause all)
 

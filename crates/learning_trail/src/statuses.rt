@@ -15,7 +15,7 @@ use dq_lits::{Lit, TruthValue};
 
 /// How a clause stands under a trail.
 #[derive(Clone, Copy)]
-pub enum Status {
+pub enum ClauseStatus {
     /// Each of its literals is false.
     Falsified,
     /// As a set it has one literal that isn't false, and this one is unassigned.
@@ -24,11 +24,11 @@ pub enum Status {
     Stuck,
 }
 
-pub fn status_of(trail: &Trail, lits: &[Code]) -> Status
+pub fn status_of(trail: &Trail, lits: &[Code]) -> ClauseStatus
     requires { All (λ l. variable_of l ≤ trail.now.room) lits.now }
     ensures { seen result ≡ status_of (literals_of trail.now.steps) (Some lits.now) }
 {
-    let mut status = Status::Falsified;
+    let mut status = ClauseStatus::Falsified;
     for l in lits {
         status = status.with_literal(l.lit(), trail.code_value(*l));
         if status.is_stuck() {
@@ -50,34 +50,40 @@ pub fn is_true(trail: &Trail, l: Code) -> bool
     }
 }
 
-impl Status {
+impl ClauseStatus {
     fn is_stuck(&self) -> bool
-        ensures { result ≡ true → self.now ≡ Status.Stuck }
+        ensures { result ≡ true → self.now ≡ ClauseStatus.Stuck }
     {
         match self {
-            Status::Stuck => true,
+            ClauseStatus::Stuck => true,
             _ => false,
         }
     }
 
     // With one more literal, of this value.
-    fn with_literal(&self, l: Lit, value: TruthValue) -> Status
+    fn with_literal(&self, l: Lit, value: TruthValue) -> ClauseStatus
         ensures { seen result ≡ with_literal (seen self.now) l value }
     {
         match value {
             TruthValue::False => *self,
-            TruthValue::True => Status::Stuck,
+            TruthValue::True => ClauseStatus::Stuck,
             TruthValue::Unassigned => self.with_free(l),
         }
     }
 
-    fn with_free(&self, l: Lit) -> Status
+    fn with_free(&self, l: Lit) -> ClauseStatus
         ensures { seen result ≡ with_free (seen self.now) l }
     {
         match self {
-            Status::Falsified => Status::Unit(l),
-            Status::Unit(other) => { if *other == l { *self } else { Status::Stuck } }
-            Status::Stuck => Status::Stuck,
+            ClauseStatus::Falsified => ClauseStatus::Unit(l),
+            ClauseStatus::Unit(other) => {
+                if *other == l {
+                    *self
+                } else {
+                    ClauseStatus::Stuck
+                }
+            }
+            ClauseStatus::Stuck => ClauseStatus::Stuck,
         }
     }
 }

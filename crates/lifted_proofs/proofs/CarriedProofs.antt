@@ -144,7 +144,7 @@ id-line c id i is =
 -- ---- the lines
 
 -- what is known of the lines in front, and of the clauses that a proof may hint at
-pub record IsReady (old base : LiveClauses) (c : Carrying) (is_variable : ℕ → Bool) (first next : ℕ)
+pub record CanCarryLines (old base : LiveClauses) (c : Carrying) (is_variable : ℕ → Bool) (first next : ℕ)
     (steps : List ProofStep) : Type 0 where
   pub one : IsOneToOne (carried_variable c.largest c.clauses c.places)
   pub ids : (k id : ℕ) → slice_get c.ids k ≡ Some id → (1 ≤ id) × (id < first + length steps)
@@ -159,7 +159,7 @@ pub record IsReady (old base : LiveClauses) (c : Carrying) (is_variable : ℕ �
       × (carried_id c h < first + length steps)
 
 module _ (old base : LiveClauses) (c : Carrying) (is_variable : ℕ → Bool) (first next : ℕ) (steps : List ProofStep)
-    (ready : IsReady old base c is_variable first next steps) where
+    (ready : CanCarryLines old base c is_variable first next steps) where
   abbrev number : ℕ → ℕ
   number = carried_variable c.largest c.clauses c.places
 

@@ -9,7 +9,7 @@ use Rattle.std.proofs.lemmas.List.Elements.{All-cons}
 use Rattle.list_laws.proofs.Sequences.{none-gone}
 use Rattle.dq_lits.specs.Literal.{Literal, positive, negative, variable_of, opposite, literal_true}
 use Rattle.dq_lits.specs.Formula.{Dqbf, existential_of, is_universal, IsWellFormed}
-use Rattle.dq_lits.specs.Derivation.{LiveClauses, Status, falsified, unit, stuck, status_of, fault_by, hint_fault, with_clause, IsDerived, ProofStep, line_fault, is_empty, is_tautology, holds}
+use Rattle.dq_lits.specs.Derivation.{LiveClauses, ClauseStatus, falsified, unit, stuck, status_of, fault_by, hint_fault, with_clause, IsDerived, ProofStep, line_fault, is_empty, is_tautology, holds}
 use Rattle.dq_lits.specs.Expansion.{instance_at, instance_clause, pair_literal, universal_literal_true, row_assignment}
 use Rattle.dq_lits.proofs.HeldLiterals.{any_one, filter-holds}
 use Rattle.dq_lits.proofs.SignedLiterals.{opposite_variable}
@@ -63,7 +63,7 @@ hints-live live trues place (h ∷ hs) sound = by (live h) refl sound
     none-left [] next sound = λ k d below. absurd (omega (arith, below))
     none-left (x ∷ xs) next sound = cc
 
-    by-status : (s : Status) → (hs : List ℕ)
+    by-status : (s : ClauseStatus) → (hs : List ℕ)
         → fault_by s place hs (λ l. hint_fault live (l ∷ trues) (place + 1) hs) ≡ None
         → ((l : Literal) → hint_fault live (l ∷ trues) (place + 1) hs ≡ None → All (λ i. is_some (live i) ≡ true) hs)
         → All (λ i. is_some (live i) ≡ true) hs

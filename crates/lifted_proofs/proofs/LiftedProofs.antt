@@ -22,7 +22,7 @@ use Rattle.lifted_proofs.specs.Liftables.{IsLiftable, lifted_base, lifted_litera
 use Rattle.lifted_proofs.specs.Lines.{behind_steps}
 use Rattle.lifted_proofs.specs.NamedIds.{IsTrueBy}
 use Rattle.lifted_proofs.proofs.CarriedLines.{items-derived}
-use Rattle.lifted_proofs.proofs.CarriedProofs.{IsReady, all-carried, carried-circuit, carried-clause, carried-once, id-gate, id-literal, id-line}
+use Rattle.lifted_proofs.proofs.CarriedProofs.{CanCarryLines, all-carried, carried-circuit, carried-clause, carried-once, id-gate, id-literal, id-line}
 use Rattle.lifted_proofs.proofs.KeptPlaces.{as-many, place-in, places-distinct, place-there}
 use Rattle.lifted_proofs.proofs.LiftedClauses.{base-last, gate-there, literal-there, last-there, none-behind, last-carried}
 use Rattle.lifted_proofs.proofs.NamedIds.{behind-same, line-more, line-clause}
@@ -174,7 +174,7 @@ module _ (f : Dqbf) (units : List Taken) (c : Candidate) (can : IsLiftable f uni
     ]
   ]
 
-  ready : IsReady (negated_candidate c) base carrying variable first (first_proof_id c.formula c.circuit.netlist) front
+  ready : CanCarryLines (negated_candidate c) base carrying variable first (first_proof_id c.formula c.circuit.netlist) front
   ready = record {
     one = carried-once c.circuit.netlist.max_var (length f.matrix) kept (places-distinct f units true (length f.matrix))
         (λ p it. kept-within it.0 p it.1);

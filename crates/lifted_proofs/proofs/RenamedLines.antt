@@ -4,7 +4,7 @@ use Rattle.std.specs.List.{list_any, list_all, filter}
 use Rattle.std.specs.Option.{option_map}
 use Rattle.std.proofs.lemmas.Bool.{cases_eq, eq-eqb, ne_eqb}
 use Rattle.dq_lits.specs.Literal.{Literal, positive, negative, opposite, same_literal, variable_of, on_variable}
-use Rattle.dq_lits.specs.Derivation.{LiveClauses, Status, falsified, unit, stuck, with_clause, holds, status_by, status_of, fault_by, hint_fault, line_fault, is_empty, ProofStep}
+use Rattle.dq_lits.specs.Derivation.{LiveClauses, ClauseStatus, falsified, unit, stuck, with_clause, holds, status_by, status_of, fault_by, hint_fault, line_fault, is_empty, ProofStep}
 use Rattle.rup_core.specs.Items.{ProofItem, derived, gone, items_fault, without_clauses, is_among}
 
 abbrev pub renamed : (ℕ → ℕ) → Literal → Literal
@@ -66,7 +66,7 @@ module _ (r : ℕ → ℕ) (one : IsOneToOne r) where
       by true = refl
       by false = refl
 
-  abbrev status_renamed : Status → Status
+  abbrev status_renamed : ClauseStatus → ClauseStatus
   status_renamed falsified = falsified
   status_renamed (unit l) = unit (renamed r l)
   status_renamed stuck = stuck
@@ -100,7 +100,7 @@ module _ (r : ℕ → ℕ) (one : IsOneToOne r) where
       (ap (status_of (map (renamed r) trues)) (is h) ∙ of-renamed trues (live h))
       ∙ by (status_of trues (live h)) hs (λ l. hints-renamed live other is hs (l ∷ trues) (place + 1))
     where
-      by : (s : Status) (hs : List ℕ)
+      by : (s : ClauseStatus) (hs : List ℕ)
           → ((l : Literal) → hint_fault other (renamed r l ∷ map (renamed r) trues) (place + 1) hs
           ≡ hint_fault live (l ∷ trues) (place + 1) hs)
           → fault_by (status_renamed s) place hs

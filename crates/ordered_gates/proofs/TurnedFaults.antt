@@ -4,7 +4,7 @@ use Rattle.std.specs.List.{AllByRecursion, flat_map, slice_get}
 use Rattle.std.specs.Option.{option_and_then}
 use Rattle.dq_lits.specs.Formula.{Dqbf}
 use Rattle.dq_lits.specs.Literal.{Literal, opposite}
-use Rattle.dq_lits.specs.Derivation.{LiveClauses, Status, falsified, unit, stuck, status_of, fault_by, hint_fault, is_tautology, line_fault, with_clause, ProofFault, fault_of_step, is_empty}
+use Rattle.dq_lits.specs.Derivation.{LiveClauses, ClauseStatus, falsified, unit, stuck, status_of, fault_by, hint_fault, is_tautology, line_fault, with_clause, ProofFault, fault_of_step, is_empty}
 use Rattle.circuit_plain.specs.Netlist.{Netlist}
 use Rattle.circuit_plain.specs.declared.circuits.Gate.{Gate}
 use Rattle.rup_core.specs.Items.{ProofItem, derived, gone, is_among, without_clauses, items_fault}
@@ -65,7 +65,7 @@ module _ (gates : List Gate) where
       (λ l. hint_fault other (l ∷ trues) (place + 1) (map (turned_id gates) hints))) (alike hint trues)
       ∙ by_status (status_of trues (live hint)) hints (λ l. hints_same live other (l ∷ trues) (place + 1) hints alike)
     where
-      by_status : (status : Status) (later : List ℕ) →
+      by_status : (status : ClauseStatus) (later : List ℕ) →
           ((l : Literal) → hint_fault other (l ∷ trues) (place + 1) (map (turned_id gates) later)
           ≡ hint_fault live (l ∷ trues) (place + 1) later)
           → fault_by status place (map (turned_id gates) later)

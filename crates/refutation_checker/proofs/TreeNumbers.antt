@@ -11,10 +11,10 @@ use Rattle.dq_lits.specs.Row.{bit_of}
 use Rattle.dq_lits.proofs.Choices.{same_bits-sound, same_bits-refl, bits_same}
 use Rattle.dq_formula.proofs.Restrictions.{assignment_of-place}
 use Rattle.refutation_checker.specs.Rows.{agree_over, row_of}
-use Rattle.refutation_checker.specs.RowTrees.{node_at, next_of, walk_by, walk, reached, number_by, found, IsSeenPlace, Differ, IsOrderedNode, IsOrdered, IsKeyNode, IsTree, IsNodeSplit, AreNumbered, IsStanding}
+use Rattle.refutation_checker.specs.RowTrees.{node_at, next_of, walk_by, walk, reached, number_by, found, IsSeenPlace, Differ, IsOrderedNode, IsOrdered, IsKeyNode, IsTree, IsNodeSplit, AreNumbered, IsLeafMatch}
 use Rattle.refutation_checker.specs.declared.row_trees.Node.{Node}
 use Rattle.refutation_checker.specs.declared.row_trees.Node.TheVariants.{Leaf, Test}
-use Rattle.refutation_checker.specs.declared.row_trees.Standing.TheVariants.{Differs}
+use Rattle.refutation_checker.specs.declared.row_trees.LeafMatch.TheVariants.{Differs}
 use Rattle.refutation_checker.proofs.RowTrees.{steps_on, enough, walk_stops, walk_ends, walks_alike}
 
 -- rows that agree on a set can't be told apart by it
@@ -324,7 +324,7 @@ agree_more f sees r s i at v r_whole s_whole lt v_is at_is same =
 pub parted_all : (f : Dqbf) (rows : List (List Bool)) (sees : List ℕ) (old new : List Node) (at place k number : ℕ)
     → All (λ row. length row ≡ length f.universals) rows → IsTree f rows sees old → at < length old →
     at ≡ reached old (row_of rows k) → k < length rows
-    → IsStanding f rows sees old at (row_of rows k) (Differs place)
+    → IsLeafMatch f rows sees old at (row_of rows k) (Differs place)
     → IsNodeSplit old new at place (cond (bit_of (row_of rows k) place) (node_at old at) (Leaf k number))
     (cond (bit_of (row_of rows k) place) (Leaf k number) (node_at old at))
     → IsTree f rows sees new × AreNumbered f rows sees old new (row_of rows k) number ×
@@ -352,5 +352,5 @@ parted_all f rows sees old new at place k number whole tree below came k_in stan
 
 pub place_small : (f : Dqbf) (rows : List (List Bool)) (sees : List ℕ) (nodes : List Node) (at place : ℕ)
     (row : List Bool) → length f.universals ≤ 1000001
-    → IsStanding f rows sees nodes at row (Differs place) → place < 4294967296
+    → IsLeafMatch f rows sees nodes at row (Differs place) → place < 4294967296
 place_small f rows sees nodes at place row few stands = let lt = stands.1.1.2.within in omega (arith, lt, few)

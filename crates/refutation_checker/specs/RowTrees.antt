@@ -5,8 +5,8 @@ use Rattle.dq_lits.specs.Row.{bit_of}
 use Rattle.refutation_checker.specs.Rows.{agree_over, row_of}
 use Rattle.refutation_checker.specs.declared.row_trees.Node.{Node}
 use Rattle.refutation_checker.specs.declared.row_trees.Node.TheVariants.{Leaf, Test}
-use Rattle.refutation_checker.specs.declared.row_trees.Standing.{Standing}
-use Rattle.refutation_checker.specs.declared.row_trees.Standing.TheVariants.{Numbered, Differs}
+use Rattle.refutation_checker.specs.declared.row_trees.LeafMatch.{LeafMatch}
+use Rattle.refutation_checker.specs.declared.row_trees.LeafMatch.TheVariants.{Numbered, Differs}
 
 abbrev pub sees_in : Option Existential → List ℕ
 sees_in None = []
@@ -99,9 +99,9 @@ number_or None other = other
 number_or (Some number) other = number
 
 -- a row has the number of the leaf that it comes to, or differs from its row
-abbrev pub IsStanding : Dqbf → List (List Bool) → List ℕ → List Node → ℕ → List Bool → Standing
+abbrev pub IsLeafMatch : Dqbf → List (List Bool) → List ℕ → List Node → ℕ → List Bool → LeafMatch
     → Type 0
-IsStanding f rows sees nodes at row (Numbered number) = found f rows sees nodes row ≡ Some number
-IsStanding f rows sees nodes at row (Differs place) =
+IsLeafMatch f rows sees nodes at row (Numbered number) = found f rows sees nodes row ≡ Some number
+IsLeafMatch f rows sees nodes at row (Differs place) =
     (k : ℕ) × ((number : ℕ) × ((node_at nodes at ≡ Leaf k number) × (k < length rows)
     × Differ f sees (row_of rows k) row place))

@@ -11,7 +11,7 @@ ghost use Rattle.dq_lits.specs.Row.{bit_of};
 ghost use Rattle.cert_text.specs.Header.{max_count};
 ghost use Rattle.refutation_checker.specs.Rows.{agree_over, row_of};
 ghost use Rattle.refutation_checker.specs.declared.row_trees.Node.TheVariants.{Leaf};
-ghost use Rattle.refutation_checker.specs.RowTrees.{sees_of, node_at, next_of, reached, found, number_or, Differ, IsOrdered, IsNodeSplit, IsTree, AreNumbered, IsStanding};
+ghost use Rattle.refutation_checker.specs.RowTrees.{sees_of, node_at, next_of, reached, found, number_or, Differ, IsOrdered, IsNodeSplit, IsTree, AreNumbered, IsLeafMatch};
 
 use dq_formula::{Deps, Formula};
 use dq_lits::{Memory, Row};
@@ -106,8 +106,8 @@ fn number_in(
     }
     let at = reached(nodes, &rows[k]);
     match stand(nodes, f, rows, y, at, k) {
-        Standing::Numbered(own) => Ok(own),
-        Standing::Differs(place) => {
+        LeafMatch::Numbered(own) => Ok(own),
+        LeafMatch::Differs(place) => {
             part(nodes, rows, at, place, k, number)?;
             Ok(number)
         }
@@ -116,7 +116,7 @@ fn number_in(
 
 // How a row stands to the one of the leaf that it comes to.
 #[derive(Clone, Copy)]
-enum Standing {
+enum LeafMatch {
     // It agrees with it, and has its number.
     Numbered(u64),
     // The place of a universal on which they differ.
@@ -124,7 +124,7 @@ enum Standing {
 }
 
 // How the row at `k` stands to the one of the leaf at a place.
-fn stand(nodes: &[Node], f: &Formula, rows: &[Row], y: u64, at: usize, k: usize) -> Standing
+fn stand(nodes: &[Node], f: &Formula, rows: &[Row], y: u64, at: usize, k: usize) -> LeafMatch
     requires declared { IsSome (existential_of f.now y) }
     requires whole { All (λ row. length row ≡ length f.now.universals) rows.now }
     requires row { k < length rows.now }
@@ -132,14 +132,14 @@ fn stand(nodes: &[Node], f: &Formula, rows: &[Row], y: u64, at: usize, k: usize)
     requires within { at < length nodes.now }
     requires reached { at ≡ reached nodes.now (row_of rows.now k) }
     requires leaf { next_of (row_of rows.now k) (node_at nodes.now at) ≡ None }
-    ensures { IsStanding f.now rows.now (sees_of f.now y) nodes.now at (row_of rows.now k) result }
+    ensures { IsLeafMatch f.now rows.now (sees_of f.now y) nodes.now at (row_of rows.now k) result }
 {
     match nodes[at] {
         Node::Leaf { row, number } => {
             let other = &rows[row as usize];
             match first_difference(f, dependencies(f, y), other, &rows[k]) {
-                None => Standing::Numbered(number),
-                Some(place) => Standing::Differs(place),
+                None => LeafMatch::Numbered(number),
+                Some(place) => LeafMatch::Differs(place),
             }
         }
         Node::Test { .. } => unreachable!(),

@@ -7,15 +7,15 @@ use Rattle.hint_log.specs.Naming.{rows_of}
 use Rattle.hint_log.specs.ProductiveLog.{fault_groups, fault_room}
 use Rattle.hint_log.specs.ProductiveSession.{IsUndecidedSince}
 use Rattle.aig_graph.specs.Graph.{AigGraph}
-use Rattle.dq_session.specs.Books.{BookState, all_of, frames_of, live_of, now_of}
-use Rattle.dq_session.specs.Standing.{BeginningsLeaveBooks}
-use Rattle.padoa_definitions.specs.Leaving.{BeginningsLeaveStores}
+use Rattle.dq_session.specs.Databases.{DatabaseState, all_of, frames_of, live_of, now_of}
+use Rattle.dq_session.specs.Preservation.{BeginningsLeaveDatabases}
+use Rattle.definability.specs.Leaving.{BeginningsLeaveStores}
 use Rattle.known_functions.specs.Searching.{HasInputs}
-use Rattle.repair_loop.specs.declared.desks.Desk.{Desk}
-use Rattle.repair_loop.specs.Beginning.{IsStanding, HasBegunUndecided, HasStarted}
-use Rattle.repair_loop.specs.Desks.{IsReady, HasBegun}
+use Rattle.repair_loop.specs.declared.search_states.SearchState.{SearchState}
+use Rattle.repair_loop.specs.Beginning.{IsLoopInvariant, HasBegunUndecided, HasStarted}
+use Rattle.repair_loop.specs.SearchStates.{CanBeginSearch, HasBegun}
 use Rattle.repair_loop.specs.Turning.{AreFaultsNew, IsSearch}
-use Rattle.repair_loop.proofs.LiveBooks.{now_formed, are_numbers}
+use Rattle.repair_loop.proofs.LiveDatabases.{now_formed, are_numbers}
 use Rattle.repair_loop.proofs.LiveGrowth.{checker_begun}
 use Rattle.repair_loop.proofs.LogGrowth.{not_begun, begun_before}
 
@@ -31,8 +31,8 @@ mapped_more f xs i x is =
     let same : suc i ≡ i + 1 = omega arith in
     mapped_one f xs i x is ∙ ap (λ n. map f (take n xs)) same
 
-pub ready_standing : (b : BookState) (d : Desk) (graph : AigGraph) (es : List Entry) → IsReady b d graph es →
-    IsStanding b d.checker d.padoa es
+pub ready_standing : (b : DatabaseState) (d : SearchState) (graph : AigGraph) (es : List Entry) → CanBeginSearch b d graph es →
+    IsLoopInvariant b d.checker d.definability es
 ready_standing b d graph es r = record {
   kept = record {
     origins = r.session.givens_match_origins;
@@ -40,42 +40,42 @@ ready_standing b d graph es r = record {
     models = r.session.rounds_follow_a_model;
     givens = r.session.givens_are_not_repeated;
   };
-  book = r.book.book;
-  checked = r.desk.checked;
-  stored = r.desk.stored;
-  apart = r.desk.apart;
+  database = r.database.database;
+  checked = r.search_state.checked;
+  stored = r.search_state.stored;
+  apart = r.search_state.apart;
 }
 
 -- behind the beginning itself
-pub begun_standing : BeginningsLeaveBooks → BeginningsLeaveStores → (b : BookState) (d : Desk) (graph : AigGraph)
-    (es : List Entry) → IsReady b d graph es → IsStanding b d.checker d.padoa (Begun (live_of b) ∷ es)
-begun_standing books stores b d graph es r =
+pub begun_standing : BeginningsLeaveDatabases → BeginningsLeaveStores → (b : DatabaseState) (d : SearchState) (graph : AigGraph)
+    (es : List Entry) → CanBeginSearch b d graph es → IsLoopInvariant b d.checker d.definability (Begun (live_of b) ∷ es)
+begun_standing databases stores b d graph es r =
     let s = ready_standing b d graph es r in
     record {
       kept = record {
-        origins = (are_numbers b es r.book.book, s.kept.origins);
+        origins = (are_numbers b es r.database.database, s.kept.origins);
         new_rows = (tt, s.kept.new_rows);
         models = (tt, s.kept.models);
         givens = (tt, s.kept.givens);
       };
-      book = (books b (live_of b) es).0 s.book;
+      database = (databases b (live_of b) es).0 s.database;
       checked = checker_begun b.file d.checker (live_of b) es s.checked;
-      stored = stores (all_of b) (frames_of b) d.padoa es (live_of b) s.stored;
+      stored = stores (all_of b) (frames_of b) d.definability es (live_of b) s.stored;
       apart = s.apart;
     }
 
 -- there is room for a group of faults
-pub begun_room : (b : BookState) (d : Desk) (graph : AigGraph) (es : List Entry) (live : List ℕ) → IsReady b d graph es
+pub begun_room : (b : DatabaseState) (d : SearchState) (graph : AigGraph) (es : List Entry) (live : List ℕ) → CanBeginSearch b d graph es
     → length (fault_groups (Begun live ∷ es)) < fault_room (Begun live ∷ es)
 begun_room b d graph es live r = let few = r.faults in omega (arith, few)
 
-pub no_start : (b : BookState) (before after : Desk) (graph : AigGraph) (old new : ProofLog) →
-    IsReady b before graph old.entries → after.checker ≡ before.checker → after.padoa ≡ before.padoa →
+pub no_start : (b : DatabaseState) (before after : SearchState) (graph : AigGraph) (old new : ProofLog) →
+    CanBeginSearch b before graph old.entries → after.checker ≡ before.checker → after.definability ≡ before.definability →
     after.begun.items ≡ last_live new.entries → new ≡ old → HasStarted b after old new
-no_start b before after graph old new r checker padoa named same = record {
-  standing = subst (λ c. IsStanding b c after.padoa new.entries) (sym checker)
-      (subst (λ p. IsStanding b before.checker p new.entries) (sym padoa)
-      (subst (λ (l : ProofLog). IsStanding b before.checker before.padoa l.entries) (sym same)
+no_start b before after graph old new r checker definability named same = record {
+  standing = subst (λ c. IsLoopInvariant b c after.definability new.entries) (sym checker)
+      (subst (λ p. IsLoopInvariant b before.checker p new.entries) (sym definability)
+      (subst (λ (l : ProofLog). IsLoopInvariant b before.checker before.definability l.entries) (sym same)
       (ready_standing b before graph old.entries r)));
   began = inr same;
   named = named;
@@ -87,15 +87,15 @@ pub either_way : {T E : Type 0} (r : Result T E) (A B P : Type 0) → (A → P) 
 either_way (Ok x) A B P f g a b = f a
 either_way (Err e) A B P f g a b = g b
 
-module _ (begun_books : BeginningsLeaveBooks) (begun_stores : BeginningsLeaveStores) (f : Dqbf) (b : BookState) (d : Desk)
-    (graph : AigGraph) (old mid : ProofLog) (r : IsReady b d graph old.entries)
+module _ (begun_databases : BeginningsLeaveDatabases) (begun_stores : BeginningsLeaveStores) (f : Dqbf) (b : DatabaseState) (d : SearchState)
+    (graph : AigGraph) (old mid : ProofLog) (r : CanBeginSearch b d graph old.entries)
     (logged : mid ≡ with_entry old (Begun (live_of b))) (now : f ≡ now_of b) where
   abbrev all : Dqbf
   all = all_of b
 
-  mid_standing : IsStanding b d.checker d.padoa mid.entries
-  mid_standing = subst (λ (l : ProofLog). IsStanding b d.checker d.padoa l.entries) (sym logged)
-      (begun_standing begun_books begun_stores b d graph old.entries r)
+  mid_standing : IsLoopInvariant b d.checker d.definability mid.entries
+  mid_standing = subst (λ (l : ProofLog). IsLoopInvariant b d.checker d.definability l.entries) (sym logged)
+      (begun_standing begun_databases begun_stores b d graph old.entries r)
 
   mid_room : length (fault_groups mid.entries) < fault_room mid.entries
   mid_room = subst (λ (l : ProofLog). length (fault_groups l.entries) < fault_room l.entries) (sym logged)
@@ -108,7 +108,7 @@ module _ (begun_books : BeginningsLeaveBooks) (begun_stores : BeginningsLeaveSto
   mid_faults = subst (λ (l : ProofLog). AreFaultsNew (before_beginning l.entries) l.entries) (sym logged) tt
 
   mid_rows : rows_of mid.entries ≡ b.table.rows
-  mid_rows = ap (λ (l : ProofLog). rows_of l.entries) logged ∙ r.book.rows
+  mid_rows = ap (λ (l : ProofLog). rows_of l.entries) logged ∙ r.database.rows
 
   mid_live : live_numbers mid.entries ≡ Some (live_of b)
   mid_live = ap (λ (l : ProofLog). live_numbers l.entries) logged
@@ -126,28 +126,28 @@ module _ (begun_books : BeginningsLeaveBooks) (begun_stores : BeginningsLeaveSto
   }
 
   -- nothing followed yet
-  pub only_begun : (after : Desk) → after.checker ≡ d.checker → after.padoa ≡ d.padoa →
+  pub only_begun : (after : SearchState) → after.checker ≡ d.checker → after.definability ≡ d.definability →
       after.begun.items ≡ last_live mid.entries → HasStarted b after old mid
-  only_begun after checker padoa named = record {
-    standing = subst (λ c. IsStanding b c after.padoa mid.entries) (sym checker)
-        (subst (λ p. IsStanding b d.checker p mid.entries) (sym padoa) mid_standing);
+  only_begun after checker definability named = record {
+    standing = subst (λ c. IsLoopInvariant b c after.definability mid.entries) (sym checker)
+        (subst (λ p. IsLoopInvariant b d.checker p mid.entries) (sym definability) mid_standing);
     began = inl begun_undecided;
     named = named;
     limit = ap (λ (l : ProofLog). l.limit) logged;
   }
 
   -- and no question may be asked yet
-  pub begun_search : (more : AigGraph) → HasInputs f more → IsSearch f more b d.checker d.padoa false mid.entries
+  pub begun_search : (more : AigGraph) → HasInputs f more → IsSearch f more b d.checker d.definability false mid.entries
   begun_search more inputs =
       let few = mid_room in
       record {
         here = record {
           way = record {
-            formula = subst IsWellFormed (sym now) (now_formed b mid.entries mid_standing.book);
+            formula = subst IsWellFormed (sym now) (now_formed b mid.entries mid_standing.database);
             now_is = now;
             live = mid_live;
             kept = mid_standing.kept;
-            book = mid_standing.book;
+            database = mid_standing.database;
             checked = mid_standing.checked;
             copied = λ on. cc;
             stored = mid_standing.stored;
@@ -163,7 +163,7 @@ module _ (begun_books : BeginningsLeaveBooks) (begun_stores : BeginningsLeaveSto
       }
 
 -- what a beginning that was refused says
-pub start_undecided : (b : BookState) (after : Desk) (old new : ProofLog) → HasStarted b after old new →
+pub start_undecided : (b : DatabaseState) (after : SearchState) (old new : ProofLog) → HasStarted b after old new →
     HasBegun (live_of b) old.entries new.entries → IsUndecidedSince (all_of b) new.entries
 start_undecided b after old new s begun = by s.began
   where
@@ -172,13 +172,13 @@ start_undecided b after old new s begun = by s.began
     by (inr same) = absurd (not_begun (live_of b) old.entries new.entries
         (ap (λ (l : ProofLog). l.entries) same) begun)
 
-pub started_faults : (b : BookState) (old new : ProofLog) → HasBegunUndecided b old new →
+pub started_faults : (b : DatabaseState) (old new : ProofLog) → HasBegunUndecided b old new →
     AreFaultsNew old.entries new.entries
 started_faults b old new began =
     subst (λ es. AreFaultsNew es new.entries) (begun_before (live_of b) old.entries new.entries began.begun)
     began.new_faults
 
-pub start_faults : (b : BookState) (after : Desk) (old new : ProofLog) → HasStarted b after old new →
+pub start_faults : (b : DatabaseState) (after : SearchState) (old new : ProofLog) → HasStarted b after old new →
     HasBegun (live_of b) old.entries new.entries → AreFaultsNew old.entries new.entries
 start_faults b after old new s begun = by s.began
   where

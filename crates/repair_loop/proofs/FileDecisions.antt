@@ -12,9 +12,9 @@ use Rattle.hint_log.specs.ProductiveLog.{IsProductiveLog}
 use Rattle.hint_log.specs.ProductiveSession.{MatchesLiveOrigin, IsUndecidedSince}
 use Rattle.oracle.specs.Searched.{IsSearched}
 use Rattle.hint_log.specs.declared.stops.Stop.{Stop}
-use Rattle.dq_session.specs.Books.{BookState, all_of, live_of, now_of}
+use Rattle.dq_session.specs.Databases.{DatabaseState, all_of, live_of, now_of}
 use Rattle.dq_session.specs.Changes.{begun}
-use Rattle.repair_loop.specs.Desks.{IsKept, IsOfSearch, HasBegun, IsAnsweredFalse}
+use Rattle.repair_loop.specs.SearchStates.{IsKept, IsOfSearch, HasBegun, IsAnsweredFalse}
 use Rattle.repair_loop.specs.Searching.{IsShownFalse}
 use Rattle.repair_loop.specs.Turning.{AreFaultsNew}
 use Rattle.repair_loop.proofs.PlainDecisions.{undecided_plainly}
@@ -31,13 +31,13 @@ whole_since f live whole old none (Answer c hints ∷ more) few = (tt, whole_sin
 whole_since f live whole old none (Round row values j ∷ more) few = (tt, whole_since f live whole old none more few)
 whole_since f live whole old none (Begun numbers ∷ more) few = absurd (omega (arith, few))
 
-module _ (f : Dqbf) (b : BookState) (is_begun : b ≡ begun f b.table) (old new : List Entry)
+module _ (f : Dqbf) (b : DatabaseState) (is_begun : b ≡ begun f b.table) (old new : List Entry)
     (none : live_numbers old ≡ None) where
   all_is : all_of b ≡ f
   all_is = ap all_of is_begun ∙ all_is_file f b.table
 
   whole_live : formula_of f (live_of b) ≡ f
-  whole_live = ap (λ (x : BookState). formula_of f (live_of x)) is_begun ∙ whole_file f
+  whole_live = ap (λ (x : DatabaseState). formula_of f (live_of x)) is_begun ∙ whole_file f
 
   file_kept : IsKept (all_of b) new → IsKept f new
   file_kept kept = subst (λ g. IsKept g new) all_is kept
@@ -58,7 +58,7 @@ module _ (f : Dqbf) (b : BookState) (is_begun : b ≡ begun f b.table) (old new 
       let u = subst (λ g. IsUndecidedSince g new) all_is undecided in
       subst (IsUndecided f) (sym began.grown)
       (undecided_plainly f (live_of b) whole_live
-      (λ j low high. subst (λ (x : BookState). Contains (live_of x) j) (sym is_begun) (all_live f b.table j low high)) old
+      (λ j low high. subst (λ (x : DatabaseState). Contains (live_of x) j) (sym is_begun) (all_live f b.table j low high)) old
       tried none before began.more began.none
       (subst (Each (MatchesLiveOrigin f)) began.grown (file_kept kept).origins)
       (subst (AreFaultsNew old) began.grown faults) (subst (IsUndecidedSince f) began.grown u))

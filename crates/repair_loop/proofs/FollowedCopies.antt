@@ -9,24 +9,24 @@ use Rattle.log_laws.specs.Sessions.{IsAddedLive, EnginesLeaveSessions}
 use Rattle.aig_graph.specs.Graph.{AigGraph}
 use Rattle.circuit_cnf.specs.declared.checkers.Checker.{Checker}
 use Rattle.circuit_cnf.specs.Checking.{CheckersStay, group_of}
-use Rattle.dq_session.specs.Books.{BookState, all_of, frames_of}
+use Rattle.dq_session.specs.Databases.{DatabaseState, all_of, frames_of}
 use Rattle.dq_session.specs.Changes.{groups_of}
-use Rattle.dq_session.specs.Standing.{EnginesLeaveBooks}
-use Rattle.padoa_definitions.specs.Copies.{IsPadoa}
-use Rattle.padoa_definitions.specs.Following.{AreOldOrNew}
-use Rattle.padoa_definitions.specs.Store.{IsCopyStore, copy_groups, store_of}
-use Rattle.padoa_definitions.specs.declared.padoa.Padoa.{Padoa}
-use Rattle.repair_loop.specs.Desks.{AreApart}
-use Rattle.repair_loop.specs.Standing.{IsLeft}
+use Rattle.dq_session.specs.Preservation.{EnginesLeaveDatabases}
+use Rattle.definability.specs.Copies.{IsDefinability}
+use Rattle.definability.specs.Following.{AreOldOrNew}
+use Rattle.definability.specs.Store.{IsCopyStore, copy_groups, store_of}
+use Rattle.definability.specs.declared.definability.Definability.{Definability}
+use Rattle.repair_loop.specs.SearchStates.{AreApart}
+use Rattle.repair_loop.specs.Preservation.{IsLeft}
 use Rattle.repair_loop.specs.Turning.{IsSearch, IsUnderWay}
-use Rattle.repair_loop.proofs.LiveBooks.{book_named}
+use Rattle.repair_loop.proofs.LiveDatabases.{database_named}
 use Rattle.repair_loop.proofs.LiveGrowth.{checker_left, same_prefix, same_faults, same_room}
 use Rattle.repair_loop.proofs.LogGrowth.{log_grew}
 use Rattle.repair_loop.proofs.NewFaults.{others_new}
-use Rattle.repair_loop.proofs.Stages.{same_book, still_kept}
+use Rattle.repair_loop.proofs.Stages.{same_database, still_kept}
 
-module _ (law : EnginesLeaveSessions) (books : EnginesLeaveBooks) (stay : CheckersStay) (f : Dqbf) (graph : AigGraph)
-    (b : BookState) (c : Checker) (p q : Padoa) (old new : ProofLog) (s : IsSearch f graph b c p false old.entries)
+module _ (law : EnginesLeaveSessions) (databases : EnginesLeaveDatabases) (stay : CheckersStay) (f : Dqbf) (graph : AigGraph)
+    (b : DatabaseState) (c : Checker) (p q : Definability) (old new : ProofLog) (s : IsSearch f graph b c p false old.entries)
     (grew : Grew (IsAddedLive (all_of b) copies (copy_groups p) true old.entries) old new)
     (stored : IsCopyStore (all_of b) (frames_of b) q new.entries)
     (fresh : AreOldOrNew (store_of p) (store_of q) old.entries) where
@@ -45,19 +45,19 @@ module _ (law : EnginesLeaveSessions) (books : EnginesLeaveBooks) (stay : Checke
   still_apart : AreApart b c q
   still_apart = record {
     gates = way.apart.gates;
-    copies = λ g has here. off_book g (fresh g has) here;
+    copies = λ g has here. off_database g (fresh g has) here;
     copies_gates = λ has. off_gates (fresh (group_of c) has);
   }
     where
-      off_book : (g : ℕ) → Contains mine g ⊎ (name_of old.entries g ≡ None) → Contains (groups_of b) g → ⊥
-      off_book g (inl before) here = way.apart.copies g before here
-      off_book g (inr none) here = book_named b old.entries way.book g here none
+      off_database : (g : ℕ) → Contains mine g ⊎ (name_of old.entries g ≡ None) → Contains (groups_of b) g → ⊥
+      off_database g (inl before) here = way.apart.copies g before here
+      off_database g (inr none) here = database_named b old.entries way.database g here none
 
       off_gates : Contains mine (group_of c) ⊎ (name_of old.entries (group_of c) ≡ None) → ⊥
       off_gates (inl before) = way.apart.copies_gates before
       off_gates (inr none) = let is = way.checked.gates.made.named in cc
 
-  new_way : (ready : Bool) → (ready ≡ true → IsPadoa f q new.entries) → IsUnderWay f b c q ready new.entries
+  new_way : (ready : Bool) → (ready ≡ true → IsDefinability f q new.entries) → IsUnderWay f b c q ready new.entries
   new_way ready copied =
       let left = law all copies mine true old new grew in
       let few = s.room in
@@ -68,7 +68,7 @@ module _ (law : EnginesLeaveSessions) (books : EnginesLeaveBooks) (stay : Checke
         now_is = way.now_is;
         live = left.live ∙ way.live;
         kept = still_kept law all copies mine true old new grew way.kept;
-        book = (books all b copies mine true old new grew refl off).0 way.book;
+        database = (databases all b copies mine true old new grew refl off).0 way.database;
         checked = same_prefix b.file all.matrix b.file.matrix c new.entries
             (checker_left stay all copies mine true c old new refl way.apart.copies_gates grew
             (same_prefix b.file b.file.matrix all.matrix c old.entries way.checked));
@@ -85,7 +85,7 @@ module _ (law : EnginesLeaveSessions) (books : EnginesLeaveBooks) (stay : Checke
       record {
         went = record {
           way = new_way false (λ on. cc);
-          book = same_book b;
+          database = same_database b;
           grew = log_grew all copies mine true old.entries old new grew;
         };
         undecided = left.decisions;
@@ -95,7 +95,7 @@ module _ (law : EnginesLeaveSessions) (books : EnginesLeaveBooks) (stay : Checke
       }
 
   -- questions may be asked now
-  pub copies_search : IsPadoa f q new.entries → (more : AigGraph) → more.inputs ≡ graph.inputs →
+  pub copies_search : IsDefinability f q new.entries → (more : AigGraph) → more.inputs ≡ graph.inputs →
       IsSearch f more b c q true new.entries
   copies_search copied more same =
       let left = law all copies mine true old new grew in

@@ -17,7 +17,7 @@ use Rattle.hint_log.specs.declared.origins.Origin.{Origin}
 use Rattle.hint_log.specs.declared.origins.Origin.TheVariants.{Instance, Gate, Fault, Copy, Link, TermGate, Differ}
 use Rattle.hint_log.proofs.NamedEntries.{live_are_numbers, each_one, numbered_low}
 use Rattle.dq_session.proofs.AddedClauses.{numbered_more}
-use Rattle.repair_loop.specs.Desks.{IsOfSearch}
+use Rattle.repair_loop.specs.SearchStates.{IsOfSearch}
 
 numbered_same : (xs ys : List (List Literal)) (j : ℕ) → 1 ≤ j → j ≤ length xs →
     numbered_from_one (xs ++ ys) j ≡ numbered_from_one xs j

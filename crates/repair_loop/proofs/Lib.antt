@@ -2,11 +2,11 @@ mod Rows
 mod Extends
 mod UniversalInputs
 mod GrownSessions
-mod ReadyDesks
+mod ReadySearchStates
 mod WholeSearches
 pub mod LogGrowth
 mod LiveGrowth
-pub mod LiveBooks
+pub mod LiveDatabases
 mod StoredGroups
 mod UnnamedBefore
 mod NewFaults
@@ -17,8 +17,8 @@ mod Beginnings
 mod PlainDecisions
 mod WholeFormulas
 mod FileDecisions
-mod EndedDesks
-mod FirstDesks
+mod EndedSearchStates
+mod FirstSearchStates
 mod PrefixCopies
 mod FollowedCopies
 mod Constants

@@ -8,7 +8,7 @@ use Rattle.std.proofs.lemmas.List.{length-append}
 use Rattle.log_laws.specs.Engines.{Engine}
 use Rattle.log_laws.specs.Sessions.{IsAddedLive}
 use Rattle.log_laws.proofs.LargerLogs.{count_grown}
-use Rattle.repair_loop.specs.Desks.{HasBegun}
+use Rattle.repair_loop.specs.SearchStates.{HasBegun}
 use Rattle.repair_loop.specs.Turning.{LogGrew}
 
 no_more : (xs ys : List Entry) → beginnings_of xs ≡ 0 → beginnings_of ys ≡ 0 → beginnings_of (xs ++ ys) ≡ 0

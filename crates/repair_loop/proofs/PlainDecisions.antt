@@ -15,7 +15,7 @@ use Rattle.hint_log.specs.declared.origins.Origin.{Origin}
 use Rattle.hint_log.specs.declared.origins.Origin.TheVariants.{Instance, Gate, Fault, Copy, Link, TermGate, Differ}
 use Rattle.hint_log.proofs.NamedEntries.{each_one, numbered_low}
 use Rattle.log_laws.specs.Engines.{IsInGroup}
-use Rattle.repair_loop.specs.Desks.{IsOfSearch}
+use Rattle.repair_loop.specs.SearchStates.{IsOfSearch}
 use Rattle.repair_loop.specs.Turning.{AreFaultsNew}
 
 -- a number above all that were named

@@ -15,9 +15,9 @@ use Rattle.hint_log.specs.declared.origins.Leaf.{Leaf}
 use Rattle.hint_log.specs.declared.origins.Origin.{Origin}
 use Rattle.hint_log.specs.declared.origins.Origin.TheVariants.{Instance, Gate, Fault, Copy, Link, TermGate, Differ}
 use Rattle.log_laws.specs.Engines.{copies, origin_engine, IsAddedBy}
-use Rattle.padoa_definitions.specs.Leaving.{ClausesLeaveStores}
-use Rattle.padoa_definitions.specs.Store.{IsCopyStore}
-use Rattle.padoa_definitions.specs.declared.padoa.Padoa.{Padoa}
+use Rattle.definability.specs.Leaving.{ClausesLeaveStores}
+use Rattle.definability.specs.Store.{IsCopyStore}
+use Rattle.definability.specs.declared.definability.Definability.{Definability}
 
 pub prefix_formed : (f : Dqbf) → IsWellFormed f → IsWellFormed (record f { matrix = [] })
 prefix_formed f formed = record {
@@ -132,6 +132,6 @@ module _ (f : Dqbf) where
   }
 
   -- and all its clauses are to come
-  pub store_there : ClausesLeaveStores → (p : Padoa) (es : List Entry) → IsCopyStore bare [] p es →
+  pub store_there : ClausesLeaveStores → (p : Definability) (es : List Entry) → IsCopyStore bare [] p es →
       IsCopyStore f (replicate (length f.matrix) 0) p es
   store_there law p es store = law bare [] p es f.matrix (replicate (length f.matrix) 0) refl store

@@ -17,18 +17,18 @@ use Rattle.circuit_cnf.specs.declared.checkers.Checker.{Checker}
 use Rattle.circuit_cnf.specs.Checking.{IsChecker, group_of, CheckersStay, CheckersStayWithRounds}
 use Rattle.circuit_cnf.specs.Failing.{FailuresRefuteRows}
 use Rattle.circuit_cnf.specs.Gates.{IsGateGiven}
-use Rattle.dq_session.specs.Books.{BookState, IsInFrame, all_of, frames_of, live_of, now_of, IsBook, IsFullBook}
+use Rattle.dq_session.specs.Databases.{DatabaseState, IsInFrame, all_of, frames_of, live_of, now_of, IsDatabase, IsFullDatabase}
 use Rattle.dq_session.specs.Changes.{groups_of}
 use Rattle.dq_session.specs.Grouped.{InstancesAreGrouped}
-use Rattle.dq_session.specs.Standing.{EnginesLeaveBooks, RoundsLeaveBooks}
+use Rattle.dq_session.specs.Preservation.{EnginesLeaveDatabases, RoundsLeaveDatabases}
 use Rattle.dq_session.proofs.GroupedFrames.{frame_group}
-use Rattle.dq_session.proofs.StandingBooks.{has_number}
-use Rattle.padoa_definitions.specs.Leaving.{EnginesLeaveStores, RoundsLeaveStores, SessionsLeaveCopies, CopiesAreGrouped, CopiesAreStored, ActiveGroupsAreStored}
-use Rattle.padoa_definitions.specs.Standing.{RoundsLeaveCopies}
-use Rattle.padoa_definitions.specs.Store.{IsCopyStore, copy_groups}
-use Rattle.padoa_definitions.specs.declared.padoa.Padoa.{Padoa}
-use Rattle.repair_loop.specs.Desks.{IsKept, IsBookAfter}
-use Rattle.repair_loop.specs.Standing.{QuestionsLeaveSearches, TurnsLeaveSearches, InstancesLeaveSearches, FailuresAreRounds, DesksAreGrouped, InstancesLeaveLogs}
+use Rattle.dq_session.proofs.PreservedDatabases.{has_number}
+use Rattle.definability.specs.Leaving.{EnginesLeaveStores, RoundsLeaveStores, SessionsLeaveCopies, CopiesAreGrouped, CopiesAreStored, ActiveGroupsAreStored}
+use Rattle.definability.specs.Preservation.{RoundsLeaveCopies}
+use Rattle.definability.specs.Store.{IsCopyStore, copy_groups}
+use Rattle.definability.specs.declared.definability.Definability.{Definability}
+use Rattle.repair_loop.specs.SearchStates.{IsKept, IsDatabaseAfter}
+use Rattle.repair_loop.specs.Preservation.{QuestionsLeaveSearches, TurnsLeaveSearches, InstancesLeaveSearches, FailuresAreRounds, SearchStatesAreGrouped, InstancesLeaveLogs}
 use Rattle.repair_loop.specs.Turning.{IsUnderWay}
 use Rattle.repair_loop.proofs.Extends.{extends}
 use Rattle.repair_loop.proofs.LiveGrowth.{asked_live, same_faults, same_room, checker_left, same_prefix}
@@ -38,14 +38,14 @@ use Rattle.repair_loop.proofs.Rows.{no_old_row}
 use Rattle.repair_loop.proofs.StoredGroups.{apart_still}
 use Rattle.log_laws.proofs.Kept.{in_one_group}
 
-pub same_book : (b : BookState) → IsBookAfter b b
-same_book b = record { same = refl; many_groups = refl }
+pub same_database : (b : DatabaseState) → IsDatabaseAfter b b
+same_database b = record { same = refl; many_groups = refl }
 
-pub book_then : (a b c : BookState) → IsBookAfter a b → IsBookAfter b c → IsBookAfter a c
-book_then a b c one two = record {
+pub database_then : (a b c : DatabaseState) → IsDatabaseAfter a b → IsDatabaseAfter b c → IsDatabaseAfter a c
+database_then a b c one two = record {
   same =
       two.same
-      ∙ ap (λ (x : BookState). record x { table = c.table; given = c.given; groups = c.groups }) one.same;
+      ∙ ap (λ (x : DatabaseState). record x { table = c.table; given = c.given; groups = c.groups }) one.same;
   many_groups = two.many_groups ∙ one.many_groups;
 }
 
@@ -62,7 +62,7 @@ still_kept law all engine groups silent old new grew kept =
     }
 
 -- the search's formula is the log's
-now_live : (f : Dqbf) (b : BookState) (c : Checker) (p : Padoa) (ready : Bool) (es : List Entry) →
+now_live : (f : Dqbf) (b : DatabaseState) (c : Checker) (p : Definability) (ready : Bool) (es : List Entry) →
     IsUnderWay f b c p ready es →
     f ≡ live_formula (all_of b) es
 now_live f b c p ready es way = way.now_is ∙ sym (ap (formula_by (all_of b)) way.live)
@@ -70,9 +70,9 @@ now_live f b c p ready es way = way.now_is ∙ sym (ap (formula_by (all_of b)) w
 no_groups : (p : List ℕ) (g h : ℕ) → Contains p g → Contains [] h → g ≢ h
 no_groups p g h mine (k, below, is) same = absurd (omega (arith, below))
 
-pub questions_left : EnginesLeaveSessions → EnginesLeaveBooks → EnginesLeaveStores → CheckersStay →
+pub questions_left : EnginesLeaveSessions → EnginesLeaveDatabases → EnginesLeaveStores → CheckersStay →
     QuestionsLeaveSearches
-questions_left law books stores stay f b c p ready old new asked copied way =
+questions_left law databases stores stay f b c p ready old new asked copied way =
     let all = all_of b in
     let now = now_live f b c p ready old.entries way in
     let mine = asked_live all f copies [] old new now asked in
@@ -89,7 +89,7 @@ questions_left law books stores stay f b c p ready old new asked copied way =
             now_is = way.now_is;
             live = left.live ∙ way.live;
             kept = still_kept law all copies [] true old new mine way.kept;
-            book = (books all b copies [] true old new mine refl (no_groups (groups_of b))).0 way.book;
+            database = (databases all b copies [] true old new mine refl (no_groups (groups_of b))).0 way.database;
             checked = same_prefix b.file all.matrix b.file.matrix c new.entries
                 (checker_left stay all copies [] true c old new refl (λ has. absurd (let below = has.1 in
                 omega (arith, below))) mine (same_prefix b.file b.file.matrix all.matrix c old.entries way.checked));
@@ -100,7 +100,7 @@ questions_left law books stores stay f b c p ready old new asked copied way =
             faults = omega (arith, few, many, room);
             new_faults = others_new all copies [] true old new refl mine left.before way.new_faults;
           };
-          book = same_book b;
+          database = same_database b;
           grew = log_grew all copies [] true old.entries old new mine;
         };
         undecided = left.decisions;
@@ -111,16 +111,16 @@ questions_left law books stores stay f b c p ready old new asked copied way =
       faults,
     )
 
-pub turns_left : EnginesLeaveSessions → CircuitsAddLive → EnginesLeaveBooks → EnginesLeaveStores →
+pub turns_left : EnginesLeaveSessions → CircuitsAddLive → EnginesLeaveDatabases → EnginesLeaveStores →
     SessionsLeaveCopies → ActiveGroupsAreStored → TurnsLeaveSearches
-turns_left law add books stores sessions active f b c d p ready silent old new turned way =
+turns_left law add databases stores sessions active f b c d p ready silent old new turned way =
     let all = all_of b in
     let group = group_of c in
     let now = now_live f b c p ready old.entries way in
     let grew = add all group silent old new
     (subst (λ g. Grew (IsAddedBy g circuits group silent old.entries) old new) now turned.grew) in
     let left = law all circuits (group ∷ []) silent old new grew in
-    let off_books : (g h : ℕ) → Contains (groups_of b) g → Contains (group ∷ []) h → g ≢ h =
+    let off_databases : (g h : ℕ) → Contains (groups_of b) g → Contains (group ∷ []) h → g ≢ h =
     λ g h mine one same. way.apart.gates (subst (Contains (groups_of b)) (same ∙ sym (only_one group h one)) mine) in
     let off_copies : (g h : ℕ) → Contains (copy_groups p) g → Contains (group ∷ []) h → g ≢ h =
     λ g h mine one same. way.apart.copies_gates
@@ -132,7 +132,7 @@ turns_left law add books stores sessions active f b c d p ready silent old new t
           now_is = way.now_is;
           live = left.live ∙ way.live;
           kept = still_kept law all circuits (group ∷ []) silent old new grew way.kept;
-          book = (books all b circuits (group ∷ []) silent old new grew refl off_books).0 way.book;
+          database = (databases all b circuits (group ∷ []) silent old new grew refl off_databases).0 way.database;
           checked = same_prefix b.file (now_of b).matrix b.file.matrix d new.entries
               (subst (λ g. IsChecker g d new.entries) way.now_is turned.checker);
           copied = λ on. sessions f all p circuits (group ∷ []) silent old new grew
@@ -148,7 +148,7 @@ turns_left law add books stores sessions active f b c d p ready silent old new t
           new_faults = turns_new all group silent old new grew left.before
               (subst (λ n. Each (IsGateGiven n) new.entries) turned.group turned.checker.gates.own) way.new_faults;
         };
-        book = same_book b;
+        database = same_database b;
         grew = log_grew all circuits (group ∷ []) silent old.entries old new grew;
       };
       undecided = left.decisions;
@@ -159,7 +159,7 @@ turns_left law add books stores sessions active f b c d p ready silent old new t
 
 pub instances_left : EnginesLeaveSessions → EnginesLeaveStores → SessionsLeaveCopies → ActiveGroupsAreStored →
     CheckersStay → InstancesLeaveSearches
-instances_left law stores sessions active stay f b after c p ready silent old new grew step book fresh way =
+instances_left law stores sessions active stay f b after c p ready silent old new grew step database fresh way =
     let same = step.same in
     let all = all_of b in
     let groups = groups_of b in
@@ -169,7 +169,7 @@ instances_left law stores sessions active stay f b after c p ready silent old ne
     let few = way.faults in
     let many = ap length faults in
     let all_same : all_of after ≡ all = ap all_of same in
-    let file_same : after.file ≡ b.file = ap (λ (x : BookState). x.file) same in
+    let file_same : after.file ≡ b.file = ap (λ (x : DatabaseState). x.file) same in
     let off : (g h : ℕ) → Contains (copy_groups p) g → Contains groups h → g ≢ h =
     λ g h mine other is. way.apart.copies g mine (subst (Contains groups) (sym is) other) in
     let checked = checker_left stay all instances groups silent c old new refl way.apart.gates grew
@@ -180,20 +180,20 @@ instances_left law stores sessions active stay f b after c p ready silent old ne
           way = record {
             formula = way.formula;
             now_is = way.now_is ∙ sym (ap now_of same);
-            live = left.live ∙ way.live ∙ ap (λ (x : BookState). Some (live_of x)) (sym same);
+            live = left.live ∙ way.live ∙ ap (λ (x : DatabaseState). Some (live_of x)) (sym same);
             kept = subst (λ a. IsKept a new.entries) (sym all_same)
                 (still_kept law all instances groups silent old new grew way.kept);
-            book = book;
+            database = database;
             checked = subst (λ g. IsChecker g c new.entries) (sym file_same)
                 (same_prefix b.file all.matrix b.file.matrix c new.entries checked);
             copied = λ on. sessions f all p instances groups silent old new grew
                 (λ g h mine other. off g h (active all (frames_of b) p old.entries way.stored g mine) other) (way.copied on);
-            stored = subst (λ (x : BookState). IsCopyStore (all_of x) (frames_of x) p new.entries) (sym same) stored;
+            stored = subst (λ (x : DatabaseState). IsCopyStore (all_of x) (frames_of x) p new.entries) (sym same) stored;
             apart = apart_still b.file all (frames_of b) b after c p old.entries way.checked way.stored fresh way.apart;
             faults = omega (arith, few, many, room);
             new_faults = others_new all instances groups silent old new refl grew left.before way.new_faults;
           };
-          book = step;
+          database = step;
           grew = log_grew all instances groups silent old.entries old new grew;
         };
         undecided = left.decisions;
@@ -205,9 +205,9 @@ instances_left law stores sessions active stay f b after c p ready silent old ne
     )
 
 -- what a failure of candidates comes to, whether the log has room for its round or not
-pub failure_round : FailuresRefuteRows → RoundsLeaveBooks → CheckersStayWithRounds → RoundsLeaveCopies →
+pub failure_round : FailuresRefuteRows → RoundsLeaveDatabases → CheckersStayWithRounds → RoundsLeaveCopies →
     RoundsLeaveStores → FailuresAreRounds
-failure_round refute books checkers copies_stay stores f b c p ready entries output row values j o are bad =
+failure_round refute databases checkers copies_stay stores f b c p ready entries output row values j o are bad =
     let way = o.way in
     let all = all_of b in
     let well = way.formula in
@@ -218,8 +218,8 @@ failure_round refute books checkers copies_stay stores f b c p ready entries out
     (subst (λ rs. Contains rs row) o.rows inside)) in
     let model : HasModelWith f (rows_of entries) row values = subst (λ rs. HasModelWith f rs row values) (sym o.rows)
     (extends f well.prefix rows are.points output are.are_points are.agree row values j bad) in
-    let full : IsFullBook b entries = record { book = way.book; rows = o.rows } in
-    let left = books b row values j entries full in
+    let full : IsFullDatabase b entries = record { database = way.database; rows = o.rows } in
+    let left = databases b row values j entries full in
     let few = way.faults in (
       new,
       model,
@@ -234,7 +234,7 @@ failure_round refute books checkers copies_stay stores f b c p ready entries out
             models = (subst (λ g. FollowsModel g entries (Round row values j)) now model, way.kept.models);
             givens = (tt, way.kept.givens);
           };
-          book = left.0;
+          database = left.0;
           checked = checkers b.file c entries row values j way.checked;
           copied = λ on. copies_stay f p entries row values j (way.copied on);
           stored = stores all (frames_of b) p entries row values j way.stored;
@@ -249,10 +249,10 @@ failure_round refute books checkers copies_stay stores f b c p ready entries out
       },
     )
 
--- an instance's group is one of the book's
-instance_group : (b : BookState) (es : List Entry) → IsBook b es → (k j group : ℕ) (rest : List Literal) →
+-- an instance's group is one of the database's
+instance_group : (b : DatabaseState) (es : List Entry) → IsDatabase b es → (k j group : ℕ) (rest : List Literal) →
     Contains es (Given (Instance k j) (negative group ∷ rest)) → Contains (groups_of b) group
-instance_group b es book k j group rest has = by (frame_group b es book k j group rest has)
+instance_group b es database k j group rest has = by (frame_group b es database k j group rest has)
   where
     by : IsInFrame b (frame_of (frames_of b) j) (negative group ∷ rest) → Contains (groups_of b) group
     by (inl (zero_is, inside)) = (
@@ -264,14 +264,14 @@ instance_group b es book k j group rest has = by (frame_group b es book k j grou
     by (inr (g, is, inside)) = subst (Contains (groups_of b)) (sym (in_one_group group (variable_of g.selector)
         (negative group ∷ rest) (rest, refl) inside)) (has_number b _ g is)
 
-pub desks_grouped : InstancesAreGrouped → CopiesAreGrouped → CopiesAreStored → DesksAreGrouped
-desks_grouped books grouped stored b c p entries book store apart = record {
-  instances = books b entries book;
+pub search_states_grouped : InstancesAreGrouped → CopiesAreGrouped → CopiesAreStored → SearchStatesAreGrouped
+search_states_grouped databases grouped stored b c p entries database store apart = record {
+  instances = databases b entries database;
   copies = grouped (all_of b) (frames_of b) p entries store;
   apart = λ k j side j' group group' rest rest' has has'. (
     λ same. apart.copies group (subst (Contains (copy_groups p)) (sym same)
         (stored (all_of b) (frames_of b) p entries store side j' group' rest' has'))
-        (instance_group b entries book k j group rest has),
+        (instance_group b entries database k j group rest has),
     λ none. absurd none,
   );
 }

@@ -7,10 +7,10 @@ use Rattle.hint_log.specs.declared.stops.Stop.TheVariants.{Memory, Limit}
 use Rattle.oracle.specs.Limits.{IsAtSomeLimit}
 use Rattle.circuit_cnf.specs.Failing.{IsFailure}
 use Rattle.circuit_cnf.specs.declared.checkers.Checker.{Checker}
-use Rattle.dq_session.specs.Books.{BookState}
-use Rattle.padoa_definitions.specs.declared.padoa.Padoa.{Padoa}
+use Rattle.dq_session.specs.Databases.{DatabaseState}
+use Rattle.definability.specs.declared.definability.Definability.{Definability}
 use Rattle.repair_loop.specs.Searching.{AreCandidates}
-use Rattle.repair_loop.specs.Standing.{FailuresAreRounds}
+use Rattle.repair_loop.specs.Preservation.{FailuresAreRounds}
 use Rattle.repair_loop.specs.Stopping.{IsStoppedAtLimit}
 use Rattle.repair_loop.specs.Turning.{IsOpen}
 
@@ -19,7 +19,7 @@ pub by_lemma : (f : Dqbf) (log : ProofLog) → IsAtSomeLimit log → IsStoppedAt
 by_lemma f log at = record { reached = at.1.reached; next = inl (at.0, at.1.next) }
 
 -- a round could be logged
-pub by_round : FailuresAreRounds → (f : Dqbf) (b : BookState) (c : Checker) (p : Padoa) (ready : Bool) (log : ProofLog)
+pub by_round : FailuresAreRounds → (f : Dqbf) (b : DatabaseState) (c : Checker) (p : Definability) (ready : Bool) (log : ProofLog)
     (output : _) → IsOpen f b c p ready log.entries → AreCandidates f b.table.rows output
     → (row values : List Bool) (j : ℕ) → IsFailure f output row values j → steps_of log.entries ≡ log.limit →
     IsStoppedAtLimit f log

@@ -7,13 +7,13 @@ use Rattle.oracle.specs.Calls.{IsMade}
 use Rattle.oracle.specs.declared.groups.Group.{Group}
 use Rattle.circuit_cnf.specs.declared.checkers.Checker.{Checker}
 use Rattle.circuit_cnf.specs.Checking.{IsChecker, group_of}
-use Rattle.dq_session.specs.Books.{BookState}
+use Rattle.dq_session.specs.Databases.{DatabaseState}
 use Rattle.dq_session.specs.Changes.{groups_of}
-use Rattle.padoa_definitions.specs.Copies.{group_variable}
-use Rattle.padoa_definitions.specs.Store.{StoreState, of_frame, both_groups, store_groups, store_of, copy_groups, IsStore, IsCopyStore}
-use Rattle.padoa_definitions.specs.declared.frames.Sides.{Sides}
-use Rattle.padoa_definitions.specs.declared.padoa.Padoa.{Padoa}
-use Rattle.repair_loop.specs.Desks.{AreApart}
+use Rattle.definability.specs.Copies.{group_variable}
+use Rattle.definability.specs.Store.{StoreState, of_frame, both_groups, store_groups, store_of, copy_groups, IsStore, IsCopyStore}
+use Rattle.definability.specs.declared.frames.Sides.{Sides}
+use Rattle.definability.specs.declared.definability.Definability.{Definability}
+use Rattle.repair_loop.specs.SearchStates.{AreApart}
 
 abbrev HasName : List Entry → ℕ → Type 0
 HasName es n = name_of es n ≡ None → ⊥
@@ -66,7 +66,7 @@ stored_named all numbered s es store n has = by (in_either (both_groups s.frames
     by (inr there) = links_made es s.links store.groups.links n there
 
 -- groups that were made since are none of those
-pub apart_still : (f all : Dqbf) (numbered : List ℕ) (b after : BookState) (c : Checker) (p : Padoa) (es : List Entry)
+pub apart_still : (f all : Dqbf) (numbered : List ℕ) (b after : DatabaseState) (c : Checker) (p : Definability) (es : List Entry)
     → IsChecker f c es → IsCopyStore all numbered p es
     → ((n : ℕ) → Contains (groups_of after) n → Contains (groups_of b) n ⊎ (name_of es n ≡ None))
     → AreApart b c p → AreApart after c p

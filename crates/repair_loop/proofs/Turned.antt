@@ -20,61 +20,61 @@ use Rattle.hint_log.specs.ProductiveLog.{fault_groups}
 use Rattle.hint_log.specs.ProductiveSession.{IsUndecidedSince}
 use Rattle.log_laws.specs.Engines.{instances}
 use Rattle.log_laws.specs.Sessions.{IsAddedLive}
-use Rattle.dq_session.specs.Books.{BookState, number_of, all_of, live_of, now_of, IsFullBook}
+use Rattle.dq_session.specs.Databases.{DatabaseState, number_of, all_of, live_of, now_of, IsFullDatabase}
 use Rattle.dq_session.specs.Changes.{groups_of, IsCaughtUp}
 use Rattle.dq_session.specs.Shown.{IsRefutedLive}
-use Rattle.padoa_definitions.specs.declared.padoa.Padoa.{Padoa}
+use Rattle.definability.specs.declared.definability.Definability.{Definability}
 use Rattle.known_functions.specs.Searching.{HasInputs}
-use Rattle.repair_loop.specs.Desks.{IsKept, IsBookAfter, IsAnsweredFalse, IsAnsweredTrue}
+use Rattle.repair_loop.specs.SearchStates.{IsKept, IsDatabaseAfter, IsAnsweredFalse, IsAnsweredTrue}
 use Rattle.repair_loop.specs.Searching.{AreBuilt}
-use Rattle.repair_loop.specs.Standing.{IsLeft, InstancesLeaveLogs, InstancesLeaveSearches}
+use Rattle.repair_loop.specs.Preservation.{IsLeft, InstancesLeaveLogs, InstancesLeaveSearches}
 use Rattle.repair_loop.specs.Turning.{LogGrew, IsModel, IsUnderWay, IsOpen, IsSearch, IsRoundLogged, HasEnded, HasGoneOn, IsNewRound}
 use Rattle.repair_loop.proofs.LogGrowth.{log_then, log_same}
-use Rattle.repair_loop.proofs.Stages.{book_then, same_book}
+use Rattle.repair_loop.proofs.Stages.{database_then, same_database}
 use Rattle.repair_loop.proofs.UnnamedBefore.{unnamed_since}
 
-pub went_then : (f : Dqbf) (a b e : BookState) (c d g : Checker) (p : Padoa) (ready : Bool) (old mid new : ProofLog) →
+pub went_then : (f : Dqbf) (a b e : DatabaseState) (c d g : Checker) (p : Definability) (ready : Bool) (old mid new : ProofLog) →
     HasGoneOn f a b c d p ready old mid → HasGoneOn f b e d g p ready mid new → HasGoneOn f a e c g p ready old new
 went_then f a b e c d g p ready old mid new one two = record {
   way = two.way;
-  book = book_then a b e one.book two.book;
+  database = database_then a b e one.database two.database;
   grew = log_then old mid new one.grew two.grew;
 }
 
-pub nothing_went : (f : Dqbf) (b : BookState) (c : Checker) (p : Padoa) (ready : Bool) (log : ProofLog) →
+pub nothing_went : (f : Dqbf) (b : DatabaseState) (c : Checker) (p : Definability) (ready : Bool) (log : ProofLog) →
     IsUnderWay f b c p ready log.entries → HasGoneOn f b b c c p ready log log
-nothing_went f b c p ready log way = record { way = way; book = same_book b; grew = log_same log log refl }
+nothing_went f b c p ready log way = record { way = way; database = same_database b; grew = log_same log log refl }
 
-pub caught_up_after : (b after : BookState) → IsCaughtUp b after → IsBookAfter b after
+pub caught_up_after : (b after : DatabaseState) → IsCaughtUp b after → IsDatabaseAfter b after
 caught_up_after b after up = record {
   same =
       up.same ∙ ap (λ t. record b { table = t; given = after.given; groups = after.groups })
-      (sym (ap (λ (x : BookState). x.table) up.same));
+      (sym (ap (λ (x : DatabaseState). x.table) up.same));
   many_groups = up.many_groups;
 }
 
-pub row_after : (b after : BookState) → after ≡ record b { table = after.table } → IsBookAfter b after
+pub row_after : (b after : DatabaseState) → after ≡ record b { table = after.table } → IsDatabaseAfter b after
 row_after b after same = record {
   same =
       same ∙ ap (λ gs. record b { table = after.table; given = gs })
-      (sym (ap (λ (x : BookState). x.given) same))
+      (sym (ap (λ (x : DatabaseState). x.given) same))
       ∙ ap (λ gs. record b { table = after.table; given = after.given; groups = gs })
-      (sym (ap (λ (x : BookState). x.groups) same));
-  many_groups = ap (λ (x : BookState). length x.groups) same;
+      (sym (ap (λ (x : DatabaseState). x.groups) same));
+  many_groups = ap (λ (x : DatabaseState). length x.groups) same;
 }
 
 -- nothing was decided
-pub left_open : (f : Dqbf) (b after : BookState) (c d : Checker) (p : Padoa) (ready : Bool) (silent : Bool) (old new : ProofLog) →
+pub left_open : (f : Dqbf) (b after : DatabaseState) (c d : Checker) (p : Definability) (ready : Bool) (silent : Bool) (old new : ProofLog) →
     silent ≡ true → IsLeft f b after c d p ready silent old new → rows_of new.entries ≡ after.table.rows →
     IsUndecidedSince (all_of b) old.entries → IsOpen f after d p ready new.entries
 left_open f b after c d p ready silent old new quiet left rows before = record {
   way = left.went.way;
   rows = rows;
-  undecided = subst (λ a. IsUndecidedSince a new.entries) (sym (ap all_of left.went.book.same))
+  undecided = subst (λ a. IsUndecidedSince a new.entries) (sym (ap all_of left.went.database.same))
       (left.undecided quiet before);
 }
 
-pub left_search : (f : Dqbf) (graph more : AigGraph) (b after : BookState) (c d : Checker) (p : Padoa) (ready : Bool) (silent : Bool)
+pub left_search : (f : Dqbf) (graph more : AigGraph) (b after : DatabaseState) (c d : Checker) (p : Definability) (ready : Bool) (silent : Bool)
     (old new : ProofLog) → silent ≡ true → IsLeft f b after c d p ready silent old new →
     fault_groups new.entries ≡ fault_groups old.entries → rows_of new.entries ≡ after.table.rows →
     more.inputs ≡ graph.inputs →
@@ -89,7 +89,7 @@ left_search f graph more b after c d p ready silent old new quiet left faults ro
       room = omega (arith, few, many, room);
     }
 
-pub refuted_after : (b after : BookState) (es : List Entry) (id : ℕ) → IsBookAfter b after → IsRefutedLive b es id →
+pub refuted_after : (b after : DatabaseState) (es : List Entry) (id : ℕ) → IsDatabaseAfter b after → IsRefutedLive b es id →
     IsRefutedLive after es id
 refuted_after b after es id same r = record {
   clause = r.clause;
@@ -101,7 +101,7 @@ refuted_after b after es id same r = record {
   live = λ k j c reached. subst (λ ns. Contains ns j) (sym (ap live_of same.same)) (r.live k j c reached);
 }
 
-pub answered_false : (b after : BookState) (log : ProofLog) (id : ℕ) → IsBookAfter b after →
+pub answered_false : (b after : DatabaseState) (log : ProofLog) (id : ℕ) → IsDatabaseAfter b after →
     rows_of log.entries ≡ b.table.rows → IsExpansionUnsatisfiable (now_of b) b.table.rows →
     IsRefutedLive b log.entries id → IsAnsweredFalse after log id
 answered_false b after log id same rows none shown = record {
@@ -111,7 +111,7 @@ answered_false b after log id same rows none shown = record {
 }
 
 -- a round's row is the same
-pub round_after : (f : Dqbf) (b : BookState) (c : Checker) (p : Padoa) (ready : Bool) (row here : List Bool) (old mid new : ProofLog) →
+pub round_after : (f : Dqbf) (b : DatabaseState) (c : Checker) (p : Definability) (ready : Bool) (row here : List Bool) (old mid new : ProofLog) →
     row ≡ here → LogGrew old mid → IsNewRound f b c p ready row mid new → IsNewRound f b c p ready here old new
 round_after f b c p ready row here old mid new same grew round =
     let steps = grew.steps in
@@ -124,17 +124,17 @@ round_after f b c p ready row here old mid new same grew round =
       within = omega (arith, steps, limit, within);
     }
 
--- with its row a book is whole again
-pub row_search : InstancesLeaveSearches → (f : Dqbf) (graph : AigGraph) (b after : BookState) (c : Checker) (p : Padoa) (ready : Bool)
+-- with its row a database is whole again
+pub row_search : InstancesLeaveSearches → (f : Dqbf) (graph : AigGraph) (b after : DatabaseState) (c : Checker) (p : Definability) (ready : Bool)
     (row : List Bool) (old new : ProofLog)
     → IsRoundLogged f b c p ready row old.entries
     → Grew (IsAddedLive (all_of b) instances (groups_of b) true old.entries) old new
-    → after ≡ record b { table = after.table } → after.table.group ≡ b.table.group → IsFullBook after new.entries
+    → after ≡ record b { table = after.table } → after.table.group ≡ b.table.group → IsFullDatabase after new.entries
     → HasInputs f graph → IsLeft f b after c c p ready true old new × IsSearch f graph after c p ready new.entries
 row_search law f graph b after c p ready row old new a grew same group full inputs =
     let groups : groups_of after ≡ groups_of b =
     ap groups_of same ∙ ap (λ g. g ∷ filter_map (option_map number_of) b.groups) group in
-    let left = law f b after c p ready true old new grew (row_after b after same) full.book
+    let left = law f b after c p ready true old new grew (row_after b after same) full.database
     (λ n has. inl (subst (λ gs. Contains gs n) groups has)) a.way in
     let few = a.room in
     let many = ap length left.1 in
@@ -147,21 +147,21 @@ row_search law f graph b after c p ready row old new a grew same group full inpu
       },
     )
 
-pub after_undecided : (b after : BookState) (es : List Entry) → IsBookAfter b after → IsUndecidedSince (all_of b) es →
+pub after_undecided : (b after : DatabaseState) (es : List Entry) → IsDatabaseAfter b after → IsUndecidedSince (all_of b) es →
     IsUndecidedSince (all_of after) es
 after_undecided b after es same u = subst (λ g. IsUndecidedSince g es) (sym (ap all_of same.same)) u
 
--- the book's model
-pub model_of : (f : Dqbf) (b after : BookState) (points : PointState) (es : List Entry) (c : Checker) (p : Padoa) (ready : Bool) →
+-- the database's model
+pub model_of : (f : Dqbf) (b after : DatabaseState) (points : PointState) (es : List Entry) (c : Checker) (p : Definability) (ready : Bool) →
     IsUnderWay f b c p ready es → IsCaughtUp b after → points.variables ≡ b.table.existentials →
     length points.rows ≡ length b.table.rows → ArePoints (now_of b) b.table.rows (point_bits points) →
     IsModel f after.table points
 model_of f b after points es c p ready way up variables rows model =
-    let table : after.table ≡ b.table = ap (λ (x : BookState). x.table) up.same in
+    let table : after.table ≡ b.table = ap (λ (x : DatabaseState). x.table) up.same in
     subst (λ t. IsModel f t points) (sym table) (record {
       whole = subst (λ g. All (λ row. length row ≡ length g.universals) b.table.rows) (sym way.now_is)
-          way.book.table.own.whole;
-      variables = variables ∙ way.book.table.existentials ∙ ap existential_variables (sym way.now_is);
+          way.database.table.own.whole;
+      variables = variables ∙ way.database.table.existentials ∙ ap existential_variables (sym way.now_is);
       rows = rows;
       are_points = subst (λ g. ArePoints g b.table.rows (point_bits points)) (sym way.now_is) model;
     })
@@ -199,50 +199,50 @@ answered_true supported decide f graph rows nodes old log id built holds same si
     }
 
 -- a search that went on, so far
-pub ended_by : (f : Dqbf) (b after : BookState) (c d : Checker) (p : Padoa) (ready : Bool) (old new : ProofLog) →
+pub ended_by : (f : Dqbf) (b after : DatabaseState) (c d : Checker) (p : Definability) (ready : Bool) (old new : ProofLog) →
     HasGoneOn f b after c d p ready old new → HasEnded b after old new
 ended_by f b after c d p ready old new went = record {
-  kept = subst (λ a. IsKept a new.entries) (ap all_of went.book.same) went.way.kept;
+  kept = subst (λ a. IsKept a new.entries) (ap all_of went.database.same) went.way.kept;
   new_faults = went.way.new_faults;
-  book = went.book;
+  database = went.database;
   grew = went.grew;
 }
 
 -- what a search came to that had gone on before
-pub ended_then : (f : Dqbf) (b mid after : BookState) (c d : Checker) (p : Padoa) (ready : Bool) (old between new : ProofLog) →
+pub ended_then : (f : Dqbf) (b mid after : DatabaseState) (c d : Checker) (p : Definability) (ready : Bool) (old between new : ProofLog) →
     HasGoneOn f b mid c d p ready old between → HasEnded mid after between new → HasEnded b after old new
 ended_then f b mid after c d p ready old between new went ended = record {
-  kept = subst (λ a. IsKept a new.entries) (ap all_of went.book.same) ended.kept;
+  kept = subst (λ a. IsKept a new.entries) (ap all_of went.database.same) ended.kept;
   new_faults = ended.new_faults;
-  book = book_then b mid after went.book ended.book;
+  database = database_then b mid after went.database ended.database;
   grew = log_then old between new went.grew ended.grew;
 }
 
 -- two parts of a search, one behind the other
-pub ended_both : (b mid after : BookState) (old between new : ProofLog) →
+pub ended_both : (b mid after : DatabaseState) (old between new : ProofLog) →
     HasEnded b mid old between → HasEnded mid after between new → HasEnded b after old new
 ended_both b mid after old between new one two = record {
-  kept = subst (λ a. IsKept a new.entries) (ap all_of one.book.same) two.kept;
+  kept = subst (λ a. IsKept a new.entries) (ap all_of one.database.same) two.kept;
   new_faults = two.new_faults;
-  book = book_then b mid after one.book two.book;
+  database = database_then b mid after one.database two.database;
   grew = log_then old between new one.grew two.grew;
 }
 
 -- a row was refused
-pub row_refused : InstancesLeaveLogs → (f : Dqbf) (b after : BookState) (c : Checker) (p : Padoa) (ready : Bool) (row : List Bool)
-    (first old new : ProofLog) (start : BookState) → HasEnded start b first old → IsRoundLogged f b c p ready row old.entries
+pub row_refused : InstancesLeaveLogs → (f : Dqbf) (b after : DatabaseState) (c : Checker) (p : Definability) (ready : Bool) (row : List Bool)
+    (first old new : ProofLog) (start : DatabaseState) → HasEnded start b first old → IsRoundLogged f b c p ready row old.entries
     → Grew (IsAddedLive (all_of b) instances (groups_of b) true old.entries) old new
     → after ≡ record b { table = after.table } → HasEnded start after first new
 row_refused law f b after c p ready row first old new start ended a grew same =
     let left = law (all_of b) (groups_of b) true old new grew in
     record {
-      kept = subst (λ g. IsKept g new.entries) (ap all_of ended.book.same) (left.kept a.way.kept);
+      kept = subst (λ g. IsKept g new.entries) (ap all_of ended.database.same) (left.kept a.way.kept);
       new_faults = left.new_faults a.way.new_faults;
-      book = book_then start b after ended.book (row_after b after same);
+      database = database_then start b after ended.database (row_after b after same);
       grew = log_then first old new ended.grew left.grew;
     }
 
-pub row_undecided : InstancesLeaveLogs → (f : Dqbf) (b after : BookState) (c : Checker) (p : Padoa) (ready : Bool) (row : List Bool)
+pub row_undecided : InstancesLeaveLogs → (f : Dqbf) (b after : DatabaseState) (c : Checker) (p : Definability) (ready : Bool) (row : List Bool)
     (old new : ProofLog) → IsRoundLogged f b c p ready row old.entries
     → Grew (IsAddedLive (all_of b) instances (groups_of b) true old.entries) old new
     → after ≡ record b { table = after.table } → IsUndecidedSince (all_of after) new.entries

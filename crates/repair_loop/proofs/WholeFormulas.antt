@@ -8,7 +8,7 @@ use Rattle.dq_lits.specs.Literal.{Literal}
 use Rattle.dq_formula.proofs.ClauseBlocks.{size}
 use Rattle.hint_log.specs.Live.{with_matrix, formula_of}
 use Rattle.hint_log.specs.Naming.{numbered_from_one}
-use Rattle.dq_session.specs.Books.{all_of, live_of, now_of}
+use Rattle.dq_session.specs.Databases.{all_of, live_of, now_of}
 use Rattle.dq_session.specs.Changes.{begun, file_live}
 use Rattle.dq_session.specs.declared.live.Live.{Live}
 use Rattle.expansion.specs.Table.{TableState}
@@ -43,7 +43,7 @@ whole_file f = ap (with_matrix f) (behind [] f.matrix 1 refl)
 pub all_is_file : (f : Dqbf) (t : TableState) → all_of (begun f t) ≡ f
 all_is_file f t = ap (with_matrix f) (append-nil f.matrix)
 
--- and so of its book
+-- and so of its database
 pub now_is_file : (f : Dqbf) (t : TableState) → f ≡ now_of (begun f t)
 now_is_file f t = sym (ap (λ g. formula_of g (numbers 1 (length f.matrix))) (all_is_file f t) ∙ whole_file f)
 

@@ -13,8 +13,8 @@ use Rattle.hint_log.specs.declared.origins.Origin.TheVariants.{Instance, Gate, F
 use Rattle.log_laws.specs.Engines.{Engine, EnginesLeaveRest, IsAddedBy, instances}
 use Rattle.log_laws.specs.Sessions.{EnginesLeaveSessions, PlainLogsAreSessions, IsAddedLive}
 use Rattle.oracle.specs.Searched.{IsSearched}
-use Rattle.dq_session.specs.Books.{BookState}
-use Rattle.repair_loop.specs.Desks.{IsKept, IsFirstBook}
+use Rattle.dq_session.specs.Databases.{DatabaseState}
+use Rattle.repair_loop.specs.SearchStates.{IsKept, IsFirstDatabase}
 
 -- a search that begins is about all clauses
 abbrev pub IsWhole : Dqbf → List Entry → Entry → Type 0
@@ -111,14 +111,14 @@ still_plain law f engine group silent old new grew kept =
       givens = left.givens kept.givens;
     }
 
--- a file's book alone
+-- a file's database alone
 pub record IsFirstLog (f : Dqbf) (entries : List Entry) : Type 0 where
   pub none : live_numbers entries ≡ None
   pub kept : IsKept f entries
   pub plain : IsPlain f entries
   pub undecided : IsUndecided f entries
 
--- what a file's book adds to an empty log
+-- what a file's database adds to an empty log
 pub alone_log : EnginesLeaveSessions → PlainLogsAreSessions → (f : Dqbf) (before after : ProofLog) →
     before.entries ≡ [] → Grew (IsAddedLive f instances [] true before.entries) before after →
     IsFirstLog f after.entries
@@ -139,7 +139,7 @@ alone_log law plain f before after empty grew =
       undecided = (plain f [] after.entries none).2.1 since;
     }
 
-pub first_log : EnginesLeaveSessions → PlainLogsAreSessions → (f : Dqbf) (b : BookState) (es : List Entry) →
-    IsFirstBook f b es → IsFirstLog f es
+pub first_log : EnginesLeaveSessions → PlainLogsAreSessions → (f : Dqbf) (b : DatabaseState) (es : List Entry) →
+    IsFirstDatabase f b es → IsFirstLog f es
 first_log law plain f b es first =
     subst (IsFirstLog f) first.entries_are (alone_log law plain f first.before first.after first.empty first.alone)

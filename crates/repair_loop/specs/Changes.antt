@@ -5,24 +5,24 @@ use Rattle.dq_lits.specs.Literal.{Literal, variable_of}
 use Rattle.dq_lits.specs.Formula.{declared}
 use Rattle.hint_log.specs.Entries.{Entry}
 use Rattle.aig_graph.specs.Graph.{AigGraph}
-use Rattle.dq_session.specs.Books.{BookState}
+use Rattle.dq_session.specs.Databases.{DatabaseState}
 use Rattle.dq_session.specs.Changes.{with_frame, with_clause, without_frame}
-use Rattle.repair_loop.specs.declared.desks.Desk.{Desk}
-use Rattle.repair_loop.specs.Desks.{IsReady}
+use Rattle.repair_loop.specs.declared.search_states.SearchState.{SearchState}
+use Rattle.repair_loop.specs.SearchStates.{CanBeginSearch}
 
 abbrev pub FramesOpen : Type 0
 FramesOpen =
-    (b : BookState) (d : Desk) (graph : AigGraph) (entries : List Entry)
-    → IsReady b d graph entries → IsReady (with_frame b) d graph entries
+    (b : DatabaseState) (d : SearchState) (graph : AigGraph) (entries : List Entry)
+    → CanBeginSearch b d graph entries → CanBeginSearch (with_frame b) d graph entries
 
 abbrev pub ClausesCome : Type 0
 ClausesCome =
-    (b : BookState) (d : Desk) (graph : AigGraph) (entries : List Entry) (clause : List Literal)
+    (b : DatabaseState) (d : SearchState) (graph : AigGraph) (entries : List Entry) (clause : List Literal)
     → 1 ≤ length b.open_frames → All (λ l. Contains (declared b.file) (variable_of l)) clause
-    → IsReady b d graph entries → IsReady (with_clause b clause) d graph entries
+    → CanBeginSearch b d graph entries → CanBeginSearch (with_clause b clause) d graph entries
 
 abbrev pub FramesClose : Type 0
 FramesClose =
-    (b : BookState) (d : Desk) (graph : AigGraph) (entries : List Entry)
+    (b : DatabaseState) (d : SearchState) (graph : AigGraph) (entries : List Entry)
     → 1 ≤ length b.open_frames
-    → IsReady b d graph entries → IsReady (without_frame b) d graph entries
+    → CanBeginSearch b d graph entries → CanBeginSearch (without_frame b) d graph entries

@@ -1,9 +1,9 @@
 pub mod Searching
-pub mod Desks
+pub mod SearchStates
 pub mod Changes
 pub mod Stopping
 pub mod Turning
 pub mod Forcing
 pub mod Constants
-pub mod Standing
+pub mod Preservation
 pub mod Beginning

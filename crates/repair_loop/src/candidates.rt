@@ -7,17 +7,17 @@ ghost use Rattle.hint_log.specs.Naming.{rows_of};
 ghost use Rattle.dq_formula.specs.Rules.{IsRule};
 ghost use Rattle.known_functions.specs.Forcing.{AreKnownIn, IsModelOf, MayForce};
 ghost use Rattle.oracle.specs.Limits.{IsAtSomeLimit};
-ghost use Rattle.repair_loop.specs.Desks.{IsAnsweredFalse};
-ghost use Rattle.repair_loop.specs.Standing.{IsLeft};
+ghost use Rattle.repair_loop.specs.SearchStates.{IsAnsweredFalse};
+ghost use Rattle.repair_loop.specs.Preservation.{IsLeft};
 ghost use Rattle.repair_loop.specs.Forcing.{LeavesForced};
 ghost use Rattle.repair_loop.specs.Turning.{AreProposed, HasGoneOn, IsModel, IsSearch, IsStoppedAs};
 
+use crate::preservation::{instances_leave_searches, questions_leave_searches};
 use crate::searches::{Known, Search};
-use crate::standing::{instances_leave_searches, questions_leave_searches};
 use aig_graph::Graph;
 use candidate_functions::{Outputs, build};
 use circuit_cnf::Checker;
-use dq_session::Book;
+use dq_session::ClauseDatabase;
 use expansion::{Exp, Points};
 use hint_log::{Log, Stop};
 use known_functions::{Definitions, TableModel};
@@ -37,34 +37,34 @@ impl<'f, 'p> Search<'f, 'p> {
         &self,
         oracle: &mut O,
         graph: &mut Graph,
-        book: &mut Book,
+        database: &mut ClauseDatabase,
         known: &mut Known,
         log: &mut Log,
     ) -> Result<Proposal, Stop>
         requires fit { O.Fits oracle.old log.old }
         requires search { (c : CheckerState)
-            × IsSearch self.now.f.now graph.old book.old c self.now.padoa.now self.now.may_ask log.old.entries }
+            × IsSearch self.now.f.now graph.old database.old c self.now.definability.now self.now.may_ask log.old.entries }
         requires known { AreKnownIn self.now.f.now graph.old known.old.definitions }
         ensures fit { O.Fits oracle.new log.new }
         ensures extends { Extends graph.old graph.new }
         ensures went { (c : CheckerState)
-            → IsSearch self.now.f.now graph.old book.old c self.now.padoa.now self.now.may_ask log.old.entries
-            → HasGoneOn self.now.f.now book.old book.new c c self.now.padoa.now self.now.may_ask log.old log.new }
-        ensures rows { rows_of log.new.entries ≡ book.new.table.rows }
+            → IsSearch self.now.f.now graph.old database.old c self.now.definability.now self.now.may_ask log.old.entries
+            → HasGoneOn self.now.f.now database.old database.new c c self.now.definability.now self.now.may_ask log.old log.new }
+        ensures rows { rows_of log.new.entries ≡ database.new.table.rows }
         ensures refuted { (id : ℕ) → result ≡ Ok (Proposal.Refuted id)
-            → IsAnsweredFalse book.new log.new id }
+            → IsAnsweredFalse database.new log.new id }
         ensures proposed { (c : CheckerState) (outputs : _)
-            → IsSearch self.now.f.now graph.old book.old c self.now.padoa.now self.now.may_ask log.old.entries
+            → IsSearch self.now.f.now graph.old database.old c self.now.definability.now self.now.may_ask log.old.entries
             → result ≡ Ok (Proposal.Candidates outputs)
-            → AreProposed self.now.f.now graph.new book.new c self.now.padoa.now self.now.may_ask
+            → AreProposed self.now.f.now graph.new database.new c self.now.definability.now self.now.may_ask
             known.new.definitions outputs log.new.entries }
-        ensures stopped { IsStoppedAs self.now.f.now book.new log.new result }
+        ensures stopped { IsStoppedAs self.now.f.now database.new log.new result }
     {
         instances_leave_searches();
-        match book.solve(oracle, log)? {
+        match database.solve(oracle, log)? {
             Exp::Refuted(id) => Ok(Proposal::Refuted(id)),
             Exp::Model(points) => {
-                let outputs = self.propose(oracle, graph, book, &points, known, log)?;
+                let outputs = self.propose(oracle, graph, database, &points, known, log)?;
                 Ok(Proposal::Candidates(outputs))
             }
         }
@@ -75,31 +75,31 @@ impl<'f, 'p> Search<'f, 'p> {
         &self,
         oracle: &mut O,
         graph: &mut Graph,
-        book: &Book,
+        database: &ClauseDatabase,
         points: &Points,
         known: &mut Known,
         log: &mut Log,
     ) -> Result<Outputs, Stop>
         requires fit { O.Fits oracle.old log.old }
         requires search { (c : CheckerState)
-            × IsSearch self.now.f.now graph.old book.now c self.now.padoa.now self.now.may_ask log.old.entries }
+            × IsSearch self.now.f.now graph.old database.now c self.now.definability.now self.now.may_ask log.old.entries }
         requires known { AreKnownIn self.now.f.now graph.old known.old.definitions }
-        requires model { IsModel self.now.f.now book.now.table points.now }
+        requires model { IsModel self.now.f.now database.now.table points.now }
         ensures fit { O.Fits oracle.new log.new }
         ensures extends { Extends graph.old graph.new }
         ensures left { (c : CheckerState)
-            → IsSearch self.now.f.now graph.old book.now c self.now.padoa.now self.now.may_ask log.old.entries
-            → IsLeft self.now.f.now book.now book.now c c self.now.padoa.now self.now.may_ask true log.old log.new }
+            → IsSearch self.now.f.now graph.old database.now c self.now.definability.now self.now.may_ask log.old.entries
+            → IsLeft self.now.f.now database.now database.now c c self.now.definability.now self.now.may_ask true log.old log.new }
         ensures proposed { (c : CheckerState) (outputs : _)
-            → IsSearch self.now.f.now graph.old book.now c self.now.padoa.now self.now.may_ask log.old.entries
+            → IsSearch self.now.f.now graph.old database.now c self.now.definability.now self.now.may_ask log.old.entries
             → result ≡ Ok outputs
-            → AreProposed self.now.f.now graph.new book.now c self.now.padoa.now self.now.may_ask
+            → AreProposed self.now.f.now graph.new database.now c self.now.definability.now self.now.may_ask
             known.new.definitions outputs log.new.entries }
         ensures limit { IsErrOf result Stop.Limit → IsAtSomeLimit log.new }
     {
         questions_leave_searches();
         let model = TableModel {
-            table: book.table(),
+            table: database.table(),
             points,
         };
         let definitions = &mut known.definitions;
@@ -107,7 +107,7 @@ impl<'f, 'p> Search<'f, 'p> {
         let outputs = build(
             self.alloc,
             self.f,
-            book.table(),
+            database.table(),
             points,
             definitions.samples(),
             &mut known.trees,
@@ -130,17 +130,17 @@ impl<'f, 'p> Search<'f, 'p> {
     ) -> Result<(), Stop>
         requires fit { O.Fits oracle.old log.old }
         requires may { self.now.may_ask ≡ true
-            → MayForce self.now.f.now definitions.old self.now.padoa.now log.old.entries }
+            → MayForce self.now.f.now definitions.old self.now.definability.now log.old.entries }
         requires forced { All (IsRule self.now.f.now) definitions.old.rules.items }
         requires model { IsModelOf self.now.f.now model.now }
         ensures fit { O.Fits oracle.new log.new }
-        ensures left { LeavesForced self.now.f.now self.now.padoa.now self.now.may_ask
+        ensures left { LeavesForced self.now.f.now self.now.definability.now self.now.may_ask
             definitions.old definitions.new log.old log.new }
         ensures limit { IsErrOf result Stop.Limit → IsAtSomeLimit log.new }
     {
         if !self.may_ask {
             return Ok(());
         }
-        definitions.force_all(oracle, self.padoa, self.f, model, log)
+        definitions.force_all(oracle, self.definability, self.f, model, log)
     }
 }

@@ -8,11 +8,11 @@ ghost use Rattle.known_functions.specs.Searching.{HasInputs};
 ghost use Rattle.repair_loop.specs.Searching.{IsShownTrue, IsShownFalse};
 ghost use Rattle.repair_loop.specs.Stopping.{IsStoppedAtLimit};
 
-use crate::desks::Desk;
+use crate::search_states::SearchState;
 use aig_graph::Graph;
 use candidate_functions::Outputs;
 use dq_formula::Formula;
-use dq_session::Book;
+use dq_session::ClauseDatabase;
 use hint_log::{Log, Stop};
 use log_laws::laws::{engines_leave_sessions, plain_logs_are_sessions};
 use oracle::Oracle;
@@ -55,7 +55,7 @@ pub fn decide<O: Oracle>(
 {
     engines_leave_sessions();
     plain_logs_are_sessions();
-    let mut book = Book::new(alloc, oracle, f, log)?;
-    let mut desk = Desk::new(alloc, oracle, f, log)?;
-    desk.decide_now(oracle, graph, &mut book, f, log)
+    let mut database = ClauseDatabase::new(alloc, oracle, f, log)?;
+    let mut search_state = SearchState::new(alloc, oracle, f, log)?;
+    search_state.decide_now(oracle, graph, &mut database, f, log)
 }

@@ -1,21 +1,21 @@
-//! The copies that a desk begins with.
+//! The copies that a search state begins with.
 
 ghost use Rattle.std.specs.Prelude.{◌≡◌, ℕ, true, length, replicate, None, All, IfOk};
 ghost use Rattle.dq_lits.specs.Formula.{IsWellFormed};
 ghost use Rattle.hint_log.specs.Entries.{name_of};
 ghost use Rattle.hint_log.specs.Growth.{Grew};
 ghost use Rattle.log_laws.specs.Engines.{copies, HasNone, IsAddedBy};
-ghost use Rattle.padoa_definitions.specs.Copies.{groups_of};
-ghost use Rattle.padoa_definitions.specs.Growing.{HasFewFaults};
-ghost use Rattle.padoa_definitions.specs.Store.{IsCopyStore, copy_groups};
+ghost use Rattle.definability.specs.Copies.{groups_of};
+ghost use Rattle.definability.specs.Growing.{HasFewFaults};
+ghost use Rattle.definability.specs.Store.{IsCopyStore, copy_groups};
 
 use copied_prefixes::copy_prefix;
+use definability::Definability;
+use definability::laws::added_clauses_leave_stores;
 use dq_formula::Formula;
 use dq_lits::Memory;
 use hint_log::Log;
 use oracle::Oracle;
-use padoa_definitions::Padoa;
-use padoa_definitions::laws::added_clauses_leave_stores;
 use std::alloc::Global;
 
 // From so many clauses on a formula is large.
@@ -33,7 +33,7 @@ pub(crate) fn first_copies<O: Oracle>(
     oracle: &mut O,
     f: &Formula,
     log: &mut Log,
-) -> Result<Padoa, Memory>
+) -> Result<Definability, Memory>
     requires fit { O.Fits oracle.old log.old }
     requires formula { IsWellFormed f.now }
     requires none { HasNone copies log.old.entries }
@@ -49,8 +49,8 @@ pub(crate) fn first_copies<O: Oracle>(
 {
     added_clauses_leave_stores();
     if !is_large(f) {
-        return Padoa::new(alloc, oracle, f, log);
+        return Definability::new(alloc, oracle, f, log);
     }
     let prefix = copy_prefix(alloc, f)?;
-    Padoa::new(alloc, oracle, &prefix, log)
+    Definability::new(alloc, oracle, &prefix, log)
 }

@@ -11,7 +11,7 @@ ghost use Rattle.aig_graph.specs.Made.{Extends};
 ghost use Rattle.hint_log.specs.Naming.{rows_of};
 ghost use Rattle.known_functions.specs.Forcing.{AreKnownIn};
 ghost use Rattle.known_functions.specs.Searching.{HasInputs};
-ghost use Rattle.repair_loop.specs.Desks.{IsAnsweredFalse, IsAnsweredTrue};
+ghost use Rattle.repair_loop.specs.SearchStates.{IsAnsweredFalse, IsAnsweredTrue};
 ghost use Rattle.repair_loop.specs.Turning.{HasEnded, HasGoneOn, IsSearch, IsStoppedAs, IsUnderWay};
 
 use crate::decisions::Verdict;
@@ -22,7 +22,7 @@ use aig_graph::Graph;
 use candidate_functions::Trees;
 use circuit_cnf::Checker;
 use dq_lits::{Memory, Row};
-use dq_session::Book;
+use dq_session::ClauseDatabase;
 use hint_log::{Log, Stop};
 use known_functions::Definitions;
 use oracle::Oracle;
@@ -36,30 +36,30 @@ impl<'f, 'p> Search<'f, 'p> {
         &self,
         oracle: &mut O,
         graph: &mut Graph,
-        book: &mut Book,
+        database: &mut ClauseDatabase,
         checker: &mut Checker,
         log: &mut Log,
     ) -> Result<Option<Verdict>, Stop>
         requires fit { O.Fits oracle.old log.old }
-        requires search { IsSearch self.now.f.now graph.old book.old checker.old self.now.padoa.now
+        requires search { IsSearch self.now.f.now graph.old database.old checker.old self.now.definability.now
             self.now.may_ask log.old.entries }
         ensures fit { O.Fits oracle.new log.new }
         ensures inputs { graph.new.inputs ≡ graph.old.inputs }
-        ensures ended { HasEnded book.old book.new log.old log.new }
-        ensures way { (result ≡ Err Stop.Memory → ⊥) → IsUnderWay self.now.f.now book.new checker.new
-            self.now.padoa.now self.now.may_ask log.new.entries }
-        ensures rows { (result ≡ Err Stop.Memory → ⊥) → rows_of log.new.entries ≡ book.new.table.rows }
+        ensures ended { HasEnded database.old database.new log.old log.new }
+        ensures way { (result ≡ Err Stop.Memory → ⊥) → IsUnderWay self.now.f.now database.new checker.new
+            self.now.definability.now self.now.may_ask log.new.entries }
+        ensures rows { (result ≡ Err Stop.Memory → ⊥) → rows_of log.new.entries ≡ database.new.table.rows }
         ensures shown_true { (nodes : _) (id : ℕ) → result ≡ Ok (Some (Verdict.True nodes id))
             → IsAnsweredTrue self.now.f.now graph.new nodes log.new id }
         ensures shown_false { (id : ℕ) → result ≡ Ok (Some (Verdict.False id))
-            → IsAnsweredFalse book.new log.new id }
-        ensures open { result ≡ Ok None → IsSearch self.now.f.now graph.new book.new checker.new
-            self.now.padoa.now self.now.may_ask log.new.entries }
-        ensures stopped { IsStoppedAs self.now.f.now book.new log.new result }
+            → IsAnsweredFalse database.new log.new id }
+        ensures open { result ≡ Ok None → IsSearch self.now.f.now graph.new database.new checker.new
+            self.now.definability.now self.now.may_ask log.new.entries }
+        ensures stopped { IsStoppedAs self.now.f.now database.new log.new result }
     {
         match self.first_known(graph)? {
             Some(mut known) => {
-                let found = self.try_known(oracle, graph, book, checker, &mut known, log);
+                let found = self.try_known(oracle, graph, database, checker, &mut known, log);
                 drop(known);
                 found
             }
@@ -72,32 +72,32 @@ impl<'f, 'p> Search<'f, 'p> {
         &self,
         oracle: &mut O,
         graph: &mut Graph,
-        book: &mut Book,
+        database: &mut ClauseDatabase,
         checker: &mut Checker,
         known: &mut Known,
         log: &mut Log,
     ) -> Result<Option<Verdict>, Stop>
         requires fit { O.Fits oracle.old log.old }
-        requires search { IsSearch self.now.f.now graph.old book.old checker.old self.now.padoa.now
+        requires search { IsSearch self.now.f.now graph.old database.old checker.old self.now.definability.now
             self.now.may_ask log.old.entries }
         requires known { AreKnownIn self.now.f.now graph.old known.old.definitions }
         ensures fit { O.Fits oracle.new log.new }
         ensures inputs { graph.new.inputs ≡ graph.old.inputs }
-        ensures ended { HasEnded book.old book.new log.old log.new }
-        ensures way { (result ≡ Err Stop.Memory → ⊥) → IsUnderWay self.now.f.now book.new checker.new
-            self.now.padoa.now self.now.may_ask log.new.entries }
-        ensures rows { (result ≡ Err Stop.Memory → ⊥) → rows_of log.new.entries ≡ book.new.table.rows }
+        ensures ended { HasEnded database.old database.new log.old log.new }
+        ensures way { (result ≡ Err Stop.Memory → ⊥) → IsUnderWay self.now.f.now database.new checker.new
+            self.now.definability.now self.now.may_ask log.new.entries }
+        ensures rows { (result ≡ Err Stop.Memory → ⊥) → rows_of log.new.entries ≡ database.new.table.rows }
         ensures shown_true { (nodes : _) (id : ℕ) → result ≡ Ok (Some (Verdict.True nodes id))
             → IsAnsweredTrue self.now.f.now graph.new nodes log.new id }
         ensures shown_false { (id : ℕ) → result ≡ Ok (Some (Verdict.False id))
-            → IsAnsweredFalse book.new log.new id }
-        ensures open { result ≡ Ok None → IsSearch self.now.f.now graph.new book.new checker.new
-            self.now.padoa.now self.now.may_ask log.new.entries }
-        ensures stopped { IsStoppedAs self.now.f.now book.new log.new result }
+            → IsAnsweredFalse database.new log.new id }
+        ensures open { result ≡ Ok None → IsSearch self.now.f.now graph.new database.new checker.new
+            self.now.definability.now self.now.may_ask log.new.entries }
+        ensures stopped { IsStoppedAs self.now.f.now database.new log.new result }
     {
-        match self.round(oracle, graph, book, checker, known, log)? {
+        match self.round(oracle, graph, database, checker, known, log)? {
             Some(verdict) => Ok(Some(verdict)),
-            None => self.look_again(oracle, graph, book, checker, log),
+            None => self.look_again(oracle, graph, database, checker, log),
         }
     }
 
@@ -106,25 +106,25 @@ impl<'f, 'p> Search<'f, 'p> {
         &self,
         oracle: &mut O,
         graph: &Graph,
-        book: &mut Book,
+        database: &mut ClauseDatabase,
         checker: &Checker,
         log: &mut Log,
     ) -> Result<Option<Verdict>, Stop>
         requires fit { O.Fits oracle.old log.old }
-        requires search { IsSearch self.now.f.now graph.now book.old checker.now self.now.padoa.now
+        requires search { IsSearch self.now.f.now graph.now database.old checker.now self.now.definability.now
             self.now.may_ask log.old.entries }
         ensures fit { O.Fits oracle.new log.new }
-        ensures went { HasGoneOn self.now.f.now book.old book.new checker.now checker.now
-            self.now.padoa.now self.now.may_ask log.old log.new }
-        ensures rows { rows_of log.new.entries ≡ book.new.table.rows }
+        ensures went { HasGoneOn self.now.f.now database.old database.new checker.now checker.now
+            self.now.definability.now self.now.may_ask log.old log.new }
+        ensures rows { rows_of log.new.entries ≡ database.new.table.rows }
         ensures none_true { (nodes : _) (id : ℕ) → result ≡ Ok (Some (Verdict.True nodes id)) → ⊥ }
         ensures shown_false { (id : ℕ) → result ≡ Ok (Some (Verdict.False id))
-            → IsAnsweredFalse book.new log.new id }
-        ensures open { result ≡ Ok None → IsSearch self.now.f.now graph.now book.new checker.now
-            self.now.padoa.now self.now.may_ask log.new.entries }
-        ensures stopped { IsStoppedAs self.now.f.now book.new log.new result }
+            → IsAnsweredFalse database.new log.new id }
+        ensures open { result ≡ Ok None → IsSearch self.now.f.now graph.now database.new checker.now
+            self.now.definability.now self.now.may_ask log.new.entries }
+        ensures stopped { IsStoppedAs self.now.f.now database.new log.new result }
     {
-        match self.look_at_rows(oracle, book, log)? {
+        match self.look_at_rows(oracle, database, log)? {
             Some(id) => Ok(Some(Verdict::False(id))),
             None => Ok(None),
         }

@@ -7,19 +7,19 @@ ghost use Rattle.circuit_cnf.specs.Failing.{IsFailure};
 ghost use Rattle.circuit_cnf.specs.declared.checkers.Checker.{Checker as CheckerState};
 ghost use Rattle.hint_log.specs.Naming.{rows_of};
 ghost use Rattle.known_functions.specs.Searching.{HasInputs};
-ghost use Rattle.repair_loop.specs.Desks.{IsAnsweredTrue};
+ghost use Rattle.repair_loop.specs.SearchStates.{IsAnsweredTrue};
 ghost use Rattle.repair_loop.specs.Searching.{AreBuilt};
 ghost use Rattle.repair_loop.specs.Turning.{HasGoneOn, IsNewRound, IsOpen, IsSearch, IsStoppedAs};
 
+use crate::preservation::{failures_are_rounds, turns_leave_searches};
 use crate::searches::{Known, Search};
-use crate::standing::{failures_are_rounds, turns_leave_searches};
 use aig_graph::Graph;
 use aig_graph::laws::outputs_are_supported;
 use candidate_functions::Outputs;
 use circuit_cnf::laws::shown_outputs_decide;
 use circuit_cnf::{Checker, Failure, Turn, failure_at};
 use dq_lits::{Memory, Row};
-use dq_session::Book;
+use dq_session::ClauseDatabase;
 use hint_log::{Log, Stop};
 use oracle::Oracle;
 
@@ -44,33 +44,33 @@ impl<'f, 'p> Search<'f, 'p> {
         &self,
         oracle: &mut O,
         candidates: &Candidates,
-        book: &Book,
+        database: &ClauseDatabase,
         checker: &mut Checker,
         known: &Known,
         log: &mut Log,
     ) -> Result<Judged, Stop>
         requires fit { O.Fits oracle.old log.old }
-        requires search { IsSearch self.now.f.now candidates.now.graph.now book.now checker.old
-            self.now.padoa.now self.now.may_ask log.old.entries }
-        requires candidates { AreBuilt self.now.f.now candidates.now.graph.now book.now.table.rows
+        requires search { IsSearch self.now.f.now candidates.now.graph.now database.now checker.old
+            self.now.definability.now self.now.may_ask log.old.entries }
+        requires candidates { AreBuilt self.now.f.now candidates.now.graph.now database.now.table.rows
             candidates.now.outputs.now }
         ensures fit { O.Fits oracle.new log.new }
-        ensures went { HasGoneOn self.now.f.now book.now book.now checker.old checker.new
-            self.now.padoa.now self.now.may_ask log.old log.new }
+        ensures went { HasGoneOn self.now.f.now database.now database.now checker.old checker.new
+            self.now.definability.now self.now.may_ask log.old log.new }
         ensures hold { (id : ℕ) → result ≡ Ok (Judged.Hold id)
             → IsAnsweredTrue self.now.f.now candidates.now.graph.now candidates.now.outputs.now
             log.new id }
         ensures rows { (id : ℕ) → result ≡ Ok (Judged.Hold id)
-            → rows_of log.new.entries ≡ book.now.table.rows }
+            → rows_of log.new.entries ≡ database.now.table.rows }
         ensures fail { (row : List Bool) → result ≡ Ok (Judged.Fail row)
-            → IsNewRound self.now.f.now book.now checker.new self.now.padoa.now self.now.may_ask row log.old log.new }
-        ensures stopped { IsStoppedAs self.now.f.now book.now log.new result }
+            → IsNewRound self.now.f.now database.now checker.new self.now.definability.now self.now.may_ask row log.old log.new }
+        ensures stopped { IsStoppedAs self.now.f.now database.now log.new result }
     {
         if let Some(failure) = self.known_failure(candidates, known)? {
-            self.log_failure(oracle, candidates, book, checker, &failure, log)?;
+            self.log_failure(oracle, candidates, database, checker, &failure, log)?;
             return Ok(Judged::Fail(failure.row));
         }
-        self.judge_by_solver(oracle, candidates, book, checker, known, log)
+        self.judge_by_solver(oracle, candidates, database, checker, known, log)
     }
 
     // How candidates fail at one of the rows that are known to refute the formula.
@@ -105,25 +105,25 @@ impl<'f, 'p> Search<'f, 'p> {
         &self,
         oracle: &O,
         candidates: &Candidates,
-        book: &Book,
+        database: &ClauseDatabase,
         checker: &Checker,
         failure: &Failure,
         log: &mut Log,
     ) -> Result<(), Stop>
         requires fit { O.Fits oracle.now log.old }
-        requires here { IsOpen self.now.f.now book.now checker.now self.now.padoa.now self.now.may_ask
+        requires here { IsOpen self.now.f.now database.now checker.now self.now.definability.now self.now.may_ask
             log.old.entries }
-        requires candidates { AreBuilt self.now.f.now candidates.now.graph.now book.now.table.rows
+        requires candidates { AreBuilt self.now.f.now candidates.now.graph.now database.now.table.rows
             candidates.now.outputs.now }
         requires failure { IsFailure self.now.f.now
             (outputs_of self.now.f.now candidates.now.graph.now candidates.now.outputs.now)
             failure.now.row failure.now.values failure.now.j }
         ensures fit { O.Fits oracle.now log.new }
-        ensures went { HasGoneOn self.now.f.now book.now book.now checker.now checker.now
-            self.now.padoa.now self.now.may_ask log.old log.new }
-        ensures round { OnOk result (IsNewRound self.now.f.now book.now checker.now
-            self.now.padoa.now self.now.may_ask failure.now.row log.old log.new) }
-        ensures stopped { IsStoppedAs self.now.f.now book.now log.new result }
+        ensures went { HasGoneOn self.now.f.now database.now database.now checker.now checker.now
+            self.now.definability.now self.now.may_ask log.old log.new }
+        ensures round { OnOk result (IsNewRound self.now.f.now database.now checker.now
+            self.now.definability.now self.now.may_ask failure.now.row log.old log.new) }
+        ensures stopped { IsStoppedAs self.now.f.now database.now log.new result }
     {
         failures_are_rounds();
         // A look at a field shows the invariant.
@@ -138,27 +138,27 @@ impl<'f, 'p> Search<'f, 'p> {
         &self,
         oracle: &mut O,
         candidates: &Candidates,
-        book: &Book,
+        database: &ClauseDatabase,
         checker: &mut Checker,
         known: &Known,
         log: &mut Log,
     ) -> Result<Judged, Stop>
         requires fit { O.Fits oracle.old log.old }
-        requires search { IsSearch self.now.f.now candidates.now.graph.now book.now checker.old
-            self.now.padoa.now self.now.may_ask log.old.entries }
-        requires candidates { AreBuilt self.now.f.now candidates.now.graph.now book.now.table.rows
+        requires search { IsSearch self.now.f.now candidates.now.graph.now database.now checker.old
+            self.now.definability.now self.now.may_ask log.old.entries }
+        requires candidates { AreBuilt self.now.f.now candidates.now.graph.now database.now.table.rows
             candidates.now.outputs.now }
         ensures fit { O.Fits oracle.new log.new }
-        ensures went { HasGoneOn self.now.f.now book.now book.now checker.old checker.new
-            self.now.padoa.now self.now.may_ask log.old log.new }
+        ensures went { HasGoneOn self.now.f.now database.now database.now checker.old checker.new
+            self.now.definability.now self.now.may_ask log.old log.new }
         ensures hold { (id : ℕ) → result ≡ Ok (Judged.Hold id)
             → IsAnsweredTrue self.now.f.now candidates.now.graph.now candidates.now.outputs.now
             log.new id }
         ensures rows { (id : ℕ) → result ≡ Ok (Judged.Hold id)
-            → rows_of log.new.entries ≡ book.now.table.rows }
+            → rows_of log.new.entries ≡ database.now.table.rows }
         ensures fail { (row : List Bool) → result ≡ Ok (Judged.Fail row)
-            → IsNewRound self.now.f.now book.now checker.new self.now.padoa.now self.now.may_ask row log.old log.new }
-        ensures stopped { IsStoppedAs self.now.f.now book.now log.new result }
+            → IsNewRound self.now.f.now database.now checker.new self.now.definability.now self.now.may_ask row log.old log.new }
+        ensures stopped { IsStoppedAs self.now.f.now database.now log.new result }
     {
         turns_leave_searches();
         outputs_are_supported();
@@ -170,8 +170,8 @@ impl<'f, 'p> Search<'f, 'p> {
             Turn::Holds(id) => Ok(Judged::Hold(id)),
             Turn::Fails { row, values, j } => {
                 let found = Failure { row, values, j };
-                let failure = self.find_worse(candidates, book, known, found);
-                self.log_failure(oracle, candidates, book, checker, &failure, log)?;
+                let failure = self.find_worse(candidates, database, known, found);
+                self.log_failure(oracle, candidates, database, checker, &failure, log)?;
                 Ok(Judged::Fail(failure.row))
             }
         }

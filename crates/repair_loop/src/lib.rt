@@ -4,18 +4,18 @@
 #![tactic(auto)]
 
 pub use decisions::{Verdict, decide};
-pub use desks::Desk;
+pub use search_states::SearchState;
 
 mod candidates;
 mod decisions;
-mod desks;
 mod false_rows;
 mod first_copies;
 mod first_looks;
 mod first_rounds;
 mod judging;
 pub mod laws;
+mod preservation;
+mod search_states;
 mod searches;
 mod signs;
-mod standing;
 mod worse_rows;

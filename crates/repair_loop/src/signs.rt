@@ -14,18 +14,18 @@ use std::alloc::Global;
 /// order of declaration.
 #[derive(Drop)]
 pub(crate) struct Signs {
-    universals: Vec<Counts>,
-    existentials: Vec<Counts>,
+    universals: Vec<SignCounts>,
+    existentials: Vec<SignCounts>,
 }
 
 #[derive(Clone, Copy)]
-struct Counts {
+struct SignCounts {
     positive: u64,
     negative: u64,
 }
 
 // No literals yet.
-const NONE: Counts = Counts {
+const NONE: SignCounts = SignCounts {
     positive: 0,
     negative: 0,
 };
@@ -98,14 +98,14 @@ impl Signs {
     }
 }
 
-fn is_mostly_positive(counts: &[Counts], place: usize) -> bool {
+fn is_mostly_positive(counts: &[SignCounts], place: usize) -> bool {
     match counts.get(place) {
         Some(found) => found.positive >= found.negative,
         None => true,
     }
 }
 
-fn add(counts: &mut Vec<Counts>, place: usize, negative: bool) {
+fn add(counts: &mut Vec<SignCounts>, place: usize, negative: bool) {
     if let Some(found) = counts.get_mut(place) {
         if negative {
             found.negative = found.negative.saturating_add(1);

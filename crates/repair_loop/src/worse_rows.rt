@@ -16,7 +16,7 @@ use crate::searches::{Known, Search};
 use circuit_cnf::{Failure, failure_at};
 use dq_formula::Formula;
 use dq_lits::{Lit, Row};
-use dq_session::Book;
+use dq_session::ClauseDatabase;
 
 // How many gates, literals and bits are looked at for a row at most.
 const MOST_LOOKS: usize = 1 << 24;
@@ -28,7 +28,7 @@ impl<'f, 'p> Search<'f, 'p> {
     pub(crate) fn find_worse(
         &self,
         candidates: &Candidates,
-        book: &Book,
+        database: &ClauseDatabase,
         known: &Known,
         failure: Failure,
     ) -> Failure
@@ -45,7 +45,7 @@ impl<'f, 'p> Search<'f, 'p> {
     {
         let mut worst = failure;
         let mut most = count_false(self.f, &worst);
-        for place in 0..self.most_turns(candidates, book, known) {
+        for place in 0..self.most_turns(candidates, database, known) {
             if let Some(found) = self.turned(candidates, &worst.row, place) {
                 let count = count_false(self.f, &found);
                 if count > most {
@@ -60,10 +60,15 @@ impl<'f, 'p> Search<'f, 'p> {
     // How many bits are turned. None where most existentials have a definition, since rows that make
     // many outputs of a circuit wrong take more rounds there; and every other row stays as it is
     // found.
-    fn most_turns(&self, candidates: &Candidates, book: &Book, known: &Known) -> usize {
+    fn most_turns(
+        &self,
+        candidates: &Candidates,
+        database: &ClauseDatabase,
+        known: &Known,
+    ) -> usize {
         let nodes = &known.definitions.nodes;
         let free = nodes.iter().filter(|node| node.is_none()).count();
-        if book.table().rows() % 2 == 0 || free < nodes.len().saturating_sub(free) {
+        if database.table().rows() % 2 == 0 || free < nodes.len().saturating_sub(free) {
             return 0;
         }
         let bits = self.f.universals().len();

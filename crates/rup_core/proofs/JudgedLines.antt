@@ -7,7 +7,7 @@ use Rattle.std.proofs.lemmas.List.Folds.{list_any-append}
 use Rattle.list_laws.proofs.Numbers.{equal-swap}
 use mathlib.Core.Path.{fun_ext}
 use Rattle.dq_lits.specs.Literal.{Literal, opposite, same_literal}
-use Rattle.dq_lits.specs.Derivation.{LiveClauses, with_clause, Status, falsified, unit, stuck, status_of, fault_by, hint_fault, is_tautology, line_fault, ProofStep, is_empty, AreSame}
+use Rattle.dq_lits.specs.Derivation.{LiveClauses, with_clause, ClauseStatus, falsified, unit, stuck, status_of, fault_by, hint_fault, is_tautology, line_fault, ProofStep, is_empty, AreSame}
 use Rattle.rup_core.specs.Items.{derived, gone, is_among, without_clauses}
 use Rattle.rup_core.specs.Judging.{Hinted, no_line, is_last, refute_by, refute, derive_line}
 use Rattle.rup_core.specs.Lines.{clause_of_id}
@@ -16,7 +16,7 @@ use Rattle.rup_core.specs.Runs.{with_line, with_item, unless_faulty, advanced}
 use Rattle.dq_lits.proofs.EqualTruths.{status_of-same}
 
 -- what is true as a set is all that counts
-refute_by-same : (s : Status) (last : Bool) (f g : Literal → Bool) → ((l : Literal) → f l ≡ g l) →
+refute_by-same : (s : ClauseStatus) (last : Bool) (f g : Literal → Bool) → ((l : Literal) → f l ≡ g l) →
     refute_by s last f ≡ refute_by s last g
 refute_by-same falsified last f g same = refl
 refute_by-same (unit l) last f g same = same l
@@ -38,7 +38,7 @@ begun line trues consistent is plain same clauses =
     (ap (λ b. b && refute (map opposite line) clauses) (sym plain ∙ is))
 
 -- the fault of a line
-none_by : (s : Status) (place : ℕ) (hints : List ℕ) (clauses : Hinted) (next : Literal → Option ℕ)
+none_by : (s : ClauseStatus) (place : ℕ) (hints : List ℕ) (clauses : Hinted) (next : Literal → Option ℕ)
     (refutes : Literal → Bool) → is_last clauses ≡ is_last (map Some (map (λ _. []) hints)) →
     ((l : Literal) → is_none (next l) ≡ refutes l) → is_none (fault_by s place hints next) ≡ refute_by s
     (is_last clauses) refutes

@@ -6,7 +6,7 @@ use Rattle.std.proofs.lemmas.List.{take_all, take_more}
 use Rattle.std.proofs.lemmas.List.Elements.{All-get_or}
 use Rattle.std.proofs.lemmas.Option.{get_or_from_slice_get, slice_get-get_or}
 use Rattle.dq_lits.specs.Literal.{Literal, positive, variable_of, same_literal}
-use Rattle.dq_lits.specs.Derivation.{Status, falsified, unit, stuck, status_by, status_of}
+use Rattle.dq_lits.specs.Derivation.{ClauseStatus, falsified, unit, stuck, status_by, status_of}
 use Rattle.dq_lits.specs.Extension.{not_false}
 use Rattle.rup_core.specs.Extension.{UnitIsFree, UnitStandsWithin}
 use Rattle.dq_lits.specs.Extension.{with_literal}
@@ -18,7 +18,7 @@ use Rattle.dq_lits.specs.declared.truth_values.TruthValue.TheVariants.{True, Fal
 use Rattle.dq_lits.proofs.ReadStatus.{status_more}
 
 -- the literal of a unit clause stays unassigned
-free_more : (trues : List Literal) (s : Status) (l : Literal) (t : TruthValue) → UnitIsFree trues s →
+free_more : (trues : List Literal) (s : ClauseStatus) (l : Literal) (t : TruthValue) → UnitIsFree trues s →
     t ≡ literal_value trues l →
     UnitIsFree trues (with_literal s l t)
 free_more trues s l False free is = free
@@ -31,13 +31,13 @@ free_more trues (unit k) l Unassigned free is = unit_or_stuck (same_literal k l)
     unit_or_stuck false = tt
 free_more trues stuck l Unassigned free is = tt
 
-pub free_after : (trues : List Literal) (s s' : Status) (l : Literal) (t : TruthValue) → UnitIsFree trues s →
+pub free_after : (trues : List Literal) (s s' : ClauseStatus) (l : Literal) (t : TruthValue) → UnitIsFree trues s →
     t ≡ literal_value trues l → s' ≡ with_literal s l t → UnitIsFree trues s'
-free_after trues s s' l t free is more = let P : Status → Type 0 = UnitIsFree trues in
+free_after trues s s' l t free is more = let P : ClauseStatus → Type 0 = UnitIsFree trues in
     subst P (sym more) (free_more trues s l t free is)
 
 -- and in range
-within_more : (n : ℕ) (s : Status) (l : Literal) (t : TruthValue) → UnitStandsWithin n s → variable_of l ≤ n →
+within_more : (n : ℕ) (s : ClauseStatus) (l : Literal) (t : TruthValue) → UnitStandsWithin n s → variable_of l ≤ n →
     UnitStandsWithin n (with_literal s l t)
 within_more n s l False within in_range = within
 within_more n s l True within in_range = tt
@@ -49,9 +49,9 @@ within_more n (unit k) l Unassigned within in_range = unit_or_stuck (same_litera
     unit_or_stuck false = tt
 within_more n stuck l Unassigned within in_range = tt
 
-pub within_after : (n : ℕ) (s s' : Status) (l : Literal) (t : TruthValue) → UnitStandsWithin n s → variable_of l ≤ n →
+pub within_after : (n : ℕ) (s s' : ClauseStatus) (l : Literal) (t : TruthValue) → UnitStandsWithin n s → variable_of l ≤ n →
     s' ≡ with_literal s l t → UnitStandsWithin n s'
-within_after n s s' l t within in_range more = let P : Status → Type 0 = UnitStandsWithin n in
+within_after n s s' l t within in_range more = let P : ClauseStatus → Type 0 = UnitStandsWithin n in
     subst P (sym more) (within_more n s l t within in_range)
 
 -- the statuses of a clause that is read from a base
@@ -65,11 +65,11 @@ read_more trues clause l i lt at =
     status_more trues (take i clause) l ∙ ap (λ xs. status_by trues (not_false trues xs)) (sym longer)
 
 -- the status of the literals before a place
-abbrev pub IsStatusBefore : List Literal → Option (List Literal) → ℕ → Status → Type 0
+abbrev pub IsStatusBefore : List Literal → Option (List Literal) → ℕ → ClauseStatus → Type 0
 IsStatusBefore trues found n status = (clause : List Literal) → found ≡ Some clause →
     status ≡ status_by trues (not_false trues (take n clause))
 
-pub status_before_more : (trues : List Literal) (found : Option (List Literal)) (i n : ℕ) (l : Literal) (s s' : Status)
+pub status_before_more : (trues : List Literal) (found : Option (List Literal)) (i n : ℕ) (l : Literal) (s s' : ClauseStatus)
     (t : TruthValue) →
     Some n ≡ clause_size found → i < n → literal_at found i ≡ Some l → t ≡ literal_value trues l →
     IsStatusBefore trues found i s → s' ≡ with_literal s l t →
@@ -82,7 +82,7 @@ status_before_more trues (Some read) i n l s s' t size lt at is before more clau
     subst P same (more ∙ ap (λ v. with_literal s l v) is ∙ ap (λ x. with_literal x l (literal_value trues l))
     (before read refl) ∙ read_more trues read l i (omega (arith, long)) at)
 
-pub status_whole : (trues : List Literal) (found : Option (List Literal)) (i n : ℕ) (s : Status) →
+pub status_whole : (trues : List Literal) (found : Option (List Literal)) (i n : ℕ) (s : ClauseStatus) →
     Some n ≡ clause_size found → n ≤ i → IsStatusBefore trues found i s →
     s ≡ status_of trues found
 status_whole trues None i n s size all before = cc
@@ -124,7 +124,7 @@ stuck_stays trues clause i (suc j) is_stuck =
           (take_all (i + j) clause past)) ∙ before
     ]
 
-pub status_stuck : (trues : List Literal) (found : Option (List Literal)) (i n : ℕ) (s : Status) →
+pub status_stuck : (trues : List Literal) (found : Option (List Literal)) (i n : ℕ) (s : ClauseStatus) →
     Some n ≡ clause_size found → i ≤ n →
     IsStatusBefore trues found i s → s ≡ stuck → stuck ≡ status_of trues found
 status_stuck trues None i n s size below before is_stuck = cc

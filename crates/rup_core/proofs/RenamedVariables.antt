@@ -3,7 +3,7 @@ use Rattle.std.proofs.Common.{◌≡◌, ℕ, ◌+◌, ◌==◌, Bool, true, fal
 use Rattle.std.specs.List.{AllByRecursion, list_any, list_all, filter}
 use Rattle.std.specs.Option.{option_map}
 use Rattle.dq_lits.specs.Literal.{Literal, positive, negative, variable_of, opposite, on_variable, same_literal}
-use Rattle.dq_lits.specs.Derivation.{LiveClauses, with_clause, Status, falsified, unit, stuck, holds, status_by, status_of, fault_by, hint_fault, is_tautology, line_fault}
+use Rattle.dq_lits.specs.Derivation.{LiveClauses, with_clause, ClauseStatus, falsified, unit, stuck, holds, status_by, status_of, fault_by, hint_fault, is_tautology, line_fault}
 use Rattle.rup_core.specs.Items.{is_among, without_clauses}
 use Rattle.rup_core.specs.Renaming.{KeepsApart, AreKnown as AreKnownLiterals, IsKnownClause as IsKnownHint, renamed, AreRenamed}
 use Rattle.list_laws.proofs.Truths.{same_test}
@@ -18,7 +18,7 @@ module _ (number : ℕ → ℕ) (told : ℕ → Bool) (apart : KeepsApart number
   abbrev IsKnownClause : Option (List Literal) → Type 0
   IsKnownClause clause = IsKnownHint told clause
 
-  abbrev IsKnownStatus : Status → Type 0
+  abbrev IsKnownStatus : ClauseStatus → Type 0
   IsKnownStatus falsified = Unit {0}
   IsKnownStatus (unit l) = IsKnown l
   IsKnownStatus stuck = Unit {0}
@@ -86,12 +86,12 @@ module _ (number : ℕ → ℕ) (told : ℕ → Bool) (apart : KeepsApart number
       ap (λ b. b && list_all (same_literal (name l)) (map name rest)) (same-renamed l k here known.0)
       ∙ ap (λ b. same_literal l k && b) (all-renamed l rest here known.1)
 
-  abbrev name_status : Status → Status
+  abbrev name_status : ClauseStatus → ClauseStatus
   name_status falsified = falsified
   name_status (unit l) = unit (name l)
   name_status stuck = stuck
 
-  record IsRenamedStatus (status renamed : Status) : Type 0 where
+  record IsRenamedStatus (status renamed : ClauseStatus) : Type 0 where
     is : renamed ≡ name_status status
     is_known : IsKnownStatus status
 
@@ -136,7 +136,7 @@ module _ (number : ℕ → ℕ) (told : ℕ → Bool) (apart : KeepsApart number
       ∙ by (status_of trues (live hint)) r.is_known hints (λ ts k. hint_fault-renamed live other same hints ts
       (place + 1) k hinted.1)
     where
-      by : (s : Status) → IsKnownStatus s → (hs : List ℕ)
+      by : (s : ClauseStatus) → IsKnownStatus s → (hs : List ℕ)
           → ((ts : List Literal) → AreKnown ts → hint_fault other (map name ts) (place + 1) hs ≡ hint_fault live ts
           (place + 1) hs)
           → fault_by (name_status s) place hs (λ l. hint_fault other (l ∷ map name trues) (place + 1) hs)

@@ -1,7 +1,7 @@
 -- A line that is judged hint by hint, the hinted clauses handed in one by one.
 use Rattle.std.specs.Prelude.{Bool, true, false, not, ◌&&◌, List, [], ◌∷◌, map, Option}
 use Rattle.dq_lits.specs.Literal.{Literal, opposite}
-use Rattle.dq_lits.specs.Derivation.{Status, falsified, unit, stuck, status_of, is_tautology}
+use Rattle.dq_lits.specs.Derivation.{ClauseStatus, falsified, unit, stuck, status_of, is_tautology}
 use Rattle.rup_core.specs.declared.progress.Progress.{Progress}
 use Rattle.rup_core.specs.declared.progress.Progress.TheVariants.{Going, Refuted, Faulty}
 
@@ -14,7 +14,7 @@ is_last [] = true
 is_last (_ ∷ _) = false
 
 -- each clause but the last propagates, and the last one is falsified
-abbrev pub refute_by : Status → Bool → (Literal → Bool) → Bool
+abbrev pub refute_by : ClauseStatus → Bool → (Literal → Bool) → Bool
 refute_by falsified last next = last
 refute_by (unit l) last next = next l
 refute_by stuck last next = false
@@ -56,7 +56,7 @@ abbrev pub is_faulty : LineState → Bool
 is_faulty line = is_faulty_so_far line.progress
 
 -- by the next clause's status
-abbrev pub refute_next : Progress → Status → List Literal → Hinted → Bool
+abbrev pub refute_next : Progress → ClauseStatus → List Literal → Hinted → Bool
 refute_next Going status trues clauses =
     refute_by status (is_last clauses) (λ l. refute (l ∷ trues) clauses)
 refute_next Refuted status trues clauses = false

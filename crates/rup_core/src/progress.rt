@@ -4,7 +4,7 @@ ghost use Rattle.std.specs.Prelude.{◌≡◌, IfOk, IsOk, OnErr};
 ghost use Rattle.rup_core.specs.Extension.{seen, UnitIsFree, UnitStandsWithin};
 ghost use Rattle.rup_core.specs.HintStep.{IsStep};
 
-use crate::statuses::Status;
+use crate::statuses::ClauseStatus;
 use crate::trails::Trail;
 use dq_lits::Memory;
 
@@ -21,7 +21,7 @@ pub(crate) enum Progress {
 
 /// One more hint, where all so far propagate, by the status of its clause: the literal of a unit
 /// clause becomes true.
-pub(crate) fn propagate(trail: &mut Trail, status: Status) -> Result<Progress, Memory>
+pub(crate) fn propagate(trail: &mut Trail, status: ClauseStatus) -> Result<Progress, Memory>
     requires { UnitIsFree trail.old.trues (seen status) }
     ensures step { IfOk result
         (λ next. IsStep (seen status) trail.old.trues next trail.new.trues) }
@@ -30,11 +30,11 @@ pub(crate) fn propagate(trail: &mut Trail, status: Status) -> Result<Progress, M
     ensures marked { UnitStandsWithin trail.old.variables (seen status) → IsOk result }
 {
     match status {
-        Status::Unit(l) => {
+        ClauseStatus::Unit(l) => {
             trail.assign(l)?;
             Ok(Progress::Going)
         }
-        Status::Falsified => Ok(Progress::Refuted),
-        Status::Stuck => Ok(Progress::Faulty),
+        ClauseStatus::Falsified => Ok(Progress::Refuted),
+        ClauseStatus::Stuck => Ok(Progress::Faulty),
     }
 }

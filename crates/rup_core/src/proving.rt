@@ -21,7 +21,7 @@ use crate::bases::{Base, FewLiterals};
 use crate::derivation::{assume_false, line_fault};
 use crate::faults::ProofFault;
 use crate::progress::{Progress, propagate};
-use crate::statuses::{Status, status_among};
+use crate::statuses::{ClauseStatus, status_among};
 use crate::stores::Store;
 use crate::trails::Trail;
 use dq_lits::{Lit, Memory};
@@ -53,7 +53,7 @@ impl Model for Proving {
 }
 
 // How the hints stand with one more, whose clause stands so. Its literal becomes true.
-fn advance(trail: &mut Trail, progress: Progress, status: Status) -> Result<Progress, Memory>
+fn advance(trail: &mut Trail, progress: Progress, status: ClauseStatus) -> Result<Progress, Memory>
     requires { UnitIsFree trail.old.trues (seen status) }
     ensures judged { IfOk result (λ next. (clauses : Hinted)
         → refute_from next trail.new.trues clauses
@@ -208,7 +208,7 @@ impl Proving {
     {
         let status = match self.store.get(id) {
             Some(clause) => status_among(clause, &self.trail),
-            None => Status::Stuck,
+            None => ClauseStatus::Stuck,
         };
         self.progress = advance(&mut self.trail, self.progress, status)?;
         Ok(())

@@ -13,7 +13,7 @@ use dq_lits::{Lit, TruthValue};
 
 /// How a clause stands under a trail.
 #[derive(Clone, Copy)]
-pub(crate) enum Status {
+pub(crate) enum ClauseStatus {
     /// Each of its literals is false.
     Falsified,
     /// As a set it has one literal that isn't false, and this one is unassigned.
@@ -24,7 +24,7 @@ pub(crate) enum Status {
 
 /// How the clause with this id stands; where no clause has it, it is of no use. A clause is read as
 /// far as that takes: no further than its second literal that isn't false.
-pub(crate) fn status_of<B: Base>(base: &B, id: u64, trail: &Trail) -> Status
+pub(crate) fn status_of<B: Base>(base: &B, id: u64, trail: &Trail) -> ClauseStatus
     ensures status { seen result ≡ status_of trail.now.trues (B.clauses base.now id) }
     ensures free { UnitIsFree trail.now.trues (seen result) }
     ensures within { (n : ℕ) → IfSome (B.clauses base.now id) (StandsWithin n)
@@ -37,7 +37,7 @@ pub(crate) fn status_of<B: Base>(base: &B, id: u64, trail: &Trail) -> Status
 }
 
 // The same of a clause that may be made at once.
-fn status_made<B: Base>(base: &B, id: u64, trail: &Trail) -> Status
+fn status_made<B: Base>(base: &B, id: u64, trail: &Trail) -> ClauseStatus
     ensures status { seen result ≡ status_of trail.now.trues (B.clauses base.now id) }
     ensures free { UnitIsFree trail.now.trues (seen result) }
     ensures within { (n : ℕ) → IfSome (B.clauses base.now id) (StandsWithin n)
@@ -50,74 +50,74 @@ fn status_made<B: Base>(base: &B, id: u64, trail: &Trail) -> Status
 }
 
 /// The same of a clause that lies in memory.
-pub(crate) fn status_among(lits: &[Lit], trail: &Trail) -> Status
+pub(crate) fn status_among(lits: &[Lit], trail: &Trail) -> ClauseStatus
     ensures status { seen result ≡ status_of trail.now.trues (Some lits.now) }
     ensures free { UnitIsFree trail.now.trues (seen result) }
     ensures within { (n : ℕ) → StandsWithin n lits.now → UnitStandsWithin n (seen result) }
 {
-    let mut status = Status::Falsified;
+    let mut status = ClauseStatus::Falsified;
     for l in lits {
         status = status.with_literal(*l, trail.value(*l));
         if status.is_stuck() {
-            return Status::Stuck;
+            return ClauseStatus::Stuck;
         }
     }
     status
 }
 
 // The same of a clause that is read a literal at a time.
-fn status_read<B: Base>(base: &B, id: u64, trail: &Trail) -> Status
+fn status_read<B: Base>(base: &B, id: u64, trail: &Trail) -> ClauseStatus
     ensures status { seen result ≡ status_of trail.now.trues (B.clauses base.now id) }
     ensures free { UnitIsFree trail.now.trues (seen result) }
     ensures within { (n : ℕ) → IfSome (B.clauses base.now id) (StandsWithin n)
         → UnitStandsWithin n (seen result) }
 {
     let Some(size) = base.size(id) else {
-        return Status::Stuck;
+        return ClauseStatus::Stuck;
     };
-    let mut status = Status::Falsified;
+    let mut status = ClauseStatus::Falsified;
     for i in 0..size {
         let l = base.lit(id, i);
         status = status.with_literal(l, trail.value(l));
         if status.is_stuck() {
-            return Status::Stuck;
+            return ClauseStatus::Stuck;
         }
     }
     status
 }
 
-impl Status {
+impl ClauseStatus {
     // Whether it stays as it is, whatever further literals there are.
     fn is_stuck(&self) -> bool
         ensures { result ≡ true → seen self.now ≡ stuck }
     {
-        matches!(self, Status::Stuck)
+        matches!(self, ClauseStatus::Stuck)
     }
 
     // With one more literal, of this value.
-    fn with_literal(&self, l: Lit, value: TruthValue) -> Status
+    fn with_literal(&self, l: Lit, value: TruthValue) -> ClauseStatus
         ensures { seen result ≡ with_literal (seen self.now) l value }
     {
         match value {
             TruthValue::False => *self,
-            TruthValue::True => Status::Stuck,
+            TruthValue::True => ClauseStatus::Stuck,
             TruthValue::Unassigned => self.with_free(l),
         }
     }
 
-    fn with_free(&self, l: Lit) -> Status
+    fn with_free(&self, l: Lit) -> ClauseStatus
         ensures { seen result ≡ with_free (seen self.now) l }
     {
         match self {
-            Status::Falsified => Status::Unit(l),
-            Status::Unit(other) => {
+            ClauseStatus::Falsified => ClauseStatus::Unit(l),
+            ClauseStatus::Unit(other) => {
                 if is_same(*other, l) {
                     *self
                 } else {
-                    Status::Stuck
+                    ClauseStatus::Stuck
                 }
             }
-            Status::Stuck => Status::Stuck,
+            ClauseStatus::Stuck => ClauseStatus::Stuck,
         }
     }
 }

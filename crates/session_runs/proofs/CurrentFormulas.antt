@@ -4,10 +4,10 @@ use Rattle.std.proofs.lemmas.List.{length-append}
 use Rattle.dq_lits.specs.Formula.{Dqbf}
 use Rattle.hint_log.specs.Live.{formula_of}
 use Rattle.script_text.specs.Commands.{ScriptCommand, push, add, pop, solve}
-use Rattle.dq_session.specs.Books.{BookState, all_of, now_of}
+use Rattle.dq_session.specs.Databases.{DatabaseState, all_of, now_of}
 use Rattle.dq_session.specs.Changes.{newest}
 use Rattle.dq_session.specs.declared.live.Live.{Live}
-use Rattle.session_runs.specs.Following.{book_behind}
+use Rattle.session_runs.specs.Following.{database_behind}
 
 whole-taken : {X : Type 0} (n : ℕ) (xs : List X) → length (take n xs) ≡ length xs → take n xs ≡ xs
 whole-taken zero [] same = refl
@@ -15,8 +15,8 @@ whole-taken zero (x ∷ xs) same = absurd (omega (arith, same))
 whole-taken (suc n) [] same = refl
 whole-taken (suc n) (x ∷ xs) same = ap (λ ys. x ∷ ys) (whole-taken n xs (omega (arith, same)))
 
-now-stays : (b : BookState) (command : ScriptCommand) → length (book_behind b command).live ≡ length b.live
-    → now_of b ≡ now_of (book_behind b command)
+now-stays : (b : DatabaseState) (command : ScriptCommand) → length (database_behind b command).live ≡ length b.live
+    → now_of b ≡ now_of (database_behind b command)
 now-stays b push same = refl
 now-stays b (add clause) same = absurd (by (length-append b.live _) same)
   where
@@ -32,8 +32,8 @@ kept None f g same is = is
 kept (Some h) f g same is = is ∙ same
 
 -- a kept formula is still that of now
-pub current-stays : (o : Option Dqbf) (b c : BookState) (command : ScriptCommand) → c ≡ book_behind b command
+pub current-stays : (o : Option Dqbf) (b c : DatabaseState) (command : ScriptCommand) → c ≡ database_behind b command
     → length c.live ≡ length b.live → IfSome o (λ f. f ≡ now_of b) → IfSome o (λ f. f ≡ now_of c)
 current-stays o b c command is same current =
     kept o (now_of b) (now_of c)
-    (now-stays b command (sym (ap (λ (x : BookState). length x.live) is) ∙ same) ∙ sym (ap now_of is)) current
+    (now-stays b command (sym (ap (λ (x : DatabaseState). length x.live) is) ∙ same) ∙ sym (ap now_of is)) current

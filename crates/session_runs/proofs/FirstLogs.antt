@@ -10,9 +10,9 @@ use Rattle.log_laws.specs.Engines.{instances}
 use Rattle.log_laws.specs.Sessions.{IsAddedLive}
 use Rattle.log_laws.proofs.LargerLogs.{each_grown}
 use Rattle.oracle.specs.Searched.{IsSearched}
-use Rattle.dq_session.specs.Books.{BookState, IsBook}
+use Rattle.dq_session.specs.Databases.{DatabaseState, IsDatabase}
 use Rattle.dq_session.specs.Changes.{begun}
-use Rattle.repair_loop.specs.Desks.{IsFirstBook}
+use Rattle.repair_loop.specs.SearchStates.{IsFirstDatabase}
 
 module _ (f : Dqbf) (old : List Entry) where
   abbrev Added : List Entry → Entry → Type 0
@@ -56,7 +56,7 @@ module _ (f : Dqbf) (old : List Entry) where
   first-given es (Round row values j) h = absurd h
   first-given es (Begun live) h = absurd h
 
--- a book's beginning is productive work
+-- a database's beginning is productive work
 pub first-productive : (f : Dqbf) (old new : ProofLog) → old.entries ≡ []
     → Grew (IsAddedLive f instances [] true old.entries) old new → IsSearched new.entries
     → IsProductiveLog f new.entries
@@ -85,13 +85,13 @@ none-begun-yet (Answer c hints ∷ es) none = none-begun-yet es none
 none-begun-yet (Round row values j ∷ es) none = none-begun-yet es none
 none-begun-yet (Begun live ∷ es) none = cc
 
-pub first-book : (f : Dqbf) (old new : ProofLog) (b : BookState) → old.entries ≡ []
+pub first-database : (f : Dqbf) (old new : ProofLog) (b : DatabaseState) → old.entries ≡ []
     → Grew (IsAddedLive f instances [] true old.entries) old new → b ≡ begun f b.table → b.table.rows ≡ []
-    → IsBook b new.entries → IsFirstBook f b new.entries
-first-book f old new b empty grew begun-is no-rows book = record {
+    → IsDatabase b new.entries → IsFirstDatabase f b new.entries
+first-database f old new b empty grew begun-is no-rows database = record {
   begun_is = begun-is;
   no_rows = no-rows;
-  book = book;
+  database = database;
   before = old;
   after = new;
   empty = empty;

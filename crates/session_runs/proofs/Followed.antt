@@ -1,4 +1,4 @@
--- A book that follows a script, behind the next command.
+-- A database that follows a script, behind the next command.
 use Rattle.std.proofs.Common.{◌≡◌, ℕ, suc, ◌+◌, ◌-◌, ◌≤◌, List, [], ◌∷◌, ◌++◌, map, take, length, get_or, replicate, Some, None, refl, sym, ◌∙◌, ap, subst₂, arith, append_assoc, append-nil}
 use Rattle.std.proofs.lemmas.List.{length-append, map-append}
 use Rattle.list_laws.proofs.Elements.{last_there}
@@ -6,13 +6,13 @@ use Rattle.dq_lits.specs.Literal.{Literal}
 use Rattle.hint_log.specs.Naming.{numbered_from_one}
 use Rattle.script_text.specs.Commands.{ScriptCommand, push, add, pop, solve}
 use Rattle.script_text.specs.Frames.{Frames, with_clause as with_script_clause, older_frames, frames_behind}
-use Rattle.dq_session.specs.Books.{BookState}
+use Rattle.dq_session.specs.Databases.{DatabaseState}
 use Rattle.dq_session.specs.Changes.{newest}
 use Rattle.dq_session.specs.declared.live.Live.{Live}
 use Rattle.dq_session.specs.declared.live.OpenFrame.{OpenFrame}
 use Rattle.session_runs.specs.Numbering.{NumberedFrame, Numbering, newest_number, with_number, without_newest, numbering_behind}
-use Rattle.session_runs.specs.Following.{book_behind, MayCome, frame_live, AreOpenFrames, Follows, AreFramesOf}
-use Rattle.session_runs.specs.Laws.{BooksFollow}
+use Rattle.session_runs.specs.Following.{database_behind, MayCome, frame_live, AreOpenFrames, Follows, AreFramesOf}
+use Rattle.session_runs.specs.Laws.{DatabasesFollow}
 use Rattle.session_runs.proofs.GrownSessions.{numbered-more}
 use Rattle.session_runs.proofs.Lists.{last-at, front-taken, last-place, found-still}
 
@@ -128,9 +128,9 @@ frames-follow s frames (add clause) are = clause-in s.clauses clause s.open_fram
 frames-follow s frames pop are = frame-out s.clauses s.open_frames frames are
 frames-follow s frames solve are = are
 
-book-follows : (s : Numbering) (b : BookState) (command : ScriptCommand) → Follows s b → MayCome b command
-    → Follows (numbering_behind s command) (book_behind b command)
-book-follows s b push follows may = record {
+database-follows : (s : Numbering) (b : DatabaseState) (command : ScriptCommand) → Follows s b → MayCome b command
+    → Follows (numbering_behind s command) (database_behind b command)
+database-follows s b push follows may = record {
   clauses = follows.clauses;
   frames = follows.frames;
   opened = length-append b.groups (None ∷ []) ∙ ap (λ n. n + 1) follows.opened;
@@ -142,7 +142,7 @@ book-follows s b push follows may = record {
     follows.open_frames,
   );
 }
-book-follows s b (add clause) follows may =
+database-follows s b (add clause) follows may =
     let file = length b.file.matrix in
     let long : length b.file.matrix + length b.added + 1 ≡ length s.clauses + 1 =
     (let all = length-append b.file.matrix b.added in
@@ -161,15 +161,15 @@ book-follows s b (add clause) follows may =
           (frame_live (newest b).number (length b.file.matrix + length b.added + 1)) follows.open_frames may.0
           (ap (frame_live (newest b).number) long);
     }
-book-follows s b pop follows may = record {
+database-follows s b pop follows may = record {
   clauses = follows.clauses;
   frames = follows.frames;
   opened = follows.opened;
   open_frames =
       frame-goes (length b.file.matrix) s.open_frames b.open_frames b.live follows.open_frames may;
 }
-book-follows s b solve follows may = follows
+database-follows s b solve follows may = follows
 
-pub books-follow : BooksFollow
-books-follow s frames b command follows are may =
-    (book-follows s b command follows may, frames-follow s frames command are)
+pub databases-follow : DatabasesFollow
+databases-follow s frames b command follows are may =
+    (database-follows s b command follows may, frames-follow s frames command are)

@@ -7,11 +7,11 @@ use Rattle.script_text.specs.Commands.{ScriptCommand, push, add, pop, solve}
 use Rattle.script_text.specs.Frames.{formula_in, frames_behind, formulas_from}
 use Rattle.script_text.specs.Lawful.{IsAllowed, AreAllowed}
 use Rattle.script_text.specs.Reading.{depth_behind, clauses_behind, max_clauses}
-use Rattle.dq_session.specs.Books.{BookState, live_of, now_of}
+use Rattle.dq_session.specs.Databases.{DatabaseState, live_of, now_of}
 use Rattle.dq_session.specs.Changes.{begun}
 use Rattle.expansion.specs.Table.{TableState}
-use Rattle.session_runs.specs.Following.{book_behind, MayCome, AreOpenFrames}
-use Rattle.session_runs.specs.Laws.{BooksFollow, StandsFor, FollowingBooksStand}
+use Rattle.session_runs.specs.Following.{database_behind, MayCome, AreOpenFrames}
+use Rattle.session_runs.specs.Laws.{DatabasesFollow, StandsFor, FollowingDatabasesStand}
 use Rattle.session_runs.specs.Numbering.{NumberedFrame, Numbering, numbering_at_start, numbering_behind, with_number, without_newest, live_in, live_from}
 use Rattle.session_runs.specs.Blocks.{Search}
 use Rattle.session_runs.specs.Followed.{is_search, IsFollowed}
@@ -71,7 +71,7 @@ few-behind f s (add clause) depth may few =
 few-behind f s pop depth may few = few
 few-behind f s solve depth may few = few
 
-module _ (stand : FollowingBooksStand) (f : Dqbf) (commands left : List ScriptCommand) (b : BookState)
+module _ (stand : FollowingDatabasesStand) (f : Dqbf) (commands left : List ScriptCommand) (b : DatabaseState)
     (searches : List Search) (command : ScriptCommand)
     (is : IsFollowed f commands (command ∷ left) b searches) where
   stands-for : StandsFor is.numbering is.frames b
@@ -95,15 +95,15 @@ module _ (stand : FollowingBooksStand) (f : Dqbf) (commands left : List ScriptCo
       (count-is is.numbering command) is.allowed.1)
 
 -- a command that is no search
-file-stays : (b : BookState) (command : ScriptCommand) → (book_behind b command).file ≡ b.file
+file-stays : (b : DatabaseState) (command : ScriptCommand) → (database_behind b command).file ≡ b.file
 file-stays b push = refl
 file-stays b (add clause) = refl
 file-stays b pop = refl
 file-stays b solve = refl
 
-pub followed-change : BooksFollow → FollowingBooksStand → (f : Dqbf) (commands left : List ScriptCommand) (b : BookState)
+pub followed-change : DatabasesFollow → FollowingDatabasesStand → (f : Dqbf) (commands left : List ScriptCommand) (b : DatabaseState)
     (searches : List Search) (command : ScriptCommand) → is_search command ≡ false
-    → IsFollowed f commands (command ∷ left) b searches → IsFollowed f commands left (book_behind b command) searches
+    → IsFollowed f commands (command ∷ left) b searches → IsFollowed f commands left (database_behind b command) searches
 followed-change follow stand f commands left b searches command change is =
     let may = may-come stand f commands left b searches command is in
     let both = follow is.numbering is.frames b command is.follows is.frames_are may in
@@ -137,8 +137,8 @@ followed-change follow stand f commands left b searches command change is =
     live-stays pop h = refl
     live-stays solve h = cc
 
--- a search, which leaves the book's clauses
-pub followed-search : FollowingBooksStand → (f : Dqbf) (commands left : List ScriptCommand) (b : BookState)
+-- a search, which leaves the database's clauses
+pub followed-search : FollowingDatabasesStand → (f : Dqbf) (commands left : List ScriptCommand) (b : DatabaseState)
     (searches : List Search) (s : Search) → s.formula ≡ now_of b → live_numbers s.entries ≡ Some (live_of b)
     → IsFollowed f commands (solve ∷ left) b searches → IsFollowed f commands left b (searches ++ s ∷ [])
 followed-search stand f commands left b searches s formula begun is =
@@ -173,8 +173,8 @@ followed-search stand f commands left b searches s formula begun is =
         ∙ append_assoc (map h xs) (h x ∷ []) ys
         ∙ ap (λ z. map h xs ++ z ∷ ys) same
 
--- a book that has the same clauses, and other instances
-pub followed-later : (f : Dqbf) (commands left : List ScriptCommand) (b c : BookState) (searches : List Search)
+-- a database that has the same clauses, and other instances
+pub followed-later : (f : Dqbf) (commands left : List ScriptCommand) (b c : DatabaseState) (searches : List Search)
     → c ≡ record b { table = c.table; given = c.given; groups = c.groups } → length c.groups ≡ length b.groups
     → IsFollowed f commands left b searches → IsFollowed f commands left c searches
 followed-later f commands left b c searches same many is = record {
@@ -195,8 +195,8 @@ followed-later f commands left b c searches same many is = record {
   begun = is.begun;
 }
   where
-    Same : BookState → Type 0
+    Same : DatabaseState → Type 0
     Same x = replicate (length x.file.matrix) 0 ++ x.frames ≡ is.numbering.frames
 
-    Open : BookState → Type 0
+    Open : DatabaseState → Type 0
     Open x = AreOpenFrames (length x.file.matrix) is.numbering.open_frames x.open_frames x.live

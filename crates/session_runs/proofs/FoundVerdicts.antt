@@ -13,14 +13,14 @@ use Rattle.hint_log.specs.Conditions.{AreLogged}
 use Rattle.hint_log.specs.Entries.{ProofLog, rounds_of, steps_of}
 use Rattle.hint_log.specs.Live.{live_numbers, formula_of}
 use Rattle.hint_log.specs.ProductiveSession.{IsProductiveSession, IsUndecidedSince}
-use Rattle.dq_session.specs.Books.{BookState, all_of, live_of}
+use Rattle.dq_session.specs.Databases.{DatabaseState, all_of, live_of}
 use Rattle.dq_session.specs.declared.live.Live.{Live}
-use Rattle.repair_loop.specs.Desks.{HasBegun, IsAnsweredTrue, IsAnsweredFalse}
+use Rattle.repair_loop.specs.SearchStates.{HasBegun, IsAnsweredTrue, IsAnsweredFalse}
 use Rattle.repair_loop.specs.Stopping.{IsStoppedAtLimit}
 use Rattle.verdict_texts.specs.Forms.{plain}
 use Rattle.verdict_texts.specs.Shown.{IsShownFalse, IsTrueText, IsFalseText, unknown_by}
 use Rattle.verdict_texts.specs.Verdicts.{is_true, is_false, verdict_text}
-use Rattle.session_runs.specs.Standing.{IsFound}
+use Rattle.session_runs.specs.Invariant.{IsFound}
 
 -- the answer can be exported, of the formula that is live
 pub can-export-true : SessionAnswersCanExport → (f all : Dqbf) (frames live : List ℕ) (graph : AigGraph)
@@ -51,7 +51,7 @@ can-export-false law f all frames live log id logged session named is refuted re
     ((law all frames live log.entries id logged session named).1 refuted rests)
 
 -- the answer rests on live clauses
-pub rests-on-live : (b : BookState) (log : ProofLog) (id : ℕ) → IsAnsweredFalse b log id
+pub rests-on-live : (b : DatabaseState) (log : ProofLog) (id : ℕ) → IsAnsweredFalse b log id
     → (refuted : IsRefutedBy log.entries id) × RestsOnLive (live_of b) log.entries id refuted
 rests-on-live b log id a = (
   record {
@@ -65,7 +65,7 @@ rests-on-live b log id a = (
   a.shown.live,
 )
 
-module _ (b : BookState) (f : Dqbf) (old new : ProofLog) (began : HasBegun (live_of b) old.entries new.entries) where
+module _ (b : DatabaseState) (f : Dqbf) (old new : ProofLog) (began : HasBegun (live_of b) old.entries new.entries) where
   pub true-found : (text : List ℕ) → IsTrueText f new plain text → IsFound b f old new text
   true-found text t = record {
     verdict = is_true t.file t.proof;

@@ -11,4 +11,4 @@ mod WholeSessions
 pub mod Followed
 pub mod GrownSessions
 mod Lists
-pub mod Standing
+pub mod SessionInvariant

@@ -9,12 +9,12 @@ use Rattle.hint_log.specs.declared.stops.Stop.TheVariants.{Memory, Limit}
 use Rattle.dq_lits.specs.Formula.{Dqbf}
 use Rattle.aig_graph.specs.Graph.{AigGraph}
 use Rattle.oracle.specs.Searched.{IsSearched}
-use Rattle.dq_session.specs.Books.{BookState, all_of, frames_of, live_of}
-use Rattle.repair_loop.specs.Desks.{IsReady, IsKept, HasBegun, IsOfSearch as IsOfItsSearch}
-use Rattle.repair_loop.specs.declared.desks.Desk.{Desk}
+use Rattle.dq_session.specs.Databases.{DatabaseState, all_of, frames_of, live_of}
+use Rattle.repair_loop.specs.SearchStates.{CanBeginSearch, IsKept, HasBegun, IsOfSearch as IsOfItsSearch}
+use Rattle.repair_loop.specs.declared.search_states.SearchState.{SearchState}
 use Rattle.session_runs.specs.LargerSessions.{IsOfSearch}
 use Rattle.session_runs.specs.SessionFiles.{IsWorkOver}
-use Rattle.session_runs.specs.Standing.{IsSoFar}
+use Rattle.session_runs.specs.Invariant.{IsSoFar}
 use Rattle.session_runs.proofs.SearchEnds.{of-search-behind}
 
 -- faults and rounds are of a search, in either word
@@ -47,11 +47,11 @@ session-work all frames es session = record {
   lemmas_are_new = session.lemmas_are_new;
 }
 
-pub ready-so-far : (b : BookState) (d : Desk) (g : AigGraph) (es : List Entry) → IsReady b d g es → IsSoFar b es
+pub ready-so-far : (b : DatabaseState) (d : SearchState) (g : AigGraph) (es : List Entry) → CanBeginSearch b d g es → IsSoFar b es
 ready-so-far b d g es ready = record {
   work = session-work (all_of b) (frames_of b) es ready.session;
   searched = same-searched es ready.searched;
-  one_each = ready.book.book.stack.many_frames;
+  one_each = ready.database.database.stack.many_frames;
 }
 
 -- a search began, where there is a verdict
@@ -67,13 +67,13 @@ surely-at {X} r stop is other (inr (err, same)) = absurd (other (stops stop Memo
     stops : (s t : Stop) → ◌≡◌ {A = Result X Stop} (Err s) (Err t) → s ≡ t
     stops s t same = cc
 
-pub so-far-behind : {A : Type 0} (b : BookState) (d : Desk) (g : AigGraph) (old new : ProofLog)
-    → IsReady b d g old.entries → IsKept (all_of b) new.entries → IsSearched new.entries
+pub so-far-behind : {A : Type 0} (b : DatabaseState) (d : SearchState) (g : AigGraph) (old new : ProofLog)
+    → CanBeginSearch b d g old.entries → IsKept (all_of b) new.entries → IsSearched new.entries
     → HasBegun (live_of b) old.entries new.entries ⊎ (A × (new ≡ old)) → IsSoFar b new.entries
 so-far-behind b d g old new ready kept searched began = record {
   work = record { kept = kept; lemmas_are_derived = searched.derived; lemmas_are_new = searched.new };
   searched = behind began;
-  one_each = ready.book.book.stack.many_frames;
+  one_each = ready.database.database.stack.many_frames;
 }
   where
     behind : {A : Type 0} → HasBegun (live_of b) old.entries new.entries ⊎ (A × (new ≡ old))

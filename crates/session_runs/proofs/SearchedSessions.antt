@@ -2,13 +2,13 @@
 use Rattle.std.proofs.Common.{◌≡◌, ℕ, ◌+◌, List, ◌++◌, length, Option, Some, IfSome, Result, Ok, Err, OnOk, OnErr, sym, ◌∙◌, ap, subst}
 use Rattle.dq_lits.specs.Formula.{Dqbf}
 use Rattle.hint_log.specs.Entries.{ProofLog}
-use Rattle.dq_session.specs.Books.{BookState, all_of, live_of, now_of}
-use Rattle.repair_loop.specs.Desks.{IsReady, IsBookAfter, HasBegun}
+use Rattle.dq_session.specs.Databases.{DatabaseState, all_of, live_of, now_of}
+use Rattle.repair_loop.specs.SearchStates.{CanBeginSearch, IsDatabaseAfter, HasBegun}
 use Rattle.verdict_texts.specs.Forms.{plain}
 use Rattle.verdict_texts.specs.Verdicts.{verdict_text}
 use Rattle.session_runs.specs.Blocks.{block_head}
 use Rattle.session_runs.specs.Searches.{IsShown}
-use Rattle.session_runs.specs.Standing.{IsFound, IsSearchedOn}
+use Rattle.session_runs.specs.Invariant.{IsFound, IsSearchedOn}
 use Rattle.session_runs.specs.declared.sessions.Session.{Session}
 
 some-is : (a b : Dqbf) → Some a ≡ Some b → a ≡ b
@@ -23,26 +23,26 @@ kept-one o f g is same = subst (λ (p : Option Dqbf). IfSome p (λ h. h ≡ g)) 
 
 -- the formula was renewed, a search made, and its block written
 pub searched-on : (s r t : Session) (log new : ProofLog) (f : Dqbf) (text bytes : List ℕ)
-    → r ≡ record s { current = r.current } → r.current ≡ Some (now_of s.book) → r.current ≡ Some f
-    → IsFound r.book f log new text → bytes ≡ text → IsReady t.book t.desk t.graph new.entries
-    → IsBookAfter r.book t.book → t.file ≡ r.file
+    → r ≡ record s { current = r.current } → r.current ≡ Some (now_of s.database) → r.current ≡ Some f
+    → IsFound r.database f log new text → bytes ≡ text → CanBeginSearch t.database t.search_state t.graph new.entries
+    → IsDatabaseAfter r.database t.database → t.file ≡ r.file
     → t.current ≡ r.current → t.count ≡ r.count + 1
     → t.text.items ≡ r.text.items ++ (block_head (r.count + 1) (length bytes) ++ bytes)
     → IsSearchedOn s log t new
 searched-on s r t log new f text bytes same now is found bytes-are ready after file current count written =
-    let book : r.book ≡ s.book = ap (λ (x : Session). x.book) same in
+    let database : r.database ≡ s.database = ap (λ (x : Session). x.database) same in
     let counts : r.count ≡ s.count = ap (λ (x : Session). x.count) same in
-    let formula : f ≡ now_of s.book = some-is f (now_of s.book) (sym is ∙ now) in
-    let now-of-t : now_of s.book ≡ now_of t.book = sym (ap now_of book) ∙ sym (ap now_of after.same) in
+    let formula : f ≡ now_of s.database = some-is f (now_of s.database) (sym is ∙ now) in
+    let now-of-t : now_of s.database ≡ now_of t.database = sym (ap now_of database) ∙ sym (ap now_of after.same) in
     record {
       verdict = found.verdict;
-      began = subst (λ (b : BookState). HasBegun (live_of b) log.entries new.entries) book found.began;
-      shown = subst (λ g. IsShown (all_of s.book) new g found.verdict) formula
-          (subst (λ (b : BookState). IsShown (all_of b) new f found.verdict) book found.shown);
+      began = subst (λ (b : DatabaseState). HasBegun (live_of b) log.entries new.entries) database found.began;
+      shown = subst (λ g. IsShown (all_of s.database) new g found.verdict) formula
+          (subst (λ (b : DatabaseState). IsShown (all_of b) new f found.verdict) database found.shown);
       file = ap (λ x. x.now) file ∙ ap (λ (x : Session). x.file.now) same;
-      book = subst (λ (b : BookState). IsBookAfter b t.book) book after;
+      database = subst (λ (b : DatabaseState). IsDatabaseAfter b t.database) database after;
       ready = ready;
-      current = kept-one t.current (now_of s.book) (now_of t.book) (current ∙ now) now-of-t;
+      current = kept-one t.current (now_of s.database) (now_of t.database) (current ∙ now) now-of-t;
       count = count ∙ ap (λ n. n + 1) counts;
       written =
           written

@@ -9,16 +9,16 @@ use Rattle.cert_text.specs.Header.{max_count}
 use Rattle.hint_log.specs.Entries.{Entry, ProofLog}
 use Rattle.hint_log.specs.Live.{live_numbers}
 use Rattle.hint_log.specs.ProductiveSession.{IsProductiveSession, IsUndecidedSince}
-use Rattle.dq_session.specs.Books.{BookState, all_of, frames_of, live_of, now_of}
+use Rattle.dq_session.specs.Databases.{DatabaseState, all_of, frames_of, live_of, now_of}
 use Rattle.aig_graph.specs.Graph.{AigGraph}
 use Rattle.repair_loop.specs.Changes.{FramesOpen, FramesClose, ClausesCome}
-use Rattle.repair_loop.specs.Desks.{IsReady, IsBookAfter}
-use Rattle.repair_loop.specs.declared.desks.Desk.{Desk}
+use Rattle.repair_loop.specs.SearchStates.{CanBeginSearch, IsDatabaseAfter}
+use Rattle.repair_loop.specs.declared.search_states.SearchState.{SearchState}
 use Rattle.script_text.specs.Commands.{ScriptCommand, push, add, pop, solve}
 use Rattle.script_text.specs.Lawful.{AreAllowed}
 use Rattle.script_text.specs.Reading.{max_clauses}
-use Rattle.session_runs.specs.Following.{book_behind, MayCome}
-use Rattle.session_runs.specs.Laws.{BooksFollow, FollowingBooksStand}
+use Rattle.session_runs.specs.Following.{database_behind, MayCome}
+use Rattle.session_runs.specs.Laws.{DatabasesFollow, FollowingDatabasesStand}
 use Rattle.session_runs.specs.LargerSessions.{SessionsTakeClauses, UndecidedTakesClauses}
 use Rattle.session_runs.specs.Numbering.{all_clauses}
 use Rattle.verdict_texts.specs.Verdicts.{Verdict, is_true, is_false, is_unknown}
@@ -27,7 +27,7 @@ use Rattle.session_runs.specs.Followed.{is_search, IsFollowed}
 use Rattle.session_runs.specs.ScriptFiles.{IsSessionText}
 use Rattle.session_runs.specs.Searches.{IsShown, end_of}
 use Rattle.session_runs.specs.SessionFiles.{IsWorkOf}
-use Rattle.session_runs.specs.Standing.{IsSoFar, AreMade, IsCurrent, IsBegun, IsStanding, IsSearchedOn}
+use Rattle.session_runs.specs.Invariant.{IsSoFar, AreMade, IsCurrent, IsBegun, IsSessionInvariant, IsSearchedOn}
 use Rattle.session_runs.specs.declared.sessions.Session.{Session}
 use Rattle.session_runs.proofs.FollowedCommands.{followed-at-start, may-come, followed-change, followed-search, followed-later}
 use Rattle.session_runs.proofs.SearchEnds.{ends-more, no-ends}
@@ -46,73 +46,73 @@ search-is (add clause) is = cc
 search-is pop is = cc
 search-is solve is = refl
 
--- the desk stays ready
-ready-behind : FramesOpen → FramesClose → ClausesCome → (b : BookState) (d : Desk) (g : AigGraph) (es : List Entry)
-    (c : ScriptCommand) → MayCome b c → IsReady b d g es → IsReady (book_behind b c) d g es
+-- the search state stays ready
+ready-behind : FramesOpen → FramesClose → ClausesCome → (b : DatabaseState) (d : SearchState) (g : AigGraph) (es : List Entry)
+    (c : ScriptCommand) → MayCome b c → CanBeginSearch b d g es → CanBeginSearch (database_behind b c) d g es
 ready-behind opens closes comes b d g es push may ready = opens b d g es ready
 ready-behind opens closes comes b d g es (add clause) may ready = comes b d g es clause may.0 may.2.bound ready
 ready-behind opens closes comes b d g es pop may ready = closes b d g es may ready
 ready-behind opens closes comes b d g es solve may ready = ready
 
-module _ (stand : FollowingBooksStand) (commands : List ScriptCommand) (place : ℕ) (s : Session) (log : ProofLog)
-    (c : ScriptCommand) (at : slice_get commands place ≡ Some c) (is : IsStanding commands place s log) where
+module _ (stand : FollowingDatabasesStand) (commands : List ScriptCommand) (place : ℕ) (s : Session) (log : ProofLog)
+    (c : ScriptCommand) (at : slice_get commands place ≡ Some c) (is : IsSessionInvariant commands place s log) where
   f : Dqbf
   f = s.file.now
 
   left : List ScriptCommand
   left = drop (place + 1) commands
 
-  followed : IsFollowed s.file.now commands (c ∷ drop (place + 1) commands) s.book is.searches
+  followed : IsFollowed s.file.now commands (c ∷ drop (place + 1) commands) s.database is.searches
   followed =
-      subst (λ rest. IsFollowed s.file.now commands rest s.book is.searches) (next-left commands place c at) is.followed
+      subst (λ rest. IsFollowed s.file.now commands rest s.database is.searches) (next-left commands place c at) is.followed
 
-  pub may-take : MayCome s.book c
-  may-take = may-come stand s.file.now commands (drop (place + 1) commands) s.book is.searches c followed
+  pub may-take : MayCome s.database c
+  may-take = may-come stand s.file.now commands (drop (place + 1) commands) s.database is.searches c followed
 
-  pub few-clauses : length (all_of s.book).matrix ≤ max_clauses
+  pub few-clauses : length (all_of s.database).matrix ≤ max_clauses
   few-clauses =
       subst (λ cs. length cs ≤ max_clauses) (sym is.followed.follows.clauses) is.followed.few
 
   -- want of memory ends the run with a session's log
-  pub work-of : (new : ProofLog) → IsSoFar s.book new.entries → IsWorkOf s.file.now commands new
+  pub work-of : (new : ProofLog) → IsSoFar s.database new.entries → IsWorkOf s.file.now commands new
   work-of new so-far =
-      inr (whole-work stand s.file.now commands (drop place commands) s.book is.searches is.followed new.entries
+      inr (whole-work stand s.file.now commands (drop place commands) s.database is.searches is.followed new.entries
       so-far.searched so-far.work)
 
-  change-at : BooksFollow → FramesOpen → FramesClose → ClausesCome → is_search c ≡ false → (t : Session)
-      → t ≡ record s { book = t.book; current = t.current } → t.book ≡ book_behind s.book c → IsCurrent t
-      → IsStanding commands (place + 1) t log
-  change-at follow opens closes comes other t same book current =
+  change-at : DatabasesFollow → FramesOpen → FramesClose → ClausesCome → is_search c ≡ false → (t : Session)
+      → t ≡ record s { database = t.database; current = t.current } → t.database ≡ database_behind s.database c → IsCurrent t
+      → IsSessionInvariant commands (place + 1) t log
+  change-at follow opens closes comes other t same database current =
       let files = ap (λ (x : Session). x.file.now) same in
-      let desks = ap (λ (x : Session). x.desk) same in
+      let search_states = ap (λ (x : Session). x.search_state) same in
       let graphs = ap (λ (x : Session). x.graph) same in
       record {
         searches = is.searches;
         followed =
-            subst (λ g. IsFollowed g commands (drop (place + 1) commands) t.book is.searches) (sym files)
-            (subst (λ b. IsFollowed s.file.now commands (drop (place + 1) commands) b is.searches) (sym book)
-            (followed-change follow stand s.file.now commands (drop (place + 1) commands) s.book is.searches c other
+            subst (λ g. IsFollowed g commands (drop (place + 1) commands) t.database is.searches) (sym files)
+            (subst (λ b. IsFollowed s.file.now commands (drop (place + 1) commands) b is.searches) (sym database)
+            (followed-change follow stand s.file.now commands (drop (place + 1) commands) s.database is.searches c other
             followed));
         made = subst (λ g. AreMade (all_clauses g commands) log is.searches) (sym files) is.made;
         written = ap (λ (x : Session). x.text.items) same ∙ is.written;
         count = ap (λ (x : Session). x.count) same ∙ is.count;
         few = (let few = is.few in omega (arith, few));
         ready =
-            subst (λ b. IsReady b t.desk t.graph log.entries) (sym book)
-            (subst (λ d. IsReady (book_behind s.book c) d t.graph log.entries) (sym desks)
-            (subst (λ g. IsReady (book_behind s.book c) s.desk g log.entries) (sym graphs)
-            (ready-behind opens closes comes s.book s.desk s.graph log.entries c may-take is.ready)));
+            subst (λ b. CanBeginSearch b t.search_state t.graph log.entries) (sym database)
+            (subst (λ d. CanBeginSearch (database_behind s.database c) d t.graph log.entries) (sym search_states)
+            (subst (λ g. CanBeginSearch (database_behind s.database c) s.search_state g log.entries) (sym graphs)
+            (ready-behind opens closes comes s.database s.search_state s.graph log.entries c may-take is.ready)));
         current = current;
         limit = is.limit;
       }
 
-pub standing-change : BooksFollow → FollowingBooksStand → FramesOpen → FramesClose → ClausesCome
+pub standing-change : DatabasesFollow → FollowingDatabasesStand → FramesOpen → FramesClose → ClausesCome
     → (commands : List ScriptCommand) (place : ℕ) (s : Session) (log : ProofLog) (c : ScriptCommand)
-    → slice_get commands place ≡ Some c → IsStanding commands place s log → is_search c ≡ false → (t : Session)
-    → t ≡ record s { book = t.book; current = t.current } → t.book ≡ book_behind s.book c → IsCurrent t
-    → IsStanding commands (place + 1) t log
-standing-change follow stand opens closes comes commands place s log c at is other t same book current =
-    change-at stand commands place s log c at is follow opens closes comes other t same book current
+    → slice_get commands place ≡ Some c → IsSessionInvariant commands place s log → is_search c ≡ false → (t : Session)
+    → t ≡ record s { database = t.database; current = t.current } → t.database ≡ database_behind s.database c → IsCurrent t
+    → IsSessionInvariant commands (place + 1) t log
+standing-change follow stand opens closes comes commands place s log c at is other t same database current =
+    change-at stand commands place s log c at is follow opens closes comes other t same database current
 
 -- one block more
 blocks-more : (k : ℕ) (ss : List Search) (x : Search)
@@ -139,30 +139,30 @@ shown-whole all whole log f (is_unknown rounds learned) more shown = record {
   steps_are = shown.steps_are;
 }
 
-same-all : (b c : BookState) → IsBookAfter b c → all_of c ≡ all_of b
+same-all : (b c : DatabaseState) → IsDatabaseAfter b c → all_of c ≡ all_of b
 same-all b c after = ap all_of after.same
 
-same-frames : (b c : BookState) → IsBookAfter b c → frames_of c ≡ frames_of b
+same-frames : (b c : DatabaseState) → IsDatabaseAfter b c → frames_of c ≡ frames_of b
 same-frames b c after = ap frames_of after.same
 
-module _ (stand : FollowingBooksStand) (undecided-law : UndecidedTakesClauses) (commands : List ScriptCommand)
+module _ (stand : FollowingDatabasesStand) (undecided-law : UndecidedTakesClauses) (commands : List ScriptCommand)
     (place : ℕ) (s : Session) (log : ProofLog) (at : slice_get commands place ≡ Some solve)
-    (is : IsStanding commands place s log) (t : Session) (new : ProofLog) (on : IsSearchedOn s log t new)
+    (is : IsSessionInvariant commands place s log) (t : Session) (new : ProofLog) (on : IsSearchedOn s log t new)
     (limit : new.limit ≡ log.limit) where
   abbrev made-now : Search
-  made-now = record { formula = now_of s.book; verdict = on.verdict; entries = new.entries }
+  made-now = record { formula = now_of s.database; verdict = on.verdict; entries = new.entries }
 
-  session-so-far : IsProductiveSession (all_of s.book) (frames_of s.book) new.entries
+  session-so-far : IsProductiveSession (all_of s.database) (frames_of s.database) new.entries
   session-so-far =
-      subst (λ all. IsProductiveSession all (frames_of s.book) new.entries) (same-all s.book t.book on.book)
-      (subst (λ fs. IsProductiveSession (all_of t.book) fs new.entries) (same-frames s.book t.book on.book)
+      subst (λ all. IsProductiveSession all (frames_of s.database) new.entries) (same-all s.database t.database on.database)
+      (subst (λ fs. IsProductiveSession (all_of t.database) fs new.entries) (same-frames s.database t.database on.database)
       on.ready.session)
 
   shown-now : IsShown (all_clauses s.file.now commands) (end_of new made-now) made-now.formula made-now.verdict
   shown-now =
-      shown-whole (all_of s.book) (all_clauses s.file.now commands) new (now_of s.book) on.verdict
-      (whole-undecided stand s.file.now commands (drop place commands) s.book is.searches is.followed undecided-law
-      new.entries (live_of s.book) session-so-far on.began.named)
+      shown-whole (all_of s.database) (all_clauses s.file.now commands) new (now_of s.database) on.verdict
+      (whole-undecided stand s.file.now commands (drop place commands) s.database is.searches is.followed undecided-law
+      new.entries (live_of s.database) session-so-far on.began.named)
       on.shown
 
   shown-before : All
@@ -177,13 +177,13 @@ module _ (stand : FollowingBooksStand) (undecided-law : UndecidedTakesClauses) (
     ends =
         map-append (λ (x : Search). x.entries) is.searches (made-now ∷ [])
         ∙ ap (λ es. es ++ new.entries ∷ []) is.made.ends
-        ∙ ends-more new.entries on.began.more (live_of s.book) log.entries on.began.grown on.began.none;
+        ∙ ends-more new.entries on.began.more (live_of s.database) log.entries on.began.grown on.began.none;
     shown =
         All-push (λ (x : Search). IsShown (all_clauses s.file.now commands) (end_of new x) x.formula x.verdict)
         is.searches made-now shown-before shown-now;
   }
 
-  pub standing-search : IsStanding commands (place + 1) t new
+  pub standing-search : IsSessionInvariant commands (place + 1) t new
   standing-search =
       let long = length-append is.searches (made-now ∷ []) in
       let counted = is.count in
@@ -191,13 +191,13 @@ module _ (stand : FollowingBooksStand) (undecided-law : UndecidedTakesClauses) (
       record {
         searches = is.searches ++ made-now ∷ [];
         followed =
-            subst (λ g. IsFollowed g commands (drop (place + 1) commands) t.book (is.searches ++ made-now ∷ []))
+            subst (λ g. IsFollowed g commands (drop (place + 1) commands) t.database (is.searches ++ made-now ∷ []))
             (sym on.file)
-            (followed-later s.file.now commands (drop (place + 1) commands) s.book t.book (is.searches ++ made-now ∷ [])
-            on.book.same on.book.many_groups
-            (followed-search stand s.file.now commands (drop (place + 1) commands) s.book is.searches made-now refl
+            (followed-later s.file.now commands (drop (place + 1) commands) s.database t.database (is.searches ++ made-now ∷ [])
+            on.database.same on.database.many_groups
+            (followed-search stand s.file.now commands (drop (place + 1) commands) s.database is.searches made-now refl
             on.began.named
-            (subst (λ rest. IsFollowed s.file.now commands rest s.book is.searches)
+            (subst (λ rest. IsFollowed s.file.now commands rest s.database is.searches)
             (next-left commands place solve at) is.followed)));
         made = subst (λ g. AreMade (all_clauses g commands) new (is.searches ++ made-now ∷ [])) (sym on.file) made;
         written =
@@ -213,18 +213,18 @@ module _ (stand : FollowingBooksStand) (undecided-law : UndecidedTakesClauses) (
       }
 
 -- all commands were taken
-pub session-done : FollowingBooksStand → SessionsTakeClauses → (commands : List ScriptCommand) (s : Session)
-    (log : ProofLog) → IsStanding commands (length commands) s log
+pub session-done : FollowingDatabasesStand → SessionsTakeClauses → (commands : List ScriptCommand) (s : Session)
+    (log : ProofLog) → IsSessionInvariant commands (length commands) s log
     → IsSessionText s.file.now commands log s.text.items
 session-done stand law commands s log is =
     let none : drop (length commands) commands ≡ [] = drop_all (length commands) commands (omega arith) in
-    let followed : IsFollowed s.file.now commands [] s.book is.searches =
-    subst (λ rest. IsFollowed s.file.now commands rest s.book is.searches) none is.followed in
-    let so-far = ready-so-far s.book s.desk s.graph log.entries is.ready in
+    let followed : IsFollowed s.file.now commands [] s.database is.searches =
+    subst (λ rest. IsFollowed s.file.now commands rest s.database is.searches) none is.followed in
+    let so-far = ready-so-far s.database s.search_state s.graph log.entries is.ready in
     record {
       searches = is.searches;
       searched = record {
-        session = whole-session stand s.file.now commands [] s.book is.searches followed law log.entries
+        session = whole-session stand s.file.now commands [] s.database is.searches followed law log.entries
             so-far.one_each so-far.searched is.ready.session;
         ends = is.made.ends;
         begun = sym (append-nil (map (λ (x : Search). live_numbers x.entries) is.searches)) ∙ followed.begun;
@@ -237,13 +237,13 @@ session-done stand law commands s log is =
 -- before the first command
 pub standing-at-start : (f : Dqbf) (commands : List ScriptCommand) (s : Session) (log : ProofLog)
     → AreAllowed f 0 (length f.matrix) commands → length f.matrix ≤ max_clauses → log.limit ≤ max_count
-    → IsBegun f s log → IsStanding commands 0 s log
+    → IsBegun f s log → IsSessionInvariant commands 0 s log
 standing-at-start f commands s log allowed few limit is = record {
   searches = [];
   followed =
-      subst (λ g. IsFollowed g commands commands s.book []) (sym is.file)
-      (subst (λ b. IsFollowed f commands commands b []) (sym is.book)
-      (followed-at-start f commands s.book.table allowed few));
+      subst (λ g. IsFollowed g commands commands s.database []) (sym is.file)
+      (subst (λ b. IsFollowed f commands commands b []) (sym is.database)
+      (followed-at-start f commands s.database.table allowed few));
   made = record {
     ends = no-ends log.entries is.none_began;
     shown = All-nil (λ (x : Search). IsShown (all_clauses s.file.now commands) (end_of log x) x.formula x.verdict);

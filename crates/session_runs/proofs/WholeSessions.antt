@@ -7,17 +7,17 @@ use Rattle.hint_log.specs.Growth.{Each}
 use Rattle.hint_log.specs.Live.{with_matrix, live_numbers}
 use Rattle.hint_log.specs.ProductiveSession.{IsProductiveSession, IsUndecidedSince}
 use Rattle.script_text.specs.Commands.{ScriptCommand}
-use Rattle.dq_session.specs.Books.{BookState, all_of, frames_of}
-use Rattle.session_runs.specs.Laws.{FollowingBooksStand}
+use Rattle.dq_session.specs.Databases.{DatabaseState, all_of, frames_of}
+use Rattle.session_runs.specs.Laws.{FollowingDatabasesStand}
 use Rattle.session_runs.specs.LargerSessions.{IsOfSearch, SessionsTakeClauses, UndecidedTakesClauses}
 use Rattle.session_runs.specs.Numbering.{all_clauses, all_frames}
 use Rattle.session_runs.proofs.GrownSessions.{origins-more, rows-more, models-more}
-use Rattle.session_runs.proofs.Standing.{clauses-come, frames-come}
+use Rattle.session_runs.proofs.SessionInvariant.{clauses-come, frames-come}
 use Rattle.session_runs.specs.Blocks.{Search}
 use Rattle.session_runs.specs.SessionFiles.{IsWorkOver}
 use Rattle.session_runs.specs.Followed.{IsFollowed}
 
-module _ (stand : FollowingBooksStand) (f : Dqbf) (commands left : List ScriptCommand) (b : BookState)
+module _ (stand : FollowingDatabasesStand) (f : Dqbf) (commands left : List ScriptCommand) (b : DatabaseState)
     (searches : List Search) (is : IsFollowed f commands left b searches) where
   so-far : all_of b ≡ with_matrix f is.numbering.clauses
   so-far =

@@ -6,7 +6,7 @@ use Rattle.script_text.specs.Commands.{ScriptCommand, push, add, pop, solve}
 use Rattle.script_text.specs.Frames.{Frames, formulas_from, formulas_of}
 use Rattle.script_text.specs.Lawful.{AreAllowed}
 use Rattle.script_text.specs.Reading.{max_clauses}
-use Rattle.dq_session.specs.Books.{BookState}
+use Rattle.dq_session.specs.Databases.{DatabaseState}
 use Rattle.session_runs.specs.Following.{Follows, AreFramesOf}
 use Rattle.session_runs.specs.Numbering.{Numbering, numbering_from, numbering_of, live_from, live_of_searches}
 use Rattle.session_runs.specs.Blocks.{Search}
@@ -17,9 +17,9 @@ is_search (add clause) = false
 is_search pop = false
 is_search solve = true
 
--- these commands are left, and the book has the clauses and frames of those before them, whose
+-- these commands are left, and the database has the clauses and frames of those before them, whose
 -- searches were made
-pub record IsFollowed (f : Dqbf) (commands left : List ScriptCommand) (b : BookState)
+pub record IsFollowed (f : Dqbf) (commands left : List ScriptCommand) (b : DatabaseState)
     (searches : List Search) : Type 0 where
   pub numbering : Numbering
   pub frames : Frames

@@ -5,7 +5,7 @@ pub mod FaultNames
 pub mod SessionFiles
 pub mod ScriptFiles
 pub mod Followed
-pub mod Standing
+pub mod Invariant
 pub mod Numbering
 pub mod Following
 pub mod Laws

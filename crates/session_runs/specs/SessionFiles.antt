@@ -11,7 +11,7 @@ use Rattle.dq_runs.specs.declared.outputs.Output.{Output}
 use Rattle.hint_log.specs.Entries.{Entry, ProofLog}
 use Rattle.hint_log.specs.Growth.{Each}
 use Rattle.hint_log.specs.ProductiveLog.{IsProductiveLog, IsDerivedByHints, IsNewLemma}
-use Rattle.repair_loop.specs.Desks.{IsKept}
+use Rattle.repair_loop.specs.SearchStates.{IsKept}
 use Rattle.script_text.specs.Commands.{ScriptCommand}
 use Rattle.script_text.specs.Reading.{read_script}
 use Rattle.script_text.specs.declared.faults.ScriptFault.{ScriptFault}

@@ -1,17 +1,17 @@
-//! What a book stands for that takes a script's commands, and what a session's log is then. Each law
+//! What a database stands for that takes a script's commands, and what a session's log is then. Each law
 //! is the contract of a function without parameters and with an empty body.
 
 ghost use Rattle.session_runs.specs.LargerSessions.{SessionsTakeClauses, UndecidedTakesClauses};
-ghost use Rattle.session_runs.specs.Laws.{BooksFollow, FollowingBooksStand, NumbersNameFormulas};
+ghost use Rattle.session_runs.specs.Laws.{DatabasesFollow, FollowingDatabasesStand, NumbersNameFormulas};
 
-/// A book that follows a script follows it behind the next command too.
-pub fn books_follow()
-    ensures { BooksFollow }
+/// A database that follows a script follows it behind the next command too.
+pub fn databases_follow()
+    ensures { DatabasesFollow }
 {}
 
 /// Its formula of now is the script's, and its live clauses have the script's numbers.
-pub fn following_books_stand()
-    ensures { FollowingBooksStand }
+pub fn following_databases_stand()
+    ensures { FollowingDatabasesStand }
 {}
 
 /// The numbers of each search's clauses name its formula.

@@ -1,6 +1,6 @@
 //! What a run writes that takes a script's commands over a formula: a block for each of its searches.
 //!
-//! A script's commands are taken on a book of clauses: `commands` says which number each clause has,
+//! A script's commands are taken on a database of clauses: `commands` says which number each clause has,
 //! and which are in force.
 #![tactic(auto)]
 

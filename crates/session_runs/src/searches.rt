@@ -7,24 +7,24 @@ ghost use Rattle.cert_export.specs.ExportableLogs.{RestsOnLive};
 ghost use Rattle.expansion.specs.Table.{IsRefutedBy};
 ghost use Rattle.hint_log.specs.Live.{live_numbers, formula_of};
 ghost use Rattle.hint_log.specs.ProductiveSession.{IsProductiveSession};
-ghost use Rattle.dq_session.specs.Books.{live_of, now_of};
+ghost use Rattle.dq_session.specs.Databases.{live_of, now_of};
 ghost use Rattle.aig_graph.specs.Graph.{AigGraph};
 ghost use Rattle.aig_graph.specs.declared.nodes.Node.{Node};
-ghost use Rattle.repair_loop.specs.Desks.{IsReady, IsBookAfter, IsAnsweredTrue};
+ghost use Rattle.repair_loop.specs.SearchStates.{CanBeginSearch, IsDatabaseAfter, IsAnsweredTrue};
 ghost use Rattle.verdict_texts.specs.Forms.{plain};
 ghost use Rattle.verdict_texts.specs.Shown.{IsTrueText, IsFalseText};
-ghost use Rattle.session_runs.specs.Standing.{IsSoFar, IsFound};
+ghost use Rattle.session_runs.specs.Invariant.{IsSoFar, IsFound};
 
 use aig_graph::Graph;
 use cert_export::laws::session_answers_can_be_exported;
 use dq_formula::Formula;
 use dq_lits::Memory;
 use dq_lits::laws::skolem_functions_show_true;
-use dq_session::Book;
+use dq_session::ClauseDatabase;
 use hint_log::laws::rounds_are_steps;
 use hint_log::{Log, Stop};
 use oracle::Oracle;
-use repair_loop::{Desk, Verdict};
+use repair_loop::{SearchState, Verdict};
 use std::alloc::Global;
 use verdict_texts::{Form, false_text, true_text, unknown_text};
 
@@ -35,56 +35,65 @@ const PLAIN: Form = Form {
     binary: false,
 };
 
-/// Decides a book's formula of now, and gives the text of the verdict.
+/// Decides a database's formula of now, and gives the text of the verdict.
 pub(crate) fn search_text<O: Oracle>(
     alloc: Global,
     oracle: &mut O,
-    desk: &mut Desk,
+    search_state: &mut SearchState,
     graph: &mut Graph,
-    book: &mut Book,
+    database: &mut ClauseDatabase,
     f: &Formula,
     log: &mut Log,
 ) -> Result<Vec<u8>, Memory>
     requires fit { O.Fits oracle.old log.old }
-    requires ready { IsReady book.old desk.old graph.old log.old.entries }
-    requires now { f.now ≡ now_of book.old }
+    requires ready { CanBeginSearch database.old search_state.old graph.old log.old.entries }
+    requires now { f.now ≡ now_of database.old }
     requires limit { log.old.limit ≤ max_count }
     ensures fit { O.Fits oracle.new log.new }
-    ensures found { IfOk result (λ text. IsFound book.old f.now log.old log.new text.items) }
-    ensures ready { OnOk result (IsReady book.new desk.new graph.new log.new.entries) }
-    ensures book { IsBookAfter book.old book.new }
-    ensures err { OnErr result (IsSoFar book.old log.new.entries) }
+    ensures found { IfOk result (λ text. IsFound database.old f.now log.old log.new text.items) }
+    ensures ready { OnOk result (CanBeginSearch database.new search_state.new graph.new log.new.entries) }
+    ensures database { IsDatabaseAfter database.old database.new }
+    ensures err { OnErr result (IsSoFar database.old log.new.entries) }
     ensures limit { log.new.limit ≡ log.old.limit }
 {
-    let numbers = live_clauses(alloc, book)?;
-    decide(alloc, oracle, desk, graph, book, f, &numbers, log)
+    let numbers = live_clauses(alloc, database)?;
+    decide(
+        alloc,
+        oracle,
+        search_state,
+        graph,
+        database,
+        f,
+        &numbers,
+        log,
+    )
 }
 
 // The same, by the numbers of the live clauses.
 fn decide<O: Oracle>(
     alloc: Global,
     oracle: &mut O,
-    desk: &mut Desk,
+    search_state: &mut SearchState,
     graph: &mut Graph,
-    book: &mut Book,
+    database: &mut ClauseDatabase,
     f: &Formula,
     numbers: &[u64],
     log: &mut Log,
 ) -> Result<Vec<u8>, Memory>
     requires fit { O.Fits oracle.old log.old }
-    requires ready { IsReady book.old desk.old graph.old log.old.entries }
-    requires now { f.now ≡ now_of book.old }
-    requires numbers { numbers.now ≡ live_of book.old }
+    requires ready { CanBeginSearch database.old search_state.old graph.old log.old.entries }
+    requires now { f.now ≡ now_of database.old }
+    requires numbers { numbers.now ≡ live_of database.old }
     requires limit { log.old.limit ≤ max_count }
     ensures fit { O.Fits oracle.new log.new }
-    ensures found { IfOk result (λ text. IsFound book.old f.now log.old log.new text.items) }
-    ensures ready { OnOk result (IsReady book.new desk.new graph.new log.new.entries) }
-    ensures book { IsBookAfter book.old book.new }
-    ensures err { OnErr result (IsSoFar book.old log.new.entries) }
+    ensures found { IfOk result (λ text. IsFound database.old f.now log.old log.new text.items) }
+    ensures ready { OnOk result (CanBeginSearch database.new search_state.new graph.new log.new.entries) }
+    ensures database { IsDatabaseAfter database.old database.new }
+    ensures err { OnErr result (IsSoFar database.old log.new.entries) }
     ensures limit { log.new.limit ≡ log.old.limit }
 {
     rounds_are_steps();
-    match desk.decide_now(oracle, graph, book, f, log) {
+    match search_state.decide_now(oracle, graph, database, f, log) {
         Ok(Verdict::True(_, id)) => text_of_true(alloc, log, id, f),
         Ok(Verdict::False(id)) => text_of_false(alloc, log, id, f, numbers),
         Err(Stop::Limit) => unknown_text(alloc, log, PLAIN),
@@ -93,11 +102,11 @@ fn decide<O: Oracle>(
 }
 
 // The numbers of the live clauses.
-fn live_clauses(alloc: Global, book: &Book) -> Result<Vec<u64>, Memory>
-    ensures { IfOk result (λ numbers. numbers.items ≡ live_of book.now) }
+fn live_clauses(alloc: Global, database: &ClauseDatabase) -> Result<Vec<u64>, Memory>
+    ensures { IfOk result (λ numbers. numbers.items ≡ live_of database.now) }
 {
     let mut numbers = Vec::new(alloc);
-    for live in book.live() {
+    for live in database.live() {
         numbers.push(live.clause)?;
     }
     Ok(numbers)

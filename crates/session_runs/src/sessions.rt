@@ -8,20 +8,20 @@ ghost use Rattle.dq_formula.specs.declared.formula.TheConstants.{MAX_CLAUSES};
 ghost use Rattle.cert_text.specs.Header.{max_count};
 ghost use Rattle.hint_log.specs.Entries.{Entry};
 ghost use Rattle.hint_log.specs.ProductiveLog.{IsProductiveLog};
-ghost use Rattle.dq_session.specs.Books.{all_of, now_of, IsBook};
-ghost use Rattle.repair_loop.specs.Desks.{IsReady};
+ghost use Rattle.dq_session.specs.Databases.{all_of, now_of, IsDatabase};
+ghost use Rattle.repair_loop.specs.SearchStates.{CanBeginSearch};
 ghost use Rattle.script_text.specs.Commands.{command_seen};
 ghost use Rattle.script_text.specs.Lawful.{AreAllowed};
-ghost use Rattle.session_runs.specs.Following.{book_behind, MayCome};
+ghost use Rattle.session_runs.specs.Following.{database_behind, MayCome};
 ghost use Rattle.session_runs.specs.Followed.{is_search};
 ghost use Rattle.session_runs.specs.ScriptFiles.{IsSessionText};
 ghost use Rattle.session_runs.specs.SessionFiles.{IsWorkOf};
-ghost use Rattle.session_runs.specs.Standing.{IsSoFar, IsCurrent, IsBegun, IsStanding, IsSearchedOn};
+ghost use Rattle.session_runs.specs.Invariant.{IsSoFar, IsCurrent, IsBegun, IsSessionInvariant, IsSearchedOn};
 
 use crate::blocks::write_block;
 use crate::commands::take;
 use crate::laws::{
-    books_follow, following_books_stand, sessions_take_clauses, undecided_takes_clauses,
+    databases_follow, following_databases_stand, sessions_take_clauses, undecided_takes_clauses,
 };
 use crate::searches::search_text;
 use aig_graph::Graph;
@@ -29,12 +29,13 @@ use cdcl_core::Cdcl;
 use copied_prefixes::copy_prefix;
 use dq_formula::Formula;
 use dq_lits::Memory;
-use dq_session::Book;
+use dq_session::ClauseDatabase;
 use hint_log::Log;
 use oracle::Oracle;
-use repair_loop::Desk;
+use repair_loop::SearchState;
 use repair_loop::laws::{
-    added_clauses_leave_desks, closed_frames_leave_desks, opened_frames_leave_desks,
+    added_clauses_leave_search_states, closed_frames_leave_search_states,
+    opened_frames_leave_search_states,
 };
 use script_text::{Command, Script};
 use std::alloc::Global;
@@ -45,8 +46,8 @@ use std::alloc::Global;
 pub(crate) struct Session<'f> {
     pub alloc: Global,
     pub file: &'f Formula,
-    pub book: Book<'f>,
-    pub desk: Desk,
+    pub database: ClauseDatabase<'f>,
+    pub search_state: SearchState,
     pub graph: Graph,
     // The formula of now, but where clauses came or went since it was made.
     pub current: Option<Formula>,
@@ -90,7 +91,7 @@ fn session_by<O: Oracle>(
     ensures limit { log.new.limit ≡ log.old.limit }
 {
     f.every_formula_is_lawful();
-    following_books_stand();
+    following_databases_stand();
     sessions_take_clauses();
     let mut session = Session::begin(alloc, oracle, f, log)?;
     session.take_all(oracle, script, log)?;
@@ -123,14 +124,14 @@ impl<'f> Session<'f> {
         ensures log { IsProductiveLog f.now log.new.entries }
         ensures limit { log.new.limit ≡ log.old.limit }
     {
-        let book = Book::new(alloc, oracle, f, log)?;
-        let desk = Desk::new(alloc, oracle, f, log)?;
+        let database = ClauseDatabase::new(alloc, oracle, f, log)?;
+        let search_state = SearchState::new(alloc, oracle, f, log)?;
         let graph = Graph::new(alloc, f.universals().len() + f.existentials().len());
         Ok(Session {
             alloc,
             file: f,
-            book,
-            desk,
+            database,
+            search_state,
             graph,
             current: None,
             text: Vec::new(alloc),
@@ -146,8 +147,8 @@ impl<'f> Session<'f> {
         log: &mut Log,
     ) -> Result<(), Memory>
         requires fit { O.Fits oracle.old log.old }
-        requires standing { IsStanding script.now 0 self.old log.old }
-        ensures ok { OnOk result (IsStanding script.now (length script.now) self.new log.new) }
+        requires standing { IsSessionInvariant script.now 0 self.old log.old }
+        ensures ok { OnOk result (IsSessionInvariant script.now (length script.now) self.new log.new) }
         ensures err { OnErr result (IsWorkOf self.old.file.now script.now log.new) }
         ensures file { self.new.file.now ≡ self.old.file.now }
         ensures limit { log.new.limit ≡ log.old.limit }
@@ -169,19 +170,19 @@ impl<'f> Session<'f> {
         requires fit { O.Fits oracle.old log.old }
         requires within { place < length script.now }
         requires small { length script.now < 2 ^ 64 }
-        requires standing { IsStanding script.now place self.old log.old }
+        requires standing { IsSessionInvariant script.now place self.old log.old }
         ensures fit { O.Fits oracle.new log.new }
-        ensures ok { OnOk result (IsStanding script.now (place + 1) self.new log.new) }
+        ensures ok { OnOk result (IsSessionInvariant script.now (place + 1) self.new log.new) }
         ensures err { OnErr result (IsWorkOf self.old.file.now script.now log.new) }
         ensures file { self.new.file.now ≡ self.old.file.now }
         ensures limit { log.new.limit ≡ log.old.limit }
     {
-        books_follow();
-        following_books_stand();
+        databases_follow();
+        following_databases_stand();
         undecided_takes_clauses();
-        opened_frames_leave_desks();
-        closed_frames_leave_desks();
-        added_clauses_leave_desks();
+        opened_frames_leave_search_states();
+        closed_frames_leave_search_states();
+        added_clauses_leave_search_states();
         let command = script.get(place);
         if is_search(command) {
             self.search(oracle, log)
@@ -192,16 +193,16 @@ impl<'f> Session<'f> {
 
     // Takes a command that is no search.
     fn change(&mut self, command: Command) -> Result<(), Memory>
-        requires may_come { MayCome self.old.book (command_seen command) }
+        requires may_come { MayCome self.old.database (command_seen command) }
         requires current { IsCurrent self.old }
-        ensures same { self.new ≡ record self.old { book = self.new.book; current = self.new.current } }
-        ensures book { OnOk result
-            (self.new.book ≡ book_behind self.old.book (command_seen command.entry)) }
+        ensures same { self.new ≡ record self.old { database = self.new.database; current = self.new.current } }
+        ensures database { OnOk result
+            (self.new.database ≡ database_behind self.old.database (command_seen command.entry)) }
         ensures current { OnOk result (IsCurrent self.new) }
     {
-        let before = self.book.live().len();
-        take(&mut self.book, command)?;
-        if self.book.live().len() != before {
+        let before = self.database.live().len();
+        take(&mut self.database, command)?;
+        if self.database.live().len() != before {
             self.current = None;
         }
         Ok(())
@@ -210,15 +211,15 @@ impl<'f> Session<'f> {
     // Decides the formula of now, and writes the block.
     fn search<O: Oracle>(&mut self, oracle: &mut O, log: &mut Log) -> Result<(), Memory>
         requires fit { O.Fits oracle.old log.old }
-        requires ready { IsReady self.old.book self.old.desk self.old.graph log.old.entries }
-        requires file { self.old.book.file ≡ self.old.file.now }
-        requires few { length (all_of self.old.book).matrix ≤ MAX_CLAUSES }
+        requires ready { CanBeginSearch self.old.database self.old.search_state self.old.graph log.old.entries }
+        requires file { self.old.database.file ≡ self.old.file.now }
+        requires few { length (all_of self.old.database).matrix ≤ MAX_CLAUSES }
         requires current { IsCurrent self.old }
         requires room { self.old.count + 1 < 2 ^ 64 }
         requires limit { log.old.limit ≤ max_count }
         ensures fit { O.Fits oracle.new log.new }
         ensures ok { OnOk result (IsSearchedOn self.old log.old self.new log.new) }
-        ensures err { OnErr result (IsSoFar self.old.book log.new.entries) }
+        ensures err { OnErr result (IsSoFar self.old.database log.new.entries) }
         ensures file { self.new.file.now ≡ self.old.file.now }
         ensures limit { log.new.limit ≡ log.old.limit }
     {
@@ -229,9 +230,9 @@ impl<'f> Session<'f> {
         let text = search_text(
             self.alloc,
             oracle,
-            &mut self.desk,
+            &mut self.search_state,
             &mut self.graph,
-            &mut self.book,
+            &mut self.database,
             f,
             log,
         )?;
@@ -241,18 +242,18 @@ impl<'f> Session<'f> {
 
     // Makes the formula of now, where clauses came or went.
     fn renew(&mut self) -> Result<(), Memory>
-        requires book { (entries : List Entry) × IsBook self.old.book entries }
-        requires file { self.old.book.file ≡ self.old.file.now }
-        requires few { length (all_of self.old.book).matrix ≤ MAX_CLAUSES }
+        requires database { (entries : List Entry) × IsDatabase self.old.database entries }
+        requires file { self.old.database.file ≡ self.old.file.now }
+        requires few { length (all_of self.old.database).matrix ≤ MAX_CLAUSES }
         requires current { IsCurrent self.old }
         ensures same { self.new ≡ record self.old { current = self.new.current } }
-        ensures now { OnOk result (self.new.current ≡ Some (now_of self.old.book)) }
+        ensures now { OnOk result (self.new.current ≡ Some (now_of self.old.database)) }
     {
         if self.current.is_some() {
             return Ok(());
         }
         let mut f = copy_prefix(self.alloc, self.file)?;
-        self.book.write_now(&mut f)?;
+        self.database.write_now(&mut f)?;
         self.current = Some(f);
         Ok(())
     }

@@ -14,7 +14,7 @@ use Rattle.skolem_checker.specs.declared.reads.ReadWords.{ReadWords}
 use Rattle.skolem_checker.specs.declared.bench.Bench.TheInside.{Inside}
 
 -- the circuit is complete and mapped; order, tables and buffers are those of its renumbered copy
-pub record IsReady (f : Dqbf) (net copy : Netlist) (mapping : Mapping)
+pub record IsEvaluable (f : Dqbf) (net copy : Netlist) (mapping : Mapping)
     (order literals places by_input : List ℕ) (words : ReadWords)
     (values : List (List ℕ)) : Type 0 where
   pub formed : IsWellFormed f
@@ -37,6 +37,6 @@ candidate_in b = record {
 
 abbrev pub is_ready : Inside → Type 0
 is_ready b =
-    IsReady b.formula.now b.circuit.now b.copy (mapping_in b.mapped) b.order b.literals.items
+    IsEvaluable b.formula.now b.circuit.now b.copy (mapping_in b.mapped) b.order b.literals.items
     b.places.items b.universal_places.items
     b.words b.values

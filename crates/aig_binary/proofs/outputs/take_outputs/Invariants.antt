@@ -1,11 +1,11 @@
 use Rattle.std.proofs.Common.{◌≡◌, ◌+◌, ◌-◌, ◌≤◌, [], length}
-use Rattle.aiger_text.specs.ReaderState.{IsReady}
+use Rattle.aiger_text.specs.ReaderState.{IsCircuitReader}
 use Rattle.aig_binary.specs.Scan.{read_outputs}
 use Rattle.aig_binary.proofs.outputs.take_outputs.Given as goal
 
 abbrev pub invariant-loop-i : goal.invariant-loop-i
 invariant-loop-i l = record {
-  ready : IsReady l.reader;
+  ready : IsCircuitReader l.reader;
   header_line : l.reader.header_line ≡ l.initial.reader.header_line;
   header : l.reader.header ≡ l.initial.reader.header;
   no_inputs : l.reader.circuit.inputs ≡ [];

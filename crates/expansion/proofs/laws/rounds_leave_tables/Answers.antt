@@ -1,4 +1,4 @@
-use Rattle.expansion.proofs.StandingTables.{round_left}
+use Rattle.expansion.proofs.PreservedTables.{round_left}
 use Rattle.expansion.proofs.laws.rounds_leave_tables.Goals as goal
 
 pub returns : goal.returns

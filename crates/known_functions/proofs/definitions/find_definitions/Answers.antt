@@ -31,10 +31,10 @@ guess_all-requires-clause-may g c = c.find_all.ensures.asked.may
 
 pub returns-in_err-guess_all-clause-asked : goal.returns-in_err-guess_all-clause-asked
 returns-in_err-guess_all-clause-asked g c =
-    asked_then c.args.f.now c.args.graph.now c.find_all.new.graph c.guess_all.new.graph c.args.padoa.now
+    asked_then c.args.f.now c.args.graph.now c.find_all.new.graph c.guess_all.new.graph c.args.definability.now
     c.args.log.now c.find_all.new.log c.guess_all.new.log c.find_all.ensures.asked c.guess_all.ensures.asked
 
 pub returns-clause-asked : goal.returns-clause-asked
 returns-clause-asked g c =
-    asked_then c.args.f.now c.args.graph.now c.find_all.new.graph c.guess_all.new.graph c.args.padoa.now
+    asked_then c.args.f.now c.args.graph.now c.find_all.new.graph c.guess_all.new.graph c.args.definability.now
     c.args.log.now c.find_all.new.log c.guess_all.new.log c.find_all.ensures.asked c.guess_all.ensures.asked

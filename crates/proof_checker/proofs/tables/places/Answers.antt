@@ -1,6 +1,6 @@
 use Rattle.std.proofs.Common.{get_or}
 use Rattle.std.proofs.lemmas.List.{get_or_default}
-use Rattle.proof_checker.proofs.StandingLiterals.{new_here}
+use Rattle.proof_checker.proofs.KeptLiterals.{new_here}
 use Rattle.proof_checker.proofs.tables.places.Goals as goal
 
 pub push-requires : goal.push-requires

@@ -1,8 +1,8 @@
 use Rattle.std.proofs.Common.{◌≡◌, ◌<◌, [], length, sym, ◌∙◌, ap, subst, arith}
 use Rattle.std.proofs.lemmas.List.{get_or_default}
-use Rattle.refutation_checker.specs.RowTrees.{sees_of, number_or, reached, IsStanding}
+use Rattle.refutation_checker.specs.RowTrees.{sees_of, number_or, reached, IsLeafMatch}
 use Rattle.refutation_checker.specs.Rows.{row_of}
-use Rattle.refutation_checker.specs.declared.row_trees.Standing.TheVariants.{Numbered, Differs}
+use Rattle.refutation_checker.specs.declared.row_trees.LeafMatch.TheVariants.{Numbered, Differs}
 use Rattle.refutation_checker.proofs.TreeNumbers.{numbered_already, parted_all, place_small}
 use Rattle.dq_formula.proofs.Lawful.{few_places}
 use Rattle.refutation_checker.proofs.row_trees.number_in.Goals as goal
@@ -14,7 +14,7 @@ part-requires-clause-place c =
     let few = few_places f c.every_formula_is_lawful.ensures in
     place_small f rows (sees_of f c.args.y) c.args.nodes.now.items c.reached-at.result c.in-Differs.place
     (row_of rows c.args.k) (omega (arith, few))
-    (subst (λ ns. IsStanding f rows (sees_of f c.args.y) ns c.reached-at.result (row_of rows c.args.k)
+    (subst (λ ns. IsLeafMatch f rows (sees_of f c.args.y) ns c.reached-at.result (row_of rows c.args.k)
     (Differs c.in-Differs.place)) c.deref-2.ensures.value c.in-Differs.ensures)
 
 pub returns-in-Numbered-clause-numbered : goal.returns-in-Numbered-clause-numbered
@@ -24,7 +24,7 @@ returns-in-Numbered-clause-numbered c =
     numbered_already f rows (sees_of f c.args.y) c.args.nodes.now.items
     (row_of rows c.args.k) c.in-Numbered.own c.requires.tree
     (c.requires.whole c.args.k [] c.requires.row)
-    (subst (λ ns. IsStanding f rows (sees_of f c.args.y) ns c.reached-at.result (row_of rows c.args.k)
+    (subst (λ ns. IsLeafMatch f rows (sees_of f c.args.y) ns c.reached-at.result (row_of rows c.args.k)
     (Numbered c.in-Numbered.own)) c.deref-2.ensures.value c.in-Numbered.ensures)
 
 pub returns-in_ok-part-in-Differs : goal.returns-in_ok-part-in-Differs
@@ -39,8 +39,8 @@ returns-in_ok-part-in-Differs c =
     c.reached-at.ensures.reached ∙ ap (λ ns. reached ns c.index-rows-k.result) c.deref.ensures.value
     ∙ ap (reached nodes) (c.index-rows-k.is ∙ get_or_default rows c.args.k c.index-rows-k.result [] c.requires.row) in
     let below : at < length nodes = subst (λ ns. at < length ns) c.deref.ensures.value c.reached-at.ensures.within in
-    let stands : IsStanding f rows sees nodes at row (Differs c.in-Differs.place) =
-    subst (λ ns. IsStanding f rows sees ns at row (Differs c.in-Differs.place)) c.deref-2.ensures.value
+    let stands : IsLeafMatch f rows sees nodes at row (Differs c.in-Differs.place) =
+    subst (λ ns. IsLeafMatch f rows sees ns at row (Differs c.in-Differs.place)) c.deref-2.ensures.value
     c.in-Differs.ensures in
     let all =
     parted_all f rows sees nodes c.part.new.nodes.items at c.in-Differs.place c.args.k c.args.number c.requires.whole

@@ -1,5 +1,5 @@
 use Rattle.std.proofs.Common.{sym, subst, length, replicate, true}
-use Rattle.padoa_definitions.specs.Store.{IsCopyStore}
+use Rattle.definability.specs.Store.{IsCopyStore}
 use Rattle.dq_lits.specs.Formula.{IsWellFormed}
 use Rattle.hint_log.specs.Growth.{Grew}
 use Rattle.log_laws.specs.Engines.{copies, IsAddedBy}

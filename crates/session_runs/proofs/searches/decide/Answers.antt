@@ -5,8 +5,8 @@ use Rattle.cert_export.specs.ExportableLogs.{RestsOnLive}
 use Rattle.verdict_texts.specs.Forms.{plain}
 use Rattle.verdict_texts.specs.Shown.{IsTrueText, IsFalseText, unknown_by}
 use Rattle.verdict_texts.specs.Verdicts.{verdict_text}
-use Rattle.repair_loop.proofs.LiveBooks.{now_formed}
-use Rattle.session_runs.specs.Standing.{IsFound}
+use Rattle.repair_loop.proofs.LiveDatabases.{now_formed}
+use Rattle.session_runs.specs.Invariant.{IsFound}
 use Rattle.session_runs.proofs.FoundVerdicts.{rests-on-live, true-found, false-found, unknown-found}
 use Rattle.session_runs.proofs.SearchedLogs.{surely, surely-at, so-far-behind, limit-other}
 use Rattle.list_laws.proofs.Results.{on_err}
@@ -15,7 +15,7 @@ use Rattle.session_runs.proofs.searches.decide.Goals as goal
 pub text_of_true-requires-clause-formula : goal.text_of_true-requires-clause-formula
 text_of_true-requires-clause-formula g c =
     subst IsWellFormed (sym c.requires.now)
-    (now_formed c.args.book.now c.args.log.now.entries c.requires.ready.book.book)
+    (now_formed c.args.database.now c.args.log.now.entries c.requires.ready.database.database)
 
 pub text_of_true-requires-clause-answered : goal.text_of_true-requires-clause-answered
 text_of_true-requires-clause-answered g c = (
@@ -27,7 +27,7 @@ text_of_true-requires-clause-answered g c = (
 
 pub returns-in-Ok-True-clause-found : goal.returns-in-Ok-True-clause-found
 returns-in-Ok-True-clause-found g c =
-    let b = c.args.book.now in
+    let b = c.args.database.now in
     let f = c.args.f.now in
     let old = c.args.log.now in
     let new = c.decide_now.new.log in
@@ -39,26 +39,26 @@ returns-in-Ok-True-clause-found g c =
 pub returns-in-Ok-True-clause-err : goal.returns-in-Ok-True-clause-err
 returns-in-Ok-True-clause-err g c =
     on_err c.text_of_true.result
-    (so-far-behind c.args.book.now c.args.desk.now c.args.graph.now c.args.log.now c.decide_now.new.log
+    (so-far-behind c.args.database.now c.args.search_state.now c.args.graph.now c.args.log.now c.decide_now.new.log
     c.requires.ready c.in-Ok-True.ensures.kept
     (g.met.O.Oracle.searched c.decide_now.new.oracle c.decide_now.new.log c.in-Ok-True.ensures.fit) c.in-Ok-True.ensures.began)
 
 pub text_of_false-requires-clause-formula : goal.text_of_false-requires-clause-formula
 text_of_false-requires-clause-formula g c =
     subst IsWellFormed (sym c.requires.now)
-    (now_formed c.args.book.now c.args.log.now.entries c.requires.ready.book.book)
+    (now_formed c.args.database.now c.args.log.now.entries c.requires.ready.database.database)
 
 pub text_of_false-requires-clause-answered : goal.text_of_false-requires-clause-answered
 text_of_false-requires-clause-answered g c =
     let log = c.decide_now.new.log in
     let id = c.in-Ok-False.id in
-    let rests = rests-on-live c.args.book.now log id
+    let rests = rests-on-live c.args.database.now log id
     (c.in-Ok-False.ensures.shown_false id (ap Ok c.in-Ok-False.field-0-is)) in
     (rests.0, subst (λ live. RestsOnLive live log.entries id rests.0) (sym c.requires.numbers) rests.1)
 
 pub returns-in-Ok-False-clause-found : goal.returns-in-Ok-False-clause-found
 returns-in-Ok-False-clause-found g c =
-    let b = c.args.book.now in
+    let b = c.args.database.now in
     let f = c.args.f.now in
     let old = c.args.log.now in
     let new = c.decide_now.new.log in
@@ -72,13 +72,13 @@ returns-in-Ok-False-clause-found g c =
 pub returns-in-Ok-False-clause-err : goal.returns-in-Ok-False-clause-err
 returns-in-Ok-False-clause-err g c =
     on_err c.text_of_false.result
-    (so-far-behind c.args.book.now c.args.desk.now c.args.graph.now c.args.log.now c.decide_now.new.log
+    (so-far-behind c.args.database.now c.args.search_state.now c.args.graph.now c.args.log.now c.decide_now.new.log
     c.requires.ready c.in-Ok-False.ensures.kept
     (g.met.O.Oracle.searched c.decide_now.new.oracle c.decide_now.new.log c.in-Ok-False.ensures.fit) c.in-Ok-False.ensures.began)
 
 pub returns-in-Err-Limit-clause-found : goal.returns-in-Err-Limit-clause-found
 returns-in-Err-Limit-clause-found g c =
-    let b = c.args.book.now in
+    let b = c.args.database.now in
     let f = c.args.f.now in
     let old = c.args.log.now in
     let new = c.decide_now.new.log in
@@ -95,12 +95,12 @@ returns-in-Err-Limit-clause-found g c =
 pub returns-in-Err-Limit-clause-err : goal.returns-in-Err-Limit-clause-err
 returns-in-Err-Limit-clause-err g c =
     on_err c.unknown_text.result
-    (so-far-behind c.args.book.now c.args.desk.now c.args.graph.now c.args.log.now c.decide_now.new.log
+    (so-far-behind c.args.database.now c.args.search_state.now c.args.graph.now c.args.log.now c.decide_now.new.log
     c.requires.ready c.in-Err-Limit.ensures.kept
     (g.met.O.Oracle.searched c.decide_now.new.oracle c.decide_now.new.log c.in-Err-Limit.ensures.fit) c.in-Err-Limit.ensures.began)
 
 pub returns-clause-err : goal.returns-clause-err
 returns-clause-err g c =
-    so-far-behind c.args.book.now c.args.desk.now c.args.graph.now c.args.log.now c.decide_now.new.log
+    so-far-behind c.args.database.now c.args.search_state.now c.args.graph.now c.args.log.now c.decide_now.new.log
     c.requires.ready c.in-Err-Memory.ensures.kept
     (g.met.O.Oracle.searched c.decide_now.new.oracle c.decide_now.new.log c.in-Err-Memory.ensures.fit) c.in-Err-Memory.ensures.began

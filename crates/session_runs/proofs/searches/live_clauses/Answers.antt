@@ -1,5 +1,5 @@
 use Rattle.std.proofs.Common.{◌∙◌, ◌++◌, ◌∷◌, [], ◌<◌, get_or, ap, subst, length, take}
-use Rattle.dq_session.specs.Books.{live_of}
+use Rattle.dq_session.specs.Databases.{live_of}
 use Rattle.dq_session.specs.declared.live.Live.{Live}
 use Rattle.session_runs.proofs.FoundVerdicts.{one-number}
 use Rattle.session_runs.proofs.searches.live_clauses.Goals as goal
@@ -11,5 +11,5 @@ loop-live-preserved c =
     let are = c.live-live-items.ensures in
     c.in_ok-push.ensures.items
     ∙ ap (λ ns. ns ++ (get_or c.live-live-items.result.now i none).clause ∷ []) c.loop-live.invariant
-    ∙ ap (λ ls. take i (live_of c.args.book.now) ++ (get_or ls i none).clause ∷ []) are
-    ∙ one-number c.args.book.now.live i none (subst (λ ls. i < length ls) are c.loop-live-test.true)
+    ∙ ap (λ ls. take i (live_of c.args.database.now) ++ (get_or ls i none).clause ∷ []) are
+    ∙ one-number c.args.database.now.live i none (subst (λ ls. i < length ls) are c.loop-live-test.true)

@@ -14,5 +14,5 @@ pub returns-clause-text : goal.returns-clause-text
 returns-clause-text g c =
     subst (λ f. IsSessionText f c.args.script.now c.take_all.new.log c.take_all.new.self.text.items)
     (c.take_all.ensures.file ∙ c.in_ok-session.ensures.begun.file)
-    (session-done c.following_books_stand.ensures c.sessions_take_clauses.ensures c.args.script.now
+    (session-done c.following_databases_stand.ensures c.sessions_take_clauses.ensures c.args.script.now
     c.take_all.new.self c.take_all.new.log c.in_ok-take_all.ensures.ok)

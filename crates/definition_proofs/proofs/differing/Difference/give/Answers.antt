@@ -1,6 +1,6 @@
 use Rattle.std.proofs.Common.{◌∙◌, ap}
 use Rattle.hint_log.specs.Entries.{ProofLog}
-use Rattle.padoa_definitions.specs.Copies.{group_variable}
+use Rattle.definability.specs.Copies.{group_variable}
 use Rattle.definition_proofs.proofs.GivenDifferences.{group_grew, group_alone, group_leaves, undiffered_still}
 use Rattle.definition_proofs.proofs.differing.Difference.give.Goals as goal
 

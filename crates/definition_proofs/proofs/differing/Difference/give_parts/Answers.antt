@@ -1,4 +1,4 @@
-use Rattle.padoa_definitions.specs.Copies.{group_variable}
+use Rattle.definability.specs.Copies.{group_variable}
 use Rattle.definition_proofs.proofs.GivenDifferences.{none_differ, second_put, second_stopped}
 use Rattle.definition_proofs.proofs.differing.Difference.give_parts.Goals as goal
 

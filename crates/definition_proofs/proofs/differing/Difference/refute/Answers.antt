@@ -1,5 +1,5 @@
 use Rattle.std.proofs.Common.{◌∙◌, Ok, ap}
-use Rattle.padoa_definitions.proofs.SameGivens.{learned_same}
+use Rattle.definability.proofs.SameGivens.{learned_same}
 use Rattle.definition_proofs.proofs.Refutations.{learned_proof, answer_same, answer_proof, shown}
 use Rattle.definition_proofs.proofs.differing.Difference.refute.Goals as goal
 

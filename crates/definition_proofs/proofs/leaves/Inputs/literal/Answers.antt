@@ -2,7 +2,7 @@ use Rattle.std.proofs.Common.{◌<◌, sym, ap, subst}
 use Rattle.aig_graph.specs.Graph.{IsNode}
 use Rattle.aig_graph.specs.Putting.{gate_of}
 use Rattle.aig_graph.specs.declared.nodes.Node.TheVariants.{Input, Gate}
-use Rattle.padoa_definitions.specs.Copies.{copies_of}
+use Rattle.definability.specs.Copies.{copies_of}
 use Rattle.definition_proofs.specs.Leaves.{StandsFor}
 use Rattle.definition_proofs.proofs.NodeLiterals.{found_stands, input_stands, input_signed, gate_signed}
 use Rattle.definition_proofs.proofs.leaves.Inputs.literal.Goals as goal

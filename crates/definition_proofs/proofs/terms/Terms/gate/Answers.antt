@@ -6,7 +6,7 @@ use Rattle.dq_lits.specs.Literal.{positive}
 use Rattle.std.proofs.lemmas.Bool.{eq-eqb}
 use Rattle.hint_log.specs.Entries.{ProofLog, name_of}
 use Rattle.hint_log.specs.declared.names.Name.TheVariants.{Term}
-use Rattle.padoa_definitions.specs.Copies.{group_variable}
+use Rattle.definability.specs.Copies.{group_variable}
 use Rattle.definition_proofs.specs.Terms.{by_both}
 use Rattle.definition_proofs.proofs.KnownTerms.{no_formula, gate_grew, key_of, key_is, none_yet, gate_more}
 use Rattle.definition_proofs.proofs.DeclaredSides.{gate_sides}

@@ -1,5 +1,5 @@
 use Rattle.std.proofs.Common.{refl}
-use Rattle.padoa_definitions.specs.Copies.{group_variable}
+use Rattle.definability.specs.Copies.{group_variable}
 use Rattle.definition_proofs.proofs.NodeLiterals.{known_found, left_known, right_known, gate_stands, on_term}
 use Rattle.definition_proofs.proofs.DeclaredSides.{stands_declared}
 use Rattle.definition_proofs.proofs.KnownTerms.{no_formula, names_stay}

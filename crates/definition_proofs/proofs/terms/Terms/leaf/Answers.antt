@@ -1,6 +1,6 @@
 use Rattle.std.proofs.Common.{◌≡◌, arith}
 use Rattle.log_laws.proofs.Kept.{named_stay}
-use Rattle.padoa_definitions.specs.Copies.{copies_of, group_variable}
+use Rattle.definability.specs.Copies.{copies_of, group_variable}
 use Rattle.definition_proofs.proofs.NodeLiterals.{sides_known, stopped, literal_more, known_found, node_known}
 use Rattle.definition_proofs.proofs.KnownTerms.{no_formula, names_stay, few_still}
 use Rattle.definition_proofs.proofs.terms.Terms.leaf.Goals as goal

@@ -1,7 +1,7 @@
 use Rattle.std.proofs.Common.{[], ◌∷◌, get_or, ap₂, subst}
 use Rattle.cert_text.specs.DefinitionBlocks.{free}
 use Rattle.cert_text.specs.DefinitionsRead.{pair_seen}
-use Rattle.padoa_definitions.specs.Defining.{IsFound}
+use Rattle.definability.specs.Defining.{IsFound}
 use Rattle.definition_search.specs.Texts.{AreRightBlocks}
 use Rattle.definition_search.proofs.KeptSearches.{later_search, named_there, variable_at}
 use Rattle.definition_search.proofs.RightBlocks.{pair_right, valuation}

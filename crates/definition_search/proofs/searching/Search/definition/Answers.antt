@@ -1,6 +1,6 @@
 use Rattle.std.proofs.Common.{[], ◌∷◌, get_or, IsSome, true, refl, sym, subst, arith}
 use Rattle.log_laws.specs.Engines.{copies, IsAddedBy}
-use Rattle.padoa_definitions.specs.Copies.{group_variable}
+use Rattle.definability.specs.Copies.{group_variable}
 use Rattle.cert_text.specs.DefinitionBlocks.{defined}
 use Rattle.cert_text.specs.DefinitionsRead.{definition_seen}
 use Rattle.definition_search.specs.Texts.{AreRightBlocks}

@@ -34,7 +34,7 @@ returns-in_err-found-clause-search g c =
     (record c.args.self.now { graph = c.define.new.graph }) c.args.place c.args.log.now
     c.define.new.log refl refl refl
     (c.define.ensures.extends.inputs ∙ c.read.ensures.extends.inputs) (c.define.ensures.grew 0) c.define.ensures.same_givens
-    c.define.ensures.padoa (g.met.O.Oracle.searched c.define.new.oracle c.define.new.log c.define.ensures.fit)
+    c.define.ensures.definability (g.met.O.Oracle.searched c.define.new.oracle c.define.new.log c.define.ensures.fit)
     c.requires.search
 
 pub returns-clause-search : goal.returns-clause-search
@@ -43,7 +43,7 @@ returns-clause-search g c =
     (record c.args.self.now { graph = c.define.new.graph }) c.args.place c.args.log.now
     c.define.new.log refl refl refl
     (c.define.ensures.extends.inputs ∙ c.read.ensures.extends.inputs) (c.define.ensures.grew 0) c.define.ensures.same_givens
-    c.define.ensures.padoa (g.met.O.Oracle.searched c.define.new.oracle c.define.new.log c.define.ensures.fit)
+    c.define.ensures.definability (g.met.O.Oracle.searched c.define.new.oracle c.define.new.log c.define.ensures.fit)
     c.requires.search
 
 pub returns-in_err-found-clause-goes_on : goal.returns-in_err-found-clause-goes_on

@@ -4,7 +4,7 @@ use Rattle.std.specs.List.{filter}
 use Rattle.list_laws.proofs.Results.{on_ok}
 use Rattle.dq_prep.specs.Reduction.{stays}
 use Rattle.dq_prep.specs.Units.{taken_literals}
-use Rattle.dq_prep.proofs.Standings.{tautology-at}
+use Rattle.dq_prep.proofs.Remainders.{tautology-at}
 use Rattle.dq_prep.proofs.KeptSoFar.{left-tautology, left-reduced}
 use Rattle.dq_prep.proofs.kept_clauses.Keeper.write_left.Goals as goal
 

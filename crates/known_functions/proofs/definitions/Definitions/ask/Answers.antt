@@ -1,7 +1,7 @@
 use Rattle.std.proofs.Common.{refl, subst}
 use Rattle.definition_order.proofs.Declared.{known_at}
 use Rattle.defining_nodes.specs.Definitions.{IsDefinition}
-use Rattle.padoa_definitions.specs.Defining.{IsFound}
+use Rattle.definability.specs.Defining.{IsFound}
 use Rattle.aig_graph.proofs.LargerGraphs.{grown_twice}
 use Rattle.known_functions.proofs.Asked.{asked_by, grown_asked}
 use Rattle.definition_order.proofs.Places.{existential_there}
@@ -41,14 +41,14 @@ returns-in-Some-clause-asked g c = grown_asked _ _ _ _ _ c.requires.may c.read.e
 
 pub returns-in_err-found-clause-asked : goal.returns-in_err-found-clause-asked
 returns-in_err-found-clause-asked g c =
-    asked_by c.args.existential.now.f.now c.args.graph.now c.define.new.graph c.args.existential.now.padoa.now
+    asked_by c.args.existential.now.f.now c.args.graph.now c.define.new.graph c.args.existential.now.definability.now
     c.args.log.now c.define.new.log c.requires.may c.define.ensures.grew c.define.ensures.same_givens
-    c.define.ensures.padoa
+    c.define.ensures.definability
     (grown_twice c.args.graph.now c.read.new.graph c.define.new.graph c.read.ensures.extends c.define.ensures.extends)
 
 pub returns-clause-asked : goal.returns-clause-asked
 returns-clause-asked g c =
-    asked_by c.args.existential.now.f.now c.args.graph.now c.define.new.graph c.args.existential.now.padoa.now
+    asked_by c.args.existential.now.f.now c.args.graph.now c.define.new.graph c.args.existential.now.definability.now
     c.args.log.now c.define.new.log c.requires.may c.define.ensures.grew c.define.ensures.same_givens
-    c.define.ensures.padoa
+    c.define.ensures.definability
     (grown_twice c.args.graph.now c.read.new.graph c.define.new.graph c.read.ensures.extends c.define.ensures.extends)

@@ -1,5 +1,5 @@
 use Rattle.std.proofs.Common.{set, refl, sym, subst, IfSome}
-use Rattle.padoa_definitions.specs.Defining.{IsFound}
+use Rattle.definability.specs.Defining.{IsFound}
 use Rattle.dq_formula.specs.Prefix.{existential_variables}
 use Rattle.known_functions.specs.declared.definitions.Definitions.{Definitions}
 use Rattle.known_functions.specs.Searching.{AreKnown, definition_in}

@@ -7,14 +7,14 @@ find-requires-clause-may g c = c.loop-place.invariant.asked.may
 pub loop-place-init : goal.loop-place-init
 loop-place-init g c = record {
   fit = c.requires.fit;
-  asked = nothing_asked c.args.order.now.f.now c.args.graph.now c.args.order.now.padoa.now c.args.log.now c.requires.may;
+  asked = nothing_asked c.args.order.now.f.now c.args.graph.now c.args.order.now.definability.now c.args.log.now c.requires.may;
   known = c.requires.known;
 }
 
 pub loop-place-preserved : goal.loop-place-preserved
 loop-place-preserved g c = record {
   fit = c.find.ensures.fit;
-  asked = asked_then c.args.order.now.f.now c.args.graph.now c.loop-place.graph c.find.new.graph c.args.order.now.padoa.now
+  asked = asked_then c.args.order.now.f.now c.args.graph.now c.loop-place.graph c.find.new.graph c.args.order.now.definability.now
       c.args.log.now c.loop-place.log c.find.new.log c.loop-place.invariant.asked
       c.find.ensures.asked;
   known = c.in_ok-find.ensures.known;
@@ -22,6 +22,6 @@ loop-place-preserved g c = record {
 
 pub returns-in_err-find-clause-asked : goal.returns-in_err-find-clause-asked
 returns-in_err-find-clause-asked g c =
-    asked_then c.args.order.now.f.now c.args.graph.now c.loop-place.graph c.find.new.graph c.args.order.now.padoa.now
+    asked_then c.args.order.now.f.now c.args.graph.now c.loop-place.graph c.find.new.graph c.args.order.now.definability.now
     c.args.log.now c.loop-place.log c.find.new.log c.loop-place.invariant.asked
     c.find.ensures.asked

@@ -5,7 +5,7 @@ use Rattle.known_functions.proofs.definitions.Definitions.first_guess.Goals as g
 pub loop-number-init : goal.loop-number-init
 loop-number-init g c = record {
   fit = c.requires.fit;
-  asked = nothing_asked c.args.existential.now.f.now c.args.graph.now c.args.existential.now.padoa.now c.args.log.now
+  asked = nothing_asked c.args.existential.now.f.now c.args.graph.now c.args.existential.now.definability.now c.args.log.now
       c.requires.may;
   left = left-refl c.args.self.now;
 }
@@ -17,7 +17,7 @@ pub loop-number-preserved : goal.loop-number-preserved
 loop-number-preserved g c = record {
   fit = c.guess_under.ensures.fit;
   asked = asked_then c.args.existential.now.f.now c.args.graph.now c.loop-number.graph c.guess_under.new.graph
-      c.args.existential.now.padoa.now c.args.log.now c.loop-number.log c.guess_under.new.log
+      c.args.existential.now.definability.now c.args.log.now c.loop-number.log c.guess_under.new.log
       c.loop-number.invariant.asked c.guess_under.ensures.asked;
   left = left-trans c.args.self.now c.loop-number.self c.guess_under.new.self c.loop-number.invariant.left
       c.guess_under.ensures.left;
@@ -26,7 +26,7 @@ loop-number-preserved g c = record {
 pub returns-in_err-guess-clause-asked : goal.returns-in_err-guess-clause-asked
 returns-in_err-guess-clause-asked g c =
     asked_then c.args.existential.now.f.now c.args.graph.now c.loop-number.graph c.guess_under.new.graph
-    c.args.existential.now.padoa.now c.args.log.now c.loop-number.log c.guess_under.new.log
+    c.args.existential.now.definability.now c.args.log.now c.loop-number.log c.guess_under.new.log
     c.loop-number.invariant.asked c.guess_under.ensures.asked
 
 pub returns-in_err-guess-clause-left : goal.returns-in_err-guess-clause-left
@@ -36,7 +36,7 @@ returns-in_err-guess-clause-left g c = left-trans c.args.self.now c.loop-number.
 pub returns-in-Some-clause-asked : goal.returns-in-Some-clause-asked
 returns-in-Some-clause-asked g c =
     asked_then c.args.existential.now.f.now c.args.graph.now c.loop-number.graph c.guess_under.new.graph
-    c.args.existential.now.padoa.now c.args.log.now c.loop-number.log c.guess_under.new.log
+    c.args.existential.now.definability.now c.args.log.now c.loop-number.log c.guess_under.new.log
     c.loop-number.invariant.asked c.guess_under.ensures.asked
 
 pub returns-in-Some-clause-left : goal.returns-in-Some-clause-left

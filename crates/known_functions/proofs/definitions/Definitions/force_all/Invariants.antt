@@ -4,5 +4,5 @@ use Rattle.known_functions.proofs.definitions.Definitions.force_all.Given as goa
 abbrev pub invariant-loop-place : goal.invariant-loop-place
 invariant-loop-place g l = record {
   fit : g.O.Oracle.Fits l.oracle l.log;
-  forced : HasForced l.f l.padoa l.fn.self l.self l.fn.log l.log;
+  forced : HasForced l.f l.definability l.fn.self l.self l.fn.log l.log;
 }

@@ -12,9 +12,9 @@ force-requires-clause-existential g c =
 
 pub returns-in_err-forced-clause-forced : goal.returns-in_err-forced-clause-forced
 returns-in_err-forced-clause-forced g c =
-    forced_by c.args.existential.now.f.now c.args.existential.now.padoa.now c.args.self.now _ c.args.log.now
+    forced_by c.args.existential.now.f.now c.args.existential.now.definability.now c.args.self.now _ c.args.log.now
     c.force.new.log refl refl refl c.requires.may.forced c.force.ensures.grew c.force.ensures.same_givens
-    c.force.ensures.padoa
+    c.force.ensures.definability
 
 pub returns-in_err-keep-clause-forced : goal.returns-in_err-keep-clause-forced
 returns-in_err-keep-clause-forced g c =
@@ -23,9 +23,9 @@ returns-in_err-keep-clause-forced g c =
     c.existentials.result.now c.existentials.ensures c.args.existential.now.place c.requires.place in
     let rules = c.keep.ensures.rules f (forced_rule f here.0 c.row.result.now c.bit-bit.result c.in_ok-forced.forced
     (c.in_ok-forced.ensures.forced here.0 here.2)) c.requires.may.forced in
-    forced_by f c.args.existential.now.padoa.now c.args.self.now _ c.args.log.now c.force.new.log
+    forced_by f c.args.existential.now.definability.now c.args.self.now _ c.args.log.now c.force.new.log
     c.keep.ensures.ranks c.keep.ensures.nodes c.keep.ensures.guesses rules c.force.ensures.grew
-    c.force.ensures.same_givens c.force.ensures.padoa
+    c.force.ensures.same_givens c.force.ensures.definability
 
 pub returns-clause-forced : goal.returns-clause-forced
 returns-clause-forced g c =
@@ -34,6 +34,6 @@ returns-clause-forced g c =
     c.existentials.result.now c.existentials.ensures c.args.existential.now.place c.requires.place in
     let rules = c.keep.ensures.rules f (forced_rule f here.0 c.row.result.now c.bit-bit.result c.in_ok-forced.forced
     (c.in_ok-forced.ensures.forced here.0 here.2)) c.requires.may.forced in
-    forced_by f c.args.existential.now.padoa.now c.args.self.now _ c.args.log.now c.force.new.log
+    forced_by f c.args.existential.now.definability.now c.args.self.now _ c.args.log.now c.force.new.log
     c.keep.ensures.ranks c.keep.ensures.nodes c.keep.ensures.guesses rules c.force.ensures.grew
-    c.force.ensures.same_givens c.force.ensures.padoa
+    c.force.ensures.same_givens c.force.ensures.definability

@@ -12,7 +12,7 @@ guess-requires-clause-may g c = c.loop-place.invariant.asked.may
 pub loop-place-init : goal.loop-place-init
 loop-place-init g c = record {
   fit = c.requires.fit;
-  asked = nothing_asked c.args.f.now c.args.graph.now c.args.padoa.now c.args.log.now c.requires.may;
+  asked = nothing_asked c.args.f.now c.args.graph.now c.args.definability.now c.args.log.now c.requires.may;
   known = c.requires.known;
   many = c.requires.many;
 }
@@ -34,7 +34,7 @@ loop-place-preserved g c =
     let as_many = ap length left.guesses ∙ inv.many in
     record {
       fit = c.guess.ensures.fit;
-      asked = asked_then c.args.f.now c.args.graph.now c.loop-place.graph c.guess.new.graph c.args.padoa.now
+      asked = asked_then c.args.f.now c.args.graph.now c.loop-place.graph c.guess.new.graph c.args.definability.now
           c.args.log.now c.loop-place.log c.guess.new.log c.loop-place.invariant.asked
           c.guess.ensures.asked;
       known = guess_known f d.ranks.items lawful.prefix c.loop-place.graph graph place here.0 d.nodes.items
@@ -46,6 +46,6 @@ loop-place-preserved g c =
 
 pub returns-in_err-self-clause-asked : goal.returns-in_err-self-clause-asked
 returns-in_err-self-clause-asked g c =
-    asked_then c.args.f.now c.args.graph.now c.loop-place.graph c.guess.new.graph c.args.padoa.now
+    asked_then c.args.f.now c.args.graph.now c.loop-place.graph c.guess.new.graph c.args.definability.now
     c.args.log.now c.loop-place.log c.guess.new.log c.loop-place.invariant.asked
     c.guess.ensures.asked

@@ -44,7 +44,7 @@ returns-clause-asked g c =
     c.set_limit-2.ensures ∙ ap (λ n. record c.guess_or_learn-found.new.log { limit = n }) c.limit-whole.ensures in
     record {
       may = subst (λ (l : ProofLog). MayAsk c.args.f.now c.guess_or_learn-found.new.graph
-          c.args.padoa.now l.entries) (sym c.set_limit-2.ensures) asked.may;
+          c.args.definability.now l.entries) (sym c.set_limit-2.ensures) asked.may;
       grew = subst (Grew (IsAsked c.args.f.now) c.args.log.now) (sym same)
           (grew_within (IsAsked c.args.f.now) c.args.log.now c.set_limit.new.self c.guess_or_learn-found.new.log
           (ap (λ (l : ProofLog). l.entries) c.set_limit.ensures) asked.grew);

@@ -12,8 +12,8 @@ guess-requires-clause-declared g c =
 
 pub returns-clause-asked : goal.returns-clause-asked
 returns-clause-asked g c =
-    asked_by c.args.f.now c.args.graph.now c.guess.new.graph c.args.padoa.now c.args.log.now c.guess.new.log
-    c.requires.may c.guess.ensures.grew c.guess.ensures.same_givens c.guess.ensures.padoa c.guess.ensures.extends
+    asked_by c.args.f.now c.args.graph.now c.guess.new.graph c.args.definability.now c.args.log.now c.guess.new.log
+    c.requires.may c.guess.ensures.grew c.guess.ensures.same_givens c.guess.ensures.definability c.guess.ensures.extends
 
 pub returns-clause-left : goal.returns-clause-left
 returns-clause-left g c = record {
@@ -25,8 +25,8 @@ returns-clause-left g c = record {
 
 pub returns-in_err-found-clause-asked : goal.returns-in_err-found-clause-asked
 returns-in_err-found-clause-asked g c =
-    asked_by c.args.f.now c.args.graph.now c.guess.new.graph c.args.padoa.now c.args.log.now c.guess.new.log
-    c.requires.may c.guess.ensures.grew c.guess.ensures.same_givens c.guess.ensures.padoa c.guess.ensures.extends
+    asked_by c.args.f.now c.args.graph.now c.guess.new.graph c.args.definability.now c.args.log.now c.guess.new.log
+    c.requires.may c.guess.ensures.grew c.guess.ensures.same_givens c.guess.ensures.definability c.guess.ensures.extends
 
 pub returns-in_err-found-clause-left : goal.returns-in_err-found-clause-left
 returns-in_err-found-clause-left g c = record {

@@ -2,7 +2,7 @@ use Rattle.std.proofs.Common.{ap, ◌∙◌}
 use Rattle.std.specs.Prelude.{slice_index}
 use Rattle.skolem_checker.specs.SkolemCircuit.{MappedCircuit}
 use Rattle.proof_checker.specs.CircuitProof.{circuit_literal}
-use Rattle.proof_checker.proofs.StandingLiterals.{no_literal}
+use Rattle.proof_checker.proofs.KeptLiterals.{no_literal}
 use Rattle.proof_checker.proofs.circuit_literals.CircuitLiterals.literal.Goals as goal
 
 pub returns-in-None-place : goal.returns-in-None-place

@@ -1,6 +1,6 @@
 use Rattle.std.proofs.Common.{arith, subst}
 use Rattle.circuit_plain.specs.Netlist.{IsNetlist}
-use Rattle.proof_checker.proofs.StandingLiterals.{literal_below}
+use Rattle.proof_checker.proofs.KeptLiterals.{literal_below}
 use Rattle.proof_checker.proofs.circuit_literals.CircuitLiterals.literal_under.Goals as goal
 
 pub opposite_of-requires : goal.opposite_of-requires

@@ -10,7 +10,7 @@ loop-verdict-init g c = record {
   search = c.requires.search;
   known = c.requires.known;
   inputs = refl;
-  went = nothing_went c.args.self.now.f.now c.args.book.now c.args.checker.now c.args.self.now.padoa.now
+  went = nothing_went c.args.self.now.f.now c.args.database.now c.args.checker.now c.args.self.now.definability.now
       c.args.self.now.may_ask c.args.log.now c.requires.search.here.way;
 }
 
@@ -29,8 +29,8 @@ returns-in_err-verdict-clause-inputs g c = c.round.ensures.inputs ∙ c.loop-ver
 pub returns-in_err-verdict-clause-ended : goal.returns-in_err-verdict-clause-ended
 returns-in_err-verdict-clause-ended g c =
     let s = c.args.self.now in
-    ended_then s.f.now c.args.book.now c.loop-verdict.book c.round.new.book c.args.checker.now c.loop-verdict.checker
-    s.padoa.now s.may_ask c.args.log.now c.loop-verdict.log c.round.new.log c.loop-verdict.invariant.went
+    ended_then s.f.now c.args.database.now c.loop-verdict.database c.round.new.database c.args.checker.now c.loop-verdict.checker
+    s.definability.now s.may_ask c.args.log.now c.loop-verdict.log c.round.new.log c.loop-verdict.invariant.went
     c.round.ensures.ended
 
 pub returns-in_err-verdict-clause-stopped : goal.returns-in_err-verdict-clause-stopped
@@ -52,8 +52,8 @@ returns-in-Some-clause-inputs g c = c.round.ensures.inputs ∙ c.loop-verdict.in
 pub returns-in-Some-clause-ended : goal.returns-in-Some-clause-ended
 returns-in-Some-clause-ended g c =
     let s = c.args.self.now in
-    ended_then s.f.now c.args.book.now c.loop-verdict.book c.round.new.book c.args.checker.now c.loop-verdict.checker
-    s.padoa.now s.may_ask c.args.log.now c.loop-verdict.log c.round.new.log c.loop-verdict.invariant.went
+    ended_then s.f.now c.args.database.now c.loop-verdict.database c.round.new.database c.args.checker.now c.loop-verdict.checker
+    s.definability.now s.may_ask c.args.log.now c.loop-verdict.log c.round.new.log c.loop-verdict.invariant.went
     c.round.ensures.ended
 
 pub returns-in-Some-clause-shown_true : goal.returns-in-Some-clause-shown_true
@@ -78,7 +78,7 @@ loop-verdict-preserved g c =
       search = next.search;
       known = next.known_there;
       inputs = c.round.ensures.inputs ∙ c.loop-verdict.invariant.inputs;
-      went = went_then s.f.now c.args.book.now c.loop-verdict.book c.round.new.book c.args.checker.now
-          c.loop-verdict.checker c.round.new.checker s.padoa.now s.may_ask c.args.log.now c.loop-verdict.log
+      went = went_then s.f.now c.args.database.now c.loop-verdict.database c.round.new.database c.args.checker.now
+          c.loop-verdict.checker c.round.new.checker s.definability.now s.may_ask c.args.log.now c.loop-verdict.log
           c.round.new.log c.loop-verdict.invariant.went next.went;
     }

@@ -7,10 +7,10 @@ use Rattle.repair_loop.proofs.searches.Search.all_rounds.Given as goal
 abbrev pub invariant-loop-verdict : goal.invariant-loop-verdict
 invariant-loop-verdict g l = record {
   fit : g.O.Oracle.Fits l.oracle l.log;
-  search : IsSearch l.self.f.now l.graph l.book l.checker l.self.padoa.now l.self.may_ask l.log.entries;
+  search : IsSearch l.self.f.now l.graph l.database l.checker l.self.definability.now l.self.may_ask l.log.entries;
   known : AreKnownIn l.self.f.now l.graph l.known.definitions;
   inputs : l.graph.inputs ≡ l.initial.graph.inputs;
-  went : HasGoneOn l.self.f.now l.initial.book l.book l.initial.checker l.checker l.self.padoa.now l.self.may_ask
+  went : HasGoneOn l.self.f.now l.initial.database l.database l.initial.checker l.checker l.self.definability.now l.self.may_ask
       l.initial.log l.log;
 }
 

@@ -3,17 +3,17 @@ use Rattle.list_laws.proofs.Results.{on_err}
 use Rattle.hint_log.specs.declared.stops.Stop.TheVariants.{Limit}
 use Rattle.expansion.specs.Silence.{is_silent}
 use Rattle.oracle.proofs.SomeLimits.{some_limit}
-use Rattle.dq_session.specs.Books.{BookState}
-use Rattle.repair_loop.specs.Desks.{IsAnsweredFalse}
+use Rattle.dq_session.specs.Databases.{DatabaseState}
+use Rattle.repair_loop.specs.SearchStates.{IsAnsweredFalse}
 use Rattle.repair_loop.specs.Turning.{AreProposed}
 use Rattle.repair_loop.proofs.Stops.{by_lemma}
 use Rattle.repair_loop.proofs.Turned.{after_undecided, answered_false, caught_up_after, left_search, model_of, went_then}
 use Rattle.repair_loop.proofs.searches.Search.find_candidates.Goals as goal
 
-pub solve-requires-clause-book : goal.solve-requires-clause-book
-solve-requires-clause-book g c =
+pub solve-requires-clause-database : goal.solve-requires-clause-database
+solve-requires-clause-database g c =
     let here = c.requires.search.1.here in
-    record { book = here.way.book; rows = here.rows }
+    record { database = here.way.database; rows = here.rows }
 
 pub solve-requires-clause-few : goal.solve-requires-clause-few
 solve-requires-clause-few g c = c.requires.search.1.here.way.faults
@@ -21,52 +21,52 @@ solve-requires-clause-few g c = c.requires.search.1.here.way.faults
 pub returns-in_err-id-clause-went : goal.returns-in_err-id-clause-went
 returns-in_err-id-clause-went g c checker before =
     let s = c.args.self.now in
-    let left = c.instances_leave_searches.ensures s.f.now c.args.book.now c.solve.new.self checker s.padoa.now s.may_ask
+    let left = c.instances_leave_searches.ensures s.f.now c.args.database.now c.solve.new.self checker s.definability.now s.may_ask
     (is_silent c.solve.result) c.args.log.now c.solve.new.log c.solve.ensures.grew
-    (caught_up_after c.args.book.now c.solve.new.self c.solve.ensures.same) c.solve.ensures.book.book c.solve.ensures.fresh
+    (caught_up_after c.args.database.now c.solve.new.self c.solve.ensures.same) c.solve.ensures.database.database c.solve.ensures.fresh
     before.here.way in
     left.0.went
 
 pub returns-in_err-id-clause-rows : goal.returns-in_err-id-clause-rows
-returns-in_err-id-clause-rows g c = c.solve.ensures.book.rows
+returns-in_err-id-clause-rows g c = c.solve.ensures.database.rows
 
 pub returns-in_err-id-clause-stopped : goal.returns-in_err-id-clause-stopped
 returns-in_err-id-clause-stopped g c =
     let (checker, before) = c.requires.search in
     let s = c.args.self.now in
-    let left = c.instances_leave_searches.ensures s.f.now c.args.book.now c.solve.new.self checker s.padoa.now s.may_ask
+    let left = c.instances_leave_searches.ensures s.f.now c.args.database.now c.solve.new.self checker s.definability.now s.may_ask
     (is_silent c.solve.result) c.args.log.now c.solve.new.log c.solve.ensures.grew
-    (caught_up_after c.args.book.now c.solve.new.self c.solve.ensures.same) c.solve.ensures.book.book c.solve.ensures.fresh
+    (caught_up_after c.args.database.now c.solve.new.self c.solve.ensures.same) c.solve.ensures.database.database c.solve.ensures.fresh
     before.here.way in
     record {
-      undecided = on_err _ (after_undecided c.args.book.now c.solve.new.self c.solve.new.log.entries left.0.went.book
+      undecided = on_err _ (after_undecided c.args.database.now c.solve.new.self c.solve.new.log.entries left.0.went.database
           (left.0.undecided (ap is_silent c.in_err-id.was) before.here.undecided));
       limit = λ is.
           let stop : c.in_err-id.field-0.0 ≡ Limit = search rules in
           by_lemma s.f.now c.solve.new.log (some_limit c.solve.new.log
           (c.in_err-id.ensures.limit (ap (λ e. Err e) stop)));
-      rows = λ is. c.solve.ensures.book.rows;
+      rows = λ is. c.solve.ensures.database.rows;
     }
 
 pub returns-in-Refuted-clause-went : goal.returns-in-Refuted-clause-went
 returns-in-Refuted-clause-went g c checker before =
     let s = c.args.self.now in
-    let left = c.instances_leave_searches.ensures s.f.now c.args.book.now c.solve.new.self checker s.padoa.now s.may_ask
+    let left = c.instances_leave_searches.ensures s.f.now c.args.database.now c.solve.new.self checker s.definability.now s.may_ask
     (is_silent c.solve.result) c.args.log.now c.solve.new.log c.solve.ensures.grew
-    (caught_up_after c.args.book.now c.solve.new.self c.solve.ensures.same) c.solve.ensures.book.book c.solve.ensures.fresh
+    (caught_up_after c.args.database.now c.solve.new.self c.solve.ensures.same) c.solve.ensures.database.database c.solve.ensures.fresh
     before.here.way in
     left.0.went
 
 pub returns-in-Refuted-clause-rows : goal.returns-in-Refuted-clause-rows
-returns-in-Refuted-clause-rows g c = c.solve.ensures.book.rows
+returns-in-Refuted-clause-rows g c = c.solve.ensures.database.rows
 
 pub returns-in-Refuted-clause-refuted : goal.returns-in-Refuted-clause-refuted
 returns-in-Refuted-clause-refuted g c id e =
-    let b = c.args.book.now in
+    let b = c.args.database.now in
     let was = c.in_ok-id.was ∙ ap Ok c.in-Refuted.is in
     let same : c.in-Refuted.id ≡ id = cc in
     let after = caught_up_after b c.solve.new.self c.solve.ensures.same in
-    let rows = c.solve.ensures.book.rows ∙ ap (λ (x : BookState). x.table.rows) c.solve.ensures.same.same in
+    let rows = c.solve.ensures.database.rows ∙ ap (λ (x : DatabaseState). x.table.rows) c.solve.ensures.same.same in
     subst (IsAnsweredFalse c.solve.new.self c.solve.new.log) same
     (answered_false b c.solve.new.self c.solve.new.log c.in-Refuted.id after rows
     (c.solve.ensures.refuted c.in-Refuted.id was) (c.solve.ensures.shown c.in-Refuted.id was))
@@ -75,63 +75,63 @@ pub propose-requires-clause-search : goal.propose-requires-clause-search
 propose-requires-clause-search g c =
     let (checker, before) = c.requires.search in
     let s = c.args.self.now in
-    let left = c.instances_leave_searches.ensures s.f.now c.args.book.now c.solve.new.self checker s.padoa.now s.may_ask
+    let left = c.instances_leave_searches.ensures s.f.now c.args.database.now c.solve.new.self checker s.definability.now s.may_ask
     (is_silent c.solve.result) c.args.log.now c.solve.new.log c.solve.ensures.grew
-    (caught_up_after c.args.book.now c.solve.new.self c.solve.ensures.same) c.solve.ensures.book.book c.solve.ensures.fresh
+    (caught_up_after c.args.database.now c.solve.new.self c.solve.ensures.same) c.solve.ensures.database.database c.solve.ensures.fresh
     before.here.way in (
       checker,
-      left_search s.f.now c.args.graph.now c.args.graph.now c.args.book.now c.solve.new.self checker checker
-          s.padoa.now s.may_ask (is_silent c.solve.result) c.args.log.now c.solve.new.log
-          (ap is_silent (c.in_ok-id.was ∙ ap Ok c.in-Model.is)) left.0 left.1 c.solve.ensures.book.rows refl before,
+      left_search s.f.now c.args.graph.now c.args.graph.now c.args.database.now c.solve.new.self checker checker
+          s.definability.now s.may_ask (is_silent c.solve.result) c.args.log.now c.solve.new.log
+          (ap is_silent (c.in_ok-id.was ∙ ap Ok c.in-Model.is)) left.0 left.1 c.solve.ensures.database.rows refl before,
     )
 
 pub propose-requires-clause-model : goal.propose-requires-clause-model
 propose-requires-clause-model g c =
     let (checker, before) = c.requires.search in
     let was = c.in_ok-id.was ∙ ap Ok c.in-Model.is in
-    model_of c.args.self.now.f.now c.args.book.now c.solve.new.self c.in-Model.points c.args.log.now.entries
-    checker c.args.self.now.padoa.now c.args.self.now.may_ask before.here.way c.solve.ensures.same (c.solve.ensures.point_variables c.in-Model.points was)
+    model_of c.args.self.now.f.now c.args.database.now c.solve.new.self c.in-Model.points c.args.log.now.entries
+    checker c.args.self.now.definability.now c.args.self.now.may_ask before.here.way c.solve.ensures.same (c.solve.ensures.point_variables c.in-Model.points was)
     (c.solve.ensures.point_rows c.in-Model.points was) (c.solve.ensures.model c.in-Model.points was)
 
 pub returns-in_err-outputs-in-Model-clause-went : goal.returns-in_err-outputs-in-Model-clause-went
 returns-in_err-outputs-in-Model-clause-went g c checker before =
     let s = c.args.self.now in
-    let left = c.instances_leave_searches.ensures s.f.now c.args.book.now c.solve.new.self checker s.padoa.now s.may_ask
+    let left = c.instances_leave_searches.ensures s.f.now c.args.database.now c.solve.new.self checker s.definability.now s.may_ask
     (is_silent c.solve.result) c.args.log.now c.solve.new.log c.solve.ensures.grew
-    (caught_up_after c.args.book.now c.solve.new.self c.solve.ensures.same) c.solve.ensures.book.book c.solve.ensures.fresh
+    (caught_up_after c.args.database.now c.solve.new.self c.solve.ensures.same) c.solve.ensures.database.database c.solve.ensures.fresh
     before.here.way in
-    let next = left_search s.f.now c.args.graph.now c.args.graph.now c.args.book.now c.solve.new.self checker checker
-    s.padoa.now s.may_ask (is_silent c.solve.result) c.args.log.now c.solve.new.log
-    (ap is_silent (c.in_ok-id.was ∙ ap Ok c.in-Model.is)) left.0 left.1 c.solve.ensures.book.rows refl before in
+    let next = left_search s.f.now c.args.graph.now c.args.graph.now c.args.database.now c.solve.new.self checker checker
+    s.definability.now s.may_ask (is_silent c.solve.result) c.args.log.now c.solve.new.log
+    (ap is_silent (c.in_ok-id.was ∙ ap Ok c.in-Model.is)) left.0 left.1 c.solve.ensures.database.rows refl before in
     let more = c.propose.ensures.left checker next in
-    went_then s.f.now c.args.book.now c.solve.new.self c.solve.new.self checker checker checker s.padoa.now s.may_ask
+    went_then s.f.now c.args.database.now c.solve.new.self c.solve.new.self checker checker checker s.definability.now s.may_ask
     c.args.log.now c.solve.new.log c.propose.new.log left.0.went more.went
 
 pub returns-in_err-outputs-in-Model-clause-rows : goal.returns-in_err-outputs-in-Model-clause-rows
 returns-in_err-outputs-in-Model-clause-rows g c =
     let (checker, before) = c.requires.search in
     let s = c.args.self.now in
-    let left = c.instances_leave_searches.ensures s.f.now c.args.book.now c.solve.new.self checker s.padoa.now s.may_ask
+    let left = c.instances_leave_searches.ensures s.f.now c.args.database.now c.solve.new.self checker s.definability.now s.may_ask
     (is_silent c.solve.result) c.args.log.now c.solve.new.log c.solve.ensures.grew
-    (caught_up_after c.args.book.now c.solve.new.self c.solve.ensures.same) c.solve.ensures.book.book c.solve.ensures.fresh
+    (caught_up_after c.args.database.now c.solve.new.self c.solve.ensures.same) c.solve.ensures.database.database c.solve.ensures.fresh
     before.here.way in
-    let next = left_search s.f.now c.args.graph.now c.args.graph.now c.args.book.now c.solve.new.self checker checker
-    s.padoa.now s.may_ask (is_silent c.solve.result) c.args.log.now c.solve.new.log
-    (ap is_silent (c.in_ok-id.was ∙ ap Ok c.in-Model.is)) left.0 left.1 c.solve.ensures.book.rows refl before in
+    let next = left_search s.f.now c.args.graph.now c.args.graph.now c.args.database.now c.solve.new.self checker checker
+    s.definability.now s.may_ask (is_silent c.solve.result) c.args.log.now c.solve.new.log
+    (ap is_silent (c.in_ok-id.was ∙ ap Ok c.in-Model.is)) left.0 left.1 c.solve.ensures.database.rows refl before in
     let more = c.propose.ensures.left checker next in
-    more.rows ∙ c.solve.ensures.book.rows
+    more.rows ∙ c.solve.ensures.database.rows
 
 pub returns-in_err-outputs-in-Model-clause-stopped : goal.returns-in_err-outputs-in-Model-clause-stopped
 returns-in_err-outputs-in-Model-clause-stopped g c =
     let (checker, before) = c.requires.search in
     let s = c.args.self.now in
-    let left = c.instances_leave_searches.ensures s.f.now c.args.book.now c.solve.new.self checker s.padoa.now s.may_ask
+    let left = c.instances_leave_searches.ensures s.f.now c.args.database.now c.solve.new.self checker s.definability.now s.may_ask
     (is_silent c.solve.result) c.args.log.now c.solve.new.log c.solve.ensures.grew
-    (caught_up_after c.args.book.now c.solve.new.self c.solve.ensures.same) c.solve.ensures.book.book c.solve.ensures.fresh
+    (caught_up_after c.args.database.now c.solve.new.self c.solve.ensures.same) c.solve.ensures.database.database c.solve.ensures.fresh
     before.here.way in
-    let next = left_search s.f.now c.args.graph.now c.args.graph.now c.args.book.now c.solve.new.self checker checker
-    s.padoa.now s.may_ask (is_silent c.solve.result) c.args.log.now c.solve.new.log
-    (ap is_silent (c.in_ok-id.was ∙ ap Ok c.in-Model.is)) left.0 left.1 c.solve.ensures.book.rows refl before in
+    let next = left_search s.f.now c.args.graph.now c.args.graph.now c.args.database.now c.solve.new.self checker checker
+    s.definability.now s.may_ask (is_silent c.solve.result) c.args.log.now c.solve.new.log
+    (ap is_silent (c.in_ok-id.was ∙ ap Ok c.in-Model.is)) left.0 left.1 c.solve.ensures.database.rows refl before in
     let more = c.propose.ensures.left checker next in
     record {
       undecided = on_err _ (more.undecided refl next.here.undecided);
@@ -139,49 +139,49 @@ returns-in_err-outputs-in-Model-clause-stopped g c =
           let stop : c.in_err-outputs-in-Model.field-0.0 ≡ Limit = search rules in
           by_lemma s.f.now c.propose.new.log
           (c.in_err-outputs-in-Model.ensures.limit (ap (λ e. Err e) stop));
-      rows = λ is. more.rows ∙ c.solve.ensures.book.rows;
+      rows = λ is. more.rows ∙ c.solve.ensures.database.rows;
     }
 
 pub returns-in_ok-outputs-in-Model-clause-went : goal.returns-in_ok-outputs-in-Model-clause-went
 returns-in_ok-outputs-in-Model-clause-went g c checker before =
     let s = c.args.self.now in
-    let left = c.instances_leave_searches.ensures s.f.now c.args.book.now c.solve.new.self checker s.padoa.now s.may_ask
+    let left = c.instances_leave_searches.ensures s.f.now c.args.database.now c.solve.new.self checker s.definability.now s.may_ask
     (is_silent c.solve.result) c.args.log.now c.solve.new.log c.solve.ensures.grew
-    (caught_up_after c.args.book.now c.solve.new.self c.solve.ensures.same) c.solve.ensures.book.book c.solve.ensures.fresh
+    (caught_up_after c.args.database.now c.solve.new.self c.solve.ensures.same) c.solve.ensures.database.database c.solve.ensures.fresh
     before.here.way in
-    let next = left_search s.f.now c.args.graph.now c.args.graph.now c.args.book.now c.solve.new.self checker checker
-    s.padoa.now s.may_ask (is_silent c.solve.result) c.args.log.now c.solve.new.log
-    (ap is_silent (c.in_ok-id.was ∙ ap Ok c.in-Model.is)) left.0 left.1 c.solve.ensures.book.rows refl before in
+    let next = left_search s.f.now c.args.graph.now c.args.graph.now c.args.database.now c.solve.new.self checker checker
+    s.definability.now s.may_ask (is_silent c.solve.result) c.args.log.now c.solve.new.log
+    (ap is_silent (c.in_ok-id.was ∙ ap Ok c.in-Model.is)) left.0 left.1 c.solve.ensures.database.rows refl before in
     let more = c.propose.ensures.left checker next in
-    went_then s.f.now c.args.book.now c.solve.new.self c.solve.new.self checker checker checker s.padoa.now s.may_ask
+    went_then s.f.now c.args.database.now c.solve.new.self c.solve.new.self checker checker checker s.definability.now s.may_ask
     c.args.log.now c.solve.new.log c.propose.new.log left.0.went more.went
 
 pub returns-in_ok-outputs-in-Model-clause-rows : goal.returns-in_ok-outputs-in-Model-clause-rows
 returns-in_ok-outputs-in-Model-clause-rows g c =
     let (checker, before) = c.requires.search in
     let s = c.args.self.now in
-    let left = c.instances_leave_searches.ensures s.f.now c.args.book.now c.solve.new.self checker s.padoa.now s.may_ask
+    let left = c.instances_leave_searches.ensures s.f.now c.args.database.now c.solve.new.self checker s.definability.now s.may_ask
     (is_silent c.solve.result) c.args.log.now c.solve.new.log c.solve.ensures.grew
-    (caught_up_after c.args.book.now c.solve.new.self c.solve.ensures.same) c.solve.ensures.book.book c.solve.ensures.fresh
+    (caught_up_after c.args.database.now c.solve.new.self c.solve.ensures.same) c.solve.ensures.database.database c.solve.ensures.fresh
     before.here.way in
-    let next = left_search s.f.now c.args.graph.now c.args.graph.now c.args.book.now c.solve.new.self checker checker
-    s.padoa.now s.may_ask (is_silent c.solve.result) c.args.log.now c.solve.new.log
-    (ap is_silent (c.in_ok-id.was ∙ ap Ok c.in-Model.is)) left.0 left.1 c.solve.ensures.book.rows refl before in
+    let next = left_search s.f.now c.args.graph.now c.args.graph.now c.args.database.now c.solve.new.self checker checker
+    s.definability.now s.may_ask (is_silent c.solve.result) c.args.log.now c.solve.new.log
+    (ap is_silent (c.in_ok-id.was ∙ ap Ok c.in-Model.is)) left.0 left.1 c.solve.ensures.database.rows refl before in
     let more = c.propose.ensures.left checker next in
-    more.rows ∙ c.solve.ensures.book.rows
+    more.rows ∙ c.solve.ensures.database.rows
 
 pub returns-in_ok-outputs-in-Model-clause-proposed : goal.returns-in_ok-outputs-in-Model-clause-proposed
 returns-in_ok-outputs-in-Model-clause-proposed g c checker outputs before e =
     let s = c.args.self.now in
-    let left = c.instances_leave_searches.ensures s.f.now c.args.book.now c.solve.new.self checker s.padoa.now s.may_ask
+    let left = c.instances_leave_searches.ensures s.f.now c.args.database.now c.solve.new.self checker s.definability.now s.may_ask
     (is_silent c.solve.result) c.args.log.now c.solve.new.log c.solve.ensures.grew
-    (caught_up_after c.args.book.now c.solve.new.self c.solve.ensures.same) c.solve.ensures.book.book c.solve.ensures.fresh
+    (caught_up_after c.args.database.now c.solve.new.self c.solve.ensures.same) c.solve.ensures.database.database c.solve.ensures.fresh
     before.here.way in
-    let next = left_search s.f.now c.args.graph.now c.args.graph.now c.args.book.now c.solve.new.self checker checker
-    s.padoa.now s.may_ask (is_silent c.solve.result) c.args.log.now c.solve.new.log
-    (ap is_silent (c.in_ok-id.was ∙ ap Ok c.in-Model.is)) left.0 left.1 c.solve.ensures.book.rows refl before in
+    let next = left_search s.f.now c.args.graph.now c.args.graph.now c.args.database.now c.solve.new.self checker checker
+    s.definability.now s.may_ask (is_silent c.solve.result) c.args.log.now c.solve.new.log
+    (ap is_silent (c.in_ok-id.was ∙ ap Ok c.in-Model.is)) left.0 left.1 c.solve.ensures.database.rows refl before in
     let more = c.propose.ensures.left checker next in
     let same : c.in_ok-outputs-in-Model.outputs ≡ outputs = cc in
-    subst (λ o. AreProposed s.f.now c.propose.new.graph c.solve.new.self checker s.padoa.now s.may_ask c.propose.new.known.definitions
+    subst (λ o. AreProposed s.f.now c.propose.new.graph c.solve.new.self checker s.definability.now s.may_ask c.propose.new.known.definitions
     o c.propose.new.log.entries) same
     (c.propose.ensures.proposed checker c.in_ok-outputs-in-Model.outputs next c.in_ok-outputs-in-Model.was)

@@ -4,4 +4,4 @@ pub known_failure-requires-clause-formula : goal.known_failure-requires-clause-f
 known_failure-requires-clause-formula g c = c.requires.search.here.way.formula
 
 pub known_failure-requires-clause-candidates : goal.known_failure-requires-clause-candidates
-known_failure-requires-clause-candidates g c = (c.args.book.now.table.rows, c.requires.candidates)
+known_failure-requires-clause-candidates g c = (c.args.database.now.table.rows, c.requires.candidates)

@@ -7,8 +7,8 @@ use Rattle.circuit_cnf.specs.Checking.{IsChecker}
 use Rattle.circuit_cnf.specs.Failing.{is_silent, IsFailure}
 use Rattle.circuit_cnf.specs.Shown.{HoldEverywhere, IsShownSince}
 use Rattle.aig_graph.specs.Outputs.{ReadsUniversals, outputs_of}
-use Rattle.dq_session.specs.Books.{now_of}
-use Rattle.repair_loop.specs.Desks.{IsAnsweredTrue}
+use Rattle.dq_session.specs.Databases.{now_of}
+use Rattle.repair_loop.specs.SearchStates.{IsAnsweredTrue}
 use Rattle.repair_loop.proofs.LiveGrowth.{same_prefix}
 use Rattle.repair_loop.proofs.Stops.{by_lemma}
 use Rattle.repair_loop.proofs.Turned.{answered_true, left_open, round_after, went_then}
@@ -17,7 +17,7 @@ use Rattle.repair_loop.proofs.searches.Search.judge_by_solver.Goals as goal
 
 pub turn-requires-clause-checker : goal.turn-requires-clause-checker
 turn-requires-clause-checker g c =
-    let b = c.args.book.now in
+    let b = c.args.database.now in
     let way = c.requires.search.here.way in
     subst (λ f. IsChecker f c.args.checker.now c.args.log.now.entries) (sym way.now_is)
     (same_prefix b.file b.file.matrix (now_of b).matrix c.args.checker.now c.args.log.now.entries way.checked)
@@ -35,14 +35,14 @@ turn-requires-clause-read_universals g c =
 pub returns-in_err-id-clause-went : goal.returns-in_err-id-clause-went
 returns-in_err-id-clause-went g c =
     let s = c.args.self.now in
-    let left = c.turns_leave_searches.ensures s.f.now c.args.book.now c.args.checker.now c.turn.new.self s.padoa.now s.may_ask
+    let left = c.turns_leave_searches.ensures s.f.now c.args.database.now c.args.checker.now c.turn.new.self s.definability.now s.may_ask
     (is_silent c.turn.result) c.args.log.now c.turn.new.log c.turn.ensures.turned c.requires.search.here.way in
     left.went
 
 pub returns-in_err-id-clause-stopped : goal.returns-in_err-id-clause-stopped
 returns-in_err-id-clause-stopped g c =
     let s = c.args.self.now in
-    let left = c.turns_leave_searches.ensures s.f.now c.args.book.now c.args.checker.now c.turn.new.self s.padoa.now s.may_ask
+    let left = c.turns_leave_searches.ensures s.f.now c.args.database.now c.args.checker.now c.turn.new.self s.definability.now s.may_ask
     (is_silent c.turn.result) c.args.log.now c.turn.new.log c.turn.ensures.turned c.requires.search.here.way in
     record {
       undecided = on_err _ (left.undecided (ap is_silent c.in_err-id.was) c.requires.search.here.undecided);
@@ -56,14 +56,14 @@ returns-in_err-id-clause-stopped g c =
 pub returns-in-Holds-clause-went : goal.returns-in-Holds-clause-went
 returns-in-Holds-clause-went g c =
     let s = c.args.self.now in
-    let left = c.turns_leave_searches.ensures s.f.now c.args.book.now c.args.checker.now c.turn.new.self s.padoa.now s.may_ask
+    let left = c.turns_leave_searches.ensures s.f.now c.args.database.now c.args.checker.now c.turn.new.self s.definability.now s.may_ask
     (is_silent c.turn.result) c.args.log.now c.turn.new.log c.turn.ensures.turned c.requires.search.here.way in
     left.went
 
 pub returns-in-Holds-clause-hold : goal.returns-in-Holds-clause-hold
 returns-in-Holds-clause-hold g c id e =
     let s = c.args.self.now in
-    let left = c.turns_leave_searches.ensures s.f.now c.args.book.now c.args.checker.now c.turn.new.self s.padoa.now s.may_ask
+    let left = c.turns_leave_searches.ensures s.f.now c.args.database.now c.args.checker.now c.turn.new.self s.definability.now s.may_ask
     (is_silent c.turn.result) c.args.log.now c.turn.new.log c.turn.ensures.turned c.requires.search.here.way in
     let f = s.f.now in
     let graph = c.args.candidates.now.graph.now in
@@ -75,22 +75,22 @@ returns-in-Holds-clause-hold g c id e =
     (c.turn.ensures.shown c.in-Holds.id was) in
     let same : c.in-Holds.id ≡ id = cc in
     subst (IsAnsweredTrue f graph nodes c.turn.new.log) same
-    (answered_true c.outputs_are_supported.ensures c.shown_outputs_decide.ensures f graph c.args.book.now.table.rows nodes
+    (answered_true c.outputs_are_supported.ensures c.shown_outputs_decide.ensures f graph c.args.database.now.table.rows nodes
     c.args.log.now c.turn.new.log c.in-Holds.id c.requires.candidates holds left.before shown)
 
 pub returns-in-Holds-clause-rows : goal.returns-in-Holds-clause-rows
 returns-in-Holds-clause-rows g c id e =
     let s = c.args.self.now in
-    let left = c.turns_leave_searches.ensures s.f.now c.args.book.now c.args.checker.now c.turn.new.self s.padoa.now s.may_ask
+    let left = c.turns_leave_searches.ensures s.f.now c.args.database.now c.args.checker.now c.turn.new.self s.definability.now s.may_ask
     (is_silent c.turn.result) c.args.log.now c.turn.new.log c.turn.ensures.turned c.requires.search.here.way in
     left.rows ∙ c.requires.search.here.rows
 
 pub log_failure-requires-clause-here : goal.log_failure-requires-clause-here
 log_failure-requires-clause-here g c =
     let s = c.args.self.now in
-    let left = c.turns_leave_searches.ensures s.f.now c.args.book.now c.args.checker.now c.turn.new.self s.padoa.now s.may_ask
+    let left = c.turns_leave_searches.ensures s.f.now c.args.database.now c.args.checker.now c.turn.new.self s.definability.now s.may_ask
     (is_silent c.turn.result) c.args.log.now c.turn.new.log c.turn.ensures.turned c.requires.search.here.way in
-    left_open s.f.now c.args.book.now c.args.book.now c.args.checker.now c.turn.new.self s.padoa.now s.may_ask
+    left_open s.f.now c.args.database.now c.args.database.now c.args.checker.now c.turn.new.self s.definability.now s.may_ask
     (is_silent c.turn.result) c.args.log.now c.turn.new.log (ap is_silent (c.in_ok-id.was ∙ ap Ok c.in-Fails.is)) left
     (left.rows ∙ c.requires.search.here.rows) c.requires.search.here.undecided
 
@@ -104,26 +104,26 @@ find_worse-failure-requires-clause-failure g c =
 pub returns-in_err-log_failure-in-Fails-clause-went : goal.returns-in_err-log_failure-in-Fails-clause-went
 returns-in_err-log_failure-in-Fails-clause-went g c =
     let s = c.args.self.now in
-    let left = c.turns_leave_searches.ensures s.f.now c.args.book.now c.args.checker.now c.turn.new.self s.padoa.now s.may_ask
+    let left = c.turns_leave_searches.ensures s.f.now c.args.database.now c.args.checker.now c.turn.new.self s.definability.now s.may_ask
     (is_silent c.turn.result) c.args.log.now c.turn.new.log c.turn.ensures.turned c.requires.search.here.way in
-    went_then s.f.now c.args.book.now c.args.book.now c.args.book.now c.args.checker.now c.turn.new.self
-    c.turn.new.self s.padoa.now s.may_ask c.args.log.now c.turn.new.log c.log_failure.new.log left.went c.log_failure.ensures.went
+    went_then s.f.now c.args.database.now c.args.database.now c.args.database.now c.args.checker.now c.turn.new.self
+    c.turn.new.self s.definability.now s.may_ask c.args.log.now c.turn.new.log c.log_failure.new.log left.went c.log_failure.ensures.went
 
 pub returns-in_ok-log_failure-in-Fails-clause-went : goal.returns-in_ok-log_failure-in-Fails-clause-went
 returns-in_ok-log_failure-in-Fails-clause-went g c =
     let s = c.args.self.now in
-    let left = c.turns_leave_searches.ensures s.f.now c.args.book.now c.args.checker.now c.turn.new.self s.padoa.now s.may_ask
+    let left = c.turns_leave_searches.ensures s.f.now c.args.database.now c.args.checker.now c.turn.new.self s.definability.now s.may_ask
     (is_silent c.turn.result) c.args.log.now c.turn.new.log c.turn.ensures.turned c.requires.search.here.way in
-    went_then s.f.now c.args.book.now c.args.book.now c.args.book.now c.args.checker.now c.turn.new.self
-    c.turn.new.self s.padoa.now s.may_ask c.args.log.now c.turn.new.log c.log_failure.new.log left.went c.log_failure.ensures.went
+    went_then s.f.now c.args.database.now c.args.database.now c.args.database.now c.args.checker.now c.turn.new.self
+    c.turn.new.self s.definability.now s.may_ask c.args.log.now c.turn.new.log c.log_failure.new.log left.went c.log_failure.ensures.went
 
 pub returns-in_ok-log_failure-in-Fails-clause-fail : goal.returns-in_ok-log_failure-in-Fails-clause-fail
 returns-in_ok-log_failure-in-Fails-clause-fail g c row e =
     let s = c.args.self.now in
-    let left = c.turns_leave_searches.ensures s.f.now c.args.book.now c.args.checker.now c.turn.new.self s.padoa.now s.may_ask
+    let left = c.turns_leave_searches.ensures s.f.now c.args.database.now c.args.checker.now c.turn.new.self s.definability.now s.may_ask
     (is_silent c.turn.result) c.args.log.now c.turn.new.log c.turn.ensures.turned c.requires.search.here.way in
     let same : c.find_worse-failure.result.row ≡ row = cc in
-    round_after s.f.now c.args.book.now c.turn.new.self s.padoa.now s.may_ask c.find_worse-failure.result.row row c.args.log.now
+    round_after s.f.now c.args.database.now c.turn.new.self s.definability.now s.may_ask c.find_worse-failure.result.row row c.args.log.now
     c.turn.new.log c.log_failure.new.log same left.went.grew c.in_ok-log_failure-in-Fails.ensures.round
 
 pub returns-in_err-log_failure-in-Fails-clause-stopped : goal.returns-in_err-log_failure-in-Fails-clause-stopped

@@ -1,5 +1,5 @@
 use Rattle.std.proofs.Common.{◌≡◌, ◌∙◌, ap, subst, Ok}
-use Rattle.repair_loop.specs.Desks.{IsAnsweredFalse}
+use Rattle.repair_loop.specs.SearchStates.{IsAnsweredFalse}
 use Rattle.repair_loop.proofs.searches.Search.look_again.Goals as goal
 
 pub returns-in_err-id-clause-went : goal.returns-in_err-id-clause-went
@@ -11,7 +11,7 @@ returns-in-Some-clause-went g c = c.look_at_rows.ensures.went c.args.graph.now c
 pub returns-in-Some-clause-shown_false : goal.returns-in-Some-clause-shown_false
 returns-in-Some-clause-shown_false g c id e =
     let same : c.in-Some.id ≡ id = cc in
-    subst (IsAnsweredFalse c.look_at_rows.new.book c.look_at_rows.new.log) same
+    subst (IsAnsweredFalse c.look_at_rows.new.database c.look_at_rows.new.log) same
     (c.look_at_rows.ensures.refuted c.in-Some.id (c.in_ok-id.was ∙ ap Ok c.in-Some.is))
 
 pub returns-in-None-clause-went : goal.returns-in-None-clause-went

@@ -3,17 +3,17 @@ use Rattle.list_laws.proofs.Results.{on_err}
 use Rattle.hint_log.specs.declared.stops.Stop.TheVariants.{Limit}
 use Rattle.expansion.specs.Silence.{is_silent}
 use Rattle.oracle.proofs.SomeLimits.{some_limit}
-use Rattle.dq_session.specs.Books.{BookState}
-use Rattle.repair_loop.specs.Desks.{IsAnsweredFalse}
+use Rattle.dq_session.specs.Databases.{DatabaseState}
+use Rattle.repair_loop.specs.SearchStates.{IsAnsweredFalse}
 use Rattle.repair_loop.proofs.Stops.{by_lemma}
 use Rattle.repair_loop.proofs.Turned.{after_undecided, answered_false, caught_up_after, left_search}
 use Rattle.repair_loop.proofs.searches.Search.look_at_rows.Goals.{in-Refuted, in-Model}
 use Rattle.repair_loop.proofs.searches.Search.look_at_rows.Goals as goal
 
-pub solve-requires-clause-book : goal.solve-requires-clause-book
-solve-requires-clause-book g c =
+pub solve-requires-clause-database : goal.solve-requires-clause-database
+solve-requires-clause-database g c =
     let here = c.requires.search.2.here in
-    record { book = here.way.book; rows = here.rows }
+    record { database = here.way.database; rows = here.rows }
 
 pub solve-requires-clause-few : goal.solve-requires-clause-few
 solve-requires-clause-few g c = c.requires.search.2.here.way.faults
@@ -21,9 +21,9 @@ solve-requires-clause-few g c = c.requires.search.2.here.way.faults
 pub returns-in_err-id-clause-went : goal.returns-in_err-id-clause-went
 returns-in_err-id-clause-went g c graph checker before =
     let s = c.args.self.now in
-    let left = c.instances_leave_searches.ensures s.f.now c.args.book.now c.solve.new.self checker s.padoa.now s.may_ask
+    let left = c.instances_leave_searches.ensures s.f.now c.args.database.now c.solve.new.self checker s.definability.now s.may_ask
     (is_silent c.solve.result) c.args.log.now c.solve.new.log c.solve.ensures.grew
-    (caught_up_after c.args.book.now c.solve.new.self c.solve.ensures.same) c.solve.ensures.book.book c.solve.ensures.fresh
+    (caught_up_after c.args.database.now c.solve.new.self c.solve.ensures.same) c.solve.ensures.database.database c.solve.ensures.fresh
     before.here.way in
     left.0.went
 
@@ -31,34 +31,34 @@ pub returns-in_err-id-clause-stopped : goal.returns-in_err-id-clause-stopped
 returns-in_err-id-clause-stopped g c =
     let (graph, checker, before) = c.requires.search in
     let s = c.args.self.now in
-    let left = c.instances_leave_searches.ensures s.f.now c.args.book.now c.solve.new.self checker s.padoa.now s.may_ask
+    let left = c.instances_leave_searches.ensures s.f.now c.args.database.now c.solve.new.self checker s.definability.now s.may_ask
     (is_silent c.solve.result) c.args.log.now c.solve.new.log c.solve.ensures.grew
-    (caught_up_after c.args.book.now c.solve.new.self c.solve.ensures.same) c.solve.ensures.book.book c.solve.ensures.fresh
+    (caught_up_after c.args.database.now c.solve.new.self c.solve.ensures.same) c.solve.ensures.database.database c.solve.ensures.fresh
     before.here.way in
     record {
-      undecided = on_err _ (after_undecided c.args.book.now c.solve.new.self c.solve.new.log.entries left.0.went.book
+      undecided = on_err _ (after_undecided c.args.database.now c.solve.new.self c.solve.new.log.entries left.0.went.database
           (left.0.undecided (ap is_silent c.in_err-id.was) before.here.undecided));
       limit = λ is.
           let stop : c.in_err-id.field-0.0 ≡ Limit = search rules in
           by_lemma s.f.now c.solve.new.log (some_limit c.solve.new.log
           (c.in_err-id.ensures.limit (ap (λ e. Err e) stop)));
-      rows = λ is. c.solve.ensures.book.rows;
+      rows = λ is. c.solve.ensures.database.rows;
     }
 
 pub returns-clause-went : goal.returns-clause-went
 returns-clause-went g c graph checker before =
     let s = c.args.self.now in
-    let left = c.instances_leave_searches.ensures s.f.now c.args.book.now c.solve.new.self checker s.padoa.now s.may_ask
+    let left = c.instances_leave_searches.ensures s.f.now c.args.database.now c.solve.new.self checker s.definability.now s.may_ask
     (is_silent c.solve.result) c.args.log.now c.solve.new.log c.solve.ensures.grew
-    (caught_up_after c.args.book.now c.solve.new.self c.solve.ensures.same) c.solve.ensures.book.book c.solve.ensures.fresh
+    (caught_up_after c.args.database.now c.solve.new.self c.solve.ensures.same) c.solve.ensures.database.database c.solve.ensures.fresh
     before.here.way in
     left.0.went
 
 pub returns-clause-refuted : goal.returns-clause-refuted
 returns-clause-refuted g c id e =
-    let b = c.args.book.now in
+    let b = c.args.database.now in
     let after = caught_up_after b c.solve.new.self c.solve.ensures.same in
-    let rows = c.solve.ensures.book.rows ∙ ap (λ (x : BookState). x.table.rows) c.solve.ensures.same.same in
+    let rows = c.solve.ensures.database.rows ∙ ap (λ (x : DatabaseState). x.table.rows) c.solve.ensures.same.same in
     elim c.match-branch-2.branch [
       | in-Refuted w ↦
           let was = c.in_ok-id.was ∙ ap Ok w.in-Refuted.is in
@@ -72,13 +72,13 @@ returns-clause-refuted g c id e =
 pub returns-clause-search : goal.returns-clause-search
 returns-clause-search g c graph checker before e =
     let s = c.args.self.now in
-    let left = c.instances_leave_searches.ensures s.f.now c.args.book.now c.solve.new.self checker s.padoa.now s.may_ask
+    let left = c.instances_leave_searches.ensures s.f.now c.args.database.now c.solve.new.self checker s.definability.now s.may_ask
     (is_silent c.solve.result) c.args.log.now c.solve.new.log c.solve.ensures.grew
-    (caught_up_after c.args.book.now c.solve.new.self c.solve.ensures.same) c.solve.ensures.book.book c.solve.ensures.fresh
+    (caught_up_after c.args.database.now c.solve.new.self c.solve.ensures.same) c.solve.ensures.database.database c.solve.ensures.fresh
     before.here.way in
     elim c.match-branch-2.branch [
       | in-Refuted w ↦ cc
-      | in-Model w ↦ left_search s.f.now graph graph c.args.book.now c.solve.new.self checker checker s.padoa.now s.may_ask
+      | in-Model w ↦ left_search s.f.now graph graph c.args.database.now c.solve.new.self checker checker s.definability.now s.may_ask
           (is_silent c.solve.result) c.args.log.now c.solve.new.log (ap is_silent (c.in_ok-id.was ∙ ap Ok w.in-Model.is))
-          left.0 left.1 c.solve.ensures.book.rows refl before
+          left.0 left.1 c.solve.ensures.database.rows refl before
     ]

@@ -32,19 +32,19 @@ force-requires-clause-model g c =
 pub returns-in_err-force-clause-left : goal.returns-in_err-force-clause-left
 returns-in_err-force-clause-left g c checker before =
     let s = c.args.self.now in
-    (c.questions_leave_searches.ensures s.f.now c.args.book.now checker s.padoa.now s.may_ask c.args.log.now c.force.new.log
+    (c.questions_leave_searches.ensures s.f.now c.args.database.now checker s.definability.now s.may_ask c.args.log.now c.force.new.log
     c.force.ensures.left.grew c.force.ensures.left.copied before.here.way).0
 
 pub returns-in_err-outputs-clause-left : goal.returns-in_err-outputs-clause-left
 returns-in_err-outputs-clause-left g c checker before =
     let s = c.args.self.now in
-    (c.questions_leave_searches.ensures s.f.now c.args.book.now checker s.padoa.now s.may_ask c.args.log.now c.force.new.log
+    (c.questions_leave_searches.ensures s.f.now c.args.database.now checker s.definability.now s.may_ask c.args.log.now c.force.new.log
     c.force.ensures.left.grew c.force.ensures.left.copied before.here.way).0
 
 pub returns-clause-left : goal.returns-clause-left
 returns-clause-left g c checker before =
     let s = c.args.self.now in
-    (c.questions_leave_searches.ensures s.f.now c.args.book.now checker s.padoa.now s.may_ask c.args.log.now c.force.new.log
+    (c.questions_leave_searches.ensures s.f.now c.args.database.now checker s.definability.now s.may_ask c.args.log.now c.force.new.log
     c.force.ensures.left.grew c.force.ensures.left.copied before.here.way).0
 
 pub build-requires-clause-inputs : goal.build-requires-clause-inputs
@@ -55,9 +55,9 @@ returns-clause-proposed g c checker outputs before e =
     let s = c.args.self.now in
     let f = s.f.now in
     let forced = c.force.ensures.left in
-    let left = c.questions_leave_searches.ensures f c.args.book.now checker s.padoa.now s.may_ask c.args.log.now c.force.new.log
+    let left = c.questions_leave_searches.ensures f c.args.database.now checker s.definability.now s.may_ask c.args.log.now c.force.new.log
     forced.grew forced.copied before.here.way in
-    let next = left_search f c.args.graph.now c.build.new.graph c.args.book.now c.args.book.now checker checker s.padoa.now s.may_ask
+    let next = left_search f c.args.graph.now c.build.new.graph c.args.database.now c.args.database.now checker checker s.definability.now s.may_ask
     true c.args.log.now c.force.new.log refl left.0 left.1 (left.0.rows ∙ before.here.rows)
     c.build.ensures.extends.inputs before in
     let built = c.in_ok-outputs.ensures in
@@ -74,7 +74,7 @@ returns-clause-proposed g c checker outputs before e =
             forced = forced.forced;
             guessed = subst (AreGuesses f c.args.graph.now) (sym forced.guesses) c.requires.known.guessed;
           });
-      candidates = subst (AreBuilt f c.build.new.graph c.args.book.now.table.rows) same (record {
+      candidates = subst (AreBuilt f c.build.new.graph c.args.database.now.table.rows) same (record {
         one_each = built.one_each;
         are_nodes = built.nodes;
         reads = built.reads;

@@ -1,7 +1,7 @@
 use Rattle.std.proofs.Common.{rules, ◌≡◌, ◌∙◌, refl, ap, subst, Ok, length, Err}
 use Rattle.list_laws.proofs.Results.{on_err}
 use Rattle.hint_log.specs.declared.stops.Stop.TheVariants.{Limit}
-use Rattle.repair_loop.specs.Desks.{IsAnsweredFalse, IsAnsweredTrue}
+use Rattle.repair_loop.specs.SearchStates.{IsAnsweredFalse, IsAnsweredTrue}
 use Rattle.repair_loop.proofs.LogGrowth.{fewer_left}
 use Rattle.repair_loop.proofs.Stops.{stop_left}
 use Rattle.repair_loop.proofs.Turned.{ended_by, row_refused, row_search, row_undecided, went_then}
@@ -16,7 +16,7 @@ returns-in_err-outputs-clause-inputs g c = c.find_candidates.ensures.extends.inp
 pub returns-in_err-outputs-clause-ended : goal.returns-in_err-outputs-clause-ended
 returns-in_err-outputs-clause-ended g c =
     let s = c.args.self.now in
-    ended_by s.f.now c.args.book.now c.find_candidates.new.book c.args.checker.now c.args.checker.now s.padoa.now s.may_ask
+    ended_by s.f.now c.args.database.now c.find_candidates.new.database c.args.checker.now c.args.checker.now s.definability.now s.may_ask
     c.args.log.now c.find_candidates.new.log (c.find_candidates.ensures.went c.args.checker.now c.requires.search)
 
 pub returns-in_err-outputs-clause-way : goal.returns-in_err-outputs-clause-way
@@ -45,7 +45,7 @@ returns-in-Refuted-clause-inputs g c = c.find_candidates.ensures.extends.inputs
 pub returns-in-Refuted-clause-ended : goal.returns-in-Refuted-clause-ended
 returns-in-Refuted-clause-ended g c =
     let s = c.args.self.now in
-    ended_by s.f.now c.args.book.now c.find_candidates.new.book c.args.checker.now c.args.checker.now s.padoa.now s.may_ask
+    ended_by s.f.now c.args.database.now c.find_candidates.new.database c.args.checker.now c.args.checker.now s.definability.now s.may_ask
     c.args.log.now c.find_candidates.new.log (c.find_candidates.ensures.went c.args.checker.now c.requires.search)
 
 pub returns-in-Refuted-clause-way : goal.returns-in-Refuted-clause-way
@@ -58,7 +58,7 @@ returns-in-Refuted-clause-rows g c other = c.find_candidates.ensures.rows
 pub returns-in-Refuted-clause-shown_false : goal.returns-in-Refuted-clause-shown_false
 returns-in-Refuted-clause-shown_false g c id e =
     let same : c.in-Refuted.id ≡ id = cc in
-    subst (IsAnsweredFalse c.find_candidates.new.book c.find_candidates.new.log) same
+    subst (IsAnsweredFalse c.find_candidates.new.database c.find_candidates.new.log) same
     (c.find_candidates.ensures.refuted c.in-Refuted.id (c.in_ok-outputs.was ∙ ap Ok c.in-Refuted.is))
 
 pub judge-requires-clause-search : goal.judge-requires-clause-search
@@ -74,11 +74,11 @@ judge-requires-clause-candidates g c =
 pub returns-in_err-id-clause-ended : goal.returns-in_err-id-clause-ended
 returns-in_err-id-clause-ended g c =
     let s = c.args.self.now in
-    let judged = went_then s.f.now c.args.book.now c.find_candidates.new.book c.find_candidates.new.book
-    c.args.checker.now c.args.checker.now c.judge.new.checker s.padoa.now s.may_ask c.args.log.now
+    let judged = went_then s.f.now c.args.database.now c.find_candidates.new.database c.find_candidates.new.database
+    c.args.checker.now c.args.checker.now c.judge.new.checker s.definability.now s.may_ask c.args.log.now
     c.find_candidates.new.log c.judge.new.log
     (c.find_candidates.ensures.went c.args.checker.now c.requires.search) c.judge.ensures.went in
-    ended_by s.f.now c.args.book.now c.find_candidates.new.book c.args.checker.now c.judge.new.checker s.padoa.now
+    ended_by s.f.now c.args.database.now c.find_candidates.new.database c.args.checker.now c.judge.new.checker s.definability.now
     s.may_ask c.args.log.now c.judge.new.log judged
 
 pub returns-in_err-id-clause-way : goal.returns-in_err-id-clause-way
@@ -105,11 +105,11 @@ returns-in_err-id-clause-rows g c other =
 pub returns-in-Hold-clause-ended : goal.returns-in-Hold-clause-ended
 returns-in-Hold-clause-ended g c =
     let s = c.args.self.now in
-    let judged = went_then s.f.now c.args.book.now c.find_candidates.new.book c.find_candidates.new.book
-    c.args.checker.now c.args.checker.now c.judge.new.checker s.padoa.now s.may_ask c.args.log.now
+    let judged = went_then s.f.now c.args.database.now c.find_candidates.new.database c.find_candidates.new.database
+    c.args.checker.now c.args.checker.now c.judge.new.checker s.definability.now s.may_ask c.args.log.now
     c.find_candidates.new.log c.judge.new.log
     (c.find_candidates.ensures.went c.args.checker.now c.requires.search) c.judge.ensures.went in
-    ended_by s.f.now c.args.book.now c.find_candidates.new.book c.args.checker.now c.judge.new.checker s.padoa.now
+    ended_by s.f.now c.args.database.now c.find_candidates.new.database c.args.checker.now c.judge.new.checker s.definability.now
     s.may_ask c.args.log.now c.judge.new.log judged
 
 pub returns-in-Hold-clause-way : goal.returns-in-Hold-clause-way
@@ -127,9 +127,9 @@ returns-in-Hold-clause-shown_true g c nodes id e =
     (subst (IsAnsweredTrue f c.find_candidates.new.graph c.in-Candidates.outputs c.judge.new.log) same
     (c.judge.ensures.hold c.in-Hold.id (c.in_ok-id.was ∙ ap Ok c.in-Hold.is)))
 
-pub add_row-requires-clause-book : goal.add_row-requires-clause-book
-add_row-requires-clause-book g c =
-    (c.judge.ensures.fail c.in-Fail.row (c.in_ok-id.was ∙ ap Ok c.in-Fail.is)).logged.way.book
+pub add_row-requires-clause-database : goal.add_row-requires-clause-database
+add_row-requires-clause-database g c =
+    (c.judge.ensures.fail c.in-Fail.row (c.in_ok-id.was ∙ ap Ok c.in-Fail.is)).logged.way.database
 
 pub add_row-requires-clause-rows : goal.add_row-requires-clause-rows
 add_row-requires-clause-rows g c =
@@ -147,14 +147,14 @@ add_row-requires-clause-few g c =
 pub returns-in_err-add_row-in-Fail-clause-ended : goal.returns-in_err-add_row-in-Fail-clause-ended
 returns-in_err-add_row-in-Fail-clause-ended g c =
     let s = c.args.self.now in
-    let judged = went_then s.f.now c.args.book.now c.find_candidates.new.book c.find_candidates.new.book
-    c.args.checker.now c.args.checker.now c.judge.new.checker s.padoa.now s.may_ask c.args.log.now
+    let judged = went_then s.f.now c.args.database.now c.find_candidates.new.database c.find_candidates.new.database
+    c.args.checker.now c.args.checker.now c.judge.new.checker s.definability.now s.may_ask c.args.log.now
     c.find_candidates.new.log c.judge.new.log
     (c.find_candidates.ensures.went c.args.checker.now c.requires.search) c.judge.ensures.went in
     let round = c.judge.ensures.fail c.in-Fail.row (c.in_ok-id.was ∙ ap Ok c.in-Fail.is) in
-    row_refused c.instances_leave_logs.ensures s.f.now c.find_candidates.new.book c.add_row.new.self c.judge.new.checker
-    s.padoa.now s.may_ask c.in-Fail.row c.args.log.now c.judge.new.log c.add_row.new.log c.args.book.now
-    (ended_by s.f.now c.args.book.now c.find_candidates.new.book c.args.checker.now c.judge.new.checker s.padoa.now
+    row_refused c.instances_leave_logs.ensures s.f.now c.find_candidates.new.database c.add_row.new.self c.judge.new.checker
+    s.definability.now s.may_ask c.in-Fail.row c.args.log.now c.judge.new.log c.add_row.new.log c.args.database.now
+    (ended_by s.f.now c.args.database.now c.find_candidates.new.database c.args.checker.now c.judge.new.checker s.definability.now
     s.may_ask c.args.log.now c.judge.new.log judged) round.logged c.add_row.ensures.grew c.add_row.ensures.same
 
 pub returns-in_err-add_row-in-Fail-clause-stopped : goal.returns-in_err-add_row-in-Fail-clause-stopped
@@ -163,7 +163,7 @@ returns-in_err-add_row-in-Fail-clause-stopped g c =
     let round = c.judge.ensures.fail c.in-Fail.row (c.in_ok-id.was ∙ ap Ok c.in-Fail.is) in
     record {
       undecided = on_err _ (row_undecided c.instances_leave_logs.ensures s.f.now
-          c.find_candidates.new.book c.add_row.new.self c.judge.new.checker s.padoa.now s.may_ask c.in-Fail.row
+          c.find_candidates.new.database c.add_row.new.self c.judge.new.checker s.definability.now s.may_ask c.in-Fail.row
           c.judge.new.log c.add_row.new.log round.logged c.add_row.ensures.grew c.add_row.ensures.same);
       limit = search rules;
       rows = search rules;
@@ -173,22 +173,22 @@ pub returns-in_ok-add_row-in-Fail-clause-open : goal.returns-in_ok-add_row-in-Fa
 returns-in_ok-add_row-in-Fail-clause-open g c e =
     let s = c.args.self.now in
     let found = c.find_candidates.ensures.went c.args.checker.now c.requires.search in
-    let judged = went_then s.f.now c.args.book.now c.find_candidates.new.book c.find_candidates.new.book
-    c.args.checker.now c.args.checker.now c.judge.new.checker s.padoa.now s.may_ask c.args.log.now
+    let judged = went_then s.f.now c.args.database.now c.find_candidates.new.database c.find_candidates.new.database
+    c.args.checker.now c.args.checker.now c.judge.new.checker s.definability.now s.may_ask c.args.log.now
     c.find_candidates.new.log c.judge.new.log found c.judge.ensures.went in
     let round = c.judge.ensures.fail c.in-Fail.row (c.in_ok-id.was ∙ ap Ok c.in-Fail.is) in
     let proposed = c.find_candidates.ensures.proposed c.args.checker.now c.in-Candidates.outputs c.requires.search
     (c.in_ok-outputs.was ∙ ap Ok c.in-Candidates.is) in
     let next = row_search c.instances_leave_searches.ensures s.f.now c.find_candidates.new.graph
-    c.find_candidates.new.book c.add_row.new.self c.judge.new.checker s.padoa.now s.may_ask c.in-Fail.row c.judge.new.log
+    c.find_candidates.new.database c.add_row.new.self c.judge.new.checker s.definability.now s.may_ask c.in-Fail.row c.judge.new.log
     c.add_row.new.log round.logged c.add_row.ensures.grew c.add_row.ensures.same c.add_row.ensures.group
-    c.in_ok-add_row-in-Fail.ensures.book proposed.search.inputs in
+    c.in_ok-add_row-in-Fail.ensures.database proposed.search.inputs in
     let left = c.instances_leave_logs.ensures _ _ _ _ _ c.add_row.ensures.grew in
     record {
       search = next.1;
       known_there = proposed.known;
-      went = went_then s.f.now c.args.book.now c.find_candidates.new.book c.add_row.new.self c.args.checker.now
-          c.judge.new.checker c.judge.new.checker s.padoa.now s.may_ask c.args.log.now c.judge.new.log c.add_row.new.log
+      went = went_then s.f.now c.args.database.now c.find_candidates.new.database c.add_row.new.self c.args.checker.now
+          c.judge.new.checker c.judge.new.checker s.definability.now s.may_ask c.args.log.now c.judge.new.log c.add_row.new.log
           judged next.0.went;
       step = fewer_left c.args.log.now c.find_candidates.new.log c.judge.new.log c.add_row.new.log found.grew left.grew
           c.judge.ensures.went.grew round.step round.within;
@@ -201,5 +201,5 @@ returns-in_ok-add_row-in-Fail-clause-way g c other =
 pub returns-in_ok-add_row-in-Fail-clause-ended : goal.returns-in_ok-add_row-in-Fail-clause-ended
 returns-in_ok-add_row-in-Fail-clause-ended g c =
     let s = c.args.self.now in
-    ended_by s.f.now c.args.book.now c.add_row.new.self c.args.checker.now c.judge.new.checker s.padoa.now s.may_ask
+    ended_by s.f.now c.args.database.now c.add_row.new.self c.args.checker.now c.judge.new.checker s.definability.now s.may_ask
     c.args.log.now c.add_row.new.log (returns-in_ok-add_row-in-Fail-clause-open g c refl).went

@@ -1,12 +1,12 @@
 use Rattle.std.proofs.Common.{◌≡◌, ◌∙◌, ap, subst, Ok}
-use Rattle.repair_loop.specs.Desks.{IsAnsweredFalse}
+use Rattle.repair_loop.specs.SearchStates.{IsAnsweredFalse}
 use Rattle.repair_loop.proofs.Turned.{ended_by, ended_then}
 use Rattle.repair_loop.proofs.searches.Search.run.Goals as goal
 
 pub returns-in_err-id-clause-ended : goal.returns-in_err-id-clause-ended
 returns-in_err-id-clause-ended g c =
     let s = c.args.self.now in
-    ended_by s.f.now c.args.book.now c.look_at_rows.new.book c.args.checker.now c.args.checker.now s.padoa.now s.may_ask
+    ended_by s.f.now c.args.database.now c.look_at_rows.new.database c.args.checker.now c.args.checker.now s.definability.now s.may_ask
     c.args.log.now c.look_at_rows.new.log
     (c.look_at_rows.ensures.went c.args.graph.now c.args.checker.now c.requires.search)
 
@@ -22,7 +22,7 @@ run_on-requires-clause-search g c =
 pub returns-in-Some-clause-ended : goal.returns-in-Some-clause-ended
 returns-in-Some-clause-ended g c =
     let s = c.args.self.now in
-    ended_by s.f.now c.args.book.now c.look_at_rows.new.book c.args.checker.now c.args.checker.now s.padoa.now s.may_ask
+    ended_by s.f.now c.args.database.now c.look_at_rows.new.database c.args.checker.now c.args.checker.now s.definability.now s.may_ask
     c.args.log.now c.look_at_rows.new.log
     (c.look_at_rows.ensures.went c.args.graph.now c.args.checker.now c.requires.search)
 
@@ -33,12 +33,12 @@ returns-in-Some-clause-way g c other =
 pub returns-in-Some-clause-shown_false : goal.returns-in-Some-clause-shown_false
 returns-in-Some-clause-shown_false g c id e =
     let same : c.in-Some.id ≡ id = cc in
-    subst (IsAnsweredFalse c.look_at_rows.new.book c.look_at_rows.new.log) same
+    subst (IsAnsweredFalse c.look_at_rows.new.database c.look_at_rows.new.log) same
     (c.look_at_rows.ensures.refuted c.in-Some.id (c.in_ok-id.was ∙ ap Ok c.in-Some.is))
 
 pub returns-in-None-clause-ended : goal.returns-in-None-clause-ended
 returns-in-None-clause-ended g c =
     let s = c.args.self.now in
-    ended_then s.f.now c.args.book.now c.look_at_rows.new.book c.run_on.new.book c.args.checker.now c.args.checker.now
-    s.padoa.now s.may_ask c.args.log.now c.look_at_rows.new.log c.run_on.new.log
+    ended_then s.f.now c.args.database.now c.look_at_rows.new.database c.run_on.new.database c.args.checker.now c.args.checker.now
+    s.definability.now s.may_ask c.args.log.now c.look_at_rows.new.log c.run_on.new.log
     (c.look_at_rows.ensures.went c.args.graph.now c.args.checker.now c.requires.search) c.run_on.ensures.ended

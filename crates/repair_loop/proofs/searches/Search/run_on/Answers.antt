@@ -9,7 +9,7 @@ use Rattle.repair_loop.proofs.searches.Search.run_on.Goals as goal
 pub find_known-requires-clause-may : goal.find_known-requires-clause-may
 find_known-requires-clause-may g c = record {
   formula = c.requires.search.here.way.formula;
-  padoa = c.requires.search.here.way.copied c.requires.ready;
+  definability = c.requires.search.here.way.copied c.requires.ready;
   inputs = c.requires.search.inputs;
 }
 
@@ -20,33 +20,33 @@ pub returns-in_err-known-clause-ended : goal.returns-in_err-known-clause-ended
 returns-in_err-known-clause-ended g c =
     let s = c.args.self.now in
     let asked = c.find_known.ensures.asked in
-    let left = c.questions_leave_searches.ensures s.f.now c.args.book.now c.args.checker.now s.padoa.now s.may_ask c.args.log.now
-    c.find_known.new.log asked.grew (λ on. asked.may.padoa) c.requires.search.here.way in
-    ended_by s.f.now c.args.book.now c.args.book.now c.args.checker.now c.args.checker.now s.padoa.now s.may_ask c.args.log.now
+    let left = c.questions_leave_searches.ensures s.f.now c.args.database.now c.args.checker.now s.definability.now s.may_ask c.args.log.now
+    c.find_known.new.log asked.grew (λ on. asked.may.definability) c.requires.search.here.way in
+    ended_by s.f.now c.args.database.now c.args.database.now c.args.checker.now c.args.checker.now s.definability.now s.may_ask c.args.log.now
     c.find_known.new.log left.0.went
 
 pub returns-in_err-known-clause-way : goal.returns-in_err-known-clause-way
 returns-in_err-known-clause-way g c other =
     let s = c.args.self.now in
     let asked = c.find_known.ensures.asked in
-    let left = c.questions_leave_searches.ensures s.f.now c.args.book.now c.args.checker.now s.padoa.now s.may_ask c.args.log.now
-    c.find_known.new.log asked.grew (λ on. asked.may.padoa) c.requires.search.here.way in
+    let left = c.questions_leave_searches.ensures s.f.now c.args.database.now c.args.checker.now s.definability.now s.may_ask c.args.log.now
+    c.find_known.new.log asked.grew (λ on. asked.may.definability) c.requires.search.here.way in
     left.0.went.way
 
 pub returns-in_err-known-clause-rows : goal.returns-in_err-known-clause-rows
 returns-in_err-known-clause-rows g c other =
     let s = c.args.self.now in
     let asked = c.find_known.ensures.asked in
-    let left = c.questions_leave_searches.ensures s.f.now c.args.book.now c.args.checker.now s.padoa.now s.may_ask c.args.log.now
-    c.find_known.new.log asked.grew (λ on. asked.may.padoa) c.requires.search.here.way in
+    let left = c.questions_leave_searches.ensures s.f.now c.args.database.now c.args.checker.now s.definability.now s.may_ask c.args.log.now
+    c.find_known.new.log asked.grew (λ on. asked.may.definability) c.requires.search.here.way in
     left.0.rows ∙ c.requires.search.here.rows
 
 pub returns-in_err-known-clause-stopped : goal.returns-in_err-known-clause-stopped
 returns-in_err-known-clause-stopped g c =
     let s = c.args.self.now in
     let asked = c.find_known.ensures.asked in
-    let left = c.questions_leave_searches.ensures s.f.now c.args.book.now c.args.checker.now s.padoa.now s.may_ask c.args.log.now
-    c.find_known.new.log asked.grew (λ on. asked.may.padoa) c.requires.search.here.way in
+    let left = c.questions_leave_searches.ensures s.f.now c.args.database.now c.args.checker.now s.definability.now s.may_ask c.args.log.now
+    c.find_known.new.log asked.grew (λ on. asked.may.definability) c.requires.search.here.way in
     record {
       undecided = on_err _ (left.0.undecided refl c.requires.search.here.undecided);
       limit = λ is.
@@ -59,10 +59,10 @@ pub all_rounds-requires-clause-search : goal.all_rounds-requires-clause-search
 all_rounds-requires-clause-search g c =
     let s = c.args.self.now in
     let asked = c.find_known.ensures.asked in
-    let left = c.questions_leave_searches.ensures s.f.now c.args.book.now c.args.checker.now s.padoa.now s.may_ask c.args.log.now
-    c.find_known.new.log asked.grew (λ on. asked.may.padoa) c.requires.search.here.way in
-    left_search s.f.now c.args.graph.now c.find_known.new.graph c.args.book.now c.args.book.now c.args.checker.now
-    c.args.checker.now s.padoa.now s.may_ask true c.args.log.now c.find_known.new.log refl left.0 left.1
+    let left = c.questions_leave_searches.ensures s.f.now c.args.database.now c.args.checker.now s.definability.now s.may_ask c.args.log.now
+    c.find_known.new.log asked.grew (λ on. asked.may.definability) c.requires.search.here.way in
+    left_search s.f.now c.args.graph.now c.find_known.new.graph c.args.database.now c.args.database.now c.args.checker.now
+    c.args.checker.now s.definability.now s.may_ask true c.args.log.now c.find_known.new.log refl left.0 left.1
     (left.0.rows ∙ c.requires.search.here.rows) c.find_known.ensures.asked.extends.inputs c.requires.search
 
 pub returns-clause-inputs : goal.returns-clause-inputs
@@ -72,12 +72,12 @@ pub returns-clause-ended : goal.returns-clause-ended
 returns-clause-ended g c =
     let s = c.args.self.now in
     let asked = c.find_known.ensures.asked in
-    let left = c.questions_leave_searches.ensures s.f.now c.args.book.now c.args.checker.now s.padoa.now s.may_ask c.args.log.now
-    c.find_known.new.log asked.grew (λ on. asked.may.padoa) c.requires.search.here.way in
+    let left = c.questions_leave_searches.ensures s.f.now c.args.database.now c.args.checker.now s.definability.now s.may_ask c.args.log.now
+    c.find_known.new.log asked.grew (λ on. asked.may.definability) c.requires.search.here.way in
     let ended = c.all_rounds.ensures.ended in
     record {
       kept = ended.kept;
       new_faults = ended.new_faults;
-      book = ended.book;
+      database = ended.database;
       grew = log_then c.args.log.now c.find_known.new.log c.all_rounds.new.log left.0.went.grew ended.grew;
     }

@@ -16,7 +16,7 @@ pub returns-in-None-clause-ended : goal.returns-in-None-clause-ended
 returns-in-None-clause-ended g c =
     let s = c.args.self.now in
     let next = c.round.ensures.open (c.in_ok-verdict.was ∙ ap Ok c.in-None.is) in
-    ended_then s.f.now c.args.book.now c.round.new.book c.look_again.new.book c.args.checker.now c.round.new.checker
-    s.padoa.now s.may_ask c.args.log.now c.round.new.log c.look_again.new.log next.went
-    (ended_by s.f.now c.round.new.book c.look_again.new.book c.round.new.checker c.round.new.checker s.padoa.now s.may_ask
+    ended_then s.f.now c.args.database.now c.round.new.database c.look_again.new.database c.args.checker.now c.round.new.checker
+    s.definability.now s.may_ask c.args.log.now c.round.new.log c.look_again.new.log next.went
+    (ended_by s.f.now c.round.new.database c.look_again.new.database c.round.new.checker c.round.new.checker s.definability.now s.may_ask
     c.round.new.log c.look_again.new.log c.look_again.ensures.went)

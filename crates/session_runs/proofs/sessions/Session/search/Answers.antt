@@ -8,6 +8,6 @@ returns-clause-ok g c =
     on_ok c.write_block.result
     (λ written. searched-on c.args.self.now c.renew.new.self _ c.args.log.now c.search_text.new.log c.in-Some.f
     c.in_ok-text.text.items c.deref.result.now c.in_ok-renew.ensures.same c.in_ok-renew.ensures.now c.in-Some.is
-    c.in_ok-text.ensures.found c.deref.ensures.value c.in_ok-text.ensures.ready c.in_ok-text.ensures.book
+    c.in_ok-text.ensures.found c.deref.ensures.value c.in_ok-text.ensures.ready c.in_ok-text.ensures.database
     refl refl refl written)
     c.write_block.ensures

@@ -15,7 +15,7 @@ search-requires-clause-room g c =
 
 pub change-requires-clause-may_come : goal.change-requires-clause-may_come
 change-requires-clause-may_come g c =
-    may-take c.following_books_stand.ensures c.args.script.now c.args.place c.args.self.now c.args.log.now
+    may-take c.following_databases_stand.ensures c.args.script.now c.args.place c.args.self.now c.args.log.now
     (command_seen c.get-command.result) c.get-command.ensures c.requires.standing
 
 pub returns-then-is_search-clause-ok : goal.returns-then-is_search-clause-ok
@@ -23,7 +23,7 @@ returns-then-is_search-clause-ok g c =
     let at = c.get-command.ensures
     ∙ ap Some (search-is (command_seen c.get-command.result) (sym c.is_search.ensures ∙ c.if-is_search.true)) in
     on_ok c.search.result
-    (λ on. standing-search c.following_books_stand.ensures c.undecided_takes_clauses.ensures c.args.script.now
+    (λ on. standing-search c.following_databases_stand.ensures c.undecided_takes_clauses.ensures c.args.script.now
     c.args.place c.args.self.now c.args.log.now at c.requires.standing c.search.new.self c.search.new.log on
     c.search.ensures.limit)
     c.search.ensures.ok
@@ -31,7 +31,7 @@ returns-then-is_search-clause-ok g c =
 pub returns-then-is_search-clause-err : goal.returns-then-is_search-clause-err
 returns-then-is_search-clause-err g c =
     on-err-weaker c.search.result
-    (work-of c.following_books_stand.ensures c.args.script.now c.args.place c.args.self.now c.args.log.now
+    (work-of c.following_databases_stand.ensures c.args.script.now c.args.place c.args.self.now c.args.log.now
     (command_seen c.get-command.result) c.get-command.ensures c.requires.standing
     c.search.new.log)
     c.search.ensures.err
@@ -39,18 +39,18 @@ returns-then-is_search-clause-err g c =
 pub returns-else-is_search-clause-ok : goal.returns-else-is_search-clause-ok
 returns-else-is_search-clause-ok g c =
     on_both c.change.result
-    (λ book current. standing-change c.books_follow.ensures c.following_books_stand.ensures
-    c.opened_frames_leave_desks.ensures c.closed_frames_leave_desks.ensures c.added_clauses_leave_desks.ensures
+    (λ database current. standing-change c.databases_follow.ensures c.following_databases_stand.ensures
+    c.opened_frames_leave_search_states.ensures c.closed_frames_leave_search_states.ensures c.added_clauses_leave_search_states.ensures
     c.args.script.now c.args.place c.args.self.now c.args.log.now (command_seen c.get-command.result)
     c.get-command.ensures c.requires.standing (sym c.is_search.ensures ∙ c.if-is_search.false) c.change.new.self
-    c.change.ensures.same book current)
-    c.change.ensures.book c.change.ensures.current
+    c.change.ensures.same database current)
+    c.change.ensures.database c.change.ensures.current
 
 pub returns-else-is_search-clause-err : goal.returns-else-is_search-clause-err
 returns-else-is_search-clause-err g c =
     on_err c.change.result
-    (work-of c.following_books_stand.ensures c.args.script.now c.args.place c.args.self.now c.args.log.now
+    (work-of c.following_databases_stand.ensures c.args.script.now c.args.place c.args.self.now c.args.log.now
     (command_seen c.get-command.result) c.get-command.ensures c.requires.standing
     c.args.log.now
-    (ready-so-far c.args.self.now.book c.args.self.now.desk c.args.self.now.graph c.args.log.now.entries
+    (ready-so-far c.args.self.now.database c.args.self.now.search_state c.args.self.now.graph c.args.log.now.entries
     c.requires.standing.ready))

@@ -1,0 +1,54 @@
+use Rattle.std.proofs.Common.{[], length, replicate, ◌∙◌, subst, arith}
+use Rattle.std.specs.List.{All}
+use Rattle.std.proofs.lemmas.Option.{get_or_from_slice_get}
+use Rattle.dq_lits.specs.Literal.{variable_of}
+use Rattle.definability.specs.Copies.{IsCopied}
+use Rattle.definability.proofs.FirstStores.{by_clause, by_copies, file_receiving, given_then, can_give_still}
+use Rattle.definability.proofs.definability.Definability.give_clause.Goals as goal
+
+pub copy_variables-requires-clause-standing : goal.copy_variables-requires-clause-standing
+copy_variables-requires-clause-standing g c =
+    let f = c.args.f.now in (f, replicate (length f.matrix) 0, c.requires.open_file.standing)
+
+pub returns-in_err-copy_variables-clause-more : goal.returns-in_err-copy_variables-clause-more
+returns-in_err-copy_variables-clause-more g c =
+    let f = c.args.f.now in
+    by_copies f c.args.self.now c.copy_variables.new.self c.args.log.now c.copy_variables.new.log
+    c.requires.open_file c.copy_variables.ensures.more
+
+pub give_sides-requires-clause-standing : goal.give_sides-requires-clause-standing
+give_sides-requires-clause-standing g c =
+    let f = c.args.f.now in (
+      f,
+      replicate (length f.matrix) 0,
+      file_receiving f c.args.self.now c.copy_variables.new.self c.args.log.now
+          c.copy_variables.new.log c.args.place c.requires.open_file c.copy_variables.ensures.more c.requires.place,
+    )
+
+pub give_sides-requires-clause-prepared : goal.give_sides-requires-clause-prepared
+give_sides-requires-clause-prepared g c =
+    let f = c.args.f.now in
+    let h = can_give_still f c.args.self.now c.copy_variables.new.self c.args.log.now c.copy_variables.new.log
+    c.requires.open_file
+    (by_copies f c.args.self.now c.copy_variables.new.self c.args.log.now c.copy_variables.new.log
+    c.requires.open_file c.copy_variables.ensures.more) in
+    record {
+      room = (let long = h.given in let below = c.requires.place in omega (arith, long, below));
+      opened = h.opened;
+      covered = λ d d_is.
+          subst (All (λ l. IsCopied f c.copy_variables.new.self.copied.items (variable_of l)))
+          (c.clause.ensures ∙ get_or_from_slice_get f.matrix c.args.place d [] d_is)
+          c.in_ok-copy_variables.ensures.covered;
+    }
+
+pub returns-clause-more : goal.returns-clause-more
+returns-clause-more g c =
+    let f = c.args.f.now in
+    given_then f c.args.self.now c.copy_variables.new.self c.give_sides.new.self c.args.log.now
+    c.copy_variables.new.log c.give_sides.new.log
+    (by_copies f c.args.self.now c.copy_variables.new.self c.args.log.now c.copy_variables.new.log
+    c.requires.open_file c.copy_variables.ensures.more)
+    (by_clause f c.copy_variables.new.self c.give_sides.new.self _ c.copy_variables.new.log c.give_sides.new.log
+    (file_receiving f c.args.self.now c.copy_variables.new.self c.args.log.now c.copy_variables.new.log c.args.place
+    c.requires.open_file c.copy_variables.ensures.more c.requires.place)
+    c.give_sides.ensures.following c.give_sides.ensures.same c.give_sides.ensures.long)

@@ -1,0 +1,14 @@
+pub mod Copies
+pub mod Defining
+pub mod Guessing
+pub mod Preservation
+pub mod Growing
+pub mod Dividing
+pub mod Seeing
+pub mod Forcing
+pub mod Ruling
+pub mod Conditions
+pub mod Store
+pub mod Following
+pub mod Making
+pub mod Leaving

@@ -1,0 +1,31 @@
+use Rattle.std.proofs.Common.{◌≡◌, [], ◌∷◌, ◌++◌, sym, subst}
+use Rattle.dq_lits.specs.Formula.{IsWellFormed}
+use Rattle.hint_log.specs.Growth.{Grew}
+use Rattle.expansion.specs.Adding.{IsRowEntry}
+use Rattle.expansion.specs.Table.{IsFullTable}
+use Rattle.dq_session.specs.Databases.{DatabaseState, IsFullDatabase}
+use Rattle.dq_session.proofs.AddedRows.{row_grew, row_answer}
+use Rattle.dq_session.proofs.LiveRefutations.{file_formed}
+use Rattle.list_laws.proofs.Results.{on_both}
+use Rattle.dq_session.proofs.databases.ClauseDatabase.add_row.Goals as goal
+
+pub add_row-requires-clause-formula : goal.add_row-requires-clause-formula
+add_row-requires-clause-formula g c = subst (λ (x : DatabaseState). IsWellFormed x.file) (sym c.self.view_is)
+    (file_formed c.args.self.now c.requires.database.well_formed)
+
+pub returns-clause-grew : goal.returns-clause-grew
+returns-clause-grew g c =
+    let log = c.args.log.now in
+    row_grew c.args.self.now log.entries log c.add_row.new.log
+    (subst (λ (x : DatabaseState). Grew (IsRowEntry x.file x.table.group) log c.add_row.new.log) c.self.view_is
+    c.add_row.ensures.added)
+
+pub returns-clause-database : goal.returns-clause-database
+returns-clause-database g c =
+    let log = c.args.log.now in
+    let new = c.add_row.new.log in
+    let t = c.add_row.new.self in
+    let inside = c.self.inside in
+    on_both c.add_row.result (λ table rows. row_answer _ c.args.self.now c.self.view_is t c.args.row.now log new c.requires.database
+    (g.met.O.Oracle.searched c.add_row.new.oracle new c.add_row.ensures.fit).logged c.add_row.ensures.group
+    c.add_row.ensures.added table rows) c.add_row.ensures.table c.add_row.ensures.rows

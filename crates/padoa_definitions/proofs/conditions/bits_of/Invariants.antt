@@ -1,5 +1,0 @@
-use Rattle.padoa_definitions.specs.Conditions.{MeetsLiterals}
-use Rattle.padoa_definitions.proofs.conditions.bits_of.Given as goal
-
-abbrev pub invariant-loop-l : goal.invariant-loop-l
-invariant-loop-l l = MeetsLiterals l.f l.lits l.l-index l.row

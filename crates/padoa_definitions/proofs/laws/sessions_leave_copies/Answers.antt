@@ -1,5 +1,0 @@
-use Rattle.padoa_definitions.proofs.SessionCopies.{copies_left}
-use Rattle.padoa_definitions.proofs.laws.sessions_leave_copies.Goals as goal
-
-pub returns : goal.returns
-returns c = copies_left c.engines_leave_sessions.ensures

@@ -1,4 +1,0 @@
-use Rattle.padoa_definitions.proofs.padoa.Padoa.follow.Goals as goal
-
-pub sides_of-requires : goal.sides_of-requires
-sides_of-requires g c = c.requires.standing.2.live.from_one

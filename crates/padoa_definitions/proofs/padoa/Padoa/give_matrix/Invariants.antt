@@ -1,7 +1,0 @@
-use Rattle.padoa_definitions.specs.Making.{AreGivenBefore, HasMoreGiven}
-use Rattle.padoa_definitions.specs.Store.{store_of}
-use Rattle.padoa_definitions.proofs.padoa.Padoa.give_matrix.Given as goal
-
-abbrev pub invariant-loop-place : goal.invariant-loop-place
-invariant-loop-place g l = (g.O.Oracle.Fits l.oracle l.log) × HasMoreGiven l.f l.fn.self l.fn.log l.self l.log
-    × AreGivenBefore (store_of l.self) l.place

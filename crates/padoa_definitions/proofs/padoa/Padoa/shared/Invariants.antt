@@ -1,6 +1,0 @@
-use Rattle.std.proofs.Common.{◌≡◌, take}
-use Rattle.padoa_definitions.specs.Dividing.{shared_pairs}
-use Rattle.padoa_definitions.proofs.padoa.Padoa.shared.Given as goal
-
-abbrev pub invariant-loop-place : goal.invariant-loop-place
-invariant-loop-place l = l.shared.items ≡ shared_pairs l.self (take l.place-index l.places)

@@ -1,5 +1,0 @@
-use Rattle.std.proofs.Common.{◌≡◌, replicate}
-use Rattle.padoa_definitions.proofs.padoa.same_groups.Given as goal
-
-abbrev pub invariant-loop : goal.invariant-loop
-invariant-loop l = l.groups.items ≡ replicate l.counter l.group

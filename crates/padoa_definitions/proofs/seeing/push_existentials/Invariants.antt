@@ -1,6 +1,0 @@
-use Rattle.std.proofs.Common.{◌≡◌, ◌+◌, ◌++◌, take, map, length}
-use Rattle.padoa_definitions.proofs.seeing.push_existentials.Given as goal
-
-abbrev pub invariant-loop-place : goal.invariant-loop-place
-invariant-loop-place l = l.places.items ≡ l.fn.places.items ++ map (λ k. length l.f.universals + k)
-    (take l.place-index l.more)

@@ -1,0 +1,128 @@
+-- What a database stands for that follows a script.
+use Rattle.std.proofs.Common.{◌≡◌, ℕ, List, [], ◌∷◌, ◌++◌, map, length, refl, sym, ◌∙◌, ap, subst, append_assoc, append-nil}
+use Rattle.std.specs.List.{filter_map, range_with_len}
+use Rattle.std.proofs.lemmas.List.{map-append}
+use Rattle.std.proofs.lemmas.List.Elements.{filter_map-append}
+use Rattle.dq_lits.specs.Literal.{Literal}
+use Rattle.dq_lits.specs.Formula.{Dqbf}
+use Rattle.hint_log.specs.Live.{with_matrix, formula_of}
+use Rattle.hint_log.specs.Naming.{numbered_from_one}
+use Rattle.script_text.specs.Commands.{ScriptCommand, push, add, pop, solve}
+use Rattle.script_text.specs.Frames.{Frames, clauses_of, formula_in, frames_behind, formulas_from}
+use Rattle.dq_session.specs.Changes.{file_live}
+use Rattle.dq_session.specs.declared.live.Live.{Live}
+use Rattle.dq_session.specs.declared.live.OpenFrame.{OpenFrame}
+use Rattle.session_runs.specs.Numbering.{NumberedFrame, Numbering, numbering_at_start, numbering_behind, numbering_from, live_in, live_from, newest_number}
+use Rattle.session_runs.specs.Following.{frame_live, AreOpenFrames, AreFramesOf}
+use Rattle.session_runs.specs.Laws.{FollowingDatabasesStand, NumbersNameFormulas}
+use Rattle.session_runs.proofs.Followed.{same-depth, frames-follow, frames-still}
+use Rattle.session_runs.proofs.Lists.{all-found, file-found}
+
+numbers-back : (to : ℕ → Live) → ((j : ℕ) → (to j).clause ≡ j) → (js : List ℕ)
+    → map (λ (l : Live). l.clause) (map to js) ≡ js
+numbers-back to back [] = refl
+numbers-back to back (j ∷ js) =
+    ap (λ i. i ∷ map (λ (l : Live). l.clause) (map to js)) (back j) ∙ ap (λ is. j ∷ is) (numbers-back to back js)
+
+live-numbers : (file : ℕ) (ns : List NumberedFrame) (opens : List OpenFrame) (live : List Live)
+    → AreOpenFrames file ns opens live → map (λ (l : Live). l.clause) live ≡ live_in file ns
+live-numbers file [] opens live (none, is) =
+    ap (map (λ (l : Live). l.clause)) is ∙ numbers-back file_live (λ j. refl) (range_with_len 1 file)
+live-numbers file (n ∷ ns) opens live (below, rest, opens-are, live-are, deeper) =
+    let number : Live → ℕ = λ l. l.clause in
+    ap (map number) live-are
+    ∙ map-append number rest (map (frame_live n.number) n.clauses)
+    ∙ ap (λ js. js ++ map number (map (frame_live n.number) n.clauses)) (live-numbers file ns below rest deeper)
+    ∙ ap (λ js. live_in file ns ++ js) (numbers-back (frame_live n.number) (λ j. refl) n.clauses)
+
+-- the clauses of these numbers are the formula's and the frames'
+named-clauses : (m : List (List Literal)) (file : ℕ) (ns : List NumberedFrame) (frames : Frames)
+    → AreFramesOf m ns frames
+    → filter_map (numbered_from_one m) (live_in file ns)
+    ≡ filter_map (numbered_from_one m) (range_with_len 1 file) ++ clauses_of frames
+named-clauses m file [] [] are = sym (append-nil (filter_map (numbered_from_one m) (range_with_len 1 file)))
+named-clauses m file [] (c ∷ cs) are = absurd are
+named-clauses m file (n ∷ ns) [] are = absurd are
+named-clauses m file (n ∷ ns) (c ∷ cs) (own, deeper) =
+    let h = numbered_from_one m in
+    filter_map-append h (live_in file ns) n.clauses
+    ∙ ap (λ xs. xs ++ filter_map h n.clauses) (named-clauses m file ns cs deeper)
+    ∙ ap (λ xs. (filter_map h (range_with_len 1 file) ++ clauses_of cs) ++ xs) (all-found h n.clauses c own)
+    ∙ append_assoc (filter_map h (range_with_len 1 file)) (clauses_of cs) c
+
+-- so the formula of these numbers is the script's
+named-formula : (f : Dqbf) (all more : List (List Literal)) (ns : List NumberedFrame) (frames : Frames)
+    → all ≡ f.matrix ++ more → AreFramesOf all ns frames
+    → formula_of (with_matrix f all) (live_in (length f.matrix) ns) ≡ formula_in f frames
+named-formula f all more ns frames is are =
+    ap (with_matrix f)
+    (named-clauses all (length f.matrix) ns frames are
+    ∙ ap (λ xs. xs ++ clauses_of frames)
+    (ap (λ m. filter_map (numbered_from_one m) (range_with_len 1 (length f.matrix))) is ∙ file-found f.matrix more))
+
+pub following-databases-stand : FollowingDatabasesStand
+following-databases-stand s frames b follows are =
+    let live = live-numbers (length b.file.matrix) s.open_frames b.open_frames b.live follows.open_frames in
+    record {
+      all = ap (with_matrix b.file) follows.clauses;
+      frames_are = follows.frames;
+      live = live;
+      now =
+          ap (λ m. formula_of (with_matrix b.file m) (map (λ (l : Live). l.clause) b.live)) follows.clauses
+          ∙ ap (formula_of (with_matrix b.file s.clauses)) live
+          ∙ named-formula b.file s.clauses b.added s.open_frames frames (sym follows.clauses) are;
+      depth = same-depth (length b.file.matrix) s.open_frames b.open_frames b.live follows.open_frames;
+    }
+
+-- commands that come leave what was numbered
+pub clauses-come : (s : Numbering) (commands : List ScriptCommand)
+    → (more : List (List Literal)) × ((numbering_from s commands).clauses ≡ s.clauses ++ more)
+clauses-come s [] = ([], sym (append-nil s.clauses))
+clauses-come s (push ∷ commands) = clauses-come (numbering_behind s push) commands
+clauses-come s (add clause ∷ commands) =
+    let r = clauses-come (numbering_behind s (add clause)) commands in
+    (clause ∷ r.0, r.1 ∙ append_assoc s.clauses (clause ∷ []) r.0)
+clauses-come s (pop ∷ commands) = clauses-come (numbering_behind s pop) commands
+clauses-come s (solve ∷ commands) = clauses-come s commands
+
+pub frames-come : (s : Numbering) (commands : List ScriptCommand)
+    → (more : List ℕ) × ((numbering_from s commands).frames ≡ s.frames ++ more)
+frames-come s [] = ([], sym (append-nil s.frames))
+frames-come s (push ∷ commands) = frames-come (numbering_behind s push) commands
+frames-come s (add clause ∷ commands) =
+    let r = frames-come (numbering_behind s (add clause)) commands in
+    let n = newest_number s.open_frames in
+    (n ∷ r.0, r.1 ∙ append_assoc s.frames (n ∷ []) r.0)
+frames-come s (pop ∷ commands) = frames-come (numbering_behind s pop) commands
+frames-come s (solve ∷ commands) = frames-come s commands
+
+-- the formulas that are still to be searched
+named-from : (f : Dqbf) (s : Numbering) (frames : Frames) (commands : List ScriptCommand) (added : List (List Literal))
+    → s.clauses ≡ f.matrix ++ added → AreFramesOf s.clauses s.open_frames frames
+    → map (formula_of (with_matrix f (numbering_from s commands).clauses)) (live_from (length f.matrix) s commands)
+    ≡ formulas_from f frames commands
+named-from f s frames [] added is are = refl
+named-from f s frames (push ∷ commands) added is are =
+    named-from f (numbering_behind s push) (frames_behind frames push) commands added is
+    (frames-follow s frames push are)
+named-from f s frames (add clause ∷ commands) added is are =
+    named-from f (numbering_behind s (add clause)) (frames_behind frames (add clause)) commands (added ++ clause ∷ [])
+    (ap (λ cs. cs ++ clause ∷ []) is ∙ append_assoc f.matrix added (clause ∷ []))
+    (frames-follow s frames (add clause) are)
+named-from f s frames (pop ∷ commands) added is are =
+    named-from f (numbering_behind s pop) (frames_behind frames pop) commands added is (frames-follow s frames pop are)
+named-from f s frames (solve ∷ commands) added is are =
+    let more = clauses-come s commands in
+    let all = (numbering_from s commands).clauses in
+    let grown : AreFramesOf all s.open_frames frames =
+    subst (λ m. AreFramesOf m s.open_frames frames) (sym more.1)
+    (frames-still s.clauses more.0 s.open_frames frames are) in
+    let here : formula_of (with_matrix f all) (live_in (length f.matrix) s.open_frames) ≡ formula_in f frames =
+    named-formula f all (added ++ more.0) s.open_frames frames
+    (more.1 ∙ ap (λ m. m ++ more.0) is ∙ append_assoc f.matrix added more.0) grown in
+    ap (λ g. g ∷ map (formula_of (with_matrix f all)) (live_from (length f.matrix) s commands)) here
+    ∙ ap (λ gs. formula_in f frames ∷ gs) (named-from f s frames commands added is are)
+
+pub numbers-name-formulas : NumbersNameFormulas
+numbers-name-formulas f commands =
+    named-from f (numbering_at_start f) [] commands [] (sym (append-nil f.matrix)) tt
