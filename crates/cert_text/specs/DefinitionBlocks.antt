@@ -1,5 +1,5 @@
 -- What a text of definitions holds: for each existential a definition with its proof, or two
--- assignments that show that it has none (A. Definability, 1900).
+-- assignments that show that it has none (A. Padoa, 1900).
 use Rattle.std.specs.Prelude.{ℕ, Bool, List}
 use Rattle.dq_lits.specs.Derivation.{ProofStep}
 use Rattle.circuit_plain.specs.declared.circuits.Gate.{Gate}

@@ -1,7 +1,7 @@
 -- The grammar: which definitions a text spells for a formula, in this project's own format: gates
 -- with AIGER's literals (A. Biere, K. Heljanko, S. Wieringa, FMV report 11/2, 2011), steps as in
 -- LRAT (L. Cruz-Filipe et al., "Efficient certified RAT verification", 2017), and two assignments
--- (A. Definability, 1900).
+-- (A. Padoa, 1900).
 -- Tokens stand between any spaces, tabs and CRs.
 use Rattle.std.specs.Prelude.{◌≡◌, ℕ, ◌*◌, ℤ, pos, Bool, List, [], ◌∷◌, ◌++◌, map, length, replicate, codes}
 use Rattle.std.specs.List.{AllZip, flat_map}

@@ -1,5 +1,5 @@
 -- Two copies of the matrix in a log, and equations between the copies of each variable, all in
--- groups of their own (A. Definability, 1900). Universals that stand in no clause need no copies.
+-- groups of their own (A. Padoa, 1900). Universals that stand in no clause need no copies.
 use Rattle.std.specs.Prelude.{◌≡◌, ◌⊎◌, ◌==◌, ℕ, Bool, true, false, List, ◌∷◌, ◌++◌, map, length, set, Some, slice_get, slice_index_or}
 use Rattle.std.specs.List.{All, Contains}
 use Rattle.dq_lits.specs.Literal.{Literal, negative, variable_of, is_negative}

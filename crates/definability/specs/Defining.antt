@@ -1,4 +1,4 @@
--- What a call that defines an existential answers (A. Definability, 1900; E. Beth, 1953).
+-- What a call that defines an existential answers (A. Padoa, 1900; E. Beth, 1953).
 use Rattle.std.specs.Prelude.{◌≡◌, ℕ, Bool, true, false, List, length}
 use Rattle.dq_lits.specs.Literal.{Assignment}
 use Rattle.dq_lits.specs.Formula.{Dqbf, Existential}

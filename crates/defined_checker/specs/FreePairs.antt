@@ -1,5 +1,5 @@
 -- That an existential has no definition: two assignments that make the matrix true and agree on what
--- a definition may read, but not on the existential (A. Definability, 1900).
+-- a definition may read, but not on the existential (A. Padoa, 1900).
 use Rattle.std.specs.Prelude.{◌≡◌, ◌≢◌, ℕ, ◌++◌}
 use Rattle.dq_lits.specs.Formula.{Existential, Dqbf, declared}
 use Rattle.dq_lits.specs.Henkin.{MatrixHolds}

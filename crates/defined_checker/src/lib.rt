@@ -1,5 +1,5 @@
 //! Definitions of existentials: whether a text of definitions shows which existentials are functions
-//! of what they may read wherever the matrix is true, and which aren't (A. Definability, 1900; E. Beth, 1953).
+//! of what they may read wherever the matrix is true, and which aren't (A. Padoa, 1900; E. Beth, 1953).
 //!
 //! `check` judges a text for a formula. The laws in `laws` say that what is accepted is right.
 #![tactic(auto)]

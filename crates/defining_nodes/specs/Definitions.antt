@@ -1,4 +1,4 @@
--- Definitions of existentials (A. Definability, 1900; E. Beth, 1953), which may read other existentials.
+-- Definitions of existentials (A. Padoa, 1900; E. Beth, 1953), which may read other existentials.
 use Rattle.std.specs.Prelude.{◌≡◌, ℕ, List, map, slice_index}
 use Rattle.std.specs.List.{All}
 use Rattle.dq_lits.specs.Literal.{Assignment}

@@ -1,4 +1,4 @@
--- An answer of a log that shows a definition of an existential (A. Definability, 1900; E. Beth, 1953): it
+-- An answer of a log that shows a definition of an existential (A. Padoa, 1900; E. Beth, 1953): it
 -- rests on the first copy of the matrix, on gates over first copies, and on clauses by which the
 -- copy of the existential and an output over first copies differ.
 use Rattle.std.specs.Prelude.{◌≡◌, ℕ, true, List, ◌∷◌, Some}
