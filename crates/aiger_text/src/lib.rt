@@ -5,7 +5,9 @@
 //! comment.
 #![tactic(auto)]
 
-pub use body::{CircuitReader, Part, part_of, start_reader, take_gate, take_input, take_output};
+pub use body::{
+    CircuitReader, NextLine, part_of, start_reader, take_gate, take_input, take_output,
+};
 pub use circuits_by_line::AagLines;
 pub use faults::{AagFault, AagStop, LineStop};
 pub use files::{AagFile, ReadCircuit, Text};

@@ -9,7 +9,7 @@ pub use definition_reader::{first_definition_id, read_block};
 pub use definition_writer::{write_block, write_definitions_header};
 pub use faults::{CertFault, CertRefusal, CertStop, LineStop, at_line, refused};
 pub use first_lines::kind;
-pub use headers::{Counts, ItemCount, read_header, read_proof_header};
+pub use headers::{ItemCount, RowsAndItems, read_header, read_proof_header};
 pub use item_lines::{ItemRead, ProofLines, read_item};
 pub use items::{Item, ItemList};
 pub use kinds::Kind;

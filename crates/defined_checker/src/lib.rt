@@ -4,7 +4,7 @@
 //! `check` judges a text for a formula. The laws in `laws` say that what is accepted is right.
 #![tactic(auto)]
 
-pub use checks::{Counts, check};
+pub use checks::{DefinedCounts, check};
 pub use faults::{DefStop, DefinitionFault};
 
 mod bases;

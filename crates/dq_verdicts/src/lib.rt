@@ -7,7 +7,7 @@
 
 pub use demonstrations::{Demonstration, demonstrate};
 pub use prepared::solve_prepared;
-pub use statuses::Status;
+pub use statuses::SolveStatus;
 pub use verdicts::solve;
 
 mod demonstrations;

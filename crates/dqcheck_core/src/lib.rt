@@ -7,7 +7,7 @@
 
 pub use cert_judge::Stream;
 pub use run::dqcheck_run;
-pub use statuses::Status;
+pub use statuses::CheckStatus;
 
 mod fault_names;
 mod reports;

@@ -20,7 +20,7 @@ pub use levels::{back_to_start, newest_place};
 pub use models::keep_values;
 pub use notes::Notes;
 pub use restarts::Restarts;
-pub use statuses::{Status, is_true, status_of};
+pub use statuses::{ClauseStatus, is_true, status_of};
 pub use trails::{Step, Trail};
 
 mod activities;
