@@ -16,7 +16,7 @@ use Rattle.cdcl_core.specs.Chains.{watch_at}
 use Rattle.cdcl_core.specs.Watching.{AreWatched, AreSame, AreShort, Guards, AreShortTrue, IsGuarded, AreLevelsGuarded, IsMove, AreMoved}
 use Rattle.learning_trail.proofs.ConflictAnalysis.{AreConsistent}
 use Rattle.dq_lits.proofs.LiteralValues.{same_literal-sym}
-use Rattle.learning_trail.proofs.ClauseStatus.{is_falsified, is_unit, stuck_from_true, stuck_from_two}
+use Rattle.learning_trail.proofs.StatusLaws.{is_falsified, is_unit, stuck_from_true, stuck_from_two}
 
 abbrev pub Among : List Literal → List Literal → Type 0
 Among few many = (t : Literal) → holds few t ≡ true → holds many t ≡ true

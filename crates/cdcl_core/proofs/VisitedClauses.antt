@@ -25,7 +25,7 @@ use Rattle.learning_trail.proofs.ConflictAnalysis.{sound_consistent, contains_ca
 use Rattle.cdcl_core.proofs.GuardedClauses.{Among, among_grown, among_suffix, any_more, same_stuck, watched_turned, guarded_moved, guarded_turned, levels_moved, levels_turned, levels_grown, short_kept, short_notes_turned, guards_visited, moved_both}
 use Rattle.cdcl_core.proofs.LinkedLists.{place_of-one, chain_counted, has_first, has_later, has_cases, chain_short, chain_range}
 use Rattle.learning_trail.proofs.LargerTrails.{grown_none, grown_one, grown_both, implied_step, literal_within, live_within}
-use Rattle.learning_trail.proofs.ClauseStatus.{is_falsified, is_unit, implied_from}
+use Rattle.learning_trail.proofs.StatusLaws.{is_falsified, is_unit, implied_from}
 
 pub at_id : (clauses : List (List Literal)) (id : ℕ) (c : List Literal) → live_in clauses id ≡ Some c →
     slice_get clauses (id - 1) ≡ Some c

@@ -14,7 +14,7 @@ use Rattle.cdcl_scan.specs.Scanning.{IsScanned, IsPropagating}
 use Rattle.cdcl_scan.specs.declared.clauses.Run.{Run}
 use Rattle.cdcl_scan.specs.Runs.{Shares, IsRun, AreRuns, IsSharedTrue}
 use Rattle.learning_trail.proofs.LargerTrails.{implied_step, clause_within, literal_within, grown_one, grown_both}
-use Rattle.learning_trail.proofs.ClauseStatus.{implied_from, stuck_from_true}
+use Rattle.learning_trail.proofs.StatusLaws.{implied_from, stuck_from_true}
 use Rattle.cdcl_scan.proofs.ClauseRuns.{runs_low}
 
 grown_longer : (old new : List Step) → Grown old new → length old ≤ length new

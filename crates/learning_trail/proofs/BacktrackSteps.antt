@@ -17,7 +17,7 @@ use Rattle.learning_trail.specs.Analyses.{IsAnalysis}
 use Rattle.learning_trail.specs.Backing.{LeadsOn, IsBacking, IsFirstPoint, IsKeeping}
 use Rattle.learning_trail.specs.Noting.{Noted}
 use Rattle.dq_lits.proofs.LiteralValues.{free_variable}
-use Rattle.learning_trail.proofs.ClauseStatus.{IsImplied, implied_from}
+use Rattle.learning_trail.proofs.StatusLaws.{IsImplied, implied_from}
 use Rattle.learning_trail.proofs.ConflictAnalysis.{sound_consistent, analysis_next, analysis_past, analysis_kept}
 
 -- the clause of a reason

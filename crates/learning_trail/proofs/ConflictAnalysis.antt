@@ -16,7 +16,7 @@ use Rattle.dq_lits.specs.Truth.{IsFree}
 use Rattle.learning_trail.specs.Marks.{marked, stands_on}
 use Rattle.learning_trail.specs.Sound.{IsSound}
 use Rattle.learning_trail.specs.Analyses.{IsAnalysis}
-use Rattle.learning_trail.proofs.ClauseStatus.{IsImplied, falsified_tells}
+use Rattle.learning_trail.proofs.StatusLaws.{IsImplied, falsified_tells}
 use Rattle.learning_trail.proofs.LeadingHints.{leads_first, leads_next, leads_past, leads_kept}
 
 pub contains_cases : (y : ℕ) (ys : List ℕ) (x : ℕ) → Contains (y ∷ ys) x → (x ≡ y) ⊎ Contains ys x

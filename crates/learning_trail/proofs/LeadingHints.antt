@@ -9,7 +9,7 @@ use Rattle.dq_lits.specs.Truth.{IsFree}
 use Rattle.learning_trail.specs.Marks.{marked, stands_on}
 use Rattle.learning_trail.specs.Analyses.{Leads}
 use Rattle.dq_lits.proofs.LiteralValues.{free_variable}
-use Rattle.learning_trail.proofs.ClauseStatus.{IsImplied, is_falsified, is_unit}
+use Rattle.learning_trail.proofs.StatusLaws.{IsImplied, is_falsified, is_unit}
 
 -- a clause that is false by what is kept and marked
 pub leads_first : (live : LiveClauses) (marks : List Bool) (trail kept clause : List Literal) (id : ℕ) →

@@ -25,7 +25,7 @@ use Rattle.learning_trail.specs.Analyses.{IsAnalysis, AllStand}
 use Rattle.learning_trail.specs.Lessons.{IsLesson, IsJump}
 use Rattle.learning_trail.specs.Resting.{rests, HeldFit, AreAwake}
 use Rattle.dq_lits.proofs.LiteralValues.{free_variable}
-use Rattle.learning_trail.proofs.ClauseStatus.{is_unit, stuck_from_two}
+use Rattle.learning_trail.proofs.StatusLaws.{is_unit, stuck_from_two}
 use Rattle.learning_trail.proofs.AnswerClauses.{concluded_derived, concluded_tied}
 use Rattle.learning_trail.proofs.ConflictAnalysis.{AreConsistent, sound_consistent, free_later}
 use Rattle.learning_trail.proofs.BacktrackSteps.{reason_of}

@@ -2,7 +2,7 @@ pub mod AnswerClauses
 pub mod AssignedLiterals
 pub mod BacktrackSteps
 pub mod ClausePieces
-pub mod ClauseStatus
+pub mod StatusLaws
 pub mod ConflictAnalysis
 pub mod FitLogs
 pub mod FoundModels

@@ -11,7 +11,7 @@ use Rattle.dq_lits.specs.declared.truth_values.TruthValue.{TruthValue}
 use Rattle.dq_lits.specs.declared.truth_values.TruthValue.TheVariants.{True, False, Unassigned}
 use Rattle.dq_lits.proofs.LiteralValues.{value_true}
 use Rattle.dq_lits.proofs.ReadStatus.{status_more}
-use Rattle.learning_trail.proofs.ClauseStatus.{is_falsified}
+use Rattle.learning_trail.proofs.StatusLaws.{is_falsified}
 
 pub read_more : (trues clause : List Literal) (l : Literal) (i : ℕ) (s s' : ClauseStatus) (t : TruthValue) →
     i < length clause → get_or clause i l ≡ l

@@ -17,7 +17,7 @@ use Rattle.dq_lits.specs.Extension.{not_false}
 use Rattle.dq_lits.proofs.LiteralValues.{no_tautology}
 use Rattle.learning_trail.specs.Analyses.{AllStand}
 use Rattle.learning_trail.specs.Resting.{rests, IsPlaceholder, IsPut, HeldFit, AreAwake}
-use Rattle.learning_trail.proofs.ClauseStatus.{stuck_from_true}
+use Rattle.learning_trail.proofs.StatusLaws.{stuck_from_true}
 
 -- what is held under an id stands for a clause of the log
 pub record IsFor (resting : List Bool) (entries : List Entry) (id : ℕ) (put : List Literal) : Type 0 where

@@ -12,7 +12,7 @@ use Rattle.learning_trail.specs.Steps.{is_none as reason_none, Trailed, literals
 use Rattle.learning_trail.specs.Marks.{marked, is_level_marked}
 use Rattle.learning_trail.specs.Sound.{IsSound}
 use Rattle.learning_trail.specs.Lessons.{IsJump}
-use Rattle.learning_trail.proofs.ClauseStatus.{is_falsified, falsified_tells}
+use Rattle.learning_trail.proofs.StatusLaws.{is_falsified, falsified_tells}
 use Rattle.learning_trail.proofs.Lessons.{below_closed, below_marked}
 
 pub under_shrunk : (steps : List Step) → Shrunk steps (under_level steps)

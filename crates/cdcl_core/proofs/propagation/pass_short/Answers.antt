@@ -5,7 +5,7 @@ use Rattle.dq_lits.specs.Derivation.{unit, status_of}
 use Rattle.learning_trail.specs.Steps.{literals_of}
 use Rattle.learning_trail.specs.Extension.{seen}
 use Rattle.learning_trail.proofs.LargerTrails.{live_within, literal_within}
-use Rattle.learning_trail.proofs.ClauseStatus.{implied_from}
+use Rattle.learning_trail.proofs.StatusLaws.{implied_from}
 use Rattle.cdcl_core.proofs.VisitedClauses.{passing_unit, passing_stuck}
 use Rattle.cdcl_core.proofs.propagation.pass_short.Goals as goal
 use Rattle.cdcl_core.proofs.propagation.pass_short.Goals.{in-Unit, in-Stuck}

@@ -3,7 +3,7 @@ use Rattle.dq_lits.specs.Derivation.{unit, status_of}
 use Rattle.oracle.specs.Fit.{live_in}
 use Rattle.learning_trail.specs.Steps.{literals_of}
 use Rattle.learning_trail.specs.Extension.{seen}
-use Rattle.learning_trail.proofs.ClauseStatus.{implied_from}
+use Rattle.learning_trail.proofs.StatusLaws.{implied_from}
 use Rattle.learning_trail.proofs.LargerTrails.{literal_within, live_within}
 use Rattle.cdcl_scan.proofs.ClausePasses.{live_read, scanned_unit, scanned_stuck}
 use Rattle.cdcl_scan.proofs.scans.pass_clauses.Goals as goal
