@@ -1,5 +1,5 @@
 use Rattle.repair_loop.proofs.Stages.{failure_round}
-use Rattle.repair_loop.proofs.standing.failures_are_rounds.Goals as goal
+use Rattle.repair_loop.proofs.preservation.failures_are_rounds.Goals as goal
 
 pub returns : goal.returns
 returns c =

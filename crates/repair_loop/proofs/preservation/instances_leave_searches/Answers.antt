@@ -1,5 +1,5 @@
 use Rattle.repair_loop.proofs.Stages.{instances_left}
-use Rattle.repair_loop.proofs.standing.instances_leave_searches.Goals as goal
+use Rattle.repair_loop.proofs.preservation.instances_leave_searches.Goals as goal
 
 pub returns : goal.returns
 returns c =

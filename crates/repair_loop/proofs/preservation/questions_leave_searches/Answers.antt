@@ -1,5 +1,5 @@
 use Rattle.repair_loop.proofs.Stages.{questions_left}
-use Rattle.repair_loop.proofs.standing.questions_leave_searches.Goals as goal
+use Rattle.repair_loop.proofs.preservation.questions_leave_searches.Goals as goal
 
 pub returns : goal.returns
 returns c =

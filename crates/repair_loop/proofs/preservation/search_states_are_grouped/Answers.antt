@@ -1,5 +1,5 @@
 use Rattle.repair_loop.proofs.Stages.{search_states_grouped}
-use Rattle.repair_loop.proofs.standing.search_states_are_grouped.Goals as goal
+use Rattle.repair_loop.proofs.preservation.search_states_are_grouped.Goals as goal
 
 pub returns : goal.returns
 returns c =

@@ -1,5 +1,5 @@
 use Rattle.repair_loop.proofs.Stages.{turns_left}
-use Rattle.repair_loop.proofs.standing.turns_leave_searches.Goals as goal
+use Rattle.repair_loop.proofs.preservation.turns_leave_searches.Goals as goal
 
 pub returns : goal.returns
 returns c =
