@@ -44,7 +44,7 @@ zero_is = one_digit 48 0 refl refl (omega arith)
 pub one_is : IsNatural (codes "1") 1
 one_is = one_digit 49 1 refl refl (omega arith)
 
-two_is : IsNatural (codes "2") 2
+pub two_is : IsNatural (codes "2") 2
 two_is = one_digit 50 2 refl refl (omega arith)
 
 pub wire_spelled : SpellsAscii wire_text wire []
@@ -73,7 +73,7 @@ pub one_place : (P : ℕ → Type 0) → P 1 → All P (1 ∷ [])
 one_place P here zero d below = here
 one_place P here (suc k) d below = absurd (omega (arith, below))
 
-wire_circuit : IsCircuit wire
+pub wire_circuit : IsCircuit wire
 wire_circuit = record {
   rank = λ v. 0;
   ordered = λ k d below. absurd (omega (arith, below));
@@ -91,7 +91,7 @@ wire_circuit = record {
     defined zero d below = (1, omega arith, refl)
     defined (suc k) d below = absurd (omega (arith, below))
 
-wire_skolem : IsSkolem copies wire []
+pub wire_skolem : IsSkolem copies wire []
 wire_skolem = record {
   input_of = λ x. 0;
   output_of = λ y. 0;
