@@ -72,7 +72,7 @@ pub one_place : (P : ℕ → Type 0) → P 1 → All P (1 ∷ [])
 one_place P here zero d below = here
 one_place P here (suc k) d below = absurd (omega (arith, below))
 
-wire_circuit : IsCircuit wire
+pub wire_circuit : IsCircuit wire
 wire_circuit = record {
   rank = λ v. 0;
   small = one_place (λ v. v ≤ 1) (omega arith);
@@ -91,7 +91,7 @@ wire_circuit = record {
     defined zero d below = (1, omega arith, refl)
     defined (suc k) d below = absurd (omega (arith, below))
 
-wire_skolem : IsSkolem copies wire []
+pub wire_skolem : IsSkolem copies wire []
 wire_skolem = record {
   input_of = λ x. 0;
   output_of = λ y. 0;

@@ -3,3 +3,5 @@ pub mod OneFormula
 pub mod Xors
 pub mod Negations
 pub mod DefinedCopies
+pub mod OneScript
+pub mod AnsweredSession

@@ -58,11 +58,11 @@ same_symbol token (negative n) (negative k) p q a b =
     let number : IsNatural b.0 n = subst (λ d. IsNatural d n) digits a.2 in
     ap negative (number.value ∙ sym b.2.value)
 
-abbrev ArePlain : List Symbol → Type 0
+abbrev pub ArePlain : List Symbol → Type 0
 ArePlain [] = Unit {0}
 ArePlain (s ∷ ss) = IsPlain s × ArePlain ss
 
-same_symbols : (ts : List (List ℕ)) (ss us : List Symbol) → ArePlain ss → ArePlain us → AllZip Spells ts ss →
+pub same_symbols : (ts : List (List ℕ)) (ss us : List Symbol) → ArePlain ss → ArePlain us → AllZip Spells ts ss →
     AllZip Spells ts us → ss ≡ us
 same_symbols [] [] [] p q a b = refl
 same_symbols [] [] (u ∷ us) p q a b = absurd b
@@ -92,10 +92,10 @@ plain_parts [] = tt
 plain_parts (p ∷ ps) = plain_append (part_symbols p) (flat_map part_symbols ps) (plain_part p) (plain_parts ps)
 
 -- literals and 0
-abbrev ended : List Literal → List Symbol
+abbrev pub ended : List Literal → List Symbol
 ended ls = map literal_symbol ls ++ natural 0 ∷ []
 
-plain_literals : (ls : List Literal) → ArePlain (ended ls)
+pub plain_literals : (ls : List Literal) → ArePlain (ended ls)
 plain_literals [] = (tt, tt)
 plain_literals (positive v ∷ ls) = (tt, plain_literals ls)
 plain_literals (opposite v ∷ ls) = (tt, plain_literals ls)
@@ -127,7 +127,7 @@ plain_formula f = (
 
 -- ---- symbols in front
 
-abbrev rest : List Symbol → List Symbol
+abbrev pub rest : List Symbol → List Symbol
 rest [] = []
 rest (_ ∷ ss) = ss
 
@@ -141,14 +141,14 @@ first_number [] = 0
 first_number (s ∷ _) = number s
 
 -- 0 for none, 1 for a number, and else the word's first letter
-abbrev kind : List Symbol → ℕ
+abbrev pub kind : List Symbol → ℕ
 kind [] = 0
 kind (natural _ ∷ _) = 1
 kind (negative _ ∷ _) = 1
 kind (word [] ∷ _) = 1
 kind (word (byte ∷ _) ∷ _) = byte
 
-abbrev Positive : List ℕ → Type 0
+abbrev pub Positive : List ℕ → Type 0
 Positive vs = AllByRecursion (λ v. 1 ≤ v) vs
 
 numbers_same : (vs ws : List ℕ) (ss us : List Symbol) → Positive vs → Positive ws →
@@ -162,7 +162,7 @@ numbers_same (v ∷ vs) (w ∷ ws) ss us p q e =
 
 -- ---- constraints
 
-abbrev AreNamed : List Literal → Type 0
+abbrev pub AreNamed : List Literal → Type 0
 AreNamed ls = Positive (map variable_of ls)
 
 literal_same : (k l : Literal) → literal_symbol k ≡ literal_symbol l → k ≡ l
@@ -179,7 +179,7 @@ abbrev first : List Symbol → Symbol
 first [] = natural 0
 first (s ∷ _) = s
 
-literals_same : (ks ls : List Literal) (ss us : List Symbol) → AreNamed ks → AreNamed ls →
+pub literals_same : (ks ls : List Literal) (ss us : List Symbol) → AreNamed ks → AreNamed ls →
     ended ks ++ ss ≡ ended ls ++ us → (ks ≡ ls) × (ss ≡ us)
 literals_same [] [] ss us p q e = (refl, ap rest e)
 literals_same [] (l ∷ ls) ss us p q e =
@@ -304,15 +304,15 @@ parts_same (one ∷ ps) (other ∷ qs) cs ds a b p q e =
 
 -- ---- its numbers are positive
 
-before_part : (xs ys : List ℕ) → Positive (xs ++ ys) → Positive xs
+pub before_part : (xs ys : List ℕ) → Positive (xs ++ ys) → Positive xs
 before_part [] ys all = tt
 before_part (x ∷ xs) ys all = (all.0, before_part xs ys all.1)
 
-behind_part : (xs ys : List ℕ) → Positive (xs ++ ys) → Positive ys
+pub behind_part : (xs ys : List ℕ) → Positive (xs ++ ys) → Positive ys
 behind_part [] ys all = all
 behind_part (x ∷ xs) ys all = behind_part xs ys all.1
 
-both_parts : (xs ys : List ℕ) → Positive xs → Positive ys → Positive (xs ++ ys)
+pub both_parts : (xs ys : List ℕ) → Positive xs → Positive ys → Positive (xs ++ ys)
 both_parts [] ys a b = b
 both_parts (x ∷ xs) ys a b = (a.0, both_parts xs ys a.1 b)
 

@@ -2,7 +2,7 @@
 use Rattle.std.specs.Prelude.{ℕ, List, [], ◌∷◌, ◌++◌, codes}
 use Rattle.headline.specs.Headline.{Circuit, Formula, clause, dependent, existentials, opposite, positive, universals, xor}
 
-abbrev line : List ℕ → List ℕ
+abbrev pub line : List ℕ → List ℕ
 line text = text ++ 10 ∷ []
 
 -- y2 is a copy of x1, which it sees

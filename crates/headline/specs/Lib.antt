@@ -1,3 +1,5 @@
 pub mod Headline
 pub mod Examples
 pub mod BlackBoxes
+pub mod Sessions
+pub mod SessionExamples

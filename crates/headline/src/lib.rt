@@ -1,14 +1,18 @@
 //! What `VALID TRUE`, `VALID FALSE` and `VALID DEFINED` say, from bytes to functions, on one page
 //! (`specs/Headline.antt`), what is said of black boxes on a second one (`specs/BlackBoxes.antt`),
-//! and examples in the first one's own words.
+//! what a session's answers say on a third (`specs/Sessions.antt`), and examples in the pages' own
+//! words.
 //!
-//! Whoever has read the pages needs no other definition of a formula, its truth, a circuit or a box.
+//! Whoever has read the pages needs no other definition of a formula, its truth, a circuit, a box or a
+//! script.
 //! Each law here is the contract of a function without parameters and with an empty body.
 #![tactic(auto)]
 
-ghost use Rattle.std.specs.Prelude.{◌≡◌, ℕ, List, [], ◌∷◌, codes};
+ghost use Rattle.std.specs.Prelude.{◌≡◌, ℕ, List, [], ◌∷◌, ◌++◌, codes};
 ghost use Rattle.headline.specs.Examples.{copies_text, copies, blind_copies, wire_text, wire, one_of_two, both_and_one, opposites, negated_text, negated_wire, definition_text, loose};
 ghost use Rattle.headline.specs.Headline.{tokens, Formula, HoldsDefinition, HoldsSkolem, IsDefined, IsTrueFormula, IsFalseFormula, SpellsAscii, SpellsBinary, SpellsFormula, StandsFor, existentials_of, seeing, universals, existentials, dependent, clause, xor, positive, opposite};
+ghost use Rattle.headline.specs.SessionExamples.{asking, asking_text, first_block, second_block, true_copies};
+ghost use Rattle.headline.specs.Sessions.{AnswersSession, Command, SpellsScript, formulas_asked};
 
 /// Comments are left out, and a line may have several tokens.
 pub fn tokens_are_read()
@@ -82,3 +86,27 @@ pub fn copies_are_defined()
     ensures block { HoldsDefinition copies definition_text (seeing (1 ∷ []) 2) }
     ensures loose { IsDefined loose (seeing (1 ∷ []) 2) → ⊥ }
 {}
+
+/// A text spells one script.
+pub fn texts_spell_one_script()
+    ensures { (formula script : List ℕ) (f : Formula) (commands others : List Command)
+        → SpellsFormula formula f → SpellsScript script f commands → SpellsScript script f others
+        → commands ≡ others }
+{}
+
+/// Within a frame its clauses are asked about too, and behind its end no more.
+pub fn frames_are_closed()
+    ensures spelled { SpellsScript asking_text copies asking }
+    ensures formulas { formulas_asked copies [] asking ≡ true_copies ∷ copies ∷ [] }
+{}
+
+/// The first of them is false and the second true, and that is what their blocks say. The first block
+/// alone is no answer, and nor is nothing.
+pub fn blocks_answer_a_script()
+    ensures answers { AnswersSession copies_text asking_text (first_block ++ second_block) }
+    ensures first { AnswersSession copies_text asking_text first_block → ⊥ }
+    ensures nothing { AnswersSession copies_text asking_text [] → ⊥ }
+{
+    copies_are_spelled();
+    frames_are_closed();
+}
