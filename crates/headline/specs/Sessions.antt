@@ -57,8 +57,8 @@ formulas_asked f kept (solve ∷ commands) = f ∷ formulas_asked f kept command
 abbrev pub BeginsWith : List ℕ → List ℕ → Type 0
 BeginsWith line text = (others : List ℕ) × (text ≡ line ++ 10 ∷ others)
 
--- `s TRUE`, and the text, of at most 10^9 bytes, is a circuit's whose outputs are the formula's Skolem
--- functions; or `s FALSE`; or `s UNKNOWN`, which says nothing of the formula
+-- `s TRUE`: the formula is true, and the text, where it has at most 10^9 bytes, is a circuit's whose
+-- outputs are its Skolem functions; `s FALSE`: it is false; `s UNKNOWN` says nothing of it
 abbrev pub IsAnswer : Formula → List ℕ → Type 0
 IsAnswer f text =
     (BeginsWith (codes "s TRUE") text × IsTrueFormula f
@@ -70,7 +70,7 @@ IsAnswer f text =
 abbrev pub block_line : ℕ → ℕ → List ℕ
 block_line k bytes = codes "solve " ++ (decimal k ++ (codes " " ++ decimal bytes))
 
--- for each of these formulas, K counting up, a line `solve K B` and an answer of B bytes; and no more
+-- for each of these formulas, as K counts up, a line `solve K B` and an answer of B bytes; and no more
 abbrev pub AreBlocks : ℕ → List Formula → List ℕ → Type 0
 AreBlocks k [] text = text ≡ []
 AreBlocks k (f ∷ formulas) text =

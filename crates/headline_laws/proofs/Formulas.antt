@@ -27,7 +27,7 @@ use Rattle.dqdimacs_reader.proofs.SpelledIsRead.{clauses_of, declares-keep}
 use Rattle.dqdimacs_reader.proofs.ReadIsSpelled.{constraints_keep_variables}
 use Rattle.headline.specs.Headline.{Formula, Existential, Constraint, natural, Spells, SpellsFormula, IsConstraint, IsTrueFormula, IsFalseFormula, Holds, among, constraint_true, existentials_from, existentials_of, formula_symbols, is_free, literal_symbol, literals_of, part_symbols, constraint_symbols, seeing, tokens, universals_of, up_to}
 use Rattle.headline.specs.Headline.{numbers as page_numbers, variable_of as page_variable, declared as page_declared}
-use Rattle.headline_laws.specs.Formulas.{IsOnPage, read_existential}
+use Rattle.headline_laws.specs.Formulas.{IsOnPage, MeansTheSame, read_existential}
 use Rattle.headline_laws.proofs.Constraints.{page_literal, page_literals, page_constraint, page_constraints, all_occur, all_same, all_sizes}
 use Rattle.headline_laws.proofs.Declarations.{page_part, page_parts, variables_in, all_apart, all_declared, all_existentials, all_in_range, all_listed, all_universals, apart_pairs}
 use Rattle.headline_laws.proofs.Symbols.{Stands, stands_p, stands_cnf, stands_a, stands_d, stands_e, stands_x, stands_natural, stands_negative, all_spelled, zip_append}
@@ -127,7 +127,7 @@ constraints_range n (c ∷ cs) lawful =
     rec_append (λ v. (1 ≤ v) × (v ≤ n)) (variables_at (page_constraint c)) (flat_map variables_at (page_constraints cs))
     (constraint_range n c lawful.0) (constraints_range n cs lawful.1)
 
-same_variable : (l : ReadLiteral) → page_variable (page_literal l) ≡ variable_of l
+pub same_variable : (l : ReadLiteral) → page_variable (page_literal l) ≡ variable_of l
 same_variable (positive v) = refl
 same_variable (negative v) = refl
 
@@ -259,25 +259,36 @@ module _ (text : List ℕ) (m : Dqbf) (s : IsRead text m) where
   page_holds : XorIsItsClauses → (a : Assignment) → MatrixHolds m a → Holds page a
   page_holds exact a holds = holds_same exact a ∙ list_all-from_AllPass (clause_true a) m.matrix holds
 
-  abbrev Choices : Type 0
-  Choices = (values : ReadExistential → List Bool → Bool) → (choice : HenkinChoice)
-      × ((y : ReadExistential) (a : Assignment) → choice_value choice y a ≡ values y (restriction y a))
+  pub means_the_same : XorIsItsClauses → MeansTheSame m page
+  means_the_same exact = record {
+    universals = universals_are;
+    existentials = existentials_are;
+    holds = page_holds exact;
+    holds_there = matrix_holds exact;
+  }
 
+-- ---- what means the same is true or false where the reader's is
+
+abbrev pub Choices : Type 0
+Choices = (values : ReadExistential → List Bool → Bool) → (choice : HenkinChoice)
+    × ((y : ReadExistential) (a : Assignment) → choice_value choice y a ≡ values y (restriction y a))
+
+module _ (m : Dqbf) (f : Formula) (same : MeansTheSame m f) where
   -- false
-  is_false : XorIsItsClauses → Choices → IsReadFalse m → IsFalseFormula page
-  is_false exact choices none value solve =
+  pub is_false : Choices → IsReadFalse m → IsFalseFormula f
+  is_false choices none value solve =
       let given = choices (λ y bits. value y.variable bits) in
-      none given.0 (λ a follows. matrix_holds exact a (solve a (own a follows)))
+      none given.0 (λ a follows. same.holds_there a (solve a (own a follows)))
     where
       own : (a : Assignment) → Follows m (choices (λ y bits. value y.variable bits)).0 a →
-          All (λ (y : Existential). a y.variable ≡ value y.variable (map a y.sees)) (existentials_of page)
+          All (λ (y : Existential). a y.variable ≡ value y.variable (map a y.sees)) (existentials_of f)
       own a follows = λ k d below.
           let given = choices (λ y bits. value y.variable bits) in
-          let y = get_or (existentials_of page) k d in
-          let there : k < length m.existentials = omega (arith, below, length-map (existentials_of page) read_existential, ap length existentials_are) in
+          let y = get_or (existentials_of f) k d in
+          let there : k < length m.existentials = omega (arith, below, length-map (existentials_of f) read_existential, ap length same.existentials) in
           let at : get_or m.existentials k (read_existential d) ≡ read_existential y =
-          ap (λ ys. get_or ys k (read_existential d)) (sym existentials_are)
-          ∙ get_or-map read_existential (existentials_of page) k d (read_existential d) below in
+          ap (λ ys. get_or ys k (read_existential d)) (sym same.existentials)
+          ∙ get_or-map read_existential (existentials_of f) k d (read_existential d) below in
           let one = follows k (read_existential d) there in
           ap (λ (z : ReadExistential). a z.variable) (sym at)
           ∙ (one ∙ (ap (λ z. choice_value given.0 z a) at ∙ given.1 (read_existential y) a))
@@ -290,19 +301,19 @@ module _ (text : List ℕ) (m : Dqbf) (s : IsRead text m) where
   abbrev functions : HenkinChoice → ℕ → List Bool → Bool
   functions choice v bits = chosen choice bits (existential_of m v)
 
-  is_true : XorIsItsClauses → IsWellFormed m → IsReadTrue m → IsTrueFormula page
-  is_true exact formed true_there = (functions true_there.0, λ a each. page_holds exact a (true_there.1 a (follows a each))) where
+  pub is_true : IsWellFormed m → IsReadTrue m → IsTrueFormula f
+  is_true formed true_there = (functions true_there.0, λ a each. same.holds a (true_there.1 a (follows a each))) where
     follows : (a : Assignment) →
-        All (λ (y : Existential). a y.variable ≡ functions true_there.0 y.variable (map a y.sees)) (existentials_of page) →
+        All (λ (y : Existential). a y.variable ≡ functions true_there.0 y.variable (map a y.sees)) (existentials_of f) →
         Follows m true_there.0 a
     follows a each = λ k d below.
         let z = get_or m.existentials k d in
         let e : Existential = record { variable = 0; sees = [] } in
-        let y = get_or (existentials_of page) k e in
-        let there : k < length (existentials_of page) =
-        omega (arith, below, length-map (existentials_of page) read_existential, ap length existentials_are) in
+        let y = get_or (existentials_of f) k e in
+        let there : k < length (existentials_of f) =
+        omega (arith, below, length-map (existentials_of f) read_existential, ap length same.existentials) in
         let at : z ≡ read_existential y =
-        ap (λ ys. get_or ys k d) (sym existentials_are) ∙ get_or-map read_existential (existentials_of page) k e d there in
+        ap (λ ys. get_or ys k d) (sym same.existentials) ∙ get_or-map read_existential (existentials_of f) k e d there in
         let known : existential_of m z.variable ≡ Some z =
         find_own m.existentials k d below
         (right-distinct m.universals (map (λ (w : ReadExistential). w.variable) m.existentials) formed.prefix.declared_once) in
@@ -311,15 +322,17 @@ module _ (text : List ℕ) (m : Dqbf) (s : IsRead text m) where
         ∙ (ap (λ (w : ReadExistential). functions true_there.0 w.variable (map a w.sees)) (sym at)
         ∙ ap (chosen true_there.0 (map a z.sees)) known))
 
-pub on_page : (text : List ℕ) (m : Dqbf) (s : IsRead text m) → IsWellFormed m → XorIsItsClauses → Choices text m s →
+pub on_page : (text : List ℕ) (m : Dqbf) (s : IsRead text m) → IsWellFormed m → XorIsItsClauses → Choices →
     (map (λ (t : TextToken). t.text) (tokens_of text) ≡ tokens text) → IsOnPage text m (page text m s)
-on_page text m s formed exact choices texts = record {
-  spelled = spelled text m s texts;
-  variables = refl;
-  universals = universals_are text m s;
-  existentials = existentials_are text m s;
-  holds = page_holds text m s exact;
-  holds_there = matrix_holds text m s exact;
-  is_true = is_true text m s exact formed;
-  is_false = is_false text m s exact choices;
-}
+on_page text m s formed exact choices texts =
+    let same = means_the_same text m s exact in
+    record {
+      spelled = spelled text m s texts;
+      variables = refl;
+      universals = same.universals;
+      existentials = same.existentials;
+      holds = same.holds;
+      holds_there = same.holds_there;
+      is_true = is_true m (page text m s) same formed;
+      is_false = is_false m (page text m s) same choices;
+    }

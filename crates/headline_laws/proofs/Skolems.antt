@@ -45,7 +45,7 @@ page_names symbols = map page_name symbols
 abbrev pub entry_of : SymbolLine → ℕ × List ℕ
 entry_of s = (s.place, s.name)
 
-filtered : {X : Type 0} (p : X → Bool) (xs : List X) (x : X) → Contains (filter p xs) x → Contains xs x × (p x ≡ true)
+pub filtered : {X : Type 0} (p : X → Bool) (xs : List X) (x : X) → Contains (filter p xs) x → Contains xs x × (p x ≡ true)
 filtered p [] x (k, below, is) = absurd (omega (arith, below))
 filtered p (y ∷ ys) x there = by (p y) refl (λ later. filtered p ys x later) there where
   by : (b : Bool) → p y ≡ b → (Contains (filter p ys) x → Contains ys x × (p x ≡ true)) →

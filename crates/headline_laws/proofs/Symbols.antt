@@ -188,7 +188,7 @@ natural_number (byte ∷ bytes) v h = by (byte == 45) refl h where
   by true m same = subst (λ b. IsNatural (b ∷ bytes) v) (sym (eqb-true byte 45 m)) (no_natural bytes v same)
   by false m same = unsigned_is (byte ∷ bytes) v same
 
-negative_number : (token : List ℕ) (k : ℕ) → number_of token ≡ Int (negsuc k) → Spells token (negative (suc k))
+pub negative_number : (token : List ℕ) (k : ℕ) → number_of token ≡ Int (negsuc k) → Spells token (negative (suc k))
 negative_number [] k h = cc
 negative_number (byte ∷ bytes) k h = by (byte == 45) refl h where
   by : (minus : Bool) → (byte == 45) ≡ minus →

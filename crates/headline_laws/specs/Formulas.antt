@@ -20,3 +20,10 @@ pub record IsOnPage (text : List ℕ) (read : Dqbf) (f : Formula) : Type 0 where
   pub holds_there : (m : Assignment) → Holds f m → MatrixHolds read m
   pub is_true : IsReadTrue read → IsTrueFormula f
   pub is_false : IsReadFalse read → IsFalseFormula f
+
+-- the same prefix, and constraints that hold where the reader's matrix does
+pub record MeansTheSame (read : Dqbf) (f : Formula) : Type 0 where
+  pub universals : universals_of f ≡ read.universals
+  pub existentials : map read_existential (existentials_of f) ≡ read.existentials
+  pub holds : (m : Assignment) → MatrixHolds read m → Holds f m
+  pub holds_there : (m : Assignment) → Holds f m → MatrixHolds read m

@@ -3,13 +3,14 @@
 
 ghost use Rattle.std.specs.Prelude.{◌≡◌, ℕ, List, map};
 ghost use Rattle.dq_lits.specs.Formula.{Dqbf, IsWellFormed};
+ghost use Rattle.dq_lits.specs.Henkin.{IsTrueFormula as IsReadTrue, IsFalseFormula as IsReadFalse};
 ghost use Rattle.dq_text.specs.Token.{tokens_of};
 ghost use Rattle.dqdimacs_reader.specs.Grammar.{SpellsFormula};
 ghost use Rattle.defined_checker.specs.declared.checks.DefinedCounts.{DefinedCounts};
 ghost use Rattle.cert_judge.specs.Judgement.{HoldsRightDefinitions, HoldsSkolemCircuit, IsJudgement};
 ghost use Rattle.cert_judge.specs.declared.answers.Judgement.TheVariants.{ValidTrue};
-ghost use Rattle.headline.specs.Headline.{AreDefined, Formula, HoldsSkolem, existentials_of, tokens};
-ghost use Rattle.headline_laws.specs.Formulas.{IsOnPage};
+ghost use Rattle.headline.specs.Headline.{AreDefined, Formula, HoldsSkolem, IsFalseFormula, IsTrueFormula, existentials_of, tokens};
+ghost use Rattle.headline_laws.specs.Formulas.{IsOnPage, MeansTheSame};
 
 use aig_binary::laws::binary_circuits_are_lawful;
 use cert_judge::laws::acceptance_is_sound;
@@ -36,13 +37,22 @@ pub fn formulas_are_on_the_page()
     functions_are_choices();
 }
 
+/// A certificate that holds a Skolem circuit of a formula holds one on the page, of each formula that means
+/// the same there.
+pub fn skolem_circuits_mean_the_same()
+    ensures { (certificate : List ℕ) (read : Dqbf) (f : Formula) → MeansTheSame read f
+        → IsWellFormed read → HoldsSkolemCircuit read certificate → HoldsSkolem f certificate }
+{
+    binary_circuits_are_lawful();
+    mapping_is_as_told();
+}
+
 /// A certificate that holds a Skolem circuit of a formula holds one on the page, of the page's formula.
 pub fn skolem_circuits_are_on_the_page()
     ensures { (formula certificate : List ℕ) (read : Dqbf) (f : Formula) → IsOnPage formula read f
         → IsWellFormed read → HoldsSkolemCircuit read certificate → HoldsSkolem f certificate }
 {
-    binary_circuits_are_lawful();
-    mapping_is_as_told();
+    skolem_circuits_mean_the_same();
 }
 
 /// A certificate that is accepted as a true formula's holds a Skolem circuit on the page, of the page's
@@ -53,6 +63,21 @@ pub fn accepted_circuits_are_on_the_page()
 {
     acceptance_is_sound();
     skolem_circuits_are_on_the_page();
+}
+
+/// A formula on the page that means what the reader's does is true or false where that one is, whichever
+/// text spells it, and a certificate that is accepted as a true formula's holds a Skolem circuit of it.
+pub fn same_meanings_are_on_the_page()
+    ensures is_true { (read : Dqbf) (f : Formula) → MeansTheSame read f → IsWellFormed read
+        → IsReadTrue read → IsTrueFormula f }
+    ensures is_false { (read : Dqbf) (f : Formula) → MeansTheSame read f → IsReadFalse read
+        → IsFalseFormula f }
+    ensures circuit { (certificate : List ℕ) (read : Dqbf) (f : Formula) → MeansTheSame read f
+        → IsWellFormed read → IsJudgement read certificate ValidTrue → HoldsSkolem f certificate }
+{
+    functions_are_choices();
+    skolem_circuits_mean_the_same();
+    acceptance_is_sound();
 }
 
 /// Definitions that are right to the reader are right on the page, of the page's formula, and their

@@ -1,11 +1,11 @@
-use Rattle.headline_laws.proofs.HeldCircuits.{held}
 use Rattle.headline_laws.proofs.laws.skolem_circuits_are_on_the_page.Goals as goal
 
 pub returns : goal.returns
 returns c formula certificate read f on formed holds =
-    held certificate read f on.universals on.existentials on.holds formed.prefix c.mapping_is_as_told.ensures.exact
+    c.skolem_circuits_mean_the_same.ensures certificate read f
     (record {
-      lawful = c.binary_circuits_are_lawful.ensures.lawful;
-      acyclic = c.binary_circuits_are_lawful.ensures.acyclic;
-      outputs_mean = c.binary_circuits_are_lawful.ensures.outputs_mean;
-    }) holds
+      universals = on.universals;
+      existentials = on.existentials;
+      holds = on.holds;
+      holds_there = on.holds_there;
+    }) formed holds
