@@ -1,10 +1,11 @@
 -- From an accepted certificate to the headline's page.
-use Rattle.std.proofs.Common.{inl, inr, ℕ, List, Option, refl}
+use Rattle.std.proofs.Common.{inl, inr, ℕ, List, [], ◌∷◌, ◌++◌, codes, Option, refl}
+use Rattle.std.specs.Fmt.{decimal}
 use Rattle.dq_lits.specs.Formula.{Dqbf, IsWellFormed}
 use Rattle.dqdimacs_reader.specs.Grammar.{SpellsFormula}
 use Rattle.defined_checker.specs.declared.checks.DefinedCounts.{DefinedCounts}
 use Rattle.cert_judge.specs.Judgement.{HoldsRightDefinitions, HoldsSkolemCircuit}
-use Rattle.headline.specs.Headline.{AreDefined, Formula, HoldsSkolem, defined_line, existentials_of, false_line, true_line}
+use Rattle.headline.specs.Headline.{AreDefined, Formula, HoldsSkolem, existentials_of}
 use Rattle.headline_laws.specs.Formulas.{IsOnPage}
 use Rattle.dqcheck_core.specs.OnePage.{ShowsHeadline}
 use Rattle.dqcheck_core.specs.Told.{IsAcceptance}
@@ -17,13 +18,13 @@ pub record PageLaw : Type 0 where
       HoldsSkolemCircuit read certificate → HoldsSkolem f certificate
   pub definitions : (formula certificate : List ℕ) (read : Dqbf) (f : Formula) (counts : DefinedCounts) → IsOnPage formula read f →
       IsWellFormed read → HoldsRightDefinitions read certificate counts →
-      AreDefined f (existentials_of f) counts.defined counts.free
+      AreDefined f certificate (existentials_of f) counts.defined counts.free
 
 pub shows : PageLaw → (formula certificate : List ℕ) (before now : Option (List ℕ)) →
     IsAcceptance formula certificate before now → ShowsHeadline formula certificate before now
 shows law formula certificate before now a = elim a.verdict [
   | inl proved ↦ record {
-    written = true_line;
+    written = codes "VALID TRUE" ++ 10 ∷ [];
     appended = proved.written;
     headline = record {
       f = page.0;
@@ -36,7 +37,7 @@ shows law formula certificate before now a = elim a.verdict [
     };
   }
   | inr (inl proved) ↦ record {
-    written = false_line;
+    written = codes "VALID FALSE" ++ 10 ∷ [];
     appended = proved.written;
     headline = record {
       f = page.0;
@@ -45,7 +46,8 @@ shows law formula certificate before now a = elim a.verdict [
     };
   }
   | inr (inr proved) ↦ record {
-    written = defined_line proved.counts.defined proved.counts.free;
+    written =
+        (codes "VALID DEFINED " ++ (decimal proved.counts.defined ++ (codes " FREE " ++ decimal proved.counts.free))) ++ 10 ∷ [];
     appended = proved.written;
     headline = record {
       f = page.0;
@@ -53,8 +55,8 @@ shows law formula certificate before now a = elim a.verdict [
       says = inr (inr (
         proved.counts.defined,
         proved.counts.free,
-        refl,
         law.definitions formula certificate a.f page.0 proved.counts page.1 a.well_formed proved.definitions,
+        refl,
       ));
     };
   }

@@ -1,5 +1,5 @@
 -- The examples of copies.
-use Rattle.std.proofs.Common.{◌≡◌, ◌≢◌, ℕ, ◌+◌, ◌-◌, ◌*◌, ◌/◌, ◌^◌, ◌<◌, ◌==◌, zero, suc, Bool, true, false, not, ◌&&◌, ◌||◌, cond, List, [], ◌∷◌, map, codes, inl, refl, ◌∙◌, ap, arith}
+use Rattle.std.proofs.Common.{◌≡◌, ◌≢◌, ℕ, ◌+◌, ◌-◌, ◌*◌, ◌/◌, ◌^◌, ◌<◌, ◌≤◌, ◌==◌, zero, suc, Bool, true, false, not, ◌&&◌, ◌||◌, cond, List, [], ◌∷◌, map, codes, inl, refl, ◌∙◌, ap, arith}
 use Rattle.std.specs.Char.{is_ascii_digit}
 use Rattle.std.specs.List.{All, AllPairs, Contains}
 use Rattle.headline.specs.Examples.{copies, blind_copies, wire, wire_text}
@@ -54,10 +54,9 @@ wire_spelled = record {
   body = codes "2" ∷ codes "2" ∷ [];
   behind = [];
   zeros = 0;
-  few = omega arith;
   lines_are = refl;
   verdict_is = inl refl;
-  header_is = (refl, (one_is, (one_is, (zero_is, (one_is, (zero_is, tt))))));
+  header_is = (omega arith, (refl, (one_is, (one_is, (zero_is, (one_is, (zero_is, tt)))))));
   body_is = ((two_is, tt), ((two_is, tt), tt));
   names_are = record {
     symbols = [];
@@ -76,6 +75,7 @@ one_place P here (suc k) d below = absurd (omega (arith, below))
 pub wire_circuit : IsCircuit wire
 wire_circuit = record {
   rank = λ v. 0;
+  small = one_place (λ v. v ≤ 1) (omega arith);
   ordered = λ k d below. absurd (omega (arith, below));
   once = once;
   defined = defined;
@@ -95,6 +95,7 @@ pub wire_skolem : IsSkolem copies wire []
 wire_skolem = record {
   input_of = λ x. 0;
   output_of = λ y. 0;
+  as_many = (refl, refl);
   inputs = one_place (λ x. (0 < 1) × StandsFor [] 105 (1 ∷ []) 0 x) (omega arith, inl (refl, omega arith, refl));
   outputs = outputs;
   reads = reads;

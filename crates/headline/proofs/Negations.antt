@@ -1,5 +1,5 @@
 -- The examples of a negation: a circuit in the binary form, whose output is a negated input.
-use Rattle.std.proofs.Common.{◌≡◌, ◌≢◌, ℕ, zero, suc, ◌/◌, ◌<◌, ◌==◌, Bool, true, false, not, ◌&&◌, ◌||◌, List, [], ◌∷◌, codes, inl, inr, refl, ◌∙◌, ap, arith}
+use Rattle.std.proofs.Common.{◌≡◌, ◌≢◌, ℕ, zero, suc, ◌/◌, ◌<◌, ◌≤◌, ◌==◌, Bool, true, false, not, ◌&&◌, ◌||◌, List, [], ◌∷◌, codes, inl, inr, refl, ◌∙◌, ap, arith}
 use Rattle.std.specs.List.{All, AllPairs, Contains, list_all}
 use Rattle.std.proofs.lemmas.Bool.{and_parts, eq-eqb}
 use Rattle.headline.specs.Examples.{negated_text, negated_wire, opposites}
@@ -27,11 +27,10 @@ negated_spelled = record {
   code = [];
   behind = [];
   zeros = 0;
-  few = omega arith;
   parts = inl refl;
   one_line = each;
   verdict_is = inl refl;
-  header_is = (refl, (one_is, (one_is, (zero_is, (one_is, (zero_is, tt))))));
+  header_is = (omega arith, (refl, (one_is, (one_is, (zero_is, (one_is, (zero_is, tt)))))));
   outputs_are = ((one_digit 51 3 refl refl (omega arith), tt), tt);
   inputs_first = refl;
   gates_are = refl;
@@ -55,6 +54,7 @@ negated_spelled = record {
 negated_circuit : IsCircuit negated_wire
 negated_circuit = record {
   rank = λ v. 0;
+  small = one_place (λ v. v ≤ 1) (omega arith);
   ordered = λ k d below. absurd (omega (arith, below));
   once = once;
   defined = defined;
@@ -80,6 +80,7 @@ negated_skolem : IsSkolem opposites negated_wire []
 negated_skolem = record {
   input_of = λ x. 0;
   output_of = λ y. 0;
+  as_many = (refl, refl);
   inputs = one_place (λ x. (0 < 1) × StandsFor [] 105 (1 ∷ []) 0 x) (omega arith, inl (refl, omega arith, refl));
   outputs = outputs;
   reads = reads;

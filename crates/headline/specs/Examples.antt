@@ -64,6 +64,12 @@ negated_text = line (codes "aig 1 1 0 1 0") ++ line (codes "3")
 abbrev pub negated_wire : Circuit
 negated_wire = record { largest = 1; inputs = 1 ∷ []; outputs = 3 ∷ []; gates = [] }
 
+-- y2's value is that of x1, and a proof of it
+abbrev pub definition_text : List ℕ
+definition_text =
+    line (codes "p dqd 1") ++ (line (codes "t 2 2 0 2") ++ (line (codes "5 2 0 3 2 0")
+    ++ line (codes "6 0 5 1 4 0")))
+
 -- nothing is asked of y2
 abbrev pub loose : Formula
 loose = record {

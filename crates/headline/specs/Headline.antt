@@ -33,9 +33,8 @@ words (byte ∷ bytes) =
 
 -- a line whose first word begins with `c` (99) is a comment
 abbrev pub is_comment : List (List ℕ) → Bool
-is_comment [] = false
-is_comment ([] ∷ _) = false
 is_comment ((byte ∷ _) ∷ _) = byte == 99
+is_comment _ = false
 
 abbrev pub tokens : List ℕ → List (List ℕ)
 tokens text = flat_map (λ line. if is_comment (words line) then [] else words line) (lines text)
@@ -121,8 +120,7 @@ declared f = flat_map declared_in f.parts
 
 abbrev pub universals_in : PrefixPart → List ℕ
 universals_in (universals vs) = vs
-universals_in (existentials _) = []
-universals_in (dependent _ _) = []
+universals_in _ = []
 
 abbrev pub universals_of : Formula → List ℕ
 universals_of f = flat_map universals_in f.parts
@@ -183,7 +181,6 @@ pub record SpellsFormula (text : List ℕ) (f : Formula) : Type 0 where
   pub in_range : All (λ v. (1 ≤ v) × (v ≤ f.variables))
       (declared f ++ flat_map (λ c. map variable_of (literals_of c)) f.constraints)
   pub few_variables : f.variables ≤ 1000000
-  pub few_constraints : length f.constraints ≤ 10000000
   pub few_clauses : sum_by size_of f.constraints ≤ 10000000
 
 -- TRUTH
@@ -205,19 +202,16 @@ abbrev pub Holds : Formula → (ℕ → Bool) → Type 0
 Holds f m = list_all (constraint_true m) f.constraints ≡ true
 
 -- a function of what it sees for each existential, by its variable
-abbrev pub Functions : Type 0
-Functions = ℕ → List Bool → Bool
-
-abbrev pub Solve : Functions → Formula → Type 0
+abbrev pub Solve : (ℕ → List Bool → Bool) → Formula → Type 0
 Solve value f =
     (m : ℕ → Bool)
     → All (λ y. m y.variable ≡ value y.variable (map m y.sees)) (existentials_of f) → Holds f m
 
 abbrev pub IsTrueFormula : Formula → Type 0
-IsTrueFormula f = (value : Functions) × Solve value f
+IsTrueFormula f = (value : ℕ → List Bool → Bool) × Solve value f
 
 abbrev pub IsFalseFormula : Formula → Type 0
-IsFalseFormula f = (value : Functions) → Solve value f → ⊥
+IsFalseFormula f = (value : ℕ → List Bool → Bool) → Solve value f → ⊥
 
 -- CIRCUITS (AIGER): literal 2v is variable v, 2v + 1 its negation, variable 0 is false
 
@@ -252,6 +246,7 @@ pub data Reaches (c : Circuit) : ℕ → ℕ → Type 0 where
 
 -- no cycle: gates can be put behind what they read
 pub record IsCircuit (c : Circuit) : Type 0 where
+  pub small : All (λ v. v ≤ c.largest) (c.inputs ++ map (λ g. g.variable) c.gates)
   pub rank : ℕ → ℕ
   pub ordered : All (λ g. (rank (g.left / 2) < rank g.variable)
       × (rank (g.right / 2) < rank g.variable)) c.gates
@@ -275,11 +270,13 @@ pub record SpellsName (line : List ℕ) (s : Named) : Type 0 where
   pub some : s.name ≢ []
   pub crs : list_all (λ byte. byte == 13) ends ≡ true
 
+abbrev pub gate_row : Gate → List Symbol
+gate_row g = natural (2 * g.variable) ∷ natural g.left ∷ natural g.right ∷ []
+
 abbrev pub rows : Circuit → List (List Symbol)
 rows c =
     map (λ v. natural (2 * v) ∷ []) c.inputs
-    ++ (map (λ l. natural l ∷ []) c.outputs
-    ++ map (λ g. natural (2 * g.variable) ∷ natural g.left ∷ natural g.right ∷ []) c.gates)
+    ++ (map (λ l. natural l ∷ []) c.outputs ++ map gate_row c.gates)
 
 -- the header's numbers: M I L O A, and at most four zeros
 abbrev pub header_symbols : List ℕ → Circuit → ℕ → List Symbol
@@ -301,21 +298,17 @@ pub record SpellsNames (text : List (List ℕ)) (names : List Named) : Type 0 wh
   pub once : AllPairs (λ s t. (s.letter ≢ t.letter) ⊎ (s.place ≢ t.place)) names
   pub end_is : IsEnd end
 
--- an optional line that states the verdict
-abbrev pub IsVerdict : List (List ℕ) → Type 0
-IsVerdict verdict = (verdict ≡ []) ⊎ (map words verdict ≡ (codes "s" ∷ codes "TRUE" ∷ []) ∷ [])
-
--- in AIGER's ASCII form: the header, a line for each input, output and gate, and names
+-- in AIGER's ASCII form, behind `s TRUE` or nothing: the header, a line for each input, output and
+-- gate, and names
 pub record SpellsAscii (text : List ℕ) (c : Circuit) (names : List Named) : Type 0 where
   pub verdict : List (List ℕ)
   pub header : List ℕ
   pub body : List (List ℕ)
   pub behind : List (List ℕ)
   pub zeros : ℕ
-  pub few : zeros ≤ 4
   pub lines_are : lines text ≡ verdict ++ (header ∷ (body ++ behind))
-  pub verdict_is : IsVerdict verdict
-  pub header_is : AllZip Spells (words header) (header_symbols (codes "aag") c zeros)
+  pub verdict_is : (verdict ≡ []) ⊎ (map words verdict ≡ (codes "s" ∷ codes "TRUE" ∷ []) ∷ [])
+  pub header_is : (zeros ≤ 4) × AllZip Spells (words header) (header_symbols (codes "aag") c zeros)
   pub body_is : AllZip (λ line row. AllZip Spells (words line) row) body (rows c)
   pub names_are : SpellsNames behind names
 
@@ -330,6 +323,7 @@ pub record IsGateCode (code : List ℕ) (g : Gate) : Type 0 where
   pub first : List ℕ
   pub second : List ℕ
   pub parts : code ≡ first ++ second
+  pub short : (length first ≤ 5) × (length second ≤ 5)
   pub left : (g.left < 2 * g.variable) × IsDifference first (2 * g.variable - g.left)
   pub right : (g.right ≤ g.left) × IsDifference second (g.left - g.right)
 
@@ -339,15 +333,13 @@ AreGateCodes code (g ∷ gates) =
     (own : List ℕ) × (others : List ℕ) × (code ≡ own ++ others) × IsGateCode own g
     × AreGateCodes others gates
 
-abbrev pub with_feeds : List (List ℕ) → List ℕ
-with_feeds ls = flat_map (λ line. line ++ 10 ∷ []) ls
-
 -- these lines, each with its LF, and other bytes; where there are none, the last LF may be missing
 abbrev pub AreLinesBefore : List (List ℕ) → List ℕ → List ℕ → Type 0
 AreLinesBefore ls others text =
-    (text ≡ with_feeds ls ++ others) ⊎ ((others ≡ []) × (text ++ 10 ∷ [] ≡ with_feeds ls))
+    (text ≡ flat_map (λ line. line ++ 10 ∷ []) ls ++ others)
+    ⊎ ((others ≡ []) × (text ++ 10 ∷ [] ≡ flat_map (λ line. line ++ 10 ∷ []) ls))
 
--- in the binary form: the header and the outputs' lines, the gates' bytes, and names
+-- in the binary form: the same header, the outputs' lines, the gates' bytes, and names
 pub record SpellsBinary (text : List ℕ) (c : Circuit) (names : List Named) : Type 0 where
   pub verdict : List (List ℕ)
   pub header : List ℕ
@@ -355,11 +347,10 @@ pub record SpellsBinary (text : List ℕ) (c : Circuit) (names : List Named) : T
   pub code : List ℕ
   pub behind : List ℕ
   pub zeros : ℕ
-  pub few : zeros ≤ 4
   pub parts : AreLinesBefore (verdict ++ (header ∷ outputs)) (code ++ behind) text
   pub one_line : All (All (λ byte. byte ≢ 10)) (verdict ++ (header ∷ outputs))
-  pub verdict_is : IsVerdict verdict
-  pub header_is : AllZip Spells (words header) (header_symbols (codes "aig") c zeros)
+  pub verdict_is : (verdict ≡ []) ⊎ (map words verdict ≡ (codes "s" ∷ codes "TRUE" ∷ []) ∷ [])
+  pub header_is : (zeros ≤ 4) × AllZip Spells (words header) (header_symbols (codes "aig") c zeros)
   pub outputs_are : AllZip (λ line l. AllZip Spells (words line) (natural l ∷ [])) outputs c.outputs
   pub inputs_first : c.inputs ++ map (λ g. g.variable) c.gates ≡ up_to c.largest
   pub gates_are : AreGateCodes code c.gates
@@ -378,6 +369,7 @@ StandsFor names letter variables place v =
 pub record IsSkolem (f : Formula) (c : Circuit) (names : List Named) : Type 0 where
   pub input_of : ℕ → ℕ
   pub output_of : ℕ → ℕ
+  pub as_many : (length c.inputs ≡ length (universals_of f)) × (length c.outputs ≡ length (existentials_of f))
   pub inputs : All (λ x. (input_of x < length c.inputs)
       × StandsFor names 105 (universals_of f) (input_of x) x) (universals_of f)
   pub outputs : All (λ y. (output_of y.variable < length c.outputs)
@@ -422,28 +414,37 @@ pub record IsDefined (f : Formula) (y : Existential) : Type 0 where
   pub reads : (m n : ℕ → Bool) → ((v : ℕ) → MayRead f y v → m v ≡ n v) → value m ≡ value n
   pub is : (m : ℕ → Bool) → Holds f m → m y.variable ≡ value m
 
--- so many of these existentials are defined, and so many aren't
-abbrev pub AreDefined : Formula → List Existential → ℕ → ℕ → Type 0
-AreDefined f [] d r = (d ≡ 0) × (r ≡ 0)
-AreDefined f (y ∷ ys) d r =
-    (IsDefined f y × ((k : ℕ) × (d ≡ suc k) × AreDefined f ys k r))
-    ⊎ ((IsDefined f y → ⊥) × ((k : ℕ) × (r ≡ suc k) × AreDefined f ys d k))
+-- and it is the value of a circuit over the formula's variables, which the text holds in the lines
+-- `t y OUTPUT GATES STEPS` and of these gates
+pub record HoldsDefinition (f : Formula) (text : List ℕ) (y : Existential) : Type 0 where
+  pub c : Circuit
+  pub output : ℕ
+  pub steps : ℕ
+  pub before : List (List ℕ)
+  pub block : List (List ℕ)
+  pub behind : List (List ℕ)
+  pub lines_are : lines text ≡ before ++ (block ++ behind)
+  pub block_is : AllZip (λ line row. AllZip Spells (words line) row) block
+      ((word (codes "t") ∷ map natural (y.variable ∷ output ∷ length c.gates ∷ steps ∷ []))
+      ∷ map gate_row c.gates)
+  pub circuit : IsCircuit c
+  pub ends : (c.inputs ≡ up_to f.variables) × (c.outputs ≡ output ∷ [])
+  pub defined : IsDefined f y
+  pub value : (m bits : ℕ → Bool) → Fits c (λ i. m (suc i)) bits → defined.value m ≡ literal_bit bits output
+
+-- so many of these existentials are defined by the text, and so many aren't defined
+abbrev pub AreDefined : Formula → List ℕ → List Existential → ℕ → ℕ → Type 0
+AreDefined f text [] d r = (d ≡ 0) × (r ≡ 0)
+AreDefined f text (y ∷ ys) d r =
+    (HoldsDefinition f text y × ((k : ℕ) × (d ≡ suc k) × AreDefined f text ys k r))
+    ⊎ ((IsDefined f y → ⊥) × ((k : ℕ) × (r ≡ suc k) × AreDefined f text ys d k))
 
 -- THE HEADLINE: of the texts of two files, and what was written with status 0
-
-abbrev pub true_line : List ℕ
-true_line = codes "VALID TRUE" ++ 10 ∷ []
-
-abbrev pub false_line : List ℕ
-false_line = codes "VALID FALSE" ++ 10 ∷ []
-
-abbrev pub defined_line : ℕ → ℕ → List ℕ
-defined_line d r =
-    (codes "VALID DEFINED " ++ (decimal d ++ (codes " FREE " ++ decimal r))) ++ 10 ∷ []
 
 pub record Headline (formula certificate written : List ℕ) : Type 0 where
   pub f : Formula
   pub spelled : SpellsFormula formula f
-  pub says : ((written ≡ true_line) × IsTrueFormula f × HoldsSkolem f certificate)
-      ⊎ (((written ≡ false_line) × IsFalseFormula f)
-      ⊎ ((d : ℕ) × (r : ℕ) × (written ≡ defined_line d r) × AreDefined f (existentials_of f) d r))
+  pub says : ((written ≡ codes "VALID TRUE" ++ 10 ∷ []) × IsTrueFormula f × HoldsSkolem f certificate)
+      ⊎ (((written ≡ codes "VALID FALSE" ++ 10 ∷ []) × IsFalseFormula f)
+      ⊎ ((d : ℕ) × (r : ℕ) × AreDefined f certificate (existentials_of f) d r
+      × (written ≡ (codes "VALID DEFINED " ++ (decimal d ++ (codes " FREE " ++ decimal r))) ++ 10 ∷ [])))

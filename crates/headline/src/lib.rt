@@ -9,8 +9,8 @@
 #![tactic(auto)]
 
 ghost use Rattle.std.specs.Prelude.{◌≡◌, ℕ, List, [], ◌∷◌, ◌++◌, codes};
-ghost use Rattle.headline.specs.Examples.{copies_text, copies, blind_copies, wire_text, wire, one_of_two, both_and_one, opposites, negated_text, negated_wire, loose};
-ghost use Rattle.headline.specs.Headline.{tokens, Formula, HoldsSkolem, IsDefined, IsTrueFormula, IsFalseFormula, SpellsAscii, SpellsBinary, SpellsFormula, StandsFor, existentials_of, seeing, universals, existentials, dependent, clause, xor, positive, opposite};
+ghost use Rattle.headline.specs.Examples.{copies_text, copies, blind_copies, wire_text, wire, one_of_two, both_and_one, opposites, negated_text, negated_wire, definition_text, loose};
+ghost use Rattle.headline.specs.Headline.{tokens, Formula, HoldsDefinition, HoldsSkolem, IsDefined, IsTrueFormula, IsFalseFormula, SpellsAscii, SpellsBinary, SpellsFormula, StandsFor, existentials_of, seeing, universals, existentials, dependent, clause, xor, positive, opposite};
 ghost use Rattle.headline.specs.SessionExamples.{asking, asking_text, first_block, second_block, true_copies};
 ghost use Rattle.headline.specs.Sessions.{AnswersSession, Command, SpellsScript, formulas_asked};
 
@@ -80,9 +80,10 @@ pub fn a_negated_wire_negates()
     ensures skolem { HoldsSkolem opposites negated_text }
 {}
 
-/// A copy is defined, and a variable of which nothing is asked isn't.
+/// A copy is defined, by a text of four lines; a variable of which nothing is asked isn't.
 pub fn copies_are_defined()
     ensures copy { IsDefined copies (seeing (1 ∷ []) 2) }
+    ensures block { HoldsDefinition copies definition_text (seeing (1 ∷ []) 2) }
     ensures loose { IsDefined loose (seeing (1 ∷ []) 2) → ⊥ }
 {}
 

@@ -1,5 +1,5 @@
 -- A circuit's text in the ASCII form spells it on the page.
-use Rattle.std.proofs.Common.{◌≡◌, ◌≢◌, ℕ, zero, suc, ◌+◌, ◌*◌, ◌==◌, inl, inr, pos, Bool, true, false, cond, List, [], ◌∷◌, ◌++◌, length, map, replicate, drop, Some, codes, refl, sym, ◌∙◌, ap, subst, arith, append_assoc, append-nil}
+use Rattle.std.proofs.Common.{◌≡◌, ◌≢◌, ℕ, zero, suc, ◌+◌, ◌*◌, ◌==◌, ◌⊎◌, inl, inr, pos, Bool, true, false, cond, List, [], ◌∷◌, ◌++◌, length, map, replicate, drop, Some, codes, refl, sym, ◌∙◌, ap, subst, arith, append_assoc, append-nil}
 use Rattle.std.specs.List.{All, AllZip}
 use Rattle.std.proofs.lemmas.Bool.{eqb-true}
 use Rattle.std.proofs.lemmas.List.{length-map, map-append}
@@ -14,7 +14,7 @@ use Rattle.aiger_text.specs.Grammar.{naturals, line_numbers, netlist_numbers, in
 use Rattle.aiger_text.specs.declared.files.AagFile.{AagFile}
 use Rattle.cert_text.specs.Beginning.{Begins, header_place, verdict_word}
 use Rattle.cert_text.specs.declared.kinds.Kind.{Kind}
-use Rattle.headline.specs.Headline.{Gate, natural, Spells, SpellsAscii, IsVerdict, header_symbols, lines, rows, words}
+use Rattle.headline.specs.Headline.{Gate, natural, Spells, SpellsAscii, header_symbols, lines, rows, words}
 use Rattle.skolem_checker.proofs.NamedMappings.{same_name}
 use Rattle.headline_laws.proofs.Circuits.{page_circuit, page_gate}
 use Rattle.headline_laws.proofs.Skolems.{page_names}
@@ -103,7 +103,7 @@ drop_first text line behind place first at = elim first.parts [
         ap (λ n. drop n text) same ∙ (ap (drop (length front)) is ∙ drop-append_seam front behind)
 
 -- numbers
-numbers_spelled : (ts : List (List ℕ)) (ns : List ℕ) → map number_of ts ≡ naturals ns → AllZip Spells ts (map natural ns)
+pub numbers_spelled : (ts : List (List ℕ)) (ns : List ℕ) → map number_of ts ≡ naturals ns → AllZip Spells ts (map natural ns)
 numbers_spelled [] [] h = tt
 numbers_spelled [] (n ∷ ns) h = cc
 numbers_spelled (t ∷ ts) [] h = cc
@@ -222,6 +222,10 @@ body_spelled ls net h =
 texts_append : (ls ks : List TextLine) → texts (ls ++ ks) ≡ texts ls ++ texts ks
 texts_append ls ks = map-append (λ (l : TextLine). l.text) ls ks
 
+-- nothing, or a line that states that the formula is true
+abbrev pub IsVerdict : List (List ℕ) → Type 0
+IsVerdict verdict = (verdict ≡ []) ⊎ (map words verdict ≡ (codes "s" ∷ codes "TRUE" ∷ []) ∷ [])
+
 -- the lines of the text behind the verdict
 pub record HasLines (text rest : List ℕ) : Type 0 where
   pub verdict : List (List ℕ)
@@ -257,12 +261,11 @@ ascii_on_page text kind shows begins file s =
       body = texts s.netlist_lines;
       behind = texts (s.symbol_lines ++ s.comment_lines);
       zeros = s.header.zeros;
-      few = s.header.few_sections;
       lines_are = front.lines_are ∙ ap (λ ls. front.verdict ++ ls)
           (lines_are 1 (drop (header_place kind) text) ∙ (ap texts s.lines
           ∙ ap (λ ls. s.header_line.text ∷ ls) (texts_append s.netlist_lines (s.symbol_lines ++ s.comment_lines))));
       verdict_is = front.verdict_is;
-      header_is = header_spelled (codes "aag") s.header_line.text file.circuit s.header;
+      header_is = (s.header.few_sections, header_spelled (codes "aag") s.header_line.text file.circuit s.header);
       body_is = body_spelled s.netlist_lines file.circuit s.netlist;
       names_are = names_spelled s.symbol_lines s.comment_lines s.symbols file.symbols (length file.circuit.inputs)
           (length file.circuit.outputs) s.table s.input_names s.output_names s.symbols_spelled

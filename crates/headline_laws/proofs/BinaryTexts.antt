@@ -1,6 +1,6 @@
 -- A circuit's text in the binary form spells it on the page.
-use Rattle.std.proofs.Common.{◌≡◌, ◌≢◌, ℕ, suc, ◌+◌, ◌-◌, ◌*◌, ◌<◌, inl, inr, List, [], ◌∷◌, ◌++◌, length, map, drop, Option, Some, None, codes, refl, sym, ◌∙◌, ap, subst, arith, append_assoc, append-nil, length-append}
-use Rattle.std.specs.List.{All, AllByRecursion, AllZip, range_with_len}
+use Rattle.std.proofs.Common.{◌≡◌, ◌≢◌, ℕ, ◌+◌, ◌-◌, ◌*◌, ◌<◌, inl, inr, List, [], ◌∷◌, ◌++◌, length, map, drop, Option, Some, None, codes, refl, sym, ◌∙◌, ap, subst, arith, append_assoc, append-nil, length-append}
+use Rattle.std.specs.List.{All, AllByRecursion, AllZip, flat_map, range_with_len}
 use Rattle.std.proofs.lemmas.List.Elements.{All-append, All-from_recursion}
 use Rattle.circuit_plain.specs.declared.circuits.Gate.{Gate as ReadGate}
 use Rattle.dq_text.specs.Line.{TextLine, IsFirstLine, lines_from}
@@ -10,9 +10,9 @@ use Rattle.aig_binary.specs.Gates.{SpellsGate, SpellsGates}
 use Rattle.aig_binary.specs.Grammar.{EndsOn, SpellsOutputs, SpellsBinary as IsReadBinary}
 use Rattle.cert_text.specs.Beginning.{Begins, header_place, verdict_word}
 use Rattle.cert_text.specs.declared.kinds.Kind.{Kind}
-use Rattle.headline.specs.Headline.{Gate, AreGateCodes, AreLinesBefore, IsDifference, IsEnd, IsGateCode, IsVerdict, Spells, SpellsBinary, natural, with_feeds, words}
+use Rattle.headline.specs.Headline.{Gate, AreGateCodes, AreLinesBefore, IsDifference, IsEnd, IsGateCode, Spells, SpellsBinary, natural, words}
 use Rattle.skolem_checker.proofs.NamedMappings.{same_name}
-use Rattle.headline_laws.proofs.AsciiTexts.{body_lines, drop_first, header_spelled, split}
+use Rattle.headline_laws.proofs.AsciiTexts.{IsVerdict, body_lines, drop_first, header_spelled, split}
 use Rattle.headline_laws.proofs.Circuits.{page_circuit, page_gate}
 use Rattle.headline_laws.proofs.Formulas.{up_to_is}
 use Rattle.headline_laws.proofs.NamedPlaces.{blank_same, names_spelled}
@@ -31,6 +31,7 @@ gate_code v code g s = record {
   first = s.first;
   second = s.second;
   parts = s.parts;
+  short = (s.first_spelled.few, s.second_spelled.few);
   left = (
     subst (λ w. g.left < 2 * w) (sym s.variable) s.left,
     subst (λ w. IsDifference s.first (2 * w - g.left)) (sym s.variable) (difference s.first (2 * v - g.left) s.first_spelled.groups),
@@ -51,6 +52,9 @@ gate_range v code (g ∷ gates) (own, others, parts, spelled, rest) =
     ∙ ap (λ ws. v ∷ ws) (gate_range (v + 1) others gates rest)
 
 -- lines with their ends
+abbrev with_feeds : List (List ℕ) → List ℕ
+with_feeds ls = flat_map (λ line. line ++ 10 ∷ []) ls
+
 no_feed_ends : (l : List ℕ) (ls : List (List ℕ)) (others : List ℕ) → [] ≡ with_feeds (l ∷ ls) ++ others → ⊥
 no_feed_ends l ls others h =
     let long = ap length h in
@@ -165,7 +169,6 @@ binary_on_page text kind shows begins first read s =
       code = s.code;
       behind = s.behind;
       zeros = s.header.zeros;
-      few = s.header.few_sections;
       parts = subst (λ b. AreLinesBefore (there.verdict ++ (s.header_line.text ∷ outs.own)) b text) s.parted
           (there.before (s.header_line.text ∷ outs.own) s.binary
           (with_first rest s.header_line.text s.header_line.behind s.binary outs.own head.first outs.empty outs.before));
@@ -174,7 +177,7 @@ binary_on_page text kind shows begins first read s =
           (All-from_recursion (λ (line : List ℕ). All (λ byte. byte ≢ 10) line) (s.header_line.text ∷ outs.own)
           (head.first.one_line, outs.one_line));
       verdict_is = there.verdict_is;
-      header_is = header_spelled (codes "aig") s.header_line.text net s.header;
+      header_is = (s.header.few_sections, header_spelled (codes "aig") s.header_line.text net s.header);
       outputs_are = outs.spelled;
       inputs_first = ap (λ vs. vs ++ map (λ (g : Gate). g.variable) (map page_gate net.gates)) s.inputs
           ∙ (ap (λ vs. range_with_len 1 (length net.inputs) ++ vs) (gate_range (length net.inputs + 1) s.code net.gates s.gates)

@@ -327,6 +327,10 @@ module _ (net : Netlist) (kept : IsNetlist net) where
   pub is_circuit : AllGrounded net → All (HasMeaning net) net.outputs → IsCircuit (page_circuit net)
   is_circuit acyclic outputs = record {
     rank = rank_to net (one_level net.gates acyclic).0;
+    small = All-append (λ v. v ≤ net.max_var) net.inputs (map (λ (g : Gate). g.variable) (map page_gate net.gates))
+        (λ k d below. (kept.inputs_fit k d below).1)
+        (All-from_recursion (λ v. v ≤ net.max_var) (map (λ (g : Gate). g.variable) (map page_gate net.gates))
+        (small_gates net.gates (λ k d below. (kept.gates_fit k d below).variable.1)));
     ordered = All-map (λ (g : Gate). (rank_to net (one_level net.gates acyclic).0 (g.left / 2)
         < rank_to net (one_level net.gates acyclic).0 g.variable)
         × (rank_to net (one_level net.gates acyclic).0 (g.right / 2)
@@ -342,6 +346,11 @@ module _ (net : Netlist) (kept : IsNetlist net) where
         (λ k d below. acyclic k d below)));
   }
     where
+      small_gates : (gates : List ReadGate) → ((k : ℕ) (d : ReadGate) → k < length gates → (get_or gates k d).variable ≤ net.max_var) →
+          AllByRecursion (λ v. v ≤ net.max_var) (map (λ (g : Gate). g.variable) (map page_gate gates))
+      small_gates [] all = tt
+      small_gates (g ∷ gates) all = (all 0 g (omega arith), small_gates gates (λ k d below. all (suc k) d (omega (arith, below))))
+
       at_place : (gates : List ReadGate) (k : ℕ) (d : ReadGate) → k < length gates → Contains gates (get_or gates k d)
       at_place gates k d below = (k, below, same gates k d (get_or gates k d) below) where
         same : (gates : List ReadGate) (k : ℕ) (d e : ReadGate) → k < length gates → get_or gates k e ≡ get_or gates k d

@@ -1,7 +1,8 @@
 -- Definitions that are right to the reader are right on the page.
-use Rattle.std.proofs.Common.{◌≡◌, ◌≢◌, ℕ, suc, ◌+◌, ◌<◌, ◌==◌, inl, inr, Bool, true, false, cond, List, [], ◌∷◌, map, Option, Some, Result, Ok, Err, refl, sym, ◌∙◌, ap, subst, arith}
-use Rattle.std.specs.List.{AllByRecursion, AllPairs, Contains, find, position_or_len}
+use Rattle.std.proofs.Common.{◌≡◌, ◌≢◌, ℕ, suc, ◌+◌, ◌<◌, ◌==◌, inl, inr, Bool, true, false, cond, List, [], ◌∷◌, length, map, codes, drop, Option, Some, Result, Ok, Err, refl, sym, ◌∙◌, ap, subst, arith}
+use Rattle.std.specs.List.{AllByRecursion, AllPairs, AllZip, Contains, find, position_or_len}
 use Rattle.std.proofs.lemmas.Bool.{eqb-false, eqb-true}
+use Rattle.std.proofs.lemmas.List.{length-map}
 use Rattle.std.proofs.lemmas.List.Elements.{All-contains_itself, All-weaker, recursion_from_All}
 use Rattle.std.proofs.lemmas.List.Recursion.{is_position_or_len}
 use Rattle.list_laws.proofs.Members.{contains_cases, contains_first, contains_later, contains_map}
@@ -11,19 +12,22 @@ use Rattle.dq_lits.specs.Formula.{Existential as ReadExistential}
 use Rattle.dq_lits.proofs.Followers.{find_own}
 use Rattle.dq_formula.specs.Prefix.{existential_variables}
 use Rattle.definition_order.specs.Order.{IsShared, RanksBefore}
-use Rattle.cert_text.specs.AllowedDefinitions.{AreBlocksOf}
+use Rattle.cert_text.specs.AllowedDefinitions.{AreBlocksOf, IsDefinitionOf}
 use Rattle.cert_text.specs.DefinitionBlocks.{Definition, DefinitionBlock, FreePair, defined, free}
 use Rattle.cert_text.specs.Kind.{certificate_kind}
 use Rattle.cert_text.specs.declared.faults.CertRefusal.{CertRefusal}
 use Rattle.cert_text.specs.declared.kinds.Kind.{Kind}
 use Rattle.cert_text.specs.declared.kinds.Kind.TheVariants.{Circuit as CircuitText, BinaryCircuit as BinaryText, Refutation, Definitions}
+use Rattle.cert_text.proofs.SpelledKinds.{kind_spelled}
 use Rattle.defined_checker.specs.DefinitionReads.{MayDefine}
 use Rattle.defined_checker.specs.Forced.{AreRight, IsForced, IsRight, definition_value}
 use Rattle.defined_checker.specs.Judging.{counted, counts_of, no_counts}
 use Rattle.defined_checker.specs.declared.checks.DefinedCounts.{DefinedCounts}
 use Rattle.cert_judge.specs.Judgement.{HoldsRightDefinitions, SpellsBlocks}
-use Rattle.headline.specs.Headline.{AreDefined, Existential, Formula, IsDefined, MayRead, existentials_of, standing_before}
+use Rattle.headline.specs.Headline.{AreDefined, Existential, Formula, HoldsDefinition, IsDefined, MayRead, Spells, existentials_of, gate_row, natural, standing_before, up_to, word, words}
 use Rattle.headline_laws.specs.Formulas.{IsOnPage, read_existential}
+use Rattle.headline_laws.proofs.Circuits.{page_gate}
+use Rattle.headline_laws.proofs.DefinitionBlocks.{HasBlock, HaveBlocks, blocks_there, definition_circuit, definition_is_circuit, value_is}
 
 -- ---- places
 
@@ -233,47 +237,86 @@ module _ (text : List ℕ) (read : Dqbf) (f : Formula) (on : IsOnPage text read 
       (λ m n alike. x.reads m n (λ v may. alike v (to_reader y v may)))
       (λ m holds. ap m same ∙ x.is m (on.holds m holds))
 
-  each : (zs : List Existential) (blocks : List DefinitionBlock) → AllByRecursion IsKnown zs →
-      AreBlocksOf read (map (λ (z : Existential). z.variable) zs) blocks → AreRight read blocks →
-      AreDefined f zs (defined_count blocks) (free_count blocks)
-  each [] [] known are right = (refl, refl)
-  each [] (block ∷ blocks) known are right = absurd are
-  each (z ∷ zs) [] known are right = absurd are
-  each (z ∷ zs) (defined d ∷ blocks) known are right = inl (
-    is_defined z d known.0 are.0.0 right.0,
-    (defined_count blocks, refl, each zs blocks known.1 are.1 right.1),
+  -- where the certificate has the definition's lines
+  held : (certificate : List ℕ) (y : Existential) (d : Definition) → IsKnown y → d.existential ≡ y.variable → IsDefinitionOf read d →
+      IsForced read d → HasBlock certificate d → HoldsDefinition f certificate y
+  unfolding is_defined
+  held certificate y d known_y same own forced has = record {
+    c = definition_circuit read.variables d;
+    output = d.output;
+    steps = length d.steps;
+    before = has.before;
+    block = has.block;
+    behind = has.behind;
+    lines_are = has.lines_are;
+    block_is = block_spelled;
+    circuit = definition_is_circuit read d own;
+    ends = (ap up_to (sym on.variables), refl);
+    defined = is_defined y d known_y same forced;
+    value = λ m bits fits. value_is read d m bits own fits;
+  }
+    where
+      block_spelled : AllZip (λ line row. AllZip Spells (words line) row) has.block
+          ((word (codes "t") ∷ map natural (y.variable ∷ d.output ∷ length (map page_gate d.gates) ∷ length d.steps ∷ []))
+          ∷ map gate_row (map page_gate d.gates))
+      block_spelled =
+          subst (λ n. AllZip (λ line row. AllZip Spells (words line) row) has.block
+          ((word (codes "t") ∷ map natural (y.variable ∷ d.output ∷ n ∷ length d.steps ∷ [])) ∷ map gate_row (map page_gate d.gates)))
+          (sym (length-map d.gates page_gate))
+          (subst (λ v. AllZip (λ line row. AllZip Spells (words line) row) has.block
+          ((word (codes "t") ∷ map natural (v ∷ d.output ∷ length d.gates ∷ length d.steps ∷ [])) ∷ map gate_row (map page_gate d.gates)))
+          same has.block_is)
+
+  each : (certificate : List ℕ) (zs : List Existential) (blocks : List DefinitionBlock) → AllByRecursion IsKnown zs →
+      AreBlocksOf read (map (λ (z : Existential). z.variable) zs) blocks → AreRight read blocks → HaveBlocks certificate blocks →
+      AreDefined f certificate zs (defined_count blocks) (free_count blocks)
+  each certificate [] [] known are right there = (refl, refl)
+  each certificate [] (block ∷ blocks) known are right there = absurd are
+  each certificate (z ∷ zs) [] known are right there = absurd are
+  each certificate (z ∷ zs) (defined d ∷ blocks) known are right there = inl (
+    held certificate z d known.0 are.0.0 are.0.1 right.0 there.0,
+    (defined_count blocks, refl, each certificate zs blocks known.1 are.1 right.1 there.1),
   )
-  each (z ∷ zs) (free p ∷ blocks) known are right = inr (
+  each certificate (z ∷ zs) (free p ∷ blocks) known are right there = inr (
     is_free z p known.0 are.0.0 right.0,
-    (free_count blocks, refl, each zs blocks known.1 are.1 right.1),
+    (free_count blocks, refl, each certificate zs blocks known.1 are.1 right.1 there),
   )
 
-  blocks_defined : (blocks : List DefinitionBlock) (counts : DefinedCounts) →
+  blocks_defined : (certificate : List ℕ) (blocks : List DefinitionBlock) (counts : DefinedCounts) →
       AreBlocksOf read (existential_variables read) blocks → AreRight read blocks → counts ≡ counts_of no_counts blocks →
-      AreDefined f all counts.defined counts.free
-  blocks_defined blocks counts are right counted_so =
+      HaveBlocks certificate blocks → AreDefined f certificate all counts.defined counts.free
+  blocks_defined certificate blocks counts are right counted_so there =
       let own = ap (map (λ (w : ReadExistential). w.variable)) (sym on.existentials) ∙ variables_same all in
-      let said = each all blocks
+      let said = each certificate all blocks
       (recursion_from_All IsKnown all (All-weaker (Contains all) IsKnown known all (All-contains_itself all)))
-      (subst (λ vs. AreBlocksOf read vs blocks) own are) right in
+      (subst (λ vs. AreBlocksOf read vs blocks) own are) right there in
       let sums = counts_are blocks no_counts in
       let d : defined_count blocks ≡ counts.defined =
       (let whole = sums.0 in let e = ap (λ (c : DefinedCounts). c.defined) counted_so in omega (arith, whole, e)) in
       let r : free_count blocks ≡ counts.free =
       (let whole = sums.1 in let e = ap (λ (c : DefinedCounts). c.free) counted_so in omega (arith, whole, e)) in
-      subst (λ n. AreDefined f all n counts.free) d (subst (λ n. AreDefined f all (defined_count blocks) n) r said)
+      subst (λ n. AreDefined f certificate all n counts.free) d (subst (λ n. AreDefined f certificate all (defined_count blocks) n) r said)
 
-  by_kind : (certificate : List ℕ) (counts : DefinedCounts) (kind : Result Kind CertRefusal) (blocks : List DefinitionBlock) →
+  -- no verdict stands before definitions
+  begun_at : (certificate : List ℕ) (at h : ℕ) → certificate_kind certificate ≡ Ok (Definitions at h) → drop at certificate ≡ certificate
+  begun_at certificate at h is = elim (kind_spelled certificate (Definitions at h) is) [
+    | inl plain ↦ ap (λ n. drop n certificate) plain.place
+    | inr b ↦ (let shown = b.shows in cc)
+  ]
+
+  by_kind : (certificate : List ℕ) (counts : DefinedCounts) (kind : Result Kind CertRefusal) → certificate_kind certificate ≡ kind →
+      (blocks : List DefinitionBlock) →
       SpellsBlocks read certificate kind blocks → AreRight read blocks → counts ≡ counts_of no_counts blocks →
-      AreDefined f all counts.defined counts.free
-  by_kind certificate counts (Ok (Definitions at h)) blocks s right counted_so =
-      blocks_defined blocks counts s.allowed right counted_so
-  by_kind certificate counts (Ok (CircuitText at h)) blocks s right counted_so = absurd s
-  by_kind certificate counts (Ok (BinaryText at h)) blocks s right counted_so = absurd s
-  by_kind certificate counts (Ok (Refutation at h)) blocks s right counted_so = absurd s
-  by_kind certificate counts (Err refusal) blocks s right counted_so = absurd s
+      AreDefined f certificate all counts.defined counts.free
+  by_kind certificate counts (Ok (Definitions at h)) is blocks s right counted_so =
+      blocks_defined certificate blocks counts s.allowed right counted_so
+      (subst (λ text. HaveBlocks text blocks) (begun_at certificate at h is) (blocks_there (drop at certificate) read blocks s))
+  by_kind certificate counts (Ok (CircuitText at h)) is blocks s right counted_so = absurd s
+  by_kind certificate counts (Ok (BinaryText at h)) is blocks s right counted_so = absurd s
+  by_kind certificate counts (Ok (Refutation at h)) is blocks s right counted_so = absurd s
+  by_kind certificate counts (Err refusal) is blocks s right counted_so = absurd s
 
   pub held_definitions : (certificate : List ℕ) (counts : DefinedCounts) → HoldsRightDefinitions read certificate counts →
-      AreDefined f all counts.defined counts.free
+      AreDefined f certificate all counts.defined counts.free
   held_definitions certificate counts h =
-      by_kind certificate counts (certificate_kind certificate) h.blocks h.spelled h.right h.counted
+      by_kind certificate counts (certificate_kind certificate) refl h.blocks h.spelled h.right h.counted

@@ -25,7 +25,7 @@ use Rattle.dqdimacs_reader.specs.declared.lexemes.Lexeme.TheVariants.{Natural}
 use Rattle.dqdimacs_reader.proofs.SpelledClauses.{matrix-spelled, spelled_matrix}
 use Rattle.dqdimacs_reader.proofs.SpelledIsRead.{clauses_of, declares-keep}
 use Rattle.dqdimacs_reader.proofs.ReadIsSpelled.{constraints_keep_variables}
-use Rattle.headline.specs.Headline.{Formula, Existential, Constraint, natural, Spells, SpellsFormula, IsConstraint, IsTrueFormula, IsFalseFormula, Functions, Holds, among, constraint_true, existentials_from, existentials_of, formula_symbols, is_free, literal_symbol, literals_of, part_symbols, constraint_symbols, seeing, tokens, universals_of, up_to}
+use Rattle.headline.specs.Headline.{Formula, Existential, Constraint, natural, Spells, SpellsFormula, IsConstraint, IsTrueFormula, IsFalseFormula, Holds, among, constraint_true, existentials_from, existentials_of, formula_symbols, is_free, literal_symbol, literals_of, part_symbols, constraint_symbols, seeing, tokens, universals_of, up_to}
 use Rattle.headline.specs.Headline.{numbers as page_numbers, variable_of as page_variable, declared as page_declared}
 use Rattle.headline_laws.specs.Formulas.{IsOnPage, MeansTheSame, read_existential}
 use Rattle.headline_laws.proofs.Constraints.{page_literal, page_literals, page_constraint, page_constraints, all_occur, all_same, all_sizes}
@@ -240,7 +240,6 @@ module _ (text : List ℕ) (m : Dqbf) (s : IsRead text m) where
         (rec_append (λ v. (1 ≤ v) × (v ≤ m.variables)) (variables_in s.parts) (flat_map variables_at page.constraints)
         (all_in_range start s.parts s.lawful_parts) (constraints_range m.variables s.constraints s.lawful_constraints));
     few_variables = s.few_variables;
-    few_constraints = omega (arith, s.few_constraints, length-map s.constraints page_constraint);
     few_clauses = omega (
       arith,
       s.few_clauses,
@@ -299,7 +298,7 @@ module _ (m : Dqbf) (f : Formula) (same : MeansTheSame m f) where
   chosen choice bits None = false
   chosen choice bits (Some y) = list_any (same_bits bits) (choice y)
 
-  abbrev functions : HenkinChoice → Functions
+  abbrev functions : HenkinChoice → ℕ → List Bool → Bool
   functions choice v bits = chosen choice bits (existential_of m v)
 
   pub is_true : IsWellFormed m → IsReadTrue m → IsTrueFormula f
@@ -329,6 +328,7 @@ on_page text m s formed exact choices texts =
     let same = means_the_same text m s exact in
     record {
       spelled = spelled text m s texts;
+      variables = refl;
       universals = same.universals;
       existentials = same.existentials;
       holds = same.holds;

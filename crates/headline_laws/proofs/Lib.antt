@@ -9,4 +9,5 @@ pub mod NamedPlaces
 pub mod AsciiTexts
 pub mod BinaryTexts
 pub mod HeldCircuits
+pub mod DefinitionBlocks
 pub mod Definitions

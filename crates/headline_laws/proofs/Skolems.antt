@@ -313,6 +313,10 @@ module _ (m : Dqbf) (f : Formula) (us : universals_of f ≡ m.universals)
   is_skolem = record {
     input_of = input_of;
     output_of = output_of;
+    as_many = (
+      one.inputs_length ∙ ap length (sym us),
+      one.outputs_length ∙ (sym (ap length es) ∙ length-map (existentials_of f) read_existential),
+    );
     inputs = λ k d below.
         let x = get_or (universals_of f) k d in
         let there = universal_there k d below in

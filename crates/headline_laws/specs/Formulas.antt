@@ -13,6 +13,7 @@ read_existential y = record { variable = y.variable; sees = y.sees }
 -- the page's formula of a text has the same prefix, and is true or false where the reader's is
 pub record IsOnPage (text : List ℕ) (read : Dqbf) (f : Formula) : Type 0 where
   pub spelled : SpellsFormula text f
+  pub variables : f.variables ≡ read.variables
   pub universals : universals_of f ≡ read.universals
   pub existentials : map read_existential (existentials_of f) ≡ read.existentials
   pub holds : (m : Assignment) → MatrixHolds read m → Holds f m

@@ -72,10 +72,11 @@ pub fn same_meanings_are_on_the_page()
     acceptance_is_sound();
 }
 
-/// Definitions that are right to the reader are right on the page, of the page's formula.
+/// Definitions that are right to the reader are right on the page, of the page's formula, and their
+/// circuits are those of the text.
 pub fn definitions_are_on_the_page()
     ensures { (formula certificate : List ℕ) (read : Dqbf) (f : Formula) (counts : DefinedCounts)
         → IsOnPage formula read f → IsWellFormed read
         → HoldsRightDefinitions read certificate counts
-        → AreDefined f (existentials_of f) counts.defined counts.free }
+        → AreDefined f certificate (existentials_of f) counts.defined counts.free }
 {}
