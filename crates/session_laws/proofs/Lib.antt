@@ -1,0 +1,4 @@
+pub mod AnsweredBlocks
+pub mod AskedFormulas
+pub mod GrownFormulas
+pub mod ReadScripts
