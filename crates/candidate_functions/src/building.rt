@@ -50,7 +50,8 @@ impl Outputs {
 /// has its point's bit at each pair of the table, and elsewhere the bit of its first rule whose
 /// cube is true; where there is none, the value of its guess, or without a guess what its tree says:
 /// no contract speaks of either. The trees of those without a guess first grow by the points, and the
-/// samples guide them. A guess that is wrong at most rows, and at 8 at least, is none from then on.
+/// samples guide them; two that are one function of different universals have one tree. A guess that
+/// is wrong at most rows, and at 8 at least, is none from then on.
 /// Definitions and guesses are in the order of the existentials; those that are missing are none.
 /// The ranks are those by which definitions may read what they read.
 ///

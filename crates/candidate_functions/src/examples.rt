@@ -1,8 +1,10 @@
 //! A model's points as examples of one existential: rows, with the bit that it has there.
 
-ghost use Rattle.std.specs.Prelude.{◌≡◌, ◌≤◌, length, Contains};
+ghost use Rattle.std.specs.Prelude.{◌≡◌, length, Contains};
+ghost use Rattle.dq_formula.specs.Prefix.{existential_variables};
 
 use crate::counts::BranchCounts;
+use crate::outputs::Known;
 use crate::samples::Samples;
 use dq_formula::Formula;
 use dq_lits::{Memory, Row};
@@ -13,8 +15,9 @@ use std::alloc::Global;
 // product of two counts.
 const MOST_TESTS: usize = 64;
 
-// Rows, each with the bit of the existential at a place, and the universals that it sees there; and
-// samples, which say something where these don't.
+// Rows, each with the bit of the existential at a place, and the universals that it sees there; behind
+// them the same rows with the bits of its twin, and what that sees, if it has one; and samples, which
+// say something where these don't.
 #[derive(Drop)]
 pub(crate) struct Examples<'a> {
     pub f: &'a Formula,
@@ -22,24 +25,55 @@ pub(crate) struct Examples<'a> {
     pub place: usize,
     pub bits: &'a [bool],
     pub seen: &'a [u64],
+    pub twin_seen: &'a [u64],
     pub samples: &'a Samples,
 }
 
-// The bits of an existential in the rounds of a table.
+// A test, by where the universal stands in the rows that an existential, and its twin, sees there.
+#[derive(Clone, Copy)]
+struct Test {
+    own: usize,
+    twin: usize,
+}
+
+// The bits of the existential at a place in the rounds of a table; behind them those of its twin.
 pub(crate) fn bits_of(
     alloc: Global,
-    table: &Table,
-    points: &Points,
-    y: u64,
+    known: &Known,
+    place: usize,
+    twin: Option<usize>,
 ) -> Result<Vec<bool>, Memory>
+    requires variables { known.now.points.now.variables ≡ existential_variables known.now.f.now }
+    requires as_many { length known.now.points.now.rows ≡ length known.now.table.now.rows }
+{
+    let mut bits = Vec::new(alloc);
+    add_bits(&mut bits, known, place)?;
+    if let Some(twin) = twin {
+        add_bits(&mut bits, known, twin)?;
+    }
+    Ok(bits)
+}
+
+// Adds the bits of the existential at a place, if there is one.
+fn add_bits(bits: &mut Vec<bool>, known: &Known, place: usize) -> Result<(), Memory>
+    requires variables { known.now.points.now.variables ≡ existential_variables known.now.f.now }
+    requires as_many { length known.now.points.now.rows ≡ length known.now.table.now.rows }
+{
+    if place < known.f.existentials().len() {
+        let y = known.f.existentials()[place];
+        add_bits_of(bits, known.table, known.points, y)?;
+    }
+    Ok(())
+}
+
+fn add_bits_of(bits: &mut Vec<bool>, table: &Table, points: &Points, y: u64) -> Result<(), Memory>
     requires as_many { length points.now.rows ≡ length table.now.rows }
     requires existential { Contains points.now.variables y }
 {
-    let mut bits = Vec::new(alloc);
     for k in 0..table.rows() {
         bits.push(points.bit(y, k + 1))?;
     }
-    Ok(bits)
+    Ok(())
 }
 
 impl Examples<'_> {
@@ -60,10 +94,10 @@ impl Examples<'_> {
         tested: usize,
         bit: bool,
     ) -> Result<Vec<usize>, Memory> {
-        let place = self.universal(tested);
+        let test = self.test(tested);
         let mut found = Vec::new(alloc);
         for number in some {
-            if self.is_one(*number, place) == bit {
+            if self.is_one(*number, test) == bit {
                 found.push(*number)?;
             }
         }
@@ -94,10 +128,10 @@ impl Examples<'_> {
         let mut least = u64::MAX;
         let mut tests = 0usize;
         for tested in 0..self.seen.len() {
-            let place = self.universal(tested);
-            if tests < MOST_TESTS && self.is_one(*one, place) != self.is_one(*other, place) {
+            let test = self.test(tested);
+            if tests < MOST_TESTS && self.is_one(*one, test) != self.is_one(*other, test) {
                 tests += 1;
-                let impurity = self.impurity(some, place);
+                let impurity = self.impurity(some, test);
                 if impurity < least || impurity == least && self.is_purer(tested, best) {
                     least = impurity;
                     best = Some(tested);
@@ -108,10 +142,10 @@ impl Examples<'_> {
     }
 
     // How mixed the bits of examples are at both branches of a test.
-    fn impurity(&self, some: &[usize], place: usize) -> u64 {
+    fn impurity(&self, some: &[usize], test: Test) -> u64 {
         let mut counts = BranchCounts::none();
         for number in some {
-            counts.add(self.is_one(*number, place), self.bit(*number));
+            counts.add(self.is_one(*number, test), self.bit(*number));
         }
         counts.impurity()
     }
@@ -125,7 +159,7 @@ impl Examples<'_> {
     }
 
     fn samples_impurity(&self, tested: usize) -> u64 {
-        self.samples.impurity(self.universal(tested), self.place)
+        self.samples.impurity(self.test(tested).own, self.place)
     }
 
     fn bit(&self, number: usize) -> bool {
@@ -135,18 +169,28 @@ impl Examples<'_> {
         }
     }
 
-    // Where a universal stands in the rows, by its place among those that are seen; behind all
-    // where there is none.
-    fn universal(&self, tested: usize) -> usize {
-        match self.seen.get(tested) {
+    // A test by the place of its universal among those that are seen.
+    fn test(&self, tested: usize) -> Test {
+        Test {
+            own: self.universal(self.seen, tested),
+            twin: self.universal(self.twin_seen, tested),
+        }
+    }
+
+    // Where a universal stands in the rows, by its place among others; behind all where there is none.
+    fn universal(&self, seen: &[u64], tested: usize) -> usize {
+        match seen.get(tested) {
             Some(x) => self.f.place_of(*x),
             None => self.f.universals().len(),
         }
     }
 
-    // Whether the universal at a place is true in an example.
-    fn is_one(&self, number: usize, place: usize) -> bool {
-        bit_at(self.table, number, place)
+    // Whether the universal of a test is true in an example.
+    fn is_one(&self, number: usize, test: Test) -> bool {
+        match number.checked_sub(self.table.rows() as usize) {
+            Some(number) => bit_at(self.table, number, test.twin),
+            None => bit_at(self.table, number, test.own),
+        }
     }
 }
 

@@ -13,6 +13,7 @@ use crate::examples::{Examples, bits_of};
 use crate::outputs::Known;
 use crate::refutations::Refutations;
 use crate::trees::Tree;
+use crate::twins::{Twins, seen_at};
 use aig_graph::{Graph, Node};
 use dq_formula::Formula;
 use dq_lits::{Memory, Row};
@@ -25,6 +26,8 @@ pub struct Trees {
     alloc: Global,
     // By place of the existential.
     trees: Vec<Tree>,
+    // Which of them have one tree, once that is known.
+    twins: Option<Twins>,
     refutations: Refutations,
 }
 
@@ -34,14 +37,16 @@ impl Trees {
         Trees {
             alloc,
             trees: Vec::new(alloc),
+            twins: None,
             refutations: Refutations::new(alloc),
         }
     }
 
     /// How many leaves the tree of the existential at a place has: one before the first row, and at
-    /// most as many as there are rows. No contract says so; cases count them.
+    /// most as many as there are rows, or twice as many where a twin has it too. No contract says so;
+    /// cases count them.
     pub fn leaves(&self, place: usize) -> usize {
-        match self.trees.get(place) {
+        match self.trees.get(self.tree_of(place)) {
             Some(tree) => tree.leaves(),
             None => 0,
         }
@@ -53,7 +58,7 @@ impl Trees {
         requires { place < length f.now.existentials }
     {
         f.every_formula_is_lawful();
-        match self.trees.get(place) {
+        match self.trees.get(self.tree_of(place)) {
             Some(tree) => tree.bit(f, f.seen(f.existentials()[place]), row),
             None => false,
         }
@@ -74,6 +79,7 @@ impl Trees {
     {
         known.f.every_formula_is_lawful();
         self.refutations.count(self.alloc, known, graph)?;
+        self.find_twins(known)?;
         let mut nodes = Vec::new(self.alloc);
         for place in 0..known.f.existentials().len() {
             self.grow(place)?;
@@ -81,6 +87,26 @@ impl Trees {
             nodes.push(node)?;
         }
         Ok(nodes)
+    }
+
+    // Finds twins before the first tree has grown.
+    fn find_twins(&mut self, known: &Known) -> Result<(), Memory> {
+        if self.twins.is_none() {
+            self.twins = Some(Twins::of(self.alloc, known)?);
+        }
+        Ok(())
+    }
+
+    fn twin(&self, place: usize) -> Option<usize> {
+        match &self.twins {
+            Some(twins) => twins.twin(place),
+            None => None,
+        }
+    }
+
+    // The place of the existential whose tree the one at a place has.
+    fn tree_of(&self, place: usize) -> usize {
+        shared_place(place, self.twin(place))
     }
 
     // Has a tree at a place.
@@ -106,19 +132,29 @@ impl Trees {
             return Ok(Node::constant(false));
         }
         let guess = self.refutations.standing(known.guesses, place);
-        match (guess, self.trees.get_mut(place)) {
+        let twin = self.twin(place);
+        match (guess, self.trees.get_mut(shared_place(place, twin))) {
             (Some(guess), _) => Ok(guess),
-            (None, Some(tree)) => learned(self.alloc, known, place, tree, graph),
+            (None, Some(tree)) => learned(self.alloc, known, place, twin, tree, graph),
             (None, None) => Ok(Node::constant(false)),
         }
     }
 }
 
-// The node of the tree of the existential at a place, which grows first.
+// Twins have the tree of the one that comes first.
+fn shared_place(place: usize, twin: Option<usize>) -> usize {
+    match twin {
+        Some(twin) => place.min(twin),
+        None => place,
+    }
+}
+
+// The node of the tree that the existential at a place has, which grows first where it is its own.
 fn learned(
     alloc: Global,
     known: &Known,
     place: usize,
+    twin: Option<usize>,
     tree: &mut Tree,
     graph: &mut Graph,
 ) -> Result<Node, Memory>
@@ -130,17 +166,43 @@ fn learned(
     ensures node { (y : Existential) → slice_get known.now.f.now.existentials place ≡ Some y
         → IfOk result (IsByRules known.now.f.now graph.new [] y) }
 {
+    grow(alloc, known, place, twin, tree)?;
     known.f.every_formula_is_lawful();
     let y = known.f.existentials()[place];
-    let bits = bits_of(alloc, known.table, known.points, y)?;
+    tree.node(alloc, known.f, known.f.seen(y), graph)
+}
+
+// Makes the tree of the existential at a place grow, by its points and its twin's, unless it is the
+// twin's.
+fn grow(
+    alloc: Global,
+    known: &Known,
+    place: usize,
+    twin: Option<usize>,
+    tree: &mut Tree,
+) -> Result<(), Memory>
+    requires variables { known.now.points.now.variables ≡ existential_variables known.now.f.now }
+    requires as_many { length known.now.points.now.rows ≡ length known.now.table.now.rows }
+{
+    if shared_place(place, twin) != place {
+        return Ok(());
+    }
+    let bits = bits_of(alloc, known, place, twin)?;
     let examples = Examples {
         f: known.f,
         table: known.table,
         place,
         bits: &bits,
-        seen: known.f.seen(y),
+        seen: seen_at(known.f, place),
+        twin_seen: twin_seen(known.f, twin),
         samples: known.samples,
     };
-    tree.learn(alloc, &examples)?;
-    tree.node(alloc, known.f, known.f.seen(y), graph)
+    tree.learn(alloc, &examples)
+}
+
+fn twin_seen(f: &Formula, twin: Option<usize>) -> &[u64] {
+    match twin {
+        Some(twin) => seen_at(f, twin),
+        None => &[],
+    }
 }

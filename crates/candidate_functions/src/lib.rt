@@ -22,3 +22,4 @@ mod refutations;
 mod rules;
 mod samples;
 mod trees;
+mod twins;

@@ -52,8 +52,9 @@ impl Tree {
         }
     }
 
-    // Grows until all examples at a leaf have one bit, which is the leaf's then. Rows never go, so a
-    // leaf without examples is a whole tree that no row came to yet: it has the bit of most samples.
+    // Grows until all examples at a leaf have one bit, which is the leaf's then, or until no test parts
+    // its first two with other bits, as where the points of twins disagree. Rows never go, so a leaf
+    // without examples is a whole tree that no row came to yet: it has the bit of most samples.
     pub(crate) fn learn(&mut self, alloc: Global, examples: &Examples) -> Result<(), Memory> {
         if self.branches.is_empty() {
             self.branches.push(Branch::Leaf(examples.likely_bit()))?;

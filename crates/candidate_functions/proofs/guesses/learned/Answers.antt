@@ -11,17 +11,13 @@ pub seen-requires : goal.seen-requires
 seen-requires c = declared_at c.args.known.now.f.now c.every_formula_is_lawful.ensures
     c.existentials.result.now c.args.place c.existentials.ensures c.requires.place
 
-pub seen-requires-2 : goal.seen-requires-2
-seen-requires-2 c = declared_at c.args.known.now.f.now c.every_formula_is_lawful.ensures
-    c.existentials.result.now c.args.place c.existentials.ensures c.requires.place
-
 pub node-requires-clause-seen : goal.node-requires-clause-seen
 node-requires-clause-seen c =
     let f = c.args.known.now.f.now in
     let y = get_or c.existentials.result.now c.args.place 0 in
-    some_existential f y (All (Contains f.universals) c.seen-2.result.now) (declared_at f
+    some_existential f y (All (Contains f.universals) c.seen.result.now) (declared_at f
     c.every_formula_is_lawful.ensures c.existentials.result.now c.args.place c.existentials.ensures c.requires.place)
-    (λ e found. subst (All (Contains f.universals)) (sym (seen_as f y c.seen-2.result.now c.seen-2.ensures.set e found))
+    (λ e found. subst (All (Contains f.universals)) (sym (seen_as f y c.seen.result.now c.seen.ensures.set e found))
     (sees_universals f c.every_formula_is_lawful.ensures y e found))
 
 pub returns-clause-node : goal.returns-clause-node
@@ -31,8 +27,8 @@ returns-clause-node c = λ e at.
     let y = get_or c.existentials.result.now c.args.place 0 in
     let found = known_at f lawful c.existentials.result.now c.args.place e c.existentials.ensures at in
     let new = c.node.new.graph in
-    let places = universal_places f c.seen-2.result.now in
+    let places = universal_places f c.seen.result.now in
     IfOk-weaker c.node.result (IsOver new places) (IsByRules f new [] e)
     (λ n over. unruled f lawful y e found new places
-    (ap (universal_places f) (seen_as f y c.seen-2.result.now c.seen-2.ensures.set e found)) n over)
+    (ap (universal_places f) (seen_as f y c.seen.result.now c.seen.ensures.set e found)) n over)
     c.node.ensures.node
