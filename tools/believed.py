@@ -28,6 +28,7 @@ QUESTIONS = (
     ("`VALID TRUE`, `VALID FALSE` and `VALID DEFINED`, on the headline's page", ["dqcheck_core::dqcheck_run.headline"]),
     ("10 and 20 of `solve`, on the headline's page", ["dqsolve_core::dqsolve_run.headline"]),
     ("10 and 20 of `pec`, on the page on black boxes", ["dqsolve_core::dqsolve_run.boxes"]),
+    ("0 of `session`, on the page on sessions", ["dqsolve_core::dqsolve_run.session"]),
     ("`VALID TRUE`: the outputs are Skolem functions of the formula", TOLD + ["dqcheck_core::IsProvedTrue.circuit,is_true,written"]),
     ("`VALID FALSE`: the formula is false", TOLD + ["dqcheck_core::IsProvedFalse.is_false,written"]),
     ("`VALID DEFINED D FREE R`", TOLD + ["dqcheck_core::IsProvedDefined.counts,definitions,written"]),

@@ -9,4 +9,5 @@ pub mod Statuses
 pub mod ToldDesigns
 pub mod ToldFiles
 pub mod DefinedRuns
+pub mod SessionPage
 pub mod SessionRuns

@@ -17,12 +17,13 @@ ghost use Rattle.dq_runs.specs.Sinks.{sink_of};
 ghost use Rattle.dqsolve_words.specs.Command.{Command, Comparison, solve, pec, defined, session, most_seed, least_size, most_size, default_steps};
 ghost use Rattle.dqsolve_words.specs.Spelling.{spelled_command};
 ghost use Rattle.dqsolve_words.specs.Words.{options_of, search_of, planting_of, comparison_of, defining_of, session_of};
-ghost use Rattle.dqsolve_core.specs.OnePage.{ShowsHeadline};
+ghost use Rattle.dqsolve_core.specs.OnePage.{ShowsHeadline, ShowsSession};
 ghost use Rattle.dqsolve_core.specs.Outputs.{IsReported, IsSolveOutput, IsSolveLog, IsDemoOutput};
 ghost use Rattle.dqsolve_core.specs.Report.{form_of};
 ghost use Rattle.dqsolve_core.specs.Running.{IsDue, IsRunLog, IsOwnLog, steps_asked};
 ghost use Rattle.dqsolve_core.specs.ToldCircuits.{AreCircuitsTold};
 ghost use Rattle.dqsolve_core.specs.Told.{IsTold, ShowsTold};
+ghost use Rattle.dqsolve_core.specs.ToldSessions.{IsSessionTold};
 
 use crate::demos::demo_output;
 use box_laws::laws::designs_are_on_the_page;
@@ -43,6 +44,7 @@ use hint_log::Log;
 use pec_front::laws::{certified_boxes_fit, design_formulas_are_well_formed, fitting_boxes_choose};
 use pec_runs::{DesignStop, encode, read_design_formula};
 use planted_formulas::planted_formula;
+use session_laws::laws::sessions_are_on_the_page;
 use session_runs::session_files;
 use std::alloc::Global;
 use verdict_texts::Form;
@@ -110,6 +112,13 @@ pub fn dqsolve_run<F: Files, K: Sink>(
         → AreCircuitsTold (F.held files.old) c.circuits specification implementation
         → (result ≡ 10) ⊎ (result ≡ 20) → AnswersBoxes specification implementation result }
 
+    // On the page of sessions: over a formula and a script that are told, what is written with 0 is
+    // a block for each search of the script, right for the formula that it asks about.
+    ensures session { (formula script : List ℕ)
+        → IsSessionTold (F.held files.old) (spelled_command (map string_bytes words.now)) formula
+        script → result ≡ 0 → ShowsSession formula script (sink_of K.Sink out.old).taken
+        (sink_of K.Sink out.new).taken }
+
     // Each refusal has its cause, and no fault is passed over, over all files and sinks.
     ensures causes { HasCauses (spelled_command (map string_bytes words.now))
         (state_of F.Files files.old) (state_of F.Files files.new)
@@ -121,6 +130,7 @@ pub fn dqsolve_run<F: Files, K: Sink>(
     formulas_are_on_the_page();
     accepted_circuits_are_on_the_page();
     designs_are_on_the_page();
+    sessions_are_on_the_page();
     let output = report(alloc, words, files, log);
     deliver(out, output)
 }

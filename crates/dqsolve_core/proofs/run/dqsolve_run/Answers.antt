@@ -6,6 +6,7 @@ use Rattle.dqsolve_core.proofs.Runs.{ends, causes, own_log}
 use Rattle.dqsolve_core.proofs.DefinedRuns.{defines_told}
 use Rattle.dqsolve_core.proofs.BoxPage.{shows_boxes}
 use Rattle.dqsolve_core.proofs.OnePage.{is_verdict, no_other, shows}
+use Rattle.dqsolve_core.proofs.SessionPage.{shows_session}
 use Rattle.dqsolve_core.proofs.SessionRuns.{converses_told}
 use Rattle.dqsolve_core.proofs.ToldDesigns.{compares_told}
 use Rattle.dqsolve_core.proofs.ToldFiles.{solves_told}
@@ -84,6 +85,12 @@ returns-clause-boxes g c command specification implementation asked told either 
     ((returns-clause-told g c).circuits.answered command.circuits specification implementation
     (inr (command, asked, refl)) told (no_other status 3 either (λ e. omega (arith, e)) (λ e. omega (arith, e)))
     (no_other status 4 either (λ e. omega (arith, e)) (λ e. omega (arith, e))) (no_other status 5 either (λ e. omega (arith, e)) (λ e. omega (arith, e))))
+
+pub returns-clause-session : goal.returns-clause-session
+returns-clause-session g c formula script told zero =
+    shows_session c.sessions_are_on_the_page.ensures formula script c.report-output.new.log told.command
+    (sink_of g.K.Sink c.args.out.now).taken (sink_of g.K.Sink c.deliver.new.out).taken c.deliver.result
+    ((returns-clause-told g c).sessions.right formula script told zero)
 
 pub returns-clause-causes : goal.returns-clause-causes
 returns-clause-causes g c =
