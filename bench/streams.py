@@ -1,10 +1,10 @@
-"""Measures the built checker on a refutation that memory isn't to hold: each line takes the one before as its only hint,
-and that is then deleted, but for one in so many, which stays to the end.
+"""Measures the built checker on a proof that memory isn't to hold: each line takes the one before as its only hint, and that
+is then deleted, but for one in so many, which stays to the end.
 
-    python3 bench/streams.py [--megabytes N] [--keep N] [--folder FOLDER]
+    python3 bench/streams.py [--form dqr|aag|aig] [--megabytes N] [--keep N] [--folder FOLDER]
 
-It writes the texts into a folder of its own, tells the checker's time and peak memory and the time of `wc -l` on the same
-file, and takes them away."""
+The proof is a refutation, or a circuit's in AIGER's ASCII or binary form. It writes the texts into a folder of its own,
+tells the checker's time and peak memory and the time of `wc -l` on the same file, and takes them away."""
 
 import argparse
 import os
@@ -17,41 +17,79 @@ TOP = os.path.dirname(os.path.dirname(os.path.abspath(__file__)))
 CHECKER = os.environ.get("DQCHECK", os.path.join(TOP, "crates", "dqcheck", "out", "dqcheck"))
 MEGABYTE = 1_000_000
 
-# Two unit clauses on the first of ten existentials; under one row they have the ids 1 and 2.
 EXISTENTIALS = range(2, 12)
-FORMULA = "".join(
-    ["p cnf 11 2\n", "a 1 0\n", *(f"d {existential} 1 0\n" for existential in EXISTENTIALS), "2 0\n", "-2 0\n"]
-)
-LITERALS = " ".join(map(str, EXISTENTIALS))
+PREFIX = ["p cnf 11 2\n", "a 1 0\n", *(f"d {existential} 1 0\n" for existential in EXISTENTIALS)]
 
 
-def blocks(wanted, keep):
+class Refutation:
+    """Two unit clauses on the first of ten existentials; under one row they have the ids 1 and 2."""
+
+    formula = [*PREFIX, "2 0\n", "-2 0\n"]
+    head, behind_count = b"p dqr2 1 ", b"\nu 1 0\n"
+    literals = " ".join(map(str, EXISTENTIALS))
+    first, first_hint, last_kept = 3, 1, 2
+    begin = []
+
+    @staticmethod
+    def end(id, hint):
+        return [f"{id} {' '.join(map(str, EXISTENTIALS[1:]))} 0 {hint} 2 0\n", f"{id + 1} 0 1 2 0\n"]
+
+
+class Circuit:
+    """Ten outputs that are one gate, the AND of the universal with itself, and two clauses: the first existential is the
+    universal. Gate and clauses have the ids 1 to 7, that one of the clauses is false has 8; that they aren't 9 and 10."""
+
+    formula = [*PREFIX, "2 -1 0\n", "-2 1 0\n"]
+    literals = "-3 1 2"
+    first, first_hint, last_kept = 11, 9, 10
+    begin = ["9 -3 0 5 3 4 0\n", "10 -4 0 6 1 7 0\n"]
+    behind_count = b"\n"
+
+    def __init__(self, counts, gate):
+        outputs = len(EXISTENTIALS) * b"4\n"
+        self.head = counts.replace(b"OUTPUTS", outputs) + gate + b"c\ndqp2 "
+
+    @staticmethod
+    def end(id, hint):
+        return [f"{id} 0 9 10 8 0\n"]
+
+
+FORMS = {
+    "dqr": Refutation(),
+    "aag": Circuit(b"aag 2 1 0 10 1\n2\nOUTPUTS", b"4 2 2\n"),
+    "aig": Circuit(b"aig 2 1 0 10 1\nOUTPUTS", bytes([2, 0])),
+}
+
+
+def blocks(form, wanted, keep):
     """The lines of a proof of so many bytes in blocks, and how many lines each has."""
-    written, id, hint = 0, 3, 1
+    yield "".join(form.begin), len(form.begin)
+    written, id, hint = 0, form.first, form.first_hint
     while written < wanted:
         lines = []
         for _ in range(10_000):
-            lines.append(f"{id} {LITERALS} 0 {hint} 0\n")
-            if hint > 2 and hint % keep:
+            lines.append(f"{id} {form.literals} 0 {hint} 0\n")
+            if hint > form.last_kept and hint % keep:
                 lines.append(f"d {hint} 0\n")
             id, hint = id + 1, id
         block = "".join(lines)
         written += len(block)
         yield block, len(lines)
-    yield f"{id} {LITERALS[2:]} 0 {hint} 2 0\n{id + 1} 0 1 2 0\n", 2
+    end = form.end(id, hint)
+    yield "".join(end), len(end)
 
 
-def write(formula, certificate, wanted, keep):
+def write(form, formula, certificate, wanted, keep):
     with open(formula, "w", encoding="ascii", newline="") as file:
-        file.write(FORMULA)
+        file.write("".join(form.formula))
     count = 0
-    with open(certificate, "w", encoding="ascii", newline="") as file:
-        file.write(f"p dqr2 1 {'':12}\nu 1 0\n")
-        for block, lines in blocks(wanted, keep):
-            file.write(block)
+    with open(certificate, "wb") as file:
+        file.write(form.head + 12 * b" " + form.behind_count)
+        for block, lines in blocks(form, wanted, keep):
+            file.write(block.encode())
             count += lines
-        file.seek(len("p dqr2 1 "))
-        file.write(str(count))
+        file.seek(len(form.head))
+        file.write(str(count).encode())
 
 
 def run(command):
@@ -74,6 +112,7 @@ def tell(name, size, seconds, peak, answer):
 
 def main():
     parser = argparse.ArgumentParser(description="measures the built checker on a proof that deletes its lines")
+    parser.add_argument("--form", choices=FORMS, default="dqr", help="a refutation, or a circuit's proof in one of two forms")
     parser.add_argument("--megabytes", type=int, default=1_000, help="how long the certificate is")
     parser.add_argument("--keep", type=int, default=10_000, help="one line in so many isn't deleted")
     parser.add_argument("--folder", help="where the texts are written")
@@ -85,7 +124,7 @@ def main():
         # A process of its own, since a child's peak memory begins with its parent's.
         writer = os.fork()
         if writer == 0:
-            write(formula, certificate, words.megabytes * MEGABYTE, words.keep)
+            write(FORMS[words.form], formula, certificate, words.megabytes * MEGABYTE, words.keep)
             os._exit(0)
         os.waitpid(writer, 0)
         size = os.path.getsize(certificate)

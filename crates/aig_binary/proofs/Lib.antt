@@ -1,8 +1,13 @@
 pub mod Complete
+pub mod CutGates
+pub mod CutLines
 pub mod SpelledDeltas
 pub mod Exactness
+pub mod GateLines
 pub mod SpelledGates
 pub mod Numbered
+pub mod LinesTaken
+pub mod LinesTurned
 pub mod SpelledOutputs
 pub mod Steps
 pub mod SpelledSymbols

@@ -44,16 +44,16 @@ first_side_from literal side less =
     ∙ lowered_from literal side (omega arith)
 
 -- the steps of a gate's reading
-abbrev gate_with : ℕ → ℕ → List ℕ → ℕ → Result (Gate × List ℕ) AagFault
+abbrev pub gate_with : ℕ → ℕ → List ℕ → ℕ → Result (Gate × List ℕ) AagFault
 gate_with v left rest right = Ok (record { variable = v; left = left; right = right }, rest)
 
-abbrev behind_second : ℕ → ℕ → ℕ × List ℕ → Result (Gate × List ℕ) AagFault
+abbrev pub behind_second : ℕ → ℕ → ℕ × List ℕ → Result (Gate × List ℕ) AagFault
 behind_second v left second = and_then (lowered left second.0) (gate_with v left second.1)
 
-abbrev behind_left : ℕ → List ℕ → ℕ → Result (Gate × List ℕ) AagFault
+abbrev pub behind_left : ℕ → List ℕ → ℕ → Result (Gate × List ℕ) AagFault
 behind_left v bytes left = and_then (read_delta most_groups bytes) (behind_second v left)
 
-abbrev behind_first : ℕ → ℕ × List ℕ → Result (Gate × List ℕ) AagFault
+abbrev pub behind_first : ℕ → ℕ × List ℕ → Result (Gate × List ℕ) AagFault
 behind_first v first = and_then (first_side (2 * v) first.0) (behind_left v first.1)
 
 pub gate_from : (v : ℕ) (code rest : List ℕ) (g : Gate) → SpellsGate v code g → read_gate v (code ++ rest) ≡ Ok
@@ -77,7 +77,7 @@ pub record IsGateOf (v : ℕ) (bytes : List ℕ) (g : Gate) (rest : List ℕ) : 
   pub parted : bytes ≡ code ++ rest
   pub spelled : SpellsGate v code g
 
-same_gate : (v left right : ℕ) (rest behind : List ℕ) (g : Gate) →
+pub same_gate : (v left right : ℕ) (rest behind : List ℕ) (g : Gate) →
     gate_with v left rest right ≡ Ok (g, behind) →
     (g.variable ≡ v) × (g.left ≡ left) × (g.right ≡ right) × (rest ≡ behind)
 same_gate v left right rest behind g h =

@@ -3,8 +3,10 @@ pub mod BareReading
 pub mod Deltas
 pub mod Either
 pub mod Endings
+pub mod FilesByLine
 pub mod Gates
 pub mod Grammar
+pub mod MoreGates
 pub mod Scan
 pub mod Steps
 pub mod Written

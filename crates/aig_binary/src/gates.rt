@@ -32,8 +32,8 @@ fn first_side(literal: u64, delta: u64) -> Result<u64, AagFault>
     lowered(literal, delta)
 }
 
-// The gate of a variable.
-fn next_gate(deltas: &mut Deltas, variable: u64) -> Result<Gate, AagFault>
+/// The gate of a variable.
+pub(crate) fn next_gate(deltas: &mut Deltas, variable: u64) -> Result<Gate, AagFault>
     requires { variable ≤ 1000000000 }
     ensures read { MatchResult result
         (λ g. read_gate variable deltas.old ≡ Ok (g, deltas.new))

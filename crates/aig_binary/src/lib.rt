@@ -8,6 +8,7 @@
 
 pub use bare::{BareCircuit, list_inputs};
 pub use either::read;
+pub use files_by_line::{AigLines, Place, begin_lines};
 pub use reader::read_bare;
 pub use writer::write_binary;
 
@@ -15,9 +16,11 @@ mod bare;
 mod deltas;
 mod either;
 mod endings;
+mod files_by_line;
 mod gates;
 mod headers;
 pub mod laws;
+mod more_gates;
 mod outputs;
 mod reader;
 mod stops;

@@ -43,7 +43,9 @@ use Rattle.skolem_checker.proofs.LiteralNumbers.{spelled_complete}
 use Rattle.cert_judge.specs.CircuitPhases.{BeginsComment, BeginsProof, FollowsLine, GivesFreeText, IsStoppedPhase, IsWholeCircuit}
 use Rattle.cert_judge.specs.Judgement.{as_proof, begins_proof, begins_with, comment_line, first_line, line_ends, mapping_line, proof_in, proof_on, BehindMapping, BehindProof, IsTested}
 use Rattle.cert_judge.specs.Phases.{found_or_derived, line_end, AnswersFile, AreLinesFrom, CircuitGives, Gives, HasNoEnd, IsJudged, IsLastUnless, ProofGives, SaysProof}
-use Rattle.cert_judge.specs.Places.{AnswersStop, HasFewLines}
+use Rattle.cert_judge.specs.Places.{AnswersStop, HasFewLines, mapping_line_in}
+use Rattle.cert_judge.specs.declared.circuits.Form.{Form}
+use Rattle.cert_judge.specs.declared.circuits.Form.TheVariants.{Ascii}
 use Rattle.cert_judge.specs.ProofStart.{IsProofStart, SaysRead}
 use Rattle.cert_judge.specs.declared.answers.Judgement.{Judgement}
 use Rattle.cert_judge.specs.declared.phases.Phase.{Phase}
@@ -100,7 +102,7 @@ first_is_line true text behind free last = fed_line_first text behind free ∙ s
 first_is_line false text behind free last =
     ap (λ b. first_line (text ++ b)) last.1 ∙ ap first_line (append-nil text)
 
-begins_same : (ended : Bool) (text behind : List ℕ) → HasNoEnd text → IsLastUnless ended text behind →
+pub begins_same : (ended : Bool) (text behind : List ℕ) → HasNoEnd text → IsLastUnless ended text behind →
     begins_proof (text ++ (line_end ended ++ behind)) ≡ begins_proof text
 begins_same ended text behind free last =
     ap (λ line. begins_with (proof_word One) (line_tokens line) || begins_with (proof_word Two) (line_tokens line))
@@ -181,7 +183,8 @@ module _ (law : ReadIsSpelled) (first : ℕ) (l : CircuitLines) (net : Netlist) 
   }
 
   pub comment_follows : (f : Dqbf) (number : ℕ) (text : List ℕ) (phase : Phase) → IsWholeCircuit l →
-      number ≡ l.number → BeginsComment f first number (bare_file net symbols) text phase → FollowsLine f l text phase
+      number ≡ l.number → BeginsComment f Ascii first number (bare_file net symbols) text phase →
+      FollowsLine f l text phase
   comment_follows f number text phase whole same begins ended behind answer last says =
       let bytes = text ++ (line_end ended ++ behind) in
       let counted : comment_line l.number (line_ends bytes) bytes ≡ number = omega (arith, same) in
@@ -247,13 +250,13 @@ stop_free l stop (Ok phase) none whole reading is = refused_free l stop phase no
 stop_free l stop (Err _) none whole reading is = tt
 
 -- a comment that is no proof
-pub free_text_begins : (f : Dqbf) (first number : ℕ) (file : AagFile) (text : List ℕ) (is_proof : Bool) →
+pub free_text_begins : (f : Dqbf) (form : Form) (first number : ℕ) (file : AagFile) (text : List ℕ) (is_proof : Bool) →
     HasNoEnd text → is_proof ≡ begins_proof text → is_proof ≡ false →
-    BeginsComment f first number file text (FreeText first file)
-free_text_begins f first number file text is_proof free is not_one ended behind answer last says =
+    BeginsComment f form first number file text (FreeText form first file)
+free_text_begins f form first number file text is_proof free is not_one ended behind answer last says =
     let bytes = text ++ (line_end ended ++ behind) in
     let same : begins_proof bytes ≡ false = begins_same ended text behind free last ∙ sym is ∙ not_one in
-    subst (λ b. BehindProof (mapping_line first file.circuit)
+    subst (λ b. BehindProof (mapping_line_in form first file.circuit)
     (cond b (as_proof (circuit_proof_of f file.circuit bytes number)) (Ok None))
     (candidate_of f file.circuit file.symbols) answer) (sym same) says
 
@@ -346,50 +349,50 @@ mapped_parts f net (Ok mapping) c is =
 mapped_parts f net (Err fault) c is = cc
 
 -- a comment that is a proof
-module _ (f : Dqbf) (first number : ℕ) (file : AagFile) (text : List ℕ) (phase : Phase) (is_proof : Bool)
+module _ (f : Dqbf) (form : Form) (first number : ℕ) (file : AagFile) (text : List ℕ) (phase : Phase) (is_proof : Bool)
     (free : HasNoEnd text) (is : is_proof ≡ begins_proof text) (one : is_proof ≡ true) where
   abbrev mapped : Result Candidate MapError
   mapped = candidate_of f file.circuit file.symbols
 
   behind_text : (ended : Bool) (behind : List ℕ) (answer : Judgement) → IsLastUnless ended text behind →
-      BehindProof (mapping_line first file.circuit)
+      BehindProof (mapping_line_in form first file.circuit)
       (as_proof (circuit_proof_of f file.circuit (text ++ (line_end ended ++ behind)) number)) mapped answer →
-      BehindProof (mapping_line first file.circuit)
+      BehindProof (mapping_line_in form first file.circuit)
       (proof_on f file.circuit (Some (text ++ (line_end ended ++ behind))) (Some number)) mapped answer
   behind_text ended behind answer last says =
       let bytes = text ++ (line_end ended ++ behind) in
       let same : begins_proof bytes ≡ true = begins_same ended text behind free last ∙ sym is ∙ one in
-      subst (λ b. BehindProof (mapping_line first file.circuit)
+      subst (λ b. BehindProof (mapping_line_in form first file.circuit)
       (cond b (as_proof (circuit_proof_of f file.circuit bytes number)) (Ok None)) mapped answer) (sym same) says
 
   found_read : (found : Judgement) (run : Option Run) (read : Result Dqp CertRefusal) (answer : Judgement) →
-      IsProofStart (mapping_line first file.circuit) mapped (Found found) → SaysRead (Some found) run read answer →
-      BehindProof (mapping_line first file.circuit) (as_proof read) mapped answer
+      IsProofStart (mapping_line_in form first file.circuit) mapped (Found found) → SaysRead (Some found) run read answer →
+      BehindProof (mapping_line_in form first file.circuit) (as_proof read) mapped answer
   found_read found run (Ok d) answer stands says =
-      found_says (mapping_line first file.circuit) mapped d found answer stands says
+      found_says (mapping_line_in form first file.circuit) mapped d found answer stands says
   found_read found run (Err refusal) answer stands says = says
 
   pub found_begins : (found : Judgement) (run : Option Run) →
-      IsProofStart (mapping_line first file.circuit) mapped (Found found) →
-      BeginsProof f file.circuit number (Some found) run text phase → BeginsComment f first number file text phase
+      IsProofStart (mapping_line_in form first file.circuit) mapped (Found found) →
+      BeginsProof f file.circuit number (Some found) run text phase → BeginsComment f form first number file text phase
   found_begins found run stands begins ended behind answer last says =
       behind_text ended behind answer last
       (found_read found run (circuit_proof_of f file.circuit (text ++ (line_end ended ++ behind)) number) answer stands
       (begins ended behind answer last says))
 
   derived_read : RunIsFault → (p : CircuitProving) (read : Result Dqp CertRefusal) (answer : Judgement) →
-      IsProofStart (mapping_line first file.circuit) mapped (Proving p) →
+      IsProofStart (mapping_line_in form first file.circuit) mapped (Proving p) →
       SaysRead None (Some (run_of f file.circuit p)) read answer →
-      BehindProof (mapping_line first file.circuit) (as_proof read) mapped answer
+      BehindProof (mapping_line_in form first file.circuit) (as_proof read) mapped answer
   derived_read law p (Ok d) answer stands says =
-      derived_says law f file.circuit file.symbols (mapping_line first file.circuit) mapped d p answer
+      derived_says law f file.circuit file.symbols (mapping_line_in form first file.circuit) mapped d p answer
       (mapped_parts f file.circuit (mapping_of f file.circuit file.symbols)) stands says
   derived_read law p (Err refusal) answer stands says = says
 
   pub derived_begins : RunIsFault → (p : CircuitProving) →
-      IsProofStart (mapping_line first file.circuit) mapped (Proving p) →
+      IsProofStart (mapping_line_in form first file.circuit) mapped (Proving p) →
       BeginsProof f file.circuit number None (Some (run_of f file.circuit p)) text phase →
-      BeginsComment f first number file text phase
+      BeginsComment f form first number file text phase
   derived_begins law p stands begins ended behind answer last says =
       behind_text ended behind answer last
       (derived_read law p (circuit_proof_of f file.circuit (text ++ (line_end ended ++ behind)) number) answer stands
@@ -405,17 +408,17 @@ judging_fresh f net line_of (Ok c) p parts is =
     subst (λ n. IsJudging f n p (numbered_from (first_proof_id f n))) same.1
     (subst (λ g. IsJudging g c.circuit.netlist p (numbered_from (first_proof_id g c.circuit.netlist))) same.0 is.judging)
 
-pub standing_judges : (f : Dqbf) (first : ℕ) (file : AagFile) (p : CircuitProving) →
-    IsProofStart (mapping_line first file.circuit) (candidate_of f file.circuit file.symbols) (Proving p) →
+pub standing_judges : (f : Dqbf) (form : Form) (first : ℕ) (file : AagFile) (p : CircuitProving) →
+    IsProofStart (mapping_line_in form first file.circuit) (candidate_of f file.circuit file.symbols) (Proving p) →
     IsJudging f file.circuit p (numbered_from (first_proof_id f file.circuit))
-standing_judges f first file p is =
-    judging_fresh f file.circuit (mapping_line first file.circuit) (candidate_of f file.circuit file.symbols) p
+standing_judges f form first file p is =
+    judging_fresh f file.circuit (mapping_line_in form first file.circuit) (candidate_of f file.circuit file.symbols) p
     (mapped_parts f file.circuit (mapping_of f file.circuit file.symbols)) is
 
 pub ok_follows : (f : Dqbf) (l : CircuitLines) (first number : ℕ) (file : AagFile) (text : List ℕ)
     (r : Result Phase Memory) →
-    ((phase : Phase) → BeginsComment f first number file text phase → FollowsLine f l text phase) →
-    IfOk r (BeginsComment f first number file text) → IfOk r (FollowsLine f l text)
+    ((phase : Phase) → BeginsComment f Ascii first number file text phase → FollowsLine f l text phase) →
+    IfOk r (BeginsComment f Ascii first number file text) → IfOk r (FollowsLine f l text)
 ok_follows f l first number file text (Ok phase) follows begins = follows phase begins
 ok_follows f l first number file text (Err _) follows begins = tt
 

@@ -3,7 +3,8 @@ use Rattle.std.proofs.Common.{◌≡◌, ◌≢◌, ℕ, suc, ◌+◌, ◌==◌,
 use Rattle.std.specs.List.{filter}
 use Rattle.std.proofs.lemmas.Bool.{ne_eqb}
 use Rattle.std.proofs.lemmas.List.Elements.{All-head, All-tail, filter-append}
-use Rattle.dq_text.specs.Line.{TextLine, extend_line, lines_from}
+use Rattle.dq_text.specs.Line.{TextLine, lines_from}
+use Rattle.aig_binary.proofs.CutLines.{before_feed, last_line}
 use Rattle.cert_judge.specs.Judgement.{line_ends, comment_line}
 use Rattle.cert_judge.specs.Phases.{line_end, HasNoEnd, IsLastUnless}
 
@@ -12,33 +13,6 @@ NoFeed byte = byte ≢ 10
 
 abbrev pub line_of : List ℕ → ℕ → List ℕ → TextLine
 line_of text number behind = record { text = text; number = number; behind = behind }
-
-before_feed : (number : ℕ) (text others : List ℕ) → HasNoEnd text →
-    lines_from number (text ++ (10 ∷ others)) ≡ line_of text number others ∷ lines_from (number + 1) others
-before_feed number [] others free = refl
-before_feed number (byte ∷ text) others free =
-    let bytes = text ++ (10 ∷ others) in
-    ap (λ b. cond b (line_of [] number bytes ∷ lines_from (number + 1) bytes)
-    (extend_line byte number (lines_from number bytes)))
-    (ne_eqb byte 10 (All-head NoFeed byte text free))
-    ∙ ap (extend_line byte number) (before_feed number text others (All-tail NoFeed byte text free))
-
-at_end : (number byte : ℕ) (text : List ℕ) → HasNoEnd (byte ∷ text) →
-    lines_from number (byte ∷ text) ≡ line_of (byte ∷ text) number [] ∷ []
-at_end number byte [] free =
-    ap (λ b. cond b (line_of [] number [] ∷ lines_from (number + 1) []) (extend_line byte number []))
-    (ne_eqb byte 10 (All-head NoFeed byte [] free))
-at_end number byte (next ∷ text) free =
-    let bytes = next ∷ text in
-    ap (λ b. cond b (line_of [] number bytes ∷ lines_from (number + 1) bytes)
-    (extend_line byte number (lines_from number bytes)))
-    (ne_eqb byte 10 (All-head NoFeed byte bytes free))
-    ∙ ap (extend_line byte number) (at_end number next text (All-tail NoFeed byte bytes free))
-
-last_line : (number : ℕ) (text : List ℕ) → HasNoEnd text → text ≢ [] →
-    lines_from number text ≡ line_of text number [] ∷ []
-last_line number [] free some = absurd (some refl)
-last_line number (byte ∷ text) free some = at_end number byte text free
 
 pub first_is : (ended : Bool) (number : ℕ) (text behind : List ℕ) → HasNoEnd text → IsLastUnless ended text behind →
     lines_from number (text ++ (line_end ended ++ behind))

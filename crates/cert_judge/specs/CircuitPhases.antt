@@ -8,7 +8,9 @@ use Rattle.cert_text.specs.CircuitProof.{circuit_proof_of}
 use Rattle.aiger_text.specs.declared.faults.AagStop.{AagStop}
 use Rattle.aiger_text.specs.declared.faults.AagStop.TheVariants.{Refused as RefusedFile, Memory as NoFile}
 use Rattle.aiger_text.specs.declared.files.AagFile.{AagFile}
-use Rattle.cert_judge.specs.Judgement.{begins_proof, mapping_line, proof_on, BehindProof}
+use Rattle.cert_judge.specs.Judgement.{begins_proof, proof_on, BehindProof}
+use Rattle.cert_judge.specs.Places.{mapping_line_in}
+use Rattle.cert_judge.specs.declared.circuits.Form.{Form}
 use Rattle.cert_judge.specs.Phases.{line_end, AreLinesFrom, CircuitGives, Gives, IsLastUnless, IsLawful}
 use Rattle.cert_judge.specs.ProofStart.{SaysRead}
 use Rattle.cert_judge.specs.declared.answers.Judgement.{Judgement}
@@ -34,11 +36,11 @@ TakesCircuit f first old line new None =
 TakesCircuit f first old line new (Some phase) = IsLawful phase × FollowsLine f old line phase
 
 -- what a phase gives behind the first line of a comment, which has this number
-abbrev pub BeginsComment : Dqbf → ℕ → ℕ → AagFile → List ℕ → Phase → Type 0
-BeginsComment f first number file line phase =
+abbrev pub BeginsComment : Dqbf → Form → ℕ → ℕ → AagFile → List ℕ → Phase → Type 0
+BeginsComment f form first number file line phase =
     (ended : Bool) (behind : List ℕ) (answer : Judgement) → IsLastUnless ended line behind
     → Gives f phase behind answer
-    → BehindProof (mapping_line first file.circuit)
+    → BehindProof (mapping_line_in form first file.circuit)
     (proof_on f file.circuit (Some (line ++ (line_end ended ++ behind))) (Some number))
     (candidate_of f file.circuit file.symbols) answer
 

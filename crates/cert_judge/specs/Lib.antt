@@ -1,4 +1,5 @@
 pub mod Beginnings
+pub mod BinaryPhases
 pub mod CircuitPhases
 pub mod Judgement
 pub mod Phases

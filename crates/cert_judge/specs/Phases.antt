@@ -5,7 +5,9 @@ use Rattle.dq_lits.specs.Derivation.{ProofFault}
 use Rattle.dq_lits.specs.Formula.{Dqbf}
 use Rattle.dq_text.specs.Line.{line_tokens, lines_from}
 use Rattle.aiger_text.specs.CircuitLines.{CircuitLines, commented, header_line, lines_give}
+use Rattle.aig_binary.specs.FilesByLine.{binary_gives, AreAigLines}
 use Rattle.aig_binary.specs.Scan.{scan_binary}
+use Rattle.aig_binary.specs.declared.files_by_line.AigLines.{AigLines}
 use Rattle.aiger_text.specs.Scan.{IsAagReading, scan}
 use Rattle.aiger_text.specs.declared.faults.AagStop.{AagStop}
 use Rattle.aiger_text.specs.declared.faults.AagStop.TheVariants.{Refused as RefusedFile, Memory as NoFile}
@@ -23,7 +25,7 @@ use Rattle.cert_stream.specs.RefutationState.{RefutationState, MayAnswer}
 use Rattle.skolem_checker.specs.Checks.{candidate_of}
 use Rattle.skolem_checker.specs.SkolemCircuit.{IsComplete}
 use Rattle.cert_judge.specs.Judgement.{answer_of_derivation, line_ends, mapping_line, proof_in, BehindMapping, BehindProof, IsBinaryJudgement, IsDefinitionsAnswer, IsJudgement}
-use Rattle.cert_judge.specs.Places.{HasFewLines}
+use Rattle.cert_judge.specs.Places.{mapping_line_in, HasFewLines}
 use Rattle.cert_judge.specs.declared.answers.Judgement.{Judgement}
 use Rattle.cert_judge.specs.declared.answers.Judgement.TheVariants.{Refused, NoEmptyClause, ValidTrue, ValidFalse}
 use Rattle.cert_judge.specs.declared.answers.CertificateFault.TheVariants.{Text, Circuit as CircuitFault}
@@ -96,17 +98,19 @@ pub record CircuitGives (f : Dqbf) (l : CircuitLines) (bytes : List ℕ) (answer
       (commented l.in_comment bytes (lines_give l (lines_from l.number bytes))) reading
   pub answers : AnswersFile f (header_line l) l.number bytes reading answer
 
+abbrev pub GivesBinary : Dqbf → ℕ → AigLines → List ℕ → Judgement → Type 0
+GivesBinary f first l bytes answer = IsBinaryJudgement f first (binary_gives l bytes) answer
+
 -- the answer is right where these bytes are to come
 abbrev pub Gives : Dqbf → Phase → List ℕ → Judgement → Type 0
 Gives f (Beginning lines missing) bytes answer = IsJudgement f (lines.items ++ bytes) answer
 Gives f (Refutation refutation) bytes answer = RefutationGives refutation bytes answer
 Gives f (Circuit first lines) bytes answer = CircuitGives f lines bytes answer
 Gives f (Proof proof finding) bytes answer = ProofGives finding proof bytes answer
-Gives f (FreeText first file) bytes answer =
-    BehindMapping (mapping_line first file.circuit) None
+Gives f (FreeText form first file) bytes answer =
+    BehindMapping (mapping_line_in form first file.circuit) None
     (candidate_of f file.circuit file.symbols) answer
-Gives f (Binary first text) bytes answer =
-    IsBinaryJudgement f first (scan_binary (text.items ++ bytes) first) answer
+Gives f (Binary first lines) bytes answer = GivesBinary f first lines bytes answer
 Gives f (Definitions first text) bytes answer =
     IsDefinitionsAnswer f (definitions_of f (text.items ++ bytes) first) answer
 Gives f (Decided said) bytes answer = answer ≡ said
@@ -141,6 +145,14 @@ pub record AreLinesFrom (first : ℕ) (l : CircuitLines) : Type 0 where
   pub read : (bytes : List ℕ) → scan (before ++ bytes) first
       ≡ commented l.in_comment bytes (lines_give l (lines_from l.number bytes))
 
+-- the same of a circuit in the binary form
+pub record AreBinaryLines (first : ℕ) (l : AigLines) : Type 0 where
+  pub early : first ≤ 2
+  pub header : l.reader.header_line ≡ first
+  pub ready : AreAigLines l
+  pub before : List ℕ
+  pub read : (bytes : List ℕ) → scan_binary (before ++ bytes) first ≡ binary_gives l bytes
+
 -- a file that can be judged
 pub record IsJudged (first : ℕ) (file : AagFile) : Type 0 where
   pub early : first ≤ 2
@@ -152,8 +164,8 @@ IsLawful (Beginning lines missing) = IsBeginning lines.items missing
 IsLawful (Refutation refutation) = Unit {0}
 IsLawful (Circuit first lines) = AreLinesFrom first lines
 IsLawful (Proof proof finding) = Unit {0}
-IsLawful (FreeText first file) = IsJudged first file
-IsLawful (Binary first text) = first ≤ 2
+IsLawful (FreeText form first file) = IsJudged first file
+IsLawful (Binary first lines) = AreBinaryLines first lines
 IsLawful (Definitions first text) = first ≤ 2
 IsLawful (Decided said) = Unit {0}
 IsLawful NoMemory = Unit {0}

@@ -9,6 +9,7 @@ ghost use Rattle.cert_judge.specs.Phases.{line_end, HasNoEnd, IsBeginning, IsLaw
 ghost use Rattle.cert_judge.specs.declared.phases.Phase.TheVariants.{Beginning};
 
 use crate::answers::{CertificateFault, refused};
+use crate::binary::start_binary;
 use crate::comments::stopped_phase;
 use crate::phases::{Phase, boxed, gather};
 use aiger_text::AagLines;
@@ -88,11 +89,7 @@ fn start<'f>(
             Ok(Phase::Refutation(refutation))
         }
         Kind::Circuit { line, .. } => start_circuit(alloc, line, header),
-        Kind::BinaryCircuit { line, .. } => {
-            let mut text = Vec::new(alloc);
-            gather(&mut text, header, ended)?;
-            Ok(Phase::Binary { first: line, text })
-        }
+        Kind::BinaryCircuit { line, .. } => start_binary(alloc, line, header),
         Kind::Definitions { line, .. } => {
             let mut text = Vec::new(alloc);
             gather(&mut text, header, ended)?;

@@ -1,134 +1,244 @@
-//! Judging a circuit in AIGER's binary form. Its inputs aren't written, and may be many more than its
-//! text has bytes: they are listed only where they are as many as the formula's universals.
+//! Circuits in AIGER's binary form. Their inputs aren't written, and may be many more than their text
+//! has bytes: they are listed only where they are as many as the formula's universals.
 
-ghost use Rattle.std.specs.Prelude.{◌≡◌, ◌<◌, ◌≤◌, ◌^◌, IfOk, IfSome};
+ghost use Rattle.std.specs.Prelude.{◌≡◌, ◌≤◌, [], None, length, IfOk};
+ghost use Rattle.std.specs.Option.{option_map};
 ghost use Rattle.dq_lits.specs.Formula.{IsWellFormed};
 ghost use Rattle.aig_binary.specs.BareFile.{IsBare};
 ghost use Rattle.aig_binary.specs.BareReading.{listed};
-ghost use Rattle.aig_binary.specs.Scan.{scan_binary};
-ghost use Rattle.cert_text.specs.Lines.{IsReading};
-ghost use Rattle.cert_text.specs.ProofGrammar.{IsDqpOf};
+ghost use Rattle.aig_binary.specs.FilesByLine.{binary_gives};
+ghost use Rattle.aig_binary.specs.declared.files_by_line.Place.TheVariants.{Comment};
 ghost use Rattle.skolem_checker.specs.Checks.{candidate_of};
-ghost use Rattle.skolem_checker.specs.SkolemCircuit.{IsComplete};
-ghost use Rattle.cert_judge.specs.Judgement.{binary_mapping_line, proof_on, BehindMapping, BehindProof, IsBinaryJudgement};
-ghost use Rattle.cert_judge.specs.Places.{HasFewLines};
+ghost use Rattle.cert_judge.specs.BinaryPhases.{FollowsBinary, GivesBareText, GivesFreeBinary, StartsBinary, TakesBinaryLine};
+ghost use Rattle.cert_judge.specs.CircuitPhases.{BeginsComment, IsStoppedPhase};
+ghost use Rattle.cert_judge.specs.Judgement.{binary_mapping_line, BehindMapping};
+ghost use Rattle.cert_judge.specs.Phases.{AreBinaryLines, GivesBinary, HasNoEnd, IsJudged, IsLawful};
+ghost use Rattle.cert_judge.specs.declared.answers.CertificateFault.TheVariants.{Mapping};
+ghost use Rattle.cert_judge.specs.declared.answers.Judgement.TheVariants.{Refused};
+ghost use Rattle.cert_judge.specs.declared.circuits.Form.TheVariants.{Binary as BinaryForm};
+ghost use Rattle.skolem_checker.specs.declared.mapping.MapName.TheVariants.{InputCount};
 
 use crate::answers::{CertificateFault, Judgement, refused};
-use crate::circuits::{Form, begins_proof, judge_mapped, stopped};
+use crate::circuits::{Form, begins_proof, stopped};
+use crate::comments::{begin_comment, begin_proof, circuit_in, stop_circuit, stopped_phase};
+use crate::endings::finish_file;
+use crate::phases::{Phase, boxed};
 use aig_binary::laws::{binary_circuit_or_first_fault, binary_circuits_are_lawful};
-use aig_binary::{BareCircuit, list_inputs, read_bare};
-use cert_text::{CertStop, Dqp, read_dqp};
+use aig_binary::{AigLines, BareCircuit, begin_lines, list_inputs};
 use dq_formula::Formula;
 use dq_lits::Memory;
 use skolem_checker::MapName;
 use std::alloc::Global;
 
-/// Judges a circuit in the binary form, whose header line begins the text and has the number
-/// `first`. A text of 2^61 bytes finds no memory.
-pub(crate) fn judge_binary(
+/// Takes the header line of a circuit in the binary form.
+pub(crate) fn start_binary<'f>(
+    alloc: Global,
+    first: u64,
+    header: &[u8],
+) -> Result<Phase<'f>, Memory>
+    requires one_line { HasNoEnd header.now }
+    requires early { first ≤ 2 }
+    ensures { IfOk result (StartsBinary first header.now) }
+{
+    match begin_lines(alloc, first, header) {
+        Ok(lines) => Ok(Phase::Binary { first, lines }),
+        Err(stop) => stopped_phase(stop),
+    }
+}
+
+/// Takes a line of a circuit's text: the phase that follows, if another one does.
+pub(crate) fn take_binary_line<'f>(
+    alloc: Global,
+    f: &'f Formula,
+    first: u64,
+    lines: &mut AigLines,
+    line: &[u8],
+    ended: bool,
+) -> Result<Option<Box<Phase<'f>>>, Memory>
+    requires well_formed { IsWellFormed f.now }
+    requires one_line { HasNoEnd line.now }
+    requires lawful { AreBinaryLines first lines.old }
+    ensures { IfOk result (λ next. TakesBinaryLine f.now first lines.old line.now ended lines.new
+        (option_map (λ b. b.value) next)) }
+{
+    if lines.in_comment() {
+        return Ok(Some(leave_binary(alloc, f, first, lines, line)?));
+    }
+    match lines.line(alloc, line, ended) {
+        Ok(()) => Ok(None),
+        Err(stop) => Ok(Some(stop_circuit(alloc, stop)?)),
+    }
+}
+
+// Takes the first line of the comment of a circuit that was read.
+fn leave_binary<'f>(
+    alloc: Global,
+    f: &'f Formula,
+    first: u64,
+    lines: &mut AigLines,
+    line: &[u8],
+) -> Result<Box<Phase<'f>>, Memory>
+    requires well_formed { IsWellFormed f.now }
+    requires one_line { HasNoEnd line.now }
+    requires lawful { AreBinaryLines first lines.old }
+    requires comment { lines.old.place ≡ Comment }
+    ensures lawful { IfOk result (λ next. IsLawful next.value) }
+    ensures follows { IfOk result
+        (λ next. FollowsBinary f.now first lines.old line.now next.value) }
+{
+    let next = end_binary_text(alloc, f, first, lines, line)?;
+    boxed(alloc, next)
+}
+
+// The same, as it is.
+fn end_binary_text<'f>(
+    alloc: Global,
+    f: &'f Formula,
+    first: u64,
+    lines: &mut AigLines,
+    line: &[u8],
+) -> Result<Phase<'f>, Memory>
+    requires well_formed { IsWellFormed f.now }
+    requires one_line { HasNoEnd line.now }
+    requires lawful { AreBinaryLines first lines.old }
+    requires comment { lines.old.place ≡ Comment }
+    ensures lawful { IfOk result IsLawful }
+    ensures follows { IfOk result (FollowsBinary f.now first lines.old line.now) }
+{
+    binary_circuit_or_first_fault();
+    binary_circuits_are_lawful();
+    let number = lines.number;
+    let bare = lines.take_file(alloc);
+    begin_bare_comment(alloc, f, first, number, bare, line)
+}
+
+// Takes the first line of the comment of a circuit, which has this number.
+fn begin_bare_comment<'f>(
+    alloc: Global,
+    f: &'f Formula,
+    first: u64,
+    number: u64,
+    bare: BareCircuit,
+    line: &[u8],
+) -> Result<Phase<'f>, Memory>
+    requires well_formed { IsWellFormed f.now }
+    requires one_line { HasNoEnd line.now }
+    requires bare { IsBare bare }
+    requires judged { IsJudged first (listed bare).file }
+    ensures lawful { IfOk result IsLawful }
+    ensures begins { IfOk result
+        (BeginsComment f.now BinaryForm first number (listed bare).file line.now) }
+{
+    if bare.inputs != f.universals().len() as u64 {
+        return Ok(begin_refused(alloc, f, first, number, bare, line));
+    }
+    let read = list_inputs(bare)?;
+    begin_comment(alloc, f, Form::Binary, first, number, read.file, line)
+}
+
+// The same of a circuit with another number of inputs than there are universals.
+fn begin_refused<'f>(
+    alloc: Global,
+    f: &'f Formula,
+    first: u64,
+    number: u64,
+    bare: BareCircuit,
+    line: &[u8],
+) -> Phase<'f>
+    requires one_line { HasNoEnd line.now }
+    requires other { ¬ (bare.inputs ≡ length f.now.universals) }
+    ensures lawful { IsLawful result }
+    ensures begins { BeginsComment f.now BinaryForm first number (listed bare).file line.now result }
+{
+    let finding = other_count(first);
+    if begins_proof(line) {
+        let circuit = circuit_in(bare.file);
+        return begin_proof(alloc, f, number, circuit, None, Some(finding), line);
+    }
+    drop(bare);
+    Phase::Decided(finding)
+}
+
+// The inputs aren't as many as the universals.
+fn other_count(first: u64) -> Judgement
+    ensures { result ≡ Refused first (Mapping InputCount) }
+{
+    refused(first, CertificateFault::Mapping(MapName::InputCount))
+}
+
+/// What follows where a circuit was read, and its comment is no proof.
+pub(crate) fn binary_free_text<'f>(
+    alloc: Global,
+    f: &'f Formula,
+    first: u64,
+    lines: &mut AigLines,
+) -> Result<Phase<'f>, Memory>
+    requires lawful { AreBinaryLines first lines.old }
+    requires comment { lines.old.place ≡ Comment }
+    ensures lawful { IfOk result IsLawful }
+    ensures gives { IfOk result (GivesFreeBinary f.now first lines.old) }
+{
+    binary_circuit_or_first_fault();
+    binary_circuits_are_lawful();
+    let bare = lines.take_file(alloc);
+    bare_free_text(f, first, bare)
+}
+
+// The same of its file.
+fn bare_free_text<'f>(f: &'f Formula, first: u64, bare: BareCircuit) -> Result<Phase<'f>, Memory>
+    requires bare { IsBare bare }
+    requires judged { IsJudged first (listed bare).file }
+    ensures lawful { IfOk result IsLawful }
+    ensures gives { IfOk result (GivesBareText f.now first (listed bare).file) }
+{
+    if bare.inputs != f.universals().len() as u64 {
+        drop(bare);
+        return Ok(Phase::Decided(other_count(first)));
+    }
+    let read = list_inputs(bare)?;
+    Ok(Phase::FreeText {
+        form: Form::Binary,
+        first,
+        file: read.file,
+    })
+}
+
+/// Judges a circuit whose text ends here.
+pub(crate) fn finish_binary(
     alloc: Global,
     f: &Formula,
     first: u64,
-    text: Vec<u8>,
+    lines: AigLines,
 ) -> Result<Judgement, Memory>
     requires well_formed { IsWellFormed f.now }
-    requires early { first ≤ 2 }
-    ensures { IfOk result (IsBinaryJudgement f.now first (scan_binary text.items first)) }
+    requires lawful { AreBinaryLines first lines }
+    ensures { IfOk result (GivesBinary f.now first lines []) }
 {
-    if text.len() >= 1 << 61 {
-        return Err(Memory);
-    }
     binary_circuit_or_first_fault();
     binary_circuits_are_lawful();
-    let read = read_bare(alloc, &text, first);
-    drop(text);
-    match read {
-        Ok(bare) => judge_bare(alloc, f, first, bare),
+    match lines.end(alloc) {
+        Ok(bare) => finish_bare(alloc, f, first, bare),
         Err(stop) => stopped(stop),
     }
 }
 
-// The proof in the circuit's comment, if it begins one.
-fn read_proof(alloc: Global, f: &Formula, bare: &BareCircuit) -> Result<Option<Dqp>, CertStop>
-    requires { IsBare bare.now }
-    ensures reading { IsReading
-        (proof_on f.now bare.now.file.circuit bare.now.file.comment bare.now.comment_line)
-        result }
-    ensures allowed { IfOk result (λ proof. IfSome proof (IsDqpOf f.now bare.now.file.circuit)) }
-{
-    let Some(comment) = &bare.file.comment else {
-        return Ok(None);
-    };
-    let Some(line) = bare.comment_line else {
-        return Ok(None);
-    };
-    let comment = comment.items();
-    if !begins_proof(comment) {
-        return Ok(None);
-    }
-    Ok(Some(read_dqp(alloc, comment, line, f, &bare.file.circuit)?))
-}
-
-// Judges a circuit file that was read. Its comment is let go once the proof was read.
-fn judge_bare(
-    alloc: Global,
-    f: &Formula,
-    first: u64,
-    mut bare: BareCircuit,
-) -> Result<Judgement, Memory>
-    requires well_formed { IsWellFormed f.now }
-    requires fits { first < 2 ^ 62 }
-    requires bare { IsBare bare }
-    requires complete { IsComplete (listed bare).file.circuit }
-    requires few { HasFewLines (listed bare).file.circuit }
-    ensures { IfOk result
-        (BehindProof (binary_mapping_line first)
-        (proof_on f.now (listed bare).file.circuit bare.file.comment bare.comment_line)
-        (candidate_of f.now (listed bare).file.circuit bare.file.symbols)) }
-{
-    let read = read_proof(alloc, f, &bare);
-    drop(bare.file.comment.take());
-    match read {
-        Ok(proof) => {
-            let answer = judge_counted(alloc, f, first, bare, &proof);
-            drop(proof);
-            answer
-        }
-        Err(CertStop::Refused(refusal)) => {
-            drop(bare);
-            Ok(refused(refusal.line, CertificateFault::Text(refusal.name)))
-        }
-        Err(CertStop::Memory) => {
-            drop(bare);
-            Err(Memory)
-        }
-    }
-}
-
-// Judges a circuit file whose proof, if it has one, was read: first the number of its inputs.
-fn judge_counted(
+// Judges a circuit file that has no proof: first the number of its inputs.
+fn finish_bare(
     alloc: Global,
     f: &Formula,
     first: u64,
     bare: BareCircuit,
-    proof: &Option<Dqp>,
 ) -> Result<Judgement, Memory>
     requires well_formed { IsWellFormed f.now }
-    requires fits { first < 2 ^ 62 }
     requires bare { IsBare bare }
-    requires complete { IsComplete (listed bare).file.circuit }
-    requires few { HasFewLines (listed bare).file.circuit }
-    requires lawful { IfSome proof.now (IsDqpOf f.now (listed bare).file.circuit) }
-    ensures { IfOk result
-        (BehindMapping (binary_mapping_line first) proof.now
+    requires judged { IsJudged first (listed bare).file }
+    ensures { IfOk result (BehindMapping (binary_mapping_line first) None
         (candidate_of f.now (listed bare).file.circuit bare.file.symbols)) }
 {
     if bare.inputs != f.universals().len() as u64 {
         drop(bare);
-        return Ok(refused(first, CertificateFault::Mapping(MapName::InputCount)));
+        return Ok(other_count(first));
     }
     let read = list_inputs(bare)?;
-    let answer = judge_mapped(alloc, f, Form::Binary, first, &read.file, proof);
-    drop(read);
-    answer
+    finish_file(alloc, f, Form::Binary, first, read.file)
 }

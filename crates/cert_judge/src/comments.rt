@@ -11,7 +11,7 @@ ghost use Rattle.cert_judge.specs.CircuitPhases.{BeginsComment, BeginsProof, Fol
 ghost use Rattle.cert_judge.specs.Phases.{AreLinesFrom, HasNoEnd, IsJudged, IsLawful};
 
 use crate::answers::{CertificateFault, Judgement, refused};
-use crate::circuits::begins_proof;
+use crate::circuits::{Form, begins_proof};
 use crate::phases::{Phase, boxed};
 use crate::proof_starts::{ProofStart, proof_start_of};
 use aiger_text::laws::circuit_or_first_fault;
@@ -68,8 +68,8 @@ fn leave_circuit<'f>(
     boxed(alloc, next)
 }
 
-// What follows where the reading of a circuit stopped.
-fn stop_circuit<'f>(alloc: Global, stop: AagStop) -> Result<Box<Phase<'f>>, Memory>
+/// The same in a box.
+pub(crate) fn stop_circuit<'f>(alloc: Global, stop: AagStop) -> Result<Box<Phase<'f>>, Memory>
     ensures { IfOk result (λ next. IsStoppedPhase stop next.value) }
 {
     boxed(alloc, stopped_phase(stop)?)
@@ -114,13 +114,14 @@ fn end_circuit_text<'f>(
         symbols,
         comment: None,
     };
-    begin_comment(alloc, f, first, number, file, line)
+    begin_comment(alloc, f, Form::Ascii, first, number, file, line)
 }
 
-// Takes the first line of a comment, which has this number.
-fn begin_comment<'f>(
+/// Takes the first line of a comment, which has this number.
+pub(crate) fn begin_comment<'f>(
     alloc: Global,
     f: &'f Formula,
+    form: Form,
     first: u64,
     number: u64,
     file: AagFile,
@@ -130,13 +131,13 @@ fn begin_comment<'f>(
     requires one_line { HasNoEnd line.now }
     requires judged { IsJudged first file }
     ensures lawful { IfOk result IsLawful }
-    ensures begins { IfOk result (BeginsComment f.now first number file line.now) }
+    ensures begins { IfOk result (BeginsComment f.now form first number file line.now) }
 {
     if !begins_proof(line) {
-        return Ok(Phase::FreeText { first, file });
+        return Ok(Phase::FreeText { form, first, file });
     }
     run_is_fault();
-    let proof_start = proof_start_of(alloc, f, first, &file);
+    let proof_start = proof_start_of(alloc, f, form, first, &file);
     let circuit = circuit_in(file);
     let proof_start = match proof_start {
         Ok(proof_start) => proof_start,
@@ -155,8 +156,8 @@ fn begin_comment<'f>(
     }
 }
 
-// The circuit of a file, of which all else is let go.
-fn circuit_in(file: AagFile) -> Circuit
+/// The circuit of a file, of which all else is let go.
+pub(crate) fn circuit_in(file: AagFile) -> Circuit
     ensures { result ≡ file.circuit }
 {
     let AagFile {
@@ -169,8 +170,8 @@ fn circuit_in(file: AagFile) -> Circuit
     circuit
 }
 
-// Takes the header line of a proof, which has this number.
-fn begin_proof<'f>(
+/// Takes the header line of a proof, which has this number.
+pub(crate) fn begin_proof<'f>(
     alloc: Global,
     f: &'f Formula,
     number: u64,

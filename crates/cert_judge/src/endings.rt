@@ -5,11 +5,12 @@ ghost use Rattle.dq_lits.specs.Formula.{IsWellFormed};
 ghost use Rattle.std.specs.Option.{option_map};
 ghost use Rattle.rup_core.specs.ProofVerdict.{proof_fault_in};
 ghost use Rattle.skolem_checker.specs.Checks.{candidate_of};
-ghost use Rattle.cert_judge.specs.Judgement.{answer_of_derivation, mapping_line, BehindMapping};
+ghost use Rattle.cert_judge.specs.Judgement.{answer_of_derivation, BehindMapping};
+ghost use Rattle.cert_judge.specs.Places.{mapping_line_in};
 ghost use Rattle.cert_judge.specs.Phases.{found_or_derived, AreLinesFrom, CircuitGives, Gives, IsJudged, IsLawful, ProofGives, RefutationGives};
 
 use crate::answers::{CertificateFault, Judgement, refused};
-use crate::binary::judge_binary;
+use crate::binary::finish_binary;
 use crate::circuits::{Form, judge_mapped, stopped};
 use crate::definitions::judge_definitions;
 use crate::phases::Phase;
@@ -35,8 +36,8 @@ pub(crate) fn finish(alloc: Global, f: &Formula, phase: Phase) -> Result<Judgeme
         Phase::Refutation(refutation) => finish_refutation(refutation),
         Phase::Circuit { first, lines } => finish_circuit(alloc, f, first, lines),
         Phase::Proof { proof, finding } => finish_proof(proof, finding),
-        Phase::FreeText { first, file } => finish_file(alloc, f, first, file),
-        Phase::Binary { first, text } => judge_binary(alloc, f, first, text),
+        Phase::FreeText { form, first, file } => finish_file(alloc, f, form, first, file),
+        Phase::Binary { first, lines } => finish_binary(alloc, f, first, lines),
         Phase::Definitions { first, text } => judge_definitions(alloc, f, first, text),
         Phase::Decided(answer) => Ok(answer),
         Phase::NoMemory => Err(Memory),
@@ -110,20 +111,26 @@ fn finish_circuit(
                 symbols,
                 comment: None,
             };
-            finish_file(alloc, f, first, file)
+            finish_file(alloc, f, Form::Ascii, first, file)
         }
         Err(stop) => stopped(stop),
     }
 }
 
-// Judges a circuit file that has no proof, and lets it go.
-fn finish_file(alloc: Global, f: &Formula, first: u64, file: AagFile) -> Result<Judgement, Memory>
+/// Judges a circuit file that has no proof, and lets it go.
+pub(crate) fn finish_file(
+    alloc: Global,
+    f: &Formula,
+    form: Form,
+    first: u64,
+    file: AagFile,
+) -> Result<Judgement, Memory>
     requires well_formed { IsWellFormed f.now }
     requires judged { IsJudged first file }
-    ensures { IfOk result (BehindMapping (mapping_line first file.circuit) None
+    ensures { IfOk result (BehindMapping (mapping_line_in form first file.circuit) None
         (candidate_of f.now file.circuit file.symbols)) }
 {
-    let answer = judge_mapped(alloc, f, Form::Ascii, first, &file, &None);
+    let answer = judge_mapped(alloc, f, form, first, &file, &None);
     drop(file);
     answer
 }

@@ -2,16 +2,18 @@
 //! long their first line is.
 
 ghost use Rattle.std.specs.Prelude.{◌≡◌, ◌++◌, ℕ, true, false, List, IfOk, OnOk};
-ghost use Rattle.dq_lits.specs.Formula.{Dqbf};
 ghost use Rattle.cert_judge.specs.CircuitPhases.{GivesFreeText, IsWholeCircuit};
 ghost use Rattle.cert_judge.specs.Judgement.{begins_proof};
 ghost use Rattle.cert_judge.specs.Phases.{AreLinesFrom, Gives, HasNoEnd, IsLawful};
 ghost use Rattle.cert_judge.specs.declared.answers.Judgement.{Judgement as Answer};
 
+use crate::binary::binary_free_text;
+use crate::circuits::Form;
 use crate::comments::stopped_phase;
 use crate::phases::{Phase, put};
 use aiger_text::laws::circuit_or_first_fault;
 use aiger_text::{AagFile, AagLines};
+use dq_formula::Formula;
 use dq_lits::Memory;
 use dq_text::{LineTokens, is_word};
 use std::alloc::Global;
@@ -20,14 +22,15 @@ use std::mem;
 /// Passes over a circuit's comment whose first bytes, which are unfinished, tell that it is no proof.
 pub(crate) fn pass_over<'f>(
     alloc: Global,
+    f: &'f Formula,
     phase: &mut Phase<'f>,
     unfinished: &mut Vec<u8>,
 ) -> Result<(), Memory>
     requires lawful { IsLawful phase.old }
     requires one_line { HasNoEnd unfinished.old.items }
-    ensures gives { OnOk result ((f : Dqbf) (bytes : List ℕ) (answer : Answer)
-        → Gives f phase.new (unfinished.new.items ++ bytes) answer
-        → Gives f phase.old (unfinished.old.items ++ bytes) answer) }
+    ensures gives { OnOk result ((bytes : List ℕ) (answer : Answer)
+        → Gives f.now phase.new (unfinished.new.items ++ bytes) answer
+        → Gives f.now phase.old (unfinished.old.items ++ bytes) answer) }
     ensures lawful { OnOk result (IsLawful phase.new) }
     ensures one_line { OnOk result (HasNoEnd unfinished.new.items) }
 {
@@ -49,7 +52,18 @@ pub(crate) fn pass_over<'f>(
         Phase::Refutation(_) => Ok(()),
         Phase::Proof { .. } => Ok(()),
         Phase::FreeText { .. } => Ok(()),
-        Phase::Binary { .. } => Ok(()),
+        Phase::Binary { first, lines } => {
+            if !lines.in_comment() {
+                return Ok(());
+            }
+            if !is_no_proof(unfinished) {
+                return Ok(());
+            }
+            let next = binary_free_text(alloc, f, *first, lines)?;
+            put(phase, next);
+            unfinished.clear();
+            Ok(())
+        }
         Phase::Definitions { .. } => Ok(()),
         Phase::Decided(_) => Ok(()),
         Phase::NoMemory => Ok(()),
@@ -73,7 +87,11 @@ fn free_text<'f>(first: u64, lines: AagLines) -> Result<Phase<'f>, Memory>
         symbols,
         comment: None,
     };
-    Ok(Phase::FreeText { first, file })
+    Ok(Phase::FreeText {
+        form: Form::Ascii,
+        first,
+        file,
+    })
 }
 
 // A line that is longer isn't looked at any more, so that one of blanks isn't with each piece.

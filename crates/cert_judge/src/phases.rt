@@ -8,7 +8,10 @@ ghost use Rattle.cert_judge.specs.declared.answers.Judgement.{Judgement as Answe
 
 use crate::answers::Judgement;
 use crate::beginnings::take_first_line;
+use crate::binary::take_binary_line;
+use crate::circuits::Form;
 use crate::comments::take_circuit_line;
+use aig_binary::AigLines;
 use aiger_text::{AagFile, AagLines};
 use cert_stream::{ProofStream, RefutationStream};
 use cert_text::CertRefusal;
@@ -39,13 +42,14 @@ pub(crate) enum Phase<'f> {
     },
     /// A circuit's comment that is no proof.
     FreeText {
+        form: Form,
         first: u64,
         file: AagFile,
     },
-    /// A circuit in the binary form, of which all bytes are kept.
+    /// The same as `Circuit` of one in the binary form.
     Binary {
         first: u64,
-        text: Vec<u8>,
+        lines: AigLines,
     },
     /// Definitions, of which all bytes are kept.
     Definitions {
@@ -86,7 +90,11 @@ pub(crate) fn take_line<'f>(
             turn(phase, next);
             Ok(())
         }
-        Phase::Binary { text, .. } => gather(text, line, ended),
+        Phase::Binary { first, lines } => {
+            let next = take_binary_line(alloc, f, *first, lines, line, ended)?;
+            turn(phase, next);
+            Ok(())
+        }
         Phase::Definitions { text, .. } => gather(text, line, ended),
         Phase::Beginning { lines, missing } => {
             let next = take_first_line(alloc, f, lines, missing, line, ended)?;

@@ -4,9 +4,8 @@
 ghost use Rattle.std.specs.Prelude.{◌≡◌, IfOk};
 ghost use Rattle.dq_lits.specs.Formula.{IsWellFormed};
 ghost use Rattle.skolem_checker.specs.Checks.{candidate_of};
-ghost use Rattle.cert_judge.specs.Judgement.{mapping_line};
 ghost use Rattle.cert_judge.specs.Phases.{IsJudged};
-ghost use Rattle.cert_judge.specs.Places.{HasFewLines};
+ghost use Rattle.cert_judge.specs.Places.{HasFewLines, mapping_line_in};
 ghost use Rattle.cert_judge.specs.ProofStart.{IsProofStart, IsProofStartOf};
 
 use crate::answers::Judgement;
@@ -32,12 +31,13 @@ pub(crate) enum ProofStart {
 pub(crate) fn proof_start_of(
     alloc: Global,
     f: &Formula,
+    form: Form,
     first: u64,
     file: &AagFile,
 ) -> Result<ProofStart, Memory>
     requires well_formed { IsWellFormed f.now }
     requires judged { IsJudged first file.now }
-    ensures { IfOk result (IsProofStart (mapping_line first file.now.circuit)
+    ensures { IfOk result (IsProofStart (mapping_line_in form first file.now.circuit)
         (candidate_of f.now file.now.circuit file.now.symbols)) }
 {
     match Bench::new(alloc, f, file) {
@@ -48,7 +48,7 @@ pub(crate) fn proof_start_of(
         }
         Err(BenchStop::Map(fault)) => {
             mapping_faults_have_places();
-            let answer = mapping_refusal(Form::Ascii, first, &file.circuit, fault);
+            let answer = mapping_refusal(form, first, &file.circuit, fault);
             Ok(ProofStart::Found(answer))
         }
         Err(BenchStop::Memory) => Err(Memory),

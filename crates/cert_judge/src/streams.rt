@@ -22,8 +22,8 @@ use std::marker::Model;
 /// Judges a certificate for a formula as it comes, however it is cut.
 ///
 /// It holds the line whose end didn't come yet, unless nothing that comes changes what is said, a
-/// refutation's rows or the circuit, which ids are live, and the lines that are live; of a circuit in
-/// the binary form and of definitions it keeps all bytes. What is wrong with the certificate, and want
+/// refutation's rows or the circuit, which ids are live, and the lines that are live; of definitions it
+/// keeps all bytes. What is wrong with the certificate, and want
 /// of memory, is told at the end.
 #[derive(Drop)]
 pub struct Stream<'f> {
@@ -127,7 +127,7 @@ fn take_piece<'f>(
         rest = behind;
     }
     keep_rest(phase, unfinished, rest)?;
-    pass_over(alloc, phase, unfinished)
+    pass_over(alloc, f, phase, unfinished)
 }
 
 // Keeps the bytes of a line whose LF didn't come yet, unless nothing that comes changes what is said.

@@ -4,7 +4,7 @@ use Rattle.cert_text.specs.CircuitProof.{first_proof_id}
 use Rattle.cert_text.specs.Numbering.{numbered_from}
 use Rattle.proof_checker.specs.Judging.{run_of, IsJudging}
 use Rattle.cert_judge.specs.CircuitPhases.{BeginsProof}
-use Rattle.cert_judge.specs.Judgement.{mapping_line}
+use Rattle.cert_judge.specs.Places.{mapping_line_in}
 use Rattle.cert_judge.specs.ProofStart.{IsProofStart}
 use Rattle.cert_judge.proofs.CommentLines.{derived_begins, found_begins, free_text_begins, standing_judges}
 use Rattle.cert_judge.proofs.comments.begin_comment.Goals as goal
@@ -12,16 +12,16 @@ use Rattle.cert_judge.proofs.comments.begin_comment.Goals as goal
 pub returns-then-not-begins_proof-clause-begins : goal.returns-then-not-begins_proof-clause-begins
 returns-then-not-begins_proof-clause-begins c =
     let none : c.begins_proof.result ≡ false = search rules in
-    free_text_begins c.args.f.now c.args.first c.args.number c.args.file c.args.line.now c.begins_proof.result
+    free_text_begins c.args.f.now c.args.form c.args.first c.args.number c.args.file c.args.line.now c.begins_proof.result
     c.requires.one_line c.begins_proof.ensures none
 
 pub returns-in-Found-clause-begins : goal.returns-in-Found-clause-begins
 returns-in-Found-clause-begins c =
     let one : c.begins_proof.result ≡ true = search rules in
     let file = c.args.file in
-    found_begins c.args.f.now c.args.first c.args.number file c.args.line.now c.begin_proof.result
+    found_begins c.args.f.now c.args.form c.args.first c.args.number file c.args.line.now c.begin_proof.result
     c.begins_proof.result c.requires.one_line c.begins_proof.ensures one c.in-Found.finding None
-    (subst (IsProofStart (mapping_line c.args.first file.circuit)
+    (subst (IsProofStart (mapping_line_in c.args.form c.args.first file.circuit)
     (candidate_of c.args.f.now file.circuit file.symbols)) c.in-Found.is c.in-Ok.ensures)
     (subst (λ net. BeginsProof c.args.f.now net c.args.number (Some c.in-Found.finding) None c.args.line.now
     c.begin_proof.result) c.circuit_in-circuit.ensures c.begin_proof.ensures.begins)
@@ -32,8 +32,8 @@ begin_proof-requires-in-Proving-clause-judging c =
     let file = c.args.file in
     subst (λ net. IsJudging f net c.in-Proving.proving (numbered_from (first_proof_id f net)))
     (sym c.circuit_in-circuit.ensures)
-    (standing_judges f c.args.first file c.in-Proving.proving
-    (subst (IsProofStart (mapping_line c.args.first file.circuit)
+    (standing_judges f c.args.form c.args.first file c.in-Proving.proving
+    (subst (IsProofStart (mapping_line_in c.args.form c.args.first file.circuit)
     (candidate_of f file.circuit file.symbols)) c.in-Proving.is c.in-Ok.ensures))
 
 pub returns-in-Proving-clause-begins : goal.returns-in-Proving-clause-begins
@@ -41,9 +41,9 @@ returns-in-Proving-clause-begins c =
     let one : c.begins_proof.result ≡ true = search rules in
     let f = c.args.f.now in
     let file = c.args.file in
-    derived_begins f c.args.first c.args.number file c.args.line.now c.begin_proof-in-Proving.result
+    derived_begins f c.args.form c.args.first c.args.number file c.args.line.now c.begin_proof-in-Proving.result
     c.begins_proof.result c.requires.one_line c.begins_proof.ensures one c.run_is_fault.ensures c.in-Proving.proving
-    (subst (IsProofStart (mapping_line c.args.first file.circuit)
+    (subst (IsProofStart (mapping_line_in c.args.form c.args.first file.circuit)
     (candidate_of f file.circuit file.symbols)) c.in-Proving.is c.in-Ok.ensures)
     (subst (λ net. BeginsProof f net c.args.number None (Some (run_of f net c.in-Proving.proving)) c.args.line.now
     c.begin_proof-in-Proving.result) c.circuit_in-circuit.ensures c.begin_proof-in-Proving.ensures.begins)

@@ -1,6 +1,7 @@
 use Rattle.std.proofs.Common.{◌++◌, sym, subst}
 use Rattle.std.specs.Option.{option_map}
 use Rattle.cert_judge.specs.Phases.{line_end, Gives, Takes}
+use Rattle.cert_judge.proofs.BinaryAnswers.{binary_takes}
 use Rattle.cert_judge.proofs.CommentLines.{proof_takes}
 use Rattle.cert_judge.proofs.Starts.{refutation_takes}
 use Rattle.cert_judge.proofs.Turns.{circuit_takes}
@@ -28,3 +29,13 @@ returns-in_ok-next-in-Circuit-clause-takes c =
     subst (λ p. Takes f p text c.args.ended after) (sym c.in-Circuit.is)
     (circuit_takes f c.in-Circuit.first c.in-Circuit.lines c.take_circuit_line.new.lines text
     (option_map (λ b. b.value) c.in_ok-next-in-Circuit.next) after c.in_ok-next-in-Circuit.ensures c.turn.ensures c.args.ended)
+
+pub returns-in_ok-next-in-Binary-clause-takes : goal.returns-in_ok-next-in-Binary-clause-takes
+returns-in_ok-next-in-Binary-clause-takes c =
+    let f = c.args.f.now in
+    let text = c.args.line.now in
+    let after = c.turn-in-Binary.new.phase in
+    subst (λ p. Takes f p text c.args.ended after) (sym c.in-Binary.is)
+    (binary_takes f c.in-Binary.first c.in-Binary.lines c.take_binary_line.new.lines text c.args.ended
+    c.requires.one_line (option_map (λ b. b.value) c.in_ok-next-in-Binary.next) after
+    c.in_ok-next-in-Binary.ensures c.turn-in-Binary.ensures)

@@ -29,4 +29,4 @@ pub returns-clause-gives : goal.returns-clause-gives
 returns-clause-gives c =
     goes_on c.pass_over.result _ _ c.pass_over.ensures.gives
     (λ passes bytes answer says. c.loop-line.invariant.gives bytes answer
-    (c.in_ok-keep_rest.ensures.gives c.args.f.now bytes answer (passes c.args.f.now bytes answer says)))
+    (c.in_ok-keep_rest.ensures.gives c.args.f.now bytes answer (passes bytes answer says)))
