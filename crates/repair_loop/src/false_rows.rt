@@ -1,4 +1,5 @@
-//! Rows at which a formula is false by a clause without existential literals.
+//! Rows that are tried before any question: one at which a formula is false by a clause without
+//! existential literals, or the only row of a formula without universals.
 //!
 //! Candidates are evaluated at such a row first, so that it takes the way of every failing row.
 
@@ -7,6 +8,17 @@ ghost use Rattle.std.specs.Prelude.{◌≡◌, length};
 use dq_formula::Formula;
 use dq_lits::{Lit, Memory, Row};
 use std::alloc::Global;
+
+// The only row, where there are no universals: a model of the clauses there decides the formula, so
+// that questions for definitions would tell nothing. Else a row at which some clause of universals
+// alone is false.
+pub(crate) fn find_first_row(alloc: Global, f: &Formula) -> Result<Option<Row>, Memory> {
+    if f.universals().is_empty() {
+        let row = Row::new(alloc, 0)?;
+        return Ok(Some(row));
+    }
+    find_false_row(alloc, f)
+}
 
 // A row under which the first clause of universals alone that can be false is false. It passes once
 // over the matrix, so that a verdict that needs no search doesn't wait for one. No contract speaks

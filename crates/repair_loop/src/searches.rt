@@ -11,7 +11,7 @@ ghost use Rattle.repair_loop.specs.Turning.{HasEnded, IsNextRound, IsSearch, IsS
 
 use crate::candidates::Proposal;
 use crate::decisions::Verdict;
-use crate::false_rows::find_false_row;
+use crate::false_rows::find_first_row;
 use crate::judging::{Candidates, Judged};
 use crate::preservation::{
     instances_leave_logs, instances_leave_searches, questions_leave_searches,
@@ -107,8 +107,7 @@ impl<'f, 'p> Search<'f, 'p> {
         self.all_rounds(oracle, graph, database, checker, &mut known, log)
     }
 
-    // What is known before the first candidates: a row that refutes the formula, or definitions and
-    // guesses.
+    // What is known before the first candidates: a row to try, or definitions and guesses.
     pub(crate) fn find_known<O: Oracle>(
         &self,
         oracle: &mut O,
@@ -144,7 +143,7 @@ impl<'f, 'p> Search<'f, 'p> {
         ensures known { IfOk result (AreKnownIn self.now.f.now graph.new) }
         ensures limit { IsErrOf result Stop.Limit → IsAtSomeLimit log.new }
     {
-        match find_false_row(self.alloc, self.f)? {
+        match find_first_row(self.alloc, self.f)? {
             Some(row) => Ok(Definitions::refuted(self.alloc, self.f, row)?),
             None => find_definitions(self.alloc, oracle, self.definability, graph, self.f, log),
         }
