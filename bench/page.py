@@ -32,14 +32,16 @@ PAGE = os.path.join(TOP, "crates", "headline", "specs", "Headline.antt")
 
 
 def numbers(tokens):
-    """Naturals up to a zero, and the tokens behind it."""
-    values = [reference_texts.number(token) for token in tokens]
-    if None in values or 0 not in values:
-        end = next((k for k, value in enumerate(values) if value == 0), None)
-        if end is None or None in values[:end]:
+    """The numbers before the first zero and the tokens behind it, or None."""
+    values = []
+    for place, token in enumerate(tokens):
+        value = reference_texts.number(token)
+        if value is None:
             return None
-    end = values.index(0)
-    return values[:end], tokens[end + 1 :]
+        if value == 0:
+            return values, tokens[place + 1 :]
+        values.append(value)
+    return None
 
 
 def literal(value):
