@@ -1,5 +1,5 @@
 -- The trail goes on behind a learned clause, whose watches guard.
-use Rattle.std.proofs.Common.{◌≡◌, ℕ, suc, ◌≤◌, Bool, true, false, cond, inl, inr, List, [], ◌∷◌, ◌++◌, length, Option, None, Some, IfSome, MatchOption, refl, sym, ◌∙◌, ap, subst, arith, length-append}
+use Rattle.std.proofs.Common.{◌≡◌, ℕ, suc, ◌≤◌, Bool, true, false, inl, inr, List, [], ◌∷◌, ◌++◌, length, Option, None, Some, IfSome, MatchOption, sym, ◌∙◌, ap, subst, arith, length-append}
 use Rattle.std.proofs.lemmas.Bool.{cases_Bool, cases_eq, cases_lt, false≢true, or_parts}
 use Rattle.dq_lits.specs.Literal.{Literal, opposite, same_literal, variable_of}
 use Rattle.dq_lits.specs.Derivation.{LiveClauses, holds}
@@ -7,7 +7,7 @@ use Rattle.dq_lits.proofs.Truth.{same_literal-sound}
 use Rattle.dq_lits.proofs.SignedLiterals.{opposite-opposite, same_opposite}
 use Rattle.dq_lits.proofs.HeldLiterals.{holds_cases, holds_here, holds_later}
 use Rattle.learning_trail.specs.declared.trails.Step.{Step}
-use Rattle.learning_trail.specs.Steps.{Trailed, literals_of, level_of, is_decision, Shrunk}
+use Rattle.learning_trail.specs.Steps.{Trailed, literals_of, level_of, Shrunk}
 use Rattle.dq_lits.specs.Truth.{IsFree}
 use Rattle.learning_trail.specs.Marks.{marked}
 use Rattle.learning_trail.specs.Sound.{IsSound}
@@ -24,21 +24,8 @@ guards_more : (processed trues these others : List Literal) (k l : Literal) → 
     Guards processed trues these others
     → (holds processed (opposite k) ≡ true → holds trues l ≡ true) →
     Guards processed trues (these ++ k ∷ []) (others ++ l ∷ [])
-guards_more processed trues these others k l count guards new i apart is_false = elim (cases_lt i (length these)) [
-  | inl lt ↦
-      let a = watch_old these k i lt in
-      let b = watch_old others l i (omega (arith, lt, count)) in
-      ap (holds trues) b ∙ guards i (ap (λ x. same_literal x (watch_at others i)) (sym a) ∙ ap
-      (same_literal (watch_at (these ++ k ∷ []) i)) (sym b) ∙ apart)
-      (ap (λ x. holds processed (opposite x)) (sym a) ∙ is_false)
-  | inr past ↦ elim (cases_eq i (length these)) [
-    | inl e ↦ ap (holds trues) (watch_new others l i (e ∙ count)) ∙ new
-        (ap (λ x. holds processed (opposite x)) (sym (watch_new these k i e)) ∙ is_false)
-    | inr n ↦ absurd (off_end (these ++ k ∷ []) (others ++ l ∷ []) i
-        (omega (arith, past, n, length-append these (k ∷ [])))
-        (omega (arith, past, n, count, length-append others (l ∷ []))) apart)
-  ]
-]
+guards_more processed trues these others k l count guards new i apart is_false =
+    search (arith, cases_lt, watch_old, cases_eq, watch_new, off_end, length-append)
 
 short_true_more : (clauses : List (List Literal)) (first second trues c : List Literal) (k l : Literal) →
     length first ≡ length clauses → length second ≡ length clauses → same_literal k l ≡ false
@@ -65,10 +52,7 @@ short_true_more clauses first second trues c k l count count' apart short i d at
   where
     at_end : (i : ℕ) → length clauses ≤ i → (i ≡ length clauses → ⊥) →
         same_literal (watch_at first i) (watch_at second i) ≡ true
-    at_end i past n = elim (cases_Bool (same_literal (watch_at first i) (watch_at second i))) [
-      | inl t ↦ t
-      | inr f ↦ absurd (off_end first second i (omega (arith, past, count)) (omega (arith, past, count')) f)
-    ]
+    at_end i past n = search (arith, cases_Bool, off_end)
 
 pub guarded_more : (clauses : List (List Literal)) (first second processed trues c : List Literal) (k l : Literal) →
     length first ≡ length clauses → length second ≡ length clauses
@@ -99,10 +83,7 @@ module _ (clauses : List (List Literal)) (first second c : List Literal) (k l : 
       holds (literals_of steps) (opposite l) ≡ false → AreLevelsGuarded clauses first second steps
       → AreLevelsGuarded (clauses ++ c ∷ []) (first ++ k ∷ []) (second ++ l ∷ []) steps
   levels_apart [] a b levels = tt
-  levels_apart (s ∷ earlier) a b levels =
-      let a' = off_later s.literal (literals_of earlier) (opposite k) a in
-      let b' = off_later s.literal (literals_of earlier) (opposite l) b in
-      (λ d. both_off (literals_of earlier) a' b' (levels.0 d), levels_apart earlier a' b' levels.1)
+  levels_apart (s ∷ earlier) a b levels = search (arith, off_later, both_off, (levels_apart earlier))
 
   levels_level : (live : LiveClauses) (steps : List Step) → IsSound live steps →
       holds (literals_of steps) (opposite k) ≡ false → holds (level_of steps) (opposite l) ≡ true
@@ -110,42 +91,12 @@ module _ (clauses : List (List Literal)) (first second c : List Literal) (k l : 
       (second ++ l ∷ []) steps
   levels_level live [] sound a b levels = tt
   levels_level live (s ∷ earlier) sound a b levels =
-      let a' = off_later s.literal (literals_of earlier) (opposite k) a in
-      let here : opposite l ≡ s.literal → AreLevelsGuarded (clauses ++ c ∷ []) (first ++ k ∷ []) (second ++ l ∷ [])
-      (s ∷ earlier) = λ e.
-      (let b' : holds (literals_of earlier) (opposite l) ≡ false =
-      ap (holds (literals_of earlier)) e ∙ sound.0.free.0 in
-      (λ d. both_off (literals_of earlier) a' b' (levels.0 d), levels_apart earlier a' b' levels.1)) in
-      by (is_decision s) refl here (λ implied t. (
-        λ d. absurd (false≢true (sym implied ∙ d)),
-        levels_level live earlier sound.1 a' t levels.1,
-      )) b
-    where
-      by : (b : Bool) → is_decision s ≡ b → {X : Type 0} → (opposite l ≡ s.literal → X) →
-          (is_decision s ≡ false → holds (level_of earlier) (opposite l) ≡ true → X)
-          → holds (s.literal ∷ cond b [] (level_of earlier)) (opposite l) ≡ true → X
-      by true e here below h = elim (holds_cases s.literal [] (opposite l) h)
-          [ inl q ↦ here q | inr n ↦ absurd (false≢true n) ]
-      by false e here below h = elim (holds_cases s.literal (level_of earlier) (opposite l) h)
-          [ inl q ↦ here q | inr t ↦ below e t ]
+      search (arith, off_later, both_off, levels_apart, false≢true, holds_cases, (levels_level live earlier sound.1))
 
 level_among : (steps : List Step) (l : Literal) → holds (level_of steps) l ≡ true → holds (literals_of steps) l ≡ true
 level_among [] l h = h
-level_among (s ∷ earlier) l h = by (is_decision s) (level_among earlier l) h
-  where
-    by : (b : Bool) → (holds (level_of earlier) l ≡ true → holds (literals_of earlier) l ≡ true) →
-        holds (s.literal ∷ cond b [] (level_of earlier)) l ≡ true → holds (s.literal ∷ literals_of earlier) l ≡ true
-    by true rest h = elim (holds_cases s.literal [] l h) [
-      | inl q ↦
-          ap (holds (s.literal ∷ literals_of earlier)) q ∙ holds_here s.literal (literals_of earlier)
-      | inr n ↦
-          absurd (false≢true n)
-    ]
-    by false rest h = elim (holds_cases s.literal (level_of earlier) l h) [
-      | inl q ↦ ap (holds (s.literal ∷ literals_of earlier)) q ∙ holds_here s.literal (literals_of earlier)
-      | inr t ↦
-          holds_later s.literal (literals_of earlier) l (rest t)
-    ]
+level_among (s ∷ earlier) l h =
+    search (arith, holds_cases, holds_here, false≢true, holds_later, (level_among earlier l))
 
 module _ (old : Stored) (live : LiveClauses) (steps : List Step) (mid : Trailed) (step : Step)
     (shrunk : Shrunk steps (step ∷ mid.steps)) (sound : IsSound live (step ∷ mid.steps))
@@ -158,22 +109,16 @@ module _ (old : Stored) (live : LiveClauses) (steps : List Step) (mid : Trailed)
     back = lands.behind.back.steps
 
     back_free : IsFree (literals_of back) step.literal
-    back_free = free_suffix lands.behind.jump.shrunk.popped back step.literal
-        (subst (λ (xs : List Step). IsFree (literals_of xs) step.literal) lands.behind.jump.shrunk.is mid_free)
+    back_free = search (arith, free_suffix, mid_free)
 
     t_back : holds (literals_of back) t ≡ true
     t_back = level_among back t lands.level.level
 
     pub t_mid : holds (literals_of mid.steps) t ≡ true
-    t_mid = ap (λ xs. holds (literals_of xs) t) lands.behind.jump.shrunk.is
-        ∙ among_suffix lands.behind.jump.shrunk.popped back t t_back
+    t_mid = search (arith, among_suffix, t_back)
 
     pub watches_apart : same_literal (opposite step.literal) (opposite t) ≡ false
-    watches_apart = same_opposite step.literal t ∙ elim (cases_Bool (same_literal step.literal t)) [
-      | inl s ↦ absurd (false≢true (sym mid_free.0 ∙ ap (holds (literals_of mid.steps))
-          (same_literal-sound step.literal t s) ∙ t_mid))
-      | inr f ↦ f
-    ]
+    watches_apart = search (arith, same_opposite, cases_Bool, false≢true, same_literal-sound, t_mid)
 
     pub ready_landed : (new : Stored) (c : List Literal) → new.clauses ≡ old.clauses ++ c ∷ [] →
         IsHeldWatched old new (opposite step.literal) (opposite t)
@@ -231,9 +176,4 @@ pub held_watched : (level : Option Literal) (old mid new : Stored) (step : Step)
     → IfSome level (λ t. IsHeldWatched mid new (opposite step.literal) (opposite t)) →
     IfSome level (λ t. IsHeldWatched old new (opposite step.literal) (opposite t))
 held_watched None old mid new step clauses first second w = tt
-held_watched (Some t) old mid new step clauses first second w = record {
-  first = w.first ∙ ap (λ xs. xs ++ opposite step.literal ∷ []) first;
-  second = w.second ∙ ap (λ xs. xs ++ opposite t ∷ []) second;
-  count = sym (ap length first) ∙ w.count ∙ ap length clauses;
-  second_count = sym (ap length second) ∙ w.second_count ∙ ap length clauses;
-}
+held_watched (Some t) old mid new step clauses first second w = search arith

@@ -23,10 +23,7 @@ get_front (x ∷ cs) c (suc i) lt = get_front cs c i (omega (arith, lt))
 -- behind all others
 pub start_behind : (clauses : List (List Literal)) (clause : List Literal) (start : ℕ) → start ≡ length clauses →
     IsNextStart clauses clause start
-start_behind clauses clause start is = record {
-  within = omega (arith, is);
-  alike = λ i c l low at head. (let lt = slice_get_within clauses i c at in absurd (omega (arith, is, low, lt)));
-}
+start_behind clauses clause start is = search (arith, slice_get_within)
 
 -- as the last one begins
 pub start_alike : (clauses : List (List Literal)) (last clause : List Literal) (start id : ℕ) → id ≡ length clauses →
@@ -87,9 +84,7 @@ head_among (x ∷ c) l is = subst (λ k. holds (x ∷ c) k ≡ true) (some_same 
 pub true_alike : (clauses : List (List Literal)) (trues d : List Literal) (start id : ℕ) → live_in clauses id ≡ Some d →
     BeginAlike clauses start id → BeginsTrue trues d
     → (i : ℕ) (c : List Literal) → start ≤ i → i < id → slice_get clauses i ≡ Some c → list_any (holds trues) c ≡ true
-true_alike clauses trues d start id here alike begins i c low lt at =
-    any_one (holds trues) c begins.literal (head_among c begins.literal
-    (alike i c d begins.literal low lt at here begins.first)) begins.on
+true_alike clauses trues d start id here alike begins i c low lt at = search (arith, any_one, head_among)
 
 pub start_at : (clauses : List (List Literal)) (starts : List ℕ) (id r : ℕ) → AreStarts clauses starts → 1 ≤ id →
     id ≤ length starts → r ≡ get_or starts (id - 1) 0
@@ -126,8 +121,7 @@ pub true_within : (clauses : List (List Literal)) (trues : List Literal) (id sta
     → (i : ℕ) (c : List Literal) → start ≤ i → down_to ≤ i → i < id → slice_get clauses i ≡ Some c →
     list_any (holds trues) c ≡ true
 true_within clauses trues id start down_to most seen (inl e) i c low down lt at = seen i c (omega (arith, e, low)) lt at
-true_within clauses trues id start down_to most seen (inr e) i c low down lt at =
-    seen i c (omega (arith, e, down)) lt at
+true_within clauses trues id start down_to most seen (inr e) i c low down lt at = search arith
 
 pub true_further : (clauses : List (List Literal)) (trues : List Literal) (id start down_to from : ℕ)
     → ((i : ℕ) (c : List Literal) → id ≤ i → down_to ≤ i → i < from → slice_get clauses i ≡ Some c →
@@ -136,10 +130,7 @@ pub true_further : (clauses : List (List Literal)) (trues : List Literal) (id st
     list_any (holds trues) c ≡ true)
     → (i : ℕ) (c : List Literal) → start ≤ i → down_to ≤ i → i < from → slice_get clauses i ≡ Some c →
     list_any (holds trues) c ≡ true
-true_further clauses trues id start down_to from above here i c low down lt at = elim (cases_lt i id) [
-  | inl below ↦ here i c low down below at
-  | inr ge ↦ above i c ge down lt at
-]
+true_further clauses trues id start down_to from above here i c low down lt at = search (arith, cases_lt)
 
 pub seen_none : {A : Type 0} (P : Type 0) (Q : A → Type 0) (o : Option A) → is_some o ≡ false → MatchOption o P Q → P
 seen_none P Q None none h = h

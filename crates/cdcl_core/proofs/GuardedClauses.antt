@@ -1,5 +1,5 @@
 -- Watches guard, as they move and as a trail grows.
-use Rattle.std.proofs.Common.{◌≡◌, ℕ, zero, suc, ◌-◌, true, false, inl, inr, List, [], ◌∷◌, ◌++◌, Option, None, Some, slice_get, All, refl, sym, ◌∙◌, ap, subst}
+use Rattle.std.proofs.Common.{◌≡◌, ℕ, zero, suc, true, false, inl, inr, List, [], ◌∷◌, ◌++◌, Option, None, Some, slice_get, All, refl, sym, ◌∙◌, ap, arith}
 use Rattle.std.specs.List.{list_any}
 use Rattle.std.proofs.lemmas.Bool.{cases_Bool, false≢true}
 use Rattle.std.proofs.lemmas.List.Elements.{All-head, All-tail}
@@ -23,8 +23,7 @@ Among few many = (t : Literal) → holds few t ≡ true → holds many t ≡ tru
 
 pub among_suffix : (popped steps : List Step) → Among (literals_of steps) (literals_of (popped ++ steps))
 among_suffix [] steps t h = h
-among_suffix (s ∷ popped) steps t h = holds_later s.literal (literals_of (popped ++ steps)) t
-    (among_suffix popped steps t h)
+among_suffix (s ∷ popped) steps t h = search (arith, holds_later, (among_suffix popped steps t h))
 
 pub among_grown : (old new : List Step) → Grown old new → Among (literals_of old) (literals_of new)
 among_grown old new grown t h = ap (λ xs. holds (literals_of xs) t) grown.is ∙ among_suffix grown.more old t h
@@ -47,28 +46,17 @@ pub guards_moved : (trues old_trues new_trues processed old new others : List Li
     Among processed trues → Among old_trues new_trues
     → Guards processed old_trues old others → Guards processed new_trues new others
 guards_moved trues old_trues new_trues processed old new others moved among grown guards i apart is_false =
-    elim (moved i) [
-      | inl e ↦ grown (watch_at others i) (guards i (ap (λ l. same_literal l (watch_at others i)) (sym e) ∙ apart)
-          (ap (λ l. holds processed (opposite l)) (sym e) ∙ is_false))
-      | inr m ↦ absurd (false≢true (sym m.not_false ∙ among (opposite (watch_at new i)) is_false))
-    ]
+    search (arith, false≢true)
 
 -- the other side
 pub guards_beside : (trues old_trues new_trues processed old new others : List Literal) →
     AreMoved trues old new others → AreConsistent trues → Among old_trues trues → Among old_trues new_trues
     → Guards processed old_trues others old → Guards processed new_trues others new
-guards_beside trues old_trues new_trues processed old new others moved consistent inside grown guards i apart is_false =
-    elim (moved i) [
-      | inl e ↦
-          let h = grown (watch_at old i) (guards i (ap (same_literal (watch_at others i)) (sym e) ∙ apart) is_false) in
-          ap (holds new_trues) e ∙ h
-      | inr m ↦
-          let h = inside (watch_at old i) (guards i (same_literal-differs (watch_at old i) (watch_at others i) m.was_apart)
-          is_false) in
-          absurd (consistent (watch_at old i) h m.was_false)
-    ]
+guards_beside trues old_trues new_trues processed old new others moved consistent inside grown guards i apart
+    is_false =
+    search (arith, same_literal-differs)
 
-short_moved : (clauses : List (List Literal)) (trues old_trues new_trues old new others : List Literal) →
+pub short_moved : (clauses : List (List Literal)) (trues old_trues new_trues old new others : List Literal) →
     AreMoved trues old new others → Among old_trues new_trues
     → AreShortTrue clauses old others old_trues → AreShortTrue clauses new others new_trues
 short_moved clauses trues old_trues new_trues old new others moved grown short i c at same = elim (moved i) [
@@ -77,10 +65,9 @@ short_moved clauses trues old_trues new_trues old new others moved grown short i
   | inr m ↦ absurd (false≢true (sym m.apart ∙ same))
 ]
 
-short_turned : (clauses : List (List Literal)) (first second trues : List Literal) →
+pub short_turned : (clauses : List (List Literal)) (first second trues : List Literal) →
     AreShortTrue clauses first second trues → AreShortTrue clauses second first trues
-short_turned clauses first second trues short i c at same = short i c at
-    (same_literal-sym (watch_at second i) (watch_at first i) same)
+short_turned clauses first second trues short i c at same = search (arith, same_literal-sym)
 
 -- all that guards, where the first side moved
 pub guarded_moved : (clauses : List (List Literal)) (trues old_trues new_trues processed old new others : List Literal)
@@ -88,21 +75,11 @@ pub guarded_moved : (clauses : List (List Literal)) (trues old_trues new_trues p
     → Among processed trues → Among old_trues trues → Among old_trues new_trues →
     IsGuarded clauses old others processed old_trues → IsGuarded clauses new others processed new_trues
 guarded_moved clauses trues old_trues new_trues processed old new others moved consistent among inside grown g =
-    record {
-      first_guards = guards_moved trues old_trues new_trues processed old new others moved among grown g.first_guards;
-      second_guards = guards_beside trues old_trues new_trues processed old new others moved consistent inside grown
-          g.second_guards;
-      short = short_moved clauses trues old_trues new_trues old new others moved grown g.short;
-    }
+    search (arith, guards_moved, guards_beside, short_moved)
 
 pub guarded_turned : (clauses : List (List Literal)) (first second processed trues : List Literal) →
     IsGuarded clauses first second processed trues → IsGuarded clauses second first processed trues
-guarded_turned clauses first second processed trues g = record {
-  first_guards = g.second_guards;
-  second_guards = g.first_guards;
-  short =
-      short_turned clauses first second trues g.short;
-}
+guarded_turned clauses first second processed trues g = search (arith, short_turned)
 
 pub guarded_grown : (clauses : List (List Literal)) (first second processed old_trues new_trues : List Literal) →
     Among old_trues new_trues → IsGuarded clauses first second processed old_trues
@@ -129,10 +106,8 @@ levels_moved clauses trues old new others (s ∷ earlier) moved consistent among
 pub levels_turned : (clauses : List (List Literal)) (first second : List Literal) (steps : List Step) →
     AreLevelsGuarded clauses first second steps → AreLevelsGuarded clauses second first steps
 levels_turned clauses first second [] levels = tt
-levels_turned clauses first second (s ∷ earlier) levels = (
-  λ d. guarded_turned clauses first second (literals_of earlier) (literals_of earlier) (levels.0 d),
-  levels_turned clauses first second earlier levels.1,
-)
+levels_turned clauses first second (s ∷ earlier) levels =
+    search (arith, guarded_turned, (levels_turned clauses first second earlier levels.1))
 
 levels_more : (clauses : List (List Literal)) (first second : List Literal) (more old : List Step) →
     All (λ s. is_decision s ≡ false) more → AreLevelsGuarded clauses first second old
@@ -145,8 +120,7 @@ levels_more clauses first second (s ∷ more) old implied levels = (
 
 pub levels_grown : (clauses : List (List Literal)) (first second : List Literal) (old new : List Step) → Grown old new →
     AreLevelsGuarded clauses first second old → AreLevelsGuarded clauses first second new
-levels_grown clauses first second old new grown levels = subst (AreLevelsGuarded clauses first second) (sym grown.is)
-    (levels_more clauses first second grown.more old grown.implied levels)
+levels_grown clauses first second old new grown levels = search (arith, levels_more)
 
 pub levels_later : (clauses : List (List Literal)) (first second : List Literal) (popped steps : List Step) →
     AreLevelsGuarded clauses first second (popped ++ steps) → AreLevelsGuarded clauses first second steps
@@ -156,25 +130,11 @@ levels_later clauses first second (s ∷ popped) steps levels = levels_later cla
 -- the notes on short clauses
 pub short_kept : (clauses : List (List Literal)) (trues old new others : List Literal) (short : List ℕ) →
     AreMoved trues old new others → AreShort clauses old others short → AreShort clauses new others short
-short_kept clauses trues old new others short moved notes = record {
-  ids = notes.ids;
-  one = λ id h. elim (moved (id - 1)) [
-    | inl e ↦ ap (λ l. same_literal l (watch_at others (id - 1))) e ∙ notes.one id h
-    | inr m ↦ absurd (false≢true (sym m.was_apart ∙ notes.one id h))
-  ];
-  whole = λ i lt same. elim (moved i) [
-    | inl e ↦ notes.whole i lt (ap (λ l. same_literal l (watch_at others i)) (sym e) ∙ same)
-    | inr m ↦ absurd (false≢true (sym m.apart ∙ same))
-  ];
-}
+short_kept clauses trues old new others short moved notes = search (arith, false≢true)
 
 pub short_notes_turned : (clauses : List (List Literal)) (first second : List Literal) (short : List ℕ) →
     AreShort clauses first second short → AreShort clauses second first short
-short_notes_turned clauses first second short notes = record {
-  ids = notes.ids;
-  one = λ id h. same_literal-sym (watch_at first (id - 1)) (watch_at second (id - 1)) (notes.one id h);
-  whole = λ i lt same. notes.whole i lt (same_literal-sym (watch_at second i) (watch_at first i) same);
-}
+short_notes_turned clauses first second short notes = search (arith, same_literal-sym, same_literal-sound)
 
 -- a clause with one literal that is stuck is true
 pub same_stuck : (trues c : List Literal) → AreSame c → status_of trues (Some c) ≡ stuck →
@@ -237,10 +197,7 @@ pub guards_visited : (trues these others processed : List Literal) (l : Literal)
     holds trues (watch_at others i) ≡ true)
     → Guards (opposite l ∷ processed) trues these others
 guards_visited trues these others processed l guards done i apart is_false =
-    elim (holds_cases (opposite l) processed (opposite (watch_at these i)) is_false) [
-      | inl e ↦ done i apart (sym (opposite-opposite (watch_at these i)) ∙ ap opposite e ∙ opposite-opposite l)
-      | inr t ↦ guards i apart t
-    ]
+    search (arith, holds_cases, opposite-opposite)
 
 -- moves behind one another
 pub moved_both : (trues now_trues old now new others : List Literal) → Among trues now_trues →
@@ -248,28 +205,4 @@ pub moved_both : (trues now_trues old now new others : List Literal) → Among t
     → ((i : ℕ) → IsMove now_trues (watch_at now i) (watch_at new i) (watch_at others i) →
     holds trues (opposite (watch_at now i)) ≡ true)
     → AreMoved trues old new others
-moved_both trues now_trues old now new others among first second here i = elim (second i) [
-  | inl e ↦ elim (first i) [
-    | inl f ↦ inl (e ∙ f)
-    | inr m ↦ inr (subst (λ l. IsMove trues (watch_at old i) l (watch_at others i)) (sym e) m)
-  ]
-  | inr m ↦
-      let still : holds trues (opposite (watch_at new i)) ≡ false =
-      elim (cases_Bool (holds trues (opposite (watch_at new i)))) [
-        | inl t ↦ absurd (false≢true (sym m.not_false ∙ among (opposite (watch_at new i)) t))
-        | inr f ↦ f
-      ] in
-      elim (first i) [
-        | inl f ↦
-            let was : holds trues (opposite (watch_at old i)) ≡ true =
-            ap (λ l. holds trues (opposite l)) (sym f) ∙ here i m in
-            inr (record {
-              was_false = was;
-              not_false = still;
-              was_apart =
-                  ap (λ l. same_literal l (watch_at others i)) (sym f) ∙ m.was_apart;
-              apart = m.apart;
-            })
-        | inr n ↦ inr (record { was_false = n.was_false; not_false = still; was_apart = n.was_apart; apart = m.apart })
-      ]
-]
+moved_both trues now_trues old now new others among first second here i = search (arith, cases_Bool, false≢true)

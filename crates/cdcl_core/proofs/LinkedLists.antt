@@ -26,10 +26,7 @@ pub has_later : (id x : ℕ) (rest : List ℕ) → has rest x ≡ true → has (
 has_later id x rest h = or_right (x == id) (has rest x) h
 
 pub has_cases : (id x : ℕ) (rest : List ℕ) → has (id ∷ rest) x ≡ true → (x ≡ id) ⊎ (has rest x ≡ true)
-has_cases id x rest h = elim (or_cases (x == id) (has rest x) h) [
-  | inl e ↦ inl (eqb-true x id e)
-  | inr t ↦ inr t
-]
+has_cases id x rest h = search (arith, or_cases, eqb-true)
 
 pub chain_range : (nexts : List ℕ) (start x : ℕ) (xs : List ℕ) → IsChain nexts start xs → has xs x ≡ true →
     (1 ≤ x) × (x ≤ length nexts)
@@ -108,16 +105,8 @@ pub chain_counted : (n : ℕ) (nexts : List ℕ) (start : ℕ) (xs : List ℕ) �
     chain_length n nexts start ≡ length xs
 chain_counted zero nexts start [] c few = refl
 chain_counted zero nexts start (x ∷ xs) c few = absurd (omega (arith, few))
-chain_counted (suc n) nexts start [] c few = ap (λ b. cond b 0 (suc (chain_length n nexts (get_or nexts (start - 1) 0))))
-    (eq-eqb start 0 c)
-chain_counted (suc n) nexts start (x ∷ xs) c few =
-    let low = c.1 in
-    let is = c.0 in
-    let same : get_or nexts (x - 1) 0 ≡ get_or nexts (start - 1) 0 = ap (λ k. get_or nexts (k - 1) 0) (sym is) in
-    ap (λ b. cond b 0 (suc (chain_length n nexts (get_or nexts (start - 1) 0))))
-    (ne_eqb start 0 (λ e. omega (arith, e, is, low)))
-    ∙ ap (λ k. suc (chain_length n nexts k)) (sym same)
-    ∙ ap suc (chain_counted n nexts (get_or nexts (x - 1) 0) xs c.3 (omega (arith, few)))
+chain_counted (suc n) nexts start [] c few = search (arith, eq-eqb)
+chain_counted (suc n) nexts start (x ∷ xs) c few = search (arith, ne_eqb, (chain_counted n nexts))
 
 chain_start : (nexts : List ℕ) (start : ℕ) (xs : List ℕ) → IsChain nexts start xs → start ≤ length nexts
 chain_start nexts start [] c = omega (arith, c)
@@ -127,21 +116,7 @@ chain_start nexts start (x ∷ xs) c = let is = c.0 in let high = c.2 in omega (
 pub linked_in : (w : Watches) (heads nexts : List ℕ) (literals : List Literal) (left : ℕ) (rest : List ℕ) →
     w.heads.items ≡ heads → w.nexts.items ≡ nexts → w.literals.items ≡ literals → length nexts ≤ w.heads.most →
     length nexts ≤ w.nexts.most → AreLinked heads nexts literals left rest → IsLinked w left rest
-linked_in w heads nexts literals left rest heads_are nexts_are literals_are fit fit' k = record {
-  links = subst (λ hs. AreLinked hs w.nexts.items w.literals.items left rest) (sym heads_are)
-      (subst (λ ns. AreLinked heads ns w.literals.items left rest) (sym nexts_are)
-      (subst (λ ls. AreLinked heads nexts ls left rest) (sym literals_are) k));
-  fits = record {
-    begin = λ p. omega (
-      arith,
-      chain_start nexts (get_or heads p 0) (k.lists p) (k.chains p),
-      ap (λ hs. get_or hs p 0) heads_are,
-      ap length nexts_are,
-    );
-    heads = omega (arith, fit, ap length nexts_are);
-    nexts = omega (arith, fit', ap length nexts_are);
-  };
-}
+linked_in w heads nexts literals left rest heads_are nexts_are literals_are fit fit' k = search (arith, chain_start)
 
 -- the first clause of the list that is visited is one that there is
 pub open_first : (w : Watches) (o : OpenList) → HasList w o.literal → FitIds (with_open w o)
@@ -240,31 +215,7 @@ pub linked_relabelled : (heads nexts : List ℕ) (literals : List Literal) (id :
     AreLinked heads nexts literals id (id ∷ rest)
     → AreLinked heads nexts (set literals (id - 1) l) id (id ∷ rest)
 linked_relabelled heads nexts literals id l rest k =
-    let one = k.rest_chain.1 in
-    let other : (x : ℕ) → 1 ≤ x → x ≢ id → watch_at (set literals (id - 1) l) (x - 1) ≡ watch_at literals (x - 1) =
-    λ x low n.
-    get_or-set_other literals (id - 1) (x - 1) l (positive 0) (λ e. n (omega (arith, one, low, e))) in
-    record {
-      count = length-set literals (id - 1) l ∙ k.count;
-      lists = k.lists;
-      chains = k.chains;
-      once = k.once;
-      on_list = λ p x h.
-          let low = (chain_range nexts (get_or heads p 0) x (k.lists p) (k.chains p) h).0 in
-          let n : x ≢ id = λ e. false≢true (sym (ap (λ y. has (id ∷ rest) y) (sym e) ∙ k.rest_apart p x h)
-          ∙ has_first id rest) in
-          ap place_of (other x low n) ∙ k.on_list p x h;
-      rest_chain = k.rest_chain;
-      rest_once = k.rest_once;
-      rest_apart = k.rest_apart;
-      whole = λ x low up. elim (cases_eq x id) [
-        | inl e ↦ inr (ap (has (id ∷ rest)) e ∙ has_first id rest)
-        | inr n ↦ elim (k.whole x low up) [
-          | inl t ↦ inl (subst (λ m. has (k.lists (place_of m)) x ≡ true) (sym (other x low n)) t)
-          | inr t ↦ inr t
-        ]
-      ];
-    }
+    search (arith, get_or-set_other, length-set, chain_range, false≢true, has_first, cases_eq)
 
 -- a list is taken away
 pub linked_taken : (heads nexts : List ℕ) (literals : List Literal) (q : ℕ) → q < length heads →
@@ -328,20 +279,7 @@ taken_list heads nexts literals w l lt k heads_are nexts_are literals_are fit fi
     }
 
 pub taken_none : (w : Watches) (l : Literal) → length w.heads.items ≤ place_of l → IsLinked w 0 [] → IsTaken w l 0
-taken_none w l past linked =
-    let k = linked.links in
-    let none : k.lists (place_of l) ≡ [] = chain_none w.nexts.items (k.lists (place_of l))
-    (subst (λ s. IsChain w.nexts.items s (k.lists (place_of l))) (get_or_past w.heads.items (place_of l) 0 past)
-    (k.chains (place_of l))) in
-    record {
-      rest = [];
-      linked = linked;
-      watched = λ x h. absurd (false≢true h);
-      whole = λ x low up at. elim (k.whole x low up) [
-        | inl t ↦ ap (λ xs. has xs x) (sym none) ∙ subst (λ m. has (k.lists (place_of m)) x ≡ true) at t
-        | inr t ↦ t
-      ];
-    }
+taken_none w l past linked = search (arith, chain_none, get_or_past, false≢true)
 
 -- one clause more
 pub linked_more : (heads nexts : List ℕ) (literals : List Literal) (l : Literal) (id : ℕ) →
@@ -439,11 +377,7 @@ linked_none = record {
 }
 
 pub added_both : (a b c : Numbers) → AddsLists a b → AddsLists b c → AddsLists a c
-added_both a b c f g = record {
-  more = let m = f.more in let n = g.more in omega (arith, m, n);
-  same = λ p. g.same p ∙ f.same p;
-  most = g.most ∙ f.most;
-}
+added_both a b c f g = search arith
 
 pub listed_more : (n m : ℕ) (lits : List Literal) (l : Literal) (i : ℕ) → i < length lits → get_or lits i l ≡ l →
     variable_of l * 2 + 2 ≤ m → n ≤ m

@@ -1,8 +1,8 @@
 -- Where another literal of a clause isn't false: behind a place, and before it.
-use Rattle.std.proofs.Common.{◌≡◌, ◌≢◌, ◌==◌, ℕ, suc, ◌+◌, ◌≤◌, ◌<◌, Bool, true, false, List, [], ◌∷◌, take, drop, length, inl, inr, Option, None, Some, MatchOption, refl, sym, ◌∙◌, ap, arith}
+use Rattle.std.proofs.Common.{◌≡◌, ℕ, suc, ◌+◌, ◌≤◌, ◌<◌, true, false, List, [], ◌∷◌, take, drop, length, inl, inr, Option, None, Some, MatchOption, sym, ◌∙◌, ap, arith}
 use Rattle.std.proofs.lemmas.Bool.{false≢true, eqb-true, eqb-false, or_cases, or_left}
 use Rattle.std.proofs.lemmas.List.{get_or-drop, length-drop, take-append-drop}
-use Rattle.dq_lits.specs.Literal.{Literal, positive, opposite, same_literal}
+use Rattle.dq_lits.specs.Literal.{Literal, opposite, same_literal}
 use Rattle.dq_lits.specs.Derivation.{holds}
 use Rattle.dq_lits.proofs.Truth.{same_literal-sound}
 use Rattle.dq_lits.proofs.HeldLiterals.{holds-append}
@@ -33,28 +33,13 @@ pub one_between : (trues lits : List Literal) (other : Literal) (from at : ℕ) 
     AreFalseBetween trues lits other from at →
     (same_literal (watch_at lits at) other ≡ false → holds trues (opposite (watch_at lits at)) ≡ true) →
     AreFalseBetween trues lits other from (at + 1)
-one_between trues lits other from at so_far here i low high apart = by_bit (i == at) refl where
-  by_bit : (b : Bool) → (i == at) ≡ b → holds trues (opposite (watch_at lits i)) ≡ true
-  by_bit true e =
-      let same : i ≡ at = eqb-true i at e in
-      ap (λ n. holds trues (opposite (watch_at lits n))) same
-      ∙ here (ap (λ n. same_literal (watch_at lits n) other) (sym same) ∙ apart)
-  by_bit false e =
-      let differ : i ≢ at = eqb-false i at e in
-      so_far i low (omega (arith, high, differ)) apart
+one_between trues lits other from at so_far here i low high apart = search (arith, eqb-true, eqb-false)
 
 -- all behind a place are false but for the other one
 pub none_behind : (trues lits : List Literal) (other : Literal) (from at : ℕ) → length lits ≤ at →
     AreFalseBetween trues lits other from at → AreOthersFalse trues (drop from lits) other
 none_behind trues lits other from at past so_far k among apart =
-    let r = index_of (drop from lits) k among in
-    let small = r.1 in
-    let long = length-drop from lits in
-    let is : k ≡ watch_at lits (from + r.0) = same_literal-sound k (watch_at (drop from lits) r.0) r.2
-    ∙ get_or-drop from lits r.0 (positive 0) in
-    ap (λ x. holds trues (opposite x)) is
-    ∙ so_far (from + r.0) (omega arith) (omega (arith, past, small, long))
-    (ap (λ x. same_literal x other) (sym is) ∙ apart)
+    search (arith, index_of, length-drop, same_literal-sound, get_or-drop)
 
 -- behind it and before it
 pub all_others : (trues lits : List Literal) (other : Literal) (from : ℕ) →

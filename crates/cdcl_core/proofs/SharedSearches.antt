@@ -1,5 +1,5 @@
 -- What an analysis needs of a search.
-use Rattle.std.proofs.Common.{List}
+use Rattle.std.proofs.Common.{List, arith}
 use Rattle.dq_lits.specs.Literal.{Literal}
 use Rattle.hint_log.specs.Entries.{ProofLog}
 use Rattle.learning_trail.specs.Searching.{IsSearching as IsAtSearch}
@@ -8,12 +8,4 @@ use Rattle.cdcl_core.specs.Searching.{IsSearching, searched}
 
 pub at_search : (assumptions : List Literal) (s : Searcher) (log : ProofLog) → IsSearching assumptions s log →
     IsAtSearch assumptions (searched s) log
-at_search assumptions s log r = record {
-  fit = r.fit;
-  awake = r.awake;
-  sound = r.sound;
-  guided = r.guided;
-  room = r.room;
-  marks =
-      r.marks;
-}
+at_search assumptions s log r = search arith

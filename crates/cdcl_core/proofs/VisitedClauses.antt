@@ -3,13 +3,13 @@ use Rattle.std.proofs.Common.{◌≡◌, ◌≢◌, ℕ, zero, suc, ◌+◌, ◌
 use Rattle.std.specs.List.{list_any}
 use Rattle.std.proofs.lemmas.Bool.{cases_Bool, cases_eq, cases_lt, false≢true}
 use Rattle.std.proofs.lemmas.List.{length-set, get_or_past, get_or_default, append_assoc, append-nil, take_more}
-use Rattle.std.proofs.lemmas.Option.{slice_get_within, slice_get-get_or}
+use Rattle.std.proofs.lemmas.Option.{slice_get-get_or}
 use Rattle.list_laws.proofs.Members.{no_element}
 use Rattle.dq_lits.specs.Literal.{Literal, positive, opposite, variable_of, same_literal}
 use Rattle.dq_lits.specs.Derivation.{unit, falsified, stuck, holds, status_of}
 use Rattle.dq_lits.proofs.Truth.{same_literal-sound}
-use Rattle.dq_lits.proofs.HeldLiterals.{any_one, holds_here, holds_later}
-use Rattle.dq_lits.proofs.SignedLiterals.{same_literal-refl, opposite-opposite, same_literal-differs}
+use Rattle.dq_lits.proofs.HeldLiterals.{any_one, any_gives, holds_here, holds_later}
+use Rattle.dq_lits.proofs.SignedLiterals.{same_literal-refl, opposite-opposite}
 use Rattle.oracle.specs.Fit.{live_in}
 use Rattle.cdcl_core.specs.declared.propagation.Look.TheVariants.{Kept, Moved, Falsified}
 use Rattle.learning_trail.specs.declared.trails.Step.{Step}
@@ -17,12 +17,11 @@ use Rattle.cdcl_core.specs.declared.watches.Watches.{Watches}
 use Rattle.cdcl_core.specs.declared.watches.OpenList.{OpenList}
 use Rattle.learning_trail.specs.Steps.{Trailed, literals_of, Grown, IsAt}
 use Rattle.learning_trail.specs.Sound.{IsSound}
-use Rattle.learning_trail.specs.Passes.{AreWithin}
 use Rattle.cdcl_core.specs.Chains.{left_to_visit, watch_at, place_of, has, IsLinked, HasList, FitIds, with_open, IsTaken, IsLeft}
-use Rattle.cdcl_core.specs.Watching.{IsWatched, AreWatched, AreSame, AreShort, IsGuarded, AreLevelsGuarded, IsMove, AreMoved, CanPropagate}
-use Rattle.cdcl_core.specs.Visits.{IsVisitable, IsLooked, IsDone, IsVisited, IsListVisited, IsVisiting, AreVisited, IsTrailVisited, IsProcessed, AreOnTrail, IsPuttingBack, IsPassing}
-use Rattle.learning_trail.proofs.ConflictAnalysis.{sound_consistent, contains_cases}
-use Rattle.cdcl_core.proofs.GuardedClauses.{Among, among_grown, among_suffix, any_more, same_stuck, watched_turned, guarded_moved, guarded_turned, levels_moved, levels_turned, levels_grown, short_kept, short_notes_turned, guards_visited, moved_both}
+use Rattle.cdcl_core.specs.Watching.{IsWatched, AreWatched, AreSame, AreShort, Guards, AreLevelsGuarded, IsMove, AreMoved, CanPropagate}
+use Rattle.cdcl_core.specs.Visits.{IsVisitable, IsLooked, IsDone, IsVisited, IsListVisited, IsVisiting, IsPlaceVisited, KeepsShort, IsTrailVisited, IsSideProcessed, IsProcessed, AreOnTrail, IsPuttingBack, IsPassing}
+use Rattle.learning_trail.proofs.ConflictAnalysis.{AreConsistent, sound_consistent, contains_cases}
+use Rattle.cdcl_core.proofs.GuardedClauses.{Among, among_grown, among_suffix, any_more, same_stuck, watched_turned, guards_moved, guards_beside, short_moved, short_turned, levels_moved, levels_turned, levels_grown, short_kept, short_notes_turned, guards_visited, moved_both}
 use Rattle.cdcl_core.proofs.LinkedLists.{place_of-one, chain_counted, has_first, has_later, has_cases, chain_short, chain_range}
 use Rattle.learning_trail.proofs.LargerTrails.{grown_none, grown_one, grown_both, implied_step, literal_within, live_within}
 use Rattle.learning_trail.proofs.StatusLaws.{is_falsified, is_unit, implied_from}
@@ -49,29 +48,11 @@ pub visitable_next : (clauses : List (List Literal)) (old new : Trailed) (was no
     → length new.steps ≤ new.room → AreWatched clauses now.literals.items others.literals.items →
     length now.literals.items ≡ length was.literals.items
     → length now.heads.items ≡ length was.heads.items → IsVisitable clauses new now others
-visitable_next clauses old new was now others v room sound few watched long lists = record {
-  in_range = subst (λ n. AreWithin n clauses) (sym room) v.in_range;
-  sound = sound;
-  few = few;
-  watched = watched;
-  count = long ∙ v.count;
-  other_count = v.other_count;
-  listed = λ i c l at h. let g = v.listed i c l at h in omega (arith, g, lists);
-  other_listed = v.other_listed;
-}
+visitable_next clauses old new was now others v room sound few watched long lists = search arith
 
 pub visitable_turned : (clauses : List (List Literal)) (trail : Trailed) (first second : Watches) →
     IsVisitable clauses trail first second → IsVisitable clauses trail second first
-visitable_turned clauses trail first second v = record {
-  in_range = v.in_range;
-  sound = v.sound;
-  few = v.few;
-  watched = watched_turned clauses first.literals.items second.literals.items v.watched;
-  count = v.other_count;
-  other_count = v.count;
-  listed = v.other_listed;
-  other_listed = v.listed;
-}
+visitable_turned clauses trail first second v = search (arith, watched_turned)
 
 module _ (clauses : List (List Literal)) (old : Trailed) (was others : Watches) (l other : Literal) (id : ℕ)
     (c : List Literal)
@@ -83,8 +64,7 @@ module _ (clauses : List (List Literal)) (old : Trailed) (was others : Watches) 
   found_at = at_id clauses id c is
 
   pair : IsWatched c l other
-  pair = subst (λ k. IsWatched c l k) (sym beside) (subst (λ k. IsWatched c k (watch_at others.literals.items (id - 1)))
-      here (v.watched (id - 1) c found_at))
+  pair = search (arith, found_at)
 
   pub other_within : variable_of l ≤ old.room → variable_of other ≤ old.room
   other_within low = elim (cases_Bool (same_literal l other)) [
@@ -230,16 +210,11 @@ pub record IsFirstLeft (w : Watches) (at : ℕ) (rest : List ℕ) : Type 0 where
 
 pub first_left : (w : Watches) (at : ℕ) (rest : List ℕ) → IsLinked w at rest → at ≢ 0 → IsFirstLeft w at rest
 first_left w at [] k n = absurd (n k.links.rest_chain)
-first_left w at (id ∷ later) k n =
-    let c = k.links.rest_chain in
-    let e = c.0 in
-    let high = c.2 in
-    record { later = later; is = ap (λ x. x ∷ later) (sym e); is_id = omega (arith, e, high) }
+first_left w at (id ∷ later) k n = search arith
 
 pub none_left : (w : Watches) (at : ℕ) (rest : List ℕ) → IsLinked w at rest → at ≡ 0 → rest ≡ []
 none_left w at [] k e = refl
-none_left w at (id ∷ later) k e = let c = k.links.rest_chain in let s = c.0 in let low = c.1 in
-    absurd (omega (arith, s, low, e))
+none_left w at (id ∷ later) k e = search arith
 
 pub linked_end : (w : Watches) (at : ℕ) (rest : List ℕ) → IsLinked w at rest → at ≡ 0 → IsLinked w 0 []
 linked_end w at rest k e = subst (λ xs. IsLinked w 0 xs) (none_left w at rest k e) (subst (λ n. IsLinked w n rest) e k)
@@ -291,10 +266,7 @@ module _ (was now new : Watches) (l : Literal) (at next : ℕ) (p : IsPuttingBac
 -- the visits of a list
 pub off_end : (these others : List Literal) (i : ℕ) → length these ≤ i → length others ≤ i →
     same_literal (watch_at these i) (watch_at others i) ≡ false → ⊥
-off_end these others i a b apart =
-    false≢true (sym apart ∙ ap (λ l. same_literal l (watch_at others i)) (get_or_past these i (positive 0) a) ∙ ap
-    (same_literal (positive 0)) (get_or_past others i (positive 0) b)
-    ∙ same_literal-refl (positive 0))
+off_end these others i a b apart = search (arith, false≢true, get_or_past, same_literal-refl)
 
 pub visiting_first : (clauses : List (List Literal)) (trail : Trailed) (was now others : Watches) (l : Literal) (at : ℕ)
     → IsVisitable clauses trail was others → IsTaken now l at
@@ -366,9 +338,7 @@ module _ (clauses : List (List Literal)) (old now_trail new_trail : Trailed) (wa
   before = subst (λ xs. IsLinked now at xs) f.is p.linked
 
   one_later : (j : ℕ) → has f.later j ≡ true → 1 ≤ at → (1 ≤ j) → (j - 1 ≡ at - 1) → ⊥
-  one_later j h low low' e =
-      let same : j ≡ at = omega (arith, low, low', e) in
-      false≢true (sym before.links.rest_once.0 ∙ ap (has f.later) (sym same) ∙ h)
+  one_later j h low low' e = search (arith, false≢true)
 
   pub visiting_next : (next : ℕ) → found ≡ Some next → IsVisiting clauses old new_trail was new others l next
   visiting_next next is =
@@ -438,124 +408,17 @@ has_open w o k list = omega (arith, list, length-set w.heads.items (place_of o.l
 -- there are as many lists, whichever is visited
 pub kept_lists : (was now : Watches) (o p : OpenList) → length now.heads.items ≡ length was.heads.items
     → length (with_open now p).heads.items ≡ length (with_open was o).heads.items
-kept_lists was now o p lists =
-    let long = length-set now.heads.items (place_of p.literal) p.first in
-    long ∙ lists ∙ sym (length-set was.heads.items (place_of o.literal) o.first)
+kept_lists was now o p lists = search (arith, length-set)
 
 -- a literal that isn't false has another list than one that is
 pub apart_lists : (trues : List Literal) (k l : Literal) → holds trues (opposite k) ≡ false
     → holds trues (opposite l) ≡ true → place_of l ≡ place_of k → ⊥
-apart_lists trues k l not_false is_false e =
-    let same = place_of-one k l (sym e) in
-    false≢true (sym not_false ∙ ap (λ x. holds trues (opposite x)) same ∙ is_false)
+apart_lists trues k l not_false is_false e = search (arith, place_of-one, false≢true)
 
 -- each list but the one that is visited begins as it did
 pub begin_apart : (w : Watches) (o : OpenList) (k : Literal) → FitIds (with_open w o)
     → (place_of o.literal ≡ place_of k → ⊥) → get_or w.heads.items (place_of k) 0 ≤ w.nexts.most
-begin_apart w o k fits n =
-    let begin = fits.begin (place_of k) in
-    let most = fits.nexts in
-    let same = get_or-set_other w.heads.items (place_of o.literal) (place_of k) o.first 0 (λ e. n (sym e)) in
-    omega (arith, begin, most, same)
-
--- both sides
-pub both_conflict : (clauses : List (List Literal)) (old new : Trailed) (was now second : Watches) (l : Literal)
-    (id : ℕ) → IsSound (live_in clauses) old.steps → IsLinked second 0 []
-    → IsListVisited clauses old new was now second l (Some id) →
-    AreVisited clauses old new was now second second l (Some id)
-both_conflict clauses old new was now second l id sound linked p = record {
-  visitable = p.visitable;
-  linked = p.linked;
-  second_linked = linked;
-  room = p.room;
-  grown = p.grown;
-  short = λ short notes. short_kept clauses (literals_of old.steps) was.literals.items now.literals.items
-      second.literals.items short p.moved notes;
-  levels = λ levels.
-      levels_grown clauses now.literals.items second.literals.items old.steps new.steps p.grown
-      (levels_moved clauses (literals_of old.steps) was.literals.items now.literals.items second.literals.items
-      old.steps p.moved (sound_consistent (live_in clauses) old.steps sound) (λ t h. h) levels);
-  ended = p.ended;
-}
-
-pub both_visited : (clauses : List (List Literal)) (old mid new : Trailed) (was now was_second now_second : Watches)
-    (l : Literal) (found : Option ℕ) → IsSound (live_in clauses) old.steps
-    → IsListVisited clauses old mid was now was_second l None →
-    IsListVisited clauses mid new was_second now_second now l found
-    → AreVisited clauses old new was now was_second now_second l found
-both_visited clauses old mid new was now was_second now_second l found sound p q =
-    let T = literals_of old.steps in
-    let U = literals_of mid.steps in
-    let V = literals_of new.steps in
-    let a = was.literals.items in
-    let b = now.literals.items in
-    let c = was_second.literals.items in
-    let d = now_second.literals.items in
-    let consistent = sound_consistent (live_in clauses) old.steps sound in
-    let consistent_mid = sound_consistent (live_in clauses) mid.steps p.visitable.sound in
-    let up = among_grown old.steps mid.steps p.grown in
-    let up_more = among_grown mid.steps new.steps q.grown in
-    record {
-      visitable = visitable_turned clauses new now_second now q.visitable;
-      linked = p.linked;
-      second_linked = q.linked;
-      room = q.room ∙ p.room;
-      grown = grown_both old.steps mid.steps new.steps p.grown q.grown;
-      short = λ short notes.
-          short_notes_turned clauses d b short (short_kept clauses U c d b short q.moved
-          (short_notes_turned clauses b c short (short_kept clauses T a b c short p.moved notes)));
-      levels = λ levels.
-          levels_turned clauses d b new.steps (levels_grown clauses d b mid.steps new.steps q.grown
-          (levels_moved clauses U c d b mid.steps q.moved consistent_mid (λ t h. h)
-          (levels_turned clauses b c mid.steps (levels_grown clauses b c old.steps mid.steps p.grown
-          (levels_moved clauses T a b c old.steps p.moved consistent (λ t h. h) levels)))));
-      ended = by found q.ended (λ processed among g.
-          guarded_turned clauses d b processed V
-          (guarded_moved clauses U U V processed c d b q.moved consistent_mid (λ t h. up t (among t h))
-          (λ t h. h) up_more
-          (guarded_turned clauses b c processed U (guarded_moved clauses T T U processed a b c p.moved consistent among
-          (λ t h. h) up g))))
-          (λ i apart e. by_first i apart e);
-    }
-  where
-    by_first : (i : ℕ) → same_literal (watch_at now.literals.items i) (watch_at now_second.literals.items i) ≡ false →
-        watch_at now.literals.items i ≡ l
-        → holds (literals_of new.steps) (watch_at now_second.literals.items i) ≡ true
-    by_first i apart e = elim (q.moved i) [
-      | inl s ↦
-          let h = p.ended i (ap (same_literal (watch_at now.literals.items i)) (sym s) ∙ apart) e in
-          ap (holds (literals_of new.steps)) s ∙ among_grown mid.steps new.steps q.grown
-          (watch_at was_second.literals.items i) h
-      | inr m ↦
-          let h = p.ended i (same_literal-differs (watch_at was_second.literals.items i)
-          (watch_at now.literals.items i) m.was_apart) e in
-          absurd (sound_consistent (live_in clauses) mid.steps p.visitable.sound
-          (watch_at was_second.literals.items i) h m.was_false)
-    ]
-
-    by : (o : Option ℕ) → MatchOption o ((i : ℕ) → IsDone (literals_of new.steps) now_second.literals.items
-        now.literals.items l i) (λ id. status_of (literals_of new.steps) (live_in clauses id) ≡ falsified)
-        → ((processed : List Literal) → Among processed (literals_of old.steps) →
-        IsGuarded clauses was.literals.items was_second.literals.items processed (literals_of old.steps)
-        → IsGuarded clauses now.literals.items now_second.literals.items processed (literals_of new.steps))
-        → ((i : ℕ) → IsDone (literals_of new.steps) now.literals.items now_second.literals.items l i)
-        → MatchOption o
-        ((processed : List Literal) → ((t : Literal) → holds processed t ≡ true →
-        holds (literals_of old.steps) t ≡ true)
-        → IsGuarded clauses was.literals.items was_second.literals.items processed (literals_of old.steps)
-        → IsGuarded clauses now.literals.items now_second.literals.items (opposite l ∷ processed)
-        (literals_of new.steps))
-        (λ id. status_of (literals_of new.steps) (live_in clauses id) ≡ falsified)
-    by (Some id) e g f = e
-    by None e g f = λ processed among guarded.
-        let h = g processed among guarded in
-        record {
-          first_guards = guards_visited (literals_of new.steps) now.literals.items now_second.literals.items processed l
-              h.first_guards f;
-          second_guards = guards_visited (literals_of new.steps) now_second.literals.items now.literals.items processed
-              l h.second_guards e;
-          short = h.short;
-        }
+begin_apart w o k fits n = search (arith, get_or-set_other)
 
 -- a trail that is visited from its oldest literal on
 drop_front : (xs ys : List Step) → drop (length xs) (xs ++ ys) ≡ ys
@@ -567,76 +430,159 @@ suffix_one xs ys zs ws e long =
     let n : length xs ≡ length zs = omega (arith, ap length e, length-append xs ys, length-append zs ws, long) in
     sym (drop_front xs ys) ∙ ap (drop (length xs)) e ∙ ap (λ k. drop k (zs ++ ws)) n ∙ drop_front zs ws
 
-module _ (clauses : List (List Literal)) (old now_trail new_trail : Trailed)
-    (was now new was_second now_second new_second : Watches) (at : ℕ) (l : Literal) (found : Option ℕ)
-    (p : AreOnTrail clauses old now_trail was now was_second now_second at)
-    (v : AreVisited clauses now_trail new_trail now new now_second new_second l found) where
-  pub trail_conflict : (id : ℕ) → found ≡ Some id → IsTrailVisited clauses old new_trail was new was_second
-      new_second found
-  trail_conflict id is = record {
-    visitable = v.visitable;
-    linked = v.linked;
-    second_linked = v.second_linked;
-    room = v.room ∙ p.room;
-    grown = grown_both old.steps now_trail.steps new_trail.steps p.grown v.grown;
-    short = λ short notes. v.short short (p.short short notes);
-    levels = v.levels p.processed.levels;
-    ended = by found is _ v.ended;
-  }
-    where
-      by : (o : Option ℕ) → o ≡ Some id → (X : Type 0) → MatchOption o X
-          (λ id. status_of (literals_of new_trail.steps) (live_in clauses id) ≡ falsified)
-          → MatchOption o (IsGuarded clauses new.literals.items new_second.literals.items (literals_of new_trail.steps)
-          (literals_of new_trail.steps))
-          (λ id. status_of (literals_of new_trail.steps) (live_in clauses id) ≡ falsified)
-      by None e X h = let n : None ≡ Some id = e in cc
-      by (Some id') e X h = h
+-- the sides change their places
+pub on_trail_turned : (clauses : List (List Literal)) (old new : Trailed) (was now was_second now_second : Watches)
+    (at second_at : ℕ) → AreOnTrail clauses old new was now was_second now_second at second_at
+    → AreOnTrail clauses old new was_second now_second was now second_at at
+on_trail_turned clauses old new was now was_second now_second at second_at p =
+    let a = was.literals.items in
+    let b = now.literals.items in
+    let c = was_second.literals.items in
+    let d = now_second.literals.items in
+    record {
+      visitable = visitable_turned clauses new now now_second p.visitable;
+      linked = p.second_linked;
+      second_linked = p.linked;
+      room = p.room;
+      grown = p.grown;
+      short = λ short notes. short_notes_turned clauses b d short (p.short short
+          (short_notes_turned clauses c a short notes));
+      processed = record {
+        first_side = p.processed.second_side;
+        second_side = p.processed.first_side;
+        short = short_turned clauses b d (literals_of new.steps) p.processed.short;
+        levels = levels_turned clauses b d new.steps p.processed.levels;
+      };
+    }
 
-  pub trail_next : (k : Literal) → found ≡ None → IsAt now_trail.steps at k → l ≡ opposite k →
-      AreOnTrail clauses old new_trail was new was_second new_second (at + 1)
-  trail_next k is here turned =
-      let done = p.processed in
+pub trail_turned : (clauses : List (List Literal)) (old new : Trailed) (was now was_second now_second : Watches)
+    (id : ℕ) → IsTrailVisited clauses old new was now was_second now_second (Some id)
+    → IsTrailVisited clauses old new was_second now_second was now (Some id)
+trail_turned clauses old new was now was_second now_second id p =
+    let a = was.literals.items in
+    let b = now.literals.items in
+    let c = was_second.literals.items in
+    let d = now_second.literals.items in
+    record {
+      visitable = visitable_turned clauses new now now_second p.visitable;
+      linked = p.second_linked;
+      second_linked = p.linked;
+      room = p.room;
+      grown = p.grown;
+      short = λ short notes. short_notes_turned clauses b d short (p.short short
+          (short_notes_turned clauses c a short notes));
+      levels = levels_turned clauses b d new.steps p.levels;
+      ended = p.ended;
+    }
+
+-- a list was visited of the literal at the first side's place
+module _ (clauses : List (List Literal)) (old now_trail new_trail : Trailed)
+    (was now new was_second now_second : Watches) (at second_at : ℕ) (found : Option ℕ)
+    (p : AreOnTrail clauses old now_trail was now was_second now_second at second_at)
+    (v : IsPlaceVisited clauses now_trail new_trail now new now_second at found) where
+  abbrev trues : List Literal
+  trues = literals_of now_trail.steps
+
+  abbrev new_trues : List Literal
+  new_trues = literals_of new_trail.steps
+
+  consistent : AreConsistent trues
+  consistent = sound_consistent (live_in clauses) now_trail.steps p.visitable.sound
+
+  up : Among trues new_trues
+  up = among_grown now_trail.steps new_trail.steps v.visited.grown
+
+  short_next : KeepsShort clauses was new was_second now_second
+  short_next short notes = short_kept clauses trues now.literals.items new.literals.items now_second.literals.items short
+      v.visited.moved (p.short short notes)
+
+  levels_next : AreLevelsGuarded clauses new.literals.items now_second.literals.items new_trail.steps
+  levels_next = levels_grown clauses new.literals.items now_second.literals.items now_trail.steps new_trail.steps
+      v.visited.grown (levels_moved clauses trues now.literals.items new.literals.items now_second.literals.items
+      now_trail.steps v.visited.moved consistent (λ t h. h) p.processed.levels)
+
+  pub trail_conflict : (id : ℕ) → found ≡ Some id
+      → IsTrailVisited clauses old new_trail was new was_second now_second (Some id)
+  trail_conflict id is = record {
+    visitable = v.visited.visitable;
+    linked = v.visited.linked;
+    second_linked = p.second_linked;
+    room = v.visited.room ∙ p.room;
+    grown = grown_both old.steps now_trail.steps new_trail.steps p.grown v.visited.grown;
+    short = short_next;
+    levels = levels_next;
+    ended = subst (λ (o : Option ℕ). MatchOption o
+        ((i : ℕ) → IsDone new_trues new.literals.items now_second.literals.items (opposite v.literal) i)
+        (λ k. status_of new_trues (live_in clauses k) ≡ falsified)) is v.visited.ended;
+  }
+
+  first_next : found ≡ None
+      → IsSideProcessed new.literals.items now_second.literals.items new_trail.steps (at + 1)
+  first_next is =
+      let done = p.processed.first_side in
+      let here = v.here in
       let split : now_trail.steps ≡ (here.newer ++ here.step ∷ []) ++ here.older =
       here.is ∙ sym (append_assoc here.newer (here.step ∷ []) here.older) in
       let older : done.older ≡ here.older = suffix_one done.newer done.older (here.newer ++ here.step ∷ []) here.older
       (sym done.is ∙ split) (done.count ∙ sym here.count) in
-      let ends = subst (λ (o : Option ℕ). MatchOption o
-      ((processed : List Literal) → ((t : Literal) → holds processed t ≡ true →
-      holds (literals_of now_trail.steps) t ≡ true)
-      → IsGuarded clauses now.literals.items now_second.literals.items processed (literals_of now_trail.steps)
-      → IsGuarded clauses new.literals.items new_second.literals.items (opposite l ∷ processed)
-      (literals_of new_trail.steps))
-      (λ id. status_of (literals_of new_trail.steps) (live_in clauses id) ≡ falsified)) is v.ended in
-      let inside : Among (literals_of done.older) (literals_of now_trail.steps) =
+      let visited : (i : ℕ) → IsDone new_trues new.literals.items now_second.literals.items (opposite v.literal) i =
+      subst (λ (o : Option ℕ). MatchOption o
+      ((i : ℕ) → IsDone new_trues new.literals.items now_second.literals.items (opposite v.literal) i)
+      (λ k. status_of new_trues (live_in clauses k) ≡ falsified)) is v.visited.ended in
+      let inside : Among (literals_of done.older) trues =
       λ t h. ap (λ xs. holds (literals_of xs) t) done.is ∙ among_suffix done.newer done.older t h in
-      let guarded = ends (literals_of done.older) inside done.guarded in
-      let first : opposite l ≡ here.step.literal = ap opposite turned ∙ opposite-opposite k ∙ sym here.literal in
+      let guards = guards_visited new_trues new.literals.items now_second.literals.items (literals_of done.older)
+      (opposite v.literal)
+      (guards_moved trues trues new_trues (literals_of done.older) now.literals.items new.literals.items now_second.literals.items
+      v.visited.moved inside up done.guards) visited in
+      let first : opposite (opposite v.literal) ≡ here.step.literal = opposite-opposite v.literal
+      ∙ sym here.literal in
       record {
-        visitable = v.visitable;
-        linked = v.linked;
-        second_linked = v.second_linked;
-        room = v.room ∙ p.room;
-        grown = grown_both old.steps now_trail.steps new_trail.steps p.grown v.grown;
-        short = λ short notes. v.short short (p.short short notes);
-        processed = record {
-          newer = v.grown.more ++ here.newer;
-          older = here.step ∷ here.older;
-          is = v.grown.is ∙ ap (λ xs. v.grown.more ++ xs) here.is ∙ sym
-              (append_assoc v.grown.more here.newer (here.step ∷ here.older));
-          count = omega (arith, here.count);
-          guarded = subst (λ xs. IsGuarded clauses new.literals.items new_second.literals.items xs
-              (literals_of new_trail.steps)) (ap (λ x. x ∷ literals_of done.older) first ∙ ap
-              (λ xs. here.step.literal ∷ literals_of xs) older) guarded;
-          levels = v.levels done.levels;
-        };
+        newer = v.visited.grown.more ++ here.newer;
+        older = here.step ∷ here.older;
+        is = v.visited.grown.is ∙ ap (λ xs. v.visited.grown.more ++ xs) here.is ∙ sym
+            (append_assoc v.visited.grown.more here.newer (here.step ∷ here.older));
+        count = omega (arith, here.count);
+        guards = subst (λ xs. Guards xs new_trues new.literals.items now_second.literals.items)
+            (ap (λ x. x ∷ literals_of done.older) first ∙ ap (λ xs. here.step.literal ∷ literals_of xs) older) guards;
       }
+
+  second_next : IsSideProcessed now_second.literals.items new.literals.items new_trail.steps second_at
+  second_next =
+      let done = p.processed.second_side in
+      record {
+        newer = v.visited.grown.more ++ done.newer;
+        older = done.older;
+        is = v.visited.grown.is ∙ ap (λ xs. v.visited.grown.more ++ xs) done.is ∙ sym
+            (append_assoc v.visited.grown.more done.newer done.older);
+        count = done.count;
+        guards = guards_beside trues trues new_trues (literals_of done.older) now.literals.items new.literals.items
+            now_second.literals.items v.visited.moved consistent (λ t h. h) up done.guards;
+      }
+
+  pub trail_next : found ≡ None
+      → AreOnTrail clauses old new_trail was new was_second now_second (at + 1) second_at
+  trail_next is = record {
+    visitable = v.visited.visitable;
+    linked = v.visited.linked;
+    second_linked = p.second_linked;
+    room = v.visited.room ∙ p.room;
+    grown = grown_both old.steps now_trail.steps new_trail.steps p.grown v.visited.grown;
+    short = short_next;
+    processed = record {
+      first_side = first_next is;
+      second_side = second_next;
+      short = short_moved clauses trues trues new_trues now.literals.items new.literals.items now_second.literals.items v.visited.moved
+          up p.processed.short;
+      levels = levels_next;
+    };
+  }
 
 -- a trail without literals, and the short clauses
 pub visitable_passed : (clauses : List (List Literal)) (old new : Trailed) (first second : Watches) →
     IsVisitable clauses old first second → new.room ≡ old.room → IsSound (live_in clauses) new.steps
     → length new.steps ≤ new.room → IsVisitable clauses new first second
-visitable_passed clauses old new first second v room sound few =
-    visitable_next clauses old new first first second v room sound few v.watched refl refl
+visitable_passed clauses old new first second v room sound few = search (arith, visitable_next)
 
 pub passed_conflict : (clauses : List (List Literal)) (old new : Trailed) (first second : Watches) (id : ℕ) →
     IsVisitable clauses old first second → IsLinked first 0 [] → IsLinked second 0 []
@@ -644,15 +590,16 @@ pub passed_conflict : (clauses : List (List Literal)) (old new : Trailed) (first
     IsSound (live_in clauses) new.steps → Grown old.steps new.steps
     → length new.steps ≤ new.room → status_of (literals_of new.steps) (live_in clauses id) ≡ falsified →
     IsTrailVisited clauses old new first first second second (Some id)
-passed_conflict clauses old new first second id v linked second_linked levels room sound grown few is_false = record {
-  visitable = visitable_passed clauses old new first second v room sound few;
-  linked = linked;
-  second_linked = second_linked;
-  room = room;
-  grown = grown;
-  short = λ short notes. notes;
-  levels = levels_grown clauses first.literals.items second.literals.items old.steps new.steps grown levels;
-  ended = is_false;
+passed_conflict clauses old new first second id v linked second_linked levels room sound grown few is_false =
+    search (arith, visitable_passed, levels_grown)
+
+side_first : (these others : List Literal) (steps : List Step) → IsSideProcessed these others steps 0
+side_first these others steps = record {
+  newer = steps;
+  older = [];
+  is = sym (append-nil steps);
+  count = refl;
+  guards = λ i apart f. absurd (false≢true f);
 }
 
 pub passed_first : (clauses : List (List Literal)) (old new : Trailed) (first second : List Literal) (short : List ℕ) →
@@ -660,33 +607,58 @@ pub passed_first : (clauses : List (List Literal)) (old new : Trailed) (first se
     → AreLevelsGuarded clauses first second old.steps → Grown old.steps new.steps
     → ((id : ℕ) (c : List Literal) → Contains short id → live_in clauses id ≡ Some c → AreSame c →
     list_any (holds (literals_of new.steps)) c ≡ true)
-    → IsProcessed clauses first second new.steps 0
+    → IsProcessed clauses first second new.steps 0 0
 passed_first clauses old new first second short watched notes levels grown passed = record {
-  newer = new.steps;
-  older = [];
-  is = sym (append-nil new.steps);
-  count = refl;
-  guarded = record {
-    first_guards = λ i apart f. absurd (false≢true f);
-    second_guards = λ i apart f. absurd (false≢true f);
-    short = λ i c at same.
-        let one = (watched i c at).one same in
-        passed (suc i) c (notes.whole i (slice_get_within clauses i c at) same) at
-        (λ x y hx hy. one x hx ∙ sym (one y hy));
-  };
+  first_side = side_first first second new.steps;
+  second_side = side_first second first new.steps;
+  short = λ i c at same. elim (notes.whole i c at same) [
+    | inl h ↦ true_now (suc i) c h at
+    | inr n ↦
+        let id = n.1.0 in
+        let range = notes.ids id n.1.1 in
+        let r = some_clause clauses id range.0 range.1 in
+        let g = any_gives (holds (literals_of new.steps)) r.0 (true_now id r.0 n.1.1 r.1) in
+        let is : g.0 ≡ watch_at first i = (watched (id - 1) r.0 (at_id clauses id r.0 r.1)).one (notes.one id n.1.1) g.0
+        g.1 ∙ n.1.2 in
+        said i c at same n.0 (subst (λ x. holds (literals_of new.steps) x ≡ true) is g.2)
+  ];
   levels = levels_grown clauses first second old.steps new.steps grown levels;
 }
+  where
+    true_now : (id : ℕ) (c : List Literal) → Contains short id → live_in clauses id ≡ Some c →
+        list_any (holds (literals_of new.steps)) c ≡ true
+    true_now id c h at =
+        let range = notes.ids id h in
+        let one = (watched (id - 1) c (at_id clauses id c at)).one (notes.one id h) in
+        passed id c h at (λ x y hx hy. one x hx ∙ sym (one y hy))
+
+    said : (i : ℕ) (c : List Literal) → slice_get clauses i ≡ Some c
+        → same_literal (watch_at first i) (watch_at second i) ≡ true → c ≢ []
+        → holds (literals_of new.steps) (watch_at first i) ≡ true → list_any (holds (literals_of new.steps)) c ≡ true
+    said i [] at same n on = absurd (n refl)
+    said i (x ∷ c) at same n on = any_one (holds (literals_of new.steps)) (x ∷ c) x (holds_here x c)
+        (subst (λ l. holds (literals_of new.steps) l ≡ true) (sym ((watched i (x ∷ c) at).one same x (holds_here x c))) on)
 
 pub processed_top : (clauses : List (List Literal)) (first second : List Literal) (steps : List Step) (at : ℕ) →
     length steps ≢ 0 → at ≡ length steps - 1 → CanPropagate clauses first second steps
-    → IsProcessed clauses first second steps at
+    → IsProcessed clauses first second steps at at
 processed_top clauses first second [] at n is ready = absurd (n refl)
 processed_top clauses first second (s ∷ earlier) at n is ready = record {
-  newer = s ∷ [];
-  older = earlier;
-  is = refl;
-  count = omega (arith, is);
-  guarded = ready.top;
+  first_side = record {
+    newer = s ∷ [];
+    older = earlier;
+    is = refl;
+    count = omega (arith, is);
+    guards = ready.top.first_guards;
+  };
+  second_side = record {
+    newer = s ∷ [];
+    older = earlier;
+    is = refl;
+    count = omega (arith, is);
+    guards = ready.top.second_guards;
+  };
+  short = ready.top.short;
   levels = ready.levels;
 }
 
@@ -698,13 +670,7 @@ contains_later y xs x c = let lt = c.1 in (suc c.0, omega (arith, lt), c.2)
 
 pub contains_last : (xs : List ℕ) (y x : ℕ) → Contains (xs ++ y ∷ []) x → Contains xs x ⊎ (x ≡ y)
 contains_last [] y x h = elim (contains_cases y [] x h) [ inl e ↦ inr e | inr n ↦ absurd (no_element x n) ]
-contains_last (z ∷ xs) y x h = elim (contains_cases z (xs ++ y ∷ []) x h) [
-  | inl e ↦ inl (subst (Contains (z ∷ xs)) (sym e) (contains_first z xs))
-  | inr t ↦ elim (contains_last xs y x t) [
-    | inl u ↦ inl (contains_later z xs x u)
-    | inr e ↦ inr e
-  ]
-]
+contains_last (z ∷ xs) y x h = search (arith, contains_cases, contains_first, contains_later, (contains_last xs y x))
 
 -- the first short clauses
 pub passing_unit : (clauses : List (List Literal)) (old now new : Trailed) (short : List ℕ) (i id : ℕ)
@@ -770,8 +736,4 @@ passing_stuck clauses old now short i id c lt at is p status = record {
 
 pub at_holds : (steps : List Step) (at : ℕ) (l k : Literal) → k ≡ opposite l → IsAt steps at l →
     holds (literals_of steps) (opposite k) ≡ true
-at_holds steps at l k turned here =
-    ap (holds (literals_of steps)) (ap opposite turned ∙ opposite-opposite l ∙ sym here.literal)
-    ∙ ap (λ xs. holds (literals_of xs) here.step.literal) here.is
-    ∙ among_suffix here.newer (here.step ∷ here.older) here.step.literal
-    (holds_here here.step.literal (literals_of here.older))
+at_holds steps at l k turned here = search (arith, opposite-opposite, among_suffix, holds_here)

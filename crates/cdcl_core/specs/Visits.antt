@@ -8,12 +8,12 @@ use Rattle.cdcl_core.specs.declared.propagation.Look.{Look}
 use Rattle.cdcl_core.specs.declared.propagation.Look.TheVariants.{Kept, Moved, Falsified}
 use Rattle.learning_trail.specs.declared.trails.Step.{Step}
 use Rattle.cdcl_core.specs.declared.watches.Watches.{Watches}
-use Rattle.learning_trail.specs.Steps.{Trailed, literals_of, Grown}
+use Rattle.learning_trail.specs.Steps.{Trailed, literals_of, Grown, IsAt}
 use Rattle.dq_lits.specs.Truth.{IsFree}
 use Rattle.learning_trail.specs.Sound.{IsSound}
 use Rattle.learning_trail.specs.Passes.{AreWithin}
 use Rattle.cdcl_core.specs.Chains.{watch_at, has, HasList, IsLinked, IsLeft}
-use Rattle.cdcl_core.specs.Watching.{AreWatched, AreMoved, IsGuarded, AreLevelsGuarded, AreShort, AreSame}
+use Rattle.cdcl_core.specs.Watching.{AreWatched, AreMoved, Guards, AreShortTrue, IsGuarded, AreLevelsGuarded, AreShort, AreSame}
 
 -- every literal of every clause has a list
 abbrev pub AreListed : List (List Literal) → Watches → Type 0
@@ -125,25 +125,12 @@ KeepsShort clauses was now was_second now_second =
     (short : List ℕ) → AreShort clauses was.literals.items was_second.literals.items short
     → AreShort clauses now.literals.items now_second.literals.items short
 
--- both lists of a false literal were visited
-pub record AreVisited (clauses : List (List Literal)) (old new : Trailed)
-    (was now was_second now_second : Watches) (l : Literal) (found : Option ℕ) : Type 0 where
-  pub visitable : IsVisitable clauses new now now_second
-  pub linked : IsLinked now 0 []
-  pub second_linked : IsLinked now_second 0 []
-  pub room : new.room ≡ old.room
-  pub grown : Grown old.steps new.steps
-  pub short : KeepsShort clauses was now was_second now_second
-  pub levels : AreLevelsGuarded clauses was.literals.items was_second.literals.items old.steps
-      → AreLevelsGuarded clauses now.literals.items now_second.literals.items new.steps
-  pub ended : MatchOption found
-      ((processed : List Literal)
-      → ((t : Literal) → holds processed t ≡ true → holds (literals_of old.steps) t ≡ true)
-      → IsGuarded clauses was.literals.items was_second.literals.items processed
-      (literals_of old.steps)
-      → IsGuarded clauses now.literals.items now_second.literals.items (opposite l ∷ processed)
-      (literals_of new.steps))
-      (λ id. status_of (literals_of new.steps) (live_in clauses id) ≡ falsified)
+-- what the visits of the clauses come to that are watched at the negation of the literal at a place
+pub record IsPlaceVisited (clauses : List (List Literal)) (old new : Trailed)
+    (was now others : Watches) (at : ℕ) (found : Option ℕ) : Type 0 where
+  pub literal : Literal
+  pub here : IsAt old.steps at literal
+  pub visited : IsListVisited clauses old new was now others (opposite literal) found
 
 -- the trail was visited to its end, or to a conflict
 pub record IsTrailVisited (clauses : List (List Literal)) (old new : Trailed)
@@ -160,19 +147,26 @@ pub record IsTrailVisited (clauses : List (List Literal)) (old new : Trailed)
       (literals_of new.steps))
       (λ id. status_of (literals_of new.steps) (live_in clauses id) ≡ falsified)
 
--- the oldest literals of a trail were processed
-pub record IsProcessed (clauses : List (List Literal)) (first second : List Literal)
-    (steps : List Step) (at : ℕ) : Type 0 where
+-- the oldest literals of a trail were processed on one side
+pub record IsSideProcessed (these others : List Literal) (steps : List Step)
+    (at : ℕ) : Type 0 where
   pub newer : List Step
   pub older : List Step
   pub is : steps ≡ newer ++ older
   pub count : length older ≡ at
-  pub guarded : IsGuarded clauses first second (literals_of older) (literals_of steps)
+  pub guards : Guards (literals_of older) (literals_of steps) these others
+
+-- so many of them on the first side, and so many on the second
+pub record IsProcessed (clauses : List (List Literal)) (first second : List Literal)
+    (steps : List Step) (at second_at : ℕ) : Type 0 where
+  pub first_side : IsSideProcessed first second steps at
+  pub second_side : IsSideProcessed second first steps second_at
+  pub short : AreShortTrue clauses first second (literals_of steps)
   pub levels : AreLevelsGuarded clauses first second steps
 
 -- the visits of a trail go on
 pub record AreOnTrail (clauses : List (List Literal)) (old new : Trailed)
-    (was now was_second now_second : Watches) (at : ℕ) : Type 0 where
+    (was now was_second now_second : Watches) (at second_at : ℕ) : Type 0 where
   pub visitable : IsVisitable clauses new now now_second
   pub linked : IsLinked now 0 []
   pub second_linked : IsLinked now_second 0 []
@@ -180,6 +174,7 @@ pub record AreOnTrail (clauses : List (List Literal)) (old new : Trailed)
   pub grown : Grown old.steps new.steps
   pub short : KeepsShort clauses was now was_second now_second
   pub processed : IsProcessed clauses now.literals.items now_second.literals.items new.steps at
+      second_at
 
 -- clauses are put back
 pub record IsPuttingBack (was now : Watches) (l : Literal) (at : ℕ) : Type 0 where

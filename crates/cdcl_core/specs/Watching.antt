@@ -1,5 +1,5 @@
 -- Clauses that are watched at two of their literals.
-use Rattle.std.specs.Prelude.{◌≡◌, ℕ, suc, ◌-◌, ◌≤◌, ◌<◌, if◌then◌else◌, ◌++◌, true, false, List, [], ◌∷◌, length, Some, slice_get, ◌⊎◌, Contains}
+use Rattle.std.specs.Prelude.{◌≡◌, ◌≢◌, ℕ, suc, ◌-◌, ◌≤◌, if◌then◌else◌, ◌&&◌, not, ◌++◌, Bool, true, false, List, [], ◌∷◌, length, Some, slice_get, ◌⊎◌, Contains}
 use Rattle.std.specs.List.{list_any}
 use Rattle.dq_lits.specs.Literal.{Literal, opposite, same_literal}
 use Rattle.dq_lits.specs.Derivation.{holds}
@@ -21,14 +21,21 @@ AreWatched clauses these others =
 abbrev pub AreSame : List Literal → Type 0
 AreSame c = (x y : Literal) → holds c x ≡ true → holds c y ≡ true → x ≡ y
 
--- the clauses without two literals that differ are noted
+-- the clause isn't empty, and some clause that was noted is watched at the literal
+abbrev pub IsNoted : List Literal → List ℕ → List Literal → Literal → Type 0
+IsNoted first short c l =
+    (c ≢ []) × ((id : ℕ) × Contains short id × (watch_at first (id - 1) ≡ l))
+
+-- the clauses without two literals that differ are noted, but for those of which a noted one says
+-- the same
 pub record AreShort (clauses : List (List Literal)) (first second : List Literal)
     (short : List ℕ) : Type 0 where
   pub ids : (id : ℕ) → Contains short id → (1 ≤ id) × (id ≤ length clauses)
   pub one : (id : ℕ) → Contains short id
       → same_literal (watch_at first (id - 1)) (watch_at second (id - 1)) ≡ true
-  pub whole : (i : ℕ) → i < length clauses
-      → same_literal (watch_at first i) (watch_at second i) ≡ true → Contains short (suc i)
+  pub whole : (i : ℕ) (c : List Literal) → slice_get clauses i ≡ Some c
+      → same_literal (watch_at first i) (watch_at second i) ≡ true
+      → Contains short (suc i) ⊎ IsNoted first short c (watch_at first i)
 
 -- where a watched literal is false by what was processed, the other one is true
 abbrev pub Guards : List Literal → List Literal → List Literal → List Literal → Type 0
@@ -79,6 +86,7 @@ AreMoved trues old new others =
     (i : ℕ) → (watch_at new i ≡ watch_at old i)
     ⊎ IsMove trues (watch_at old i) (watch_at new i) (watch_at others i)
 
--- an id was added where the two literals are one
-abbrev pub NotesShort : List ℕ → List ℕ → Literal → Literal → ℕ → Type 0
-NotesShort old new k l id = new ≡ (if same_literal k l then old ++ id ∷ [] else old)
+-- an id was added where the two literals are one, unless that was noted
+abbrev pub NotesShort : List ℕ → List ℕ → Literal → Literal → Bool → ℕ → Type 0
+NotesShort old new k l noted id =
+    new ≡ (if same_literal k l && not noted then old ++ id ∷ [] else old)

@@ -14,6 +14,7 @@ ghost use Rattle.cdcl_core.specs.Solver.{value_on};
 ghost use Rattle.cdcl_core.specs.Searching.{IsPropagatedButNewest, KeepsPlaces, IsSearching};
 
 use crate::clauses::ClauseStore;
+use crate::delays::is_fault;
 use crate::search::search;
 use crate::searchers::Searcher;
 use crate::waking::wake;
@@ -60,8 +61,13 @@ pub(crate) fn keep_given(
 {
     clauses.add_cursor(clause)?;
     clauses.reserve(clause)?;
+    let is_at_last = is_fault(&origin);
     let id = log.given(origin, clause)?;
-    clauses.push(clause);
+    if is_at_last {
+        clauses.push_last(clause);
+    } else {
+        clauses.push(clause);
+    }
     Ok(id)
 }
 
@@ -95,6 +101,7 @@ pub(crate) fn find(
     s.notes.cover(&s.trail)?;
     s.focus.begin(&s.activities)?;
     s.positions.begin();
+    s.delays.begin(active);
     let assumptions = Assumptions::new(active, assume);
     let found = search_and_keep(s, &assumptions, log);
     s.focus.end();

@@ -13,7 +13,7 @@ ghost use Rattle.cdcl_core.specs.Runs.{BeginAlike};
 ghost use Rattle.learning_trail.specs.Steps.{literals_of, Grown};
 ghost use Rattle.learning_trail.specs.Sound.{IsSound};
 ghost use Rattle.learning_trail.specs.Passes.{AreWithin, IsPropagated};
-ghost use Rattle.cdcl_core.specs.Watching.{IsWatched, CanPropagate, IsGuarded, AreLevelsGuarded, NotesShort};
+ghost use Rattle.cdcl_core.specs.Watching.{IsWatched, CanPropagate, IsGuarded, AreLevelsGuarded, NotesShort, IsNoted};
 
 use crate::arenas::Arena;
 use crate::cursors::Cursors;
@@ -31,7 +31,7 @@ pub(crate) struct ClauseStore {
     // Each clause is watched at two of its literals, where it has two that differ.
     first: Watches,
     second: Watches,
-    // The ids of the other clauses.
+    // The ids of the other clauses, but for those of which one that stands here says the same.
     short: Vec<u64>,
     cursors: Cursors,
     // How many literals one clause more may have; there is no room for a clause where it is 0.
@@ -181,6 +181,16 @@ impl ClauseStore {
         self.push_watched(lits, watched_of(lits));
     }
 
+    /// Adds a clause that there is room for, watched second at its last literal, where the first one
+    /// differs from it.
+    pub(crate) fn push_last(&mut self, lits: &[Lit])
+        requires spare { length lits.now < self.old.spare }
+        requires lists { HasLists self.old lits.now }
+        ensures { self.new.clauses ≡ self.old.clauses ++ lits.now ∷ [] }
+    {
+        self.push_watched(lits, ends_of(lits));
+    }
+
     /// Adds a clause that there is room for, watched at these literals.
     pub(crate) fn push_watched(&mut self, lits: &[Lit], watched: Watched)
         requires spare { length lits.now < self.old.spare }
@@ -195,15 +205,16 @@ impl ClauseStore {
         ensures second_count { length self.old.second ≡ length self.old.clauses }
     {
         self.spare = 0;
+        let noted = is_noted(&self.short, &self.first, lits, watched.first);
         self.arena.push(lits);
         add_watch(&mut self.first, watched.first);
         add_watch(&mut self.second, watched.second);
-        note_short(&mut self.short, watched, self.arena.len());
+        note_short(&mut self.short, watched, noted, self.arena.len());
     }
 
     /// Propagates to the end, or to a falsified clause, whose id it answers. All literals but the
-    /// newest one were processed.
-    pub(crate) fn propagate(&mut self, trail: &mut Trail) -> Option<u64>
+    /// newest one were processed. Clauses that are watched second at a false literal may wait.
+    pub(crate) fn propagate(&mut self, trail: &mut Trail, waits: bool) -> Option<u64>
         requires in_range { AreWithin trail.old.room self.old.clauses }
         requires sound { IsSound (live_in self.old.clauses) trail.old.steps }
         requires few { length trail.old.steps ≤ trail.old.room }
@@ -228,6 +239,7 @@ impl ClauseStore {
             &mut self.second,
             &self.short,
             &mut self.cursors,
+            waits,
         )
     }
 }
@@ -258,6 +270,26 @@ fn watched_of(lits: &[Lit]) -> Watched
     }
 }
 
+// The first literal of a clause and the last one, where they differ.
+fn ends_of(lits: &[Lit]) -> Watched
+    ensures watched { IsWatched lits.now result.first result.second }
+    ensures first { (result.first ≡ positive 1) ⊎ (holds lits.now result.first ≡ true) }
+    ensures second { (result.second ≡ positive 1) ⊎ (holds lits.now result.second ≡ true) }
+{
+    if lits.len() < 2 {
+        return watched_of(lits);
+    }
+    let first = lits[0];
+    let last = lits[lits.len() - 1];
+    if first == last {
+        return watched_of(lits);
+    }
+    Watched {
+        first: Code::of(first),
+        second: Code::of(last),
+    }
+}
+
 // The first literal that differs from one of them; that one, where there is none.
 fn other_of(lits: &[Lit], l: Lit) -> Lit
     requires { holds lits.now l ≡ true }
@@ -272,12 +304,24 @@ fn other_of(lits: &[Lit], l: Lit) -> Lit
     l
 }
 
-// Notes a clause that is watched at one literal alone.
-fn note_short(short: &mut Vec<u64>, watched: Watched, id: u64)
+// Notes a clause that is watched at one literal alone, unless one is noted that says the same: a formula
+// that is refuted again and again gets the same answer, and a search passes it once.
+fn note_short(short: &mut Vec<u64>, watched: Watched, is_noted: bool, id: u64)
     requires { length short.old.items < vec_capacity short.old }
-    ensures { NotesShort short.old.items short.new.items watched.first watched.second id }
+    ensures { NotesShort short.old.items short.new.items watched.first watched.second is_noted id }
 {
-    if watched.first == watched.second && short.push(id).is_err() {
+    if watched.first == watched.second && !is_noted && short.push(id).is_err() {
         unreachable!();
+    }
+}
+
+// Whether the last clause that was noted is watched at a literal, as a clause is that isn't empty.
+fn is_noted(short: &[u64], first: &Watches, lits: &[Lit], l: Code) -> bool
+    requires { (x : ℕ) → Contains short.now x → (1 ≤ x) × (x ≤ length first.now.literals.items) }
+    ensures { result ≡ true → IsNoted first.now.literals.items short.now lits.now l }
+{
+    match short.last() {
+        Some(id) => !lits.is_empty() && first.literals[*id as usize - 1] == l,
+        None => false,
     }
 }

@@ -7,7 +7,7 @@
 //! is true; and it was true at the end of the same level, so that going back over levels leaves all
 //! watches as they are.
 
-ghost use Rattle.std.specs.Prelude.{◌≡◌, ◌≤◌, ◌-◌, [], ℕ, List, true, length, drop, All, MatchOption, Some, Contains};
+ghost use Rattle.std.specs.Prelude.{◌≡◌, ◌≤◌, ◌<◌, ◌-◌, [], ℕ, List, true, length, drop, All, MatchOption, Some, Contains};
 ghost use Rattle.std.specs.List.{list_any};
 ghost use Rattle.dq_lits.specs.Literal.{Literal, variable_of, opposite};
 ghost use Rattle.dq_lits.specs.Derivation.{holds, status_of, falsified};
@@ -17,7 +17,7 @@ ghost use Rattle.learning_trail.specs.Sound.{IsSound};
 ghost use Rattle.learning_trail.specs.Passes.{AreWithin};
 ghost use Rattle.cdcl_core.specs.Chains.{watch_at, IsLinked, HasList, FitIds, with_open, IsLeft};
 ghost use Rattle.cdcl_core.specs.Watching.{AreShort, CanPropagate, AreSame};
-ghost use Rattle.cdcl_core.specs.Visits.{IsOtherAt, IsVisitable, IsLooked, IsOther, AreOthersFalse, IsVisited, IsListVisited, AreVisited, IsTrailVisited, IsProcessed};
+ghost use Rattle.cdcl_core.specs.Visits.{IsOtherAt, IsVisitable, IsLooked, IsOther, AreOthersFalse, IsVisited, IsListVisited, IsPlaceVisited, IsTrailVisited, IsProcessed};
 
 use crate::arenas::Arena;
 use crate::cursors::{Cursors, has_place};
@@ -26,7 +26,8 @@ use dq_lits::TruthValue;
 use learning_trail::{ClauseStatus, Code, Step, Trail, is_false, is_true, status_of};
 
 /// Propagates to the end, or to a falsified clause, whose id it answers. All literals but the
-/// newest one were processed.
+/// newest one were processed. The clauses that are watched second at a false literal may wait for
+/// all those that are watched first at one.
 pub(crate) fn propagate(
     trail: &mut Trail,
     arena: &Arena,
@@ -34,6 +35,7 @@ pub(crate) fn propagate(
     second: &mut Watches,
     short: &[u64],
     cursors: &mut Cursors,
+    waits: bool,
 ) -> Option<u64>
     requires visitable { IsVisitable arena.now.clauses trail.old first.old second.old }
     requires linked { IsLinked first.old 0 [] }
@@ -50,9 +52,9 @@ pub(crate) fn propagate(
         if let Some(id) = pass_short(trail, arena, short) {
             return Some(id);
         }
-        return visit_from(trail, arena, cursors, first, second, 0);
+        return visit_from(trail, arena, cursors, first, second, 0, waits);
     }
-    visit_from(trail, arena, cursors, first, second, done - 1)
+    visit_from(trail, arena, cursors, first, second, done - 1, waits)
 }
 
 // Makes the literals of short clauses true.
@@ -85,7 +87,8 @@ fn pass_short(trail: &mut Trail, arena: &Arena, short: &[u64]) -> Option<u64>
 }
 
 // Visits the clauses that are watched at the negation of a true literal, from a place of the trail
-// on.
+// on. Those that are watched second at one wait until all that are watched first were visited, at
+// whichever literal, or for those at the same literal alone.
 fn visit_from(
     trail: &mut Trail,
     arena: &Arena,
@@ -93,50 +96,58 @@ fn visit_from(
     first: &mut Watches,
     second: &mut Watches,
     from: usize,
+    waits: bool,
 ) -> Option<u64>
     requires visitable { IsVisitable arena.now.clauses trail.old first.old second.old }
     requires linked { IsLinked first.old 0 [] }
     requires second_linked { IsLinked second.old 0 [] }
     requires processed { IsProcessed arena.now.clauses first.old.literals.items
-        second.old.literals.items trail.old.steps from }
+        second.old.literals.items trail.old.steps from from }
     ensures { IsTrailVisited arena.now.clauses trail.old trail.new first.old first.new second.old
         second.new result }
 {
-    for at in from..trail.room() {
-        match trail.literal_at(at) {
-            None => return None,
-            Some(l) => {
-                let code = Code::of(l.not());
-                if let Some(id) = visit_both(trail, arena, cursors, first, second, code) {
-                    return Some(id);
-                }
+    let mut at = from;
+    let mut second_at = from;
+    'visits: loop {
+        let is_more = at < trail.len();
+        if second_at < at && !(waits && is_more) {
+            if let Some(id) = visit_at(trail, arena, cursors, second, first, second_at) {
+                return Some(id);
             }
+            second_at += 1;
+        } else if is_more {
+            if let Some(id) = visit_at(trail, arena, cursors, first, second, at) {
+                return Some(id);
+            }
+            at += 1;
+        } else {
+            return None;
         }
     }
-    None
 }
 
-// Visits the clauses that are watched at a false literal.
-fn visit_both(
+// Visits the clauses that are watched at the negation of the literal at a place of the trail.
+fn visit_at(
     trail: &mut Trail,
     arena: &Arena,
     cursors: &mut Cursors,
-    first: &mut Watches,
-    second: &mut Watches,
-    l: Code,
+    these: &mut Watches,
+    others: &Watches,
+    at: usize,
 ) -> Option<u64>
-    requires visitable { IsVisitable arena.now.clauses trail.old first.old second.old }
-    requires linked { IsLinked first.old 0 [] }
-    requires second_linked { IsLinked second.old 0 [] }
-    requires in_range { variable_of l ≤ trail.old.room }
-    requires false_now { holds (literals_of trail.old.steps) (opposite l) ≡ true }
-    ensures { AreVisited arena.now.clauses trail.old trail.new first.old first.new second.old
-        second.new l result }
+    requires visitable { IsVisitable arena.now.clauses trail.old these.old others.now }
+    requires linked { IsLinked these.old 0 [] }
+    requires within { at < length trail.old.steps }
+    ensures { IsPlaceVisited arena.now.clauses trail.old trail.new these.old these.new others.now at
+        result }
 {
-    if let Some(id) = visit_list(trail, arena, cursors, first, second, l) {
-        return Some(id);
+    match trail.literal_at(at) {
+        None => unreachable!(),
+        Some(l) => {
+            let code = Code::of(l.not());
+            visit_list(trail, arena, cursors, these, others, code)
+        }
     }
-    visit_list(trail, arena, cursors, second, first, l)
 }
 
 // Visits the clauses on a false literal's list.

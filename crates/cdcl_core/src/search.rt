@@ -79,7 +79,7 @@ fn turn(
     ensures stop { OnErr result (HasLearned log.old log.new) }
     ensures limit { result ≡ Err Stop.Limit → IsAtLimit log.new assumptions.now }
 {
-    match s.clauses.propagate(&mut s.trail) {
+    match s.clauses.propagate(&mut s.trail, s.delays.are_on()) {
         Some(id) => {
             *made = 0;
             conflict(s, assumptions, id, log)

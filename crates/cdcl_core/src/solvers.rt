@@ -5,6 +5,7 @@ ghost use Rattle.cdcl_core.specs.Solver.{is_on};
 
 use crate::calls::{find, grow, keep_given};
 use crate::clauses::ClauseStore;
+use crate::delays::Delays;
 use crate::focus::Focus;
 use crate::positions::Positions;
 use crate::resting::Resting;
@@ -54,6 +55,7 @@ impl Cdcl {
                 positions: Positions::new(alloc),
                 focus: Focus::new(alloc),
                 resting: Resting::new(alloc),
+                delays: Delays::new(),
             },
             is_told: false,
         }
@@ -107,6 +109,7 @@ impl Oracle for Cdcl {
         origin: Origin,
         log: &mut Log,
     ) -> Result<u64, Memory> {
+        self.searcher.delays.note(g, &origin);
         let clause = group_clause(self.searcher.alloc, g.selector, lits)?;
         let id = keep_given(&mut self.searcher.clauses, &clause, origin, log)?;
         self.is_told = false;

@@ -1,4 +1,4 @@
-use Rattle.std.proofs.Common.{rules, ◌≡◌, ◌≤◌, ◌-◌, ◌<◌, ℕ, zero, suc, List, [], ◌∷◌, refl, sym, ◌∙◌, ap, arith, length, take, drop, get_or, Some}
+use Rattle.std.proofs.Common.{rules, ◌≡◌, ◌≤◌, ◌<◌, ℕ, zero, suc, List, [], ◌∷◌, refl, sym, arith, length}
 use Rattle.short_numbers.specs.Numbers.{before}
 use Rattle.learning_trail.specs.Pieces.{start_of}
 use Rattle.learning_trail.proofs.ClausePieces.{piece_at, start_before}
@@ -49,10 +49,4 @@ slice_bounds-result-end c =
     omega (arith, to, c.span-start.ensures.end)
 
 pub returns : goal.returns
-returns c =
-    let p = piece_at c.args.literals.now 0 c.args.ends.now.items c.args.at c.requires.ends c.requires.at in
-    let start = c.span-start.ensures.start ∙ begins_before c.args.ends.now.items c.args.at c.requires.at in
-    p.at
-    ∙ ap (λ n. Some (take (get_or c.args.ends.now.items c.args.at 0 - n) (drop n c.args.literals.now))) (sym start)
-    ∙ ap (λ n. Some (take (n - c.span-start.result.0) (drop c.span-start.result.0 c.args.literals.now)))
-    (sym c.span-start.ensures.end)
+returns c = search (arith, piece_at, begins_before)

@@ -1,9 +1,6 @@
-use Rattle.std.proofs.Common.{◌≡◌, ◌∙◌, [], List, ap, sym, subst}
-use Rattle.dq_lits.specs.Literal.{Literal}
-use Rattle.oracle.specs.Calls.{IsRefutedUnder}
+use Rattle.std.proofs.Common.{◌≡◌, ◌∙◌, [], ap, sym, subst, arith}
 use Rattle.oracle.specs.Fit.{live_in}
 use Rattle.learning_trail.specs.Resting.{AreAwake}
-use Rattle.learning_trail.specs.Searching.{AreAssumptions}
 use Rattle.learning_trail.specs.Sound.{IsSound, IsGuided}
 use Rattle.learning_trail.specs.Steps.{Trailed}
 use Rattle.learning_trail.proofs.FoundModels.{assumptions_from}
@@ -13,10 +10,7 @@ use Rattle.cdcl_core.proofs.HeldLogs.{assumed_awake}
 use Rattle.cdcl_core.proofs.calls.find.Goals as goal
 
 pub search_and_keep-found-requires-clause-assumptions : goal.search_and_keep-found-requires-clause-assumptions
-search_and_keep-found-requires-clause-assumptions c =
-    subst (AreAssumptions c.args.log.now) (sym c.new-assumptions.ensures)
-    (assumptions_from c.args.log.now c.args.active.now c.args.assume.now c.requires.made c.requires.plain
-    c.requires.apart)
+search_and_keep-found-requires-clause-assumptions c = search (arith, assumptions_from)
 
 pub search_and_keep-found-requires-clause-searching : goal.search_and_keep-found-requires-clause-searching
 search_and_keep-found-requires-clause-searching c =
@@ -41,7 +35,4 @@ search_and_keep-found-requires-clause-searching c =
     }
 
 pub returns-clause-unsat : goal.returns-clause-unsat
-returns-clause-unsat c = λ id is.
-    subst (λ (xs : List Literal). IsRefutedUnder c.args.log.now c.search_and_keep-found.new.log xs id)
-    c.new-assumptions.ensures
-    (c.search_and_keep-found.ensures.unsat id is)
+returns-clause-unsat c = search arith

@@ -1,4 +1,4 @@
-use Rattle.std.proofs.Common.{inl, inr, Some, None}
+use Rattle.std.proofs.Common.{inl, inr, Some, arith}
 use Rattle.dq_lits.specs.Derivation.{holds}
 use Rattle.dq_lits.proofs.HeldLiterals.{any_one}
 use Rattle.learning_trail.specs.Steps.{literals_of}
@@ -26,12 +26,10 @@ returns-then-is_watch_true c = λ d at.
     ]
 
 pub place_in-place-requires : goal.place_in-place-requires
-place_in-place-requires c = live_within c.args.clauses.now.clauses c.args.trail.now.room c.args.id
-    c.lits-lits.result.now c.lits-lits.ensures c.requires.in_range
+place_in-place-requires c = search (arith, live_within)
 
 pub open_literal_at-requires-clause-in_range : goal.open_literal_at-requires-clause-in_range
-open_literal_at-requires-clause-in_range c = live_within c.args.clauses.now.clauses c.args.trail.now.room c.args.id
-    c.lits-lits.result.now c.lits-lits.ensures c.requires.in_range
+open_literal_at-requires-clause-in_range c = search (arith, live_within)
 
 pub returns-in-Some : goal.returns-in-Some
 returns-in-Some c =
@@ -39,6 +37,4 @@ returns-in-Some c =
     (Some c.in-Some.literal) c.lits-lits.ensures c.in-Some.ensures
 
 pub returns-in-None : goal.returns-in-None
-returns-in-None c =
-    opening_in c.args.clauses.now.clauses (literals_of c.args.trail.now.steps) c.lits-lits.result.now c.args.id None
-    c.lits-lits.ensures c.in-None.ensures
+returns-in-None c = search (arith, opening_in)

@@ -61,22 +61,13 @@ returns-in-Kept-clause-visited c =
     (kept_lists a.these.now back.new.watches o back.new.list back.ensures.lists) back.ensures.linked
 
 pub put_elsewhere-requires-clause-list : goal.put_elsewhere-requires-clause-list
-put_elsewhere-requires-clause-list c =
-    let a = c.args in
-    has_open a.these.now a.list.now c.in-Moved.k (c.requires.visitable.listed (a.id - 1) c.lits.result.now c.in-Moved.k
-    (at_id a.arena.now.clauses a.id c.lits.result.now c.lits.ensures) c.in-Moved.ensures.looked.1.among)
+put_elsewhere-requires-clause-list c = search (arith, has_open, at_id)
 
 pub put_elsewhere-requires-clause-begin : goal.put_elsewhere-requires-clause-begin
-put_elsewhere-requires-clause-begin c =
-    let a = c.args in
-    begin_apart a.these.now a.list.now c.in-Moved.k c.requires.fits
-    (apart_lists (literals_of a.trail.now.steps) c.in-Moved.k a.list.now.literal
-    c.in-Moved.ensures.looked.1.not_false c.requires.false_now)
+put_elsewhere-requires-clause-begin c = search (arith, begin_apart, apart_lists)
 
 pub put_elsewhere-requires-clause-fits : goal.put_elsewhere-requires-clause-fits
-put_elsewhere-requires-clause-fits c =
-    let heads = c.requires.fits.heads in
-    omega (arith, heads, c.requires.is_id, c.requires.nexts)
+put_elsewhere-requires-clause-fits c = search arith
 
 pub returns-in-Moved-clause-visited : goal.returns-in-Moved-clause-visited
 returns-in-Moved-clause-visited c =

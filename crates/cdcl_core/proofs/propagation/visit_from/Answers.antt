@@ -1,23 +1,54 @@
-use Rattle.std.proofs.Common.{refl, ◌∙◌, Some}
-use Rattle.cdcl_core.proofs.VisitedClauses.{trail_conflict, trail_next, at_holds}
+use Rattle.std.proofs.Common.{◌+◌, arith}
+use Rattle.cdcl_core.proofs.VisitedClauses.{visitable_turned, on_trail_turned, trail_turned, trail_conflict, trail_next}
 use Rattle.cdcl_core.proofs.propagation.visit_from.Goals as goal
 
-pub visit_both-requires-clause-false_now : goal.visit_both-requires-clause-false_now
-visit_both-requires-clause-false_now c = at_holds c.loop-at.trail.steps c.loop-at.at c.in-Some.l
-    c.of-code.result (c.of-code.ensures ∙ c.not.ensures) c.in-Some.ensures.at
+pub visit_at-requires-clause-visitable : goal.visit_at-requires-clause-visitable
+visit_at-requires-clause-visitable c =
+    visitable_turned c.args.arena.now.clauses c.visits.trail c.visits.first c.visits.second
+    c.visits.invariant.on_trail.visitable
 
-pub returns-in-Some-visit_both : goal.returns-in-Some-visit_both
-returns-in-Some-visit_both c =
+pub returns-in-Some : goal.returns-in-Some
+returns-in-Some c =
     let a = c.args in
-    let id = c.in-Some-visit_both.id in
-    trail_conflict a.arena.now.clauses a.trail.now c.loop-at.trail c.visit_both.new.trail a.first.now c.loop-at.first
-    c.visit_both.new.first a.second.now c.loop-at.second c.visit_both.new.second
-    c.loop-at.at c.of-code.result (Some id) c.loop-at.invariant c.in-Some-visit_both.ensures id refl
+    let clauses = a.arena.now.clauses in
+    let turned = on_trail_turned clauses a.trail.now c.visits.trail a.first.now c.visits.first a.second.now
+    c.visits.second c.visits.at c.visits.second_at c.visits.invariant.on_trail in
+    trail_turned clauses a.trail.now c.visit_at.new.trail a.second.now c.visit_at.new.these a.first.now c.visits.first
+    c.in-Some.id
+    (trail_conflict clauses a.trail.now c.visits.trail c.visit_at.new.trail a.second.now c.visits.second
+    c.visit_at.new.these a.first.now c.visits.first c.visits.second_at c.visits.at c.visit_at.result turned
+    c.visit_at.ensures c.in-Some.id c.in-Some.is)
 
-pub loop-at-preserved : goal.loop-at-preserved
-loop-at-preserved c =
+pub visits-preserved-then-not-is_more : goal.visits-preserved-then-not-is_more
+visits-preserved-then-not-is_more c =
     let a = c.args in
-    trail_next a.arena.now.clauses a.trail.now c.loop-at.trail c.visit_both.new.trail a.first.now c.loop-at.first
-    c.visit_both.new.first a.second.now c.loop-at.second c.visit_both.new.second
-    c.loop-at.at c.of-code.result c.visit_both.result c.loop-at.invariant c.visit_both.ensures c.in-Some.l c.in_default.is
-    c.in-Some.ensures.at (c.of-code.ensures ∙ c.not.ensures)
+    let clauses = a.arena.now.clauses in
+    let turned = on_trail_turned clauses a.trail.now c.visits.trail a.first.now c.visits.first a.second.now
+    c.visits.second c.visits.at c.visits.second_at c.visits.invariant.on_trail in
+    record {
+      on_trail = on_trail_turned clauses a.trail.now c.visit_at.new.trail a.second.now c.visit_at.new.these a.first.now
+          c.visits.first (c.visits.second_at + 1) c.visits.at
+          (trail_next clauses a.trail.now c.visits.trail c.visit_at.new.trail a.second.now c.visits.second
+          c.visit_at.new.these a.first.now c.visits.first c.visits.second_at c.visits.at c.visit_at.result turned
+          c.visit_at.ensures c.in_default.is);
+      order = omega (arith, c.if-second_at-at.true);
+    }
+
+pub returns-in-Some-visit_at : goal.returns-in-Some-visit_at
+returns-in-Some-visit_at c =
+    let a = c.args in
+    let v = c.visit_at-then-is_more in
+    trail_conflict a.arena.now.clauses a.trail.now c.visits.trail v.new.trail a.first.now c.visits.first v.new.these
+    a.second.now c.visits.second c.visits.at c.visits.second_at v.result c.visits.invariant.on_trail v.ensures
+    c.in-Some-visit_at.id c.in-Some-visit_at.is
+
+pub visits-preserved : goal.visits-preserved
+visits-preserved c =
+    let a = c.args in
+    let v = c.visit_at-then-is_more in
+    record {
+      on_trail = trail_next a.arena.now.clauses a.trail.now c.visits.trail v.new.trail a.first.now c.visits.first
+          v.new.these a.second.now c.visits.second c.visits.at c.visits.second_at v.result c.visits.invariant.on_trail
+          v.ensures c.in_default-visit_at.is;
+      order = omega (arith, c.visits.invariant.order);
+    }

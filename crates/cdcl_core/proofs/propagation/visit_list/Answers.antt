@@ -4,7 +4,7 @@ use Rattle.dq_lits.specs.Literal.{opposite}
 use Rattle.dq_lits.specs.Derivation.{holds}
 use Rattle.learning_trail.specs.Steps.{literals_of}
 use Rattle.cdcl_core.specs.declared.watches.Watches.{Watches}
-use Rattle.cdcl_core.specs.Chains.{has, place_of, HasList, with_open}
+use Rattle.cdcl_core.specs.Chains.{has, place_of, with_open}
 use Rattle.cdcl_core.specs.Visits.{IsVisited, IsListVisited}
 use Rattle.cdcl_core.proofs.GuardedClauses.{among_grown}
 use Rattle.cdcl_core.proofs.LinkedLists.{has_first, open_fits, taken_none}
@@ -20,22 +20,10 @@ returns-then-not-has_list c =
     (taken_none w a.l (c.if-not-has_list.ensures.none refl) c.requires.linked) refl refl) refl
 
 pub visits-init : goal.visits-init
-visits-init c =
-    let a = c.args in
-    let w = a.these.now in
-    record {
-      visiting = visiting_first a.arena.now.clauses a.trail.now w (with_open w (record { literal = a.l; first = 0 }))
-          a.others.now a.l c.first_of-at.result c.requires.visitable c.first_of-at.ensures refl
-          (length-set w.heads.items (place_of a.l) 0);
-      literal = refl;
-      list = c.if-not-has_list.ensures.some refl;
-    }
+visits-init c = search (arith, visiting_first, length-set)
 
 pub close-requires-clause-fits : goal.close-requires-clause-fits
-close-requires-clause-fits c =
-    let p = c.visits.invariant in
-    open_fits c.visits.these c.visits.list (subst (HasList c.visits.these) (sym p.literal) p.list)
-    p.visiting.linked.fits
+close-requires-clause-fits c = search (arith, open_fits)
 
 pub returns-then-at-eq0 : goal.returns-then-at-eq0
 returns-then-at-eq0 c =

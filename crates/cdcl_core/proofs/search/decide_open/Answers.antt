@@ -1,4 +1,4 @@
-use Rattle.std.proofs.Common.{[], refl, inr, sym, subst}
+use Rattle.std.proofs.Common.{[], refl, inr, sym, subst, arith}
 use Rattle.learning_trail.specs.Steps.{literals_of}
 use Rattle.learning_trail.proofs.SearchTurns.{clauses_in_room, opening_stands, trail_off}
 use Rattle.cdcl_core.specs.Searching.{IsSearching}
@@ -6,10 +6,7 @@ use Rattle.cdcl_core.specs.Storage.{Stored}
 use Rattle.cdcl_core.proofs.search.decide_open.Goals as goal
 
 pub open_clause-requires-clause-in_range : goal.open_clause-requires-clause-in_range
-open_clause-requires-clause-in_range c =
-    let s = c.args.s.now in
-    clauses_in_room s.clauses.clauses s.resting.flags.items s.variables s.trail.room c.args.log.now.entries c.requires.searching.fit
-    c.requires.searching.room
+open_clause-requires-clause-in_range c = search (arith, clauses_in_room)
 
 pub decide-requires-clause-searching : goal.decide-requires-clause-searching
 decide-requires-clause-searching c =
@@ -28,6 +25,7 @@ decide-requires-clause-searching c =
       positions = c.«open».new.self;
       focus = s.focus;
       resting = s.resting;
+      delays = s.delays;
     } c.args.log.now in
     subst Q (sym c.set_cursor.ensures) (record {
       fit = r.fit;

@@ -1,24 +1,11 @@
+use Rattle.std.proofs.Common.{arith}
 use Rattle.cdcl_core.proofs.search.go_on.Goals as goal
 
 pub answer_false-requires-clause-answering : goal.answer_false-requires-clause-answering
-answer_false-requires-clause-answering c =
-    let s = c.requires.searching in
-    record {
-      variables = c.args.s.now.variables;
-      resting = c.args.s.now.resting.flags.items;
-      fit = s.fit;
-      awake = s.awake;
-      sound = s.sound;
-      guided = s.guided;
-      room = s.room;
-      marks = s.marks;
-      named = c.requires.assumptions;
-    }
+answer_false-requires-clause-answering c = search arith
 
 pub returns-in_err-answer-in-False-clause-fit : goal.returns-in_err-answer-in-False-clause-fit
-returns-in_err-answer-in-False-clause-fit c = c.answer_false.ensures.fit
-    c.args.s.now.resting.flags.items c.args.s.now.variables c.requires.searching.awake c.requires.searching.fit
+returns-in_err-answer-in-False-clause-fit c = search arith
 
 pub returns-in_ok-answer-in-False-clause-fit : goal.returns-in_ok-answer-in-False-clause-fit
-returns-in_ok-answer-in-False-clause-fit c = c.answer_false.ensures.fit
-    c.args.s.now.resting.flags.items c.args.s.now.variables c.requires.searching.awake c.requires.searching.fit
+returns-in_ok-answer-in-False-clause-fit c = search arith

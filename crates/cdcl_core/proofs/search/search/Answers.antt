@@ -1,5 +1,4 @@
-use Rattle.std.proofs.Common.{◌∙◌, subst, Ok, Err, Option, MatchOption, OnErr, Result}
-use Rattle.learning_trail.specs.Growing.{HasLearned}
+use Rattle.std.proofs.Common.{subst, Option, MatchOption, arith}
 use Rattle.oracle.specs.declared.oracles.Answer.{Answer}
 use Rattle.cdcl_core.specs.Searching.{IsTurn, IsAnswered, searched}
 use Rattle.learning_trail.proofs.SearchTurns.{assumptions_same, learned_both, found_later}
@@ -7,8 +6,7 @@ use Rattle.list_laws.proofs.Results.{on_err}
 use Rattle.cdcl_core.proofs.search.search.Goals as goal
 
 pub turn-requires-clause-assumptions : goal.turn-requires-clause-assumptions
-turn-requires-clause-assumptions c = assumptions_same c.args.log.now c.turns.log c.args.assumptions.now
-    c.turns.invariant.running.learned c.requires.assumptions
+turn-requires-clause-assumptions c = search (arith, assumptions_same)
 
 pub returns-in_err-turn-clause-stop : goal.returns-in_err-turn-clause-stop
 returns-in_err-turn-clause-stop c =
@@ -16,26 +14,7 @@ returns-in_err-turn-clause-stop c =
     c.in_err-turn.ensures.stop)
 
 pub turns-preserved : goal.turns-preserved
-turns-preserved c =
-    let asm = c.args.assumptions.now in
-    let turned : IsTurn asm c.turns.s c.turn.new.s c.turns.log c.turn.new.log =
-    subst (λ (o : Option Answer). MatchOption o (IsTurn asm c.turns.s c.turn.new.s c.turns.log c.turn.new.log)
-    (λ f. IsAnswered asm c.turn.new.s c.turns.log c.turn.new.log f)) c.in-None.is c.in_ok-turn.ensures.ok in
-    let inv = c.turns.invariant.running in
-    record {
-      running = record {
-        searching = turned.searching;
-        ready = turned.ready;
-        few = turned.few;
-        learned = learned_both c.args.log.now c.turns.log c.turn.new.log inv.learned turned.learned;
-        places = record {
-          variables = c.turn.ensures.places.variables ∙ inv.places.variables;
-          room = c.turn.ensures.places.room ∙ inv.places.room;
-          marks = c.turn.ensures.places.marks ∙ inv.places.marks;
-        };
-      };
-      made = c.turn.ensures.made;
-    }
+turns-preserved c = search (arith, learned_both)
 
 pub returns-in-Some-clause-ok : goal.returns-in-Some-clause-ok
 returns-in-Some-clause-ok c =

@@ -1,7 +1,5 @@
-use Rattle.std.proofs.Common.{sym, arith, length, subst, List, ◌+◌, ◌≤◌, All}
+use Rattle.std.proofs.Common.{sym, arith, length}
 use Rattle.std.proofs.lemmas.List.{take_all}
-use Rattle.dq_lits.specs.Literal.{Literal}
-use Rattle.cdcl_core.specs.Chains.{place_of}
 use Rattle.cdcl_core.proofs.LinkedLists.{added_both, listed_more}
 use Rattle.cdcl_core.proofs.watches.add_lists.Goals as goal
 
@@ -16,6 +14,4 @@ loop-l-preserved c = record {
 }
 
 pub returns-clause-lists : goal.returns-clause-lists
-returns-clause-lists c =
-    subst (λ (xs : List Literal). All (λ l. place_of l + 1 ≤ length c.loop-l.heads.items) xs)
-    (take_all c.loop-l.l-index c.args.lits.now c.loop-l-test.false) c.loop-l.invariant.lists
+returns-clause-lists c = search (arith, take_all)

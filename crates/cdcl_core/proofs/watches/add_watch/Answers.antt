@@ -5,22 +5,10 @@ use Rattle.cdcl_core.proofs.LinkedLists.{linked_in, linked_more}
 use Rattle.cdcl_core.proofs.watches.add_watch.Goals as goal
 
 pub push-requires-2-clause-fits : goal.push-requires-2-clause-fits
-push-requires-2-clause-fits c =
-    let begin = c.requires.linked.fits.begin c.place-place.result in
-    let nexts = c.requires.linked.fits.nexts in
-    omega (arith, begin, nexts, c.get-next.ensures)
+push-requires-2-clause-fits c = search arith
 
 pub set-requires-clause-fits : goal.set-requires-clause-fits
-set-requires-clause-fits c =
-    let w = c.args.watches.now in
-    let heads_fit = c.requires.room.heads_fit in
-    omega (
-      arith,
-      heads_fit,
-      c.len.ensures.value,
-      ap (λ (v : Numbers). length v.items) c.push-2.ensures,
-      length-append w.nexts.items (c.get-next.result ∷ []),
-    )
+set-requires-clause-fits c = search (arith, length-append)
 
 pub returns-clause-linked : goal.returns-clause-linked
 returns-clause-linked c =

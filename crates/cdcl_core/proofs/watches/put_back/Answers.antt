@@ -6,9 +6,7 @@ use Rattle.cdcl_core.proofs.LinkedLists.{linked_in, linked_put, open_first}
 use Rattle.cdcl_core.proofs.watches.put_back.Goals as goal
 
 pub replace-next-requires-clause-fits : goal.replace-next-requires-clause-fits
-replace-next-requires-clause-fits c =
-    let nexts = c.requires.fits.nexts in
-    omega (arith, nexts, open_first c.args.watches.now c.args.list.now c.requires.list c.requires.fits)
+replace-next-requires-clause-fits c = search (arith, open_first)
 
 pub returns-clause-linked : goal.returns-clause-linked
 returns-clause-linked c = λ rest k.

@@ -1,4 +1,4 @@
-use Rattle.std.proofs.Common.{◌≡◌, ◌≤◌, ◌∷◌, ◌++◌, [], sym, ◌∙◌, ap, subst, List, length, length-append, arith, ℕ}
+use Rattle.std.proofs.Common.{◌≡◌, ◌∷◌, ◌++◌, [], sym, ◌∙◌, ap, subst, List, length, length-append, arith, ℕ}
 use Rattle.dq_lits.specs.Literal.{Literal}
 use Rattle.learning_trail.specs.Pieces.{AreEnds, pieces}
 use Rattle.short_numbers.specs.Numbers.{Numbers}
@@ -9,18 +9,7 @@ use Rattle.learning_trail.proofs.ClausePieces.{pieces-length, pieces_more, ends_
 use Rattle.cdcl_core.proofs.arenas.Arena.push.Goals as goal
 
 pub push-requires-2-clause-fits : goal.push-requires-2-clause-fits
-push-requires-2-clause-fits c =
-    let s = c.self.inside in
-    let some : 1 ≤ s.spare = omega (arith, c.requires, ap (λ (v : Arranged). v.spare) c.self.view_is) in
-    let fit = (c.self.invariant.spare some).starts_fit in
-    let within = c.next_start-start.ensures.within in
-    omega (
-      arith,
-      fit,
-      within,
-      pieces-length s.literals.items 0 s.ends.items,
-      ap (λ (v : Arranged). length v.clauses) c.self.view_is,
-    )
+push-requires-2-clause-fits c = search (arith, pieces-length)
 
 pub invariant_of-self : goal.invariant_of-self
 invariant_of-self c =
@@ -60,12 +49,4 @@ invariant_of-self c =
     }
 
 pub returns : goal.returns
-returns c =
-    let s = c.self.inside in
-    let all = c.append.new.literals.items in
-    let total : c.len.result ≡ length all = omega (arith, c.len.ensures, c.append.new.literals.ok.0) in
-    let ends : c.push.new.self.items ≡ s.ends.items ++ c.len.result ∷ [] =
-    ap (λ (v : Numbers). v.items) c.push.ensures in
-    ap (pieces all 0) ends ∙ pieces_more s.literals.items c.args.lits.now all s.ends.items c.len.result
-    c.self.invariant.ends c.append.ensures total
-    ∙ ap (λ (v : Arranged). v.clauses ++ c.args.lits.now ∷ []) c.self.view_is
+returns c = search (arith, pieces_more)

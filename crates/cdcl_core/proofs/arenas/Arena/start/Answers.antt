@@ -6,32 +6,10 @@ use Rattle.learning_trail.proofs.ClausePieces.{pieces-length}
 use Rattle.cdcl_core.proofs.arenas.Arena.start.Goals as goal
 
 pub get-requires : goal.get-requires
-get-requires c =
-    let s = c.self.inside in
-    let n = pieces-length s.literals.items 0 s.ends.items in
-    omega (
-      arith,
-      n,
-      c.self.invariant.count,
-      ap (λ (v : Arranged). length v.clauses) c.self.view_is,
-      c.requires.from_one,
-      c.requires.is_id,
-    )
+get-requires c = search (arith, pieces-length)
 
 pub returns-clause-before : goal.returns-clause-before
-returns-clause-before c =
-    let s = c.self.inside in
-    let n = pieces-length s.literals.items 0 s.ends.items in
-    let high : c.args.id ≤ length s.starts.items = omega (
-      arith,
-      n,
-      c.self.invariant.count,
-      ap (λ (v : Arranged). length v.clauses) c.self.view_is,
-      c.requires.is_id,
-    ) in
-    let read : c.get.result ≡ get_or s.starts.items (c.args.id - 1) 0 =
-    c.get.ensures in
-    (start_at _ s.starts.items c.args.id c.get.result c.self.invariant.starts c.requires.from_one high read).0
+returns-clause-before c = search (arith, pieces-length, start_at)
 
 pub returns-clause-same : goal.returns-clause-same
 returns-clause-same c =

@@ -1,5 +1,6 @@
-use Rattle.std.proofs.Common.{◌≡◌, ◌+◌, ◌≤◌, ◌∷◌, ◌++◌, [], length, sym, ap, arith, subst, length-append, All}
+use Rattle.std.proofs.Common.{◌≡◌, ◌+◌, ◌≤◌, ◌∷◌, ◌++◌, [], length, sym, ap, arith, subst, length-append, All, Contains}
 use Rattle.cdcl_core.specs.Chains.{place_of}
+use Rattle.cdcl_core.specs.Watching.{IsNoted}
 use Rattle.cdcl_core.specs.Storage.{Stored, HasLists}
 use Rattle.cdcl_core.proofs.AddedClauses.{watched_more, listed_clause, short_more, list_of}
 use Rattle.cdcl_core.proofs.clauses.ClauseStore.push_watched.Goals as goal
@@ -51,7 +52,16 @@ invariant_of-self c =
       second_listed = rw clauses (listed_clause held lits s.second second inv.second_listed (omega (arith, lists'))
           (list_of (length second.heads.items) lits on_second));
       short = rw (clauses, c.add_watch.ensures.literals, c.add_watch-2.ensures.literals)
-          (short_more held a b s.short.items c.note_short.new.short.items lits k l c.len.result inv.short inv.count
-          inv.second_count (omega (arith, c.len.ensures, ap length clauses, long)) c.note_short.ensures);
+          (short_more held a b s.short.items c.note_short.new.short.items lits k l c.is_noted-noted.result c.len.result inv.short
+          inv.count inv.second_count (omega (arith, c.len.ensures, ap length clauses, long)) (λ e. subst (λ xs. IsNoted a xs lits k)
+          c.deref.ensures.value (c.is_noted-noted.ensures e)) c.note_short.ensures);
       spare = λ h. absurd (omega (arith, h));
     }
+
+pub is_noted-noted-requires : goal.is_noted-noted-requires
+is_noted-noted-requires c = λ x h.
+    let inv = c.self.invariant in
+    let r = inv.short.ids x (subst (λ xs. Contains xs x) c.deref.ensures.value h) in
+    let low = r.0 in
+    let high = r.1 in
+    (low, omega (arith, high, inv.count))
