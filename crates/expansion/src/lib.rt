@@ -9,6 +9,7 @@ pub use tables::{Exp, Table};
 
 mod arbiters;
 mod first_rows;
+mod focus;
 mod instances;
 pub mod laws;
 mod new_rows;

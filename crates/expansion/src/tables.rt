@@ -271,7 +271,7 @@ impl Table {
         ensures limit { IsErrOf result Stop.Limit
             → IsAtLimit log.new (switches self.old more.now) }
     {
-        oracle.focus(&self.newest_first()?)?;
+        oracle.focus(&self.focus()?)?;
         let active = self.with_own(more)?;
         match oracle.solve(&active, &[], log)? {
             Answer::Unsat(id) => Ok(Exp::Refuted(id)),
@@ -305,16 +305,6 @@ impl Table {
     {
         let variables = self.pairs.get(k as usize - 1);
         variables[place_by_order(&self.existentials, &self.order, y)]
-    }
-
-    // The arbiters, those of the newest row first: what an old one has stays more likely, so that
-    // candidates change little.
-    fn newest_first(&self) -> Result<Vec<u64>, Memory> {
-        let mut variables = Vec::new(self.alloc);
-        for place in (0..self.pairs.len()).rev() {
-            variables.extend_from_slice(self.pairs.get(place))?;
-        }
-        Ok(variables)
     }
 
     // The values that a search found, at the pairs.
