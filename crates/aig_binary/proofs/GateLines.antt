@@ -1,5 +1,5 @@
 -- A line that begins within the gates.
-use Rattle.std.proofs.Common.{◌≡◌, ◌≢◌, ℕ, ◌+◌, ◌-◌, ◌<◌, Bool, true, false, inl, inr, List, [], ◌∷◌, ◌++◌, length, drop, Option, None, Some, Result, Ok, Err, refl, sym, ◌∙◌, ap, arith, append-nil}
+use Rattle.std.proofs.Common.{◌≡◌, ◌≢◌, ℕ, ◌+◌, ◌-◌, ◌<◌, Bool, true, false, inl, inr, List, [], ◌∷◌, ◌++◌, length, drop, None, Some, Result, Ok, Err, refl, sym, ◌∙◌, ap, arith, append-nil}
 use Rattle.std.specs.List.{All}
 use Rattle.std.proofs.Math.Seq.{drop-length}
 use Rattle.std.proofs.lemmas.List.{length-drop}
@@ -12,20 +12,6 @@ use Rattle.aig_binary.proofs.LinesTaken.{some_behind}
 
 abbrev NoFeed : ℕ → Type 0
 NoFeed byte = byte ≢ 10
-
--- an LF within the gates
-pub feed_taken : (old new : AigLines) (left : Option ℕ) → TakesBytes old (10 ∷ []) (Ok left) new →
-    TakesFeed old (Ok tt) new
-feed_taken old new None feeds behind = feeds behind
-feed_taken old new (Some left) feeds behind =
-    let below = feeds.0 in
-    let none : left ≡ 0 = omega (arith, below) in
-    feeds.2 behind ∙ ap (λ k. binary_gives new (drop (1 - k) (10 ∷ []) ++ behind)) none
-
-pub feed_stop : (old new : AigLines) (stop : AagStop) → TakesBytes old (10 ∷ []) (Err stop) new →
-    TakesFeed old (Err stop) new
-feed_stop old new (Refused line name) feeds = feeds
-feed_stop old new Memory feeds = tt
 
 module _ (old mid : AigLines) (text : List ℕ) where
   -- the gates go on behind the text's end

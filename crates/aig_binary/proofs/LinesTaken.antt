@@ -7,7 +7,6 @@ use Rattle.dq_text.specs.Line.{TextLine, line_tokens, lines_from, IsFirstLine}
 use Rattle.aig_binary.proofs.CutLines.{first_of_lines}
 use Rattle.aiger_text.specs.Lines.{begins_comment, numbers_of, output_line, symbol_line, symbol_of}
 use Rattle.aiger_text.specs.Scan.{LineFault}
-use Rattle.aiger_text.specs.LineStop.{IsLineOf}
 use Rattle.aiger_text.specs.ReaderState.{IsNetlistOf, IsTableOf}
 use Rattle.aiger_text.specs.Steps.{line_of, StopsAt}
 use Rattle.aiger_text.specs.Symbol.{SymbolTable}
@@ -19,9 +18,9 @@ use Rattle.aiger_text.specs.declared.faults.LineStop.TheVariants.{Fault, Memory 
 use Rattle.aiger_text.specs.declared.files.ReadCircuit.{ReadCircuit}
 use Rattle.aiger_text.specs.declared.headers.Header.{Header}
 use Rattle.aig_binary.specs.Deltas.{and_then}
-use Rattle.aig_binary.specs.FilesByLine.{binary_gives, comment_from, gives_at, BeginsBinary, IsLine, TakesBinary, TakesBytes, TakesText}
+use Rattle.aig_binary.specs.FilesByLine.{binary_gives, comment_from, gives_at, IsLine, TakesBinary, TakesBytes, TakesText}
 use Rattle.aig_binary.specs.MoreGates.{gates_behind, AreTaken}
-use Rattle.aig_binary.specs.Scan.{Ending, behind_gates, behind_header, behind_outputs, binary_header, binary_line, file_with, first_output, no_symbols, on_line, read_outputs, read_symbols}
+use Rattle.aig_binary.specs.Scan.{Ending, behind_gates, behind_outputs, binary_line, file_with, first_output, no_symbols, on_line, read_outputs, read_symbols}
 use Rattle.aig_binary.specs.declared.files_by_line.AigLines.{AigLines}
 use Rattle.aig_binary.specs.declared.files_by_line.Place.TheVariants.{Outputs, Gates, Symbols, Comment}
 use Rattle.aig_binary.proofs.SpelledSymbols.{on_blank, on_mark, on_name}
@@ -114,15 +113,6 @@ module _ (more number : ℕ) (net : Netlist) (text bytes behind : List ℕ) (fir
       ap (λ ls. first_output number net ls (λ made rest. read_outputs more made (number + 1) rest))
       (first_of_lines number bytes text behind first some)
       ∙ ap (λ r. on_line number r (λ made. read_outputs more made (number + 1) behind)) is
-
--- the header's line is refused
-pub header_stops : (first : ℕ) (text : List ℕ) (stop : LineStop) (answer : AagStop) →
-    IsLineOf (binary_header (line_tokens text)) (Err stop) → StopsAt first stop answer →
-    BeginsBinary first text (Err answer)
-header_stops first text (Fault name) answer read is =
-    subst (λ a. BeginsBinary first text (Err a)) (sym is)
-    (λ behind lines. ap (λ r. on_line first r (behind_header first behind)) read)
-header_stops first text NoLine answer read is = subst (λ a. BeginsBinary first text (Err a)) (sym is) tt
 
 -- an output's line
 module _ (old new : AigLines) (text : List ℕ) (place : old.place ≡ Outputs)
@@ -285,16 +275,3 @@ module _ (old new : AigLines) (bytes : List ℕ) (place : old.place ≡ Gates) (
               (λ ending. Ok (file_with g new.circuit ending))) (sym header)
               ∙ ap (λ p. gives_at p new (drop (length bytes - count) bytes ++ behind)) (sym new_place),
         )
-
-pub bytes_stop : (old new : AigLines) (bytes : List ℕ) (stop : LineStop) (answer : AagStop) (made : Netlist)
-    (kept : List ℕ) → old.place ≡ Gates → old.number ≡ binary_line old.reader.header_line old.reader.header →
-    AreTaken old.reader.header old.circuit old.pending.items bytes (Err stop) made kept →
-    StopsAt old.number stop answer → TakesBytes old bytes (Err answer) new
-bytes_stop old new bytes (Fault name) answer made kept place number taken is =
-    subst (λ a. TakesBytes old bytes (Err a) new) (sym is) (λ behind.
-    ap (λ p. gives_at p old (bytes ++ behind)) place
-    ∙ ap (λ r. on_line (binary_line old.reader.header_line old.reader.header) r
-    (behind_gates old.reader.header_line old.reader.header)) (taken behind)
-    ∙ ap (λ n. Err (record { line = n; name = name })) (sym number))
-bytes_stop old new bytes NoLine answer made kept place number taken is =
-    subst (λ a. TakesBytes old bytes (Err a) new) (sym is) tt

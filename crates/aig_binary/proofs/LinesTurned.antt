@@ -48,18 +48,6 @@ module _ (l : AigLines) where
 abbrev gates_give : ℕ → Header → ℕ → ℕ → Netlist → List ℕ → Result ReadCircuit LineFault
 gates_give line h more v net bytes = on_line (binary_line line h) (read_gates more v net bytes) (behind_gates line h)
 
--- no gate was read yet
-pub gates_begin : (line : ℕ) (h : Header) (net : Netlist) (pending bytes : List ℕ) → net.gates ≡ [] → pending ≡ [] →
-    behind_outputs line h (net, bytes)
-    ≡ on_line (binary_line line h) (gates_behind h net (pending ++ bytes)) (behind_gates line h)
-gates_begin line h net pending bytes none empty =
-    let all : h.gates ≡ h.gates - length net.gates = let long = ap length none in omega (arith, long) in
-    let first : h.inputs + 1 ≡ h.inputs + 1 + length net.gates = let long = ap length none in omega (arith, long) in
-    ap (λ k. gates_give line h k (h.inputs + 1) net bytes) all
-    ∙ ap (λ v. gates_give line h (h.gates - length net.gates) v net bytes) first
-    ∙ ap (λ p. gates_give line h (h.gates - length net.gates) (h.inputs + 1 + length net.gates) net (p ++ bytes))
-    (sym empty)
-
 -- there are none
 pub no_gates : (line : ℕ) (h : Header) (net : Netlist) (bytes : List ℕ) → h.gates ≡ 0 →
     behind_outputs line h (net, bytes) ≡ behind_gates line h (net, bytes)

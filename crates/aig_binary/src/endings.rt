@@ -9,7 +9,6 @@ ghost use Rattle.aig_binary.specs.Endings.{IsEndingOf};
 use crate::stops::at_line;
 use aiger_text::{AagStop, CircuitReader, is_comment_mark, take_symbol};
 use dq_text::{Lines, is_blank};
-use std::alloc::Global;
 
 /// A comment, and the number of the line on which it begins.
 #[derive(Clone, Copy)]
@@ -20,7 +19,6 @@ pub struct Comment<'a> {
 
 /// Reads symbols up to the end of the text, or to the line `c`: the comment behind it.
 pub fn read_ending<'a>(
-    alloc: Global,
     reader: &mut CircuitReader,
     lines: &mut Lines<'a>,
 ) -> Result<Option<Comment<'a>>, AagStop>
@@ -42,7 +40,7 @@ pub fn read_ending<'a>(
                 line: lines.number(),
             }));
         }
-        match take_symbol(alloc, reader, line.text) {
+        match take_symbol(reader, line.text) {
             Ok(()) => {}
             Err(stop) => return Err(at_line(line.number, stop)),
         }

@@ -132,7 +132,7 @@ impl AigLines {
         match self.place {
             Place::Outputs => take_output_line(alloc, self, text),
             Place::Gates => take_gate_line(alloc, self, text, ended),
-            Place::Symbols => take_symbol_line(alloc, self, text),
+            Place::Symbols => take_symbol_line(self, text),
             Place::Comment => unreachable!(),
         }
     }
@@ -242,7 +242,7 @@ fn take_gate_line(
             if !begins_line(left, ended) {
                 return Ok(());
             }
-            take_symbol_line(alloc, lines, last_bytes(text, left))
+            take_symbol_line(lines, last_bytes(text, left))
         }
         Ok(None) => {
             if !ended {
@@ -277,7 +277,7 @@ fn take_feed(alloc: Global, lines: &mut AigLines) -> Result<(), AagStop>
 }
 
 // Reads a line behind the gates.
-fn take_symbol_line(alloc: Global, lines: &mut AigLines, text: &[u8]) -> Result<(), AagStop>
+fn take_symbol_line(lines: &mut AigLines, text: &[u8]) -> Result<(), AagStop>
     requires ready { AreAigLines lines.old }
     requires place { lines.old.place ≡ AtSymbols }
     ensures line { TakesText lines.old text.now result lines.new }
@@ -296,7 +296,7 @@ fn take_symbol_line(alloc: Global, lines: &mut AigLines, text: &[u8]) -> Result<
         lines.number = next;
         return Ok(());
     }
-    match take_symbol(alloc, &mut lines.reader, text) {
+    match take_symbol(&mut lines.reader, text) {
         Ok(()) => {
             lines.number = next;
             Ok(())

@@ -108,7 +108,7 @@ fn read_symbols(
         (behind_gates reader.header_line reader.header (circuit, lines.entry.rest)) result }
     ensures bare { IfOk result IsBare }
 {
-    match read_ending(alloc, &mut reader, &mut lines) {
+    match read_ending(&mut reader, &mut lines) {
         Ok(comment) => finished(alloc, reader, circuit, comment),
         Err(stop) => Err(stop),
     }

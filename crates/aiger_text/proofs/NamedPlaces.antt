@@ -1,8 +1,26 @@
 -- Names beside their places.
-use Rattle.std.proofs.Common.{◌≡◌, ℕ, zero, suc, ◌+◌, nat_eq, nat_lt, Bool, true, false, cond, not, ◌||◌, List, [], ◌∷◌, ◌++◌, length, get_or, Option, Some, None, refl, sym, ◌∙◌, ap, arith}
+use Rattle.std.proofs.Common.{◌≡◌, ℕ, zero, suc, ◌+◌, ◌==◌, nat_eq, nat_lt, Bool, true, false, cond, not, ◌||◌, List, [], ◌∷◌, ◌++◌, length, get_or, Option, Some, None, refl, sym, ◌∙◌, ap, ap₂, arith}
 use Rattle.std.specs.List.{zip, list_any, position, position_or_len}
 use Rattle.std.specs.Map.{lookup}
+use Rattle.std.specs.Cmp.{nat_eq_equiv}
 use Rattle.std.proofs.lemmas.Bool.{ltb_from_iff, ltb-true, lt-ltb}
+use Rattle.number_tables.specs.Numbers.{has_number, place_of}
+
+-- a set looks for a place from the other side
+same_first : (place : ℕ) (places : List ℕ) →
+    position_or_len (λ p. p == place) places ≡ position_or_len (nat_eq place) places
+same_first place [] = refl
+same_first place (p ∷ places) =
+    ap₂ (λ b n. cond (not b) (1 + n) 0) (nat_eq_equiv.symm p place) (same_first place places)
+
+pub same_place : (place : ℕ) (places : List ℕ) → place_of places place ≡ position (nat_eq place) places
+same_place place places =
+    ap (λ n. cond (nat_lt n (length places)) (Some n) None) (same_first place places)
+
+pub same_presence : (place : ℕ) (places : List ℕ) → has_number places place ≡ list_any (nat_eq place) places
+same_presence place [] = refl
+same_presence place (p ∷ places) =
+    ap₂ (λ b c. b || c) (nat_eq_equiv.symm p place) (same_presence place places)
 
 -- one place more is looked at
 step : (b : Bool) (name : List ℕ) (names : List (List ℕ)) (rest : Option (List ℕ)) (at count : ℕ) →

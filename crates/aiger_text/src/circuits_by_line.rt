@@ -173,7 +173,7 @@ fn take(
         (λ r. r.header_line ≡ header_line_or (option_map body_of reader.old) number)) }
 {
     match reader {
-        Some(reader) => take_next(alloc, number, reader, in_comment, text),
+        Some(reader) => take_next(number, reader, in_comment, text),
         None => take_header(alloc, number, reader, text),
     }
 }
@@ -205,7 +205,6 @@ fn take_header(
 
 // Reads a line behind the header.
 fn take_next(
-    alloc: Global,
     number: u64,
     reader: &mut CircuitReader,
     in_comment: &mut bool,
@@ -220,7 +219,7 @@ fn take_next(
     if *in_comment {
         return Ok(());
     }
-    match take_behind(alloc, number, reader, text) {
+    match take_behind(number, reader, text) {
         Ok(Taken::Line) => Ok(()),
         Ok(Taken::CommentMark) => {
             *in_comment = true;
@@ -245,18 +244,13 @@ fn begin(alloc: Global, number: u64, text: &[u8]) -> Result<CircuitReader, AagSt
 }
 
 // Reads a line behind the header; at the comment's mark the file is checked.
-fn take_behind(
-    alloc: Global,
-    number: u64,
-    reader: &mut CircuitReader,
-    text: &[u8],
-) -> Result<Taken, AagStop>
+fn take_behind(number: u64, reader: &mut CircuitReader, text: &[u8]) -> Result<Taken, AagStop>
     requires ready { IsCircuitReader reader.old }
     ensures line { TakesBehind (body_of reader.old) number text.now result (body_of reader.new) }
     ensures ready { OnOk result (IsCircuitReader reader.new) }
     ensures at { reader.new.header_line ≡ reader.old.header_line }
 {
-    match take_line(alloc, reader, text) {
+    match take_line(reader, text) {
         Ok(Taken::Line) => Ok(Taken::Line),
         Ok(Taken::CommentMark) => {
             check_file(reader)?;

@@ -4,21 +4,21 @@
 //! As blocks of their own in a map a million inputs' names took more than the search for their
 //! circuit.
 
-ghost use Rattle.std.specs.Prelude.{◌≡◌, ◌++◌, ◌∷◌, ◌<◌, [], None, false, nat_eq, length, slice_index_or, OnOk, OnErr};
+ghost use Rattle.std.specs.Prelude.{◌≡◌, ◌++◌, ◌∷◌, ◌<◌, [], None, false, length, slice_index_or, OnOk, OnErr};
 ghost use Rattle.std.specs.Option.{option_copied};
-ghost use Rattle.indexmap.specs.IndexSet.{contains};
 ghost use Rattle.aiger_text.specs.Symbol.{name_at};
+ghost use Rattle.number_tables.specs.Numbers.{has_number};
 
 use dq_lits::Memory;
 use flat_lists::FlatLists;
-use indexmap::IndexSet;
+use number_tables::NumberSet;
 use std::alloc::Global;
 use std::marker::Model;
 
 /// Names by place, in the order in which they came.
 #[derive(Drop)]
 pub(crate) struct NameTable {
-    places: IndexSet<u64>,
+    places: NumberSet,
     // The name of each place, at its index.
     names: FlatLists<u8>,
 }
@@ -29,9 +29,9 @@ impl Model for NameTable {
 
     ghost Value = { List (ℕ × List ℕ) };
 
-    ghost view = { λ t. zip t.places.keys t.names };
+    ghost view = { λ t. zip t.places t.names };
 
-    ghost invariant = { λ t. length t.places.keys ≡ length t.names };
+    ghost invariant = { λ t. length t.places ≡ length t.names };
 }
 
 impl NameTable {
@@ -40,7 +40,7 @@ impl NameTable {
         ensures { result ≡ [] }
     {
         NameTable {
-            places: IndexSet::new(alloc),
+            places: NumberSet::new(alloc),
             names: FlatLists::new(alloc),
         }
     }
@@ -49,7 +49,7 @@ impl NameTable {
     pub(crate) fn get(&self, place: u64) -> Option<&[u8]>
         ensures { option_copied result ≡ name_at self.now place }
     {
-        let index = self.places.get_index_of(&place)?;
+        let index = self.places.place(place)?;
         Some(self.names.get(index))
     }
 
@@ -65,10 +65,7 @@ impl NameTable {
         requires { index < length self.now }
         ensures { result ≡ (slice_index_or self.now index (0, [])).0 }
     {
-        match self.places.get_index(index) {
-            Some(place) => *place,
-            None => unreachable!(),
-        }
+        place_at(self.places.items(), index)
     }
 
     /// The name at an index.
@@ -90,22 +87,29 @@ impl NameTable {
     }
 }
 
-// The same on what a table keeps.
+fn place_at(places: &[u64], index: usize) -> u64
+    requires { index < length places.now }
+    ensures { result ≡ slice_index_or places.now index 0 }
+{
+    places[index]
+}
+
+// Names a place behind the others, on what a table keeps.
 fn add(
-    places: &mut IndexSet<u64>,
+    places: &mut NumberSet,
     names: &mut FlatLists<u8>,
     place: u64,
     name: &[u8],
 ) -> Result<(), Memory>
-    requires { contains nat_eq places.old place ≡ false }
-    ensures places { OnOk result (places.new.keys ≡ places.old.keys ++ place ∷ []) }
+    requires { has_number places.old place ≡ false }
+    ensures places { OnOk result (places.new ≡ places.old ++ place ∷ []) }
     ensures names { OnOk result (names.new ≡ names.old ++ name.now ∷ []) }
-    ensures err { OnErr result ((places.new.keys ≡ places.old.keys) × (names.new ≡ names.old)) }
+    ensures err { OnErr result ((places.new ≡ places.old) × (names.new ≡ names.old)) }
 {
-    places.reserve(1)?;
     names.push(name)?;
     if places.insert(place).is_err() {
-        unreachable!();
+        names.pop();
+        return Err(Memory);
     }
     Ok(())
 }

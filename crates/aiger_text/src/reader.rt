@@ -70,7 +70,7 @@ fn read_file(alloc: Global, bytes: &[u8], first: u64) -> Result<ReadCircuit, Aag
     };
     let mut reader = start_reader(alloc, line.number, header, numbers);
     while let Some(line) = lines.next() {
-        match take_line(alloc, &mut reader, line.text) {
+        match take_line(&mut reader, line.text) {
             Ok(Taken::Line) => {}
             Ok(Taken::CommentMark) => {
                 return behind_mark(alloc, reader, lines.rest(), lines.number());
@@ -146,7 +146,7 @@ pub fn at_line(line: u64, stop: LineStop) -> AagStop
 }
 
 /// Reads the next line behind the header.
-pub fn take_line(alloc: Global, reader: &mut CircuitReader, line: &[u8]) -> Result<Taken, LineStop>
+pub fn take_line(reader: &mut CircuitReader, line: &[u8]) -> Result<Taken, LineStop>
     requires ready { IsCircuitReader reader.old }
     ensures line { TakesAnyLine (body_of reader.old) line.now result (body_of reader.new) }
     ensures ready { OnOk result (IsCircuitReader reader.new) }
@@ -156,19 +156,14 @@ pub fn take_line(alloc: Global, reader: &mut CircuitReader, line: &[u8]) -> Resu
         NextLine::SymbolLine if is_blank(line) => Ok(Taken::Line),
         NextLine::SymbolLine if is_comment_mark(line) => Ok(Taken::CommentMark),
         part => {
-            take_part(alloc, reader, part, line)?;
+            take_part(reader, part, line)?;
             Ok(Taken::Line)
         }
     }
 }
 
 // Reads a line that is neither blank nor the comment's mark where symbols stand.
-fn take_part(
-    alloc: Global,
-    reader: &mut CircuitReader,
-    part: NextLine,
-    line: &[u8],
-) -> Result<(), LineStop>
+fn take_part(reader: &mut CircuitReader, part: NextLine, line: &[u8]) -> Result<(), LineStop>
     requires ready { IsCircuitReader reader.old }
     requires part { part ≡ next_part (body_of reader.old) }
     requires symbol { IsSymbolIfLast part line.now }
@@ -180,7 +175,7 @@ fn take_part(
         NextLine::InputLine => take_input(reader, line),
         NextLine::OutputLine => take_output(reader, line),
         NextLine::GateLine => take_gate(reader, line),
-        NextLine::SymbolLine => take_symbol(alloc, reader, line),
+        NextLine::SymbolLine => take_symbol(reader, line),
     }
 }
 

@@ -7,12 +7,10 @@ ghost use Rattle.aiger_text.specs.ReaderState.{IsCircuitReader, IsTableOf, SameB
 
 use crate::body::CircuitReader;
 use crate::faults::{AagFault, LineStop};
-use crate::files::Text;
 use crate::symbol_lines::{SymbolEntry, symbol_entry};
-use std::alloc::Global;
 
 /// Reads the line of a symbol.
-pub fn take_symbol(alloc: Global, reader: &mut CircuitReader, line: &[u8]) -> Result<(), LineStop>
+pub fn take_symbol(reader: &mut CircuitReader, line: &[u8]) -> Result<(), LineStop>
     requires { IsCircuitReader reader.old }
     ensures symbols { IsTableOf
         (symbol_line reader.old.header reader.old.symbols (symbol_of line.now)) result
@@ -24,13 +22,13 @@ pub fn take_symbol(alloc: Global, reader: &mut CircuitReader, line: &[u8]) -> Re
         return Err(LineStop::Fault(AagFault::BadSymbol));
     };
     if entry.of_input {
-        name_input(alloc, reader, entry)
+        name_input(reader, entry)
     } else {
-        name_output(alloc, reader, entry)
+        name_output(reader, entry)
     }
 }
 
-fn name_input(alloc: Global, reader: &mut CircuitReader, entry: SymbolEntry) -> Result<(), LineStop>
+fn name_input(reader: &mut CircuitReader, entry: SymbolEntry) -> Result<(), LineStop>
     requires ready { IsCircuitReader reader.old }
     requires of_input { entry.of_input ≡ true }
     ensures symbols { IsTableOf
@@ -42,16 +40,11 @@ fn name_input(alloc: Global, reader: &mut CircuitReader, entry: SymbolEntry) -> 
     if entry.place >= reader.header.inputs || reader.symbols.input(entry.place as usize).is_some() {
         return Err(LineStop::Fault(AagFault::BadSymbol));
     }
-    let name = Text::from_bytes(alloc, entry.name)?;
-    reader.symbols.add_input(entry.place, name)?;
+    reader.symbols.name_input(entry.place, entry.name)?;
     Ok(())
 }
 
-fn name_output(
-    alloc: Global,
-    reader: &mut CircuitReader,
-    entry: SymbolEntry,
-) -> Result<(), LineStop>
+fn name_output(reader: &mut CircuitReader, entry: SymbolEntry) -> Result<(), LineStop>
     requires ready { IsCircuitReader reader.old }
     requires of_output { entry.of_input ≡ false }
     ensures symbols { IsTableOf
@@ -65,7 +58,6 @@ fn name_output(
     {
         return Err(LineStop::Fault(AagFault::BadSymbol));
     }
-    let name = Text::from_bytes(alloc, entry.name)?;
-    reader.symbols.add_output(entry.place, name)?;
+    reader.symbols.name_output(entry.place, entry.name)?;
     Ok(())
 }

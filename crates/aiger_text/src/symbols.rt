@@ -71,7 +71,17 @@ impl Symbols {
             (self.new ≡ record self.old { inputs = self.old.inputs ++ (i, name) ∷ [] }) }
         ensures err { OnErr result (self.new ≡ self.old) }
     {
-        self.inputs.add(i, name.items())?;
+        self.name_input(i, name.items())
+    }
+
+    // The same, by the bytes of the name.
+    pub(crate) fn name_input(&mut self, i: u64, name: &[u8]) -> Result<(), Memory>
+        requires { name_at self.old.inputs i ≡ None }
+        ensures ok { OnOk result
+            (self.new ≡ record self.old { inputs = self.old.inputs ++ (i, name.now) ∷ [] }) }
+        ensures err { OnErr result (self.new ≡ self.old) }
+    {
+        self.inputs.add(i, name)?;
         Ok(())
     }
 
@@ -82,7 +92,17 @@ impl Symbols {
             (self.new ≡ record self.old { outputs = self.old.outputs ++ (i, name) ∷ [] }) }
         ensures err { OnErr result (self.new ≡ self.old) }
     {
-        self.outputs.add(i, name.items())?;
+        self.name_output(i, name.items())
+    }
+
+    // The same, by the bytes of the name.
+    pub(crate) fn name_output(&mut self, i: u64, name: &[u8]) -> Result<(), Memory>
+        requires { name_at self.old.outputs i ≡ None }
+        ensures ok { OnOk result
+            (self.new ≡ record self.old { outputs = self.old.outputs ++ (i, name.now) ∷ [] }) }
+        ensures err { OnErr result (self.new ≡ self.old) }
+    {
+        self.outputs.add(i, name)?;
         Ok(())
     }
 }

@@ -9,7 +9,6 @@ use Rattle.dq_text.specs.Line.{lines_from}
 use Rattle.aiger_text.specs.declared.faults.AagFault.{AagFault}
 use Rattle.aiger_text.specs.declared.faults.AagStop.{AagStop}
 use Rattle.aiger_text.specs.declared.faults.AagStop.TheVariants.{Refused as RefusedFile, Memory as NoFile}
-use Rattle.aiger_text.specs.declared.files.AagFile.{AagFile}
 use Rattle.aig_binary.specs.BareFile.{bare_with}
 use Rattle.aig_binary.specs.BareReading.{listed}
 use Rattle.aig_binary.specs.FilesByLine.{comment_from, file_so_far, gives_at, AreAigLines, BeginsBinary, EndsBinary, GoesOn, IsLine, TakesBinary}
@@ -33,7 +32,7 @@ use Rattle.cert_judge.specs.declared.answers.Judgement.TheVariants.{Refused}
 use Rattle.cert_judge.specs.declared.answers.CertificateFault.TheVariants.{Circuit as CircuitFault, Mapping}
 use Rattle.cert_judge.specs.declared.circuits.Form.TheVariants.{Binary as BinaryForm}
 use Rattle.cert_judge.specs.declared.phases.Phase.{Phase}
-use Rattle.cert_judge.specs.declared.phases.Phase.TheVariants.{Binary, Decided, FreeText}
+use Rattle.cert_judge.specs.declared.phases.Phase.TheVariants.{Binary, Decided}
 use Rattle.cert_judge.specs.declared.proof_starts.ProofStart.TheVariants.{Found}
 use Rattle.cert_judge.proofs.CommentLines.{begins_same}
 use Rattle.cert_judge.proofs.LinesToCome.{first_is, line_of}
@@ -215,14 +214,6 @@ stop_ends f first l (RefusedFile line name) (Ok answer) ends says =
     subst (λ read. IsBinaryJudgement f first read answer) (sym ends) says
 stop_ends f first l NoFile (Ok answer) ends says = absurd ends
 stop_ends f first l stop (Err _) ends says = tt
-
--- where the inputs are as many as the universals
-pub free_text_gives : (f : Dqbf) (first : ℕ) (file : AagFile) →
-    GivesBareText f first file (FreeText BinaryForm first file)
-free_text_gives f first file comment behind number answer free says =
-    subst (λ b. BehindProof (binary_mapping_line first)
-    (cond b (as_proof (circuit_proof_of f file.circuit comment number)) (Ok None))
-    (candidate_of f file.circuit file.symbols) answer) (sym free) says
 
 -- another number of inputs than of universals
 module _ (f : Dqbf) (first : ℕ) (bare : BareCircuit) (differ : ¬ (bare.inputs ≡ length f.universals)) where

@@ -22,6 +22,7 @@ use std::alloc::Global;
 
 /// Takes a line before the header line, or that line: the phase that follows, if it says which kind
 /// of certificate this is.
+#[inline(never)]
 pub(crate) fn take_first_line<'f>(
     alloc: Global,
     f: &'f Formula,

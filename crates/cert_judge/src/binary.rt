@@ -47,6 +47,7 @@ pub(crate) fn start_binary<'f>(
 }
 
 /// Takes a line of a circuit's text: the phase that follows, if another one does.
+#[inline(never)]
 pub(crate) fn take_binary_line<'f>(
     alloc: Global,
     f: &'f Formula,

@@ -49,6 +49,7 @@ pub(crate) fn take_circuit_line<'f>(
 }
 
 // Takes the first line of the comment of a circuit whose lines were read, and lets these go.
+#[inline(never)]
 fn leave_circuit<'f>(
     alloc: Global,
     f: &'f Formula,
@@ -69,6 +70,7 @@ fn leave_circuit<'f>(
 }
 
 /// The same in a box.
+#[inline(never)]
 pub(crate) fn stop_circuit<'f>(alloc: Global, stop: AagStop) -> Result<Box<Phase<'f>>, Memory>
     ensures { IfOk result (λ next. IsStoppedPhase stop next.value) }
 {

@@ -117,6 +117,7 @@ fn turn<'f>(phase: &mut Phase<'f>, next: Option<Box<Phase<'f>>>)
     }
 }
 
+#[inline(never)]
 fn unbox<'f>(phase: &mut Phase<'f>, next: Box<Phase<'f>>)
     ensures { phase.new ≡ next.entry.value }
 {
@@ -157,6 +158,7 @@ pub(crate) fn is_settled(phase: &Phase) -> bool
 }
 
 /// Puts a line behind a text.
+#[inline(never)]
 pub(crate) fn gather(text: &mut Vec<u8>, line: &[u8], ended: bool) -> Result<(), Memory>
     ensures { OnOk result (text.new.items ≡ (text.old.items ++ line.now) ++ line_end ended) }
 {

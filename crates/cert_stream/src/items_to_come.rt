@@ -44,6 +44,7 @@ impl ItemsToCome {
     }
 
     /// Reads the next line of the proof, over these variables.
+    #[inline(always)]
     pub(crate) fn take(&mut self, variables: Variables, line: &[u8]) -> Result<(), LineStop>
         requires some { 0 < self.old.left }
         requires small { self.old.ids.first < 2 ^ 127 }

@@ -41,9 +41,7 @@ header_tokens version rows items = codes "p" ∷ refutation_word version ∷ dec
 
 counts_bytes : (rows items : ℕ) (rest : List ℕ) → (number_text rows ++ (decimal items ++ 10 ∷ [])) ++ rest ≡ spaced
     (decimal rows ∷ []) ++ (decimal items ++ 10 ∷ rest)
-counts_bytes rows items rest =
-    append_assoc (number_text rows) (decimal items ++ 10 ∷ []) rest
-    ∙ ap₂ (λ xs ys. xs ++ ys) (sym (append-nil (number_text rows))) (append_assoc (decimal items) (10 ∷ []) rest)
+counts_bytes rows items rest = search (arith, append_assoc, append-nil)
 
 header_line : (version : Version) (rows items : ℕ) (rest : List ℕ) → rows < 10 ^ 18 → items < 10 ^ 18 →
     tokens_of (header_text version rows items ++ rest) ≡ header_tokens version rows items ∷ tokens_of rest
@@ -101,20 +99,12 @@ bits_numbers (x ∷ us) [] are = refl
 bits_numbers (x ∷ us) (b ∷ row) are = ap₂ (λ n ns. n ∷ ns) (signed_number_is b x are.0) (bits_numbers us row are.1)
 
 pub row_spells : (us : List ℕ) (row : List Bool) → AllByRecursion IsSpellable us → SpellsRow us (row_tokens us row) row
-row_spells us row are = record {
-  rest = map bit_word (zip us row) ++ codes "0" ∷ [];
-  letter = refl;
-  numbers =
-      bits_numbers us row are;
-}
+row_spells us row are = search (arith, bits_numbers)
 
 rows_lines : (us : List ℕ) (rows : List (List Bool)) (rest : List ℕ) → AllByRecursion IsSpellable us →
     tokens_of (flat_map (row_text us) rows ++ rest) ≡ map (row_tokens us) rows ++ tokens_of rest
 rows_lines us [] rest are = refl
-rows_lines us (row ∷ rows) rest are =
-    ap tokens_of (append_assoc (row_text us row) (flat_map (row_text us) rows) rest)
-    ∙ row_line us row (flat_map (row_text us) rows ++ rest) are
-    ∙ ap (λ lines. row_tokens us row ∷ lines) (rows_lines us rows rest are)
+rows_lines us (row ∷ rows) rest are = search (arith, tokens_of, append_assoc, row_line, (rows_lines us rows rest are))
 
 rows_spell : (us : List ℕ) (rows : List (List Bool)) → AllByRecursion IsSpellable us →
     AllZip (SpellsRow us) (map (row_tokens us) rows) rows
@@ -152,10 +142,7 @@ numbers_spaced (n ∷ ns) = ap (λ rest. number_text n ++ rest) (numbers_spaced 
 
 literals_are_words : (ls : List Literal) → HasSmallLiterals ls → AreWords (map literal_word ls)
 literals_are_words [] are = tt
-literals_are_words (l ∷ ls) are = (
-  signed_is_word (not (is_negative l)) (variable_of l) are.0,
-  literals_are_words ls are.1,
-)
+literals_are_words (l ∷ ls) are = search (arith, signed_is_word, (literals_are_words ls are.1))
 
 numbers_are_words : (ns : List ℕ) → AreSmall ns → AreWords (map decimal ns)
 numbers_are_words [] are = tt
@@ -166,21 +153,7 @@ both_words [] ys left right = right
 both_words (x ∷ xs) ys left right = (left.0, both_words xs ys left.1 right)
 
 step_bytes : (s : ProofStep) (rest : List ℕ) → step_text s ++ rest ≡ spaced (step_words s) ++ (48 ∷ 10 ∷ rest)
-step_bytes s rest =
-    let id = number_text s.id in
-    let ls = flat_map literal_text s.literals in
-    let hs = flat_map number_text s.hints in
-    let words = map literal_word s.literals in
-    let zero_and_hints = codes "0" ∷ map decimal s.hints in
-    let end = 48 ∷ 10 ∷ rest in
-    let parted : spaced (words ++ zero_and_hints) ++ end ≡ ls ++ (48 ∷ 32 ∷ (hs ++ end)) =
-    ap (λ bytes. bytes ++ end) (flat_map-append (λ word. word ++ 32 ∷ []) words zero_and_hints)
-    ∙ append_assoc (spaced words) (spaced zero_and_hints) end
-    ∙ ap₂ (λ xs ys. xs ++ (48 ∷ 32 ∷ (ys ++ end))) (sym (literals_spaced s.literals)) (sym (numbers_spaced s.hints)) in
-    append_assoc id (ls ++ (48 ∷ 32 ∷ (hs ++ line_end))) rest
-    ∙ ap (λ bytes. id ++ bytes) (append_assoc ls (48 ∷ 32 ∷ (hs ++ line_end)) rest
-    ∙ ap (λ bytes. ls ++ (48 ∷ 32 ∷ bytes)) (append_assoc hs line_end rest) ∙ sym parted)
-    ∙ sym (append_assoc id (spaced (words ++ zero_and_hints)) end)
+step_bytes s rest = search (arith, spaced, flat_map-append, append_assoc, literals_spaced, numbers_spaced)
 
 pub step_line : (s : ProofStep) (rest : List ℕ) → IsSmallStep s →
     tokens_of (step_text s ++ rest) ≡ step_tokens s ∷ tokens_of rest
@@ -206,12 +179,10 @@ literals_numbers : (ls : List Literal) (hs : List ℕ) → HasSmallLiterals ls �
     map number_of ((map literal_word ls ++ codes "0" ∷ map decimal hs) ++ codes "0" ∷ [])
     ≡ integers (map dimacs_number ls ++ (pos 0 ∷ (map (λ hint. pos hint) hs ++ pos 0 ∷ [])))
 literals_numbers [] hs are small = ap (λ ns. Int (pos 0) ∷ ns) (hints_numbers hs small)
-literals_numbers (l ∷ ls) hs are small = ap₂ (λ n ns. n ∷ ns) (literal_number l are.0)
-    (literals_numbers ls hs are.1 small)
+literals_numbers (l ∷ ls) hs are small = search (arith, literal_number, (literals_numbers ls hs are.1 small))
 
 pub step_spells : (s : ProofStep) → IsSmallStep s → SpellsStep (step_tokens s) s
-step_spells s is = ap₂ (λ n ns. n ∷ ns) (natural_is_read s.id is.id)
-    (literals_numbers s.literals s.hints is.literals is.hints)
+step_spells s is = search (arith, natural_is_read, literals_numbers)
 
 -- a deletion
 abbrev pub deletion_tokens : List ℕ → Tokens
@@ -227,12 +198,7 @@ deletion_line ids rest small =
     ((refl, tt), numbers_are_words ids small) zero_is_word
 
 deletion_spells : (ids : List ℕ) → AreSmall ids → SpellsDeletion (deletion_tokens ids) ids
-deletion_spells ids small = record {
-  rest = map decimal ids ++ codes "0" ∷ [];
-  letter = refl;
-  numbers =
-      hints_numbers ids small;
-}
+deletion_spells ids small = search (arith, hints_numbers)
 
 -- an item
 abbrev pub IsSpelledSmall : ProofItem → Type 0
@@ -254,8 +220,7 @@ item_line (gone ids) rest is = deletion_line ids rest is
 pub items_lines : (items : List ProofItem) → AreSpelledSmall items →
     tokens_of (flat_map item_text items) ≡ map item_tokens items
 items_lines [] are = refl
-items_lines (item ∷ items) are = item_line item (flat_map item_text items) are.0 ∙ ap
-    (λ lines. item_tokens item ∷ lines) (items_lines items are.1)
+items_lines (item ∷ items) are = search (arith, item_line, (items_lines items are.1))
 
 item_spells : (version : Version) (item : ProofItem) → IsSpelledSmall item → (is_deletion item ≡ true → version ≡ Two) →
     SpellsItem version (item_tokens item) item
@@ -265,18 +230,14 @@ item_spells version (gone ids) is two = (two refl, deletion_spells ids is)
 either : (a b : Bool) (version : Version) → (a || b ≡ true → version ≡ Two) →
     (a ≡ true → version ≡ Two) × (b ≡ true → version ≡ Two)
 either true b version h = (h, λ _. h refl)
-either false b version h = ((λ k. absurd (apart k)), h)
-  where
-    apart : false ≡ true → ⊥
-    apart k = cc
+either false b version h = search arith
 
 items_spell_in : (version : Version) (items : List ProofItem) → AreSpelledSmall items →
     (list_any is_deletion items ≡ true → version ≡ Two) →
     AllZip (SpellsItem version) (map item_tokens items) items
 items_spell_in version [] are two = tt
 items_spell_in version (item ∷ items) are two =
-    let both = either (is_deletion item) (list_any is_deletion items) version two in
-    (item_spells version item are.0 both.0, items_spell_in version items are.1 both.1)
+    search (arith, either, item_spells, (items_spell_in version items are.1))
 
 needs_two : (b : Bool) → b ≡ true → cond b Two One ≡ Two
 needs_two true h = refl

@@ -1,8 +1,8 @@
 -- A step's checks, on its numbers.
-use Rattle.std.proofs.Common.{◌≡◌, ℕ, ◌==◌, nat_lt, nat_abs, Bool, not, Ok, Err, if◌then◌else◌, ap₂}
+use Rattle.std.proofs.Common.{◌≡◌, ℕ, ◌==◌, nat_lt, nat_abs, Bool, not, Ok, Err, if◌then◌else◌, arith}
 use Rattle.std.specs.List.{list_all}
 use Rattle.std.proofs.lemmas.List.Folds.{list_all-map}
-use Rattle.dq_lits.specs.Literal.{Literal, dimacs_literal, variable_of}
+use Rattle.dq_lits.specs.Literal.{dimacs_literal, variable_of}
 use Rattle.cert_text.specs.StepLine.{checked_step}
 use Rattle.cert_text.specs.StepNumbers.{numbered_step}
 use Rattle.cert_text.specs.declared.faults.CertFault.TheVariants.{IdOrder, BadVariable, UnknownHint}
@@ -14,8 +14,4 @@ pub checked_numbers : (is_variable : ℕ → Bool) (next : ℕ) (s : StepNumbers
     if not (list_all (λ n. is_variable (variable_of (dimacs_literal n))) s.literals.now) then Err BadVariable else
     if not (list_all (λ n. nat_lt (nat_abs n) s.id) s.hints.now) then Err UnknownHint else
     Ok (numbered_step s))
-checked_numbers is_variable next s =
-    ap₂ (λ a b. if not (s.id == next) then Err IdOrder else if not a then Err BadVariable else if not b then Err
-    UnknownHint else Ok (numbered_step s))
-    (list_all-map (λ (l : Literal). is_variable (variable_of l)) dimacs_literal s.literals.now)
-    (list_all-map (λ (hint : ℕ). nat_lt hint s.id) nat_abs s.hints.now)
+checked_numbers is_variable next s = search (arith, list_all-map, nat_lt, nat_abs)

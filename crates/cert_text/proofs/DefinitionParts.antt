@@ -1,5 +1,5 @@
 -- Reading a part of a text, and what stands behind it.
-use Rattle.std.proofs.Common.{◌≡◌, ℕ, ◌+◌, List, [], ◌∷◌, Result, Ok, Err, sym, ◌∙◌, ap, subst}
+use Rattle.std.proofs.Common.{◌≡◌, ℕ, ◌+◌, List, [], ◌∷◌, Result, Ok, Err, sym, ap, subst, arith}
 use Rattle.dq_lits.specs.Derivation.{ProofStep}
 use Rattle.dq_lits.specs.Literal.{Literal}
 use Rattle.dq_text.specs.Line.{TextLine, LineCursor, line_tokens, lines_from}
@@ -33,10 +33,7 @@ module _ {A : Type 0} (read : List (List ℕ) → Result A CertFault) (left : Li
 
   pub missing : (stop : CertStop) (number : ℕ) → left.rest ≡ [] → left.number ≡ number →
       stop ≡ Refused (refusal number Truncated) → IsStop here stop
-  missing stop number none is made =
-      subst (IsStop here) (sym made)
-      (ap (λ rest. next_line read (lines_from left.number rest) left.number) none
-      ∙ ap (λ n. Err (refusal n Truncated)) is)
+  missing stop number none is made = search arith
 
   module _ (line : TextLine) (behind : LineCursor)
       (first : lines_from left.number left.rest ≡ line ∷ lines_from behind.number behind.rest) where
@@ -46,11 +43,7 @@ module _ {A : Type 0} (read : List (List ℕ) → Result A CertFault) (left : Li
 
     pub at_fault : (name : CertFault) (stop : CertStop) → read (line_tokens line.text) ≡ Err name →
         stop ≡ Refused (refusal line.number name) → IsStop here stop
-    at_fault name stop is made =
-        subst (IsStop here) (sym made)
-        (by_line ∙ ap (λ r. and_read (at_line line.number r)
-        (λ part. Ok (record { part = part; rest = lines_from behind.number behind.rest; number = line.number + 1 })))
-        is)
+    at_fault name stop is made = search (arith, by_line)
 
     pub stopped_at : (taken : LineStop) (stop : CertStop) → IsLineOf (read (line_tokens line.text)) (Err taken) →
         StopsAt line.number taken stop → IsStop here stop
@@ -59,11 +52,7 @@ module _ {A : Type 0} (read : List (List ℕ) → Result A CertFault) (left : Li
 
     pub taken : (part : A) → read (line_tokens line.text) ≡ Ok part → behind.number ≡ line.number + 1 →
         here ≡ Ok (part_up_to part behind)
-    taken part is next =
-        by_line
-        ∙ ap (λ r. and_read (at_line line.number r)
-        (λ p. Ok (record { part = p; rest = lines_from behind.number behind.rest; number = line.number + 1 }))) is
-        ∙ ap (λ n. Ok (record { part = part; rest = lines_from behind.number behind.rest; number = n })) (sym next)
+    taken part is next = search (arith, by_line)
 
 -- a step's stop is its line's
 pub step_stop : (line : Result ProofStep CertFault) (stop : LineStop) (literals : List Literal) (hints : List ℕ) →

@@ -1,5 +1,5 @@
 -- Tokens that are numbers, as a line's reader takes them and as the grammar spells them.
-use Rattle.std.proofs.Common.{◌≡◌, ℕ, ℤ, Bool, true, false, cond, List, [], ◌∷◌, map, Result, Ok, Err, refl, ◌∙◌, ap}
+use Rattle.std.proofs.Common.{◌≡◌, ℕ, ℤ, Bool, true, false, cond, List, [], ◌∷◌, map, Result, Ok, Err, refl, ◌∙◌, ap, arith}
 use Rattle.std.specs.List.{filter_map, list_any}
 use Rattle.std.proofs.lemmas.Bool.{cond-false}
 use Rattle.dq_text.specs.Number.{number_of}
@@ -8,7 +8,6 @@ use Rattle.dq_text.specs.declared.numbers.Number.TheVariants.{Int, NotANumber, T
 use Rattle.cert_text.specs.Grammar.{integers}
 use Rattle.cert_text.specs.Numbers.{is_no_number, is_too_big, integer, integers_of, line_integers}
 use Rattle.cert_text.specs.declared.faults.CertFault.{CertFault}
-use Rattle.cert_text.specs.declared.faults.CertFault.TheVariants.{BadLine, TooBig}
 
 all_numbers : (ns : List ℤ) → list_any is_no_number (integers ns) ≡ false
 all_numbers [] = refl
@@ -23,12 +22,7 @@ all_kept [] = refl
 all_kept (n ∷ ns) = ap (λ rest. n ∷ rest) (all_kept ns)
 
 integers_kept : (ns : List ℤ) → integers_of (integers ns) ≡ Ok ns
-integers_kept ns =
-    let taken : Result (List ℤ) CertFault = Ok (filter_map integer (integers ns)) in
-    cond-false (list_any is_no_number (integers ns)) (Err BadLine)
-    (cond (list_any is_too_big (integers ns)) (Err TooBig) taken) (all_numbers ns)
-    ∙ cond-false (list_any is_too_big (integers ns)) (Err TooBig) taken (none_too_big ns)
-    ∙ ap Ok (all_kept ns)
+integers_kept ns = search (arith, cond-false, all_numbers, none_too_big, all_kept)
 
 pub integers_taken : (tokens : List (List ℕ)) (ns : List ℤ) → map number_of tokens ≡ integers ns →
     line_integers tokens ≡ Ok ns
@@ -50,10 +44,4 @@ are_integers (Int n ∷ xs) numbers small = ap (λ rest. Int n ∷ rest) (are_in
 
 pub integers_spelled : (tokens : List (List ℕ)) (ns : List ℤ) → line_integers tokens ≡ Ok ns →
     map number_of tokens ≡ integers ns
-integers_spelled tokens ns taken =
-    let xs = map number_of tokens in
-    let kept : Result (List ℤ) CertFault = Ok (filter_map integer xs) in
-    let first = passed (list_any is_no_number xs) BadLine (cond (list_any is_too_big xs) (Err TooBig) kept) ns taken in
-    let second = passed (list_any is_too_big xs) TooBig kept ns first.1 in
-    let is : filter_map integer xs ≡ ns = cc in
-    are_integers xs first.0 second.0 ∙ ap integers is
+integers_spelled tokens ns taken = search (arith, passed, are_integers)

@@ -1,5 +1,5 @@
 -- Items that are kept as steps.
-use Rattle.std.proofs.Common.{◌≡◌, ℕ, suc, ◌+◌, ◌≤◌, ◌||◌, cond, List, [], ◌∷◌, ◌++◌, map, drop, Some, refl, sym, ◌∙◌, ap, ap₂, arith, append_assoc}
+use Rattle.std.proofs.Common.{◌≡◌, ℕ, ◌+◌, ◌≤◌, ◌||◌, cond, List, [], ◌∷◌, ◌++◌, map, drop, Some, refl, ap, ap₂, arith, append_assoc}
 use Rattle.std.specs.List.{AllByRecursion, flat_map, list_any, slice_get}
 use Rattle.std.proofs.lemmas.Bool.{ne_eqb}
 use Rattle.list_laws.proofs.Elements.{drop-at}
@@ -21,23 +21,14 @@ lines_kept (step ∷ steps) some = ap₂ (λ item items. item ∷ items) (line_k
 pub one_written : {X : Type 0} (written_as : X → List ℕ) (items : List X) (k : ℕ) (item : X)
     (text more start : List ℕ) → slice_get items k ≡ Some item → more ≡ text ++ written_as item →
     text ++ flat_map written_as (drop k items) ≡ start → more ++ flat_map written_as (drop (k + 1) items) ≡ start
-one_written written_as items k item text more start is written so_far =
-    let next : k + 1 ≡ suc k = omega arith in
-    ap₂ (λ a n. a ++ flat_map written_as (drop n items)) written next
-    ∙ append_assoc text (written_as item) (flat_map written_as (drop (suc k) items))
-    ∙ ap (λ rest. text ++ flat_map written_as rest) (sym (drop-at items k item is))
-    ∙ so_far
+one_written written_as items k item text more start is written so_far = search (arith, append_assoc, drop-at)
 
 pub item_written : (items : List ProofItem) (k : ℕ) (item : ProofItem) (text more start : List ℕ) →
     slice_get items k ≡ Some item → more ≡ text ++ item_text item →
     text ++ flat_map item_text (drop k items) ≡ start → more ++ flat_map item_text (drop (k + 1) items) ≡ start
-item_written items k item text more start is written so_far =
-    one_written item_text items k item text more start is written so_far
+item_written items k item text more start is written so_far = search (arith, one_written)
 
 -- one item more is looked at
 pub deletion_at : (items : List ProofItem) (k : ℕ) (item : ProofItem) → slice_get items k ≡ Some item →
     list_any is_deletion (drop k items) ≡ is_deletion item || list_any is_deletion (drop (k + 1) items)
-deletion_at items k item is =
-    let next : suc k ≡ k + 1 = omega arith in
-    ap (list_any is_deletion) (drop-at items k item is) ∙ ap (λ n. is_deletion item || list_any is_deletion
-    (drop n items)) next
+deletion_at items k item is = search (arith, drop-at)

@@ -1,5 +1,5 @@
 -- Steps that are kept apart.
-use Rattle.std.proofs.Common.{◌≡◌, ℕ, zero, suc, ◌<◌, List, [], ◌∷◌, ◌++◌, length, get_or, Some, refl, sym, ◌∙◌, ap, ap₂, arith}
+use Rattle.std.proofs.Common.{◌≡◌, ℕ, zero, suc, ◌<◌, List, [], ◌∷◌, ◌++◌, length, get_or, Some, refl, ap, arith}
 use Rattle.std.specs.List.{slice_get}
 use Rattle.dq_lits.specs.Derivation.{ProofStep}
 use Rattle.dq_lits.specs.Literal.{Literal}
@@ -26,20 +26,14 @@ steps_from-push [] [] (x ∷ hs) id l h many = absurd (omega (arith, many.hinted
 steps_from-push [] (x ∷ ls) hs id l h many = absurd (omega (arith, many.clauses))
 steps_from-push (i ∷ ids) [] hs id l h many = absurd (omega (arith, many.clauses))
 steps_from-push (i ∷ ids) (x ∷ ls) [] id l h many = absurd (omega (arith, many.hinted))
-steps_from-push (i ∷ ids) (x ∷ ls) (y ∷ hs) id l h many =
-    ap (λ steps. record { id = i; literals = x; hints = y } ∷ steps)
-    (steps_from-push ids ls hs id l h (rest i ids x ls y hs many))
+steps_from-push (i ∷ ids) (x ∷ ls) (y ∷ hs) id l h many = search (arith, rest, (steps_from-push ids ls hs id l h))
 
 pub pushed : (ids more : List ℕ) (ls lines : List (List Literal)) (hs hints : List (List ℕ)) (steps : List ProofStep)
     (id : ℕ) (l : List Literal) (h : List ℕ) →
     AreAsMany ids ls hs → steps_from ids ls hs ≡ steps → more ≡ ids ++ id ∷ [] → lines ≡ ls ++ l ∷ [] →
     hints ≡ hs ++ h ∷ [] →
     steps_from more lines hints ≡ steps ++ record { id = id; literals = l; hints = h } ∷ []
-pushed ids more ls lines hs hints steps id l h many is ids_are lines_are hints_are =
-    ap (λ a. steps_from a lines hints) ids_are
-    ∙ ap₂ (λ a b. steps_from (ids ++ id ∷ []) a b) lines_are hints_are
-    ∙ steps_from-push ids ls hs id l h many
-    ∙ ap (λ all. all ++ record { id = id; literals = l; hints = h } ∷ []) is
+pushed ids more ls lines hs hints steps id l h many is ids_are lines_are hints_are = search (arith, steps_from-push)
 
 pub step_at : (ids : List ℕ) (ls : List (List Literal)) (hs : List (List ℕ)) (k d : ℕ) → AreAsMany ids ls hs →
     k < length ids →
@@ -53,8 +47,7 @@ step_at [] ls hs k d many below = absurd (omega (arith, below))
 step_at (i ∷ ids) [] hs k d many below = absurd (omega (arith, many.clauses))
 step_at (i ∷ ids) (x ∷ ls) [] k d many below = absurd (omega (arith, many.hinted))
 step_at (i ∷ ids) (x ∷ ls) (y ∷ hs) zero d many below = refl
-step_at (i ∷ ids) (x ∷ ls) (y ∷ hs) (suc k) d many below = step_at ids ls hs k d (rest i ids x ls y hs many)
-    (omega (arith, below))
+step_at (i ∷ ids) (x ∷ ls) (y ∷ hs) (suc k) d many below = search (arith, rest, (step_at ids ls hs k d))
 
 -- the line that was read
 pub step_got : (ids : List ℕ) (ls : List (List Literal)) (hs : List (List ℕ)) (k : ℕ) (steps : List ProofStep) (id : ℕ)
@@ -62,7 +55,4 @@ pub step_got : (ids : List ℕ) (ls : List (List Literal)) (hs : List (List ℕ)
     AreAsMany ids ls hs → k < length ids → steps_from ids ls hs ≡ steps → id ≡ get_or ids k id → l ≡ get_or ls k [] →
     h ≡ get_or hs k [] →
     slice_get steps k ≡ Some (record { id = id; literals = l; hints = h })
-step_got ids ls hs k steps id l h many below is id_is l_is h_is =
-    ap (λ all. slice_get all k) (sym is) ∙ step_at ids ls hs k id many below
-    ∙ ap (λ n. Some (record { id = n; literals = get_or ls k []; hints = get_or hs k [] })) (sym id_is)
-    ∙ ap₂ (λ a b. Some (record { id = id; literals = a; hints = b })) (sym l_is) (sym h_is)
+step_got ids ls hs k steps id l h many below is id_is l_is h_is = search (arith, step_at)

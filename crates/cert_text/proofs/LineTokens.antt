@@ -1,5 +1,5 @@
 -- The lines of a text by their tokens.
-use Rattle.std.proofs.Common.{◌≡◌, ℕ, ◌+◌, ◌==◌, Bool, true, false, cond, List, [], ◌∷◌, map, refl, sym, ◌∙◌, ap}
+use Rattle.std.proofs.Common.{◌≡◌, ℕ, ◌+◌, ◌==◌, Bool, true, false, cond, List, [], ◌∷◌, map, refl, ◌∙◌, ap, arith}
 use Rattle.dq_text.specs.Line.{TextLine, line_tokens, extend_line, lines_from}
 use Rattle.cert_text.specs.Grammar.{Tokens}
 
@@ -40,9 +40,7 @@ tokens_of_texts (line ∷ lines) = ap (λ rest. line_tokens line.text ∷ rest) 
 
 -- whatever the number of the first line is
 pub same_tokens : (n m : ℕ) (bytes : List ℕ) → by_tokens (lines_from n bytes) ≡ by_tokens (lines_from m bytes)
-same_tokens n m bytes =
-    tokens_of_texts (lines_from n bytes) ∙ ap (map line_tokens) (texts_are n bytes ∙ sym (texts_are m bytes)) ∙ sym
-    (tokens_of_texts (lines_from m bytes))
+same_tokens n m bytes = search (arith, tokens_of_texts, texts_are)
 
 pub tokens_by_text : (n : ℕ) (bytes : List ℕ) → by_tokens (lines_from n bytes) ≡ map line_tokens (texts_of bytes)
 tokens_by_text n bytes = tokens_of_texts (lines_from n bytes) ∙ ap (map line_tokens) (texts_are n bytes)

@@ -1,5 +1,5 @@
 -- The lines of a text that is put together from words.
-use Rattle.std.proofs.Common.{◌≡◌, cond, List, [], ◌∷◌, ◌++◌, ℕ, map, refl, sym, ◌∙◌, ap, append_assoc}
+use Rattle.std.proofs.Common.{◌≡◌, List, [], ◌∷◌, ◌++◌, ℕ, map, refl, sym, ◌∙◌, ap, append_assoc, arith}
 use Rattle.dq_text.specs.Line.{line_tokens}
 use Rattle.dq_text.proofs.LineWords.{IsWord, AreWords, AreNoFeed, spaced, words_tokens, both_no_feed, word_no_feed, words_no_feed}
 use Rattle.cert_text.specs.Grammar.{Tokens}
@@ -7,9 +7,7 @@ use Rattle.cert_text.proofs.LineTokens.{extend_text, texts_of}
 
 one_line : (bytes rest : List ℕ) → AreNoFeed bytes → texts_of (bytes ++ 10 ∷ rest) ≡ bytes ∷ texts_of rest
 one_line [] rest none = refl
-one_line (byte ∷ bytes) rest none =
-    ap (λ b. cond b ([] ∷ texts_of (bytes ++ 10 ∷ rest)) (extend_text byte (texts_of (bytes ++ 10 ∷ rest)))) none.0
-    ∙ ap (extend_text byte) (one_line bytes rest none.1)
+one_line (byte ∷ bytes) rest none = search (arith, texts_of, extend_text, (one_line bytes rest none.1))
 
 abbrev pub tokens_of : List ℕ → List Tokens
 tokens_of bytes = map line_tokens (texts_of bytes)

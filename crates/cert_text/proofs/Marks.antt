@@ -1,5 +1,5 @@
 -- Marks by the places of their lines, in blocks.
-use Rattle.std.proofs.Common.{◌≡◌, ℕ, zero, suc, ◌+◌, ◌/◌, ◌%◌, ◌<◌, Bool, false, cond, inl, inr, List, [], ◌∷◌, ◌++◌, length, get_or, set, refl, sym, ◌∙◌, ap, ap₂, arith, length-append, length-set, ext_get_or, get_or-set_same, get_or-set_other}
+use Rattle.std.proofs.Common.{◌≡◌, ℕ, zero, suc, ◌+◌, ◌/◌, ◌%◌, ◌<◌, Bool, false, cond, inl, inr, List, [], ◌∷◌, ◌++◌, length, get_or, set, refl, sym, ◌∙◌, ap, arith, length-append, length-set, ext_get_or, get_or-set_same, get_or-set_other}
 use Rattle.std.specs.List.{All}
 use Rattle.std.proofs.Math.ListN.{get_or-append}
 use Rattle.std.proofs.lemmas.Bool.{cases_eq, eq-eqb, ne_eqb}
@@ -14,19 +14,12 @@ length-marks (suc n) at = omega (arith, length-append (marks_below n at) (at n �
 
 pub mark_of_place : (n k : ℕ) (at : ℕ → Bool) → k < n → get_or (marks_below n at) k false ≡ at k
 mark_of_place zero k at below = absurd (omega (arith, below))
-mark_of_place (suc n) k at below = elim (cases_eq k n) [
-  | inl same ↦
-      get_or_push (marks_below n at) (at n) false k (length-marks n at ∙ sym same) ∙ ap at (sym same)
-  | inr other ↦
-      let before : k < n = omega (arith, below, other) in
-      get_or-append (marks_below n at) (at n ∷ []) false k (omega (arith, before, length-marks n at))
-      ∙ mark_of_place n k at before
-]
+mark_of_place (suc n) k at below =
+    search (arith, cases_eq, get_or_push, length-marks, get_or-append, (mark_of_place n k at))
 
 pub marks_same : (n : ℕ) (old new : ℕ → Bool) → AreSameBelow n old new → marks_below n new ≡ marks_below n old
 marks_same zero old new same = refl
-marks_same (suc n) old new same =
-    ap₂ (λ xs b. xs ++ b ∷ []) (marks_same n old new (λ k below. same k (omega (arith, below)))) (same n (omega arith))
+marks_same (suc n) old new same = search (arith, (marks_same n old new))
 
 -- one mark written
 pub marks_set : (n place : ℕ) (old new : ℕ → Bool) (mark : Bool) → place < n → SetsMark old new place mark →
@@ -52,16 +45,9 @@ marks_set n place old new mark within sets =
 -- one mark more
 pub marks_pushed : (n : ℕ) (old mid new : ℕ → Bool) (mark : Bool) → AreSameBelow n old mid →
     SetsMark mid new n mark → marks_below (n + 1) new ≡ marks_below n old ++ mark ∷ []
-marks_pushed n old mid new mark same sets =
-    let next : n + 1 ≡ suc n = omega arith in
-    ap (λ k. marks_below k new) next
-    ∙ ap₂ (λ xs b. xs ++ b ∷ [])
-    (marks_same n old new
-    (λ k below. sets k ∙ ap (λ b. cond b mark (mid k)) (ne_eqb k n (λ e. omega (arith, e, below))) ∙ same k below))
-    (sets n ∙ ap (λ b. cond b mark (mid n)) (eq-eqb n n refl))
+marks_pushed n old mid new mark same sets = search (arith, marks_same, ne_eqb, eq-eqb)
 
 -- a place is one of its block's
 pub in_block : (blocks : List (List Bool)) (place : ℕ) (other : List Bool) → All IsBlock blocks →
     place / BLOCK < length blocks → place % BLOCK < length (get_or blocks (place / BLOCK) other)
-in_block blocks place other are below =
-    omega (arith, All-get_or IsBlock blocks (place / BLOCK) other below are)
+in_block blocks place other are below = search (arith, All-get_or)

@@ -1,5 +1,5 @@
 -- How many clauses the negated matrix has.
-use Rattle.std.proofs.Common.{◌≡◌, ℕ, ◌+◌, ◌*◌, List, [], ◌∷◌, ◌++◌, length, refl, arith, length-append}
+use Rattle.std.proofs.Common.{◌≡◌, ℕ, ◌+◌, ◌*◌, List, [], ◌∷◌, length, refl, arith, length-append}
 use Rattle.std.specs.List.{flat_map, sum_by}
 use Rattle.std.proofs.lemmas.List.{length-map}
 use Rattle.std.proofs.lemmas.List.Sums.{sum_by-cons}
@@ -7,7 +7,7 @@ use Rattle.dq_lits.specs.Formula.{Dqbf}
 use Rattle.dq_lits.specs.Literal.{Literal}
 use Rattle.circuit_plain.specs.Netlist.{Netlist}
 use Rattle.circuit_plain.specs.declared.circuits.Gate.{Gate}
-use Rattle.cert_text.specs.NegatedMatrix.{gate_clauses, opposite_of, literal_under, falsity_clauses, all_falsity_clauses, some_clause_false, negated_clauses, negated_clause_count}
+use Rattle.cert_text.specs.NegatedMatrix.{gate_clauses, opposite_of, literal_under, falsity_clauses, all_falsity_clauses, negated_clauses, negated_clause_count}
 
 pub gates_counted : (gates : List Gate) → length (flat_map gate_clauses gates) ≡ 3 * length gates
 gates_counted [] = refl
@@ -30,14 +30,4 @@ falsity_counted circuit_literal bad (clause ∷ clauses) =
 
 pub clauses_counted : (f : Dqbf) (net : Netlist) (circuit_literal : ℕ → ℕ) →
     length (negated_clauses f net circuit_literal) ≡ negated_clause_count f net
-clauses_counted f net circuit_literal =
-    let gates = flat_map gate_clauses net.gates in
-    let falsity = all_falsity_clauses circuit_literal (net.max_var + 1) f.matrix in
-    let last = some_clause_false net f.matrix ∷ [] in
-    omega (
-      arith,
-      length-append gates (falsity ++ last),
-      length-append falsity last,
-      gates_counted net.gates,
-      falsity_counted circuit_literal (net.max_var + 1) f.matrix,
-    )
+clauses_counted f net circuit_literal = search (arith, length-append, gates_counted, falsity_counted)

@@ -1,10 +1,9 @@
 -- Ids of lines before, and what holds of those that are live.
-use Rattle.std.proofs.Common.{◌≡◌, ℕ, zero, suc, ◌+◌, ◌-◌, ◌==◌, ◌≤◌, nat_le, Bool, true, false, not, ◌&&◌, ◌||◌, List, [], ◌∷◌, ◌++◌, length, get_or, refl, sym, ◌∙◌, ap, ap₂, arith, subst, length-append}
-use mathlib.Core.Path.{fun_ext}
+use Rattle.std.proofs.Common.{◌≡◌, ℕ, zero, suc, ◌+◌, ◌-◌, ◌==◌, ◌≤◌, nat_le, Bool, true, false, not, ◌&&◌, ◌||◌, List, [], ◌∷◌, ◌++◌, length, get_or, refl, sym, ◌∙◌, ap, arith, subst, length-append}
 use Rattle.std.specs.List.{AllByRecursion}
 use Rattle.std.proofs.lemmas.Bool.{and_parts, eqb-true, eq-eqb, ne_eqb, leb-true, le-leb}
 use Rattle.rup_core.specs.Items.{ProofItem, derived, gone}
-use Rattle.cert_text.specs.LineIds.{is_marked, numbering_by}
+use Rattle.cert_text.specs.LineIds.{numbering_by}
 use Rattle.cert_text.specs.Numbering.{Numbering, are_live, behind_item, numbered_from, with_next, without, without_all}
 
 -- each live id has this
@@ -46,13 +45,8 @@ next_kept n [] = refl
 next_kept n (id ∷ ids) = next_kept (without n id) ids
 
 pub numbered_behind : (n : Numbering) (item : ProofItem) → IsNumbered n → IsNumbered (behind_item n item)
-numbered_behind n (derived s) is = record {
-  next = omega (arith, is.next);
-  live =
-      live_line (λ id. 1 ≤ id) n is.next is.live;
-}
-numbered_behind n (gone ids) is =
-    record { next = omega (arith, is.next, next_kept n ids); live = live_gone (λ id. 1 ≤ id) n ids is.live }
+numbered_behind n (derived s) is = search (arith, live_line)
+numbered_behind n (gone ids) is = search (arith, next_kept, live_gone)
 
 -- the same by marks
 apart : false ≡ true → ⊥
@@ -77,19 +71,8 @@ mark_put marks k false is = put_elsewhere marks k (λ e. apart (sym is ∙ eq-eq
 -- as numbers from the first id on
 far : (le : Bool) (first id place : ℕ) → nat_le first id ≡ le → (le ≡ true → first ≤ id) →
     (id == first + place) ≡ le && (id - first == place)
-far true first id place is h = shifted (id == first + place) (id - first == place) (eqb-true id (first + place))
-    (eqb-true (id - first) place)
-    (λ e. eq-eqb id (first + place) (omega (arith, e, h refl))) (λ e. eq-eqb (id - first) place (omega (arith, e)))
-  where
-    shifted : (a b : Bool) → (a ≡ true → id ≡ first + place) → (b ≡ true → id - first ≡ place) →
-        (id - first ≡ place → a ≡ true) → (id ≡ first + place → b ≡ true) → a ≡ b
-    shifted true b p q r s = sym (s (p refl))
-    shifted false false p q r s = refl
-    shifted false true p q r s = r (q refl)
-far false first id place is h = ne_eqb id (first + place) (λ e. apart (sym is ∙ below e))
-  where
-    below : id ≡ first + place → nat_le first id ≡ true
-    below e = le-leb first id (omega (arith, e))
+far true first id place is h = search (arith, eqb-true, eq-eqb)
+far false first id place is h = search (arith, ne_eqb, apart, nat_le, le-leb)
 
 -- a mark more, or one taken away, where the tests are these
 put_as : (le here mark there : Bool) → there ≡ here || mark → le && there ≡ (le && here) || (le && mark)
@@ -98,12 +81,4 @@ put_as false here mark there is = refl
 
 pub line_marked : (first : ℕ) (marks more : List Bool) → more ≡ marks ++ true ∷ [] →
     numbering_by first more ≡ with_next (numbering_by first marks)
-line_marked first marks more pushed =
-    ap (numbering_by first) pushed
-    ∙ ap₂ (λ (next : ℕ) (live : ℕ → Bool). record { next = next; live = live })
-    (let size = length-append marks (true ∷ []) in omega (arith, size))
-    (fun_ext (λ id.
-    put_as (nat_le first id) (id - first == length marks) (get_or marks (id - first) false)
-    (get_or (marks ++ true ∷ []) (id - first) false) (mark_put marks (id - first) (id - first == length marks) refl)
-    ∙ ap (λ b. b || is_marked first marks id) (sym (far (nat_le first id) first id (length marks) refl
-    (leb-true first id)))))
+line_marked first marks more pushed = search (arith, length-append, put_as, nat_le, mark_put, far, leb-true)

@@ -1,5 +1,5 @@
 -- The numbers of pairs: one for each row and existential.
-use Rattle.std.proofs.Common.{◌≡◌, ℕ, zero, suc, ◌+◌, ◌-◌, ◌*◌, ◌/◌, ◌%◌, ◌==◌, ◌≤◌, ◌<◌, ◌^◌, nat_lt, true, not, cond, inl, inr, ◌&&◌, List, [], ◌∷◌, map, Option, Some, None, is_some, IsSome, refl, ◌∙◌, ap, arith, subst}
+use Rattle.std.proofs.Common.{◌≡◌, ℕ, zero, suc, ◌+◌, ◌-◌, ◌*◌, ◌/◌, ◌%◌, ◌==◌, ◌≤◌, ◌<◌, ◌^◌, nat_lt, true, not, List, [], ◌∷◌, map, Option, Some, None, is_some, IsSome, refl, ◌∙◌, ap, arith}
 use Rattle.std.specs.List.{AllByRecursion, find}
 use Rattle.std.proofs.Math.Nat.{div-add-mod, mod-eq_of_lt, mul-add-mod_self_right, mul-le-mul_left}
 use Rattle.std.proofs.lemmas.Bool.{and_from, and_parts, eqb-true, lt-ltb, ltb-true, ne_eqb, not_from_false, cases_Bool}
@@ -7,7 +7,7 @@ use Rattle.std.proofs.lemmas.List.Elements.{recursion_from_All}
 use Rattle.std.proofs.lemmas.Nat.{div-mul-add}
 use Rattle.list_laws.proofs.Sequences.{all_behind}
 use Rattle.list_laws.proofs.Truths.{nonzero}
-use Rattle.dq_lits.specs.Formula.{Dqbf, Existential, declared, existential_of}
+use Rattle.dq_lits.specs.Formula.{Dqbf, Existential, existential_of}
 use Rattle.dq_formula.specs.Prefix.{IsLawful}
 use Rattle.cert_text.specs.Grammar.{IsPairNumber}
 use Rattle.cert_text.specs.Header.{max_count}
@@ -21,17 +21,10 @@ found_in_range : (variables y : ℕ) (es : List Existential) →
     IsSome (find (λ e. e.variable == y) es) → IsVariable variables y
 found_in_range variables y [] all some = cc
 found_in_range variables y (e ∷ es) all some =
-    elim (cases_Bool (e.variable == y)) [
-      | inl here ↦ subst (IsVariable variables) (eqb-true e.variable y here) all.0
-      | inr other ↦ found_in_range variables y es all.1 (subst
-          (λ b. IsSome (cond b (Some e) (find (λ x. x.variable == y) es))) other some)
-    ]
+    search (arith, cases_Bool, eqb-true, (found_in_range variables y es all.1))
 
 pub existential_in_range : (f : Dqbf) (y : ℕ) → IsLawful f → IsSome (existential_of f y) → IsVariable f.variables y
-existential_in_range f y lawful some =
-    found_in_range f.variables y f.existentials
-    (all_behind (IsVariable f.variables) f.universals (map (λ e. e.variable) f.existentials)
-    (recursion_from_All (IsVariable f.variables) (declared f) lawful.prefix.in_range)) some
+existential_in_range f y lawful some = search (arith, found_in_range, all_behind, recursion_from_All)
 
 record HasParts (f : Dqbf) (rows number : ℕ) : Type 0 where
   variables : 1 ≤ f.variables
@@ -40,18 +33,7 @@ record HasParts (f : Dqbf) (rows number : ℕ) : Type 0 where
   existential : is_some (existential_of f ((number - 1) % f.variables + 1)) ≡ true
 
 parts : (f : Dqbf) (rows number : ℕ) → is_pair_number f rows number ≡ true → HasParts f rows number
-parts f rows number h =
-    let found = is_some (existential_of f ((number - 1) % f.variables + 1)) in
-    let below = nat_lt ((number - 1) / f.variables) rows in
-    let first = and_parts (not (f.variables == 0)) (not (number == 0) && (below && found)) h in
-    let second = and_parts (not (number == 0)) (below && found) first.1 in
-    let third = and_parts below found second.1 in
-    record {
-      variables = nonzero f.variables first.0;
-      some = nonzero number second.0;
-      below = ltb-true ((number - 1) / f.variables) rows third.0;
-      existential = third.1;
-    }
+parts f rows number h = search (arith, is_some, nat_lt, and_parts, nonzero, ltb-true)
 
 is_something : {X : Type 0} (o : Option X) → is_some o ≡ true → IsSome o
 is_something (Some x) h = refl
@@ -93,20 +75,13 @@ is_of : (f : Dqbf) (rows number k y : ℕ) → IsLawful f → k < rows → IsSom
     number ≡ k * f.variables + y →
     IsVariable f.variables y → is_pair_number f rows number ≡ true
 is_of f rows number k zero lawful within existential number_is in_range = absurd (omega (arith, in_range.0))
-is_of f rows number k (suc z) lawful within existential number_is in_range =
-    pair_from f rows number f.variables z k refl (omega (arith, in_range.1)) within number_is existential
+is_of f rows number k (suc z) lawful within existential number_is in_range = search (arith, pair_from)
 
 pub is_pair : (f : Dqbf) (rows number : ℕ) → IsLawful f → IsPairNumber f rows number →
     is_pair_number f rows number ≡ true
-is_pair f rows number lawful p =
-    is_of f rows number p.k p.y lawful p.within p.existential p.number_is
-    (existential_in_range f p.y lawful p.existential)
+is_pair f rows number lawful p = search (arith, is_of, existential_in_range)
 
 -- a text can spell it
 pub pair_small : (f : Dqbf) (rows number : ℕ) → IsLawful f → rows ≤ max_count → is_pair_number f rows number ≡ true →
     number < 10 ^ 18
-pair_small f rows number lawful few h =
-    let p = pair_is f rows number h in
-    let y = existential_in_range f p.y lawful p.existential in
-    let product : p.k * f.variables ≤ p.k * 1000000 = mul-le-mul_left p.k lawful.few_variables in
-    omega (arith, p.number_is, product, p.within, few, y.1, lawful.few_variables)
+pair_small f rows number lawful few h = search (arith, pair_is, existential_in_range, mul-le-mul_left)

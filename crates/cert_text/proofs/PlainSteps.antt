@@ -42,9 +42,7 @@ wide (negsuc n) small = to_z-of_z w64 (negsuc n) (omega (arith, small))
 pub literal_number : (tokens left : Tokens) (n : ℤ) → map number_of tokens ≡ Int n ∷ map number_of left →
     1 ≤ nat_abs (to_z w64 (of_z w64 n)) →
     IsLiteralNumber (to_z w64 (of_z w64 n))
-literal_number tokens left n first some =
-    let small = first_small tokens left n first in
-    (some, omega (arith, small, ap nat_abs (wide n small)))
+literal_number tokens left n first some = search (arith, first_small, nat_abs, wide)
 
 -- one literal more
 pub literal_taken : (p : ℕ → Bool) (start tokens left : Tokens) (old new : List Literal) (n : ℤ) →

@@ -1,5 +1,5 @@
 -- Reading what stands behind a header.
-use Rattle.std.proofs.Common.{◌≡◌, ℕ, ◌+◌, Bool, List, length, Result, Ok, Err, sym, ◌∙◌, ap, ap₂, subst}
+use Rattle.std.proofs.Common.{◌≡◌, ℕ, ◌+◌, Bool, List, length, Result, Ok, Err, sym, ◌∙◌, ap, subst, arith}
 use Rattle.dq_lits.specs.Formula.{Dqbf}
 use Rattle.dq_text.specs.Line.{LineCursor, lines_from}
 use Rattle.circuit_plain.specs.Netlist.{Netlist}
@@ -52,28 +52,22 @@ module _ (f : Dqbf) (c : RowsAndItems) (at : LineCursor) (us : List ℕ) (us_are
 
   pub rows_stop : (stop : CertStop) (left : LineCursor) → IsReadingUpTo (read_from (row_lines us) tt c.rows at)
       (Err stop) left → IsReading all (Err stop)
-  rows_stop stop left is = stop_of _ all stop left is (λ fault part. rows_to_read ∙ ap
-      (λ r. and_read r behind_rows) part)
+  rows_stop stop left is = search (arith, stop_of, rows_to_read)
 
   module _ (rows : List (List Bool)) (mid : LineCursor) (rows_are : read_from (row_lines us) tt c.rows at ≡ Ok
       (read_up_to rows mid)) (id : ℕ)
       (id_is : id ≡ first_id f c.rows) where
     items_to_read : all ≡ and_read (read_from lines_of (numbered_from id) c.items mid) (behind_items rows)
-    items_to_read =
-        rows_to_read ∙ ap (λ r. and_read r behind_rows) rows_are
-        ∙ ap (λ i. and_read (read_from lines_of (numbered_from i) c.items mid) (behind_items rows)) (sym id_is)
+    items_to_read = search (arith, rows_to_read)
 
     pub items_stop : (stop : CertStop) (left : LineCursor) →
         IsReadingUpTo (read_from lines_of (numbered_from id) c.items mid) (Err stop) left → IsReading all (Err stop)
-    items_stop stop left is = stop_of _ all stop left is (λ fault part. items_to_read ∙ ap
-        (λ r. and_read r (behind_items rows)) part)
+    items_stop stop left is = search (arith, stop_of, items_to_read)
 
     pub whole : (items : List ProofItem) (end : LineCursor) →
         read_from lines_of (numbered_from id) c.items mid ≡ Ok (read_up_to items end) →
         Ok tt ≡ blank_lines (lines_from end.number end.rest) → all ≡ Ok (record { rows = rows; items = items })
-    whole items end is blank =
-        items_to_read ∙ ap (λ r. and_read r (behind_items rows)) is
-        ∙ ap (λ r. and_read r (λ _. Ok (record { rows = rows; items = items }))) (sym blank)
+    whole items end is blank = search (arith, items_to_read)
 
 -- the same of a circuit's proof
 module _ (f : Dqbf) (net : Netlist) (count : ItemCount) (at : LineCursor) (last : ℕ)
@@ -87,8 +81,7 @@ module _ (f : Dqbf) (net : Netlist) (count : ItemCount) (at : LineCursor) (last 
 
   proof_to_read : proof ≡ and_read (read_from (item_lines count.version (is_up_to last))
       (numbered_from id) count.items at) made
-  proof_to_read = ap₂ (λ n i. and_read (read_from (item_lines count.version (is_up_to n))
-      (numbered_from i) count.items at) made) (sym last_is) (sym id_is)
+  proof_to_read = search arith
 
   pub proof_stop : (stop : CertStop) (left : LineCursor) →
       IsReadingUpTo (read_from (item_lines count.version (is_up_to last)) (numbered_from id) count.items at)

@@ -1,5 +1,5 @@
 -- Reading so many lines, one after the other.
-use Rattle.std.proofs.Common.{◌≡◌, ℕ, suc, ◌+◌, ◌-◌, ◌≤◌, ◌<◌, List, [], ◌∷◌, ◌++◌, Result, Ok, Err, refl, sym, ◌∙◌, ap, arith, subst, append_assoc, append-nil}
+use Rattle.std.proofs.Common.{◌≡◌, ℕ, ◌+◌, ◌-◌, ◌≤◌, ◌<◌, List, [], ◌∷◌, ◌++◌, Result, Ok, Err, refl, sym, arith, subst, append_assoc, append-nil}
 use Rattle.dq_text.specs.Line.{TextLine, LineCursor, line_tokens, lines_from}
 use Rattle.cert_text.specs.Kind.{refusal}
 use Rattle.cert_text.specs.LineStop.{IsLineOf, StopsAt}
@@ -28,15 +28,12 @@ module _ {A : Type 0} where
       IsLineOf taken (Err stop) → StopsAt line stop made → ((name : CertFault) → taken ≡ Err name →
       read ≡ Err (refusal line name)) →
       IsReadInto read (Err made) after left
-  stopped read line taken (Fault name) made after left is stops fault =
-      subst (λ s. IsReadInto read (Err s) after left) (sym stops) (fault name is)
-  stopped read line taken Memory made after left is stops fault =
-      subst (λ s. IsReadInto read (Err s) after left) (sym stops) tt
+  stopped read line taken (Fault name) made after left is stops fault = search arith
+  stopped read line taken Memory made after left is stops fault = search arith
 
   one_behind : (before : List A) (item : A) (r : Read A) → put_behind before (and_read r (with_item item)) ≡ put_behind
       (before ++ item ∷ []) r
-  one_behind before item (Ok r) = ap (λ items. Ok (record r { items = items }))
-      (sym (append_assoc before (item ∷ []) r.items))
+  one_behind before item (Ok r) = search (arith, append_assoc)
   one_behind before item (Err fault) = refl
 
 module _ {S A : Type 0} (F : Format S A) (at : S) (k count : ℕ) (before : List A) where
@@ -45,49 +42,27 @@ module _ {S A : Type 0} (F : Format S A) (at : S) (k count : ℕ) (before : List
   to_read left = put_behind before (read_from F at (count - k) left)
 
   pub nothing_more : (left : LineCursor) → count ≤ k → to_read left ≡ Ok (read_up_to before left)
-  nothing_more left done =
-      let none : count - k ≡ 0 = omega (arith, done) in
-      ap (λ n. put_behind before (read_from F at n left)) none
-      ∙ ap (λ items. Ok (read_up_to items left)) (append-nil before)
+  nothing_more left done = search (arith, append-nil)
 
   pub line_missing : (left : LineCursor) (number : ℕ) → k < count → left.rest ≡ [] → left.number ≡ number →
       to_read left ≡ Err (refusal number Truncated)
-  line_missing left number more none is =
-      let next : count - k ≡ suc (count - (k + 1)) = omega (arith, more) in
-      ap (λ n. put_behind before (read_from F at n left)) next
-      ∙ ap (λ rest. put_behind before (read_some F at (suc (count - (k + 1)))
-      (lines_from left.number rest) left.number)) none
-      ∙ ap (λ n. Err (refusal n Truncated)) is
+  line_missing left number more none is = search arith
 
   -- where a line stands in front
   by_line : (left : LineCursor) (line : TextLine) (rest : List TextLine) → k < count →
       lines_from left.number left.rest ≡ line ∷ rest →
       to_read left ≡ put_behind before (and_read (at_line line.number (F.line at (line_tokens line.text)))
       (λ item. and_read (read_some F (F.behind at item) (count - (k + 1)) rest (line.number + 1)) (with_item item)))
-  by_line left line rest more is =
-      let next : count - k ≡ suc (count - (k + 1)) = omega (arith, more) in
-      ap (λ n. put_behind before (read_from F at n left)) next
-      ∙ ap (λ all. put_behind before (read_some F at (suc (count - (k + 1))) all left.number)) is
+  by_line left line rest more is = search arith
 
   pub line_at_fault : (left : LineCursor) (line : TextLine) (rest : List TextLine) (name : CertFault) → k < count →
       lines_from left.number left.rest ≡ line ∷ rest → F.line at (line_tokens line.text) ≡ Err name →
       to_read left ≡ Err (refusal line.number name)
-  line_at_fault left line rest name more is fault =
-      by_line left line rest more is
-      ∙ ap (λ r. put_behind before (and_read (at_line line.number r)
-      (λ item. and_read (read_some F (F.behind at item) (count - (k + 1)) rest (line.number + 1))
-      (with_item item)))) fault
+  line_at_fault left line rest name more is fault = search (arith, by_line)
 
   pub line_read : (left after_line : LineCursor) (line : TextLine) (item : A) (after : List A) → k < count →
       lines_from left.number left.rest ≡ line ∷ lines_from after_line.number after_line.rest →
       after_line.number ≡ line.number + 1 →
       F.line at (line_tokens line.text) ≡ Ok item → after ≡ before ++ item ∷ [] →
       to_read left ≡ put_behind after (read_from F (F.behind at item) (count - (k + 1)) after_line)
-  line_read left after_line line item after more is next taken pushed =
-      let rest = lines_from after_line.number after_line.rest in
-      by_line left line rest more is
-      ∙ ap (λ r. put_behind before (and_read (at_line line.number r)
-      (λ x. and_read (read_some F (F.behind at x) (count - (k + 1)) rest (line.number + 1)) (with_item x)))) taken
-      ∙ one_behind before item (read_some F (F.behind at item) (count - (k + 1)) rest (line.number + 1))
-      ∙ ap (λ n. put_behind (before ++ item ∷ []) (read_some F (F.behind at item) (count - (k + 1)) rest n)) (sym next)
-      ∙ ap (λ items. put_behind items (read_from F (F.behind at item) (count - (k + 1)) after_line)) (sym pushed)
+  line_read left after_line line item after more is next taken pushed = search (arith, by_line, one_behind)

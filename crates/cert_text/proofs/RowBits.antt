@@ -24,6 +24,4 @@ one_bit_more xs bits i old new start in_xs in_bits grown so_far =
 
 pub no_bit_more : (xs : List ℕ) (bits : List Bool) (i : ℕ) (text start : List ℕ) → min (length xs) (length bits) ≤ i →
     text ++ flat_map bit_text (drop i (zip xs bits)) ≡ start → text ≡ start
-no_bit_more xs bits i text start past so_far =
-    let end : length (zip xs bits) ≤ i = omega (arith, length-zip xs bits, past) in
-    sym (append-nil text) ∙ ap (λ ys. text ++ flat_map bit_text ys) (sym (drop_of_length-le (zip xs bits) end)) ∙ so_far
+no_bit_more xs bits i text start past so_far = search (arith, length-zip, append-nil, drop_of_length-le)

@@ -87,9 +87,4 @@ pub sign_at : (universals : List ℕ) (words : List (List ℕ)) (start : Tokens)
     → SignsTaken universals start (line_tokens bytes) row i → bytes ≡ behind_sign b (word ++ behind)
     → SignsTaken universals start (line_tokens behind) (set row i b) (i + 1)
 sign_at universals words start word bytes behind row i b words_are word_is below spelled taken is =
-    let inside : i < length universals =
-    omega (arith, below, ap length words_are, length-map universals number_text) in
-    let here : word ≡ number_text (get_or universals i 0) =
-    word_is ∙ ap (λ ws. get_or ws i []) words_are ∙ get_or-map number_text universals i 0 [] inside in
-    sign_taken universals start bytes behind row i (get_or universals i 0) b taken inside refl (spelled i 0 inside)
-    (is ∙ ap (λ w. behind_sign b (w ++ behind)) here)
+    search (arith, length-map, get_or-map, sign_taken)

@@ -1,11 +1,11 @@
 -- The numbers of a line are below 10^18.
-use Rattle.std.proofs.Common.{◌≡◌, ℕ, zero, suc, ◌==◌, ◌≤◌, ◌<◌, ◌^◌, nat_lt, ℤ, pos, negsuc, neg_ℤ, nat_abs, Bool, true, false, not, cond, ◌||◌, List, [], ◌∷◌, ◌++◌, map, Some, Ok, refl, sym, ◌∙◌, ap, arith, subst}
+use Rattle.std.proofs.Common.{◌≡◌, ℕ, zero, suc, ◌==◌, ◌≤◌, ◌<◌, ◌^◌, nat_lt, ℤ, pos, negsuc, neg_ℤ, nat_abs, Bool, true, false, cond, List, [], ◌∷◌, ◌++◌, map, Some, Ok, refl, sym, ◌∙◌, ap, arith}
 use Rattle.std.specs.List.{All, AllByRecursion}
 use Rattle.std.proofs.lemmas.Bool.{ltb-true}
 use Rattle.std.proofs.lemmas.List.Elements.{All-from_recursion, recursion_from_All}
 use Rattle.dq_lits.specs.Derivation.{ProofStep}
 use Rattle.dq_lits.specs.Literal.{Literal, positive, negative, dimacs_literal, dimacs_number, variable_of}
-use Rattle.dq_text.specs.Number.{are_digits, decimal_value, unsigned_of, negative_of, number_of}
+use Rattle.dq_text.specs.Number.{unsigned_of, negative_of, number_of}
 use Rattle.dq_text.specs.declared.numbers.Number.TheVariants.{Int, NotANumber, TooBig}
 use Rattle.cert_text.specs.Grammar.{Tokens, integers, step_numbers, SpellsStep, HasSmallNumbers}
 use Rattle.cert_text.specs.Numbers.{line_integers}
@@ -22,9 +22,7 @@ chosen : (value : ℕ) (made n : ℤ) (fault small : Bool) → nat_abs made ≡ 
     cond fault NotANumber (cond small (Int made) TooBig) ≡ Int n → IsSmall n
 chosen value made n true small is below h = cc
 chosen value made n false false is below h = cc
-chosen value made n false true is below h =
-    let same : made ≡ n = cc in
-    subst (λ k. nat_abs k < 10 ^ 18) same (subst (λ k. k < 10 ^ 18) (sym is) (ltb-true value (10 ^ 18) below))
+chosen value made n false true is below h = search (arith, nat_abs, ltb-true)
 
 negated_magnitude : (value : ℕ) → nat_abs (neg_ℤ (pos value)) ≡ value
 negated_magnitude zero = refl
@@ -32,13 +30,8 @@ negated_magnitude (suc value) = refl
 
 number_small : (minus : Bool) (byte : ℕ) (bytes : List ℕ) (n : ℤ) →
     cond minus (negative_of bytes) (unsigned_of (byte ∷ bytes)) ≡ Int n → IsSmall n
-number_small true byte bytes n h =
-    let value = decimal_value bytes in
-    chosen value (neg_ℤ (pos value)) n (not (are_digits bytes) || (value == 0)) (nat_lt value (10 ^ 18))
-    (negated_magnitude value) refl h
-number_small false byte bytes n h =
-    let value = decimal_value (byte ∷ bytes) in
-    chosen value (pos value) n (not (are_digits (byte ∷ bytes))) (nat_lt value (10 ^ 18)) refl refl h
+number_small true byte bytes n h = search (arith, chosen, neg_ℤ, nat_lt, negated_magnitude)
+number_small false byte bytes n h = search (arith, chosen, nat_lt)
 
 pub token_small : (token : List ℕ) (n : ℤ) → number_of token ≡ Int n → IsSmall n
 token_small [] n h = cc
@@ -47,19 +40,13 @@ token_small (byte ∷ bytes) n h = number_small (byte == 45) byte bytes n h
 integers_small : (tokens : Tokens) (ns : List ℤ) → map number_of tokens ≡ integers ns → AllByRecursion IsSmall ns
 integers_small tokens [] h = tt
 integers_small [] (n ∷ ns) h = cc
-integers_small (token ∷ tokens) (n ∷ ns) h =
-    let here : number_of token ≡ Int n = cc in
-    let rest : map number_of tokens ≡ integers ns = cc in
-    (token_small token n here, integers_small tokens ns rest)
+integers_small (token ∷ tokens) (n ∷ ns) h = search (arith, token_small, (integers_small tokens ns))
 
 literals_small : (ls : List Literal) (behind : List ℤ) → AllByRecursion IsSmall (map dimacs_number ls ++ behind) →
     AllByRecursion (λ l. variable_of l < 10 ^ 18) ls
 literals_small [] behind small = tt
 literals_small (positive v ∷ ls) behind small = (small.0, literals_small ls behind small.1)
-literals_small (negative v ∷ ls) behind small = (
-  subst (λ k. k < 10 ^ 18) (negated_magnitude v) small.0,
-  literals_small ls behind small.1,
-)
+literals_small (negative v ∷ ls) behind small = search (arith, negated_magnitude, (literals_small ls behind small.1))
 
 pub step_small : (tokens : Tokens) (s : ProofStep) → SpellsStep tokens s → HasSmallNumbers s
 step_small tokens s spelled =

@@ -1,5 +1,5 @@
 -- Lines as the grammar of definitions spells them, in parts.
-use Rattle.std.proofs.Common.{◌≡◌, List, [], ◌∷◌, ◌++◌, refl, sym, ◌∙◌, ap, append_assoc}
+use Rattle.std.proofs.Common.{◌≡◌, List, [], ◌∷◌, ◌++◌, ap, append_assoc, arith}
 use Rattle.std.specs.List.{AllZip}
 use Rattle.cert_text.specs.DefinitionGrammar.{Line, SpellsLine}
 use Rattle.cert_text.specs.Grammar.{Tokens}
@@ -20,12 +20,7 @@ both_each (line ∷ front) back (t ∷ first) rest left right = (left.0, both_ea
 -- lines, and those behind them
 pub joined : (front back : List Line) (behind middle all : List Tokens) → AreSpelled front middle all →
     AreSpelled back behind middle → AreSpelled (front ++ back) behind all
-joined front back behind middle all first later = record {
-  spelled = first.spelled ++ later.spelled;
-  each = both_each front back first.spelled later.spelled first.each later.each;
-  are = first.are ∙ ap (λ ts. first.spelled ++ ts) later.are
-      ∙ sym (append_assoc first.spelled later.spelled behind);
-}
+joined front back behind middle all first later = search (arith, both_each, append_assoc)
 
 -- the lines of the front, and those behind it
 pub record HasFront (front others : List Line) (behind all : List Tokens) : Type 0 where
@@ -44,8 +39,7 @@ record IsCut (front back : List Line) (spelled : List Tokens) : Type 0 where
 
 cut_lines : (front back : List Line) (spelled : List Tokens) → AllZip SpellsLine spelled (front ++ back) →
     IsCut front back spelled
-cut_lines [] back spelled each =
-    record { first = []; rest = spelled; are = refl; front_are = tt; back_are = each }
+cut_lines [] back spelled each = search arith
 cut_lines (line ∷ front) back [] each = absurd each
 cut_lines (line ∷ front) back (t ∷ ts) each =
     let c = cut_lines front back ts each.1 in
@@ -59,12 +53,4 @@ cut_lines (line ∷ front) back (t ∷ ts) each =
 
 pub front_of : (front others : List Line) (behind all : List Tokens) → AreSpelled (front ++ others) behind all →
     HasFront front others behind all
-front_of front others behind all given =
-    let c = cut_lines front others given.spelled given.each in
-    record {
-      first = c.first;
-      each = c.front_are;
-      rest = c.rest;
-      later = c.back_are;
-      are = given.are ∙ ap (λ xs. xs ++ behind) c.are ∙ append_assoc c.first c.rest behind;
-    }
+front_of front others behind all given = search (arith, cut_lines, append_assoc)

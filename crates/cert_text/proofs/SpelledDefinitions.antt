@@ -1,5 +1,5 @@
 -- What was read as definitions is spelled, and may stand there.
-use Rattle.std.proofs.Common.{◌≡◌, ℕ, ◌+◌, ◌*◌, ◌/◌, ◌^◌, ◌<◌, ◌≤◌, ◌==◌, nat_lt, pos, ℤ, Bool, true, false, not, ◌&&◌, ◌||◌, List, [], ◌∷◌, ◌++◌, map, length, replicate, Option, None, Some, Result, Ok, Err, codes, cond, refl, sym, ◌∙◌, ap, ap₂, subst, arith}
+use Rattle.std.proofs.Common.{◌≡◌, ℕ, ◌+◌, ◌*◌, ◌/◌, ◌^◌, ◌<◌, ◌≤◌, ◌==◌, nat_lt, pos, ℤ, Bool, true, false, not, ◌||◌, List, [], ◌∷◌, ◌++◌, map, length, replicate, Option, None, Some, Result, Ok, Err, codes, cond, refl, sym, ◌∙◌, ap, ap₂, subst, arith}
 use Rattle.std.specs.List.{AllZip, flat_map}
 use Rattle.std.specs.Str.{bytes_eq}
 use Rattle.std.proofs.lemmas.Bool.{and_parts, or_parts, eqb-true, ltb-true, ltb-false, leb-false, not-false}
@@ -13,7 +13,7 @@ use Rattle.dq_text.proofs.Naturals.{natural_spelled}
 use Rattle.dq_formula.specs.Prefix.{existential_variables}
 use Rattle.circuit_plain.specs.declared.circuits.Gate.{Gate}
 use Rattle.dq_lits.specs.Derivation.{ProofStep}
-use Rattle.cert_text.specs.AllowedDefinitions.{AreBlocksOf, AreGatesFrom, HasFewSteps, HaveFewSteps, IsBlockOf, IsGateAt, IsValuationOf, first_definition_id, is_output, is_readable}
+use Rattle.cert_text.specs.AllowedDefinitions.{AreBlocksOf, AreGatesFrom, HasFewSteps, HaveFewSteps, IsBlockOf, IsGateAt, IsValuationOf, first_definition_id, is_output}
 use Rattle.cert_text.specs.DefinitionBlocks.{Definition, Valuation, FreePair, DefinitionBlock, defined, free}
 use Rattle.cert_text.specs.DefinitionGrammar.{Line, SpellsDefinitions, SpellsLine, block_spelling, gate_spelling, header_spelling, naturals, signs_spelling, step_spelling, valuation_spelling}
 use Rattle.cert_text.specs.DefinitionLine.{checked_gate, counted, defined_head, definition_gate, definition_gates, definitions_header, free_head, free_of, gate_of, head_line, head_of, is_large, signs_line}
@@ -69,15 +69,7 @@ record IsLine {A : Type 0} (read : Tokens → Result A CertFault) (lines : List 
 line_of : {A : Type 0} (read : Tokens → Result A CertFault) (lines : List TextLine) (number : ℕ) (r : PartRead A) →
     next_line read lines number ≡ Ok r → IsLine read lines r
 line_of read [] number r h = cc
-line_of {A} read (line ∷ lines) number r h =
-    let b = both (at_line line.number (read (line_tokens line.text)))
-    (λ part. Ok (record { part = part; rest = lines; number = line.number + 1 })) r h in
-    let made : PartRead A = record { part = b.part; rest = lines; number = line.number + 1 } in
-    subst (IsLine read (line ∷ lines)) (ok_same made r b.next_is) (record {
-      tokens = line_tokens line.text;
-      is = at_ok line.number (read (line_tokens line.text)) b.part b.first_is;
-      are = refl;
-    })
+line_of {A} read (line ∷ lines) number r h = search (arith, both, ok_same, at_ok)
 
 line_spelled : (line : Line) (tokens : Tokens) (behind all : List Tokens) → SpellsLine tokens line →
     all ≡ tokens ∷ behind → AreSpelled (line ∷ []) behind all
@@ -114,30 +106,7 @@ record PassesGate (f : Dqbf) (variable lhs : ℕ) (made g : Gate) : Type 0 where
 checked : (f : Dqbf) (variable lhs : ℕ) (made g : Gate) → made.variable ≡ variable →
     checked_gate f (2 * variable) lhs made ≡ Ok g → PassesGate f variable lhs made g
 checked f variable lhs made g numbered h =
-    let t = gate_tests (is_large lhs || (is_large made.left || is_large made.right)) (not (lhs == 2 * variable))
-    (not (nat_lt made.left lhs && nat_lt made.right lhs))
-    (not (is_readable f made.left && is_readable f made.right)) made g h in
-    let lhs_small = or_parts (is_large lhs) (is_large made.left || is_large made.right) t.0 in
-    let sides_small = or_parts (is_large made.left) (is_large made.right) lhs_small.1 in
-    let wanted : lhs ≡ 2 * variable = eqb-true lhs (2 * variable) (not-false (lhs == 2 * variable) t.1.0) in
-    let before = and_parts (nat_lt made.left lhs) (nat_lt made.right lhs)
-    (not-false (nat_lt made.left lhs && nat_lt made.right lhs) t.1.1.0) in
-    let readable = and_parts (is_readable f made.left) (is_readable f made.right)
-    (not-false (is_readable f made.left && is_readable f made.right) t.1.1.1.0) in
-    record {
-      lhs_small = small_number lhs lhs_small.0;
-      left_small = small_number made.left sides_small.0;
-      right_small = small_number made.right sides_small.1;
-      lhs_is = wanted;
-      lawful = record {
-        numbered = numbered;
-        left_before = half_below made.left variable (subst (λ n. made.left < n) wanted (ltb-true made.left lhs before.0));
-        right_before = half_below made.right variable (subst (λ n. made.right < n) wanted (ltb-true made.right lhs before.1));
-        left_readable = readable.0;
-        right_readable = readable.1;
-      };
-      same = t.1.1.1.1;
-    }
+    search (arith, gate_tests, nat_lt, or_parts, eqb-true, not-false, and_parts, small_number, half_below, ltb-true)
 
 -- a gate, spelled and lawful
 record IsGateLine (f : Dqbf) (variable : ℕ) (tokens : Tokens) (g : Gate) : Type 0 where
@@ -168,8 +137,7 @@ gate_read : (f : Dqbf) (variable : ℕ) (tokens : Tokens) (g : Gate) → definit
 gate_read f variable [] g h = cc
 gate_read f variable (a ∷ []) g h = cc
 gate_read f variable (a ∷ b ∷ []) g h = cc
-gate_read f variable (a ∷ b ∷ c ∷ []) g h =
-    gate_numbers f variable a b c (natural_of a) (natural_of b) (natural_of c) g refl refl refl h
+gate_read f variable (a ∷ b ∷ c ∷ []) g h = search (arith, gate_numbers)
 gate_read f variable (a ∷ b ∷ c ∷ d ∷ more) g h = cc
 
 record AreGateLines (f : Dqbf) (variable : ℕ) (spelled : List Tokens) (gates : List Gate) : Type 0 where
@@ -265,8 +233,7 @@ head_tokens f next [] head h = cc
 head_tokens f next (a ∷ []) head h = cc
 head_tokens f next (a ∷ b ∷ []) head h = cc
 head_tokens f next (a ∷ b ∷ c ∷ []) head h = cc
-head_tokens f next (a ∷ b ∷ c ∷ d ∷ []) head h =
-    head_numbers f next a b c d (natural_of a) (natural_of b) (natural_of c) (natural_of d) head refl refl refl refl h
+head_tokens f next (a ∷ b ∷ c ∷ d ∷ []) head h = search (arith, head_numbers)
 head_tokens f next (a ∷ b ∷ c ∷ d ∷ e ∷ more) head h = cc
 
 free_tests : (a b : Bool) (head : BlockHead) → cond a (Err TooBig) (cond b (Err BlockOrder) (Ok Free)) ≡ Ok head →
@@ -279,13 +246,7 @@ free_number : (f : Dqbf) (next : ℕ) (a : List ℕ) (y : Option ℕ) (head : Bl
     free_of next y ≡ Ok head → IsHead f next (codes "f" ∷ a ∷ []) head
 free_number f next a None head p h = cc
 free_number f next a (Some y) head p h =
-    let t = free_tests (is_large y) (not (y == next)) head h in
-    let own : y ≡ next = eqb-true y next (not-false (y == next) t.1.0) in
-    subst (IsHead f next (codes "f" ∷ a ∷ [])) t.1.1 (record {
-      rest = a ∷ [];
-      words = refl;
-      numbers = ap (λ n. n ∷ []) (natural_spelled a y p (small_number y t.0) ∙ ap (λ n. Int (pos n)) own);
-    })
+    search (arith, free_tests, eqb-true, not-false, natural_spelled, small_number)
 
 free_tokens : (f : Dqbf) (next : ℕ) (tokens : Tokens) (head : BlockHead) → free_head next tokens ≡ Ok head →
     IsHead f next (codes "f" ∷ tokens) head
@@ -297,10 +258,8 @@ by_letter : (letter : List ℕ) (t u : Bool) (f : Dqbf) (next : ℕ) (tokens : T
     (t ≡ true → letter ≡ codes "t") → (u ≡ true → letter ≡ codes "f") →
     cond t (defined_head f next tokens) (cond u (free_head next tokens) (Err BadLine)) ≡ Ok head →
     IsHead f next (letter ∷ tokens) head
-by_letter letter true u f next tokens head is_t is_f h =
-    subst (λ l. IsHead f next (l ∷ tokens) head) (sym (is_t refl)) (head_tokens f next tokens head h)
-by_letter letter false true f next tokens head is_t is_f h =
-    subst (λ l. IsHead f next (l ∷ tokens) head) (sym (is_f refl)) (free_tokens f next tokens head h)
+by_letter letter true u f next tokens head is_t is_f h = search (arith, head_tokens)
+by_letter letter false true f next tokens head is_t is_f h = search (arith, free_tokens)
 by_letter letter false false f next tokens head is_t is_f h = cc
 
 head_read : (f : Dqbf) (next : ℕ) (tokens : Tokens) (head : BlockHead) → head_line f next tokens ≡ Ok head →
@@ -569,9 +528,7 @@ count_read : (f : Dqbf) (token : List ℕ) (count : Option ℕ) → natural_of t
     number_of token ≡ Int (pos (length f.existentials))
 count_read f token None is h = cc
 count_read f token (Some n) is h =
-    let t = count_tests (nat_lt max_count n) (not (n == length f.existentials)) h in
-    natural_spelled token n is (few_number n (ltb-false max_count n t.0))
-    ∙ ap (λ k. Int (pos k)) (eqb-true n (length f.existentials) (not-false (n == length f.existentials) t.1))
+    search (arith, count_tests, nat_lt, natural_spelled, few_number, ltb-false, eqb-true, not-false)
 
 worded : (words : Bool) (r : Result (Unit {0}) CertFault) → cond words r (Err BadHeader) ≡ Ok tt →
     (words ≡ true) × (r ≡ Ok tt)
@@ -582,15 +539,7 @@ header_read : (f : Dqbf) (tokens : Tokens) → definitions_header f tokens ≡ O
 header_read f [] h = cc
 header_read f (letter ∷ []) h = cc
 header_read f (letter ∷ word ∷ []) h = cc
-header_read f (letter ∷ word ∷ count ∷ []) h =
-    let parts = worded (bytes_eq letter (codes "p") && bytes_eq word (codes "dqd")) (counted f (natural_of count)) h in
-    let words = and_parts (bytes_eq letter (codes "p")) (bytes_eq word (codes "dqd")) parts.0 in
-    record {
-      rest = count ∷ [];
-      words = ap₂ (λ a b. a ∷ b ∷ count ∷ []) ((bytes_eq-Decides letter (codes "p")).0 words.0)
-          ((bytes_eq-Decides word (codes "dqd")).0 words.1);
-      numbers = ap (λ n. n ∷ []) (count_read f count (natural_of count) refl parts.1);
-    }
+header_read f (letter ∷ word ∷ count ∷ []) h = search (arith, worded, and_parts, bytes_eq-Decides, count_read)
 header_read f (letter ∷ word ∷ count ∷ other ∷ more) h = cc
 
 -- the text

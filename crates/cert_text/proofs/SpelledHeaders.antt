@@ -1,5 +1,5 @@
 -- Header lines, as their reader takes them and as the grammar spells them.
-use Rattle.std.proofs.Common.{◌≡◌, ℕ, ◌≤◌, nat_lt, Bool, true, false, cond, ◌||◌, List, [], ◌∷◌, Option, Some, None, Result, Ok, Err, codes, refl, ◌∙◌, ap, ap₂, arith, subst}
+use Rattle.std.proofs.Common.{◌≡◌, ℕ, ◌≤◌, nat_lt, Bool, true, false, cond, List, [], ◌∷◌, Option, Some, None, Result, Ok, Err, codes, refl, ◌∙◌, ap, ap₂, arith}
 use Rattle.std.specs.Str.{bytes_eq}
 use Rattle.std.proofs.lemmas.Bool.{or_from, or_parts, le-ltb, ltb-false, cond-false}
 use Rattle.std.proofs.lemmas.Slice.Eq.{bytes_eq-Decides}
@@ -9,7 +9,7 @@ use Rattle.cert_text.specs.ProofGrammar.{SpellsProofHeader}
 use Rattle.dq_text.proofs.Naturals.{natural_taken, natural_spelled}
 use Rattle.dq_text.specs.Number.{natural_of}
 use Rattle.cert_text.specs.declared.faults.CertFault.{CertFault}
-use Rattle.cert_text.specs.declared.faults.CertFault.TheVariants.{BadHeader, TooBig}
+use Rattle.cert_text.specs.declared.faults.CertFault.TheVariants.{BadHeader}
 use Rattle.cert_text.specs.declared.headers.RowsAndItems.{RowsAndItems}
 use Rattle.cert_text.specs.declared.headers.ItemCount.{ItemCount}
 use Rattle.cert_text.specs.declared.versions.Version.{Version}
@@ -33,23 +33,13 @@ by_words false false word_of word version first second h = cc
 
 word_is : (word_of : Version → List ℕ) (word : List ℕ) (version : Version) → version_of word_of word ≡ Some version →
     word ≡ word_of version
-word_is word_of word version h =
-    by_words (bytes_eq word (word_of One)) (bytes_eq word (word_of Two)) word_of word version
-    (bytes_eq-Decides word (word_of One)).0 (bytes_eq-Decides word (word_of Two)).0 h
+word_is word_of word version h = search (arith, by_words, bytes_eq-Decides)
 
 pub header_taken : (tokens : Tokens) (version : Version) (rows items : ℕ) → SpellsHeader tokens version rows items →
     rows ≤ max_count → items ≤ max_count →
     header_of tokens ≡ Ok (record { version = version; rows = rows; items = items })
 header_taken tokens version rows items spelled few_rows few_items =
-    ap header_of spelled.words
-    ∙ ap (λ v. counts_of v (natural_of spelled.rows_token) (natural_of spelled.items_token))
-    (refutation_version version)
-    ∙ ap₂ (counts_of (Some version)) (natural_taken spelled.rows_token rows spelled.rows_number)
-    (natural_taken spelled.items_token items spelled.items_number)
-    ∙ cond-false (nat_lt max_count rows || nat_lt max_count items) (Err TooBig)
-    (Ok (record { version = version; rows = rows; items = items }))
-    (or_from (nat_lt max_count rows) (nat_lt max_count items) (le-ltb max_count rows (omega (arith, few_rows)))
-    (le-ltb max_count items (omega (arith, few_items))))
+    search (arith, refutation_version, natural_taken, cond-false, nat_lt, or_from, le-ltb)
 
 pub record IsHeader (tokens : Tokens) (c : RowsAndItems) : Type 0 where
   pub spelled : SpellsHeader tokens c.version c.rows c.items
@@ -74,18 +64,7 @@ are_counts : (version : Option Version) (rows items : Option ℕ) (c : RowsAndIt
 are_counts None rows items c h = cc
 are_counts (Some v) None items c h = cc
 are_counts (Some v) (Some k) None c h = cc
-are_counts (Some v) (Some k) (Some n) c h =
-    let made : RowsAndItems = record { version = v; rows = k; items = n } in
-    let checked = passed (nat_lt max_count k || nat_lt max_count n) TooBig (Ok made) c h in
-    let small = or_parts (nat_lt max_count k) (nat_lt max_count n) checked.0 in
-    let is : made ≡ c = cc in
-    subst (AreCounts (Some v) (Some k) (Some n)) is (record {
-      version_is = refl;
-      rows_are = refl;
-      items_are = refl;
-      few_rows = ltb-false max_count k small.0;
-      few_items = ltb-false max_count n small.1;
-    })
+are_counts (Some v) (Some k) (Some n) c h = search (arith, passed, nat_lt, or_parts, ltb-false)
 
 four_tokens : (letter word k n : List ℕ) (c : RowsAndItems) → header_of (letter ∷ word ∷ k ∷ n ∷ []) ≡ Ok c →
     IsHeader (letter ∷ word ∷ k ∷ n ∷ []) c
@@ -121,10 +100,7 @@ pub proof_header_taken : (tokens : Tokens) (version : Version) (items : ℕ) →
     items ≤ max_count →
     proof_header tokens ≡ Ok (record { version = version; items = items })
 proof_header_taken tokens version items spelled few =
-    ap proof_header spelled.words
-    ∙ ap₂ count_of (proof_version version) (natural_taken spelled.items_token items spelled.items_number)
-    ∙ cond-false (nat_lt max_count items) (Err TooBig) (Ok (record { version = version; items = items }))
-    (le-ltb max_count items (omega (arith, few)))
+    search (arith, proof_version, natural_taken, cond-false, nat_lt, le-ltb)
 
 pub record IsProofHeader (tokens : Tokens) (c : ItemCount) : Type 0 where
   pub spelled : SpellsProofHeader tokens c.version c.items
@@ -139,16 +115,7 @@ is_count : (version : Option Version) (items : Option ℕ) (c : ItemCount) → c
     IsCount version items c
 is_count None items c h = cc
 is_count (Some v) None c h = cc
-is_count (Some v) (Some n) c h =
-    let made : ItemCount = record { version = v; items = n } in
-    let checked = passed (nat_lt max_count n) TooBig (Ok made) c h in
-    let is : made ≡ c = cc in
-    subst (IsCount (Some v) (Some n)) is (record {
-      version_is = refl;
-      items_are = refl;
-      few =
-          ltb-false max_count n checked.0;
-    })
+is_count (Some v) (Some n) c h = search (arith, passed, nat_lt, ltb-false)
 
 two_tokens : (word token : List ℕ) (c : ItemCount) → proof_header (word ∷ token ∷ []) ≡ Ok c →
     IsProofHeader (word ∷ token ∷ []) c

@@ -1,8 +1,5 @@
 -- Items, as their reader takes them and as the grammar spells them.
-use Rattle.std.proofs.Common.{◌≡◌, ℕ, ◌≤◌, ℤ, pos, nat_abs, Bool, true, false, not, cond, ◌&&◌, List, [], ◌∷◌, ◌++◌, map, length, Option, None, Some, Result, Ok, Err, codes, refl, sym, ◌∙◌, ap, ap₂, arith, subst}
-use Rattle.std.specs.Int.{is_positive}
-use Rattle.std.specs.List.{list_all}
-use Rattle.std.specs.Option.{option_and_then}
+use Rattle.std.proofs.Common.{◌≡◌, ℕ, ◌≤◌, ℤ, pos, nat_abs, Bool, true, false, not, cond, List, [], ◌∷◌, ◌++◌, map, length, Option, None, Some, Result, Ok, Err, codes, refl, sym, ◌∙◌, ap, arith, subst}
 use Rattle.std.specs.Str.{bytes_eq}
 use Rattle.std.proofs.lemmas.Bool.{and_from, and_parts}
 use Rattle.std.proofs.lemmas.Option.{option_and_then_some}
@@ -14,7 +11,7 @@ use Rattle.rup_core.specs.Items.{ProofItem, derived, gone}
 use Rattle.cert_text.specs.Grammar.{Tokens, integers, SpellsStep, SpellsDeletion, SpellsItem, IsDeletion, IsItem, IsSmallItem}
 use Rattle.cert_text.specs.ItemLine.{ids_of_parts, deletion_of, deleted_ids, checked_ids, as_item, marked_line, item_line}
 use Rattle.cert_text.specs.LineStop.{and_then}
-use Rattle.cert_text.specs.Numbering.{Numbering, are_live}
+use Rattle.cert_text.specs.Numbering.{Numbering}
 use Rattle.cert_text.specs.Numbers.{line_integers}
 use Rattle.cert_text.specs.StepLine.{cut_at_zero, is_nil, shaped, step_line}
 use Rattle.cert_text.specs.declared.faults.CertFault.{CertFault}
@@ -32,10 +29,7 @@ Parts = List ℤ × List ℤ
 -- a number isn't `d`
 by_test : (b : Bool) (token : List ℕ) (k : ℤ) → number_of token ≡ Int k → (b ≡ true → token ≡ codes "d") → b ≡ false
 by_test false token k is letter = refl
-by_test true token k is letter = letters (ap number_of (sym (letter refl)) ∙ is)
-  where
-    letters : number_of (codes "d") ≡ Int k → true ≡ false
-    letters h = cc
+by_test true token k is letter = search arith
 
 -- what a deletion spells is taken
 some_ids : (ids : List ℕ) → 1 ≤ length ids → not (is_nil (hint_numbers ids)) ≡ true
@@ -44,45 +38,26 @@ some_ids (id ∷ ids) some = refl
 
 deletion_kept : (ids : List ℕ) → 1 ≤ length ids → AreIds ids → deletion_of (hint_numbers ids ++ pos 0 ∷ []) ≡ Some ids
 deletion_kept ids some are =
-    let ns = hint_numbers ids in
-    let tests = and_from (not (is_nil ns)) (list_all is_positive ns && true) (some_ids ids some)
-    (and_from (list_all is_positive ns) true (hints_positive ids are) refl) in
-    ap (option_and_then (λ (parts : Parts). ids_of_parts parts.0 parts.1)) (cut ns [] (hints_nonzero ids are))
-    ∙ ap (λ b. cond b (Some (map nat_abs ns)) None) tests
-    ∙ ap Some (hints_back ids)
+    search (arith, hint_numbers, and_from, some_ids, hints_positive, cut, hints_nonzero, nat_abs, hints_back)
 
 deletion_taken : (p : ℕ → Bool) (n : Numbering) (tokens : Tokens) (ids : List ℕ) → IsNumbered n →
     SpellsDeletion tokens ids → IsDeletion n ids →
     marked_line p n tokens ≡ Ok (gone ids)
 deletion_taken p n tokens ids numbered spelled is =
-    ap (marked_line p n) spelled.letter
-    ∙ ap (λ r. and_then (checked_ids n) (and_then (λ ns. shaped (deletion_of ns)) r))
-    (integers_taken spelled.rest (hint_numbers ids ++ pos 0 ∷ []) spelled.numbers)
-    ∙ ap (λ o. and_then (checked_ids n) (shaped o)) (deletion_kept ids is.some
-    (live_ids (λ id. 1 ≤ id) n ids numbered.live is.live))
-    ∙ ap (λ b. cond b (Ok (gone ids)) (Err NotLive)) is.live
+    search (arith, integers_taken, hint_numbers, deletion_kept, live_ids)
 
 marked_step : (p : ℕ → Bool) (n : Numbering) (tokens : Tokens) (s : ProofStep) → SpellsStep tokens s →
     step_line p n.next tokens ≡ Ok s →
     marked_line p n tokens ≡ Ok (derived s)
 marked_step p n [] s spelled taken = cc
-marked_step p n (token ∷ tokens) s spelled taken =
-    let here : number_of token ≡ Int (pos s.id) = cc in
-    ap (λ b. cond b (and_then (checked_ids n) (deleted_ids tokens)) (as_item (step_line p n.next (token ∷ tokens))))
-    (by_test (bytes_eq token (codes "d")) token (pos s.id) here (bytes_eq-Decides token (codes "d")).0)
-    ∙ ap as_item taken
+marked_step p n (token ∷ tokens) s spelled taken = search (arith, by_test, bytes_eq-Decides)
 
 pub item_taken : (version : Version) (p : ℕ → Bool) (n : Numbering) (tokens : Tokens) (item : ProofItem) →
     ((v : ℕ) → p v ≡ true → 1 ≤ v) → IsNumbered n →
     SpellsItem version tokens item → IsItem p n item → item_line version p n tokens ≡ Ok item
-item_taken One p n tokens (derived s) some numbered spelled is =
-    ap as_item (step_taken p n.next tokens s some numbered.next spelled is)
-item_taken One p n tokens (gone ids) some numbered spelled is = absurd (apart spelled.0)
-  where
-    apart : One ≡ Two → ⊥
-    apart h = cc
-item_taken Two p n tokens (derived s) some numbered spelled is =
-    marked_step p n tokens s spelled (step_taken p n.next tokens s some numbered.next spelled is)
+item_taken One p n tokens (derived s) some numbered spelled is = search (arith, step_taken)
+item_taken One p n tokens (gone ids) some numbered spelled is = search arith
+item_taken Two p n tokens (derived s) some numbered spelled is = search (arith, marked_step, step_taken)
 item_taken Two p n tokens (gone ids) some numbered spelled is = deletion_taken p n tokens ids numbered spelled.1 is
 
 -- an item, spelled and lawful
@@ -123,17 +98,7 @@ of_parts : (tokens : Tokens) (ns : List ℤ) (parts : Parts) (ids : List ℕ) �
     cut_at_zero ns ≡ Some parts →
     ids_of_parts parts.0 parts.1 ≡ Some ids → AreTaken tokens ids
 of_parts tokens ns parts ids numbers is h =
-    let made = kept_ids (not (is_nil parts.0) && (list_all is_positive parts.0 && is_nil parts.1))
-    (map nat_abs parts.0) ids h in
-    let first = and_parts (not (is_nil parts.0)) (list_all is_positive parts.0 && is_nil parts.1) made.0 in
-    let second = and_parts (list_all is_positive parts.0) (is_nil parts.1) first.1 in
-    let whole : ns ≡ hint_numbers (map nat_abs parts.0) ++ pos 0 ∷ [] =
-    cut_back ns parts is ∙ ap₂ (λ a b. a ++ pos 0 ∷ b) (sym (hints_are parts.0 second.0).0) (nil_is parts.1 second.1) in
-    subst (AreTaken tokens) made.1 (record {
-      numbers = numbers ∙ ap integers whole;
-      some =
-          length_some parts.0 first.0;
-    })
+    search (arith, kept_ids, nat_abs, and_parts, hint_numbers, cut_back, hints_are, nil_is, length_some)
 
 by_shape : (tokens : Tokens) (ns : List ℤ) (found : Option (List ℕ)) (ids : List ℕ) →
     map number_of tokens ≡ integers ns → deletion_of ns ≡ found →
@@ -158,14 +123,7 @@ by_ids : (p : ℕ → Bool) (n : Numbering) (tokens : Tokens) (taken : Result (L
     deleted_ids tokens ≡ taken →
     and_then (checked_ids n) taken ≡ Ok item → IsItemLine Two p n (codes "d" ∷ tokens) item
 by_ids p n tokens (Err name) item is h = cc
-by_ids p n tokens (Ok ids) item is h =
-    let kept = live_kept (are_live n ids) ids item h in
-    let are = by_integers tokens (line_integers tokens) ids refl is in
-    subst (IsItemLine Two p n (codes "d" ∷ tokens)) kept.1 (record {
-      spelled = (refl, record { rest = tokens; letter = refl; numbers = are.numbers });
-      lawful = record { some = are.some; live = kept.0 };
-      small = tt;
-    })
+by_ids p n tokens (Ok ids) item is h = search (arith, live_kept, by_integers)
 
 by_letter : (b : Bool) (p : ℕ → Bool) (n : Numbering) (token : List ℕ) (tokens : Tokens) (item : ProofItem) →
     (b ≡ true → token ≡ codes "d") →
@@ -174,8 +132,7 @@ by_letter : (b : Bool) (p : ℕ → Bool) (n : Numbering) (token : List ℕ) (to
 by_letter true p n token tokens item letter h =
     subst (λ t. IsItemLine Two p n (t ∷ tokens) item) (sym (letter refl))
     (by_ids p n tokens (deleted_ids tokens) item refl h)
-by_letter false p n token tokens item letter h = by_step Two p n (token ∷ tokens)
-    (step_line p n.next (token ∷ tokens)) item refl h
+by_letter false p n token tokens item letter h = search (arith, by_step)
 
 pub item_spelled : (version : Version) (p : ℕ → Bool) (n : Numbering) (tokens : Tokens) (item : ProofItem) →
     item_line version p n tokens ≡ Ok item →

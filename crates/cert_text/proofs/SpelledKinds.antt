@@ -1,5 +1,5 @@
 -- The kind of a certificate, as its first lines tell it.
-use Rattle.std.proofs.Common.{◌≡◌, ◌≢◌, ℕ, ◌+◌, ◌-◌, ◌==◌, ◌≤◌, Bool, true, false, cond, inl, inr, List, [], ◌∷◌, length, Option, Some, None, Result, Ok, Err, codes, refl, sym, ◌∙◌, ap, ap₂, arith, subst}
+use Rattle.std.proofs.Common.{◌≡◌, ◌≢◌, ℕ, ◌+◌, ◌-◌, ◌==◌, ◌≤◌, Bool, true, false, cond, inl, inr, List, [], ◌∷◌, length, Option, Some, None, Result, Ok, Err, codes, refl, sym, ◌∙◌, ap, arith, subst}
 use Rattle.std.specs.Str.{bytes_eq}
 use Rattle.std.proofs.lemmas.Slice.Eq.{bytes_eq-Decides}
 use Rattle.dq_text.specs.Line.{TextLine, line_tokens, extend_line, lines_from}
@@ -21,28 +21,12 @@ record IsFirst (n : ℕ) (text : List ℕ) (line : TextLine) (lines : List TextL
 fed : (n : ℕ) (bytes : List ℕ) (byte : ℕ) (line : TextLine) (lines : List TextLine) →
     record { text = []; number = n; behind = bytes } ∷ lines_from (n + 1) bytes ≡ line ∷ lines →
     IsFirst n (byte ∷ bytes) line lines
-fed n bytes byte line lines h =
-    let line_is : record { text = []; number = n; behind = bytes } ≡ line = cc in
-    let lines_are : lines_from (n + 1) bytes ≡ lines = cc in
-    let behind : bytes ≡ line.behind = ap (λ (l : TextLine). l.behind) line_is in
-    record {
-      number = sym (ap (λ (l : TextLine). l.number) line_is);
-      next = sym lines_are ∙ ap (lines_from (n + 1)) behind;
-      short = omega (arith, ap length behind);
-    }
+fed n bytes byte line lines h = search arith
 
 extended : (n : ℕ) (bytes : List ℕ) (byte : ℕ) (line : TextLine) (lines found : List TextLine) →
     ((l : TextLine) (ls : List TextLine) → found ≡ l ∷ ls → IsFirst n bytes l ls) →
     extend_line byte n found ≡ line ∷ lines → IsFirst n (byte ∷ bytes) line lines
-extended n bytes byte line lines [] later h =
-    let line_is : record { text = byte ∷ []; number = n; behind = [] } ≡ line = cc in
-    let lines_are : [] ≡ lines = cc in
-    let behind : [] ≡ line.behind = ap (λ (l : TextLine). l.behind) line_is in
-    record {
-      number = sym (ap (λ (l : TextLine). l.number) line_is);
-      next = sym lines_are ∙ ap (lines_from (n + 1)) behind;
-      short = omega (arith, ap length behind);
-    }
+extended n bytes byte line lines [] later h = search arith
 extended n bytes byte line lines (l ∷ ls) later h =
     let first = later l ls refl in
     let line_is : record { text = byte ∷ l.text; number = n; behind = l.behind } ≡ line = cc in
@@ -105,12 +89,8 @@ nothing_behind others same = cc
 
 behind_p : (place number : ℕ) (tokens : List (List ℕ)) (kind : Kind) → kind_of_p place number tokens ≡ kind →
     IsHeaderOf place number (codes "p" ∷ tokens) kind
-behind_p place number [] kind h =
-    subst (IsHeaderOf place number (codes "p" ∷ [])) h
-    (record { rest = []; word = refl; behind = nothing_behind; place_is = refl; number_is = refl })
-behind_p place number (word ∷ others) kind h =
-    by_second (bytes_eq word (codes "dqd")) place number word others kind (bytes_eq-Decides word (codes "dqd")).0
-    (bytes_eq-Decides word (codes "dqd")).1 h
+behind_p place number [] kind h = search (arith, nothing_behind)
+behind_p place number (word ∷ others) kind h = search (arith, by_second, bytes_eq-Decides)
 
 by_words : (circuit binary refutation : Bool) (place number : ℕ) (word : List ℕ) (tokens : List (List ℕ))
     (kind : Kind) →
@@ -127,18 +107,13 @@ by_words false true refutation place number word tokens kind aag aig p h =
     let is : BinaryCircuit place number ≡ kind = cc in
     subst (IsHeaderOf place number (word ∷ tokens)) is (record
     { rest = tokens; word = ap (λ w. w ∷ tokens) (aig refl); behind = tt; place_is = refl; number_is = refl })
-by_words false false true place number word tokens kind aag aig p h =
-    let is : kind_of_p place number tokens ≡ kind = cc in
-    subst (λ w. IsHeaderOf place number (w ∷ tokens) kind) (sym (p refl)) (behind_p place number tokens kind is)
+by_words false false true place number word tokens kind aag aig p h = search (arith, behind_p)
 by_words false false false place number word tokens kind aag aig p h = cc
 
 header_is : (place number : ℕ) (tokens : List (List ℕ)) (kind : Kind) → header_kind place number tokens ≡ Ok kind →
     IsHeaderOf place number tokens kind
 header_is place number [] kind h = cc
-header_is place number (word ∷ tokens) kind h =
-    by_words (bytes_eq word (codes "aag")) (bytes_eq word (codes "aig")) (bytes_eq word (codes "p")) place number word
-    tokens kind (bytes_eq-Decides word (codes "aag")).0 (bytes_eq-Decides word (codes "aig")).0
-    (bytes_eq-Decides word (codes "p")).0 h
+header_is place number (word ∷ tokens) kind h = search (arith, by_words, bytes_eq-Decides)
 
 abbrev word_of : Verdict → List ℕ
 word_of True = codes "TRUE"
@@ -147,27 +122,21 @@ word_of False = codes "FALSE"
 verdict_is : (t f : Bool) (word : List ℕ) (verdict : Verdict) → (t ≡ true → word ≡ codes "TRUE") →
     (f ≡ true → word ≡ codes "FALSE") →
     cond t (Some True) (cond f (Some False) None) ≡ Some verdict → word ≡ word_of verdict
-verdict_is true f word verdict is_true is_false h =
-    let is : True ≡ verdict = cc in is_true refl ∙ ap word_of is
-verdict_is false true word verdict is_true is_false h =
-    let is : False ≡ verdict = cc in is_false refl ∙ ap word_of is
+verdict_is true f word verdict is_true is_false h = search arith
+verdict_is false true word verdict is_true is_false h = search arith
 verdict_is false false word verdict is_true is_false h = cc
 
 by_letter : (s : Bool) (letter word : List ℕ) (verdict : Verdict) → (s ≡ true → letter ≡ codes "s") →
     cond s (verdict_of_word word) None ≡ Some verdict →
     letter ∷ word ∷ [] ≡ codes "s" ∷ word_of verdict ∷ []
-by_letter true letter word verdict is_s h =
-    ap₂ (λ a b. a ∷ b ∷ []) (is_s refl)
-    (verdict_is (bytes_eq word (codes "TRUE")) (bytes_eq word (codes "FALSE")) word verdict
-    (bytes_eq-Decides word (codes "TRUE")).0 (bytes_eq-Decides word (codes "FALSE")).0 h)
+by_letter true letter word verdict is_s h = search (arith, verdict_is, bytes_eq-Decides)
 by_letter false letter word verdict is_s h = cc
 
 stated_is : (tokens : List (List ℕ)) (verdict : Verdict) → stated_verdict tokens ≡ Some verdict →
     tokens ≡ codes "s" ∷ word_of verdict ∷ []
 stated_is [] verdict h = cc
 stated_is (letter ∷ []) verdict h = cc
-stated_is (letter ∷ word ∷ []) verdict h = by_letter (bytes_eq letter (codes "s")) letter word verdict
-    (bytes_eq-Decides letter (codes "s")).0 h
+stated_is (letter ∷ word ∷ []) verdict h = search (arith, by_letter, bytes_eq-Decides)
 stated_is (letter ∷ word ∷ more ∷ rest) verdict h = cc
 
 same_word : (verdict : Verdict) (kind : Kind) → shows kind verdict ≡ true →
@@ -189,9 +158,7 @@ agreed false kind other h = cc
 agrees : (verdict : Verdict) (found : Result Kind CertRefusal) (kind : Kind) → agreeing verdict found ≡ Ok kind →
     (found ≡ Ok kind) × (verdict_word kind ≡ Some (word_of verdict))
 agrees verdict (Err fault) kind h = cc
-agrees verdict (Ok found) kind h =
-    let both = agreed (shows found verdict) found kind h in
-    (ap Ok both.1, ap verdict_word (sym both.1) ∙ same_word verdict found both.0)
+agrees verdict (Ok found) kind h = search (arith, agreed, same_word)
 
 behind_verdict : (text : List ℕ) (verdict : Verdict) (line : TextLine) (lines : List TextLine) (kind : Kind) →
     lines_from 1 text ≡ line ∷ lines →
@@ -234,14 +201,12 @@ by_statement text line lines None kind is stated h =
       place = found.place_is;
       number = found.number_is ∙ (first_line 1 text line lines is).number;
     })
-by_statement text line lines (Some verdict) kind is stated h =
-    inr (behind_verdict text verdict line lines kind is (stated_is (line_tokens line.text) verdict stated) h)
+by_statement text line lines (Some verdict) kind is stated h = search (arith, behind_verdict, stated_is)
 
 by_lines : (text : List ℕ) (lines : List TextLine) (kind : Kind) → lines_from 1 text ≡ lines →
     kind_of_lines (length text) lines ≡ Ok kind → Begins text kind
 by_lines text [] kind is h = cc
-by_lines text (line ∷ lines) kind is h = by_statement text line lines
-    (stated_verdict (line_tokens line.text)) kind is refl h
+by_lines text (line ∷ lines) kind is h = search (arith, by_statement)
 
 pub kind_spelled : (text : List ℕ) (kind : Kind) → certificate_kind text ≡ Ok kind → Begins text kind
 kind_spelled text kind h = by_lines text (lines_from 1 text) kind refl h
@@ -277,24 +242,13 @@ refutation_told place number (word ∷ others) differ =
 told : (kind : Kind) (place number : ℕ) (rest : List (List ℕ)) → HasRest kind rest → header_place kind ≡ place →
     header_number kind ≡ number →
     header_kind place number (header_word kind ∷ rest) ≡ Ok kind
-told (Circuit at line) place number rest behind place_is number_is =
-    ap₂ (λ p n. Ok (Circuit p n)) (sym place_is) (sym number_is)
-told (BinaryCircuit at line) place number rest behind place_is number_is =
-    ap₂ (λ p n. Ok (BinaryCircuit p n)) (sym place_is) (sym number_is)
-told (Refutation at line) place number rest behind place_is number_is =
-    ap Ok (refutation_told place number rest behind) ∙ ap₂ (λ p n. Ok (Refutation p n)) (sym place_is) (sym number_is)
-told (Definitions at line) place number rest behind place_is number_is =
-    ap (λ tokens. Ok (kind_of_p place number tokens)) behind.1
-    ∙ ap₂ (λ p n. Ok (Definitions p n)) (sym place_is) (sym number_is)
+told (Circuit at line) place number rest behind place_is number_is = search arith
+told (BinaryCircuit at line) place number rest behind place_is number_is = search arith
+told (Refutation at line) place number rest behind place_is number_is = search (arith, refutation_told)
+told (Definitions at line) place number rest behind place_is number_is = search arith
 
 plain_told : (text : List ℕ) (kind : Kind) → BeginsPlainly text kind → certificate_kind text ≡ Ok kind
-plain_told text kind b =
-    let number = b.number ∙ sym (first_line 1 text b.header b.others b.lines).number in
-    ap (kind_of_lines (length text)) b.lines
-    ∙ ap (λ tokens. kind_behind (length text) b.header b.others (stated_verdict tokens)) b.word
-    ∙ ap (kind_behind (length text) b.header b.others) (unstated kind b.rest)
-    ∙ ap (header_kind 0 b.header.number) b.word
-    ∙ told kind 0 b.header.number b.rest b.behind b.place number
+plain_told text kind b = search (arith, first_line, unstated, told)
 
 abbrev verdict_of : Kind → Verdict
 verdict_of (Refutation _ _) = False
@@ -302,12 +256,9 @@ verdict_of _ = True
 
 stated_told : (kind : Kind) (word : List ℕ) → verdict_word kind ≡ Some word →
     stated_verdict (codes "s" ∷ word ∷ []) ≡ Some (verdict_of kind)
-stated_told (Circuit place number) word is =
-    let same : codes "TRUE" ≡ word = cc in ap (λ w. stated_verdict (codes "s" ∷ w ∷ [])) (sym same)
-stated_told (BinaryCircuit place number) word is =
-    let same : codes "TRUE" ≡ word = cc in ap (λ w. stated_verdict (codes "s" ∷ w ∷ [])) (sym same)
-stated_told (Refutation place number) word is =
-    let same : codes "FALSE" ≡ word = cc in ap (λ w. stated_verdict (codes "s" ∷ w ∷ [])) (sym same)
+stated_told (Circuit place number) word is = search arith
+stated_told (BinaryCircuit place number) word is = search arith
+stated_told (Refutation place number) word is = search arith
 stated_told (Definitions place number) word is = cc
 
 agreeing_told : (kind : Kind) (word : List ℕ) → verdict_word kind ≡ Some word →
@@ -318,19 +269,7 @@ agreeing_told (Refutation place number) word is = refl
 agreeing_told (Definitions place number) word is = cc
 
 verdict_told : (text : List ℕ) (kind : Kind) → BeginsWithVerdict text kind → certificate_kind text ≡ Ok kind
-verdict_told text kind b =
-    let lines = b.header ∷ b.others in
-    let first = first_line 1 text b.stated lines b.lines in
-    let second = first_line 2 b.stated.behind b.header b.others (sym first.next) in
-    let place : header_place kind ≡ length text - length b.stated.behind = omega (arith, b.place) in
-    ap (kind_of_lines (length text)) b.lines
-    ∙ ap (λ tokens. kind_behind (length text) b.stated lines (stated_verdict tokens)) b.verdict
-    ∙ ap (kind_behind (length text) b.stated lines) (stated_told kind b.shown b.shows)
-    ∙ ap (λ tokens. agreeing (verdict_of kind) (header_kind
-    (length text - length b.stated.behind) b.header.number tokens)) b.word
-    ∙ ap (agreeing (verdict_of kind)) (told kind (length text - length b.stated.behind) b.header.number b.rest b.behind
-    place (b.number ∙ sym second.number))
-    ∙ agreeing_told kind b.shown b.shows
+verdict_told text kind b = search (arith, first_line, stated_told, told, agreeing_told)
 
 pub kind_told : (text : List ℕ) (kind : Kind) → Begins text kind → certificate_kind text ≡ Ok kind
 kind_told text kind begins = elim begins [

@@ -1,5 +1,5 @@
 -- Lines of a kind, as their reader takes them and as the grammar spells them.
-use Rattle.std.proofs.Common.{◌≡◌, ℕ, zero, suc, ◌+◌, ◌≤◌, Bool, true, List, [], ◌∷◌, ◌++◌, length, Result, Ok, Err, refl, sym, ap, subst}
+use Rattle.std.proofs.Common.{◌≡◌, ℕ, zero, suc, ◌+◌, ◌≤◌, Bool, true, List, [], ◌∷◌, ◌++◌, length, Result, Ok, Err, refl, ap, arith}
 use Rattle.std.specs.List.{AllByRecursion, AllZip}
 use Rattle.dq_text.specs.Line.{TextLine, line_tokens}
 use Rattle.rup_core.specs.Items.{ProofItem}
@@ -33,35 +33,17 @@ module _ {S A : Type 0} (F : Format S A) where
   one_more : (item : A) (items : List A) (behind : List Tokens) (read : Result (LinesRead A) CertRefusal) →
       ReadsAll items behind read →
       ReadsAll (item ∷ items) behind (and_read read (with_item item))
-  one_more item items behind read r = record {
-    found = record { items = item ∷ r.found.items; rest = r.found.rest; number = r.found.number };
-    is = ap (λ x. and_read x (with_item item)) r.is;
-    items_are = ap (λ xs. item ∷ xs) r.items_are;
-    behind_are = r.behind_are;
-  }
+  one_more item items behind read r = search arith
 
   pub all_read : (items : List A) (spelled behind : List Tokens) (at : S) (lines : List TextLine) (number : ℕ) →
       AreRead at spelled items →
       by_tokens lines ≡ spelled ++ behind → ReadsAll items behind (read_some F at (length items) lines number)
-  all_read [] [] behind at lines number each are =
-      record {
-        found = record { items = []; rest = lines; number = number };
-        is = refl;
-        items_are = refl;
-        behind_are = are;
-      }
+  all_read [] [] behind at lines number each are = search arith
   all_read [] (t ∷ ts) behind at lines number each are = absurd each
   all_read (item ∷ items) [] behind at lines number each are = absurd each
   all_read (item ∷ items) (t ∷ ts) behind at [] number each are = cc
   all_read (item ∷ items) (t ∷ ts) behind at (line ∷ lines) number each are =
-      let here : t ≡ line_tokens line.text = cc in
-      let rest : by_tokens lines ≡ ts ++ behind = cc in
-      let first : Ok item ≡ F.line at (line_tokens line.text) =
-      subst (λ tokens. Ok item ≡ F.line at tokens) here (sym each.0) in
-      subst (λ r. ReadsAll (item ∷ items) behind (and_read (at_line line.number r)
-      (λ x. and_read (read_some F (F.behind at x) (length items) lines (line.number + 1)) (with_item x)))) first
-      (one_more item items behind (read_some F (F.behind at item) (length items) lines (line.number + 1))
-      (all_read items ts behind (F.behind at item) lines (line.number + 1) each.1 rest))
+      search (arith, by_tokens, one_more, (all_read items ts behind))
 
   -- what was read, and the lines that it was read from
   pub record IsReadFrom (at : S) (count : ℕ) (lines : List TextLine) (r : LinesRead A) : Type 0 where
@@ -87,10 +69,7 @@ module _ {S A : Type 0} (F : Format S A) where
       IsReadFrom (F.behind at item) count lines rest) →
       and_read others (with_item item) ≡ Ok r → IsReadFrom at (suc count) (line ∷ lines) r
   by_rest at count line lines r item (Err fault) is given h = cc
-  by_rest at count line lines r item (Ok rest) is given h =
-      let same : record { items = item ∷ rest.items; rest = rest.rest; number = rest.number } ≡ r = cc in
-      subst (IsReadFrom at (suc count) (line ∷ lines)) same (in_front at count line lines item rest is
-      (given rest refl))
+  by_rest at count line lines r item (Ok rest) is given h = search (arith, in_front)
 
   by_first : (at : S) (count : ℕ) (line : TextLine) (lines : List TextLine) (r : LinesRead A)
       (first : Result A CertFault) →
@@ -101,9 +80,7 @@ module _ {S A : Type 0} (F : Format S A) where
       (read_some F (F.behind at item) count lines (line.number + 1)) (with_item item)) ≡ Ok r →
       IsReadFrom at (suc count) (line ∷ lines) r
   by_first at count line lines r (Err name) is given h = cc
-  by_first at count line lines r (Ok item) is given h =
-      by_rest at count line lines r item (read_some F (F.behind at item) count lines (line.number + 1)) is
-      (given item) h
+  by_first at count line lines r (Ok item) is given h = search (arith, by_rest)
 
   nothing_read : (at : S) (lines : List TextLine) (number : ℕ) →
       IsReadFrom at 0 lines (record { items = []; rest = lines; number = number })
@@ -112,14 +89,9 @@ module _ {S A : Type 0} (F : Format S A) where
   pub read_from_lines : (count : ℕ) (at : S) (lines : List TextLine) (number : ℕ) (r : LinesRead A) →
       read_some F at count lines number ≡ Ok r →
       IsReadFrom at count lines r
-  read_from_lines zero at lines number r h =
-      let made : LinesRead A = record { items = []; rest = lines; number = number } in
-      let same : made ≡ r = cc in
-      subst (IsReadFrom at 0 lines) same (nothing_read at lines number)
+  read_from_lines zero at lines number r h = search (arith, nothing_read)
   read_from_lines (suc count) at [] number r h = cc
-  read_from_lines (suc count) at (line ∷ lines) number r h =
-      by_first at count line lines r (F.line at (line_tokens line.text)) refl
-      (λ item rest is. read_from_lines count (F.behind at item) lines (line.number + 1) rest is) h
+  read_from_lines (suc count) at (line ∷ lines) number r h = search (arith, by_first, (read_from_lines count))
 
 -- rows
 pub rows_taken : (us : List ℕ) (spelled : List Tokens) (rows : List (List Bool)) → ArePositive us →

@@ -1,5 +1,5 @@
 -- A circuit's proof is read exactly where a text spells it.
-use Rattle.std.proofs.Common.{◌≡◌, ℕ, ◌+◌, ◌≤◌, Bool, true, List, [], ◌∷◌, ◌++◌, length, Result, Ok, Err, IfOk, refl, sym, ◌∙◌, ap, arith, subst}
+use Rattle.std.proofs.Common.{◌≡◌, ℕ, ◌+◌, ◌≤◌, Bool, true, List, [], ◌∷◌, ◌++◌, length, Result, Ok, Err, IfOk, ◌∙◌, ap, arith, subst}
 use Rattle.std.specs.List.{AllZip}
 use Rattle.std.proofs.lemmas.Bool.{and_parts, leb-true}
 use Rattle.std.proofs.lemmas.List.Elements.{All-from_recursion}
@@ -8,8 +8,8 @@ use Rattle.dq_text.specs.Line.{TextLine, line_tokens, lines_from}
 use Rattle.circuit_plain.specs.Netlist.{Netlist}
 use Rattle.rup_core.specs.Items.{ProofItem}
 use Rattle.cert_text.specs.CircuitProof.{is_proof_variable, first_proof_id, read_proof, circuit_proof_of}
-use Rattle.cert_text.specs.Grammar.{Tokens, SpellsItem, IsSmallItem}
-use Rattle.cert_text.specs.Header.{max_count, proof_header}
+use Rattle.cert_text.specs.Grammar.{Tokens, SpellsItem}
+use Rattle.cert_text.specs.Header.{proof_header}
 use Rattle.cert_text.specs.ItemLine.{item_lines}
 use Rattle.cert_text.specs.Lines.{Format, IsReading, LinesRead, and_read, at_line, read_some}
 use Rattle.cert_text.specs.Numbering.{Numbering, numbered_from}
@@ -87,20 +87,7 @@ with_header : (f : Dqbf) (net : Netlist) (count : ItemCount) (line : TextLine) (
     (b : IsReadFrom (lines_of f net count.version) (from_first f net) count.items lines read) →
     AreItemLines count.version (is_proof_variable f net) (from_first f net) b.spelled read.items →
     AreLines f net (line ∷ lines) (proof_of read)
-with_header f net count line lines read h b s = record {
-  version = count.version;
-  header = line_tokens line.text;
-  spelled = b.spelled;
-  free = by_tokens read.rest;
-  are = ap (λ ts. line_tokens line.text ∷ ts) b.are;
-  head = subst (SpellsProofHeader (line_tokens line.text) count.version) (sym b.counted) h.spelled;
-  items = s.each;
-  allowed = record {
-    few_items = subst (λ n. n ≤ max_count) (sym b.counted) h.few;
-    items = s.lawful;
-    small = All-from_recursion IsSmallItem read.items s.small;
-  };
-}
+with_header f net count line lines read h b s = search (arith, by_tokens, All-from_recursion)
 
 by_items : (f : Dqbf) (net : Netlist) (count : ItemCount) (line : TextLine) (lines : List TextLine) (d : Dqp)
     (read : Result (LinesRead ProofItem) CertRefusal) →
@@ -123,16 +110,12 @@ by_header : (f : Dqbf) (net : Netlist) (line : TextLine) (lines : List TextLine)
     (λ items. Ok (proof_of items))) ≡ Ok d →
     AreLines f net (line ∷ lines) d
 by_header f net line lines d (Err name) is h = cc
-by_header f net line lines d (Ok count) is h =
-    by_items f net count line lines d (read_some (lines_of f net count.version) (from_first f net) count.items lines
-    (line.number + 1)) refl
-    (proof_header_spelled (line_tokens line.text) count is) h
+by_header f net line lines d (Ok count) is h = search (arith, by_items, proof_header_spelled)
 
 lines_spelled : (f : Dqbf) (net : Netlist) (lines : List TextLine) (number : ℕ) (d : Dqp) →
     read_proof f net lines number ≡ Ok d → AreLines f net lines d
 lines_spelled f net [] number d h = cc
-lines_spelled f net (line ∷ lines) number d h = by_header f net line lines d
-    (proof_header (line_tokens line.text)) refl h
+lines_spelled f net (line ∷ lines) number d h = search (arith, by_header)
 
 pub read_is_spelled : (text : List ℕ) (first : ℕ) (f : Dqbf) (net : Netlist) (d : Dqp) →
     circuit_proof_of f net text first ≡ Ok d → SpellsProof text f net d

@@ -1,12 +1,12 @@
 -- A refutation is read exactly where a text spells it.
-use Rattle.std.proofs.Common.{◌≡◌, ℕ, zero, suc, ◌+◌, ◌≤◌, Bool, cond, List, [], ◌∷◌, ◌++◌, length, replicate, Result, Ok, Err, IfOk, refl, sym, ◌∙◌, ap, ap₂, arith, subst}
+use Rattle.std.proofs.Common.{◌≡◌, ℕ, zero, suc, ◌+◌, Bool, cond, List, [], ◌∷◌, ◌++◌, length, replicate, Result, Ok, Err, IfOk, refl, sym, ◌∙◌, ap, ap₂, arith, subst}
 use Rattle.std.specs.List.{AllByRecursion, AllZip}
 use Rattle.std.proofs.lemmas.List.Elements.{All-from_recursion, recursion_from_All}
 use Rattle.dq_lits.specs.Formula.{Dqbf}
 use Rattle.dq_formula.specs.Prefix.{IsLawful}
 use Rattle.dq_text.specs.Line.{TextLine, line_tokens, lines_from}
 use Rattle.cert_text.specs.Grammar.{Tokens, SpellsHeader, SpellsRow, SpellsItem, AreItems, IsDqrOf, SpellsRefutation}
-use Rattle.cert_text.specs.Header.{max_count, header_of}
+use Rattle.cert_text.specs.Header.{header_of}
 use Rattle.cert_text.specs.ItemLine.{item_lines}
 use Rattle.cert_text.specs.Kind.{refusal}
 use Rattle.cert_text.specs.Lines.{Format, IsReading, LinesRead, and_read, at_line, read_some}
@@ -32,11 +32,7 @@ use Rattle.cert_text.proofs.Parts.{pair_positive, universals_positive}
 pub blanks_read : (n : ℕ) (lines : List TextLine) → by_tokens lines ≡ replicate n [] → blank_lines lines ≡ Ok tt
 blanks_read n [] are = refl
 blanks_read zero (line ∷ lines) are = cc
-blanks_read (suc n) (line ∷ lines) are =
-    let here : line_tokens line.text ≡ [] = cc in
-    let rest : by_tokens lines ≡ replicate n [] = cc in
-    ap (λ tokens. cond (has_no_token tokens) (blank_lines lines) (Err (refusal line.number BadLine))) here
-    ∙ blanks_read n lines rest
+blanks_read (suc n) (line ∷ lines) are = search (arith, by_tokens, (blanks_read n lines))
 
 pub record AreBlank (lines : List TextLine) : Type 0 where
   pub blanks : ℕ
@@ -150,16 +146,7 @@ body_of : (f : Dqbf) (c : RowsAndItems) (lines : List TextLine) (rows : Rows) (i
     (s : IsReadFrom (lines_of f c) (from_first f c) c.items rows.rest items) →
     AreItemLines c.version (is_number f c) (from_first f c) s.spelled items.items →
     AreBlank items.rest → AreBodyLines f c lines (refutation rows.items items.items)
-body_of f c lines rows items r are_rows s are_items blank = record {
-  spelled_rows = r.spelled;
-  spelled_items = s.spelled;
-  blanks = blank.blanks;
-  are = r.are ∙ ap (λ behind. r.spelled ++ behind) (s.are ∙ ap (λ behind. s.spelled ++ behind) blank.are);
-  counted_rows = r.counted;
-  counted_items = s.counted;
-  rows = are_rows;
-  items = are_items;
-}
+body_of f c lines rows items r are_rows s are_items blank = search arith
 
 module _ (f : Dqbf) (c : RowsAndItems) (lines : List TextLine) (number : ℕ) (d : Dqr) where
   by_blanks : (rows : Rows) (items : Items) (blank : Result (Unit {0}) CertRefusal) →
@@ -187,8 +174,7 @@ module _ (f : Dqbf) (c : RowsAndItems) (lines : List TextLine) (number : ℕ) (d
   by_rows : (rows : Result Rows CertRefusal) → read_some (row_lines f.universals) tt c.rows lines number ≡ rows →
       and_read rows (behind_rows f c) ≡ Ok d → AreBodyLines f c lines d
   by_rows (Err fault) is h = cc
-  by_rows (Ok rows) is h = by_items rows (read_some (lines_of f c) (from_first f c) c.items rows.rest rows.number)
-      is refl h
+  by_rows (Ok rows) is h = search (arith, by_items)
 
   body_spelled : read_body f c lines number ≡ Ok d → AreBodyLines f c lines d
   body_spelled h = by_rows (read_some (row_lines f.universals) tt c.rows lines number) refl h
@@ -209,37 +195,14 @@ record AreLines (f : Dqbf) (lines : List TextLine) (d : Dqr) : Type 0 where
 with_header : (f : Dqbf) (c : RowsAndItems) (line : TextLine) (lines : List TextLine) (d : Dqr) →
     IsHeader (line_tokens line.text) c → AreBodyLines f c lines d →
     AreLines f (line ∷ lines) d
-with_header f c line lines d h b =
-    let tokens = line_tokens line.text in
-    let P : ℕ → ℕ → Type 0 = λ rows items. SpellsHeader tokens c.version rows items in
-    record {
-      version = c.version;
-      header = tokens;
-      spelled_rows = b.spelled_rows;
-      spelled_items = b.spelled_items;
-      blanks = b.blanks;
-      are = ap (λ ts. tokens ∷ ts) b.are;
-      head = subst (λ rows. P rows (length d.items)) (sym b.counted_rows)
-          (subst (P c.rows) (sym b.counted_items) h.spelled);
-      rows = b.rows.each;
-      items = b.items.each;
-      allowed = record {
-        few_rows = subst (λ n. n ≤ max_count) (sym b.counted_rows) h.few_rows;
-        few_items = subst (λ n. n ≤ max_count) (sym b.counted_items) h.few_items;
-        whole = All-from_recursion (λ row. length row ≡ length f.universals) d.rows b.rows.whole;
-        items = subst (λ n. AreItems (is_pair_number f n) (numbered_from (first_id f n)) d.items)
-            (sym b.counted_rows) b.items.lawful;
-      };
-    }
+with_header f c line lines d h b = search (arith, All-from_recursion)
 
 by_header : (f : Dqbf) (line : TextLine) (lines : List TextLine) (d : Dqr) (counts : Result RowsAndItems CertFault) →
     header_of (line_tokens line.text) ≡ counts →
     and_read (at_line line.number counts) (λ c. read_body f c lines (line.number + 1)) ≡ Ok d →
     AreLines f (line ∷ lines) d
 by_header f line lines d (Err name) is read = cc
-by_header f line lines d (Ok c) is read =
-    with_header f c line lines d (header_spelled (line_tokens line.text) c is)
-    (body_spelled f c lines (line.number + 1) d read)
+by_header f line lines d (Ok c) is read = search (arith, with_header, header_spelled, body_spelled)
 
 lines_spelled : (f : Dqbf) (lines : List TextLine) (number : ℕ) (d : Dqr) → read_lines f lines number ≡ Ok d →
     AreLines f lines d

@@ -40,8 +40,7 @@ signs : (us : List ℕ) (row : List Bool) → ArePositive us → length row ≡ 
 signs [] [] some whole = refl
 signs [] (b ∷ row) some whole = absurd (omega (arith, whole))
 signs (x ∷ us) [] some whole = absurd (omega (arith, whole))
-signs (x ∷ us) (b ∷ row) some whole = ap₂ (λ n ns. n ∷ ns) (sign b x some.0)
-    (signs us row some.1 (omega (arith, whole)))
+signs (x ∷ us) (b ∷ row) some whole = search (arith, sign, (signs us row some.1))
 
 pub chosen : (b : Bool) (row : List Bool) → b ≡ true → cond b (Ok row) (Err RowIncomplete) ≡ Ok row
 chosen true row h = refl
@@ -49,19 +48,12 @@ chosen false row h = cc
 
 row_kept : (us : List ℕ) (row : List Bool) → ArePositive us → length row ≡ length us →
     row_of us (row_numbers us row) ≡ Ok row
-row_kept us row some whole =
-    chosen (bytes_eq (map nat_abs (row_numbers us row)) (us ++ 0 ∷ []))
-    (map is_positive (take (length us) (row_numbers us row)))
-    ((bytes_eq-Decides (map nat_abs (row_numbers us row)) (us ++ 0 ∷ [])).1 (magnitudes us row whole))
-    ∙ ap Ok (signs us row some whole)
+row_kept us row some whole = search (arith, chosen, nat_abs, bytes_eq-Decides, magnitudes, signs)
 
 pub row_taken : (us : List ℕ) (tokens : Tokens) (row : List Bool) → SpellsRow us tokens row → ArePositive us →
     length row ≡ length us →
     row_line us tokens ≡ Ok row
-row_taken us tokens row spelled some whole =
-    ap (row_line us) spelled.letter
-    ∙ ap (and_then (row_of us)) (integers_taken spelled.rest (row_numbers us row) spelled.numbers)
-    ∙ row_kept us row some whole
+row_taken us tokens row spelled some whole = search (arith, integers_taken, row_kept)
 
 -- the numbers are those of a row
 pub record IsRow (us : List ℕ) (ns : List ℤ) (row : List Bool) : Type 0 where
@@ -81,16 +73,10 @@ signed_is (negsuc n) x h = ap (λ k. neg_ℤ (pos k)) h
 row_named : (us : List ℕ) (ns : List ℤ) → map nat_abs ns ≡ us ++ 0 ∷ [] →
     IsRow us ns (map is_positive (take (length us) ns))
 row_named [] [] h = cc
-row_named [] (n ∷ []) h =
-    let end : nat_abs n ≡ 0 = cc in
-    record { numbers = ap (λ k. k ∷ []) (zero_is n end); whole = refl }
+row_named [] (n ∷ []) h = search (arith, nat_abs, zero_is)
 row_named [] (n ∷ m ∷ ns) h = cc
 row_named (x ∷ us) [] h = cc
-row_named (x ∷ us) (n ∷ ns) h =
-    let here : nat_abs n ≡ x = cc in
-    let behind : map nat_abs ns ≡ us ++ 0 ∷ [] = cc in
-    let rest = row_named us ns behind in
-    record { numbers = ap₂ (λ k ks. k ∷ ks) (signed_is n x here) rest.numbers; whole = omega (arith, rest.whole) }
+row_named (x ∷ us) (n ∷ ns) h = search (arith, nat_abs, signed_is, (row_named us ns))
 
 named : (b : Bool) (row made : List Bool) → cond b (Ok made) (Err RowIncomplete) ≡ Ok row → (b ≡ true) × (made ≡ row)
 named true row made h = let is : made ≡ row = cc in (refl, is)

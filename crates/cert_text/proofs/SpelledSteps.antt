@@ -27,19 +27,10 @@ AreNonzero ns = AllByRecursion (λ n. is_zero n ≡ false) ns
 
 zero_place : (front rest : List ℤ) → AreNonzero front → position_or_len is_zero (front ++ pos 0 ∷ rest) ≡ length front
 zero_place [] rest none = refl
-zero_place (n ∷ front) rest none =
-    ap (λ b. cond (not b) (1 + position_or_len is_zero (front ++ pos 0 ∷ rest)) 0) none.0
-    ∙ omega (arith, zero_place front rest none.1)
+zero_place (n ∷ front) rest none = search (arith, (zero_place front rest none.1))
 
 pub cut : (front rest : List ℤ) → AreNonzero front → cut_at_zero (front ++ pos 0 ∷ rest) ≡ Some (front, rest)
-cut front rest none =
-    let all = front ++ pos 0 ∷ rest in
-    let parts : ℕ → Option (List ℤ × List ℤ) = λ end. Some (take end all, drop (end + 1) all) in
-    let inside = lt-ltb (length front) (length all) (omega (arith, length-append front (pos 0 ∷ rest))) in
-    ap (λ k. option_map (λ end. (take end all, drop (end + 1) all)) (cond (nat_lt k (length all)) (Some k) None))
-    (zero_place front rest none)
-    ∙ ap (λ b. option_map (λ end. (take end all, drop (end + 1) all)) (cond b (Some (length front)) None)) inside
-    ∙ ap₂ (λ a b. Some (a, b)) (take-append_seam front (pos 0 ∷ rest)) (drop-append-add front (pos 0 ∷ rest) 1)
+cut front rest none = search (arith, lt-ltb, length-append, nat_lt, zero_place, take-append_seam, drop-append-add)
 
 -- literals and hints as numbers
 abbrev pub AreLiterals : List Literal → Type 0
@@ -79,8 +70,7 @@ id_positive (suc n) some = positive_is n
 
 pub hints_positive : (hs : List ℕ) → AreIds hs → list_all is_positive (hint_numbers hs) ≡ true
 hints_positive [] some = refl
-hints_positive (h ∷ hs) some = and_from (is_positive (pos h)) (list_all is_positive (hint_numbers hs))
-    (id_positive h some.0) (hints_positive hs some.1)
+hints_positive (h ∷ hs) some = search (arith, and_from, id_positive, (hints_positive hs some.1))
 
 pub hints_back : (hs : List ℕ) → map nat_abs (hint_numbers hs) ≡ hs
 hints_back [] = refl
@@ -94,33 +84,29 @@ pub record IsWritable (s : ProofStep) : Type 0 where
 
 shape_kept : (s : ProofStep) → IsWritable s → step_of (step_numbers s) ≡ Some s
 shape_kept s is =
-    let ls = map dimacs_number s.literals in
-    let hs = hint_numbers s.hints in
-    let Parts : Type 0 = List ℤ × List ℤ in
-    let tests = and_from (is_positive (pos s.id)) (list_all is_positive hs && true) (id_positive s.id is.id)
-    (and_from (list_all is_positive hs) true (hints_positive s.hints is.hints) refl) in
-    ap (option_and_then (λ (front : Parts). option_and_then (λ (back : Parts). step_of_parts
-    (pos s.id) front.0 back.0 back.1) (cut_at_zero front.1)))
-    (cut ls (hs ++ pos 0 ∷ []) (literals_nonzero s.literals is.literals))
-    ∙ ap (option_and_then (λ (back : Parts). step_of_parts (pos s.id) ls back.0 back.1))
-    (cut hs [] (hints_nonzero s.hints is.hints))
-    ∙ ap (λ b. cond b (Some (record { id = s.id; literals = map dimacs_literal ls; hints = map nat_abs hs }))
-    None) tests
-    ∙ ap₂ (λ literals hints. Some (record { id = s.id; literals = literals; hints = hints }))
-    (literals_back s.literals is.literals) (hints_back s.hints)
+    search (
+      arith,
+      and_from,
+      id_positive,
+      hints_positive,
+      cut,
+      literals_nonzero,
+      hints_nonzero,
+      nat_abs,
+      literals_back,
+      hints_back,
+    )
 
 -- what the checks pass
 on_variables : (p : ℕ → Bool) (ls : List Literal) → AllByRecursion (λ l. p (variable_of l) ≡ true) ls →
     list_all (λ l. p (variable_of l)) ls ≡ true
 on_variables p [] all = refl
-on_variables p (l ∷ ls) all = and_from (p (variable_of l)) (list_all (λ k. p (variable_of k)) ls) all.0
-    (on_variables p ls all.1)
+on_variables p (l ∷ ls) all = search (arith, and_from, (on_variables p ls all.1))
 
 hints_below : (id : ℕ) (hs : List ℕ) → AllByRecursion (λ h. (1 ≤ h) × (h < id)) hs →
     list_all (λ hint. nat_lt hint id) hs ≡ true
 hints_below id [] all = refl
-hints_below id (h ∷ hs) all = and_from (nat_lt h id) (list_all (λ hint. nat_lt hint id) hs) (lt-ltb h id all.0.1)
-    (hints_below id hs all.1)
+hints_below id (h ∷ hs) all = search (arith, and_from, nat_lt, lt-ltb, (hints_below id hs all.1))
 
 checks_pass : (step : ProofStep) (id_is variables_are hints_are : Bool) → id_is ≡ true → variables_are ≡ true →
     hints_are ≡ true →
@@ -152,12 +138,7 @@ ids_from next (h ∷ hs) all = (all.0.0, ids_from next hs all.1)
 
 pub writable : (p : ℕ → Bool) (next : ℕ) (s : ProofStep) → ((v : ℕ) → p v ≡ true → 1 ≤ v) → 1 ≤ next → IsStep p next s →
     IsWritable s
-writable p next s some from_one is = record {
-  id = subst (λ id. 1 ≤ id) (sym is.numbered) from_one;
-  literals = literals_from p s.literals some (recursion_from_All
-      (λ l. p (variable_of l) ≡ true) s.literals is.on_variables);
-  hints = ids_from next s.hints (recursion_from_All (λ h. (1 ≤ h) × (h < next)) s.hints is.hints_before);
-}
+writable p next s some from_one is = search (arith, literals_from, recursion_from_All, ids_from)
 
 pub step_taken : (p : ℕ → Bool) (next : ℕ) (tokens : Tokens) (s : ProofStep) → ((v : ℕ) → p v ≡ true → 1 ≤ v) →
     1 ≤ next →
@@ -202,11 +183,7 @@ numbers_back (n ∷ ns) = ap₂ (λ x xs. x ∷ xs) (number_back n) (numbers_bac
 pub hints_are : (ns : List ℤ) → list_all is_positive ns ≡ true →
     (hint_numbers (map nat_abs ns) ≡ ns) × AreIds (map nat_abs ns)
 hints_are [] h = (refl, tt)
-hints_are (n ∷ ns) h =
-    let both = and_parts (is_positive n) (list_all is_positive ns) h in
-    let here = positive_back n both.0 in
-    let rest = hints_are ns both.1 in
-    (ap₂ (λ x xs. x ∷ xs) (sym here.0) rest.0, (here.1, rest.1))
+hints_are (n ∷ ns) h = search (arith, and_parts, positive_back, (hints_are ns))
 
 pub nil_is : (ns : List ℤ) → is_nil ns ≡ true → ns ≡ []
 nil_is [] h = refl
@@ -253,16 +230,12 @@ shape_read (id ∷ ns) s h =
 all_on_variables : (p : ℕ → Bool) (ls : List Literal) → list_all (λ l. p (variable_of l)) ls ≡ true →
     AllByRecursion (λ l. p (variable_of l) ≡ true) ls
 all_on_variables p [] h = tt
-all_on_variables p (l ∷ ls) h =
-    let both = and_parts (p (variable_of l)) (list_all (λ k. p (variable_of k)) ls) h in
-    (both.0, all_on_variables p ls both.1)
+all_on_variables p (l ∷ ls) h = search (arith, and_parts, (all_on_variables p ls))
 
 all_before : (id : ℕ) (hs : List ℕ) → list_all (λ hint. nat_lt hint id) hs ≡ true → AreIds hs →
     AllByRecursion (λ h. (1 ≤ h) × (h < id)) hs
 all_before id [] h some = tt
-all_before id (x ∷ hs) h some =
-    let both = and_parts (nat_lt x id) (list_all (λ hint. nat_lt hint id) hs) h in
-    ((some.0, ltb-true x id both.0), all_before id hs both.1 some.1)
+all_before id (x ∷ hs) h some = search (arith, and_parts, nat_lt, ltb-true, (all_before id hs))
 
 record PassesChecks (p : ℕ → Bool) (next : ℕ) (s t : ProofStep) : Type 0 where
   same : s ≡ t
@@ -271,24 +244,7 @@ record PassesChecks (p : ℕ → Bool) (next : ℕ) (s t : ProofStep) : Type 0 w
   hints : list_all (λ hint. nat_lt hint s.id) s.hints ≡ true
 
 checks_passed : (p : ℕ → Bool) (next : ℕ) (s t : ProofStep) → checked_step p next s ≡ Ok t → PassesChecks p next s t
-checks_passed p next s t h =
-    let a = s.id == next in
-    let b = list_all (λ l. p (variable_of l)) s.literals in
-    let d = list_all (λ hint. nat_lt hint s.id) s.hints in
-    let kept : Result ProofStep CertFault = Ok s in
-    let third_check : Result ProofStep CertFault = cond (not d) (Err UnknownHint) kept in
-    let second_check : Result ProofStep CertFault = cond (not b) (Err BadVariable) third_check in
-    let first = passed (not a) IdOrder second_check t h in
-    let second = passed (not b) BadVariable third_check t first.1 in
-    let third = passed (not d) UnknownHint kept t second.1 in
-    let same : s ≡ t = cc in
-    record {
-      same = same;
-      numbered = eqb-true s.id next (not-false a first.0);
-      variables = not-false b second.0;
-      hints =
-          not-false d third.0;
-    }
+checks_passed p next s t h = search (arith, nat_lt, passed, eqb-true, not-false)
 
 -- a step, spelled and lawful
 pub record IsStepLine (p : ℕ → Bool) (next : ℕ) (tokens : Tokens) (s : ProofStep) : Type 0 where
@@ -322,8 +278,7 @@ behind_integers : (p : ℕ → Bool) (next : ℕ) (tokens : Tokens) (taken : Res
     line_integers tokens ≡ taken →
     and_then (λ ns. and_then (checked_step p next) (shaped (step_of ns))) taken ≡ Ok t → IsStepLine p next tokens t
 behind_integers p next tokens (Err name) t is h = cc
-behind_integers p next tokens (Ok ns) t is h = behind_shape p next tokens ns (step_of ns) t
-    (integers_spelled tokens ns is) refl h
+behind_integers p next tokens (Ok ns) t is h = search (arith, behind_shape, integers_spelled)
 
 pub step_spelled : (p : ℕ → Bool) (next : ℕ) (tokens : Tokens) (s : ProofStep) → step_line p next tokens ≡ Ok s →
     IsStepLine p next tokens s

@@ -1,8 +1,8 @@
 -- Proofs that delete nothing.
-use Rattle.std.proofs.Common.{◌≡◌, ℕ, zero, suc, ◌+◌, Bool, false, cond, List, [], ◌∷◌, map, Result, Ok, Err, refl, ◌∙◌, ap}
+use Rattle.std.proofs.Common.{◌≡◌, ℕ, zero, suc, ◌+◌, Bool, false, cond, List, [], ◌∷◌, map, Result, Ok, Err, refl, ap, arith}
 use Rattle.std.specs.List.{list_any}
 use Rattle.dq_lits.specs.Derivation.{ProofStep}
-use Rattle.dq_text.specs.Line.{TextLine, line_tokens}
+use Rattle.dq_text.specs.Line.{TextLine}
 use Rattle.rup_core.specs.Items.{derived}
 use Rattle.cert_text.specs.Canonical.{version_for}
 use Rattle.cert_text.specs.Grammar.{AreItems, AreSteps}
@@ -10,7 +10,6 @@ use Rattle.cert_text.specs.ItemLine.{as_item, as_items, item_lines, step_lines}
 use Rattle.cert_text.specs.KeptItems.{is_deletion}
 use Rattle.cert_text.specs.Lines.{LinesRead, and_read, at_line, read_some, with_item}
 use Rattle.cert_text.specs.Numbering.{Numbering, behind_item, with_next}
-use Rattle.cert_text.specs.StepLine.{step_line}
 use Rattle.cert_text.specs.declared.faults.CertFault.{CertFault}
 use Rattle.cert_text.specs.declared.faults.CertRefusal.{CertRefusal}
 use Rattle.cert_text.specs.declared.versions.Version.TheVariants.{One, Two}
@@ -43,14 +42,10 @@ by_line : (p : ℕ → Bool) (n : Numbering) (count : ℕ) (line : TextLine) (li
     ≡ as_items (and_read (at_line line.number taken) (λ step. and_read
     (read_some (step_lines p) (n.next + 1) count lines (line.number + 1)) (with_item step)))
 by_line p n count line lines (Err name) later = refl
-by_line p n count line lines (Ok step) later =
-    ap (λ r. and_read r (with_item (derived step))) later ∙ in_front step
-    (read_some (step_lines p) (n.next + 1) count lines (line.number + 1))
+by_line p n count line lines (Ok step) later = search (arith, in_front)
 
 pub steps_alone_read : (count : ℕ) (p : ℕ → Bool) (n : Numbering) (lines : List TextLine) (number : ℕ) →
     read_some (item_lines One p) n count lines number ≡ as_items (read_some (step_lines p) n.next count lines number)
 steps_alone_read zero p n lines number = refl
 steps_alone_read (suc count) p n [] number = refl
-steps_alone_read (suc count) p n (line ∷ lines) number =
-    by_line p n count line lines (step_line p n.next (line_tokens line.text))
-    (steps_alone_read count p (with_next n) lines (line.number + 1))
+steps_alone_read (suc count) p n (line ∷ lines) number = search (arith, by_line, (steps_alone_read count p))

@@ -1,5 +1,5 @@
 -- What is spelled as definitions is read.
-use Rattle.std.proofs.Common.{◌≡◌, nat_lt, ℕ, ◌+◌, ◌*◌, ◌^◌, ◌≤◌, ◌<◌, ◌==◌, ◌||◌, ◌&&◌, not, pos, Bool, true, false, cond, List, [], ◌∷◌, ◌++◌, map, length, length-append, replicate, codes, Some, Result, Ok, Err, refl, sym, ◌∙◌, ap, ap₂, arith, subst, eqb, append_assoc}
+use Rattle.std.proofs.Common.{◌≡◌, nat_lt, ℕ, ◌+◌, ◌*◌, ◌^◌, ◌≤◌, ◌<◌, ◌||◌, not, pos, Bool, true, false, cond, List, [], ◌∷◌, ◌++◌, map, length, length-append, replicate, codes, Result, Ok, Err, refl, sym, ◌∙◌, ap, ap₂, arith, subst, eqb, append_assoc}
 use Rattle.std.specs.List.{AllByRecursion, AllZip, flat_map, list_any}
 use Rattle.std.proofs.Math.Nat.{div-lt_iff_lt-mul}
 use Rattle.std.proofs.lemmas.Bool.{and_from, eq-eqb, lt-ltb, le-ltb, lt-leb}
@@ -15,16 +15,16 @@ use Rattle.list_laws.proofs.Members.{contains_found}
 use Rattle.dq_lits.specs.Derivation.{ProofStep}
 use Rattle.dq_lits.specs.Formula.{Dqbf, declared}
 use Rattle.dq_formula.specs.Prefix.{IsLawful, existential_variables}
-use Rattle.dq_text.specs.Line.{TextLine, line_tokens, lines_from}
-use Rattle.dq_text.specs.Number.{natural_of, number_of}
+use Rattle.dq_text.specs.Line.{TextLine, line_tokens}
+use Rattle.dq_text.specs.Number.{number_of}
 use Rattle.dq_text.specs.declared.numbers.Number.TheVariants.{Int}
 use Rattle.dq_text.proofs.Naturals.{natural_taken}
 use Rattle.circuit_plain.specs.Netlist.{literal_variable}
 use Rattle.circuit_plain.specs.declared.circuits.Gate.{Gate}
-use Rattle.cert_text.specs.AllowedDefinitions.{AreBlocksOf, AreGatesFrom, HasFewSteps, HaveFewSteps, IsBlockOf, IsDefinitionOf, IsGateAt, IsValuationOf, first_definition_id, is_output, is_readable}
+use Rattle.cert_text.specs.AllowedDefinitions.{AreBlocksOf, AreGatesFrom, HasFewSteps, HaveFewSteps, IsBlockOf, IsDefinitionOf, IsGateAt, IsValuationOf, first_definition_id}
 use Rattle.cert_text.specs.DefinitionBlocks.{Definition, DefinitionBlock, FreePair, Valuation, defined, free}
 use Rattle.cert_text.specs.DefinitionGrammar.{Line, SpellsDefinitions, SpellsLine, block_spelling, definition_spelling, gate_spelling, header_spelling, naturals, pair_spelling, signs_spelling, step_spelling, valuation_spelling}
-use Rattle.cert_text.specs.DefinitionLine.{counted, defined_head, definition_gate, definition_gates, definitions_header, free_head, free_of, gate_of, head_line, head_of, is_large, signs_line}
+use Rattle.cert_text.specs.DefinitionLine.{defined_head, definition_gate, definition_gates, definitions_header, free_head, head_line, is_large, signs_line}
 use Rattle.cert_text.specs.DefinitionText.{PartRead, as_block, definitions_of, next_line, read_behind_head, read_block, read_blocks, read_definitions, read_valuation}
 use Rattle.cert_text.specs.Grammar.{AreSteps, Tokens, integers}
 use Rattle.cert_text.specs.Header.{max_count}
@@ -38,7 +38,7 @@ use Rattle.cert_text.specs.declared.definition_lines.BlockHead.{BlockHead}
 use Rattle.cert_text.specs.declared.definition_lines.BlockHead.TheVariants.{Defined, Free}
 use Rattle.cert_text.specs.declared.definition_lines.DefinedHead.{DefinedHead}
 use Rattle.cert_text.specs.declared.faults.CertFault.{CertFault}
-use Rattle.cert_text.specs.declared.faults.CertFault.TheVariants.{BadGate, BadHeader, BadLine, BlockOrder, TooBig}
+use Rattle.cert_text.specs.declared.faults.CertFault.TheVariants.{BadGate, BadLine, BlockOrder, TooBig}
 use Rattle.cert_text.specs.declared.faults.CertRefusal.{CertRefusal}
 use Rattle.cert_text.proofs.LineTokens.{by_tokens, same_tokens}
 use Rattle.cert_text.proofs.Parts.{universals_positive}
@@ -104,31 +104,14 @@ none_of false true c p q r = cc
 none_of false false true p q r = cc
 
 pub half_below : (l variable : ℕ) → literal_variable l < variable → l < 2 * variable
-half_below l variable h =
-    let below = (div-lt_iff_lt-mul {k = 2} {x = l} {y = variable} (omega arith)).0 h in omega (arith, below)
+half_below l variable h = search (arith, div-lt_iff_lt-mul)
 
 -- a gate
 three_taken : (f : Dqbf) (variable : ℕ) (g : Gate) (a b c : List ℕ) → IsGateAt f variable g →
     number_of a ≡ Int (pos (2 * g.variable)) → number_of b ≡ Int (pos g.left) → number_of c ≡ Int (pos g.right) →
     definition_gate f variable (a ∷ b ∷ c ∷ []) ≡ Ok g
 three_taken f variable g a b c is x y z =
-    let lhs = 2 * g.variable in
-    let made : Gate = record { variable = variable; left = g.left; right = g.right } in
-    let numbered = is.numbered in
-    let same : lhs ≡ 2 * variable = ap (λ n. 2 * n) numbered in
-    let left = half_below g.left variable is.left_before in
-    let right = half_below g.right variable is.right_before in
-    ap₂ (λ p q. gate_of f variable p q (natural_of c)) (natural_taken a lhs x) (natural_taken b g.left y)
-    ∙ ap (λ r. gate_of f variable (Some lhs) (Some g.left) r) (natural_taken c g.right z)
-    ∙ chosen_gate (is_large lhs || (is_large g.left || is_large g.right)) (lhs == 2 * variable)
-    (nat_lt g.left lhs && nat_lt g.right lhs) (is_readable f g.left && is_readable f g.right) made
-    (none_of (is_large lhs) (is_large g.left) (is_large g.right) (not_large a lhs x) (not_large b g.left y)
-    (not_large c g.right z))
-    (eq-eqb lhs (2 * variable) same)
-    (and_from (nat_lt g.left lhs) (nat_lt g.right lhs) (lt-ltb g.left lhs (omega (arith, left, same)))
-    (lt-ltb g.right lhs (omega (arith, right, same))))
-    (and_from (is_readable f g.left) (is_readable f g.right) is.left_readable is.right_readable)
-    ∙ ap (λ n. Ok (record { variable = n; left = g.left; right = g.right })) (sym numbered)
+    search (arith, half_below, natural_taken, chosen_gate, nat_lt, none_of, not_large, eq-eqb, and_from, lt-ltb)
 
 gate_taken : (f : Dqbf) (variable : ℕ) (g : Gate) (tokens : Tokens) → IsGateAt f variable g →
     map number_of tokens ≡ integers (naturals (2 * g.variable ∷ g.left ∷ g.right ∷ [])) →
@@ -136,11 +119,7 @@ gate_taken : (f : Dqbf) (variable : ℕ) (g : Gate) (tokens : Tokens) → IsGate
 gate_taken f variable g [] is are = cc
 gate_taken f variable g (a ∷ []) is are = cc
 gate_taken f variable g (a ∷ b ∷ []) is are = cc
-gate_taken f variable g (a ∷ b ∷ c ∷ []) is are =
-    let x : number_of a ≡ Int (pos (2 * g.variable)) = cc in
-    let y : number_of b ≡ Int (pos g.left) = cc in
-    let z : number_of c ≡ Int (pos g.right) = cc in
-    three_taken f variable g a b c is x y z
+gate_taken f variable g (a ∷ b ∷ c ∷ []) is are = search (arith, three_taken)
 gate_taken f variable g (a ∷ b ∷ c ∷ d ∷ more) is are = cc
 
 gates_taken : (f : Dqbf) (variable : ℕ) (gates : List Gate) (spelled : List Tokens) → AreGatesFrom f variable gates →
@@ -184,20 +163,7 @@ four_taken : (f : Dqbf) (d : Definition) (a b c e : List ℕ) → IsDefinitionOf
     number_of c ≡ Int (pos (length d.gates)) → number_of e ≡ Int (pos (length d.steps)) →
     defined_head f d.existential (a ∷ b ∷ c ∷ e ∷ []) ≡ Ok (Defined (head_for d))
 four_taken f d a b c e is few x y z w =
-    let v = d.existential in
-    let g = length d.gates in
-    let n = length d.steps in
-    let few_gates = is.few in
-    ap₂ (λ p q. head_of f v p q (natural_of c) (natural_of e)) (natural_taken a v x) (natural_taken b d.output y)
-    ∙ ap₂ (λ p q. head_of f v (Some v) (Some d.output) p q) (natural_taken c g z) (natural_taken e n w)
-    ∙ chosen_head (is_large v || (is_large d.output || (is_large g || is_large n))) (v == v)
-    (nat_lt max_count g || nat_lt max_count n) (is_output f g d.output) (Defined (head_for d))
-    (none_of (is_large v) (is_large d.output) (is_large g || is_large n) (not_large a v x) (not_large b d.output y)
-    (both_false (is_large g) (is_large n) (not_large c g z) (not_large e n w)))
-    (eq-eqb v v refl)
-    (both_false (nat_lt max_count g) (nat_lt max_count n) (le-ltb max_count g (omega (arith, few_gates)))
-    (le-ltb max_count n (omega (arith, few))))
-    is.output
+    search (arith, natural_taken, chosen_head, nat_lt, none_of, not_large, both_false, eq-eqb, le-ltb)
 
 head_taken : (f : Dqbf) (d : Definition) (tokens : Tokens) → IsDefinitionOf f d → length d.steps ≤ max_count →
     map number_of tokens
@@ -207,12 +173,7 @@ head_taken f d [] is few are = cc
 head_taken f d (a ∷ []) is few are = cc
 head_taken f d (a ∷ b ∷ []) is few are = cc
 head_taken f d (a ∷ b ∷ c ∷ []) is few are = cc
-head_taken f d (a ∷ b ∷ c ∷ e ∷ []) is few are =
-    let x : number_of a ≡ Int (pos d.existential) = cc in
-    let y : number_of b ≡ Int (pos d.output) = cc in
-    let z : number_of c ≡ Int (pos (length d.gates)) = cc in
-    let w : number_of e ≡ Int (pos (length d.steps)) = cc in
-    four_taken f d a b c e is few x y z w
+head_taken f d (a ∷ b ∷ c ∷ e ∷ []) is few are = search (arith, four_taken)
 head_taken f d (a ∷ b ∷ c ∷ e ∷ g ∷ more) is few are = cc
 
 definition_read : (f : Dqbf) (d : Definition) (lines : List TextLine) (number : ℕ) (others : List Line)
@@ -292,11 +253,7 @@ signs_taken letter vs bits tokens some whole spelled =
 free_taken : (f : Dqbf) (y : ℕ) (tokens : Tokens) → map number_of tokens ≡ integers (naturals (y ∷ [])) →
     free_head y tokens ≡ Ok Free
 free_taken f y [] are = cc
-free_taken f y (a ∷ []) are =
-    let x : number_of a ≡ Int (pos y) = cc in
-    ap (free_of y) (natural_taken a y x)
-    ∙ ap (λ b. cond b (Err TooBig) (cond (not (y == y)) (Err BlockOrder) (Ok Free))) (not_large a y x)
-    ∙ ap (λ b. cond (not b) (Err BlockOrder) (Ok Free)) (eq-eqb y y refl)
+free_taken f y (a ∷ []) are = search (arith, natural_taken, not_large, eq-eqb)
 free_taken f y (a ∷ b ∷ more) are = cc
 
 module _ (f : Dqbf) (some_us : ArePositive f.universals) (some_ys : ArePositive (existential_variables f)) where
@@ -416,21 +373,14 @@ few_existentials f lawful =
 
 pub existentials_in_range : (f : Dqbf) → IsLawful f →
     AllByRecursion (λ v. (1 ≤ v) × (v ≤ f.variables)) (existential_variables f)
-existentials_in_range f lawful =
-    all_behind (λ v. (1 ≤ v) × (v ≤ f.variables)) f.universals (existential_variables f)
-    (recursion_from_All (λ v. (1 ≤ v) × (v ≤ f.variables)) (declared f) lawful.prefix.in_range)
+existentials_in_range f lawful = search (arith, all_behind, recursion_from_All)
 
 -- the header
 header_taken : (f : Dqbf) (tokens : Tokens) → length f.existentials ≤ max_count →
     map number_of tokens ≡ integers (naturals (length f.existentials ∷ [])) →
     definitions_header f (codes "p" ∷ codes "dqd" ∷ tokens) ≡ Ok tt
 header_taken f [] few are = cc
-header_taken f (a ∷ []) few are =
-    let n = length f.existentials in
-    let x : number_of a ≡ Int (pos n) = cc in
-    ap (counted f) (natural_taken a n x)
-    ∙ ap (λ b. cond b (Err TooBig) (cond (not (n == n)) (Err BadHeader) (Ok tt))) (le-ltb max_count n few)
-    ∙ ap (λ b. cond (not b) (Err BadHeader) (Ok tt)) (eq-eqb n n refl)
+header_taken f (a ∷ []) few are = search (arith, natural_taken, le-ltb, eq-eqb)
 header_taken f (a ∷ b ∷ more) few are = cc
 
 module _ (f : Dqbf) (blocks : List DefinitionBlock) (lawful : IsLawful f)
@@ -454,6 +404,4 @@ module _ (f : Dqbf) (blocks : List DefinitionBlock) (lawful : IsLawful f)
 
 pub spelled_is_read : (text : List ℕ) (first : ℕ) (f : Dqbf) (blocks : List DefinitionBlock) → IsLawful f →
     SpellsDefinitions text f blocks → definitions_of f text first ≡ Ok blocks
-spelled_is_read text first f blocks lawful spelled =
-    lines_read f blocks lawful spelled.allowed spelled.few_steps spelled.blank_lines spelled.spelled
-    (lines_from first text) first spelled.each (same_tokens first 1 text ∙ spelled.lines)
+spelled_is_read text first f blocks lawful spelled = search (arith, lines_read, same_tokens)

@@ -1,5 +1,5 @@
 -- The tokens of a text of definitions that was written, line by line.
-use Rattle.std.proofs.Common.{◌≡◌, ℕ, ◌*◌, ◌^◌, ◌<◌, Bool, List, [], ◌∷◌, ◌++◌, map, length, codes, refl, sym, ◌∙◌, ap, append_assoc}
+use Rattle.std.proofs.Common.{◌≡◌, ℕ, ◌*◌, ◌^◌, ◌<◌, Bool, List, [], ◌∷◌, ◌++◌, map, length, codes, refl, ◌∙◌, ap, append_assoc, arith}
 use Rattle.std.specs.Fmt.{decimal}
 use Rattle.std.specs.List.{AllByRecursion, flat_map, zip}
 use Rattle.dq_lits.specs.Derivation.{ProofStep}
@@ -8,7 +8,7 @@ use Rattle.dq_formula.specs.Prefix.{existential_variables}
 use Rattle.dq_text.specs.Written.{number_text, number_line, line_end}
 use Rattle.dq_text.proofs.LineWords.{natural_is_word, spaced}
 use Rattle.circuit_plain.specs.declared.circuits.Gate.{Gate}
-use Rattle.cert_text.specs.Canonical.{row_text, step_text}
+use Rattle.cert_text.specs.Canonical.{step_text}
 use Rattle.cert_text.specs.CanonicalDefinitions.{definition_text, definitions_header_text, gate_text, pair_text, valuation_text, values_text}
 use Rattle.cert_text.specs.DefinitionBlocks.{Definition, FreePair, Valuation}
 use Rattle.cert_text.specs.Grammar.{Tokens}
@@ -51,8 +51,7 @@ number_texts (n ∷ ns) rest = number_text n ++ number_texts ns rest
 
 texts_spaced : (ns : List ℕ) (rest : List ℕ) → number_texts ns rest ≡ spaced (map decimal ns) ++ rest
 texts_spaced [] rest = refl
-texts_spaced (n ∷ ns) rest = ap (λ bytes. number_text n ++ bytes) (texts_spaced ns rest)
-    ∙ sym (append_assoc (number_text n) (spaced (map decimal ns)) rest)
+texts_spaced (n ∷ ns) rest = search (arith, append_assoc, spaced, (texts_spaced ns rest))
 
 line_rest : (n : ℕ) (rest : List ℕ) → number_line n ++ rest ≡ decimal n ++ 10 ∷ rest
 line_rest n rest = append_assoc (decimal n) (10 ∷ []) rest
@@ -77,17 +76,13 @@ gates_lines : (gates : List Gate) (rest : List ℕ) → AllByRecursion IsSmallGa
     tokens_of (flat_map gate_text gates ++ rest) ≡ map gate_tokens gates ++ tokens_of rest
 gates_lines [] rest small = refl
 gates_lines (g ∷ gates) rest small =
-    ap tokens_of (append_assoc (gate_text g) (flat_map gate_text gates) rest)
-    ∙ gate_line g (flat_map gate_text gates ++ rest) small.0
-    ∙ ap (λ lines. gate_tokens g ∷ lines) (gates_lines gates rest small.1)
+    search (arith, tokens_of, append_assoc, gate_line, (gates_lines gates rest small.1))
 
 steps_lines : (steps : List ProofStep) (rest : List ℕ) → AreSmallSteps steps →
     tokens_of (flat_map step_text steps ++ rest) ≡ map step_tokens steps ++ tokens_of rest
 steps_lines [] rest small = refl
 steps_lines (s ∷ steps) rest small =
-    ap tokens_of (append_assoc (step_text s) (flat_map step_text steps) rest)
-    ∙ step_line s (flat_map step_text steps ++ rest) small.0
-    ∙ ap (λ lines. step_tokens s ∷ lines) (steps_lines steps rest small.1)
+    search (arith, tokens_of, append_assoc, step_line, step_tokens, (steps_lines steps rest small.1))
 
 -- a definition
 abbrev pub head_tokens : Definition → Tokens
@@ -147,11 +142,7 @@ valuation_tokens f v behind =
 valuation_lines : (f : Dqbf) (v : Valuation) (rest : List ℕ) → AllByRecursion IsSpellable f.universals →
     AllByRecursion IsSpellable (existential_variables f) →
     tokens_of (valuation_text f v ++ rest) ≡ valuation_tokens f v (tokens_of rest)
-valuation_lines f v rest us ys =
-    let values = values_text (existential_variables f) v.values in
-    ap tokens_of (append_assoc (row_text f.universals v.row) values rest)
-    ∙ row_line f.universals v.row (values ++ rest) us
-    ∙ ap (λ lines. row_tokens f.universals v.row ∷ lines) (values_line (existential_variables f) v.values rest ys)
+valuation_lines f v rest us ys = search (arith, tokens_of, append_assoc, row_line, row_tokens, values_line)
 
 abbrev pub free_tokens : ℕ → Tokens
 free_tokens y = codes "f" ∷ decimal y ∷ []

@@ -1,5 +1,5 @@
 -- A text of definitions that was written is spelled.
-use Rattle.std.proofs.Common.{◌≡◌, nat_le, ℕ, ◌+◌, ◌*◌, ◌^◌, ◌≤◌, ◌<◌, Bool, true, List, [], ◌∷◌, ◌++◌, map, length, codes, refl, sym, ◌∙◌, ap, ap₂, arith, subst, append_assoc}
+use Rattle.std.proofs.Common.{◌≡◌, nat_le, ℕ, ◌+◌, ◌^◌, ◌≤◌, ◌<◌, Bool, true, List, [], ◌∷◌, ◌++◌, map, length, codes, refl, sym, ◌∙◌, ap, ap₂, arith, subst, append_assoc}
 use Rattle.std.specs.Fmt.{decimal}
 use Rattle.std.specs.List.{AllByRecursion, AllZip, flat_map, zip}
 use Rattle.std.proofs.lemmas.Bool.{and_parts, leb-true}
@@ -9,9 +9,8 @@ use Rattle.dq_lits.specs.Formula.{Dqbf}
 use Rattle.dq_lits.specs.Literal.{Literal, variable_of}
 use Rattle.dq_formula.specs.Prefix.{IsLawful, existential_variables}
 use Rattle.dq_text.proofs.Numerals.{natural_is_read}
-use Rattle.circuit_plain.specs.Netlist.{literal_variable}
 use Rattle.circuit_plain.specs.declared.circuits.Gate.{Gate}
-use Rattle.cert_text.specs.AllowedDefinitions.{AreBlocksOf, AreGatesFrom, HasFewSteps, HaveFewSteps, IsBlockOf, IsDefinitionOf, first_definition_id, is_readable}
+use Rattle.cert_text.specs.AllowedDefinitions.{AreBlocksOf, AreGatesFrom, HasFewSteps, HaveFewSteps, IsBlockOf, IsDefinitionOf}
 use Rattle.cert_text.specs.CanonicalDefinitions.{WrittenDefinitionsSpell, block_text, definition_text, definitions_text, pair_text}
 use Rattle.cert_text.specs.DefinitionBlocks.{Definition, DefinitionBlock, FreePair, defined, free}
 use Rattle.cert_text.specs.DefinitionGrammar.{SpellsLine, block_spelling, definition_spelling, gate_spelling, header_spelling, pair_spelling, signs_spelling, step_spelling}
@@ -48,10 +47,7 @@ small_variables : (last : ℕ) (ls : List Literal) → last < 10 ^ 18 →
     AllByRecursion (λ l. is_up_to last (variable_of l) ≡ true) ls → HasSmallLiterals ls
 small_variables last [] small on = tt
 small_variables last (l ∷ ls) small on =
-    let parts = and_parts (nat_le 1 (variable_of l)) (nat_le (variable_of l) last) on.0 in
-    let one = leb-true 1 (variable_of l) parts.0 in
-    let low = leb-true (variable_of l) last parts.1 in
-    ((one, omega (arith, low, small)), small_variables last ls small on.1)
+    search (arith, and_parts, nat_le, leb-true, (small_variables last ls small on.1))
 
 small_steps : (last id : ℕ) (steps : List ProofStep) → AreSteps (is_up_to last) id steps → last < 10 ^ 18 →
     id + length steps < 10 ^ 18 → AreSmallSteps steps
@@ -71,29 +67,11 @@ small_steps last id (s ∷ steps) are small few =
 small_definition : (f : Dqbf) (d : Definition) → f.variables ≤ 1000000 → length f.matrix ≤ 10000000 →
     d.existential ≤ f.variables → IsDefinitionOf f d → length d.steps ≤ max_count → IsSmallDefinition d
 small_definition f d few_variables few_clauses own is few =
-    let g = is.few in
-    let bound = (and_parts (is_readable f d.output) (nat_le (literal_variable d.output) (f.variables + length d.gates))
-    is.output).1 in
-    let low = leb-true (literal_variable d.output) (f.variables + length d.gates) bound in
-    let output = half_below d.output (f.variables + length d.gates + 1) (omega (arith, low)) in
-    record {
-      existential = omega (arith, own, few_variables);
-      output = omega (arith, output, few_variables, g);
-      few_gates = omega (arith, g);
-      few_steps = omega (arith, few);
-      gates = small_gates f (f.variables + 1) d.gates is.gates (omega (arith, few_variables, g));
-      steps = small_steps (f.variables + length d.gates) (first_definition_id f (length d.gates)) d.steps is.steps
-          (omega (arith, few_variables, g)) (omega (arith, few_clauses, g, few));
-    }
+    search (arith, and_parts, nat_le, leb-true, half_below, small_gates, small_steps)
 
 -- lines that were written are spelled
 gate_spelled : (g : Gate) → IsSmallGate g → SpellsLine (gate_tokens g) (gate_spelling g)
-gate_spelled g small = record {
-  rest = gate_tokens g;
-  words = refl;
-  numbers = ap₂ (λ n ns. n ∷ ns) (natural_is_read (2 * g.variable) small.variable)
-      (ap₂ (λ m n. m ∷ n ∷ []) (natural_is_read g.left small.left) (natural_is_read g.right small.right));
-}
+gate_spelled g small = search (arith, gate_tokens, natural_is_read)
 
 gates_spelled : (gates : List Gate) → AllByRecursion IsSmallGate gates →
     AllZip SpellsLine (map gate_tokens gates) (map gate_spelling gates)
@@ -103,10 +81,7 @@ gates_spelled (g ∷ gates) small = (gate_spelled g small.0, gates_spelled gates
 steps_spelled : (steps : List ProofStep) → AreSmallSteps steps →
     AllZip SpellsLine (map step_tokens steps) (map step_spelling steps)
 steps_spelled [] small = tt
-steps_spelled (s ∷ steps) small = (
-  record { rest = step_tokens s; words = refl; numbers = step_spells s small.0 },
-  steps_spelled steps small.1,
-)
+steps_spelled (s ∷ steps) small = search (arith, step_tokens, step_spells, (steps_spelled steps small.1))
 
 definition_spelled : (d : Definition) (rest : List ℕ) → IsSmallDefinition d →
     AreSpelled (definition_spelling d) (tokens_of rest) (tokens_of (definition_text d ++ rest))
@@ -132,11 +107,7 @@ definition_spelled d rest small =
 
 signs_spelled : (letter vs : List ℕ) (bits : List Bool) → AllByRecursion IsSpellable vs →
     SpellsLine (letter ∷ (map bit_word (zip vs bits) ++ codes "0" ∷ [])) (signs_spelling letter vs bits)
-signs_spelled letter vs bits are = record {
-  rest = map bit_word (zip vs bits) ++ codes "0" ∷ [];
-  words = refl;
-  numbers = bits_numbers vs bits are;
-}
+signs_spelled letter vs bits are = search (arith, bit_word, bits_numbers)
 
 module _ (f : Dqbf) (us : AllByRecursion IsSpellable f.universals)
     (ys : AllByRecursion IsSpellable (existential_variables f)) where
@@ -170,11 +141,8 @@ module _ (f : Dqbf) (us : AllByRecursion IsSpellable f.universals)
   block_spelled : f.variables ≤ 1000000 → length f.matrix ≤ 10000000 → (y : ℕ) (block : DefinitionBlock)
       (rest : List ℕ) → y ≤ f.variables → IsBlockOf f y block → HasFewSteps block →
       AreSpelled (block_spelling f block) (tokens_of rest) (tokens_of (block_text f block ++ rest))
-  block_spelled few few_clauses y (defined d) rest own is steps =
-      let low : d.existential ≤ f.variables = let e = is.0 in omega (arith, e, own) in
-      definition_spelled d rest (small_definition f d few few_clauses low is.1 steps)
-  block_spelled few few_clauses y (free p) rest own is steps =
-      pair_spelled p rest (let e = is.0 in omega (arith, e, own, few))
+  block_spelled few few_clauses y (defined d) rest own is steps = search (arith, definition_spelled, small_definition)
+  block_spelled few few_clauses y (free p) rest own is steps = search (arith, pair_spelled)
 
   blocks_spelled : f.variables ≤ 1000000 → length f.matrix ≤ 10000000 → (vs : List ℕ)
       (blocks : List DefinitionBlock) → AllByRecursion (λ v. v ≤ f.variables) vs → AreBlocksOf f vs blocks →

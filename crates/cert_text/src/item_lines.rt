@@ -41,6 +41,7 @@ pub struct ProofLines<'a> {
 }
 
 /// Reads the next line of a proof.
+#[inline(always)]
 pub fn read_item(
     kind: ProofLines,
     line: &[u8],
@@ -62,6 +63,7 @@ pub fn read_item(
 }
 
 // The same in version 2.
+#[inline(never)]
 fn read_marked(
     variables: Variables,
     line: &[u8],
@@ -83,6 +85,7 @@ fn read_marked(
 }
 
 // Reads a step's line.
+#[inline(always)]
 fn read_line(
     variables: Variables,
     line: &[u8],

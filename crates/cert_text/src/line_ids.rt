@@ -37,6 +37,7 @@ impl LineIds {
     }
 
     /// One line more.
+    #[inline(always)]
     pub fn push(&mut self) -> Result<(), Memory>
         ensures numbering { OnOk result (numbering self.new ≡ with_next (numbering self.old)) }
         ensures first { self.new.first ≡ self.old.first }

@@ -52,6 +52,7 @@ fn make_room(blocks: &mut Vec<Row>, count: u128) -> Result<(), Memory>
 }
 
 // Writes the mark at a place.
+#[inline(always)]
 fn set_mark(blocks: &mut Vec<Row>, place: u128, mark: bool)
     requires are { All IsBlock blocks.old.items }
     requires within { place < length blocks.old.items * BLOCK }
@@ -90,6 +91,7 @@ impl LiveLines {
     }
 
     /// One live line more. The only error is want of memory, and then nothing changed.
+    #[inline(always)]
     pub fn push(&mut self) -> Result<(), Memory>
         ensures ok { OnOk result (self.new ≡ self.old ++ true ∷ []) }
         ensures err { OnErr result (self.new ≡ self.old) }

@@ -3,7 +3,7 @@
 //! Where the quick pass gives up, the exact reader says what the line is, so that no refusal has a
 //! second way. A deletion goes through the exact reader at once.
 
-ghost use Rattle.std.specs.Prelude.{◌≡◌, ◌≤◌, ◌<◌, ◌^◌, ◌∷◌, [], ◌++◌, nat_abs, pos, map, IfSome, IfOk, OnOk};
+ghost use Rattle.std.specs.Prelude.{◌≡◌, ◌≤◌, ◌<◌, ◌^◌, ◌∷◌, [], ◌++◌, true, nat_abs, pos, map, IfSome, IfOk, OnOk};
 ghost use Rattle.std.specs.List.{All};
 ghost use Rattle.dq_lits.specs.Literal.{dimacs_literal, dimacs_number, variable_of};
 ghost use Rattle.dq_text.specs.Line.{line_tokens};
@@ -21,6 +21,7 @@ use dq_text::{LineTokens, short_number};
 /// Reads a step with the next id, over these variables, and answers its id; its literals and hints
 /// stand in the buffers then. It answers nothing where the line isn't such a one, and maybe where
 /// it is.
+#[inline(always)]
 pub fn take_plain_step(
     variables: Variables,
     next: u128,
@@ -49,14 +50,22 @@ pub fn take_plain_step(
     let Some(line) = take_hints(id, line, hints)? else {
         return Ok(None);
     };
-    Ok(if LineTokens::new(line).next().is_none() {
-        Some(id)
-    } else {
-        None
-    })
+    Ok(if ends(line) { Some(id) } else { None })
+}
+
+// Whether no token is left.
+#[inline(always)]
+fn ends(line: &[u8]) -> bool
+    ensures { result ≡ true → line_tokens line.now ≡ [] }
+{
+    if line.is_empty() {
+        return true;
+    }
+    LineTokens::new(line).next().is_none()
 }
 
 // Takes the next id; behind it stands what is left of the line.
+#[inline(always)]
 fn take_id(next: u128, line: &[u8]) -> Option<(u64, &[u8])>
     ensures taken { IfSome result
         (λ taken. map number_of (line_tokens line.now)
@@ -71,6 +80,7 @@ fn take_id(next: u128, line: &[u8]) -> Option<(u64, &[u8])>
 }
 
 // Takes literals on these variables, and the 0 behind them.
+#[inline(always)]
 fn take_literals<'a>(
     variables: Variables,
     line: &'a [u8],
@@ -97,6 +107,7 @@ fn take_literals<'a>(
     Ok(None)
 }
 
+#[inline(always)]
 fn push_literal(literals: &mut Vec<Lit>, number: i64) -> Result<(), Memory>
     requires { IsLiteralNumber number }
     ensures { OnOk result (literals.new.items ≡ literals.old.items ++ dimacs_literal number ∷ []) }
@@ -118,6 +129,7 @@ pub fn literal(number: i64) -> Lit
 }
 
 // Takes ids below this one, and the 0 behind them.
+#[inline(always)]
 fn take_hints<'a>(id: u64, line: &'a [u8], hints: &mut Vec<u64>) -> Result<Option<&'a [u8]>, Memory>
     ensures { IfOk result
         (λ left.
@@ -139,6 +151,7 @@ fn take_hints<'a>(id: u64, line: &'a [u8], hints: &mut Vec<u64>) -> Result<Optio
     Ok(None)
 }
 
+#[inline(always)]
 fn push_hint(hints: &mut Vec<u64>, hint: u64) -> Result<(), Memory>
     ensures { OnOk result (hints.new.items ≡ hints.old.items ++ hint ∷ []) }
 {

@@ -48,6 +48,7 @@ impl StepBuffers {
 
 /// Reads a step with the next id, over these variables, and answers its id; its literals and hints
 /// stand in the buffers then.
+#[inline(always)]
 pub fn read_step(
     variables: Variables,
     next: u128,
@@ -71,6 +72,7 @@ pub fn read_step(
 }
 
 // The same for any line.
+#[inline(never)]
 fn take_step(
     variables: Variables,
     next: u128,

@@ -137,6 +137,17 @@ passed old new byte behind left old_fresh new_fresh between place line shorter e
       ∙ comment_end_line new.place new.line behind left more ends;
 }
 
+-- a space outside comments
+pub blank_passed : (pieces : TokenPieces) (byte : ℕ) (behind : List ℕ) → pieces.token ≡ no_bytes →
+    is_in_token (kind_of byte) pieces.place ≡ false → byte ≡ 32 → EndsComment pieces.place behind behind →
+    Skips pieces pieces (byte ∷ behind) behind
+blank_passed pieces byte behind fresh between space ends =
+    let kind : kind_of byte ≡ Blank = ap kind_of space in
+    passed pieces pieces byte behind behind fresh fresh between
+    (sym (ap (λ k. place_after k pieces.place) kind))
+    (sym (ap (λ k. line_after k pieces.line) kind))
+    (omega arith) ends
+
 pub nothing_skipped : (pieces : TokenPieces) (bytes : List ℕ) → Skips pieces pieces bytes bytes
 nothing_skipped pieces bytes = record { shorter = omega arith; tokens = λ more. refl; lines = λ more. refl }
 

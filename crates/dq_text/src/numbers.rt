@@ -25,6 +25,7 @@ pub enum Number {
 pub const TOO_BIG: u64 = 1_000_000_000_000_000_000;
 
 /// Reads a token as a number. Leading zeros are lawful, `+` isn't.
+#[inline(always)]
 pub fn read_number(text: &[u8]) -> Number
     ensures { result ≡ number_of text.now }
 {
@@ -77,6 +78,7 @@ fn capped_value(digits: &[u8]) -> Option<u64>
 }
 
 // The same digit by digit, however many there are.
+#[inline(never)]
 fn capped_value_of_many(digits: &[u8]) -> Option<u64>
     ensures { result
         ≡ (if are_digits digits.now then Some (min (decimal_value digits.now) (10 ^ 18))

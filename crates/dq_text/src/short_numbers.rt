@@ -27,6 +27,7 @@ pub fn short_number(bytes: &[u8]) -> Option<(i64, &[u8])>
 }
 
 /// The value of digits, of which there are at most 18; none where it isn't as simple.
+#[inline(always)]
 pub fn few_digits(digits: &[u8]) -> Option<u64>
     ensures { IfSome result (λ value. AreFewDigits digits.now value) }
 {

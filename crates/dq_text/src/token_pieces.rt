@@ -168,10 +168,24 @@ fn pass<'a>(pieces: &mut TokenPieces, byte: u8, behind: &'a [u8]) -> Result<&'a 
     ensures skips { IfOk result
         (λ left. Skips pieces.old pieces.new (byte ∷ behind.now) left.now) }
 {
+    if is_plain_blank(byte, pieces.place) {
+        return Ok(behind);
+    }
     let kind = byte_kind(byte);
     pieces.line = counted_line(kind, pieces.line)?;
     pieces.place = next_place(kind, pieces.place);
     Ok(to_comment_end(pieces.place, behind))
+}
+
+// Whether a byte is a space outside comments: the usual case, which changes nothing.
+fn is_plain_blank(byte: u8, place: LinePlace) -> bool
+    ensures blank { result ≡ true → byte ≡ 32 }
+    ensures end { result ≡ true → (bytes : List ℕ) → EndsComment place bytes bytes }
+{
+    match place {
+        LinePlace::InComment => false,
+        LinePlace::LineStart | LinePlace::InLine => byte == b' ',
+    }
 }
 
 // In a comment, the bytes from the LF that ends it; elsewhere all.

@@ -1,6 +1,8 @@
 //! A map from numbers to places: a table for small numbers, an ordered map for others.
 
 ghost use Rattle.std.specs.Prelude.{◌≡◌, ◌+◌, ◌-◌, ◌^◌, ◌<◌, ◌≤◌, ◌==◌, ℕ, true, None, OnOk, OnErr, length, slice_index_or, if◌then◌else◌};
+ghost use Rattle.std.specs.BTreeMap.{get};
+ghost use Rattle.std.specs.Ordering.{nat_cmp};
 ghost use Rattle.number_tables.specs.Places.{place_in, Puts};
 
 use dq_lits::Memory;
@@ -37,11 +39,22 @@ impl Places {
         ensures { result ≡ place_in self.now number }
     {
         let place = slot(&self.table, number);
-        if place == NOWHERE {
-            self.rest.get(&number).copied()
-        } else {
-            Some(place as usize)
+        if place != NOWHERE {
+            return Some(place as usize);
         }
+        if self.rest.is_empty() {
+            // The usual case: most sets have small numbers alone.
+            return None;
+        }
+        self.get_apart(number)
+    }
+
+    // What the ordered map says of a number. What calls it is to stay small.
+    #[inline(never)]
+    fn get_apart(&self, number: u64) -> Option<usize>
+        ensures { result ≡ get nat_cmp self.now.rest number }
+    {
+        self.rest.get(&number).copied()
     }
 
     /// Gives a place to a number that has none.

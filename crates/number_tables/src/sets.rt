@@ -82,7 +82,7 @@ impl NumberSet {
         }
         self.numbers.reserve(1)?;
         self.places.put(number, self.numbers.len())?;
-        self.numbers.push(number).unwrap();
+        self.numbers.push_reserved(number);
         Ok(true)
     }
 

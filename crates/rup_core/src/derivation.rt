@@ -88,6 +88,7 @@ pub(crate) fn line_fault<B: Base>(
 }
 
 /// Makes all these literals false, unless one stands beside its negation.
+#[inline(always)]
 pub(crate) fn assume_false(trail: &mut Trail, lits: &[Lit]) -> Result<bool, Memory>
     requires { trail.old.trues ≡ [] }
     ensures variables { trail.new.variables ≡ trail.old.variables }

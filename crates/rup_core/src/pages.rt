@@ -47,19 +47,27 @@ impl Model for Page {
 }
 
 // Makes room for the span of a place.
+#[inline(always)]
 fn reach(spans: &mut Vec<Span>, place: usize) -> Result<(), Memory>
     requires { place < 2 ^ 63 }
     ensures within { OnOk result (place < length spans.new.items) }
     ensures same { AreSameSpans spans.old.items spans.new.items }
     ensures err { OnErr result (spans.new.items ≡ spans.old.items) }
 {
-    if spans.len() <= place {
+    let count = spans.len();
+    if place == count {
+        // The usual case, and the cheaper one.
+        spans.push(GONE)?;
+        return Ok(());
+    }
+    if count < place {
         spans.resize(place + 1, GONE)?;
     }
     Ok(())
 }
 
 // Writes a clause behind the others, and its span.
+#[inline(always)]
 fn write(
     spans: &mut Vec<Span>,
     literals: &mut Vec<Lit>,
@@ -120,6 +128,7 @@ impl Page {
     }
 
     /// Puts a clause at a place that has none.
+    #[inline(always)]
     pub(crate) fn put(&mut self, place: usize, lits: &[Lit]) -> Result<(), Memory>
         requires free { clause_at self.old place ≡ None }
         requires within { place < 2 ^ 63 }
@@ -180,6 +189,7 @@ impl Page {
     }
 
     // A page of the same clauses, without literals of those that are gone.
+    #[inline(never)]
     fn packed(&self) -> Result<Page, Memory>
         ensures { IfOk result (λ page. AreSameClauses (clause_at self.now) (clause_at page)) }
     {

@@ -21,6 +21,7 @@ pub(crate) enum Progress {
 
 /// One more hint, where all so far propagate, by the status of its clause: the literal of a unit
 /// clause becomes true.
+#[inline(always)]
 pub(crate) fn propagate(trail: &mut Trail, status: ClauseStatus) -> Result<Progress, Memory>
     requires { UnitIsFree trail.old.trues (seen status) }
     ensures step { IfOk result

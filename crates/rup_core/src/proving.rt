@@ -276,6 +276,7 @@ impl Proving {
     }
 
     // Adds a line that was judged, where all before it are derived.
+    #[inline(always)]
     fn add(&mut self, is_derived: bool, id: u64, lits: &[Lit]) -> Result<(), Memory>
         requires from_one { 1 ≤ id }
         requires above { All (λ line. line.0 < id) self.old.lines }

@@ -66,6 +66,7 @@ pub(crate) fn status_among(lits: &[Lit], trail: &Trail) -> ClauseStatus
 }
 
 // The same of a clause that is read a literal at a time.
+#[inline(never)]
 fn status_read<B: Base>(base: &B, id: u64, trail: &Trail) -> ClauseStatus
     ensures status { seen result ≡ status_of trail.now.trues (B.clauses base.now id) }
     ensures free { UnitIsFree trail.now.trues (seen result) }

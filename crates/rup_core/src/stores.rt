@@ -65,6 +65,7 @@ fn has_clause(pages: &[Page], place: usize) -> bool
 }
 
 // Makes the pages hold one more, and those before it.
+#[inline(always)]
 fn reach_page(pages: &mut Vec<Page>, page: usize) -> Result<(), Memory>
     requires { page < 2 ^ 63 }
     ensures within { OnOk result (page < length pages.new.items) }
@@ -81,6 +82,7 @@ fn reach_page(pages: &mut Vec<Page>, page: usize) -> Result<(), Memory>
 }
 
 // Adds pages behind the others.
+#[inline(never)]
 fn add_pages(pages: &mut Vec<Page>, missing: usize) -> Result<(), Memory>
     ensures longer { OnOk result
         (length pages.new.items ≡ length pages.old.items + missing) }
@@ -95,6 +97,7 @@ fn add_pages(pages: &mut Vec<Page>, missing: usize) -> Result<(), Memory>
 }
 
 // Gives a page's memory back where its clauses are all gone.
+#[inline(never)]
 fn give_back(pages: &mut Vec<Page>, page: usize)
     requires { page < length pages.old.items }
     ensures same { AreSameClauses (clause_among pages.old.items) (clause_among pages.new.items) }
@@ -104,6 +107,7 @@ fn give_back(pages: &mut Vec<Page>, page: usize)
 }
 
 // Puts a clause at a place that has none.
+#[inline(always)]
 fn put_at(pages: &mut Vec<Page>, place: usize, lits: &[Lit]) -> Result<(), Memory>
     requires { clause_among pages.old.items place ≡ None }
     ensures ok { OnOk result
@@ -119,6 +123,7 @@ fn put_at(pages: &mut Vec<Page>, place: usize, lits: &[Lit]) -> Result<(), Memor
 
 // The id of the first place, where a line with this id is to be put behind the others: the pages
 // begin anew where there are none, or no line can have been put yet behind those that are gone.
+#[inline(always)]
 fn begin(pages: &mut Vec<Page>, first: u64, id: u64) -> u64
     requires from_one { (1 ≤ first) × (1 ≤ id) }
     requires above { All (λ line. line.0 < id) (stored_lines first pages.old.items) }
@@ -190,6 +195,7 @@ impl Store {
     /// Puts a line behind the others. Ids from 1 on are to come in ascending order, but for those
     /// that are gone; time and memory also follow the ids that are left out, at a small part of a
     /// line's price. The only error is want of memory, and then nothing changed.
+    #[inline(always)]
     pub fn put(&mut self, id: u64, lits: &[Lit]) -> Result<(), Memory>
         requires from_one { 1 ≤ id }
         requires above { All (λ line. line.0 < id) self.old }

@@ -76,11 +76,22 @@ impl Trail {
         if place < self.near.len() {
             return self.near[place];
         }
+        self.far_variable_value(l)
+    }
+
+    // The same beyond the table, where few variables are.
+    #[inline(never)]
+    fn far_variable_value(&self, l: Lit) -> TruthValue
+        requires { self.now.variables < variable_of l }
+        ensures { IsTold result (holds self.now.trues (positive (variable_of l)))
+            (holds self.now.trues (negative (variable_of l))) }
+    {
         far_value(self.far.get(&l.var()))
     }
 
     /// Makes an unassigned literal true. It takes no memory for the variables that room was taken
     /// for.
+    #[inline(always)]
     pub(crate) fn assign(&mut self, l: Lit) -> Result<(), Memory>
         requires { literal_value self.old.trues l ≡ TruthValue.Unassigned }
         ensures ok { OnOk result (self.new ≡ record self.old { trues = l ∷ self.old.trues }) }
@@ -94,6 +105,7 @@ impl Trail {
         self.assign_far(l)
     }
 
+    #[inline(always)]
     fn assign_near(&mut self, l: Lit)
         requires in_range { variable_of l ≤ self.old.variables }
         requires unassigned { literal_value self.old.trues l ≡ TruthValue.Unassigned }
@@ -138,6 +150,9 @@ impl Trail {
     pub(crate) fn clear(&mut self)
         ensures { self.new ≡ record self.old { trues = [] } }
     {
+        if self.literals.is_empty() {
+            return;
+        }
         unassign(&mut self.near, &self.literals);
         self.far.clear();
         self.literals.clear();

@@ -7,14 +7,7 @@ use Rattle.cert_text.proofs.ReadLines.{line_missing, line_at_fault, line_read, r
 use Rattle.cert_text.proofs.definition_reader.take_gates.Goals as goal
 
 pub returns-in_default : goal.returns-in_default
-returns-in_default c =
-    let more : c.loop-k.k < c.args.count = omega (arith, c.loop-k-test.true) in
-    let number : c.loop-k.lines.number ≡ c.number.result = sym
-    (c.number.ensures ∙ ap (λ lines. lines.number) c.in_default.ensures.end) in
-    refused_at _ _ c.refused.result c.loop-k.gates.items c.next.new.self c.refused.ensures
-    (c.loop-k.invariant
-    ∙ line_missing (definition_gates c.args.f.now) (c.args.f.now.variables + 1 + c.loop-k.k) c.loop-k.k c.args.count
-    c.loop-k.gates.items c.loop-k.lines c.number.result more c.in_default.ensures.line number)
+returns-in_default c = search (arith, refused_at, line_missing)
 
 pub returns-in-Err : goal.returns-in-Err
 returns-in-Err c =

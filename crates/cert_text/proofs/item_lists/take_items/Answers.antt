@@ -1,5 +1,5 @@
-use Rattle.std.proofs.Common.{◌≡◌, ◌+◌, ◌-◌, ◌≤◌, ◌<◌, sym, ◌∙◌, ap, arith}
-use Rattle.dq_text.specs.Line.{TextLine, line_tokens, lines_from}
+use Rattle.std.proofs.Common.{◌≡◌, ◌+◌, ◌-◌, ◌<◌, sym, ◌∙◌, ap, arith}
+use Rattle.dq_text.specs.Line.{TextLine, lines_from}
 use Rattle.dq_text.specs.TextLine.{text_line}
 use Rattle.rup_core.specs.Items.{ProofItem}
 use Rattle.cert_text.specs.ItemLine.{item_lines}
@@ -13,16 +13,7 @@ use Rattle.cert_text.proofs.ReadItems.{item_stop, has_line_id}
 use Rattle.cert_text.proofs.item_lists.take_items.Goals as goal
 
 pub returns-in_default : goal.returns-in_default
-returns-in_default c =
-    let F : Format Numbering ProofItem = item_lines c.args.announced.now.lines.version
-    (is_variable c.args.announced.now.lines.variables) in
-    let more : c.loop-k.k < c.args.announced.now.count = omega (arith, c.loop-k-test.true) in
-    let number : c.loop-k.lines.number ≡ c.number.result = sym
-    (c.number.ensures ∙ ap (λ lines. lines.number) c.in_default.ensures.end) in
-    refused_at _ _ c.refused.result c.loop-k.items c.next.new.self c.refused.ensures
-    (c.loop-k.invariant.read
-    ∙ line_missing F (numbering c.loop-k.ids) c.loop-k.k c.args.announced.now.count c.loop-k.items c.loop-k.lines
-    c.number.result more c.in_default.ensures.line number)
+returns-in_default c = search (arith, refused_at, line_missing)
 
 pub returns-in-Err : goal.returns-in-Err
 returns-in-Err c =
@@ -62,11 +53,4 @@ loop-k-preserved c =
     }
 
 pub push_item-requires : goal.push_item-requires
-push_item-requires c =
-    let first = c.loop-k.invariant.first in
-    let some = c.requires.from_one in
-    let behind : 1 ≤ (numbering c.loop-k.ids).next = omega (arith, first, some) in
-    let buffers = c.read_item.new.buffers in
-    has_line_id c.args.announced.now.lines.version (is_variable c.args.announced.now.lines.variables)
-    (numbering c.loop-k.ids) (line_tokens c.in-Some.line.text.now)
-    (read_item c.in-Ok.read buffers.literals.items buffers.hints.items) behind c.in-Ok.ensures.item
+push_item-requires c = search (arith, has_line_id)

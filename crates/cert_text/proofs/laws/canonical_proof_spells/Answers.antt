@@ -1,4 +1,4 @@
-use Rattle.cert_text.specs.Canonical.{canonical_proof}
+use Rattle.std.proofs.Common.{arith}
 use Rattle.cert_text.proofs.CanonicalProof.{canonical_spells}
 use Rattle.cert_text.proofs.SpelledProofs.{spelled_is_read}
 use Rattle.cert_text.proofs.laws.canonical_proof_spells.Goals as goal
@@ -7,5 +7,4 @@ pub returns-clause-spells : goal.returns-clause-spells
 returns-clause-spells c f net d is = canonical_spells f net d is
 
 pub returns-clause-reads_back : goal.returns-clause-reads_back
-returns-clause-reads_back c f net d first is = spelled_is_read (canonical_proof d) first f net d
-    (canonical_spells f net d is)
+returns-clause-reads_back c f net d first is = search (arith, spelled_is_read, canonical_spells)

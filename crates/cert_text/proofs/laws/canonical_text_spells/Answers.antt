@@ -1,4 +1,4 @@
-use Rattle.cert_text.specs.Canonical.{canonical}
+use Rattle.std.proofs.Common.{arith}
 use Rattle.cert_text.proofs.CanonicalLines.{canonical_spells}
 use Rattle.cert_text.proofs.SpelledRefutations.{spelled_is_read}
 use Rattle.cert_text.proofs.laws.canonical_text_spells.Goals as goal
@@ -7,5 +7,4 @@ pub returns-clause-spells : goal.returns-clause-spells
 returns-clause-spells c f d lawful is = canonical_spells f d lawful is
 
 pub returns-clause-reads_back : goal.returns-clause-reads_back
-returns-clause-reads_back c f d first lawful is = spelled_is_read (canonical f.universals d) first f d lawful
-    (canonical_spells f d lawful is)
+returns-clause-reads_back c f d first lawful is = search (arith, spelled_is_read, canonical_spells)

@@ -1,4 +1,4 @@
-use Rattle.std.proofs.Common.{◌≡◌, ◌⊎◌, inl, inr, ℕ, List, Result, Ok, Err, refl, sym, ◌∙◌}
+use Rattle.std.proofs.Common.{◌≡◌, ◌⊎◌, inl, inr, ℕ, List, Result, Ok, Err, refl, sym, ◌∙◌, arith}
 use Rattle.dq_lits.specs.Formula.{Dqbf}
 use Rattle.cert_text.specs.DefinitionBlocks.{DefinitionBlock}
 use Rattle.cert_text.specs.DefinitionGrammar.{SpellsDefinitions}
@@ -9,8 +9,7 @@ use Rattle.cert_text.proofs.TakenDefinitions.{spelled_is_read}
 use Rattle.cert_text.proofs.laws.definitions_or_first_fault.Goals as goal
 
 pub returns-clause-exact : goal.returns-clause-exact
-returns-clause-exact c text first f blocks lawful =
-    (spelled_is_read text first f blocks lawful, read_is_spelled text first f blocks)
+returns-clause-exact c text first f blocks lawful = search (arith, spelled_is_read, read_is_spelled)
 
 pub returns-clause-spelled : goal.returns-clause-spelled
 returns-clause-spelled c text first f blocks read = read_is_spelled text first f blocks read

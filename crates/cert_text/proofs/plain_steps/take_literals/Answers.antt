@@ -1,4 +1,4 @@
-use Rattle.std.proofs.Common.{rules, ◌≡◌, ◌∷◌, ◌≤◌, true, map, nat_abs, w64, to_z, of_z}
+use Rattle.std.proofs.Common.{rules, ◌≡◌, ◌∷◌, true, map, nat_abs, w64, to_z, of_z, arith}
 use Rattle.dq_lits.specs.Literal.{dimacs_literal, variable_of}
 use Rattle.dq_text.specs.Line.{line_tokens}
 use Rattle.dq_text.specs.Number.{number_of}
@@ -8,12 +8,7 @@ use Rattle.cert_text.proofs.PlainSteps.{literal_number, literal_taken}
 use Rattle.cert_text.proofs.plain_steps.take_literals.Goals as goal
 
 pub push_literal-requires : goal.push_literal-requires
-push_literal-requires c =
-    let n = c.in-Some.n in
-    let first : map number_of (line_tokens c.loop-n.rest.now) ≡ Int n ∷ map number_of (line_tokens c.in-Some.behind.now)
-    = c.in-Some.ensures in
-    let some : 1 ≤ nat_abs (to_z w64 (of_z w64 n)) = search rules in
-    literal_number (line_tokens c.loop-n.rest.now) (line_tokens c.in-Some.behind.now) n first some
+push_literal-requires c = search (arith, nat_abs, to_z, of_z, literal_number)
 
 pub loop-n-preserved : goal.loop-n-preserved
 loop-n-preserved c =

@@ -7,13 +7,7 @@ use Rattle.cert_text.proofs.SignWords.{sign_at}
 use Rattle.cert_text.proofs.row_lines.take_signs.Goals as goal
 
 pub loop-i-preserved : goal.loop-i-preserved
-loop-i-preserved c =
-    let us = c.args.universals.variables.now in
-    let start = line_tokens c.args.signs.now in
-    rw c.set.ensures
-    (sign_at us c.args.universals.words.now start c.get.result.now c.loop-i.rest.now c.in-Some.behind.now c.loop-i.row
-    c.loop-i.i c.in-Some.positive c.requires.words c.get.ensures
-    (omega (arith, c.loop-i-test.true, c.len-i-end.ensures)) c.requires.spelled c.loop-i.invariant c.in-Some.ensures)
+loop-i-preserved c = search (arith, sign_at)
 
 pub returns : goal.returns
 returns c holds =

@@ -6,14 +6,7 @@ use Rattle.cert_text.proofs.ReadLines.{line_missing, line_at_fault, line_read, r
 use Rattle.cert_text.proofs.row_lists.take_rows.Goals as goal
 
 pub returns-in_default : goal.returns-in_default
-returns-in_default c =
-    let more : c.loop-k.k < c.args.count = omega (arith, c.loop-k-test.true) in
-    let number : c.loop-k.lines.number ≡ c.number.result = sym
-    (c.number.ensures ∙ ap (λ lines. lines.number) c.in_default.ensures.end) in
-    refused_at _ _ c.refused.result c.loop-k.rows c.next.new.self c.refused.ensures
-    (c.loop-k.invariant
-    ∙ line_missing (row_lines c.args.universals.variables.now) tt c.loop-k.k c.args.count c.loop-k.rows c.loop-k.lines
-    c.number.result more c.in_default.ensures.line number)
+returns-in_default c = search (arith, refused_at, line_missing)
 
 pub returns-in-Err : goal.returns-in-Err
 returns-in-Err c =

@@ -4,5 +4,5 @@ use Rattle.aiger_text.proofs.name_tables.NameTable.len.Goals as goal
 
 pub returns : goal.returns
 returns c =
-    c.len.ensures ∙ sym (zip_long c.self.inside.places.keys c.self.inside.names c.self.invariant)
+    c.len.ensures ∙ sym (zip_long c.self.inside.places c.self.inside.names c.self.invariant)
     ∙ ap length c.self.view_is

@@ -4,12 +4,12 @@ use Rattle.aiger_text.proofs.name_tables.NameTable.name.Goals as goal
 
 pub get-requires : goal.get-requires
 get-requires c =
-    let long = zip_long c.self.inside.places.keys c.self.inside.names c.self.invariant in
+    let long = zip_long c.self.inside.places c.self.inside.names c.self.invariant in
     omega (arith, c.requires, long, ap length c.self.view_is)
 
 pub returns : goal.returns
 returns c =
     c.get.ensures
     ∙ sym (ap (λ (e : ℕ × List ℕ). e.1)
-    (zip_at c.self.inside.places.keys c.self.inside.names c.args.index c.self.invariant))
+    (zip_at c.self.inside.places c.self.inside.names c.args.index c.self.invariant))
     ∙ ap (λ (es : List (ℕ × List ℕ)). (get_or es c.args.index (0, [])).1) c.self.view_is

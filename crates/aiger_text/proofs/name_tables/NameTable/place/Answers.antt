@@ -1,21 +1,23 @@
-use Rattle.std.proofs.Common.{ℕ, List, [], ◌<◌, length, get_or, sym, ◌∙◌, ap, arith}
-use Rattle.std.proofs.lemmas.Bool.{false≢true}
-use Rattle.std.proofs.lemmas.Option.{get_or_from_slice_get}
+use Rattle.std.proofs.Common.{ℕ, List, [], length, get_or, sym, ◌∙◌, ap, arith}
 use Rattle.aiger_text.proofs.NamedPlaces.{zip_long, zip_at}
 use Rattle.aiger_text.proofs.name_tables.NameTable.place.Goals as goal
 
-pub unreachable-requires : goal.unreachable-requires
-unreachable-requires c =
-    let inv = c.self.invariant in
-    let long = zip_long c.self.inside.places.keys c.self.inside.names inv in
-    let lt : c.args.index < length c.self.inside.places.keys =
-    omega (arith, c.requires, long, inv, ap length c.self.view_is) in
-    false≢true (c.in-None.ensures.found.1 lt)
+pub place_at-requires : goal.place_at-requires
+place_at-requires c =
+    let long = zip_long c.self.inside.places c.self.inside.names c.self.invariant in
+    omega (
+      arith,
+      c.requires,
+      long,
+      c.self.invariant,
+      ap length c.self.view_is,
+      ap (λ (places : List ℕ). length places) c.items.ensures,
+    )
 
 pub returns : goal.returns
 returns c =
-    sym (get_or_from_slice_get c.self.inside.places.keys c.args.index c.in-Some.place.now 0
-    (sym c.in-Some.ensures.key))
+    c.place_at.ensures
+    ∙ ap (λ (places : List ℕ). get_or places c.args.index 0) c.items.ensures
     ∙ sym (ap (λ (e : ℕ × List ℕ). e.0)
-    (zip_at c.self.inside.places.keys c.self.inside.names c.args.index c.self.invariant))
+    (zip_at c.self.inside.places c.self.inside.names c.args.index c.self.invariant))
     ∙ ap (λ (es : List (ℕ × List ℕ)). (get_or es c.args.index (0, [])).0) c.self.view_is

@@ -1,15 +1,11 @@
-use Rattle.std.proofs.Common.{◌≡◌, ◌++◌, ◌∷◌, [], true, ◌∙◌, ap}
+use Rattle.std.proofs.Common.{◌++◌, ◌∷◌, [], true, ◌∙◌, ap, arith}
 use Rattle.rup_core.proofs.PagedClauses.{on_err}
-use Rattle.cert_text.specs.Marks.{mark_among, marks_below}
+use Rattle.cert_text.specs.Marks.{mark_among}
 use Rattle.cert_text.proofs.Marks.{marks_pushed, marks_same}
 use Rattle.cert_text.proofs.live_lines.LiveLines.push.Goals as goal
 
 pub returns-in_err-make_room-clause-err : goal.returns-in_err-make_room-clause-err
-returns-in_err-make_room-clause-err c =
-    let count = c.self.inside.count in
-    on_err c.from_residual.result (marks_below count (mark_among c.make_room.new.blocks.items) ≡ c.args.self.now)
-    (marks_same count (mark_among c.self.inside.blocks.items) (mark_among c.make_room.new.blocks.items)
-    c.make_room.ensures.same ∙ c.self.view_is)
+returns-in_err-make_room-clause-err c = search (arith, on_err, marks_same)
 
 pub returns-clause-ok : goal.returns-clause-ok
 returns-clause-ok c =

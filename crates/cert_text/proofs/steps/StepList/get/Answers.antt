@@ -3,22 +3,13 @@ use Rattle.cert_text.proofs.KeptSteps.{length-steps_from, step_got}
 use Rattle.cert_text.proofs.steps.StepList.get.Goals as goal
 
 pub index-requires : goal.index-requires
-index-requires c =
-    let l = c.self.inside in
-    let size = length-steps_from l.ids.items l.literals l.hints c.self.invariant in
-    omega (arith, c.requires, size, ap length c.self.view_is, l.ids.ok.0)
+index-requires c = search (arith, length-steps_from)
 
 pub get-requires : goal.get-requires
-get-requires c =
-    let l = c.self.inside in
-    let size = length-steps_from l.ids.items l.literals l.hints c.self.invariant in
-    omega (arith, c.requires, size, ap length c.self.view_is, c.self.invariant.clauses)
+get-requires c = search (arith, length-steps_from)
 
 pub get-requires-2 : goal.get-requires-2
-get-requires-2 c =
-    let l = c.self.inside in
-    let size = length-steps_from l.ids.items l.literals l.hints c.self.invariant in
-    omega (arith, c.requires, size, ap length c.self.view_is, c.self.invariant.hinted)
+get-requires-2 c = search (arith, length-steps_from)
 
 pub returns : goal.returns
 returns c =

@@ -10,8 +10,8 @@ put-requires c = c.self.invariant c.args.number ∙ unplaced c.self.inside.numbe
 pub invariant_of-self-2 : goal.invariant_of-self-2
 invariant_of-self-2 c =
     let absent = ap (λ ns. has_number ns c.args.number) c.self.view_is ∙ sym c.if-contains.ensures in
-    let items : c.push.new.self.items ≡ c.self.inside.numbers.items ++ c.args.number ∷ [] =
-    rw c.unwrap.ensures at c.push.ensures.items ∙ ap (λ ns. ns ++ c.args.number ∷ []) c.reserve.ensures.items in
+    let items : c.push_reserved.new.self.items ≡ c.self.inside.numbers.items ++ c.args.number ∷ [] =
+    c.push_reserved.ensures.items ∙ ap (λ ns. ns ++ c.args.number ∷ []) c.reserve.ensures.items in
     let len : c.len.result ≡ length c.self.inside.numbers.items = search rules in
     λ n.
     c.in_ok-put.ensures.ok n
