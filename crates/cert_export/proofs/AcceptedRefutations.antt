@@ -1,11 +1,9 @@
 -- An exported refutation names each pair by some row that it keeps; by the pairs' own numbers its lines
 -- are derived.
-use Rattle.std.proofs.Common.{◌≡◌, ℕ, ◌+◌, ◌-◌, Bool, false, List, [], ◌∷◌, map, length, Option, None, Some, refl, sym, ◌∙◌, ap, subst, arith}
-use Rattle.std.specs.List.{cons_option}
-use Rattle.std.specs.Option.{option_map}
+use Rattle.std.proofs.Common.{◌≡◌, ℕ, ◌+◌, Bool, false, List, [], ◌∷◌, map, length, None, Some, refl, sym, ◌∙◌, ap, subst, arith}
 use Rattle.std.proofs.lemmas.List.{length-map}
 use Rattle.std.proofs.lemmas.List.Kept.{AllPairs-from_increasing}
-use Rattle.dq_lits.specs.Literal.{Literal, variable_of, on_variable, opposite}
+use Rattle.dq_lits.specs.Literal.{Literal, opposite}
 use Rattle.dq_lits.specs.Formula.{Dqbf, IsWellFormed}
 use Rattle.dq_lits.specs.Expansion.{instance_at}
 use Rattle.dq_lits.proofs.SignedLiterals.{variable_of-on, on-on}
@@ -49,24 +47,12 @@ module _ (f : Dqbf) (rows : List (List Bool)) (r : Renaming) where
 
   normal_clause : (c : List Literal) → map (normal_literal f rows) (renamed_clause r c) ≡ renamed_clause named c
   normal_clause [] = refl
-  normal_clause (l ∷ ls) = by_option (normal_clause ls) (r (variable_of l)) where
-    by_option : map (normal_literal f rows) (renamed_clause r ls) ≡ renamed_clause named ls → (o : Option ℕ) →
-        map (normal_literal f rows) (cons_option (option_map (λ w. on_variable w l) o) (renamed_clause r ls))
-        ≡ cons_option (option_map (λ w. on_variable w l) (option_map (normal_number f rows) o))
-        (renamed_clause named ls)
-    by_option later None = later
-    by_option later (Some x) =
-        let same : normal_literal f rows (on_variable x l) ≡ on_variable (normal_number f rows x) l =
-        ap (λ n. on_variable (normal_number f rows n) (on_variable x l)) (variable_of-on x l)
-        ∙ on-on (normal_number f rows x) x l in
-        ap (λ q. q ∷ map (normal_literal f rows) (renamed_clause r ls)) same ∙ ap
-        (λ qs. on_variable (normal_number f rows x) l ∷ qs) later
+  normal_clause (l ∷ ls) = search (arith, (normal_clause ls), variable_of-on, on-on)
 
   -- no two names alike, and so no two of those that they are made of
   module _ (entries : List Entry) (injective : IsInjective named) where
     names_differ : IsInjective r
-    names_differ v w x h k = injective v w (normal_number f rows x) (ap (option_map (normal_number f rows)) h)
-        (ap (option_map (normal_number f rows)) k)
+    names_differ v w x h k = search (arith, (injective v w))
 
     same_hints : (id : ℕ) → line_hints r entries id ≡ line_hints named entries id
     same_hints id =

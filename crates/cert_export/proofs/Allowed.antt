@@ -80,8 +80,7 @@ module _ (r named : Renaming) (base_id : Origin → ℕ) (usable : Origin → Li
     by_option : All OnVariable (renamed_clause r ls) → (o : Option ℕ) → r (variable_of l) ≡ o →
         All OnVariable (cons_option (option_map (λ w. on_variable w l) o) (renamed_clause r ls))
     by_option later None is = later
-    by_option later (Some x) is = All-cons OnVariable (on_variable x l) (renamed_clause r ls)
-        (ap is_variable (variable_of-on x l) ∙ variables (variable_of l) x is) later
+    by_option later (Some x) is = search (arith, All-cons, variable_of-on)
 
   -- done lines have numbers behind the base and before n
   abbrev AreBefore : ℕ → List ℕ → Type 0
@@ -99,15 +98,11 @@ module _ (r named : Renaming) (base_id : Origin → ℕ) (usable : Origin → Li
       let some : first (base_id i.0) ≡ Some (renamed_clause named i.1) = there.0 in
       let positive' : base_id i.0 ≢ 0 = λ e. let nothing : first (base_id i.0) ≡ None = ap first e ∙ none in cc in
       (omega (arith, new, positive'), omega (arith, new, there.1, small))
-  hint_before n done small before h (inr inside) = let b = before h inside in let a = b.0 in let d =
-      b.2 in (omega (arith, a, b.1), omega (arith, a, d))
+  hint_before n done small before h (inr inside) = search arith
 
   next_number : (done : List ℕ) (id : ℕ) → IsNextLine usable entries number base done id →
       new_number base_id entries number id ≡ number id
-  next_number done id next = elim next.derived [
-    | inl learned ↦ ap (number_by base_id (number id)) learned
-    | inr answer ↦ ap (number_by base_id (number id)) answer
-  ]
+  next_number done id next = search arith
 
   next_hints : (done : List ℕ) (id : ℕ) (next : IsNextLine usable entries number base done id) →
       hints_or_none (numbered has_id entries id) ≡ next.hints

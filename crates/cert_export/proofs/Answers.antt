@@ -1,12 +1,12 @@
 -- What an answer rests on.
-use Rattle.std.proofs.Common.{◌≡◌, ℕ, ◌+◌, ◌≤◌, ◌==◌, ◌⊎◌, inl, inr, true, List, [], ◌∷◌, Option, None, Some, refl, sym, ◌∙◌, ap, subst, arith}
+use Rattle.std.proofs.Common.{◌≡◌, ℕ, ◌+◌, ◌≤◌, ◌⊎◌, inl, inr, true, List, [], ◌∷◌, Option, None, Some, refl, sym, ◌∙◌, ap, subst, arith}
 use Rattle.std.specs.List.{Contains, cons_option}
 use Rattle.std.specs.Option.{option_map, option_and_then}
 use Rattle.std.proofs.lemmas.Bool.{eq-eqb, cond-true}
 use Rattle.std.proofs.lemmas.List.Elements.{All-head, All-tail}
 use Rattle.dq_lits.specs.Derivation.{is_empty}
 use Rattle.dq_lits.specs.Literal.{Literal, negative, variable_of, on_variable}
-use Rattle.hint_log.specs.Entries.{has_id, count, last_id, numbered, hints_of, hints_at, name_of}
+use Rattle.hint_log.specs.Entries.{has_id, last_id, numbered, hints_of, hints_at, name_of}
 use Rattle.hint_log.specs.Reached.{Reaches, itself, by_hint}
 use Rattle.hint_log.specs.Entries.{Entry}
 use Rattle.hint_log.specs.Entries.{Given, Answer}
@@ -29,8 +29,7 @@ module _ (earlier : List Entry) (clause : List Literal) (hints : List ℕ)
   last = last_id all
 
   pub answer_there : numbered has_id all last ≡ Some (Answer clause hints)
-  answer_there = cond-true (last == count has_id earlier + 1) (Some (Answer clause hints))
-      (numbered has_id earlier last) (eq-eqb last (count has_id earlier + 1) refl)
+  answer_there = search (arith, cond-true, eq-eqb)
 
   -- what the answer reaches is reached by its hints
   abbrev IsBelow : ℕ → Type 0
@@ -64,18 +63,7 @@ module _ (earlier : List Entry) (clause : List Literal) (hints : List ℕ)
   -- the given clauses that the answer reaches
   pub reached_given : (h : ℕ) (origin : Origin) (c : List Literal) → Reaches all last h →
       numbered has_id all h ≡ Some (Given origin c) → ReachesGiven earlier hints origin c
-  reached_given h origin c reached at = elim (reached_by_hint h reached) [
-    | inl same ↦ (let both : Some (Answer clause hints) ≡ Some (Given origin c) =
-        sym answer_there ∙ ap (numbered has_id all) (sym same) ∙ at in cc)
-    | inr below ↦ record {
-      hint = below.0;
-      id = h;
-      hinted = below.1;
-      reached = below.2;
-      is_given =
-          sym (numbered_kept (Answer clause hints ∷ []) earlier h below.3) ∙ at;
-    }
-  ]
+  reached_given h origin c reached at = search (arith, reached_by_hint, answer_there, numbered_kept)
 
   -- a clause of selectors is exported as the empty one
   pub selectors_dropped : (r : Renaming) → ((v : ℕ) → name_of earlier v ≡ Some (Selector v) → r v ≡ None) →
@@ -96,19 +84,12 @@ module _ (entries earlier : List Entry) (clause : List Literal) (hints : List �
   lawful' = subst (Each MayFollow) answered lawful
 
   pub answer_at : numbered has_id entries id ≡ Some (Answer clause hints)
-  answer_at = ap (λ xs. numbered has_id xs id) answered
-      ∙ ap (numbered has_id (Answer clause hints ∷ earlier)) (is_last ∙ ap last_id answered)
-      ∙ answer_there earlier clause hints lawful'
+  answer_at = search (arith, answer_there, lawful')
 
   -- a given clause that the answer reaches is reached by its hints
   pub reached_here : (h : ℕ) (origin : Origin) (c : List Literal) → Reaches entries id h →
       numbered has_id entries h ≡ Some (Given origin c) → ReachesGiven earlier hints origin c
-  reached_here h origin c reached at =
-      let all = Answer clause hints ∷ earlier in
-      let id_is : id ≡ last_id all = is_last ∙ ap last_id answered in
-      reached_given earlier clause hints lawful' h origin c
-      (subst (λ n. Reaches all n h) id_is (subst (λ xs. Reaches xs id h) answered reached))
-      (ap (λ xs. numbered has_id xs h) (sym answered) ∙ at)
+  reached_here h origin c reached at = search (arith, reached_given, lawful')
 
   -- its clause is exported as the empty one
   pub answer_empty : (r target : Renaming) → IsPartOf r target → ((v : ℕ) → name_of entries v ≡ Some (Selector v) →
@@ -120,5 +101,4 @@ module _ (entries earlier : List Entry) (clause : List Literal) (hints : List �
         no_selector v named = by_option (r v) refl where
           by_option : (o : Option ℕ) → r v ≡ o → o ≡ None
           by_option None is = refl
-          by_option (Some x) is = let both : None ≡ Some x =
-              sym (unnamed v (ap (λ xs. name_of xs v) answered ∙ named)) ∙ part v x is in cc
+          by_option (Some x) is = search arith

@@ -1,5 +1,5 @@
 -- Places of ids among ascending ones.
-use Rattle.std.proofs.Common.{◌≡◌, ℕ, ◌≤◌, ◌<◌, List, length, get_or, Ok, Err, sym, ◌∙◌, ap, arith, Contains, ⊎_elim, ◌⊎◌, inl, inr}
+use Rattle.std.proofs.Common.{◌≡◌, ℕ, ◌≤◌, ◌<◌, List, length, get_or, Ok, Err, sym, ◌∙◌, ap, arith, Contains, ◌⊎◌, inl, inr}
 use Rattle.std.specs.List.{AllWithin}
 use Rattle.std.specs.List.Sorted.{IsBinarySearchResult, IsStrictlyIncreasing}
 use Rattle.std.specs.Ordering.{nat_cmp}
@@ -28,12 +28,10 @@ found_there ids id i ascending m result =
       rises a b d le l = by_case (cases_lt a b) where
         by_case : (a < b) ⊎ (b ≤ a) → get_or ids a d ≤ get_or ids b d
         by_case (inl less) = omega (arith, AllPairs-from_increasing ids ascending a b d less l)
-        by_case (inr more) = let same : a ≡ b = omega (arith, le, more) in let e = ap (λ n. get_or ids n d) same in
-            omega (arith, e)
+        by_case (inr more) = search arith
 
       at_member : nat_cmp (get_or ids m.0 id) id ≡ Equal
       at_member = rw m.2 (nat_cmp-same id)
 
       no : AllWithin (λ y. nat_cmp y id ≡ Less) ids 0 i × AllWithin (λ y. nat_cmp y id ≡ Greater) ids i (length ids) → ⊥
-      no parts = ⊎_elim (λ l. let a = parts.0 m.0 id (omega arith) l in let b = at_member in cc)
-          (λ l. let a = parts.1 m.0 id l m.1 in let b = at_member in cc) (cases_lt m.0 i)
+      no parts = search (arith, at_member, cases_lt)

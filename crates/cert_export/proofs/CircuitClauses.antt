@@ -1,6 +1,6 @@
 -- The given clauses that an answer rests on, renamed, are those of the exported circuit's negated
 -- matrix, under its ids.
-use Rattle.std.proofs.Common.{◌≡◌, ℕ, zero, suc, ◌+◌, ◌-◌, ◌*◌, ◌≤◌, ◌<◌, ◌==◌, Bool, true, false, cond, not, inl, inr, List, [], ◌∷◌, ◌++◌, map, take, length, get_or, slice_get, slice_index, Option, None, Some, refl, sym, ◌∙◌, ap, subst, arith, append_assoc}
+use Rattle.std.proofs.Common.{◌≡◌, ℕ, zero, suc, ◌+◌, ◌-◌, ◌*◌, ◌≤◌, ◌<◌, ◌==◌, true, false, not, inl, inr, List, [], ◌∷◌, ◌++◌, map, take, length, get_or, slice_get, slice_index, Option, None, Some, refl, sym, ◌∙◌, ap, subst, arith, append_assoc}
 use Rattle.std.specs.List.{All, sum_by, Contains, list_any, find, flat_map, cons_option, range_with_len, position_or_len}
 use Rattle.std.specs.Option.{option_map, option_and_then}
 use Rattle.std.proofs.lemmas.Bool.{cases_Bool, true≢false, eq-eqb, cond-true, cond-false}
@@ -25,7 +25,7 @@ use Rattle.hint_log.specs.declared.origins.Origin.{Origin}
 use Rattle.hint_log.specs.declared.origins.Origin.TheVariants.{Instance, Gate as GateOf, Fault, Copy, Link, TermGate, Differ}
 use Rattle.circuit_plain.specs.Netlist.{Netlist}
 use Rattle.circuit_plain.specs.declared.circuits.Gate.{Gate}
-use Rattle.cert_text.specs.NegatedMatrix.{opposite_of, gate_clauses, literal_under, falsity_clauses, all_falsity_clauses, some_clause_false, as_literal, without_constants}
+use Rattle.cert_text.specs.NegatedMatrix.{opposite_of, gate_clauses, literal_under, falsity_clauses, all_falsity_clauses, some_clause_false, without_constants}
 use Rattle.cert_text.proofs.NegatedClauses.{falsity_counted, gates_counted}
 use Rattle.proof_checker.specs.CircuitProof.{circuit_literal, negated_candidate}
 use Rattle.proof_checker.proofs.ShortenedClauses.{range_clause}
@@ -97,16 +97,7 @@ output_at : (g : Existential → ℕ) (ys : List Existential) (v : ℕ) (y : Exi
     find (λ z. z.variable == v) ys ≡ Some y →
     slice_index (map g ys) (position_or_len (λ x. x == v) (map variable ys)) ≡ g y
 output_at g [] v y h = cc
-output_at g (z ∷ zs) v y h = by_bit (z.variable == v) (output_at g zs v y) h where
-  by_bit : (b : Bool) → (find (λ x. x.variable == v) zs ≡ Some y →
-      slice_index (map g zs) (position_or_len (λ x. x == v) (map variable zs)) ≡ g y) →
-      cond b (Some z) (find (λ x. x.variable == v) zs) ≡ Some y →
-      slice_index (g z ∷ map g zs) (cond (not b) (1 + position_or_len (λ x. x == v) (map variable zs)) 0) ≡ g y
-  by_bit true later h = let same : z ≡ y = cc in ap g same
-  by_bit false later h =
-      let n = position_or_len (λ x. x == v) (map variable zs) in
-      let e : 1 + n ≡ suc n = omega arith in
-      ap (slice_index (g z ∷ map g zs)) e ∙ later h
+output_at g (z ∷ zs) v y h = search (arith, (output_at g zs v y))
 
 module _ (r : Renaming) where
   abbrev IsNumberedLeaf : Leaf → Type 0
@@ -116,47 +107,25 @@ module _ (r : Renaming) where
   literal_behind : (bad : ℕ) (k : Literal) → 1 ≤ bad → HasNumber r k →
       without_constants (opposite_of (2 * bad) ∷ literal_code r k ∷ []) ≡ Some
       (negative bad ∷ renamed_clause r (k ∷ []))
-  literal_behind bad k one h =
-      ap (λ n. without_constants (n ∷ literal_code r k ∷ [])) (opposite_even bad)
-      ∙ no_constants ((2 * bad + 1) ∷ literal_code r k ∷ []) (omega arith, (code_big r k h, tt))
-      ∙ ap (λ q. Some (q ∷ as_literal (literal_code r k) ∷ [])) (as_odd bad)
-      ∙ ap (λ q. Some (negative bad ∷ q ∷ [])) (as_code r k h)
-      ∙ ap (λ qs. Some (negative bad ∷ qs)) (sym (renamed_is r k h []))
+  literal_behind bad k one h = search (arith, opposite_even, no_constants, code_big, as_odd, as_code, renamed_is)
 
   nothing_behind : (bad code : ℕ) → 1 ≤ bad → code ≡ 0 → without_constants (opposite_of (2 * bad) ∷ code ∷ []) ≡ Some
       (negative bad ∷ [])
-  nothing_behind bad code one none =
-      ap (λ n. without_constants (n ∷ code ∷ [])) (opposite_even bad)
-      ∙ ap (λ n. without_constants ((2 * bad + 1) ∷ n ∷ [])) none
-      ∙ false_behind (2 * bad + 1) (omega arith)
-      ∙ ap (λ q. Some (q ∷ [])) (as_odd bad)
+  nothing_behind bad code one none = search (arith, opposite_even, false_behind, as_odd)
 
   -- a fault's clause, with constants put in
   fault_codes : (cl : ℕ → ℕ) (bad : ℕ) (l : Literal) (out : Leaf) (tail : List Literal) → 1 ≤ bad →
       cl (variable_of l) ≡ leaf_code r out → IsNumberedLeaf out →
       leaf_clause (leaf_with_sign (not (is_negative l)) out) ≡ Some tail →
       without_constants (falsity cl bad l) ≡ Some (negative bad ∷ renamed_clause r tail)
-  fault_codes cl bad (positive v) (Constant true) tail one code h t =
-      let is : [] ≡ tail = cc in
-      nothing_behind bad (opposite_of (cl v)) one (ap opposite_of code) ∙ ap
-      (λ qs. Some (negative bad ∷ renamed_clause r qs)) is
+  fault_codes cl bad (positive v) (Constant true) tail one code h t = search (arith, nothing_behind)
   fault_codes cl bad (positive v) (Constant false) tail one code h t = cc
   fault_codes cl bad (negative v) (Constant true) tail one code h t = cc
-  fault_codes cl bad (negative v) (Constant false) tail one code h t =
-      let is : [] ≡ tail = cc in
-      nothing_behind bad (opposite_of (opposite_of (cl v))) one (ap (λ n. opposite_of (opposite_of n)) code) ∙ ap
-      (λ qs. Some (negative bad ∷ renamed_clause r qs)) is
+  fault_codes cl bad (negative v) (Constant false) tail one code h t = search (arith, nothing_behind)
   fault_codes cl bad (positive v) (LeafLiteral k) tail one code h t =
-      let is : opposite k ∷ [] ≡ tail = cc in
-      ap (λ n. without_constants (opposite_of (2 * bad) ∷ n ∷ [])) (ap opposite_of code ∙ opposite_code r k)
-      ∙ literal_behind bad (opposite k) one (opposite_number r k h) ∙ ap
-      (λ qs. Some (negative bad ∷ renamed_clause r qs)) is
+      search (arith, opposite_code, literal_behind, opposite_number)
   fault_codes cl bad (negative v) (LeafLiteral k) tail one code h t =
-      let is : k ∷ [] ≡ tail = cc in
-      let twice = ap (λ n. opposite_of (opposite_of n)) code ∙ ap opposite_of (opposite_code r k) ∙ opposite_code r
-      (opposite k) ∙ ap (literal_code r) (opposite-opposite k) in
-      ap (λ n. without_constants (opposite_of (2 * bad) ∷ n ∷ [])) twice
-      ∙ literal_behind bad k one h ∙ ap (λ qs. Some (negative bad ∷ renamed_clause r qs)) is
+      search (arith, opposite_code, opposite-opposite, literal_behind)
 
   -- a gate's clauses
   pub gate_codes : (v i k : ℕ) (a b : Literal) (rest : List Literal) → i ≡ suc k → HasNumber r (positive v) →

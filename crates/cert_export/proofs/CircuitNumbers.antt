@@ -1,5 +1,5 @@
 -- Numbers of the exported circuit's variables, and the codes of its literals.
-use Rattle.std.proofs.Common.{◌≡◌, ℕ, suc, ◌+◌, ◌*◌, ◌≤◌, ◌<◌, ◌==◌, Bool, true, false, cond, not, ◌||◌, ◌⊎◌, inl, inr, List, [], ◌∷◌, map, length, get_or, Option, None, Some, refl, sym, ◌∙◌, ap, subst, arith}
+use Rattle.std.proofs.Common.{◌≡◌, ℕ, ◌+◌, ◌*◌, ◌≤◌, ◌<◌, ◌==◌, Bool, true, false, cond, ◌⊎◌, inl, inr, List, [], ◌∷◌, map, length, get_or, Option, None, Some, refl, sym, ◌∙◌, ap, arith}
 use Rattle.std.specs.List.{Contains, list_any, cons_option, position_or_len}
 use Rattle.std.specs.Option.{option_map}
 use Rattle.std.proofs.lemmas.Bool.{false≢true, eqb-true, cond-true}
@@ -27,11 +27,7 @@ use Rattle.cert_text.proofs.CircuitLiterals.{opposite_even, opposite_odd, as_eve
 pub position_below : (v : ℕ) (xs : List ℕ) → list_any (λ x. x == v) xs ≡ true →
     position_or_len (λ x. x == v) xs < length xs
 position_below v [] h = absurd (false≢true h)
-position_below v (x ∷ xs) h = by_bit (x == v) (position_below v xs) h where
-  by_bit : (b : Bool) → (list_any (λ z. z == v) xs ≡ true → position_or_len (λ z. z == v) xs < length xs) →
-      (b || list_any (λ z. z == v) xs) ≡ true → cond (not b) (1 + position_or_len (λ z. z == v) xs) 0 < suc (length xs)
-  by_bit true later h = omega arith
-  by_bit false later h = omega (arith, later h)
+position_below v (x ∷ xs) h = search (arith, (position_below v xs))
 
 -- a place in a list
 pub record IsPlace (xs : List ℕ) (v n : ℕ) : Type 0 where
@@ -43,29 +39,14 @@ pub record IsPlace (xs : List ℕ) (v n : ℕ) : Type 0 where
 
 pub position_is : (xs : List ℕ) (v : ℕ) → list_any (λ x. x == v) xs ≡ true →
     IsPlace xs v (position_or_len (λ x. x == v) xs + 1)
-position_is xs v h =
-    let below = position_below v xs h in
-    record {
-      place = position_or_len (λ x. x == v) xs;
-      below = below;
-      there =
-          eqb-true _ v (passes_at_first (λ x. x == v) xs 0 below);
-      number = refl;
-      first = refl;
-    }
+position_is xs v h = search (arith, position_below, eqb-true, passes_at_first)
 
 pub place_parts : (xs : List ℕ) (v n : ℕ) → place_from_one xs v ≡ Some n → IsPlace xs v n
-place_parts xs v n h = by_bit (list_any (λ x. x == v) xs) refl h where
-  by_bit : (b : Bool) → list_any (λ x. x == v) xs ≡ b → cond b (Some (position_or_len (λ x. x == v) xs + 1)) None
-      ≡ Some n → IsPlace xs v n
-  by_bit true e h = let same : position_or_len (λ x. x == v) xs + 1 ≡ n = cc in
-      subst (IsPlace xs v) same (position_is xs v e)
-  by_bit false e h = cc
+place_parts xs v n h = search (arith, (position_is xs v))
 
 pub place_there : (xs : List ℕ) (v : ℕ) → Contains xs v → place_from_one xs v ≡ Some
     (position_or_len (λ x. x == v) xs + 1)
-place_there xs v inside = cond-true (list_any (λ x. x == v) xs) (Some (position_or_len (λ x. x == v) xs + 1)) None
-    (tested_inside xs v inside)
+place_there xs v inside = search (arith, cond-true, tested_inside)
 
 module _ (f : Dqbf) (e : CircuitPart) where
   abbrev pub IsInputNumber : Option Name → ℕ → Type 0
@@ -113,30 +94,21 @@ module _ (f : Dqbf) (e : CircuitPart) where
   number_cases v (Some (Term p q)) x h = cc
 
   pub number_from_one : (v : ℕ) (o : Option Name) (x : ℕ) → circuit_number f e v o ≡ Some x → 1 ≤ x
-  number_from_one v o x h = by_case (number_cases v o x h) where
-    by_case : IsNumbered v o x → 1 ≤ x
-    by_case (inl i) = omega (arith, i.2.number)
-    by_case (inr (inl g)) = omega (arith, g.1.number, g.2)
-    by_case (inr (inr b)) = omega (arith, b.2, b.3)
+  number_from_one v o x h = search (arith, number_cases)
 
   pub same_place : (xs : List ℕ) (u w n : ℕ) → IsPlace xs u n → IsPlace xs w n → u ≡ w
-  same_place xs u w n p q =
-      let same : p.place ≡ q.place = omega (arith, p.number, q.number) in
-      sym p.there ∙ ap (λ k. get_or xs k 0) same ∙ q.there
+  same_place xs u w n p q = search arith
 
   module _ (entries : List Entry) (lawful : Each MayFollow entries) (v w x : ℕ) where
     one_name : (n m : Name) → n ≡ m → name_of entries v ≡ Some n → name_of entries w ≡ Some m → v ≡ w
     one_name n m same h k = names_are_unique_lem entries v w n lawful h (k ∙ ap Some (sym same))
 
     by_cases : IsNumbered v (name_of entries v) x → IsNumbered w (name_of entries w) x → v ≡ w
-    by_cases (inl i) (inl k) = one_name (Input i.0) (Input k.0)
-        (ap Input (same_place f.universals i.0 k.0 x i.2 k.2)) i.1 k.1
+    by_cases (inl i) (inl k) = search (arith, one_name, same_place)
     by_cases (inl i) (inr (inl g)) = absurd (omega (arith, i.2.number, i.2.below, g.1.number, g.2))
     by_cases (inl i) (inr (inr j)) = absurd (omega (arith, i.2.number, i.2.below, j.2, j.3))
     by_cases (inr (inl g)) (inl i) = absurd (omega (arith, i.2.number, i.2.below, g.1.number, g.2))
-    by_cases (inr (inl g)) (inr (inl h)) =
-        let same : g.0 ≡ h.0 = omega (arith, g.2, h.2) in
-        same_place e.gates v w h.0 (subst (IsPlace e.gates v) same g.1) h.1
+    by_cases (inr (inl g)) (inr (inl h)) = search (arith, same_place)
     by_cases (inr (inl g)) (inr (inr j)) = absurd (omega (arith, g.1.number, g.1.below, g.2, j.2, j.3))
     by_cases (inr (inr j)) (inl i) = absurd (omega (arith, i.2.number, i.2.below, j.2, j.3))
     by_cases (inr (inr j)) (inr (inl g)) = absurd (omega (arith, g.1.number, g.1.below, g.2, j.2, j.3))
@@ -145,20 +117,14 @@ module _ (f : Dqbf) (e : CircuitPart) where
         one_name (Bad e.group j.0) (Bad e.group k.0) (ap (Bad e.group) same) j.1 k.1
 
 pub circuit_numbers_are_injective : CircuitNumbersAreInjective
-circuit_numbers_are_injective f entries e lawful v w x h k =
-    by_cases f e entries lawful v w x (number_cases f e v (name_of entries v) x h)
-    (number_cases f e w (name_of entries w) x k)
+circuit_numbers_are_injective f entries e lawful v w x h k = search (arith, by_cases, number_cases)
 
 -- inputs are the formula's
 pub inputs_by : (f : Dqbf) (P : List Entry → Entry → Type 0) → ((es : List Entry) (v : ℕ) (n : Name) →
     P es (Named v n) → IsRightlyNamed f n) → (es : List Entry) (v x : ℕ) → Each P es → name_of es v ≡ Some (Input x) →
     Contains f.universals x
 inputs_by f P right [] v x given h = cc
-inputs_by f P right (Named w n ∷ es) v x given h = by_bit (inputs_by f P right es v x given.1) (v == w) h where
-  by_bit : (name_of es v ≡ Some (Input x) → Contains f.universals x) → (b : Bool) →
-      cond b (Some n) (name_of es v) ≡ Some (Input x) → Contains f.universals x
-  by_bit later true h = let same : n ≡ Input x = cc in subst (IsRightlyNamed f) same (right es w n given.0)
-  by_bit later false h = later h
+inputs_by f P right (Named w n ∷ es) v x given h = search (arith, (inputs_by f P right es v x given.1))
 inputs_by f P right (Given origin c ∷ es) v x given h = inputs_by f P right es v x given.1 h
 inputs_by f P right (Learned c hints ∷ es) v x given h = inputs_by f P right es v x given.1 h
 inputs_by f P right (Answer c hints ∷ es) v x given h = inputs_by f P right es v x given.1 h
@@ -208,10 +174,7 @@ module _ (r : Renaming) where
   as_code (negative v) h = ap (λ o. as_literal (2 * or_zero o + 1)) h.is ∙ as_odd h.number
 
   pub code_big : (l : Literal) → HasNumber r l → 2 ≤ literal_code r l
-  code_big l h = subst (λ n. 2 ≤ n) (sym (code_at l h)) (by_sign (is_negative l)) where
-    by_sign : (b : Bool) → 2 ≤ cond b (2 * h.number + 1) (2 * h.number)
-    by_sign true = omega (arith, h.from_one)
-    by_sign false = omega (arith, h.from_one)
+  code_big l h = search (arith, code_at)
 
   pub opposite_code : (l : Literal) → opposite_of (literal_code r l) ≡ literal_code r (opposite l)
   opposite_code (positive v) = opposite_even (or_zero (r v))
@@ -235,8 +198,7 @@ module _ (r : Renaming) where
 
   codes_are : (ls : List Literal) → AllNumbered ls → map as_literal (map (literal_code r) ls) ≡ renamed_clause r ls
   codes_are [] h = refl
-  codes_are (l ∷ ls) h = ap (λ x. x ∷ map as_literal (map (literal_code r) ls)) (as_code l h.0) ∙ ap
-      (λ xs. on_variable h.0.number l ∷ xs) (codes_are ls h.1) ∙ sym (renamed_is l h.0 ls)
+  codes_are (l ∷ ls) h = search (arith, as_code, (codes_are ls h.1), renamed_is)
 
   -- a clause of codes is the renamed clause
   pub clause_codes : (ls : List Literal) → AllNumbered ls → without_constants (map (literal_code r) ls) ≡ Some

@@ -1,5 +1,5 @@
 -- Literals as AIGER writes them, and what constants leave of a clause.
-use Rattle.std.proofs.Common.{◌≡◌, ℕ, ◌+◌, ◌-◌, ◌*◌, ◌/◌, ◌%◌, ◌≤◌, ◌==◌, true, false, cond, not, ◌||◌, List, [], ◌∷◌, map, None, Some, refl, ◌∙◌, ap, arith}
+use Rattle.std.proofs.Common.{◌≡◌, ℕ, ◌≤◌, ◌==◌, false, cond, not, List, [], ◌∷◌, map, None, Some, refl, ◌∙◌, ap, arith}
 use Rattle.std.specs.List.{list_any, filter}
 use Rattle.std.proofs.lemmas.Bool.{ne_eqb, cond-false}
 use Rattle.cert_text.specs.NegatedMatrix.{as_literal, without_constants}
@@ -11,8 +11,7 @@ AreVariables (l ∷ ls) = (2 ≤ l) × AreVariables ls
 
 no_true : (ls : List ℕ) → AreVariables ls → list_any (λ l. l == 1) ls ≡ false
 no_true [] h = refl
-no_true (l ∷ ls) h = ap (λ b. b || list_any (λ k. k == 1) ls) (ne_eqb l 1 (λ e. omega (arith, h.0, e)))
-    ∙ no_true ls h.1
+no_true (l ∷ ls) h = search (arith, ne_eqb, (no_true ls h.1))
 
 all_stay : (ls : List ℕ) → AreVariables ls → filter (λ l. not (l == 0)) ls ≡ ls
 all_stay [] h = refl
@@ -26,8 +25,4 @@ no_constants ls h = cond-false (list_any (λ l. l == 1) ls) None (Some (map as_l
 
 -- a false literal behind one that is no constant, and a true one
 pub false_behind : (l : ℕ) → 2 ≤ l → without_constants (l ∷ 0 ∷ []) ≡ Some (as_literal l ∷ [])
-false_behind l two =
-    cond-false (list_any (λ k. k == 1) (l ∷ 0 ∷ [])) None (Some
-    (map as_literal (filter (λ k. not (k == 0)) (l ∷ 0 ∷ []))))
-    (ap (λ b. b || false) (ne_eqb l 1 (λ e. omega (arith, two, e))))
-    ∙ ap (λ b. Some (map as_literal (cond (not b) (l ∷ []) []))) (ne_eqb l 0 (λ e. omega (arith, two, e)))
+false_behind l two = search (arith, cond-false, ne_eqb)

@@ -1,5 +1,5 @@
 -- Hints up to the first that is falsified, by other ids.
-use Rattle.std.proofs.Common.{◌≡◌, ℕ, zero, suc, ◌+◌, ◌-◌, ◌≤◌, List, [], ◌∷◌, map, take, Option, None, Some, refl, sym, ◌∙◌, ap, arith}
+use Rattle.std.proofs.Common.{◌≡◌, ℕ, suc, ◌+◌, ◌-◌, ◌≤◌, List, [], ◌∷◌, map, take, Option, None, Some, refl, sym, ◌∙◌, ap, arith}
 use Rattle.std.specs.List.{All}
 use Rattle.std.proofs.lemmas.List.Elements.{All-head, All-tail}
 use Rattle.dq_lits.specs.Literal.{Literal}
@@ -44,10 +44,7 @@ not_before live (x ∷ xs) trues place fault h = by_status (status_of trues (liv
 
 pub cut_at_fault : (live : LiveClauses) (hints : List ℕ) (trues : List Literal) (place : ℕ) →
     cut_hints live trues hints ≡ up_to_fault (hint_fault live trues place hints) place hints
-cut_at_fault live [] trues place = by_take (place + 1 - place) where
-  by_take : (n : ℕ) → ◌≡◌ {A = List ℕ} [] (take n [])
-  by_take zero = refl
-  by_take (suc n) = refl
+cut_at_fault live [] trues place = search arith
 cut_at_fault live (x ∷ xs) trues place = by_status (status_of trues (live x)) xs refl
     (λ l. cut_at_fault live xs (l ∷ trues) (place + 1)) (λ l fault. not_before live xs (l ∷ trues)
     (place + 1) fault) where

@@ -44,10 +44,7 @@ module _ (r : Renaming) (base_id : Origin → ℕ) (usable : Origin → List Lit
 
   clause_kept : (es more : List Entry) (e : Entry) (h : ℕ) (c : List Literal) → all ≡ more ++ e ∷ es → IsId es h →
       clause_at es h ≡ Some c → clause_at all h ≡ Some c
-  clause_kept es more e h c is id there =
-      let is' : all ≡ (more ++ e ∷ []) ++ es = is ∙ sym (append_assoc more (e ∷ []) es) in
-      ap (λ xs. clause_at xs h) is' ∙ ap (option_and_then clause_of)
-      (numbered_kept (more ++ e ∷ []) es h id.last) ∙ there
+  clause_kept es more e h c is id there = search (arith, append_assoc, numbered_kept)
 
   -- the clauses that lines may hint
   abbrev IsStocked : LiveClauses → List ℕ → Type 0
@@ -61,11 +58,7 @@ module _ (r : Renaming) (base_id : Origin → ℕ) (usable : Origin → List Lit
   base_clause h i c at = let same : Some i.1 ≡ Some c = sym (ap (option_and_then clause_of) i.2) ∙ at in cc
 
   stocked : IsStocked first []
-  stocked h ready c at = elim ready [
-    | inl i ↦ ap first (of_base h i) ∙ (right h i.0 i.1 i.2 i.3).0 ∙ ap (λ d. Some (renamed_clause r d))
-        (base_clause h i c at)
-    | inr none ↦ absurd (let b = none.1 in omega arith)
-  ]
+  stocked h ready c at = search (arith, of_base, base_clause)
 
   line_right : (live : LiveClauses) (done : List ℕ) (id : ℕ) → IsStocked live done →
       IsNextLine usable all number base done id →
@@ -124,21 +117,11 @@ module _ (r : Renaming) (base_id : Origin → ℕ) (usable : Origin → List Lit
   other_id live n clause h apart = cond-false (h == n) (Some clause) (live h) (ne_eqb h n apart)
 
   new_of : (id : ℕ) (done : List ℕ) → IsNextLine usable all number base done id → to id ≡ number id
-  new_of id done next = elim next.derived [
-    | inl learned ↦ ap (number_by base_id (number id)) learned
-    | inr answer ↦ ap (number_by base_id (number id)) answer
-  ]
+  new_of id done next = search arith
 
   clause_of_next : (id : ℕ) (done : List ℕ) (c : List Literal) → IsNextLine usable all number base done id →
       clause_at all id ≡ Some c → line_clause r all id ≡ renamed_clause r c
-  clause_of_next id done c next at = elim next.derived [
-    | inl learned ↦ (let both : Some next.clause ≡ Some c = sym (ap (option_and_then clause_of) learned) ∙ at in
-        let is : next.clause ≡ c = cc in ap (λ o. renamed_clause r (clause_or_empty o)) learned ∙ ap
-        (renamed_clause r) is)
-    | inr answer ↦ (let both : Some next.clause ≡ Some c = sym (ap (option_and_then clause_of) answer) ∙ at in
-        let is : next.clause ≡ c = cc in ap (λ o. renamed_clause r (clause_or_empty o)) answer ∙ ap
-        (renamed_clause r) is)
-  ]
+  clause_of_next id done c next at = search arith
 
   -- the ids of lines have the numbers of lines
   abbrev HaveNumbers : List ℕ → Type 0

@@ -1,5 +1,5 @@
 -- What an answer reaches can be exported.
-use Rattle.std.proofs.Common.{◌≡◌, ℕ, ◌+◌, ◌*◌, ◌≤◌, Bool, map, List, [], ◌∷◌, length, get_or, None, Some, sym, ◌∙◌, ap, subst, arith}
+use Rattle.std.proofs.Common.{◌≡◌, ℕ, ◌*◌, ◌≤◌, Bool, map, List, [], ◌∷◌, length, get_or, None, Some, sym, ◌∙◌, ap, subst, arith}
 use Rattle.std.specs.List.{All, Contains}
 use Rattle.std.specs.Option.{option_map}
 use Rattle.dq_lits.specs.Derivation.{ProofStep}
@@ -8,10 +8,10 @@ use Rattle.dq_lits.specs.Literal.{Literal}
 use Rattle.cert_text.specs.Header.{max_count}
 use Rattle.hint_log.specs.declared.origins.Origin.{Origin}
 use Rattle.hint_log.specs.declared.origins.Origin.TheVariants.{Instance}
-use Rattle.hint_log.specs.Entries.{Entry, Named, Given, Learned, Answer, Round, Begun, ProofLog, has_id, numbered, last_id, rounds_of, steps_of}
+use Rattle.hint_log.specs.Entries.{Entry, Named, Given, Learned, Answer, Round, Begun, ProofLog, has_id, numbered, rounds_of, steps_of}
 use Rattle.hint_log.specs.Growth.{Each}
 use Rattle.cert_export.specs.Exportable.{IsKnownInstance, AreExportable, AreExported, AreExportedSteps, HaveRounds}
-use Rattle.cert_export.specs.Exported.{IsPairNaming, IsPairRenaming, last_instance, exported_number, exported_steps, CanExportFalse}
+use Rattle.cert_export.specs.Exported.{IsPairNaming, IsPairRenaming, exported_steps, CanExportFalse}
 use Rattle.cert_export.specs.Expansion.{row_of_round, used_rounds, used_rows, instance_id, IsKeptClause}
 use Rattle.cert_export.specs.Lines.{line_number, line_steps, derived_ids}
 use Rattle.cert_export.specs.Pairing.{HaveNames}
@@ -89,24 +89,11 @@ pub are_exported : (f : Dqbf) (live : List ℕ) (entries : List Entry) (ids roun
     last ≡ length rounds * clauses →
     steps ≡ line_steps r (instance_id rounds live clauses) entries (line_number last (derived_ids entries ids))
     (derived_ids entries ids) → AreExportedSteps f live entries ids steps
-are_exported f live entries ids rounds r steps clauses last used names clauses_is last_is written =
-    let many : last ≡ last_instance f entries ids = last_is ∙ ap (λ ks. length ks * clauses) used ∙ ap
-    (λ n. length (used_rounds entries ids) * n) clauses_is in (
-      r,
-      subst (λ ks. IsPairNaming f entries ks ids r) used names,
-      written ∙ ap (λ n. line_steps r (instance_id rounds live n) entries (line_number last (derived_ids entries ids))
-          (derived_ids entries ids)) clauses_is
-          ∙ ap (λ n. line_steps r (instance_id rounds live (length f.matrix)) entries
-          (line_number n (derived_ids entries ids)) (derived_ids entries ids)) many
-          ∙ ap (λ ks. line_steps r (instance_id ks live (length f.matrix)) entries
-          (exported_number f entries ids) (derived_ids entries ids)) used,
-    )
+are_exported f live entries ids rounds r steps clauses last used names clauses_is last_is written = search arith
 
 -- an answer's id is one
 pub refuted_id : (entries : List Entry) (id : ℕ) → IsRefutedBy entries id → IsId entries id
-refuted_id entries id refuted =
-    let last : id ≡ last_id refuted.earlier + 1 = refuted.last ∙ ap last_id refuted.answered in
-    record { from_one = omega (arith, last); last = omega (arith, refuted.last) }
+refuted_id entries id refuted = search arith
 
 -- what an answer that rests on instances reaches can be exported
 pub refuted_exportable : (f : Dqbf) (live : List ℕ) (log : ProofLog) (id : ℕ) (ids : List ℕ) → IsWellFormed f →
@@ -142,8 +129,7 @@ rows_whole n P whole (Named v m ∷ es) h = rows_whole n P whole es h.1
 rows_whole n P whole (Given origin c ∷ es) h = rows_whole n P whole es h.1
 rows_whole n P whole (Learned c hints ∷ es) h = rows_whole n P whole es h.1
 rows_whole n P whole (Answer c hints ∷ es) h = rows_whole n P whole es h.1
-rows_whole n P whole (Round row values j ∷ es) h = All-push (λ r. length r ≡ n) (rows_of es) row
-    (rows_whole n P whole es h.1) (whole es row values j h.0)
+rows_whole n P whole (Round row values j ∷ es) h = search (arith, All-push, (rows_whole n P whole es h.1))
 rows_whole n P whole (Begun live ∷ es) h = rows_whole n P whole es h.1
 
 -- the checker finds no fault in the exported lines

@@ -1,13 +1,13 @@
 -- What an answer reaches that decides that a formula is true can be exported.
 use Rattle.std.proofs.Common.{◌≡◌, nat_le, ℕ, zero, suc, ◌+◌, ◌*◌, ◌≤◌, ◌<◌, Bool, true, false, List, [], ◌∷◌, map, length, length-append, get_or, slice_index, Option, None, Some, refl, sym, ◌∙◌, ap, subst, arith}
-use Rattle.std.specs.List.{All, Contains, sum_by}
+use Rattle.std.specs.List.{All, Contains}
 use Rattle.std.specs.Option.{option_and_then}
 use Rattle.std.proofs.lemmas.Bool.{leb-true, and_parts}
 use Rattle.std.proofs.lemmas.List.{take_all, length-map}
 use Rattle.std.proofs.lemmas.List.Elements.{All-nil, All-cons, Contains-get_or}
 use Rattle.dq_lits.specs.Derivation.{is_tautology, IsDerived, ProofStep}
 use Rattle.dq_lits.specs.Formula.{Dqbf, IsWellFormed, HasLawfulPrefix}
-use Rattle.dq_lits.specs.Literal.{Literal, variable_of}
+use Rattle.dq_lits.specs.Literal.{Literal}
 use Rattle.dq_lits.proofs.FormulaVariables.{few_declared}
 use Rattle.hint_log.specs.Conditions.{IsId, AreLogged, AreNamed}
 use Rattle.hint_log.specs.Entries.{Entry, Named, Given, Learned, Answer, Round, Begun, ProofLog, has_id, numbered, clause_of, clause_at, last_id, count, name_of}
@@ -34,7 +34,7 @@ use Rattle.circuit_plain.specs.Netlist.{Netlist}
 use Rattle.circuit_plain.specs.declared.circuits.Gate.{Gate as FileGate}
 use Rattle.proof_checker.specs.ProvedCircuit.{IsProvedCircuit}
 use Rattle.cert_export.specs.CircuitPart.{CircuitPart, circuit_renaming, circuit_id, exported_netlist, last_negated, max_number, gate_of, IsCircuitClause}
-use Rattle.cert_export.specs.ExportedCircuit.{IsDecidedTrue, CanExportTrue, IsCircuitRenaming, IsWritable, ExportedAnswerIsProved, ExportedFileIsSpellable, is_gate_name, proof_number}
+use Rattle.cert_export.specs.ExportedCircuit.{IsDecidedTrue, CanExportTrue, IsCircuitRenaming, IsWritable, ExportedAnswerIsProved, ExportedFileIsSpellable, is_gate_name}
 use Rattle.cert_export.specs.Lines.{is_derived, is_lemma, clause_or_empty, line_clause, line_number, line_steps, derived_ids}
 use Rattle.cert_export.specs.Negated.{IsOfCircuit, HasNegatedId, AreLengthsBefore}
 use Rattle.cert_export.specs.Netlists.{IsExportable}
@@ -137,11 +137,7 @@ module _ (f : Dqbf) (entries : List Entry) (id : ℕ) (ids : List ℕ) (e : Circ
   -- the ids' base
   pub last_is : (gates clauses : ℕ) (before : List ℕ) → AreLengthsBefore f.matrix before → gates ≡ length e.gates →
       clauses ≡ length f.matrix → 3 * gates + slice_index before clauses + 1 ≡ last_negated f.matrix e.gates
-  last_is gates clauses before lengths gates_is clauses_is =
-      let whole : slice_index before clauses ≡ sum_by length f.matrix =
-      ap (slice_index before) clauses_is ∙ lengths.each (length f.matrix) (omega arith)
-      ∙ ap (sum_by length) (take_all (length f.matrix) f.matrix (omega arith)) in
-      omega (arith, whole, gates_is)
+  last_is gates clauses before lengths gates_is clauses_is = search (arith, take_all)
 
   pub last_small : last_negated f.matrix e.gates ≤ 100000000000000000
   last_small = omega (arith, d.small.few_gates, d.few_literals)
@@ -150,12 +146,7 @@ module _ (f : Dqbf) (entries : List Entry) (id : ℕ) (ids : List ℕ) (e : Circ
       last ≡ last_negated f.matrix e.gates →
       steps ≡ line_steps r (circuit_id f e) entries (line_number last (derived_ids entries ids))
       (derived_ids entries ids) → AreProofSteps f entries e ids steps
-  are_proof_steps r last steps names last_is written = (
-    r,
-    names,
-    written ∙ ap (λ n. line_steps r (circuit_id f e) entries (line_number n (derived_ids entries ids))
-        (derived_ids entries ids)) last_is,
-  )
+  are_proof_steps r last steps names last_is written = search arith
 
 pub exportable : (f : Dqbf) (entries : List Entry) (id : ℕ) (ids : List ℕ) (p : ExportedPart) →
     AreCircuitIds f entries id ids (part_of p) → IsExportable f entries p
@@ -193,14 +184,7 @@ decided_id f entries id decided =
 
 pub small_part : (f : Dqbf) (gates : List ℕ) → HasLawfulPrefix f → f.variables ≤ 1000000 → length f.matrix ≤ 10000000 →
     length gates ≤ 10000000000000000 → IsSmall f gates
-small_part f gates prefix few_variables few_clauses few_gates =
-    let long = length-append f.universals (map (λ y. y.variable) f.existentials) in
-    record {
-      few_inputs =
-          omega (arith, few_declared f prefix, long, few_variables);
-      few_gates = few_gates;
-      few_clauses = few_clauses;
-    }
+small_part f gates prefix few_variables few_clauses few_gates = search (arith, length-append, few_declared)
 
 -- lines with small numbers
 small_lines : (is_variable : ℕ → Bool) (first : ℕ) (steps : List ProofStep) → AreSteps is_variable first steps →
@@ -208,12 +192,7 @@ small_lines : (is_variable : ℕ → Bool) (first : ℕ) (steps : List ProofStep
     All IsSmallItem (map derived steps)
 small_lines is_variable first [] are few vars = All-nil IsSmallItem
 small_lines is_variable first (s ∷ ss) are few vars =
-    All-cons IsSmallItem (derived s) (map derived ss) (record {
-      id = omega (arith, are.0.numbered, few);
-      variables = λ k d below. vars (variable_of (get_or s.literals k d))
-          (are.0.on_variables k d below);
-    })
-    (small_lines is_variable (first + 1) ss are.1 (omega (arith, few)) vars)
+    search (arith, All-cons, (small_lines is_variable (first + 1) ss are.1))
 
 module _ (f : Dqbf) (entries : List Entry) (id : ℕ) (ids : List ℕ) (file : AagFile) (proof : Dqp)
     (x : IsExportedCircuit f entries id ids file proof) where
@@ -229,10 +208,7 @@ module _ (f : Dqbf) (entries : List Entry) (id : ℕ) (ids : List ℕ) (file : A
       (x.lines.2 ∙ ap (map derived) x.lines.1.2)
 
   pub is_few : length proof.items ≤ count is_lemma entries
-  is_few =
-      subst (λ n. n ≤ count is_lemma entries) (sym (ap length x.lines.2 ∙ length-map x.lines.0 derived))
-      (lines_few entries ids x.lines.1.0 (circuit_id f x.part)
-      (proof_number f entries x.part ids) x.lines.0 decided.reached.ascending x.lines.1.2)
+  is_few = search (arith, length-map, lines_few)
 
   number_is : file.circuit.max_var ≡ max_number f x.part
   number_is = ap (λ (n : Netlist). n.max_var) x.written.circuit

@@ -1,8 +1,8 @@
 -- Answers that decide can be exported, in a log of productive work and in a session.
-use Rattle.std.proofs.Common.{◌≡◌, ℕ, zero, suc, ◌+◌, ◌-◌, ◌≤◌, ◌==◌, Bool, true, false, not, cond, List, [], ◌∷◌, ◌++◌, length, get_or, slice_get, Some, refl, sym, ◌∙◌, ap, subst, arith}
+use Rattle.std.proofs.Common.{◌≡◌, ℕ, zero, suc, ◌+◌, ◌-◌, ◌≤◌, ◌==◌, Bool, true, false, not, cond, List, [], ◌∷◌, ◌++◌, length, slice_get, Some, refl, sym, ◌∙◌, ap, subst, arith}
 use Rattle.std.specs.List.{All, Contains, filter_map, cons_option, position_or_len, range_with_len}
 use Rattle.std.specs.List.Sorted.{IsStrictlyIncreasing}
-use Rattle.std.proofs.lemmas.Bool.{eq-eqb, ne_eqb, eqb-true, false≢true}
+use Rattle.std.proofs.lemmas.Bool.{eq-eqb, eqb-true, false≢true}
 use Rattle.std.proofs.lemmas.List.FromFn.{length-range_with_len, get_or-range_with_len}
 use Rattle.std.proofs.lemmas.List.Sums.{position_or_len_is}
 use Rattle.std.proofs.lemmas.List.Elements.{All-head, All-tail}
@@ -11,15 +11,14 @@ use Rattle.list_laws.proofs.Members.{contains-range_from_one}
 use Rattle.dq_lits.specs.Literal.{Literal}
 use Rattle.dq_lits.specs.Formula.{Dqbf}
 use Rattle.hint_log.specs.Conditions.{MayFollow}
-use Rattle.hint_log.specs.Deciding.{ReachesGiven, IsInstance, IsFaultLeaf, LeafReads}
+use Rattle.hint_log.specs.Deciding.{ReachesGiven, IsInstance}
 use Rattle.hint_log.specs.Entries.{Entry, Given, Answer, has_id, numbered}
 use Rattle.hint_log.specs.Growth.{Each}
 use Rattle.hint_log.specs.Live.{live_numbers, formula_of, formula_by, AreNumbers}
 use Rattle.hint_log.specs.Naming.{numbered_from_one}
-use Rattle.hint_log.specs.Origins.{IsInstanceRest, IsOriginsClause}
+use Rattle.hint_log.specs.Origins.{IsOriginsClause}
 use Rattle.hint_log.specs.ProductiveLog.{MatchesOrigin, RefutesNewRow, IsDerivedByHints, IsProductiveLog}
 use Rattle.hint_log.specs.ProductiveSession.{MatchesLiveOrigin, RefutesNewLiveRow, IsSinceBeginning, DecidesLiveTrue, IsProductiveSession}
-use Rattle.hint_log.specs.declared.origins.Leaf.{Leaf}
 use Rattle.hint_log.specs.declared.origins.Origin.{Origin}
 use Rattle.hint_log.specs.declared.origins.Origin.TheVariants.{Instance, Gate, Fault, Copy, Link, TermGate, Differ}
 use Rattle.hint_log.proofs.NamedEntries.{live_are_numbers}
@@ -35,34 +34,25 @@ use Rattle.cert_export.proofs.Answers.{reached_here}
 use Rattle.cert_export.proofs.CircuitNumbers.{inputs_by}
 use Rattle.cert_export.proofs.CircuitClauses.{there_is}
 use Rattle.cert_export.proofs.ExportableAnswers.{rows_whole}
-use Rattle.cert_export.proofs.PairNames.{from_one}
 
 -- where all clauses are live, each has its own number
 own_number : (n j : ℕ) → 1 ≤ j → j ≤ n → number_among (range_with_len 1 n) j ≡ j
 own_number n j one last =
-    let place : position_or_len (λ i. i == j) (range_with_len 1 n) ≡ j - 1 =
-    position_or_len_is (λ i. i == j) (range_with_len 1 n) (j - 1) 0
-    (omega (arith, one, last, length-range_with_len 1 n))
-    (λ k below. ne_eqb (get_or (range_with_len 1 n) k 0) j (λ same. let at =
-    get_or-range_with_len 1 n k 0 (omega (arith, below, last)) in omega (arith, at, same, below)))
-    (λ below. eq-eqb (get_or (range_with_len 1 n) (j - 1) 0) j
-    (omega (arith, get_or-range_with_len 1 n (j - 1) 0 (omega (arith, one, last)), one))) in
-    omega (arith, place, one)
+    search (
+      arith,
+      position_or_len_is,
+      (length-range_with_len 1 n),
+      (get_or-range_with_len 1 n),
+      (get_or-range_with_len 1 n (j - 1) 0),
+    )
 
 all_ascend : (n : ℕ) → IsStrictlyIncreasing (range_with_len 1 n)
-all_ascend n k below =
-    let long = length-range_with_len 1 n in
-    let next = get_or-range_with_len 1 n (k + 1) 0 (omega (arith, below, long)) in
-    omega (arith, get_or-range_with_len 1 n k 0 (omega (arith, below, long)), next)
+all_ascend n k below = search (arith, length-range_with_len, get_or-range_with_len)
 
 -- the numbers of an instance's clause
 instance_number : (f : Dqbf) (before : List Entry) (k j : ℕ) (c : List Literal) →
     IsOriginsClause f before (Instance k j) c → (1 ≤ j) × (j ≤ length f.matrix)
-instance_number f before k j c own =
-    let rest : IsInstanceRest f before k j own.rest = own.rest_is in
-    let there = from_one f.matrix j rest.clause rest.clause_is in
-    let one = there.0 in
-    (one, omega (arith, one, small_place f.matrix (j - 1) rest.clause there.1))
+instance_number f before k j c own = search (arith, small_place)
 
 module _ (f : Dqbf) (entries : List Entry) (id : ℕ) (lawful : Each MayFollow entries)
     (log : IsProductiveLog f entries) where
@@ -111,10 +101,7 @@ module _ (f : Dqbf) (entries : List Entry) (id : ℕ) (lawful : Each MayFollow e
   }
 
 pub productive_answers : ProductiveAnswersCanExport
-productive_answers f entries id lawful log = (
-  can_export_true f entries id lawful log,
-  can_export_false f entries id lawful log,
-)
+productive_answers f entries id lawful log = search (arith, can_export_true, can_export_false)
 
 -- the clauses of live numbers, each at its number's place
 live_clauses_long : (all : Dqbf) (live : List ℕ) → All (λ i. (1 ≤ i) × (i ≤ length all.matrix)) live →
@@ -149,35 +136,13 @@ live_clause_there all (i ∷ live) j c are inside at =
         → slice_get (first.0 ∷ clauses) (cond (not b) (1 + position_or_len (λ n. n == j) live) 0) ≡ Some c
     by_bit true same inside behind = sym first.1 ∙ ap (numbered_from_one all.matrix) (eqb-true i j same) ∙ at
     by_bit false other (zero, below, is) behind = let same = eq-eqb i j is in absurd (false≢true (sym other ∙ same))
-    by_bit false other (suc k, below, is) behind =
-        let place = position_or_len (λ n. n == j) live in
-        let next : 1 + place ≡ suc place = omega arith in
-        ap (slice_get (first.0 ∷ clauses)) next ∙ behind (k, (omega (arith, below)), is)
+    by_bit false other (suc k, below, is) behind = search arith
 
 -- an instance of a live clause, by the formula of the live ones
 live_instance : (all : Dqbf) (live : List ℕ) (before : List Entry) (k j : ℕ) (c : List Literal) → AreNumbers all live →
     Contains live j → IsOriginsClause all before (Instance k j) c
     → IsOriginsClause (formula_of all live) before (Instance k (number_among live j)) c
-live_instance all live before k j c are inside own =
-    let rest : IsInstanceRest all before k j own.rest = own.rest_is in
-    let place = position_or_len (λ i. i == j) live in
-    let next : place + 1 ≡ suc place = omega arith in
-    record {
-      group = own.group;
-      rest = own.rest;
-      clause_is = own.clause_is;
-      is_group = own.is_group;
-      rest_is = record {
-        row = rest.row;
-        clause = rest.clause;
-        row_is = rest.row_is;
-        clause_is = ap (numbered_from_one (formula_of all live).matrix) next
-            ∙ live_clause_there all live j rest.clause are.numbers inside rest.clause_is;
-        open_row = rest.open_row;
-        named = rest.named;
-      };
-      one_leaf = λ v a b a' b' leaf leaf' other is. cc;
-    }
+live_instance all live before k j c are inside own = search (arith, live_clause_there)
 
 module _ (all : Dqbf) (frames live : List ℕ) (entries : List Entry) (id : ℕ) (lawful : Each MayFollow entries)
     (log : IsProductiveSession all frames entries) (is_live : live_numbers entries ≡ Some live) where
@@ -188,14 +153,7 @@ module _ (all : Dqbf) (frames live : List ℕ) (entries : List Entry) (id : ℕ)
 
     live_true : DecidesLiveTrue all decided.earlier decided.clause decided.hints
     live_true = record {
-      decides = record {
-        rests = decided.decides.rests;
-        reads = subst
-            (λ m. All
-            (λ y. (leaf : Leaf) → IsFaultLeaf (formula_by all m) decided.earlier decided.hints y leaf → (x : ℕ) →
-            LeafReads decided.earlier leaf x → Contains y.sees x) (formula_by all m).existentials)
-            (sym lives) decided.decides.reads;
-      };
+      decides = search (arith, lives);
       current = since;
     }
 
@@ -210,8 +168,7 @@ module _ (all : Dqbf) (frames live : List ℕ) (entries : List Entry) (id : ℕ)
     live_givens : (origin : Origin) (c : List Literal) → ReachesGiven decided.earlier decided.hints origin c →
         (more before : List Entry) → entries ≡ more ++ Given origin c ∷ before
         → IsOriginsClause (formula_of all live) before origin c
-    live_givens origin c reached [] before is = let both : Answer decided.clause decided.hints ∷ decided.earlier
-        ≡ Given origin c ∷ before = sym decided.answered ∙ is in cc
+    live_givens origin c reached [] before is = search arith
     live_givens origin c reached (e ∷ more) before is =
         let both : Answer decided.clause decided.hints ∷ decided.earlier ≡ e ∷ more ++ Given origin c ∷ before =
         sym decided.answered ∙ is in
@@ -234,8 +191,7 @@ module _ (all : Dqbf) (frames live : List ℕ) (entries : List Entry) (id : ℕ)
 
   live_origin : (k j : ℕ) (c : List Literal) (more before : List Entry) →
       entries ≡ more ++ Given (Instance k j) c ∷ before → IsOriginsClause all before (Instance k j) c
-  live_origin k j c more before is = each_at (MatchesLiveOrigin all) more before (Given (Instance k j) c)
-      (subst (Each (MatchesLiveOrigin all)) is log.givens_match_origins)
+  live_origin k j c more before is = search (arith, each_at)
 
   live_instance_clause : (origin : Origin) (c : List Literal) → IsInstance origin →
       ((k j : ℕ) → origin ≡ Instance k j → Contains live j) →
@@ -269,7 +225,4 @@ module _ (all : Dqbf) (frames live : List ℕ) (entries : List Entry) (id : ℕ)
   }
 
 pub session_answers : SessionAnswersCanExport
-session_answers all frames live entries id lawful log is_live = (
-  session_true all frames live entries id lawful log is_live,
-  session_false all frames live entries id lawful log is_live,
-)
+session_answers all frames live entries id lawful log is_live = search (arith, session_true, session_false)

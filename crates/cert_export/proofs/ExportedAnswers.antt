@@ -1,5 +1,5 @@
 -- An answer that shows outputs to be right is exported as a proof that the checker accepts and that a text can hold.
-use Rattle.std.proofs.Common.{◌≡◌, nat_le, ℕ, ◌+◌, ◌≤◌, true, false, inl, inr, List, [], map, length, None, Some, refl, sym, ◌∙◌, ap, subst, arith}
+use Rattle.std.proofs.Common.{◌≡◌, nat_le, ℕ, ◌+◌, true, false, List, [], map, None, Some, refl, ◌∙◌, ap, subst, arith}
 use Rattle.std.proofs.lemmas.Bool.{and_from, le-leb}
 use Rattle.std.proofs.lemmas.List.{length-map}
 use Rattle.std.proofs.lemmas.List.Kept.{AllPairs-from_increasing}
@@ -7,7 +7,7 @@ use Rattle.dq_lits.specs.Literal.{Literal}
 use Rattle.dq_lits.specs.Formula.{Dqbf, IsWellFormed}
 use Rattle.hint_log.specs.Conditions.{AreLogged}
 use Rattle.hint_log.specs.Deciding.{ReachesGiven, IsCircuitGiven}
-use Rattle.hint_log.specs.Entries.{Entry, Given, has_id, numbered, name_of}
+use Rattle.hint_log.specs.Entries.{Entry, Given, has_id, numbered}
 use Rattle.hint_log.specs.Growth.{Each}
 use Rattle.hint_log.specs.ProductiveLog.{IsDerivedByHints}
 use Rattle.hint_log.specs.Reached.{Reaches, AreReached}
@@ -18,7 +18,7 @@ use Rattle.rup_core.proofs.DeletedClauses.{steps_alone}
 use Rattle.cert_text.specs.CircuitProof.{is_proof_variable, first_proof_id}
 use Rattle.cert_text.specs.Grammar.{AreSteps}
 use Rattle.proof_checker.specs.CircuitProof.{negated_candidate, circuit_proof_fault}
-use Rattle.cert_export.specs.CircuitPart.{CircuitPart, circuit_number, circuit_renaming, circuit_id, IsCircuitClause, IsRightCircuitClause, exported_candidate, exported_netlist, last_base_id, gate_of, max_number}
+use Rattle.cert_export.specs.CircuitPart.{CircuitPart, circuit_number, circuit_renaming, circuit_id, IsCircuitClause, IsRightCircuitClause, exported_candidate, exported_netlist, last_base_id}
 use Rattle.cert_export.specs.ExportedCircuit.{IsExportedPart, IsCircuitRenaming, proof_number, proof_steps, ExportedAnswerIsAccepted, ExportedProofIsAllowed}
 use Rattle.cert_export.specs.LineOrder.{IsRenamedBase, AreLineNumbers, AreLines, AreFinished}
 use Rattle.cert_export.specs.Lines.{is_derived, derived_ids}
@@ -27,7 +27,7 @@ use Rattle.cert_export.specs.Renaming.{Renaming, IsInjective, renamed_clause}
 use Rattle.cert_export.proofs.Allowed.{consecutive, steps_allowed}
 use Rattle.cert_export.proofs.Answers.{reached_here, answer_at, answer_empty}
 use Rattle.cert_export.proofs.CircuitClauses.{circuit_clauses_are_negated_matrix}
-use Rattle.cert_export.proofs.CircuitNumbers.{IsNumbered, number_cases, circuit_numbers_are_injective}
+use Rattle.cert_export.proofs.CircuitNumbers.{number_cases, circuit_numbers_are_injective}
 use Rattle.cert_export.proofs.DerivedLines.{lines_are_derived}
 use Rattle.cert_export.proofs.Numbers.{lines_have_numbers, rising_filter}
 use Rattle.cert_export.proofs.ReachedLines.{rising_of, are_lines, are_finished}
@@ -58,20 +58,10 @@ module _ (f : Dqbf) (entries : List Entry) (id : ℕ) (e : CircuitPart) (lawful 
 module _ (f : Dqbf) (entries : List Entry) (e : CircuitPart) where
   in_proof : (v x : ℕ) → circuit_renaming f entries e v ≡ Some x →
       is_proof_variable f (exported_netlist f entries e) x ≡ true
-  in_proof v x h =
-      let b = bounds (number_cases f e v (name_of entries v) x h) in
-      and_from (nat_le 1 x) (nat_le x (max_number f e + length f.matrix)) (le-leb 1 x b.0)
-      (le-leb x (max_number f e + length f.matrix) b.1) where
-        bounds : IsNumbered f e v (name_of entries v) x → (1 ≤ x) × (x ≤ max_number f e + length f.matrix)
-        bounds (inl i) = let a = i.2.number in let b = i.2.below in (omega (arith, a), omega (arith, a, b))
-        bounds (inr (inl g)) = let a = g.1.number in let b = g.1.below in let c = g.2 in
-            (omega (arith, a, c), omega (arith, a, b, c))
-        bounds (inr (inr j)) = let b = j.3 in (omega (arith, j.2, b), omega (arith, b, j.4))
+  in_proof v x h = search (arith, number_cases, and_from, nat_le, le-leb)
 
   first_is : last_base_id f e + 1 ≡ first_proof_id f (exported_netlist f entries e)
-  first_is =
-      let gates = length-map e.gates (λ v. gate_of (circuit_renaming f entries e) v (name_of entries v)) in
-      omega (arith, gates)
+  first_is = search (arith, length-map)
 
 module _ (f : Dqbf) (entries : List Entry) (id : ℕ) (e : CircuitPart) (ids : List ℕ) (r : Renaming)
     (well : IsWellFormed f)
@@ -92,9 +82,7 @@ module _ (f : Dqbf) (entries : List Entry) (id : ℕ) (e : CircuitPart) (ids : L
 
   base_right : IsRenamedBase r (circuit_id f e) IsUsed (negated_candidate (exported_candidate f entries e))
       (last_base_id f e) entries
-  base_right h origin c at kept =
-      let b = circuit_clauses_are_negated_matrix f entries e well lawful inputs x.part h origin c at kept.0 in
-      (b.0 ∙ ap Some (sym kept.1), b.1)
+  base_right h origin c at kept = search (arith, circuit_clauses_are_negated_matrix)
 
   injective : IsInjective r
   injective v w n h k = circuit_numbers_are_injective f entries e lawful v w n (names.right v n h) (names.right w n k)

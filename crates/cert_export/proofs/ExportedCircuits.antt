@@ -6,7 +6,7 @@ use Rattle.std.proofs.lemmas.List.{get_or-map, get_or-append-add, length-map}
 use Rattle.std.proofs.lemmas.List.Elements.{All-contains, All-nil, All-cons, All-map, Contains-get_or}
 use Rattle.std.proofs.lemmas.List.FromFn.{length-range_with_len, get_or-range_with_len}
 use Rattle.list_laws.proofs.Members.{contains_map, mapped_from, place_within}
-use Rattle.dq_lits.specs.Literal.{Literal, positive, negative, variable_of, is_negative}
+use Rattle.dq_lits.specs.Literal.{Literal, positive, negative, variable_of}
 use Rattle.dq_lits.specs.Formula.{Dqbf, Existential, IsWellFormed}
 use Rattle.hint_log.specs.Conditions.{is_circuit_name, HasSides, MayFollow}
 use Rattle.hint_log.specs.Entries.{name_of, Entry, Named, Given, Learned, Answer, Round, Begun}
@@ -20,7 +20,7 @@ use Rattle.circuit_plain.specs.Reach.{Reaches, itself as reaches_itself, left as
 use Rattle.circuit_plain.specs.declared.circuits.Gate.{Gate}
 use Rattle.skolem_checker.specs.Checks.{existential_at}
 use Rattle.skolem_checker.specs.SkolemCircuit.{IsComplete}
-use Rattle.cert_export.specs.CircuitPart.{CircuitPart, max_number, circuit_renaming, or_zero, aiger_literal, literal_code, leaf_code, gate_of, exported_netlist, IsInFile, IsLeafInFile, IsCircuitPart}
+use Rattle.cert_export.specs.CircuitPart.{CircuitPart, max_number, circuit_renaming, or_zero, literal_code, leaf_code, gate_of, exported_netlist, IsInFile, IsLeafInFile, IsCircuitPart}
 use Rattle.cert_export.specs.ExportedCircuit.{ExportedCircuitIsComplete, ExportedCircuitReadsSeen, ExportedCircuitIsNetlist}
 use Rattle.hint_log.specs.Growth.{Each}
 use Rattle.cert_export.specs.Given.{HasUniversalInputs}
@@ -131,10 +131,8 @@ module _ (f : Dqbf) (all : List Entry) (e : CircuitPart) (lawful : Each MayFollo
 
   leaf_reads : (leaf : Leaf) → IsLeafInFile all e.gates leaf → (p : ℕ) → p < length f.universals →
       Reaches net (literal_variable (leaf_code r leaf)) (p + 1) → LeafReads all leaf (slice_index f.universals p)
-  leaf_reads (Constant true) h p below reaches = absurd (none_reached (literal_variable 1) (p + 1) reaches refl
-      (omega arith))
-  leaf_reads (Constant false) h p below reaches = absurd (none_reached (literal_variable 0) (p + 1) reaches refl
-      (omega arith))
+  leaf_reads (Constant true) h p below reaches = search (arith, none_reached)
+  leaf_reads (Constant false) h p below reaches = search (arith, none_reached)
   leaf_reads (LeafLiteral l) h p below reaches =
       let n = numbered l h.0 h.1 in
       reach_reads (literal_variable (literal_code r l)) (p + 1) reaches l
@@ -310,30 +308,18 @@ exported_circuit_reads_seen f entries e well lawful given part seen p below q sm
 
 range_fits : (a n bound : ℕ) → 1 ≤ a → a + n ≤ bound + 1 → All (IsVariable bound) (range_with_len a n)
 range_fits a zero bound one most = All-nil (IsVariable bound)
-range_fits a (suc n) bound one most = All-cons (IsVariable bound) a (range_with_len (a + 1) n)
-    (one, omega (arith, most)) (range_fits (a + 1) n bound (omega arith) (omega (arith, most)))
+range_fits a (suc n) bound one most = search (arith, All-cons, (range_fits (a + 1) n bound))
 
 module _ (f : Dqbf) (all : List Entry) (e : CircuitPart) (lawful : Each MayFollow all)
     (given : HasUniversalInputs f all) (part : IsCircuitPart f all e) (small : max_number f e < 2 ^ 62) where
   -- numbers of the file's circuit are at most its largest
   number_small : (l : Literal) → is_circuit_name (name_of all (variable_of l)) ≡ true → (n : ℕ) →
       circuit_renaming f all e (variable_of l) ≡ Some n → n ≤ max_number f e
-  number_small l circuit n is = by_case (number_cases f e (variable_of l) (name_of all (variable_of l)) n is) where
-    by_case : IsNumbered f e (variable_of l) (name_of all (variable_of l)) n → n ≤ max_number f e
-    by_case (inl i) = omega (arith, i.2.number, i.2.below)
-    by_case (inr (inl g)) = omega (arith, g.1.number, g.1.below, g.2)
-    by_case (inr (inr j)) = let both : true ≡ false = sym circuit ∙ ap is_circuit_name j.1 in absurd (true≢false both)
+  number_small l circuit n is = search (arith, number_cases, true≢false)
 
   code_fits : (l : Literal) → is_circuit_name (name_of all (variable_of l)) ≡ true → IsInFile all e.gates l →
       literal_code (circuit_renaming f all e) l ≤ 2 * max_number f e + 1
-  code_fits l circuit in_file =
-      let n = circuit_numbered f all e given l circuit in_file in
-      let low = number_small l circuit n.number n.is in
-      subst (λ c. c ≤ 2 * max_number f e + 1) (sym (code_at (circuit_renaming f all e) l n))
-      (by_sign (is_negative l) n.number low) where
-        by_sign : (b : Bool) (n : ℕ) → n ≤ max_number f e → aiger_literal b n ≤ 2 * max_number f e + 1
-        by_sign true n low = omega (arith, low)
-        by_sign false n low = omega (arith, low)
+  code_fits l circuit in_file = search (arith, circuit_numbered, number_small, code_at)
 
   leaf_fits : (leaf : Leaf) → IsLeafInFile all e.gates leaf →
       leaf_code (circuit_renaming f all e) leaf ≤ 2 * max_number f e + 1

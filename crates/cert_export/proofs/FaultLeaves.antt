@@ -1,12 +1,11 @@
 -- Leaves of the variables in faults.
-use Rattle.std.proofs.Common.{◌≡◌, ℕ, ◌+◌, ◌≤◌, ◌<◌, ◌⊎◌, inl, inr, true, false, List, ◌∷◌, take, length, get_or, Option, None, Some, IsSome, is_some, refl, sym, ◌∙◌, ap, subst}
+use Rattle.std.proofs.Common.{◌≡◌, ℕ, ◌+◌, ◌≤◌, ◌<◌, ◌⊎◌, inl, inr, true, false, List, take, length, get_or, Option, None, Some, IsSome, is_some, refl, sym, ◌∙◌, subst, arith}
 use Rattle.std.specs.List.{Contains}
 use Rattle.std.specs.Prelude.{slice_index_or}
 use Rattle.std.specs.Option.{option_map}
 use Rattle.std.proofs.lemmas.List.{take_all, take_more}
 use Rattle.list_laws.proofs.Members.{last_or_inside}
 use Rattle.dq_lits.specs.Formula.{Dqbf}
-use Rattle.dq_lits.specs.Literal.{negative}
 use Rattle.hint_log.specs.Entries.{Entry, origin_at}
 use Rattle.hint_log.specs.declared.origins.Leaf.{Leaf}
 use Rattle.hint_log.specs.declared.origins.Leaf.TheVariants.{Constant}
@@ -29,10 +28,7 @@ pub record LeavesSoFar (f : Dqbf) (entries : List Entry) (ids : List ℕ) (t : L
 
 kept_some : (s t : LeafTable) → ((v : ℕ) (out : Leaf) → leaf_of s v ≡ Some out → leaf_of t v ≡ Some out) → (v : ℕ) →
     IsSome (leaf_of s v) → IsSome (leaf_of t v)
-kept_some s t kept v there = by_option (leaf_of s v) refl there where
-  by_option : (o : Option Leaf) → leaf_of s v ≡ o → IsSome o → IsSome (leaf_of t v)
-  by_option None e h = cc
-  by_option (Some out) e h = ap is_some (kept v out e)
+kept_some s t kept v there = search arith
 
 pub one_leaf_more : (f : Dqbf) (entries : List Entry) (ids : List ℕ) (s t : LeafTable) (i id : ℕ) → i < length ids →
     id ≡ get_or ids i id → LeavesSoFar f entries ids s i
@@ -41,10 +37,7 @@ pub one_leaf_more : (f : Dqbf) (entries : List Entry) (ids : List ℕ) (s t : Le
     → ((v : ℕ) (out : Leaf) → leaf_of t v ≡ Some out → (leaf_of s v ≡ Some out) ⊎ IsLeafAt f entries id v out) →
     LeavesSoFar f entries ids t (i + 1)
 one_leaf_more f entries ids s t i id below id_is so_far kept there only = record {
-  sound = λ v out is. elim (only v out is) [
-    | inl before ↦ so_far.sound v out before
-    | inr here ↦ record { id = id; among = (i, below, sym id_is); at = here }
-  ];
+  sound = search arith;
   whole = λ v out h. elim (last_or_inside (take i ids) (get_or ids i id) h.id
       (subst (λ xs. Contains xs h.id) (take_more ids i id below) h.among)) [
         | inl before ↦ kept_some s t kept v (so_far.whole v out (record { id = h.id; among = before; at = h.at }))
@@ -63,15 +56,12 @@ all_leaves f entries ids t i past so_far v out h =
 
 -- a clause begins with one literal
 same_group : (entries : List Entry) (id g h : ℕ) → BeginsGroup entries id g → BeginsGroup entries id h → g ≡ h
-same_group entries id g h one other =
-    let both : Some (negative g ∷ one.0) ≡ Some (negative h ∷ other.0) = sym one.1 ∙ other.1 in cc
+same_group entries id g h one other = search arith
 
 -- the group of one fault is that of all
 pub found_group : (entries : List Entry) (ids : List ℕ) (id g : ℕ) → (group : ℕ) × AreOfGroup entries ids group →
     Contains ids id → IsFaultOfGroup entries id g → AreOfGroup entries ids g
-found_group entries ids id g one inside own =
-    subst (AreOfGroup entries ids) (same_group entries id one.0 g
-    (one.1 id own.j own.i own.out inside own.is_fault) own.begins) one.1
+found_group entries ids id g one inside own = search (arith, same_group)
 
 pub no_group : (entries : List Entry) (ids : List ℕ) (i g : ℕ) → length ids ≤ i →
     ((h j k : ℕ) (out : Leaf) → Contains (take i ids) h → origin_at entries h ≡ Some (Fault j k out) → ⊥) →

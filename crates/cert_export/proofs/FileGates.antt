@@ -1,5 +1,5 @@
 -- The exported circuit is made gate by gate and output by output.
-use Rattle.std.proofs.Common.{◌≡◌, ℕ, suc, ◌+◌, ◌*◌, ◌/◌, ◌<◌, true, inl, inr, List, [], ◌∷◌, ◌++◌, map, length, get_or, Option, None, Some, IsSome, is_some, refl, sym, ◌∙◌, ap, subst, arith}
+use Rattle.std.proofs.Common.{◌≡◌, ℕ, ◌+◌, ◌*◌, ◌/◌, ◌<◌, true, inl, inr, List, [], ◌∷◌, ◌++◌, length, get_or, Option, None, Some, IsSome, is_some, refl, sym, ◌∙◌, ap, subst, arith}
 use Rattle.std.specs.List.{Contains, range_with_len}
 use Rattle.std.specs.Prelude.{slice_index}
 use Rattle.std.proofs.lemmas.List.{get_or-map, length-map, get_or_default}
@@ -11,12 +11,9 @@ use Rattle.hint_log.specs.Conditions.{is_circuit_name, AreLogged}
 use Rattle.hint_log.specs.Entries.{Entry, name_of}
 use Rattle.hint_log.specs.declared.names.Name.{Name}
 use Rattle.hint_log.specs.declared.names.Name.TheVariants.{And}
-use Rattle.hint_log.specs.declared.origins.Leaf.{Leaf}
-use Rattle.hint_log.specs.declared.origins.Leaf.TheVariants.{Constant, Literal as LeafLiteral}
-use Rattle.circuit_plain.specs.Netlist.{Netlist, IsDefined, variable_of_gate, IsNetlist, IsLiteral, IsVariable}
-use Rattle.circuit_plain.specs.declared.circuits.Gate.{Gate}
+use Rattle.circuit_plain.specs.Netlist.{Netlist, IsDefined, IsNetlist, IsLiteral, IsVariable}
 use Rattle.log_laws.proofs.Solved.{sides}
-use Rattle.cert_export.specs.CircuitPart.{CircuitPart, IsCircuitPart, IsLeafInFile, circuit_renaming, gate_of, leaf_code, exported_netlist}
+use Rattle.cert_export.specs.CircuitPart.{CircuitPart, IsCircuitPart, circuit_renaming, gate_of, leaf_code, exported_netlist}
 use Rattle.cert_export.specs.FaultLeaves.{LeafTable, leaf_of, or_false, output_leaf}
 use Rattle.cert_export.specs.Netlists.{IsLeafNamed}
 use Rattle.cert_export.proofs.RoundRows.{range_rounds}
@@ -49,10 +46,7 @@ sides_named entries v a b logged named =
 -- a leaf of the circuit is named
 pub leaf_named : (f : Dqbf) (entries : List Entry) (e : CircuitPart) → IsCircuitPart f entries e →
     (p : ℕ) (y : Existential) → p < length f.existentials → IsLeafNamed entries (e.leaf (get_or f.existentials p y))
-leaf_named f entries e part p y below = by_leaf (e.leaf (get_or f.existentials p y)) (part.leaves p y below) where
-  by_leaf : (leaf : Leaf) → IsLeafInFile entries e.gates leaf → IsLeafNamed entries leaf
-  by_leaf (Constant b) h = tt
-  by_leaf (LeafLiteral l) h = circuit_named (name_of entries (variable_of l)) h.0
+leaf_named f entries e part p y below = search (arith, circuit_named)
 
 -- the gate at a place of the file
 pub gate_at_place : (f : Dqbf) (entries : List Entry) (e : CircuitPart) (items : List ℕ) (p : ℕ) → items ≡ e.gates →
@@ -60,13 +54,7 @@ pub gate_at_place : (f : Dqbf) (entries : List Entry) (e : CircuitPart) (items :
     let r = circuit_renaming f entries e in
     let g = gate_of r (slice_index items p) (name_of entries (slice_index items p)) in
     (p < length (exported_netlist f entries e).gates) × (get_or (exported_netlist f entries e).gates p g ≡ g)
-gate_at_place f entries e items p same below =
-    let r = circuit_renaming f entries e in
-    let G : ℕ → Gate = λ v. gate_of r v (name_of entries v) in
-    let v = slice_index items p in
-    let at : get_or e.gates p v ≡ v = ap (λ xs. get_or xs p v) (sym same) ∙ sym
-    (get_or_default items p 0 v (omega (arith, below, ap length same))) in
-    (omega (arith, below, length-map e.gates G), get_or-map G e.gates p v (G v) below ∙ ap G at)
+gate_at_place f entries e items p same below = search (arith, get_or_default, length-map, get_or-map)
 
 -- and what is read of it may be added
 pub record MayAdd (old : Netlist) (r : ℕ × ℕ × ℕ) : Type 0 where
@@ -124,16 +112,9 @@ output_at_place f entries group gates t items p same below =
 
 -- an input with the next number
 pub next_input : (net : Netlist) (i : ℕ) → net.inputs ≡ range_with_len 1 i → net.gates ≡ [] → IsDefined net (i + 1) → ⊥
-next_input net i inputs gates (inl inside) = let b = (range_rounds i 1 (i + 1)
-    (subst (λ xs. Contains xs (i + 1)) inputs inside)).1 in omega (arith, b)
-next_input net i inputs gates (inr inside) =
-    let none : Contains {X = ℕ} [] (i + 1) = subst (λ gs. Contains (map variable_of_gate gs) (i + 1)) gates inside in
-    omega (arith, none.1)
+next_input net i inputs gates (inl inside) = search (arith, (range_rounds i 1 (i + 1)))
+next_input net i inputs gates (inr inside) = search arith
 
 pub input_added : (old first new : Netlist) (i : ℕ) → old ≡ record first { inputs = range_with_len 1 i } →
     new ≡ record old { inputs = old.inputs ++ (i + 1) ∷ [] } → new ≡ record first { inputs = range_with_len 1 (i + 1) }
-input_added old first new i old_is new_is =
-    new_is ∙ ap (λ (o : Netlist). record o { inputs = o.inputs ++ (i + 1) ∷ [] }) old_is
-    ∙ ap (λ x. record first { inputs = range_with_len 1 i ++ x ∷ [] }) (let e : i + 1 ≡ 1 + i = omega arith in e)
-    ∙ ap (λ xs. record first { inputs = xs }) (sym (range_more 1 i) ∙ ap (range_with_len 1)
-    (let e : suc i ≡ i + 1 = omega arith in e))
+input_added old first new i old_is new_is = search (arith, (range_more 1 i))

@@ -19,28 +19,17 @@ use Rattle.cert_export.proofs.NamePlaces.{named_at, same_pair, side_before}
 
 -- the same list from its end on
 pub reversed_contains : (xs : List ℕ) (x : ℕ) → Contains xs x → Contains (reverse xs) x
-reversed_contains xs x (k, below, is) =
-    let back : length xs - 1 - (length xs - 1 - k) ≡ k = omega (arith, below) in (
-      length xs - 1 - k,
-      omega (arith, below, length-reverse xs),
-      get_or-reverse xs (length xs - 1 - k) x (omega (arith, below))
-          ∙ ap (λ n. get_or xs n x) back ∙ is,
-    )
+reversed_contains xs x (k, below, is) = search (arith, (length-reverse xs), (get_or-reverse xs (length xs - 1 - k) x))
 
 -- a variable that is no gate adds nothing
 pub nothing_wanted : (entries : List Entry) (v : ℕ) (pending : Pending) → ((a b : Literal) → name_of entries v
     ≡ Some (And a b) → ⊥) → Wants entries v pending pending
-nothing_wanted entries v pending none = record {
-  kept = λ p h. h;
-  there = λ a b named. absurd (none a b named);
-  only = λ p h. inl h;
-}
+nothing_wanted entries v pending none = search arith
 
 -- the same place's name
 pub named_so : (names : List (ℕ × Name)) (p v : ℕ) (n : Name) (r : ℕ × Name) → slice_get names p ≡ Some (v, n) →
     slice_get names p ≡ Some r → slice_get names p ≡ Some (v, r.1)
-named_so names p v n r at other =
-    at ∙ ap (λ m. Some (v, m)) (same_pair v r.0 n r.1 (sym at ∙ other)).1
+named_so names p v n r at other = search arith
 
 pub no_gate : (entries : List Entry) (v p : ℕ) (n : Name) → Each MayFollow entries →
     slice_get (names_of entries) p ≡ Some (v, n) → is_and n ≡ false → (a b : Literal) → name_of entries v
@@ -52,8 +41,7 @@ no_gate entries v p n lawful at none a b named =
 
 pub still_wanted : (entries : List Entry) (v : ℕ) (old new : Pending) → ((p : ℕ) → is_pending old p ≡ true →
     is_pending new p ≡ true) → IsWanted entries old v → IsWanted entries new v
-still_wanted entries v old new kept wanted a b named =
-    let w = wanted a b named in (w.0, w.1, kept w.0 w.2)
+still_wanted entries v old new kept wanted a b named = search arith
 
 -- both sides of a gate
 pub sides_wanted : (entries : List Entry) (place v : ℕ) (a b : Literal) (old mid new : Pending) →
@@ -140,19 +128,14 @@ module _ (entries : List Entry) (roots old taken new : Pending) (place : ℕ) (p
     descending = all_pairs_push (λ p q. q < p) places place so_far.descending
         (so_far.before place takes.was);
     gates = All-push (IsGatePlace entries) places place so_far.gates (so_far.pending_gates place takes.was);
-    pending_gates = λ p h. elim (sides.only p h) [
-      | inl before ↦ so_far.pending_gates p (older p before)
-      | inr side ↦ side.0
-    ];
+    pending_gates = search arith;
     before = is_before;
     roots_there = λ p h. moves_on p (so_far.roots_there p h);
     closed = λ p v a b inside at. elim (Contains-push_cases places place p inside) [
       | inl before ↦ (
           let both = so_far.closed p v a b before at in
           (still_reached (variable_of a) both.0, still_reached (variable_of b) both.1))
-      | inr same ↦ (
-          let both = sides.there v a b (ap (slice_get (names_of entries)) same ∙ at) in
-          (reached_now (variable_of a) both.0, reached_now (variable_of b) both.1))
+      | inr same ↦ search (arith, reached_now)
     ];
   }
 
@@ -167,10 +150,8 @@ fewer_left entries roots pending places more place so_far was is =
     let low = before (reverse places) (λ q inside. so_far_before q inside) in
     omega (arith, now, low) where
       so_far_before : (q : ℕ) → Contains (reverse places) q → place < q
-      so_far_before q inside = All-contains (λ p. place < p) places q (so_far.before place was) (back q inside) where
-        back : (q : ℕ) → Contains (reverse places) q → Contains places q
-        back q inside = subst (λ ps. Contains ps q) (reverse-reverse places)
-            (reversed_contains (reverse places) q inside)
+      so_far_before q inside =
+          search (arith, All-contains, (reverse-reverse places), (reversed_contains (reverse places) q inside))
 
       before : (up : List ℕ) → ((q : ℕ) → Contains up q → place < q) → place < get_or up 0 (length (names_of entries))
       before [] low = let g = so_far.pending_gates place was in place_within (names_of entries) place (g.0, g.1.0) g.1.1

@@ -1,5 +1,5 @@
 -- The gates of an exported circuit are numbered in the file's order, behind the inputs.
-use Rattle.std.proofs.Common.{◌≡◌, ◌≢◌, ℕ, ◌+◌, ◌<◌, ◌==◌, inl, inr, ◌⊎◌, List, map, length, get_or, Option, sym, ◌∙◌, ap, subst, arith}
+use Rattle.std.proofs.Common.{◌≡◌, ◌≢◌, ℕ, ◌+◌, ◌<◌, ◌==◌, List, map, length, get_or, Option, sym, ◌∙◌, ap, subst, arith}
 use Rattle.std.specs.List.{All, AllPairs, range_with_len, position_or_len}
 use Rattle.std.specs.Option.{option_map}
 use Rattle.std.proofs.lemmas.Bool.{cases_order}
@@ -17,21 +17,20 @@ use Rattle.circuit_plain.specs.declared.circuits.Gate.{Gate}
 use Rattle.cert_export.specs.CircuitPart.{CircuitPart, IsCircuitPart, circuit_number, circuit_renaming, exported_netlist, gate_of, or_zero}
 use Rattle.cert_export.specs.ExportedCircuit.{HasSmallerSides, IsNumberedFile}
 use Rattle.cert_export.specs.Parts.{IsExportedCircuit}
-use Rattle.cert_export.proofs.CircuitNumbers.{IsPlace, place_there, position_is}
+use Rattle.cert_export.proofs.CircuitNumbers.{place_there, position_is}
 use Rattle.cert_export.proofs.SmallerSides.{smaller_sides}
 
 -- of numbers that differ, each stands first at its own place
 own_place : (xs : List ℕ) (i : ℕ) → AllPairs (λ v w. v ≢ w) xs → i < length xs →
     position_or_len (λ x. x == get_or xs i 0) xs ≡ i
-own_place xs i distinct below = placed (position_is xs (get_or xs i 0)
-    (tested_inside xs (get_or xs i 0) (Contains-get_or xs i 0 below))) where
-      placed : IsPlace xs (get_or xs i 0) (position_or_len (λ x. x == get_or xs i 0) xs + 1) →
-          position_or_len (λ x. x == get_or xs i 0) xs ≡ i
-      placed p = by_order (cases_order p.place i) where
-        by_order : (p.place ≡ i) ⊎ ((p.place < i) ⊎ (i < p.place)) → position_or_len (λ x. x == get_or xs i 0) xs ≡ i
-        by_order (inl same) = p.first ∙ same
-        by_order (inr (inl less)) = absurd (distinct p.place i 0 less below p.there)
-        by_order (inr (inr more)) = absurd (distinct i p.place 0 more p.below (sym p.there))
+own_place xs i distinct below =
+    search (
+      arith,
+      (position_is xs (get_or xs i 0) (tested_inside xs (get_or xs i 0) (Contains-get_or xs i 0 below))),
+      (tested_inside xs (get_or xs i 0) (Contains-get_or xs i 0 below)),
+      (Contains-get_or xs i 0 below),
+      cases_order,
+    )
 
 abbrev gate_at : Dqbf → List Entry → CircuitPart → ℕ → Gate
 gate_at f entries e v = gate_of (circuit_renaming f entries e) v (name_of entries v)

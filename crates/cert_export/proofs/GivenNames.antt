@@ -1,40 +1,29 @@
 -- Variables of given clauses get their names.
-use Rattle.std.proofs.Common.{◌≡◌, ℕ, ◌++◌, true, false, is_some, ◌+◌, ◌≤◌, ◌<◌, ◌⊎◌, inl, inr, List, [], ◌∷◌, take, length, get_or, Option, None, Some, IsSome, refl, sym, ◌∙◌, ap, subst}
+use Rattle.std.proofs.Common.{◌≡◌, ℕ, ◌++◌, true, false, is_some, ◌+◌, ◌≤◌, ◌<◌, ◌⊎◌, inl, inr, List, [], ◌∷◌, take, length, get_or, Option, None, Some, IsSome, refl, sym, ◌∙◌, ap, subst, arith}
 use Rattle.std.specs.List.{All, Contains, cons_option}
-use Rattle.std.specs.Option.{option_map, option_and_then}
+use Rattle.std.specs.Option.{option_map}
 use Rattle.std.proofs.lemmas.Bool.{true≢false}
 use Rattle.std.proofs.lemmas.List.{take_all, take_more}
 use Rattle.std.proofs.lemmas.List.Elements.{All-push, All-head, All-tail}
 use Rattle.list_laws.proofs.Members.{last_or_inside}
 use Rattle.dq_lits.specs.Literal.{Literal, variable_of, on_variable}
-use Rattle.hint_log.specs.Entries.{Entry, Named, Given, Learned, Answer, Round, Begun, has_id, numbered, clause_of, clause_at, origin_of, origin_at}
+use Rattle.hint_log.specs.Entries.{Entry, Given, has_id, numbered, clause_at, origin_at}
 use Rattle.hint_log.specs.declared.origins.Origin.{Origin}
 use Rattle.cert_export.specs.Renaming.{Renaming, renamed_literal, renamed_clause, IsPartOf, IsNamed, AreNamedIn, IsRenamingOf}
 
 -- one variable more has its name
 pub right_with : (target old new : Renaming) (v x : ℕ) → target v ≡ Some x → IsPartOf old target →
     ((w n : ℕ) → new w ≡ Some n → (old w ≡ Some n) ⊎ ((w ≡ v) × (n ≡ x))) → IsPartOf new target
-right_with target old new v x is right only w n h = elim (only w n h) [
-  | inl before ↦ right w n before
-  | inr here ↦ ap target here.0 ∙ is ∙ ap Some (sym here.1)
-]
+right_with target old new v x is right only w n h = search arith
 
 -- a name that is part of the other renaming's, and is there, is the same
 pub named_as : (target r : Renaming) (v : ℕ) → IsPartOf r target → IsSome (r v) → r v ≡ target v
-named_as target r v right there = by_option (r v) refl there where
-  by_option : (o : Option ℕ) → r v ≡ o → IsSome o → r v ≡ target v
-  by_option None e h = cc
-  by_option (Some x) e h = e ∙ sym (right v x e)
+named_as target r v right there = search arith
 
 -- it stays so with more names
 pub named_still : (target old new : Renaming) (l : Literal) → IsPartOf old new → IsPartOf new target →
     IsNamed target old l → IsNamed target new l
-named_still target old new l kept right named = by_options (new (variable_of l)) (old (variable_of l)) refl refl where
-  by_options : (n o : Option ℕ) → new (variable_of l) ≡ n → old (variable_of l) ≡ o →
-      new (variable_of l) ≡ target (variable_of l)
-  by_options (Some x) o e h = e ∙ sym (right (variable_of l) x e)
-  by_options None None e h = e ∙ sym h ∙ named
-  by_options None (Some x) e h = let k = kept (variable_of l) x h in cc
+named_still target old new l kept right named = search arith
 
 -- so far these literals are named
 pub record NamedSoFar (target old new : Renaming) (done : List Literal) : Type 0 where
@@ -111,43 +100,25 @@ all_given target entries r ids i past so_far = record {
 pub given_here : (target : Renaming) (entries : List Entry) (r : Renaming) (id : ℕ) (clause : List Literal) →
     clause_at entries id ≡ Some clause → All (IsNamed target r) clause →
     (origin : Origin) (c : List Literal) → numbered has_id entries id ≡ Some (Given origin c) → All (IsNamed target r) c
-given_here target entries r id clause there named origin c at =
-    let both : Some clause ≡ Some c = sym there ∙ ap (option_and_then clause_of) at in
-    let same : clause ≡ c = cc in
-    subst (All (IsNamed target r)) same named
+given_here target entries r id clause there named origin c at = search arith
 
 -- an id without an origin isn't a given one's
 pub none_here : (target : Renaming) (entries : List Entry) (r : Renaming) (id : ℕ) →
     is_some (origin_at entries id) ≡ false →
     (origin : Origin) (c : List Literal) → numbered has_id entries id ≡ Some (Given origin c) → All (IsNamed target r) c
-none_here target entries r id none origin c at =
-    let some : origin_at entries id ≡ Some origin = ap (option_and_then origin_of) at in
-    absurd (true≢false (sym (ap is_some some) ∙ none))
+none_here target entries r id none origin c at = search (arith, true≢false)
 
 -- the given entry of an origin
 pub given_of : (es : List Entry) (id : ℕ) (o : Origin) → origin_at es id ≡ Some o →
     (c : List Literal) × (numbered has_id es id ≡ Some (Given o c))
-given_of es id o at = by_entry (numbered has_id es id) refl at where
-  by_entry : (e : Option Entry) → numbered has_id es id ≡ e → option_and_then origin_of e ≡ Some o →
-      (c : List Literal) × (numbered has_id es id ≡ Some (Given o c))
-  by_entry None is at = cc
-  by_entry (Some (Named v n)) is at = cc
-  by_entry (Some (Given p c)) is at = let same : p ≡ o = cc in (c, is ∙ ap (λ q. Some (Given q c)) same)
-  by_entry (Some (Learned c hints)) is at = cc
-  by_entry (Some (Answer c hints)) is at = cc
-  by_entry (Some (Round row values j)) is at = cc
-  by_entry (Some (Begun live)) is at = cc
+given_of es id o at = search arith
 
 -- what is known of the clause of an origin
 pub known_clause : (P : Origin → List Literal → Type 0) (entries : List Entry) (ids : List ℕ) (id : ℕ) (origin : Origin)
     (clause : List Literal) → ((i : ℕ) (o : Origin) (c : List Literal) → Contains ids i →
     numbered has_id entries i ≡ Some (Given o c) → P o c) → Contains ids id →
     origin_at entries id ≡ Some origin → clause_at entries id ≡ Some clause → P origin clause
-known_clause P entries ids id origin clause known inside own there =
-    let g = given_of entries id origin own in
-    let both : Some g.0 ≡ Some clause = sym (ap (option_and_then clause_of) g.1) ∙ there in
-    let same : g.0 ≡ clause = cc in
-    subst (P origin) same (known id origin g.0 inside g.1)
+known_clause P entries ids id origin clause known inside own there = search (arith, given_of)
 
 -- what is known of the given clauses among the ids
 pub known_of : (P : ℕ → Type 0) (entries : List Entry) (ids : List ℕ) (id : ℕ) (clause : List Literal)
@@ -158,5 +129,4 @@ pub known_of : (P : ℕ → Type 0) (entries : List Entry) (ids : List ℕ) (id 
 known_of P entries ids id clause known inside given there = by_origin (origin_at entries id) refl given where
   by_origin : (o : Option Origin) → origin_at entries id ≡ o → is_some o ≡ true → All (λ l. P (variable_of l)) clause
   by_origin None is h = cc
-  by_origin (Some origin) is h =
-      known_clause (λ o c. All (λ l. P (variable_of l)) c) entries ids id origin clause known inside is there
+  by_origin (Some origin) is h = search (arith, known_clause)

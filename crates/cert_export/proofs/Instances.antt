@@ -1,5 +1,5 @@
 -- The instances given, renamed, are those of the expansion.
-use Rattle.std.proofs.Common.{◌≡◌, ℕ, zero, suc, ◌+◌, ◌-◌, ◌*◌, ◌/◌, ◌%◌, ◌≤◌, ◌<◌, ◌==◌, nat_lt, is_some, ◌||◌, ◌&&◌, Bool, true, false, not, cond, List, [], ◌∷◌, ◌++◌, map, length, get_or, slice_get, Option, None, Some, refl, sym, ◌∙◌, ap, subst, arith, append_assoc, length-append, mul-le-mul_right, add-mul, one-mul}
+use Rattle.std.proofs.Common.{◌≡◌, ℕ, zero, suc, ◌+◌, ◌-◌, ◌*◌, ◌%◌, ◌≤◌, ◌<◌, ◌==◌, nat_lt, ◌||◌, ◌&&◌, Bool, true, false, not, cond, List, [], ◌∷◌, ◌++◌, map, length, get_or, slice_get, Option, None, Some, refl, sym, ◌∙◌, ap, subst, arith, append_assoc, length-append, mul-le-mul_right, add-mul, one-mul}
 use Rattle.std.specs.List.{All, Contains, list_any, filter_map, cons_option, position_or_len}
 use Rattle.std.specs.List.Sorted.{IsStrictlyIncreasing}
 use Rattle.std.specs.Option.{option_map, option_and_then}
@@ -92,9 +92,7 @@ at_place {X} g (x ∷ xs) k (i, below, is) = by_bit (x == k) refl i below is (at
       slice_get (g x ∷ map g xs) (cond (not b) (1 + position_or_len (λ i. i == k) xs) 0) ≡ Some (g k)
   by_bit true e i below is later = ap (λ n. Some (g n)) (eqb-true x k e)
   by_bit false e zero below is later = absurd (false≢true (sym e ∙ eq-eqb x k is))
-  by_bit false e (suc i) below is later =
-      let next : 1 + position_or_len (λ i. i == k) xs ≡ suc (position_or_len (λ i. i == k) xs) = omega arith in
-      ap (slice_get (g x ∷ map g xs)) next ∙ later (i, (let b : i < length xs = omega arith in b), is)
+  by_bit false e (suc i) below is later = search arith
 
 module _ (f : Dqbf) (well : IsWellFormed f) (all : List Entry) (ks : List ℕ) (lawful : Each MayFollow all) where
   abbrev kept : List (List Bool)
@@ -110,8 +108,7 @@ module _ (f : Dqbf) (well : IsWellFormed f) (all : List Entry) (ks : List ℕ) (
 
     place_small : (y : Existential) (rows : List (List Bool)) → Contains rows row →
         position_or_len (agree_on f y row) rows < length rows
-    place_small y rows (k, below, at) = position_small (agree_on f y row) rows k row below
-        (ap (agree_on f y row) at ∙ same_bits-refl (restriction y (row_assignment f row)))
+    place_small y rows (k, below, at) = search (arith, position_small, same_bits-refl)
 
     same_pair : (y : Existential) → position_or_len (agree_on f y row) (rows_of es) ≡ position_or_len (agree_on f y row)
         (rows_of all)
@@ -169,19 +166,7 @@ module _ (f : Dqbf) (well : IsWellFormed f) (all : List Entry) (ks : List ℕ) (
     pair_right : (y : Existential) → existential_of f y.variable ≡ Some y → 1 ≤ y.variable →
         y.variable ≤ f.variables →
         is_pair_number f (length kept) (place * f.variables + y.variable) ≡ true
-    pair_right y own low high =
-        let V = f.variables in
-        let x = place * V + y.variable in
-        let quotient = pair_row place V y.variable low high in
-        let back = pair_variable place V y.variable low high in
-        let q_small : (x - 1) / V < length kept = omega (arith, quotient, place_within kept place row at_kept) in
-        let own_there : existential_of f ((x - 1) % V + 1) ≡ Some y = ap (existential_of f) back ∙ own in
-        and_from (not (V == 0)) (not (x == 0) && (nat_lt ((x - 1) / V) (length kept) && is_some
-        (existential_of f ((x - 1) % V + 1)))) (ap not (ne_eqb V 0 (λ z. omega (arith, z, low, high))))
-        (and_from (not (x == 0)) (nat_lt ((x - 1) / V) (length kept) && is_some
-        (existential_of f ((x - 1) % V + 1))) (ap not (ne_eqb x 0 (λ z. omega (arith, z, low))))
-        (and_from (nat_lt ((x - 1) / V) (length kept)) (is_some (existential_of f ((x - 1) % V + 1)))
-        (lt-ltb ((x - 1) / V) (length kept) q_small) (ap is_some own_there)))
+    pair_right y own low high = search (arith, pair_row, place_within, and_from, nat_lt, ne_eqb, lt-ltb)
 
     -- so an arbiter's name is that of such a pair
     own_arbiter : (y : Existential) → existential_of f y.variable ≡ Some y →
@@ -368,9 +353,7 @@ module _ (f : Dqbf) (ks live : List ℕ) (entries : List Entry) (well : IsWellFo
 
   pub known_given : IsStrictlyIncreasing ks → IsStrictlyIncreasing live → (origin : Origin) (c : List Literal) →
       IsKeptClause f ks live entries origin c → IsKnownInstance ks live origin
-  known_given rising ascending origin c mine =
-      instances_alone (IsKnownInstance ks live) f ks live entries origin c mine
-      (λ k j own. (rising, own.0, ascending, own.1.0))
+  known_given rising ascending origin c mine = search (arith, instances_alone)
 
 -- an instance's round is one of the log's
 pub round_below : (f : Dqbf) (live : List ℕ) (entries : List Entry) (id k j : ℕ) (c : List Literal) →

@@ -15,7 +15,7 @@ use Rattle.cert_export.specs.Exported.{exported_number}
 use Rattle.cert_export.specs.Expansion.{instance_id, used_rounds}
 use Rattle.hint_log.specs.declared.origins.Origin.{Origin}
 use Rattle.cert_export.specs.Renaming.{Renaming}
-use Rattle.cert_export.specs.Lines.{derived_ids, is_derived, is_lemma, line_step, line_steps}
+use Rattle.cert_export.specs.Lines.{derived_ids, is_derived, is_lemma, line_steps}
 use Rattle.cert_export.proofs.Numbers.{rising_filter}
 use Rattle.cert_export.proofs.ReachedLines.{Rising, rising_of}
 
@@ -76,8 +76,7 @@ few_lemmas [] (x ∷ xs) rising all = let here : false ≡ true = All-head (IsLe
 few_lemmas (Named v n ∷ es) xs rising all = few_lemmas es xs rising all
 few_lemmas (Round row values j ∷ es) xs rising all = few_lemmas es xs rising all
 few_lemmas (Begun live ∷ es) xs rising all = few_lemmas es xs rising all
-few_lemmas (Given o c ∷ es) xs rising all = few_lemmas es xs rising
-    (not_given (Given o c) es (count has_id es + 1) xs refl all)
+few_lemmas (Given o c ∷ es) xs rising all = search (arith, (few_lemmas es xs rising))
 few_lemmas (Learned c hints ∷ es) xs rising all =
     let n = count has_id es + 1 in
     let rest = few_lemmas es (filter (others n) xs) (rising_filter (others n) xs rising)
@@ -91,22 +90,13 @@ few_lemmas (Answer c hints ∷ es) xs rising all =
 
 all_derived : (es : List Entry) (xs : List ℕ) → All (IsLemmaOf es) (derived_ids es xs)
 all_derived es [] = All-nil (IsLemmaOf es)
-all_derived es (x ∷ xs) = by_bit (is_derived (numbered has_id es x)) refl (all_derived es xs) where
-  by_bit : (b : Bool) → is_derived (numbered has_id es x) ≡ b → All (IsLemmaOf es) (derived_ids es xs) →
-      All (IsLemmaOf es) (cond b (x ∷ derived_ids es xs) (derived_ids es xs))
-  by_bit true e later = All-cons (IsLemmaOf es) x (derived_ids es xs) e later
-  by_bit false e later = later
+all_derived es (x ∷ xs) = search (arith, (all_derived es xs), All-cons)
 
 pub lines_few : (entries : List Entry) (ids : List ℕ) (r : Renaming) (base_id : Origin → ℕ) (number : ℕ → ℕ)
     (steps : List ProofStep) → IsStrictlyIncreasing ids →
     steps ≡ line_steps r base_id entries number (derived_ids entries ids) → length steps ≤ count is_lemma entries
 lines_few entries ids r base_id number steps ascending are =
-    let p : ℕ → Bool = λ h. is_derived (numbered has_id entries h) in
-    let many : length steps ≡ length (derived_ids entries ids) =
-    ap length are ∙ length-map (derived_ids entries ids) (line_step r base_id entries number) in
-    let few = few_lemmas entries (derived_ids entries ids) (rising_filter p ids
-    (rising_of ids (AllPairs-from_increasing ids ascending))) (all_derived entries ids) in
-    omega (arith, many, few)
+    search (arith, length-map, few_lemmas, rising_filter, rising_of, AllPairs-from_increasing, all_derived)
 
 pub few_items : (f : Dqbf) (live : List ℕ) (entries : List Entry) (ids : List ℕ) (items : List ProofItem) →
     IsStrictlyIncreasing ids → AreExportedItems f live entries ids items → length items ≤ count is_lemma entries

@@ -1,6 +1,6 @@
 -- The needed gates as variables, in the order of naming: gates of the log, each once and behind its
 -- sides.
-use Rattle.std.proofs.Common.{◌≡◌, ◌≢◌, ℕ, ◌+◌, ◌-◌, ◌≤◌, ◌<◌, ◌==◌, ◌⊎◌, inl, inr, List, [], ◌∷◌, ◌++◌, length, length-append, get_or, reverse, slice_get, slice_index, true, Some, Result, Ok, Err, IfOk, refl, sym, ◌∙◌, ap, subst, arith}
+use Rattle.std.proofs.Common.{◌≡◌, ◌≢◌, ℕ, ◌+◌, ◌≤◌, ◌<◌, ◌==◌, ◌⊎◌, inl, inr, List, [], ◌∷◌, ◌++◌, length, length-append, get_or, reverse, slice_get, slice_index, true, Some, Result, Ok, Err, IfOk, refl, sym, ◌∙◌, ap, subst, arith}
 use Rattle.std.specs.List.{All, AllPairs, Contains, position_or_len}
 use Rattle.std.proofs.lemmas.Bool.{cases_lt}
 use Rattle.std.proofs.lemmas.List.{get_or_append_left, get_or_default, get_or_push, get_or-reverse, length-reverse}
@@ -24,17 +24,10 @@ use Rattle.cert_export.proofs.NamePlaces.{gate_sides, named_at, one_place, same_
 
 -- the same list from its end on
 pub reversed_pairs : (xs : List ℕ) → AllPairs (λ p q. q < p) xs → AllPairs (λ p q. p < q) (reverse xs)
-reversed_pairs xs descending i j d less below =
-    let there : j < length xs = omega (arith, below, length-reverse xs) in
-    let second = get_or-reverse xs j d there in
-    let low = descending (length xs - 1 - j) (length xs - 1 - i) d
-    (omega (arith, less, there)) (omega (arith, less, there)) in
-    omega (arith, low, get_or-reverse xs i d (omega (arith, less, there)), second)
+reversed_pairs xs descending i j d less below = search (arith, length-reverse, get_or-reverse)
 
 pub reversed_all : (P : ℕ → Type 0) (xs : List ℕ) → All P xs → All P (reverse xs)
-reversed_all P xs all k d below =
-    let there : k < length xs = omega (arith, below, length-reverse xs) in
-    subst P (sym (get_or-reverse xs k d there)) (all (length xs - 1 - k) d (omega (arith, there)))
+reversed_all P xs all k d below = search (arith, length-reverse, get_or-reverse)
 
 -- the variables of the first so many places
 pub record AreVariablesSoFar (entries : List Entry) (places variables : List ℕ) (i : ℕ) : Type 0 where

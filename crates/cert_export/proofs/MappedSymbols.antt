@@ -1,5 +1,5 @@
 -- Symbols that are the variables' numbers map the exported circuit.
-use Rattle.std.proofs.Common.{◌≡◌, ℕ, ◌+◌, ◌≤◌, ◌<◌, ◌^◌, Bool, true, false, pos, List, length, slice_index, Ok, refl, sym, ◌∙◌, ap, arith, length-append}
+use Rattle.std.proofs.Common.{◌≡◌, ℕ, ◌+◌, ◌<◌, ◌^◌, Bool, true, false, pos, List, length, slice_index, Ok, refl, sym, ◌∙◌, arith, length-append}
 use Rattle.std.specs.Fmt.{decimal}
 use Rattle.std.specs.List.{Contains}
 use Rattle.std.proofs.lemmas.List.{length-map, get_or-append-add}
@@ -13,7 +13,7 @@ use Rattle.dq_text.specs.declared.numbers.Number.TheVariants.{Int}
 use Rattle.hint_log.specs.Entries.{Entry}
 use Rattle.aiger_text.specs.Symbol.{SymbolTable}
 use Rattle.circuit_plain.specs.Netlist.{Netlist}
-use Rattle.skolem_checker.specs.Checks.{Candidate, with_mapping, candidate_of}
+use Rattle.skolem_checker.specs.Checks.{Candidate, candidate_of}
 use Rattle.skolem_checker.specs.Mapping.{Mapping, mapping_of}
 use Rattle.skolem_checker.specs.Naming.{has_symbols, IsToldBySymbols, IsToldMapping}
 use Rattle.cert_export.specs.CircuitPart.{CircuitPart, leaf_code, circuit_renaming, exported_netlist, exported_mapping}
@@ -28,8 +28,7 @@ module _ (f : Dqbf) (lawful : HasLawfulPrefix f) (symbols : SymbolTable) (number
   es = existential_variables f
 
   number_read : (v : ℕ) → Contains (declared f) v → number_of (decimal v) ≡ Int (pos v)
-  number_read v inside = let r = (All-contains (λ x. (1 ≤ x) × (x ≤ f.variables))
-      (declared f) v lawful.in_range inside).1 in read v (omega (arith, r, small))
+  number_read v inside = search (arith, All-contains)
 
   told_by : (b : Bool) → IsToldBySymbols b f symbols (exported_mapping f)
   told_by true = (
@@ -84,6 +83,4 @@ module _ (f : Dqbf) (lawful : HasLawfulPrefix f) (symbols : SymbolTable) (number
 pub same_candidate : (f : Dqbf) (net : Netlist) (symbols : SymbolTable) (mapping : Mapping) (c : Candidate) →
     mapping_of f net symbols ≡ Ok mapping → candidate_of f net symbols ≡ Ok c →
     c ≡ record { formula = f; circuit = record { netlist = net; mapping = mapping } }
-same_candidate f net symbols mapping c maps is =
-    let both : Ok (record { formula = f; circuit = record { netlist = net; mapping = mapping } }) ≡ Ok c =
-    sym (ap (with_mapping f net) maps) ∙ is in cc
+same_candidate f net symbols mapping c maps is = search arith

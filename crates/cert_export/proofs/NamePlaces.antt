@@ -1,5 +1,5 @@
 -- Places of names in a log: a variable has one, and a gate's sides have earlier ones.
-use Rattle.std.proofs.Common.{◌≡◌, ℕ, zero, suc, ◌+◌, ◌≤◌, ◌<◌, ◌==◌, ◌⊎◌, inl, inr, Bool, true, false, cond, true≢false, List, [], ◌∷◌, length, slice_get, Option, None, Some, refl, sym, ◌∙◌, ap, subst, arith}
+use Rattle.std.proofs.Common.{◌≡◌, ℕ, zero, suc, ◌+◌, ◌≤◌, ◌<◌, ◌⊎◌, inl, inr, true, true≢false, List, [], ◌∷◌, length, slice_get, Option, None, Some, refl, sym, ◌∙◌, ap, subst, arith}
 use Rattle.std.specs.List.{All, AllPairs}
 use Rattle.std.proofs.lemmas.Bool.{cond-true, eq-eqb}
 use Rattle.std.proofs.lemmas.List.Elements.{All-head, All-tail}
@@ -33,12 +33,8 @@ same_pair v w n m same =
 pub named_at : (es : List Entry) (p v : ℕ) (n : Name) → Each MayFollow es → slice_get (names_of es) p ≡ Some (v, n) →
     name_of es v ≡ Some n
 named_at [] p v n lawful at = cc
-named_at (Named w m ∷ es) p v n lawful at = elim (old_or_last (names_of es) (w, m) (v, n) p at) [
-  | inl before ↦ name_stays (Named w m ∷ []) es v n lawful (named_at es p v n lawful.1 before)
-  | inr last ↦ (
-      let same : v ≡ w = sym (ap (λ x. x.0) last.1) in
-      cond-true (v == w) (Some m) (name_of es v) (eq-eqb v w same) ∙ ap (λ x. Some x.1) last.1)
-]
+named_at (Named w m ∷ es) p v n lawful at =
+    search (arith, old_or_last, name_stays, (named_at es p v n lawful.1), cond-true, eq-eqb)
 named_at (Given origin c ∷ es) p v n lawful at = named_at es p v n lawful.1 at
 named_at (Learned c hints ∷ es) p v n lawful at = named_at es p v n lawful.1 at
 named_at (Answer c hints ∷ es) p v n lawful at = named_at es p v n lawful.1 at
@@ -80,13 +76,7 @@ IsSide a b l = (l ≡ a) ⊎ (l ≡ b)
 no_side : (w : ℕ) (m : Name) (es : List Entry) (a b l : Literal) → Each MayFollow (Named w m ∷ es) →
     (is_circuit_name (name_of es (variable_of a)) ≡ true) × (is_circuit_name (name_of es (variable_of b)) ≡ true) →
     IsSide a b l → w ≡ variable_of l → ⊥
-no_side w m es a b l lawful named side same = true≢false (sym (is_named side) ∙ ap is_circuit_name none) where
-  none : name_of es (variable_of l) ≡ None
-  none = ap (name_of es) (sym same) ∙ lawful.0.unnamed
-
-  is_named : IsSide a b l → is_circuit_name (name_of es (variable_of l)) ≡ true
-  is_named (inl is) = ap (λ k. is_circuit_name (name_of es (variable_of k))) is ∙ named.0
-  is_named (inr is) = ap (λ k. is_circuit_name (name_of es (variable_of k))) is ∙ named.1
+no_side w m es a b l lawful named side same = search (arith, true≢false)
 
 pub side_before : (es : List Entry) (p q v : ℕ) (a b l : Literal) (m : Name) → Each MayFollow es →
     slice_get (names_of es) p ≡ Some (v, And a b) → IsSide a b l → slice_get (names_of es) q ≡ Some (variable_of l, m) →
@@ -124,20 +114,14 @@ gate_name w m h = let g = gate_sides m h in ap (λ n. is_gate_name (Named w n)) 
 
 older_gate : (w : ℕ) (m : Name) (es : List Entry) (q : ℕ) → q < length (names_of es) →
     IsGatePlace (Named w m ∷ es) q → IsGatePlace es q
-older_gate w m es q below (v, (n, at, is)) = elim (old_or_last (names_of es) (w, m) (v, n) q at) [
-  | inl before ↦ (v, (n, before, is))
-  | inr last ↦ (absurd (omega (arith, last.0, below)))
-]
+older_gate w m es q below (v, (n, at, is)) = search (arith, old_or_last)
 
 older_gates : (w : ℕ) (m : Name) (es : List Entry) (qs : List ℕ) → All (λ q. q < length (names_of es)) qs →
     All (IsGatePlace (Named w m ∷ es)) qs → All (IsGatePlace es) qs
 older_gates w m es qs below gates k d less = older_gate w m es _ (below k d less) (gates k d less)
 
 more_gates : (e : Entry) (es : List Entry) → count is_gate_name es ≤ count is_gate_name (e ∷ es)
-more_gates e es = by_bit (is_gate_name e) where
-  by_bit : (b : Bool) → count is_gate_name es ≤ cond b (count is_gate_name es + 1) (count is_gate_name es)
-  by_bit true = omega arith
-  by_bit false = omega arith
+more_gates e es = search arith
 
 pub few_places : (es : List Entry) (places : List ℕ) → AllPairs (λ p q. q < p) places → All (IsGatePlace es) places →
     length places ≤ count is_gate_name es

@@ -1,5 +1,5 @@
 -- Variables of instances get their pairs' numbers.
-use Rattle.std.proofs.Common.{◌≡◌, ℕ, ◌+◌, ◌*◌, ◌≤◌, ◌<◌, ◌⊎◌, inl, inr, true, Bool, List, [], take, get_or, length, Option, None, Some, IsSome, refl, sym, ◌∙◌, ap, subst}
+use Rattle.std.proofs.Common.{◌≡◌, ℕ, ◌+◌, ◌*◌, ◌≤◌, ◌<◌, ◌⊎◌, inl, inr, true, Bool, List, [], take, get_or, length, Option, None, Some, IsSome, refl, sym, ◌∙◌, ap, subst, arith}
 use Rattle.std.specs.List.{All}
 use Rattle.std.specs.Option.{option_map}
 use Rattle.std.proofs.lemmas.List.{take_all, take_more}
@@ -30,10 +30,7 @@ module _ (f : Dqbf) (entries : List Entry) (rounds : List ℕ) where
 
   -- more names, more pairs' numbers
   pub kept_pairs : (old new : Renaming) → IsPartOf old new → IsPartOf (pairs old) (pairs new)
-  kept_pairs old new kept v x h = by_option (old v) refl h where
-    by_option : (o : Option ℕ) → old v ≡ o → option_map (normal_number f rows) o ≡ Some x → pairs new v ≡ Some x
-    by_option None e k = cc
-    by_option (Some y) e k = ap (option_map (normal_number f rows)) (kept v y e) ∙ k
+  kept_pairs old new kept v x h = search arith
 
   -- one variable more has its number
   pub pair_right : (old new : Renaming) (v x : ℕ) → ArePairNames f entries rounds old →
@@ -41,10 +38,7 @@ module _ (f : Dqbf) (entries : List Entry) (rounds : List ℕ) where
       ((w n : ℕ) → new w ≡ Some n → (old w ≡ Some n) ⊎ ((w ≡ v) × (n ≡ x))) → ArePairNames f entries rounds new
   pair_right old new v x names is pair only = record {
     right = right_with target (pairs old) (pairs new) v (normal_number f rows x) is names.right only_pairs;
-    pairs = λ w n h. elim (only w n h) [
-      | inl before ↦ names.pairs w n before
-      | inr here ↦ ap (is_pair_number f (length rows)) here.1 ∙ pair
-    ];
+    pairs = search arith;
   } where
     only_pairs : (w n : ℕ) → pairs new w ≡ Some n → (pairs old w ≡ Some n) ⊎ ((w ≡ v) × (n ≡ normal_number f rows x))
     only_pairs w n h = by_option (new w) refl h where
@@ -60,11 +54,7 @@ module _ (f : Dqbf) (entries : List Entry) (rounds : List ℕ) where
 
   pub pair_named : (r : Renaming) (l : Literal) → ArePairNames f entries rounds r → IsSome (r (variable_of l)) →
       IsPairNamed f entries rounds r l
-  pair_named r l names there = named_as target (pairs r) (variable_of l) names.right
-      (by_option (r (variable_of l)) there) where
-        by_option : (o : Option ℕ) → IsSome o → IsSome (option_map (normal_number f rows) o)
-        by_option None h = cc
-        by_option (Some x) h = refl
+  pair_named r l names there = search (arith, named_as)
 
   -- names of all instances
   pub naming_of : (ids : List ℕ) (r : Renaming) → ArePairNames f entries rounds r →
@@ -88,11 +78,7 @@ module _ (f : Dqbf) (entries : List Entry) (rounds : List ℕ) where
 
   pub no_pair : (r : Renaming) (done : List Literal) → done ≡ [] → ArePairNames f entries rounds r →
       PairsSoFar r r done
-  no_pair r done is names = record {
-    kept = λ v x h. h;
-    names = names;
-    named = subst (All (IsPairNamed f entries rounds r)) (sym is) (All-nil (IsPairNamed f entries rounds r));
-  }
+  no_pair r done is names = search (arith, All-nil)
 
   pub one_pair : (old mid new : Renaming) (lits : List Literal) (i : ℕ) (l : Literal) →
       PairsSoFar old mid (take i lits) → IsPartOf mid new → ArePairNames f entries rounds new →
@@ -126,13 +112,8 @@ module _ (f : Dqbf) (entries : List Entry) (rounds : List ℕ) where
       ((origin : Origin) (c : List Literal) → numbered has_id entries id ≡ Some (Given origin c) →
       All (IsPairNamed f entries rounds new) c) →
       GivenPairs new (take (i + 1) ids)
-  one_instance old new ids i id so_far kept names below id_is here = record {
-    names = names;
-    given = one_given target entries (pairs old) (pairs new) ids i id so_far.given (kept_pairs old new kept)
-        names.right below id_is here;
-  }
+  one_instance old new ids i id so_far kept names below id_is here = search (arith, one_given, kept_pairs)
 
   pub all_instances : (r : Renaming) (ids : List ℕ) (i : ℕ) → length ids ≤ i → GivenPairs r (take i ids) →
       IsPairNaming f entries rounds ids r
-  all_instances r ids i past so_far = naming_of ids r so_far.names
-      (all_given target entries (pairs r) ids i past so_far.given)
+  all_instances r ids i past so_far = search (arith, naming_of, all_given)

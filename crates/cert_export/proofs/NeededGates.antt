@@ -1,6 +1,6 @@
 -- What an exported circuit and its proof rest on at once: the gates of the leaves, and those of the
 -- ids.
-use Rattle.std.proofs.Common.{◌≡◌, ℕ, ◌+◌, ◌≤◌, ◌<◌, inl, inr, true, false, true≢false, List, length, get_or, take, sym, ◌∙◌, subst}
+use Rattle.std.proofs.Common.{◌≡◌, ℕ, ◌+◌, ◌≤◌, ◌<◌, true, false, true≢false, List, length, get_or, take, subst, arith}
 use Rattle.std.specs.List.{All}
 use Rattle.std.proofs.lemmas.List.{take_all, take_more}
 use Rattle.std.proofs.lemmas.List.Elements.{All-push}
@@ -15,10 +15,7 @@ use Rattle.cert_export.proofs.GatePlaces.{still_wanted}
 
 pub both_added : (entries : List Entry) (old mid new : Pending) → WantsGates entries old mid →
     WantsGates entries mid new → WantsGates entries old new
-both_added entries old mid new first second = record {
-  kept = λ p h. second.kept p (first.kept p h);
-  only = λ p h. elim (second.only p h) [ inl before ↦ first.only p before | inr gate ↦ inr gate ];
-}
+both_added entries old mid new first second = search arith
 
 -- what is wanted by the first so many elements is there
 pub record AddedSoFar {X : Type 0} (entries : List Entry) (P : Pending → X → Type 0) (xs : List X) (old new : Pending)
@@ -32,12 +29,13 @@ Stays {X} P = (a b : Pending) → ((p : ℕ) → is_pending a p ≡ true → is_
 pub one_added : {X : Type 0} (entries : List Entry) (P : Pending → X → Type 0) → Stays P →
     (xs : List X) (old mid new : Pending) (i : ℕ) (x : X) → i < length xs → x ≡ get_or xs i x →
     AddedSoFar entries P xs old mid i → WantsGates entries mid new → P new x → AddedSoFar entries P xs old new (i + 1)
-one_added entries P stays xs old mid new i x below x_is so_far grew here = record {
-  grew = both_added entries old mid new so_far.grew grew;
-  there = subst (All (P new)) (sym (take_more xs i x below))
-      (All-push (P new) (take i xs) (get_or xs i x) (λ k d less. stays mid new grew.kept (get_or (take i xs) k d)
-      (so_far.there k d less)) (subst (P new) x_is here));
-}
+one_added entries P stays xs old mid new i x below x_is so_far grew here =
+    search (
+      arith,
+      (both_added entries old mid new so_far.grew grew),
+      (take_more xs i x below),
+      (All-push (P new) (take i xs) (get_or xs i x)),
+    )
 
 pub all_added : {X : Type 0} (entries : List Entry) (P : Pending → X → Type 0) (xs : List X) (old new : Pending)
     (i : ℕ) → length xs ≤ i → AddedSoFar entries P xs old new i → All (P new) xs
@@ -54,11 +52,4 @@ id_stays entries a b kept id h v i at = still_wanted entries v a b kept (h v i a
 pub roots_added : (entries : List Entry) (ids : List ℕ) (leaves : List Leaf) (none mid new : Pending) →
     ((p : ℕ) → is_pending none p ≡ false) → WantsGates entries none mid → All (IsLeafWanted entries mid) leaves →
     WantsGates entries mid new → All (IsIdWanted entries new) ids → HasRoots entries ids leaves new
-roots_added entries ids leaves none mid new empty first there second given = record {
-  leaves_wanted = λ k d below. leaf_stays entries mid new second.kept (get_or leaves k d) (there k d below);
-  ids_wanted = given;
-  gates = λ p h. elim ((both_added entries none mid new first second).only p h) [
-    | inl before ↦ absurd (true≢false (sym before ∙ empty p))
-    | inr gate ↦ gate
-  ];
-}
+roots_added entries ids leaves none mid new empty first there second given = search (arith, both_added, true≢false)

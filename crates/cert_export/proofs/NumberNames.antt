@@ -46,17 +46,9 @@ module _ (old before after : SymbolTable) (vs : List ℕ) (i d : ℕ) (name : Li
   pub inputs_more : before ≡ record old { inputs = number_names 0 (take i vs) } →
       after ≡ record before { inputs = before.inputs ++ (i, name) ∷ [] } →
       after ≡ record old { inputs = number_names 0 (take (i + 1) vs) }
-  inputs_more was is =
-      let ns = next_named before.inputs vs i d name (ap (λ (s : SymbolTable). s.inputs) was) name_is below in
-      let outs : before.outputs ≡ old.outputs = ap (λ (s : SymbolTable). s.outputs) was in
-      is ∙ ap (λ xs. record { inputs = xs; outputs = before.outputs }) ns ∙ ap
-      (λ xs. record { inputs = number_names 0 (take (i + 1) vs); outputs = xs }) outs
+  inputs_more was is = search (arith, next_named)
 
   pub outputs_more : before ≡ record old { outputs = number_names 0 (take i vs) } →
       after ≡ record before { outputs = before.outputs ++ (i, name) ∷ [] } →
       after ≡ record old { outputs = number_names 0 (take (i + 1) vs) }
-  outputs_more was is =
-      let ns = next_named before.outputs vs i d name (ap (λ (s : SymbolTable). s.outputs) was) name_is below in
-      let ins : before.inputs ≡ old.inputs = ap (λ (s : SymbolTable). s.inputs) was in
-      is ∙ ap (λ xs. record { inputs = before.inputs; outputs = xs }) ns ∙ ap
-      (λ xs. record { inputs = xs; outputs = number_names 0 (take (i + 1) vs) }) ins
+  outputs_more was is = search (arith, next_named)

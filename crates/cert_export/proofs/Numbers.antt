@@ -4,9 +4,9 @@ use Rattle.std.specs.List.{Contains, filter, position_or_len}
 use Rattle.std.proofs.lemmas.Bool.{eqb-true, eq-eqb, false≢true}
 use Rattle.std.proofs.lemmas.List.Kept.{AllPairs-from_increasing}
 use Rattle.list_laws.proofs.Members.{contains_later, filter_keeps}
-use Rattle.hint_log.specs.Entries.{Entry, has_id, numbered}
+use Rattle.hint_log.specs.Entries.{Entry}
 use Rattle.hint_log.specs.Reached.{AreReached}
-use Rattle.cert_export.specs.Lines.{is_derived, derived_ids, line_number}
+use Rattle.cert_export.specs.Lines.{derived_ids, line_number}
 use Rattle.cert_export.specs.LineOrder.{AreLineNumbers}
 use Rattle.cert_export.proofs.ReachedLines.{Rising, rising_of}
 
@@ -14,13 +14,7 @@ use Rattle.cert_export.proofs.ReachedLines.{Rising, rising_of}
 module _ (p : ℕ → Bool) where
   pub of_filter : (xs : List ℕ) (h : ℕ) → Contains (filter p xs) h → Contains xs h
   of_filter [] h inside = inside
-  of_filter (x ∷ xs) h inside = by_bit (p x) (of_filter xs h) inside where
-    by_bit : (b : Bool) → (Contains (filter p xs) h → Contains xs h) →
-        Contains (cond b (x ∷ filter p xs) (filter p xs)) h → Contains (x ∷ xs) h
-    by_bit true later (zero, below, is) = (0, omega arith, is)
-    by_bit true later (suc k, below, is) = contains_later x h xs
-        (later (k, (let b : k < length (filter p xs) = omega arith in b), is))
-    by_bit false later inside = contains_later x h xs (later inside)
+  of_filter (x ∷ xs) h inside = search (arith, (of_filter xs h), contains_later)
 
   pub rising_filter : (xs : List ℕ) → Rising xs → Rising (filter p xs)
   rising_filter [] h = tt
@@ -48,13 +42,11 @@ places_rise (x ∷ xs) rising h k in_h in_k less = by_bits (places_rise xs risin
 pub lines_have_numbers : (entries : List Entry) (id base : ℕ) (ids : List ℕ) → AreReached entries id ids →
     AreLineNumbers entries id base (line_number base (derived_ids entries ids))
 lines_have_numbers entries id base ids are =
-    let p : ℕ → Bool = λ h. is_derived (numbered has_id entries h) in
-    let rising = rising_filter p ids (rising_of ids (AllPairs-from_increasing ids are.ascending)) in
-    record {
-      rising = λ h k line_h line_k less.
-          let r = places_rise (derived_ids entries ids) rising h k
-          (filter_keeps p ids h line_h.1 (are.complete h line_h.0))
-          (filter_keeps p ids k line_k.1 (are.complete k line_k.0)) less in
-          omega (arith, r);
-      behind = λ h line. omega arith;
-    }
+    search (
+      arith,
+      rising_filter,
+      (rising_of ids (AllPairs-from_increasing ids are.ascending)),
+      (AllPairs-from_increasing ids are.ascending),
+      places_rise,
+      filter_keeps,
+    )

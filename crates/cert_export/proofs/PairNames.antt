@@ -1,11 +1,11 @@
 -- Pairs have names of their own.
-use Rattle.std.proofs.Common.{◌≡◌, ℕ, zero, suc, ◌+◌, ◌-◌, ◌*◌, ◌/◌, ◌%◌, ◌≤◌, ◌==◌, ◌&&◌, Bool, true, false, cond, List, [], map, get_or, slice_get, Option, None, Some, refl, sym, ◌∙◌, ap, arith}
+use Rattle.std.proofs.Common.{◌≡◌, ℕ, zero, suc, ◌+◌, ◌-◌, ◌*◌, ◌≤◌, Bool, true, List, [], map, get_or, slice_get, Option, None, Some, sym, ◌∙◌, ap, arith}
 use Rattle.std.specs.List.{Contains, list_any, position_or_len}
 use Rattle.std.proofs.lemmas.Bool.{and_parts, eqb-true}
 use Rattle.std.proofs.lemmas.List.Elements.{All-contains, Contains-append_right}
 use Rattle.list_laws.proofs.Folds.{first_holds}
 use Rattle.list_laws.proofs.Members.{contains_map}
-use Rattle.list_laws.proofs.Numbers.{pair_row, pair_variable}
+use Rattle.list_laws.proofs.Numbers.{pair_row}
 use Rattle.dq_lits.specs.Formula.{Existential, Dqbf, declared, existential_of, IsWellFormed}
 use Rattle.dq_lits.specs.Expansion.{agree_on, pair_number}
 use Rattle.hint_log.specs.Entries.{name_of}
@@ -15,7 +15,7 @@ use Rattle.hint_log.specs.declared.names.Name.TheVariants.{Selector, Pair, Input
 use Rattle.hint_log.specs.Growth.{Each}
 use Rattle.hint_log.specs.Naming.{numbered_from_one, rows_of}
 use Rattle.cert_export.specs.Renaming.{IsInjective}
-use Rattle.cert_export.specs.Expansion.{rows_among, kept_pair, pair_of, pair_renaming}
+use Rattle.cert_export.specs.Expansion.{rows_among, pair_of, pair_renaming}
 use Rattle.hint_log.specs.Conditions.{MayFollow}
 use Rattle.hint_log.proofs.Lawful.{names_are_unique_lem}
 use Rattle.log_laws.proofs.Found.{variable}
@@ -40,35 +40,7 @@ pub pair_parts : (f : Dqbf) (rows kept : List (List Bool)) (o : Option Name) (x 
     IsPair f rows kept o x
 pair_parts f rows kept None x h = cc
 pair_parts f rows kept (Some (Selector g)) x h = cc
-pair_parts f rows kept (Some (Pair k y)) x h = by_parts (numbered_from_one rows k) (existential_of f y) refl refl h where
-  by_bit : (row : List Bool) (e : Existential) → numbered_from_one rows k ≡ Some row → existential_of f y ≡ Some e →
-      (b : Bool) →
-      ((position_or_len (agree_on f e row) rows + 1 == k) && list_any (agree_on f e row) kept) ≡ b →
-      cond b (Some (pair_number f kept row e)) None ≡ Some x → IsPair f rows kept (Some (Pair k y)) x
-  by_bit row e a c true g h =
-      let is : pair_number f kept row e ≡ x = cc in
-      let parts = and_parts (position_or_len (agree_on f e row) rows + 1 == k) (list_any (agree_on f e row) kept) g in
-      record {
-        k = k;
-        y = y;
-        row = row;
-        existential = e;
-        named = refl;
-        row_is = a;
-        own = c;
-        place =
-            eqb-true (position_or_len (agree_on f e row) rows + 1) k parts.0;
-        there = parts.1;
-        is = sym is;
-      }
-  by_bit row e a c false g h = cc
-
-  by_parts : (p : Option (List Bool)) (q : Option Existential) → numbered_from_one rows k ≡ p → existential_of f y ≡ q →
-      kept_pair f rows kept k p q ≡ Some x → IsPair f rows kept (Some (Pair k y)) x
-  by_parts None q a c h = cc
-  by_parts (Some row) None a c h = cc
-  by_parts (Some row) (Some e) a c h = by_bit row e a c
-      ((position_or_len (agree_on f e row) rows + 1 == k) && list_any (agree_on f e row) kept) refl h
+pair_parts f rows kept (Some (Pair k y)) x h = search (arith, and_parts, eqb-true)
 pair_parts f rows kept (Some (Input g)) x h = cc
 pair_parts f rows kept (Some (And a b)) x h = cc
 pair_parts f rows kept (Some (Bad g j)) x h = cc
@@ -83,10 +55,7 @@ in_range f well y inside = All-contains (λ v. (1 ≤ v) × (v ≤ f.variables))
 
 -- a pair's number gives it back
 pair_back : (vars a b y z : ℕ) → 1 ≤ y → y ≤ vars → 1 ≤ z → z ≤ vars → a * vars + y ≡ b * vars + z → (a ≡ b) × (y ≡ z)
-pair_back vars a b y z y1 y2 z1 z2 h = (
-  sym (pair_row a vars y y1 y2) ∙ ap (λ n. (n - 1) / vars) h ∙ pair_row b vars z z1 z2,
-  sym (pair_variable a vars y y1 y2) ∙ ap (λ n. (n - 1) % vars + 1) h ∙ pair_variable b vars z z1 z2,
-)
+pair_back vars a b y z y1 y2 z1 z2 h = search (arith, (pair_row a vars y y1 y2), (pair_row b vars z z1 z2))
 
 -- rows that agree with one row agree with one another
 module _ (f : Dqbf) (y : Existential) where

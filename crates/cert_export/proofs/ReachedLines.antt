@@ -1,5 +1,5 @@
 -- The derived clauses that an answer reaches are lines, and the last is empty.
-use Rattle.std.proofs.Common.{◌≡◌, ◌≢◌, ℕ, zero, suc, ◌+◌, ◌≤◌, ◌<◌, ◌==◌, Bool, true, false, cond, ◌&&◌, ◌⊎◌, inl, inr, List, [], ◌∷◌, ◌++◌, length, get_or, Option, None, Some, refl, sym, ◌∙◌, ap, subst, arith, append_assoc}
+use Rattle.std.proofs.Common.{◌≡◌, ℕ, zero, suc, ◌+◌, ◌≤◌, ◌<◌, ◌==◌, Bool, true, false, cond, ◌&&◌, ◌⊎◌, inl, inr, List, [], ◌∷◌, ◌++◌, length, get_or, Option, None, Some, refl, sym, ◌∙◌, ap, subst, arith, append_assoc}
 use Rattle.std.specs.List.{AllPairs, Contains}
 use Rattle.std.specs.Option.{option_and_then}
 use Rattle.std.proofs.lemmas.Bool.{eqb-true, eq-eqb, and_parts, false≢true}
@@ -97,10 +97,7 @@ there_is (x ∷ es) h low high = by_bit (has_id x) (there_is es h low) (h == cou
       (h == count has_id es + 1) ≡ c → h ≤ cond b (count has_id es + 1) (count has_id es) →
       (e : Entry) × (cond (b && c) (Some x) (numbered has_id es h) ≡ Some e)
   by_bit true later true at high = (x, refl)
-  by_bit true later false at high = later (below high) where
-    below : h ≤ count has_id es + 1 → h ≤ last_id es
-    below high = let apart : h ≢ count has_id es + 1 = λ e. false≢true (sym at ∙ eq-eqb h (count has_id es + 1) e) in
-        omega (arith, apart, high)
+  by_bit true later false at high = search (arith, eq-eqb)
   by_bit false later c at high = later high
 
 -- hints have entries
@@ -186,17 +183,7 @@ module _ (usable : Origin → List Literal → Type 0) (entries : List Entry) (l
 
         -- with x as a line
         known_line : Known (x ∷ done) rest
-        known_line h r e at = elim (known h r e at) [
-          | inl hintable ↦ elim hintable [
-            | inl base' ↦ inl (inl base')
-            | inr inside ↦
-                inl (inr (contains_later x h done inside))
-          ]
-          | inr later ↦ by_place later
-        ] where
-          by_place : Contains (x ∷ rest) h → IsHintable usable entries (x ∷ done) h ⊎ Contains rest h
-          by_place (zero, below, is) = inl (inr (0, omega arith, is))
-          by_place (suc k, below, is) = inr (k, (let b : k < length rest = omega arith in b), is)
+        known_line h r e at = search (arith, contains_later)
 
         done_line : is_derived (numbered has_id entries x) ≡ true → Done (x ∷ done) rest
         done_line line h (zero, below, is) = subst (λ y. IsLine entries id y × ((k : ℕ) → Contains rest k → y < k)) is

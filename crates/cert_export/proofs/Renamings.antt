@@ -1,10 +1,10 @@
 -- A derived line stays derived under a partial renaming of its variables.
-use Rattle.std.proofs.Common.{◌≡◌, ℕ, ◌+◌, ◌==◌, Bool, true, false, not, cond, ◌||◌, ◌&&◌, inl, inr, List, [], ◌∷◌, map, Option, Some, None, refl, sym, ◌∙◌, ap, subst}
+use Rattle.std.proofs.Common.{◌≡◌, ℕ, ◌+◌, ◌==◌, Bool, true, false, not, cond, ◌&&◌, List, [], ◌∷◌, map, Option, Some, None, refl, sym, ◌∙◌, ap, subst, arith}
 use Rattle.std.specs.List.{list_any, list_all, filter, filter_map, cons_option}
 use Rattle.std.specs.Option.{option_map}
 use Rattle.std.specs.List.{All}
 use Rattle.std.proofs.lemmas.List.Elements.{All-head, All-tail}
-use Rattle.std.proofs.lemmas.Bool.{cases_Bool, and_parts, eqb-true, eq-eqb, ne_eqb, eqb-false, false≢true, or_cases, or_left, or_right, cond-false}
+use Rattle.std.proofs.lemmas.Bool.{cases_Bool, and_parts, eqb-true, eq-eqb, ne_eqb, false≢true, or_cases, or_left, or_right, cond-false}
 use Rattle.list_laws.proofs.Options.{cond-none}
 use Rattle.dq_lits.specs.Literal.{Literal, positive, negative, variable_of, on_variable, opposite, same_literal}
 use Rattle.dq_lits.specs.Derivation.{LiveClauses, ClauseStatus, falsified, unit, stuck, holds, status_by, status_of, fault_by, hint_fault, is_tautology, IsDerived}
@@ -26,17 +26,10 @@ module _ (r : Renaming) (injective : IsInjective r) where
   opposite_by (Some w) l = ap Some (on_variable-opposite w l)
 
   ren_opposite : (l : Literal) → ren (opposite l) ≡ option_map opposite (ren l)
-  ren_opposite l = ap (λ v. option_map (λ w. on_variable w (opposite l)) (r v)) (opposite_variable l) ∙ opposite_by
-      (r (variable_of l)) l
+  ren_opposite l = search (arith, opposite_variable, opposite_by)
 
   same_numbers : (a b v w : ℕ) → r a ≡ Some v → r b ≡ Some w → (v == w) ≡ (a == b)
-  same_numbers a b v w e h = elim (cases_Bool (a == b)) [
-    | inl same ↦ (
-        let both : ◌≡◌ {A = Option ℕ} (Some v) (Some w) = sym e ∙ ap r (eqb-true a b same) ∙ h in
-        let vw : v ≡ w = cc in
-        eq-eqb v w vw ∙ sym same)
-    | inr differ ↦ ne_eqb v w (λ vw. eqb-false a b differ (injective a b v e (h ∙ ap Some (sym vw)))) ∙ sym differ
-  ]
+  same_numbers a b v w e h = search (arith, cases_Bool, eqb-true, eq-eqb, ne_eqb)
 
   same_by : (k l : Literal) (v w : ℕ) → r (variable_of k) ≡ Some v → r (variable_of l) ≡ Some w →
       same_literal (on_variable v k) (on_variable w l) ≡ same_literal k l
@@ -47,33 +40,15 @@ module _ (r : Renaming) (injective : IsInjective r) where
 
   -- renamed literals are the same where the literals are
   pub same_renamed : (k l k' l' : Literal) → ren k ≡ Some k' → ren l ≡ Some l' → same_literal k' l' ≡ same_literal k l
-  same_renamed k l k' l' e h = by_names (r (variable_of k)) (r (variable_of l)) refl refl e h where
-    by_names : (o p : Option ℕ) → r (variable_of k) ≡ o → r (variable_of l) ≡ p →
-        option_map (λ w. on_variable w k) o ≡ Some k' → option_map (λ w. on_variable w l) p ≡ Some l' →
-        same_literal k' l' ≡ same_literal k l
-    by_names None p a b e h = cc
-    by_names (Some v) None a b e h = cc
-    by_names (Some v) (Some w) a b e h =
-        let kk : on_variable v k ≡ k' = cc in
-        let ll : on_variable w l ≡ l' = cc in
-        ap (λ x. same_literal x l') (sym kk) ∙ ap (λ y. same_literal (on_variable v k) y) (sym ll) ∙ same_by k l v w a b
+  same_renamed k l k' l' e h = search (arith, same_by)
 
   none_differs : (k l k' : Literal) → ren k ≡ Some k' → ren l ≡ None → same_literal k l ≡ false
-  none_differs k l k' e h = elim (cases_Bool (same_literal k l)) [
-    | inl same ↦ (let eq = ap ren (same_literal-sound k l same) in let clash : ◌≡◌ {A = Option Literal} (Some k') None =
-        sym e ∙ eq ∙ h in cc)
-    | inr differ ↦ differ
-  ]
+  none_differs k l k' e h = search (arith, cases_Bool, same_literal-sound)
 
   pub holds_renamed : (l l' : Literal) → ren l ≡ Some l' → (xs : List Literal) →
       holds (filter_map ren xs) l' ≡ holds xs l
   holds_renamed l l' e [] = refl
-  holds_renamed l l' e (x ∷ xs) = by_option (holds_renamed l l' e xs) (ren x) refl where
-    by_option : holds (filter_map ren xs) l' ≡ holds xs l → (o : Option Literal) → ren x ≡ o →
-        holds (cons_option o (filter_map ren xs)) l' ≡ (same_literal l x || holds xs l)
-    by_option later None h = later ∙ ap (λ b. b || holds xs l) (sym (none_differs l x l' e h))
-    by_option later (Some x') h = ap (λ b. b || holds (filter_map ren xs) l') (same_renamed l x l' x' e h) ∙ ap
-        (λ b. same_literal l x || b) later
+  holds_renamed l l' e (x ∷ xs) = search (arith, (holds_renamed l l' e xs), none_differs, same_renamed)
 
   abbrev pub open_in : List Literal → List Literal → List Literal
   open_in trues clause = filter (λ l. not (holds trues (opposite l))) clause
@@ -82,46 +57,18 @@ module _ (r : Renaming) (injective : IsInjective r) where
   pub open_renamed : (trues clause : List Literal) →
       open_in (filter_map ren trues) (filter_map ren clause) ≡ filter_map ren (open_in trues clause)
   open_renamed trues [] = refl
-  open_renamed trues (l ∷ ls) = by_option (open_renamed trues ls) (ren l) refl where
-    dropped : (b : Bool) → ren l ≡ None → filter_map ren (open_in trues ls) ≡ filter_map ren
-        (cond b (l ∷ open_in trues ls) (open_in trues ls))
-    dropped true h = ap (λ o. cons_option o (filter_map ren (open_in trues ls))) (sym h)
-    dropped false h = refl
-
-    kept : (b : Bool) (l' : Literal) → ren l ≡ Some l' → cond b (l' ∷ filter_map ren (open_in trues ls))
-        (filter_map ren (open_in trues ls)) ≡ filter_map ren (cond b (l ∷ open_in trues ls) (open_in trues ls))
-    kept true l' h = ap (λ o. cons_option o (filter_map ren (open_in trues ls))) (sym h)
-    kept false l' h = refl
-
-    by_option : open_in (filter_map ren trues) (filter_map ren ls) ≡ filter_map ren (open_in trues ls) →
-        (o : Option Literal) → ren l ≡ o →
-        open_in (filter_map ren trues) (cons_option o (filter_map ren ls)) ≡ filter_map ren
-        (cond (not (holds trues (opposite l))) (l ∷ open_in trues ls) (open_in trues ls))
-    by_option later None h = later ∙ dropped (not (holds trues (opposite l))) h
-    by_option later (Some l') h =
-        let there : ren (opposite l) ≡ Some (opposite l') = ren_opposite l ∙ ap (option_map opposite) h in
-        ap (λ b. cond (not b) (l' ∷ open_in (filter_map ren trues) (filter_map ren ls))
-        (open_in (filter_map ren trues) (filter_map ren ls))) (holds_renamed (opposite l) (opposite l') there trues)
-        ∙ ap (λ rest. cond (not (holds trues (opposite l))) (l' ∷ rest) rest) later
-        ∙ kept (not (holds trues (opposite l))) l' h
+  open_renamed trues (l ∷ ls) = search (arith, (open_renamed trues ls), ren_opposite, holds_renamed)
 
   all_dropped : (l : Literal) (rest : List Literal) → ren l ≡ None → list_all (same_literal l) rest ≡ true →
       filter_map ren rest ≡ []
   all_dropped l [] h all = refl
-  all_dropped l (k ∷ ks) h all =
-      let parts = and_parts (same_literal l k) (list_all (same_literal l) ks) all in
-      let none : ren k ≡ None = ap ren (sym (same_literal-sound l k parts.0)) ∙ h in
-      ap (λ o. cons_option o (filter_map ren ks)) none ∙ all_dropped l ks h parts.1
+  all_dropped l (k ∷ ks) h all = search (arith, and_parts, same_literal-sound, (all_dropped l ks h))
 
   all_same : (l l' : Literal) (rest : List Literal) → ren l ≡ Some l' → list_all (same_literal l) rest ≡ true →
       list_all (same_literal l') (filter_map ren rest) ≡ true
   all_same l l' [] h all = refl
   all_same l l' (k ∷ ks) h all =
-      let parts = and_parts (same_literal l k) (list_all (same_literal l) ks) all in
-      let is : ren k ≡ Some l' = ap ren (sym (same_literal-sound l k parts.0)) ∙ h in
-      ap (λ o. list_all (same_literal l') (cons_option o (filter_map ren ks))) is
-      ∙ ap (λ b. b && list_all (same_literal l') (filter_map ren ks)) (same_literal-refl l')
-      ∙ all_same l l' ks h parts.1
+      search (arith, and_parts, same_literal-sound, same_literal-refl, (all_same l l' ks h))
 
   module _ (renamed live : LiveClauses) (to : ℕ → ℕ) where
     -- the rest of a line's hints
@@ -138,8 +85,7 @@ module _ (r : Renaming) (injective : IsInjective r) where
     went_on : (s : ClauseStatus) (l' : Literal) (place : ℕ) (next : Literal → List ℕ) (follow : List ℕ → Literal → Option ℕ) →
         s ≡ unit l' → follow (next l') l' ≡ None →
         fault_by s place (cut_by s next) (follow (cut_by s next)) ≡ None
-    went_on s l' place next follow h t = subst (λ q. fault_by q place (cut_by q next) (follow (cut_by q next)) ≡ None)
-        (sym h) t
+    went_on s l' place next follow h t = search arith
 
     abbrev status_after : List Literal → List Literal → ClauseStatus
     status_after trues open' = status_by (filter_map ren trues) (filter_map ren open')
@@ -214,49 +160,28 @@ module _ (r : Renaming) (injective : IsInjective r) where
 
   pub opposites_renamed : (ls : List Literal) → map opposite (filter_map ren ls) ≡ filter_map ren (map opposite ls)
   opposites_renamed [] = refl
-  opposites_renamed (l ∷ ls) = by_option (opposites_renamed ls) (ren l) (ren_opposite l) where
-    by_option : map opposite (filter_map ren ls) ≡ filter_map ren (map opposite ls) → (o : Option Literal) →
-        ren (opposite l) ≡ option_map opposite o →
-        map opposite (cons_option o (filter_map ren ls)) ≡ cons_option (ren (opposite l))
-        (filter_map ren (map opposite ls))
-    by_option later None e = later ∙ ap (λ p. cons_option p (filter_map ren (map opposite ls))) (sym e)
-    by_option later (Some l') e = ap (λ rest. opposite l' ∷ rest) later ∙ ap
-        (λ p. cons_option p (filter_map ren (map opposite ls))) (sym e)
+  opposites_renamed (l ∷ ls) = search (arith, (opposites_renamed ls), ren_opposite)
 
   pub tautology_renamed : (xs ys : List Literal) → list_any (λ l. holds (filter_map ren xs) (opposite l))
       (filter_map ren ys) ≡ true → list_any (λ l. holds xs (opposite l)) ys ≡ true
   tautology_renamed xs [] h = h
-  tautology_renamed xs (l ∷ ls) h = by_option (tautology_renamed xs ls) (ren l) refl h where
-    by_option : (list_any (λ k. holds (filter_map ren xs) (opposite k)) (filter_map ren ls) ≡ true →
-        list_any (λ k. holds xs (opposite k)) ls ≡ true) → (o : Option Literal) → ren l ≡ o →
-        list_any (λ k. holds (filter_map ren xs) (opposite k)) (cons_option o (filter_map ren ls)) ≡ true →
-        (holds xs (opposite l) || list_any (λ k. holds xs (opposite k)) ls) ≡ true
-    by_option later None e h = or_right (holds xs (opposite l)) (list_any (λ k. holds xs (opposite k)) ls) (later h)
-    by_option later (Some l') e h = elim (or_cases (holds (filter_map ren xs) (opposite l'))
-        (list_any (λ k. holds (filter_map ren xs) (opposite k)) (filter_map ren ls)) h) [
-          | inl here ↦ (let there : ren (opposite l) ≡ Some (opposite l') =
-              ren_opposite l ∙ ap (option_map opposite) e in
-              or_left (holds xs (opposite l)) (list_any (λ k. holds xs (opposite k)) ls)
-              (sym (holds_renamed (opposite l) (opposite l') there xs) ∙ here))
-          | inr rest ↦ or_right (holds xs (opposite l)) (list_any (λ k. holds xs (opposite k)) ls) (later rest)
-        ]
+  tautology_renamed xs (l ∷ ls) h =
+      search (arith, (tautology_renamed xs ls), or_right, or_cases, ren_opposite, or_left, holds_renamed)
 
 -- a derived clause has, renamed, no literal beside its negation
 pub renamed_consistent : (r : Renaming) (live : LiveClauses) → IsInjective r →
     (literals : List Literal) (hints : List ℕ) → IsDerived live literals hints →
     is_tautology (renamed_clause r literals) ≡ false
 renamed_consistent r live injective literals hints derived =
-    let parts = cond-none (is_tautology literals) (hint_fault live (map opposite literals) 1 hints) derived in
-    elim (cases_Bool (is_tautology (renamed_clause r literals))) [
-      | inl is ↦ absurd (false≢true (sym parts.0 ∙ tautology_renamed r injective literals literals is))
-      | inr none ↦ none
-    ]
+    search (arith, cond-none, cases_Bool, false≢true, (tautology_renamed r injective literals literals))
 
 pub renamed_lines_are_derived : RenamedLinesAreDerived
 renamed_lines_are_derived r to live renamed injective literals hints are derived =
-    let parts = cond-none (is_tautology literals) (hint_fault live (map opposite literals) 1 hints) derived in
-    let no_tautology = renamed_consistent r live injective literals hints derived in
-    let went = goes r injective renamed live to hints are (map opposite literals) 1 1 parts.1 in
-    let same = opposites_renamed r injective literals in
-    let fault = subst (λ ts. hint_fault renamed ts 1 (cut_hints renamed ts (map to hints)) ≡ None) (sym same) went in
-    cond-false (is_tautology (renamed_clause r literals)) (Some 0) _ no_tautology ∙ fault
+    search (
+      arith,
+      cond-none,
+      (renamed_consistent r live injective literals hints derived),
+      (goes r injective renamed live to hints are),
+      (opposites_renamed r injective literals),
+      cond-false,
+    )

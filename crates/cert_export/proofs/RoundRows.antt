@@ -1,5 +1,5 @@
 -- The rows of some rounds, in their order.
-use Rattle.std.proofs.Common.{◌≡◌, ℕ, suc, ◌+◌, ◌-◌, ◌≤◌, ◌<◌, Bool, List, [], ◌∷◌, ◌++◌, take, length, get_or, Some, sym, ◌∙◌, ap, arith}
+use Rattle.std.proofs.Common.{◌≡◌, ℕ, ◌+◌, ◌-◌, ◌≤◌, ◌<◌, Bool, List, [], ◌∷◌, ◌++◌, take, length, get_or, Some, arith}
 use Rattle.std.specs.List.{All, Contains, range_with_len}
 use Rattle.std.proofs.lemmas.List.FromFn.{length-range_with_len, get_or-range_with_len}
 use Rattle.std.proofs.lemmas.List.{map-append, take_more}
@@ -19,17 +19,11 @@ pub row_more : (es : List Entry) (rounds : List ℕ) (i k : ℕ) (row : List Boo
     k ≡ get_or rounds i k → row_at es k ≡ Some row →
     rows_among es (take (i + 1) rounds) ≡ rows_among es (take i rounds) ++ row ∷ []
 row_more es rounds i k row below is h =
-    let own : row_of_round es k ≡ row = get_or_from_slice_get (rows_of es) (k - 1) row [] (row_place es k row h).1 in
-    ap (rows_among es) (take_more rounds i k below)
-    ∙ map-append (row_of_round es) (take i rounds) (get_or rounds i k ∷ [])
-    ∙ ap (λ n. rows_among es (take i rounds) ++ row_of_round es n ∷ []) (sym is)
-    ∙ ap (λ r. rows_among es (take i rounds) ++ r ∷ []) own
+    search (arith, get_or_from_slice_get, (row_place es k row h), (take_more rounds i k below), map-append)
 
 -- used rounds are rounds
 pub range_rounds : (n start : ℕ) → (k : ℕ) → Contains (range_with_len start n) k → (start ≤ k) × (k < start + n)
-range_rounds n start k (i, below, is) =
-    let inside : i < n = omega (arith, below, length-range_with_len start n) in
-    let at = get_or-range_with_len start n i k inside in (omega (arith, at, is), omega (arith, at, is, inside))
+range_rounds n start k (i, below, is) = search (arith, length-range_with_len, get_or-range_with_len)
 
 pub used_are_rounds : (es : List Entry) (ids : List ℕ) → AreRounds es (used_rounds es ids)
 used_are_rounds es ids = all_from_contains (λ k. (1 ≤ k) × (k ≤ rounds_of es)) (used_rounds es ids)
@@ -37,12 +31,7 @@ used_are_rounds es ids = all_from_contains (λ k. (1 ≤ k) × (k ≤ rounds_of 
     (range_with_len 1 (rounds_of es)) k inside) in let low = r.0 in (low, omega (arith, r.1)))
 
 pub few_used : (es : List Entry) (ids : List ℕ) → length (used_rounds es ids) ≤ rounds_of es
-few_used es ids =
-    omega (
-      arith,
-      filter-shorter (has_instance es ids) (range_with_len 1 (rounds_of es)),
-      length-range_with_len 1 (rounds_of es),
-    )
+few_used es ids = search (arith, filter-shorter, length-range_with_len)
 
 -- whole rows stay whole
 pub rows_stay : (P : List Bool → Type 0) (es : List Entry) (rounds : List ℕ) → AreRounds es rounds →

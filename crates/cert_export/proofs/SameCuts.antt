@@ -1,8 +1,8 @@
 -- Two renamings that name the same variables, and no two alike, cut a line's hints at one place.
-use Rattle.std.proofs.Common.{◌≡◌, ℕ, Bool, true, false, not, cond, ◌&&◌, List, [], ◌∷◌, map, Option, Some, None, refl, sym, ◌∙◌, ap, subst}
-use Rattle.std.specs.List.{list_all, filter_map, cons_option}
+use Rattle.std.proofs.Common.{◌≡◌, ℕ, Bool, true, false, not, cond, ◌&&◌, List, [], ◌∷◌, Option, Some, None, refl, sym, ◌∙◌, ap, subst, arith}
+use Rattle.std.specs.List.{list_all, cons_option}
 use Rattle.std.specs.Option.{option_map}
-use Rattle.dq_lits.specs.Literal.{Literal, variable_of, on_variable, opposite, same_literal}
+use Rattle.dq_lits.specs.Literal.{Literal, same_literal}
 use Rattle.dq_lits.specs.Derivation.{LiveClauses, ClauseStatus, falsified, unit, stuck, holds, status_by, status_of}
 use Rattle.cert_export.specs.Renaming.{Renaming, IsInjective, renamed_literal, renamed_clause, cut_by, cut_hints}
 use Rattle.cert_export.proofs.Renamings.{same_renamed, holds_renamed, open_in, open_renamed}
@@ -18,31 +18,13 @@ module _ (r s : Renaming) (to : ℕ → ℕ) (made : (v : ℕ) → s v ≡ optio
   AreNamedAlike (Some k) None = ⊥
 
   named_alike : (l : Literal) → AreNamedAlike (renamed_literal r l) (renamed_literal s l)
-  named_alike l = by_name (r (variable_of l)) (s (variable_of l)) (made (variable_of l)) where
-    by_name : (o p : Option ℕ) → p ≡ option_map to o → AreNamedAlike (option_map (λ w. on_variable w l) o)
-        (option_map (λ w. on_variable w l) p)
-    by_name None None h = tt
-    by_name None (Some y) h = cc
-    by_name (Some x) None h = cc
-    by_name (Some x) (Some y) h = tt
+  named_alike l = search arith
 
   all_alike : (l k k' : Literal) → renamed_literal r l ≡ Some k → renamed_literal s l ≡ Some k' →
       (rest : List Literal) →
       list_all (same_literal k) (renamed_clause r rest) ≡ list_all (same_literal k') (renamed_clause s rest)
   all_alike l k k' e e' [] = refl
-  all_alike l k k' e e' (x ∷ xs) = by_names (all_alike l k k' e e' xs) (renamed_literal r x) (renamed_literal s x)
-      refl refl (named_alike x) where
-        by_names : list_all (same_literal k) (renamed_clause r xs) ≡ list_all (same_literal k') (renamed_clause s xs) →
-            (o p : Option Literal) → renamed_literal r x ≡ o → renamed_literal s x ≡ p → AreNamedAlike o p →
-            list_all (same_literal k) (cons_option o (renamed_clause r xs))
-            ≡ list_all (same_literal k') (cons_option p (renamed_clause s xs))
-        by_names later None None a b alike = later
-        by_names later None (Some y) a b alike = absurd alike
-        by_names later (Some y) None a b alike = absurd alike
-        by_names later (Some y) (Some z) a b alike =
-            ap (λ b. b && list_all (same_literal k) (renamed_clause r xs)) (same_renamed r first l x k y e a
-            ∙ sym (same_renamed s second l x k' z e' b))
-            ∙ ap (λ b. same_literal k' z && b) later
+  all_alike l k k' e e' (x ∷ xs) = search (arith, (all_alike l k k' e e' xs), named_alike, same_renamed)
 
   -- the same becomes of a clause: its one open literal has its names
   abbrev AreAlike : ClauseStatus → ClauseStatus → Type 0

@@ -1,5 +1,5 @@
 -- The numbers of an exported circuit are few.
-use Rattle.std.proofs.Common.{◌≡◌, nat_lt, ℕ, ◌+◌, ◌≤◌, ◌==◌, Bool, true, false, cond, inl, inr, List, length, get_or, Option, None, Some, IfSome, position, refl, sym, ◌∙◌, arith}
+use Rattle.std.proofs.Common.{◌≡◌, nat_lt, ℕ, ◌+◌, ◌≤◌, ◌==◌, Bool, true, false, cond, List, length, get_or, Option, None, Some, IfSome, position, refl, sym, ◌∙◌, arith}
 use Rattle.std.specs.List.{list_any, position_or_len}
 use Rattle.std.specs.Option.{option_map}
 use Rattle.std.proofs.lemmas.Bool.{eqb-true, lt-ltb, ltb-true, true≢false}
@@ -12,7 +12,7 @@ use Rattle.hint_log.specs.declared.names.Name.{Name}
 use Rattle.hint_log.proofs.NamedEntries.{number_below}
 use Rattle.cert_export.specs.CircuitPart.{CircuitPart, place_from_one, circuit_number}
 use Rattle.cert_export.specs.Parts.{IsSmall}
-use Rattle.cert_export.proofs.CircuitNumbers.{position_below, IsNumbered, number_cases, number_from_one}
+use Rattle.cert_export.proofs.CircuitNumbers.{position_below, number_cases, number_from_one}
 
 -- a place from one is the place, counted from 0, and one more
 pub place_one : (xs : List ℕ) (v : ℕ) → place_from_one xs v ≡ option_map (λ p. p + 1) (position (λ x. x == v) xs)
@@ -34,11 +34,7 @@ place_one xs v = by_bits (list_any (λ x. x == v) xs) (nat_lt (position_or_len (
 -- the numbers are few
 pub number_small : (f : Dqbf) (e : CircuitPart) (v n : ℕ) (o : Option Name) → IsSmall f e.gates →
     circuit_number f e v o ≡ Some n → (1 ≤ n) × (n ≤ 100000000000000000)
-number_small f e v n o small is = (number_from_one f e v o n is, by_case (number_cases f e v o n is)) where
-  by_case : IsNumbered f e v o n → n ≤ 100000000000000000
-  by_case (inl i) = omega (arith, i.2.number, i.2.below, small.few_inputs)
-  by_case (inr (inl g)) = omega (arith, g.1.number, g.1.below, g.2, small.few_inputs, small.few_gates)
-  by_case (inr (inr j)) = omega (arith, j.3, j.4, small.few_inputs, small.few_gates, small.few_clauses)
+number_small f e v n o small is = search (arith, number_from_one, number_cases)
 
 pub numbers_small : (f : Dqbf) (e : CircuitPart) (v : ℕ) (o : Option Name) (result : Option ℕ) → IsSmall f e.gates →
     result ≡ circuit_number f e v o → IfSome result (λ n. (1 ≤ n) × (n ≤ 100000000000000000))
@@ -48,7 +44,4 @@ numbers_small f e v o (Some n) small is = number_small f e v n o small (sym is)
 pub clause_small : {X : Type 0} (xs : List X) (j : ℕ) (result : Option ℕ) → length xs ≤ 10000000 →
     result ≡ option_map (λ c. j) (numbered_from_one xs j) → IfSome result (λ n. n ≤ 100000000000000000)
 clause_small xs j None few is = tt
-clause_small {X} xs j (Some n) few is = by_option (numbered_from_one xs j) refl is where
-  by_option : (o : Option X) → numbered_from_one xs j ≡ o → Some n ≡ option_map (λ c. j) o → n ≤ 100000000000000000
-  by_option None e h = cc
-  by_option (Some x) e h = let same : n ≡ j = cc in omega (arith, same, (number_below xs j x e).1, few)
+clause_small {X} xs j (Some n) few is = search (arith, number_below)

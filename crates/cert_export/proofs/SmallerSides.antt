@@ -1,15 +1,13 @@
 -- The gates of an exported circuit read what has a smaller number.
-use Rattle.std.proofs.Common.{◌≡◌, ℕ, ◌+◌, ◌*◌, ◌<◌, ◌==◌, Bool, true, false, List, length, get_or, Option, None, Some, refl, sym, ◌∙◌, ap, subst, arith}
+use Rattle.std.proofs.Common.{◌≡◌, ℕ, ◌+◌, ◌*◌, ◌<◌, ◌==◌, Bool, true, false, List, length, get_or, Some, sym, ◌∙◌, ap, subst, arith}
 use Rattle.std.specs.List.{All, Contains, position_or_len}
 use Rattle.std.specs.Option.{option_map}
 use Rattle.std.proofs.lemmas.List.Elements.{All-map, Contains-get_or}
 use Rattle.list_laws.proofs.Members.{tested_inside}
 use Rattle.dq_lits.specs.Formula.{Dqbf}
-use Rattle.dq_lits.specs.Literal.{Literal, variable_of, is_negative}
+use Rattle.dq_lits.specs.Literal.{Literal, variable_of}
 use Rattle.hint_log.specs.Conditions.{AreLogged, is_circuit_name}
 use Rattle.hint_log.specs.Entries.{Entry, name_of}
-use Rattle.hint_log.specs.declared.names.Name.{Name}
-use Rattle.hint_log.specs.declared.names.Name.TheVariants.{Selector, Pair, Input, And, Bad, Copy as CopyOf, Term}
 use Rattle.log_laws.proofs.Solved.{sides}
 use Rattle.cert_export.specs.CircuitPart.{CircuitPart, IsCircuitPart, IsInFile, IsSideBefore, AreGatesInOrder, aiger_literal, circuit_number, circuit_renaming, exported_netlist, gate_of, literal_code, or_zero}
 use Rattle.cert_export.specs.ExportedCircuit.{HasSmallerSides}
@@ -28,30 +26,12 @@ module _ (f : Dqbf) (entries : List Entry) (e : CircuitPart) (logged : AreLogged
 
   code_below : (l : Literal) (n m : ℕ) → circuit_renaming f entries e (variable_of l) ≡ Some n → n < m →
       literal_code (circuit_renaming f entries e) l < 2 * m
-  code_below l n m is low = subst (λ o. aiger_literal (is_negative l) (or_zero o) < 2 * m) (sym is)
-      (by_sign (is_negative l) n m low)
+  code_below l n m is low = search (arith, by_sign)
 
   side_below : (v : ℕ) (l : Literal) → is_circuit_name (name_of entries (variable_of l)) ≡ true →
       IsInFile entries e.gates l → IsSideBefore entries e.gates v l →
       literal_code (circuit_renaming f entries e) l < 2 * number v
-  side_below v l circuit in_file before = by_option (name_of entries (variable_of l)) refl circuit where
-    by_option : (o : Option Name) → name_of entries (variable_of l) ≡ o → is_circuit_name o ≡ true →
-        literal_code (circuit_renaming f entries e) l < 2 * number v
-    by_option None is h = cc
-    by_option (Some (Selector g)) is h = cc
-    by_option (Some (Pair k y)) is h = cc
-    by_option (Some (Input x)) is h =
-        let there = given (variable_of l) x is in
-        code_below l (position_or_len (λ z. z == x) f.universals + 1) (number v)
-        (ap (circuit_number f e (variable_of l)) is ∙ place_there f.universals x there)
-        (omega (arith, position_below x f.universals (tested_inside f.universals x there)))
-    by_option (Some (And a b)) is h =
-        code_below l (number (variable_of l)) (number v)
-        (ap (circuit_number f e (variable_of l)) is ∙ ap (option_map (λ p. length f.universals + p))
-        (place_there e.gates (variable_of l) (in_file a b is))) (omega (arith, before a b is))
-    by_option (Some (Bad g j)) is h = cc
-    by_option (Some (CopyOf side u)) is h = cc
-    by_option (Some (Term p q)) is h = cc
+  side_below v l circuit in_file before = search (arith, code_below, place_there, position_below, tested_inside)
 
   sides_below : (v : ℕ) → Contains e.gates v →
       HasSmallerSides (gate_of (circuit_renaming f entries e) v (name_of entries v))

@@ -27,24 +27,14 @@ use Rattle.cert_export.proofs.ExportedCircuits.{exported_circuit_is_complete, ex
 named_at : (from : ℕ) (vs : List ℕ) (p : ℕ) → p < length vs →
     name_at (number_names from vs) (from + p) ≡ Some (decimal (slice_index vs p))
 named_at from [] p below = absurd (omega arith)
-named_at from (v ∷ vs) zero below =
-    cond-true (nat_eq (from + 0) from) (Some (decimal v)) (name_at (number_names (from + 1) vs) (from + 0))
-    (eq-eqb (from + 0) from (omega arith))
-named_at from (v ∷ vs) (suc p) below =
-    let e : from + suc p ≡ from + 1 + p = omega arith in
-    cond-false (nat_eq (from + suc p) from) (Some (decimal v)) (name_at (number_names (from + 1) vs) (from + suc p))
-    (ne_eqb (from + suc p) from (λ same. omega (arith, same)))
-    ∙ ap (name_at (number_names (from + 1) vs)) e ∙ named_at (from + 1) vs p (omega arith)
+named_at from (v ∷ vs) zero below = search (arith, cond-true, nat_eq, eq-eqb)
+named_at from (v ∷ vs) (suc p) below = search (arith, cond-false, nat_eq, ne_eqb, (named_at (from + 1) vs p))
 
 from_zero : (vs : List ℕ) (p : ℕ) → p < length vs → name_at (number_names 0 vs) p ≡ Some (decimal (slice_index vs p))
 from_zero vs p below = let e : p ≡ 0 + p = omega arith in ap (name_at (number_names 0 vs)) e ∙ named_at 0 vs p below
 
 pub written_symbols_are_numbers : WrittenSymbolsAreNumbers
-written_symbols_are_numbers f = record {
-  inputs = from_zero f.universals;
-  outputs =
-      from_zero (existential_variables f);
-}
+written_symbols_are_numbers f = search (arith, from_zero)
 
 -- places from one on, each once
 placed : (from bound : ℕ) (vs : List ℕ) → from + length vs ≤ bound →
@@ -91,8 +81,7 @@ module _ (f : Dqbf) (entries : List Entry) (e : CircuitPart) (prefix : HasLawful
   net = exported_netlist f entries e
 
   declared_name : (v : ℕ) → Contains (declared f) v → IsName (decimal v)
-  declared_name v inside = let r = (All-contains (λ x. (1 ≤ x) × (x ≤ f.variables))
-      (declared f) v prefix.in_range inside).1 in names v (omega (arith, r, small))
+  declared_name v inside = search (arith, All-contains)
 
   many_inputs : length net.inputs ≡ length f.universals
   many_inputs = length-range_with_len 1 (length f.universals)

@@ -1,5 +1,5 @@
 -- The rounds that have an instance among some ids ascend, and each such instance is of one of them.
-use Rattle.std.proofs.Common.{◌≡◌, ℕ, suc, ◌+◌, true, List, Some, refl, ◌∙◌, ap, arith}
+use Rattle.std.proofs.Common.{◌≡◌, ℕ, true, List, Some, refl, ◌∙◌, ap, arith}
 use Rattle.std.specs.List.{Contains, range_with_len}
 use Rattle.std.specs.Option.{option_and_then}
 use Rattle.std.proofs.lemmas.Bool.{eq-eqb}
@@ -38,12 +38,4 @@ kept_clause f live entries ids id (Differ y leaf part) c inside at mine = absurd
 
 -- they ascend
 pub used_ascend : (entries : List Entry) (ids : List ℕ) → IsStrictlyIncreasing (used_rounds entries ids)
-used_ascend entries ids = IsStrictlyIncreasing-filter (has_instance entries ids) (range_with_len 1 n) rising where
-  n : ℕ
-  n = rounds_of entries
-
-  rising : IsStrictlyIncreasing (range_with_len 1 n)
-  rising k below =
-      let many = length-range_with_len 1 n in
-      let next = get_or-range_with_len 1 n (k + 1) 0 (omega (arith, below, many)) in
-      omega (arith, get_or-range_with_len 1 n k 0 (omega (arith, below, many)), next)
+used_ascend entries ids = search (arith, IsStrictlyIncreasing-filter, length-range_with_len, get_or-range_with_len)

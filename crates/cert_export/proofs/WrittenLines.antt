@@ -1,5 +1,5 @@
 -- Lines are written one after the other.
-use Rattle.std.proofs.Common.{◌≡◌, Result, Ok, Err, IfOk, ℕ, zero, suc, ◌+◌, ◌≤◌, ◌<◌, ◌==◌, ◌⊎◌, inl, inr, Bool, true, false, cond, List, [], ◌∷◌, ◌++◌, map, take, drop, append_assoc, length, get_or, slice_get, slice_index, Option, None, Some, refl, sym, ◌∙◌, ap, subst, arith, length-append}
+use Rattle.std.proofs.Common.{◌≡◌, ℕ, zero, suc, ◌+◌, ◌≤◌, ◌<◌, ◌==◌, ◌⊎◌, inl, inr, Bool, true, false, cond, List, [], ◌∷◌, ◌++◌, map, take, drop, append_assoc, length, get_or, slice_get, slice_index, Option, None, Some, refl, sym, ◌∙◌, ap, subst, arith, length-append}
 use Rattle.std.specs.List.{All, Contains, filter, position_or_len}
 use Rattle.std.specs.Option.{option_map, option_and_then}
 use Rattle.std.proofs.lemmas.Bool.{cases_lt}
@@ -64,26 +64,18 @@ map_more g ids i id below is = ap (map g) (take_more ids i id below) ∙ map-app
 derived_more : (entries : List Entry) (ids : List ℕ) (i id : ℕ) (b : Bool) → i < length ids → id ≡ get_or ids i id →
     is_derived (numbered has_id entries id) ≡ b →
     derived_ids entries (take (i + 1) ids) ≡ derived_ids entries (take i ids) ++ cond b (id ∷ []) []
-derived_more entries ids i id b below is derived =
-    let p : ℕ → Bool = λ h. is_derived (numbered has_id entries h) in
-    ap (filter p) (take_more ids i id below) ∙ filter-append p (take i ids) (get_or ids i id ∷ [])
-    ∙ ap (λ x. filter p (take i ids) ++ cond (p x) (x ∷ []) []) (sym is) ∙ ap
-    (λ c. filter p (take i ids) ++ cond c (id ∷ []) []) derived
+derived_more entries ids i id b below is derived = search (arith, (take_more ids i id below), filter-append)
 
 mapped_at : {X : Type 0} (g : ℕ → X) (ids : List ℕ) (i p h : ℕ) → p < i → i ≤ length ids → get_or ids p h ≡ h →
     slice_get (map g (take i ids)) p ≡ Some (g h)
 mapped_at g [] i p h less most is = absurd (omega (arith, less, most))
 mapped_at g (x ∷ ids) zero p h less most is = absurd (omega (arith, less))
 mapped_at g (x ∷ ids) (suc i) zero h less most is = ap (λ y. Some (g y)) is
-mapped_at g (x ∷ ids) (suc i) (suc p) h less most is = mapped_at g ids i p h (omega (arith, less))
-    (omega (arith, most)) is
+mapped_at g (x ∷ ids) (suc i) (suc p) h less most is = search (arith, (mapped_at g ids i p h))
 
 mapped_twice : (g to k : ℕ → ℕ) (xs : List ℕ) → All (λ x. g (to x) ≡ k x) xs → map g (map to xs) ≡ map k xs
 mapped_twice g to k [] h = refl
-mapped_twice g to k (x ∷ xs) h =
-    let P : ℕ → Type 0 = λ y. g (to y) ≡ k y in
-    ap (λ y. y ∷ map g (map to xs)) (All-head P x xs h) ∙ ap (λ ys. k x ∷ ys)
-    (mapped_twice g to k xs (All-tail P x xs h))
+mapped_twice g to k (x ∷ xs) h = search (arith, All-head, (mapped_twice g to k xs), All-tail)
 
 module _ (r : Renaming) (base_id : Origin → ℕ) (knows : Origin → Type 0) (entries : List Entry) (ids : List ℕ)
     (can : CanBeWritten r knows entries ids)
@@ -139,10 +131,7 @@ module _ (r : Renaming) (base_id : Origin → ℕ) (knows : Origin → Type 0) (
 
     number_at_place : (h : ℕ) → IsEarlier h → slice_get w.numbers (place_in ids h) ≡ Some
         (new_number base_id entries number h)
-    number_at_place h e =
-        ap (λ xs. slice_get xs (place_in ids h)) so_far.numbers ∙ ap
-        (slice_get (map (new_number base_id entries number) (take i ids))) e.place_is
-        ∙ mapped_at (new_number base_id entries number) ids i e.place h e.before (omega (arith, below)) e.there
+    number_at_place h e = search (arith, mapped_at)
 
     -- the places of hints are before
     pub places_before : All (λ p. p < length w.numbers) (map (place_in ids) hints)
@@ -196,9 +185,7 @@ module _ (r : Renaming) (base_id : Origin → ℕ) (knows : Origin → Type 0) (
   pub line_consistent : (clause c : List Literal) (hints : List ℕ) → origin_at entries id ≡ None →
       clause_at entries id ≡ Some c → hints_at entries id ≡ Some hints → clause ≡ renamed_clause r c →
       is_tautology clause ≡ false
-  line_consistent clause c hints none there at renamed =
-      let e = derived_entry (numbered has_id entries id) c hints none there at in
-      ap is_tautology (renamed ∙ ap (renamed_clause r) (sym e.clause_is)) ∙ can.consistent id inside e.derived
+  line_consistent clause c hints none there at renamed = search (arith, derived_entry)
 
   pub written_line : (w : WrittenLines) (last : ℕ) → IsWritten r base_id entries
       (line_number last (derived_ids entries ids)) (take i ids) w → (clause c : List Literal) (hints : List ℕ) (n : ℕ) →

@@ -1,5 +1,5 @@
 -- A store stands where other groups are made the active ones.
-use Rattle.std.proofs.Common.{◌≡◌, ℕ, zero, suc, ◌≤◌, inl, inr, List, [], ◌∷◌, ◌++◌, map, length, slice_get, refl, sym, ◌∙◌, ap, subst, arith, ◌+◌, ◌-◌, ◌<◌, ◌⊎◌, slice_index_or, Some}
+use Rattle.std.proofs.Common.{◌≡◌, ℕ, zero, suc, ◌≤◌, inl, inr, List, [], ◌∷◌, ◌++◌, map, length, slice_get, refl, sym, ◌∙◌, ap, subst, arith, ◌+◌, ◌<◌, ◌⊎◌, slice_index_or, Some}
 use Rattle.std.specs.List.{Contains}
 use Rattle.std.proofs.lemmas.List.Elements.{All-contains, Contains-append_cases, Contains-append_left, Contains-append_right}
 use Rattle.dq_lits.specs.Formula.{Dqbf, declared}
@@ -13,7 +13,7 @@ use Rattle.definability.specs.declared.definability.Definability.{Definability}
 use Rattle.definability.proofs.ReadyCopies.{ready}
 use Rattle.definability.proofs.PreservedStores.{side_number}
 use Rattle.std.proofs.lemmas.Bool.{cases_lt}
-use Rattle.std.proofs.lemmas.Option.{slice_get-get_or, get_or_from_slice_get}
+use Rattle.std.proofs.lemmas.Option.{slice_get-get_or}
 use Rattle.list_laws.proofs.Members.{element_at}
 use Rattle.definability.specs.declared.frames.Sides.{Sides}
 
@@ -101,31 +101,7 @@ module _ (all : Dqbf) (numbered : List ℕ) (frames : List ℕ) (p q : Definabil
 
 module _ (s : StoreState) (side : ℕ) (frames : List ℕ) where
   pub active_none : (groups : List Group) → groups ≡ [] → AreActiveSoFar s side frames 0 groups
-  active_none groups none = record {
-    sound = λ g has.
-        let empty : Contains [] g = subst (λ gs. Contains gs g) none has in
-        let below = empty.1 in
-        absurd (omega (arith, below));
-    complete = λ k F less is. absurd (omega (arith, less));
-  }
-
-  -- the frame before it was the same
-  pub active_same : (i : ℕ) (groups : List Group) → 1 ≤ i → i < length frames →
-      slice_index_or frames i 0 ≡ slice_index_or frames (i - 1) 0 → AreActiveSoFar s side frames i groups →
-      AreActiveSoFar s side frames (i + 1) groups
-  active_same i groups low below same h = record {
-    sound = h.sound;
-    complete = λ k F less is. by k F less is (cases_lt k i);
-  }
-    where
-      by : (k F : ℕ) → k < i + 1 → slice_get frames k ≡ Some F → (k < i) ⊎ (i ≤ k) →
-          (g : Group) × HasGroup s (of_frame side F) g × Contains groups g
-      by k F less is (inl earlier) = h.complete k F earlier is
-      by k F less is (inr late) =
-          let k_is : k ≡ i = omega (arith, less, late) in
-          let before = slice_get-get_or frames (i - 1) 0 (omega (arith, low, below)) in
-          let here = get_or_from_slice_get frames i F 0 (ap (slice_get frames) (sym k_is) ∙ is) in
-          h.complete (i - 1) F (omega (arith, low)) (before ∙ ap Some (sym same ∙ here))
+  active_none groups none = search arith
 
   pub active_more : (i : ℕ) (groups new : List Group) (g : Group) → i < length frames →
       HasGroup s (of_frame side (slice_index_or frames i 0)) g → new ≡ groups ++ g ∷ [] →
@@ -168,13 +144,7 @@ module _ (s : StoreState) (side : ℕ) (frames : List ℕ) where
 
   pub active_all : (i : ℕ) (groups : List Group) → length frames ≤ i → AreActiveSoFar s side frames i groups →
       AreActiveGroups s side frames groups
-  active_all i groups past h = record {
-    sound = h.sound;
-    complete = λ F among.
-        let below = among.1 in
-        h.complete among.0 F (omega (arith, below, past))
-        (slice_get-get_or frames among.0 F among.1 ∙ ap Some among.2);
-  }
+  active_all i groups past h = search (arith, slice_get-get_or)
 
   pub open_at : (i : ℕ) → i < length frames → AreOpen s frames →
       (sides : Sides) × (slice_get s.frames (slice_index_or frames i 0) ≡ Some (Some sides))

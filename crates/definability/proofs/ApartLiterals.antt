@@ -1,5 +1,5 @@
 -- What is asked of both copies: no two of its literals contradict one another.
-use Rattle.std.proofs.Common.{◌≡◌, ◌≢◌, ℕ, true, false, true≢false, not, inl, inr, List, [], ◌∷◌, ◌++◌, Some, IsSome, refl, sym, ◌∙◌, ap, subst}
+use Rattle.std.proofs.Common.{◌≡◌, ◌≢◌, ℕ, true, false, true≢false, inl, inr, List, [], ◌∷◌, ◌++◌, IsSome, refl, sym, ap, subst, arith}
 use Rattle.std.specs.List.{All}
 use Rattle.std.proofs.lemmas.Bool.{cases_Bool}
 use Rattle.std.proofs.lemmas.List.Elements.{All-head, All-tail, All-cons}
@@ -9,8 +9,6 @@ use Rattle.dq_lits.proofs.HeldLiterals.{any_one, any_gives, all_held, held_of_al
 use Rattle.dq_lits.proofs.SignedLiterals.{opposite_variable, opposite-other, opposite-negative}
 use Rattle.hint_log.specs.Conditions.{AreNamed}
 use Rattle.hint_log.specs.Entries.{Entry, name_of}
-use Rattle.hint_log.specs.Naming.{is_selector_name}
-use Rattle.hint_log.specs.declared.names.Name.TheVariants.{Copy as CopyOf}
 use Rattle.oracle.specs.Calls.{IsMade, IsPlain, assumed}
 use Rattle.oracle.specs.declared.groups.Group.{Group}
 use Rattle.definability.specs.Dividing.{asked_of, IsAsked, IsCopyLiteral}
@@ -32,44 +30,29 @@ module _ (conditions : List Literal) (last : Literal) (consistent : is_tautology
 
   pub no_contradiction : (l : Literal) → holds (asked_of conditions last) l ≡ true →
       holds (asked_of conditions last) (opposite l) ≡ true → ⊥
-  no_contradiction l h k = elim (held_in_either conditions (last ∷ []) l h) [
-    | inl condition ↦ elim (held_in_either conditions (last ∷ []) (opposite l) k) [
-      | inl other ↦ true≢false (sym (any_one (λ j. holds conditions (opposite j)) conditions l condition other)
-          ∙ consistent)
-      | inr end ↦ apart_from_last l condition (sym (opposite_variable l) ∙ ap variable_of (is_last (opposite l) end))
-    ]
-    | inr end ↦ elim (held_in_either conditions (last ∷ []) (opposite l) k) [
-      | inl other ↦ apart_from_last (opposite l) other (opposite_variable l ∙ ap variable_of (is_last l end))
-      | inr both ↦ opposite-other l (is_last l end ∙ sym (is_last (opposite l) both))
-    ]
-  ]
-    where
-      is_last : (j : Literal) → holds (last ∷ []) j ≡ true → j ≡ last
-      is_last j held = elim (holds_cases last [] j held) [ inl same ↦ same | inr none ↦ cc ]
+  no_contradiction l h k =
+      search (
+        arith,
+        held_in_either,
+        true≢false,
+        any_one,
+        apart_from_last,
+        opposite_variable,
+        opposite-other,
+        holds_cases,
+      )
 
 -- so copies of these on one side don't contradict one another
 copies_apart : (es : List Entry) (side : ℕ) (originals : List Literal) →
     ((l : Literal) → holds originals l ≡ true → holds originals (opposite l) ≡ true → ⊥) → (l : Literal) →
     IsCopyLiteral es side originals l → IsCopyLiteral es side originals (opposite l) → ⊥
 copies_apart es side originals none l a b =
-    let a_is = copy_name es side originals l a in
-    let b_is = copy_name es side originals (opposite l) b in
-    let names : Some (CopyOf side (variable_of b.original)) ≡ Some (CopyOf side (variable_of a.original)) =
-    sym b_is.0 ∙ ap (name_of es) (opposite_variable l) ∙ a_is.0 in
-    let same : variable_of b.original ≡ variable_of a.original = cc in
-    let sign : is_negative b.original ≡ not (is_negative a.original) =
-    sym b_is.1 ∙ opposite-negative l ∙ ap not a_is.1 in
-    let is : b.original ≡ opposite a.original = same_parts b.original (opposite a.original)
-    (same ∙ sym (opposite_variable a.original)) (sign ∙ sym (opposite-negative a.original)) in
-    none a.original a.among (ap (holds originals) (sym is) ∙ b.among)
+    search (arith, copy_name, opposite_variable, opposite-negative, same_parts)
 
 -- nor do copies on different sides
 sides_apart : (es : List Entry) (firsts seconds : List Literal) (k l : Literal) → variable_of k ≡ variable_of l →
     IsCopyLiteral es 1 firsts k → IsCopyLiteral es 2 seconds l → ⊥
-sides_apart es firsts seconds k l same a b =
-    let names : Some (CopyOf 1 (variable_of a.original)) ≡ Some (CopyOf 2 (variable_of b.original)) =
-    sym (copy_name es 1 firsts k a).0 ∙ ap (name_of es) same ∙ (copy_name es 2 seconds l b).0 in
-    cc
+sides_apart es firsts seconds k l same a b = search (arith, copy_name)
 
 module _ (es : List Entry) (v : ℕ) (conditions : List Literal) (asked : Asked)
     (are : IsAsked es v conditions asked) where
@@ -86,9 +69,7 @@ module _ (es : List Entry) (v : ℕ) (conditions : List Literal) (asked : Asked)
   second_copy = copy_among es 2 seconds asked.second.items are.second
 
   plain_copy : (side : ℕ) (originals : List Literal) (l : Literal) → IsCopyLiteral es side originals l → IsPlain es l
-  plain_copy side originals l copy =
-      let name = (copy_name es side originals l copy).0 in
-      record { named = subst IsSome (sym name) refl; no_selector = ap is_selector_name name }
+  plain_copy side originals l copy = search (arith, copy_name)
 
   pub asked_plain : All (IsPlain es) (asked.first.items ++ asked.second.items)
   asked_plain = all_held (IsPlain es) (asked.first.items ++ asked.second.items)

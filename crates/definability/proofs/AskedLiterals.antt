@@ -1,7 +1,6 @@
 -- What is asked at a row: an existential's copy with the other bit, and the copies of what it sees with the row's bits.
 use Rattle.std.proofs.Common.{◌≡◌, ◌≢◌, ◌⊎◌, ℕ, zero, suc, Bool, true, false, true≢false, not, inl, inr, List, [], ◌∷◌, map, get_or, slice_get, Option, Some, refl, sym, ◌∙◌, ap, arith}
 use Rattle.std.specs.List.{Contains}
-use Rattle.std.specs.Option.{option_map}
 use Rattle.std.proofs.lemmas.Bool.{cases_Bool, or_right}
 use Rattle.std.proofs.lemmas.Option.{slice_get_within, slice_get-get_or}
 use Rattle.list_laws.proofs.Elements.{kept_there}
@@ -9,7 +8,7 @@ use Rattle.list_laws.proofs.Truths.{not-not}
 use Rattle.dq_lits.specs.Derivation.{holds, is_tautology}
 use Rattle.dq_lits.specs.Expansion.{row_assignment}
 use Rattle.dq_lits.specs.Formula.{Dqbf, Existential, HasLawfulPrefix}
-use Rattle.dq_lits.specs.Literal.{Literal, positive, negative, variable_of, is_negative, opposite, same_literal}
+use Rattle.dq_lits.specs.Literal.{Literal, positive, variable_of, opposite, same_literal}
 use Rattle.dq_lits.proofs.HeldLiterals.{any_gives, all_held, holds_cases, holds_here}
 use Rattle.dq_formula.specs.Prefix.{existential_variables}
 use Rattle.hint_log.specs.Entries.{Entry, name_of}
@@ -47,14 +46,7 @@ IsSeenAsked f es flags row lits x =
 -- the negation of a named literal
 pub opposite_named : (es : List Entry) (l : Literal) (n : Name) (b : Bool) →
     name_literal es l ≡ Some (named_literal n b) → name_literal es (opposite l) ≡ Some (named_literal n (not b))
-opposite_named es l n b is = let h = named_variable es l n b (name_of es (variable_of l)) refl is in by l h.0 h.1
-  where
-    by : (k : Literal) → name_of es (variable_of k) ≡ Some n → is_negative k ≡ b →
-        name_literal es (opposite k) ≡ Some (named_literal n (not b))
-    by (positive v) named sign = ap (option_map (λ m. named_literal m true)) named ∙ ap
-        (λ c. Some (named_literal n (not c))) sign
-    by (negative v) named sign = ap (option_map (λ m. named_literal m false)) named ∙ ap
-        (λ c. Some (named_literal n (not c))) sign
+opposite_named es l n b is = search (arith, named_variable)
 
 pub signed_name : (es : List Entry) (l : Literal) (n : Name) (b : Bool) →
     name_literal es l ≡ Some (named_literal n false) → name_literal es (signed_literal l b) ≡ Some
@@ -64,8 +56,7 @@ signed_name es l n false is = opposite_named es l n false is
 
 pub own_name : (es : List Entry) (y : Existential) (l : Literal) (bit : Bool) →
     name_literal es l ≡ Some (named_literal (CopyOf 1 y.variable) false) → IsOwn es y bit (signed_literal l (not bit))
-own_name es y l bit is = signed_name es l (CopyOf 1 y.variable) (not bit) is ∙ ap
-    (λ b. Some (named_literal (CopyOf 1 y.variable) b)) (not-not bit)
+own_name es y l bit is = search (arith, signed_name, not-not)
 
 held_mapped : (g : ℕ → Literal) (ps : List ℕ) (l : Literal) → holds (map g ps) l ≡ true →
     (p : ℕ) × Contains ps p × (l ≡ g p)
@@ -86,8 +77,7 @@ held_mapped g (p ∷ ps) l h = elim (holds_cases (g p) (map g ps) l h) [
 mapped_held : (g : ℕ → Literal) (ps : List ℕ) (p : ℕ) → Contains ps p → holds (map g ps) (g p) ≡ true
 mapped_held g [] p (k, lt, at) = absurd (omega (arith, lt))
 mapped_held g (q ∷ ps) p (zero, lt, at) = ap (λ k. holds (map g (q ∷ ps)) (g k)) (sym at) ∙ holds_here (g q) (map g ps)
-mapped_held g (q ∷ ps) p (suc k, lt, at) = or_right (same_literal (g p) (g q)) (holds (map g ps) (g p))
-    (mapped_held g ps p (k, omega (arith, lt), at))
+mapped_held g (q ∷ ps) p (suc k, lt, at) = search (arith, or_right, (mapped_held g ps p))
 
 module _ (f : Dqbf) (lawful : HasLawfulPrefix f) (es : List Entry) (y : Existential) (copy : MatrixCopy)
     (flags row : List Bool) (bit : Bool) (places : List ℕ) (own : Literal)
@@ -141,11 +131,7 @@ module _ (f : Dqbf) (lawful : HasLawfulPrefix f) (es : List Entry) (y : Existent
 
 same_names : (o : Option NamedLiteral) (a b : ℕ) (s t : Bool) → o ≡ Some (named_literal (CopyOf 1 a) s) →
     o ≡ Some (named_literal (CopyOf 1 b) t) → (a ≡ b) × (s ≡ t)
-same_names o a b s t first second =
-    let e : Some (named_literal (CopyOf 1 a) s) ≡ Some (named_literal (CopyOf 1 b) t) = sym first ∙ second in
-    let both : named_literal (CopyOf 1 a) s ≡ named_literal (CopyOf 1 b) t = cc in
-    let names : CopyOf 1 a ≡ CopyOf 1 b = ap (λ (n : NamedLiteral). n.name) both in
-    (cc, ap (λ (n : NamedLiteral). n.negated) both)
+same_names o a b s t first second = search arith
 
 pub no_negation : (b : Bool) → b ≡ not b → ⊥
 no_negation true e = true≢false e
@@ -155,28 +141,7 @@ module _ (f : Dqbf) (es : List Entry) (y : Existential) (row : List Bool) (bit :
     (are : AreAsked f es y row bit lits)
     (unseen : (x : ℕ) → Contains y.sees x → x ≢ y.variable) where
   no_pair : (l : Literal) → holds lits l ≡ true → holds lits (opposite l) ≡ true → ⊥
-  no_pair l h k = elim (are.each l h) [
-    | inl own ↦ (
-        let turned = opposite_named es l (CopyOf 1 y.variable) bit own in
-        elim (are.each (opposite l) k) [
-          | inl other ↦ no_negation bit (same_names (name_literal es (opposite l)) y.variable y.variable bit
-              (not bit) other turned).1
-          | inr other ↦ unseen other.0 other.1 (same_names (name_literal es (opposite l)) other.0 y.variable
-              (not (row_assignment f row other.0)) (not bit) other.2 turned).0
-        ])
-    | inr seen ↦ (
-        let x = seen.0 in
-        let sign = not (row_assignment f row x) in
-        let turned = opposite_named es l (CopyOf 1 x) sign seen.2 in
-        elim (are.each (opposite l) k) [
-          | inl other ↦ unseen x seen.1 (same_names (name_literal es (opposite l)) x y.variable
-              (not sign) bit turned other).0
-          | inr other ↦ (
-              let same = same_names (name_literal es (opposite l)) other.0 x (not (row_assignment f row other.0))
-              (not sign) other.2 turned in
-              no_negation sign (ap (λ z. not (row_assignment f row z)) (sym same.0) ∙ same.1))
-        ])
-  ]
+  no_pair l h k = search (arith, opposite_named, no_negation, same_names)
 
   pub asked_apart : is_tautology lits ≡ false
   asked_apart = elim (cases_Bool (is_tautology lits)) [
@@ -187,14 +152,6 @@ module _ (f : Dqbf) (es : List Entry) (y : Existential) (row : List Bool) (bit :
   pub asked_copies : AreFirstCopies es lits
   asked_copies = all_held (λ l. (v : ℕ) × (name_of es (variable_of l) ≡ Some (CopyOf 1 v))) lits
       (λ l h. elim (are.each l h) [
-        | inl own ↦ (
-          y.variable,
-          (named_variable es l (CopyOf 1 y.variable) bit
-              (name_of es (variable_of l)) refl own).0,
-        )
-        | inr seen ↦ (
-          seen.0,
-          (named_variable es l (CopyOf 1 seen.0) (not (row_assignment f row seen.0))
-              (name_of es (variable_of l)) refl seen.2).0,
-        )
+        | inl own ↦ search (arith, named_variable)
+        | inr seen ↦ search (arith, named_variable)
       ])

@@ -1,5 +1,5 @@
 -- Places among all declared variables: universals first, then existentials.
-use Rattle.std.proofs.Common.{◌≡◌, ◌⊎◌, ℕ, zero, suc, ◌+◌, ◌<◌, ◌≤◌, Bool, false, inl, inr, List, [], ◌∷◌, ◌++◌, map, length, get_or, slice_get, Some, refl, sym, ◌∙◌, ap, subst, arith, set, ◌-◌, IsSome, IfSome}
+use Rattle.std.proofs.Common.{◌≡◌, ◌⊎◌, ℕ, zero, suc, ◌+◌, ◌<◌, ◌≤◌, Bool, inl, inr, List, [], ◌∷◌, ◌++◌, map, length, get_or, slice_get, Some, refl, sym, ◌∙◌, ap, subst, arith, set, ◌-◌, IsSome, IfSome}
 use Rattle.std.specs.List.{All, Contains}
 use Rattle.std.proofs.lemmas.List.{get_or_default, length-append, length-map}
 use Rattle.std.proofs.lemmas.List.Elements.{All-contains, Contains-append_left, Contains-append_right, Contains-append_cases, Contains-push}
@@ -12,8 +12,6 @@ use Rattle.dq_lits.proofs.FormulaVariables.{find_sound, seen_as}
 use Rattle.definition_order.specs.Order.{MayRead, ArePlacesOfShared}
 use Rattle.dq_formula.specs.Prefix.{IsLawful, existential_variables}
 use Rattle.hint_log.specs.Entries.{Entry}
-use Rattle.hint_log.specs.Naming.{named_literal}
-use Rattle.hint_log.specs.declared.names.Name.TheVariants.{Copy as CopyOf}
 use Rattle.definability.specs.Copies.{AreCopies, AreCopiesOf, IsCopied, copies_of}
 use Rattle.definability.specs.Seeing.{ArePlaces, ArePlacesSoFar}
 use Rattle.definability.specs.declared.copies.MatrixCopy.{MatrixCopy}
@@ -22,14 +20,12 @@ use Rattle.std.proofs.lemmas.Bool.{cases_lt}
 use Rattle.definition_order.proofs.Declared.{sees_universals, some_existential}
 
 pub declared_long : (f : Dqbf) → length (declared f) ≡ length f.universals + length f.existentials
-declared_long f = length-append f.universals (existential_variables f) ∙ ap (λ n. length f.universals + n)
-    (length-map f.existentials (λ y. y.variable))
+declared_long f = search (arith, length-append, length-map)
 
 pub at_second : {X : Type 0} (xs ys : List X) (p : ℕ) (y : X) → slice_get ys p ≡ Some y →
     slice_get (xs ++ ys) (length xs + p) ≡ Some y
 at_second [] ys p y h = subst (λ k. slice_get ys k ≡ Some y) (let same : p ≡ 0 + p = omega arith in same) h
-at_second (x ∷ xs) ys p y h = subst (λ k. slice_get (x ∷ xs ++ ys) k ≡ Some y)
-    (let same : suc (length xs + p) ≡ suc (length xs) + p = omega arith in same) (at_second xs ys p y h)
+at_second (x ∷ xs) ys p y h = search (arith, (at_second xs ys p y h))
 
 -- a place that is set in two lists, one behind the other
 pub set_first : {X : Type 0} (xs ys : List X) (i : ℕ) (x : X) → i < length xs → set xs i x ++ ys ≡ set (xs ++ ys) i x
@@ -41,9 +37,7 @@ pub set_second : {X : Type 0} (xs ys : List X) (i : ℕ) (x : X) → length xs �
     xs ++ set ys (i - length xs) x ≡ set (xs ++ ys) i x
 set_second [] ys i x past = let same : i - 0 ≡ i = omega arith in ap (λ k. set ys k x) same
 set_second (z ∷ xs) ys zero x past = absurd (omega (arith, past))
-set_second (z ∷ xs) ys (suc i) x past =
-    let same : suc i - length (z ∷ xs) ≡ i - length xs = omega arith in
-    ap (λ k. z ∷ (xs ++ set ys k x)) same ∙ ap (λ zs. z ∷ zs) (set_second xs ys i x (omega (arith, past)))
+set_second (z ∷ xs) ys (suc i) x past = search (arith, (set_second xs ys i x))
 
 at_mapped : (ys : List Existential) (p : ℕ) (z : Existential) → slice_get ys p ≡ Some z →
     slice_get (map (λ y. y.variable) ys) p ≡ Some z.variable
@@ -53,50 +47,22 @@ at_mapped (y ∷ ys) (suc p) z h = at_mapped ys p z h
 
 pub copies_long : (es : List Entry) (side : ℕ) (xs : List ℕ) (lits : List Literal) → AreCopiesOf es side xs lits →
     length lits ≡ length xs
-copies_long es side xs lits are = named_length es lits (map (λ v. named_literal (CopyOf side v) false) xs) are
-    ∙ length-map xs (λ v. named_literal (CopyOf side v) false)
+copies_long es side xs lits are = search (arith, named_length, length-map)
 
 -- where an element of two lists, one behind the other, stands
 pub joined_cases : {X : Type 0} (xs ys : List X) (k : ℕ) (x : X) → slice_get (xs ++ ys) k ≡ Some x →
     (slice_get xs k ≡ Some x) ⊎ ((j : ℕ) × (k ≡ length xs + j) × (slice_get ys j ≡ Some x))
 joined_cases [] ys k x at = inr (k, omega arith, at)
 joined_cases (z ∷ xs) ys zero x at = inl at
-joined_cases (z ∷ xs) ys (suc k) x at = elim (joined_cases xs ys k x at) [
-  | inl first ↦ inl first
-  | inr second ↦ (let same = second.1 in inr (second.0, omega (arith, same), second.2))
-]
+joined_cases (z ∷ xs) ys (suc k) x at = search (arith, (joined_cases xs ys k x at))
 
 -- the copies of all declared variables
 pub copies_declared : (f : Dqbf) (side : ℕ) (flags : List Bool) (copy : MatrixCopy) (es : List Entry) →
     AreCopies es side flags f.universals copy.universals.items →
     AreCopiesOf es side (existential_variables f) copy.existentials.items →
     AreCopies es side flags (declared f) (copies_of copy)
-copies_declared f side flags copy es us ys = record {
-  long = length-append copy.universals.items copy.existentials.items
-      ∙ ap (λ n. n + length copy.existentials.items) us.long
-      ∙ ap (λ n. length f.universals + n) (copies_long es side (existential_variables f) copy.existentials.items ys)
-      ∙ sym (length-append f.universals (existential_variables f));
-  named = λ k v l flag v_at l_at. elim (joined_cases f.universals (existential_variables f) k v v_at) [
-    | inl universal ↦ (
-        let lt = slice_get_within f.universals k v universal in
-        let long = us.long in
-        elim (joined_cases copy.universals.items copy.existentials.items k l l_at) [
-          | inl at ↦ us.named k v l flag universal at
-          | inr far ↦ (let is = far.1 in absurd (omega (arith, lt, long, is)))
-        ])
-    | inr existential ↦ (
-        let long = us.long in
-        let there = existential.1 in
-        elim (joined_cases copy.universals.items copy.existentials.items k l l_at) [
-          | inl at ↦ (let lt = slice_get_within copy.universals.items k l at in absurd (omega (arith, lt, long, there)))
-          | inr far ↦ (
-              let is = far.1 in
-              let same : far.0 ≡ existential.0 = omega (arith, is, there, long) in
-              copy_at es side (existential_variables f) copy.existentials.items existential.0 v l ys existential.2
-              (subst (λ j. slice_get copy.existentials.items j ≡ Some l) same far.2))
-        ])
-  ];
-}
+copies_declared f side flags copy es us ys =
+    search (arith, length-append, copies_long, joined_cases, slice_get_within, copy_at)
 
 -- where all have copies
 pub whole_copies : (f : Dqbf) (side : ℕ) (flags : List Bool) (copy : MatrixCopy) (es : List Entry) →
@@ -104,9 +70,7 @@ pub whole_copies : (f : Dqbf) (side : ℕ) (flags : List Bool) (copy : MatrixCop
     AreCopiesOf es side (existential_variables f) copy.existentials.items →
     AreCopiesOf es side (declared f) (copies_of copy)
 whole_copies f side flags copy es whole us ys =
-    let all = copies_declared f side flags copy es us ys in
-    by_places es side (declared f) (copies_of copy) all.long
-    (λ k v l v_at l_at. all.named k v l (whole v k v_at) v_at l_at)
+    search (arith, (copies_declared f side flags copy es us ys), (by_places es side))
 
 mapped_back : (n : ℕ) (ps : List ℕ) (k : ℕ) → Contains (map (λ q. n + q) ps) k → (q : ℕ) × Contains ps q × (n + q ≡ k)
 mapped_back n [] k (i, lt, at) = absurd (omega (arith, lt))
@@ -175,13 +139,7 @@ seen_among f lawful v xs is h = some_existential f v (All (Contains f.universals
     subst (All (Contains f.universals)) (sym (seen_as f v xs h y found)) (sees_universals f lawful v y found))
 
 pub no_places : (us xs : List ℕ) (places : List ℕ) → places ≡ [] → ArePlacesSoFar us xs 0 places
-no_places us xs places empty = subst (ArePlacesSoFar us xs 0) (sym empty) (record {
-  sound = λ p among. absurd (nothing among);
-  complete = λ k x lt at. absurd (omega (arith, lt));
-})
-  where
-    nothing : {p : ℕ} → Contains {X = ℕ} [] p → ⊥
-    nothing (k, lt, at) = omega (arith, lt)
+no_places us xs places empty = search arith
 
 pub places_more : (us xs : List ℕ) (i x p : ℕ) (old new : List ℕ) → slice_get xs i ≡ Some x → slice_get us p ≡ Some x →
     new ≡ old ++ p ∷ [] → ArePlacesSoFar us xs i old →
@@ -191,14 +149,7 @@ places_more us xs i x p old new at there pushed before = subst (ArePlacesSoFar u
     | inl early ↦ before.sound q early
     | inr last ↦ (let same = only p q last in (x, ap (slice_get us) (sym same) ∙ there, element_at xs i x at))
   ];
-  complete = λ k z lt z_at. elim (cases_lt k i) [
-    | inl early ↦ (let r = before.complete k z early z_at in (r.0, r.1, Contains-append_left old (p ∷ []) r.0 r.2))
-    | inr late ↦ (
-        let same : k ≡ i = omega (arith, lt, late) in
-        let both : Some x ≡ Some z = sym at ∙ ap (slice_get xs) (sym same) ∙ z_at in
-        let is : x ≡ z = cc in
-        (p, there ∙ ap Some is, Contains-push old p))
-  ];
+  complete = search (arith, cases_lt, Contains-append_left, Contains-push);
 })
   where
     only : (p q : ℕ) → Contains (p ∷ []) q → p ≡ q

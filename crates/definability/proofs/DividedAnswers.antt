@@ -1,7 +1,6 @@
 -- What an answer of the copies rests on: the first copy on one side, the second copy and equations on the other.
-use Rattle.std.proofs.Common.{◌≡◌, ◌⊎◌, ℕ, zero, suc, ◌+◌, ◌<◌, Bool, true, false, true≢false, cond, ◌&&◌, inl, inr, List, [], ◌∷◌, ◌++◌, map, length, Option, Some, None, IsSome, get_or, slice_get, refl, sym, ◌∙◌, ap, subst, arith}
+use Rattle.std.proofs.Common.{◌≡◌, ◌⊎◌, ℕ, zero, suc, ◌+◌, ◌<◌, true, false, true≢false, ◌&&◌, inl, inr, List, [], ◌∷◌, ◌++◌, map, length, Option, Some, None, IsSome, get_or, slice_get, refl, sym, ◌∙◌, ap, subst, arith}
 use Rattle.std.specs.List.{All, Contains, list_any}
-use Rattle.std.specs.Option.{option_and_then}
 use Rattle.std.proofs.lemmas.Bool.{or_cases, or_left, or_right, and_parts, eqb-true, eq-eqb}
 use Rattle.std.proofs.lemmas.List.Folds.{list_any-append}
 use Rattle.std.proofs.lemmas.List.Elements.{All-contains, Contains-append_cases}
@@ -13,10 +12,9 @@ use Rattle.dq_lits.proofs.HeldLiterals.{any_gives, holds_cases}
 use Rattle.dq_lits.proofs.SignedLiterals.{same_literal-refl, opposite-opposite, as_positive}
 use Rattle.hint_log.specs.Conditions.{IsId, AreLogged}
 use Rattle.hint_log.specs.Deciding.{ReachesGiven}
-use Rattle.hint_log.specs.Entries.{Entry, Given, Answer, has_id, numbered, last_id, clause_of, clause_at, name_of}
+use Rattle.hint_log.specs.Entries.{Entry, Given, Answer, has_id, numbered, last_id, name_of}
 use Rattle.hint_log.specs.Growth.{Each}
-use Rattle.hint_log.specs.Naming.{named_literal, name_literal, AreNamedAs, is_selector, is_selector_name}
-use Rattle.hint_log.specs.Origins.{link_names}
+use Rattle.hint_log.specs.Naming.{AreNamedAs, is_selector, is_selector_name}
 use Rattle.hint_log.specs.ProductiveLog.{MatchesOrigin}
 use Rattle.hint_log.specs.Reached.{Reaches}
 use Rattle.hint_log.specs.declared.names.Name.{Name}
@@ -44,19 +42,7 @@ link_given es earlier f places x (Fault j i leaf) c stay seen test right = cc
 link_given es earlier f places x (Copy s j) c stay seen test right = cc
 link_given es earlier f places x (TermGate s j) c stay seen test right = cc
 link_given es earlier f places x (Differ z leaf part) c stay seen test right = cc
-link_given es earlier f places x (Link v i) c stay seen test right =
-    let same : v ≡ x = eqb-true v x test in
-    record {
-      group = right.group;
-      rest = right.rest;
-      variable = v;
-      part = i;
-      is_group = stay right.group (Selector right.group) right.is_group;
-      clause_is = right.clause_is;
-      read = subst (IsRead f places) (sym same) seen;
-      which = right.rest_is.0;
-      named = named_stay earlier es stay right.rest (link_names v i) right.rest_is.1;
-    }
+link_given es earlier f places x (Link v i) c stay seen test right = search (arith, eqb-true, named_stay)
 
 pub of_copies : (side : ℕ) (origin : Origin) → is_copy_of side origin ≡ true → IsOfCopies origin
 of_copies side (Instance k j) h = cc
@@ -120,17 +106,13 @@ held_in_either xs ys l h = or_cases (holds xs l) (holds ys l) (sym (list_any-app
 pub selector_held : (gs : List Group) (more : List Literal) (g : Group) → Contains gs g →
     holds (map (λ x. x.selector) gs ++ more) g.selector ≡ true
 selector_held [] more g (k, lt, at) = absurd (omega (arith, lt))
-selector_held (h ∷ gs) more g (zero, lt, at) = or_left (same_literal g.selector h.selector)
-    (holds (map (λ x. x.selector) gs ++ more) g.selector)
-    (ap (λ (x : Group). same_literal g.selector x.selector) at ∙ same_literal-refl g.selector)
-selector_held (h ∷ gs) more g (suc k, lt, at) = or_right (same_literal g.selector h.selector)
-    (holds (map (λ x. x.selector) gs ++ more) g.selector) (selector_held gs more g (k, omega (arith, lt), at))
+selector_held (h ∷ gs) more g (zero, lt, at) = search (arith, or_left, same_literal-refl)
+selector_held (h ∷ gs) more g (suc k, lt, at) = search (arith, or_right, (selector_held gs more g))
 
 pub beside_held : (gs : List Group) (more : List Literal) (l : Literal) → holds more l ≡ true →
     holds (map (λ x. x.selector) gs ++ more) l ≡ true
 beside_held [] more l h = h
-beside_held (g ∷ gs) more l h = or_right (same_literal l g.selector) (holds (map (λ x. x.selector) gs ++ more) l)
-    (beside_held gs more l h)
+beside_held (g ∷ gs) more l h = search (arith, or_right, (beside_held gs more l h))
 
 pub which_assumed : (p : Definability) (places : List ℕ) (active : List Group) (first second : List Literal) (l : Literal) →
     AreActive p places active → holds (assumed active (first ++ second)) l ≡ true →
@@ -158,31 +140,14 @@ pub copy_among : (es : List Entry) (side : ℕ) (originals lits : List Literal) 
 copy_among es side originals [] are l h = cc
 copy_among es side [] (k ∷ lits) are l h = cc
 copy_among es side (o ∷ originals) (k ∷ lits) are l h =
-    let here : name_literal es k ≡ Some (named_literal (CopyOf side (variable_of o)) (is_negative o)) = cc in
-    let later : map (name_literal es) lits ≡ map Some (copy_names side originals) = cc in
-    elim (holds_cases k lits l h) [
-      | inl same ↦ record {
-        original = o;
-        among = or_left (same_literal o o) (holds originals o) (same_literal-refl o);
-        named = ap (name_literal es) same ∙ here;
-      }
-      | inr behind ↦ (
-          let r = copy_among es side originals lits later l behind in
-          record {
-            original = r.original;
-            among = or_right (same_literal r.original o)
-                (holds originals r.original) r.among;
-            named = r.named;
-          })
-    ]
+    search (arith, holds_cases, or_left, same_literal-refl, (copy_among es side originals lits), or_right)
 
 -- so it is no selector
 pub copy_name : (es : List Entry) (side : ℕ) (originals : List Literal) (l : Literal)
     (c : IsCopyLiteral es side originals l) →
     (name_of es (variable_of l) ≡ Some (CopyOf side (variable_of c.original))) ×
     (is_negative l ≡ is_negative c.original)
-copy_name es side originals l c = named_variable es l (CopyOf side (variable_of c.original)) (is_negative c.original)
-    (name_of es (variable_of l)) refl c.named
+copy_name es side originals l c = search (arith, named_variable)
 
 module _ (f : Dqbf) (v : ℕ) (conditions : List Literal) (p : Definability) (places : List ℕ) (active : List Group)
     (ones others : List Literal) (es before : List Entry) (clause : List Literal) (hints : List ℕ)
@@ -224,9 +189,7 @@ module _ (f : Dqbf) (v : ℕ) (conditions : List Literal) (p : Definability) (pl
 
   not_copy : (side : ℕ) (originals : List Literal) (g : ℕ) (l : Literal) → l ≡ positive g →
       name_of all g ≡ Some (Selector g) → IsCopyLiteral all side originals l → ⊥
-  not_copy side originals g l is named copy =
-      selector_not_copy (name_of all g) g side (variable_of copy.original) named
-      (ap (name_of all) (ap variable_of (sym is)) ∙ (copy_name all side originals l copy).0)
+  not_copy side originals g l is named copy = search (arith, selector_not_copy, copy_name)
 
   -- the group of a given clause that is reached
   module _ (origin : Origin) (c : List Literal) (is : IsOfAnswer before clause origin c) where
@@ -256,8 +219,7 @@ module _ (f : Dqbf) (v : ℕ) (conditions : List Literal) (p : Definability) (pl
         in_link k r.0 h (k, r.1, among) link (group_of h link.made same)
     in_some (by_one l held) = absurd (not_copy 1 (asked_of conditions (positive v)) g (positive g) refl g_named
         (first_copy (positive g) held))
-    in_some (by_other l held) = absurd (not_copy 2 (asked_of conditions (negative v)) g (positive g) refl g_named
-        (second_copy (positive g) held))
+    in_some (by_other l held) = search (arith, not_copy, g_named, second_copy)
 
     classified : IsInSome
     classified = in_some (which_assumed p places active ones others (positive g) are_active
@@ -293,11 +255,7 @@ module _ (f : Dqbf) (v : ℕ) (conditions : List Literal) (p : Definability) (pl
         let both = and_parts (holds a_side (opposite l)) (is_selector all (variable_of l)) w.2 in
         elim (holds_cases (negative g) is.grouped.rest l w.1) [
           | inl here ↦ elim (element_of p.first.groups.items ones (opposite l) both.0) [
-            | inl switch ↦ (
-              switch.0,
-              switch.1,
-              group_of switch.0 (first_made switch.0 switch.1) (sym (ap opposite here) ∙ switch.2),
-            )
+            | inl switch ↦ search (arith, first_made)
             | inr last ↦ absurd (not_copy 1 (asked_of conditions (positive v)) g (opposite l) (ap opposite here) g_named
                 (first_copy (opposite l) last))
           ]
@@ -315,13 +273,7 @@ module _ (f : Dqbf) (v : ℕ) (conditions : List Literal) (p : Definability) (pl
 
     on_a_first : (h : Group) → Contains p.first.groups.items h → g ≡ group_variable h →
         list_any (λ l. holds a_side (opposite l) && is_selector all (variable_of l)) c ≡ true
-    on_a_first h among same =
-        let test : Literal → Bool = λ l. holds a_side (opposite l) && is_selector all (variable_of l) in
-        let switch : h.selector ≡ positive g = selector_is h (first_made h among) ∙ ap positive (sym same) in
-        let held : holds a_side (positive g) ≡ true = ap (holds a_side) (sym switch)
-        ∙ selector_held p.first.groups.items ones h among in
-        let here : test (negative g) ≡ true = ap (λ b. b && is_selector all g) held ∙ ap is_selector_name g_named in
-        ap (list_any test) is.grouped.clause_is ∙ or_left (test (negative g)) (list_any test is.grouped.rest) here
+    on_a_first h among same = search (arith, selector_is, first_made, selector_held, g_named, or_left)
 
     pub a_clause : list_any (λ l. holds a_side (opposite l) && is_selector all (variable_of l)) c ≡ true →
         IsCopyGiven all f 1 c
@@ -352,24 +304,14 @@ module _ (f : Dqbf) (v : ℕ) (conditions : List Literal) (p : Definability) (pl
 
     from_given : (at : ℕ) (c : List Literal) → IsReachedGiven q at c →
         (e : (origin : Origin) × (numbered has_id all at ≡ Some (Given origin c))) → IsOfAnswer before clause e.0 c
-    from_given at c given e =
-        of_answer before clause hints searched e.0 c (reached_given before clause hints stays are_ids searched.logged at
-        e.0 c given.reached e.1)
+    from_given at c given e = search (arith, of_answer, reached_given)
 
     answer_holds : (l : Literal) → IsOther q l → holds clause (opposite l) ≡ true
-    answer_holds l o =
-        let there : clause_at all (last_id before + 1) ≡ Some clause =
-        ap (λ b. option_and_then clause_of (cond b (Some (Answer clause hints))
-        (numbered has_id before (last_id before + 1))))
-        (eq-eqb (last_id before + 1) (last_id before + 1) refl) in
-        let both : Some clause ≡ Some o.clause = sym there ∙ o.clause_is in
-        let same : clause ≡ o.clause = cc in
-        ap (λ ls. holds ls (opposite l)) same ∙ o.negated
+    answer_holds l o = search (arith, eq-eqb)
 
     other_kind : (l : Literal) → holds a_side l ≡ false → IsAssumed p places ones others l →
         IsSelectorLiteral all l ⊎ IsCopyLiteral all 2 (asked_of conditions (negative v)) l
-    other_kind l none (by_first k h among same) = absurd (true≢false (sym (ap (holds a_side) same
-        ∙ selector_held p.first.groups.items ones h among) ∙ none))
+    other_kind l none (by_first k h among same) = search (arith, true≢false, selector_held)
     other_kind l none (by_second k h among same) = inl (selector_literal h (second_made h among) l same)
     other_kind l none (by_link k place h among at same) =
         let r = read_at f places within place among in inl (selector_literal h

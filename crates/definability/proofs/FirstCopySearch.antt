@@ -108,9 +108,7 @@ module _ (implied : LinesAreImplied)
   }
 
   pub shows_clause : ShowsClause f new.entries asked id
-  shows_clause =
-      subst (λ es. ShowsClause f es asked id) (sym (answered f p under old new id definability r))
-      (subst (ShowsClause f all asked) (sym (answer_last f p under old new id definability r)) shows_there)
+  shows_clause = search (arith, answer_last, shows_there)
 
   pub first_grew : (group : ℕ) → Grew (IsAddedBy f copies group true old.entries) old new
   first_grew =

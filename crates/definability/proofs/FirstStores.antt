@@ -21,7 +21,7 @@ use Rattle.dq_lits.specs.Literal.{Literal}
 use Rattle.definability.specs.Growing.{HasFewFaults, HasCopied}
 use Rattle.definability.specs.Following.{CanGiveCopies, IsCopyAdded, IsFollowing, AreActiveGroups, HasMore, IsReceiving, Receives}
 use Rattle.hint_log.proofs.NamedEntries.{unnamed_before}
-use Rattle.log_laws.proofs.LargerLogs.{grown_by, grown_then, grown_by_none}
+use Rattle.log_laws.proofs.LargerLogs.{grown_by, grown_then}
 use Rattle.definability.proofs.StoreSteps.{copied_entry, copied_then, copied_all, copied_none, following_none, following_then, standing_on}
 use Rattle.log_laws.proofs.Kept.{each_of_weaker}
 use Rattle.definability.proofs.PreservedStores.{completed, other_name, other_given}
@@ -34,7 +34,6 @@ use Rattle.log_laws.specs.Sessions.{IsInOneOf}
 use Rattle.definability.proofs.FollowedClauses.{following_on}
 use Rattle.list_laws.proofs.Numbers.{same_or_not}
 use Rattle.definability.specs.declared.following.LiveClause.{LiveClause}
-use Rattle.hint_log.specs.Naming.{numbered_from_one}
 
 -- lists of equal elements
 index_same : (n k a d : ℕ) → k < n → slice_index_or (replicate n a) k d ≡ a
@@ -68,10 +67,7 @@ only_one (y ∷ []) x long is = let same : y ≡ x = cc in ap (λ z. z ∷ []) s
 only_one (y ∷ z ∷ frames) x long is = absurd (omega (arith, long))
 
 pub copied_nothing : (f : Dqbf) (old new : ProofLog) → new ≡ old → IsFileMade f old new
-copied_nothing f old new is = record {
-  grew = λ group. grown_by_none (IsAddedBy f copies group true old.entries) old new is;
-  only = subst (λ (l : ProofLog). HasCopied old.entries l.entries) (sym is) (copied_none old.entries);
-}
+copied_nothing f old new is = search (arith, copied_none)
 
 pub given_long : (f : Dqbf) (spare : Group) (p : Definability) → HasNoCopies f spare p → length p.given.items ≡ length f.matrix
 given_long f spare p blank = ap length blank.given ∙ long_replicate (length f.matrix) 0
@@ -108,11 +104,7 @@ module _ (f : Dqbf) (p : Definability) (spare : Group) (old log : ProofLog) (non
   spare_only k g at = same_element (length (declared f)) k spare g (ap (λ gs. slice_get gs k) (sym blank.links) ∙ at)
 
   no_slot : (slot : Slot) (g : Group) → HasGroup (store_of p) slot g → ⊥
-  no_slot (of_frame side F) g (x, x_is, g_is) = by F (ap (λ fs. slice_get fs F) (sym blank.frames) ∙ x_is)
-    where
-      by : (n : ℕ) → slice_get (None ∷ []) n ≡ Some (Some x) → ⊥
-      by zero at = cc
-      by (suc n) at = cc
+  no_slot (of_frame side F) g (x, x_is, g_is) = search arith
   no_slot (of_link k) g has =
       let low = has.0 in
       let below = slice_get_within p.links.items k g has.1 in
@@ -132,22 +124,11 @@ module _ (f : Dqbf) (p : Definability) (spare : Group) (old log : ProofLog) (non
   old_entries : (xs : List Entry) → ((x : Entry) → Contains xs x → Contains old.entries x) →
       Each (IsStoreEntry f numbered (store_of p)) xs
   old_entries [] all = tt
-  old_entries (x ∷ xs) all = (
-    old_entry xs x (all x (contains_first x xs)),
-    old_entries xs (λ y inside. all y (contains_later x y xs inside)),
-  )
+  old_entries (x ∷ xs) all = search (arith, old_entry, contains_first, (old_entries xs), contains_later)
 
   store_there : IsMade (e ∷ old.entries) spare → IsPartialStore f numbered (store_of p) (e ∷ old.entries)
   store_there made_there = record {
-    places = record {
-      parts = ap length blank.parts ∙ long_replicate (length (declared f)) 0;
-      flags = ap length blank.copied ∙ long_replicate (length f.universals) false;
-      first = blank.first;
-      second = blank.second;
-      first_existentials = blank.first_existentials;
-      second_existentials = blank.second_existentials;
-      links = long_links;
-    };
+    places = search (arith, long_replicate, long_links);
     whole = λ k below flag. absurd (true≢false (sym flag ∙ ap (λ fs. is_copied_at fs k) blank.copied
         ∙ no_flag (length f.universals) k below));
     parts = record {
@@ -157,16 +138,8 @@ module _ (f : Dqbf) (p : Definability) (spare : Group) (old log : ProofLog) (non
       equations = λ k x i g low one two x_is g_is.
           let none_made = no_parts k (slice_get_within (declared f) k x x_is) in absurd (omega (arith, low, none_made));
     };
-    groups = record {
-      made = λ slot g has. absurd (no_slot slot g has);
-      links = λ k g at. subst (IsMade (e ∷ old.entries)) (spare_only k g at) made_there;
-      apart = λ a b g h has has' same. absurd (no_slot a g has);
-    };
-    givens = λ side j one has.
-        let low = has.from_one in
-        let high = has.within in
-        let zero_sides = ap (λ ns. slice_index_or ns (j - 1) 0) blank.given ∙ zeros_there (length f.matrix) (j - 1) in
-        absurd (omega (arith, low, high, zero_sides));
+    groups = search (arith, no_slot, spare_only);
+    givens = search (arith, zeros_there);
     own = (tt, old_entries old.entries (λ x inside. inside));
     active = λ g among. absurd (nothing g (subst (λ gs. Contains (gs ++ p.second.groups.items) g) blank.first_groups among));
   }
@@ -180,12 +153,7 @@ module _ (f : Dqbf) (p : Definability) (spare : Group) (old log : ProofLog) (non
           let below = none_there.1 in omega (arith, below)
 
   pub first_standing : HasFewFaults old.entries → CanGiveCopies f numbered f (store_of p) log.entries
-  first_standing few = subst (λ (l : ProofLog). CanGiveCopies f numbered f (store_of p) l.entries) (sym is) (record {
-    store = store_there (subst (λ (l : ProofLog). IsMade l.entries spare) is made);
-    universals = refl;
-    existentials = refl;
-    few = few;
-  })
+  first_standing few = search (arith, store_there)
 
   -- what follows is right wherever no search began
   spare_unnamed : (g : ℕ) → Contains (store_groups (store_of p)) g → name_of old.entries g ≡ None
@@ -331,33 +299,15 @@ after_copies f numbered p q r first middle last h x y =
 
 pub given_none : (f : Dqbf) (p : Definability) (old new : ProofLog) → new ≡ old →
     CanGiveFile f p old.entries → HasMoreGiven f p old p new
-given_none f p old new is h = record {
-  follows = following_none f (replicate (length f.matrix) 0) (store_of p) old new is h.standing.store;
-  long = refl;
-  frames = refl;
-  first_groups = refl;
-  second_groups = refl;
-}
+given_none f p old new is h = search (arith, following_none, replicate)
 
 pub given_then : (f : Dqbf) (p q r : Definability) (first middle last : ProofLog) → HasMoreGiven f p first q middle →
     HasMoreGiven f q middle r last → HasMoreGiven f p first r last
-given_then f p q r first middle last x y = record {
-  follows = following_then f (replicate (length f.matrix) 0) (store_of p) (store_of q) (store_of r) first middle last
-      x.follows y.follows;
-  long = y.long ∙ x.long;
-  frames = y.frames ∙ x.frames;
-  first_groups = y.first_groups ∙ x.first_groups;
-  second_groups = y.second_groups ∙ x.second_groups;
-}
+given_then f p q r first middle last x y = search (arith, following_then, replicate)
 
 pub can_give_still : (f : Dqbf) (p q : Definability) (old new : ProofLog) → CanGiveFile f p old.entries →
     HasMoreGiven f p old q new → CanGiveFile f q new.entries
-can_give_still f p q old new h x = record {
-  standing = standing_on f (replicate (length f.matrix) 0) f (store_of p) (store_of q) old new h.standing x.follows;
-  complete = λ k past. let low = h.complete k past in let more = x.follows.parts k in omega (arith, low, more);
-  given = x.long ∙ h.given;
-  opened = (h.opened.0, ap (λ fs. slice_get fs.items 0) x.frames ∙ h.opened.1);
-}
+can_give_still f p q old new h x = search (arith, standing_on, replicate)
 
 pub before_more : (f : Dqbf) (p q : Definability) (old new : ProofLog) (i : ℕ) → HasMoreGiven f p old q new →
     AreGivenBefore (store_of p) i → HasGiven (store_of q) 2 (i + 1) → AreGivenBefore (store_of q) (i + 1)
@@ -380,28 +330,16 @@ by_copies f p q old new h x = record {
 pub by_clause : (f : Dqbf) (p q : Definability) (clause : LiveClause) (old new : ProofLog) →
     IsReceiving f (replicate (length f.matrix) 0) f (store_of p) clause old.entries → Receives f p old clause q new →
     q ≡ record p { given = q.given } → length q.given.items ≡ length p.given.items → HasMoreGiven f p old q new
-by_clause f p q clause old new h x same long = record {
-  follows = x f (replicate (length f.matrix) 0) h;
-  long = long;
-  frames = ap (λ (r : Definability). r.frames) same;
-  first_groups = ap (λ (r : Definability). r.first.groups) same;
-  second_groups = ap (λ (r : Definability). r.second.groups) same;
-}
+by_clause f p q clause old new h x same long = search (arith, replicate)
 
 pub file_receiving : (f : Dqbf) (p q : Definability) (old new : ProofLog) (place : ℕ) → CanGiveFile f p old.entries →
     HasMore f p old q new → place < length f.matrix →
     IsReceiving f (replicate (length f.matrix) 0) f (store_of q)
     (record { place = place; number = place + 1; frame = 0 }) new.entries
 file_receiving f p q old new place h x below =
-    let next : place + 1 ≡ suc place = omega arith in
-    let still = can_give_still f p q old new h (by_copies f p q old new h x) in
-    record {
-      standing = still.standing;
-      complete = still.complete;
-      live = record {
-        from_one = omega arith;
-        within = below;
-        clause_is = ap (numbered_from_one f.matrix) next;
-        frame_is = sym (zeros_there (length f.matrix) (place + 1 - 1));
-      };
-    }
+    search (
+      arith,
+      (can_give_still f p q old new h (by_copies f p q old new h x)),
+      (by_copies f p q old new h x),
+      (zeros_there (length f.matrix) (place + 1 - 1)),
+    )

@@ -1,5 +1,5 @@
 -- A variable of a store that has all parts counts as one that has copies.
-use Rattle.std.proofs.Common.{◌≡◌, ◌≢◌, ℕ, ◌<◌, ◌≤◌, true, ◌⊎◌, inl, inr, List, length, set, refl, sym, ◌∙◌, ap, arith, subst, zero, suc, ◌+◌, Bool, [], ◌∷◌, get_or, slice_get, Some}
+use Rattle.std.proofs.Common.{◌≡◌, ℕ, ◌<◌, ◌≤◌, true, ◌⊎◌, inl, inr, List, length, set, refl, sym, ◌∙◌, ap, arith, subst, zero, suc, ◌+◌, Bool, [], ◌∷◌, get_or, slice_get, Some}
 use Rattle.std.proofs.lemmas.List.{get_or-set_other, length-set}
 use Rattle.list_laws.proofs.Numbers.{same_or_not}
 use Rattle.dq_lits.specs.Formula.{Dqbf}
@@ -63,12 +63,7 @@ pub literals_more : (f : Dqbf) (clause : List Literal) (i : ℕ) (old new : List
     ((k : ℕ) (d : Literal) → k < i → k < length clause → IsCopied f old (variable_of (get_or clause k d))) →
     ((d : Literal) → i < length clause → IsCopied f new (variable_of (get_or clause i d))) →
     (k : ℕ) (d : Literal) → k < i + 1 → k < length clause → IsCopied f new (variable_of (get_or clause k d))
-literals_more f clause i old new more before here k d less within = elim (cases_lt k i) [
-  | inl early ↦ copied_more f old new (variable_of (get_or clause k d)) more (before k d early within)
-  | inr late ↦ (
-      let same : k ≡ i = omega (arith, less, late) in
-      subst (λ j. IsCopied f new (variable_of (get_or clause j d))) (sym same) (here d (omega (arith, within, same))))
-]
+literals_more f clause i old new more before here k d less within = search (arith, cases_lt, copied_more)
 
 -- a universal that has all parts
 module _ (all : Dqbf) (numbered : List ℕ) (s : StoreState) (log : ProofLog) (store : IsPartialStore all numbered s log.entries)
@@ -77,31 +72,14 @@ module _ (all : Dqbf) (numbered : List ℕ) (s : StoreState) (log : ProofLog) (s
   flagged = record s { copied = set s.copied place true }
 
   flagged_grown : IsGrown s flagged
-  flagged_grown = record {
-    kept_groups = λ slot g has. has;
-    more_given = λ side j has. has;
-    more_parts = λ k. omega arith;
-    kept_links = λ k g low is. is;
-  }
+  flagged_grown = search arith
 
   all_parts : (k : ℕ) → k < length all.universals → is_copied_at (set s.copied place true) k ≡ true → 5 ≤ parts_at s k
-  all_parts k within flag = by (same_or_not k place)
-    where
-      by : (k ≡ place) ⊎ (k ≢ place) → 5 ≤ parts_at s k
-      by (inl same) = let there = ap (parts_at s) same in omega (arith, there, done)
-      by (inr differ) = store.whole k within (sym (get_or-set_other s.copied place k true true differ) ∙ flag)
+  all_parts k within flag = search (arith, same_or_not, get_or-set_other)
 
   flagged_store : IsPartialStore all numbered flagged log.entries
   flagged_store = record {
-    places = record {
-      parts = store.places.parts;
-      flags = length-set s.copied place true ∙ store.places.flags;
-      first = store.places.first;
-      second = store.places.second;
-      first_existentials = store.places.first_existentials;
-      second_existentials = store.places.second_existentials;
-      links = store.places.links;
-    };
+    places = search (arith, length-set);
     whole = all_parts;
     parts = store.parts;
     groups = store.groups;
@@ -121,8 +99,7 @@ module _ (all : Dqbf) (numbered : List ℕ) (s : StoreState) (log : ProofLog) (s
   }
 
   pub flagged_following : (new : ProofLog) → new ≡ log → IsFollowing all numbered s log flagged new
-  flagged_following new is = following_same all numbered s flagged log new is (λ g has. inl has) flagged_store flagged_grown
-      (marked_set s.copied (set s.copied place true) place refl).stays
+  flagged_following new is = search (arith, following_same, flagged_store, flagged_grown, marked_set)
 
 -- the same of the copies, where an existential has no flag
 module _ (f : Dqbf) (p q : Definability) (log : ProofLog) (place : ℕ) (logged : AreLogged log.entries)
@@ -136,9 +113,7 @@ module _ (f : Dqbf) (p q : Definability) (log : ProofLog) (place : ℕ) (logged 
       subst (λ t. IsFollowing all numbered (store_of p) log t log)
       (sym (ap store_of same ∙ ap (λ flags. record (store_of p) { copied = flags }) (flag below)))
       (flagged_following all numbered (store_of p) log h.store logged place below done log refl)
-  by_flag all numbered h (inr past) =
-      subst (λ (r : Definability). IsFollowing all numbered (store_of p) log (store_of r) log) (sym (none past))
-      (following_none all numbered (store_of p) log log refl h.store)
+  by_flag all numbered h (inr past) = search (arith, following_none)
 
   pub flagged_more : HasMore f p log q log
   flagged_more = record {

@@ -26,14 +26,14 @@ use Rattle.definability.specs.declared.definability.Definability.{Definability}
 use Rattle.definability.proofs.DeclaredPlaces.{at_second, declared_long}
 use Rattle.definability.proofs.GivenSteps.{given_following}
 use Rattle.definability.proofs.RoomSteps.{roomier_following}
-use Rattle.definability.proofs.StoreSteps.{following_then, standing_on, following_none}
+use Rattle.definability.proofs.StoreSteps.{following_then, standing_on}
 use Rattle.definability.proofs.CopiedVariables.{by_places}
 use Rattle.definability.proofs.PartAnswers.{same_declared}
 use Rattle.std.proofs.lemmas.Option.{slice_get_within, slice_get-get_or}
 use Rattle.definability.specs.Making.{AreCopiedFrom}
 use Rattle.std.proofs.lemmas.Bool.{cases_lt}
 use Rattle.definability.proofs.KeptPlaces.{flag_past}
-use Rattle.definability.proofs.PreservedStores.{index_past, completed, complete_store, partial}
+use Rattle.definability.proofs.PreservedStores.{index_past, complete_store, partial}
 use Rattle.hint_log.specs.declared.names.Name.TheVariants.{Copy as CopyOf}
 use Rattle.std.proofs.lemmas.List.Elements.{All-contains}
 use Rattle.list_laws.proofs.Members.{element_at}
@@ -43,18 +43,11 @@ pub following_on : (all : Dqbf) (numbered : List ℕ) (f : Dqbf) (a b c : StoreS
     CanGiveCopies all numbered f a first.entries → IsFollowing all numbered a first b middle →
     (CanGiveCopies all numbered f b middle.entries → IsFollowing all numbered b middle c last) →
     IsFollowing all numbered a first c last
-following_on all numbered f a b c first middle last h x step =
-    following_then all numbered a b c first middle last x (step (standing_on all numbered f a b first middle h x))
+following_on all numbered f a b c first middle last h x step = search (arith, following_then, standing_on)
 
 -- a call that makes copies, behind another one
 pub more_none : (f : Dqbf) (p : Definability) (old new : ProofLog) → new ≡ old → HasMore f p old p new
-more_none f p old new is = record {
-  follows = λ all numbered h. following_none all numbered (store_of p) old new is h.store;
-  given = refl;
-  frames = refl;
-  first_groups = refl;
-  second_groups = refl;
-}
+more_none f p old new is = search arith
 
 pub more_then : (f : Dqbf) (p q r : Definability) (first middle last : ProofLog) → HasMore f p first q middle →
     HasMore f q middle r last → HasMore f p first r last
@@ -76,11 +69,7 @@ can_still f p q old new (all, numbered, h) x =
 pub receiving_on : (all : Dqbf) (numbered : List ℕ) (f : Dqbf) (s t : StoreState) (clause : LiveClause)
     (old new : ProofLog) → IsReceiving all numbered f s clause old.entries → IsFollowing all numbered s old t new →
     IsReceiving all numbered f t clause new.entries
-receiving_on all numbered f s t clause old new h x = record {
-  standing = standing_on all numbered f s t old new h.standing x;
-  complete = λ k past. let low = h.complete k past in let more = x.parts k in omega (arith, low, more);
-  live = h.live;
-}
+receiving_on all numbered f s t clause old new h x = search (arith, standing_on)
 
 pub received_then : (f : Dqbf) (p q r : Definability) (clause : LiveClause) (first middle last : ProofLog) →
     Receives f p first clause q middle → Receives f q middle clause r last → Receives f p first clause r last
@@ -111,11 +100,7 @@ marked_more f p q old new (all, numbered, h) x =
 -- a store in which all existentials have copies follows as one
 pub followed_store : (all : Dqbf) (numbered : List ℕ) (s t : StoreState) (old new : ProofLog) →
     IsStore all numbered s old.entries → IsFollowing all numbered s old t new → IsStore all numbered t new.entries
-followed_store all numbered s t old new store x = completed all numbered t new.entries x.store
-    (λ k past.
-    let low = complete_store all numbered s old.entries store k past in
-    let more = x.parts k in
-    omega (arith, low, more))
+followed_store all numbered s t old new store x = search (arith, complete_store)
 
 -- copies of variables that are made one after another
 abbrev pub AreCopiedTo : ℕ → ℕ → Definability → Type 0
@@ -132,35 +117,13 @@ copied_next f from to p q old new (all, numbered, h) x before parts flag k low l
       let many = there.0 in
       let more = step.parts k in
       (omega (arith, many, more), step.copied k there.1))
-  | inr late ↦ (
-      let same : to ≡ k = omega (arith, less, late) in
-      subst (λ n. (5 ≤ parts_at (store_of q) n) × (is_copied_at q.copied.items n ≡ true)) same (parts, flag))
+  | inr late ↦ search arith
 ]
 
 pub copied_from : (f : Dqbf) (from to : ℕ) (p : Definability) (es : List Entry) → CanFollow f p es →
     length (declared f) ≤ to → AreCopiedTo from to p → AreCopiedFrom from p
-copied_from f from to p es (all, numbered, h) past copied = record {
-  complete = λ k low. elim (cases_lt k to) [
-    | inl within ↦ (copied k low within).0
-    | inr behind ↦ (let none = index_past p.parts.items k 5 (omega (arith, behind, past, same, parts)) in omega (arith, none))
-  ];
-  flags = λ k low. elim (cases_lt k to) [
-    | inl within ↦ (copied k low within).1
-    | inr behind ↦ flag_past p.copied.items k (omega (arith, behind, past, same, flags, long))
-  ];
-}
-  where
-    same : length (declared all) ≡ length (declared f)
-    same = ap length (same_declared all numbered f (store_of p) es h)
-
-    parts : length p.parts.items ≡ length (declared all)
-    parts = h.store.places.parts
-
-    flags : length p.copied.items ≡ length all.universals
-    flags = h.store.places.flags
-
-    long : length (declared all) ≡ length all.universals + length all.existentials
-    long = declared_long all
+copied_from f from to p es (all, numbered, h) past copied =
+    search (arith, cases_lt, index_past, flag_past, same_declared, declared_long)
 
 -- a universal that has copies where it was found
 pub universal_copied : (f : Dqbf) → HasLawfulPrefix f → (flags : List Bool) (v place : ℕ) →
@@ -202,34 +165,24 @@ module _ (all : Dqbf) (numbered : List ℕ) (f : Dqbf) (p : Definability) (log :
 
   -- what both sides have, this one has
   by_side : (P : MatrixCopy → ℕ → Type 0) → P p.first 1 → P p.second 2 → P copy side
-  by_side P one two = elim sides [
-    | inl is ↦ subst (P copy) (sym is) (subst (λ c. P c 1) (sym (first is)) one)
-    | inr is ↦ subst (P copy) (sym is) (subst (λ c. P c 2) (sym (second is)) two)
-  ]
+  by_side P one two = search arith
 
   few : side ≤ 2
   few = elim sides [ inl one ↦ omega (arith, one) | inr two ↦ omega (arith, two) ]
 
   pub side_universals_long : length copy.universals.items ≡ length f.universals
-  side_universals_long = by_side (λ c n. length c.universals.items ≡ length f.universals)
-      (h.store.places.first ∙ ap length h.universals) (h.store.places.second ∙ ap length h.universals)
+  side_universals_long = search (arith, by_side)
 
   pub side_existentials_long : length copy.existentials.items ≡ length f.existentials
-  side_existentials_long = by_side (λ c n. length c.existentials.items ≡ length f.existentials)
-      (h.store.places.first_existentials ∙ ap length h.existentials)
-      (h.store.places.second_existentials ∙ ap length h.existentials)
+  side_existentials_long = search (arith, by_side)
 
   -- the copy at a place
   at_side : (k : ℕ) (l : Literal) → slice_get (copies_of copy) k ≡ Some l → slice_get (side_copies s side) k ≡ Some l
-  at_side k l is = by_side (λ c n. slice_get (copies_of c) k ≡ Some l → slice_get (side_copies s n) k ≡ Some l)
-      (λ there. there) (λ there. there) is
+  at_side k l is = search (arith, by_side)
 
   named_there : (k v : ℕ) (l : Literal) → 5 ≤ parts_at s k → slice_get (declared f) k ≡ Some v →
       slice_get (copies_of copy) k ≡ Some l → name_literal log.entries l ≡ Some (named_literal (CopyOf side v) false)
-  named_there k v l low v_is l_is =
-      let small = few in
-      h.store.parts.copies side k v l (omega (arith, low, small))
-      (ap (λ xs. slice_get xs k) (same_declared all numbered f s log.entries h) ∙ v_is) (at_side k l l_is)
+  named_there k v l low v_is l_is = search (arith, same_declared, at_side)
 
   pub side_copied : AreCopies log.entries side p.copied.items f.universals copy.universals.items
   side_copied = record {
@@ -363,8 +316,7 @@ given_one s t live i m kept is has before k j less j_is = by (cases_lt k i)
         subst (HasGiven t 2) m_is has
 
 pub given_all : (s : StoreState) (live : List ℕ) (i : ℕ) → length live ≤ i → AreGivenSoFar s live i → AreGiven s live
-given_all s live i past given k d below =
-    given k (get_or live k d) (omega (arith, below, past)) (slice_get-get_or live k d below)
+given_all s live i past given k d below = search (arith, slice_get-get_or)
 
 pub all_given_at : (s : StoreState) (live : List ℕ) (i : ℕ) → i < length live → AreGiven s live →
     HasGiven s 2 (slice_index_or live i 0)

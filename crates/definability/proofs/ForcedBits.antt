@@ -52,8 +52,7 @@ module _ (f : Dqbf) (lawful : IsLawful f) (v : ℕ) (y : Existential) (found : e
 
   -- an existential has copies
   pub own_copied : (p : Definability) (es : List Entry) → IsDefinability f p es → IsCopied f p.copied.items y.variable
-  own_copied p es definability = existential_copied f lawful.prefix p.copied.items y.variable definability.as_many_flags
-      (mapped_existential f.existentials y (find_sound v f.existentials y found).0)
+  own_copied p es definability = search (arith, existential_copied, mapped_existential, find_sound)
 
   own_found : existential_of f y.variable ≡ Some y
   own_found = ap (existential_of f) variable_is ∙ found

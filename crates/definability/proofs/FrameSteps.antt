@@ -135,10 +135,7 @@ module _ (all : Dqbf) (numbered : List ℕ) (s : StoreState) (log middle : Proof
   first_made = record { positive = first_plain; named = second_names a (Selector a) a_named }
 
   second_made : IsMade after sides.second
-  second_made = record {
-    positive = second_plain;
-    named = ap (λ t. cond t (Some (Selector b)) (name_of (one ∷ es) b)) (eq-eqb b b refl);
-  }
+  second_made = search (arith, eq-eqb)
 
   abbrev IsNewAt : Slot → Group → Type 0
   IsNewAt slot g = (side : ℕ) × (slot ≡ of_frame side F) × (side_group side sides ≡ Some g)
@@ -155,10 +152,7 @@ module _ (all : Dqbf) (numbered : List ℕ) (s : StoreState) (log middle : Proof
   which (of_link k) g has = inr has
 
   kept_group : (slot : Slot) (g : Group) → HasGroup s slot g → HasGroup opened slot g
-  kept_group (of_frame side G) g (x, x_is, g_is) = (x, set_there s.frames F G (Some sides) (Some x) apart x_is, g_is)
-    where
-      apart : G ≢ F
-      apart same = let both : Some (Some x) ≡ Some None = sym x_is ∙ ap (slice_get s.frames) same ∙ free in cc
+  kept_group (of_frame side G) g (x, x_is, g_is) = search (arith, set_there)
   kept_group (of_link k) g has = has
 
   grown : IsGrown s opened
@@ -170,39 +164,21 @@ module _ (all : Dqbf) (numbered : List ℕ) (s : StoreState) (log middle : Proof
   }
 
   new_unnamed : (g : Group) (side : ℕ) → side_group side sides ≡ Some g → name_of es (group_variable g) ≡ None
-  new_unnamed g side is = elim (side_cases side sides g is) [
-    | inl first ↦ ap (λ (x : Group). name_of es (group_variable x)) (sym first.1) ∙ first_unnamed
-    | inr second ↦ ap (λ (x : Group). name_of es (group_variable x)) (sym second.1) ∙ b_unnamed
-  ]
+  new_unnamed g side is = search (arith, side_cases, b_unnamed)
 
   new_groups : AreNewGroups s opened es
   new_groups slot g has = elim (which slot g has)
       [ inl new ↦ inr (new_unnamed g new.0 new.2) | inr old ↦ inl old ]
 
   new_made : (g : Group) (side : ℕ) → side_group side sides ≡ Some g → IsMade after g
-  new_made g side is = elim (side_cases side sides g is) [
-    | inl first ↦ subst (IsMade after) first.1 first_made
-    | inr second ↦ subst (IsMade after) second.1 second_made
-  ]
+  new_made g side is = search (arith, side_cases, first_made, second_made)
 
   a_not_b : a ≢ b
-  a_not_b same =
-      let gone : name_of (one ∷ es) a ≡ None = ap (name_of (one ∷ es)) same ∙ b_fresh in
-      let there = a_named in
-      cc
+  a_not_b same = search (arith, b_fresh, a_named)
 
   one_side : (side side' : ℕ) (g h : Group) → side_group side sides ≡ Some g → side_group side' sides ≡ Some h →
       group_variable g ≡ group_variable h → side ≡ side'
-  one_side side side' g h is is' same = by (side_cases side sides g is) (side_cases side' sides h is')
-    where
-      by : ((side ≡ 1) × (sides.first ≡ g)) ⊎ ((side ≡ 2) × (sides.second ≡ g)) →
-          ((side' ≡ 1) × (sides.first ≡ h)) ⊎ ((side' ≡ 2) × (sides.second ≡ h)) → side ≡ side'
-      by (inl x) (inl y) = x.0 ∙ sym y.0
-      by (inl x) (inr y) =
-          absurd (a_not_b (ap group_variable x.1 ∙ same ∙ sym (ap group_variable y.1)))
-      by (inr x) (inl y) =
-          absurd (a_not_b (ap group_variable y.1 ∙ sym same ∙ sym (ap group_variable x.1)))
-      by (inr x) (inr y) = x.0 ∙ sym y.0
+  one_side side side' g h is is' same = search (arith, side_cases, a_not_b)
 
   fresh : (slot : Slot) (g h : Group) (side : ℕ) → HasGroup s slot g → side_group side sides ≡ Some h →
       group_variable g ≡ group_variable h → ⊥

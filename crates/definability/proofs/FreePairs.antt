@@ -1,5 +1,5 @@
 -- Values of both copies, as two rows with values of the existentials.
-use Rattle.std.proofs.Common.{◌≡◌, ℕ, zero, suc, ◌+◌, ◌<◌, ◌==◌, Bool, true, false, true≢false, not, cond, ◌||◌, ◌&&◌, inl, inr, List, [], ◌∷◌, ◌++◌, map, length, get_or, slice_get, Some, refl, sym, ◌∙◌, ap, subst, arith}
+use Rattle.std.proofs.Common.{◌≡◌, ℕ, zero, suc, ◌+◌, ◌<◌, ◌==◌, Bool, true, false, true≢false, not, cond, ◌||◌, inl, inr, List, [], ◌∷◌, ◌++◌, map, length, get_or, slice_get, Some, refl, sym, ◌∙◌, ap, subst, arith}
 use Rattle.std.specs.List.{All, Contains, list_any}
 use Rattle.std.specs.Option.{option_and_then}
 use Rattle.std.proofs.lemmas.Bool.{cases_Bool, eqb-true, eq-eqb, ne_eqb}
@@ -53,27 +53,7 @@ given_id (e ∷ es) o c (zero, lt, at) = here e at
           (cond b (Some (Given o c)) (numbered has_id es (last_id es + 1))))
           (eq-eqb (last_id es + 1) (last_id es + 1) refl),
     )
-given_id (e ∷ es) o c (suc k, lt, at) =
-    let before = given_id es o c (k, omega (arith, lt), at) in
-    later (has_id e) refl before.0 before.1 before.2
-  where
-    later : (b : Bool) → has_id e ≡ b → (id : ℕ) → id < last_id es + 1 → clause_at es id ≡ Some c →
-        (id : ℕ) × (id < last_id (e ∷ es) + 1) × (clause_at (e ∷ es) id ≡ Some c)
-    later true h id below is =
-        let more : last_id (e ∷ es) ≡ last_id es + 1 = ap (λ b. cond b (last_id es + 1) (last_id es)) h in (
-          id,
-          omega (arith, below, more),
-          ap (λ b. option_and_then clause_of (cond (b && (id == last_id es + 1)) (Some e) (numbered has_id es id))) h
-              ∙ ap (λ b. option_and_then clause_of (cond b (Some e) (numbered has_id es id)))
-              (ne_eqb id (last_id es + 1) (λ same. omega (arith, below, same))) ∙ is,
-        )
-    later false h id below is =
-        let same : last_id (e ∷ es) ≡ last_id es = ap (λ b. cond b (last_id es + 1) (last_id es)) h in (
-          id,
-          omega (arith, below, same),
-          ap (λ b. option_and_then clause_of
-              (cond (b && (id == last_id es + 1)) (Some e) (numbered has_id es id))) h ∙ is,
-        )
+given_id (e ∷ es) o c (suc k, lt, at) = search (arith, (given_id es o c), ne_eqb)
 
 there_at : {X : Type 0} (xs : List X) (k : ℕ) → k < length xs → (x : X) × (slice_get xs k ≡ Some x)
 there_at [] k lt = absurd (omega (arith, lt))
@@ -81,17 +61,12 @@ there_at (x ∷ xs) zero lt = (x, refl)
 there_at (x ∷ xs) (suc k) lt = there_at xs k (omega (arith, lt))
 
 missing_universal : (us : List ℕ) (v : ℕ) → list_any (λ x. x == v) us ≡ false → Contains us v → ⊥
-missing_universal us v h (k, lt, at) = true≢false (sym (list_any_at (λ x. x == v) us k v lt
-    (eq-eqb (get_or us k v) v at)) ∙ h)
+missing_universal us v h (k, lt, at) = search (arith, true≢false, list_any_at, eq-eqb)
 
 -- a universal's value is its bit of the row
 pub universal_value : (f : Dqbf) (row values : List Bool) (v : ℕ) → Contains f.universals v →
     round_assignment f row values v ≡ row_assignment f row v
-universal_value f row values v among = elim (cases_Bool (is_universal f v)) [
-  | inl universal ↦
-      ap (λ b. by_universality b (row_assignment f row v) (assignment_of (existential_variables f) values v)) universal
-  | inr other ↦ absurd (missing_universal f.universals v other among)
-]
+universal_value f row values v among = search (arith, cases_Bool, missing_universal)
 
 module _ (f : Dqbf) (es : List Entry) (values : Assignment) (formula : IsWellFormed f)
     (unique : (v w : ℕ) (name : Name) → name_of es v ≡ Some name → name_of es w ≡ Some name → v ≡ w)
@@ -170,12 +145,7 @@ module _ (f : Dqbf) (es : List Entry) (values : Assignment) (formula : IsWellFor
     copied_literal_true : (l k : Literal) → Contains (declared f) (variable_of l) → IsCopied f flags (variable_of l) →
         name_literal es k ≡ Some (named_literal (CopyOf side (variable_of l)) (is_negative l)) →
         literal_true values k ≡ literal_true m l
-    copied_literal_true l k among has is =
-        let named = named_variable es k (CopyOf side (variable_of l)) (is_negative l)
-        (name_of es (variable_of k)) refl is in
-        literal_signed values k ∙ ap (λ b. signed b (values (variable_of k))) named.1 ∙ ap (signed (is_negative l))
-        (sym (copied_value (variable_of l) (variable_of k) among has named.0))
-        ∙ sym (literal_signed m l)
+    copied_literal_true l k among has is = search (arith, named_variable, literal_signed, copied_value)
 
     -- what was copied is true where its copies are
     pub originals_true : (ls ks : List Literal) → All (λ l. Contains (declared f) (variable_of l)) ls →
@@ -244,24 +214,7 @@ module _ (f : Dqbf) (es : List Entry) (values : Assignment) (formula : IsWellFor
           (signed a (values v) || signed b (values w)) ≡ true
       pair_true [] a b are h = cc
       pair_true (k ∷ []) a b are h = cc
-      pair_true (k ∷ j ∷ []) a b are h =
-          let k_is : name_literal es k ≡ Some (named_literal (CopyOf 1 x) a) = cc in
-          let j_is : name_literal es j ≡ Some (named_literal (CopyOf 2 x) b) = cc in
-          let k_named = named_variable es k (CopyOf 1 x) a (name_of es (variable_of k)) refl k_is in
-          let j_named = named_variable es j (CopyOf 2 x) b (name_of es (variable_of j)) refl j_is in
-          let k_value : literal_true values k ≡ signed a (values v) =
-          literal_signed values k ∙ ap (λ s. signed s (values (variable_of k))) k_named.1 ∙ ap
-          (λ u. signed a (values u)) (unique (variable_of k) v (CopyOf 1 x) k_named.0 one) in
-          let j_value : literal_true values j ≡ signed b (values w) =
-          literal_signed values j ∙ ap (λ s. signed s (values (variable_of j))) j_named.1 ∙ ap
-          (λ u. signed b (values u)) (unique (variable_of j) w (CopyOf 2 x) j_named.0 two) in
-          sym (ap (λ t. t || literal_true values j) k_value ∙ ap (λ t. signed a (values v) || t) j_value) ∙ shorter
-          (literal_true values k) (literal_true values j) h
-        where
-          shorter : (s t : Bool) → (s || (t || false)) ≡ true → (s || t) ≡ true
-          shorter true t h = refl
-          shorter false true h = refl
-          shorter false false h = h
+      pair_true (k ∷ j ∷ []) a b are h = search (arith, named_variable, literal_signed)
       pair_true (k ∷ j ∷ i ∷ ks) a b are h = cc
 
       both : (s t : Bool) → (not s || t) ≡ true → (s || not t) ≡ true → s ≡ t
@@ -272,18 +225,9 @@ module _ (f : Dqbf) (es : List Entry) (values : Assignment) (formula : IsWellFor
 
 pub all_there : (P : Literal → Type 0) (xs : List Group) (more : List Literal) → All P (map (λ g. g.selector) xs ++ more) →
     ((g : Group) → Contains xs g → P g.selector) × All P more
-all_there P [] more all = (λ g among. absurd (nothing g among), all)
-  where
-    nothing : (g : Group) → Contains {X = Group} [] g → ⊥
-    nothing g (k, lt, at) = omega (arith, lt)
+all_there P [] more all = search arith
 all_there P (x ∷ xs) more all =
-    let rest = all_there P xs more (All-tail P x.selector (map (λ g. g.selector) xs ++ more) all) in
-    (λ g among. here g among rest.0, rest.1)
-  where
-    here : (g : Group) → Contains (x ∷ xs) g → ((h : Group) → Contains xs h → P h.selector) → P g.selector
-    here g (zero, lt, at) later = subst (λ h. P h.selector) at
-        (All-head P x.selector (map (λ g. g.selector) xs ++ more) all)
-    here g (suc k, lt, at) later = later g (k, omega (arith, lt), at)
+    search (arith, (all_there P xs more), (All-tail P x.selector), (All-head P x.selector))
 
 pub all_parts : (P : Literal → Type 0) (xs ys : List Literal) → All P (xs ++ ys) → All P xs × All P ys
 all_parts P [] ys all = (All-nil P, all)
@@ -309,8 +253,7 @@ bits_of_values values flags lits = record {
 pub groups_on : (es : List Entry) (values : Assignment) (gs : List Group) → All (IsMade es) gs →
     ((g : Group) → Contains gs g → literal_true values g.selector ≡ true) → (g : Group) → Contains gs g →
     values (group_variable g) ≡ true
-groups_on es values gs made on g among =
-    positive_true values g.selector (All-contains (IsMade es) gs g made among).positive (on g among)
+groups_on es values gs made on g among = search (arith, (positive_true values g.selector), All-contains)
 
 -- the pair that a search found
 module _ (f : Dqbf) (places : List ℕ) (v : ℕ) (conditions : List Literal) (p : Definability) (others : List Bool)

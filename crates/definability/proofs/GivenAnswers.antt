@@ -1,6 +1,6 @@
 -- What an answer to a question says of an existential: of its definition, and of its definition under conditions.
-use Rattle.std.proofs.Common.{◌≡◌, ◌≢◌, ◌<◌, ◌==◌, ℕ, Bool, true, false, true≢false, not, inl, inr, List, [], ◌∷◌, filter, length, get_or, slice_get, slice_index, Some, IsSome, sym, ◌∙◌, ap, subst, arith}
-use Rattle.std.specs.List.{All, Contains, position_or_len}
+use Rattle.std.proofs.Common.{◌≡◌, ◌≢◌, ◌<◌, ℕ, Bool, true, false, true≢false, not, inl, inr, List, [], ◌∷◌, filter, length, get_or, slice_get, slice_index, Some, IsSome, sym, ◌∙◌, ap, subst, arith}
+use Rattle.std.specs.List.{All, Contains}
 use Rattle.std.proofs.lemmas.Bool.{cases_Bool}
 use Rattle.std.proofs.lemmas.List.Elements.{All-contains, All-head, All-map, All-nil, Contains-get_or}
 use Rattle.std.proofs.lemmas.Option.{get_or_from_slice_get, slice_get_within, slice_get-get_or}
@@ -86,10 +86,7 @@ module _ (f : Dqbf) (lawful : IsLawful f) (flags others : List Bool) (places : L
     (as_many : length flags ≡ length f.universals) where
   place_of_rest : (k x : ℕ) → slice_get (declared f) k ≡ Some x → is_copied_at flags k ≡ false →
       slice_get f.universals k ≡ Some x
-  place_of_rest k x at_k none = elim (declared_cases f.universals (existential_variables f) k x at_k) [
-    | inl universal ↦ universal
-    | inr far ↦ absurd (true≢false (sym (flag_past flags k (omega (arith, far, as_many))) ∙ none))
-  ]
+  place_of_rest k x at_k none = search (arith, declared_cases, true≢false, flag_past)
 
   value_of_rest : (row values : List Bool) → ((k : ℕ) → is_copied_at flags k ≡ false → bit_of row k ≡ bit_of others k) →
       (k x : ℕ) → slice_get f.universals k ≡ Some x → is_copied_at flags k ≡ false →
@@ -100,15 +97,7 @@ module _ (f : Dqbf) (lawful : IsLawful f) (flags others : List Bool) (places : L
 
   pub agree_everywhere : (set : ℕ → Type 0) → AreCopiedPlaces (declared f) set flags places → (x : ℕ) → set x →
       round_assignment f pair.row1 pair.values1 x ≡ round_assignment f pair.row2 pair.values2 x
-  agree_everywhere set are x is =
-      let r = are.complete x is in
-      elim r.2 [
-        | inl inside ↦ at.agree x (r.0, r.1, inside)
-        | inr none ↦ (
-            let there = place_of_rest r.0 x r.1 none in
-            value_of_rest pair.row1 pair.values1 at.first_rest r.0 x there none
-            ∙ sym (value_of_rest pair.row2 pair.values2 at.second_rest r.0 x there none))
-      ]
+  agree_everywhere set are x is = search (arith, place_of_rest, value_of_rest)
 
   signed_true : (m : Assignment) (l : Literal) → m (variable_of l) ≡ not (is_negative l) → literal_true m l ≡ true
   signed_true m (positive w) is = is
@@ -128,11 +117,7 @@ module _ (f : Dqbf) (lawful : IsLawful f) (flags others : List Bool) (places : L
           | inl has ↦ All-contains (λ k. literal_true m k ≡ true) conditions l kept
               (subst (λ ls. Contains ls l) (sym kept_are)
               (in_filter (λ k. has_copies f flags (variable_of k)) whole l (Contains-get_or whole j d lt) has))
-          | inr none ↦ (
-              let k = position_or_len (λ u. u == variable_of l) f.universals in
-              let there = has_no_copies f flags as_many (variable_of l) none in
-              signed_true m l (value_of_rest row values rest k (variable_of l) there none
-              ∙ meets.meets j k l lt (slice_get-get_or whole j d lt) there))
+          | inr none ↦ search (arith, has_no_copies, signed_true, value_of_rest, slice_get-get_or)
         ]
 
     pub first_meets_all : All (λ l. literal_true (round_assignment f pair.row1 pair.values1) l ≡ true) conditions →

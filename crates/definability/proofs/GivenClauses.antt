@@ -1,14 +1,14 @@
 -- Clauses that are given to a group, and how steps compose.
-use Rattle.std.proofs.Common.{◌≡◌, ◌≢◌, ℕ, ◌≤◌, ◌==◌, Bool, true, false, inl, inr, List, [], ◌∷◌, map, length, Option, Some, None, IsSome, refl, sym, ◌∙◌, ap, subst, arith}
+use Rattle.std.proofs.Common.{◌≡◌, ℕ, ◌≤◌, Bool, true, false, inl, inr, List, [], ◌∷◌, length, Option, Some, None, IsSome, refl, sym, ◌∙◌, ap, subst, arith}
 use Rattle.std.specs.List.{All, Contains}
 use Rattle.std.proofs.lemmas.List.Elements.{All-head, All-cons}
 use Rattle.list_laws.proofs.Members.{contains_cases}
-use Rattle.dq_lits.specs.Literal.{Literal, negative, variable_of, is_negative}
+use Rattle.dq_lits.specs.Literal.{Literal, negative, variable_of}
 use Rattle.dq_lits.specs.Formula.{Dqbf}
 use Rattle.hint_log.specs.Conditions.{AreLogged}
 use Rattle.hint_log.specs.Entries.{Entry, Named, Given, Learned, Answer, Round, Begun, ProofLog, with_entry, name_of}
 use Rattle.hint_log.specs.Growth.{Each}
-use Rattle.hint_log.specs.Naming.{AreNamedAs, named_literal, name_literal, is_selector_name}
+use Rattle.hint_log.specs.Naming.{AreNamedAs, named_literal, name_literal}
 use Rattle.hint_log.specs.Origins.{IsRestOf}
 use Rattle.hint_log.specs.ProductiveLog.{MatchesOrigin, is_fault, fault_groups, fault_room}
 use Rattle.hint_log.specs.declared.names.Name.{Name}
@@ -54,14 +54,7 @@ module _ (f : Dqbf) (log : ProofLog) (g : ℕ) (origin : Origin) (rest : List Li
     (rest_is : IsRestOf f log.entries g origin rest) (first : (c : List Literal) →
     Contains log.entries (Given origin c) → ⊥) (few : HasFewFaults log.entries) where
   pub right_clause : MatchesOrigin f log.entries (Given origin (negative g ∷ rest))
-  right_clause = record {
-    group = g;
-    rest = rest;
-    clause_is = refl;
-    is_group = is_group;
-    rest_is = rest_is;
-    one_leaf = λ v j i j' i' leaf leaf' rest' is. absurd (not_a_fault origin own j i is);
-  }
+  right_clause = search (arith, not_a_fault)
 
   faults_same : fault_groups (Given origin (negative g ∷ rest) ∷ log.entries) ≡ fault_groups log.entries
   faults_same = rw (no_fault origin own) refl
@@ -84,11 +77,7 @@ module _ (f : Dqbf) (log : ProofLog) (g : ℕ) (origin : Origin) (rest : List Li
 
 -- clauses that are given to a group, one by one
 pub gives_none : (f : Dqbf) (test : Origin → Bool) (g : ℕ) (log : ProofLog) → Gives f test g log log
-gives_none f test g log = record {
-  grew = in_same f g log log refl;
-  names = λ v. refl;
-  givens = λ o c inside. inl inside;
-}
+gives_none f test g log = search (arith, in_same)
 
 pub gives_more : (f : Dqbf) (test : Origin → Bool) (g : ℕ) (old log : ProofLog) (origin : Origin)
     (clause : List Literal) → test origin ≡ true → GrewIn f g log (with_entry log (Given origin clause)) →
@@ -106,11 +95,7 @@ gives_more f test g old log origin clause passes grew before = record {
 pub fresh_group : (f : Dqbf) (test : Origin → Bool) (g : ℕ) (es : List Entry) → AreLogged es → name_of es g ≡ None →
     Each (IsGroupGiven f test g) es
 fresh_group f test g [] lawful none = tt
-fresh_group f test g (Named w n ∷ es) lawful none = (
-  tt,
-  fresh_group f test g es lawful.1
-      (none_below (g == w) n (name_of es g) none),
-)
+fresh_group f test g (Named w n ∷ es) lawful none = search (arith, (fresh_group f test g es lawful.1), none_below)
 fresh_group f test g (Given origin c ∷ es) lawful none = (
   λ inside.
       let named = All-head (λ l. IsSome (name_of es (variable_of l))) (negative g) inside.0
@@ -130,9 +115,7 @@ fresh_group f test g (Begun live ∷ es) lawful none = (tt, fresh_group f test g
 -- literals on copies are no selectors
 pub plain_copy : (es : List Entry) (k : Literal) (side v : ℕ) (b : Bool) →
     name_literal es k ≡ Some (named_literal (CopyOf side v) b) → IsPlain es k
-plain_copy es k side v b is =
-    let named = named_variable es k (CopyOf side v) b (name_of es (variable_of k)) refl is in
-    record { named = subst IsSome (sym named.0) refl; no_selector = ap is_selector_name named.0 }
+plain_copy es k side v b is = search (arith, named_variable)
 
 pub copies_plain : (es : List Entry) (side : ℕ) (clause lits : List Literal) →
     AreNamedAs es lits (copy_names side clause) → All (IsPlain es) lits
@@ -140,7 +123,4 @@ copies_plain es side [] [] are = λ k d below. absurd (omega (arith, below))
 copies_plain es side [] (k ∷ ks) are = λ i d below. cc
 copies_plain es side (l ∷ clause) [] are = λ k d below. absurd (omega (arith, below))
 copies_plain es side (l ∷ clause) (k ∷ ks) are =
-    let here : name_literal es k ≡ Some (named_literal (CopyOf side (variable_of l)) (is_negative l)) = cc in
-    let later : map (name_literal es) ks ≡ map Some (copy_names side clause) = cc in
-    All-cons (IsPlain es) k ks (plain_copy es k side (variable_of l) (is_negative l) here)
-    (copies_plain es side clause ks later)
+    search (arith, All-cons, plain_copy, (copies_plain es side clause ks))

@@ -17,7 +17,7 @@ use Rattle.log_laws.proofs.Kept.{NamesStay}
 use Rattle.oracle.specs.declared.groups.Group.{Group}
 use Rattle.definability.specs.Copies.{IsCopied, copy_names, group_variable}
 use Rattle.definability.specs.Following.{IsFollowing, CanGiveCopies}
-use Rattle.definability.specs.Store.{StoreState, HasGiven, HasGroup, of_frame, IsStoredCopy, IsStoreEntry, IsGivenThere, IsPartialStore}
+use Rattle.definability.specs.Store.{StoreState, HasGiven, HasGroup, of_frame, IsStoreEntry, IsGivenThere, IsPartialStore}
 use Rattle.definability.proofs.PreservedStores.{IsGrown, entries_kept, kept_by, given_stays, groups_stay, has_number, parts_stay}
 use Rattle.definability.proofs.StoreSteps.{following_entry}
 
@@ -26,13 +26,7 @@ noted_copy : (all : Dqbf) (numbered : List ℕ) (s : StoreState) (es : List Entr
     Each (IsStoreEntry all numbered s) es → Contains es (Given (Copy side j) c) → HasGiven s side j
 noted_copy all numbered s [] side j c own inside = let below = inside.1 in absurd (omega (arith, below))
 noted_copy all numbered s (e ∷ es) side j c own inside =
-    by (noted_copy all numbered s es side j c own.1) (contains_cases e (Given (Copy side j) c) es inside)
-  where
-    by : (Contains es (Given (Copy side j) c) → HasGiven s side j) → (e ≡ Given (Copy side j) c)
-        ⊎ Contains es (Given (Copy side j) c) → HasGiven s side j
-    by later (inl same) =
-        let h : IsStoredCopy all numbered s es side j c = subst (IsStoreEntry all numbered s es) same own.0 in h.given
-    by later (inr behind) = later behind
+    search (arith, (noted_copy all numbered s es side j c own.1), contains_cases)
 
 module _ (all : Dqbf) (numbered : List ℕ) (f : Dqbf) (s : StoreState) (log : ProofLog)
     (h : CanGiveCopies all numbered f s log.entries) (logged : AreLogged log.entries) (side j : ℕ) (low : 1 ≤ j)

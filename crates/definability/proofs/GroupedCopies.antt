@@ -1,5 +1,5 @@
 -- Copies have one group where their clauses are of one frame, and they are of one side.
-use Rattle.std.proofs.Common.{◌≡◌, ℕ, zero, suc, ◌⊎◌, inl, inr, List, [], ◌∷◌, ◌++◌, map, Some, refl, sym, ◌∙◌, ap, subst, arith}
+use Rattle.std.proofs.Common.{◌≡◌, ℕ, zero, suc, inl, inr, List, [], ◌∷◌, ◌++◌, map, Some, refl, sym, ◌∙◌, ap, subst, arith}
 use Rattle.std.specs.List.{Contains}
 use Rattle.std.proofs.lemmas.List.Elements.{Contains-append_cases, Contains-append_left, Contains-append_right}
 use Rattle.std.proofs.lemmas.Option.{slice_get-get_or}
@@ -14,7 +14,7 @@ use Rattle.log_laws.specs.Engines.{IsInGroup}
 use Rattle.oracle.specs.declared.groups.Group.{Group}
 use Rattle.definability.specs.Copies.{all_groups, group_variable}
 use Rattle.definability.specs.Leaving.{CopiesAreGrouped, CopiesAreStored, ActiveGroupsAreStored}
-use Rattle.definability.specs.Store.{StoreState, store_of, HasGroup, Slot, of_frame, of_link, both_groups, store_groups, IsStoredCopy, IsStoreEntry}
+use Rattle.definability.specs.Store.{StoreState, store_of, HasGroup, Slot, of_frame, of_link, both_groups, store_groups, IsStoreEntry}
 use Rattle.definability.proofs.PreservedStores.{has_number, link_number}
 use Rattle.log_laws.proofs.Kept.{in_one_group}
 
@@ -28,22 +28,13 @@ pub copy_slot : (all : Dqbf) (numbered : List ℕ) (s : StoreState) (es : List E
     Each (IsStoreEntry all numbered s) es → Contains es (Given (Copy side j) c) → IsInSlot numbered s side j c
 copy_slot all numbered s [] side j c own inside = let below = inside.1 in absurd (omega (arith, below))
 copy_slot all numbered s (e ∷ es) side j c own inside =
-    by (copy_slot all numbered s es side j c own.1) (contains_cases e (Given (Copy side j) c) es inside)
-  where
-    by : (Contains es (Given (Copy side j) c) → IsInSlot numbered s side j c) → (e ≡ Given (Copy side j) c) ⊎ Contains es (Given (Copy side j) c) → IsInSlot numbered s side j c
-    by later (inl same) =
-        let h : IsStoredCopy all numbered s es side j c = subst (IsStoreEntry all numbered s es) same own.0 in
-        record { group = h.group; has_group = h.has_group; in_group = h.in_group }
-    by later (inr behind) = later behind
+    search (arith, (copy_slot all numbered s es side j c own.1), contains_cases)
 
 slot_parts : (side F side' F' : ℕ) → of_frame side F ≡ of_frame side' F' → (F ≡ F') × (side ≡ side')
 slot_parts side F side' F' same = (cc, cc)
 
 pub one_group : (s : StoreState) (slot : Slot) (g h : Group) → HasGroup s slot g → HasGroup s slot h → g ≡ h
-one_group s (of_frame side F) g h (x, x_is, g_is) (y, y_is, h_is) =
-    let both : Some (Some x) ≡ Some (Some y) = sym x_is ∙ y_is in
-    let same : x ≡ y = cc in
-    cc
+one_group s (of_frame side F) g h (x, x_is, g_is) (y, y_is, h_is) = search arith
 one_group s (of_link k) g h has has' = let both : Some g ≡ Some h = sym has.1 ∙ has'.1 in cc
 
 pub grouped : CopiesAreGrouped

@@ -1,5 +1,5 @@
 -- A variable of a store gets half of its equation.
-use Rattle.std.proofs.Common.{◌≡◌, ◌≢◌, ℕ, suc, ◌+◌, ◌<◌, ◌≤◌, false, ◌⊎◌, inl, inr, List, [], ◌∷◌, map, length, slice_get, Some, refl, sym, ◌∙◌, ap, subst, arith}
+use Rattle.std.proofs.Common.{◌≡◌, ◌≢◌, ℕ, suc, ◌+◌, ◌<◌, ◌≤◌, false, ◌⊎◌, inl, inr, List, [], ◌∷◌, length, slice_get, Some, refl, sym, ◌∙◌, ap, subst, arith}
 use Rattle.std.specs.List.{AllPairs, Contains}
 use Rattle.std.proofs.lemmas.List.Elements.{Contains-append_right}
 use Rattle.std.proofs.lemmas.Option.{slice_get_within}
@@ -19,7 +19,7 @@ use Rattle.log_laws.proofs.Kept.{NamesStay}
 use Rattle.oracle.specs.declared.groups.Group.{Group}
 use Rattle.definability.specs.Copies.{IsGivenIn, group_variable}
 use Rattle.definability.specs.Following.{IsFollowing, CanGiveCopies}
-use Rattle.definability.specs.Store.{StoreState, parts_at, side_copies, both_groups, IsStoredLink, IsStoreEntry, HasParts, IsPartialStore}
+use Rattle.definability.specs.Store.{StoreState, parts_at, side_copies, IsStoreEntry, HasParts, IsPartialStore}
 use Rattle.definability.proofs.PartSteps.{raised, raised_here, raised_grown, held_before, raised_store, raised_new, raised_groups, raised_old}
 use Rattle.definability.proofs.PreservedStores.{kept_by, given_in_stays, parts_stay, link_number}
 use Rattle.definability.proofs.StoreSteps.{following_entry}
@@ -35,14 +35,7 @@ stored_link : (all : Dqbf) (numbered : List ℕ) (s : StoreState) (es : List Ent
     Each (IsStoreEntry all numbered s) es → Contains es (Given (Link x i) c) → IsLinkGiven all s x i
 stored_link all numbered s [] x i c own inside = let below = inside.1 in absurd (omega (arith, below))
 stored_link all numbered s (e ∷ es) x i c own inside =
-    by (stored_link all numbered s es x i c own.1) (contains_cases e (Given (Link x i) c) es inside)
-  where
-    by : (Contains es (Given (Link x i) c) → IsLinkGiven all s x i) → (e ≡ Given (Link x i) c)
-        ⊎ Contains es (Given (Link x i) c) → IsLinkGiven all s x i
-    by later (inl same) =
-        let h : IsStoredLink all s es x i c = subst (IsStoreEntry all numbered s es) same own.0 in
-        record { place = h.place; variable_is = h.variable_is; done = h.done }
-    by later (inr behind) = later behind
+    search (arith, (stored_link all numbered s es x i c own.1), contains_cases)
 
 module _ (all : Dqbf) (numbered : List ℕ) (f : Dqbf) (once : AllPairs (λ v w. v ≢ w) (declared all)) (s : StoreState) (log : ProofLog)
     (h : CanGiveCopies all numbered f s log.entries) (logged : AreLogged log.entries) (place x i : ℕ)
@@ -160,12 +153,7 @@ module _ (all : Dqbf) (numbered : List ℕ) (f : Dqbf) (once : AllPairs (λ v w.
   equated_following new is = following_entry all numbered s equated log new e is
       (record {
         own = refl;
-        in_group = (
-          group_variable g,
-          (rest, refl),
-          inl (Contains-append_right (both_groups s.frames) (map group_variable s.links) (group_variable g)
-              (link_number s.links place g g_is)),
-        );
+        in_group = search (arith, Contains-append_right, link_number);
         matches_origin = right;
         not_repeated = record { first = λ no_fault d inside. first d inside; groups = h.few };
       }) refl refl refl

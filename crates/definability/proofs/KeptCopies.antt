@@ -4,7 +4,7 @@ use Rattle.std.specs.List.{All, Contains}
 use Rattle.std.proofs.lemmas.List.Elements.{All-head, All-tail, All-cons, All-nil, Contains-append_left, Contains-append_right, All-contains, Contains-append_cases}
 use Rattle.std.proofs.lemmas.Option.{slice_get_within, get_or_from_slice_get}
 use Rattle.list_laws.proofs.Members.{contains_later}
-use Rattle.dq_lits.specs.Literal.{Literal, negative}
+use Rattle.dq_lits.specs.Literal.{Literal}
 use Rattle.dq_lits.specs.Formula.{Dqbf}
 use Rattle.hint_log.specs.Entries.{Entry, Named, Given, Learned, Answer, Round, Begun, ProofLog, name_of}
 use Rattle.hint_log.specs.Growth.{Each, Grew}
@@ -51,8 +51,7 @@ module _ (f : Dqbf) (engine : Engine) (group : ℕ) (silent : Bool) (old : List 
       (earlier : List Entry) (e : Entry) →
       IsAddedBy f engine group silent old earlier e → IsGroupGiven f test mine earlier e
   other_group test mine n apart named earlier (Named v m) h = tt
-  other_group test mine n apart named earlier (Given origin c) h = λ inside.
-      absurd (not_given mine n apart named earlier origin c h inside)
+  other_group test mine n apart named earlier (Given origin c) h = search arith
   other_group test mine n apart named earlier (Learned c hints) h = tt
   other_group test mine n apart named earlier (Answer c hints) h = tt
   other_group test mine n apart named earlier (Round row values j) h = tt
@@ -62,8 +61,7 @@ module _ (f : Dqbf) (engine : Engine) (group : ℕ) (silent : Bool) (old : List 
       (earlier : List Entry) (e : Entry) →
       IsAddedBy f engine group silent old earlier e → IsSideGiven f side mine earlier e
   other_side side mine n apart named earlier (Named v m) h = tt
-  other_side side mine n apart named earlier (Given origin c) h = λ inside.
-      absurd (not_given mine n apart named earlier origin c h inside)
+  other_side side mine n apart named earlier (Given origin c) h = search arith
   other_side side mine n apart named earlier (Learned c hints) h = tt
   other_side side mine n apart named earlier (Answer c hints) h = tt
   other_side side mine n apart named earlier (Round row values j) h = tt
@@ -100,13 +98,7 @@ keeps_entry f e es names plain plain_side = record {
 pub given_stays : (f : Dqbf) (apart : ℕ → Type 0) (old new : List Entry) → Keeps f apart old new →
     (group : ℕ) (origin : Origin) (names : List NamedLiteral) →
     IsGivenIn old group origin names → IsGivenIn new group origin names
-given_stays f apart old new keeps group origin names given =
-    record {
-      rest = given.rest;
-      given = keeps.contains (Given origin (negative group ∷ given.rest)) given.given;
-      named =
-          named_stay old new keeps.names given.rest names given.named;
-    }
+given_stays f apart old new keeps group origin names given = search (arith, named_stay)
 
 pub copies_stay : (old new : List Entry) → NamesStay old new → (side : ℕ) (flags : List Bool) (xs : List ℕ)
     (lits : List Literal) → AreCopies old side flags xs lits → AreCopies new side flags xs lits
@@ -148,8 +140,7 @@ link_stays f apart old new keeps x g is_apart l = record {
 pub of_mapped : (P : ℕ → Type 0) (gs : List Group) (g : Group) → All P (map group_variable gs) → Contains gs g →
     P (group_variable g)
 of_mapped P [] g all (k, lt, at) = absurd (omega (arith, lt))
-of_mapped P (h ∷ gs) g all (zero, lt, at) = subst (λ x. P (group_variable x)) at
-    (All-head P (group_variable h) (map group_variable gs) all)
+of_mapped P (h ∷ gs) g all (zero, lt, at) = search (arith, All-head)
 of_mapped P (h ∷ gs) g all (suc k, lt, at) = of_mapped P gs g
     (All-tail P (group_variable h) (map group_variable gs) all) (k, omega (arith, lt), at)
 
@@ -190,27 +181,18 @@ definability_stays f apart old new keeps p all is =
 -- what is a copy stays one as the log grows
 pub copy_given_stays : (old new : List Entry) (f : Dqbf) (side : ℕ) (c : List Literal) → NamesStay old new →
     IsCopyGiven old f side c → IsCopyGiven new f side c
-copy_given_stays old new f side c stay given = record {
-  group = given.group;
-  rest = given.rest;
-  original = given.original;
-  is_group = stay given.group (Selector given.group) given.is_group;
-  clause_is = given.clause_is;
-  original_is = given.original_is;
-  copied = named_stay old new stay given.rest (copy_names side given.original) given.copied;
-}
+copy_given_stays old new f side c stay given = search (arith, named_stay)
 
 -- every group was made
 pub groups_made : (f : Dqbf) (p : Definability) (es : List Entry) → IsDefinability f p es → (g : Group) →
     Contains (all_groups p) g → IsMade es g
 groups_made f p es definability g among =
-    elim (Contains-append_cases p.first.groups.items (p.second.groups.items ++ p.links.items) g among) [
-      | inl first ↦ All-contains (IsMade es) p.first.groups.items g definability.first.made first
-      | inr behind ↦ elim (Contains-append_cases p.second.groups.items p.links.items g behind) [
-        | inl second ↦ All-contains (IsMade es) p.second.groups.items g definability.second.made second
-        | inr link ↦ All-contains (IsMade es) p.links.items g definability.links_made link
-      ]
-    ]
+    search (
+      arith,
+      (Contains-append_cases p.first.groups.items (p.second.groups.items ++ p.links.items) g among),
+      All-contains,
+      (Contains-append_cases p.second.groups.items p.links.items g),
+    )
 
 -- and so has a name
 pub groups_named : (f : Dqbf) (p : Definability) (es : List Entry) → IsDefinability f p es → All (IsNamed es) (groups_of p)
@@ -225,9 +207,7 @@ all_plain xs i d lt = tt
 
 pub engines_leave : EnginesLeaveCopies
 engines_leave f p engine group silent old new grew apart definability =
-    definability_stays f (λ mine. (mine ≢ group) × IsNamed old.entries mine) old.entries new.entries
-    (keeps_by_engine f engine group silent old new grew) p
-    (all_both (λ g. g ≢ group) (IsNamed old.entries) (groups_of p) apart (groups_named f p old.entries definability)) definability
+    search (arith, definability_stays, keeps_by_engine, all_both, groups_named)
 
 pub rounds_leave : RoundsLeaveCopies
 rounds_leave f p entries row values j definability =

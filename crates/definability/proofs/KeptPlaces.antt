@@ -1,5 +1,5 @@
 -- What is left of places and conditions where only variables with copies are asked for.
-use Rattle.std.proofs.Common.{◌≡◌, ◌≢◌, ◌⊎◌, ℕ, zero, suc, ◌+◌, ◌<◌, ◌≤◌, ◌==◌, Bool, true, false, true≢false, cond, not, inl, inr, List, [], ◌∷◌, ◌++◌, length, get_or, slice_get, filter, Some, refl, sym, ◌∙◌, ap, subst, arith}
+use Rattle.std.proofs.Common.{◌≡◌, ◌≢◌, ◌⊎◌, ℕ, zero, suc, ◌+◌, ◌<◌, ◌≤◌, ◌==◌, Bool, true, false, true≢false, cond, inl, inr, List, [], ◌∷◌, ◌++◌, length, get_or, slice_get, filter, Some, refl, sym, ◌∙◌, ap, subst, arith}
 use Rattle.std.specs.List.{All, AllPairs, Contains, list_any, position_or_len}
 use Rattle.std.proofs.lemmas.Bool.{cases_Bool, cases_lt, eqb-true, eq-eqb, ne_eqb, or_cases, or_left, or_right}
 use Rattle.std.proofs.lemmas.List.Elements.{Contains-get_or}
@@ -35,8 +35,7 @@ module _ {X : Type 0} (p : X → Bool) where
 
   pub in_filter : (xs : List X) (x : X) → Contains xs x → p x ≡ true → Contains (filter p xs) x
   in_filter [] x (k, lt, at) passes = absurd (omega (arith, lt))
-  in_filter (y ∷ xs) x (zero, lt, at) passes =
-      subst (λ b. Contains (cond b (y ∷ filter p xs) (filter p xs)) x) (sym (ap p at ∙ passes)) (0, omega arith, at)
+  in_filter (y ∷ xs) x (zero, lt, at) passes = search arith
   in_filter (y ∷ xs) x (suc k, lt, at) passes = by (p y) (in_filter xs x (k, omega (arith, lt), at) passes)
     where
       by : (b : Bool) → Contains (filter p xs) x → Contains (cond b (y ∷ filter p xs) (filter p xs)) x
@@ -83,8 +82,7 @@ pub declared_cases : (xs ys : List ℕ) (k v : ℕ) → slice_get (xs ++ ys) k �
     (slice_get xs k ≡ Some v) ⊎ (length xs ≤ k)
 declared_cases [] ys k v at = inr (omega arith)
 declared_cases (x ∷ xs) ys zero v at = inl at
-declared_cases (x ∷ xs) ys (suc k) v at = elim (declared_cases xs ys k v at)
-    [ inl here ↦ inl here | inr far ↦ inr (omega (arith, far)) ]
+declared_cases (x ∷ xs) ys (suc k) v at = search (arith, (declared_cases xs ys k v at))
 
 pub flag_past : (flags : List Bool) (k : ℕ) → length flags ≤ k → is_copied_at flags k ≡ true
 flag_past [] k past = refl
@@ -95,27 +93,12 @@ flag_past (b ∷ flags) (suc k) past = flag_past flags k (omega (arith, past))
 position_there : (us : List ℕ) (v : ℕ) → position_or_len (λ u. u == v) us < length us →
     slice_get us (position_or_len (λ u. u == v) us) ≡ Some v
 position_there [] v lt = absurd (omega (arith, lt))
-position_there (u ∷ us) v lt = by (u == v) refl lt (position_there us v)
-  where
-    by : (b : Bool) → (u == v) ≡ b → cond (not b) (1 + position_or_len (λ w. w == v) us) 0 < length (u ∷ us) →
-        (position_or_len (λ w. w == v) us < length us → slice_get us (position_or_len (λ w. w == v) us) ≡ Some v) →
-        slice_get (u ∷ us) (cond (not b) (1 + position_or_len (λ w. w == v) us) 0) ≡ Some v
-    by true e lt later = ap Some (eqb-true u v e)
-    by false e lt later =
-        let next : suc (position_or_len (λ w. w == v) us) ≡ 1 + position_or_len (λ w. w == v) us = omega arith in
-        subst (λ k. slice_get (u ∷ us) k ≡ Some v) next (later (omega (arith, lt)))
+position_there (u ∷ us) v lt = search (arith, (position_there us v), eqb-true)
 
 position_most : (us : List ℕ) (v k : ℕ) → slice_get us k ≡ Some v → position_or_len (λ u. u == v) us ≤ k
 position_most [] v k at = cc
-position_most (u ∷ us) v zero at =
-    let same : u ≡ v = cc in
-    subst (λ b. cond (not b) (1 + position_or_len (λ w. w == v) us) 0 ≤ 0) (sym (eq-eqb u v same)) (omega arith)
-position_most (u ∷ us) v (suc k) at = by (u == v) (position_most us v k at)
-  where
-    by : (b : Bool) → position_or_len (λ w. w == v) us ≤ k →
-        cond (not b) (1 + position_or_len (λ w. w == v) us) 0 ≤ suc k
-    by true most = omega arith
-    by false most = omega (arith, most)
+position_most (u ∷ us) v zero at = search (arith, eq-eqb)
+position_most (u ∷ us) v (suc k) at = search (arith, (position_most us v k at))
 
 -- what the test of a variable tells
 module _ (f : Dqbf) (flags : List Bool) (as_many : length flags ≡ length f.universals) (v : ℕ) where
@@ -134,10 +117,7 @@ module _ (f : Dqbf) (flags : List Bool) (as_many : length flags ≡ length f.uni
   ]
 
   pub has_no_copies : has_copies f flags v ≡ false → slice_get f.universals first ≡ Some v
-  has_no_copies none = elim (cases_lt first (length f.universals)) [
-    | inl within ↦ position_there f.universals v within
-    | inr past ↦ absurd (true≢false (sym (flag_past flags first (omega (arith, past, as_many))) ∙ none))
-  ]
+  has_no_copies none = search (arith, cases_lt, position_there, true≢false, flag_past)
 
 -- a variable at a place with copies has copies
 pub copied_there : (f : Dqbf) (flags : List Bool) (k x : ℕ) → AllPairs (λ a b. a ≢ b) (declared f) →
@@ -234,8 +214,11 @@ universal_differs f lawful x v (i, lt, at) (k, less, there) same =
 pub existential_copied : (f : Dqbf) → HasLawfulPrefix f → (flags : List Bool) (v : ℕ) →
     length flags ≡ length f.universals → Contains (existential_variables f) v → IsCopied f flags v
 existential_copied f prefix flags v as_many among k at =
-    elim (declared_cases f.universals (existential_variables f) k v at) [
-      | inl universal ↦ absurd (universal_differs f prefix v v
-          (k, slice_get_within f.universals k v universal, get_or_from_slice_get f.universals k v v universal) among refl)
-      | inr far ↦ flag_past flags k (omega (arith, far, as_many))
-    ]
+    search (
+      arith,
+      (declared_cases f.universals),
+      (universal_differs f prefix v v),
+      (slice_get_within f.universals k v),
+      (get_or_from_slice_get f.universals k v v),
+      (flag_past flags k),
+    )

@@ -1,5 +1,5 @@
 -- A variable of a store gets its equation's group.
-use Rattle.std.proofs.Common.{◌≡◌, ◌≢◌, ℕ, zero, suc, ◌+◌, ◌<◌, ◌≤◌, false, cond, ◌⊎◌, inl, inr, List, [], ◌∷◌, map, length, set, slice_get, Some, None, refl, sym, ◌∙◌, ap, subst, arith}
+use Rattle.std.proofs.Common.{◌≡◌, ◌≢◌, ℕ, zero, suc, ◌+◌, ◌<◌, ◌≤◌, false, ◌⊎◌, inl, inr, List, [], ◌∷◌, map, length, set, slice_get, Some, None, refl, sym, ◌∙◌, ap, subst, arith}
 use Rattle.std.specs.List.{Contains}
 use Rattle.std.proofs.lemmas.Bool.{eq-eqb}
 use Rattle.std.proofs.lemmas.List.{length-set}
@@ -70,22 +70,16 @@ module _ (all : Dqbf) (numbered : List ℕ) (f : Dqbf) (s : StoreState) (log : P
   kept_links k m low is = set_there s.links place k g m (elsewhere k 3 (omega arith) low) is
 
   old_link : (k : ℕ) (m : Group) → k ≢ place → slice_get links k ≡ Some m → slice_get s.links k ≡ Some m
-  old_link k m apart is = elim (set_cases s.links place k g m is)
-      [ inl here ↦ absurd (apart here.0) | inr old ↦ old.1 ]
+  old_link k m apart is = search (arith, set_cases)
 
   made_here : IsMade (e ∷ es) g
-  made_here = record {
-    positive = plain;
-    named = ap (λ t. cond t (Some (Selector (group_variable g))) (name_of es (group_variable g)))
-        (eq-eqb (group_variable g) (group_variable g) refl);
-  }
+  made_here = search (arith, eq-eqb)
 
   link_which : (k : ℕ) (m : Group) → HasGroup linked (of_link k) m →
       (3 ≤ parts_at s k) ⊎ ((k ≡ place) × (◌≡◌ {A = ℕ} 3 3)) →
       ((of_link k ≡ of_link place) × (g ≡ m)) ⊎ HasGroup s (of_link k) m
   link_which k m has (inl low) = inr (low, old_link k m (elsewhere k 3 (omega arith) low) has.1)
-  link_which k m has (inr (here, three)) = elim (set_cases s.links place k g m has.1)
-      [ inl new ↦ inl (ap of_link here, new.1) | inr old ↦ absurd (old.0 here) ]
+  link_which k m has (inr (here, three)) = search (arith, set_cases)
 
   which : (slot : Slot) (m : Group) → HasGroup linked slot m →
       ((slot ≡ of_link place) × (g ≡ m)) ⊎ HasGroup s slot m

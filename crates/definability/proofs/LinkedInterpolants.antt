@@ -1,5 +1,5 @@
 -- From an interpolant between two linked copies to a definition.
-use Rattle.std.proofs.Common.{◌≡◌, ◌⊎◌, ℕ, Bool, true, false, not, cond, ◌||◌, inl, inr, List, [], ◌∷◌, map, Some, refl, sym, ◌∙◌, ap, subst}
+use Rattle.std.proofs.Common.{◌≡◌, ◌⊎◌, ℕ, Bool, true, false, not, cond, ◌||◌, inl, inr, List, [], ◌∷◌, map, Some, refl, sym, ◌∙◌, ap, subst, arith}
 use Rattle.std.specs.List.{All, Contains, list_any}
 use Rattle.std.proofs.lemmas.Bool.{cases_Bool, or_right, not-true}
 use Rattle.std.proofs.lemmas.List.Elements.{All-push, All-contains}
@@ -7,7 +7,7 @@ use Rattle.dq_lits.specs.Literal.{Assignment, Literal, positive, negative, varia
 use Rattle.dq_lits.specs.Formula.{Dqbf}
 use Rattle.dq_lits.specs.Henkin.{MatrixHolds}
 use Rattle.dq_lits.proofs.HeldLiterals.{held_of_all}
-use Rattle.hint_log.specs.Entries.{Entry, name_of}
+use Rattle.hint_log.specs.Entries.{Entry}
 use Rattle.hint_log.specs.Naming.{NamedLiteral, named_literal, name_literal, AreNamedAs}
 use Rattle.hint_log.specs.Origins.{link_names}
 use Rattle.hint_log.specs.declared.names.Name.TheVariants.{Copy as CopyOf}
@@ -34,10 +34,7 @@ literal_signed p (negative v) = refl
 -- a named literal has its name's value
 pub named_is : (entries : List Entry) (m : Assignment) (k : Literal) (n : NamedLiteral) →
     name_literal entries k ≡ Some n → literal_true (copied_assignment entries m) k ≡ named_true m n
-named_is entries m k n is =
-    let named = named_variable entries k n.name n.negated (name_of entries (variable_of k)) refl is in
-    literal_signed (copied_assignment entries m) k ∙ ap (λ b. signed b (copied_assignment entries m (variable_of k)))
-    named.1 ∙ ap (λ o. signed n.negated (value_by m o)) named.0
+named_is entries m k n is = search (arith, named_variable, literal_signed)
 
 named_clause : (entries : List Entry) (m : Assignment) (ks : List Literal) (ns : List NamedLiteral) →
     AreNamedAs entries ks ns →
@@ -54,9 +51,7 @@ named_clause entries m (k ∷ ks) (n ∷ ns) are =
 copies_true : (m : Assignment) (side : ℕ) (ls : List Literal) →
     list_any (named_true m) (copy_names side ls) ≡ clause_true m ls
 copies_true m side [] = refl
-copies_true m side (l ∷ ls) =
-    ap (λ b. b || list_any (named_true m) (copy_names side ls)) (sym (literal_signed m l)) ∙ ap
-    (λ b. literal_true m l || b) (copies_true m side ls)
+copies_true m side (l ∷ ls) = search (arith, literal_signed, (copies_true m side ls))
 
 -- every given clause is true where the matrix is
 pub copy_given_true : (entries : List Entry) (f : Dqbf) (side : ℕ) (m : Assignment) (clause : List Literal) →

@@ -1,5 +1,5 @@
 -- Values of the first copy, as a sample in which an existential has the other bit.
-use Rattle.std.proofs.Common.{◌≡◌, ℕ, suc, Bool, true, false, not, inl, inr, List, [], ◌∷◌, map, Some, refl, sym, ◌∙◌, ap}
+use Rattle.std.proofs.Common.{◌≡◌, ℕ, Bool, true, false, not, inl, inr, List, Some, refl, sym, ◌∙◌, ap}
 use Rattle.std.specs.List.{All, Contains}
 use Rattle.list_laws.proofs.Truths.{not-not}
 use Rattle.dq_lits.specs.Derivation.{holds}

@@ -1,5 +1,5 @@
 -- Bits of universals that make conditions true, one by one.
-use Rattle.std.proofs.Common.{◌≡◌, ◌≢◌, ℕ, ◌+◌, ◌≤◌, Bool, false, not, inl, inr, List, length, set, replicate, slice_get, Some, IsSome, refl, sym, ◌∙◌, ap, subst, arith}
+use Rattle.std.proofs.Common.{◌≡◌, ◌≢◌, ℕ, ◌+◌, ◌≤◌, Bool, false, not, List, length, set, replicate, slice_get, Some, IsSome, refl, sym, ◌∙◌, ap, subst, arith}
 use Rattle.std.specs.List.{Contains}
 use Rattle.std.proofs.lemmas.Bool.{cases_lt}
 use Rattle.std.proofs.lemmas.List.{length-set, length-replicate, get_or-set_same, get_or-set_other}
@@ -29,36 +29,17 @@ existential_has_copies f lawful flags v as_many is = some_existential f v (IsCop
 
 pub none_met : (f : Dqbf) (lits : List Literal) (row : List Bool) → row ≡ replicate (length f.universals) false →
     MeetsLiterals f lits 0 row
-none_met f lits row is = record {
-  long = ap length is ∙ length-replicate (length f.universals) false;
-  meets = λ j k l less at there. absurd (omega (arith, less));
-}
+none_met f lits row is = search (arith, length-replicate)
 
 pub met_more : (f : Dqbf) (lits : List Literal) (i : ℕ) (l : Literal) (old new : List Bool) →
     is_tautology lits ≡ false → slice_get lits i ≡ Some l → IsBitSet f l old new → MeetsLiterals f lits i old →
     MeetsLiterals f lits (i + 1) new
-met_more f lits i l old new consistent l_at bit before = record {
-  long = bit.long ∙ before.long;
-  meets = λ j k m less m_at there. elim (cases_lt j i) [
-    | inl early ↦ elim (same_or_not (variable_of m) (variable_of l)) [
-      | inl same ↦ bit.is_true k (there ∙ ap Some same)
-          ∙ ap not (sym (signs_agree lits m l consistent (element_at lits j m m_at) (element_at lits i l l_at) same))
-      | inr other ↦ bit.rest k (variable_of m) there other ∙ before.meets j k m early m_at there
-    ]
-    | inr late ↦ (
-        let same : j ≡ i = omega (arith, less, late) in
-        let both : Some l ≡ Some m = sym l_at ∙ ap (slice_get lits) (sym same) ∙ m_at in
-        let is : l ≡ m = cc in
-        bit.is_true k (there ∙ ap (λ n. Some (variable_of n)) (sym is)) ∙ ap (λ n. not (is_negative n)) is)
-  ];
-}
+met_more f lits i l old new consistent l_at bit before =
+    search (arith, cases_lt, same_or_not, (signs_agree lits), (element_at lits), (element_at lits i l l_at))
 
 pub all_met : (f : Dqbf) (lits : List Literal) (i : ℕ) (row : List Bool) → length lits ≤ i → MeetsLiterals f lits i row →
     MeetsLiterals f lits (length lits) row
-all_met f lits i row all met = record {
-  long = met.long;
-  meets = λ j k l less at there. met.meets j k l (omega (arith, less, all)) at there;
-}
+all_met f lits i row all met = search arith
 
 pub bit_set : (f : Dqbf) → IsLawful f → (l : Literal) (i : ℕ) (bit : Bool) (old new : List Bool) →
     length old ≡ length f.universals → slice_get f.universals i ≡ Some (variable_of l) → bit ≡ not (is_negative l) →
@@ -73,10 +54,7 @@ bit_set f lawful l i bit old new long at bit_is is = subst (IsBitSet f l old) (s
 })
   where
     other_place : (k x : ℕ) → slice_get f.universals k ≡ Some x → x ≢ variable_of l → i ≡ k → ⊥
-    other_place k x there other same =
-        let both : Some x ≡ Some (variable_of l) = sym there ∙ ap (slice_get f.universals) (sym same) ∙ at in
-        let x_is : x ≡ variable_of l = cc in
-        other x_is
+    other_place k x there other same = search arith
 
 pub bit_kept : (f : Dqbf) (l : Literal) (old new : List Bool) → new ≡ old → (Contains f.universals (variable_of l) → ⊥) →
     IsBitSet f l old new

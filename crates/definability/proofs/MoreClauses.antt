@@ -1,5 +1,5 @@
 -- A store of copies stands where clauses are numbered behind all others.
-use Rattle.std.proofs.Common.{◌≡◌, ℕ, zero, suc, ◌-◌, ◌<◌, List, [], ◌∷◌, ◌++◌, length, slice_index_or, Some, refl, sym, ◌∙◌, ap, subst, arith}
+use Rattle.std.proofs.Common.{◌≡◌, ℕ, zero, suc, ◌<◌, List, [], ◌∷◌, ◌++◌, length, slice_index_or, Some, refl, arith}
 use Rattle.std.proofs.lemmas.Option.{slice_get_within}
 use Rattle.list_laws.proofs.Elements.{kept_there}
 use Rattle.dq_lits.specs.Literal.{Literal}
@@ -13,7 +13,7 @@ use Rattle.hint_log.specs.declared.names.Name.{Name}
 use Rattle.hint_log.specs.declared.names.Name.TheVariants.{Selector, Pair, Input, And, Bad, Copy as CopyOf, Term}
 use Rattle.hint_log.specs.declared.origins.Origin.TheVariants.{Instance, Gate, Fault, Copy, Link, TermGate, Differ}
 use Rattle.definability.specs.Leaving.{ClausesLeaveStores}
-use Rattle.definability.specs.Store.{StoreState, store_of, HasGroup, of_frame, IsStoredName, IsStoredCopy, IsStoredLink, IsStoreEntry, IsGivenThere, IsStore}
+use Rattle.definability.specs.Store.{StoreState, store_of, IsStoredName, IsStoredCopy, IsStoredLink, IsStoreEntry, IsGivenThere, IsStore}
 
 append_index : (xs ys : List ℕ) (k : ℕ) → k < length xs → slice_index_or (xs ++ ys) k 0 ≡ slice_index_or xs k 0
 append_index [] ys k below = absurd (omega (arith, below))
@@ -33,12 +33,7 @@ module _ (all : Dqbf) (numbered : List ℕ) (s : StoreState) (more : List (List 
   same_frame : (j : ℕ) (c : List Literal) → numbered_from_one all.matrix j ≡ Some c →
       frame_of numbered j ≡ frame_of (numbered ++ frames) j
   same_frame zero c is = cc
-  same_frame (suc i) c is =
-      let below = slice_get_within all.matrix i c is in
-      let back : suc i - 1 ≡ i = omega arith in
-      sym (ap (λ k. slice_index_or (numbered ++ frames) k 0) back
-      ∙ append_index numbered frames i (omega (arith, below, many))
-      ∙ sym (ap (λ k. slice_index_or numbered k 0) back))
+  same_frame (suc i) c is = search (arith, slice_get_within, append_index)
 
   name_there : (n : Name) → IsStoredName all s n → IsStoredName all' s n
   name_there (Selector g) h = tt
@@ -51,49 +46,11 @@ module _ (all : Dqbf) (numbered : List ℕ) (s : StoreState) (more : List (List 
 
   copy_there : (earlier : List Entry) (side j : ℕ) (c : List Literal) → IsStoredCopy all numbered s earlier side j c →
       IsStoredCopy all' (numbered ++ frames) s earlier side j c
-  copy_there earlier side j c h =
-      let is = h.right.rest_is.1.clause_is in
-      record {
-        right = record {
-          group = h.right.group;
-          rest = h.right.rest;
-          clause_is = h.right.clause_is;
-          is_group = h.right.is_group;
-          rest_is = (
-            h.right.rest_is.0,
-            record {
-              clause = h.right.rest_is.1.clause;
-              clause_is = clause_there j h.right.rest_is.1.clause is;
-              named = h.right.rest_is.1.named;
-            },
-          );
-          one_leaf = λ v a i a' i' leaf leaf' rest' is. cc;
-        };
-        given = h.given;
-        group = h.group;
-        has_group = subst (λ F. HasGroup s (of_frame side F) h.group) (same_frame j h.right.rest_is.1.clause is)
-            h.has_group;
-        in_group = h.in_group;
-      }
+  copy_there earlier side j c h = search (arith, clause_there, same_frame)
 
   link_there : (earlier : List Entry) (x i : ℕ) (c : List Literal) → IsStoredLink all s earlier x i c →
       IsStoredLink all' s earlier x i c
-  link_there earlier x i c h = record {
-    right = record {
-      group = h.right.group;
-      rest = h.right.rest;
-      clause_is = h.right.clause_is;
-      is_group = h.right.is_group;
-      rest_is = h.right.rest_is;
-      one_leaf = λ v a i a' i' leaf leaf' rest' is. cc;
-    };
-    place = h.place;
-    variable_is = h.variable_is;
-    done = h.done;
-    group = h.group;
-    group_is = h.group_is;
-    in_group = h.in_group;
-  }
+  link_there earlier x i c h = search arith
 
   entry_there : (earlier : List Entry) (e : Entry) → IsStoreEntry all numbered s earlier e →
       IsStoreEntry all' (numbered ++ frames) s earlier e
@@ -117,26 +74,11 @@ module _ (all : Dqbf) (numbered : List ℕ) (s : StoreState) (more : List (List 
 
   given_there : (es : List Entry) (side j : ℕ) → IsGivenThere all numbered s es side j →
       IsGivenThere all' (numbered ++ frames) s es side j
-  given_there es side j h = record {
-    clause = h.clause;
-    clause_is = clause_there j h.clause h.clause_is;
-    covered = h.covered;
-    group = h.group;
-    has_group = subst (λ F. HasGroup s (of_frame side F) h.group) (same_frame j h.clause h.clause_is) h.has_group;
-    given = h.given;
-  }
+  given_there es side j h = search (arith, clause_there, same_frame)
 
   pub store_there : (es : List Entry) → IsStore all numbered s es → IsStore all' (numbered ++ frames) s es
   store_there es h = record {
-    places = record {
-      parts = h.places.parts;
-      flags = h.places.flags;
-      first = h.places.first;
-      second = h.places.second;
-      first_existentials = h.places.first_existentials;
-      second_existentials = h.places.second_existentials;
-      links = h.places.links;
-    };
+    places = search arith;
     whole = h.whole;
     parts = record { copies = h.parts.copies; equations = h.parts.equations };
     groups = h.groups;

@@ -1,5 +1,5 @@
 -- The parts of a variable's copies, as they are made at a place of a formula.
-use Rattle.std.proofs.Common.{◌≡◌, ◌≢◌, ℕ, ◌+◌, ◌<◌, ◌≤◌, ◌⊎◌, inl, inr, List, [], ◌∷◌, ◌++◌, map, length, set, get_or, slice_get, Some, None, Bool, true, false, refl, sym, ◌∙◌, ap, subst, arith, suc, zero}
+use Rattle.std.proofs.Common.{◌≡◌, ◌≢◌, ℕ, ◌+◌, ◌<◌, ◌≤◌, ◌⊎◌, inl, inr, List, [], ◌∷◌, ◌++◌, map, length, set, get_or, slice_get, Some, None, Bool, true, false, refl, sym, ◌∙◌, ap, arith, suc, zero}
 use Rattle.std.specs.List.{All, AllPairs, Contains}
 use Rattle.std.proofs.lemmas.List.{length-append}
 use Rattle.std.proofs.lemmas.List.Elements.{All-cons, All-nil}
@@ -11,7 +11,7 @@ use Rattle.dq_lits.proofs.SignedLiterals.{negated-positive}
 use Rattle.hint_log.specs.Conditions.{AreLogged}
 use Rattle.hint_log.specs.Entries.{Entry, Named, Given, ProofLog, with_entry, name_of}
 use Rattle.hint_log.specs.Growth.{Each}
-use Rattle.hint_log.specs.Naming.{AreNamedAs, named_literal, name_literal}
+use Rattle.hint_log.specs.Naming.{AreNamedAs, named_literal}
 use Rattle.hint_log.specs.Origins.{link_names}
 use Rattle.hint_log.specs.declared.names.Name.TheVariants.{Selector, Copy as CopyOf}
 use Rattle.hint_log.specs.declared.origins.Origin.TheVariants.{Link}
@@ -31,46 +31,31 @@ use Rattle.definability.proofs.GivenClauses.{plain_copy}
 once_by : (us vs : List ℕ) (ys zs : List Existential) → us ≡ vs → ys ≡ zs →
     AllPairs (λ v w. v ≢ w) (vs ++ map (λ (y : Existential). y.variable) zs) →
     AllPairs (λ v w. v ≢ w) (us ++ map (λ (y : Existential). y.variable) ys)
-once_by us vs ys zs us_are ys_are once =
-    subst (λ xs. AllPairs (λ v w. v ≢ w) (xs ++ map (λ (y : Existential). y.variable) ys)) (sym us_are)
-    (subst (λ xs. AllPairs (λ v w. v ≢ w) (vs ++ map (λ (y : Existential). y.variable) xs)) (sym ys_are) once)
+once_by us vs ys zs us_are ys_are once = search arith
 
 pub once_declared : (all : Dqbf) (numbered : List ℕ) (f : Dqbf) (s : StoreState) (es : List Entry) →
     CanGiveCopies all numbered f s es → HasLawfulPrefix f → AllPairs (λ v w. v ≢ w) (declared all)
-once_declared all numbered f s es h lawful =
-    once_by all.universals f.universals all.existentials f.existentials h.universals h.existentials lawful.declared_once
+once_declared all numbered f s es h lawful = search (arith, once_by)
 
 stored_name : (all : Dqbf) (numbered : List ℕ) (s : StoreState) (es : List Entry) (v side x : ℕ) →
     Each (IsStoreEntry all numbered s) es → Contains es (Named v (CopyOf side x)) → (k : ℕ) →
     slice_get (declared all) k ≡ Some x → side ≤ parts_at s k
 stored_name all numbered s [] v side x own inside = let below = inside.1 in absurd (omega (arith, below))
 stored_name all numbered s (e ∷ es) v side x own inside =
-    by (stored_name all numbered s es v side x own.1) (contains_cases e (Named v (CopyOf side x)) es inside)
-  where
-    by : (Contains es (Named v (CopyOf side x)) → (k : ℕ) → slice_get (declared all) k ≡ Some x → side ≤ parts_at s k) →
-        (e ≡ Named v (CopyOf side x)) ⊎ Contains es (Named v (CopyOf side x)) → (k : ℕ) →
-        slice_get (declared all) k ≡ Some x → side ≤ parts_at s k
-    by later (inl same) = subst (IsStoreEntry all numbered s es) same own.0
-    by later (inr behind) = later behind
+    search (arith, (stored_name all numbered s es v side x own.1), contains_cases)
 
 pub same_declared : (all : Dqbf) (numbered : List ℕ) (f : Dqbf) (s : StoreState) (es : List Entry) →
     CanGiveCopies all numbered f s es → declared all ≡ declared f
-same_declared all numbered f s es h =
-    ap (λ us. us ++ map (λ (y : Existential). y.variable) all.existentials) h.universals
-    ∙ ap (λ ys. f.universals ++ map (λ (y : Existential). y.variable) ys) h.existentials
+same_declared all numbered f s es h = search arith
 
 -- the sides' copies are as long as the declared variables
 module _ (all : Dqbf) (numbered : List ℕ) (f : Dqbf) (s : StoreState) (es : List Entry)
     (h : CanGiveCopies all numbered f s es) where
   first_long : length (side_copies s 1) ≡ length (declared all)
-  first_long = length-append s.first.universals s.first.existentials
-      ∙ ap (λ n. n + length s.first.existentials) h.store.places.first
-      ∙ ap (λ n. length all.universals + n) h.store.places.first_existentials ∙ sym (declared_long all)
+  first_long = search (arith, length-append, declared_long)
 
   second_long : length (side_copies s 2) ≡ length (declared all)
-  second_long = length-append s.second.universals s.second.existentials
-      ∙ ap (λ n. n + length s.second.existentials) h.store.places.second
-      ∙ ap (λ n. length all.universals + n) h.store.places.second_existentials ∙ sym (declared_long all)
+  second_long = search (arith, length-append, declared_long)
 
 module _ (f : Dqbf) (lawful : HasLawfulPrefix f) (place x : ℕ) (x_is : slice_get (declared f) place ≡ Some x)
     (s : StoreState) (log : ProofLog) (logged : AreLogged log.entries) (all : Dqbf) (numbered : List ℕ)
@@ -168,16 +153,10 @@ two_plain : (es : List Entry) (v : ℕ) (b d : Bool) (lits : List Literal) →
     AreNamedAs es lits (named_literal (CopyOf 1 v) b ∷ named_literal (CopyOf 2 v) d ∷ []) → All (IsPlain es) lits
 two_plain es v b d [] are = λ i e below. absurd (omega (arith, below))
 two_plain es v b d (l ∷ []) are = cc
-two_plain es v b d (l ∷ m ∷ []) are =
-    let first : name_literal es l ≡ Some (named_literal (CopyOf 1 v) b) = cc in
-    let second : name_literal es m ≡ Some (named_literal (CopyOf 2 v) d) = cc in
-    All-cons (IsPlain es) l (m ∷ []) (plain_copy es l 1 v b first)
-    (All-cons (IsPlain es) m [] (plain_copy es m 2 v d second) (All-nil (IsPlain es)))
+two_plain es v b d (l ∷ m ∷ []) are = search (arith, All-cons, plain_copy, All-nil)
 two_plain es v b d (l ∷ m ∷ k ∷ lits) are = cc
 
 pub link_plain : (es : List Entry) (v i : ℕ) → (i ≡ 1) ⊎ (i ≡ 2) → (lits : List Literal) →
     AreNamedAs es lits (link_names v i) → All (IsPlain es) lits
-link_plain es v i (inl one) lits are =
-    two_plain es v true false lits (subst (λ n. AreNamedAs es lits (link_names v n)) one are)
-link_plain es v i (inr two) lits are =
-    two_plain es v false true lits (subst (λ n. AreNamedAs es lits (link_names v n)) two are)
+link_plain es v i (inl one) lits are = search (arith, (two_plain es v true false lits))
+link_plain es v i (inr two) lits are = search (arith, (two_plain es v false true lits))

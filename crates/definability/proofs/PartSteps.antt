@@ -1,5 +1,5 @@
 -- A variable of a store gets one part of its copies more: a copy, its equation's group, or half of the equation.
-use Rattle.std.proofs.Common.{◌≡◌, ◌≢◌, ℕ, ◌+◌, ◌<◌, ◌≤◌, false, cond, ◌⊎◌, inl, inr, List, ◌∷◌, ◌++◌, map, length, set, slice_get, Option, Some, None, refl, sym, ◌∙◌, ap, subst, arith}
+use Rattle.std.proofs.Common.{◌≡◌, ◌≢◌, ℕ, ◌+◌, ◌<◌, ◌≤◌, false, ◌⊎◌, inl, inr, List, ◌∷◌, ◌++◌, map, length, set, slice_get, Some, None, refl, sym, ◌∙◌, ap, subst, arith}
 use Rattle.std.specs.List.{AllPairs, Contains}
 use Rattle.std.proofs.lemmas.Bool.{eq-eqb}
 use Rattle.std.proofs.lemmas.List.{get_or-set_same, get_or-set_other, length-set}
@@ -10,9 +10,8 @@ use Rattle.dq_lits.specs.Literal.{Literal, positive}
 use Rattle.dq_lits.specs.Formula.{Dqbf, declared}
 use Rattle.hint_log.specs.Conditions.{AreLogged}
 use Rattle.hint_log.specs.Entries.{Entry, Named, ProofLog, with_entry, name_of}
-use Rattle.hint_log.specs.Naming.{NamedLiteral, named_literal, name_literal}
+use Rattle.hint_log.specs.Naming.{named_literal, name_literal}
 use Rattle.hint_log.specs.Origins.{link_names}
-use Rattle.hint_log.specs.declared.names.Name.{Name}
 use Rattle.hint_log.specs.declared.names.Name.TheVariants.{Copy as CopyOf}
 use Rattle.hint_log.specs.declared.origins.Origin.TheVariants.{Link}
 use Rattle.log_laws.proofs.Kept.{NamesStay, name_stays_by, literal_stays}
@@ -41,50 +40,20 @@ module _ (s : StoreState) (place n : ℕ) (first second : SideCopies) (links : L
     raised_other k differ = get_or-set_other s.parts place k n 5 differ
 
     pub raised_more : (k : ℕ) → parts_at s k ≤ parts_at raised k
-    raised_more k = by (same_or_not k place)
-      where
-        by : (k ≡ place) ⊎ (k ≢ place) → parts_at s k ≤ parts_at raised k
-        by (inl same) =
-            let here = raised_here in
-            let there = ap (parts_at raised) same in
-            let before = ap (parts_at s) same in
-            let one = next in
-            omega (arith, here, there, before, one)
-        by (inr differ) = let other = raised_other k differ in omega (arith, other)
+    raised_more k = search (arith, same_or_not, raised_here, raised_other)
 
     -- what holds at a number that a place has now held before, but at this place
     pub held_before : (k i : ℕ) → i ≤ parts_at raised k → (i ≤ parts_at s k) ⊎ ((k ≡ place) × (i ≡ n))
-    held_before k i low = by (same_or_not k place)
-      where
-        at : (i ≡ n) ⊎ (i ≢ n) → k ≡ place → (i ≤ parts_at s k) ⊎ ((k ≡ place) × (i ≡ n))
-        at (inl last) same = inr (same, last)
-        at (inr before) same =
-            let here = raised_here in
-            let there = ap (parts_at raised) same in
-            let old = ap (parts_at s) same in
-            let one = next in
-            inl (omega (arith, low, here, there, old, one, before))
-
-        by : (k ≡ place) ⊎ (k ≢ place) → (i ≤ parts_at s k) ⊎ ((k ≡ place) × (i ≡ n))
-        by (inl same) = at (same_or_not i n) same
-        by (inr differ) = let other = raised_other k differ in inl (omega (arith, low, other))
+    held_before k i low = search (arith, same_or_not, raised_here, raised_other)
 
     module _ (kept_links : (k : ℕ) (g : Group) → 3 ≤ parts_at s k → slice_get s.links k ≡ Some g →
         slice_get links k ≡ Some g) where
       kept_groups : (slot : Slot) (g : Group) → HasGroup s slot g → HasGroup raised slot g
       kept_groups (of_frame side F) g has = has
-      kept_groups (of_link k) g has =
-          let low = has.0 in
-          let more = raised_more k in
-          (omega (arith, low, more), kept_links k g has.0 has.1)
+      kept_groups (of_link k) g has = search (arith, raised_more)
 
       pub raised_grown : IsGrown s raised
-      raised_grown = record {
-        kept_groups = kept_groups;
-        more_given = λ side j has. has;
-        more_parts = raised_more;
-        kept_links = kept_links;
-      }
+      raised_grown = search (arith, kept_groups, raised_more)
 
       module _ (all : Dqbf) (numbered : List ℕ) (e : Entry) (es : List Entry) (store : IsPartialStore all numbered s es)
           (logged : AreLogged es) (names : NamesStay es (e ∷ es)) (new : AreNewGroups s raised es) where
@@ -92,15 +61,7 @@ module _ (s : StoreState) (place n : ℕ) (first second : SideCopies) (links : L
             length links ≡ length (declared all) → HasParts all raised (e ∷ es) → AreStoreGroups raised (e ∷ es) →
             IsStoreEntry all numbered raised es e → IsPartialStore all numbered raised (e ∷ es)
         raised_store long_first long_second long_links parts groups own = record {
-          places = record {
-            parts = length-set s.parts place n ∙ store.places.parts;
-            flags = store.places.flags;
-            first = long_first.0 ∙ store.places.first;
-            second = long_second.0 ∙ store.places.second;
-            first_existentials = long_first.1 ∙ store.places.first_existentials;
-            second_existentials = long_second.1 ∙ store.places.second_existentials;
-            links = long_links;
-          };
+          places = search (arith, length-set);
           whole = λ k below flag.
               let low = store.whole k below flag in let more = raised_more k in omega (arith, low, more);
           parts = parts;
@@ -131,12 +92,7 @@ module _ (s : StoreState) (place n : ℕ) (first second : SideCopies) (links : L
 
     pub raised_new : (es : List Entry) → links ≡ s.links → n ≢ 3 → AreNewGroups s raised es
     raised_new es same no_link (of_frame side F) g has = inl has
-    raised_new es same no_link (of_link k) g has = by (held_before k 3 has.0)
-      where
-        by : (3 ≤ parts_at s k) ⊎ ((k ≡ place) × (3 ≡ n)) →
-            HasGroup s (of_link k) g ⊎ (name_of es (group_variable g) ≡ None)
-        by (inl low) = inl (low, subst (λ gs. slice_get gs k ≡ Some g) same has.1)
-        by (inr (here, three)) = absurd (no_link (sym three))
+    raised_new es same no_link (of_link k) g has = search (arith, held_before)
 
     pub raised_old : (es : List Entry) → links ≡ s.links → AreOldOrNew s raised es
     raised_old es same g has = inl (subst (λ gs. Contains (both_groups s.frames ++ map group_variable gs) g) same has)
@@ -187,11 +143,7 @@ module _ (all : Dqbf) (numbered : List ℕ) (f : Dqbf) (once : AllPairs (λ v w.
   names = name_stays_by es v (CopyOf side x) unnamed
 
   named_here : name_literal (e ∷ es) (positive v) ≡ Some (named_literal (CopyOf side x) false)
-  named_here = ap (λ b. option_name (cond b (Some (CopyOf side x)) (name_of es v))) (eq-eqb v v refl)
-    where
-      option_name : Option Name → Option NamedLiteral
-      option_name None = None
-      option_name (Some n) = Some (named_literal n false)
+  named_here = search (arith, eq-eqb)
 
   parts : HasParts all t (e ∷ es)
   parts =
@@ -226,8 +178,7 @@ module _ (all : Dqbf) (numbered : List ℕ) (f : Dqbf) (once : AllPairs (λ v w.
           IsGivenIn (e ∷ es) (group_variable g) (Link y i) (link_names y i)
       equation k y i g low one two y_is g_is (inl before) = given_in_stays es (e ∷ es) (kept_by e es names)
           (group_variable g) (Link y i) (link_names y i) (h.store.parts.equations k y i g before one two y_is g_is)
-      equation k y i g low one two y_is g_is (inr (here, three)) =
-          elim sides [ inl first ↦ absurd (omega (arith, first, three)) | inr last ↦ absurd (omega (arith, last, three)) ]
+      equation k y i g low one two y_is g_is (inr (here, three)) = search arith
 
   own : IsStoreEntry all numbered t es e
   own k k_is =

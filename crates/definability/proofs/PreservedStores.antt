@@ -1,9 +1,9 @@
 -- A store of copies stands where others add to the log.
-use Rattle.std.proofs.Common.{◌≡◌, ◌≢◌, ℕ, zero, suc, Bool, false, ◌⊎◌, inl, inr, List, [], ◌∷◌, ◌++◌, map, slice_get, Option, Some, None, sym, ◌∙◌, ap, subst, arith, length, ◌<◌, ◌≤◌, slice_index_or, refl, true, IsSome}
+use Rattle.std.proofs.Common.{◌≡◌, ◌≢◌, ℕ, zero, suc, Bool, false, ◌⊎◌, inl, inr, List, [], ◌∷◌, ◌++◌, map, slice_get, Option, Some, None, sym, ◌∙◌, ap, subst, arith, length, ◌<◌, ◌≤◌, slice_index_or, refl, true}
 use Rattle.std.specs.List.{Contains}
 use Rattle.std.proofs.lemmas.List.Elements.{Contains-append_left, Contains-append_right}
 use Rattle.list_laws.proofs.Members.{contains_later}
-use Rattle.dq_lits.specs.Literal.{Literal, negative}
+use Rattle.dq_lits.specs.Literal.{Literal}
 use Rattle.dq_lits.specs.Formula.{Dqbf, declared}
 use Rattle.hint_log.specs.Entries.{Entry, Named, Given, Learned, Answer, Round, Begun, name_of}
 use Rattle.hint_log.specs.Growth.{EachOf, Each}
@@ -40,11 +40,7 @@ kept_by e es names = record { names = names; contains = λ x. contains_later e x
 
 pub given_in_stays : (old new : List Entry) → AreKept old new → (group : ℕ) (origin : Origin) (names : List NamedLiteral)
     → IsGivenIn old group origin names → IsGivenIn new group origin names
-given_in_stays old new kept group origin names given = record {
-  rest = given.rest;
-  given = kept.contains (Given origin (negative group ∷ given.rest)) given.given;
-  named = named_stay old new kept.names given.rest names given.named;
-}
+given_in_stays old new kept group origin names given = search (arith, named_stay)
 
 module _ (all : Dqbf) (numbered : List ℕ) (s : StoreState) (old new : List Entry) (kept : AreKept old new) where
   pub parts_stay : HasParts all s old → HasParts all s new
@@ -62,14 +58,7 @@ module _ (all : Dqbf) (numbered : List ℕ) (s : StoreState) (old new : List Ent
   }
 
   pub given_stays : (side j : ℕ) → IsGivenThere all numbered s old side j → IsGivenThere all numbered s new side j
-  given_stays side j h = record {
-    clause = h.clause;
-    clause_is = h.clause_is;
-    covered = h.covered;
-    group = h.group;
-    has_group = h.has_group;
-    given = given_in_stays old new kept (group_variable h.group) _ _ h.given;
-  }
+  given_stays side j h = search (arith, given_in_stays)
 
 -- an entry that is none of the store's business
 pub store_stands : (count : ℕ) (all : Dqbf) (numbered : List ℕ) (s : StoreState) (e : Entry) (es : List Entry)
@@ -92,8 +81,7 @@ frame_first : (frames : List (Option Sides)) (F : ℕ) (sides : Sides) → slice
     Contains (both_groups frames) (group_variable sides.first)
 frame_first [] F sides is = cc
 frame_first (None ∷ frames) zero sides is = cc
-frame_first (Some x ∷ frames) zero sides is =
-    let same : x ≡ sides = cc in (0, omega arith, ap (λ (y : Sides). group_variable y.first) same)
+frame_first (Some x ∷ frames) zero sides is = search arith
 frame_first (None ∷ frames) (suc F) sides is = frame_first frames F sides is
 frame_first (Some x ∷ frames) (suc F) sides is =
     let r = frame_first frames F sides is in let below = r.1 in (suc (suc r.0), omega (arith, below), r.2)
@@ -118,12 +106,8 @@ link_number (x ∷ links) (suc k) g is =
 pub side_number : (s : StoreState) (side F : ℕ) (sides : Sides) (g : Group) → slice_get s.frames F ≡ Some (Some sides)
     → side_group side sides ≡ Some g → Contains (both_groups s.frames) (group_variable g)
 side_number s zero F sides g is there = cc
-side_number s (suc zero) F sides g is there =
-    let same : sides.first ≡ g = cc in
-    subst (λ h. Contains (both_groups s.frames) (group_variable h)) same (frame_first s.frames F sides is)
-side_number s (suc (suc zero)) F sides g is there =
-    let same : sides.second ≡ g = cc in
-    subst (λ h. Contains (both_groups s.frames) (group_variable h)) same (frame_second s.frames F sides is)
+side_number s (suc zero) F sides g is there = search (arith, frame_first)
+side_number s (suc (suc zero)) F sides g is there = search (arith, frame_second)
 side_number s (suc (suc (suc side))) F sides g is there = cc
 
 pub has_number : (s : StoreState) (slot : Slot) (g : Group) → HasGroup s slot g → Contains (store_groups s) (group_variable g)
@@ -164,8 +148,7 @@ name_off : (engine : Engine) (o : Option Engine) → same_engine engine copies �
     (o ≡ None) ⊎ (o ≡ Some engine) → is_engine copies o ≡ true → ⊥
 name_off engine None apart which own = cc
 name_off engine (Some other) apart (inl none) own = cc
-name_off engine (Some other) apart (inr is) own =
-    let same : other ≡ engine = cc in not_copies engine other apart same own
+name_off engine (Some other) apart (inr is) own = search (arith, not_copies)
 
 module _ (all : Dqbf) (numbered : List ℕ) (s : StoreState) (any : Dqbf) (engine : Engine) (groups : List ℕ)
     (silent : Bool) (old : List Entry) (other : same_engine engine copies ≡ false)
@@ -206,26 +189,16 @@ engines_left all any numbered p engine groups silent old new grew other apart st
     (all_foreign all numbered (store_of p) any engine groups silent old.entries other apart store grew.more grew.each)
 
 pub rounds_left : RoundsLeaveStores
-rounds_left all numbered p entries row values j store =
-    store_stands (length (declared all)) all numbered (store_of p) (Round row values j) entries (λ v n is. is) tt store
+rounds_left all numbered p entries row values j store = search (arith, store_stands)
 
 pub beginnings_left : BeginningsLeaveStores
-beginnings_left all numbered p entries live store =
-    store_stands (length (declared all)) all numbered (store_of p) (Begun live) entries (λ v n is. is) tt store
+beginnings_left all numbered p entries live store = search (arith, store_stands)
 
 -- which variables with copies have all parts, told for more variables or for fewer
 pub store_to : (m n : ℕ) (all : Dqbf) (numbered : List ℕ) (s : StoreState) (es : List Entry) →
     IsStoreTo m all numbered s es → ((k : ℕ) → k < n → is_copied_at s.copied k ≡ true → 5 ≤ parts_at s k) →
     IsStoreTo n all numbered s es
-store_to m n all numbered s es store whole = record {
-  places = store.places;
-  whole = whole;
-  parts = store.parts;
-  groups = store.groups;
-  givens = store.givens;
-  own = store.own;
-  active = store.active;
-}
+store_to m n all numbered s es store whole = search arith
 
 pub partial : (all : Dqbf) (numbered : List ℕ) (s : StoreState) (es : List Entry) → IsStore all numbered s es →
     IsPartialStore all numbered s es
@@ -250,13 +223,7 @@ index_past (x ∷ xs) (suc i) d past = index_past xs i d (omega (arith, past))
 
 pub complete_store : (all : Dqbf) (numbered : List ℕ) (s : StoreState) (es : List Entry) →
     IsStore all numbered s es → AreComplete all s
-complete_store all numbered s es store k past = elim (cases_lt k (length s.parts)) [
-  | inl within ↦ (
-      let long = store.places.parts in
-      let flags = store.places.flags in
-      store.whole k (omega (arith, within, long)) (flag_past s.copied k (omega (arith, flags, past))))
-  | inr behind ↦ (let none = index_past s.parts k 5 behind in omega (arith, none))
-]
+complete_store all numbered s es store k past = search (arith, cases_lt, flag_past, index_past)
 
 -- clauses, groups and parts stay, and there may be further ones
 pub record IsGrown (s t : StoreState) : Type 0 where
@@ -277,10 +244,7 @@ module _ (all : Dqbf) (numbered : List ℕ) (s t : StoreState) (grown : IsGrown 
   name_kept (Input x) h = tt
   name_kept (And a b) h = tt
   name_kept (Bad g j) h = tt
-  name_kept (CopyOf side x) h = λ k is.
-      let low = h k is in
-      let more = grown.more_parts k in
-      omega (arith, low, more)
+  name_kept (CopyOf side x) h = search arith
   name_kept (Term a b) h = tt
 
   copy_kept : (earlier : List Entry) (side j : ℕ) (c : List Literal) → IsStoredCopy all numbered s earlier side j c →
@@ -295,18 +259,7 @@ module _ (all : Dqbf) (numbered : List ℕ) (s t : StoreState) (grown : IsGrown 
 
   link_kept : (earlier : List Entry) (x i : ℕ) (c : List Literal) → IsStoredLink all s earlier x i c →
       IsStoredLink all t earlier x i c
-  link_kept earlier x i c h =
-      let done = h.done in
-      let more = grown.more_parts h.place in
-      record {
-        right = h.right;
-        place = h.place;
-        variable_is = h.variable_is;
-        done = omega (arith, done, more);
-        group = h.group;
-        group_is = grown.kept_links h.place h.group (omega (arith, done)) h.group_is;
-        in_group = h.in_group;
-      }
+  link_kept earlier x i c h = search arith
 
   no_group : (earlier : List Entry) (c : List Literal) → AreNewGroups s t earlier → AreNamed earlier c →
       IsInNoGroup s c → IsInNoGroup t c
@@ -332,17 +285,9 @@ module _ (all : Dqbf) (numbered : List ℕ) (s t : StoreState) (grown : IsGrown 
   entry_kept earlier (Begun numbers) new may h = tt
 
   new_before : (e : Entry) (es : List Entry) → AreNewGroups s t (e ∷ es) → AreNewGroups s t es
-  new_before e es new slot g has = by (new slot g has)
-    where
-      by : HasGroup s slot g ⊎ (name_of (e ∷ es) (group_variable g) ≡ None) →
-          HasGroup s slot g ⊎ (name_of es (group_variable g) ≡ None)
-      by (inl old) = inl old
-      by (inr none) = inr (unnamed_before e es (group_variable g) none)
+  new_before e es new slot g has = search (arith, unnamed_before)
 
   pub entries_kept : (es : List Entry) → AreNewGroups s t es → Each MayFollow es → Each (IsStoreEntry all numbered s) es →
       Each (IsStoreEntry all numbered t) es
   entries_kept [] new logged h = tt
-  entries_kept (e ∷ es) new logged h = (
-    entry_kept es e (new_before e es new) logged.0 h.0,
-    entries_kept es (new_before e es new) logged.1 h.1,
-  )
+  entries_kept (e ∷ es) new logged h = search (arith, entry_kept, new_before, (entries_kept es))

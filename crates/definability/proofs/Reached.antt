@@ -1,5 +1,5 @@
 -- The given clauses that an answer of the copies reaches.
-use Rattle.std.proofs.Common.{◌≡◌, ◌⊎◌, ℕ, ◌+◌, ◌==◌, Bool, true, false, true≢false, cond, append_assoc, ◌||◌, inl, inr, List, [], ◌∷◌, ◌++◌, Option, Some, None, IsSome, refl, sym, ◌∙◌, ap, subst}
+use Rattle.std.proofs.Common.{◌≡◌, ◌⊎◌, ℕ, ◌+◌, Bool, true, false, true≢false, append_assoc, ◌||◌, inl, inr, List, [], ◌∷◌, ◌++◌, Some, IsSome, refl, sym, ◌∙◌, ap, subst, arith}
 use Rattle.std.specs.List.{Contains}
 use Rattle.std.specs.Option.{option_and_then}
 use Rattle.std.proofs.lemmas.Bool.{eq-eqb}
@@ -9,7 +9,7 @@ use Rattle.dq_lits.specs.Derivation.{LiveClauses, MakesTrue, holds, IsDerived}
 use Rattle.dq_lits.specs.Formula.{Dqbf}
 use Rattle.hint_log.specs.Conditions.{IsId, AreLogged}
 use Rattle.hint_log.specs.Deciding.{ReachesGiven, AreNegatedSelectors, IsInstance, IsCircuitGiven, DecidesNothing}
-use Rattle.hint_log.specs.Entries.{Entry, Named, Given, Learned, Answer, Round, Begun, has_id, numbered, last_id, clause_of, hints_of, origin_of, clause_at, hints_at, origin_at, name_of}
+use Rattle.hint_log.specs.Entries.{Entry, Given, Answer, has_id, numbered, last_id, hints_of, clause_at, hints_at, origin_at, name_of}
 use Rattle.hint_log.specs.Growth.{Each}
 use Rattle.hint_log.specs.Reached.{Reaches, itself, by_hint}
 use Rattle.hint_log.specs.declared.names.Name.TheVariants.{Selector}
@@ -43,10 +43,7 @@ module _ (es : List Entry) (clause : List Literal) (hints : List ℕ)
   last = last_id es + 1
 
   last_there : numbered has_id all last ≡ Some (Answer clause hints)
-  last_there = ap (λ b. cond b (Some (Answer clause hints)) (numbered has_id es last)) (same last)
-    where
-      same : (n : ℕ) → (n == n) ≡ true
-      same n = eq-eqb n n refl
+  last_there = search (arith, eq-eqb)
 
   abbrev ReachedByHint : ℕ → Type 0
   ReachedByHint i = (hint : ℕ) × Contains hints hint × Reaches es hint i × IsId es i
@@ -79,33 +76,12 @@ module _ (es : List Entry) (clause : List Literal) (hints : List ℕ)
 
   pub reached_given : (i : ℕ) (origin : Origin) (c : List Literal) → Reaches all last i →
       numbered has_id all i ≡ Some (Given origin c) → ReachesGiven es hints origin c
-  reached_given i origin c reached at = elim (by_a_hint i reached) [
-    | inl same ↦ (let both : Some (Answer clause hints) ≡ Some (Given origin c) =
-        sym last_there ∙ ap (numbered has_id all) (sym same) ∙ at in cc)
-    | inr below ↦ record {
-      hint = below.0;
-      id = i;
-      hinted = below.1;
-      reached = below.2;
-      is_given =
-          sym (stays (Answer clause hints) es i below.3) ∙ at;
-    }
-  ]
+  reached_given i origin c reached at = search (arith, by_a_hint, last_there)
 
 -- an entry with an origin and a clause is a given one
 pub is_given_entry : (es : List Entry) (i : ℕ) (c : List Literal) → IsSome (origin_at es i) → clause_at es i ≡ Some c →
     (origin : Origin) × (numbered has_id es i ≡ Some (Given origin c))
-is_given_entry es i c has is = by (numbered has_id es i) refl has is
-  where
-    by : (o : Option Entry) → numbered has_id es i ≡ o → IsSome (option_and_then origin_of o) →
-        option_and_then clause_of o ≡ Some c → (origin : Origin) × (numbered has_id es i ≡ Some (Given origin c))
-    by None e h is = cc
-    by (Some (Named v n)) e h is = cc
-    by (Some (Given origin d)) e h is = let same : d ≡ c = cc in (origin, e ∙ ap (λ x. Some (Given origin x)) same)
-    by (Some (Learned d hs)) e h is = cc
-    by (Some (Answer d hs)) e h is = cc
-    by (Some (Round r v j)) e h is = cc
-    by (Some (Begun live)) e h is = cc
+is_given_entry es i c has is = search arith
 
 -- a given clause that an answer's hints reach, with its group's selector, which the answer's clause negates
 pub record IsOfAnswer (es : List Entry) (clause : List Literal) (origin : Origin) (c : List Literal) : Type 0 where
@@ -152,10 +128,7 @@ module _ (f : Dqbf) (es : List Entry) (clause : List Literal) (hints : List ℕ)
   pub own_at : (test : Origin → Bool) (h : ℕ) → is.grouped.group ≡ h →
       Each (IsGroupGiven f test h) (Answer clause hints ∷ es) →
       (test origin ≡ true) × MatchesOrigin f is.earlier (Given origin c)
-  own_at test h same own =
-      each_at (IsGroupGiven f test h) (Answer clause hints ∷ is.more) is.earlier (Given origin c)
-      (subst (Each (IsGroupGiven f test h)) more_split own)
-      (is.grouped.rest, is.grouped.clause_is ∙ ap (λ k. negative k ∷ is.grouped.rest) same)
+  own_at test h same own = search (arith, each_at, more_split)
 
   pub side_at : (side h : ℕ) → is.grouped.group ≡ h →
       Each (IsSideGiven f side h) (Answer clause hints ∷ es) →

@@ -1,5 +1,5 @@
 -- A store whose groups of some frames are active has the copies of the formula of these frames' clauses.
-use Rattle.std.proofs.Common.{◌≡◌, ℕ, zero, suc, ◌≤◌, true, inl, inr, List, [], ◌∷◌, length, get_or, slice_get, Some, refl, sym, ◌∙◌, ap, subst, arith, ◌+◌, false}
+use Rattle.std.proofs.Common.{◌≡◌, ℕ, zero, suc, ◌≤◌, true, List, [], ◌∷◌, length, get_or, slice_get, Some, refl, sym, ◌∙◌, ap, subst, arith, ◌+◌, false}
 use Rattle.std.specs.List.{All, Contains}
 use Rattle.std.proofs.lemmas.Bool.{eq-eqb}
 use Rattle.std.proofs.lemmas.List.Elements.{All-contains}
@@ -107,8 +107,7 @@ module _ (all : Dqbf) (numbered : List ℕ) (frames : List ℕ) (matrix : List (
   copy_entries : (side F : ℕ) (g : Group) → Contains frames F → HasGroup s (of_frame side F) g → (xs : List Entry) →
       Each (IsStoreEntry all numbered s) xs → Each (IsSideGiven f side (group_variable g)) xs
   copy_entries side F g among has [] h = tt
-  copy_entries side F g among has (e ∷ xs) h =
-      (copy_entry side F g among has xs e h.0, copy_entries side F g among has xs h.1)
+  copy_entries side F g among has (e ∷ xs) h = search (arith, copy_entry, (copy_entries side F g among has xs h.1))
 
   flag_parts : (k x : ℕ) → slice_get (declared all) k ≡ Some x → is_copied_at s.copied k ≡ true → 5 ≤ parts_at s k
   flag_parts k x x_is flag = store.whole k (slice_get_within (declared all) k x x_is) flag
@@ -216,12 +215,7 @@ module _ (all : Dqbf) (numbered : List ℕ) (frames : List ℕ) (matrix : List (
       record {
         made = store.groups.links k g g_is;
         own = link_entries k x g x_is (omega (arith, low), g_is) es store.own;
-        whole = λ i is. elim is [
-          | inl one ↦ store.parts.equations k x i g (omega (arith, low, one)) (omega (arith, one)) (omega (arith, one))
-              x_is g_is
-          | inr two ↦ store.parts.equations k x i g (omega (arith, low, two)) (omega (arith, two)) (omega (arith, two))
-              x_is g_is
-        ];
+        whole = search arith;
       }
 
 pub ready_now : (all : Dqbf) (numbered : List ℕ) (frames : List ℕ) (matrix : List (List Literal)) (p : Definability)

@@ -88,11 +88,7 @@ module _ (all : Dqbf) (numbered : List ℕ) (s : StoreState) (log : ProofLog) (s
     places = store.places;
     whole = store.whole;
     parts = store.parts;
-    groups = record {
-      made = λ slot g has. store.groups.made slot g (old_group slot g has);
-      links = store.groups.links;
-      apart = λ a b g h has has' same. store.groups.apart a b g h (old_group a g has) (old_group b h has') same;
-    };
+    groups = search (arith, old_group);
     givens = λ side j one has.
         let there = store.givens side j one (less side j has) in
         record {

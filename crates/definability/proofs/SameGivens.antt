@@ -1,5 +1,5 @@
 -- Searches name nothing, and give nothing.
-use Rattle.std.proofs.Common.{ℕ, inl, inr, List, [], ◌∷◌, ◌++◌, refl, sym, ◌∙◌, ap, subst}
+use Rattle.std.proofs.Common.{ℕ, inl, inr, List, [], ◌∷◌, ◌++◌, refl, sym, subst, arith}
 use Rattle.list_laws.proofs.Members.{contains_later, contains_cases}
 use Rattle.dq_lits.specs.Literal.{Literal}
 use Rattle.hint_log.specs.Entries.{Entry, Named, Given, Learned, Answer, Round, Begun, ProofLog}
@@ -8,11 +8,7 @@ use Rattle.oracle.specs.Calls.{IsLearnedEntry, IsRefutedUnder}
 use Rattle.definability.specs.Growing.{HasSameGivens}
 
 pub same_then : (a b c : List Entry) → HasSameGivens a b → HasSameGivens b c → HasSameGivens a c
-same_then a b c first second = record {
-  names = λ v. second.names v ∙ first.names v;
-  entries = λ e inside. second.entries e (first.entries e inside);
-  givens = λ o d inside. first.givens o d (second.givens o d inside);
-}
+same_then a b c first second = search arith
 
 same_nothing : (es : List Entry) → HasSameGivens es es
 same_nothing es = record { names = λ v. refl; entries = λ e inside. inside; givens = λ o c inside. inside }
@@ -37,9 +33,7 @@ same_more : (more old : List Entry) → EachOf IsLearnedEntry more old → HasSa
 same_more [] old each = same_nothing old
 same_more (Named v n ∷ more) old each = absurd each.0
 same_more (Given o c ∷ more) old each = absurd each.0
-same_more (Learned c hints ∷ more) old each =
-    same_then old (more ++ old) (Learned c hints ∷ (more ++ old)) (same_more more old each.1)
-    (same_learned c hints (more ++ old))
+same_more (Learned c hints ∷ more) old each = search (arith, same_then, (same_more more old each.1), same_learned)
 same_more (Answer c hints ∷ more) old each = absurd each.0
 same_more (Round row values j ∷ more) old each = absurd each.0
 same_more (Begun live ∷ more) old each = absurd each.0
@@ -50,6 +44,9 @@ learned_same old new g = subst (HasSameGivens old.entries) (sym g.grown) (same_m
 pub refuted_same : (assumptions : List Literal) (old new : ProofLog) (id : ℕ) → IsRefutedUnder old new assumptions id →
     HasSameGivens old.entries new.entries
 refuted_same assumptions old new id r =
-    subst (HasSameGivens old.entries) (sym (ap (λ (l : ProofLog). l.entries) r.answered))
-    (same_then old.entries r.before.entries (Answer r.clause r.hints ∷ r.before.entries)
-    (learned_same old r.before r.learned) (same_answer r.clause r.hints r.before.entries))
+    search (
+      arith,
+      (same_then old.entries r.before.entries),
+      (learned_same old r.before r.learned),
+      (same_answer r.clause r.hints r.before.entries),
+    )

@@ -10,7 +10,7 @@ use Rattle.hint_log.specs.Conditions.{IsId, AreLogged}
 use Rattle.hint_log.specs.Entries.{Entry, Named, Given, Learned, Answer, Round, Begun, ProofLog, has_id, numbered, last_id, name_of}
 use Rattle.hint_log.specs.Deciding.{DecidesNothing}
 use Rattle.hint_log.specs.Growth.{Grew}
-use Rattle.hint_log.specs.Naming.{named_literal, name_literal, AreNamedAs}
+use Rattle.hint_log.specs.Naming.{AreNamedAs}
 use Rattle.hint_log.specs.Reached.{Reaches}
 use Rattle.hint_log.specs.declared.names.Name.TheVariants.{Copy as CopyOf}
 use Rattle.log_laws.specs.Engines.{copies, IsAddedBy}
@@ -44,13 +44,7 @@ learned_is_added f group silent old earlier (Begun live) h = absurd h
 -- a search that logs no answer, wherever one begins to look
 pub learned_from : (f : Dqbf) (start : List Entry) (old new : ProofLog) → Grew IsLearnedEntry old new → (group : ℕ) →
     Grew (IsAddedBy f copies group true start) old new
-learned_from f start old new g group = record {
-  more = g.more;
-  grown = g.grown;
-  each = each_of_weaker IsLearnedEntry (IsAddedBy f copies group true start)
-      (learned_is_added f group true start) g.more old.entries g.each;
-  limit = g.limit;
-}
+learned_from f start old new g group = search (arith, each_of_weaker, learned_is_added)
 
 pub learned_grew : (f : Dqbf) (old new : ProofLog) → Grew IsLearnedEntry old new → (group : ℕ) →
     Grew (IsAddedBy f copies group true old.entries) old new
@@ -80,11 +74,7 @@ definability_learned f p old new grew definability = definability_stays f (IsNam
 
 pub searched_learned : (f : Dqbf) (p : Definability) (old new : ProofLog) → Grew IsLearnedEntry old new →
     IsDefinability f p old.entries → HasSearched f p old new
-searched_learned f p old new grew definability = record {
-  copied = definability_learned f p old new grew definability;
-  same = learned_same old new grew;
-  grew = learned_grew f old new grew;
-}
+searched_learned f p old new grew definability = search (arith, definability_learned, learned_same, learned_grew)
 
 all_plain : (xs : List ℕ) → All (λ x. Unit {0}) xs
 all_plain xs i d lt = tt
@@ -174,12 +164,10 @@ module _ (implied : LinesAreImplied)
   searched_there = subst IsSearched (answered f p under old new id definability r) searched
 
   first_there : AreNamedAs all asked.first.items (copy_names 1 (asked_of conditions (positive v)))
-  first_there = named_stay old.entries all (names_answered f p under old new id definability r) asked.first.items
-      (copy_names 1 (asked_of conditions (positive v))) are.first
+  first_there = search (arith, named_stay, names_answered)
 
   second_there : AreNamedAs all asked.second.items (copy_names 2 (asked_of conditions (negative v)))
-  second_there = named_stay old.entries all (names_answered f p under old new id definability r) asked.second.items
-      (copy_names 2 (asked_of conditions (negative v))) are.second
+  second_there = search (arith, named_stay, names_answered)
 
   pub shows : ShowsDefinition f places v conditions p asked.first.items new.entries id
   shows =
@@ -205,15 +193,12 @@ module _ (implied : LinesAreImplied)
 -- the assumptions, as they were put together
 pub two_joined : (xs ys first second lits joined : List Literal) → xs ≡ first → ys ≡ second → lits ≡ xs ++ ys →
     joined ≡ lits → joined ≡ first ++ second
-two_joined xs ys first second lits joined xs_are ys_are are same =
-    same ∙ are ∙ ap (λ zs. zs ++ ys) xs_are ∙ ap (λ zs. first ++ zs) ys_are
+two_joined xs ys first second lits joined xs_are ys_are are same = search arith
 
 pub refuted_under : (old new : ProofLog) (gs active : List Group) (joined lits : List Literal) (id : ℕ) → gs ≡ active →
     joined ≡ lits → IsRefutedUnder old new (assumed gs joined) id →
     IsRefutedUnder old new (assumed active lits) id
-refuted_under old new gs active joined lits id gs_are all_are r =
-    subst (λ hs. IsRefutedUnder old new (assumed hs lits) id) gs_are
-    (subst (λ ls. IsRefutedUnder old new (assumed gs ls) id) all_are r)
+refuted_under old new gs active joined lits id gs_are all_are r = search arith
 
 pub on_answer : {P : Type 0} (a : AnswerOf) → (a ≡ Sat → P) → ((id : ℕ) → a ≡ Unsat id → P) → P
 on_answer Sat sat unsat = sat refl
@@ -228,16 +213,13 @@ mapped_existential (y ∷ ys) e (suc k, lt, at) = let r = mapped_existential ys 
 
 pub found_declared : (f : Dqbf) (v : ℕ) (e : Existential) → existential_of f v ≡ Some e →
     Contains (declared f) e.variable
-found_declared f v e found = Contains-append_right f.universals (map (λ z. z.variable) f.existentials) e.variable
-    (mapped_existential f.existentials e (find_sound v f.existentials e found).0)
+found_declared f v e found = search (arith, Contains-append_right, mapped_existential, find_sound)
 
 pub found_variable : (f : Dqbf) (v : ℕ) (e : Existential) → existential_of f v ≡ Some e → e.variable ≡ v
 found_variable f v e found = (find_sound v f.existentials e found).1
 
 pub existential_declared : (f : Dqbf) (v : ℕ) → IsSome (existential_of f v) → Contains (declared f) v
-existential_declared f v is =
-    some_existential f v (Contains (declared f) v) is (λ e found. subst (Contains (declared f))
-    (found_variable f v e found) (found_declared f v e found))
+existential_declared f v is = search (arith, some_existential, found_variable, found_declared)
 
 -- the copies have names, so that an oracle that goes with the log has them
 pub copies_told : (es : List Entry) (side : ℕ) (vs : List ℕ) (lits : List Literal) (P : ℕ → Type 0) →
@@ -246,11 +228,7 @@ pub copies_told : (es : List Entry) (side : ℕ) (vs : List ℕ) (lits : List Li
 copies_told es side vs [] P are made = All-nil (λ l. P (variable_of l))
 copies_told es side [] (l ∷ lits) P are made = cc
 copies_told es side (v ∷ vs) (l ∷ lits) P are made =
-    let here : name_literal es l ≡ Some (named_literal (CopyOf side v) false) = cc in
-    let later : map (name_literal es) lits ≡ map Some (map (λ w. named_literal (CopyOf side w) false) vs) = cc in
-    let named = named_variable es l (CopyOf side v) false (name_of es (variable_of l)) refl here in
-    All-cons (λ k. P (variable_of k)) l lits (made (variable_of l) (subst IsSome (sym named.0) refl))
-    (copies_told es side vs lits P later made)
+    search (arith, named_variable, All-cons, (copies_told es side vs lits P))
 
 -- of those of the universals that have some
 pub flags_told : (es : List Entry) (side : ℕ) (flags : List Bool) (vs : List ℕ) (lits : List Literal) (P : ℕ → Type 0) →

@@ -29,17 +29,13 @@ written_more f xs i d row next lt is next_is =
 
 pub written_all : (f : Literal → Bool) (xs : List Literal) (i : ℕ) (row : List Bool) → length xs ≤ i →
     row ≡ map f (take i xs) ++ replicate (length xs - i) false → row ≡ map f xs
-written_all f xs i row past is =
-    let none : length xs - i ≡ 0 = omega (arith, past) in
-    is ∙ ap (λ k. map f (take i xs) ++ replicate k false) none ∙ append-nil (map f (take i xs)) ∙ ap (map f)
-    (take_all i xs past)
+written_all f xs i row past is = search (arith, replicate, append-nil, take_all)
 
 pub mapped_more : {X : Type 0} (g : ℕ → X) (ps : List ℕ) (i p : ℕ) (old new : List X) (x : X) → i < length ps →
     get_or ps i p ≡ p → old ≡ map g (take i ps) → new ≡ old ++ x ∷ [] → x ≡ g p →
     new ≡ map g (take (i + 1) ps)
 mapped_more g ps i p old new x lt at before pushed is =
-    pushed ∙ ap (λ xs. xs ++ x ∷ []) before ∙ ap (λ y. map g (take i ps) ++ y ∷ []) is
-    ∙ sym (ap (map g) (take_more ps i p lt ∙ ap (λ q. take i ps ++ q ∷ []) at) ∙ map-append g (take i ps) (p ∷ []))
+    search (arith, (take_more ps i p lt), (map-append g (take i ps) (p ∷ [])))
 
 mapped_sound : {X : Type 0} (g : ℕ → X) (ps : List ℕ) (x : X) → Contains (map g ps) x →
     (k : ℕ) × Contains ps k × (g k ≡ x)
@@ -84,12 +80,7 @@ pub active_more : (p : Definability) (places : List ℕ) (i place : ℕ) (old ne
     get_or places i place ≡ place → old ≡ (p.first.groups.items ++ p.second.groups.items) ++ links_at p (take i places) →
     new ≡ old ++ g ∷ [] → g ≡ get_or p.links.items place no_group →
     new ≡ (p.first.groups.items ++ p.second.groups.items) ++ links_at p (take (i + 1) places)
-active_more p places i place old new g lt at before pushed is =
-    let both = p.first.groups.items ++ p.second.groups.items in
-    let ls = links_at p (take i places) in
-    pushed ∙ ap (λ gs. gs ++ g ∷ []) before ∙ append_assoc both ls (g ∷ [])
-    ∙ ap (λ gs. both ++ gs)
-    (mapped_more (λ k. get_or p.links.items k no_group) places i place ls (ls ++ g ∷ []) g lt at refl refl is)
+active_more p places i place old new g lt at before pushed is = search (arith, append_assoc, mapped_more)
 
 -- the bits of the first so many places are written
 pub record AreBitsSoFar (values : Assignment) (flags others : List Bool) (lits : List Literal) (i : ℕ)

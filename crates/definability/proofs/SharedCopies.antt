@@ -9,7 +9,7 @@ use Rattle.defining_nodes.specs.Definitions.{input_variable}
 use Rattle.hint_log.specs.Entries.{Entry, name_of}
 use Rattle.hint_log.specs.declared.names.Name.{Name}
 use Rattle.hint_log.specs.declared.names.Name.TheVariants.{Copy as CopyOf}
-use Rattle.aig_graph.specs.Graph.{AigGraph, node_value, node_support, IsNode}
+use Rattle.aig_graph.specs.Graph.{AigGraph, node_value, node_support}
 use Rattle.aig_graph.specs.declared.nodes.Node.{Node}
 use Rattle.aig_graph.specs.declared.nodes.Node.TheVariants.{Input}
 use Rattle.interpolants.specs.Interpolant.{node_of, AreNodes}
@@ -35,17 +35,7 @@ module _ (g : ℕ → ℕ × Node) where
 
   selected_complete : (ps : List ℕ) (k : ℕ) → Contains ps k → IsSome (node_of (map g ps) (g k).0)
   selected_complete [] k (i, lt, at) = absurd (omega (arith, lt))
-  selected_complete (p ∷ ps) k among = by (selected_complete ps) ((g k).0 == (g p).0) refl among
-    where
-      by : ((i : ℕ) → Contains ps i → IsSome (node_of (map g ps) (g i).0)) → (b : Bool) → ((g k).0 == (g p).0) ≡ b →
-          Contains (p ∷ ps) k →
-          IsSome (cond b (Some (g p).1) (node_of (map g ps) (g k).0))
-      by later true e among = refl
-      by later false e (zero, lt, at) =
-          let same : ((g k).0 == (g p).0) ≡ true = eq-eqb (g k).0 (g p).0 (ap (λ i. (g i).0) (sym at)) in
-          let clash : true ≡ false = sym same ∙ e in
-          cc
-      by later false e (suc i, lt, at) = later k (i, omega (arith, lt), at)
+  selected_complete (p ∷ ps) k among = search (arith, (selected_complete ps), eq-eqb)
 
 module _ (f : Dqbf) (p : Definability) (places : List ℕ) (es : List Entry) (within : All (λ k. k < length (declared f)) places)
     (flagged : All (λ k. is_copied_at p.copied.items k ≡ true) places)
@@ -92,8 +82,4 @@ module _ (f : Dqbf) (p : Definability) (places : List ℕ) (es : List Entry) (wi
       only k i (suc j, lt, at) = absurd (omega (arith, lt))
 
   pub shared_nodes : (graph : AigGraph) → graph.inputs ≡ length (declared f) → AreNodes (shared_pairs p places) graph
-  shared_nodes graph inputs v n is =
-      let r = selected_sound pick places v n is in
-      let x = read_at f places within r.0 r.1 in
-      let lt = slice_get_within (declared f) r.0 x.0 x.1 in
-      subst (IsNode graph) r.3 (omega (arith, lt, inputs))
+  shared_nodes graph inputs v n is = search (arith, selected_sound, read_at, slice_get_within)

@@ -1,5 +1,5 @@
 -- What the two sides have in common: the first copies of what stands at the places.
-use Rattle.std.proofs.Common.{◌≡◌, ◌⊎◌, ℕ, ◌==◌, Bool, true, false, true≢false, ◌&&◌, inl, inr, List, [], ◌∷◌, map, Option, Some, refl, sym, ◌∙◌, ap, subst}
+use Rattle.std.proofs.Common.{◌≡◌, ◌⊎◌, ℕ, ◌==◌, Bool, true, false, true≢false, ◌&&◌, inl, inr, List, [], ◌∷◌, map, Option, Some, refl, sym, ◌∙◌, ap, arith}
 use Rattle.std.specs.List.{All, list_any}
 use Rattle.std.proofs.lemmas.Bool.{cases_Bool, or_cases, or_left, and_parts, eqb-true}
 use Rattle.std.proofs.lemmas.List.Elements.{All-head, All-tail, All-cons, All-nil}
@@ -9,7 +9,7 @@ use Rattle.dq_lits.specs.Formula.{Dqbf}
 use Rattle.dq_lits.proofs.Truth.{same_literal-sound}
 use Rattle.dq_lits.proofs.HeldLiterals.{any_gives}
 use Rattle.hint_log.specs.Entries.{Entry, name_of}
-use Rattle.hint_log.specs.Naming.{NamedLiteral, named_literal, name_literal, AreNamedAs, is_selector, is_selector_name}
+use Rattle.hint_log.specs.Naming.{NamedLiteral, name_literal, AreNamedAs, is_selector, is_selector_name}
 use Rattle.hint_log.specs.Origins.{link_names}
 use Rattle.hint_log.specs.declared.names.Name.{Name}
 use Rattle.hint_log.specs.declared.names.Name.TheVariants.{Selector, Copy as CopyOf}
@@ -18,7 +18,7 @@ use Rattle.interpolants.specs.Interpolant.{Partition, is_on_a, stands_on, IsOfA,
 use Rattle.interpolants.proofs.Truth.{stands_there}
 use Rattle.log_laws.proofs.Found.{named_variable}
 use Rattle.definability.specs.Copies.{copy_names}
-use Rattle.definability.specs.Dividing.{asked_of, IsRead, Divides, AreSharedCopies}
+use Rattle.definability.specs.Dividing.{IsRead, Divides, AreSharedCopies}
 use Rattle.definability.proofs.DividedAnswers.{copy_name}
 
 -- a variable of named literals
@@ -31,9 +31,7 @@ named_all es P (k ∷ ks) (n ∷ ns) are ps v h =
     let here : name_literal es k ≡ Some n = cc in
     let later : map (name_literal es) ks ≡ map Some ns = cc in
     elim (or_cases (variable_of k == v) (stands_on ks v) h) [
-      | inl this ↦ (
-          let named = named_variable es k n.name n.negated (name_of es (variable_of k)) refl here in
-          (n.name, ap (name_of es) (sym (eqb-true (variable_of k) v this)) ∙ named.0, All-head (λ x. P x.name) n ns ps))
+      | inl this ↦ search (arith, named_variable, eqb-true, All-head)
       | inr further ↦ named_all es P ks ns later (All-tail (λ x. P x.name) n ns ps) v further
     ]
 
@@ -49,18 +47,8 @@ abbrev IsLinked : ℕ → Name → Type 0
 IsLinked x m = (m ≡ CopyOf 1 x) ⊎ (m ≡ CopyOf 2 x)
 
 are_linked : (x i : ℕ) → (i ≡ 1) ⊎ (i ≡ 2) → All (λ n. IsLinked x n.name) (link_names x i)
-are_linked x i (inl one) =
-    subst (λ k. All (λ n. IsLinked x n.name) (link_names x k)) (sym one)
-    (All-cons (λ n. IsLinked x n.name) (named_literal (CopyOf 1 x) true) (named_literal (CopyOf 2 x) false ∷ [])
-    (inl refl)
-    (All-cons (λ n. IsLinked x n.name) (named_literal (CopyOf 2 x) false) [] (inr refl)
-    (All-nil (λ n. IsLinked x n.name))))
-are_linked x i (inr two) =
-    subst (λ k. All (λ n. IsLinked x n.name) (link_names x k)) (sym two)
-    (All-cons (λ n. IsLinked x n.name) (named_literal (CopyOf 1 x) false) (named_literal (CopyOf 2 x) true ∷ [])
-    (inl refl)
-    (All-cons (λ n. IsLinked x n.name) (named_literal (CopyOf 2 x) true) [] (inr refl)
-    (All-nil (λ n. IsLinked x n.name))))
+are_linked x i (inl one) = search (arith, All-cons, All-nil)
+are_linked x i (inr two) = search (arith, All-cons, All-nil)
 
 -- the variables of the A side: selectors of it, and copies of side 1
 abbrev IsA : Partition → ℕ → Type 0
@@ -93,17 +81,8 @@ module _ (q : Partition) (f : Dqbf) (places : List ℕ) (y : ℕ) (conditions : 
       let w = any_gives (λ l. variable_of l == v) q.a_side h in
       let at : variable_of w.0 ≡ v = eqb-true (variable_of w.0) v w.2 in
       elim (divides.assumed w.0 w.1) [
-        | inl selector ↦ (
-            let same : selector.0 ≡ v = sym (ap variable_of selector.1) ∙ at in
-            inl (subst (λ n. (name_of q.entries n ≡ Some (Selector n)) × (holds q.a_side (positive n) ≡ true)) same
-            (selector.2, ap (holds q.a_side) (sym selector.1) ∙ w.1)))
-        | inr copy ↦ (
-            let named = copy_name q.entries 1 (asked_of conditions (positive y)) w.0 copy in
-            inr (
-              CopyOf 1 (variable_of copy.original),
-              ap (name_of q.entries) (sym at) ∙ named.0,
-              (variable_of copy.original, refl),
-            ))
+        | inl selector ↦ search arith
+        | inr copy ↦ search (arith, copy_name)
       ]
   a_kind v (inr side) =
       let copy = divides.a_given side.at side.clause side.given side.on_side in
@@ -115,13 +94,7 @@ module _ (q : Partition) (f : Dqbf) (places : List ℕ) (y : ℕ) (conditions : 
         | inr later ↦ inr (named_all q.entries (IsCopy 1) copy.rest (copy_names 1 copy.original) copy.copied
             (are_copies 1 copy.original) v later)
         | inl here ↦ elim (or_cases (same_literal w.0 (negative copy.group)) (holds copy.rest w.0) w.1) [
-          | inl first ↦
-              inl (subst (λ n. (name_of q.entries n ≡ Some (Selector n)) × (holds q.a_side (positive n) ≡ true))
-              (eqb-true copy.group v here) (
-                copy.is_group,
-                ap (λ k. holds q.a_side (opposite k))
-                    (sym (same_literal-sound w.0 (negative copy.group) first)) ∙ both.0,
-              ))
+          | inl first ↦ search (arith, eqb-true, same_literal-sound)
           | inr rest ↦ (
               let named = named_all q.entries (IsCopy 1) copy.rest (copy_names 1 copy.original) copy.copied
               (are_copies 1 copy.original) (variable_of w.0) (stands_there copy.rest w.0 rest) in
@@ -132,36 +105,17 @@ module _ (q : Partition) (f : Dqbf) (places : List ℕ) (y : ℕ) (conditions : 
   group_of_b : (group : ℕ) (rest clause : List Literal) → clause ≡ negative group ∷ rest →
       name_of q.entries group ≡ Some (Selector group) → is_on_a q clause ≡ false →
       holds q.a_side (positive group) ≡ false
-  group_of_b group rest clause is named on_b =
-      elim (cases_Bool (holds q.a_side (positive group))) [
-        | inr none ↦ none
-        | inl some ↦ (
-            let here : test (negative group) ≡ true = ap (λ b. b && is_selector q.entries group) some
-            ∙ ap is_selector_name named in
-            absurd (true≢false (sym (ap (list_any test) is ∙ or_left (test (negative group)) (list_any test rest) here)
-            ∙ on_b)))
-      ]
+  group_of_b group rest clause is named on_b = search (arith, cases_Bool, true≢false, or_left)
 
   b_group : (v group : ℕ) (rest clause : List Literal) → clause ≡ negative group ∷ rest →
       name_of q.entries group ≡ Some (Selector group) → is_on_a q clause ≡ false → group ≡ v → IsB q f places v
-  b_group v group rest clause is named on_b same =
-      inl (subst (λ n. (name_of q.entries n ≡ Some (Selector n)) × (holds q.a_side (positive n) ≡ false)) same
-      (named, group_of_b group rest clause is named on_b))
+  b_group v group rest clause is named on_b same = search (arith, group_of_b)
 
   b_kind : (v : ℕ) → IsOfB q v → IsB q f places v
   b_kind v (inl (l, other, at)) =
       elim (divides.others l other) [
-        | inl selector ↦ (
-            let same : selector.0 ≡ v = sym (ap variable_of selector.1) ∙ at in
-            inl (subst (λ n. (name_of q.entries n ≡ Some (Selector n)) × (holds q.a_side (positive n) ≡ false)) same
-            (selector.2, ap (holds q.a_side) (sym selector.1) ∙ other.not_a)))
-        | inr copy ↦ (
-            let named = copy_name q.entries 2 (asked_of conditions (negative y)) l copy in
-            inr (inl (
-              CopyOf 2 (variable_of copy.original),
-              ap (name_of q.entries) (sym at) ∙ named.0,
-              (variable_of copy.original, refl),
-            )))
+        | inl selector ↦ search arith
+        | inr copy ↦ search (arith, copy_name)
       ]
   b_kind v (inr side) =
       elim (divides.b_given side.at side.clause side.given side.on_side) [

@@ -1,6 +1,6 @@
 -- The rule that an answer of the first copy shows.
 use Rattle.std.proofs.Common.{◌≡◌, ◌≢◌, ℕ, ◌<◌, ◌≤◌, ◌^◌, Bool, true, false, true≢false, not, cond, ◌&&◌, inl, inr, List, [], ◌∷◌, ◌++◌, take, length, get_or, ◌+◌, Option, None, Some, refl, sym, ◌∙◌, ap, subst, arith}
-use Rattle.std.specs.List.{All, Contains, list_all, filter_map, cons_option}
+use Rattle.std.specs.List.{All, Contains, list_all, cons_option}
 use Rattle.std.proofs.lemmas.Bool.{eq-eqb, ne_eqb, or_right, and_parts}
 use Rattle.std.proofs.lemmas.List.{take_more}
 use Rattle.std.proofs.lemmas.List.Elements.{filter_map-append, All-head, All-tail, All-cons, All-nil, All-contains}
@@ -30,11 +30,7 @@ pub cube_more : (es : List Entry) (y : ℕ) (xs : List Literal) (i : ℕ) (l : L
     (old new : List Literal) → i < length xs → get_or xs i l ≡ l →
     o ≡ cube_literal y (is_negative l) (name_of es (variable_of l)) → old ≡ cube_of es y (take i xs) →
     new ≡ old ++ cons_option o [] → new ≡ cube_of es y (take (i + 1) xs)
-cube_more es y xs i l o old new lt at is before pushed =
-    let h : Literal → Option Literal = λ k. cube_literal y (is_negative k) (name_of es (variable_of k)) in
-    pushed ∙ ap (λ ls. ls ++ cons_option o []) before ∙ ap (λ p. cube_of es y (take i xs) ++ cons_option p []) is
-    ∙ sym (ap (filter_map h) (take_more xs i l lt ∙ ap (λ k. take i xs ++ k ∷ []) at) ∙ filter_map-append h (take i xs)
-    (l ∷ []))
+cube_more es y xs i l o old new lt at is before pushed = search (arith, (take_more xs i l lt), filter_map-append)
 
 -- each literal of a cube is a clause's
 every_cube : (P : Literal → Type 0) (es : List Entry) (y : ℕ) (ls : List Literal)
@@ -73,12 +69,7 @@ cube_there p es y (j ∷ ls) all l k h is = by (cube_literal y (is_negative j) (
       by (Some i) e spelled later =
           let both = and_parts (p i) (list_all p (cube_of es y ls)) spelled in
           elim (holds_cases j ls l h) [
-            | inl same ↦ (
-                let found : Some i ≡ Some k = sym e ∙ ap (λ x. cube_literal y (is_negative x)
-                (name_of es (variable_of x)))
-                (sym same) ∙ is in
-                let it : i ≡ k = cc in
-                ap p (sym it) ∙ both.0)
+            | inl same ↦ search arith
             | inr further ↦ later both.1 further is
           ]
 
@@ -88,11 +79,7 @@ signed_true m x false is = ap not is
 
 signed_is : (m : Assignment) (x : ℕ) (b : Bool) → literal_true m (signed_literal (positive x) b) ≡ true → m x ≡ b
 signed_is m x true h = h
-signed_is m x false h = turned (m x) h
-  where
-    turned : (c : Bool) → not c ≡ true → c ≡ false
-    turned false h = refl
-    turned true h = cc
+signed_is m x false h = search arith
 
 signed_variable : (x : ℕ) (b : Bool) → variable_of (signed_literal (positive x) b) ≡ x
 signed_variable x true = refl
@@ -137,12 +124,7 @@ module _ (f : Dqbf) (lawful : IsLawful f) (es : List Entry) (y : Existential) (r
   seen_gives : (l : Literal) (x : ℕ) → Contains y.sees x → IsAtRow f es row x (opposite l) →
       cube_literal y.variable (is_negative l) (name_of es (variable_of l)) ≡ Some
       (signed_literal (positive x) (row_assignment f row x))
-  seen_gives l x among is =
-      let t = turned l (CopyOf 1 x) (not (row_assignment f row x)) is in
-      ap (cube_literal y.variable (is_negative l)) t.0
-      ∙ ap (λ b. cond b None (Some (signed_literal (positive x) (is_negative l))))
-      (ne_eqb x y.variable (unseen x among))
-      ∙ ap (λ b. Some (signed_literal (positive x) b)) (t.1 ∙ not-not (row_assignment f row x))
+  seen_gives l x among is = search (arith, ne_eqb, not-not)
 
   -- what a literal of the clause puts into the cube
   gives : (l k : Literal) → IsKind l → cube_literal y.variable (is_negative l) (name_of es (variable_of l)) ≡ Some k →

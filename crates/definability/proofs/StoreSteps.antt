@@ -1,5 +1,5 @@
 -- Steps of a store that follows a session: places of lists that are set, and how steps compose.
-use Rattle.std.proofs.Common.{◌≡◌, ◌≢◌, ℕ, zero, suc, ◌<◌, ◌≤◌, true, ◌⊎◌, inl, inr, List, [], ◌∷◌, length, set, slice_get, Some, None, refl, sym, ◌∙◌, ap, subst, arith, ◌++◌}
+use Rattle.std.proofs.Common.{◌≡◌, ◌≢◌, ℕ, zero, suc, ◌<◌, true, ◌⊎◌, inl, inr, List, [], ◌∷◌, length, set, slice_get, Some, None, refl, sym, ◌∙◌, ap, subst, arith, ◌++◌}
 use Rattle.std.specs.List.{Contains}
 use Rattle.dq_lits.specs.Literal.{Literal}
 use Rattle.dq_lits.specs.Formula.{Dqbf}
@@ -13,7 +13,7 @@ use Rattle.log_laws.proofs.LargerLogs.{grown_by, grown_by_none, grown_then}
 use Rattle.definability.specs.Copies.{is_copied_at}
 use Rattle.definability.specs.Following.{AreOldOrNew, IsFollowing, CanGiveCopies, is_copy_entry, IsCopyAdded}
 use Rattle.definability.specs.Store.{StoreState, store_groups, IsPartialStore}
-use Rattle.definability.specs.Growing.{HasCopied, is_copy_name, is_copy_origin}
+use Rattle.definability.specs.Growing.{HasCopied}
 use Rattle.list_laws.proofs.Members.{contains_cases}
 use Rattle.definability.proofs.PreservedStores.{IsGrown}
 use Rattle.hint_log.specs.Growth.{EachOf, Grew}
@@ -25,12 +25,7 @@ set_cases [] i k y z is = cc
 set_cases (x ∷ xs) zero zero y z is = inl (refl, cc)
 set_cases (x ∷ xs) zero (suc k) y z is = inr ((λ e. omega (arith, e)), is)
 set_cases (x ∷ xs) (suc i) zero y z is = inr ((λ e. omega (arith, e)), is)
-set_cases {X} (x ∷ xs) (suc i) (suc k) y z is = further (set_cases xs i k y z is)
-  where
-    further : ((k ≡ i) × (y ≡ z)) ⊎ ((k ≢ i) × (slice_get xs k ≡ Some z)) →
-        ((suc k ≡ suc i) × (y ≡ z)) ⊎ ((suc k ≢ suc i) × (slice_get xs k ≡ Some z))
-    further (inl (here, same)) = inl (ap suc here, same)
-    further (inr (differ, old)) = inr ((λ e. differ (omega (arith, e))), old)
+set_cases {X} (x ∷ xs) (suc i) (suc k) y z is = search (arith, (set_cases xs i k y z is))
 
 pub set_there : {X : Type 0} (xs : List X) (i k : ℕ) (y z : X) → k ≢ i → slice_get xs k ≡ Some z →
     slice_get (set xs i y) k ≡ Some z
@@ -56,19 +51,8 @@ copied_then a b c x y = record {
 }
 
 pub copied_entry : (e : Entry) (es : List Entry) → is_copy_entry e ≡ true → HasCopied es (e ∷ es)
-copied_entry (Named w m) es own = record {
-  names = λ v n is. elim (name_cases es w v m n is)
-      [ inl same ↦ inr (ap is_copy_name (sym same.1) ∙ own) | inr before ↦ inl before ];
-  givens = λ o c inside. elim (contains_cases (Named w m) (Given o c) es inside)
-      [ inl same ↦ cc | inr before ↦ inl before ];
-}
-copied_entry (Given origin d) es own = record {
-  names = λ v n is. inl is;
-  givens = λ o c inside. elim (contains_cases (Given origin d) (Given o c) es inside) [
-    | inl same ↦ (let o_is : origin ≡ o = cc in inr (ap is_copy_origin (sym o_is) ∙ own))
-    | inr before ↦ inl before
-  ];
-}
+copied_entry (Named w m) es own = search (arith, name_cases, contains_cases)
+copied_entry (Given origin d) es own = search (arith, contains_cases)
 copied_entry (Learned c hs) es own = cc
 copied_entry (Answer c hs) es own = cc
 copied_entry (Round r values j) es own = cc
@@ -77,46 +61,22 @@ copied_entry (Begun live) es own = cc
 pub copied_all : (P : List Entry → Entry → Type 0) → ((earlier : List Entry) (e : Entry) → P earlier e →
     is_copy_entry e ≡ true) → (more old : List Entry) → EachOf P more old → HasCopied old (more ++ old)
 copied_all P own [] old each = copied_none old
-copied_all P own (e ∷ more) old each = copied_then old (more ++ old) (e ∷ (more ++ old)) (copied_all P own more old each.1)
-    (copied_entry e (more ++ old) (own (more ++ old) e each.0))
+copied_all P own (e ∷ more) old each = search (arith, copied_then, (copied_all P own more old each.1), copied_entry)
 
 pub live_grew : (all : Dqbf) (groups : List ℕ) (old new : ProofLog) → Grew (IsCopyAdded all groups old.entries) old new →
     Grew (IsAddedLive all copies groups true old.entries) old new
-live_grew all groups old new grew = record {
-  more = grew.more;
-  grown = grew.grown;
-  each = each_of_weaker (IsCopyAdded all groups old.entries) (IsAddedLive all copies groups true old.entries)
-      (λ earlier e h. h.0) grew.more old.entries grew.each;
-  limit = grew.limit;
-}
+live_grew all groups old new grew = search (arith, each_of_weaker)
 
 -- a step without an entry, and with one
 pub following_same : (all : Dqbf) (numbered : List ℕ) (s t : StoreState) (log new : ProofLog) → new ≡ log →
     AreOldOrNew s t log.entries → IsPartialStore all numbered t log.entries → IsGrown s t
     → ((k : ℕ) → is_copied_at s.copied k ≡ true → is_copied_at t.copied k ≡ true)
     → IsFollowing all numbered s log t new
-following_same all numbered s t log new is groups store grown copied =
-    subst (IsFollowing all numbered s log t) (sym is) (record {
-      grew = grown_by_none (IsCopyAdded all (store_groups s) log.entries) log log refl;
-      new_groups = groups;
-      names = λ v none. none;
-      faults = refl;
-      room = refl;
-      store = store;
-      given = grown.more_given;
-      parts = grown.more_parts;
-      copied = copied;
-    })
+following_same all numbered s t log new is groups store grown copied = search (arith, grown_by_none)
 
 pub following_none : (all : Dqbf) (numbered : List ℕ) (s : StoreState) (log new : ProofLog) → new ≡ log →
     IsPartialStore all numbered s log.entries → IsFollowing all numbered s log s new
-following_none all numbered s log new is store = following_same all numbered s s log new is (λ g has. inl has) store
-    (record {
-      kept_groups = λ slot g has. has;
-      more_given = λ side j has. has;
-      more_parts = λ k. omega arith;
-      kept_links = λ k g low is. is;
-    }) (λ k has. has)
+following_none all numbered s log new is store = search (arith, following_same)
 
 pub following_entry : (all : Dqbf) (numbered : List ℕ) (s t : StoreState) (log new : ProofLog) (e : Entry) →
     new ≡ with_entry log e → IsAddedLive all copies (store_groups s) true log.entries log.entries e
@@ -187,10 +147,4 @@ module _ (all : Dqbf) (numbered : List ℕ) (a b c : StoreState) (first middle l
 -- what a call asks for holds behind another one
 pub standing_on : (all : Dqbf) (numbered : List ℕ) (f : Dqbf) (s t : StoreState) (old new : ProofLog) →
     CanGiveCopies all numbered f s old.entries → IsFollowing all numbered s old t new → CanGiveCopies all numbered f t new.entries
-standing_on all numbered f s t old new h x = record {
-  store = x.store;
-  universals = h.universals;
-  existentials = h.existentials;
-  few = subst (λ n. length (fault_groups new.entries) ≤ n) (sym x.room)
-      (subst (λ (gs : List ℕ). length gs ≤ fault_room old.entries) (sym x.faults) h.few);
-}
+standing_on all numbered f s t old new h x = search arith

@@ -1,5 +1,5 @@
 -- Existentials by their variables and by their places.
-use Rattle.std.proofs.Common.{◌≡◌, ℕ, ◌+◌, ◌<◌, ◌==◌, List, [], ◌++◌, map, length, get_or, slice_get, Option, None, Some, IsSome, position, refl, sym, ◌∙◌, ap, subst, inl, inr, arith, eq-eqb, length-append}
+use Rattle.std.proofs.Common.{◌≡◌, ℕ, ◌+◌, ◌<◌, ◌==◌, List, [], ◌++◌, map, length, get_or, slice_get, Some, IsSome, position, refl, sym, ◌∙◌, ap, subst, inl, inr, arith, eq-eqb, length-append}
 use Rattle.std.specs.List.{All, Contains, position_or_len}
 use Rattle.std.proofs.lemmas.Bool.{cases_lt, eqb-true, ne_eqb}
 use Rattle.std.proofs.lemmas.List.{get_or-append-add, get_or-map, length-map}
@@ -17,11 +17,7 @@ variable y = y.variable
 
 pub some_existential : (f : Dqbf) (v : ℕ) (P : Type 0) → IsSome (existential_of f v) →
     ((y : Existential) → existential_of f v ≡ Some y → P) → P
-some_existential f v P is use_it = by (existential_of f v) refl is
-  where
-    by : (o : Option Existential) → existential_of f v ≡ o → IsSome o → P
-    by None e h = cc
-    by (Some y) e h = use_it y e
+some_existential f v P is use_it = search arith
 
 pub sees_universals : (f : Dqbf) → IsLawful f → (v : ℕ) (y : Existential) → existential_of f v ≡ Some y →
     All (Contains f.universals) y.sees
@@ -30,16 +26,12 @@ sees_universals f lawful v y found = All-contains (λ z. All (Contains f.univers
 
 pub named_at : (f : Dqbf) → IsLawful f → (p : ℕ) (y : Existential) → slice_get f.existentials p ≡ Some y →
     existential_of f y.variable ≡ Some y
-named_at f lawful p y at = All-contains (λ z. existential_of f z.variable ≡ Some z) f.existentials y lawful.named
-    (element_at f.existentials p y at)
+named_at f lawful p y at = search (arith, All-contains, element_at)
 
 pub known_at : (f : Dqbf) → IsLawful f → (vs : List ℕ) (p : ℕ) (y : Existential) → vs ≡ existential_variables f →
     slice_get f.existentials p ≡ Some y → existential_of f (get_or vs p 0) ≡ Some y
 known_at f lawful vs p y are at =
-    let here : get_or vs p 0 ≡ y.variable =
-    ap (λ ws. get_or ws p 0) are ∙ get_or-map variable f.existentials p y 0 (slice_get_within f.existentials p y at)
-    ∙ ap variable (get_or_from_slice_get f.existentials p y y at) in
-    ap (existential_of f) here ∙ named_at f lawful p y at
+    search (arith, get_or, get_or-map, slice_get_within, get_or_from_slice_get, named_at)
 
 pub declared_at : (f : Dqbf) → IsLawful f → (vs : List ℕ) (p : ℕ) → vs ≡ existential_variables f →
     p < length f.existentials → IsSome (existential_of f (get_or vs p 0))

@@ -3,7 +3,7 @@ use Rattle.std.proofs.Common.{◌≡◌, ◌≢◌, ℕ, zero, suc, ◌-◌, ◌
 use Rattle.std.specs.Prelude.{◌↔◌}
 use Rattle.std.specs.List.{All, AllPairs, Contains, IsDistinct}
 use Rattle.std.specs.List.Sorted.{IsNonDecreasingBy}
-use Rattle.std.proofs.lemmas.Bool.{eqb-true, eq-eqb, cases_lt, leb-true, le-leb, ltb-true, lt-ltb}
+use Rattle.std.proofs.lemmas.Bool.{eqb-true, cases_lt, leb-true, le-leb, ltb-true}
 use Rattle.std.proofs.lemmas.Bool.Decides.{Decides-eqb}
 use Rattle.std.proofs.lemmas.List.{length-take, length-append, get_or_default, get_or_append_left}
 use Rattle.std.proofs.lemmas.List.Elements.{All-nil, All-cons, All-contains, All-head, All-tail, All-weaker}
@@ -11,8 +11,7 @@ use Rattle.std.proofs.lemmas.List.Kept.{IsNonDecreasingBy-filter}
 use Rattle.std.proofs.lemmas.Map.Made.{IsDistinct-from_AllPairs}
 use Rattle.dq_lits.specs.Formula.{Existential, Dqbf, existential_of, HasLawfulPrefix}
 use Rattle.dq_lits.proofs.FormulaVariables.{find_sound}
-use Rattle.dq_formula.specs.Prefix.{IsLawful, existential_variables}
-use Rattle.dq_formula.specs.Dependencies.{listed_universals}
+use Rattle.dq_formula.specs.Prefix.{IsLawful}
 use Rattle.dq_formula.proofs.Places.{place, has, has-contains, contains-has, place-found, place-get_or, place-rises}
 use Rattle.dq_formula.proofs.Search.{Kept, All-kept}
 use Rattle.dq_formula.proofs.Sorted.{get_or-place, place-below}
@@ -20,10 +19,7 @@ use Rattle.dq_formula.proofs.Subsets.{none_contained}
 use Rattle.definition_order.proofs.SeenUniversals.{first_within}
 
 pub universals_apart : (f : Dqbf) → HasLawfulPrefix f → AllPairs (λ v w. v ≢ w) f.universals
-universals_apart f prefix i j d before below = λ same. prefix.declared_once i j d before
-    (let long = length-append f.universals (existential_variables f) in omega (arith, below, long))
-    (get_or_append_left f.universals (existential_variables f) d i (omega (arith, before, below)) ∙ same ∙ sym
-    (get_or_append_left f.universals (existential_variables f) d j below))
+universals_apart f prefix i j d before below = search (arith, length-append, get_or_append_left)
 
 -- some in order are all among the first ones where the last of them is
 pub ends_tell : (us xs : List ℕ) (n p : ℕ) → AllPairs (λ v w. v ≢ w) us → Kept us xs → 0 < length xs →
@@ -122,8 +118,7 @@ begins_tell us vs m apart kept some few enough =
     let many = ap length kept in
     let before : k < m = omega (arith, some) in (
       (λ same. (
-          let kept_there : get_or (filter (has vs) us) k 0 ≡ get_or us k 0 =
-          ap (λ xs. get_or xs k 0) (sym kept) ∙ same in
+          let kept_there : get_or (filter (has vs) us) k 0 ≡ get_or us k 0 = search arith in
           let all = all_before (has vs) us k apart (omega (arith, many, enough, some)) kept_there in
           subst (λ i. All (Contains vs) (take i us)) size (All-weaker (λ u. has vs u ≡ true) (Contains vs)
           (contains-has vs) (take (suc k) us) all))),
@@ -133,10 +128,7 @@ begins_tell us vs m apart kept some few enough =
 
 pub too_few : (us vs : List ℕ) (m : ℕ) → Kept us vs → m ≤ length us → length vs < m → All (Contains vs) (take m us) → ⊥
 too_few us vs m kept few short all =
-    let same = ap length (front_of us vs m kept all) in
-    let one = length-take m vs in
-    let other = length-take m us in
-    omega (arith, same, one, other, few, short)
+    search (arith, (front_of us vs m kept all), (length-take m vs), (length-take m us))
 
 -- the same, by tests
 
@@ -153,25 +145,26 @@ pub ends_tested : (us xs : List ℕ) (n p : ℕ) → AllPairs (λ v w. v ≢ w) 
     position (λ u. u == get_or xs (length xs - 1) 0) us ≡ Some p
     → (IsTrue (ltb p n) ↔ All (Contains (take n us)) xs)
 ends_tested us xs n p apart kept some found =
-    let tell = ends_tell us xs n p apart kept some found in
-    ((λ is. tell.0 (ltb-true p n is)), (λ all. lt-ltb p n (tell.1 all)))
+    search (arith, (ends_tell us xs n p apart kept some found), (ltb-true p n))
 
 pub begins_tested : (us ws vs : List ℕ) (m : ℕ) → ws ≡ us → AllPairs (λ v w. v ≢ w) us → Kept us vs → (m ≡ 0 → ⊥) →
     m ≤ length us → m ≤ length vs
     → (IsTrue (eqb (get_or vs (m - 1) 0) (get_or ws (m - 1) 0)) ↔ All (Contains vs) (take m us))
 begins_tested us ws vs m same apart kept some few enough =
-    let more : 0 < m = omega (arith, some) in
-    let tell = begins_tell us vs m apart kept more few enough in
-    subst (λ xs. IsTrue (eqb (get_or vs (m - 1) 0) (get_or xs (m - 1) 0)) ↔ All (Contains vs) (take m us)) (sym same) (
-      (λ is. tell.0 (eqb-true (get_or vs (m - 1) 0) (get_or us (m - 1) 0) is)),
-      (λ all. eq-eqb (get_or vs (m - 1) 0) (get_or us (m - 1) 0) (tell.1 all)),
+    search (
+      arith,
+      (begins_tell us vs m apart kept),
+      (eqb (get_or vs (m - 1) 0)),
+      (get_or vs (m - 1) 0),
+      get_or,
+      (eqb-true (get_or vs (m - 1) 0) (get_or us (m - 1) 0)),
+      (get_or us (m - 1) 0),
     )
 
 -- an existential sees universals in order
 seen_in_order : (f : Dqbf) → IsLawful f → (v : ℕ) (e : Existential) → existential_of f v ≡ Some e →
     Kept f.universals e.sees
-seen_in_order f lawful v e known = All-contains (λ y. y.sees ≡ listed_universals f.universals y.sees) f.existentials e
-    lawful.ordered (find_sound v f.existentials e known).0
+seen_in_order f lawful v e known = search (arith, All-contains, find_sound)
 
 -- among more first ones
 pub firsts_tested : (f : Dqbf) → IsLawful f → (m n v : ℕ) (e : Existential) → existential_of f v ≡ Some e →

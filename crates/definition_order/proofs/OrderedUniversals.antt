@@ -38,8 +38,7 @@ passed_more us xs ys i at p x distinct kept_xs kept_ys before l is within here =
       elim (cases_lt k p) [
         | inl lt ↦ (let sooner = rises us ys distinct kept_ys k p 0 lt within in
             omega (arith, later, one, other, sooner))
-        | inr ge ↦ (let e : k ≡ p = omega (arith, less, ge) in let there = ap (λ q. place us (get_or ys q 0)) e in
-            omega (arith, later, one, other, there))
+        | inr ge ↦ search (arith, get_or)
       ];
 }
 

@@ -3,7 +3,7 @@ use Rattle.std.proofs.Common.{◌≡◌, ◌<◌, ℕ, List, [], length, get_or,
 use Rattle.std.proofs.lemmas.Option.{slice_get-get_or}
 use Rattle.dq_lits.specs.Formula.{Dqbf, Existential, existential_of}
 use Rattle.dq_formula.specs.Prefix.{IsLawful, existential_variables}
-use Rattle.definition_order.proofs.Declared.{known_at, variable}
+use Rattle.definition_order.proofs.Declared.{known_at}
 
 -- the existential at a place
 pub existential_there : (f : Dqbf) → IsLawful f → (vs : List ℕ) → vs ≡ existential_variables f → (p : ℕ) →

@@ -1,5 +1,5 @@
 -- Existentials that may be read, by their variables.
-use Rattle.std.proofs.Common.{◌≡◌, ℕ, ◌==◌, Bool, false, None, Some, IsSome, IsTrue, List, position, slice_get, refl, sym, ◌∙◌, ap, subst}
+use Rattle.std.proofs.Common.{◌≡◌, ℕ, ◌==◌, Bool, false, None, Some, IsSome, IsTrue, List, position, slice_get, refl, sym, ◌∙◌, ap, subst, arith}
 use Rattle.std.specs.Prelude.{◌↔◌}
 use Rattle.dq_lits.specs.Formula.{Existential, Dqbf, existential_of}
 use Rattle.dq_formula.specs.Prefix.{IsLawful, existential_variables}
@@ -16,8 +16,7 @@ shared_by_place f lawful ranks e v place b found tells =
     let there = placed f.existentials v place e found in
     let z = there.0 in
     let own : existential_of f v ≡ Some z = ap (existential_of f) (sym there.2) ∙ named_at f lawful place z there.1 in
-    let same : (x : Existential) → existential_of f v ≡ Some x → z ≡ x =
-    λ x known. (let both : Some z ≡ Some x = sym own ∙ known in cc) in (
+    let same : (x : Existential) → existential_of f v ≡ Some x → z ≡ x = search arith in (
       (λ is. (z, own, (tells z there.1).0 is)),
       (λ shared. (tells z there.1).1
           (subst (IsShared f ranks e) (sym (same shared.0 shared.1)) shared.2)),

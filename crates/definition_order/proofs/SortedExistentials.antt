@@ -1,10 +1,9 @@
 -- The order of existentials, from sorted sizes and places.
-use Rattle.std.proofs.Common.{◌≡◌, ◌≢◌, ℕ, ◌+◌, ◌<◌, ◌≤◌, ◌==◌, eqb, Bool, true, false, cond, List, [], ◌∷◌, ◌++◌, map, length, take, get_or, slice_get, slice_index, Some, IsTrue, refl, sym, ◌∙◌, ap, subst, inl, inr, ◌⊎◌, arith, get_or-take}
+use Rattle.std.proofs.Common.{◌≡◌, ◌≢◌, ℕ, ◌+◌, ◌<◌, ◌≤◌, eqb, Bool, true, false, List, [], ◌∷◌, ◌++◌, map, length, take, get_or, slice_get, slice_index, Some, IsTrue, refl, sym, ◌∙◌, ap, subst, inl, inr, ◌⊎◌, arith, get_or-take}
 use Rattle.std.specs.Prelude.{◌↔◌}
 use Rattle.std.specs.List.{All, AllPairs, Contains, range_with_len}
 use Rattle.std.specs.Cmp.{IsStrictWeakOrder}
 use Rattle.std.specs.List.Sorted.{IsPermutation, IsSortedBy}
-use Rattle.std.specs.declared.cmp.Ordering.TheVariants.{Less, Equal, Greater}
 use Rattle.std.specs.Ordering.{nat_cmp, is_lt, ordering_then}
 use Rattle.std.proofs.lemmas.Bool.{false≢true, cases_lt, lt-ltb}
 use Rattle.std.proofs.lemmas.Bool.Decides.{nat_tests, Decides-eqb}
@@ -22,7 +21,6 @@ use Rattle.dq_formula.specs.Prefix.{IsLawful, existential_variables}
 use Rattle.definition_order.specs.Order.{existential_place, RanksBefore, ComesBefore, IsShared, AreInOrder, ArePlacesOfShared}
 use Rattle.definition_order.specs.Sizes.{nobody, sized_place}
 use Rattle.definition_order.proofs.Declared.{existential_at}
-use Rattle.dq_formula.proofs.Places.{existential_below}
 
 -- the existentials at the first places that a definition may read
 pub record AreSharedSoFar (f : Dqbf) (ranks : List ℕ) (y : ℕ) (places : List ℕ) (count : ℕ) : Type 0 where
@@ -71,8 +69,7 @@ module _ (f : Dqbf) (ranks : List ℕ) (y : ℕ) (places : List ℕ) (count : �
     back : (e : Existential) → existential_of f y ≡ Some e → (p : ℕ) → (p < count + 1) × IsOne e p → Contains places p
     back e known p (below, (z, at, is)) = elim (below_or_here p count below) [
       | inl early ↦ (before.each e known p).1 (early, (z, at, is))
-      | inr same ↦ absurd (false≢true (sym isnt ∙ (tells e z known
-          (subst (λ q. slice_get f.existentials q ≡ Some z) same at)).1 is))
+      | inr same ↦ search (arith, false≢true)
     ]
 
 pub all_shared : (f : Dqbf) (ranks : List ℕ) (y : ℕ) (places : List ℕ) (count : ℕ) →
@@ -87,11 +84,7 @@ all_shared f ranks y places count far past e known p = (
 pub both_tell : (f : Dqbf) (ranks : List ℕ) (e z : Existential) (first second : Bool) → first ≡ true →
     (IsTrue first ↔ ComesBefore f ranks z e) → (IsTrue second ↔ All (Contains e.sees) z.sees) →
     (IsTrue second ↔ IsShared f ranks e z)
-both_tell f ranks e z first second is before no_more = (
-  (λ h. record
-      { before = before.0 is; sees_no_more = no_more.0 h }),
-  (λ s. no_more.1 s.sees_no_more),
-)
+both_tell f ranks e z first second is before no_more = search arith
 
 pub one_denies : (f : Dqbf) (ranks : List ℕ) (e z : Existential) (first : Bool) → first ≡ false →
     (IsTrue first ↔ ComesBefore f ranks z e) → (IsTrue first ↔ IsShared f ranks e z)
@@ -113,8 +106,7 @@ by_size_total =
 
 less_first : (a b r s p q : ℕ) → (a < b) ⊎ ((a ≡ b) × ((r < s) ⊎ ((r ≡ s) × (p < q)))) →
     by_size ((a, r), p) ((b, s), q) ≡ true
-less_first a b r s p q (inl less) = ap (λ t. is_lt (ordering_then
-    (ordering_then (cond t Less (cond (a == b) Equal Greater)) (nat_cmp r s)) (nat_cmp p q))) (lt-ltb a b less)
+less_first a b r s p q (inl less) = search (arith, lt-ltb)
 less_first a b r s p q (inr (same, inl less)) = grind (arith, nat_tests)
 less_first a b r s p q (inr (same, inr (tied, less))) = grind (arith, nat_tests)
 
@@ -123,11 +115,7 @@ places_of_sized f ranks [] = refl
 places_of_sized f ranks (p ∷ ps) = ap (λ qs. p ∷ qs) (places_of_sized f ranks ps)
 
 range_apart : (n : ℕ) → AllPairs (λ p q. p ≢ q) (range_with_len 0 n)
-range_apart n i j d before below same =
-    let long = length-range_with_len 0 n in
-    let first = get_or-range_with_len 0 n i d (omega arith) in
-    let second = get_or-range_with_len 0 n j d (omega arith) in
-    omega arith
+range_apart n i j d before below same = search (arith, length-range_with_len, get_or-range_with_len)
 
 in_range : (n p : ℕ) → Contains (range_with_len 0 n) p ↔ (p < n)
 in_range n p = (forth, back) where

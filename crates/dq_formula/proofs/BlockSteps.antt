@@ -1,5 +1,5 @@
 -- Steps on clauses in blocks: a new block, a clause more.
-use Rattle.std.proofs.Common.{◌≡◌, ◌≢◌, ℕ, ◌+◌, ◌≤◌, ◌<◌, false, true≢false, eqb, List, [], ◌∷◌, ◌++◌, length, map, refl, ap, sym, ◌∙◌, arith, vec_capacity, append_assoc, length-append}
+use Rattle.std.proofs.Common.{◌≡◌, ◌≢◌, ℕ, ◌+◌, ◌≤◌, false, true≢false, eqb, List, [], ◌∷◌, ◌++◌, length, map, refl, ap, sym, ◌∙◌, arith, vec_capacity, append_assoc, length-append}
 use Rattle.std.proofs.lemmas.List.{map_push, length_push}
 use Rattle.std.proofs.lemmas.Bool.{eq-eqb}
 use Rattle.dq_lits.specs.Literal.{Literal}
@@ -22,14 +22,10 @@ opened_blocks : (old new : Blocks) → IsOpened old new → blocks_of new ≡ bl
 opened_blocks old new is = rw (is.full, is.current, map_push (λ block. block.items) old.full.items old.current) refl
 
 pub opened_clauses : (old new : Blocks) → IsOpened old new → AreArranged old → clauses_of new ≡ clauses_of old
-opened_clauses old new is arranged =
-    rw (is.places, opened_blocks old new is) (clauses_at-open (blocks_of old) 0 0 old.places.items arranged)
+opened_clauses old new is arranged = search (arith, opened_blocks, clauses_at-open)
 
 pub opened_arranged : (old new : Blocks) → IsOpened old new → AreArranged old → AreArranged new
-opened_arranged old new is arranged =
-    let exists : 0 < length (blocks_of old) = omega (arith, length-append (before old) (old.current.items ∷ [])) in
-    rw (is.places, opened_blocks old new is) (ArePlaces-open
-    (before old) old.current.items 0 0 old.places.items is.some exists arranged)
+opened_arranged old new is arranged = search (arith, length-append, opened_blocks, ArePlaces-open)
 
 pub record IsPut (old new : Blocks) (clause : List Literal) (place : Place) : Type 0 where
   pub full : new.full ≡ old.full
@@ -41,24 +37,8 @@ pub record IsPut (old new : Blocks) (clause : List Literal) (place : Place) : Ty
 
 pub are_put : (old new : Blocks) (clause : List Literal) (place : Place) → IsPut old new clause place →
     AreArranged old → ArePut old new (clause ∷ []) (length clause)
-are_put old new clause place is arranged = record {
-  clauses = rw (is.full, is.places, is.current) (clauses_at-put
-      (before old) old.current.items clause place 0 0 old.places.items is.at arranged);
-  arranged = rw (is.full, is.places, is.current) (ArePlaces-put
-      (before old) old.current.items clause place 0 0 old.places.items is.at
-      (stands_first (before old) old.current.items) arranged);
-  room = λ more most before had. record {
-    places = omega (arith, had.places, is.places_room, ap length is.places, length_push old.places.items place);
-    literals = omega (
-      arith,
-      had.literals,
-      is.literals_room,
-      ap length is.current,
-      length-append old.current.items clause,
-    );
-    starts = omega (arith, had.starts, ap length is.current, length-append old.current.items clause);
-  };
-}
+are_put old new clause place is arranged =
+    search (arith, clauses_at-put, ArePlaces-put, stands_first, length_push, length-append)
 
 pub some-left : (n : ℕ) (items : List Literal) → n ≡ length items → eqb n 0 ≡ false → items ≢ []
 some-left n items same e none = true≢false (sym (eq-eqb n 0 (same ∙ ap length none)) ∙ e)

@@ -70,14 +70,11 @@ lies_within blocks block start (p ∷ ps) (suc j) d h l = let e : suc j + 1 ≡ 
 pub few_blocks : (blocks : List (List Literal)) (block start : ℕ) (ps : List Place) → ArePlaces blocks block start ps →
     length blocks ≤ block + length ps + 2
 few_blocks blocks block start [] h = ⊎_elim (λ a. omega (arith, a)) (λ a. omega (arith, a.0)) h
-few_blocks blocks block start (p ∷ ps) h =
-    let rest = few_blocks blocks p.block p.start ps h.1 in
-    ⊎_elim (λ o. omega (arith, rest, o.0)) (λ o. omega (arith, rest, o.0)) h.0.ordered
+few_blocks blocks block start (p ∷ ps) h = search (arith, (few_blocks blocks p.block p.start ps h.1))
 
 -- the last of some blocks, and those before it
 block_at-last : (fs : List (List Literal)) (x : List Literal) → block_at (fs ++ x ∷ []) (length fs) ≡ x
-block_at-last fs x = get_or-append_right fs (x ∷ []) (length fs) (length fs) [] refl (omega arith) ∙
-    (let e : length fs - length fs ≡ 0 = omega arith in rw e refl)
+block_at-last fs x = search (arith, get_or-append_right)
 
 block_at-before : (fs : List (List Literal)) (x : List Literal) (b : ℕ) → b < length fs →
     block_at (fs ++ x ∷ []) b ≡ block_at fs b
@@ -89,24 +86,18 @@ size fs x = length-append fs (x ∷ [])
 -- a block that comes after p's: the clause at p stays
 later_block : (fs : List (List Literal)) (x y : List Literal) (p : Place) (later : List Place) → p.block < length fs
     → clause_in (block_at (fs ++ y ∷ []) p.block) p later ≡ clause_in (block_at (fs ++ x ∷ []) p.block) p later
-later_block fs x y p later l = ap (λ block. clause_in block p later)
-    (block_at-before fs y p.block l ∙ sym (block_at-before fs x p.block l))
+later_block fs x y p later l = search (arith, block_at-before)
 
 -- a place behind the last one, at the end of what there was
 end-new : (block : List Literal) (p new : Place) → (new.block ≡ p.block → new.start ≡ length block) →
     end_of block p (new ∷ []) ≡ length block
-end-new block p new at = by (eqb new.block p.block) refl
-  where
-    by : (b : Bool) → eqb new.block p.block ≡ b → end_of block p (new ∷ []) ≡ length block
-    by true e = rw e (at (grind (arith, nat_tests)))
-    by false e = rw e refl
+end-new block p new at = search (arith, nat_tests)
 
 -- in the last block, literals behind a clause
 same_block : (cur more : List Literal) (p : Place) (later : List Place) → p.start ≤ end_of cur p later →
     end_of cur p later ≤ length cur → end_of (cur ++ more) p later ≡ end_of cur p later
     → clause_in (cur ++ more) p later ≡ clause_in cur p later
-same_block cur more p later a b e = rw e (take-inside p.start (end_of cur p later - p.start) cur more
-    (omega (arith, a, b)) (omega (arith, a, b)))
+same_block cur more p later a b e = search (arith, take-inside)
 
 -- where the next clause begins in the same block, the end stays
 end-same : (cur more : List Literal) (p q : Place) (later : List Place) → q.block ≡ p.block →
@@ -120,9 +111,7 @@ pub record IsNew (fs : List (List Literal)) (cur : List Literal) (new : Place) :
 
 new_clause : (fs : List (List Literal)) (cur clause : List Literal) (new : Place) → IsNew fs cur new
     → clause_in (block_at (fs ++ (cur ++ clause) ∷ []) new.block) new [] ≡ clause
-new_clause fs cur clause new is =
-    rw (is.block_is, block_at-last fs (cur ++ clause), is.start_is, drop_at cur clause (length cur) refl)
-    (take_all (length (cur ++ clause) - length cur) clause (omega (arith, length-append cur clause)))
+new_clause fs cur clause new is = search (arith, block_at-last, drop_at, take_all, length-append)
 
 -- the clause at a place, where its block is one of the earlier ones or the last
 stays : (fs : List (List Literal)) (cur clause : List Literal) (new p : Place) (later : List Place) (block start : ℕ) →
@@ -204,8 +193,7 @@ pub ArePlaces-put : (fs : List (List Literal)) (cur clause : List Literal) (new 
 ArePlaces-put fs cur clause new block start [] is stands h = (
   record {
     block_exists = omega (arith, is.block_is, size fs (cur ++ clause));
-    start_exists = rw (is.block_is, block_at-last fs (cur ++ clause), is.start_is)
-        (omega (arith, length-append cur clause));
+    start_exists = search (arith, block_at-last, length-append);
     ordered = ⊎_elim same after h;
   },
   inl (omega (arith, is.block_is, size fs (cur ++ clause))),
@@ -245,10 +233,8 @@ block_at-more blocks x b l = get_or_append_left blocks (x ∷ []) [] b l
 pub clauses_at-open : (blocks : List (List Literal)) (block start : ℕ) (ps : List Place) →
     ArePlaces blocks block start ps → clauses_at (blocks ++ [] ∷ []) ps ≡ clauses_at blocks ps
 clauses_at-open blocks block start [] h = refl
-clauses_at-open blocks block start (p ∷ ps) h = rw (
-  block_at-more blocks [] p.block h.0.block_exists,
-  clauses_at-open blocks p.block p.start ps h.1,
-) refl
+clauses_at-open blocks block start (p ∷ ps) h =
+    search (arith, block_at-more, (clauses_at-open blocks p.block p.start ps h.1))
 
 pub ArePlaces-open : (fs : List (List Literal)) (cur : List Literal) (block start : ℕ) (ps : List Place) → cur ≢ [] →
     block < length (fs ++ cur ∷ []) → ArePlaces (fs ++ cur ∷ []) block start ps

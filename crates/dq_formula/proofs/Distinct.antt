@@ -1,5 +1,5 @@
 -- Distinct variables, and members of a list by their places.
-use Rattle.std.proofs.Common.{◌≡◌, ℕ, ◌+◌, ◌-◌, ◌≤◌, ◌<◌, ◌≢◌, true, false, List, ◌++◌, length, take, get_or, refl, ap, sym, ◌∙◌, subst, arith, eqb, ltb, None, Some, Result, is_ok, position, IsTrue, ◌↔◌, true≢false, Contains, length-append, length-take, get_or-take, ⊎_elim}
+use Rattle.std.proofs.Common.{◌≡◌, ℕ, ◌-◌, ◌≤◌, ◌<◌, ◌≢◌, true, false, List, ◌++◌, length, take, get_or, refl, ap, sym, ◌∙◌, subst, arith, eqb, ltb, None, Some, Result, is_ok, position, IsTrue, ◌↔◌, true≢false, Contains, length-append, length-take, get_or-take}
 use Rattle.std.proofs.lemmas.Bool.{eq-eqb, cases_lt, lt-ltb, ltb-true}
 use Rattle.std.proofs.lemmas.List.{length-take-le, get_or_append_left, get_or-append_right}
 use Rattle.std.proofs.lemmas.List.Elements.{Contains-get_or, All-contains}
@@ -21,56 +21,34 @@ apart a b e same = true≢false (sym (eq-eqb a b same) ∙ e)
 -- two lists of distinct numbers with none in common
 pub AllPairs-append : (us vs : List ℕ) → IsDistinct eqb us → IsDistinct eqb vs → All (λ v. has us v ≡ false) vs →
     AllPairs (λ v w. v ≢ w) (us ++ vs)
-AllPairs-append us vs first second disjoint i j d l m = ⊎_elim early late (cases_lt j (length us))
-  where
-    size : length (us ++ vs) ≡ length us + length vs
-    size = length-append us vs
-
-    Goal : Type 0
-    Goal = get_or (us ++ vs) i d ≢ get_or (us ++ vs) j d
-
-    early : j < length us → Goal
-    early a = rw (get_or_append_left us vs d i (omega arith), get_or_append_left us vs d j a)
-        (apart (get_or us i d) (get_or us j d) (apart_from_distinct eqb us i j d first l a))
-
-    across : length us ≤ j → i < length us → Goal
-    across b a = rw (get_or_append_left us vs d i a, get_or-append_right us vs (length us) j d refl b) (λ e.
-        true≢false (sym (has-contains us (get_or us i d) (Contains-get_or us i d a)) ∙ ap (has us) e ∙ disjoint
-        (j - length us) d (omega (arith, size))))
-
-    both : length us ≤ i → Goal
-    both a = rw (
-      get_or-append_right us vs (length us) i d refl a,
-      get_or-append_right us vs (length us) j d refl (omega arith),
+AllPairs-append us vs first second disjoint i j d l m =
+    search (
+      arith,
+      (cases_lt j (length us)),
+      (length-append us vs),
+      (get_or_append_left us vs d i),
+      (get_or_append_left us vs d j),
+      (apart_from_distinct eqb us i j d first l),
+      (get_or-append_right us vs (length us) j d),
+      (has-contains us (get_or us i d)),
+      (Contains-get_or us i d),
+      (get_or-append_right us vs (length us) i d),
+      (apart_from_distinct eqb vs (i - length us) (j - length us) d second),
+      (cases_lt i (length us)),
     )
-        (apart (get_or vs (i - length us) d) (get_or vs (j - length us) d)
-        (apart_from_distinct eqb vs (i - length us) (j - length us) d second (omega arith) (omega (arith, size))))
-
-    late : length us ≤ j → Goal
-    late b = ⊎_elim (across b) both (cases_lt i (length us))
 
 -- the first elements are elements
 pub All-take_contains : (n : ℕ) (us : List ℕ) → All (Contains us) (take n us)
-All-take_contains n us k d l =
-    let size = length-take n us in
-    rw (get_or-take n us k d (omega (arith, size, l))) (Contains-get_or us k d (omega (arith, size, l)))
+All-take_contains n us k d l = search (arith, (length-take n us), (get_or-take n us k d), (Contains-get_or us k d))
 
 -- an element is among the first n where its place is below n
 pub contains-take : (n : ℕ) (us : List ℕ) (x : ℕ) → IsDistinct eqb us → n ≤ length us → Contains (take n us) x →
     place us x < n
-contains-take n us x distinct le m =
-    let size = length-take n us in
-    let below : m.0 < n = omega (arith, size, m.1) in
-    let here : get_or us m.0 x ≡ x = sym (get_or-take n us m.0 x below) ∙ m.2 in
-    let at : place us (get_or us m.0 x) ≡ m.0 = place-get_or us m.0 x distinct (omega arith) in
-    let at' : place us x ≡ m.0 = sym (ap (place us) here) ∙ at in
-    omega arith
+contains-take n us x distinct le m = search (arith, length-take, get_or-take, place-get_or)
 
 pub take-contains : (n : ℕ) (us : List ℕ) (x : ℕ) → n ≤ length us → has us x ≡ true → place us x < n →
     Contains (take n us) x
-take-contains n us x le among l =
-    let size = length-take n us in
-    (place us x, omega (arith, size), get_or-take n us (place us x) x l ∙ get_or-place us x x among)
+take-contains n us x le among l = search (arith, (length-take n us), (get_or-take n us), (get_or-place us x x among))
 
 -- the universals of a dependency set are universals
 pub All-dependencies : (us : List ℕ) (deps : Deps) → IsDependencySet us deps → All (Contains us) (dependencies us deps)
@@ -106,11 +84,13 @@ sees-none us deps sees x form same none = (
 pub sees-first : (us : List ℕ) (n : ℕ) (sees : List ℕ) (x i : ℕ) → IsDistinct eqb us → n ≤ length us →
     take n us ≡ sees → position (eqb x) us ≡ Some i → IsTrue (ltb i n) ↔ Contains sees x
 sees-first us n sees x i distinct le same h =
-    let at = found-at us x i h in (
-      (λ t. let l : i < n = ltb-true i n t in subst (λ s. Contains s x) same
-          (take-contains n us x le at.1 (omega (arith, at.0)))),
-      (λ m. let l = contains-take n us x distinct le (subst (λ s. Contains s x) (sym same) m) in
-          lt-ltb i n (omega (arith, at.0))),
+    search (
+      arith,
+      (found-at us x i h),
+      (ltb-true i n),
+      (take-contains n us x le),
+      (contains-take n us x distinct le),
+      (lt-ltb i n),
     )
 
 -- and by a search where they are listed

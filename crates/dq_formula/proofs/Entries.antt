@@ -1,5 +1,5 @@
 -- The existentials of a formula against the entries of the map that holds them.
-use Rattle.std.proofs.Common.{◌≡◌, ℕ, Bool, true, false, ◌||◌, List, [], ◌∷◌, map, refl, ap, sym, ◌∙◌, cond, eqb, Some, is_some}
+use Rattle.std.proofs.Common.{◌≡◌, ℕ, Bool, true, false, ◌||◌, List, [], ◌∷◌, map, refl, ap, sym, ◌∙◌, cond, eqb, Some, is_some, arith}
 use Rattle.std.proofs.lemmas.Bool.{eqb-true}
 use Rattle.std.proofs.lemmas.List.Folds.{list_any-append}
 use Rattle.std.specs.List.{find, list_any}
@@ -21,17 +21,7 @@ module _ (universals : List ℕ) where
       find (λ (e : Existential). eqb e.variable y) (map (existential universals) entries) ≡ option_map
       (λ d. existential universals (y, d)) (lookup (eqb y) entries)
   find-existential y [] = refl
-  find-existential y (entry ∷ entries) = by (find-existential y entries) (eqb entry.0 y) refl
-    where
-      by : find (λ (e : Existential). eqb e.variable y) (map (existential universals) entries) ≡ option_map
-          (λ d. existential universals (y, d)) (lookup (eqb y) entries) → (b : Bool) → eqb entry.0 y ≡ b →
-          cond (eqb entry.0 y) (Some (existential universals entry))
-          (find (λ (e : Existential). eqb e.variable y) (map (existential universals) entries)) ≡ option_map
-          (λ d. existential universals (y, d)) (cond (eqb y entry.0) (Some entry.1)
-          (lookup (eqb y) entries))
-      by rest true e = rw (e, sym (eqb-flip entry.0 y) ∙ e) (ap (λ k. Some (existential universals (k, entry.1)))
-          (eqb-true entry.0 y e))
-      by rest false e = rw (e, sym (eqb-flip entry.0 y) ∙ e) rest
+  find-existential y (entry ∷ entries) = search (arith, (find-existential y entries), eqb-flip, eqb-true)
 
 pub is_some-find : {X : Type 0} (p : X → Bool) (xs : List X) → is_some (find p xs) ≡ list_any p xs
 is_some-find p [] = refl

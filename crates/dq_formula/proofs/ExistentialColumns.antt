@@ -1,5 +1,5 @@
 -- Existentials in two columns, variables and dependency sets, against the list of both.
-use Rattle.std.proofs.Common.{◌≡◌, ℕ, zero, suc, ◌+◌, ◌≤◌, Bool, true, false, cond, List, [], ◌∷◌, ◌++◌, length, min, map, replicate, refl, ap, sym, ◌∙◌, arith, eqb, slice_get, Some}
+use Rattle.std.proofs.Common.{◌≡◌, ℕ, zero, suc, ◌+◌, ◌≤◌, false, cond, List, [], ◌∷◌, ◌++◌, length, min, map, replicate, refl, ap, sym, ◌∙◌, arith, eqb, slice_get, Some}
 use Rattle.std.proofs.lemmas.Map.Keys.{IsDistinct-head, IsDistinct-tail}
 use Rattle.std.proofs.lemmas.Map.Made.{keys_of-zip}
 use Rattle.std.proofs.lemmas.Slice.Zip.{seconds-zip, length-zip}
@@ -27,23 +27,14 @@ onward vs v n = let e : 1 + n ≡ suc n = omega arith in ap (slice_get (v ∷ vs
 pub set_there : (y : ℕ) (es : List (ℕ × Deps)) → lookup (eqb y) es ≡ slice_get (values_of es)
     (position_or_len (λ k. eqb k y) (keys_of es))
 set_there y [] = refl
-set_there y (e ∷ es) = by (set_there y es) (eqb e.0 y) refl
-  where
-    by : lookup (eqb y) es ≡ slice_get (values_of es) (position_or_len (λ k. eqb k y) (keys_of es)) → (b : Bool) →
-        eqb e.0 y ≡ b
-        → cond (eqb y e.0) (Some e.1) (lookup (eqb y) es) ≡ slice_get (e.1 ∷ values_of es)
-        (position_or_len (λ k. eqb k y) (e.0 ∷ keys_of es))
-    by rest true h = rw (h, sym (eqb-flip e.0 y) ∙ h) refl
-    by rest false h = rw (h, sym (eqb-flip e.0 y) ∙ h) (rest ∙ sym
-        (onward (values_of es) e.1 (position_or_len (λ k. eqb k y) (keys_of es))))
+set_there y (e ∷ es) = search (arith, (set_there y es), eqb-flip, onward)
 
 pub zip-append : (ks : List ℕ) (vs : List Deps) (more : List ℕ) (sets : List Deps) → length vs ≡ length ks →
     zip (ks ++ more) (vs ++ sets) ≡ zip ks vs ++ zip more sets
 zip-append [] [] more sets as_many = refl
 zip-append [] (v ∷ vs) more sets as_many = cc
 zip-append (k ∷ ks) [] more sets as_many = cc
-zip-append (k ∷ ks) (v ∷ vs) more sets as_many = ap (λ rest. (k, v) ∷ rest)
-    (zip-append ks vs more sets (omega (arith, as_many)))
+zip-append (k ∷ ks) (v ∷ vs) more sets as_many = search (arith, (zip-append ks vs more sets))
 
 pub zip-unseeing : (more : List ℕ) → zip more (replicate (length more) (FirstOf 0)) ≡ map unseeing_entry more
 zip-unseeing [] = refl

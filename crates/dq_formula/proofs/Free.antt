@@ -1,5 +1,5 @@
 -- The variables that occur undeclared, in ascending order.
-use Rattle.std.proofs.Common.{◌≡◌, ℕ, ◌+◌, ◌-◌, ◌≤◌, ◌<◌, Bool, true, false, true≢false, not, ◌||◌, ◌&&◌, List, [], ◌∷◌, ◌++◌, length, get_or, refl, ap, sym, ◌∙◌, subst, arith, cond, eqb, filter}
+use Rattle.std.proofs.Common.{◌≡◌, ℕ, ◌+◌, ◌≤◌, ◌<◌, Bool, true, false, true≢false, not, ◌||◌, ◌&&◌, List, [], ◌∷◌, ◌++◌, length, refl, ap, sym, ◌∙◌, subst, arith, cond, eqb, filter}
 use Rattle.std.proofs.lemmas.List.Elements.{All-nil, All-push, All-filter, All-from_recursion, recursion_from_All, filter_agree}
 use Rattle.std.proofs.lemmas.List.FromFn.{length-range_with_len, get_or-range_with_len}
 use Rattle.std.proofs.lemmas.List.Folds.{list_any-append}
@@ -9,31 +9,24 @@ use Rattle.std.specs.List.{list_any, All, AllByRecursion, IsDistinct, range_with
 use Rattle.std.specs.List.Sorted.{IsPermutation, IsSorted}
 use Rattle.std.specs.Ordering.{nat_cmp}
 use Rattle.std.proofs.lemmas.Bool.{eqb-true}
-use Rattle.std.proofs.lemmas.Cmp.{nat_eq_equiv}
 use Rattle.list_laws.proofs.Numbers.{eqb-flip}
 use Rattle.number_tables.specs.Numbers.{with_number}
 use Rattle.dq_lits.specs.Formula.{Dqbf}
 use Rattle.dq_formula.specs.Prefix.{occurs, is_declared, free_variables, AreUndeclaredIn}
 use Rattle.dq_lits.specs.Literal.{Literal, variable_of}
-use Rattle.dq_formula.proofs.Places.{has, flip, Rise, at, at-filter, ne-false}
+use Rattle.dq_formula.proofs.Places.{has, Rise, at, at-filter, ne-false}
 use Rattle.dq_formula.proofs.Sorted.{Rise-from_increasing}
 
 pub IsDistinct-range_with_len : (a n : ℕ) → IsDistinct eqb (range_with_len a n)
-IsDistinct-range_with_len a n = IsDistinct-from_apart eqb (range_with_len a n) (λ i j d l m.
-    let size = length-range_with_len a n in
-    let x = get_or-range_with_len a n i d (omega arith) in
-    let y = get_or-range_with_len a n j d (omega arith) in
-    ne-false (get_or (range_with_len a n) i d) (get_or (range_with_len a n) j d) (λ e. absurd (omega arith)))
+IsDistinct-range_with_len a n =
+    search (arith, IsDistinct-from_apart, length-range_with_len, get_or-range_with_len, ne-false)
 
 -- each number stands at its own place in a range
 at-range_with_len : (low n high : ℕ) (ps : List ℕ) → Rise high (low + n) ps → low ≤ high →
     at (range_with_len low n) low ps ≡ ps
 at-range_with_len low n high [] h le = refl
 at-range_with_len low n high (p ∷ ps) h le =
-    let here : get_or (range_with_len low n) (p - low) 0 ≡ p =
-    get_or-range_with_len low n (p - low) 0 (omega (arith, h.0, h.1)) ∙
-    (let e : low + (p - low) ≡ p = omega (arith, h.0) in e) in
-    rw (here, at-range_with_len low n (p + 1) ps h.2 (omega (arith, h.0))) refl
+    search (arith, get_or-range_with_len, (at-range_with_len low n (p + 1) ps h.2))
 
 -- distinct numbers of a range, sorted, are those of the range that are among them
 pub range-filter : (low n : ℕ) (vs sorted : List ℕ) → All (λ v. (low ≤ v) × (v < low + n)) vs → IsDistinct eqb vs →
@@ -41,8 +34,7 @@ pub range-filter : (low n : ℕ) (vs sorted : List ℕ) → All (λ v. (low ≤ 
     → sorted ≡ filter (has vs) (range_with_len low n)
 range-filter low n vs sorted within distinct moved order =
     let us = range_with_len low n in
-    let below : All (λ p. (low ≤ p) × (p < low + n)) sorted =
-    All-permutation (λ p. (low ≤ p) × (p < low + n)) vs sorted moved within in
+    let below : All (λ p. (low ≤ p) × (p < low + n)) sorted = search (arith, All-permutation) in
     let apart : IsDistinct eqb sorted = IsDistinct-IsPermutation eqb eqb-flip vs sorted moved distinct in
     let up = IsStrictlyIncreasing-from_distinct sorted (IsNonDecreasingBy-from_sort (λ x. x) sorted order) apart in
     let rise : Rise low (low + n) sorted = Rise-from_increasing low (low + n) sorted up below in
@@ -56,23 +48,11 @@ range-filter low n vs sorted within distinct moved order =
 -- the undeclared variables that occur, sorted
 pub free-variables : (f : Dqbf) (vs sorted : List ℕ) → AreUndeclaredIn f f.matrix vs → IsPermutation vs sorted →
     IsSorted nat_cmp sorted → sorted ≡ free_variables f
-free-variables f vs sorted are moved order =
-    range-filter 1 f.variables vs sorted (λ k d l. let h = are.in_range k d l in (h.0, omega (arith, h.1))) are.distinct
-    moved order
-    ∙ filter_agree (has vs) (λ v. not (is_declared f v) && occurs f.matrix v) are.complete
-    (range_with_len 1 f.variables)
+free-variables f vs sorted are moved order = search (arith, (range-filter 1 f.variables vs sorted), filter_agree)
 
 -- no clause, and an empty one more
 pub none_undeclared : (f : Dqbf) → AreUndeclaredIn f [] []
-none_undeclared f = record {
-  distinct = IsDistinct-from_apart eqb [] (λ i j d l m. absurd (omega (arith, m)));
-  in_range = All-nil (λ v. (1 ≤ v) × (v ≤ f.variables));
-  complete = λ v. sym (and-false (not (is_declared f v)));
-}
-  where
-    and-false : (b : Bool) → (b && false) ≡ false
-    and-false true = refl
-    and-false false = refl
+none_undeclared f = search (arith, IsDistinct-from_apart, All-nil)
 
 occurs-push : (clauses : List (List Literal)) (c : List Literal) (v : ℕ) →
     occurs (clauses ++ c ∷ []) v ≡ (occurs clauses v || (list_any (λ l. eqb (variable_of l) v) c || false))
@@ -81,17 +61,7 @@ occurs-push clauses c v = list_any-append (list_any (λ l. eqb (variable_of l) v
 -- a literal more in the last clause
 occurs-literal : (clauses : List (List Literal)) (c : List Literal) (l : Literal) (v : ℕ) →
     occurs (clauses ++ (c ++ l ∷ []) ∷ []) v ≡ (occurs (clauses ++ c ∷ []) v || eqb (variable_of l) v)
-occurs-literal clauses c l v =
-    occurs-push clauses (c ++ l ∷ []) v
-    ∙ ap (λ b. occurs clauses v || (b || false)) (list_any-append (λ k. eqb (variable_of k) v) c (l ∷ []))
-    ∙ regroup (occurs clauses v) (list_any (λ k. eqb (variable_of k) v) c) (eqb (variable_of l) v)
-    ∙ ap (λ b. b || eqb (variable_of l) v) (sym (occurs-push clauses c v))
-  where
-    regroup : (a b e : Bool) → (a || ((b || (e || false)) || false)) ≡ ((a || (b || false)) || e)
-    regroup true b e = refl
-    regroup false true e = refl
-    regroup false false true = refl
-    regroup false false false = refl
+occurs-literal clauses c l v = search (arith, occurs-push, list_any-append)
 
 -- on a declared variable
 pub declared_literal : (f : Dqbf) (clauses : List (List Literal)) (c : List Literal) (l : Literal) (vs : List ℕ) →
@@ -120,27 +90,10 @@ declared_literal f clauses c l vs declared are = record {
 
 -- on an undeclared one
 has-insert : (vs : List ℕ) (w v : ℕ) → has (with_number vs w) v ≡ (has vs v || eqb w v)
-has-insert vs w v = by (has vs w) refl
-  where
-    or-same : (b e : Bool) → (e ≡ true → b ≡ true) → b ≡ (b || e)
-    or-same true e h = refl
-    or-same false true h = h refl
-    or-same false false h = refl
-
-    by : (b : Bool) → has vs w ≡ b → has (with_number vs w) v ≡ (has vs v || eqb w v)
-    by true h = rw h (or-same (has vs v) (eqb w v) (λ e. ap (has vs) (sym (eqb-true w v e)) ∙ h))
-    by false h = rw h (list_any-append (λ x. eqb x v) vs (w ∷ []) ∙ ap (λ b. has vs v || b) (or-no (eqb w v)))
-      where
-        or-no : (b : Bool) → (b || false) ≡ b
-        or-no true = refl
-        or-no false = refl
+has-insert vs w v = search (arith, eqb-true, list_any-append)
 
 distinct-insert : (vs : List ℕ) (w : ℕ) → IsDistinct eqb vs → IsDistinct eqb (with_number vs w)
-distinct-insert vs w distinct = by (has vs w) refl
-  where
-    by : (b : Bool) → has vs w ≡ b → IsDistinct eqb (with_number vs w)
-    by true h = rw h distinct
-    by false h = rw h (IsDistinct-push nat_eq_equiv vs w distinct (ap (λ p. list_any p vs) (flip w) ∙ h))
+distinct-insert vs w distinct = search (arith, IsDistinct-push)
 
 pub undeclared_literal : (f : Dqbf) (clauses : List (List Literal)) (c : List Literal) (l : Literal) (vs vs' : List ℕ) →
     is_declared f (variable_of l) ≡ false → 1 ≤ variable_of l → variable_of l ≤ f.variables
@@ -189,7 +142,4 @@ IsDistinct-filter p (x ∷ xs) d = by (IsDistinct-filter p xs (IsDistinct-tail e
     by rest false e = rw e rest
 
 pub All-range : (low n : ℕ) → All (λ v. (low ≤ v) × (v < low + n)) (range_with_len low n)
-All-range low n k d l =
-    let size = length-range_with_len low n in
-    let here : get_or (range_with_len low n) k d ≡ low + k = get_or-range_with_len low n k d (omega (arith, size, l)) in
-    (omega (arith, here), omega (arith, here, size, l))
+All-range low n k d l = search (arith, length-range_with_len, get_or-range_with_len)

@@ -29,8 +29,7 @@ AreNew-step : (variables : ℕ) (us : List ℕ) (es : List (ℕ × Deps)) (v : �
 AreNew-step variables us es v deps vs new =
     let keys : keys_of (es ++ (v, deps) ∷ []) ≡ keys_of es ++ v ∷ [] = map_push (λ (e : ℕ × Deps). e.0) es (v, deps) in
     let rest : All (λ w. has (keys_of es) w ≡ false) vs = All-tail (λ w. has (keys_of es) w ≡ false) v vs new.no_keys in
-    let apart : All (λ w. eqb v w ≡ false) vs = All-from_recursion (λ w. eqb v w ≡ false) vs
-    (IsDistinct-head eqb v vs new.distinct) in
+    let apart : All (λ w. eqb v w ≡ false) vs = search (arith, All-from_recursion, IsDistinct-head) in
     record {
       in_range = All-tail (IsInRange variables) v vs new.in_range;
       distinct = IsDistinct-tail eqb v vs new.distinct;
@@ -42,8 +41,7 @@ AreNew-step variables us es v deps vs new =
 
 no-declaration : (variables : ℕ) (us : List ℕ) (es : List (ℕ × Deps)) (matrix : List (List Literal)) (v : ℕ)
     → has us v ≡ false → has (keys_of es) v ≡ false → is_declared (formula_of variables us es matrix) v ≡ false
-no-declaration variables us es matrix v a b =
-    ap (λ ks. has (us ++ ks) v) (map-variable us es) ∙ list_any-append (λ x. eqb x v) us (keys_of es) ∙ rw (a, b) refl
+no-declaration variables us es matrix v a b = search (arith, map-variable, list_any-append)
 
 -- new variables go behind the others, and the formula keeps what every formula keeps
 pub kept-unseeing : (variables : ℕ) (us : List ℕ) (matrix : List (List Literal)) (vs : List ℕ) (es : List (ℕ × Deps))
@@ -56,9 +54,7 @@ kept-unseeing variables us matrix (v ∷ vs) es kept new =
     let no-key = All-head (λ w. has (keys_of es) w ≡ false) v vs new.no_keys in
     let range = All-head (IsInRange variables) v vs new.in_range in
     let form : IsDependencySet us (FirstOf 0) = omega arith in
-    let kept' : IsKept variables us es' matrix =
-    IsKept-existential variables us es matrix v (FirstOf 0) kept range.0 range.1
-    (no-declaration variables us es matrix v no-universal no-key) form in
+    let kept' : IsKept variables us es' matrix = search (arith, IsKept-existential, no-declaration) in
     let rest = kept-unseeing variables us matrix vs es' kept' (AreNew-step variables us es v (FirstOf 0) vs new) in
     let whole : es' ++ map unseeing_entry vs ≡ es ++ unseeing_entry v ∷ map unseeing_entry vs =
     append_assoc es (unseeing_entry v ∷ []) (map unseeing_entry vs) in

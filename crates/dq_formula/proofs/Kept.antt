@@ -1,5 +1,5 @@
 -- What every formula keeps, when a variable is declared or a clause is added.
-use Rattle.std.proofs.Common.{◌≡◌, ℕ, ◌+◌, ◌≤◌, ◌≢◌, Bool, true, false, List, [], ◌∷◌, ◌++◌, length, map, get_or, refl, ap, sym, ◌∙◌, subst, arith, eqb, filter, true≢false, Contains, append-nil, length-append}
+use Rattle.std.proofs.Common.{◌≡◌, ℕ, ◌+◌, ◌≤◌, Bool, true, false, List, [], ◌∷◌, ◌++◌, length, map, get_or, refl, ap, sym, ◌∙◌, subst, arith, eqb, true≢false, Contains, append-nil, length-append}
 use Rattle.std.proofs.lemmas.List.{take-append-le, map_push, length_push}
 use Rattle.std.proofs.lemmas.List.Elements.{Contains-get_or, All-head, All-tail, All-push, All-append, All-contains, filter-append}
 use Rattle.std.proofs.lemmas.List.Folds.{list_any-append}
@@ -23,17 +23,7 @@ use Rattle.dq_formula.proofs.Search.{All-kept}
 -- a formula that declares nothing keeps it
 pub IsKept-nothing : (variables : ℕ) → variables ≤ MAX_VARIABLES → IsKept variables [] [] []
 unfolding IsDistinct
-IsKept-nothing variables few = record {
-  universals_in_range = λ k d l. absurd (omega (arith, l));
-  existentials_in_range = λ k d l. absurd (omega (arith, l));
-  distinct_universals = tt;
-  distinct_existentials = tt;
-  disjoint = λ k d l. absurd (omega (arith, l));
-  sets = λ k d l. absurd (omega (arith, l));
-  literals_in_range = λ k d l. absurd (omega (arith, l));
-  few_variables = few;
-  few_clauses = omega arith;
-}
+IsKept-nothing variables few = search arith
 
 -- a variable that is not declared is no universal and no existential
 pub undeclared-parts : (us ks : List ℕ) (v : ℕ) → has (us ++ ks) v ≡ false → (has us v ≡ false) × (has ks v ≡ false)
@@ -52,10 +42,7 @@ pub IsDependencySet-push : (us : List ℕ) (v : ℕ) (deps : Deps) → has us v 
     IsDependencySet (us ++ v ∷ []) deps
 IsDependencySet-push us v (FirstOf n) none form = omega (arith, form, length_push us v)
 IsDependencySet-push us v (Listed vs) none form =
-    form ∙ sym (append-nil (filter (has vs) us))
-    ∙ (let e : filter (has vs) (v ∷ []) ≡ [] = rw (has-listed us vs v form none) refl in
-    ap (λ more. filter (has vs) us ++ more) (sym e))
-    ∙ sym (filter-append (has vs) us (v ∷ []))
+    search (arith, append-nil, (has-listed us vs v form none), filter-append)
 
 pub dependencies-push : (us : List ℕ) (v : ℕ) (deps : Deps) → IsDependencySet us deps →
     dependencies (us ++ v ∷ []) deps ≡ dependencies us deps
@@ -66,9 +53,7 @@ existentials-push : (us : List ℕ) (v : ℕ) (es : List (ℕ × Deps)) → All 
     map (existential (us ++ v ∷ [])) es ≡ map (existential us) es
 existentials-push us v [] sets = refl
 existentials-push us v (entry ∷ es) sets =
-    let here = dependencies-push us v entry.1 (All-head (IsDependencySet us) entry.1 (values_of es) sets) in
-    let rest = existentials-push us v es (All-tail (IsDependencySet us) entry.1 (values_of es) sets) in
-    rw (here, rest) refl
+    search (arith, dependencies-push, All-head, (existentials-push us v es), All-tail)
 
 -- an undeclared variable is no key and no universal
 pub undeclared-keys : (variables : ℕ) (us : List ℕ) (es : List (ℕ × Deps)) (matrix : List (List Literal)) (v : ℕ)
@@ -80,16 +65,12 @@ universal-new : (variables : ℕ) (us : List ℕ) (es : List (ℕ × Deps)) (mat
     (us' : List ℕ)
     → is_declared (formula_of variables us es matrix) v ≡ false → us' ≡ with_number us v → us' ≡ us ++ v ∷ []
 universal-new variables us es matrix v us' undeclared inserted =
-    let none = (undeclared-keys variables us es matrix v undeclared).0 in
-    inserted ∙ rw none refl
+    search (arith, (undeclared-keys variables us es matrix v undeclared))
 
 disjoint-push : (us : List ℕ) (v : ℕ) (ks : List ℕ) → All (λ y. has us y ≡ false) ks → has ks v ≡ false →
     All (λ y. has (us ++ v ∷ []) y ≡ false) ks
 disjoint-push us v ks apart none k d l =
-    let y = get_or ks k d in
-    let other : v ≢ y = λ e. true≢false (sym (has-contains ks v
-    (subst (Contains ks) (sym e) (Contains-get_or ks k d l))) ∙ none) in
-    list_any-append (λ x. eqb x y) us (v ∷ []) ∙ rw (apart k d l, ne-false v y other) refl
+    search (arith, (has-contains ks v), (Contains-get_or ks k d l), list_any-append, (ne-false v))
 
 -- a universal is added behind the others
 pub IsKept-universal : (variables : ℕ) (us : List ℕ) (es : List (ℕ × Deps)) (matrix : List (List Literal)) (v : ℕ)
@@ -130,8 +111,7 @@ pub IsKept-existential : (variables : ℕ) (us : List ℕ) (es : List (ℕ × De
 IsKept-existential variables us es matrix y deps kept low high undeclared form =
     let parts = undeclared-keys variables us es matrix y undeclared in
     let keys : keys_of (es ++ (y, deps) ∷ []) ≡ keys_of es ++ y ∷ [] = map_push (λ (e : ℕ × Deps). e.0) es (y, deps) in
-    let values : values_of (es ++ (y, deps) ∷ []) ≡ values_of es ++ deps ∷ [] =
-    map_push (λ (e : ℕ × Deps). e.1) es (y, deps) in
+    let values : values_of (es ++ (y, deps) ∷ []) ≡ values_of es ++ deps ∷ [] = search (arith, map_push) in
     record {
       universals_in_range = kept.universals_in_range;
       existentials_in_range = subst (All (IsInRange variables)) (sym keys)

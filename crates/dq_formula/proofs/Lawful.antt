@@ -14,7 +14,7 @@ use Rattle.dq_formula.specs.declared.dependencies.Deps.{Deps}
 use Rattle.dq_formula.specs.declared.dependencies.Deps.TheVariants.{FirstOf, Listed}
 use Rattle.dq_formula.specs.Dependencies.{dependencies, listed_universals, IsDependencySet}
 use Rattle.dq_formula.specs.Layout.{existential, formula_of, IsInRange, IsKept}
-use Rattle.dq_formula.specs.Prefix.{IsLawful, existential_variables}
+use Rattle.dq_formula.specs.Prefix.{IsLawful}
 use Rattle.dq_formula.proofs.Distinct.{AllPairs-append, All-dependencies}
 use Rattle.dq_formula.proofs.Entries.{map-variable, find-existential}
 use Rattle.dq_formula.proofs.Places.{has, Rise, at, at-filter}
@@ -76,9 +76,4 @@ lawful variables us es matrix kept =
     }
 
 pub few_places : (f : Dqbf) → IsLawful f → length f.universals + length f.existentials ≤ 1000001
-few_places f lawful =
-    let few = few_declared f lawful.prefix in
-    let long = length-append f.universals (existential_variables f) in
-    let mapped = length-map f.existentials (λ (y : Existential). y.variable) in
-    let most = lawful.few_variables in
-    omega (arith, few, long, mapped, most)
+few_places f lawful = search (arith, few_declared, length-append, length-map)

@@ -1,5 +1,5 @@
 -- The bits that a row gives to variables, and lists of bits that agree.
-use Rattle.std.proofs.Common.{◌≡◌, ℕ, zero, suc, ◌+◌, ◌-◌, ◌≤◌, ◌<◌, Bool, true, false, not, List, [], ◌∷◌, length, map, take, get_or, refl, ap, sym, ◌∙◌, arith, cond, eqb, true≢false, ◌&&◌, replicate, length-append, length-take, get_or-take}
+use Rattle.std.proofs.Common.{◌≡◌, ℕ, zero, suc, ◌-◌, ◌≤◌, ◌<◌, Bool, true, false, not, List, [], ◌∷◌, length, map, take, get_or, refl, sym, arith, eqb, true≢false, ◌&&◌, replicate, length-append, length-take, get_or-take}
 use Rattle.dq_formula.proofs.Places.{place, place-get_or}
 use Rattle.std.proofs.lemmas.List.{ext_get_or, get_or-map, length-replicate}
 use Rattle.std.specs.Bool.{beq}
@@ -13,12 +13,7 @@ pub assignment_of-place : (us : List ℕ) (row : List Bool) (x : ℕ) → length
 assignment_of-place [] [] x e = refl
 assignment_of-place [] (b ∷ bits) x e = absurd (omega (arith, e))
 assignment_of-place (u ∷ us) [] x e = absurd (omega (arith, e))
-assignment_of-place (u ∷ us) (b ∷ bits) x e = by (assignment_of-place us bits x (omega (arith, e))) (eqb u x) refl
-  where
-    by : get_or bits (place us x) false ≡ assignment_of us bits x → (t : Bool) → eqb u x ≡ t →
-        get_or (b ∷ bits) (cond (not (eqb u x)) (1 + place us x) 0) false ≡ cond (eqb u x) b (assignment_of us bits x)
-    by rest true h = rw h refl
-    by rest false h = let one : 1 + place us x ≡ suc (place us x) = omega arith in rw (h, one) rest
+assignment_of-place (u ∷ us) (b ∷ bits) x e = search (arith, (assignment_of-place us bits x))
 
 -- lists that agree at each place
 pub same_bits-from_places : (xs ys : List Bool) → length xs ≡ length ys →
@@ -40,18 +35,8 @@ pub same_bits-from_difference : (xs ys : List Bool) (k : ℕ) → (get_or xs k f
 same_bits-from_difference [] [] k h = absurd (h refl)
 same_bits-from_difference [] (y ∷ ys) k h = refl
 same_bits-from_difference (x ∷ xs) [] k h = refl
-same_bits-from_difference (x ∷ xs) (y ∷ ys) zero h = by x y h
-  where
-    by : (a b : Bool) → (a ≡ b → ⊥) → (same_bit a b && same_bits xs ys) ≡ false
-    by true true h = absurd (h refl)
-    by true false h = refl
-    by false true h = refl
-    by false false h = absurd (h refl)
-same_bits-from_difference (x ∷ xs) (y ∷ ys) (suc k) h = rw (same_bits-from_difference xs ys k h) (none (same_bit x y))
-  where
-    none : (b : Bool) → (b && false) ≡ false
-    none true = refl
-    none false = refl
+same_bits-from_difference (x ∷ xs) (y ∷ ys) zero h = search arith
+same_bits-from_difference (x ∷ xs) (y ∷ ys) (suc k) h = search (arith, (same_bits-from_difference xs ys k h))
 
 -- padding changes no bit
 pub bit_of-padded : (n : ℕ) (bits : List Bool) (i : ℕ) → bit_of (padded n bits) i ≡ bit_of bits i
@@ -63,40 +48,36 @@ bit_of-padded n [] i = none (n - 0) i
     none (suc k) (suc i) = none k i
 bit_of-padded zero (b ∷ bits) zero = refl
 bit_of-padded (suc n) (b ∷ bits) zero = refl
-bit_of-padded n (b ∷ bits) (suc i) = let e : n - length (b ∷ bits) ≡ (n - 1) - length bits = omega arith in
-    rw e (bit_of-padded (n - 1) bits i)
+bit_of-padded n (b ∷ bits) (suc i) = search (arith, (bit_of-padded (n - 1) bits i))
 
 pub length-padded : (n : ℕ) (bits : List Bool) → length bits ≤ n → length (padded n bits) ≡ n
-length-padded n bits le = omega (
-  arith,
-  length-append bits (replicate (n - length bits) false),
-  length-replicate (n - length bits) false,
-)
+length-padded n bits le = search (arith, length-append, replicate, length-replicate)
 
 -- a list of that length with those bits
 pub padded-is : (n : ℕ) (bits out : List Bool) → length out ≡ n → length bits ≤ n →
     ((k : ℕ) → k < n → bit_of out k ≡ bit_of bits k) → out ≡ padded n bits
 padded-is n bits out size le same =
-    ext_get_or false out (padded n bits) (size ∙ sym (length-padded n bits le))
-    (λ k l. same k (omega (arith, size, l)) ∙ sym (bit_of-padded n bits k))
+    search (arith, (ext_get_or false out), (length-padded n bits le), (bit_of-padded n bits))
 
 -- the bits that a set of the first n universals sees
 pub bit-first : (us : List ℕ) (row : List Bool) (n i : ℕ) → IsDistinct eqb us → length row ≡ length us →
     n ≤ length us → i < n
     → bit_of row i ≡ bit_of (map (assignment_of us row) (take n us)) i
 bit-first us row n i distinct size le l =
-    let short : i < length (take n us) = omega (arith, length-take n us) in
-    sym (get_or-map (assignment_of us row) (take n us) i 0 false short
-    ∙ ap (assignment_of us row) (get_or-take n us i 0 l)
-    ∙ sym (assignment_of-place us row (get_or us i 0) size)
-    ∙ ap (bit_of row) (place-get_or us i 0 distinct (omega arith)))
+    search (
+      arith,
+      (length-take n us),
+      get_or-map,
+      (get_or-take n us i 0 l),
+      (assignment_of-place us row (get_or us i 0) size),
+      (place-get_or us i 0 distinct),
+    )
 
 -- and those that a listed set sees
 pub bit-listed : (us vs : List ℕ) (row : List Bool) (i x : ℕ) → length row ≡ length us → i < length vs →
     x ≡ get_or vs i x
     → bit_of row (place us x) ≡ bit_of (map (assignment_of us row) vs) i
-bit-listed us vs row i x size l at = assignment_of-place us row x size ∙ ap (assignment_of us row) at ∙ sym
-    (get_or-map (assignment_of us row) vs i x false l)
+bit-listed us vs row i x size l at = search (arith, assignment_of-place, get_or-map)
 
 -- `!=` on bits
 pub differs : (a b : Bool) → not (beq a b) ≡ true → a ≡ b → ⊥

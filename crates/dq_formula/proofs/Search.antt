@@ -1,5 +1,5 @@
 -- A binary search by place.
-use Rattle.std.proofs.Common.{◌≡◌, ℕ, ◌≤◌, true, List, length, get_or, refl, ap, sym, ◌∙◌, subst, arith, eqb, Result, Ok, Err, is_ok, filter, true≢false, Contains, IsTrue, ◌↔◌, ⊎_elim}
+use Rattle.std.proofs.Common.{◌≡◌, ℕ, ◌≤◌, true, List, length, get_or, refl, ap, sym, ◌∙◌, subst, arith, eqb, Result, Ok, Err, is_ok, filter, true≢false, Contains, IsTrue, ◌↔◌}
 use Rattle.std.proofs.lemmas.Bool.{cases_lt}
 use Rattle.std.proofs.lemmas.Bool.Decides.{nat_tests}
 use Rattle.std.proofs.lemmas.List.Elements.{All-filter, All-contains_itself}
@@ -49,5 +49,4 @@ found us vs x (Err i) distinct kept among range result =
 
     no : Contains vs x → AllWithin (λ y. nat_cmp (place us y) (place us x) ≡ Less) vs 0 i × AllWithin
         (λ y. nat_cmp (place us y) (place us x) ≡ Greater) vs i (length vs) → ⊥
-    no m parts = ⊎_elim (λ l. let a = parts.0 m.0 x (omega arith) l in let b = at-member m in cc)
-        (λ l. let a = parts.1 m.0 x l m.1 in let b = at-member m in cc) (cases_lt m.0 i)
+    no m parts = search (arith, at-member, cases_lt)

@@ -1,5 +1,5 @@
 -- Existentials that stand for others with the same dependency set.
-use Rattle.std.proofs.Common.{◌≡◌, ℕ, ◌+◌, ◌-◌, ◌<◌, true, Bool, List, [], ◌∷◌, ◌++◌, length, get_or, slice_get, Some, IsSome, IsTrue, ◌↔◌, refl, sym, ◌∙◌, ap, subst, arith, ⊎_elim}
+use Rattle.std.proofs.Common.{◌≡◌, ℕ, ◌+◌, ◌<◌, true, Bool, List, [], ◌∷◌, ◌++◌, length, get_or, slice_get, Some, IsSome, IsTrue, ◌↔◌, refl, sym, ◌∙◌, ap, subst, arith}
 use Rattle.std.specs.List.{All}
 use Rattle.std.specs.Option.{option_map}
 use Rattle.std.proofs.lemmas.Bool.{cases_lt}
@@ -54,11 +54,4 @@ module _ (f : Dqbf) (named : All (λ y. existential_of f y.variable ≡ Some y) 
 pub leaders_more : (f : Dqbf) (leaders : List ℕ) (leader : ℕ) →
     ((k : ℕ) → k < length leaders → IsLeader f (get_or leaders k 0) k) → IsLeader f leader (length leaders)
     → (k : ℕ) → k < length leaders + 1 → IsLeader f (get_or (leaders ++ leader ∷ []) k 0) k
-leaders_more f leaders leader each last k below = ⊎_elim
-    (λ l. rw (get_or_append_left leaders (leader ∷ []) 0 k l) (each k l))
-    (λ ge. let e : k ≡ length leaders = omega (arith, below, ge) in rw (e, at-end) last)
-    (cases_lt k (length leaders))
-  where
-    at-end : get_or (leaders ++ leader ∷ []) (length leaders) 0 ≡ leader
-    at-end = get_or-append_right leaders (leader ∷ []) (length leaders) (length leaders) 0 refl (omega arith) ∙
-        (let e : length leaders - length leaders ≡ 0 = omega arith in rw e refl)
+leaders_more f leaders leader each last k below = search (arith, get_or_append_left, cases_lt, get_or-append_right)

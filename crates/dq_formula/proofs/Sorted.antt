@@ -1,5 +1,5 @@
 -- Places, sorted and without repeats, pick listed elements in the order of the list.
-use Rattle.std.proofs.Common.{◌≡◌, ℕ, suc, ◌+◌, ◌-◌, ◌≤◌, ◌<◌, Bool, true, false, ◌||◌, not, List, [], ◌∷◌, length, map, get_or, refl, ap, sym, ◌∙◌, arith, cond, ◌&&◌, eqb, filter, true≢false, zero-add}
+use Rattle.std.proofs.Common.{◌≡◌, ℕ, ◌+◌, ◌-◌, ◌≤◌, ◌<◌, Bool, true, false, ◌||◌, List, [], ◌∷◌, length, map, get_or, refl, ap, sym, ◌∙◌, arith, ◌&&◌, eqb, filter, true≢false, zero-add}
 use native.Mathlib.Numerals.{unary_clauses}
 use Rattle.std.proofs.lemmas.Bool.{eqb-true}
 use Rattle.std.proofs.lemmas.List.Elements.{All-head, All-tail, All-map, Contains-get_or, filter_agree}
@@ -28,19 +28,7 @@ Rise-from_increasing low high (p ∷ q ∷ ps) up a =
 -- dropping repeats changes no test
 dedup_from-any : (p : ℕ → Bool) (k : ℕ) (xs : List ℕ) → list_any p (dedup_from eqb k xs) ≡ (p k || list_any p xs)
 dedup_from-any p k [] = refl
-dedup_from-any p k (x ∷ xs) = by (dedup_from-any p k xs) (dedup_from-any p x xs) (eqb x k) refl
-  where
-    by : list_any p (dedup_from eqb k xs) ≡ (p k || list_any p xs) →
-        list_any p (dedup_from eqb x xs) ≡ (p x || list_any p xs)
-        → (b : Bool) → eqb x k ≡ b → list_any p (cond (eqb x k) (dedup_from eqb k xs) (k ∷ dedup_from eqb x xs)) ≡
-        (p k || (p x || list_any p xs))
-    by here later true e = rw e (here ∙ twice (p k) (p x) (list_any p xs) (ap p (sym (eqb-true x k e))))
-      where
-        twice : (a b c : Bool) → a ≡ b → (a || c) ≡ (a || (b || c))
-        twice true b c e = refl
-        twice false true c e = absurd (true≢false (sym e))
-        twice false false c e = refl
-    by here later false e = rw e (ap (λ b. p k || b) later)
+dedup_from-any p k (x ∷ xs) = search (arith, (dedup_from-any p k xs), (dedup_from-any p x xs), eqb-true, true≢false)
 
 pub dedup-any : (p : ℕ → Bool) (xs : List ℕ) → list_any p (dedup eqb xs) ≡ list_any p xs
 dedup-any p [] = refl
@@ -64,21 +52,11 @@ AllAmong us xs = All (λ x. has us x ≡ true) xs
 
 pub place-below : (us : List ℕ) (x : ℕ) → has us x ≡ true → place us x < length us
 place-below [] x h = absurd (true≢false (sym h))
-place-below (u ∷ us) x h = by (place-below us x) (eqb u x) refl
-  where
-    by : (has us x ≡ true → place us x < length us) → (b : Bool) → eqb u x ≡ b →
-        cond (not (eqb u x)) (1 + place us x) 0 < length (u ∷ us)
-    by rest true e = rw e (omega arith)
-    by rest false e = rw e (let r : place us x < length us = rest (rw e at h) in omega arith)
+place-below (u ∷ us) x h = search (arith, (place-below us x))
 
 pub get_or-place : (us : List ℕ) (x d : ℕ) → has us x ≡ true → get_or us (place us x) d ≡ x
 get_or-place [] x d h = absurd (true≢false (sym h))
-get_or-place (u ∷ us) x d h = by (get_or-place us x d) (eqb u x) refl
-  where
-    by : (has us x ≡ true → get_or us (place us x) d ≡ x) → (b : Bool) → eqb u x ≡ b →
-        get_or (u ∷ us) (cond (not (eqb u x)) (1 + place us x) 0) d ≡ x
-    by rest true e = rw e (eqb-true u x e)
-    by rest false e = let one : 1 + place us x ≡ suc (place us x) = omega arith in rw (e, one) (rest (rw e at h))
+get_or-place (u ∷ us) x d h = search (arith, (get_or-place us x d), eqb-true)
 
 -- the places of listed elements, sorted and without repeats, are those of the elements that are listed
 pub in_order : (us xs sorted : List ℕ) → IsDistinct eqb us → AllAmong us xs → IsPermutation (map (place us) xs) sorted →
@@ -127,8 +105,7 @@ pub filter-members : (p : ℕ → Bool) (us : List ℕ) → filter p us ≡ filt
 filter-members p us = filter-agree p (has (filter p us)) us (λ k d l.
     let u = get_or us k d in
     let member : has us u ≡ true = has-contains us u (Contains-get_or us k d l) in
-    let kept : has (filter p us) u ≡ (p u && has us u) = any-filter_same (λ x. eqb x u) p (p u)
-    (λ x e. ap p (eqb-true x u e)) us in
+    let kept : has (filter p us) u ≡ (p u && has us u) = search (arith, any-filter_same, eqb-true) in
     sym (kept ∙ rw member (and-true (p u))))
   where
     and-true : (b : Bool) → (b && true) ≡ b

@@ -16,9 +16,7 @@ use Rattle.dq_formula.proofs.Sorted.{place-below}
 
 pub none_contained : (xs : List ℕ) (v : ℕ) → position (λ u. u == v) xs ≡ None → Contains xs v → ⊥
 none_contained xs v none among =
-    let end = place-absent (λ u. u == v) xs none in
-    let within = place-below xs v (has-contains xs v among) in
-    omega arith
+    search (arith, place-absent, (place-below xs v (has-contains xs v among)), (has-contains xs v among))
 
 -- the places of elements that stand in the order of a list ascend
 pub places_ascend : (us vs : List ℕ) → IsDistinct eqb us → Kept us vs → IsNonDecreasing (map (place us) vs)
@@ -55,16 +53,9 @@ walked_more xs ys i at result x ascend walked first l is stands = record {
   within = first.end;
   found =
       let e : i + 1 ≡ suc i = omega arith in
-      let member : Contains ys x = (
-        result,
-        slice_get_within ys result x stands,
-        get_or_from_slice_get ys result x x stands,
-      ) in
+      let member : Contains ys x = search (arith, slice_get_within, get_or_from_slice_get) in
       rw (e, take-suc xs i 0 l, is) (All-push (Contains ys) (take i xs) x walked.found member);
-  passed = λ k j less le end.
-      let a = all_below xs ys i at result x walked first l is k less in
-      let b : get_or xs i 0 ≤ get_or xs j 0 = ascend i j 0 (omega (arith, le)) end in
-      omega (arith, a, b, is);
+  passed = search arith;
 }
 
 pub not_contained : (xs ys : List ℕ) (i at result x : ℕ) → IsNonDecreasing ys → IsWalked xs ys i at →

@@ -26,8 +26,7 @@ same_bit false b = not b
 
 both_lists : (m : Assignment) (xs ys : List (List Literal)) → all_true m (xs ++ ys) ≡ (all_true m xs && all_true m ys)
 both_lists m [] ys = refl
-both_lists m (x ∷ xs) ys = ap (λ b. clause_true m x && b) (both_lists m xs ys) ∙ regroup (clause_true m x)
-    (all_true m xs) (all_true m ys)
+both_lists m (x ∷ xs) ys = search (arith, (both_lists m xs ys))
 
 -- with a true literal behind, every clause is true; with a false one, what it was
 longer : (m : Assignment) (clause : List Literal) (l : Literal) →
@@ -80,8 +79,7 @@ pub parity_holds : (m : Assignment) (before : List Literal) (even : Bool) →
     all_true m (parity_clauses even before) ≡ same_bit even (xor_true m before)
 parity_holds m [] true = refl
 parity_holds m [] false = refl
-parity_holds m (l ∷ before) true = parity_step m l before true (parity_holds m before true)
-    (parity_holds m before false)
+parity_holds m (l ∷ before) true = search (arith, parity_step, (parity_holds m before true), (parity_holds m before))
 parity_holds m (l ∷ before) false = parity_step m l before false (parity_holds m before false)
     (parity_holds m before true)
 
@@ -110,19 +108,14 @@ example = refl
 one-more : (even : Bool) (l : Literal) (before : List Literal) →
     length (parity_clauses even (l ∷ before)) ≡ length (parity_clauses even before) + length
     (parity_clauses (not even) before)
-one-more even l before =
-    length-append (map (λ clause. clause ++ l ∷ []) (parity_clauses even before))
-    (map (λ clause. clause ++ opposite l ∷ []) (parity_clauses (not even) before))
-    ∙ ap₂ (λ x y. x + y) (length-map (parity_clauses even before) (λ clause. clause ++ l ∷ []))
-    (length-map (parity_clauses (not even) before) (λ clause. clause ++ opposite l ∷ []))
+one-more even l before = search (arith, length-append, length-map)
 
 halves : (l : Literal) (before : List Literal) (even : Bool) →
     length (parity_clauses even before) + length (parity_clauses (not even) before) ≡ 2 ^ length before
     → length (parity_clauses (not even) before) + length (parity_clauses (not (not even)) before) ≡ 2 ^ length before
     → length (parity_clauses even (l ∷ before)) + length (parity_clauses (not even) (l ∷ before)) ≡ 2 ^ suc
     (length before)
-halves l before even a b = let e : 2 ^ length before + 2 ^ length before ≡ 2 ^ suc (length before) = grind arith in
-    ap₂ (λ x y. x + y) (one-more even l before ∙ a) (one-more (not even) l before ∙ b) ∙ e
+halves l before even a b = search (arith, one-more)
 
 both-parities : (even : Bool) (literals : List Literal) → length (parity_clauses even literals) + length
     (parity_clauses (not even) literals) ≡ 2 ^ length literals
@@ -143,18 +136,12 @@ pub few-parity : (even : Bool) (literals : List Literal) → length literals ≤
     length (parity_clauses even literals) ≤ 16
 few-parity true [] few = omega arith
 few-parity false [] few = omega arith
-few-parity even (l ∷ before) few = omega (
-  arith,
-  one-more even l before,
-  both-parities even before,
-  few-power (length before) (omega (arith, few)),
-)
+few-parity even (l ∷ before) few = search (arith, one-more, both-parities, few-power)
 
 -- the clauses stand on the literals' variables
 pub All-parity : (v : ℕ) (even : Bool) (literals : List Literal) → All (λ l. variable_of l ≤ v) literals →
     All (All (λ l. variable_of l ≤ v)) (parity_clauses even literals)
-All-parity v true [] h = All-cons (All (λ l. variable_of l ≤ v)) [] [] (All-nil (λ l. variable_of l ≤ v))
-    (All-nil (All (λ l. variable_of l ≤ v)))
+All-parity v true [] h = search (arith, All-cons, All-nil)
 All-parity v false [] h = All-nil (All (λ l. variable_of l ≤ v))
 All-parity v even (l ∷ before) h =
     let rest = All-tail (λ l. variable_of l ≤ v) l before h in
@@ -190,10 +177,8 @@ pub parity-step : (even : Bool) (literals : List Literal) (m : ℕ) (d : Literal
     → first_parity_clauses even literals (suc m)
     ≡ map (λ clause. clause ++ get_or literals m d ∷ []) (first_parity_clauses even literals m)
     ++ map (λ clause. clause ++ opposite (get_or literals m d) ∷ []) (first_parity_clauses (not even) literals m)
-parity-step even literals m d l = rw (
-  take-suc literals m d l,
-  reverse-append (take m literals) (get_or literals m d ∷ []),
-) refl
+parity-step even literals m d l =
+    search (arith, (take-suc literals m d l), (reverse-append (take m literals) (get_or literals m d ∷ [])))
 
 append-behind : (k : Literal) (rest : List Literal) (clauses : List (List Literal)) →
     map (λ c. c ++ rest) (map (λ c. c ++ k ∷ []) clauses) ≡ map (λ c. c ++ k ∷ rest) clauses

@@ -12,21 +12,10 @@ use Rattle.dq_formula.proofs.XorClauses.{parity-step, both_signs, few-parity, no
 pub parity-count : (even : Bool) (literals : List Literal) (n m : ℕ) (d : Literal) → n ≡ suc m → m < length literals
     → length (first_parity_clauses even literals n) ≡ length (first_parity_clauses even literals m) + length
     (first_parity_clauses (not even) literals m)
-parity-count even literals n m d is l =
-    let k = get_or literals m d in
-    let xs = first_parity_clauses even literals m in
-    let ys = first_parity_clauses (not even) literals m in
-    ap length (ap (first_parity_clauses even literals) is ∙ parity-step even literals m d l)
-    ∙ length-append (map (λ clause. clause ++ k ∷ []) xs) (map (λ clause. clause ++ opposite k ∷ []) ys)
-    ∙ ap₂ (λ x y. x + y) (length-map xs (λ clause. clause ++ k ∷ []))
-    (length-map ys (λ clause. clause ++ opposite k ∷ []))
+parity-count even literals n m d is l = search (arith, (parity-step even literals m d l), length-append, length-map)
 
 pub room_first : (b : Blocks) (x y p : ℕ) → p ≡ x + y → HasRoom b p (5 * p) (5 * p) → HasRoom b x (5 * x) (5 * x)
-room_first b x y p is had = record {
-  places = omega (arith, had.places, is);
-  literals = omega (arith, had.literals, is);
-  starts = omega (arith, had.starts, is);
-}
+room_first b x y p is had = search arith
 
 pub room_second : (a b : Blocks) (xs : List (List Literal)) (x y p : ℕ) → length xs ≡ x → p ≡ x + y →
     ArePut a b xs (5 * x) → HasRoom a p (5 * p) (5 * p) → HasRoom b y (5 * y) (5 * y)
@@ -38,14 +27,7 @@ room_second a b xs x y p size is put had = put.room y (5 * y) (5 * y) (record {
 
 pub few_second : (a b : Blocks) (xs : List (List Literal)) (x y p most : ℕ) → length xs ≡ x → p ≡ x + y →
     ArePut a b xs (5 * x) → length (clauses_of a) + p ≤ most → length (clauses_of b) + y ≤ most
-few_second a b xs x y p most size is put few = omega (
-  arith,
-  few,
-  is,
-  size,
-  ap length put.clauses,
-  length-append (clauses_of a) xs,
-)
+few_second a b xs x y p most size is put few = search (arith, length-append)
 
 -- what is behind a literal
 pub drop-next : (xs rest : List Literal) (m : ℕ) (l : Literal) → drop m xs ≡ l ∷ rest → drop (m + 1) xs ≡ rest
@@ -70,11 +52,7 @@ both_put a b c even literals rest first second n m x y p d is l sum one two befo
     rw (whole, size) both
 
 pub room_less : (b : Blocks) (p : ℕ) → p ≤ 16 → HasRoom b 16 80 80 → HasRoom b p (5 * p) (5 * p)
-room_less b p le had = record {
-  places = omega (arith, had.places, le);
-  literals = omega (arith, had.literals, le);
-  starts = omega (arith, had.starts, le);
-}
+room_less b p le had = search arith
 
 -- an XOR line has at most sixteen clauses
 pub few_clauses : (literals : List Literal) (n : ℕ) → length literals ≤ 5 →

@@ -1,11 +1,11 @@
 -- Lines stay derived by other ids, and units make a clause shorter.
-use Rattle.std.proofs.Common.{◌≡◌, ℕ, ◌+◌, Bool, true, false, not, cond, ◌&&◌, ◌||◌, inl, inr, List, [], ◌∷◌, ◌++◌, map, length, get_or, Option, Some, None, refl, sym, ◌∙◌, ap, arith}
+use Rattle.std.proofs.Common.{◌≡◌, ℕ, ◌+◌, Bool, true, false, not, cond, ◌&&◌, inl, inr, List, [], ◌∷◌, ◌++◌, map, length, get_or, Option, Some, None, refl, sym, ◌∙◌, ap, arith}
 use Rattle.std.specs.List.{All, list_all, filter}
 use Rattle.std.proofs.lemmas.Bool.{true≢false, eq-eqb, or_cases, or_left, or_right, and_parts}
 use Rattle.std.proofs.lemmas.List.Elements.{All-head, All-tail, filter_passes}
 use Rattle.list_laws.proofs.Truths.{not_true}
 use Rattle.list_laws.proofs.Options.{cond-none}
-use Rattle.dq_lits.specs.Literal.{Literal, positive, negative, opposite, same_literal}
+use Rattle.dq_lits.specs.Literal.{Literal, opposite, same_literal}
 use Rattle.dq_lits.specs.Derivation.{LiveClauses, falsified, unit, stuck, holds, status_by, status_of, fault_by, hint_fault, is_tautology}
 use Rattle.dq_lits.proofs.Truth.{same_literal-sound}
 use Rattle.dq_lits.proofs.SignedLiterals.{opposite-opposite}
@@ -26,18 +26,12 @@ none-left trues (l ∷ ls) all =
 
 unit-status : (trues : List Literal) (l : Literal) → holds trues l ≡ false → holds trues (opposite l) ≡ false
     → status_of trues (Some (l ∷ [])) ≡ unit l
-unit-status trues l here there =
-    let kept : filter (λ k. not (holds trues (opposite k))) (l ∷ []) ≡ l ∷ [] =
-    ap (λ b. cond (not b) (l ∷ []) []) there in
-    ap (status_by trues) kept ∙ ap (λ b. cond (not b) (unit l) stuck) here
+unit-status trues l here there = search arith
 
 falsifying : (live : LiveClauses) (trues : List Literal) (units : List (ℕ × Literal)) (last place : ℕ)
     → AreFalsifying live trues units last →
     hint_fault live trues place (map (λ u. u.0) units ++ last ∷ []) ≡ None
-falsifying live trues [] last place (clause, at, all) =
-    ap (λ o. fault_by (status_of trues o) place [] (λ l. hint_fault live (l ∷ trues) (place + 1) [])) at
-    ∙ ap (λ xs. fault_by (status_by trues xs) place [] (λ l. hint_fault live (l ∷ trues) (place + 1) []))
-    (none-left trues clause all)
+falsifying live trues [] last place (clause, at, all) = search (arith, none-left)
 falsifying live trues (u ∷ us) last place are =
     let rest : List ℕ = map (λ x. x.0) us ++ last ∷ [] in
     ap (λ o. fault_by (status_of trues o) place rest (λ l. hint_fault live (l ∷ trues) (place + 1) rest)) are.0
@@ -46,9 +40,7 @@ falsifying live trues (u ∷ us) last place are =
     ∙ falsifying live (u.1 ∷ trues) us last (place + 1) are.3
 
 pub derives : FalsifyingDerives
-derives live literals units last plain are =
-    ap (λ b. cond b (Some 0) (hint_fault live (map opposite literals) 1 (map (λ u. u.0) units ++ last ∷ []))) plain
-    ∙ falsifying live (map opposite literals) units last 1 are
+derives live literals units last plain are = search (arith, falsifying)
 
 -- no literal stands beside its negation
 abbrev IsConsistent : List Literal → Type 0
@@ -58,21 +50,7 @@ member-open : (trues clause : List Literal) (l : Literal) → holds clause l ≡
     → holds (filter (λ k. not (holds trues (opposite k))) clause) l ≡ true
 member-open trues [] l here open' = here
 member-open trues (k ∷ ks) l here open' =
-    let rest = filter (λ q. not (holds trues (opposite q))) ks in
-    let Whole : Bool → Bool = λ b. holds (cond (not b) (k ∷ rest) rest) l in
-    elim (or_cases (same_literal l k) (holds ks l) here) [
-      | inl same ↦
-          let stays' : holds trues (opposite k) ≡ false =
-          ap (λ q. holds trues (opposite q)) (sym (same_literal-sound l k same)) ∙ open' in
-          ap Whole stays' ∙ or_left (same_literal l k) (holds rest l) same
-      | inr later ↦ behind (holds trues (opposite k)) (member-open trues ks l later open')
-    ]
-  where
-    behind : (b : Bool) → holds (filter (λ q. not (holds trues (opposite q))) ks) l ≡ true →
-        holds (cond (not b) (k ∷ filter (λ q. not (holds trues (opposite q))) ks)
-        (filter (λ q. not (holds trues (opposite q))) ks)) l ≡ true
-    behind true h = h
-    behind false h = or_right (same_literal l k) (holds (filter (λ q. not (holds trues (opposite q))) ks) l) h
+    search (arith, or_cases, same_literal-sound, or_left, or_right, (member-open trues ks l))
 
 -- all literals of a list are one
 one-literal : (l k : Literal) (rest : List Literal) → list_all (same_literal l) rest ≡ true
@@ -84,12 +62,7 @@ one-literal l k rest all h = elim (or_cases (same_literal k l) (holds rest k) h)
   where
     in-rest : (rest : List Literal) → list_all (same_literal l) rest ≡ true → holds rest k ≡ true → k ≡ l
     in-rest [] all h = cc
-    in-rest (q ∷ qs) all h =
-        let parts = and_parts (same_literal l q) (list_all (same_literal l) qs) all in
-        elim (or_cases (same_literal k q) (holds qs k) h) [
-          | inl same ↦ same_literal-sound k q same ∙ sym (same_literal-sound l q parts.0)
-          | inr later ↦ in-rest qs parts.1 later
-        ]
+    in-rest (q ∷ qs) all h = search (arith, and_parts, or_cases, same_literal-sound, (in-rest qs))
 
 -- a clause that isn't stuck: what is left of it, and its status
 data Moves (trues open' : List Literal) : Type 0 where
@@ -110,21 +83,12 @@ moves-by trues (l ∷ rest) free = by (list_all (same_literal l) rest && not (ho
 two-open : (trues open' : List Literal) (p : Literal) → Moves trues open' → holds open' p ≡ true
     → holds open' (opposite p) ≡ true → ⊥
 two-open trues open' p (all_false e) h1 h2 = true≢false (sym h1 ∙ ap (λ o. holds o p) e)
-two-open trues open' p (one_left l rest e all none) h1 h2 =
-    let first : p ≡ l = one-literal l p rest all (sym (ap (λ o. holds o p) e) ∙ h1) in
-    let second : opposite p ≡ l = one-literal l (opposite p) rest all (sym (ap (λ o. holds o (opposite p)) e) ∙ h2) in
-    true≢false (sym (same-refl p) ∙ sym (ap (λ q. same_literal q p) (second ∙ sym first)) ∙ not-same p)
-  where
-    same-refl : (l : Literal) → same_literal l l ≡ true
-    same-refl (positive v) = eq-eqb v v refl
-    same-refl (negative v) = eq-eqb v v refl
+two-open trues open' p (one_left l rest e all none) h1 h2 = search (arith, one-literal, true≢false, not-same, eq-eqb)
 
 true-open : (trues open' : List Literal) (p : Literal) → Moves trues open' → holds open' p ≡ true
     → holds trues p ≡ true → ⊥
 true-open trues open' p (all_false e) h1 h2 = true≢false (sym h1 ∙ ap (λ o. holds o p) e)
-true-open trues open' p (one_left l rest e all none) h1 h2 =
-    let first : p ≡ l = one-literal l p rest all (sym (ap (λ o. holds o p) e) ∙ h1) in
-    true≢false (sym h2 ∙ ap (holds trues) first ∙ none)
+true-open trues open' p (one_left l rest e all none) h1 h2 = search (arith, one-literal, true≢false)
 
 abbrev open-part : List Literal → List Literal → List Literal
 open-part trues clause = filter (λ l. not (holds trues (opposite l))) clause
@@ -153,20 +117,8 @@ plain-hint trues clause consistent moves = elim (true-or-false (is_tautology cla
 
 more-consistent : (trues : List Literal) (l : Literal) → IsConsistent trues → holds trues (opposite l) ≡ false
     → IsConsistent (l ∷ trues)
-more-consistent trues l consistent none k h = elim (or_cases (same_literal k l) (holds trues k) h) [
-  | inl same ↦
-      let e = same_literal-sound k l same in
-      ap (λ q. same_literal (opposite q) l || holds trues (opposite q)) e
-      ∙ ap (λ b. b || holds trues (opposite l)) (not-same l) ∙ none
-  | inr there ↦
-      elim (true-or-false (same_literal (opposite k) l)) [
-        | inl same ↦ absurd (true≢false
-            (sym there ∙ ap (holds trues)
-            (sym (opposite-opposite k) ∙ ap opposite (same_literal-sound (opposite k) l same))
-            ∙ none))
-        | inr other ↦ ap (λ b. b || holds trues (opposite k)) other ∙ consistent k there
-      ]
-]
+more-consistent trues l consistent none k h =
+    search (arith, or_cases, same_literal-sound, not-same, true-or-false, true≢false, opposite-opposite)
 
 carry : (to : ℕ → ℕ) (live other : LiveClauses) (hints : List ℕ) (trues : List Literal) (place : ℕ)
     → IsConsistent trues → All (IsCarried to live other) hints →
@@ -192,11 +144,7 @@ carry to live other (x ∷ xs) trues place consistent all h =
         → hint_fault other (l ∷ trues) (place + 1) (map to xs) ≡ None) →
         fault_by (status_by trues (open-part trues c)) place (map to xs)
         (λ l. hint_fault other (l ∷ trues) (place + 1) (map to xs)) ≡ None
-    go c (all_false e) passes g later =
-        ap (λ o. fault_by (status_by trues o) place (map to xs)
-        (λ l. hint_fault other (l ∷ trues) (place + 1) (map to xs))) e
-        ∙ ends xs (sym (ap (λ o. fault_by (status_by trues o) place xs
-        (λ l. hint_fault live (l ∷ trues) (place + 1) xs)) e) ∙ g)
+    go c (all_false e) passes g later = search (arith, ends)
     go c (one_left l rest e same none) passes g later =
         let is-unit : status_by trues (open-part trues c) ≡ unit l =
         ap (status_by trues) e ∙ ap (λ b. cond (b && not (holds trues l)) (unit l) stuck) same
@@ -230,12 +178,7 @@ carry to live other (x ∷ xs) trues place consistent all h =
         stuck-stops w = cc
 
 start-consistent : (ls : List Literal) → is_tautology ls ≡ false → IsConsistent (map opposite ls)
-start-consistent ls plain l h =
-    let inside : holds ls (opposite l) ≡ true = sym (holds-opposites ls l) ∙ h in
-    elim (true-or-false (holds ls (opposite (opposite l)))) [
-      | inl both ↦ absurd (true≢false (sym (pair-any ls ls (opposite l) inside both) ∙ plain))
-      | inr none ↦ holds-opposites ls (opposite l) ∙ none
-    ]
+start-consistent ls plain l h = search (arith, holds-opposites, true-or-false, true≢false, pair-any)
 
 pub carries : LinesAreCarried
 carries to live other literals hints all derived =

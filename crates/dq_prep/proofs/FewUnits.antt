@@ -1,5 +1,5 @@
 -- There are no more units than clauses.
-use Rattle.std.proofs.Common.{◌≡◌, ◌≢◌, inl, inr, ℕ, zero, suc, ◌<◌, ◌≤◌, eqb, true, List, [], ◌∷◌, map, length, get_or, refl, sym, ◌∙◌, ap, arith}
+use Rattle.std.proofs.Common.{◌≡◌, ◌≢◌, ℕ, zero, suc, ◌<◌, ◌≤◌, eqb, true, List, [], ◌∷◌, map, length, get_or, refl, sym, ◌∙◌, ap, arith}
 use Rattle.std.specs.List.{AllPairs, list_any}
 use Rattle.std.proofs.lemmas.Bool.Decides.{Decides-eqb}
 use Rattle.std.proofs.lemmas.Bool.{or_cases, eqb-true}
@@ -25,18 +25,12 @@ places-apart f (u ∷ us) are zero (suc j) d before within =
     let inside : j < length us = omega (arith, within, length-map us (λ q. q.place)) in
     let r = place-of us j d inside in
     λ e. unit-apart f u us j r.0 are inside (e ∙ r.2 ∙ ap (λ q. q.place) (sym r.1))
-places-apart f (u ∷ us) are (suc i) (suc j) d before within =
-    places-apart f us are.1 i j d (omega arith) (omega (arith, within))
+places-apart f (u ∷ us) are (suc i) (suc j) d before within = search (arith, (places-apart f us are.1 i j d))
 
 place-within : (f : Dqbf) (units : List Taken) (q : ℕ) → AreUnits f units
     → list_any (eqb q) (map (λ u. u.place) units) ≡ true → q < length f.matrix
 place-within f [] q are h = cc
-place-within f (u ∷ us) q are h = elim (or_cases (eqb q u.place) (list_any (eqb q) (map (λ w. w.place) us)) h) [
-  | inl here ↦
-      let at = get-at f.matrix u.place are.0.clause are.0.at in
-      omega (arith, at.0, eqb-true q u.place here)
-  | inr later ↦ place-within f us q are.1 later
-]
+place-within f (u ∷ us) q are h = search (arith, or_cases, get-at, eqb-true, (place-within f us q are.1))
 
 pub few-units : (f : Dqbf) (units : List Taken) → AreUnits f units → length units ≤ length f.matrix
 few-units f units are =

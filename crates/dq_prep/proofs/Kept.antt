@@ -1,5 +1,5 @@
 -- What is left of a matrix.
-use Rattle.std.proofs.Common.{◌≡◌, ℕ, zero, suc, ◌+◌, ◌<◌, ◌==◌, Bool, true, false, cond, inl, inr, List, [], ◌∷◌, length, get_or, Option, Some, None, refl, ◌∙◌, ap, arith}
+use Rattle.std.proofs.Common.{◌≡◌, ℕ, zero, suc, ◌+◌, ◌<◌, Bool, true, false, cond, inl, inr, List, [], ◌∷◌, length, get_or, Option, Some, None, ◌∙◌, ap, arith}
 use Rattle.std.specs.List.{All, AllByRecursion, Contains, cons_option}
 use Rattle.std.proofs.lemmas.Bool.{or_left, or_cases, cond-true, cond-false}
 use Rattle.std.proofs.lemmas.List.Elements.{All-head, All-tail, All-contains, All-from_recursion}
@@ -41,10 +41,7 @@ by-satisfied P false o left h1 h2 = h2
 taken_at-true : (m : Assignment) (place : ℕ) (units : List Taken) → AllTrue m (taken_literals units)
     → IfKept (Holds m) (taken_at place units)
 taken_at-true m place [] all = tt
-taken_at-true m place (u ∷ us) all =
-    by-place (Holds m) (u.place == place) u.literal (taken_at place us)
-    (or_left (literal_true m u.literal) false all.0)
-    (taken_at-true m place us all.1)
+taken_at-true m place (u ∷ us) all = search (arith, by-place, or_left, (taken_at-true m place us all.1))
 
 kept-follows : (s : Setting) (units : List Taken) → AreUnits s.f units → Solves s.choice s.f → (m : Assignment)
     → Follows s.f s.choice m →
@@ -70,10 +67,7 @@ pub kept-stands : (f : Dqbf) (units : List Taken) (place : ℕ) (clauses : List 
     kept_clause f units (place + k) (get_or clauses k d) ≡ Some kept
     → Contains (kept_clauses f units place clauses) kept
 kept-stands f units place [] k d kept below is = absurd (omega arith)
-kept-stands f units place (clause ∷ clauses) zero d kept below is =
-    let here : kept_clause f units place clause ≡ Some kept = ap (λ p. kept_clause f units p clause) (omega arith)
-    ∙ is in
-    rw here (0, omega arith, refl)
+kept-stands f units place (clause ∷ clauses) zero d kept below is = search arith
 kept-stands f units place (clause ∷ clauses) (suc k) d kept below is =
     let later : kept_clause f units (suc place + k) (get_or clauses k d) ≡ Some kept =
     ap (λ p. kept_clause f units p (get_or clauses k d)) (omega arith) ∙ is in

@@ -55,11 +55,7 @@ kept-few f units place (c ∷ cs) = by (kept_clause f units place c) (kept-few f
 -- there is room for one more clause
 pub kept-room : (t : Taking) (g : Dqbf) (place : ℕ) → IsLawful t.formula.now → AreKeptBefore t g place
     → place < length t.formula.now.matrix → length g.matrix < MAX_CLAUSES
-kept-room t g place lawful before within =
-    let f = t.formula.now in
-    let long = ap (λ q. length q.matrix) before in
-    let few = kept-few f t.trace 0 (take place f.matrix) in
-    omega (arith, long, few, length-take place f.matrix, within, lawful.few_clauses)
+kept-room t g place lawful before within = search (arith, kept-few, length-take)
 
 -- the next clause
 kept-next : (t : Taking) (g : Dqbf) (place : ℕ) (o : Option (List Literal)) → AreKeptBefore t g place
@@ -82,17 +78,13 @@ kept-next t g place o before within is =
 
 satisfied-kept : (f : Dqbf) (units : List Taken) (place : ℕ) (clause : List Literal)
     → is_satisfied (taken_literals units) clause ≡ true → kept_clause f units place clause ≡ taken_at place units
-satisfied-kept f units place clause h =
-    cond-true (is_satisfied (taken_literals units) clause) (taken_at place units)
-    (Some (left_of f (taken_literals units) clause)) h
+satisfied-kept f units place clause h = search (arith, cond-true)
 
 -- the entry of a table
 table-entry : (units : List Taken) (n : ℕ) (table : List (Option Literal)) (place : ℕ) (entry d : Option Literal)
     → IsTableOf units n table → place < n → slice_index_or table place d ≡ entry
     → taken_at place units ≡ unit_clause entry
-table-entry units n table place entry d are below is =
-    sym (are.each place below)
-    ∙ ap unit_clause (get_or_default table place None d (omega (arith, are.many, below)) ∙ is)
+table-entry units n table place entry d are below is = search (arith, get_or_default)
 
 pub unit-next : (t : Taking) (g : Dqbf) (table : List (Option Literal)) (place : ℕ) (l : Literal) (d : Option Literal)
     → IsTableOf t.trace (length t.formula.now.matrix) table → AreKeptBefore t g place
@@ -161,15 +153,9 @@ left-small t g place left well before within is =
 -- what is left of a clause that isn't satisfied, by whether it is a tautology
 pub left-tautology : (f : Dqbf) (trues clause : List Literal) → is_satisfied trues clause ≡ false
     → is_tautology clause ≡ true → without_false trues clause ≡ left_of f trues clause
-left-tautology f trues clause unsatisfied both =
-    let rest = without_false trues clause in
-    sym (cond-true (is_tautology rest) rest (filter (stays f rest) rest)
-    (tautology-stays trues clause unsatisfied ∙ both))
+left-tautology f trues clause unsatisfied both = search (arith, cond-true, tautology-stays)
 
 pub left-reduced : (f : Dqbf) (trues clause : List Literal) → is_satisfied trues clause ≡ false
     → is_tautology clause ≡ false
     → filter (stays f (without_false trues clause)) (without_false trues clause) ≡ left_of f trues clause
-left-reduced f trues clause unsatisfied plain =
-    let rest = without_false trues clause in
-    sym (cond-false (is_tautology rest) rest (filter (stays f rest) rest)
-    (tautology-stays trues clause unsatisfied ∙ plain))
+left-reduced f trues clause unsatisfied plain = search (arith, cond-false, tautology-stays)

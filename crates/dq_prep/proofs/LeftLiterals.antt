@@ -1,5 +1,5 @@
 -- What is left of a clause, by its open literals.
-use Rattle.std.proofs.Common.{◌≡◌, ℕ, Bool, true, false, not, cond, ◌||◌, ◌&&◌, inl, inr, List, [], ◌∷◌, get_or, None, refl, sym, ◌∙◌, ap}
+use Rattle.std.proofs.Common.{◌≡◌, ℕ, Bool, true, false, not, cond, ◌||◌, ◌&&◌, List, [], ◌∷◌, get_or, None, refl, sym, ◌∙◌, ap, arith}
 use Rattle.std.specs.List.{All, list_any, filter}
 use Rattle.std.proofs.lemmas.Bool.{true≢false, or_left, or_right, cases_Bool, cond-false}
 use Rattle.std.proofs.lemmas.List.Elements.{All-filter}
@@ -19,34 +19,17 @@ use Rattle.dq_prep.proofs.SignedLiterals.{pair-in, pair-any}
 -- a test on what another test lets through
 filter-twice : {X : Type 0} (p q : X → Bool) (xs : List X) → filter p (filter q xs) ≡ filter (λ l. p l && q l) xs
 filter-twice p q [] = refl
-filter-twice p q (x ∷ xs) = by (q x) (p x) (filter-twice p q xs) refl
-  where
-    by : (b a : Bool) → filter p (filter q xs) ≡ filter (λ l. p l && q l) xs
-        → p x ≡ a → filter p (cond b (x ∷ filter q xs) (filter q xs))
-        ≡ cond (a && b) (x ∷ filter (λ l. p l && q l) xs) (filter (λ l. p l && q l) xs)
-    by true true h e = ap (λ b. cond b (x ∷ filter p (filter q xs)) (filter p (filter q xs))) e ∙ ap (λ ls. x ∷ ls) h
-    by true false h e = ap (λ b. cond b (x ∷ filter p (filter q xs)) (filter p (filter q xs))) e ∙ h
-    by false true h e = h
-    by false false h e = h
+filter-twice p q (x ∷ xs) = search (arith, (filter-twice p q xs))
 
 any-wider : (p q : Literal → Bool) (xs : List Literal) → ((l : Literal) → p l ≡ true → q l ≡ true)
     → list_any p (filter q xs) ≡ list_any p xs
 any-wider p q [] wider = refl
-any-wider p q (x ∷ xs) wider = by (q x) (p x) (wider x) (any-wider p q xs wider) refl
-  where
-    by : (b a : Bool) → (a ≡ true → b ≡ true) → list_any p (filter q xs) ≡ list_any p xs
-        → p x ≡ a → list_any p (cond b (x ∷ filter q xs) (filter q xs)) ≡ (a || list_any p xs)
-    by true a w h e = ap (λ c. c || list_any p (filter q xs)) e ∙ ap (λ c. a || c) h
-    by false true w h e = absurd (true≢false (sym (w refl)))
-    by false false w h e = h
+any-wider p q (x ∷ xs) wider = search (arith, true≢false, (any-wider p q xs wider))
 
 -- a literal of a clause that isn't satisfied was not taken
 unsatisfied-false : (trues clause : List Literal) (l : Literal) → is_satisfied trues clause ≡ false
     → holds clause l ≡ true → holds trues l ≡ false
-unsatisfied-false trues clause l unsatisfied inside = elim (cases_Bool (holds trues l)) [
-  | inl taken ↦ absurd (true≢false (sym (satisfied-by trues clause l inside taken) ∙ unsatisfied))
-  | inr none ↦ none
-]
+unsatisfied-false trues clause l unsatisfied inside = search (arith, cases_Bool, true≢false, satisfied-by)
 
 -- a literal with its negation stays until one of them is taken
 pub tautology-stays : (trues clause : List Literal) → is_satisfied trues clause ≡ false
@@ -96,9 +79,7 @@ left-opens f trues clause = by (is_tautology rest)
     by : (b : Bool) → filter (is_existential f) (cond b rest (filter (stays f rest) rest)) ≡ filter
         (is_existential f) rest
     by true = refl
-    by false =
-        filter-wider (is_existential f) (stays f rest) rest
-        (λ l existential. or_left (is_existential f l) (is_seen f rest (variable_of l)) existential)
+    by false = search (arith, filter-wider, rest, or_left)
 
 -- no existential has a universal's variable
 abbrev pub UniversalsSeeNothing : Dqbf → Type 0
@@ -116,10 +97,7 @@ seen-by-open f trues clause x nothing =
     sees l = sees_in x (existential_of f (variable_of l))
 
     wider : (l : Literal) → sees l ≡ true → is_existential f l ≡ true
-    wider l h = elim (cases_Bool (is_universal f (variable_of l))) [
-      | inl universal ↦ absurd (true≢false (sym h ∙ ap (sees_in x) (nothing l universal)))
-      | inr other ↦ ap not other
-    ]
+    wider l h = search (arith, cases_Bool, true≢false)
 
 -- where the open literals see no variable of the clause, just they are left
 pub left-is-open : (f : Dqbf) (trues clause : List Literal) → UniversalsSeeNothing f
@@ -148,17 +126,4 @@ left-is-open f trues clause nothing unsatisfied plain unseen =
 pub seen-left : (f : Dqbf) (trues clause : List Literal) (l : Literal) → UniversalsSeeNothing f
     → holds clause l ≡ true → holds trues (opposite l) ≡ false
     → is_seen f (open_literals f trues clause) (variable_of l) ≡ true → holds (left_of f trues clause) l ≡ true
-seen-left f trues clause l nothing inside none seen = by (is_tautology rest)
-  where
-    rest : List Literal
-    rest = without_false trues clause
-
-    in-rest : holds rest l ≡ true
-    in-rest = filter-holds (λ k. not (holds trues (opposite k))) clause l inside (ap not none)
-
-    by : (b : Bool) → holds (cond b rest (filter (stays f rest) rest)) l ≡ true
-    by true = in-rest
-    by false =
-        filter-holds (stays f rest) rest l in-rest
-        (or_right (is_existential f l) (is_seen f rest (variable_of l))
-        (seen-by-open f trues clause (variable_of l) nothing ∙ seen))
+seen-left f trues clause l nothing inside none seen = search (arith, filter-holds, or_right, seen-by-open)

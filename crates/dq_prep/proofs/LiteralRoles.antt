@@ -1,5 +1,5 @@
 -- The role of a literal, by its existential's place.
-use Rattle.std.proofs.Common.{◌≡◌, IsSome, subst, ℕ, suc, ◌<◌, ◌==◌, Bool, true, false, not, cond, inl, inr, List, [], ◌∷◌, map, length, get_or, Option, Some, None, refl, sym, ◌∙◌, ap, arith}
+use Rattle.std.proofs.Common.{◌≡◌, IsSome, subst, ℕ, suc, ◌<◌, ◌==◌, Bool, true, false, not, cond, inl, inr, List, [], ◌∷◌, length, get_or, Option, Some, None, refl, sym, ◌∙◌, ap, arith}
 use Rattle.std.specs.Prelude.{slice_index_or}
 use Rattle.std.specs.List.{All, Contains, find, position}
 use Rattle.std.proofs.lemmas.Bool.{true≢false, eqb-true, cases_Bool, and_parts, cond-false, cond-true}
@@ -75,23 +75,8 @@ find-Some p (x ∷ xs) y h = by (p x) refl h (find-Some p xs y)
 
 -- no existential has a universal's variable
 pub universals-see-nothing : (f : Dqbf) → IsWellFormed f → UniversalsSeeNothing f
-universals-see-nothing f well l universal = by (existential_of f (variable_of l)) refl
-  where
-    named : (ys : List Existential) (y : Existential) → Contains ys y → (y.variable == variable_of l) ≡ true
-        → Contains (map (λ z. z.variable) ys) (variable_of l)
-    named ys y (k, below, is) same = (
-      k,
-      omega (arith, below, length-map ys (λ z. z.variable)),
-      get_or-map (λ z. z.variable) ys k y (variable_of l) below ∙ ap (λ z. z.variable) is
-          ∙ eqb-true y.variable (variable_of l) same,
-    )
-
-    by : (o : Option Existential) → existential_of f (variable_of l) ≡ o → o ≡ None
-    by None e = refl
-    by (Some y) e =
-        let found = find-Some (λ z. z.variable == variable_of l) f.existentials y e in
-        absurd (true≢false (sym universal
-        ∙ existential-apart f (variable_of l) well (named f.existentials y found.0 found.1)))
+universals-see-nothing f well l universal =
+    search (arith, length-map, get_or-map, eqb-true, find-Some, true≢false, existential-apart)
 
 -- an existential sees universals
 pub universals-are-seen : (f : Dqbf) → IsWellFormed f → UniversalsAreSeen f
@@ -130,8 +115,4 @@ open-existential f trues clause l well bound open' =
 -- a clause of the matrix is looked at
 pub look : (f : Dqbf) (units : List Taken) (place : ℕ) (clause : List Literal) → IsWellFormed f → AreUnits f units
     → place < length f.matrix → clause ≡ slice_index_or f.matrix place [] → Looked f units place clause
-look f units place clause well are within is = record {
-  nothing = universals-see-nothing f well;
-  are = are;
-  at = clause-at f.matrix place clause within is;
-}
+look f units place clause well are within is = search (arith, universals-see-nothing, clause-at)

@@ -1,6 +1,6 @@
 -- A row with the universal literals false that universal reduction takes.
-use Rattle.std.proofs.Common.{◌≡◌, ℕ, ◌==◌, Bool, true, false, not, ◌&&◌, ◌||◌, cond, inl, inr, List, [], ◌∷◌, map, get_or, Some, refl, sym, ◌∙◌, ap}
-use Rattle.std.specs.List.{All, Contains, list_any, filter}
+use Rattle.std.proofs.Common.{◌≡◌, ℕ, ◌==◌, Bool, true, false, not, ◌&&◌, inl, inr, List, [], ◌∷◌, map, get_or, Some, refl, sym, ◌∙◌, ap, arith}
+use Rattle.std.specs.List.{All, Contains, list_any}
 use Rattle.std.proofs.lemmas.Bool.{true≢false, cases_Bool, cond-true, cond-false, eq-eqb, eqb-true}
 use Rattle.std.proofs.lemmas.List.Elements.{All-contains}
 use Rattle.std.proofs.lemmas.List.Folds.{list_any_none, list_any_at}
@@ -28,27 +28,17 @@ use Rattle.dq_lits.proofs.LiftedExpansion.{literal_true-agree}
 made-bit : (xs : List ℕ) (m : Assignment) (x : ℕ) → list_any (λ z. z == x) xs ≡ true
     → assignment_of xs (map m xs) x ≡ m x
 made-bit [] m x h = cc
-made-bit (z ∷ zs) m x h = elim (cases_Bool (z == x)) [
-  | inl same ↦
-      cond-true (z == x) (m z) (assignment_of zs (map m zs) x) same ∙ ap m (eqb-true z x same)
-  | inr other ↦
-      cond-false (z == x) (m z) (assignment_of zs (map m zs) x) other
-      ∙ made-bit zs m x (sym (ap (λ b. b || list_any (λ q. q == x) zs) other) ∙ h)
-]
+made-bit (z ∷ zs) m x h = search (arith, cases_Bool, cond-true, eqb-true, cond-false, (made-bit zs m x))
 
 -- a universal's bit in the lowered row
 low-bit : (f : Dqbf) (clause : List Literal) (row : List Bool) (x : ℕ) → Contains f.universals x
     → row_assignment f (lowered_row f clause row) x ≡ lowered f clause (row_assignment f row) x
-low-bit f clause row x inside =
-    made-bit f.universals (lowered f clause (row_assignment f row)) x (tested_inside f.universals x inside)
+low-bit f clause row x inside = search (arith, made-bit, tested_inside)
 
 -- none that is held passes
 pub none-held : (p : Literal → Bool) (xs : List Literal) (l : Literal) → list_any p xs ≡ false → holds xs l ≡ true
     → p l ≡ false
-none-held p xs l none here = elim (cases_Bool (p l)) [
-  | inl passes ↦ absurd (true≢false (sym (any_one p xs l here passes) ∙ none))
-  | inr fails ↦ fails
-]
+none-held p xs l none here = search (arith, cases_Bool, true≢false, any_one)
 
 -- an existential of the clause sees the same bits
 same-view : (f : Dqbf) (rest : List Literal) (row : List Bool) (l : Literal) (y : Existential) → IsWellFormed f
@@ -94,18 +84,10 @@ low-false f trues clause row l here plain none universal =
 
     alone : (k : Literal) → holds (without_false trues clause) k ≡ true
         → holds (without_false trues clause) (opposite k) ≡ false
-    alone k inside = elim (cases_Bool (holds (without_false trues clause) (opposite k))) [
-      | inl both ↦
-          absurd (true≢false (sym (pair-any (without_false trues clause) (without_false trues clause) k inside both)
-          ∙ plain))
-      | inr one ↦ one
-    ]
+    alone k inside = search (arith, cases_Bool, true≢false, pair-any)
 
     in-left : stays f (without_false trues clause) l ≡ true → holds (left_of f trues clause) l ≡ true
-    in-left stay =
-        ap (λ b. holds (cond b (without_false trues clause)
-        (filter (stays f (without_false trues clause)) (without_false trues clause))) l) plain
-        ∙ filter-holds (stays f (without_false trues clause)) (without_false trues clause) l here stay
+    in-left stay = search (arith, filter-holds)
 
     false-left : stays f (without_false trues clause) l ≡ true → literal_true (row_assignment f row) l ≡ false
     false-left stay =

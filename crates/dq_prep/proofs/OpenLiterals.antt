@@ -1,10 +1,10 @@
 -- The open literals of a clause, read one by one.
-use Rattle.std.proofs.Common.{inl, inr, ◌≡◌, ℕ, ◌+◌, ◌<◌, Bool, true, false, not, cond, ◌||◌, ◌&&◌, List, [], ◌∷◌, ◌++◌, take, length, get_or, refl, sym, ◌∙◌, ap, subst, arith}
+use Rattle.std.proofs.Common.{◌≡◌, ℕ, ◌+◌, ◌<◌, Bool, true, false, not, cond, ◌||◌, ◌&&◌, List, [], ◌∷◌, ◌++◌, take, length, get_or, refl, sym, ◌∙◌, ap, subst, arith}
 use Rattle.std.proofs.lemmas.Bool.{true≢false, or_left, or_right, cases_Bool}
 use Rattle.std.proofs.lemmas.List.{take_more, append-nil, length-append}
 use Rattle.std.proofs.lemmas.List.Elements.{filter-append}
 use Rattle.std.proofs.lemmas.List.Folds.{list_any-append}
-use Rattle.dq_lits.specs.Literal.{Literal, positive, negative, variable_of, opposite, same_literal}
+use Rattle.dq_lits.specs.Literal.{Literal, variable_of, opposite}
 use Rattle.dq_lits.specs.Formula.{Dqbf, is_universal}
 use Rattle.dq_lits.specs.Derivation.{holds}
 use Rattle.dq_lits.proofs.Truth.{same_literal-sound}
@@ -20,12 +20,8 @@ use Rattle.dq_prep.specs.Roles.{is_true_role, is_false_role, role_of, is_open, o
 pub none-universal : (f : Dqbf) (units : List Taken) (l : Literal) → AreUnits f units
     → is_universal f (variable_of l) ≡ true → holds (taken_literals units) l ≡ false
 none-universal f [] l are universal = refl
-none-universal f (u ∷ us) l are universal = elim (cases_Bool (same_literal l u.literal)) [
-  | inl same ↦
-      let is : l ≡ u.literal = same_literal-sound l u.literal same in
-      absurd (true≢false (sym universal ∙ ap (λ k. is_universal f (variable_of k)) is ∙ are.0.existential))
-  | inr other ↦ ap (λ b. b || holds (taken_literals us) l) other ∙ none-universal f us l are.1 universal
-]
+none-universal f (u ∷ us) l are universal =
+    search (arith, cases_Bool, same_literal-sound, true≢false, (none-universal f us l are.1 universal))
 
 -- by what the literal is
 pushed : (opens : Opens) (universal here there satisfied : Bool) (open_ones : List Literal) (l : Literal)
@@ -33,34 +29,13 @@ pushed : (opens : Opens) (universal here there satisfied : Bool) (open_ones : Li
     → IsOpening (satisfied || (here || false)) (open_ones ++ cond (not universal && not there) (l ∷ []) [])
     (with_role opens (cond universal Universal (cond here True (cond there False Open))) l)
 pushed opens true true there satisfied open_ones l none is = absurd (true≢false (none refl))
-pushed opens true false there satisfied open_ones l none is = unchanged satisfied open_ones opens is
-  where
-    unchanged : (satisfied : Bool) (open_ones : List Literal) (opens : Opens) → IsOpening satisfied open_ones opens
-        → IsOpening (satisfied || false) (open_ones ++ []) opens
-    unchanged satisfied open_ones opens is =
-        subst (λ b. IsOpening b (open_ones ++ []) opens) (sym (or-nothing satisfied))
-        (subst (λ ls. IsOpening satisfied ls opens) (sym (append-nil open_ones)) is)
-      where
-        or-nothing : (b : Bool) → (b || false) ≡ b
-        or-nothing true = refl
-        or-nothing false = refl
+pushed opens true false there satisfied open_ones l none is = search (arith, append-nil)
 pushed opens false true there satisfied open_ones l none is = or_right satisfied true refl
-pushed opens false false true satisfied open_ones l none is =
-    subst (λ b. IsOpening b (open_ones ++ []) opens) (sym (or-nothing satisfied))
-    (subst (λ ls. IsOpening satisfied ls opens) (sym (append-nil open_ones)) is)
-  where
-    or-nothing : (b : Bool) → (b || false) ≡ b
-    or-nothing true = refl
-    or-nothing false = refl
+pushed opens false false true satisfied open_ones l none is = search (arith, append-nil)
 pushed Satisfied false false false satisfied open_ones l none is = or_left satisfied false is
-pushed Nothing false false false satisfied open_ones l none is =
-    (ap (λ b. b || false) is.0, ap (λ ls. ls ++ l ∷ []) is.1)
-pushed (One k) false false false satisfied open_ones l none is =
-    let long : length (open_ones ++ l ∷ []) ≡ 2 = ap (λ ls. length (ls ++ l ∷ [])) is.1 in
-    omega (arith, long)
-pushed More false false false satisfied open_ones l none is =
-    let long = length-append open_ones (l ∷ []) in
-    omega (arith, long, is)
+pushed Nothing false false false satisfied open_ones l none is = search arith
+pushed (One k) false false false satisfied open_ones l none is = search arith
+pushed More false false false satisfied open_ones l none is = search (arith, length-append)
 
 -- one more literal of the clause
 pub open-more : (f : Dqbf) (units : List Taken) (clause : List Literal) (i : ℕ) (l : Literal) (opens : Opens)
@@ -87,33 +62,10 @@ open-more f units clause i l opens role are below at is before =
 -- a literal is true by its role where it was taken
 pub true-role : (f : Dqbf) (units : List Taken) (l : Literal) → AreUnits f units
     → is_true_role (role_of f (taken_literals units) l) ≡ holds (taken_literals units) l
-true-role f units l are =
-    by (is_universal f (variable_of l)) (holds (taken_literals units) l) (holds (taken_literals units) (opposite l))
-    (none-universal f units l are)
-  where
-    by : (universal here there : Bool) → (universal ≡ true → here ≡ false)
-        → is_true_role (cond universal Universal (cond here True (cond there False Open))) ≡ here
-    by true here there none = sym (none refl)
-    by false true there none = refl
-    by false false true none = refl
-    by false false false none = refl
+true-role f units l are = search (arith, none-universal)
 
 -- and false where its negation was
 pub false-role : (f : Dqbf) (units : List Taken) (l : Literal) → AreUnits f units
     → holds (taken_literals units) l ≡ false
     → is_false_role (role_of f (taken_literals units) l) ≡ holds (taken_literals units) (opposite l)
-false-role f units l are untaken =
-    by (is_universal f (variable_of l)) (holds (taken_literals units) l)
-    (holds (taken_literals units) (opposite l)) untaken
-    (λ universal. none-universal f units (opposite l) are (turned l universal))
-  where
-    turned : (k : Literal) → is_universal f (variable_of k) ≡ true → is_universal f (variable_of (opposite k)) ≡ true
-    turned (positive v) h = h
-    turned (negative v) h = h
-
-    by : (universal here there : Bool) → here ≡ false → (universal ≡ true → there ≡ false)
-        → is_false_role (cond universal Universal (cond here True (cond there False Open))) ≡ there
-    by true here there h none = sym (none refl)
-    by false true there h none = absurd (true≢false h)
-    by false false true h none = refl
-    by false false false h none = refl
+false-role f units l are untaken = search (arith, none-universal, true≢false)

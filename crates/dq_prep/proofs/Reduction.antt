@@ -1,12 +1,12 @@
 -- Universal reduction keeps what a choice makes true.
-use Rattle.std.proofs.Common.{◌≡◌, ℕ, ◌<◌, ◌==◌, Bool, true, false, not, cond, ◌&&◌, ◌||◌, ◌⊎◌, inl, inr, List, [], ◌∷◌, map, length, get_or, Some, refl, sym, ◌∙◌, ap}
+use Rattle.std.proofs.Common.{◌≡◌, ℕ, ◌<◌, ◌==◌, Bool, true, false, not, cond, ◌⊎◌, inl, inr, List, [], ◌∷◌, map, length, get_or, Some, refl, sym, ◌∙◌, ap, arith}
 use Rattle.std.specs.List.{All, Contains, list_any, filter}
 use Rattle.std.proofs.lemmas.Bool.{true≢false, eq-eqb, or_cases, or_left, or_right, and_parts}
 use Rattle.std.proofs.lemmas.List.{get_or-map, length-map}
 use Rattle.std.proofs.lemmas.List.Elements.{All-contains, All-head, All-tail, Contains-append_cases}
 use Rattle.std.proofs.lemmas.List.Folds.{list_any_at}
 use Rattle.list_laws.proofs.Members.{contains_tested}
-use Rattle.dq_lits.specs.Literal.{Assignment, Literal, positive, negative, variable_of, opposite, same_literal, literal_true, clause_true}
+use Rattle.dq_lits.specs.Literal.{Assignment, Literal, positive, negative, variable_of, opposite, literal_true, clause_true}
 use Rattle.dq_lits.specs.Formula.{Existential, Dqbf, declared, is_universal, existential_of, HasLawfulPrefix}
 use Rattle.dq_lits.specs.Henkin.{same_bits, HenkinChoice, Follows}
 use Rattle.dq_lits.specs.Derivation.{holds, is_tautology}
@@ -38,8 +38,7 @@ any-kept p q g (x ∷ xs) good h =
 
 pub holds-at : (clause : List Literal) (k : ℕ) (d : Literal) → k < length clause
     → holds clause (get_or clause k d) ≡ true
-holds-at clause k d below =
-    list_any_at (same_literal (get_or clause k d)) clause k d below (same_literal-refl (get_or clause k d))
+holds-at clause k d below = search (arith, list_any_at, same_literal-refl)
 
 -- the law that every row extends to an assignment that follows a choice
 abbrev pub Extending : Type 0
@@ -63,15 +62,7 @@ record Setting : Type 0 where
 
 pub unlost : (f : Dqbf) (clause : List Literal) (m : Assignment) (v : ℕ) → is_seen f clause v ≡ true
     → lowered f clause m v ≡ m v
-unlost f clause m v seen =
-    let Lost : Bool → Bool =
-    λ b. cond ((is_universal f v && not b) && holds clause (negative v)) true
-    (cond ((is_universal f v && not b) && holds clause (positive v)) false (m v)) in
-    ap Lost seen ∙ closed (is_universal f v) (holds clause (negative v)) (holds clause (positive v)) (m v)
-  where
-    closed : (a b c d : Bool) → cond ((a && false) && b) true (cond ((a && false) && c) false d) ≡ d
-    closed true b c d = refl
-    closed false b c d = refl
+unlost f clause m v seen = search arith
 
 pub true-or-false : (b : Bool) → (b ≡ true) ⊎ (b ≡ false)
 true-or-false true = inl refl
@@ -79,47 +70,25 @@ true-or-false false = inr refl
 
 no_opposite : (clause : List Literal) (k : ℕ) (d : Literal) → k < length clause → is_tautology clause ≡ false
     → holds clause (opposite (get_or clause k d)) ≡ false
-no_opposite clause k d below plain =
-    elim (true-or-false (holds clause (opposite (get_or clause k d)))) [
-      | inl here ↦ absurd (true≢false
-          (sym (list_any_at (λ l. holds clause (opposite l)) clause k d below here) ∙ plain))
-      | inr none ↦ none
-    ]
+no_opposite clause k d below plain = search (arith, true-or-false, true≢false, list_any_at)
 
 -- a lost literal is false there
 pub lost_false : (f : Dqbf) (clause : List Literal) (m : Assignment) (l : Literal) → holds clause l ≡ true
     → holds clause (opposite l) ≡ false → is_lost f clause (variable_of l) ≡ true
     → literal_true (lowered f clause m) l ≡ false
-lost_false f clause m (positive v) here none lost =
-    let Value : Bool → Bool → Bool → Bool = λ a b c. cond (a && b) true (cond (a && c) false (m v)) in
-    ap (λ a. Value a (holds clause (negative v)) (holds clause (positive v))) lost
-    ∙ ap (λ b. Value true b (holds clause (positive v))) none
-    ∙ ap (λ c. Value true false c) here
-lost_false f clause m (negative v) here none lost =
-    let Value : Bool → Bool → Bool → Bool = λ a b c. not (cond (a && b) true (cond (a && c) false (m v))) in
-    ap (λ a. Value a (holds clause (negative v)) (holds clause (positive v))) lost
-    ∙ ap (λ b. Value true b (holds clause (positive v))) here
+lost_false f clause m (positive v) here none lost = search arith
+lost_false f clause m (negative v) here none lost = search arith
 
 pub kept_by : (f : Dqbf) (clause : List Literal) (l : Literal) → is_lost f clause (variable_of l) ≡ false
     → stays f clause l ≡ true
-kept_by f clause l h = closed (is_universal f (variable_of l)) (is_seen f clause (variable_of l)) h
-  where
-    closed : (a b : Bool) → (a && not b) ≡ false → (not a || b) ≡ true
-    closed true true h = refl
-    closed true false h = absurd (true≢false h)
-    closed false b h = refl
+kept_by f clause l h = search (arith, true≢false)
 
 pub not_lost : (f : Dqbf) (clause : List Literal) (v : ℕ) → is_seen f clause v ≡ true → is_lost f clause v ≡ false
-not_lost f clause v h = ap (λ b. is_universal f v && not b) h ∙ closed (is_universal f v)
-  where
-    closed : (a : Bool) → (a && false) ≡ false
-    closed true = refl
-    closed false = refl
+not_lost f clause v h = search arith
 
 pub unlost_value : (f : Dqbf) (clause : List Literal) (m : Assignment) (v : ℕ) → is_lost f clause v ≡ false
     → lowered f clause m v ≡ m v
-unlost_value f clause m v h =
-    ap (λ a. cond (a && holds clause (negative v)) true (cond (a && holds clause (positive v)) false (m v))) h
+unlost_value f clause m v h = search arith
 
 -- an existential of the clause keeps its value
 existential_same : (s : Setting) (k : ℕ) (d : Literal) → k < length s.clause
@@ -152,8 +121,7 @@ existential_same s k d below (j, in_map, is) =
     ∙ ap s.m names
 
 universal_same : (s : Setting) (v : ℕ) → Contains s.f.universals v → s.n v ≡ lowered s.f s.clause s.m v
-universal_same s v inside =
-    All-contains (λ z. s.n z ≡ lowered s.f s.clause s.m z) s.f.universals v s.universals inside
+universal_same s v inside = search (arith, All-contains)
 
 literal_stays : (s : Setting) (k : ℕ) (d : Literal) → k < length s.clause
     → literal_true s.n (get_or s.clause k d) ≡ true →

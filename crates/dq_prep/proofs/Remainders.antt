@@ -1,5 +1,5 @@
 -- How a clause stands, by its open literals.
-use Rattle.std.proofs.Common.{◌≡◌, ℕ, zero, suc, ◌<◌, ◌≤◌, Bool, true, false, not, cond, ◌||◌, inl, inr, List, [], ◌∷◌, map, length, get_or, slice_get, Some, sym, ◌∙◌, ap, subst, arith}
+use Rattle.std.proofs.Common.{◌≡◌, ℕ, zero, suc, ◌<◌, ◌≤◌, Bool, true, false, not, ◌||◌, inl, inr, List, [], ◌∷◌, map, length, get_or, slice_get, Some, sym, ◌∙◌, ap, subst, arith}
 use Rattle.std.specs.Prelude.{slice_index_or}
 use Rattle.std.specs.List.{All, list_any, filter}
 use Rattle.std.proofs.lemmas.Bool.{true≢false, or_cases, or_left, or_right, or_parts, and_parts}
@@ -13,7 +13,7 @@ use Rattle.dq_lits.proofs.Truth.{same_literal-sound}
 use Rattle.dq_lits.proofs.SignedLiterals.{same_literal-refl}
 use Rattle.dq_prep.specs.declared.traces.Taken.{Taken}
 use Rattle.dq_prep.specs.declared.roles.Opens.TheVariants.{Nothing, One}
-use Rattle.dq_prep.specs.Reduction.{sees_in, is_seen, stays, reduced}
+use Rattle.dq_prep.specs.Reduction.{sees_in, is_seen}
 use Rattle.dq_prep.specs.Units.{taken_literals, is_satisfied, left_of, IsUnit, AreUnits}
 use Rattle.dq_prep.specs.Roles.{is_open, open_literals, AreOpen}
 use Rattle.dq_prep.specs.Takings.{IsNoUnit, IsRemainder, remainder_of_none, remainder_of_one}
@@ -34,65 +34,32 @@ pub record Looked (f : Dqbf) (units : List Taken) (place : ℕ) (clause : List L
 -- a further unit there is one of this clause
 unit-of : (f : Dqbf) (units : List Taken) (place : ℕ) (clause : List Literal) (u : Taken)
     → Looked f units place clause → u.place ≡ place → (it : IsUnit f units u) → it.clause ≡ clause
-unit-of f units place clause u looked same it =
-    some_same it.clause clause (sym it.at ∙ ap (slice_get f.matrix) same ∙ looked.at)
+unit-of f units place clause u looked same it = search (arith, some_same)
 
 pub satisfied-other : (f : Dqbf) (units : List Taken) (place : ℕ) (clause : List Literal)
     → Looked f units place clause → is_satisfied (taken_literals units) clause ≡ true → IsNoUnit f units place
-satisfied-other f units place clause looked satisfied u same it =
-    true≢false (sym satisfied
-    ∙ ap (is_satisfied (taken_literals units)) (sym (unit-of f units place clause u looked same it))
-    ∙ it.unsatisfied)
+satisfied-other f units place clause looked satisfied u same it = search (arith, true≢false, unit-of)
 
 few-pass : (p : Literal → Bool) (l : Literal) → 2 ≤ length (filter p (l ∷ [])) → ⊥
-few-pass p l = by (p l)
-  where
-    by : (b : Bool) → 2 ≤ length (cond b (l ∷ []) []) → ⊥
-    by true h = omega (arith, h)
-    by false h = omega (arith, h)
+few-pass p l = search arith
 
 pub more-other : (f : Dqbf) (units : List Taken) (place : ℕ) (clause : List Literal)
     → Looked f units place clause → 2 ≤ length (open_literals f (taken_literals units) clause)
     → IsNoUnit f units place
-more-other f units place clause looked many u same it =
-    let trues = taken_literals units in
-    let left : left_of f trues clause ≡ u.literal ∷ [] =
-    ap (left_of f trues) (sym (unit-of f units place clause u looked same it)) ∙ it.left in
-    let E : Literal → Bool = λ l. not (is_universal f (variable_of l)) in
-    let opens : filter E (u.literal ∷ []) ≡ open_literals f trues clause = ap (filter E) (sym left)
-    ∙ left-opens f trues clause in
-    few-pass E u.literal (subst (λ ls. 2 ≤ length ls) (sym opens) many)
+more-other f units place clause looked many u same it = search (arith, unit-of, left-opens, few-pass)
 
 tautology-other : (f : Dqbf) (units : List Taken) (place : ℕ) (clause : List Literal)
     → Looked f units place clause → is_satisfied (taken_literals units) clause ≡ false → is_tautology clause ≡ true
     → IsNoUnit f units place
 tautology-other f units place clause looked unsatisfied both u same it =
-    let trues = taken_literals units in
-    let rest = filter (λ l. not (holds trues (opposite l))) clause in
-    let still : is_tautology rest ≡ true = tautology-stays trues clause unsatisfied ∙ both in
-    let left : left_of f trues clause ≡ u.literal ∷ [] =
-    ap (left_of f trues) (sym (unit-of f units place clause u looked same it)) ∙ it.left in
-    let whole : rest ≡ u.literal ∷ [] = sym (by rest still) ∙ left in
-    true≢false (sym still ∙ ap is_tautology whole ∙ alone-plain u.literal)
-  where
-    by : (rest : List Literal) → is_tautology rest ≡ true → reduced f rest ≡ rest
-    by rest h = ap (λ b. cond b rest (filter (stays f rest) rest)) h
+    search (arith, tautology-stays, unit-of, true≢false, alone-plain)
 
 -- where no literal is open
 pub none-stands : (f : Dqbf) (units : List Taken) (place : ℕ) (clause : List Literal) (tautology : Bool)
     → Looked f units place clause → tautology ≡ is_tautology clause
     → AreOpen f (taken_literals units) clause Nothing → IsRemainder f units place (remainder_of_none tautology)
 none-stands f units place clause true looked is open' = tautology-other f units place clause looked open'.0 (sym is)
-none-stands f units place clause false looked is open' =
-    let trues = taken_literals units in
-    let unseen : All (λ l. is_seen f (open_literals f trues clause) (variable_of l) ≡ false) clause =
-    λ k d below. ap (λ ls. is_seen f ls (variable_of (get_or clause k d))) open'.1 in
-    record {
-      clause = clause;
-      at = looked.at;
-      unsatisfied = open'.0;
-      left = left-is-open f trues clause looked.nothing open'.0 (sym is) unseen ∙ open'.1;
-    }
+none-stands f units place clause false looked is open' = search (arith, left-is-open)
 
 -- the one open literal sees a variable of the clause
 seen-other : (f : Dqbf) (units : List Taken) (place : ℕ) (clause : List Literal) (l : Literal)
@@ -123,10 +90,7 @@ seen-other f units place clause l looked seen unsatisfied open' sees u same it =
     one-of : (p : Literal → Bool) (xs : List Literal) → list_any p xs ≡ true
         → (k : Literal) × (holds xs k ≡ true) × (p k ≡ true)
     one-of p [] h = cc
-    one-of p (x ∷ xs) h = elim (or_cases (p x) (list_any p xs) h) [
-      | inl here ↦ (x, or_left (same_literal x x) (holds xs x) (same_literal-refl x), here)
-      | inr later ↦ let r = one-of p xs later in (r.0, or_right (same_literal r.0 x) (holds xs r.0) r.1, r.2)
-    ]
+    one-of p (x ∷ xs) h = search (arith, or_cases, or_left, same_literal-refl, or_right, (one-of p xs))
 
     on-opposite : (k : Literal) → is_universal f (variable_of k) ≡ true
         → is_universal f (variable_of (opposite k)) ≡ true
@@ -179,6 +143,4 @@ clause-at (c ∷ cs) (suc place) clause below is = clause-at cs place clause (om
 pub tautology-at : (tautologies : List Bool) (matrix : List (List Literal)) (place : ℕ) (clause : List Literal)
     → tautologies ≡ map is_tautology matrix → place < length matrix → clause ≡ slice_index_or matrix place []
     → slice_index_or tautologies place false ≡ is_tautology clause
-tautology-at tautologies matrix place clause are below is =
-    ap (λ xs. slice_index_or xs place false) are ∙ get_or-map is_tautology matrix place [] false below
-    ∙ ap is_tautology (sym is)
+tautology-at tautologies matrix place clause are below is = search (arith, get_or-map)

@@ -1,5 +1,5 @@
 -- What existentials depend on, by tests.
-use Rattle.std.proofs.Common.{◌≡◌, ℕ, zero, suc, ◌+◌, ◌<◌, ◌≤◌, ◌==◌, ◌↔◌, nat_lt, max, Bool, true, false, not, cond, ◌||◌, List, [], ◌∷◌, map, take, length, get_or, Option, Some, None, IsSome, IfSome, inl, inr, refl, sym, ◌∙◌, ap, arith}
+use Rattle.std.proofs.Common.{◌≡◌, ℕ, zero, suc, ◌+◌, ◌<◌, ◌≤◌, ◌==◌, ◌↔◌, nat_lt, max, Bool, true, false, cond, ◌||◌, List, [], ◌∷◌, map, take, length, get_or, Option, Some, None, IsSome, IfSome, refl, sym, ◌∙◌, ap, arith}
 use Rattle.std.specs.Prelude.{IsTrue}
 use Rattle.std.specs.List.{All, Contains, list_any, filter, position_or_len}
 use Rattle.std.proofs.lemmas.Bool.{lt-ltb, ltb-true, or_left, or_right, or_cases, cases_Bool, cases_lt}
@@ -9,8 +9,8 @@ use Rattle.number_tables.specs.Numbers.{has_number}
 use Rattle.dq_lits.specs.Literal.{Literal, variable_of}
 use Rattle.dq_lits.specs.Formula.{Existential, Dqbf, is_universal}
 use Rattle.dq_prep.specs.declared.sights.Sight.{Sight}
-use Rattle.dq_prep.specs.Reduction.{sees_in, stays, is_seen}
-use Rattle.dq_prep.specs.Sights.{is_within, keeps, AreWithin}
+use Rattle.dq_prep.specs.Reduction.{sees_in, stays}
+use Rattle.dq_prep.specs.Sights.{keeps, AreWithin}
 
 pub same-test : (a b : Bool) → (a ≡ true → b ≡ true) → (b ≡ true → a ≡ true) → a ≡ b
 same-test true b f g = sym (f refl)
@@ -20,45 +20,20 @@ same-test false false f g = refl
 pub sees-by : (x : ℕ) (o : Option Existential) (r : Bool) → IsSome o
     → IfSome o (λ e. IsTrue r ↔ Contains e.sees x) → r ≡ sees_in x o
 sees-by x None r some iff = cc
-sees-by x (Some e) r some iff =
-    same-test r (list_any (λ z. z == x) e.sees) (λ h. tested_inside e.sees x (iff.0 h))
-    (λ h. iff.1 (contains_tested e.sees x h))
+sees-by x (Some e) r some iff = search (arith, same-test, tested_inside, contains_tested)
 
 later-both : (p n : ℕ) → nat_lt p n ≡ nat_lt (1 + p) (suc n)
-later-both p n =
-    same-test (nat_lt p n) (nat_lt (1 + p) (suc n)) (λ h. lt-ltb (1 + p) (suc n) (omega (arith, ltb-true p n h)))
-    (λ h. lt-ltb p n (omega (arith, ltb-true (1 + p) (suc n) h)))
+later-both p n = search (arith, same-test, nat_lt, lt-ltb, ltb-true)
 
 -- the universals before a place are those that stand first
 taken-within : (us : List ℕ) (n x : ℕ) → n ≤ length us
     → list_any (λ z. z == x) (take n us) ≡ nat_lt (position_or_len (λ u. u == x) us) n
-taken-within us zero x few = closed (position_or_len (λ u. u == x) us)
-  where
-    closed : (p : ℕ) → false ≡ nat_lt p 0
-    closed p = grind arith
+taken-within us zero x few = search (arith, nat_lt)
 taken-within [] (suc n) x few = absurd (omega arith)
-taken-within (u ∷ us) (suc n) x few = by (u == x) (taken-within us n x (omega arith))
-  where
-    by : (b : Bool) → list_any (λ z. z == x) (take n us) ≡ nat_lt (position_or_len (λ z. z == x) us) n
-        → (b || list_any (λ z. z == x) (take n us)) ≡ nat_lt (cond (not b) (1 + position_or_len (λ z. z == x) us) 0)
-        (suc n)
-    by true h = sym (lt-ltb 0 (suc n) (omega arith))
-    by false h = h ∙ later-both (position_or_len (λ z. z == x) us) n
+taken-within (u ∷ us) (suc n) x few = search (arith, nat_lt, lt-ltb, later-both, (taken-within us n x))
 
 before-either : (p a n : ℕ) → nat_lt p (max a n) ≡ (nat_lt p a || nat_lt p n)
-before-either p a n = same-test (nat_lt p (max a n)) (nat_lt p a || nat_lt p n) there back
-  where
-    there : nat_lt p (max a n) ≡ true → (nat_lt p a || nat_lt p n) ≡ true
-    there h = elim (cases_lt p a) [
-      | inl before ↦ or_left (nat_lt p a) (nat_lt p n) (lt-ltb p a before)
-      | inr behind ↦ or_right (nat_lt p a) (nat_lt p n) (lt-ltb p n (omega (arith, ltb-true p (max a n) h)))
-    ]
-
-    back : (nat_lt p a || nat_lt p n) ≡ true → nat_lt p (max a n) ≡ true
-    back h = elim (or_cases (nat_lt p a) (nat_lt p n) h) [
-      | inl before ↦ lt-ltb p (max a n) (omega (arith, ltb-true p a before))
-      | inr before ↦ lt-ltb p (max a n) (omega (arith, ltb-true p n before))
-    ]
+before-either p a n = search (arith, same-test, nat_lt, cases_lt, or_left, lt-ltb, or_right, ltb-true, or_cases)
 
 -- the first universals are added
 pub firsts-added : (us : List ℕ) (a n : ℕ) (other : Bool) (x : ℕ) (o : Option Existential) → n ≤ length us
@@ -66,40 +41,15 @@ pub firsts-added : (us : List ℕ) (a n : ℕ) (other : Bool) (x : ℕ) (o : Opt
     → (nat_lt (position_or_len (λ u. u == x) us) (max a n) || other)
     ≡ ((nat_lt (position_or_len (λ u. u == x) us) a || other) || sees_in x o)
 firsts-added us a n other x None few some is = cc
-firsts-added us a n other x (Some e) few some is =
-    let p = position_or_len (λ u. u == x) us in
-    ap (λ b. b || other) (before-either p a n)
-    ∙ turned (nat_lt p a) (nat_lt p n) other
-    ∙ ap (λ b. (nat_lt p a || other) || b) (sym (taken-within us n x few) ∙ ap (list_any (λ z. z == x)) is)
-  where
-    turned : (a b c : Bool) → ((a || b) || c) ≡ ((a || c) || b)
-    turned true b c = refl
-    turned false true true = refl
-    turned false true false = refl
-    turned false false true = refl
-    turned false false false = refl
+firsts-added us a n other x (Some e) few some is = search (arith, before-either, nat_lt, taken-within)
 
 -- a universal literal's variable is one of the clause's universals
 listed-universal : (p : Literal → Bool) (clause : List Literal) (k : ℕ) (d : Literal) → k < length clause
     → p (get_or clause k d) ≡ true
     → has_number (map variable_of (filter p clause)) (variable_of (get_or clause k d)) ≡ true
 listed-universal p [] k d below is = absurd (omega arith)
-listed-universal p (l ∷ ls) zero d below is =
-    ap (λ b. has_number (map variable_of (cond b (l ∷ filter p ls) (filter p ls))) (variable_of l)) is
-    ∙ or_left (variable_of l == variable_of l) (has_number (map variable_of (filter p ls)) (variable_of l))
-    (eq-self (variable_of l))
-  where
-    eq-self : (n : ℕ) → (n == n) ≡ true
-    eq-self n = grind arith
-listed-universal p (l ∷ ls) (suc k) d below is = more (p l) (listed-universal p ls k d (omega arith) is)
-  where
-    v : ℕ
-    v = variable_of (get_or ls k d)
-
-    more : (b : Bool) → has_number (map variable_of (filter p ls)) v ≡ true
-        → has_number (map variable_of (cond b (l ∷ filter p ls) (filter p ls))) v ≡ true
-    more true h = or_right (variable_of l == v) (has_number (map variable_of (filter p ls)) v) h
-    more false h = h
+listed-universal p (l ∷ ls) zero d below is = search (arith, or_left)
+listed-universal p (l ∷ ls) (suc k) d below is = search (arith, or_right, (listed-universal p ls k d))
 
 pub filters-agree : {X : Type 0} (p q : X → Bool) (xs : List X) → All (λ l. p l ≡ q l) xs → filter p xs ≡ filter q xs
 filters-agree {X} p q [] all = refl
@@ -112,13 +62,4 @@ filters-agree {X} p q (x ∷ xs) all =
 pub keeps-stays : (f : Dqbf) (s : Sight) (clause : List Literal)
     → AreWithin f s clause (map variable_of (filter (λ l. is_universal f (variable_of l)) clause))
     → filter (keeps f s) clause ≡ filter (stays f clause) clause
-keeps-stays f s clause within = filters-agree (keeps f s) (stays f clause) clause (λ k d below.
-    let l = get_or clause k d in
-    let v = variable_of l in
-    elim (cases_Bool (is_universal f v)) [
-      | inl universal ↦
-          ap (λ b. not (is_universal f v) || b)
-          (within v (listed-universal (λ q. is_universal f (variable_of q)) clause k d below universal))
-      | inr other ↦
-          ap (λ b. not b || is_within f s v) other ∙ ap (λ b. not b || is_seen f clause v) (sym other)
-    ])
+keeps-stays f s clause within = search (arith, filters-agree, cases_Bool, listed-universal)

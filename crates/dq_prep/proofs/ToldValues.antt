@@ -1,5 +1,5 @@
 -- What a unit's taking changes.
-use Rattle.std.proofs.Common.{◌≡◌, ◌≢◌, ℕ, ◌<◌, ◌==◌, Bool, true, false, not, cond, ◌||◌, inl, inr, List, [], ◌∷◌, length, get_or, set, Some, refl, sym, ◌∙◌, ap, subst, arith}
+use Rattle.std.proofs.Common.{◌≡◌, ◌≢◌, ℕ, ◌<◌, ◌==◌, Bool, true, false, not, cond, inl, inr, List, [], ◌∷◌, length, get_or, set, Some, refl, sym, ◌∙◌, ap, subst, arith}
 use Rattle.std.specs.Prelude.{slice_set}
 use Rattle.std.specs.List.{All, Contains, filter, position}
 use Rattle.std.proofs.lemmas.Bool.{true≢false, eqb-true, ne_eqb, or_left, cases_eq, cond-true, cond-false}
@@ -8,7 +8,7 @@ use Rattle.std.proofs.lemmas.List.Elements.{All-filter, filter_passes, Contains-
 use Rattle.std.proofs.lemmas.List.Quantifiers.{position-Some}
 use Rattle.list_laws.proofs.Members.{tested_inside}
 use Rattle.list_laws.proofs.Truths.{not_true}
-use Rattle.dq_lits.specs.Literal.{Literal, positive, negative, variable_of, opposite, is_negative, same_literal}
+use Rattle.dq_lits.specs.Literal.{Literal, positive, negative, variable_of, opposite, is_negative}
 use Rattle.dq_lits.specs.Formula.{Dqbf, IsWellFormed}
 use Rattle.dq_lits.specs.Derivation.{holds, is_tautology}
 use Rattle.dq_lits.proofs.SignedLiterals.{same_literal-refl, opposite-opposite, one_variable}
@@ -16,8 +16,7 @@ use Rattle.dq_formula.specs.Prefix.{existential_variables}
 use Rattle.dq_lits.specs.declared.truth_values.TruthValue.{TruthValue}
 use Rattle.dq_lits.specs.declared.truth_values.TruthValue.TheVariants.{True as TrueValue, False as FalseValue}
 use Rattle.dq_prep.specs.declared.traces.Taken.{Taken}
-use Rattle.dq_prep.specs.declared.roles.Role.{Role}
-use Rattle.dq_prep.specs.declared.roles.Role.TheVariants.{True, False, Open}
+use Rattle.dq_prep.specs.declared.roles.Role.TheVariants.{True, False}
 use Rattle.dq_prep.specs.Reduction.{stays}
 use Rattle.dq_prep.specs.Units.{taken_literals, without_false, left_of, IsUnit}
 use Rattle.dq_prep.specs.Roles.{role_by, truth_role}
@@ -82,49 +81,23 @@ on-variable : (trues : List Literal) (k l : Literal) → variable_of k ≡ varia
     → holds trues (opposite l) ≡ false
     → role_by (value_of l) (is_negative k) ≡ truth_role (l ∷ trues) k
 on-variable trues k l same fresh =
-    let Told : Literal → Type 0 = λ q. role_by (value_of l) (is_negative q) ≡ truth_role (l ∷ trues) q in
-    elim (one_variable k l same) [
-      | inl is ↦ subst Told (sym is) own
-      | inr is ↦ subst Told (sym is) other
-    ]
-  where
-    rest : Literal → Role
-    rest q = cond (holds (l ∷ trues) (opposite q)) False Open
-
-    itself : holds (l ∷ trues) l ≡ true
-    itself = or_left (same_literal l l) (holds trues l) (same_literal-refl l)
-
-    own : role_by (value_of l) (is_negative l) ≡ truth_role (l ∷ trues) l
-    own = own-role l ∙ sym (cond-true (holds (l ∷ trues) l) True (rest l) itself)
-
-    absent : holds (l ∷ trues) (opposite l) ≡ false
-    absent = ap (λ b. b || holds trues (opposite l)) (not-same l) ∙ fresh
-
-    other : role_by (value_of l) (is_negative (opposite l)) ≡ truth_role (l ∷ trues) (opposite l)
-    other =
-        other-role l
-        ∙ sym (cond-true (holds (l ∷ trues) (opposite (opposite l))) False Open
-        (ap (holds (l ∷ trues)) (opposite-opposite l) ∙ itself))
-        ∙ sym (cond-false (holds (l ∷ trues) (opposite l)) True (rest (opposite l)) absent)
+    search (
+      arith,
+      one_variable,
+      or_left,
+      same_literal-refl,
+      own-role,
+      cond-true,
+      not-same,
+      other-role,
+      opposite-opposite,
+      cond-false,
+    )
 
 -- a literal of another variable is as it was
 off-variable : (trues : List Literal) (k l : Literal) → variable_of k ≢ variable_of l
     → truth_role (l ∷ trues) k ≡ truth_role trues k
-off-variable trues k l apart =
-    let One : Bool → Bool → Role =
-    λ a b. cond (a || holds trues k) True (cond (b || holds trues (opposite k)) False Open) in
-    ap (λ a. One a (same_literal (opposite k) l)) (other k l apart)
-    ∙ ap (One false) (other (opposite k) l (turned k apart))
-  where
-    other : (q l : Literal) → variable_of q ≢ variable_of l → same_literal q l ≡ false
-    other (positive v) (positive w) h = ne_eqb v w h
-    other (positive v) (negative w) h = refl
-    other (negative v) (positive w) h = refl
-    other (negative v) (negative w) h = ne_eqb v w h
-
-    turned : (q : Literal) → variable_of q ≢ variable_of l → variable_of (opposite q) ≢ variable_of l
-    turned (positive v) h = h
-    turned (negative v) h = h
+off-variable trues k l apart = search (arith, ne_eqb)
 
 -- one more literal, with the value of its existential
 pub values-told : (f : Dqbf) (trues : List Literal) (values : List TruthValue) (l : Literal) (place : ℕ)

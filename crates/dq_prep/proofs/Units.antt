@@ -1,6 +1,6 @@
 -- Units that are taken are true wherever a solving choice is followed, and what is left of a
 -- formula is true where it is.
-use Rattle.std.proofs.Common.{◌≡◌, ◌≢◌, ℕ, zero, suc, ◌<◌, ◌==◌, Bool, true, false, not, cond, inl, inr, List, [], ◌∷◌, length, get_or, slice_get, Some, refl, sym, ◌∙◌, ap, arith}
+use Rattle.std.proofs.Common.{◌≡◌, ◌≢◌, ℕ, zero, suc, ◌<◌, ◌==◌, Bool, true, false, not, cond, inl, inr, List, [], ◌∷◌, length, get_or, slice_get, Some, sym, ◌∙◌, ap, arith}
 use Rattle.std.specs.List.{All, Contains, filter}
 use Rattle.std.proofs.lemmas.Bool.{true≢false, eq-eqb, ne_eqb, cond-true, cond-false, or_cases, or_left, or_right}
 use Rattle.std.proofs.lemmas.List.Elements.{All-filter}
@@ -29,29 +29,18 @@ AllTrue m (l ∷ ls) = (literal_true m l ≡ true) × AllTrue m ls
 without_false-true : (m : Assignment) (trues clause : List Literal) → AllTrue m trues → clause_true m clause ≡ true
     → clause_true m (without_false trues clause) ≡ true
 without_false-true m trues clause all truth =
-    any-kept (literal_true m) (literal_true m) (λ l. not (holds trues (opposite l))) clause (λ k d below here.
-    let l = get_or clause k d in
-    elim (true-or-false (holds trues (opposite l))) [
-      | inl gone ↦ absurd (true≢false (sym here ∙ opposite-false m l (holds-true m trues (opposite l) all gone)))
-      | inr stays' ↦ (ap not stays', here)
-    ]) truth
+    search (arith, any-kept, true-or-false, true≢false, opposite-false, holds-true)
 
 pub satisfied-true : (m : Assignment) (trues clause : List Literal) → AllTrue m trues
     → is_satisfied trues clause ≡ true → clause_true m clause ≡ true
 satisfied-true m trues [] all h = h
 satisfied-true m trues (l ∷ ls) all h =
-    elim (or_cases (holds trues l) (is_satisfied trues ls) h) [
-      | inl here ↦ or_left (literal_true m l) (clause_true m ls) (holds-true m trues l all here)
-      | inr later ↦ or_right (literal_true m l) (clause_true m ls) (satisfied-true m trues ls all later)
-    ]
+    search (arith, or_cases, or_left, holds-true, or_right, (satisfied-true m trues ls all))
 
 one-true : (m : Assignment) (b : Bool) (l : Literal) (part whole : List Literal)
     → (clause_true m part ≡ true → clause_true m whole ≡ true) →
     clause_true m (cond b (l ∷ part) part) ≡ true → clause_true m (l ∷ whole) ≡ true
-one-true m true l part whole step h = elim (or_cases (literal_true m l) (clause_true m part) h) [
-  | inl here ↦ or_left (literal_true m l) (clause_true m whole) here
-  | inr later ↦ or_right (literal_true m l) (clause_true m whole) (step later)
-]
+one-true m true l part whole step h = search (arith, or_cases, or_left, or_right)
 one-true m false l part whole step h = or_right (literal_true m l) (clause_true m whole) (step h)
 
 -- a part of a clause is true only where the clause is
@@ -86,19 +75,12 @@ pub left-follows : (s : Setting) (trues clause : List Literal)
     ((m : Assignment) → Follows s.f s.choice m → AllTrue m trues) →
     ((m : Assignment) → Follows s.f s.choice m → clause_true m clause ≡ true) →
     (m : Assignment) → Follows s.f s.choice m → clause_true m (left_of s.f trues clause) ≡ true
-left-follows s trues clause bound all truth m follows =
-    reduced-true s.extends s.f s.lawful s.choice (without_false trues clause)
-    (All-filter (λ l. not (holds trues (opposite l))) (λ l. Contains (declared s.f) (variable_of l)) clause bound)
-    (λ n too. without_false-true n trues clause (all n too) (truth n too))
-    m follows
+left-follows s trues clause bound all truth m follows = search (arith, reduced-true, All-filter, without_false-true)
 
 pub get-at : (xs : List (List Literal)) (place : ℕ) (clause : List Literal) → slice_get xs place ≡ Some clause
     → (place < length xs) × ((d : List Literal) → get_or xs place d ≡ clause)
 get-at [] place clause h = cc
-get-at (x ∷ xs) zero clause h = (omega arith, λ d. by h)
-  where
-    by : Some x ≡ Some clause → x ≡ clause
-    by e = cc
+get-at (x ∷ xs) zero clause h = search arith
 get-at (x ∷ xs) (suc place) clause h = let at = get-at xs place clause h in (omega (arith, at.0), at.1)
 
 pub units-true : (s : Setting) (units : List Taken) → AreUnits s.f units → Solves s.choice s.f →
@@ -117,35 +99,20 @@ units-true s (u ∷ earlier) are solves m follows =
 
 pub left-holds : (f : Dqbf) (l : Literal) (trues clause : List Literal) → holds (left_of f trues clause) l ≡ true
     → holds clause l ≡ true
-left-holds f l trues clause h =
-    holds_of_filter l (λ k. not (holds trues (opposite k))) clause (by (is_tautology (without_false trues clause)) h)
-  where
-    rest : List Literal
-    rest = without_false trues clause
-
-    by : (b : Bool) → holds (cond b rest (filter (stays f rest) rest)) l ≡ true → holds rest l ≡ true
-    by true h = h
-    by false h = holds_of_filter l (stays f rest) rest h
+left-holds f l trues clause h = search (arith, holds_of_filter)
 
 -- a clause with a literal that was taken is satisfied
 pub satisfied-by : (trues clause : List Literal) (l : Literal) → holds clause l ≡ true → holds trues l ≡ true
     → is_satisfied trues clause ≡ true
 satisfied-by trues [] l here taken = here
 satisfied-by trues (k ∷ ks) l here taken =
-    elim (or_cases (same_literal l k) (holds ks l) here) [
-      | inl same ↦ or_left (holds trues k) (is_satisfied trues ks)
-          (ap (holds trues) (sym (same_literal-sound l k same)) ∙ taken)
-      | inr later ↦ or_right (holds trues k) (is_satisfied trues ks) (satisfied-by trues ks l later taken)
-    ]
+    search (arith, or_cases, or_left, same_literal-sound, or_right, (satisfied-by trues ks l))
 
 pub taken-holds : (units : List Taken) (k : ℕ) (d : Taken) → k < length units
     → holds (taken_literals units) (get_or units k d).literal ≡ true
 taken-holds [] k d below = absurd (omega arith)
-taken-holds (u ∷ us) zero d below =
-    or_left (same_literal u.literal u.literal) (holds (taken_literals us) u.literal) (same_literal-refl u.literal)
-taken-holds (u ∷ us) (suc k) d below =
-    let l = (get_or us k d).literal in
-    or_right (same_literal l u.literal) (holds (taken_literals us) l) (taken-holds us k d (omega arith))
+taken-holds (u ∷ us) zero d below = search (arith, or_left, same_literal-refl)
+taken-holds (u ∷ us) (suc k) d below = search (arith, or_right, (taken-holds us k d))
 
 -- the clause of a unit
 pub unit-clause : (f : Dqbf) (units : List Taken) (k : ℕ) (d : Taken) → AreUnits f units → k < length units →
@@ -174,8 +141,7 @@ unit-apart f u us k d are inside e =
 pub unit-taken : (f : Dqbf) (units : List Taken) (k : ℕ) (d : Taken) → AreUnits f units → k < length units
     → taken_at (get_or units k d).place units ≡ Some ((get_or units k d).literal ∷ [])
 unit-taken f [] k d are below = absurd (omega arith)
-unit-taken f (u ∷ us) zero d are below =
-    cond-true (u.place == u.place) (Some (u.literal ∷ [])) (taken_at u.place us) (eq-eqb u.place u.place refl)
+unit-taken f (u ∷ us) zero d are below = search (arith, cond-true, eq-eqb)
 unit-taken f (u ∷ us) (suc k) d are below =
     let inside : k < length us = omega arith in
     let v = get_or us k d in

@@ -1,5 +1,5 @@
 -- What is left of a well-formed formula is well formed.
-use Rattle.std.proofs.Common.{◌≡◌, ◌<◌, ◌≤◌, ◌==◌, ℕ, suc, Bool, true, false, cond, not, List, [], ◌∷◌, length, get_or, sym, subst}
+use Rattle.std.proofs.Common.{◌≡◌, ◌<◌, ◌≤◌, ◌==◌, ℕ, suc, Bool, true, false, cond, not, List, [], ◌∷◌, length, get_or, sym, subst, arith}
 use Rattle.std.specs.List.{All, AllByRecursion, Contains, filter}
 use Rattle.std.proofs.lemmas.List.Elements.{All-head, All-tail, All-filter, All-contains, All-from_recursion}
 use Rattle.dq_lits.specs.Literal.{Literal, variable_of, opposite}
@@ -56,15 +56,7 @@ kept-bound f units well are place (clause ∷ clauses) bound =
     (kept-bound f units well are (suc place) clauses (All-tail Bound clause clauses bound))
 
 pub well-formed : SimplifiedFormulasAreWellFormed
-well-formed f units well are = record {
-  prefix = record {
-    in_range = well.prefix.in_range;
-    declared_once = well.prefix.declared_once;
-    sees_universals = well.prefix.sees_universals;
-  };
-  bound = All-from_recursion (All (IsBound f)) (kept_clauses f units 0 f.matrix)
-      (kept-bound f units well are 0 f.matrix well.bound);
-}
+well-formed f units well are = search (arith, All-from_recursion, kept-bound)
 
 -- a literal of a clause of the matrix
 pub bound-at : (f : Dqbf) (place i : ℕ) (clause : List Literal) (l : Literal) → IsWellFormed f
@@ -75,5 +67,4 @@ bound-at f place i clause l well within is below at =
     subst (IsBound f) (sym at) (all i l below)
 
 pub bound-small : (f : Dqbf) (l : Literal) → IsWellFormed f → IsBound f l → variable_of l ≤ f.variables
-bound-small f l well bound =
-    (All-contains (λ v. (1 ≤ v) × (v ≤ f.variables)) (declared f) (variable_of l) well.prefix.in_range bound).1
+bound-small f l well bound = search (arith, All-contains)

@@ -1,5 +1,5 @@
 -- From what is due to what is shown over a file that is told, and of a planted formula.
-use Rattle.std.proofs.Common.{◌≡◌, inl, inr, ℕ, ◌<◌, ◌≤◌, true, List, length, Option, Result, Ok, Err, sym, ap, ◌∙◌, subst, arith}
+use Rattle.std.proofs.Common.{◌≡◌, inl, inr, ℕ, ◌≤◌, true, List, length, Option, Result, Ok, Err, sym, ap, ◌∙◌, subst, arith}
 use Rattle.std.specs.Prelude.{IfOk}
 use Rattle.dq_io.specs.Causes.{Rose}
 use Rattle.dq_io.specs.Files.{Holding, Holds}

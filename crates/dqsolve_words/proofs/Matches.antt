@@ -10,7 +10,7 @@ use Rattle.clap.specs.Walk.{Row, Text, first_of, rows_of}
 use Rattle.clap.specs.declared.parser.matches.Found.{Found}
 use Rattle.clap.specs.declared.error.kind.ErrorKind.{ErrorKind}
 use Rattle.clap.proofs.WalkLemmas.{first_value-rows}
-use Rattle.dqsolve_words.specs.Command.{Options, Search, Circuits, Comparison, Defining, Session, Command, solve_in, circuits_in, pec_in, defined_in, session_in, steps_in, number_in, has_flag, options_in, least_steps, most_steps, default_steps}
+use Rattle.dqsolve_words.specs.Command.{Options, Search, Circuits, Comparison, Defining, Session, Command, solve_in, circuits_in, defined_in, session_in, steps_in, number_in, has_flag, options_in, least_steps, most_steps, default_steps}
 use Rattle.dqsolve_words.specs.Parsed.{command_of, command_in, given_in, without_fault, solver_app}
 
 -- what a getter finds is the first value in the rows
@@ -92,15 +92,6 @@ circuits_found f spec imp is_spec is_imp =
     ∙ ap (λ (b : Option Text). option_and_then (λ (s : Text). option_map (λ (i : Text). pair s i) b)
     (first_of (codes "SPEC") (rows_of f)))
     (value_found f (codes "IMPL") imp is_imp)
-
-pub comparison_found : (f : Found) (circuits : Option Circuits) (steps : Option ℕ) →
-    circuits ≡ circuits_in (given_in (rows_of f)) → steps ≡ steps_in (given_in (rows_of f))
-    → option_and_then (λ (two : Circuits). option_map (λ (n : ℕ). comparison n two) steps) circuits ≡ pec_in (given_in (rows_of f))
-comparison_found f circuits steps is_circuits is_steps =
-    ap (λ (a : Option Circuits). option_and_then (λ (two : Circuits). option_map (λ (n : ℕ). comparison n two) steps) a)
-    is_circuits
-    ∙ ap (λ (b : Option ℕ). option_and_then (λ (two : Circuits). option_map (λ (n : ℕ). comparison n two) b)
-    (circuits_in (given_in (rows_of f)))) is_steps
 
 -- what a parse without fault gives
 pub parse_gives : (a : App) (words : List Text) (sub : Option (Text × List Row)) → a ≡ solver_app →

@@ -51,10 +51,6 @@ pub fails_first : (a b : Kinds) → Fails a → Fails (or_else a b)
 fails_first [] b bad = absurd (bad refl)
 fails_first (k ∷ ks) b bad = λ none. cc
 
-pub fails_second : (a b : Kinds) → Fails b → Fails (or_else a b)
-fails_second [] b bad = bad
-fails_second (k ∷ ks) b bad = λ none. cc
-
 pub fails_as : (a b : Kinds) → a ≡ b → Fails b → Fails a
 fails_as a b same bad = λ none. bad (sym same ∙ none)
 

@@ -6,7 +6,7 @@ use Rattle.std.proofs.lemmas.List.{length-map, map-append}
 use Rattle.std.proofs.Math.Seq.{drop-append_seam}
 use Rattle.circuit_plain.specs.Netlist.{Netlist}
 use Rattle.circuit_plain.specs.declared.circuits.Gate.{Gate as ReadGate}
-use Rattle.dq_text.specs.Line.{TextLine, IsFirstLine, extend_line, line_tokens, lines_from}
+use Rattle.dq_text.specs.Line.{TextLine, IsFirstLine, extend_line, lines_from}
 use Rattle.dq_text.specs.Number.{number_of}
 use Rattle.dq_text.specs.declared.numbers.Number.{Number}
 use Rattle.dq_text.specs.declared.numbers.Number.TheVariants.{Int}
@@ -200,17 +200,7 @@ pub body_lines : (ls : List TextLine) (ns : List (List ℕ)) → map line_number
 body_lines [] [] h = tt
 body_lines [] (n ∷ ns) h = cc
 body_lines (l ∷ ls) [] h = cc
-body_lines (l ∷ ls) (n ∷ ns) h = (
-  subst (λ ws. AllZip Spells ws (map natural n)) (sym (words_are l.text))
-      (numbers_spelled (line_tokens l.text) n (head (line_numbers l) (naturals n) (map line_numbers ls) (map naturals ns) h)),
-  body_lines ls ns (tail (line_numbers l) (naturals n) (map line_numbers ls) (map naturals ns) h),
-)
-  where
-    head : (x y : List Number) (xs ys : List (List Number)) → x ∷ xs ≡ y ∷ ys → x ≡ y
-    head x y xs ys e = cc
-
-    tail : (x y : List Number) (xs ys : List (List Number)) → x ∷ xs ≡ y ∷ ys → xs ≡ ys
-    tail x y xs ys e = cc
+body_lines (l ∷ ls) (n ∷ ns) h = search (arith, words_are, numbers_spelled, (body_lines ls ns))
 
 pub body_spelled : (ls : List TextLine) (net : Netlist) → map line_numbers ls ≡ netlist_numbers net →
     AllZip (λ line row. AllZip Spells (words line) row) (texts ls) (rows (page_circuit net))

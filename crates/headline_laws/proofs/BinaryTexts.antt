@@ -48,8 +48,7 @@ gate_range : (v : ℕ) (code : List ℕ) (gates : List ReadGate) → SpellsGates
     map (λ (g : Gate). g.variable) (map page_gate gates) ≡ range_with_len v (length gates)
 gate_range v code [] s = refl
 gate_range v code (g ∷ gates) (own, others, parts, spelled, rest) =
-    ap (λ w. w ∷ map (λ (h : Gate). h.variable) (map page_gate gates)) spelled.variable
-    ∙ ap (λ ws. v ∷ ws) (gate_range (v + 1) others gates rest)
+    search (arith, (gate_range (v + 1) others gates rest))
 
 -- lines with their ends
 abbrev with_feeds : List (List ℕ) → List ℕ
@@ -93,19 +92,11 @@ record HasOutputs (bytes : List ℕ) (outputs : List ℕ) (behind : List ℕ) : 
   pub empty : bytes ≡ [] → (own ≡ []) × (behind ≡ [])
 
 some_lines : (number : ℕ) (bytes : List ℕ) (l : TextLine) (ls : List TextLine) → lines_from number bytes ≡ l ∷ ls → bytes ≢ []
-some_lines number bytes l ls h none = never (sym (ap (lines_from number) none) ∙ h) where
-  never : [] ≡ l ∷ ls → ⊥
-  never e = cc
+some_lines number bytes l ls h none = search arith
 
 outputs_there : (number : ℕ) (bytes : List ℕ) (outputs : List ℕ) (behind : List ℕ) → SpellsOutputs number bytes outputs behind →
     HasOutputs bytes outputs behind
-outputs_there number bytes [] behind is = record {
-  own = [];
-  before = inl is;
-  one_line = tt;
-  spelled = tt;
-  empty = λ none. (refl, sym is ∙ none);
-}
+outputs_there number bytes [] behind is = search arith
 outputs_there number bytes (l ∷ outputs) behind (first, rest) =
     let more = outputs_there (number + 1) first.line.behind outputs behind rest in
     let cut = split number bytes first.line first.others first.lines in

@@ -121,11 +121,7 @@ module _ (net : Netlist) where
 
   rank_stands : (k v : ℕ) → level k v ≡ true → level (rank_to k v) v ≡ true
   rank_stands zero v h = h
-  rank_stands (suc k) v h = by (level k v) refl (rank_stands k v) where
-    by : (b : Bool) → level k v ≡ b → (level k v ≡ true → level (rank_to k v) v ≡ true) →
-        level (cond b (rank_to k v) (suc k)) v ≡ true
-    by true is below = below is
-    by false is below = h
+  rank_stands (suc k) v h = search (arith, (rank_stands k v))
 
   rank_first : (k v n : ℕ) → n < rank_to k v → level n v ≡ false
   rank_first zero v n less = absurd (omega (arith, less))
@@ -141,21 +137,7 @@ module _ (net : Netlist) where
 module _ (net : Netlist) (kept : IsNetlist net) where
   -- a gate's variable is no leaf
   no_leaf : (g : ReadGate) → Contains net.gates g → is_leaf net g.variable ≡ false
-  no_leaf g there = by (is_leaf net g.variable) refl where
-    variable_fits : (1 ≤ g.variable)
-    variable_fits = subst (λ (h : ReadGate). 1 ≤ h.variable) there.2 (kept.gates_fit there.0 g there.1).variable.0
-
-    apart : Contains net.inputs g.variable → ⊥
-    apart one =
-        kept.apart one.0 g.variable one.1 there.0 g there.1
-        (one.2 ∙ ap (λ (h : ReadGate). h.variable) (sym there.2))
-
-    by : (b : Bool) → is_leaf net g.variable ≡ b → b ≡ false
-    by false is = refl
-    by true is = absurd (elim (or_cases (g.variable == 0) (among net.inputs g.variable) is) [
-      | inl zero_there ↦ (let e = eqb-true g.variable 0 zero_there in omega (arith, e, variable_fits))
-      | inr input_there ↦ apart (contains_tested net.inputs g.variable input_there)
-    ])
+  no_leaf g there = search (arith, or_cases, eqb-true, contains_tested)
 
   -- its sides stand at an earlier level
   sides_earlier : (g : ReadGate) → Contains net.gates g → (n : ℕ) → level net n g.variable ≡ false →
@@ -176,12 +158,7 @@ module _ (net : Netlist) (kept : IsNetlist net) where
       last true b is h = cc
 
   rank_below : (k n v : ℕ) → level net n v ≡ true → rank_to net k v ≤ n
-  rank_below k n v at = by (cases_lt n (rank_to net k v)) where
-    by : (n < rank_to net k v) ⊎ (rank_to net k v ≤ n) → rank_to net k v ≤ n
-    by (inl less) = absurd (true_false (sym at ∙ rank_first net k v n less)) where
-      true_false : true ≡ false → ⊥
-      true_false e = cc
-    by (inr low) = low
+  rank_below k n v at = search (arith, cases_lt, rank_first)
 
   ranked : (k : ℕ) (g : ReadGate) → Contains net.gates g → level net k g.variable ≡ true →
       (rank_to net k (g.left / 2) < rank_to net k g.variable) × (rank_to net k (g.right / 2) < rank_to net k g.variable)
@@ -240,10 +217,8 @@ module _ (net : Netlist) (kept : IsNetlist net) where
 
   contains_left : (xs ys : List ℕ) (v : ℕ) → Contains xs v → Contains (xs ++ ys) v
   contains_left [] ys v (k, below, is) = absurd (omega (arith, below))
-  contains_left (x ∷ xs) ys v there = elim (contains_cases x v xs there) [
-    | inl here ↦ subst (Contains (x ∷ (xs ++ ys))) here (contains_first x (xs ++ ys))
-    | inr later ↦ contains_later x v (xs ++ ys) (contains_left xs ys v later)
-  ]
+  contains_left (x ∷ xs) ys v there =
+      search (arith, contains_cases, contains_first, contains_later, (contains_left xs ys v))
 
   contains_right : (xs ys : List ℕ) (v : ℕ) → Contains ys v → Contains (xs ++ ys) v
   contains_right [] ys v there = there
@@ -252,9 +227,7 @@ module _ (net : Netlist) (kept : IsNetlist net) where
   known_meaning : (l : ℕ) → HasMeaning net l → Contains known (l / 2)
   known_meaning l (inl zero_there) = subst (Contains known) (sym zero_there) (contains_first 0 _)
   known_meaning l (inr (inl one)) = contains_later 0 (l / 2) _ (contains_left net.inputs _ (l / 2) one)
-  known_meaning l (inr (inr one)) =
-      contains_later 0 (l / 2) _ (contains_right net.inputs _ (l / 2)
-      (subst (λ vs. Contains vs (l / 2)) (sym (gate_names net.gates)) one))
+  known_meaning l (inr (inr one)) = search (arith, contains_later, contains_right, gate_names)
 
   gate_there : (g : ReadGate) (gates : List ReadGate) → Contains gates g → Contains (map variable_of_gate gates) g.variable
   gate_there g [] (k, below, is) = absurd (omega (arith, below))

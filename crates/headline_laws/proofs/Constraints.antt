@@ -1,13 +1,13 @@
 -- Clauses and XOR lines say on the page what they say to the reader.
-use Rattle.std.proofs.Common.{◌≡◌, ◌≢◌, ℕ, ◌+◌, ◌-◌, ◌^◌, ◌≤◌, ◌==◌, Bool, true, false, not, ◌||◌, ◌&&◌, cond, List, [], ◌∷◌, ◌++◌, length, map, reverse, refl, sym, ◌∙◌, ap, arith, length-append}
+use Rattle.std.proofs.Common.{◌≡◌, ◌≢◌, ℕ, ◌+◌, ◌-◌, ◌^◌, ◌≤◌, ◌==◌, Bool, true, false, ◌||◌, cond, List, [], ◌∷◌, ◌++◌, length, map, reverse, refl, sym, ◌∙◌, ap, arith, length-append}
 use Rattle.std.specs.List.{AllByRecursion, flat_map, fold, list_all, list_any, sum_by}
 use Rattle.std.proofs.lemmas.List.{length-map}
 use Rattle.std.proofs.lemmas.List.Folds.{list_any-append, list_all-append}
-use Rattle.dq_lits.specs.Literal.{Assignment, positive, negative, variable_of, same_literal, literal_true, clause_true, opposite}
+use Rattle.dq_lits.specs.Literal.{Assignment, positive, negative, variable_of, same_literal, literal_true, opposite}
 use Rattle.dq_lits.specs.Literal.{Literal as ReadLiteral}
 use Rattle.dq_lits.proofs.HeldLiterals.{any_one}
 use Rattle.dq_formula.specs.Prefix.{occurs}
-use Rattle.dq_formula.specs.Xor.{XorIsItsClauses, all_true, differ, parity_clauses, xor_clauses, xor_true}
+use Rattle.dq_formula.specs.Xor.{XorIsItsClauses, all_true, parity_clauses, xor_clauses, xor_true}
 use Rattle.dqdimacs_reader.specs.Building.{add_literal, distinct}
 use Rattle.dqdimacs_reader.specs.Grammar.{IsLawfulConstraint, AreLawfulConstraints}
 use Rattle.dqdimacs_reader.specs.Grammar.{Constraint as ReadConstraint, plain, xor as read_xor}
@@ -37,8 +37,7 @@ record AreSame (p : Literal → Bool) (q : ReadLiteral → Bool) : Type 0 where
 any_same : (p : Literal → Bool) (q : ReadLiteral → Bool) → AreSame p q → (ls : List ReadLiteral) →
     list_any p (page_literals ls) ≡ list_any q ls
 any_same p q same [] = refl
-any_same p q same (l ∷ ls) =
-    ap (λ b. b || list_any p (page_literals ls)) (same.each l) ∙ ap (λ b. q l || b) (any_same p q same ls)
+any_same p q same (l ∷ ls) = search (arith, (any_same p q same ls))
 
 -- a literal that stands there already changes no test
 added : (q : ReadLiteral → Bool) (c : List ReadLiteral) (l : ReadLiteral) →
@@ -63,10 +62,7 @@ added q c l = by (list_any (same_literal l) c) refl where
 
 any_added : (q : ReadLiteral → Bool) (ls c : List ReadLiteral) →
     list_any q (fold add_literal c ls) ≡ (list_any q c || list_any q ls)
-any_added q [] c = or_same (list_any q c) where
-  or_same : (b : Bool) → b ≡ (b || false)
-  or_same false = refl
-  or_same true = refl
+any_added q [] c = search arith
 any_added q (l ∷ ls) c =
     any_added q ls (add_literal c l)
     ∙ (ap (λ b. b || list_any q ls) (added q c l)
@@ -87,24 +83,7 @@ any_variable v (l ∷ ls) = ap (λ b. (variable_of l == v) || b) (any_variable v
 over_all : (v : ℕ) (vs : List ℕ) (cs : List (List ReadLiteral)) → AllByRecursion (λ c. variables c ≡ vs) cs → cs ≢ [] →
     occurs cs v ≡ list_any (λ x. x == v) vs
 over_all v vs [] over some = absurd (some refl)
-over_all v vs (c ∷ cs) over some = by cs (over_all v vs cs over.1) where
-  here : list_any (λ l. variable_of l == v) c ≡ list_any (λ x. x == v) vs
-  here = any_variable v c ∙ ap (list_any (λ x. x == v)) over.0
-
-  twice : (b : Bool) → (b || b) ≡ b
-  twice false = refl
-  twice true = refl
-
-  by : (ds : List (List ReadLiteral)) → (ds ≢ [] → occurs ds v ≡ list_any (λ x. x == v) vs) →
-      (list_any (λ l. variable_of l == v) c || occurs ds v) ≡ list_any (λ x. x == v) vs
-  by [] rest = or_none (list_any (λ l. variable_of l == v) c) ∙ here where
-    or_none : (b : Bool) → (b || false) ≡ b
-    or_none false = refl
-    or_none true = refl
-  by (d ∷ ds) rest =
-      ap (λ b. b || occurs (d ∷ ds) v) here
-      ∙ (ap (λ b. list_any (λ x. x == v) vs || b) (rest (λ e. cc))
-      ∙ twice (list_any (λ x. x == v) vs))
+over_all v vs (c ∷ cs) over some = search (arith, (over_all v vs cs over.1), any_variable)
 
 some_clause : (ls : List ReadLiteral) → (c : List ReadLiteral) × ((cs : List (List ReadLiteral)) × (parity_clauses true ls ≡ c ∷ cs))
 some_clause [] = ([], ([], refl))
@@ -118,74 +97,42 @@ some_clause (l ∷ before) =
     )
 
 some_xor : (ls : List ReadLiteral) → xor_clauses ls ≢ []
-some_xor ls none = absurd (apart (some_clause (reverse ls)).1.1) where
-  apart : parity_clauses true (reverse ls) ≡ (some_clause (reverse ls)).0 ∷ (some_clause (reverse ls)).1.0 → ⊥
-  apart is = cc
+some_xor ls none = search (arith, (some_clause (reverse ls)))
 
 abbrev on : ℕ → Literal → Bool
 on v l = page_variable l == v
 
 on_same : (v : ℕ) → AreSame (on v) (λ l. variable_of l == v)
-on_same v = record { each = each } where
-  each : (l : ReadLiteral) → on v (page_literal l) ≡ (variable_of l == v)
-  each (positive w) = refl
-  each (negative w) = refl
+on_same v = search arith
 
 constraint_occurs : (v : ℕ) (c : ReadConstraint) →
     occurs (clauses_of c) v ≡ list_any (on v) (literals_of (page_constraint c))
-constraint_occurs v (plain ls) =
-    or_none (list_any (λ l. variable_of l == v) (distinct ls))
-    ∙ (any_distinct (λ l. variable_of l == v) ls ∙ sym (any_same (on v) (λ l. variable_of l == v) (on_same v) ls)) where
-      or_none : (b : Bool) → (b || false) ≡ b
-      or_none false = refl
-      or_none true = refl
+constraint_occurs v (plain ls) = search (arith, any_distinct, any_same, on_same)
 constraint_occurs v (read_xor ls) =
-    over_all v (variables ls) (xor_clauses ls) (xor_over ls) (some_xor ls)
-    ∙ (sym (any_variable v ls) ∙ sym (any_same (on v) (λ l. variable_of l == v) (on_same v) ls))
+    search (arith, (over_all v), (xor_over ls), (some_xor ls), (any_variable v ls), any_same, (on_same v))
 
 pub all_occur : (v : ℕ) (cs : List ReadConstraint) →
     occurs (flat_map clauses_of cs) v ≡ list_any (λ c. list_any (on v) (literals_of c)) (page_constraints cs)
 all_occur v [] = refl
-all_occur v (c ∷ cs) =
-    list_any-append (list_any (λ l. variable_of l == v)) (clauses_of c) (flat_map clauses_of cs)
-    ∙ (ap (λ b. b || occurs (flat_map clauses_of cs) v) (constraint_occurs v c)
-    ∙ ap (λ b. list_any (on v) (literals_of (page_constraint c)) || b) (all_occur v cs))
+all_occur v (c ∷ cs) = search (arith, list_any-append, constraint_occurs, (all_occur v cs))
 
 -- their truth
 true_same : (m : Assignment) → AreSame (page_true m) (literal_true m)
-true_same m = record { each = each } where
-  each : (l : ReadLiteral) → page_true m (page_literal l) ≡ literal_true m l
-  each (positive v) = refl
-  each (negative v) = refl
+true_same m = search arith
 
 odd_same : (m : Assignment) (ls : List ReadLiteral) → odd_true m (page_literals ls) ≡ xor_true m ls
 odd_same m [] = refl
-odd_same m (l ∷ ls) =
-    ap (λ b. cond b (not (odd_true m (page_literals ls))) (odd_true m (page_literals ls))) ((true_same m).each l)
-    ∙ (ap (λ b. cond (literal_true m l) (not b) b) (odd_same m ls)
-    ∙ differs (literal_true m l) (xor_true m ls))
-  where
-    differs : (a b : Bool) → cond a (not b) b ≡ differ a b
-    differs true b = refl
-    differs false b = refl
+odd_same m (l ∷ ls) = search (arith, true_same, (odd_same m ls))
 
 pub constraint_same : XorIsItsClauses → (m : Assignment) (c : ReadConstraint) →
     constraint_true m (page_constraint c) ≡ all_true m (clauses_of c)
-constraint_same exact m (plain ls) =
-    any_same (page_true m) (literal_true m) (true_same m) ls
-    ∙ (sym (any_distinct (literal_true m) ls) ∙ and_none (clause_true m (distinct ls))) where
-      and_none : (b : Bool) → b ≡ (b && true)
-      and_none false = refl
-      and_none true = refl
+constraint_same exact m (plain ls) = search (arith, any_same, true_same, any_distinct)
 constraint_same exact m (read_xor ls) = odd_same m ls ∙ sym (exact m ls)
 
 pub all_same : XorIsItsClauses → (m : Assignment) (cs : List ReadConstraint) →
     list_all (constraint_true m) (page_constraints cs) ≡ all_true m (flat_map clauses_of cs)
 all_same exact m [] = refl
-all_same exact m (c ∷ cs) =
-    ap (λ b. b && list_all (constraint_true m) (page_constraints cs)) (constraint_same exact m c)
-    ∙ (ap (λ b. all_true m (clauses_of c) && b) (all_same exact m cs)
-    ∙ sym (list_all-append (clause_true m) (clauses_of c) (flat_map clauses_of cs)))
+all_same exact m (c ∷ cs) = search (arith, constraint_same, (all_same exact m cs), list_all-append)
 
 -- how many clauses an XOR line is
 xor_size : (ls : List ReadLiteral) → 1 ≤ length ls → length ls ≤ 5 → 2 ^ (length ls - 1) ≡ length (xor_clauses ls)
@@ -199,8 +146,7 @@ xor_size (a ∷ b ∷ c ∷ d ∷ e ∷ f ∷ ls) some few = absurd (omega (arit
 
 constraint_size : (n : ℕ) (c : ReadConstraint) → IsLawfulConstraint n c → size_of (page_constraint c) ≡ length (clauses_of c)
 constraint_size n (plain ls) lawful = refl
-constraint_size n (read_xor ls) lawful =
-    ap (λ k. 2 ^ (k - 1)) (length-map ls page_literal) ∙ xor_size ls lawful.1.some lawful.1.few
+constraint_size n (read_xor ls) lawful = search (arith, length-map, xor_size)
 
 sizes_from : (n start : ℕ) (cs : List ReadConstraint) → AreLawfulConstraints n cs →
     fold (λ so_far c. so_far + size_of c) start (page_constraints cs) ≡ start + length (flat_map clauses_of cs)

@@ -1,6 +1,6 @@
 -- The parts of a prefix declare on the page what they declare to the reader.
 use Rattle.std.proofs.Common.{◌≡◌, ◌≢◌, ℕ, suc, length, get_or, ◌<◌, ◌≤◌, ◌==◌, Bool, true, false, ◌||◌, List, [], ◌∷◌, ◌++◌, map, refl, sym, ◌∙◌, ap, subst, arith, append_assoc}
-use Rattle.std.specs.List.{AllPairs, AllByRecursion, Contains, filter, flat_map, fold, list_any}
+use Rattle.std.specs.List.{AllPairs, AllByRecursion, Contains, filter, flat_map, fold}
 use Rattle.std.proofs.lemmas.List.{append-nil, map-append}
 use Rattle.std.proofs.lemmas.List.Elements.{All-from_recursion}
 use Rattle.std.proofs.lemmas.List.Folds.{list_any-append}
@@ -36,8 +36,7 @@ Apart (x ∷ xs) = AllByRecursion (λ y. x ≢ y) xs × Apart xs
 
 pub apart_pairs : (xs : List ℕ) → Apart xs → AllPairs (λ v w. v ≢ w) xs
 apart_pairs [] all = λ i j d less below. absurd (omega (arith, below))
-apart_pairs (x ∷ xs) all =
-    AllPairs-cons (λ v w. v ≢ w) x xs (All-from_recursion (λ y. x ≢ y) xs all.0) (apart_pairs xs all.1)
+apart_pairs (x ∷ xs) all = search (arith, AllPairs-cons, All-from_recursion, (apart_pairs xs all.1))
 
 pub pairs_rec : (xs : List ℕ) → AllPairs (λ v w. v ≢ w) xs → Apart xs
 pairs_rec [] pairs = tt
@@ -53,8 +52,7 @@ pairs_rec (x ∷ xs) pairs = (
 pub apart_append : (xs ys : List ℕ) → Apart xs → Apart ys → AllByRecursion (λ x. AllByRecursion (λ y. x ≢ y) ys) xs →
     Apart (xs ++ ys)
 apart_append [] ys one other cross = other
-apart_append (x ∷ xs) ys one other cross =
-    (rec_append (λ y. x ≢ y) xs ys one.0 cross.0, apart_append xs ys one.1 other cross.1)
+apart_append (x ∷ xs) ys one other cross = search (arith, rec_append, (apart_append xs ys one.1 other cross.1))
 
 -- tests
 pub or_false : (a b : Bool) → (a || b) ≡ false → a ≡ false
@@ -64,10 +62,7 @@ or_false true b h = h
 or_moved : (a b c : Bool) → ((a || (b || false)) || c) ≡ ((a || c) || b)
 or_moved false false false = refl
 or_moved false false true = refl
-or_moved false true c = or_moved' c where
-  or_moved' : (c : Bool) → true ≡ (c || true)
-  or_moved' false = refl
-  or_moved' true = refl
+or_moved false true c = search arith
 or_moved true b c = refl
 
 or_last : (a b c : Bool) → (a || (c || (b || false))) ≡ ((a || c) || b)
@@ -86,31 +81,10 @@ variable_list : List ReadExistential → List ℕ
 variable_list ys = map (λ y. y.variable) ys
 
 declares_universal : Declares add_universal
-declares_universal = record {
-  one = λ f v w.
-      let test : ℕ → Bool = λ x. x == w in
-      let ys = map (λ (y : ReadExistential). y.variable) f.existentials in
-      list_any-append test (f.universals ++ v ∷ []) ys
-      ∙ (ap (λ b. b || list_any test ys) (list_any-append test f.universals (v ∷ []))
-      ∙ (or_moved (list_any test f.universals) (v == w) (list_any test ys)
-      ∙ ap (λ b. b || (v == w)) (sym (list_any-append test f.universals ys))));
-  range = λ f v. refl;
-}
+declares_universal = search (arith, list_any-append, or_moved)
 
 declares_existential : (sees : Dqbf → List ℕ) → Declares (λ f y. add_existential f y (sees f))
-declares_existential sees = record {
-  one = λ f v w.
-      let test : ℕ → Bool = λ x. x == w in
-      let ys = map (λ (y : ReadExistential). y.variable) f.existentials in
-      let more : map (λ (y : ReadExistential). y.variable) (f.existentials ++ record { variable = v; sees = sees f } ∷ [])
-      ≡ ys ++ v ∷ [] = map-append (λ (y : ReadExistential). y.variable) f.existentials (record { variable = v; sees = sees f } ∷ []) in
-      ap (λ zs. list_any test (f.universals ++ zs)) more
-      ∙ (list_any-append test f.universals (ys ++ v ∷ [])
-      ∙ (ap (λ b. list_any test f.universals || b) (list_any-append test ys (v ∷ []))
-      ∙ (or_last (list_any test f.universals) (v == w) (list_any test ys)
-      ∙ ap (λ b. b || (v == w)) (sym (list_any-append test f.universals ys)))));
-  range = λ f v. refl;
-}
+declares_existential sees = search (arith, map-append, list_any-append, or_last)
 
 module _ (add : Dqbf → ℕ → Dqbf) (declares : Declares add) where
   -- what is new behind one more was new
@@ -135,10 +109,7 @@ module _ (add : Dqbf → ℕ → Dqbf) (declares : Declares add) where
   )
 
   set_declares : (f : Dqbf) (vs : List ℕ) (w : ℕ) → is_declared (fold add f vs) w ≡ (is_declared f w || among vs w)
-  set_declares f [] w = or_none (is_declared f w) where
-    or_none : (b : Bool) → b ≡ (b || false)
-    or_none false = refl
-    or_none true = refl
+  set_declares f [] w = search arith
   set_declares f (v ∷ vs) w =
       set_declares (add f v) vs w
       ∙ (ap (λ b. b || among vs w) (declares.one f v w)
@@ -207,19 +178,14 @@ all_apart f (part ∷ parts) lawful =
 
 pub all_in_range : (f : Dqbf) (parts : List ReadPart) → AreLawfulParts f parts →
     AllByRecursion (λ v. (1 ≤ v) × (v ≤ f.variables)) (variables_in parts)
-all_in_range f parts lawful =
-    rec_each (IsNew f) (λ v. (1 ≤ v) × (v ≤ f.variables)) (λ v new. (new.from_one, new.in_range)) (variables_in parts)
-    (all_new f parts lawful)
+all_in_range f parts lawful = search (arith, rec_each, all_new)
 
 among_append : (xs ys : List ℕ) (w : ℕ) → among (xs ++ ys) w ≡ (among xs w || among ys w)
 among_append xs ys w = list_any-append (λ x. x == w) xs ys
 
 pub all_declared : (f : Dqbf) (parts : List ReadPart) (w : ℕ) →
     is_declared (fold declare f parts) w ≡ (is_declared f w || among (variables_in parts) w)
-all_declared f [] w = or_none (is_declared f w) where
-  or_none : (b : Bool) → b ≡ (b || false)
-  or_none false = refl
-  or_none true = refl
+all_declared f [] w = search arith
 all_declared f (part ∷ parts) w =
     all_declared (declare f part) parts w
     ∙ (ap (λ b. b || among (variables_in parts) w) (part_declares f part w)

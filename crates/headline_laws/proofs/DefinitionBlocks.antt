@@ -1,5 +1,5 @@
 -- The lines of a definition in its text, its circuit, and the circuit's value.
-use Rattle.std.proofs.Common.{◌≡◌, ◌≢◌, ℕ, zero, suc, ◌+◌, ◌*◌, ◌/◌, ◌<◌, ◌≤◌, ◌==◌, Bool, true, false, ◌&&◌, cond, pos, List, [], ◌∷◌, ◌++◌, length, map, replicate, codes, refl, sym, ◌∙◌, ap, subst, arith, append_assoc, append-nil, nat_le}
+use Rattle.std.proofs.Common.{◌≡◌, ◌≢◌, ℕ, zero, suc, ◌+◌, ◌*◌, ◌/◌, ◌<◌, ◌≤◌, Bool, true, false, ◌&&◌, pos, List, [], ◌∷◌, ◌++◌, length, map, replicate, codes, refl, sym, ◌∙◌, ap, subst, arith, append_assoc, append-nil, nat_le}
 use Rattle.std.specs.List.{All, AllByRecursion, AllPairs, AllZip, Contains, flat_map, range_with_len, slice_index}
 use Rattle.std.proofs.lemmas.Bool.{and_parts, eqb-true, eqb-false, leb-true}
 use Rattle.std.proofs.lemmas.List.Elements.{All-append, All-from_recursion, recursion_from_All}
@@ -12,7 +12,7 @@ use Rattle.dq_text.specs.declared.numbers.Number.TheVariants.{Int}
 use Rattle.circuit_plain.specs.Netlist.{gate_value, left_variable, right_variable, literal_variable, signed_bit}
 use Rattle.aiger_text.specs.Grammar.{naturals as read_naturals}
 use Rattle.circuit_plain.specs.declared.circuits.Gate.{Gate as ReadGate}
-use Rattle.cert_text.specs.AllowedDefinitions.{AreGatesFrom, IsDefinitionOf, is_output, is_readable}
+use Rattle.cert_text.specs.AllowedDefinitions.{AreGatesFrom, IsDefinitionOf, is_output}
 use Rattle.cert_text.specs.DefinitionBlocks.{Definition, DefinitionBlock, defined, free}
 use Rattle.cert_text.specs.DefinitionGrammar.{Line, SpellsDefinitions, SpellsLine, block_spelling, definition_spelling, gate_spelling, header_spelling, naturals, pair_spelling, step_spelling}
 use Rattle.cert_text.specs.Grammar.{Tokens, integers, tokens_by_line}
@@ -38,9 +38,7 @@ words_first (w ∷ ws) rest symbols each = (refl, words_first ws rest symbols ea
 line_spelled : (tokens : Tokens) (ws : List (List ℕ)) (ns : List ℕ) →
     SpellsLine tokens (record { words = ws; numbers = naturals ns }) →
     AllZip Spells tokens (map word ws ++ map natural ns)
-line_spelled tokens ws ns s =
-    subst (λ ts. AllZip Spells ts (map word ws ++ map natural ns)) (sym s.words)
-    (words_first ws s.rest (map natural ns) (numbers_spelled s.rest ns (s.numbers ∙ integers_are ns)))
+line_spelled tokens ws ns s = search (arith, words_first, numbers_spelled, integers_are)
 
 -- lines whose words these tokens are
 record AreSplit (ls : List (List ℕ)) (first second : List Tokens) : Type 0 where
@@ -102,17 +100,8 @@ gate_lines [] [] (g ∷ gates) is each = absurd each
 gate_lines [] (t ∷ tokens) gates is each = cc
 gate_lines (l ∷ ls) [] gates is each = cc
 gate_lines (l ∷ ls) (t ∷ tokens) [] is each = absurd each
-gate_lines (l ∷ ls) (t ∷ tokens) (g ∷ gates) is each = (
-  subst (λ ts. AllZip Spells ts (gate_row (page_gate g))) (sym (head (words l) t (map words ls) tokens is))
-      (line_spelled t [] (2 * g.variable ∷ g.left ∷ g.right ∷ []) each.0),
-  gate_lines ls tokens gates (tail (words l) t (map words ls) tokens is) each.1,
-)
-  where
-    head : (x y : Tokens) (xs ys : List Tokens) → x ∷ xs ≡ y ∷ ys → x ≡ y
-    head x y xs ys e = cc
-
-    tail : (x y : Tokens) (xs ys : List Tokens) → x ∷ xs ≡ y ∷ ys → xs ≡ ys
-    tail x y xs ys e = cc
+gate_lines (l ∷ ls) (t ∷ tokens) (g ∷ gates) is each =
+    search (arith, (line_spelled t [] (2 * g.variable ∷ g.left ∷ g.right ∷ []) each.0), (gate_lines ls tokens gates))
 
 definition_lines : (d : Definition) (ls : List (List ℕ)) (tokens : List Tokens) → map words ls ≡ tokens →
     AllZip SpellsLine tokens (definition_line d ∷ map gate_spelling d.gates) →
@@ -120,18 +109,13 @@ definition_lines : (d : Definition) (ls : List (List ℕ)) (tokens : List Tokens
 definition_lines d [] [] is each = absurd each
 definition_lines d [] (t ∷ tokens) is each = cc
 definition_lines d (l ∷ ls) [] is each = cc
-definition_lines d (l ∷ ls) (t ∷ tokens) is each = (
-  subst (λ ts. AllZip Spells ts (word (codes "t")
-      ∷ map natural (d.existential ∷ d.output ∷ length d.gates ∷ length d.steps ∷ []))) (sym (head (words l) t (map words ls) tokens is))
+definition_lines d (l ∷ ls) (t ∷ tokens) is each =
+    search (
+      arith,
+      codes,
       (line_spelled t (codes "t" ∷ []) (d.existential ∷ d.output ∷ length d.gates ∷ length d.steps ∷ []) each.0),
-  gate_lines ls tokens d.gates (tail (words l) t (map words ls) tokens is) each.1,
-)
-  where
-    head : (x y : Tokens) (xs ys : List Tokens) → x ∷ xs ≡ y ∷ ys → x ≡ y
-    head x y xs ys e = cc
-
-    tail : (x y : Tokens) (xs ys : List Tokens) → x ∷ xs ≡ y ∷ ys → xs ≡ ys
-    tail x y xs ys e = cc
+      (gate_lines ls tokens d.gates),
+    )
 
 module _ (text : List ℕ) (f : Dqbf) (blanks : List Tokens) where
   have_blocks : (blocks : List DefinitionBlock) (before rest : List (List ℕ)) (all : List Tokens) → lines text ≡ before ++ rest →
@@ -194,21 +178,13 @@ module _ (f : Dqbf) where
   gates_numbered : (at : ℕ) (gates : List ReadGate) → AreGatesFrom f at gates →
       map (λ (g : Gate). g.variable) (map page_gate gates) ≡ range_with_len at (length gates)
   gates_numbered at [] are = refl
-  gates_numbered at (g ∷ gates) are =
-      ap (λ v. v ∷ map (λ (h : Gate). h.variable) (map page_gate gates)) are.0.numbered
-      ∙ ap (λ vs. at ∷ vs) (gates_numbered (at + 1) gates are.1)
+  gates_numbered at (g ∷ gates) are = search (arith, (gates_numbered (at + 1) gates are.1))
 
   abbrev known : Definition → List ℕ
   known d = 0 ∷ (up_to f.variables ++ map (λ (g : Gate). g.variable) (map page_gate d.gates))
 
   known_is : (d : Definition) → AreGatesFrom f (f.variables + 1) d.gates → known d ≡ range_with_len 0 (suc (f.variables + length d.gates))
-  known_is d are =
-      ap (λ vs. 0 ∷ vs)
-      (ap (λ vs. vs ++ map (λ (g : Gate). g.variable) (map page_gate d.gates)) (up_to_is f.variables)
-      ∙ (ap (λ vs. range_with_len 1 f.variables ++ vs)
-      (gates_numbered (f.variables + 1) d.gates are
-      ∙ ap (λ v. range_with_len v (length d.gates)) (let e : f.variables + 1 ≡ 1 + f.variables = omega arith in e))
-      ∙ range_append 1 f.variables (length d.gates)))
+  known_is d are = search (arith, up_to_is, gates_numbered, (range_append 1))
 
   there : (d : Definition) → AreGatesFrom f (f.variables + 1) d.gates → (v : ℕ) → v < suc (f.variables + length d.gates) →
       Contains (known d) v
@@ -241,8 +217,7 @@ module _ (f : Dqbf) where
   )
 
   output_low : (d : Definition) → is_output f (length d.gates) d.output ≡ true → d.output / 2 ≤ f.variables + length d.gates
-  output_low d h = leb-true (literal_variable d.output) (f.variables + length d.gates)
-      (and_parts (is_readable f d.output) (nat_le (literal_variable d.output) (f.variables + length d.gates)) h).1
+  output_low d h = search (arith, leb-true, and_parts, nat_le)
 
   low : (at : ℕ) (gates : List ReadGate) (most : ℕ) → AreGatesFrom f at gates → at + length gates ≤ suc most →
       AllByRecursion (λ v. v ≤ most) (map (λ (g : Gate). g.variable) (map page_gate gates))
@@ -251,11 +226,7 @@ module _ (f : Dqbf) where
       (let is = are.0.numbered in omega (arith, is, few), low (at + 1) gates most are.1 (omega (arith, few)))
 
   low_inputs : (n most : ℕ) → n ≤ most → All (λ v. v ≤ most) (up_to n)
-  low_inputs n most few =
-      subst (All (λ v. v ≤ most)) (sym (up_to_is n)) (λ k d below.
-      let inside : k < n = omega (arith, below, length-range_with_len 1 n) in
-      let is = get_or-range_with_len 1 n k d inside in
-      omega (arith, is, inside, few))
+  low_inputs n most few = search (arith, up_to_is, length-range_with_len, get_or-range_with_len)
 
   pub definition_is_circuit : (d : Definition) → IsDefinitionOf f d → IsCircuit (definition_circuit f.variables d)
   definition_is_circuit d own = record {
@@ -278,10 +249,7 @@ module _ (f : Dqbf) where
 
   set_bit : (m bits : ℕ → Bool) (at : ℕ) (b : Bool) → ((v : ℕ) → v < at → m v ≡ bits v) → b ≡ bits at → (v : ℕ) → v < at + 1 →
       with_bit m at b v ≡ bits v
-  set_bit m bits at b alike same v below = by (v == at) refl where
-    by : (c : Bool) → (v == at) ≡ c → cond c b (m v) ≡ bits v
-    by true is = same ∙ ap bits (sym (eqb-true v at is))
-    by false is = alike v (let other = eqb-false v at is in omega (arith, below, other))
+  set_bit m bits at b alike same v below = search (arith, eqb-true, eqb-false)
 
   gates_alike : (m bits : ℕ → Bool) (at : ℕ) (gates : List ReadGate) → AreGatesFrom f at gates →
       ((v : ℕ) → v < at → m v ≡ bits v) →
@@ -301,25 +269,15 @@ module _ (f : Dqbf) where
   rec_from : (bits : ℕ → Bool) (gates : List Gate) →
       All (λ (g : Gate). bits g.variable ≡ (literal_bit bits g.left && literal_bit bits g.right)) gates →
       AllByRecursion (λ (g : Gate). bits g.variable ≡ (literal_bit bits g.left && literal_bit bits g.right)) gates
-  rec_from bits gates all = recursion_from_All
-      (λ (g : Gate). bits g.variable ≡ (literal_bit bits g.left && literal_bit bits g.right)) gates all
+  rec_from bits gates all = search (arith, recursion_from_All)
 
   input_at : (n i : ℕ) → i < n → slice_index (up_to n) i ≡ suc i
-  input_at n i below =
-      ap (λ vs. slice_index vs i) (up_to_is n) ∙ (get_or-range_with_len 1 n i 0 below ∙ (let e : 1 + i ≡ suc i = omega arith in e))
+  input_at n i below = search (arith, up_to_is, get_or-range_with_len)
 
   inputs_alike : (d : Definition) (m bits : ℕ → Bool) → Fits (definition_circuit f.variables d) (λ i. m (suc i)) bits →
       (v : ℕ) → v < f.variables + 1 → with_bit m 0 false v ≡ bits v
   inputs_alike d m bits fits zero below = sym fits.constant
-  inputs_alike d m bits fits (suc i) below = by (suc i == 0) refl where
-    low : i < f.variables
-    low = omega (arith, below)
-
-    by : (none : Bool) → (suc i == 0) ≡ none → cond none false (m (suc i)) ≡ bits (suc i)
-    by true is = (let e = eqb-true (suc i) 0 is in absurd (omega (arith, e)))
-    by false is =
-        let long = ap length (up_to_is f.variables) ∙ length-range_with_len 1 f.variables in
-        sym (fits.given i (omega (arith, low, long))) ∙ ap bits (input_at f.variables i low)
+  inputs_alike d m bits fits (suc i) below = search (arith, eqb-true, up_to_is, length-range_with_len, input_at)
 
   pub value_is : (d : Definition) (m bits : ℕ → Bool) → IsDefinitionOf f d →
       Fits (definition_circuit f.variables d) (λ i. m (suc i)) bits → definition_value d m ≡ literal_bit bits d.output

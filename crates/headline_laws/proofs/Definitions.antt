@@ -21,7 +21,7 @@ use Rattle.cert_text.specs.declared.kinds.Kind.TheVariants.{Circuit as CircuitTe
 use Rattle.cert_text.proofs.SpelledKinds.{kind_spelled}
 use Rattle.defined_checker.specs.DefinitionReads.{MayDefine}
 use Rattle.defined_checker.specs.Forced.{AreRight, IsForced, IsRight, definition_value}
-use Rattle.defined_checker.specs.Judging.{counted, counts_of, no_counts}
+use Rattle.defined_checker.specs.Judging.{counts_of, no_counts}
 use Rattle.defined_checker.specs.declared.checks.DefinedCounts.{DefinedCounts}
 use Rattle.cert_judge.specs.Judgement.{HoldsRightDefinitions, SpellsBlocks}
 use Rattle.headline.specs.Headline.{AreDefined, Existential, Formula, HoldsDefinition, IsDefined, MayRead, Spells, existentials_of, gate_row, natural, standing_before, up_to, word, words}
@@ -58,18 +58,8 @@ record IsThere (zs : List Existential) (v : ℕ) (w : ReadExistential) : Type 0 
 
 found_there : (zs : List Existential) (v : ℕ) (w : ReadExistential) → named v zs ≡ Some w → IsThere zs v w
 found_there [] v w found = cc
-found_there (z ∷ zs) v w found = by (z.variable == v) refl (found_there zs v w) found where
-  by : (b : Bool) → (z.variable == v) ≡ b → (named v zs ≡ Some w → IsThere zs v w) →
-      cond b (Some (read_existential z)) (named v zs) ≡ Some w → IsThere (z ∷ zs) v w
-  by true same later found = record {
-    z = z;
-    there = contains_first z zs;
-    is = some_same (read_existential z) w found;
-    has = eqb-true z.variable v same;
-  }
-  by false other later found =
-      let one = later found in
-      record { z = one.z; there = contains_later z one.z zs one.there; is = one.is; has = one.has }
+found_there (z ∷ zs) v w found =
+    search (arith, (found_there zs v w), contains_first, some_same, eqb-true, contains_later)
 
 -- one that has a lower place stands before
 stands : (y z : Existential) (zs : List Existential) → named z.variable zs ≡ Some (read_existential z) →
@@ -114,14 +104,8 @@ earlier y z (x ∷ zs) there =
 
 standing_there : (y z : Existential) (zs : List Existential) → Contains (standing_before y zs) z → Contains zs z
 standing_there y z [] there = there
-standing_there y z (x ∷ zs) there = by (x.variable == y.variable) (standing_there y z zs) there where
-  by : (b : Bool) → (Contains (standing_before y zs) z → Contains zs z) →
-      Contains (cond b [] (x ∷ standing_before y zs)) z → Contains (x ∷ zs) z
-  by true later there = absurd (none_there z there)
-  by false later there = elim (contains_cases x z (standing_before y zs) there) [
-    | inl same ↦ subst (Contains (x ∷ zs)) same (contains_first x zs)
-    | inr more ↦ contains_later x z zs (later more)
-  ]
+standing_there y z (x ∷ zs) there =
+    search (arith, (standing_there y z zs), none_there, contains_cases, contains_first, contains_later)
 
 -- no ranks are told
 by_place : (p q : ℕ) → RanksBefore [] p q → p < q
@@ -144,12 +128,8 @@ counts_are : (blocks : List DefinitionBlock) (c : DefinedCounts) →
     ((counts_of c blocks).defined ≡ c.defined + defined_count blocks)
     × ((counts_of c blocks).free ≡ c.free + free_count blocks)
 counts_are [] c = (omega arith, omega arith)
-counts_are (defined d ∷ blocks) c =
-    let more = counts_are blocks (counted (defined d) c) in
-    (omega (arith, more.0), omega (arith, more.1))
-counts_are (free p ∷ blocks) c =
-    let more = counts_are blocks (counted (free p) c) in
-    (omega (arith, more.0), omega (arith, more.1))
+counts_are (defined d ∷ blocks) c = search (arith, (counts_are blocks))
+counts_are (free p ∷ blocks) c = search (arith, (counts_are blocks))
 
 variables_same : (zs : List Existential) →
     map (λ (w : ReadExistential). w.variable) (map read_existential zs) ≡ map (λ (z : Existential). z.variable) zs
@@ -173,8 +153,7 @@ module _ (text : List ℕ) (read : Dqbf) (f : Formula) (on : IsOnPage text read 
       mapped.2 (find_own read.existentials mapped.0 (read_existential z) mapped.1 once)
 
   named_there : (v : ℕ) (w : ReadExistential) → existential_of read v ≡ Some w → named v all ≡ Some w
-  named_there v w found =
-      subst (λ rs. find (λ (u : ReadExistential). u.variable == v) rs ≡ Some w) (sym on.existentials) found
+  named_there v w found = search arith
 
   place_there : (v : ℕ) →
       position_or_len (λ (u : ReadExistential). u.variable == v) read.existentials ≡ place v (map read_existential all)
@@ -259,13 +238,7 @@ module _ (text : List ℕ) (read : Dqbf) (f : Formula) (on : IsOnPage text read 
       block_spelled : AllZip (λ line row. AllZip Spells (words line) row) has.block
           ((word (codes "t") ∷ map natural (y.variable ∷ d.output ∷ length (map page_gate d.gates) ∷ length d.steps ∷ []))
           ∷ map gate_row (map page_gate d.gates))
-      block_spelled =
-          subst (λ n. AllZip (λ line row. AllZip Spells (words line) row) has.block
-          ((word (codes "t") ∷ map natural (y.variable ∷ d.output ∷ n ∷ length d.steps ∷ [])) ∷ map gate_row (map page_gate d.gates)))
-          (sym (length-map d.gates page_gate))
-          (subst (λ v. AllZip (λ line row. AllZip Spells (words line) row) has.block
-          ((word (codes "t") ∷ map natural (v ∷ d.output ∷ length d.gates ∷ length d.steps ∷ [])) ∷ map gate_row (map page_gate d.gates)))
-          same has.block_is)
+      block_spelled = search (arith, codes, length-map)
 
   each : (certificate : List ℕ) (zs : List Existential) (blocks : List DefinitionBlock) → AllByRecursion IsKnown zs →
       AreBlocksOf read (map (λ (z : Existential). z.variable) zs) blocks → AreRight read blocks → HaveBlocks certificate blocks →
@@ -299,10 +272,7 @@ module _ (text : List ℕ) (read : Dqbf) (f : Formula) (on : IsOnPage text read 
 
   -- no verdict stands before definitions
   begun_at : (certificate : List ℕ) (at h : ℕ) → certificate_kind certificate ≡ Ok (Definitions at h) → drop at certificate ≡ certificate
-  begun_at certificate at h is = elim (kind_spelled certificate (Definitions at h) is) [
-    | inl plain ↦ ap (λ n. drop n certificate) plain.place
-    | inr b ↦ (let shown = b.shows in cc)
-  ]
+  begun_at certificate at h is = search (arith, kind_spelled)
 
   by_kind : (certificate : List ℕ) (counts : DefinedCounts) (kind : Result Kind CertRefusal) → certificate_kind certificate ≡ kind →
       (blocks : List DefinitionBlock) →

@@ -1,5 +1,5 @@
 -- A formula's text spells it on the page, and there it is true or false as it is to the reader.
-use Rattle.std.proofs.Common.{◌≡◌, ◌≢◌, ℕ, zero, suc, ◌+◌, ◌<◌, ◌≤◌, ◌==◌, Bool, false, not, ◌&&◌, List, [], ◌∷◌, ◌++◌, length, map, Option, Some, None, get_or, refl, sym, ◌∙◌, ap, subst, arith}
+use Rattle.std.proofs.Common.{◌≡◌, ◌≢◌, ℕ, zero, suc, ◌<◌, ◌≤◌, ◌==◌, Bool, false, not, ◌&&◌, List, [], ◌∷◌, ◌++◌, length, map, Option, Some, None, get_or, refl, sym, ◌∙◌, ap, subst, arith}
 use Rattle.std.specs.List.{All, AllPairs, AllByRecursion, AllZip, filter, flat_map, fold, list_all, list_any, range_with_len}
 use Rattle.std.proofs.lemmas.List.{get_or-map, length-map, map-append}
 use Rattle.std.proofs.lemmas.List.Elements.{All-from_recursion}
@@ -23,9 +23,9 @@ use Rattle.dqdimacs_reader.specs.Grammar.{SpellsFormula as IsRead, Constraint as
 use Rattle.dqdimacs_reader.specs.Lexeme.{lexeme_of}
 use Rattle.dqdimacs_reader.specs.declared.lexemes.Lexeme.TheVariants.{Natural}
 use Rattle.dqdimacs_reader.proofs.SpelledClauses.{matrix-spelled, spelled_matrix}
-use Rattle.dqdimacs_reader.proofs.SpelledIsRead.{clauses_of, declares-keep}
+use Rattle.dqdimacs_reader.proofs.SpelledIsRead.{declares-keep}
 use Rattle.dqdimacs_reader.proofs.ReadIsSpelled.{constraints_keep_variables}
-use Rattle.headline.specs.Headline.{Formula, Existential, Constraint, natural, Spells, SpellsFormula, IsConstraint, IsTrueFormula, IsFalseFormula, Holds, among, constraint_true, existentials_from, existentials_of, formula_symbols, is_free, literal_symbol, literals_of, part_symbols, constraint_symbols, seeing, tokens, universals_of, up_to}
+use Rattle.headline.specs.Headline.{Formula, Existential, Constraint, natural, Spells, SpellsFormula, IsConstraint, IsTrueFormula, IsFalseFormula, Holds, among, constraint_true, existentials_of, formula_symbols, is_free, literal_symbol, literals_of, part_symbols, constraint_symbols, seeing, tokens, universals_of, up_to}
 use Rattle.headline.specs.Headline.{numbers as page_numbers, variable_of as page_variable, declared as page_declared}
 use Rattle.headline_laws.specs.Formulas.{IsOnPage, MeansTheSame, read_existential}
 use Rattle.headline_laws.proofs.Constraints.{page_literal, page_literals, page_constraint, page_constraints, all_occur, all_same, all_sizes}
@@ -38,8 +38,7 @@ naturals_stand [] = tt
 naturals_stand (v ∷ vs) = (stands_natural v, naturals_stand vs)
 
 numbers_stand : (vs : List ℕ) → AllZip Stands (numbers vs) (page_numbers vs)
-numbers_stand vs = zip_append (map Natural vs) (Natural 0 ∷ []) (map natural vs) (natural 0 ∷ []) (naturals_stand vs)
-    (stands_natural 0, tt)
+numbers_stand vs = search (arith, zip_append, naturals_stand, stands_natural)
 
 part_stands : (part : ReadPart) → AllZip Stands (part_lexemes part) (part_symbols (page_part part))
 part_stands (read_universals vs) = (stands_a, numbers_stand vs)
@@ -48,9 +47,7 @@ part_stands (read_dependent y xs) = (stands_d, (stands_natural y, numbers_stand 
 
 parts_stand : (parts : List ReadPart) → AllZip Stands (flat_map part_lexemes parts) (flat_map part_symbols (page_parts parts))
 parts_stand [] = tt
-parts_stand (part ∷ parts) =
-    zip_append (part_lexemes part) (flat_map part_lexemes parts) (part_symbols (page_part part))
-    (flat_map part_symbols (page_parts parts)) (part_stands part) (parts_stand parts)
+parts_stand (part ∷ parts) = search (arith, zip_append, part_stands, (parts_stand parts))
 
 literal_stands : (l : ReadLiteral) → Stands (literal_lexeme l) (literal_symbol (page_literal l))
 literal_stands (positive v) = stands_natural v
@@ -61,8 +58,7 @@ literals_stand [] = tt
 literals_stand (l ∷ ls) = (literal_stands l, literals_stand ls)
 
 clause_stands : (ls : List ReadLiteral) → AllZip Stands (clause_lexemes ls) (map literal_symbol (page_literals ls) ++ natural 0 ∷ [])
-clause_stands ls = zip_append (map literal_lexeme ls) (Natural 0 ∷ []) (map literal_symbol (page_literals ls)) (natural 0 ∷ [])
-    (literals_stand ls) (stands_natural 0, tt)
+clause_stands ls = search (arith, zip_append, literals_stand, stands_natural)
 
 constraint_stands : (c : ReadConstraint) → AllZip Stands (constraint_lexemes c) (constraint_symbols (page_constraint c))
 constraint_stands (plain ls) = clause_stands ls
@@ -71,9 +67,7 @@ constraint_stands (read_xor ls) = (stands_x, clause_stands ls)
 constraints_stand : (cs : List ReadConstraint) →
     AllZip Stands (flat_map constraint_lexemes cs) (flat_map constraint_symbols (page_constraints cs))
 constraints_stand [] = tt
-constraints_stand (c ∷ cs) =
-    zip_append (constraint_lexemes c) (flat_map constraint_lexemes cs) (constraint_symbols (page_constraint c))
-    (flat_map constraint_symbols (page_constraints cs)) (constraint_stands c) (constraints_stand cs)
+constraints_stand (c ∷ cs) = search (arith, zip_append, constraint_stands, (constraints_stand cs))
 
 -- the page's formula
 abbrev pub page_formula : ℕ → List ReadPart → List ReadConstraint → Formula
@@ -86,20 +80,8 @@ page_formula variables parts cs = record {
 formula_stands : (variables : ℕ) (parts : List ReadPart) (cs : List ReadConstraint) →
     AllZip Stands (header variables (length cs) ++ (flat_map part_lexemes parts ++ flat_map constraint_lexemes cs))
     (formula_symbols (page_formula variables parts cs))
-formula_stands variables parts cs = (
-  stands_p,
-  (
-    stands_cnf,
-    (
-      stands_natural variables,
-      (
-        subst (λ n. Stands (Natural (length cs)) (natural n)) (sym (length-map cs page_constraint)) (stands_natural (length cs)),
-        zip_append (flat_map part_lexemes parts) (flat_map constraint_lexemes cs) (flat_map part_symbols (page_parts parts))
-            (flat_map constraint_symbols (page_constraints cs)) (parts_stand parts) (constraints_stand cs),
-      ),
-    ),
-  ),
-)
+formula_stands variables parts cs =
+    search (arith, stands_p, stands_cnf, stands_natural, length-map, zip_append, parts_stand, constraints_stand)
 
 each_text : (ts : List TextToken) → map lexeme_of (map (λ t. t.text) ts) ≡ map (λ t. lexeme_of t.text) ts
 each_text [] = refl
@@ -123,9 +105,7 @@ constraint_range n (read_xor ls) lawful = literals_range n ls lawful.0
 constraints_range : (n : ℕ) (cs : List ReadConstraint) → AreLawfulConstraints n cs →
     AllByRecursion (λ v. (1 ≤ v) × (v ≤ n)) (flat_map variables_at (page_constraints cs))
 constraints_range n [] lawful = tt
-constraints_range n (c ∷ cs) lawful =
-    rec_append (λ v. (1 ≤ v) × (v ≤ n)) (variables_at (page_constraint c)) (flat_map variables_at (page_constraints cs))
-    (constraint_range n c lawful.0) (constraints_range n cs lawful.1)
+constraints_range n (c ∷ cs) lawful = search (arith, rec_append, constraint_range, (constraints_range n cs lawful.1))
 
 pub same_variable : (l : ReadLiteral) → page_variable (page_literal l) ≡ variable_of l
 same_variable (positive v) = refl
@@ -144,9 +124,7 @@ pairs_apart ls apart i j d less below =
 
 constraint_lawful : (n : ℕ) (c : ReadConstraint) → IsLawfulConstraint n c → IsConstraint (page_constraint c)
 constraint_lawful n (plain ls) lawful = tt
-constraint_lawful n (read_xor ls) lawful =
-    let same = length-map ls page_literal in
-    (omega (arith, lawful.1.some, same), omega (arith, lawful.1.few, same), pairs_apart ls lawful.1.apart)
+constraint_lawful n (read_xor ls) lawful = search (arith, length-map, pairs_apart)
 
 constraints_lawful : (n : ℕ) (cs : List ReadConstraint) → AreLawfulConstraints n cs →
     AllByRecursion IsConstraint (page_constraints cs)
@@ -162,10 +140,7 @@ keep_prefix (read_xor ls ∷ cs) g = keep_prefix cs (add_constraint g (read_xor 
 
 pub up_to_is : (n : ℕ) → up_to n ≡ range_with_len 1 n
 up_to_is zero = refl
-up_to_is (suc n) =
-    let last : suc n ≡ 1 + n = omega arith in
-    ap (λ vs. vs ++ suc n ∷ []) (up_to_is n)
-    ∙ (ap (λ v. range_with_len 1 n ++ v ∷ []) last ∙ sym (range_more 1 n))
+up_to_is (suc n) = search (arith, (up_to_is n), (range_more 1 n))
 
 unseeing_all : (vs : List ℕ) → map read_existential (map (seeing []) vs) ≡ map unseeing vs
 unseeing_all [] = refl
@@ -188,43 +163,23 @@ module _ (text : List ℕ) (m : Dqbf) (s : IsRead text m) where
   whole_variables = constraints_keep_variables s.constraints prefix ∙ (declares-keep s.parts start).variables
 
   declared_same : (v : ℕ) → is_declared whole v ≡ among (page_declared page) v
-  declared_same v =
-      let kept = keep_prefix s.constraints prefix in
-      ap (λ us. list_any (λ x. x == v) (us ++ map (λ (y : ReadExistential). y.variable) whole.existentials)) kept.0
-      ∙ (ap (λ ys. list_any (λ x. x == v) (prefix.universals ++ map (λ (y : ReadExistential). y.variable) ys)) kept.1
-      ∙ all_declared start s.parts v)
+  declared_same v = search (arith, keep_prefix, all_declared)
 
   occurs_same : (v : ℕ) → occurs whole.matrix v
       ≡ list_any (λ c. list_any (λ l. page_variable l == v) (literals_of c)) page.constraints
-  occurs_same v =
-      ap (λ cs. occurs cs v) (matrix-spelled s.constraints prefix
-      ∙ ap (λ cs. cs ++ flat_map clauses_of s.constraints) (declares-keep s.parts start).matrix)
-      ∙ all_occur v s.constraints
+  occurs_same v = search (arith, matrix-spelled, declares-keep, (all_occur v))
 
   free_same : (v : ℕ) → is_free page v ≡ (not (is_declared whole v) && occurs whole.matrix v)
-  free_same v =
-      ap (λ b. not b && list_any (λ c. list_any (λ l. page_variable l == v) (literals_of c)) page.constraints)
-      (sym (declared_same v))
-      ∙ ap (λ b. not (is_declared whole v) && b) (sym (occurs_same v))
+  free_same v = search (arith, declared_same, occurs_same)
 
   free_are : filter (is_free page) (up_to m.variables) ≡ free_variables whole
-  free_are =
-      filter-same (is_free page) (λ v. not (is_declared whole v) && occurs whole.matrix v) free_same (up_to m.variables)
-      ∙ (ap (filter (λ v. not (is_declared whole v) && occurs whole.matrix v)) (up_to_is m.variables)
-      ∙ ap (λ n. filter (λ v. not (is_declared whole v) && occurs whole.matrix v) (range_with_len 1 n)) (sym whole_variables))
+  free_are = search (arith, filter-same, free_same, up_to_is, whole_variables)
 
   existentials_are : map read_existential (existentials_of page) ≡ m.existentials
-  existentials_are =
-      map-append read_existential (existentials_from [] page.parts) (map (seeing []) (filter (is_free page) (up_to m.variables)))
-      ∙ (ap (λ ys. ys ++ map read_existential (map (seeing []) (filter (is_free page) (up_to m.variables))))
-      (sym ((keep_prefix s.constraints prefix).1 ∙ all_existentials start s.parts))
-      ∙ (ap (λ ys. whole.existentials ++ ys)
-      (unseeing_all (filter (is_free page) (up_to m.variables)) ∙ ap (map unseeing) free_are)
-      ∙ sym (ap (λ (g : Dqbf). g.existentials) s.formula)))
+  existentials_are = search (arith, map-append, keep_prefix, all_existentials, unseeing_all, free_are)
 
   universals_are : universals_of page ≡ m.universals
-  universals_are =
-      sym (ap (λ (g : Dqbf). g.universals) s.formula ∙ ((keep_prefix s.constraints prefix).0 ∙ all_universals start s.parts))
+  universals_are = search (arith, keep_prefix, all_universals)
 
   spelled : (map (λ (t : TextToken). t.text) (tokens_of text) ≡ tokens text) → SpellsFormula text page
   spelled texts = record {
@@ -260,12 +215,7 @@ module _ (text : List ℕ) (m : Dqbf) (s : IsRead text m) where
   page_holds exact a holds = holds_same exact a ∙ list_all-from_AllPass (clause_true a) m.matrix holds
 
   pub means_the_same : XorIsItsClauses → MeansTheSame m page
-  means_the_same exact = record {
-    universals = universals_are;
-    existentials = existentials_are;
-    holds = page_holds exact;
-    holds_there = matrix_holds exact;
-  }
+  means_the_same exact = search (arith, universals_are, existentials_are, page_holds, matrix_holds)
 
 -- ---- what means the same is true or false where the reader's is
 

@@ -9,10 +9,9 @@ use Rattle.dq_text.specs.Line.{TextLine}
 use Rattle.aiger_text.specs.Grammar.{letter_of, table_of, AreNames, EndsWith, SpellsSymbol, SpellSymbols}
 use Rattle.aiger_text.specs.Lines.{SymbolLine, keep_byte, without_end_crs}
 use Rattle.aiger_text.specs.Symbol.{SymbolTable}
-use Rattle.headline.specs.Headline.{Named, SpellsName, SpellsNames, IsEnd, ends_word, is_space, put_front, words}
+use Rattle.headline.specs.Headline.{Named, SpellsName, SpellsNames, IsEnd, is_space, words}
 use Rattle.headline_laws.proofs.Declarations.{Apart, pairs_rec}
 use Rattle.headline_laws.proofs.Skolems.{entry_of, page_name, page_names}
-use Rattle.headline_laws.proofs.Symbols.{natural_number}
 use Rattle.headline_laws.proofs.Tokens.{texts, words_are}
 
 -- a line without a word
@@ -20,13 +19,7 @@ pub blank_same : (line : List ℕ) → list_all is_space line ≡ is_blank_line 
 blank_same line = by_words line ∙ ap has_no_token (words_are line) where
   by_words : (line : List ℕ) → list_all is_space line ≡ has_no_token (words line)
   by_words [] = refl
-  by_words (byte ∷ bytes) = step (is_space byte) (ends_word bytes) (words bytes) (by_words bytes) where
-    step : (s e : Bool) (ws : List (List ℕ)) → list_all is_space bytes ≡ has_no_token ws →
-        (s && list_all is_space bytes) ≡ has_no_token (cond s ws (cond e ((byte ∷ []) ∷ ws) (put_front byte ws)))
-    step true e ws rest = rest
-    step false true ws rest = refl
-    step false false [] rest = refl
-    step false false (w ∷ ws) rest = refl
+  by_words (byte ∷ bytes) = search (arith, (by_words bytes))
 
 -- a name, and the CRs behind it
 record HasEnds (rest name : List ℕ) : Type 0 where
@@ -49,32 +42,12 @@ with_ends (byte ∷ bytes) = by (without_end_crs bytes) (with_ends bytes) where
   by (n ∷ name) has = record { ends = has.ends; parts = ap (λ bs. byte ∷ bs) has.parts; crs = has.crs }
 
 name_spelled : (line : List ℕ) (s : SymbolLine) → SpellsSymbol line s → SpellsName line (page_name s)
-name_spelled line s h =
-    let end = with_ends h.rest in
-    record {
-      digits = h.digits;
-      space = h.separator;
-      ends = end.ends;
-      is = h.spelling ∙ ap (λ bytes. letter_of s.of_input ∷ (h.digits ++ (h.separator ∷ bytes)))
-          (end.parts ∙ ap (λ name. name ++ end.ends) (sym h.name));
-      place = natural_number h.digits s.place h.place;
-      spaced = h.separated;
-      some = λ none. absurd (omega (arith, h.named, ap length none));
-      crs = end.crs;
-    }
+name_spelled line s h = search (arith, (with_ends h.rest))
 
 kept_lines : (ls : List TextLine) → filter (λ line. not (list_all is_space line)) (texts ls)
     ≡ texts (filter (λ l. not (is_blank_line l.text)) ls)
 kept_lines [] = refl
-kept_lines (l ∷ ls) =
-    ap (λ b. cond (not b) (l.text ∷ filter (λ line. not (list_all is_space line)) (texts ls))
-    (filter (λ line. not (list_all is_space line)) (texts ls))) (blank_same l.text)
-    ∙ (ap (λ rest. cond (not (is_blank_line l.text)) (l.text ∷ rest) rest) (kept_lines ls)
-    ∙ moved (is_blank_line l.text) (filter (λ k. not (is_blank_line k.text)) ls))
-  where
-    moved : (b : Bool) (ks : List TextLine) → cond (not b) (l.text ∷ texts ks) (texts ks) ≡ texts (cond (not b) (l ∷ ks) ks)
-    moved true ks = refl
-    moved false ks = refl
+kept_lines (l ∷ ls) = search (arith, blank_same, (kept_lines ls))
 
 zipped : (ls : List TextLine) (ss : List SymbolLine) → AllZip (λ (l : TextLine) s. SpellsSymbol l.text s) ls ss →
     AllZip SpellsName (texts ls) (page_names ss)

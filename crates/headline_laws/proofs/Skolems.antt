@@ -12,7 +12,6 @@ use Rattle.aiger_text.specs.Lines.{SymbolLine}
 use Rattle.aiger_text.specs.Symbol.{SymbolTable}
 use Rattle.std.specs.List.{slice_index}
 use Rattle.std.proofs.lemmas.Option.{slice_get-get_or}
-use Rattle.list_laws.proofs.Quantified.{one_place}
 use Rattle.dq_lits.specs.Formula.{Dqbf}
 use Rattle.dq_lits.specs.Formula.{Existential as ReadExistential}
 use Rattle.dq_lits.specs.Henkin.{MatrixHolds}
@@ -148,11 +147,7 @@ at_index xs i below = (i, below, same xs i 0 (slice_index xs i) below) where
   same (x ∷ xs) (suc i) d e below = same xs i d e (omega (arith, below))
 
 own_place : (xs : List ℕ) (i : ℕ) → AllPairs (λ v w. v ≢ w) xs → i < length xs → find_place xs (slice_index xs i) ≡ i
-own_place xs i apart below =
-    let found = found_place xs (slice_index xs i) (at_index xs i below) in
-    one_place xs (find_place xs (slice_index xs i)) i (slice_index xs i) apart
-    (slice_get-get_or xs (find_place xs (slice_index xs i)) 0 found.0 ∙ ap Some found.1)
-    (slice_get-get_or xs i 0 below)
+own_place xs i apart below = search (arith, found_place, at_index, slice_get-get_or)
 
 module _ (m : Dqbf) (f : Formula) (us : universals_of f ≡ m.universals)
     (es : map read_existential (existentials_of f) ≡ m.existentials)
@@ -190,26 +185,7 @@ module _ (m : Dqbf) (f : Formula) (us : universals_of f ≡ m.universals)
       (ap (λ (t : SymbolTable). t.outputs) (sym is_table) ∙ no_entries (length net.outputs) table.outputs outputs_named (or_second _ _ none))
 
   input_stands : (x : ℕ) → Contains m.universals x → StandsFor (page_names symbols) 105 (universals_of f) (input_of x) x
-  input_stands x there = by (has_symbols net table) refl told.told where
-    found : (input_of x < length s.mapping.inputs) × (slice_index s.mapping.inputs (input_of x) ≡ x)
-    found = input_found x there
-
-    by : (b : Bool) → has_symbols net table ≡ b → IsToldBySymbols b m table s.mapping →
-        StandsFor (page_names symbols) 105 (universals_of f) (input_of x) x
-    by true some named =
-        let n = named.0.named (input_of x) found.0 in
-        inr (
-          n.name,
-          natural_number n.name x (n.number ∙ ap (λ v. Int (pos v)) found.1),
-          name_there 105 (λ t. t.of_input) (λ t h. ap letter_of h) symbols (input_of x) n.name
-              (ap (λ (t : SymbolTable). lookup (nat_eq (input_of x)) t.inputs) (sym is_table) ∙ n.symbol),
-        )
-    by false none order =
-        inl (
-          no_names none,
-          omega (arith, found.0, one.inputs.same_length, ap length us),
-          sym found.1 ∙ ap (λ (k : Mapping). slice_index k.inputs (input_of x)) order ∙ ap (λ vs. slice_index vs (input_of x)) (sym us),
-        )
+  input_stands x there = search (arith, (input_found x there), pos, (name_there 105), nat_eq, no_names)
 
   output_stands : (y : ℕ) → Contains (existential_variables m) y →
       StandsFor (page_names symbols) 111 (map (λ (z : Existential). z.variable) (existentials_of f)) (output_of y) y
@@ -244,13 +220,7 @@ module _ (m : Dqbf) (f : Formula) (us : universals_of f ≡ m.universals)
   module _ (a bits inputs : ℕ → Bool) (fits : Fits (page_circuit net) inputs bits)
       (rows : All (λ x. inputs (input_of x) ≡ a x) (universals_of f)) where
     input_at : (i : ℕ) → i < length net.inputs → inputs i ≡ input_bits s.mapping a i
-    input_at i below =
-        let x = slice_index s.mapping.inputs i in
-        let within : i < length s.mapping.inputs = omega (arith, below, one.inputs_length, one.inputs.same_length) in
-        let known : Contains (universals_of f) x = subst (λ vs. Contains vs x) (sym us) (one.inputs.declared_alone i 0 within) in
-        let row = rows known.0 x known.1 in
-        ap inputs (sym (own_place s.mapping.inputs i one.inputs.distinct within))
-        ∙ (ap (λ v. inputs (input_of v)) (sym known.2) ∙ (row ∙ ap a known.2))
+    input_at i below = search (arith, own_place)
 
     valuation : IsValuation net (input_bits s.mapping a) bits
     valuation =
@@ -296,11 +266,7 @@ module _ (m : Dqbf) (f : Formula) (us : universals_of f ≡ m.universals)
 
   read_at : (k : ℕ) (d : Existential) → k < length (existentials_of f) →
       (k < length m.existentials) × (get_or m.existentials k (read_existential d) ≡ read_existential (get_or (existentials_of f) k d))
-  read_at k d below = (
-    omega (arith, below, length-map (existentials_of f) read_existential, ap length es),
-    ap (λ ys. get_or ys k (read_existential d)) (sym es)
-        ∙ get_or-map read_existential (existentials_of f) k d (read_existential d) below,
-  )
+  read_at k d below = search (arith, length-map, get_or-map)
 
   of_page : (k : ℕ) (d : Existential) → k < length (existentials_of f) →
       Contains (existential_variables m) (get_or (existentials_of f) k d).variable

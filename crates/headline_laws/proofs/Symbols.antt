@@ -1,11 +1,11 @@
 -- What a token is to the reader, and what it spells on the page.
-use Rattle.std.proofs.Common.{◌≡◌, ◌≢◌, ℕ, ◌^◌, ◌<◌, ◌==◌, suc, zero, pos, negsuc, neg_ℤ, nat_lt, Bool, true, false, not, ◌||◌, cond, List, [], ◌∷◌, ◌++◌, map, codes, refl, sym, ◌∙◌, ap, subst, arith}
+use Rattle.std.proofs.Common.{◌≡◌, ◌≢◌, ℕ, ◌==◌, suc, zero, pos, negsuc, neg_ℤ, nat_lt, Bool, true, false, cond, List, [], ◌∷◌, ◌++◌, map, codes, refl, sym, ap, subst, arith}
 use Rattle.std.specs.List.{AllZip, list_all}
 use Rattle.std.specs.Char.{is_ascii_digit}
 use Rattle.std.specs.Str.{bytes_eq}
 use Rattle.std.proofs.lemmas.Bool.{eqb-true, ltb-true}
 use Rattle.std.proofs.lemmas.Slice.Eq.{bytes_eq-Decides}
-use Rattle.dq_text.specs.Number.{are_digits, begins_with_minus, decimal_value, negative_of, number_of, unsigned_of}
+use Rattle.dq_text.specs.Number.{are_digits, begins_with_minus, negative_of, number_of, unsigned_of}
 use Rattle.dq_text.specs.declared.numbers.Number.{Number}
 use Rattle.dq_text.specs.declared.numbers.Number.TheVariants.{Int, NotANumber, TooBig}
 use Rattle.dqdimacs_reader.specs.Lexeme.{lexeme_of, number_lexeme}
@@ -75,35 +75,17 @@ number_in token = number_lexeme (begins_with_minus token) (number_of token)
 word_test : (token : List ℕ) (l : Lexeme) → lexeme_of token ≡ l →
     test_at (place l) (is token (codes "p")) (is token (codes "cnf")) (is token (codes "a")) (is token (codes "d"))
     (is token (codes "e")) (is token (codes "x")) ≡ true
-word_test token l same =
-    subst (λ k. test_at (place k) (is token (codes "p")) (is token (codes "cnf")) (is token (codes "a")) (is token (codes "d"))
-    (is token (codes "e")) (is token (codes "x")) ≡ true) same
-    (by_test (is token (codes "p")) (is token (codes "cnf")) (is token (codes "a")) (is token (codes "d")) (is token (codes "e"))
-    (is token (codes "x")) (number_in token) (no_word (begins_with_minus token) (number_of token)))
+word_test token l same = search (arith, codes, by_test)
 
 number_there : (token : List ℕ) (l : Lexeme) → place l ≡ 0 → lexeme_of token ≡ l → number_in token ≡ l
-number_there token l none same =
-    sym (no_test (is token (codes "p")) (is token (codes "cnf")) (is token (codes "a")) (is token (codes "d")) (is token (codes "e"))
-    (is token (codes "x")) (number_in token) (ap place same ∙ none)) ∙ same
+number_there token l none same = search (arith, no_test, codes)
 
 -- numbers
 natural_is : (minus : Bool) (n : Number) (v : ℕ) → number_lexeme minus n ≡ Natural v → n ≡ Int (pos v)
 natural_is minus NotANumber v h = cc
 natural_is true TooBig v h = cc
 natural_is false TooBig v h = cc
-natural_is minus (Int (pos n)) v h = ap (λ l. Int (pos (number l))) h where
-  number : Lexeme → ℕ
-  number (Natural n) = n
-  number P = 0
-  number Cnf = 0
-  number A = 0
-  number D = 0
-  number E = 0
-  number X = 0
-  number (Negative n) = 0
-  number Large = 0
-  number NegativeLarge = 0
-  number Other = 0
+natural_is minus (Int (pos n)) v h = search arith
 natural_is minus (Int (negsuc n)) v h = cc
 
 negative_is : (minus : Bool) (n : Number) (v : ℕ) → number_lexeme minus n ≡ Negative v →
@@ -123,62 +105,17 @@ all_digits [] h = refl
 all_digits (d ∷ ds) h = h
 
 unsigned_is : (ds : List ℕ) (v : ℕ) → unsigned_of ds ≡ Int (pos v) → IsNatural ds v
-unsigned_is ds v h = by (are_digits ds) (nat_lt (decimal_value ds) (10 ^ 18)) refl refl h where
-  by : (digits small : Bool) → are_digits ds ≡ digits → nat_lt (decimal_value ds) (10 ^ 18) ≡ small →
-      cond (not digits) NotANumber (cond small (Int (pos (decimal_value ds))) TooBig) ≡ Int (pos v) → IsNatural ds v
-  by false small d s same = cc
-  by true false d s same = cc
-  by true true d s same = record {
-    some = some_digits ds d;
-    digits = all_digits ds d;
-    value = cc;
-    small = subst (λ n. n < 10 ^ 18) (the_value same) (ltb-true (decimal_value ds) (10 ^ 18) s);
-  } where
-    the_value : Int (pos (decimal_value ds)) ≡ Int (pos v) → decimal_value ds ≡ v
-    the_value e = cc
+unsigned_is ds v h = search (arith, nat_lt, pos, some_digits, ltb-true)
 
 negative_digits : (ds : List ℕ) (k : ℕ) → negative_of ds ≡ Int (negsuc k) → IsNatural ds (suc k)
-negative_digits ds k h = by (are_digits ds) (decimal_value ds == 0) (nat_lt (decimal_value ds) (10 ^ 18)) refl refl refl h where
-  next : (v : ℕ) → Int (neg_ℤ (pos v)) ≡ Int (negsuc k) → v ≡ suc k
-  next zero same = cc
-  next (suc v) same = cc
-
-  by : (digits none small : Bool) → are_digits ds ≡ digits → (decimal_value ds == 0) ≡ none →
-      nat_lt (decimal_value ds) (10 ^ 18) ≡ small →
-      cond (not digits || none) NotANumber (cond small (Int (neg_ℤ (pos (decimal_value ds)))) TooBig) ≡ Int (negsuc k) →
-      IsNatural ds (suc k)
-  by false none small d z s same = cc
-  by true true small d z s same = cc
-  by true false false d z s same = cc
-  by true false true d z s same = record {
-    some = some_digits ds d;
-    digits = all_digits ds d;
-    value = sym (next (decimal_value ds) same);
-    small = subst (λ n. n < 10 ^ 18) (next (decimal_value ds) same) (ltb-true (decimal_value ds) (10 ^ 18) s);
-  }
+negative_digits ds k h = search (arith, nat_lt, neg_ℤ, pos, negsuc, some_digits, ltb-true)
 
 -- no natural stands behind a minus
 no_natural : (ds : List ℕ) (v : ℕ) → negative_of ds ≡ Int (pos v) → IsNatural (45 ∷ ds) v
-no_natural ds v h = by (are_digits ds) (decimal_value ds == 0) (nat_lt (decimal_value ds) (10 ^ 18)) refl h where
-  apart : (n : ℕ) → (n == 0) ≡ false → Int (neg_ℤ (pos n)) ≡ Int (pos v) → ⊥
-  apart zero some e = cc
-  apart (suc n) some e = cc
-
-  by : (digits none small : Bool) → (decimal_value ds == 0) ≡ none →
-      cond (not digits || none) NotANumber (cond small (Int (neg_ℤ (pos (decimal_value ds)))) TooBig) ≡ Int (pos v) →
-      IsNatural (45 ∷ ds) v
-  by false none small z same = cc
-  by true true small z same = cc
-  by true false false z same = cc
-  by true false true z same = absurd (apart (decimal_value ds) z same)
+no_natural ds v h = search (arith, nat_lt, neg_ℤ, pos)
 
 no_minus : (ds : List ℕ) (k : ℕ) → unsigned_of ds ≡ Int (negsuc k) → IsNatural ds (suc k)
-no_minus ds k h = by (are_digits ds) (nat_lt (decimal_value ds) (10 ^ 18)) h where
-  by : (digits small : Bool) →
-      cond (not digits) NotANumber (cond small (Int (pos (decimal_value ds))) TooBig) ≡ Int (negsuc k) → IsNatural ds (suc k)
-  by false small same = cc
-  by true false same = cc
-  by true true same = cc
+no_minus ds k h = search (arith, nat_lt, pos, negsuc)
 
 pub natural_number : (token : List ℕ) (v : ℕ) → number_of token ≡ Int (pos v) → IsNatural token v
 natural_number [] v h = cc
@@ -190,16 +127,7 @@ natural_number (byte ∷ bytes) v h = by (byte == 45) refl h where
 
 pub negative_number : (token : List ℕ) (k : ℕ) → number_of token ≡ Int (negsuc k) → Spells token (negative (suc k))
 negative_number [] k h = cc
-negative_number (byte ∷ bytes) k h = by (byte == 45) refl h where
-  by : (minus : Bool) → (byte == 45) ≡ minus →
-      cond minus (negative_of bytes) (unsigned_of (byte ∷ bytes)) ≡ Int (negsuc k) → Spells (byte ∷ bytes) (negative (suc k))
-  by true m same = (bytes, ap (λ b. b ∷ bytes) (eqb-true byte 45 m), negative_digits bytes k same, omega arith)
-  by false m same = absurd (never (are_digits (byte ∷ bytes)) (nat_lt (decimal_value (byte ∷ bytes)) (10 ^ 18)) same) where
-    never : (digits small : Bool) →
-        cond (not digits) NotANumber (cond small (Int (pos (decimal_value (byte ∷ bytes)))) TooBig) ≡ Int (negsuc k) → ⊥
-    never false small e = cc
-    never true false e = cc
-    never true true e = cc
+negative_number (byte ∷ bytes) k h = search (arith, negsuc, eqb-true, negative_digits, nat_lt, pos)
 
 -- a lexeme, and what each token of it spells on the page
 abbrev pub Stands : Lexeme → Symbol → Type 0

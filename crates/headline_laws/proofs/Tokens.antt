@@ -1,5 +1,5 @@
 -- The page's lines, words and tokens are those of the reader.
-use Rattle.std.proofs.Common.{◌≡◌, ℕ, ◌+◌, ◌==◌, Bool, true, false, not, ◌||◌, cond, List, [], ◌∷◌, ◌++◌, map, refl, sym, ◌∙◌, ap}
+use Rattle.std.proofs.Common.{◌≡◌, ℕ, ◌+◌, ◌==◌, Bool, true, false, not, ◌||◌, cond, List, [], ◌∷◌, ◌++◌, map, refl, sym, ◌∙◌, ap, arith}
 use Rattle.std.specs.List.{AllByRecursion, flat_map}
 use Rattle.dq_text.specs.Bytes.{kind_of}
 use Rattle.dq_text.specs.Line.{TextLine, lines_from, extend_line, line_tokens, extend_token}
@@ -23,10 +23,7 @@ same_space byte = same_test (byte == 32) (byte == 9) (byte == 13) (byte == 10) (
 
 ends_where : (bytes : List ℕ) → ends_word bytes ≡ not (goes_on bytes)
 ends_where [] = refl
-ends_where (byte ∷ bytes) = same_space byte ∙ twice (is_separator (kind_of byte)) where
-  twice : (b : Bool) → b ≡ not (not b)
-  twice true = refl
-  twice false = refl
+ends_where (byte ∷ bytes) = search (arith, same_space)
 
 -- some words
 abbrev IsSome : List (List ℕ) → Type 0
@@ -45,18 +42,7 @@ some_token (byte ∷ bytes) h = by (is_separator (kind_of byte)) (goes_on bytes)
 
 pub words_are : (bytes : List ℕ) → words bytes ≡ line_tokens bytes
 words_are [] = refl
-words_are (byte ∷ bytes) =
-    ap (λ s. cond s (words bytes) (cond (ends_word bytes) ((byte ∷ []) ∷ words bytes) (put_front byte (words bytes)))) (same_space byte)
-    ∙ (ap (λ e. cond (is_separator (kind_of byte)) (words bytes) (cond e ((byte ∷ []) ∷ words bytes) (put_front byte (words bytes)))) (ends_where bytes)
-    ∙ (ap (λ ws. cond (is_separator (kind_of byte)) ws (cond (not (goes_on bytes)) ((byte ∷ []) ∷ ws) (put_front byte ws))) (words_are bytes)
-    ∙ step (is_separator (kind_of byte)) (goes_on bytes) (some_token bytes)))
-  where
-    step : (s g : Bool) → (g ≡ true → IsSome (line_tokens bytes)) →
-        cond s (line_tokens bytes) (cond (not g) ((byte ∷ []) ∷ line_tokens bytes) (put_front byte (line_tokens bytes)))
-        ≡ cond s (line_tokens bytes) (cond g (extend_token byte (line_tokens bytes)) ((byte ∷ []) ∷ line_tokens bytes))
-    step true g some = refl
-    step false false some = refl
-    step false true some = ap (put_front byte) (some refl).1.1 ∙ sym (ap (extend_token byte) (some refl).1.1)
+words_are (byte ∷ bytes) = search (arith, same_space, ends_where, (words_are bytes), some_token)
 
 abbrev pub texts : List TextLine → List (List ℕ)
 texts ls = map (λ l. l.text) ls
@@ -84,16 +70,8 @@ AreLines ls = AllByRecursion (λ (l : TextLine). HasNone l.text) ls
 
 lines_have_none : (number : ℕ) (text : List ℕ) → AreLines (lines_from number text)
 lines_have_none number [] = tt
-lines_have_none number (byte ∷ bytes) = by (lines_have_none number bytes) (lines_have_none (number + 1) bytes) (byte == 10) refl where
-  front : (ls : List TextLine) → (byte == 10) ≡ false → AreLines ls → AreLines (extend_line byte number ls)
-  front [] other each = ((other, tt), tt)
-  front (l ∷ ls) other each = ((other, each.0), each.1)
-
-  by : AreLines (lines_from number bytes) → AreLines (lines_from (number + 1) bytes) → (feed : Bool) → (byte == 10) ≡ feed →
-      AreLines (cond feed (record { text = []; number = number; behind = bytes } ∷ lines_from (number + 1) bytes)
-      (extend_line byte number (lines_from number bytes)))
-  by here behind true is = (tt, behind)
-  by here behind false is = front (lines_from number bytes) is here
+lines_have_none number (byte ∷ bytes) =
+    search (arith, (lines_have_none number bytes), (lines_have_none (number + 1) bytes))
 
 -- a comment is one by its first word
 first_byte : (e : Bool) (byte : ℕ) (ws : List (List ℕ)) →
@@ -114,16 +92,7 @@ same_comment false false false false false rest other = refl
 
 comments_are : (line : List ℕ) → HasNone line → is_comment (words line) ≡ is_comment_line line
 comments_are [] none = refl
-comments_are (byte ∷ bytes) none =
-    chosen (is_space byte)
-    ∙ (ap (λ c. cond (is_space byte) c (byte == 99)) (comments_are bytes none.1)
-    ∙ same_comment (byte == 32) (byte == 9) (byte == 13) (byte == 10) (byte == 99) (is_comment_line bytes) none.0)
-  where
-    chosen : (s : Bool) →
-        is_comment (cond s (words bytes) (cond (ends_word bytes) ((byte ∷ []) ∷ words bytes) (put_front byte (words bytes))))
-        ≡ cond s (is_comment (words bytes)) (byte == 99)
-    chosen true = refl
-    chosen false = first_byte (ends_word bytes) byte (words bytes)
+comments_are (byte ∷ bytes) none = search (arith, (comments_are bytes none.1), same_comment)
 
 -- the tokens of a line, and none of a comment
 abbrev page_tokens : List ℕ → List (List ℕ)

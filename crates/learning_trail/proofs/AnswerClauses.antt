@@ -1,6 +1,6 @@
 -- Where the whole trail is taken back, the clause that is noted is derived by the hints, and keeps
 -- the selectors of what they hint.
-use Rattle.std.proofs.Common.{◌≡◌, ℕ, Bool, true, false, inl, inr, List, [], map, Option, Some, None, IsSome, Contains, refl, sym, ◌∙◌, ap}
+use Rattle.std.proofs.Common.{◌≡◌, ℕ, Bool, true, false, inl, inr, List, [], map, Option, Some, None, IsSome, Contains, refl, sym, ◌∙◌, ap, arith}
 use Rattle.std.proofs.lemmas.Bool.{false≢true}
 use Rattle.dq_lits.specs.Literal.{Literal, variable_of, opposite}
 use Rattle.dq_lits.specs.Derivation.{holds, is_tautology, IsDerived}
@@ -47,8 +47,7 @@ module _ (held : List (List Literal)) (resting : List Bool) (variables : ℕ) (e
     where
       by : (o : Option (List Literal)) → live_in held h ≡ o → IsSome o → live_in held h ≡ clause_at entries h
       by None e n = absurd (false≢true n)
-      by (Some c) e n = awake_same held resting variables entries fit assumptions awake h c e
-          (λ l m sel. active l (tied_here h has c e l m sel) sel)
+      by (Some c) e n = search (arith, awake_same, tied_here)
 
   pub concluded_derived : IsDerived (clause_at entries) clause hints
   concluded_derived = derived-on (live_in held) (clause_at entries) clause hints hint_same

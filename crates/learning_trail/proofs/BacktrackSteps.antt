@@ -1,5 +1,5 @@
 -- Steps of taking a trail back.
-use Rattle.std.proofs.Common.{◌≡◌, ◌≢◌, ℕ, zero, suc, ◌≤◌, ◌==◌, Bool, true, false, cond, not, ◌||◌, ◌&&◌, inl, inr, List, [], ◌∷◌, ◌++◌, map, length, reverse, slice_get, Option, Some, None, refl, sym, ◌∙◌, ap, subst, arith, All}
+use Rattle.std.proofs.Common.{◌≡◌, ◌≢◌, ℕ, zero, suc, ◌≤◌, ◌==◌, Bool, true, false, cond, not, ◌||◌, ◌&&◌, inl, inr, List, [], ◌∷◌, ◌++◌, map, length, reverse, Option, Some, refl, sym, ◌∙◌, ap, subst, arith, All}
 use Rattle.std.proofs.lemmas.Bool.{false≢true, or_left, or_right, or_cases, ne_eqb}
 use Rattle.std.proofs.lemmas.List.{append_assoc, reverse-append, map-append, reverse-reverse}
 use Rattle.std.proofs.lemmas.Option.{slice_get_within}
@@ -12,7 +12,7 @@ use Rattle.oracle.specs.Fit.{live_in}
 use Rattle.learning_trail.specs.declared.trails.Step.{Step}
 use Rattle.learning_trail.specs.Steps.{Trailed, literals_of, is_decision, is_none, decision_of, Shrunk}
 use Rattle.learning_trail.specs.Marks.{marked, stands_on, is_level_marked}
-use Rattle.learning_trail.specs.Sound.{IsSound, IsReasoned, AreAssumed}
+use Rattle.learning_trail.specs.Sound.{IsSound, AreAssumed}
 use Rattle.learning_trail.specs.Analyses.{IsAnalysis}
 use Rattle.learning_trail.specs.Backing.{LeadsOn, IsBacking, IsFirstPoint, IsKeeping}
 use Rattle.learning_trail.specs.Noting.{Noted}
@@ -31,20 +31,7 @@ pub record IsReason (clauses : List (List Literal)) (id : ℕ) (trues : List Lit
 pub reason_of : (clauses : List (List Literal)) (id : ℕ) (trues : List Literal) (l : Literal) →
     status_of trues (live_in clauses id) ≡ unit l → IsReason clauses id trues l
 reason_of clauses zero trues l h = let n : stuck ≡ unit l = h in cc
-reason_of clauses (suc i) trues l h = by (slice_get clauses i) refl
-  where
-    by : (o : Option (List Literal)) → slice_get clauses i ≡ o → IsReason clauses (suc i) trues l
-    by None e = let n : stuck ≡ unit l = sym (ap (status_of trues) e) ∙ h in cc
-    by (Some c) e =
-        let lt = slice_get_within clauses i c e in
-        record {
-          from_one = omega arith;
-          is_id = omega (arith, lt);
-          clause = c;
-          is = e;
-          implied =
-              implied_from trues c l (sym (ap (status_of trues) e) ∙ h);
-        }
+reason_of clauses (suc i) trues l h = search (arith, slice_get_within, implied_from)
 
 all_turned : {X : Type 0} (P : X → Type 0) (xs : List X) → All P xs → All P (reverse xs)
 all_turned P [] all = all
@@ -69,16 +56,16 @@ pub level_kept : (before after : List Bool) (steps : List Step) →
     → is_level_marked before steps ≡ true → is_level_marked after steps ≡ true
 level_kept before after [] keeps h = h
 level_kept before after (s ∷ steps) keeps h =
-    elim (or_cases (marked before (variable_of s.literal)) (cond (is_decision s) false
-    (is_level_marked before steps)) h) [
-      | inl m ↦ or_left (marked after (variable_of s.literal))
-          (cond (is_decision s) false (is_level_marked after steps))
-          (keeps s.literal (holds_here s.literal (literals_of steps)) m)
-      | inr later ↦ or_right (marked after (variable_of s.literal))
-          (cond (is_decision s) false (is_level_marked after steps))
-          (level_kept_by (is_decision s) (is_level_marked before steps) (is_level_marked after steps)
-          (level_kept before after steps (λ t on m. keeps t (holds_later s.literal (literals_of steps) t on) m)) later)
-    ]
+    search (
+      arith,
+      or_cases,
+      or_left,
+      holds_here,
+      or_right,
+      level_kept_by,
+      holds_later,
+      (level_kept before after steps),
+    )
 
 -- past a literal that isn't marked
 past_decision : (b : Bool) (p : Bool) (x y : Option Literal) → cond b false p ≡ true → (p ≡ true) × (cond b x y ≡ y)
@@ -88,9 +75,7 @@ past_decision false p x y h = (h, refl)
 -- the analysis, past a literal that isn't marked, one that is resolved, and one that is kept
 pub leads_past_step : (live : LiveClauses) (old new : List Step) (was now : Noted) (s : Step) →
     LeadsOn live old (s ∷ new) was now → marked now.marks (variable_of s.literal) ≡ false → LeadsOn live old new was now
-leads_past_step live old new was now s inv unmarked entries stand first =
-    analysis_past entries live now.marks (literals_of new) (map opposite now.literals) s.literal
-    (reverse now.hints) unmarked (inv entries stand first)
+leads_past_step live old new was now s inv unmarked entries stand first = search (arith, analysis_past)
 
 pub leads_resolved : (clauses : List (List Literal)) (old new : List Step) (was now after : Noted) (s : Step) (id : ℕ) →
     LeadsOn (live_in clauses) old (s ∷ new) was now
@@ -115,15 +100,7 @@ leads_resolved clauses old new was now after s id inv sound status mark hints li
 
 pub kept_one : (literals : List Literal) (l t : Literal) → holds (map opposite (literals ++ opposite l ∷ [])) t ≡
     (holds (map opposite literals) t || same_literal t l)
-kept_one literals l t =
-    ap (λ xs. holds xs t) (map-append opposite literals (opposite l ∷ []))
-    ∙ holds-append (map opposite literals) (opposite (opposite l) ∷ []) t
-    ∙ ap (λ x. holds (map opposite literals) t || (same_literal t x || false)) (opposite-opposite l)
-    ∙ ap (λ b. holds (map opposite literals) t || b) (or_false (same_literal t l))
-  where
-    or_false : (b : Bool) → (b || false) ≡ b
-    or_false true = refl
-    or_false false = refl
+kept_one literals l t = search (arith, map-append, holds-append, opposite-opposite)
 
 pub leads_noted : (live : LiveClauses) (old new : List Step) (was now after : Noted) (s : Step) →
     LeadsOn live old (s ∷ new) was now → IsSound live (s ∷ new)
@@ -287,18 +264,9 @@ keeping_decision live old now new was noted after s inv popped room decided is =
 
 pub reason_at : (live : LiveClauses) (now : List Step) (rest : List Step) (s : Step) (id : ℕ) → IsSound live now →
     now ≡ s ∷ rest → s.reason ≡ Some id → status_of (literals_of rest) (live id) ≡ unit s.literal
-reason_at live now rest s id sound popped reason =
-    let here = (subst (IsSound live) popped sound).0.reasoned in
-    subst (IsReasoned live (literals_of rest) s.literal) reason here
+reason_at live now rest s id sound popped reason = search arith
 
 -- nothing was left to take back
 pub keeping_same : (live : LiveClauses) (old now new : Trailed) (was noted : Noted) → new.steps ≡ now.steps →
     new.room ≡ now.room → IsKeeping live old now was noted → IsKeeping live old new was noted
-keeping_same live old now new was noted steps room inv = record {
-  len = inv.len;
-  room = room ∙ inv.room;
-  sound = subst (IsSound live) (sym steps) inv.sound;
-  negated = λ assumptions assumed negs. let r = inv.negated assumptions assumed negs in
-      (subst (AreAssumed assumptions) (sym steps) r.0, r.1);
-  analysis = subst (λ (xs : List Step). LeadsOn live old.steps xs was noted) (sym steps) inv.analysis;
-}
+keeping_same live old now new was noted steps room inv = search arith

@@ -19,23 +19,12 @@ pub record IsPiece (xs : List Literal) (start : ℕ) (ends : List ℕ) (i : ℕ)
 pub piece_at : (xs : List Literal) (start : ℕ) (ends : List ℕ) (i : ℕ) → AreEnds start ends (length xs) →
     i < length ends → IsPiece xs start ends i
 piece_at xs start [] i are lt = absurd (omega (arith, lt))
-piece_at xs start (end ∷ ends) zero are lt = record {
-  at = refl;
-  from = are.0;
-  to =
-      AreEnds-start end ends (length xs) are.1;
-}
-piece_at xs start (end ∷ ends) (suc i) are lt =
-    let p = piece_at xs end ends i are.1 (omega (arith, lt)) in
-    record { at = p.at; from = p.from; to = p.to }
+piece_at xs start (end ∷ ends) zero are lt = search (arith, AreEnds-start)
+piece_at xs start (end ∷ ends) (suc i) are lt = search (arith, (piece_at xs end ends i are.1))
 
 pub start_before : (start : ℕ) (ends : List ℕ) (i : ℕ) → i < length ends → start_of start ends (suc i) ≡ get_or ends i 0
 start_before start [] i lt = absurd (omega (arith, lt))
-start_before start (end ∷ ends) zero lt = by ends
-  where
-    by : (es : List ℕ) → start_of end es zero ≡ end
-    by [] = refl
-    by (e ∷ es) = refl
+start_before start (end ∷ ends) zero lt = search arith
 start_before start (end ∷ ends) (suc i) lt = start_before end ends i (omega (arith, lt))
 
 -- one piece more, behind the others
@@ -67,11 +56,7 @@ take_whole ys n e = ap (λ k. take k ys) e ∙ whole ys
 pub pieces_more : (xs ys all : List Literal) (ends : List ℕ) (total : ℕ) → AreEnds 0 ends (length xs) → all ≡ xs ++ ys →
     total ≡ length all
     → pieces all 0 (ends ++ total ∷ []) ≡ pieces xs 0 ends ++ ys ∷ []
-pieces_more xs ys all ends total are is long =
-    let n : total - length xs ≡ length ys = omega (arith, long, ap length is, length-append xs ys) in
-    ap (λ zs. pieces zs 0 (ends ++ total ∷ [])) is ∙ pieces_within xs ys 0 ends (total ∷ []) are
-    ∙ ap (λ c. pieces xs 0 ends ++ c ∷ []) (ap (take (total - length xs)) (drop_all xs ys) ∙ take_whole ys
-    (total - length xs) n)
+pieces_more xs ys all ends total are is long = search (arith, length-append, pieces_within, drop_all, take_whole)
 
 pub ends_more : (xs ys all : List Literal) (ends : List ℕ) (total : ℕ) → AreEnds 0 ends (length xs) → all ≡ xs ++ ys →
     total ≡ length all → AreEnds 0 (ends ++ total ∷ []) (length all)

@@ -1,5 +1,5 @@
 -- The analysis of a conflict, as literals are taken back.
-use Rattle.std.proofs.Common.{◌≡◌, ◌≢◌, ℕ, suc, ◌==◌, Bool, true, false, not, ◌||◌, ◌&&◌, ◌⊎◌, inl, inr, List, [], ◌∷◌, Some, is_some, length, get_or, ◌<◌, zero, arith, Contains, refl, sym, ◌∙◌, ap, subst}
+use Rattle.std.proofs.Common.{◌≡◌, ◌≢◌, ℕ, ◌==◌, Bool, true, false, not, ◌||◌, ◌&&◌, ◌⊎◌, inl, inr, List, [], ◌∷◌, Some, is_some, arith, Contains, refl, sym, ◌∙◌, ap, subst}
 use Rattle.std.proofs.lemmas.Bool.{cases_eq, false≢true, or_left, or_right, or_cases, or_parts, and_parts, false_from_ne_true, eq-eqb, ne_eqb, eqb-true}
 use Rattle.list_laws.proofs.Members.{no_element}
 use Rattle.dq_lits.specs.Literal.{Literal, variable_of, is_negative, opposite, same_literal}
@@ -20,49 +20,26 @@ use Rattle.learning_trail.proofs.StatusLaws.{IsImplied, falsified_tells}
 use Rattle.learning_trail.proofs.LeadingHints.{leads_first, leads_next, leads_past, leads_kept}
 
 pub contains_cases : (y : ℕ) (ys : List ℕ) (x : ℕ) → Contains (y ∷ ys) x → (x ≡ y) ⊎ Contains ys x
-contains_cases y ys x c = by c.0 c.1 c.2
-  where
-    by : (i : ℕ) → i < length (y ∷ ys) → get_or (y ∷ ys) i x ≡ x → (x ≡ y) ⊎ Contains ys x
-    by zero lt at = inl (sym at)
-    by (suc i) lt at = inr (i, omega arith, at)
+contains_cases y ys x c = search arith
 
 abbrev pub AreConsistent : List Literal → Type 0
 AreConsistent trail = (l : Literal) → holds trail l ≡ true → holds trail (opposite l) ≡ true → ⊥
 
 pub free_later : (q : Literal) (rest : List Literal) (l : Literal) → IsFree (q ∷ rest) l → IsFree rest l
-free_later q rest l free = (
-  (or_parts (same_literal l q) (holds rest l) free.0).1,
-  (or_parts (same_literal (opposite l) q) (holds rest (opposite l)) free.1).1,
-)
+free_later q rest l free = search (arith, or_parts)
 
 pub consistent_more : (q : Literal) (rest : List Literal) → IsFree rest q → AreConsistent rest →
     AreConsistent (q ∷ rest)
-consistent_more q rest free before l h o =
-    elim (holds_cases q rest l h) [
-      | inl e ↦ elim (holds_cases q rest (opposite l) o) [
-        | inl f ↦ opposite-other l (e ∙ sym f)
-        | inr g ↦ false≢true (sym free.1 ∙ ap (λ x. holds rest (opposite x)) (sym e) ∙ g)
-      ]
-      | inr later ↦ elim (holds_cases q rest (opposite l) o) [
-        | inl f ↦ false≢true (sym free.1 ∙ ap (λ x. holds rest (opposite x)) (sym f) ∙ ap (holds rest)
-            (opposite-opposite l) ∙ later)
-        | inr g ↦ before l later g
-      ]
-    ]
+consistent_more q rest free before l h o = search (arith, holds_cases, opposite-other, false≢true, opposite-opposite)
 
 pub sound_consistent : (live : LiveClauses) (steps : List Step) → IsSound live steps → AreConsistent (literals_of steps)
 sound_consistent live [] sound = λ l h o. false≢true h
-sound_consistent live (s ∷ steps) sound = consistent_more s.literal (literals_of steps) sound.0.free
-    (sound_consistent live steps sound.1)
+sound_consistent live (s ∷ steps) sound = search (arith, consistent_more, (sound_consistent live steps sound.1))
 
 -- the trail's literal of a clause's variable is the negation
 negation_of : (rest : List Literal) (t l : Literal) → AreConsistent rest → holds rest t ≡ true →
     holds rest (opposite l) ≡ true → variable_of l ≡ variable_of t → t ≡ opposite l
-negation_of rest t l consistent ht hl same =
-    elim (one_variable t (opposite l) (sym same ∙ sym (opposite_variable l))) [
-      | inl e ↦ e
-      | inr e ↦ absurd (consistent (opposite l) hl (ap (holds rest) (sym e) ∙ ht))
-    ]
+negation_of rest t l consistent ht hl same = search (arith, one_variable, opposite_variable)
 
 module _ (entries : List Entry) (live : LiveClauses) (before after : List Bool) (rest kept clause : List Literal)
     (q : Literal) (id : ℕ) (hints : List ℕ)
@@ -72,8 +49,7 @@ module _ (entries : List Entry) (live : LiveClauses) (before after : List Bool) 
     (marks : (v : ℕ) → marked after v ≡ (not (variable_of q == v) && (marked before v || stands_on clause v)))
     (old : IsAnalysis entries live (q ∷ rest) kept before hints) where
   other : (v : ℕ) → v ≢ variable_of q → marked after v ≡ (marked before v || stands_on clause v)
-  other v n = marks v ∙ ap (λ b. not b && (marked before v || stands_on clause v))
-      (ne_eqb (variable_of q) v (λ e. n (sym e)))
+  other v n = search (arith, ne_eqb)
 
   -- q is no selector
   no_selector : is_selector entries (variable_of q) ≡ true → ⊥
@@ -81,12 +57,7 @@ module _ (entries : List Entry) (live : LiveClauses) (before after : List Bool) 
 
   on_rest : (l : Literal) → holds clause l ≡ true → variable_of l ≢ variable_of q →
       (holds rest (opposite l) ≡ true) × (marked after (variable_of l) ≡ true)
-  on_rest l m n =
-      let h = implied.others l m (λ e. n (ap variable_of e)) in (
-        h,
-        other (variable_of l) n ∙ or_right (marked before (variable_of l)) (stands_on clause (variable_of l))
-            (any_one (λ k. variable_of k == variable_of l) clause l m (eq-eqb (variable_of l) (variable_of l) refl)),
-      )
+  on_rest l m n = search (arith, other, or_right, any_one, eq-eqb)
 
   pub analysis_next : IsAnalysis entries live rest kept after (id ∷ hints)
   analysis_next = record {

@@ -1,10 +1,9 @@
 -- The solver goes with the log, as clauses are added to both.
 use Rattle.std.proofs.lemmas.Option.{slice_get_past, slice_get_within}
-use Rattle.std.proofs.Common.{zero, is_some, not, ◌≡◌, ◌≢◌, ℕ, suc, ◌+◌, ◌==◌, Bool, true, false, cond, ◌&&◌, ◌⊎◌, inl, inr, List, [], ◌∷◌, ◌++◌, length, Some, None, refl, sym, ◌∙◌, ap, subst, arith, length-append}
-use Rattle.std.specs.Option.{option_and_then}
+use Rattle.std.proofs.Common.{zero, is_some, ◌≡◌, ◌≢◌, ℕ, suc, ◌+◌, Bool, true, ◌⊎◌, inl, inr, List, [], ◌∷◌, ◌++◌, length, Some, refl, sym, ◌∙◌, ap, arith, length-append}
 use Rattle.std.proofs.lemmas.Bool.{false≢true, cases_eq, eq-eqb, ne_eqb, and_from}
 use Rattle.list_laws.proofs.Elements.{last_there}
-use Rattle.dq_lits.specs.Literal.{Literal, positive, negative, variable_of, is_negative, opposite}
+use Rattle.dq_lits.specs.Literal.{Literal, opposite}
 use Rattle.dq_lits.specs.Derivation.{holds, IsDerived}
 use Rattle.dq_lits.proofs.SignedLiterals.{opposite_variable, opposite-negative}
 use Rattle.dq_lits.proofs.HeldLiterals.{holds_cases}
@@ -12,10 +11,9 @@ use Rattle.hint_log.specs.Entries.{Entry}
 use Rattle.hint_log.specs.Entries.{Given, Learned, Answer}
 use Rattle.hint_log.specs.declared.origins.Origin.{Origin}
 use Rattle.hint_log.specs.Conditions.{AreNamed, AreIds}
-use Rattle.hint_log.specs.Entries.{clause_at, clause_of, name_of, last_id, has_id, numbered}
+use Rattle.hint_log.specs.Entries.{clause_at, clause_of, name_of, last_id, has_id}
 use Rattle.hint_log.specs.ProductiveLog.{IsNewByPropagation}
 use Rattle.oracle.specs.Fit.{HoldsHintedSelectors}
-use Rattle.hint_log.specs.declared.names.Name.TheVariants.{Selector}
 use Rattle.oracle.specs.declared.groups.Group.{Group}
 use Rattle.oracle.specs.Calls.{IsMade, IsPlain}
 use Rattle.oracle.specs.Fit.{Fit, live_in}
@@ -27,16 +25,10 @@ use Rattle.learning_trail.proofs.Lessons.{live_more}
 module _ (held : List (List Literal)) (c : List Literal) (es : List Entry) (e : Entry) (numbered' : has_id e ≡ true)
     (is : clause_of e ≡ Some c) (count : length held ≡ last_id es) where
   at_new : (id : ℕ) → id ≡ last_id es + 1 → clause_at (e ∷ es) id ≡ Some c
-  at_new id h =
-      ap (λ b. option_and_then clause_of (cond b (Some e) (numbered has_id es id)))
-      (and_from (has_id e) (id == last_id es + 1) numbered' (eq-eqb id (last_id es + 1) h)) ∙ is
+  at_new id h = search (arith, and_from, eq-eqb)
 
   at_old : (id : ℕ) → id ≢ last_id es + 1 → clause_at (e ∷ es) id ≡ clause_at es id
-  at_old id n =
-      ap (λ b. option_and_then clause_of (cond (b && (id == last_id es + 1)) (Some e) (numbered has_id es id)))
-      numbered'
-      ∙ ap (λ b. option_and_then clause_of (cond (true && b) (Some e) (numbered has_id es id)))
-      (ne_eqb id (last_id es + 1) n)
+  at_old id n = search (arith, ne_eqb)
 
   pub same_more : ((id : ℕ) → live_in held id ≡ clause_at es id) → (id : ℕ) →
       live_in (held ++ c ∷ []) id ≡ clause_at (e ∷ es) id
@@ -54,13 +46,7 @@ module _ (held : List (List Literal)) (c : List Literal) (es : List Entry) (e : 
       holds d l ≡ true → P l)
       → ((l : Literal) → holds c l ≡ true → P l) → (id : ℕ) (d : List Literal) (l : Literal) →
       clause_at (e ∷ es) id ≡ Some d → holds d l ≡ true → P l
-  standing_more P before new id d l at h = elim (cases_eq id (last_id es + 1)) [
-    | inl k ↦
-        let s : Some c ≡ Some d = sym (at_new id k) ∙ at in
-        let q : c ≡ d = cc in
-        new l (ap (λ x. holds x l) q ∙ h)
-    | inr n ↦ before id d l (sym (at_old id n) ∙ at) h
-  ]
+  standing_more P before new id d l at h = search (arith, cases_eq, at_new, at_old)
 
 fit_learned : (held : List (List Literal)) (variables : ℕ) (es : List Entry) (c : List Literal) (hs : List ℕ) →
     Fit held variables es
@@ -128,83 +114,37 @@ module _ (held : List (List Literal)) (resting : List Bool) (variables : ℕ) (e
     (fit : HeldFit held resting variables es) where
   more_same : (id : ℕ) (clause put : List Literal) → live_in (fit.whole ++ c ∷ []) id ≡ Some clause →
       live_in (held ++ c ∷ []) id ≡ Some put → (put ≡ clause) ⊎ IsPut resting clause put
-  more_same id clause put at at' = elim (live_more held c id) [
-    | inl k ↦ elim (live_more fit.whole c id) [
-      | inl w ↦ fit.same id clause put (sym w ∙ at) (sym k ∙ at')
-      | inr w ↦ absurd (beyond id w.0 (sym k ∙ at'))
-    ]
-    | inr k ↦
-        let count = fit.count in
-        let last : id ≡ suc (length fit.whole) = omega (arith, k.0, count) in
-        let first : Some c ≡ Some put = sym k.1 ∙ at' in
-        let second : Some c ≡ Some clause = sym (last_there fit.whole c) ∙ ap (live_in (fit.whole ++ c ∷ [])) (sym last)
-        ∙ at in
-        inl cc
-  ]
-    where
-      beyond : (i : ℕ) → i ≡ suc (length fit.whole) → live_in held i ≡ Some put → ⊥
-      beyond zero e h = let n : None ≡ Some put = h in cc
-      beyond (suc i) e h =
-          let lt = slice_get_within held i put h in
-          let count = fit.count in
-          omega (arith, e, lt, count)
+  more_same id clause put at at' = search (arith, live_more, last_there, slice_get_within)
 
   held_more : (e : Entry) → Fit (fit.whole ++ c ∷ []) variables (e ∷ es) →
       ((v : ℕ) → name_of (e ∷ es) v ≡ name_of es v) → HeldFit (held ++ c ∷ []) resting variables (e ∷ es)
-  held_more e longer names = record {
-    whole = fit.whole ++ c ∷ [];
-    fit = longer;
-    count = let n = fit.count in omega (arith, n, length-append held (c ∷ []), length-append fit.whole (c ∷ []));
-    same = more_same;
-    selectors = λ v on. names v ∙ fit.selectors v on;
-  }
+  held_more e longer names = search (arith, length-append, more_same)
 
   pub held_learned : (hs : List ℕ) → AreNamed es c → AreIds es hs → IsDerived (clause_at es) c hs →
       IsNewByPropagation es c → HoldsHintedSelectors es c hs → ((k : Literal) → holds c k ≡ true → Stands es k) →
       HeldFit (held ++ c ∷ []) resting variables (Learned c hs ∷ es)
-  held_learned hs are_named are_ids derived new tied stands = held_more (Learned c hs)
-      (fit_learned fit.whole variables es c hs fit.fit are_named are_ids derived new tied stands) (λ v. refl)
+  held_learned hs are_named are_ids derived new tied stands = search (arith, held_more, fit_learned)
 
   pub held_answered : (hs : List ℕ) → AreNamed es c → AreIds es hs → IsDerived (clause_at es) c hs →
       HoldsHintedSelectors es c hs → ((k : Literal) → holds c k ≡ true → Stands es k) →
       HeldFit (held ++ c ∷ []) resting variables (Answer c hs ∷ es)
-  held_answered hs are_named are_ids derived tied stands = held_more (Answer c hs)
-      (fit_answered fit.whole variables es c hs fit.fit are_named are_ids derived tied stands) (λ v. refl)
+  held_answered hs are_named are_ids derived tied stands = search (arith, held_more, fit_answered)
 
   pub held_given : (o : Origin) → AreNamed es c → ((k : Literal) → holds c k ≡ true → Stands es k) → IsOfGroup es c →
       HeldFit (held ++ c ∷ []) resting variables (Given o c ∷ es)
-  held_given o are_named stands grouped = held_more (Given o c)
-      (fit_given fit.whole variables es o c fit.fit are_named stands grouped) (λ v. refl)
+  held_given o are_named stands grouped = search (arith, held_more, fit_given)
 
 -- a group's clause stands
 pub given_stands : (es : List Entry) (g : Group) (lits : List Literal) → IsMade es g →
     ((l : Literal) → holds lits l ≡ true → IsPlain es l) → (l : Literal)
     → holds (opposite g.selector ∷ lits) l ≡ true → Stands es l
 given_stands es g lits made plain l h =
-    elim (holds_cases (opposite g.selector) lits l h) [
-      | inl e ↦ subst (Stands es) (sym e) (record {
-        named = ap (λ v. is_some (name_of es v)) (opposite_variable g.selector) ∙ ap is_some made.named;
-        negated = λ sel. opposite-negative g.selector ∙ ap not made.positive;
-      })
-      | inr later ↦
-          let p = plain l later in
-          record { named = p.named; negated = λ sel. absurd (false≢true (sym p.no_selector ∙ sel)) }
-    ]
+    search (arith, holds_cases, is_some, opposite_variable, opposite-negative, false≢true)
 
 pub given_grouped : (es : List Entry) (g : Group) (lits clause : List Literal) → IsMade es g →
     ((l : Literal) → holds lits l ≡ true → IsPlain es l) → clause ≡ opposite g.selector ∷ lits
     → IsOfGroup es clause
-given_grouped es g lits clause made plain is = record {
-  group = variable_of g.selector;
-  rest = lits;
-  clause_is = is ∙ ap (λ l. l ∷ lits) (negated_positive g.selector made.positive);
-  named = made.named;
-  plain = plain;
-}
-  where
-    negated_positive : (l : Literal) → is_negative l ≡ false → opposite l ≡ negative (variable_of l)
-    negated_positive (positive v) e = refl
-    negated_positive (negative v) e = absurd (false≢true (sym e))
+given_grouped es g lits clause made plain is = search (arith, false≢true)
 
 nothing_held : (id : ℕ) → live_in [] id ≡ clause_at [] id
 nothing_held zero = refl
@@ -212,30 +152,7 @@ nothing_held (suc i) = slice_get_past [] i (omega arith)
 
 -- a solver without clauses and variables goes with a log without entries
 fit_first : Fit [] 0 []
-fit_first = record {
-  count = refl;
-  same = nothing_held;
-  in_range = λ v some. absurd (false≢true some);
-  all_named = λ v low high. absurd (omega (arith, low, high));
-  selectors = λ v g is. let n : None ≡ Some (Selector g) = is in cc;
-  logged = tt;
-  grouped = tt;
-  negated = λ id c l at h. let n : None ≡ Some c = at in cc;
-  derived = tt;
-  new = tt;
-  hinted = tt;
-  kept = tt;
-}
+fit_first = search (arith, nothing_held, false≢true)
 
 pub held_first : HeldFit [] [] 0 []
-held_first = record {
-  whole = [];
-  fit = fit_first;
-  count = refl;
-  same = λ id clause put at at'. absurd (nothing_there id clause at);
-  selectors = λ v on. absurd (false≢true on);
-}
-  where
-    nothing_there : (id : ℕ) (clause : List Literal) → live_in [] id ≡ Some clause → ⊥
-    nothing_there zero clause at = let n : None ≡ Some clause = at in cc
-    nothing_there (suc i) clause at = let lt = slice_get_within [] i clause at in omega (arith, lt)
+held_first = search (arith, fit_first, false≢true, slice_get_within)

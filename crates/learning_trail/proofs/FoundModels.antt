@@ -1,5 +1,5 @@
 -- What a search is asked for, and the values that it found.
-use Rattle.std.proofs.Common.{◌≡◌, ℕ, zero, suc, ◌≤◌, true, false, cond, not, ◌⊎◌, inl, inr, List, [], ◌∷◌, ◌++◌, map, Some, None, IsSome, is_some, All, sym, ◌∙◌, ap, subst}
+use Rattle.std.proofs.Common.{◌≡◌, ℕ, zero, suc, ◌≤◌, true, false, not, ◌⊎◌, inl, inr, List, [], ◌∷◌, ◌++◌, map, Some, None, IsSome, is_some, All, sym, ◌∙◌, ap, subst, arith}
 use Rattle.std.specs.List.{list_any}
 use Rattle.std.proofs.lemmas.Bool.{false≢true, false_from_ne_true}
 use Rattle.std.proofs.lemmas.List.Elements.{All-head, All-tail, All-get_or}
@@ -20,7 +20,7 @@ use Rattle.oracle.specs.Calls.{IsMade, IsPlain, IsModelUnder, assumed}
 use Rattle.learning_trail.specs.Growing.{HasLearned}
 use Rattle.learning_trail.specs.Steps.{literals_of}
 use Rattle.dq_lits.specs.Truth.{literal_value}
-use Rattle.dq_lits.specs.declared.truth_values.TruthValue.TheVariants.{True, False, Unassigned}
+use Rattle.dq_lits.specs.declared.truth_values.TruthValue.TheVariants.{True}
 use Rattle.learning_trail.specs.Searching.{Searched, AreAssumptions, IsSatisfied}
 use Rattle.dq_lits.proofs.LiteralValues.{value_true}
 use Rattle.learning_trail.proofs.ConflictAnalysis.{AreConsistent, sound_consistent}
@@ -93,19 +93,14 @@ AreKept variables values trues =
 
 valued : (trues : List Literal) (l : Literal) → AreConsistent trues → holds trues l ≡ true →
     literal_value trues l ≡ True
-valued trues l consistent h =
-    let other : holds trues (opposite l) ≡ false = false_from_ne_true (holds trues (opposite l))
-    (λ o. consistent l h o) in
-    ap (λ b. cond b False (cond (holds trues l) True Unassigned)) other ∙ ap (λ b. cond b True Unassigned) h
+valued trues l consistent h = search (arith, false_from_ne_true)
 
 pub literal_kept : (variables : ℕ) (values : Assignment) (trues : List Literal) → AreKept variables values trues →
     AreConsistent trues → (l : Literal) → holds trues l ≡ true → 1 ≤ variable_of l → variable_of l ≤ variables →
     literal_true values l ≡ true
-literal_kept variables values trues kept consistent (positive v) h low high =
-    (kept v low high).1 (valued trues (positive v) consistent h)
+literal_kept variables values trues kept consistent (positive v) h low high = search (arith, valued)
 literal_kept variables values trues kept consistent (negative v) h low high =
-    ap not (false_from_ne_true (values v) (λ on.
-    consistent (negative v) h (value_true trues (positive v) ((kept v low high).0 on))))
+    search (arith, false_from_ne_true, value_true)
 
 module _ (assumptions : List Literal) (s : Searched) (values : Assignment) (old new : ProofLog)
     (fit : HeldFit s.clauses s.resting s.variables new.entries) (learned : HasLearned old new) (are : AreAssumptions old assumptions)
@@ -115,17 +110,11 @@ module _ (assumptions : List Literal) (s : Searched) (values : Assignment) (old 
 
   one : (l : Literal) → IsSome (name_of new.entries (variable_of l)) → holds trues l ≡ true →
       literal_true values l ≡ true
-  one l named h =
-      let r = fit.fit.in_range (variable_of l) named in
-      literal_kept s.variables values trues kept (sound_consistent (live_in s.clauses) s.trail.steps satisfied.sound) l h
-      r.0 r.1
+  one l named h = search (arith, literal_kept, sound_consistent)
 
   -- the selector of a group that rests is off
   off : (v : ℕ) → rests s.resting v ≡ true → values v ≡ false
-  off v on = false_from_ne_true (values v) (λ is.
-      let named : IsSome (name_of new.entries v) = ap is_some (fit.selectors v on) in
-      let r = fit.fit.in_range v named in
-      false≢true (sym (satisfied.off v on) ∙ value_true trues (positive v) ((kept v r.0 r.1).0 is)))
+  off v on = search (arith, false_from_ne_true, is_some, false≢true, value_true)
 
   clause_found : (id : ℕ) (c : List Literal) → clause_at new.entries id ≡ Some c →
       IsKeptAs s.clauses s.resting id c → list_any (literal_true values) c ≡ true

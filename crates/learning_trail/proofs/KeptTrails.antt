@@ -1,12 +1,12 @@
 -- How a trail is kept, as variables and literals come and go.
-use Rattle.std.proofs.Common.{◌≡◌, ℕ, suc, ◌+◌, ◌<◌, ◌≤◌, true, false, cond, inl, inr, List, [], ◌∷◌, ◌++◌, length, set, get_or, sym, ◌∙◌, ap, subst, arith, length-append}
+use Rattle.std.proofs.Common.{◌≡◌, ℕ, suc, ◌+◌, ◌<◌, ◌≤◌, true, cond, inl, inr, List, [], ◌∷◌, ◌++◌, length, set, get_or, sym, ◌∙◌, ap, subst, arith, length-append}
 use Rattle.std.specs.List.{All}
 use Rattle.std.proofs.lemmas.Bool.{cases_lt, false_from_ne_true}
 use Rattle.std.proofs.lemmas.List.{length-set, get_or_append_left}
 use Rattle.std.proofs.lemmas.List.Elements.{All-head, All-tail, All-cons, All-weaker}
 use Rattle.std.proofs.lemmas.List.Sums.{sum_by-append}
 use Rattle.std.proofs.Math.Seq.{get_or-append_seam}
-use Rattle.dq_lits.specs.Literal.{Literal, positive, negative, variable_of, opposite}
+use Rattle.dq_lits.specs.Literal.{Literal, positive, negative, variable_of}
 use Rattle.dq_lits.specs.Derivation.{holds}
 use Rattle.dq_lits.proofs.SignedLiterals.{opposite_variable}
 use Rattle.dq_lits.proofs.HeldLiterals.{holds_cases}
@@ -17,7 +17,7 @@ use Rattle.dq_lits.specs.Table.{IsTold}
 use Rattle.dq_lits.specs.Truth.{is_assigned}
 use Rattle.learning_trail.specs.TrailInside.{IsKept}
 use Rattle.dq_lits.specs.declared.truth_values.TruthValue.{TruthValue}
-use Rattle.dq_lits.specs.declared.truth_values.TruthValue.TheVariants.{True, False, Unassigned}
+use Rattle.dq_lits.specs.declared.truth_values.TruthValue.TheVariants.{Unassigned}
 use Rattle.learning_trail.proofs.AssignedLiterals.{tells_less, one_more, one_less}
 use Rattle.dq_lits.proofs.AssignedLiterals.{value_where_true, tells_more}
 
@@ -36,14 +36,7 @@ absent n (s ∷ xs) l all far h =
 -- a variable beyond those of the trail has no value
 pub far_value : (n : ℕ) (xs : List Step) (l : Literal) → All (λ s. variable_of s.literal ≤ n) xs → n < variable_of l →
     Unassigned ≡ literal_value (literals_of xs) l
-far_value n xs l all far =
-    let none : holds (literals_of xs) l ≡ false =
-    false_from_ne_true (holds (literals_of xs) l) (absent n xs l all far) in
-    let other : holds (literals_of xs) (opposite l) ≡ false =
-    false_from_ne_true (holds (literals_of xs) (opposite l))
-    (absent n xs (opposite l) all (subst (λ (v : ℕ). n < v) (sym (opposite_variable l)) far)) in
-    sym (ap (λ b. cond b False (cond (holds (literals_of xs) l) True Unassigned)) other
-    ∙ ap (λ b. cond b True Unassigned) none)
+far_value n xs l all far = search (arith, false_from_ne_true, absent, opposite_variable)
 
 pub kept_grown : (values : List TruthValue) (xs : List Step) → IsKept values xs → IsKept (values ++ Unassigned ∷ []) xs
 kept_grown values xs kept =

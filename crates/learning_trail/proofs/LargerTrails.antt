@@ -22,9 +22,7 @@ clause_read clauses i c lt at = slice_get-get_or clauses i c lt ∙ ap (λ x. So
 
 pub clause_within : (clauses : List (List Literal)) (room i : ℕ) (c : List Literal) → i < length clauses →
     get_or clauses i c ≡ c → AreWithin room clauses → All (λ l. variable_of l ≤ room) c
-clause_within clauses room i c lt at all =
-    let P : List Literal → Type 0 = λ d. All (λ (l : Literal). variable_of l ≤ room) d in
-    subst P at (All-get_or P clauses i c lt all)
+clause_within clauses room i c lt at all = search (arith, All-get_or)
 
 pub literal_within : (room : ℕ) (c : List Literal) (l : Literal) → All (λ k. variable_of k ≤ room) c →
     holds c l ≡ true → variable_of l ≤ room
@@ -80,6 +78,5 @@ pub opening_in : (clauses : List (List Literal)) (trues c : List Literal) (id : 
     → MatchOption found (list_any (holds trues) c ≡ true) (λ l. IsFree trues l × (holds c l ≡ true))
     → MatchOption found ((d : List Literal) → live_in clauses id ≡ Some d → list_any (holds trues) d ≡ true)
     (λ l. IsOpening clauses trues (Some l))
-opening_in clauses trues c id None is h = λ d at. (let s : Some c ≡ Some d = sym is ∙ at in let e : c ≡ d = cc in
-    ap (list_any (holds trues)) (sym e) ∙ h)
+opening_in clauses trues c id None is h = search arith
 opening_in clauses trues c id (Some l) is h = (h.0, c, contains_live clauses id c is, h.1)

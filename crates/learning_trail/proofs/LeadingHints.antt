@@ -1,8 +1,8 @@
 -- Hints lead to a conflict, as literals are taken back from a trail.
-use Rattle.std.proofs.Common.{◌≡◌, ◌≢◌, ℕ, ◌+◌, ◌==◌, Bool, true, false, cond, ◌||◌, ◌⊎◌, inl, inr, List, [], ◌∷◌, map, Some, refl, sym, ◌∙◌, ap}
+use Rattle.std.proofs.Common.{◌≡◌, ◌≢◌, ℕ, ◌+◌, ◌==◌, Bool, true, false, cond, ◌||◌, ◌⊎◌, inl, inr, List, [], ◌∷◌, map, Some, refl, sym, ◌∙◌, ap, arith}
 use Rattle.std.proofs.lemmas.Bool.{false≢true, or_left, or_right, false_from_ne_true, eq-eqb}
 use Rattle.dq_lits.specs.Literal.{Literal, variable_of, opposite}
-use Rattle.dq_lits.specs.Derivation.{LiveClauses, falsified, unit, holds, status_of, fault_by, hint_fault, is_tautology, IsDerived}
+use Rattle.dq_lits.specs.Derivation.{LiveClauses, unit, holds, status_of, fault_by, hint_fault, is_tautology, IsDerived}
 use Rattle.dq_lits.proofs.HeldLiterals.{any_one, holds_cases, holds_here, holds_later, holds-map}
 use Rattle.dq_lits.proofs.SignedLiterals.{opposite_variable, opposite-opposite}
 use Rattle.dq_lits.specs.Truth.{IsFree}
@@ -18,12 +18,7 @@ pub leads_first : (live : LiveClauses) (marks : List Bool) (trail kept clause : 
     ((holds trail (opposite l) ≡ true) × (marked marks (variable_of l) ≡ true)))
     → Leads live marks trail kept (id ∷ [])
 leads_first live marks trail kept clause id is false_by trues place keeps covers within =
-    let s : status_of trues (live id) ≡ falsified = ap (status_of trues) is ∙ is_falsified trues clause (λ l m.
-    elim (false_by l m) [
-      | inl k ↦ keeps (opposite l) k
-      | inr t ↦ covers (opposite l) t.0 (ap (marked marks) (opposite_variable l) ∙ t.1)
-    ]) in
-    ap (λ x. fault_by x place [] (λ l. hint_fault live (l ∷ trues) (place + 1) [])) s
+    search (arith, is_falsified, opposite_variable)
 
 -- a marked literal is resolved against its reason
 pub leads_next : (live : LiveClauses) (before after : List Bool) (rest kept clause : List Literal) (q : Literal)
@@ -86,15 +81,7 @@ pub leads_kept : (live : LiveClauses) (marks : List Bool) (rest kept more : List
     → ((t : Literal) → holds more t ≡ true → (holds kept t ≡ true) ⊎ (t ≡ q))
     → Leads live marks (q ∷ rest) kept hints → Leads live marks rest more hints
 leads_kept live marks rest kept more q hints still has only leads trues place keeps covers within =
-    leads trues place (λ t k. keeps t (still t k))
-    (λ t on m. elim (holds_cases q rest t on) [
-      | inl e ↦ keeps t (ap (holds more) e ∙ has)
-      | inr r ↦ covers t r m
-    ])
-    (λ t m. elim (within t m) [
-      | inl k ↦ elim (only t k) [ inl o ↦ inl o | inr e ↦ inr (ap (holds (q ∷ rest)) e ∙ holds_here q rest) ]
-      | inr r ↦ inr (holds_later q rest t r)
-    ])
+    search (arith, holds_cases, holds_here, holds_later)
 
 -- the clause of the negations of what is kept and marked is derived
 pub leads_line : (live : LiveClauses) (marks : List Bool) (trail kept clause : List Literal) (hints : List ℕ) →

@@ -1,5 +1,5 @@
 -- The clause that is taught, from the first point and what was noted below it.
-use Rattle.std.proofs.Common.{◌≡◌, ℕ, Bool, true, false, not, ◌⊎◌, inl, inr, List, [], ◌∷◌, ◌++◌, map, reverse, refl, sym, ◌∙◌, ap, subst}
+use Rattle.std.proofs.Common.{◌≡◌, ℕ, Bool, true, false, not, ◌⊎◌, inl, inr, List, [], ◌∷◌, ◌++◌, map, reverse, refl, sym, ◌∙◌, ap, subst, arith}
 use Rattle.std.proofs.lemmas.Bool.{false≢true, false_from_ne_true}
 use Rattle.std.proofs.lemmas.List.{append-nil}
 use Rattle.std.proofs.lemmas.List.Sorted.{list_any-IsPermutation, IsPermutation-reverse}
@@ -81,13 +81,7 @@ module _ (live : LiveClauses) (old mid : Trailed) (step : Step) (begun found add
 
   only : (l : Literal) → holds noted.literals l ≡ true → (l ≡ opposite step.literal) ⊎
       ((holds (literals_of mid.steps) (opposite l) ≡ true) × (marked noted.marks (variable_of l) ≡ true))
-  only l h = elim (trimmed.only l (sym (literals_are l) ∙ h)) [
-    | inl a ↦ elim (holds_cases (opposite step.literal) [] l (ap (λ ls. holds ls l) (sym added_is) ∙ a)) [
-      | inl e ↦ inl e
-      | inr none ↦ absurd (false≢true none)
-    ]
-    | inr r ↦ inr (ap (λ xs. holds (literals_of xs) (opposite l)) done_all ∙ r.0, marks_are (variable_of l) ∙ r.1)
-  ]
+  only l h = search (arith, literals_are, holds_cases, added_is, false≢true, done_all, marks_are)
 
   -- the literals of the clause were marked where the first point was found
   on_trail : (l : Literal) → holds noted.literals l ≡ true →

@@ -99,27 +99,12 @@ trail_assumed entries assumptions clauses (s ∷ steps) stand sound guided t on 
 pub below_closed : (live : LiveClauses) (steps : List Step) (d : Literal) → IsSound live steps →
     decision_of steps ≡ Some d → IsClosed live (literals_of (under_level steps))
 below_closed live [] d sound is = cc
-below_closed live (s ∷ steps) d sound is = by (is_decision s) refl (λ e. below_closed live steps d sound.1 e)
-  where
-    by : (b : Bool) → is_decision s ≡ b → (decision_of steps ≡ Some d → IsClosed live (literals_of (under_level steps)))
-        → IsClosed live (literals_of (cond b steps (under_level steps)))
-    by true e rest = by_reason s.reason e sound.0.reasoned
-      where
-        by_reason : (r : Option ℕ) → is_none r ≡ true → IsReasoned live (literals_of steps) s.literal r →
-            IsClosed live (literals_of steps)
-        by_reason None n closed = closed
-        by_reason (Some id) n closed = absurd (false≢true n)
-    by false e rest = rest (sym (ap (λ b. cond b (Some s.literal) (decision_of steps)) e) ∙ is)
+below_closed live (s ∷ steps) d sound is = search (arith, false≢true, (below_closed live steps d sound.1))
 
 below_holds : (steps : List Step) (t : Literal) → holds (literals_of (under_level steps)) t ≡ true →
     holds (literals_of steps) t ≡ true
 below_holds [] t h = h
-below_holds (s ∷ steps) t h = by (is_decision s) (below_holds steps t) h
-  where
-    by : (b : Bool) → (holds (literals_of (under_level steps)) t ≡ true → holds (literals_of steps) t ≡ true) →
-        holds (literals_of (cond b steps (under_level steps))) t ≡ true → holds (literals_of (s ∷ steps)) t ≡ true
-    by true rest g = holds_later s.literal (literals_of steps) t g
-    by false rest g = holds_later s.literal (literals_of steps) t (rest g)
+below_holds (s ∷ steps) t h = search (arith, holds_later, (below_holds steps t))
 
 -- the marked literals stand below a level that has no mark
 pub below_marked : (marks : List Bool) (steps : List Step) (t : Literal) → is_level_marked marks steps ≡ false →
@@ -127,24 +112,12 @@ pub below_marked : (marks : List Bool) (steps : List Step) (t : Literal) → is_
     → holds (literals_of (under_level steps)) t ≡ true
 below_marked marks [] t none h m = h
 below_marked marks (s ∷ steps) t none h m =
-    let p = or_parts (marked marks (variable_of s.literal)) (cond (is_decision s) false
-    (is_level_marked marks steps)) none in
-    elim (holds_cases s.literal (literals_of steps) t h) [
-      | inl e ↦ absurd (false≢true (sym p.0 ∙ ap (λ x. marked marks (variable_of x)) (sym e) ∙ m))
-      | inr later ↦ by (is_decision s) p.1 (λ n. below_marked marks steps t n later m) later
-    ]
-  where
-    by : (b : Bool) → cond b false (is_level_marked marks steps) ≡ false →
-        (is_level_marked marks steps ≡ false → holds (literals_of (under_level steps)) t ≡ true)
-        → holds (literals_of steps) t ≡ true → holds (literals_of (cond b steps (under_level steps))) t ≡ true
-    by true n rest on = on
-    by false n rest on = rest n
+    search (arith, or_parts, holds_cases, false≢true, (below_marked marks steps t))
 
 -- where the step was decided, its decision is the newest one
 newest_decision : (s : Step) (steps : List Step) (d : Literal) → is_decision s ≡ true →
     decision_of (s ∷ steps) ≡ Some d → s.literal ≡ d
-newest_decision s steps d decided is = let e : Some s.literal ≡ Some d =
-    sym (ap (λ b. cond b (Some s.literal) (decision_of steps)) decided) ∙ is in cc
+newest_decision s steps d decided is = search arith
 
 older_decision : (s : Step) (steps : List Step) (d : Literal) → is_decision s ≡ false →
     decision_of (s ∷ steps) ≡ Some d → decision_of steps ≡ Some d
@@ -176,12 +149,7 @@ module _ (entries : List Entry) (assumptions : List Literal) (clauses : List (Li
 
   -- the literals of the clause are negations of literals on the trail
   on_trail : (l : Literal) → holds clause l ≡ true → holds (literals_of (step ∷ new.steps)) (opposite l) ≡ true
-  on_trail l h = elim (lesson.only l h) [
-    | inl e ↦ ap (λ x. holds (literals_of (step ∷ new.steps)) (opposite x)) e ∙ ap
-        (holds (literals_of (step ∷ new.steps))) (opposite-opposite step.literal)
-        ∙ holds_here step.literal (literals_of new.steps)
-    | inr r ↦ holds_later step.literal (literals_of new.steps) (opposite l) r.0
-  ]
+  on_trail l h = search (arith, opposite-opposite, holds_here, holds_later)
 
   pub lesson_stands : (l : Literal) → holds clause l ≡ true → Stands entries l
   lesson_stands l h = record {
@@ -198,12 +166,10 @@ module _ (entries : List Entry) (assumptions : List Literal) (clauses : List (Li
       (opposite-negative l ∙ ap not (lesson.negated entries stand l h sel))
 
   pub lesson_derived : IsDerived (clause_at entries) clause hints
-  lesson_derived = concluded_derived clauses resting variables entries assumptions clause marks hints fit awake
-      lesson_active analysis
+  lesson_derived = search (arith, concluded_derived, lesson_active, analysis)
 
   pub lesson_tied : HoldsHintedSelectors entries clause hints
-  lesson_tied = concluded_tied clauses resting variables entries assumptions clause marks hints fit awake lesson_active
-      analysis
+  lesson_tied = search (arith, concluded_tied, lesson_active, analysis)
 
   pub lesson_no_selector : is_selector entries (variable_of step.literal) ≡ false
   lesson_no_selector = false_from_ne_true (is_selector entries (variable_of step.literal)) (λ sel.
@@ -243,20 +209,11 @@ module _ (entries : List Entry) (assumptions : List Literal) (clauses : List (Li
           (older_decision step new.steps d e (lesson.level ∙ decided))
 
   below_in : (t : Literal) → holds (literals_of below) t ≡ true → holds (literals_of new.steps) t ≡ true
-  below_in t h = by (is_decision step) h
-    where
-      by : (b : Bool) → holds (literals_of (cond b new.steps (under_level new.steps))) t ≡ true →
-          holds (literals_of new.steps) t ≡ true
-      by true g = g
-      by false g = below_holds new.steps t g
+  below_in t h = search (arith, below_holds)
 
   marked_below : (t : Literal) → holds (literals_of new.steps) t ≡ true → marked marks (variable_of t) ≡ true →
       holds (literals_of below) t ≡ true
-  marked_below t h m = by (is_decision step) refl
-    where
-      by : (b : Bool) → is_decision step ≡ b → holds (literals_of (cond b new.steps (under_level new.steps))) t ≡ true
-      by true e = h
-      by false e = below_marked marks new.steps t (lesson.first e) h m
+  marked_below t h m = search (arith, below_marked)
 
   -- no group that rests is switched on
   never_on : (v : ℕ) → rests resting v ≡ true → holds (literals_of below) (positive v) ≡ false
@@ -325,11 +282,7 @@ module _ (clauses : List (List Literal)) (clause : List Literal) where
           (get_or-append_seam clauses clause [] clause)
 
       past : (xs : List (List Literal)) (i : ℕ) → length xs ≤ i → slice_get xs i ≡ None
-      past xs i g = by (slice_get xs i) refl
-        where
-          by : (o : Option (List Literal)) → slice_get xs i ≡ o → o ≡ None
-          by None e = refl
-          by (Some x) e = let lt = slice_get_within xs i x e in absurd (omega (arith, lt, g))
+      past xs i g = search (arith, slice_get_within)
 
       long : (i : ℕ) → length clauses ≤ i → i ≢ length clauses → length (clauses ++ clause ∷ []) ≤ i
       long i g n = omega (arith, length-append clauses (clause ∷ []), g, n)
@@ -342,10 +295,7 @@ module _ (clauses : List (List Literal)) (clause : List Literal) where
 
   closed_more : (trues : List Literal) → IsClosed (live_in clauses) trues → status_of trues (Some clause) ≡ stuck →
       IsClosed (live_in (clauses ++ clause ∷ [])) trues
-  closed_more trues closed is id = elim (live_more id) [
-    | inl e ↦ ap (status_of trues) e ∙ closed id
-    | inr e ↦ ap (status_of trues) e.1 ∙ is
-  ]
+  closed_more trues closed is id = search (arith, live_more)
 
   unit_more : (trues : List Literal) (id : ℕ) (l : Literal) → status_of trues (live_in clauses id) ≡ unit l →
       status_of trues (live_in (clauses ++ clause ∷ []) id) ≡ unit l
@@ -360,13 +310,7 @@ module _ (clauses : List (List Literal)) (clause : List Literal) where
   pub sound_more : (steps : List Step) → IsSound (live_in clauses) steps → StuckBefore steps →
       IsSound (live_in (clauses ++ clause ∷ [])) steps
   sound_more [] sound stuck' = tt
-  sound_more (s ∷ steps) sound stuck' =
-      (record { free = sound.0.free; reasoned = by s.reason refl sound.0.reasoned }, sound_more steps sound.1 stuck'.1)
-    where
-      by : (r : Option ℕ) → s.reason ≡ r → IsReasoned (live_in clauses) (literals_of steps) s.literal r →
-          IsReasoned (live_in (clauses ++ clause ∷ [])) (literals_of steps) s.literal r
-      by None e closed = closed_more (literals_of steps) closed (stuck'.0 (ap is_none e))
-      by (Some id) e is = unit_more (literals_of steps) id s.literal is
+  sound_more (s ∷ steps) sound stuck' = search (arith, closed_more, unit_more, (sound_more steps sound.1 stuck'.1))
 
   -- two literals of the clause that are free below
   all_stuck : (live : LiveClauses) (steps : List Step) (p u : Literal) → IsSound live steps →
@@ -374,13 +318,13 @@ module _ (clauses : List (List Literal)) (clause : List Literal) where
       → IsFree (literals_of steps) p → IsFree (literals_of steps) u → StuckBefore steps
   all_stuck live [] p u sound hp hu n fp fu = tt
   all_stuck live (s ∷ steps) p u sound hp hu n fp fu =
-      let gp = free_later s.literal (literals_of steps) p fp in
-      let gu = free_later s.literal (literals_of steps) u fu in (
-        (λ _. stuck_from_two (literals_of steps) clause (opposite p) (opposite u) hp hu
-            (λ e. n (sym (opposite_variable p) ∙ ap variable_of e ∙ opposite_variable u))
-            (ap (holds (literals_of steps)) (opposite-opposite p) ∙ gp.0)
-            (ap (holds (literals_of steps)) (opposite-opposite u) ∙ gu.0)),
-        all_stuck live steps p u sound.1 hp hu n gp gu,
+      search (
+        arith,
+        free_later,
+        stuck_from_two,
+        opposite_variable,
+        opposite-opposite,
+        (all_stuck live steps p u sound.1 hp hu n),
       )
 
   not_decided : (b : Bool) (x : Literal) (o : Option Literal) → cond b (Some x) o ≡ None → (b ≡ false) × (o ≡ None)
@@ -389,9 +333,7 @@ module _ (clauses : List (List Literal)) (clause : List Literal) where
 
   pub no_decision_stuck : (steps : List Step) → decision_of steps ≡ None → StuckBefore steps
   no_decision_stuck [] none = tt
-  no_decision_stuck (s ∷ steps) none =
-      let r = not_decided (is_decision s) s.literal (decision_of steps) none in
-      ((λ t. absurd (false≢true (sym r.0 ∙ t))), no_decision_stuck steps r.1)
+  no_decision_stuck (s ∷ steps) none = search (arith, not_decided, false≢true, (no_decision_stuck steps))
 
   level_case : (b m : Bool) → cond b false m ≡ true → (b ≡ false) × (m ≡ true)
   level_case true m h = absurd (false≢true h)
@@ -405,32 +347,26 @@ module _ (clauses : List (List Literal)) (clause : List Literal) where
       → holds clause (opposite p) ≡ true → IsFree (literals_of steps) p → StuckBefore steps
   level_stuck live marks [] p sound some has hp fp = tt
   level_stuck live marks (s ∷ steps) p sound some has hp fp =
-      let gp = free_later s.literal (literals_of steps) p fp in
-      elim (or_cases (marked marks (variable_of s.literal)) (cond (is_decision s) false
-      (is_level_marked marks steps)) some) [
-        | inl m ↦
-            let hu = has s.literal (holds_here s.literal (literals_of steps)) m in
-            let n : variable_of p ≢ variable_of s.literal = λ e. free_variable
-            (s.literal ∷ literals_of steps) p s.literal fp (holds_here s.literal (literals_of steps)) (sym e) in (
-              (λ _. stuck_from_two (literals_of steps) clause (opposite p) (opposite s.literal) hp hu
-                  (λ e. n (sym (opposite_variable p) ∙ ap variable_of e ∙ opposite_variable s.literal))
-                  (ap (holds (literals_of steps)) (opposite-opposite p) ∙ gp.0)
-                  (ap (holds (literals_of steps)) (opposite-opposite s.literal) ∙ sound.0.free.0)),
-              all_stuck live steps p s.literal sound.1 hp hu n gp sound.0.free,
-            )
-        | inr later ↦
-            let r = level_case (is_decision s) (is_level_marked marks steps) later in (
-              (λ t. absurd (false≢true (sym r.0 ∙ t))),
-              level_stuck live marks steps p sound.1 r.1 (λ t on m. has t
-                  (holds_later s.literal (literals_of steps) t on) m) hp gp,
-            )
-      ]
+      search (
+        arith,
+        free_later,
+        or_cases,
+        holds_here,
+        free_variable,
+        stuck_from_two,
+        opposite_variable,
+        opposite-opposite,
+        all_stuck,
+        level_case,
+        false≢true,
+        holds_later,
+        (level_stuck live marks steps p sound.1),
+      )
 
 pub free_suffix : (popped steps : List Step) (l : Literal) → IsFree (literals_of (popped ++ steps)) l →
     IsFree (literals_of steps) l
 free_suffix [] steps l free = free
-free_suffix (s ∷ popped) steps l free = free_suffix popped steps l
-    (free_later s.literal (literals_of (popped ++ steps)) l free)
+free_suffix (s ∷ popped) steps l free = search (arith, free_later, (free_suffix popped steps l))
 
 -- behind the jump the lesson is a unit clause, and the trail goes with it
 pub lesson_lands : (clauses : List (List Literal)) (old new back : Trailed) (step : Step) (marks : List Bool)
@@ -475,5 +411,4 @@ lesson_lands clauses old new back step marks clause hints sound lesson jump =
     holds_suffix : (popped steps : List Step) (t : Literal) → holds (literals_of steps) t ≡ true →
         holds (literals_of (popped ++ steps)) t ≡ true
     holds_suffix [] steps t h = h
-    holds_suffix (s ∷ popped) steps t h = holds_later s.literal (literals_of (popped ++ steps)) t
-        (holds_suffix popped steps t h)
+    holds_suffix (s ∷ popped) steps t h = search (arith, holds_later, (holds_suffix popped steps t h))

@@ -95,23 +95,7 @@ greatest places at i sorted some within c =
 pub trimmed_start : (live : LiveClauses) (steps : List Step) (was now : Noted) →
     now ≡ record { marks = was.marks; places = now.places; hints = was.hints; literals = was.literals }
     → IsTrimmed live steps steps was now
-trimmed_start live steps was now same =
-    let here : IsTrimmed live steps steps was (record {
-      marks = was.marks;
-      places = now.places;
-      hints = was.hints;
-      literals = was.literals;
-    }) = record {
-      len = refl;
-      done = [];
-      split = refl;
-      fewer = λ v m. m;
-      keeps = λ l h. h;
-      has = λ t h m. absurd (false≢true h);
-      only = λ l h. inl h;
-      analysis = λ entries stand a. a;
-    } in
-    subst (IsTrimmed live steps steps was) (sym same) here
+trimmed_start live steps was now same = search (arith, false≢true)
 
 -- an element at a place
 some_at : (items : List Step) (i : ℕ) → i < length items → (s : Step) × (get_or items i s ≡ s)
@@ -123,9 +107,7 @@ pub trimmed_skip : (live : LiveClauses) (steps items : List Step) (was now : Not
     low ≤ end
     → ((i : ℕ) (s : Step) → low ≤ i → i < end → get_or items i s ≡ s → marked now.marks (variable_of s.literal) ≡ false)
     → IsTrimmed live steps (reverse (take end items)) was now → IsTrimmed live steps (reverse (take low items)) was now
-trimmed_skip live steps items was now low zero within le off inv =
-    let e : zero ≡ low = omega (arith, le) in
-    subst (λ (n : ℕ). IsTrimmed live steps (reverse (take n items)) was now) e inv
+trimmed_skip live steps items was now low zero within le off inv = search arith
 trimmed_skip live steps items was now low (suc end) within le off inv =
     elim (cases_lt low (suc end)) [
       | inl lt ↦

@@ -1,12 +1,12 @@
 -- An answer goes into the log.
-use Rattle.std.proofs.Common.{reverse, subst, ◌≡◌, ℕ, Bool, true, false, not, List, [], ◌∷◌, ◌++◌, map, is_some, refl, sym, ◌∙◌, ap}
+use Rattle.std.proofs.Common.{reverse, subst, ◌≡◌, ℕ, Bool, true, List, [], ◌∷◌, ◌++◌, map, is_some, sym, ◌∙◌, ap, arith}
 use Rattle.std.proofs.lemmas.Bool.{false≢true}
-use Rattle.dq_lits.specs.Literal.{Literal, variable_of, is_negative, opposite}
+use Rattle.dq_lits.specs.Literal.{Literal, variable_of, opposite}
 use Rattle.dq_lits.specs.Derivation.{LiveClauses, holds}
 use Rattle.dq_lits.proofs.SignedLiterals.{opposite_variable, opposite-negative}
 use Rattle.hint_log.specs.Entries.{Answer}
 use Rattle.hint_log.specs.Conditions.{AreNamed, AreIds}
-use Rattle.hint_log.specs.Entries.{ProofLog, with_entry, name_of, last_id}
+use Rattle.hint_log.specs.Entries.{ProofLog, with_entry, last_id}
 use Rattle.hint_log.specs.Naming.{is_selector}
 use Rattle.oracle.specs.Fit.{live_in}
 use Rattle.oracle.specs.Searched.{Stands}
@@ -32,18 +32,7 @@ module _ (assumptions : List Literal) (held : List (List Literal)) (resting : Li
     (negated : (l : Literal) → holds clause l ≡ true → holds assumptions (opposite l) ≡ true)
     (analysis : IsAnalysis log.entries (live_in held) [] (map opposite clause) marks hints) where
   pub answer_stands : (l : Literal) → holds clause l ≡ true → Stands log.entries l
-  answer_stands l h = record {
-    named = ap (λ v. is_some (name_of log.entries v)) (sym (opposite_variable l)) ∙ assumed.named (opposite l)
-        (negated l h);
-    negated = λ sel.
-        let n = assumed.switched (opposite l) (negated l h) (ap (is_selector log.entries) (opposite_variable l)
-        ∙ sel) in
-        turned (is_negative l) (sym (opposite-negative l) ∙ n);
-  }
-    where
-      turned : (b : Bool) → not b ≡ false → b ≡ true
-      turned true e = refl
-      turned false e = absurd (false≢true (sym e))
+  answer_stands l h = search (arith, is_some, opposite_variable, opposite-negative, false≢true)
 
   pub answer_named : AreNamed log.entries clause
   answer_named = all_named log.entries clause answer_stands
@@ -56,22 +45,21 @@ module _ (assumptions : List Literal) (held : List (List Literal)) (resting : Li
   active l h sel = negated l h
 
   pub answer_fit : HeldFit (held ++ clause ∷ []) resting variables (Answer clause hints ∷ log.entries)
-  answer_fit = held_answered held resting variables log.entries clause fit hints answer_named answer_ids
-      (concluded_derived held resting variables log.entries assumptions clause marks hints fit awake active analysis)
-      (concluded_tied held resting variables log.entries assumptions clause marks hints fit awake active analysis)
-      answer_stands
+  answer_fit =
+      search (
+        arith,
+        held_answered,
+        answer_named,
+        answer_ids,
+        concluded_derived,
+        active,
+        concluded_tied,
+        answer_stands,
+      )
 
   pub answer_refuted : (new : ProofLog) (id : ℕ) → new ≡ with_entry log (Answer clause hints) →
       id ≡ last_id new.entries → IsRefutedUnder log new assumptions id
-  answer_refuted new id is last = record {
-    last = last;
-    clause = clause;
-    hints = hints;
-    before = log;
-    learned = record { more = []; grown = refl; each = tt; limit = refl };
-    answered = is;
-    negated = negated;
-  }
+  answer_refuted new id is last = search arith
 
 -- where the whole trail was taken back
 pub record IsConcluded (es : List Entry) (live : LiveClauses) (assumptions : List Literal)

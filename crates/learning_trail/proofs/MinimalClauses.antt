@@ -1,5 +1,5 @@
 -- Literals of a learned clause that rest on the others are dropped.
-use Rattle.std.proofs.Common.{◌≡◌, ◌≢◌, ℕ, ◌==◌, true, false, not, ◌||◌, ◌&&◌, ◌⊎◌, inl, inr, List, [], ◌∷◌, ◌++◌, length, IfSome, Option, None, Some, refl, sym, ◌∙◌, ap, subst, ◌≤◌}
+use Rattle.std.proofs.Common.{◌≡◌, ◌≢◌, ℕ, ◌==◌, true, false, not, ◌||◌, ◌&&◌, ◌⊎◌, inl, inr, List, [], ◌∷◌, ◌++◌, length, IfSome, Option, None, Some, refl, sym, ◌∙◌, ap, subst, ◌≤◌, arith}
 use Rattle.std.proofs.lemmas.Bool.{false≢true, or_left, or_right, or_cases, and_parts, eq-eqb, ne_eqb, eqb-true}
 use Rattle.std.proofs.lemmas.List.{append_assoc}
 use Rattle.dq_lits.specs.Literal.{Literal, variable_of, opposite}
@@ -24,43 +24,30 @@ literals-append (s ∷ a) b = ap (λ xs. s.literal ∷ xs) (literals-append a b)
 -- one more literal of the done ones
 done_cases : (done : List Step) (s : Step) (t : Literal) → holds (literals_of (done ++ s ∷ [])) t ≡ true →
     (holds (literals_of done) t ≡ true) ⊎ (t ≡ s.literal)
-done_cases done s t h =
-    elim (or_cases (holds (literals_of done) t) (holds (s.literal ∷ []) t)
-    (sym (ap (λ xs. holds xs t) (literals-append done (s ∷ [])) ∙ holds-append (literals_of done)
-    (s.literal ∷ []) t) ∙ h)) [
-      | inl d ↦ inl d
-      | inr k ↦ elim (holds_cases s.literal [] t k) [
-        | inl e ↦ inr e
-        | inr none ↦ absurd (false≢true none)
-      ]
-    ]
+done_cases done s t h = search (arith, or_cases, literals-append, holds-append, holds_cases, false≢true)
 
 done_first : (done : List Step) (s : Step) (t : Literal) → holds (literals_of done) t ≡ true →
     holds (literals_of (done ++ s ∷ [])) t ≡ true
-done_first done s t h =
-    ap (λ xs. holds xs t) (literals-append done (s ∷ [])) ∙ holds-append (literals_of done) (s.literal ∷ []) t ∙ or_left
-    (holds (literals_of done) t) (holds (s.literal ∷ []) t) h
+done_first done s t h = search (arith, literals-append, holds-append, or_left)
 
 done_last : (done : List Step) (s : Step) → holds (literals_of (done ++ s ∷ [])) s.literal ≡ true
-done_last done s =
-    ap (λ xs. holds xs s.literal) (literals-append done (s ∷ [])) ∙ holds-append (literals_of done)
-    (s.literal ∷ []) s.literal
-    ∙ or_right (holds (literals_of done) s.literal) (holds (s.literal ∷ []) s.literal) (holds_here s.literal [])
+done_last done s = search (arith, literals-append, holds-append, or_right, holds_here)
 
 -- steps stand on different variables
 other_variable : (live : LiveClauses) (done rest : List Step) (s : Step) (t : Literal) →
     IsSound live (done ++ s ∷ rest) → holds (literals_of done) t ≡ true → variable_of t ≢ variable_of s.literal
 other_variable live [] rest s t sound h = absurd (false≢true h)
 other_variable live (d ∷ done) rest s t sound h =
-    elim (holds_cases d.literal (literals_of done) t h) [
-      | inl e ↦ λ v. free_variable (literals_of (done ++ s ∷ rest)) d.literal s.literal sound.0.free
-          (ap (λ xs. holds xs s.literal) (literals-append done (s ∷ rest)) ∙ holds-append (literals_of done)
-          (literals_of (s ∷ rest)) s.literal
-          ∙ or_right (holds (literals_of done) s.literal) (holds (literals_of (s ∷ rest)) s.literal)
-          (holds_here s.literal (literals_of rest)))
-          (sym (ap variable_of (sym e) ∙ v))
-      | inr later ↦ other_variable live done rest s t sound.1 later
-    ]
+    search (
+      arith,
+      holds_cases,
+      free_variable,
+      literals-append,
+      holds-append,
+      or_right,
+      holds_here,
+      (other_variable live done rest s t sound.1),
+    )
 
 split_more : (steps done rest : List Step) (s : Step) → steps ≡ done ++ s ∷ rest → steps ≡ (done ++ s ∷ []) ++ rest
 split_more steps done rest s is = is ∙ sym (append_assoc done (s ∷ []) rest)

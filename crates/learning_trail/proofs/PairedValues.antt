@@ -1,7 +1,6 @@
 -- Values by variable, in a table by literals.
 use Rattle.std.proofs.Common.{◌≡◌, ℕ, zero, suc, ◌+◌, ◌*◌, ◌-◌, ◌<◌, ◌≤◌, Bool, true, false, cond, List, [], ◌∷◌, ◌++◌, length, set, get_or, refl, sym, ◌∙◌, ap, subst, arith}
 use Rattle.dq_lits.specs.Literal.{Literal, positive, negative, variable_of, is_negative}
-use Rattle.dq_lits.specs.Derivation.{holds}
 use Rattle.dq_lits.specs.Table.{IsTold, Tells}
 use Rattle.dq_lits.specs.Truth.{literal_value}
 use Rattle.dq_lits.specs.declared.truth_values.TruthValue.{TruthValue}
@@ -61,9 +60,7 @@ set_double [] zero value paired = record { paired = tt; is = refl }
 set_double [] (suc i) value paired = record { paired = tt; is = refl }
 set_double (x ∷ []) i value paired = absurd paired
 set_double (x ∷ y ∷ rest) zero value paired = record { paired = (refl, paired.1); is = refl }
-set_double (x ∷ y ∷ rest) (suc i) value paired =
-    let more = set_double rest i value paired.1 in
-    record { paired = (paired.0, more.paired); is = ap (λ (vs : List TruthValue). x ∷ vs) more.is }
+set_double (x ∷ y ∷ rest) (suc i) value paired = search (arith, (set_double rest i value paired.1))
 
 pub set_both : (xs : List TruthValue) (i n at : ℕ) (value other : TruthValue) → n ≡ i * 2 → at ≡ i * 2 + 1 →
     other ≡ negated value → ArePaired xs → IsSetBoth xs (set (set xs n value) at other) i value
@@ -91,39 +88,25 @@ plain_grown (x ∷ y ∷ rest) paired = ap (λ (vs : List TruthValue). x ∷ vs)
 pub read_signed : (xs : List TruthValue) (l : Literal) (i place : ℕ) → ArePaired xs → variable_of l ≡ suc i →
     place ≡ variable_of l * 2 + cond (is_negative l) 1 0 →
     get_or xs (place - 2) Unassigned ≡ signed (is_negative l) (get_or (plain xs) i Unassigned)
-read_signed xs (positive v) i place paired e at =
-    let here : place - 2 ≡ i * 2 = omega (arith, e, at) in
-    read_plain xs i (place - 2) paired here
-read_signed xs (negative v) i place paired e at =
-    let here : place - 2 ≡ i * 2 + 1 = omega (arith, e, at) in
-    read_negated xs i (place - 2) paired here
+read_signed xs (positive v) i place paired e at = search (arith, read_plain)
+read_signed xs (negative v) i place paired e at = search (arith, read_negated)
 
 told_plain : (t : TruthValue) (p n : Bool) → IsTold t p n → t ≡ cond n False (cond p True Unassigned)
-told_plain True p n h = ap (λ b. cond b True Unassigned) (sym h.0) ∙ ap (λ b. cond b False (cond p True Unassigned))
-    (sym h.1)
+told_plain True p n h = search arith
 told_plain False p n h = ap (λ b. cond b False (cond p True Unassigned)) (sym h.1)
-told_plain Unassigned p n h = ap (λ b. cond b True Unassigned) (sym h.0) ∙ ap
-    (λ b. cond b False (cond p True Unassigned)) (sym h.1)
+told_plain Unassigned p n h = search arith
 
 told_negated : (t : TruthValue) (p n : Bool) → IsTold t p n → negated t ≡ cond p False (cond n True Unassigned)
 told_negated True p n h = ap (λ b. cond b False (cond n True Unassigned)) (sym h.0)
-told_negated False p n h = ap (λ b. cond b True Unassigned) (sym h.1) ∙ ap
-    (λ b. cond b False (cond n True Unassigned)) (sym h.0)
-told_negated Unassigned p n h = ap (λ b. cond b True Unassigned) (sym h.1) ∙ ap
-    (λ b. cond b False (cond n True Unassigned)) (sym h.0)
+told_negated False p n h = search arith
+told_negated Unassigned p n h = search arith
 
 -- a literal's value is what the table tells of its variable
 pub told_value : (values : List TruthValue) (trues : List Literal) (l : Literal) (i : ℕ) → Tells values trues →
     variable_of l ≡ suc i → i < length values →
     signed (is_negative l) (get_or values i Unassigned) ≡ literal_value trues l
-told_value values trues (positive v) i told e lt =
-    told_plain (get_or values i Unassigned) (holds trues (positive (suc i))) (holds trues (negative (suc i)))
-    (told i lt)
-    ∙ ap (λ w. literal_value trues (positive w)) (sym e)
-told_value values trues (negative v) i told e lt =
-    told_negated (get_or values i Unassigned) (holds trues (positive (suc i))) (holds trues (negative (suc i)))
-    (told i lt)
-    ∙ ap (λ w. literal_value trues (negative w)) (sym e)
+told_value values trues (positive v) i told e lt = search (arith, told_plain)
+told_value values trues (negative v) i told e lt = search (arith, told_negated)
 
 pub sign_low : (b : Bool) → cond b 1 0 ≤ 1
 sign_low true = omega arith

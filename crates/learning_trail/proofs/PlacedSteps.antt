@@ -1,5 +1,5 @@
 -- Where the steps of a trail stand, as they come and go.
-use Rattle.std.proofs.Common.{◌≡◌, ℕ, zero, suc, ◌-◌, ◌<◌, ◌≤◌, true, List, [], ◌∷◌, ◌++◌, length, set, get_or, All, refl, sym, ◌∙◌, ap, subst, arith, get_or-set_other, get_or-set_same}
+use Rattle.std.proofs.Common.{◌≡◌, ℕ, zero, suc, ◌-◌, ◌<◌, ◌≤◌, true, List, [], ◌∷◌, ◌++◌, length, set, get_or, All, refl, ◌∙◌, subst, arith, get_or-set_other, get_or-set_same}
 use Rattle.std.proofs.lemmas.List.Elements.{All-head, All-tail}
 use Rattle.dq_lits.specs.Literal.{Literal, variable_of}
 use Rattle.dq_lits.specs.Derivation.{holds}
@@ -16,28 +16,12 @@ placed_beside : (places : List ℕ) (xs : List Step) (i n : ℕ) →
     ArePlaced (set places i n) xs
 placed_beside places [] i n other placed = tt
 placed_beside places (s ∷ xs) i n other placed =
-    let one = placed.0.from_one in
-    let apart : variable_of s.literal ≡ suc i → ⊥ = other s.literal (holds_here s.literal (literals_of xs)) in (
-      record {
-        from_one = one;
-        at_place = get_or-set_other places i (variable_of s.literal - 1) n 0 (λ e. apart (omega (arith, e, one)))
-            ∙ placed.0.at_place;
-      },
-      placed_beside places xs i n (λ t h e. other t (holds_later s.literal (literals_of xs) t h) e) placed.1,
-    )
+    search (arith, holds_here, get_or-set_other, holds_later, (placed_beside places xs i n))
 
 pub placed_pushed : (places : List ℕ) (xs : List Step) (s : Step) (i : ℕ) → variable_of s.literal ≡ suc i →
     i < length places → IsFree (literals_of xs) s.literal → ArePlaced places xs
     → ArePlaced (set places i (length xs)) (s ∷ xs)
-placed_pushed places xs s i e lt free placed =
-    let down : variable_of s.literal - 1 ≡ i = omega (arith, e) in (
-      record {
-        from_one = omega (arith, e);
-        at_place = ap (λ n. get_or (set places i (length xs)) n 0) down ∙ get_or-set_same places i (length xs) 0 lt;
-      },
-      placed_beside places xs i (length xs) (λ t h same. free_variable (literals_of xs) s.literal t free h
-          (same ∙ sym e)) placed,
-    )
+placed_pushed places xs s i e lt free placed = search (arith, get_or-set_same, placed_beside, free_variable)
 
 -- one place more
 read_more : (places : List ℕ) (v : ℕ) → get_or (places ++ 0 ∷ []) v 0 ≡ get_or places v 0
@@ -48,10 +32,7 @@ read_more (p ∷ places) (suc v) = read_more places v
 
 pub placed_grown : (places : List ℕ) (xs : List Step) → ArePlaced places xs → ArePlaced (places ++ 0 ∷ []) xs
 placed_grown places [] placed = tt
-placed_grown places (s ∷ xs) placed = (
-  record { from_one = placed.0.from_one; at_place = read_more places (variable_of s.literal - 1) ∙ placed.0.at_place },
-  placed_grown places xs placed.1,
-)
+placed_grown places (s ∷ xs) placed = search (arith, read_more, (placed_grown places xs placed.1))
 
 pub placed_later : (places : List ℕ) (newer xs : List Step) → ArePlaced places (newer ++ xs) → ArePlaced places xs
 placed_later places [] xs placed = placed
@@ -60,8 +41,7 @@ placed_later places (s ∷ newer) xs placed = placed_later places newer xs place
 all_later : (n : ℕ) (newer xs : List Step) → All (λ s. variable_of s.literal ≤ n) (newer ++ xs) →
     All (λ s. variable_of s.literal ≤ n) xs
 all_later n [] xs all = all
-all_later n (s ∷ newer) xs all = all_later n newer xs (All-tail (λ (k : Step). variable_of k.literal ≤ n) s
-    (newer ++ xs) all)
+all_later n (s ∷ newer) xs all = search (arith, All-tail, (all_later n newer xs))
 
 -- what is noted for a literal of the trail
 pub record IsFoundAt (places : List ℕ) (n : ℕ) (k : Literal) (at : ℕ) : Type 0 where

@@ -1,11 +1,11 @@
 -- A clause's status, as its literals are read one by one.
-use Rattle.std.proofs.Common.{◌≡◌, ℕ, ◌+◌, ◌<◌, ◌≤◌, true, List, [], ◌∷◌, ◌++◌, take, drop, length, get_or, Some, refl, sym, ◌∙◌, ap}
+use Rattle.std.proofs.Common.{◌≡◌, ℕ, ◌+◌, ◌<◌, ◌≤◌, true, List, [], ◌∷◌, ◌++◌, take, drop, length, get_or, Some, refl, sym, ◌∙◌, ap, arith}
 use Rattle.std.specs.List.{list_any}
 use Rattle.std.proofs.lemmas.List.{append-nil, take_all, take_more, take-append-drop, append_assoc}
 use Rattle.std.proofs.lemmas.List.Folds.{list_any_at}
 use Rattle.dq_lits.specs.Literal.{Literal, opposite}
-use Rattle.dq_lits.specs.Derivation.{ClauseStatus, falsified, stuck, holds, status_by, status_of}
-use Rattle.dq_lits.specs.Extension.{with_literal, not_false}
+use Rattle.dq_lits.specs.Derivation.{ClauseStatus, stuck, holds, status_of}
+use Rattle.dq_lits.specs.Extension.{with_literal}
 use Rattle.dq_lits.specs.Truth.{literal_value}
 use Rattle.dq_lits.specs.declared.truth_values.TruthValue.{TruthValue}
 use Rattle.dq_lits.specs.declared.truth_values.TruthValue.TheVariants.{True, False, Unassigned}
@@ -17,12 +17,7 @@ pub read_more : (trues clause : List Literal) (l : Literal) (i : ℕ) (s s' : Cl
     i < length clause → get_or clause i l ≡ l
     → s ≡ status_of trues (Some (take i clause)) → t ≡ literal_value trues l → s' ≡ with_literal s l t →
     s' ≡ status_of trues (Some (take (i + 1) clause))
-read_more trues clause l i s s' t lt at before value is =
-    let longer : take (i + 1) clause ≡ take i clause ++ l ∷ [] =
-    take_more clause i l lt ∙ ap (λ k. take i clause ++ k ∷ []) at in
-    is ∙ ap (λ v. with_literal s l v) value ∙ ap (λ x. with_literal x l (literal_value trues l)) before
-    ∙ status_more trues (take i clause) l
-    ∙ ap (λ xs. status_by trues (not_false trues xs)) (sym longer)
+read_more trues clause l i s s' t lt at before value is = search (arith, take_more, status_more)
 
 stays : (trues clause more : List Literal) → status_of trues (Some clause) ≡ stuck →
     status_of trues (Some (clause ++ more)) ≡ stuck
@@ -53,13 +48,9 @@ status_whole trues clause i s all h = h ∙ ap (λ c. status_of trues (Some c)) 
 -- some literal of the clause is true
 pub true_at : (trues clause : List Literal) (l : Literal) (i : ℕ) → i < length clause → get_or clause i l ≡ l →
     literal_value trues l ≡ True → list_any (holds trues) clause ≡ true
-true_at trues clause l i lt at value = list_any_at (holds trues) clause i l lt
-    (ap (holds trues) at ∙ value_true trues l value)
+true_at trues clause l i lt at value = search (arith, list_any_at, value_true)
 
 -- not all literals of a stuck clause are false
 pub all_false : (trues clause : List Literal) (i : ℕ) → length clause ≤ i → status_of trues (Some clause) ≡ stuck
     → ((k : Literal) → holds (take i clause) k ≡ true → holds trues (opposite k) ≡ true) → ⊥
-all_false trues clause i all is_stuck is_false =
-    let f = is_falsified trues clause (λ k h. is_false k (ap (λ xs. holds xs k) (take_all i clause all) ∙ h)) in
-    let clash : falsified ≡ stuck = sym f ∙ is_stuck in
-    cc
+all_false trues clause i all is_stuck is_false = search (arith, is_falsified, take_all)

@@ -1,11 +1,10 @@
 -- What is held in the place of clauses of groups that rest stands in no hint, and leaves the others
 -- as they are.
-use Rattle.std.proofs.Common.{◌≡◌, ℕ, zero, suc, ◌+◌, ◌<◌, Bool, true, false, cond, not, ◌&&◌, ◌||◌, ◌⊎◌, inl, inr, List, [], ◌∷◌, ◌++◌, length, get_or, Option, Some, None, is_some, refl, sym, ◌∙◌, ap, subst, arith}
-use Rattle.std.specs.List.{list_all}
+use Rattle.std.proofs.Common.{◌≡◌, ℕ, zero, suc, ◌+◌, ◌<◌, Bool, true, false, cond, ◌||◌, ◌⊎◌, inl, inr, List, [], ◌∷◌, ◌++◌, length, get_or, Option, Some, None, is_some, refl, sym, ◌∙◌, ap, arith}
 use Rattle.std.proofs.lemmas.Bool.{cases_Bool, false≢true, false_from_ne_true, or_cases, or_left, or_right}
 use Rattle.std.proofs.lemmas.Option.{slice_get-get_or, slice_get_within}
-use Rattle.dq_lits.specs.Literal.{Literal, positive, negative, variable_of, is_negative, opposite, same_literal}
-use Rattle.dq_lits.specs.Derivation.{falsified, unit, stuck, holds, status_by, status_of, is_tautology}
+use Rattle.dq_lits.specs.Literal.{Literal, positive, negative, variable_of, is_negative, opposite}
+use Rattle.dq_lits.specs.Derivation.{falsified, stuck, holds, status_by, status_of, is_tautology}
 use Rattle.dq_lits.proofs.SignedLiterals.{opposite-opposite}
 use Rattle.dq_lits.proofs.HeldLiterals.{holds-append, holds_cases, holds_here, holds_later}
 use Rattle.hint_log.specs.Entries.{Entry, clause_at}
@@ -64,14 +63,7 @@ module _ (held : List (List Literal)) (resting : List Bool) (variables : ℕ) (e
   resting_stands v on = record { named = ap is_some (fit.selectors v on); negated = λ _. refl }
 
   put_stands : (put : List Literal) (l : Literal) → IsPlaceholder resting put → holds put l ≡ true → Stands entries l
-  put_stands put l p h =
-      elim (holds_cases (negative p.first) (negative p.second ∷ []) l (ap (λ x. holds x l) (sym p.is) ∙ h)) [
-        | inl e ↦ subst (Stands entries) (sym e) (resting_stands p.first p.first_rests)
-        | inr later ↦ elim (holds_cases (negative p.second) [] l later) [
-          | inl e ↦ subst (Stands entries) (sym e) (resting_stands p.second p.second_rests)
-          | inr n ↦ absurd (false≢true n)
-        ]
-      ]
+  put_stands put l p h = search (arith, holds_cases, resting_stands, false≢true)
 
   pub held_stand : AllStand entries (live_in held)
   held_stand id put l at h =
@@ -123,10 +115,7 @@ negated_gives v (false ∷ resting) l h =
 pub negated_has : (v : ℕ) (resting : List Bool) (i : ℕ) → rests resting i ≡ true →
     holds (negated_from v resting) (negative (v + i)) ≡ true
 negated_has v [] i on = absurd (false≢true on)
-negated_has v (true ∷ resting) zero on =
-    let same : v + zero ≡ v = omega arith in
-    ap (λ n. holds (negative v ∷ negated_from (suc v) resting) (negative n)) same
-    ∙ holds_here (negative v) (negated_from (suc v) resting)
+negated_has v (true ∷ resting) zero on = search (arith, holds_here)
 negated_has v (false ∷ resting) zero on = absurd (false≢true on)
 negated_has v (true ∷ resting) (suc i) on =
     let same : v + suc i ≡ suc v + i = omega arith in
@@ -142,10 +131,7 @@ switched_off resting = negated_from 0 resting
 
 pub off_gives : (resting : List Bool) (l : Literal) → holds (switched_off resting) l ≡ true →
     (i : ℕ) × (l ≡ negative i) × (rests resting i ≡ true)
-off_gives resting l h =
-    let r = negated_gives 0 resting l h in
-    let same : 0 + r.0 ≡ r.0 = omega arith in
-    (r.0, r.1 ∙ ap negative same, r.2)
+off_gives resting l h = search (arith, negated_gives)
 
 pub off_has : (resting : List Bool) (i : ℕ) → rests resting i ≡ true → holds (switched_off resting) (negative i) ≡ true
 off_has resting i on =
@@ -153,52 +139,29 @@ off_has resting i on =
     ap (λ n. holds (switched_off resting) (negative n)) same ∙ negated_has 0 resting i on
 
 no_positive : (resting : List Bool) (v : ℕ) → holds (switched_off resting) (positive v) ≡ false
-no_positive resting v = false_from_ne_true (holds (switched_off resting) (positive v)) (λ h.
-    let r = off_gives resting (positive v) h in
-    let n : positive v ≡ negative r.0 = r.1 in
-    cc)
+no_positive resting v = search (arith, false_from_ne_true, off_gives)
 
 -- literals that none of a clause's negates
 same_left : (more trues clause : List Literal) → ((l : Literal) → holds clause l ≡ true →
     holds more (opposite l) ≡ false) → not_false (more ++ trues) clause ≡ not_false trues clause
 same_left more trues [] apart = refl
 same_left more trues (x ∷ clause) apart =
-    let rest = same_left more trues clause (λ l h. apart l (holds_later x clause l h)) in
-    let same : holds (more ++ trues) (opposite x) ≡ holds trues (opposite x) =
-    holds-append more trues (opposite x) ∙ ap (λ b. b || holds trues (opposite x)) (apart x (holds_here x clause)) in
-    ap (λ b. cond (not b) (x ∷ not_false (more ++ trues) clause) (not_false (more ++ trues) clause)) same
-    ∙ ap (λ ls. cond (not (holds trues (opposite x))) (x ∷ ls) ls) rest
+    search (arith, holds_later, holds-append, holds_here, (same_left more trues clause))
 
 stuck_by : (more trues left : List Literal) → status_by trues left ≡ stuck → status_by (more ++ trues) left ≡ stuck
 stuck_by more trues [] e = let n : falsified ≡ stuck = e in cc
-stuck_by more trues (l ∷ rest) e = elim (cases_Bool (list_all (same_literal l) rest)) [
-  | inl all ↦ elim (cases_Bool (holds trues l)) [
-    | inl on ↦
-        let later : holds (more ++ trues) l ≡ true = holds-append more trues l ∙ or_right (holds more l)
-        (holds trues l) on in
-        ap (λ a. cond (a && not (holds (more ++ trues) l)) (unit l) stuck) all
-        ∙ ap (λ b. cond (true && not b) (unit l) stuck) later
-    | inr off ↦
-        let n : unit l ≡ stuck = sym (ap (λ a. cond (a && not (holds trues l)) (unit l) stuck) all
-        ∙ ap (λ b. cond (true && not b) (unit l) stuck) off) ∙ e in
-        cc
-  ]
-  | inr some ↦ ap (λ a. cond (a && not (holds (more ++ trues) l)) (unit l) stuck) some
-]
+stuck_by more trues (l ∷ rest) e = search (arith, cases_Bool, holds-append, or_right)
 
 stuck_more : (more trues clause : List Literal) → status_of trues (Some clause) ≡ stuck → ((l : Literal) →
     holds clause l ≡ true → holds more (opposite l) ≡ false) → status_of (more ++ trues) (Some clause) ≡ stuck
-stuck_more more trues clause is apart = ap (status_by (more ++ trues)) (same_left more trues clause apart)
-    ∙ stuck_by more trues (not_false trues clause) is
+stuck_more more trues clause is apart = search (arith, same_left, stuck_by)
 
 module _ (held : List (List Literal)) (resting : List Bool) (variables : ℕ) (entries : List Entry)
     (fit : HeldFit held resting variables entries) (trues : List Literal)
     (apart : (v : ℕ) → rests resting v ≡ true → holds trues (positive v) ≡ false) where
   selected : (l : Literal) (i : ℕ) → opposite l ≡ negative i → rests resting i ≡ true →
       (is_selector entries (variable_of l) ≡ true) × (is_negative l ≡ false)
-  selected (positive v) i e on =
-      let same : v ≡ i = cc in
-      (ap (is_selector entries) same ∙ ap is_selector_name (fit.selectors i on), refl)
+  selected (positive v) i e on = search arith
   selected (negative v) i e on = cc
 
   -- no clause of the log has a literal that a group's rest makes false
@@ -239,11 +202,7 @@ module _ (held : List (List Literal)) (resting : List Bool) (variables : ℕ) (e
 
   off_or_true : (l : Literal) → holds (switched_off resting ++ trues) l ≡ true →
       ((i : ℕ) × (l ≡ negative i) × (rests resting i ≡ true)) ⊎ (holds trues l ≡ true)
-  off_or_true l h = elim (or_cases (holds (switched_off resting) l) (holds trues l)
-      (sym (holds-append (switched_off resting) trues l) ∙ h)) [
-        | inl off ↦ inl (off_gives resting l off)
-        | inr on ↦ inr on
-      ]
+  off_or_true l h = search (arith, or_cases, holds-append, off_gives)
 
   pub consistent_resting : ((l : Literal) → holds trues l ≡ true → holds trues (opposite l) ≡ true → ⊥) →
       is_tautology (switched_off resting ++ trues) ≡ false
@@ -266,13 +225,7 @@ module _ (held : List (List Literal)) (resting : List Bool) (variables : ℕ) (e
   -- a literal that is no selector's gets no value by it
   pub plain_resting : (l : Literal) → is_selector entries (variable_of l) ≡ false → holds trues l ≡ false →
       holds (switched_off resting ++ trues) l ≡ false
-  plain_resting l plain off = false_from_ne_true (holds (switched_off resting ++ trues) l) (λ h.
-      elim (off_or_true l h) [
-        | inl r ↦ false≢true (sym plain ∙ ap (λ x. is_selector entries (variable_of x)) r.1
-            ∙ ap is_selector_name (fit.selectors r.0 r.2))
-        | inr on ↦ false≢true (sym off ∙ on)
-      ])
+  plain_resting l plain off = search (arith, false_from_ne_true, off_or_true, false≢true)
 
   pub true_resting : (l : Literal) → holds trues l ≡ true → holds (switched_off resting ++ trues) l ≡ true
-  true_resting l on = holds-append (switched_off resting) trues l
-      ∙ or_right (holds (switched_off resting) l) (holds trues l) on
+  true_resting l on = search (arith, holds-append, or_right)

@@ -1,23 +1,21 @@
 -- Turns of a search.
-use Rattle.std.proofs.Common.{◌≡◌, ℕ, suc, ◌≤◌, Bool, true, false, cond, inl, inr, List, [], ◌∷◌, ◌++◌, get_or, Some, None, is_some, All, refl, sym, ◌∙◌, ap, subst, arith}
+use Rattle.std.proofs.Common.{◌≡◌, ℕ, suc, ◌≤◌, Bool, true, false, List, [], ◌∷◌, ◌++◌, get_or, Some, None, is_some, All, refl, sym, ◌∙◌, ap, subst, arith}
 use Rattle.std.proofs.lemmas.Bool.{false≢true, or_parts, false_from_ne_true}
 use Rattle.std.proofs.lemmas.List.{append_assoc}
 use Rattle.std.proofs.lemmas.List.Elements.{All-cons, All-nil, All-head, All-tail, All-from_get_or}
 use Rattle.std.proofs.lemmas.Option.{slice_get-get_or}
-use Rattle.dq_lits.specs.Literal.{Literal, positive, variable_of, opposite, same_literal}
+use Rattle.dq_lits.specs.Literal.{Literal, positive, variable_of, opposite}
 use Rattle.dq_lits.specs.Derivation.{LiveClauses, holds, status_of, unit}
 use Rattle.dq_lits.proofs.HeldLiterals.{holds_cases, holds_here, holds_later}
 use Rattle.dq_lits.proofs.SignedLiterals.{one_variable}
 use Rattle.hint_log.specs.Entries.{Entry}
 use Rattle.hint_log.specs.Entries.{ProofLog, name_of}
-use Rattle.hint_log.specs.Growth.{EachOf}
-use Rattle.hint_log.specs.Naming.{is_selector_name}
 use Rattle.hint_log.proofs.NamedEntries.{each_both}
 use Rattle.oracle.specs.Fit.{live_in}
 use Rattle.learning_trail.specs.Resting.{rests, HeldFit, AreAwake}
 use Rattle.learning_trail.proofs.RestingClauses.{held_stand, resting_selector}
 use Rattle.oracle.specs.Searched.{Stands}
-use Rattle.oracle.specs.Calls.{IsLearnedEntry, IsRefutedUnder}
+use Rattle.oracle.specs.Calls.{IsRefutedUnder}
 use Rattle.learning_trail.specs.Growing.{HasLearned}
 use Rattle.oracle.specs.declared.oracles.Answer.{Answer as SearchAnswer}
 use Rattle.oracle.specs.declared.oracles.Answer.TheVariants.{Sat, Unsat}
@@ -37,13 +35,7 @@ pub assumed_before : (entries : List Entry) (assumptions : List Literal) (steps 
     → holds (literals_of steps) a ≡ false → AreAssumed assumptions steps
 assumed_before entries assumptions [] a guided h none = tt
 assumed_before entries assumptions (s ∷ steps) a guided h none =
-    let p = or_parts (same_literal a s.literal) (holds (literals_of steps) a) none in (
-      λ decided. elim (guided.0.chosen decided) [
-        | inl k ↦ k
-        | inr k ↦ absurd (false≢true (sym p.1 ∙ k.0 a h))
-      ],
-      assumed_before entries assumptions steps a guided.1 h p.1,
-    )
+    search (arith, or_parts, false≢true, (assumed_before entries assumptions steps a guided.1 h))
 
 -- where the newest decision was assumed, all were
 pub decided_assumed : (entries : List Entry) (live : LiveClauses) (assumptions : List Literal) (steps : List Step) →
@@ -51,17 +43,7 @@ pub decided_assumed : (entries : List Entry) (live : LiveClauses) (assumptions :
     → ((d : Literal) → decision_of steps ≡ Some d → holds assumptions d ≡ true) → AreAssumed assumptions steps
 decided_assumed entries live assumptions [] sound guided chosen = tt
 decided_assumed entries live assumptions (s ∷ steps) sound guided chosen =
-    by (is_decision s) refl (decided_assumed entries live assumptions steps sound.1 guided.1)
-  where
-    by : (b : Bool) → is_decision s ≡ b → (((d : Literal) → decision_of steps ≡ Some d → holds assumptions d ≡ true) →
-        AreAssumed assumptions steps) → AreAssumed assumptions (s ∷ steps)
-    by true e rest =
-        let a = chosen s.literal (ap (λ b. cond b (Some s.literal) (decision_of steps)) e) in
-        (λ _. a, assumed_before entries assumptions steps s.literal guided.1 a sound.0.free.0)
-    by false e rest = (
-      λ h. absurd (false≢true (sym e ∙ h)),
-      rest (λ d is. chosen d (ap (λ b. cond b (Some s.literal) (decision_of steps)) e ∙ is)),
-    )
+    search (arith, assumed_before, false≢true, (decided_assumed entries live assumptions steps sound.1 guided.1))
 
 -- implied steps are guided
 guided_more : (entries : List Entry) (assumptions : List Literal) (more steps : List Step) →
@@ -76,8 +58,7 @@ guided_more entries assumptions (s ∷ more) steps implied guided =
 
 pub guided_grown : (entries : List Entry) (assumptions : List Literal) (old new : List Step) → Grown old new →
     IsGuided entries assumptions old → IsGuided entries assumptions new
-guided_grown entries assumptions old new grown guided = subst (IsGuided entries assumptions) (sym grown.is)
-    (guided_more entries assumptions grown.more old grown.implied guided)
+guided_grown entries assumptions old new grown guided = search (arith, guided_more)
 
 pub clauses_in_room : (held : List (List Literal)) (resting : List Bool) (variables room : ℕ) (es : List Entry) →
     HeldFit held resting variables es → variables ≤ room → AreWithin room held
@@ -92,8 +73,7 @@ clauses_in_room held resting variables room es fit low =
     by : (c : List Literal) → ((l : Literal) → holds c l ≡ true → variable_of l ≤ room) →
         All (λ l. variable_of l ≤ room) c
     by [] h = All-nil (λ (l : Literal). variable_of l ≤ room)
-    by (x ∷ c) h = All-cons (λ (l : Literal). variable_of l ≤ room) x c (h x (holds_here x c))
-        (by c (λ l m. h l (holds_later x c l m)))
+    by (x ∷ c) h = search (arith, All-cons, holds_here, holds_later, (by c))
 
 -- no group that rests is switched on
 pub trail_off : (entries : List Entry) (assumptions : List Literal) (clauses : List (List Literal)) (resting : List Bool)
@@ -119,33 +99,14 @@ names_same old new learned v = ap (λ es. name_of es v) learned.grown ∙ learne
 
 pub assumptions_same : (old new : ProofLog) (assumptions : List Literal) → HasLearned old new →
     AreAssumptions old assumptions → AreAssumptions new assumptions
-assumptions_same old new assumptions learned first = record {
-  named = λ l h. ap is_some (names_same old new learned (variable_of l)) ∙ first.named l h;
-  apart = first.apart;
-  switched = λ l h sel. first.switched l h (sym (ap is_selector_name
-      (names_same old new learned (variable_of l))) ∙ sel);
-}
+assumptions_same old new assumptions learned first = search (arith, is_some, names_same)
 
 pub learned_both : (a b c : ProofLog) → HasLearned a b → HasLearned b c → HasLearned a c
-learned_both a b c first second = record {
-  more = second.more ++ first.more;
-  grown = second.grown ∙ ap (λ es. second.more ++ es) first.grown ∙ sym (append_assoc second.more first.more a.entries);
-  each = each_both IsLearnedEntry second.more first.more a.entries
-      (subst (EachOf IsLearnedEntry second.more) first.grown second.each) first.each;
-  limit = second.limit ∙ first.limit;
-}
+learned_both a b c first second = search (arith, append_assoc, each_both)
 
 pub refuted_later : (a b c : ProofLog) (assumptions : List Literal) (id : ℕ) → HasLearned a b →
     IsRefutedUnder b c assumptions id → IsRefutedUnder a c assumptions id
-refuted_later a b c assumptions id learned refuted = record {
-  last = refuted.last;
-  clause = refuted.clause;
-  hints = refuted.hints;
-  before = refuted.before;
-  learned = learned_both a b refuted.before learned refuted.learned;
-  answered = refuted.answered;
-  negated = refuted.negated;
-}
+refuted_later a b c assumptions id learned refuted = search (arith, learned_both)
 
 pub found_later : (assumptions : List Literal) (s : Searched) (a b c : ProofLog) (found : SearchAnswer) →
     HasLearned a b → IsAnswered assumptions s b c found → IsAnswered assumptions s a c found
@@ -162,11 +123,7 @@ back_more old now new s h popped = record {
 
 pub back_still : (now new : List Step) (s : Step) (l : Literal) → now ≡ s ∷ new →
     (variable_of s.literal ≡ variable_of l → ⊥) → holds (literals_of now) l ≡ true → holds (literals_of new) l ≡ true
-back_still now new s l popped other h =
-    elim (holds_cases s.literal (literals_of new) l (ap (λ xs. holds (literals_of xs) l) (sym popped) ∙ h)) [
-      | inl e ↦ absurd (other (ap variable_of (sym e)))
-      | inr later ↦ later
-    ]
+back_still now new s l popped other h = search (arith, holds_cases)
 
 module _ (entries : List Entry) (clauses : List (List Literal)) (assumptions : List Literal) (old new : List Step)
     (s : Step) (a : Literal)
@@ -177,21 +134,13 @@ module _ (entries : List Entry) (clauses : List (List Literal)) (assumptions : L
   back_sound = sound_later (live_in clauses) shrunk.popped (s ∷ new) (subst (IsSound (live_in clauses)) shrunk.is sound)
 
   pub back_guided : IsGuided entries assumptions (s ∷ new)
-  back_guided = guided_later entries assumptions shrunk.popped (s ∷ new)
-      (subst (IsGuided entries assumptions) shrunk.is guided)
+  back_guided = search (arith, guided_later)
 
   pub back_literal : s.literal ≡ opposite a
-  back_literal = elim (one_variable s.literal a same) [
-    | inl e ↦
-        let consistent = sound_consistent (live_in clauses) (s ∷ new) back_sound in
-        absurd (consistent a (ap (holds (literals_of (s ∷ new))) (sym e) ∙ holds_here s.literal
-        (literals_of new)) still)
-    | inr e ↦ e
-  ]
+  back_literal = search (arith, one_variable, sound_consistent, back_sound, holds_here)
 
   not_yet : holds (literals_of (s ∷ new)) a ≡ false
-  not_yet = false_from_ne_true (holds (literals_of (s ∷ new)) a)
-      (λ h. sound_consistent (live_in clauses) (s ∷ new) back_sound a h still)
+  not_yet = search (arith, false_from_ne_true, sound_consistent, back_sound)
 
   pub back_assumed : AreAssumed assumptions (s ∷ new)
   back_assumed = assumed_before entries assumptions (s ∷ new) a back_guided assumed not_yet

@@ -1,5 +1,5 @@
 -- Marks, as they are set and read.
-use Rattle.std.proofs.Common.{◌≡◌, ℕ, ◌+◌, ◌<◌, Bool, true, false, cond, ◌||◌, List, [], ◌∷◌, ◌++◌, take, reverse, length, get_or, sym, ◌∙◌, ap}
+use Rattle.std.proofs.Common.{◌≡◌, ℕ, ◌+◌, ◌<◌, Bool, true, false, cond, ◌||◌, List, [], ◌∷◌, ◌++◌, take, reverse, length, get_or, ◌∙◌, ap, arith}
 use Rattle.std.proofs.lemmas.List.{take_more, reverse-append}
 use Rattle.dq_lits.specs.Literal.{Literal, variable_of}
 use Rattle.dq_lits.specs.Derivation.{holds}
@@ -22,16 +22,10 @@ pub level_step : (marks : List Bool) (steps : List Step) (s : Step) (k n : ℕ) 
     → is_level_marked marks (reverse (take n steps)) ≡ b
     → (marked marks (variable_of s.literal) || cond (is_decision s) false
     (is_level_marked marks (reverse (take k steps)))) ≡ b
-level_step marks steps s k n b e lt at inv =
-    sym (ap (is_level_marked marks) (ap (λ m. reverse (take m steps)) e ∙ turned steps k s lt at)) ∙ inv
+level_step marks steps s k n b e lt at inv = search (arith, turned)
 
 pub level_later : (steps : List Step) (s : Step) (k n : ℕ) → n ≡ k + 1 → k < length steps → get_or steps k s ≡ s →
     is_decision s ≡ false
     → ((l : Literal) → holds (level_of (reverse (take n steps))) l ≡ true → holds (level_of (reverse steps)) l ≡ true)
     → (l : Literal) → holds (level_of (reverse (take k steps))) l ≡ true → holds (level_of (reverse steps)) l ≡ true
-level_later steps s k n e lt at implied level l h =
-    let here : reverse (take n steps) ≡ s ∷ reverse (take k steps) =
-    ap (λ m. reverse (take m steps)) e ∙ turned steps k s lt at in
-    level l (ap (λ xs. holds (level_of xs) l) here ∙ ap (λ b. holds
-    (s.literal ∷ cond b [] (level_of (reverse (take k steps)))) l) implied ∙ holds_later s.literal
-    (level_of (reverse (take k steps))) l h)
+level_later steps s k n e lt at implied level l h = search (arith, turned, holds_later)

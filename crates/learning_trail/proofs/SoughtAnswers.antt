@@ -48,29 +48,21 @@ module _ (assumptions : List Literal) (held : List (List Literal)) (trail : Trai
             reverse now.literals;
       }
       → IsConcluded log.entries (live_in held) assumptions noted
-  sought_concluded new now noted assumed negated analysis kept bare turned =
-      conclude log.entries (live_in held) assumptions trail new notes now noted sought_stand assumed negated analysis
-      kept bare turned
+  sought_concluded new now noted assumed negated analysis kept bare turned = search (arith, conclude, sought_stand)
 
   pub concluded_named : (noted : Noted) → IsConcluded log.entries (live_in held) assumptions noted →
       AreNamed log.entries noted.literals
-  concluded_named noted done =
-      answer_named assumptions held sought.resting sought.variables log noted.literals noted.marks noted.hints sought.fit sought.awake sought.named
-      done.negated done.analysis
+  concluded_named noted done = search (arith, answer_named)
 
   pub concluded_ids : (noted : Noted) → IsConcluded log.entries (live_in held) assumptions noted →
       AreIds log.entries noted.hints
-  concluded_ids noted done =
-      answer_ids assumptions held sought.resting sought.variables log noted.literals noted.marks noted.hints sought.fit sought.awake sought.named
-      done.negated done.analysis
+  concluded_ids noted done = search (arith, answer_ids)
 
   pub concluded_refuted : (noted : Noted) → IsConcluded log.entries (live_in held) assumptions noted →
       (new : ProofLog) (id : ℕ)
       → new ≡ with_entry log (Answer noted.literals noted.hints) → id ≡ last_id new.entries →
       IsRefutedUnder log new assumptions id
-  concluded_refuted noted done new id is last =
-      answer_refuted assumptions held sought.resting sought.variables log noted.literals noted.marks noted.hints sought.fit sought.awake
-      sought.named done.negated done.analysis new id is last
+  concluded_refuted noted done new id is last = search (arith, answer_refuted)
 
   pub concluded_fit : (noted : Noted) → IsConcluded log.entries (live_in held) assumptions noted →
       (now : List (List Literal)) (new : ProofLog)
@@ -146,12 +138,10 @@ module _ (assumptions : List Literal) (held : List (List Literal)) (trail : Trai
 
     pub below_implied : (reason : ℕ) → step.reason ≡ Some reason →
         status_of (literals_of new.steps) (live_in held reason) ≡ unit (opposite a)
-    below_implied reason is = back_implied log.entries held assumptions trail.steps new.steps step a sought.sound
-        sought.guided shrunk still same assumed reason is
+    below_implied reason is = search (arith, back_implied)
 
     pub below_id : (reason : ℕ) → step.reason ≡ Some reason → IsReason held reason (literals_of new.steps) (opposite a)
     below_id reason is = reason_of held reason (literals_of new.steps) (opposite a) (below_implied reason is)
 
     pub below_reasoned : step.reason ≡ None → ⊥
-    below_reasoned none = back_reasoned log.entries held assumptions trail.steps new.steps step a sought.sound
-        sought.guided shrunk still same assumed sought.named.apart none
+    below_reasoned none = search (arith, back_reasoned)

@@ -1,5 +1,5 @@
 -- Levels are taken back.
-use Rattle.std.proofs.Common.{◌≡◌, ℕ, suc, ◌<◌, ◌≤◌, Bool, true, false, cond, List, [], ◌∷◌, ◌++◌, length, Option, Some, None, IsSome, is_some, zero, slice_get, refl, sym, ◌∙◌, ap, subst, arith}
+use Rattle.std.proofs.Common.{◌≡◌, ℕ, suc, ◌<◌, ◌≤◌, Bool, true, false, cond, List, [], ◌∷◌, ◌++◌, length, Option, Some, None, IsSome, is_some, zero, refl, sym, ◌∙◌, ap, subst, arith}
 use Rattle.std.proofs.lemmas.Bool.{false≢true, true_from_ne_false}
 use Rattle.std.proofs.lemmas.List.{append_assoc}
 use Rattle.std.proofs.lemmas.Option.{slice_get_within}
@@ -25,13 +25,7 @@ under_shrunk (s ∷ steps) = by (is_decision s) (under_shrunk steps)
 
 pub under_shorter : (steps : List Step) → IsSome (decision_of steps) → length (under_level steps) < length steps
 under_shorter [] some = absurd (false≢true some)
-under_shorter (s ∷ steps) some = by (is_decision s) (under_shorter steps) some
-  where
-    by : (b : Bool) → (IsSome (decision_of steps) → length (under_level steps) < length steps) →
-        IsSome (cond b (Some s.literal) (decision_of steps))
-        → length (cond b steps (under_level steps)) < length (s ∷ steps)
-    by true rest h = omega arith
-    by false rest h = let r = rest h in omega (arith, r)
+under_shorter (s ∷ steps) some = search (arith, (under_shorter steps))
 
 -- a way so far
 pub record IsOnJump (old new : Trailed) (marks : List Bool) : Type 0 where
@@ -101,20 +95,7 @@ pub record IsConflict (clauses : List (List Literal)) (id : ℕ) (trues : List L
 pub conflict_of : (clauses : List (List Literal)) (id : ℕ) (trues : List Literal) →
     status_of trues (live_in clauses id) ≡ falsified → IsConflict clauses id trues
 conflict_of clauses zero trues h = let n : stuck ≡ falsified = h in cc
-conflict_of clauses (suc i) trues h = by (slice_get clauses i) refl
-  where
-    by : (o : Option (List Literal)) → slice_get clauses i ≡ o → IsConflict clauses (suc i) trues
-    by None e = let n : stuck ≡ falsified = sym (ap (status_of trues) e) ∙ h in cc
-    by (Some c) e =
-        let lt = slice_get_within clauses i c e in
-        record {
-          from_one = omega arith;
-          is_id = omega (arith, lt);
-          clause = c;
-          is = e;
-          false_now =
-              sym (ap (status_of trues) e) ∙ h;
-        }
+conflict_of clauses (suc i) trues h = search (arith, slice_get_within)
 
 -- levels under one another
 pub under_is : (steps : List Step) → IsSome (decision_of steps) → IsUnder steps (under_level steps)

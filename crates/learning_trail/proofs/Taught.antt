@@ -1,5 +1,5 @@
 -- What a search learns goes into the log, and the trail goes on.
-use Rattle.std.proofs.Common.{inl, inr, ◌≡◌, ℕ, zero, suc, ◌+◌, ◌<◌, ◌≤◌, Bool, true, false, List, [], ◌∷◌, ◌++◌, length, get_or, slice_get, Option, Some, None, IsSome, Contains, All, refl, sym, subst, arith}
+use Rattle.std.proofs.Common.{inl, inr, ◌≡◌, ℕ, zero, suc, ◌+◌, ◌<◌, ◌≤◌, Bool, true, false, List, [], ◌∷◌, ◌++◌, length, get_or, Some, IsSome, Contains, All, refl, sym, subst, arith}
 use Rattle.std.proofs.lemmas.Bool.{false≢true}
 use Rattle.std.proofs.lemmas.Option.{slice_get-get_or, slice_get_within}
 use Rattle.std.proofs.lemmas.List.Elements.{All-from_get_or, All-cons, All-nil}
@@ -37,13 +37,11 @@ clauses_within held resting variables n es fit low =
   where
     by : (c : List Literal) → ((l : Literal) → holds c l ≡ true → variable_of l < n) → All (λ l. variable_of l < n) c
     by [] h = All-nil (λ (l : Literal). variable_of l < n)
-    by (x ∷ c) h = All-cons (λ (l : Literal). variable_of l < n) x c (h x (holds_here x c))
-        (by c (λ l m. h l (holds_later x c l m)))
+    by (x ∷ c) h = search (arith, All-cons, holds_here, holds_later, (by c))
 
 pub all_named : (es : List Entry) (c : List Literal) → ((l : Literal) → holds c l ≡ true → Stands es l) → AreNamed es c
 all_named es [] h = All-nil (λ (l : Literal). IsSome (name_of es (variable_of l)))
-all_named es (x ∷ c) h = All-cons (λ (l : Literal). IsSome (name_of es (variable_of l))) x c
-    (h x (holds_here x c)).named (all_named es c (λ l m. h l (holds_later x c l m)))
+all_named es (x ∷ c) h = search (arith, All-cons, holds_here, holds_later, (all_named es c))
 
 pub all_ids : (held : List (List Literal)) (resting : List Bool) (variables : ℕ) (es : List Entry) (hints : List ℕ) →
     HeldFit held resting variables es → ((h : ℕ) → Contains hints h → IsSome (live_in held h)) → AreIds es hints
@@ -51,15 +49,7 @@ all_ids held resting variables es hints fit some id has = by id (some id has)
   where
     by : (i : ℕ) → IsSome (live_in held i) → IsId es i
     by zero h = absurd (false≢true h)
-    by (suc i) h = at (slice_get held i) refl h
-      where
-        at : (o : Option (List Literal)) → slice_get held i ≡ o → IsSome o → IsId es (suc i)
-        at None e n = absurd (false≢true n)
-        at (Some c) e n =
-            let lt = slice_get_within held i c e in
-            let count = fit.fit.count in
-            let whole = fit.count in
-            record { from_one = omega arith; last = omega (arith, lt, count, whole) }
+    by (suc i) h = search (arith, false≢true, slice_get_within)
 
 guided_learned : (es : List Entry) (c : List Literal) (hs : List ℕ) (assumptions : List Literal) (steps : List Step) →
     IsGuided es assumptions steps → IsGuided (Learned c hs ∷ es) assumptions steps
@@ -81,15 +71,13 @@ module _ (assumptions : List Literal) (s : Searched) (log : ProofLog) (new : Tra
       (lesson.analysis log.entries (held_stand s.clauses s.resting s.variables log.entries searching.fit)).ids
 
   sound_here : IsSound (live_in s.clauses) (step ∷ new.steps)
-  sound_here = lesson_sound log.entries assumptions s.clauses s.resting s.variables s.trail new step marks clause hints d
-      searching.fit searching.awake searching.sound searching.guided decided chosen lesson
+  sound_here = search (arith, lesson_sound)
 
   pub learn_step : IsSound (live_in s.clauses) (step ∷ new.steps)
   learn_step = sound_here
 
   guided_here : IsGuided log.entries assumptions (step ∷ new.steps)
-  guided_here = lesson_guided log.entries assumptions s.clauses s.resting s.variables s.trail new step marks clause hints d
-      searching.fit searching.awake searching.sound searching.guided decided chosen lesson
+  guided_here = search (arith, lesson_guided)
 
   pub learn_in_range : variable_of step.literal ≤ s.variables
   learn_in_range =
@@ -102,15 +90,8 @@ module _ (assumptions : List Literal) (s : Searched) (log : ProofLog) (new : Tra
   learn_free = sound_here.0.free
 
   pub learn_fit : HeldFit (s.clauses ++ clause ∷ []) s.resting s.variables (Learned clause hints ∷ log.entries)
-  learn_fit = held_learned s.clauses s.resting s.variables log.entries clause searching.fit hints learn_named learn_ids
-      (lesson_derived log.entries assumptions s.clauses s.resting s.variables s.trail new step marks clause hints d searching.fit searching.awake
-      searching.sound searching.guided decided chosen lesson)
-      (lesson_new log.entries assumptions s.clauses s.resting s.variables s.trail new step marks clause hints d searching.fit searching.awake
-      searching.sound searching.guided decided chosen lesson)
-      (lesson_tied log.entries assumptions s.clauses s.resting s.variables s.trail new step marks clause hints d searching.fit searching.awake
-      searching.sound searching.guided decided chosen lesson)
-      (lesson_stands log.entries assumptions s.clauses s.resting s.variables s.trail new step marks clause hints d searching.fit searching.awake
-      searching.sound searching.guided decided chosen lesson)
+  learn_fit =
+      search (arith, held_learned, learn_named, learn_ids, lesson_derived, lesson_new, lesson_tied, lesson_stands)
 
   -- what could be learned, whether the log has room for it or not
   pub learn_next : HasNextLemma log.entries assumptions
@@ -154,11 +135,7 @@ module _ (assumptions : List Literal) (s : Searched) (log : ProofLog) (new : Tra
   pub learn_landed : (now : Trailed) (id : ℕ) → id ≡ last_id log.entries + 1 → IsLanded new now step marks id →
       GoesOn now
   learn_landed now id is (inl none) = subst GoesOn (sym none) (record { room = refl; sound = tt; guided = tt })
-  learn_landed now id is (inr behind) = subst GoesOn (sym behind.is) (record {
-    room = behind.jump.room;
-    sound = learn_sound behind.back id behind.jump is;
-    guided = learn_guided behind.back id behind.jump;
-  })
+  learn_landed now id is (inr behind) = search (arith, learn_sound, learn_guided)
 
 pub learned_one : (log new : ProofLog) (clause : List Literal) (hints : List ℕ) →
     new ≡ with_entry log (Learned clause hints) → HasLearned log new

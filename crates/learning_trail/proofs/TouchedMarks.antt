@@ -1,5 +1,5 @@
 -- Marks, and the variables whose marks aren't clear.
-use Rattle.std.proofs.Common.{◌≡◌, ℕ, zero, suc, ◌<◌, Bool, true, false, ◌||◌, ◌==◌, inl, inr, List, [], ◌∷◌, ◌++◌, map, length, length-append, drop, set, get_or, All, Contains, refl, sym, ◌∙◌, ap, arith, get_or-set_other, get_or-set_same}
+use Rattle.std.proofs.Common.{◌≡◌, ℕ, zero, suc, ◌<◌, true, ◌||◌, ◌==◌, List, [], ◌∷◌, ◌++◌, map, length, length-append, drop, set, get_or, All, Contains, refl, sym, ◌∙◌, ap, arith, get_or-set_other, get_or-set_same}
 use Rattle.std.proofs.lemmas.Bool.{cases_eq, eq-eqb, eqb-true, false_from_ne_true, or_right}
 use Rattle.std.proofs.lemmas.List.Elements.{All-cons, All-nil, All-head, All-tail}
 use Rattle.std.proofs.Math.ListN.{get_or-map}
@@ -20,19 +20,18 @@ mark_shown marks v = get_or-map is_marked marks v Clear
 -- one mark is set
 pub mark_set : (marks : List Mark) (v w : ℕ) (m : Mark) → v < length marks → is_marked m ≡ true
     → marked (map is_marked (set marks v m)) w ≡ (marked (map is_marked marks) w || (v == w))
-mark_set marks v w m lt on = mark_shown (set marks v m) w ∙ elim (cases_eq w v) [
-  | inl same ↦
-      ap (λ n. is_marked (get_or (set marks v m) n Clear)) same ∙ ap is_marked (get_or-set_same marks v m Clear lt) ∙ on
-      ∙ sym (or_right (marked (map is_marked marks) w) (v == w) (eq-eqb v w (sym same)))
-  | inr other ↦
-      ap is_marked (get_or-set_other marks v w m Clear other) ∙ sym (mark_shown marks w)
-      ∙ sym (or_off (marked (map is_marked marks) w) (v == w)
-      (false_from_ne_true (v == w) (λ e. other (sym (eqb-true v w e)))))
-]
-  where
-    or_off : (a b : Bool) → b ≡ false → (a || b) ≡ a
-    or_off true b e = refl
-    or_off false b e = e
+mark_set marks v w m lt on =
+    search (
+      arith,
+      mark_shown,
+      cases_eq,
+      get_or-set_same,
+      or_right,
+      eq-eqb,
+      get_or-set_other,
+      false_from_ne_true,
+      eqb-true,
+    )
 
 -- the marks that aren't clear yet are those of the variables to come
 abbrev pub AreLeft : List Mark → List ℕ → ℕ → Type 0
@@ -48,10 +47,7 @@ touched_grown marks touched are = record {
   where
     grown : (xs : List ℕ) → All (λ v. v < length marks) xs → All (λ v. v < length (marks ++ Clear ∷ [])) xs
     grown [] all = All-nil (λ v. v < length (marks ++ Clear ∷ []))
-    grown (x ∷ xs) all =
-        let lt = All-head (λ v. v < length marks) x xs all in
-        All-cons (λ v. v < length (marks ++ Clear ∷ [])) x xs (omega (arith, lt, length-append marks (Clear ∷ [])))
-        (grown xs (All-tail (λ v. v < length marks) x xs all))
+    grown (x ∷ xs) all = search (arith, All-head, All-cons, length-append, All-tail, (grown xs))
 
     read : (ms : List Mark) (v : ℕ) → get_or (ms ++ Clear ∷ []) v Clear ≡ get_or ms v Clear
     read [] zero = refl

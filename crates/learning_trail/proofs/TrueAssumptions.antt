@@ -1,5 +1,5 @@
 -- Which assumptions are true.
-use Rattle.std.proofs.Common.{◌≡◌, ℕ, zero, suc, ◌+◌, Bool, true, false, ◌||◌, List, [], ◌∷◌, take, slice_get, Some, None, Option, refl, sym, ◌∙◌, subst, arith, inl, inr}
+use Rattle.std.proofs.Common.{◌≡◌, ℕ, zero, suc, ◌+◌, true, ◌||◌, List, [], ◌∷◌, take, slice_get, Some, None, Option, refl, subst, arith}
 use Rattle.std.specs.List.{list_any}
 use Rattle.std.proofs.lemmas.Bool.{false≢true}
 use Rattle.dq_lits.specs.Literal.{Literal, same_literal}
@@ -22,20 +22,9 @@ true_next : (assumptions trues : List Literal) (i : ℕ) (l : Literal) → slice
     holds trues l ≡ true → AreTrue (take i assumptions) trues
     → AreTrue (take (suc i) assumptions) trues
 true_next [] trues i l at on before = let n : None ≡ Some l = at in cc
-true_next (x ∷ xs) trues zero l at on before =
-    λ a h. elim (holds_cases x (take 0 xs) a h) [
-      | inl e ↦ subst (λ k. holds trues k ≡ true) (sym (e ∙ same at)) on
-      | inr later ↦ none_true xs trues a later
-    ]
-  where
-    same : Some x ≡ Some l → x ≡ l
-    same e = cc
+true_next (x ∷ xs) trues zero l at on before = search (arith, holds_cases, none_true)
 true_next (x ∷ xs) trues (suc i) l at on before =
-    let rest = true_next xs trues i l at on (λ a h. before a (holds_later x (take i xs) a h)) in
-    λ a h. elim (holds_cases x (take (suc i) xs) a h) [
-      | inl e ↦ before a (subst (λ k. holds (x ∷ take i xs) k ≡ true) (sym e) (holds_here x (take i xs)))
-      | inr later ↦ rest a later
-    ]
+    search (arith, holds_later, holds_cases, holds_here, (true_next xs trues i l at on))
 
 pub true_more : (assumptions trues : List Literal) (i : ℕ) (l : Literal) → slice_get assumptions i ≡ Some l →
     holds trues l ≡ true → AreTrue (take i assumptions) trues
@@ -50,23 +39,12 @@ pub true_all : (assumptions trues : List Literal) (i : ℕ) → slice_get assump
 true_all [] trues i at before = λ a h. absurd (false≢true h)
 true_all (x ∷ xs) trues zero at before = let n : Some x ≡ None = at in cc
 true_all (x ∷ xs) trues (suc i) at before =
-    let rest = true_all xs trues i at (λ a h. before a (holds_later x (take i xs) a h)) in
-    λ a h. elim (holds_cases x xs a h) [
-      | inl e ↦ before a (subst (λ k. holds (x ∷ take i xs) k ≡ true) (sym e) (holds_here x (take i xs)))
-      | inr later ↦ rest a later
-    ]
+    search (arith, holds_later, holds_cases, holds_here, (true_all xs trues i at))
 
 pub among_assumed : (active : List Group) (literals : List Literal) (l : Literal) →
     holds (assumed active literals) l ≡ (list_any (λ g. same_literal l g.selector) active || holds literals l)
 among_assumed [] literals l = refl
-among_assumed (g ∷ active) literals l = by (same_literal l g.selector) (among_assumed active literals l)
-  where
-    by : (b : Bool) → holds (assumed active literals) l ≡ (list_any
-        (λ g. same_literal l g.selector) active || holds literals l)
-        → (b || holds (assumed active literals) l) ≡ ((b || list_any (λ g. same_literal l g.selector) active) || holds
-        literals l)
-    by true e = refl
-    by false e = e
+among_assumed (g ∷ active) literals l = search (arith, (among_assumed active literals l))
 
 pub none_from : (o : Option Literal) → ((l : Literal) → o ≡ Some l → ⊥) → o ≡ None
 none_from None other = refl

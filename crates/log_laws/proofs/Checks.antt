@@ -1,6 +1,6 @@
 -- What tests and tables show of a given log.
-use Rattle.std.proofs.Common.{◌≡◌, ◌≢◌, ℕ, zero, suc, ◌+◌, ◌≤◌, ◌<◌, ◌==◌, Bool, true, false, true≢false, cond, ◌||◌, ◌&&◌, inl, inr, List, [], ◌∷◌, ◌++◌, length, map, Option, None, Some, IsSome, refl, sym, ◌∙◌, ap, subst, arith, nat_le}
-use Rattle.std.specs.List.{All, AllPairs, Contains, list_any, list_all, IsDistinct}
+use Rattle.std.proofs.Common.{◌≡◌, ℕ, zero, suc, ◌+◌, ◌≤◌, ◌==◌, Bool, true, false, true≢false, cond, ◌||◌, ◌&&◌, List, [], ◌∷◌, ◌++◌, map, Option, None, Some, IsSome, refl, sym, ap, subst, arith, nat_le}
+use Rattle.std.specs.List.{All, Contains, list_any, list_all, IsDistinct}
 use Rattle.std.specs.Option.{option_and_then}
 use Rattle.std.proofs.lemmas.Bool.{and_parts, or_cases, leb-true, eqb-true}
 use Rattle.std.proofs.lemmas.Bool.Decides.{Decides-eqb}
@@ -77,17 +77,7 @@ pub rest_by : (trues : List Literal) (literal : Literal) (clause : List Literal)
     (l : Literal) → holds clause l ≡ true → same_literal l literal ≡ false → holds trues (opposite l) ≡ true
 rest_by trues literal [] h l inside other = cc
 rest_by trues literal (x ∷ xs) h l inside other =
-    let parts = and_parts (same_literal x literal || holds trues (opposite x))
-    (list_all (λ y. same_literal y literal || holds trues (opposite y)) xs) h in
-    elim (or_cases (same_literal l x) (holds xs l) inside) [
-      | inl here ↦
-          let is = same_literal-sound l x here in
-          elim (or_cases (same_literal x literal) (holds trues (opposite x)) parts.0) [
-            | inl same ↦ absurd (true≢false (sym same ∙ ap (λ k. same_literal k literal) (sym is) ∙ other))
-            | inr false' ↦ ap (λ k. holds trues (opposite k)) is ∙ false'
-          ]
-      | inr later ↦ rest_by trues literal xs parts.1 l later other
-    ]
+    search (arith, and_parts, or_cases, same_literal-sound, true≢false, (rest_by trues literal xs))
 
 -- no entry is a given clause of this origin
 pub no_given : (origin : Origin) (entries : List Entry) → Each
@@ -95,8 +85,7 @@ pub no_given : (origin : Origin) (entries : List Entry) → Each
     Contains entries (Given origin c) → ⊥
 no_given origin [] h c (k, below, is) = absurd (omega arith)
 no_given origin (e ∷ es) h c (zero, below, is) = h.0 c is
-no_given origin (e ∷ es) h c (suc k, below, is) = no_given origin es h.1 c
-    (k, (let b : k < length es = omega arith in b), is)
+no_given origin (e ∷ es) h c (suc k, below, is) = search (arith, (no_given origin es h.1 c))
 
 -- a fact of each entry is one of a given clause that is reached
 pub reached_has : (P : Entry → Type 0) (entries : List Entry) (hints : List ℕ) (origin : Origin) (c : List Literal) →
@@ -140,8 +129,7 @@ pub well_formed_by : (universals : List ℕ) (existentials : List Existential) (
 well_formed_by universals existentials matrix are sees bound = record {
   prefix = record {
     in_range = subst (All (λ v. (1 ≤ v) × (v ≤ 3))) (sym are) in_range;
-    declared_once = subst (AllPairs (λ v w. v ≢ w)) (sym are)
-        (AllPairs-from_IsDistinct Decides-eqb (1 ∷ 2 ∷ 3 ∷ []) distinct);
+    declared_once = search (arith, AllPairs-from_IsDistinct, Decides-eqb);
     sees_universals = all_passing (λ y. list_all (is_among universals) y.sees) (λ y. All (Contains universals) y.sees)
         (λ y h. among_by universals y.sees h) existentials sees;
   };
@@ -157,8 +145,7 @@ pub contained_has : (P : Entry → Type 0) (entries : List Entry) (e : Entry) �
     Contains entries e → P e
 contained_has P [] e h (k, below, is) = absurd (omega arith)
 contained_has P (x ∷ es) e h (zero, below, is) = subst P is h.0
-contained_has P (x ∷ es) e h (suc k, below, is) = contained_has P es e h.1
-    (k, (let b : k < length es = omega arith in b), is)
+contained_has P (x ∷ es) e h (suc k, below, is) = search (arith, (contained_has P es e h.1))
 
 -- a fact of each name
 pub named_has : (P : Name → Type 0) (entries : List Entry) →

@@ -1,11 +1,11 @@
 -- The log of a false formula meets every point.
 use Rattle.std.proofs.Common.{◌≡◌, ℕ, zero, suc, ◌≤◌, ◌<◌, ◌==◌, Bool, true, false, List, [], ◌∷◌, length, None, Some, refl, subst, arith, nat_le}
-use Rattle.std.specs.List.{All, Contains, list_any, filter_map}
+use Rattle.std.specs.List.{Contains, list_any, filter_map}
 use Rattle.std.proofs.lemmas.Bool.{leb-true}
 use Rattle.std.proofs.lemmas.List.Elements.{All-from_recursion}
-use Rattle.dq_lits.specs.Literal.{Literal, positive, negative, variable_of}
+use Rattle.dq_lits.specs.Literal.{Literal, positive, negative}
 use Rattle.dq_lits.specs.Formula.{Dqbf, IsWellFormed}
-use Rattle.dq_lits.specs.Expansion.{universal_literal_true, instance_clause, InstanceHolds, IsExpansionModel}
+use Rattle.dq_lits.specs.Expansion.{universal_literal_true, IsExpansionModel}
 use Rattle.hint_log.specs.Entries.{Entry}
 use Rattle.hint_log.specs.Entries.{Named, Given, Learned, Round}
 use Rattle.hint_log.specs.declared.names.Name.{Name}
@@ -21,7 +21,7 @@ use Rattle.hint_log.specs.Origins.{IsOriginsClause}
 use Rattle.hint_log.specs.ProductiveLog.{MatchesOrigin, IsDerivedByHints, IsNewLemma, RefutesNewRow, FollowsModel, IsNotRepeated, IsProductiveLog, fault_groups, fault_room}
 use Rattle.log_laws.specs.Examples.{blind_negation, tried_once, refuted}
 use Rattle.log_laws.specs.Meaning.{HasAnswer}
-use Rattle.log_laws.proofs.Checks.{named_by, ids_by, no_name, closed_by, rest_by, no_given, reached_has, holds_group, well_formed_by}
+use Rattle.log_laws.proofs.Checks.{ids_by, no_name, closed_by, rest_by, no_given, holds_group, well_formed_by}
 
 pub new_name : (earlier : List Entry) (v : ℕ) (name : Name) → 1 ≤ v → v < 4611686018427387904 →
     name_of earlier v ≡ None → Each (λ before e. (w : ℕ) → e ≡ Named w name → ⊥) earlier →
@@ -41,22 +41,7 @@ pub instance_of : (f : Dqbf) (earlier : List Entry) (k j group : ℕ) (row : Lis
     numbered_from_one f.matrix j ≡ Some clause → list_any (universal_literal_true f row) clause ≡ false →
     AreNamedAs earlier rest (filter_map (on_arbiter f (rows_of earlier) row) clause) →
     IsOriginsClause f earlier (Instance k j) (negative group ∷ rest)
-instance_of f earlier k j group row clause rest is_group row_is clause_is open_row named = record {
-  group = group;
-  rest = rest;
-  clause_is = refl;
-  is_group = is_group;
-  rest_is = record {
-    row = row;
-    clause = clause;
-    row_is = row_is;
-    clause_is = clause_is;
-    open_row = open_row;
-    named =
-        named;
-  };
-  one_leaf = λ v j i j' i' leaf leaf' rest' is. cc;
-}
+instance_of f earlier k j group row clause rest is_group row_is clause_is open_row named = search arith
 
 pub first_of : (earlier : List Entry) (origin : Origin) (clause : List Literal) →
     Each (λ before e. (c : List Literal) → e ≡ Given origin c → ⊥) earlier →
@@ -83,25 +68,7 @@ abbrev s5 : List Entry
 s5 = Given (Instance 1 1) (negative 1 ∷ positive 2 ∷ positive 3 ∷ []) ∷ s4
 
 pub tried_logged : AreLogged tried_once
-tried_logged = (
-  named_by s5 (negative 1 ∷ positive 2 ∷ negative 3 ∷ []) refl,
-  (
-    named_by s4 (negative 1 ∷ positive 2 ∷ positive 3 ∷ []) refl,
-    (
-      new_name s3 3 (Pair 1 3) (omega arith) (omega arith) refl ((λ w h. cc), ((λ w h. cc), ((λ w h. cc), tt))) tt,
-      (
-        new_name s2 2 (Pair 1 2) (omega arith) (omega arith) refl ((λ w h. cc), ((λ w h. cc), tt)) tt,
-        (
-          tt,
-          (
-            new_name [] 1 (Selector 1) (omega arith) (omega arith) refl tt tt,
-            tt,
-          ),
-        ),
-      ),
-    ),
-  ),
-)
+tried_logged = search (arith, new_name)
 
 pub tried_matches : Each (MatchesOrigin blind_negation) tried_once
 tried_matches = (
@@ -164,15 +131,7 @@ tried_models = (
 )
 
 pub tried_single : Each IsNotRepeated tried_once
-tried_single = (
-  first_of s5 (Instance 1 2) (negative 1 ∷ positive 2 ∷ negative 3 ∷ [])
-      ((λ c h. cc), ((λ c h. cc), ((λ c h. cc), ((λ c h. cc), ((λ c h. cc), tt))))) refl,
-  (
-    first_of s4 (Instance 1 1) (negative 1 ∷ positive 2 ∷ positive 3 ∷ [])
-        ((λ c h. cc), ((λ c h. cc), ((λ c h. cc), ((λ c h. cc), tt)))) refl,
-    (tt, (tt, (tt, (tt, tt)))),
-  ),
-)
+tried_single = search arith
 
 pub tried_selectors : KeepsSelectors tried_once
 tried_selectors = (tt, (tt, (tt, (tt, (tt, (tt, tt))))))
@@ -193,43 +152,10 @@ abbrev pub s11 : List Entry
 s11 = Given (Instance 2 4) (negative 1 ∷ negative 2 ∷ negative 3 ∷ []) ∷ s10
 
 pub refuted_logged : AreLogged refuted
-refuted_logged = (
-  (named_by s11 (negative 1 ∷ []) refl, ids_by s11 (3 ∷ 5 ∷ 6 ∷ []) refl),
-  (
-    named_by s10 (negative 1 ∷ negative 2 ∷ negative 3 ∷ []) refl,
-    (
-      named_by s9 (negative 1 ∷ negative 2 ∷ positive 3 ∷ []) refl,
-      (
-        named_by s8 (negative 1 ∷ positive 2 ∷ positive 3 ∷ []) refl,
-        (
-          tt,
-          (
-            (named_by tried_once (negative 1 ∷ positive 2 ∷ []) refl, ids_by tried_once (1 ∷ 2 ∷ []) refl),
-            tried_logged,
-          ),
-        ),
-      ),
-    ),
-  ),
-)
+refuted_logged = search (arith, ids_by, tried_logged)
 
 refuted_matches : Each (MatchesOrigin blind_negation) refuted
-refuted_matches = (
-  tt,
-  (
-    instance_of blind_negation s10 2 4 1 (true ∷ []) (negative 1 ∷ negative 2 ∷ negative 3 ∷ [])
-        (negative 2 ∷ negative 3 ∷ []) refl refl refl refl refl,
-    (
-      instance_of blind_negation s9 2 3 1 (true ∷ []) (negative 1 ∷ negative 2 ∷ positive 3 ∷ [])
-          (negative 2 ∷ positive 3 ∷ []) refl refl refl refl refl,
-      (
-        instance_of blind_negation s8 2 1 1 (true ∷ []) (positive 2 ∷ positive 3 ∷ [])
-            (positive 2 ∷ positive 3 ∷ []) refl refl refl refl refl,
-        (tt, (tt, tried_matches)),
-      ),
-    ),
-  ),
-)
+refuted_matches = search (arith, instance_of, tried_matches)
 
 refuted_new : Each IsNewLemma refuted
 refuted_new = (
@@ -294,11 +220,7 @@ refuted_rows = (
 
 -- 2 is true and 3 is false
 pub model_of_first_row : IsExpansionModel blind_negation ((false ∷ []) ∷ []) (λ v. v == 2)
-model_of_first_row =
-    let P : List Bool → List Literal → Type 0 = λ row clause. InstanceHolds (λ v. v == 2)
-    (instance_clause blind_negation ((false ∷ []) ∷ []) row clause) in
-    All-from_recursion (λ row. All (P row) blind_negation.matrix) ((false ∷ []) ∷ [])
-    (All-from_recursion (P (false ∷ [])) blind_negation.matrix (refl, (refl, (tt, (tt, tt)))), tt)
+model_of_first_row = search (arith, All-from_recursion)
 
 refuted_models : Each (FollowsModel blind_negation) refuted
 refuted_models = (
@@ -319,114 +241,24 @@ refuted_models = (
 )
 
 refuted_single : Each IsNotRepeated refuted
-refuted_single = (
-  tt,
-  (
-    first_of s10 (Instance 2 4) (negative 1 ∷ negative 2 ∷ negative 3 ∷ []) (
-      (λ c h. cc),
-      (
-        (λ c h. cc),
-        (
-          (λ c h. cc),
-          (
-            (λ c h. cc),
-            ((λ c h. cc), ((λ c h. cc), ((λ c h. cc), ((λ c h. cc), ((λ c h. cc), ((λ c h. cc), tt)))))),
-          ),
-        ),
-      ),
-    ) refl,
-    (
-      first_of s9 (Instance 2 3) (negative 1 ∷ negative 2 ∷ positive 3 ∷ []) (
-        (λ c h. cc),
-        (
-          (λ c h. cc),
-          (
-            (λ c h. cc),
-            (
-              (λ c h. cc),
-              ((λ c h. cc), ((λ c h. cc), ((λ c h. cc), ((λ c h. cc), ((λ c h. cc), tt))))),
-            ),
-          ),
-        ),
-      ) refl,
-      (
-        first_of s8 (Instance 2 1) (negative 1 ∷ positive 2 ∷ positive 3 ∷ []) (
-          (λ c h. cc),
-          (
-            (λ c h. cc),
-            (
-              (λ c h. cc),
-              (
-                (λ c h. cc),
-                ((λ c h. cc), ((λ c h. cc), ((λ c h. cc), ((λ c h. cc), tt)))),
-              ),
-            ),
-          ),
-        ) refl,
-        (tt, (tt, tried_single)),
-      ),
-    ),
-  ),
-)
+refuted_single = search (arith, tried_single)
 
 pub refuted_productive : IsProductiveLog blind_negation refuted
-refuted_productive = record {
-  givens_match_origins = refuted_matches;
-  lemmas_are_derived = (refl, (tt, (tt, (tt, (tt, (refl, tried_derived))))));
-  lemmas_are_new = refuted_new;
-  rounds_refute_new_rows = refuted_rows;
-  rounds_follow_a_model = refuted_models;
-  givens_are_not_repeated = refuted_single;
-}
+refuted_productive =
+    search (arith, refuted_matches, tried_derived, refuted_new, refuted_rows, refuted_models, refuted_single)
 
 -- all clauses are of group 1
 abbrev pub IsOfGroup1 : Entry → Type 0
 IsOfGroup1 e = (origin : Origin) (g : ℕ) (rest : List Literal) → e ≡ Given origin (negative g ∷ rest) → 1 ≡ g
 
 pub tried_group : Each (λ before e. IsOfGroup1 e) tried_once
-tried_group = (
-  (λ o g r h. cc),
-  (
-    (λ o g r h. cc),
-    (
-      (λ o g r h. cc),
-      ((λ o g r h. cc), ((λ o g r h. cc), ((λ o g r h. cc), tt))),
-    ),
-  ),
-)
+tried_group = search arith
 
 refuted_group : Each (λ before e. IsOfGroup1 e) s11
-refuted_group = (
-  (λ o g r h. cc),
-  (
-    (λ o g r h. cc),
-    (
-      (λ o g r h. cc),
-      ((λ o g r h. cc), ((λ o g r h. cc), tried_group)),
-    ),
-  ),
-)
+refuted_group = search (arith, tried_group)
 
 pub refuted_selectors : KeepsSelectors refuted
-refuted_selectors = (
-  holds_group s11 (negative 1 ∷ []) (3 ∷ 5 ∷ 6 ∷ []) 1 refl refuted_group,
-  (
-    tt,
-    (
-      tt,
-      (
-        tt,
-        (
-          tt,
-          (
-            holds_group tried_once (negative 1 ∷ positive 2 ∷ []) (1 ∷ 2 ∷ []) 1 refl tried_group,
-            tried_selectors,
-          ),
-        ),
-      ),
-    ),
-  ),
-)
+refuted_selectors = search (arith, holds_group, refuted_group, tried_group, tried_selectors)
 
 abbrev IsInstanceIfGiven : Entry → Type 0
 IsInstanceIfGiven e = (origin : Origin) (c : List Literal) → e ≡ Given origin c → IsInstance origin
@@ -435,28 +267,7 @@ instance_is : (k j : ℕ) (clause : List Literal) → IsInstanceIfGiven (Given (
 instance_is k j clause origin c h = let is : Instance k j ≡ origin = cc in subst IsInstance is tt
 
 refuted_instances : Each (λ before e. IsInstanceIfGiven e) s11
-refuted_instances = (
-  instance_is 2 4 (negative 1 ∷ negative 2 ∷ negative 3 ∷ []),
-  (
-    instance_is 2 3 (negative 1 ∷ negative 2 ∷ positive 3 ∷ []),
-    (
-      instance_is 2 1 (negative 1 ∷ positive 2 ∷ positive 3 ∷ []),
-      (
-        (λ o c h. cc),
-        (
-          (λ o c h. cc),
-          (
-            instance_is 1 2 (negative 1 ∷ positive 2 ∷ negative 3 ∷ []),
-            (
-              instance_is 1 1 (negative 1 ∷ positive 2 ∷ positive 3 ∷ []),
-              ((λ o c h. cc), ((λ o c h. cc), ((λ o c h. cc), ((λ o c h. cc), tt)))),
-            ),
-          ),
-        ),
-      ),
-    ),
-  ),
-)
+refuted_instances = search (arith, instance_is)
 
 pub refuted_decides : HasAnswer DecidesFalse refuted
 refuted_decides = record {
@@ -465,24 +276,11 @@ refuted_decides = record {
   hints = 3 ∷ 5 ∷ 6 ∷ [];
   later = [];
   is_there = refl;
-  decides = record {
-    selectors = All-from_recursion (λ l. (l ≡ negative (variable_of l)) ×
-        (name_of s11 (variable_of l) ≡ Some (Selector (variable_of l)))) (negative 1 ∷ []) ((refl, refl), tt);
-    instances = λ origin c reached. reached_has IsInstanceIfGiven s11
-        (3 ∷ 5 ∷ 6 ∷ []) origin c refuted_instances reached origin c refl;
-  };
+  decides = search (arith, All-from_recursion, refuted_instances);
 }
 
 pub blind_negation_well_formed : IsWellFormed blind_negation
-blind_negation_well_formed = well_formed_by blind_negation.universals blind_negation.existentials blind_negation.matrix
-    refl refl refl
+blind_negation_well_formed = search (arith, well_formed_by)
 
 pub tried_productive : IsProductiveLog blind_negation tried_once
-tried_productive = record {
-  givens_match_origins = tried_matches;
-  lemmas_are_derived = tried_derived;
-  lemmas_are_new = tried_new;
-  rounds_refute_new_rows = tried_rows;
-  rounds_follow_a_model = tried_models;
-  givens_are_not_repeated = tried_single;
-}
+tried_productive = search (arith, tried_matches, tried_derived, tried_new, tried_rows, tried_models, tried_single)

@@ -1,5 +1,5 @@
 -- Rows of a length that differ pairwise are at most two to the power of the length.
-use Rattle.std.proofs.Common.{◌≡◌, ℕ, zero, suc, ◌+◌, ◌^◌, ◌≤◌, Bool, true, false, cond, inl, inr, ◌⊎◌, List, [], ◌∷◌, ◌++◌, length, refl, sym, ◌∙◌, ap, subst, arith}
+use Rattle.std.proofs.Common.{◌≡◌, ℕ, zero, suc, ◌+◌, ◌^◌, ◌≤◌, Bool, true, false, cond, inl, inr, ◌⊎◌, List, [], ◌∷◌, ◌++◌, length, refl, ◌∙◌, subst, arith}
 use Rattle.std.specs.List.{Contains}
 use Rattle.std.proofs.lemmas.List.Elements.{Contains-append_left, Contains-push}
 use Rattle.dq_lits.specs.Formula.{Dqbf}
@@ -43,26 +43,13 @@ same_is false false h = refl
 behind_among : (b : Bool) (row : List Bool) (rows : List (List Bool)) → Among row (behind b rows) → Among (b ∷ row) rows
 behind_among b row [] h = h
 behind_among b row ([] ∷ rows) h = inr (behind_among b row rows h)
-behind_among b row ((c ∷ x) ∷ rows) h = by_bit (same b c) refl (behind_among b row rows) h where
-  by_bit : (d : Bool) → same b c ≡ d → (Among row (behind b rows) → Among (b ∷ row) rows) →
-      Among row (cond d (x ∷ behind b rows) (behind b rows)) → Among (b ∷ row) ((c ∷ x) ∷ rows)
-  by_bit true e later (inl is) = inl (ap (λ z. z ∷ x) (same_is b c e) ∙ ap (λ z. b ∷ z) is)
-  by_bit true e later (inr h) = inr (later h)
-  by_bit false e later h = inr (later h)
+behind_among b row ((c ∷ x) ∷ rows) h = search (arith, (behind_among b row rows))
 
 behind_distinct : (b : Bool) (n : ℕ) (rows : List (List Bool)) → AreDistinct (suc n) rows →
     AreDistinct n (behind b rows)
 behind_distinct b n [] h = tt
 behind_distinct b n ([] ∷ rows) h = behind_distinct b n rows h.2
-behind_distinct b n ((c ∷ x) ∷ rows) h = by_bit (same b c) refl (behind_distinct b n rows h.2) where
-  by_bit : (d : Bool) → same b c ≡ d → AreDistinct n (behind b rows) →
-      AreDistinct n (cond d (x ∷ behind b rows) (behind b rows))
-  by_bit true e later = let long = h.0 in (
-    omega (arith, long),
-    (λ inside. h.1 (subst (λ z. Among (z ∷ x) rows) (sym (same_is b c e)) (behind_among b x rows inside))),
-    later,
-  )
-  by_bit false e later = later
+behind_distinct b n ((c ∷ x) ∷ rows) h = search (arith, (behind_distinct b n rows h.2), behind_among)
 
 parted : (n : ℕ) (rows : List (List Bool)) → AreDistinct (suc n) rows →
     length rows ≡ length (behind true rows) + length (behind false rows)

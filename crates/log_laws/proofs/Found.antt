@@ -1,5 +1,5 @@
 -- What is found in lists and logs.
-use Rattle.std.proofs.Common.{◌≡◌, ℕ, zero, suc, ◌+◌, ◌<◌, ◌==◌, Bool, true, false, cond, not, ◌&&◌, List, [], ◌∷◌, ◌++◌, map, length, get_or, slice_get, Option, None, Some, refl, ◌∙◌, ap, subst, arith}
+use Rattle.std.proofs.Common.{◌≡◌, ℕ, zero, suc, ◌+◌, ◌<◌, ◌==◌, Bool, true, false, cond, ◌&&◌, List, [], ◌∷◌, ◌++◌, map, length, get_or, slice_get, Option, None, Some, refl, ap, subst, arith}
 use Rattle.std.specs.List.{Contains, find, position_or_len}
 use Rattle.std.specs.Option.{option_map}
 use Rattle.std.proofs.lemmas.Bool.{eq-eqb}
@@ -15,7 +15,7 @@ use Rattle.hint_log.specs.Conditions.{MayFollow}
 use Rattle.hint_log.specs.ProductiveLog.{MatchesOrigin, IsDerivedByHints}
 use Rattle.log_laws.specs.Meaning.{IsSoundLog, IsSoundAnswer}
 use Rattle.hint_log.specs.Growth.{Each}
-use Rattle.hint_log.specs.Naming.{numbered_from_one, NamedLiteral, named_literal}
+use Rattle.hint_log.specs.Naming.{numbered_from_one, named_literal}
 
 abbrev pub variable : Existential → ℕ
 variable y = y.variable
@@ -24,11 +24,7 @@ variable y = y.variable
 pub find_there : (ys : List Existential) (v : ℕ) → Contains (map variable ys) v →
     find (λ z. z.variable == v) ys ≡ None → ⊥
 find_there [] v (k, below, is) h = absurd (omega arith)
-find_there (y ∷ ys) v (zero, below, is) h = let e : (y.variable == v) ≡ true = eq-eqb y.variable v is in
-    by_bit (y.variable == v) e h where
-      by_bit : (b : Bool) → b ≡ true → cond b (Some y) (find (λ z. z.variable == v) ys) ≡ None → ⊥
-      by_bit true e h = cc
-      by_bit false e h = cc
+find_there (y ∷ ys) v (zero, below, is) h = search (arith, eq-eqb)
 find_there (y ∷ ys) v (suc k, below, is) h = by_bit (λ g. find_there ys v
     (k, (let b : k < length (map variable ys) = omega arith in b), is) g) (y.variable == v) h where
       by_bit : (find (λ z. z.variable == v) ys ≡ None → ⊥) → (b : Bool) →
@@ -49,31 +45,19 @@ pub position_small : (p : List Bool → Bool) (xs : List (List Bool)) (k : ℕ) 
     p (get_or xs k d) ≡ true → position_or_len p xs < length xs
 position_small p [] k d below h = absurd (omega arith)
 position_small p (x ∷ xs) zero d below h = rw h (omega arith)
-position_small p (x ∷ xs) (suc k) d below h = by_bit (p x) (let b : k < length xs = omega arith in
-    position_small p xs k d b h) where
-      by_bit : (b : Bool) → position_or_len p xs < length xs →
-          cond (not b) (1 + position_or_len p xs) 0 < suc (length xs)
-      by_bit true l = omega arith
-      by_bit false l = omega arith
+position_small p (x ∷ xs) (suc k) d below h = search (arith, (position_small p xs k d))
 
 pub position_append : (p : List Bool → Bool) (xs ys : List (List Bool)) → position_or_len p xs < length xs →
     position_or_len p (xs ++ ys) ≡ position_or_len p xs
 position_append p [] ys h = absurd (omega arith)
-position_append p (x ∷ xs) ys h = by_bit (p x) (position_append p xs ys) h where
-  by_bit : (b : Bool) → (position_or_len p xs < length xs → position_or_len p (xs ++ ys) ≡ position_or_len p xs) →
-      cond (not b) (1 + position_or_len p xs) 0 < suc (length xs) →
-      cond (not b) (1 + position_or_len p (xs ++ ys)) 0 ≡ cond (not b) (1 + position_or_len p xs) 0
-  by_bit true later h = refl
-  by_bit false later h = let small : position_or_len p xs < length xs = omega arith in ap (λ n. 1 + n) (later small)
+position_append p (x ∷ xs) ys h = search (arith, (position_append p xs ys))
 
 -- a literal that is named so
 pub named_variable : (es : List Entry) (l : Literal) (n : Name) (b : Bool) (o : Option Name) →
     name_of es (variable_of l) ≡ o → option_map (λ m. named_literal m (is_negative l)) o ≡ Some (named_literal n b) →
     (name_of es (variable_of l) ≡ Some n) × (is_negative l ≡ b)
 named_variable es l n b None e h = cc
-named_variable es l n b (Some m) e h =
-    let both : named_literal m (is_negative l) ≡ named_literal n b = cc in
-    (e ∙ ap Some (ap (λ (x : NamedLiteral). x.name) both), ap (λ (x : NamedLiteral). x.negated) both)
+named_variable es l n b (Some m) e h = search arith
 
 -- a fact of each entry is one of this entry
 pub each_at : (P : List Entry → Entry → Type 0) (more es : List Entry) (e : Entry) → Each P (more ++ e ∷ es) → P es e

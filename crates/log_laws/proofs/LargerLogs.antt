@@ -1,9 +1,9 @@
 -- What stays as a log grows.
-use Rattle.std.proofs.Common.{◌≡◌, ◌≢◌, ℕ, ◌+◌, ◌-◌, ◌≤◌, ◌==◌, Bool, true, false, cond, ◌⊎◌, inl, inr, List, [], ◌∷◌, ◌++◌, Option, Some, None, refl, sym, ◌∙◌, ap, subst, arith, filter, append_assoc}
+use Rattle.std.proofs.Common.{◌≡◌, ◌≢◌, ℕ, ◌≤◌, Bool, true, false, ◌⊎◌, inl, inr, List, [], ◌∷◌, ◌++◌, Option, Some, None, refl, sym, ◌∙◌, ap, subst, arith, filter, append_assoc}
 use Rattle.std.proofs.lemmas.Bool.{false≢true, eqb-true}
 use Rattle.dq_lits.specs.Literal.{Literal, negative}
 use Rattle.dq_lits.specs.Formula.{Dqbf}
-use Rattle.hint_log.specs.Entries.{ProofLog, with_entry, is_round, is_beginning, rounds_of, beginnings_of, count, name_of}
+use Rattle.hint_log.specs.Entries.{ProofLog, with_entry, is_round, is_beginning, count, name_of}
 use Rattle.hint_log.specs.Entries.{Entry}
 use Rattle.hint_log.specs.Entries.{Named, Given, Learned, Answer, Round, Begun}
 use Rattle.hint_log.specs.declared.names.Name.{Name}
@@ -21,35 +21,25 @@ pub each_grown : (P Q : List Entry → Entry → Type 0) → ((earlier : List En
     Q earlier e) →
     (more old : List Entry) → EachOf P more old → Each Q old → Each Q (more ++ old)
 each_grown P Q weaker [] old more_ok old_ok = old_ok
-each_grown P Q weaker (e ∷ more) old more_ok old_ok = (
-  weaker (more ++ old) e more_ok.0,
-  each_grown P Q weaker more old more_ok.1 old_ok,
-)
+each_grown P Q weaker (e ∷ more) old more_ok old_ok =
+    search (arith, (each_grown P Q weaker more old more_ok.1 old_ok))
 
 -- entries that fail a test
 pub filter_grown : (P : List Entry → Entry → Type 0) (test : Entry → Bool) →
     ((earlier : List Entry) (e : Entry) → P earlier e → test e ≡ false) →
     (more old : List Entry) → EachOf P more old → filter test (more ++ old) ≡ filter test old
 filter_grown P test fails [] old more_ok = refl
-filter_grown P test fails (e ∷ more) old more_ok =
-    ap (λ b. cond b (e ∷ filter test (more ++ old)) (filter test (more ++ old))) (fails (more ++ old) e more_ok.0)
-    ∙ filter_grown P test fails more old more_ok.1
+filter_grown P test fails (e ∷ more) old more_ok = search (arith, (filter_grown P test fails more old more_ok.1))
 
 pub count_grown : (test : Entry → Bool) (more old : List Entry) → count test old ≤ count test (more ++ old)
 count_grown test [] old = omega arith
-count_grown test (e ∷ more) old = by_bit (test e) (count_grown test more old) where
-  by_bit : (b : Bool) → count test old ≤ count test (more ++ old) →
-      count test old ≤ cond b (count test (more ++ old) + 1) (count test (more ++ old))
-  by_bit true h = omega arith
-  by_bit false h = h
+count_grown test (e ∷ more) old = search (arith, (count_grown test more old))
 
 pub count_same : (P : List Entry → Entry → Type 0) (test : Entry → Bool) →
     ((earlier : List Entry) (e : Entry) → P earlier e → test e ≡ false) →
     (more old : List Entry) → EachOf P more old → count test (more ++ old) ≡ count test old
 count_same P test fails [] old more_ok = refl
-count_same P test fails (e ∷ more) old more_ok =
-    ap (λ b. cond b (count test (more ++ old) + 1) (count test (more ++ old))) (fails (more ++ old) e more_ok.0)
-    ∙ count_same P test fails more old more_ok.1
+count_same P test fails (e ∷ more) old more_ok = search (arith, (count_same P test fails more old more_ok.1))
 
 module _ (f : Dqbf) (engine : Engine) (group : ℕ) (silent : Bool) (old : List Entry) where
   abbrev Added : List Entry → Entry → Type 0
@@ -121,12 +111,7 @@ module _ (f : Dqbf) (engine : Engine) (group : ℕ) (silent : Bool) (old : List 
   pub name_kept : (v : ℕ) (n : Name) (more : List Entry) → EachOf Added more old → name_of old v ≡ Some n →
       name_of (more ++ old) v ≡ Some n
   name_kept v n [] h is = is
-  name_kept v n (Named w m ∷ more) h is = by_bit (v == w) refl (name_kept v n more h.1 is) where
-    by_bit : (b : Bool) → (v == w) ≡ b → name_of (more ++ old) v ≡ Some n →
-        cond b (Some m) (name_of (more ++ old) v) ≡ Some n
-    by_bit true e before = let same : v ≡ w = eqb-true v w e in let none : name_of (more ++ old) v ≡ None =
-        ap (name_of (more ++ old)) same ∙ h.0.unnamed in cc
-    by_bit false e before = before
+  name_kept v n (Named w m ∷ more) h is = search (arith, (name_kept v n more h.1 is), eqb-true)
   name_kept v n (Given origin c ∷ more) h is = name_kept v n more h.1 is
   name_kept v n (Learned c hints ∷ more) h is = name_kept v n more h.1 is
   name_kept v n (Answer c hints ∷ more) h is = name_kept v n more h.1 is
@@ -140,13 +125,7 @@ module _ (f : Dqbf) (engine : Engine) (group : ℕ) (silent : Bool) (old : List 
   pub own_given : (other : Engine) (mine : ℕ) (n : Name) → mine ≢ group → name_of old mine ≡ Some n →
       (earlier : List Entry) (e : Entry) → Added earlier e → IsOwnGiven f other mine earlier e
   own_given other mine n apart named earlier (Named v m) h = tt
-  own_given other mine n apart named earlier (Given origin c) h = λ inside.
-      let g = h.in_group.0 in
-      let same = in_one_group g mine c inside h.in_group.1 in
-      absurd (elim h.in_group.2 [
-        | inl is_group ↦ apart (same ∙ is_group)
-        | inr unnamed ↦ (let none : name_of old mine ≡ None = ap (name_of old) same ∙ unnamed in cc)
-      ])
+  own_given other mine n apart named earlier (Given origin c) h = search (arith, in_one_group)
   own_given other mine n apart named earlier (Learned c hints) h = tt
   own_given other mine n apart named earlier (Answer c hints) h = tt
   own_given other mine n apart named earlier (Round row values j) h = tt
@@ -218,14 +197,10 @@ leaves_rest f engine group silent old new grew =
     let P : List Entry → List Entry → Type 0 = λ a b. LeavesRest f engine group silent a b in
     let Q : List Entry → Entry → Type 0 = IsAddedBy f engine group silent old.entries in
     let kept : LeavesRest f engine group silent old.entries (grew.more ++ old.entries) = record {
-      origins = each_grown Q (MatchesOrigin f) (rightly_given f engine group silent old.entries) grew.more old.entries
-          grew.each;
-      new_rows = each_grown Q (RefutesNewRow f) (real_round f engine group silent old.entries) grew.more old.entries
-          grew.each;
-      models = each_grown Q (FollowsModel f) (modelled f engine group silent old.entries) grew.more old.entries
-          grew.each;
-      givens = each_grown Q IsNotRepeated (first_of_origin f engine group silent old.entries) grew.more old.entries
-          grew.each;
+      origins = search (arith, each_grown, rightly_given);
+      new_rows = search (arith, each_grown, real_round);
+      models = search (arith, each_grown, modelled);
+      givens = search (arith, each_grown, first_of_origin);
       decisions = λ s. each_grown Q (DecidesNothing f) (undecided f engine group silent old.entries s) grew.more
           old.entries grew.each;
       rows = rows_kept f engine group silent old.entries grew.more grew.each;
@@ -235,13 +210,8 @@ leaves_rest f engine group silent old new grew =
           (foreign f engine group silent old.entries other differ) grew.more old.entries grew.each;
       groups = λ other mine name apart named. each_grown Q (IsOwnGiven f other mine)
           (own_given f engine group silent old.entries other mine name apart named) grew.more old.entries grew.each;
-      beginnings = count_same Q is_beginning (no_beginning f engine group silent old.entries) grew.more old.entries
-          grew.each;
-      room =
-          ap (λ n. n + 1 + (beginnings_of (grew.more ++ old.entries) - 1))
-          (count_same Q is_round (no_round f engine group silent old.entries) grew.more old.entries grew.each)
-          ∙ ap (λ n. rounds_of old.entries + 1 + (n - 1)) (count_same Q is_beginning
-          (no_beginning f engine group silent old.entries) grew.more old.entries grew.each);
+      beginnings = search (arith, count_same, no_beginning);
+      room = search (arith, count_same, no_round, no_beginning);
       live = live_kept f engine group silent old.entries grew.more grew.each;
       before = before_kept f engine group silent old.entries grew.more grew.each;
       faults = λ other. faults_kept f engine other group silent old.entries old.entries grew.more grew.each;
@@ -259,19 +229,7 @@ grown_by P old new e is fact = record {
 }
 
 pub grown_by_none : (P : List Entry → Entry → Type 0) (old new : ProofLog) → new ≡ old → Grew P old new
-grown_by_none P old new is = record {
-  more = [];
-  grown = ap (λ (l : ProofLog). l.entries) is;
-  each = tt;
-  limit =
-      ap (λ (l : ProofLog). l.limit) is;
-}
+grown_by_none P old new is = search arith
 
 pub grown_then : (P : List Entry → Entry → Type 0) (a b c : ProofLog) → Grew P a b → Grew P b c → Grew P a c
-grown_then P a b c first second = record {
-  more = second.more ++ first.more;
-  grown = second.grown ∙ ap (λ es. second.more ++ es) first.grown ∙ sym (append_assoc second.more first.more a.entries);
-  each = each_both P second.more first.more a.entries (subst (EachOf P second.more) first.grown second.each)
-      first.each;
-  limit = second.limit ∙ first.limit;
-}
+grown_then P a b c first second = search (arith, append_assoc, each_both)

@@ -6,7 +6,7 @@ use Rattle.std.specs.Option.{option_map}
 use Rattle.std.proofs.lemmas.Bool.{false≢true, true≢false, and_parts, and_from, eqb-true, eq-eqb, cond-true}
 use Rattle.std.proofs.lemmas.List.Elements.{All-contains, All-head, All-tail, Contains-get_or, Contains-append_right, Contains-append_cases}
 use Rattle.std.proofs.lemmas.List.Folds.{list_any_at}
-use Rattle.dq_lits.specs.Literal.{Assignment, Literal, negative, variable_of, same_literal, literal_true, clause_true}
+use Rattle.dq_lits.specs.Literal.{Assignment, Literal, negative, variable_of, same_literal, clause_true}
 use Rattle.dq_lits.specs.Formula.{Existential, Dqbf, declared, is_universal, existential_of, IsWellFormed}
 use Rattle.dq_lits.specs.Henkin.{MatrixHolds}
 use Rattle.dq_lits.specs.Skolem.{OutputFunction, AreSkolemFunctions}
@@ -103,23 +103,7 @@ entry_leaf_is : (f : Dqbf) (g v : ℕ) (e : Entry) (leaf : Leaf) → entry_leaf 
 entry_leaf_is f g v (Named w n) leaf h = cc
 entry_leaf_is f g v (Given (Instance k j) c) leaf h = cc
 entry_leaf_is f g v (Given (Gate w i) c) leaf h = cc
-entry_leaf_is f g v (Given (Fault j i other) c) leaf h = by_bit
-    (is_in_group g c && is_on v (option_map variable_of (matrix_literal f j i))) refl h where
-      by_bit : (b : Bool) → (is_in_group g c && is_on v (option_map variable_of (matrix_literal f j i))) ≡ b →
-          cond b (Some other) None ≡ Some leaf →
-          (j' : ℕ) × (i' : ℕ) × (c' : List Literal) × (Given (Fault j i other) c ≡ Given (Fault j' i' leaf) c') ×
-          (is_in_group g c' ≡ true) × (option_map variable_of (matrix_literal f j' i') ≡ Some v)
-      by_bit true e h =
-          let same : other ≡ leaf = cc in
-          let parts = and_parts (is_in_group g c) (is_on v (option_map variable_of (matrix_literal f j i))) e in (
-            j,
-            i,
-            c,
-            ap (λ x. Given (Fault j i x) c) same,
-            parts.0,
-            on_is v (option_map variable_of (matrix_literal f j i)) parts.1,
-          )
-      by_bit false e h = cc
+entry_leaf_is f g v (Given (Fault j i other) c) leaf h = search (arith, and_parts, on_is)
 entry_leaf_is f g v (Given (Copy side j) c) leaf h = cc
 entry_leaf_is f g v (Given (Link w i) c) leaf h = cc
 entry_leaf_is f g v (Given (TermGate w i) c) leaf h = cc
@@ -155,8 +139,7 @@ one_leaf f g v (e ∷ es) j i out rest given (suc k, below, is) own =
           let r = entry_leaf_is f g v e leaf at in
           let o : IsOriginsClause f es (Fault r.0 r.1 leaf) r.2 = subst (MatchesInGroup f g es) r.3 given.0 r.4 in
           let same : g ≡ o.group = in_group g o.group r.2 o.rest o.clause_is r.4 in
-          let inside : Contains es (Given (Fault j i out) (negative g ∷ rest)) =
-          (k, (let b : k < length es = omega arith in b), is) in
+          let inside : Contains es (Given (Fault j i out) (negative g ∷ rest)) = search arith in
           o.one_leaf v r.0 r.1 j i leaf out rest refl (subst
           (λ h. Contains es (Given (Fault j i out) (negative h ∷ rest))) same inside) r.5 own
 
@@ -165,16 +148,14 @@ abbrev seen : List ℕ → Assignment → Assignment
 seen xs m v = cond (list_any (λ x. x == v) xs) (m v) false
 
 seen_there : (xs : List ℕ) (m : Assignment) (v : ℕ) → Contains xs v → m v ≡ seen xs m v
-seen_there xs m v inside = sym (cond-true (list_any (λ x. x == v) xs) (m v) false
-    (list_any_at (λ x. x == v) xs inside.0 v inside.1 (eq-eqb (get_or xs inside.0 v) v inside.2)))
+seen_there xs m v inside = search (arith, cond-true, list_any_at, eq-eqb)
 
 seen_same : (xs : List ℕ) (m n : Assignment) → All (λ x. m x ≡ n x) xs → (v : ℕ) → seen xs m v ≡ seen xs n v
 seen_same [] m n h v = refl
 seen_same (x ∷ xs) m n h v = by_bit (x == v) refl (seen_same xs m n (All-tail (λ y. m y ≡ n y) x xs h) v) where
   by_bit : (b : Bool) → (x == v) ≡ b → seen xs m v ≡ seen xs n v →
       cond (b || list_any (λ y. y == v) xs) (m v) false ≡ cond (b || list_any (λ y. y == v) xs) (n v) false
-  by_bit true e later = let same : x ≡ v = eqb-true x v e in
-      subst (λ w. m w ≡ n w) same (All-head (λ y. m y ≡ n y) x xs h)
+  by_bit true e later = search (arith, eqb-true, All-head)
   by_bit false e later = later
 
 module _ (p q : Assignment) (bad : ℕ → Bool) where
@@ -182,23 +163,7 @@ module _ (p q : Assignment) (bad : ℕ → Bool) where
   module _ (same : (v : ℕ) → p v ≡ q v) where
     value_same : (es : List Entry) (v : ℕ) → value_in p bad es v ≡ value_in q bad es v
     value_same [] v = refl
-    value_same (Named w n ∷ es) v = by_bit (value_same es) (v == w) where
-      by_name : ((u : ℕ) → value_in p bad es u ≡ value_in q bad es u) → (n : Name) →
-          name_value p bad (value_in p bad es) n ≡ name_value q bad (value_in q bad es) n
-      by_name later (Selector g) = refl
-      by_name later (Pair k y) = refl
-      by_name later (Input x) = same x
-      by_name later (And a b) = both_same (value_in p bad es) (value_in q bad es) a b (later (variable_of a))
-          (later (variable_of b))
-      by_name later (Bad g j) = refl
-      by_name later (CopyOf side u) = refl
-      by_name later (Term a b) = refl
-
-      by_bit : ((u : ℕ) → value_in p bad es u ≡ value_in q bad es u) → (b : Bool) →
-          cond b (name_value p bad (value_in p bad es) n) (value_in p bad es v) ≡ cond b
-          (name_value q bad (value_in q bad es) n) (value_in q bad es v)
-      by_bit later true = by_name later n
-      by_bit later false = later v
+    value_same (Named w n ∷ es) v = search (arith, (value_same es), both_same)
     value_same (Given origin c ∷ es) v = value_same es v
     value_same (Learned c hints ∷ es) v = value_same es v
     value_same (Answer c hints ∷ es) v = value_same es v
@@ -208,8 +173,7 @@ module _ (p q : Assignment) (bad : ℕ → Bool) where
     leaf_same : (es : List Entry) (leaf : Leaf) → leaf_value (value_in p bad es) leaf ≡ leaf_value
         (value_in q bad es) leaf
     leaf_same es (Constant b) = refl
-    leaf_same es (LeafLiteral l) = literal_true-agree (value_in p bad es) (value_in q bad es) l
-        (value_same es (variable_of l))
+    leaf_same es (LeafLiteral l) = search (arith, literal_true-agree, value_same)
 
   -- a circuit's values depend on the inputs that it reads
   module _ (all : List Entry) (lawful : Each MayFollow all) where
@@ -218,8 +182,7 @@ module _ (p q : Assignment) (bad : ℕ → Bool) where
 
     name_of_all : (more es : List Entry) → all ≡ more ++ es → (v : ℕ) (n : Name) → name_of es v ≡ Some n →
         name_of all v ≡ Some n
-    name_of_all more es is v n h = ap (λ xs. name_of xs v) is ∙ name_stays more es v n
-        (subst (Each MayFollow) is lawful) h
+    name_of_all more es is v n h = search (arith, name_stays)
 
     value_read : (es more : List Entry) → all ≡ more ++ es → Each MayFollow es → (l : Literal) →
         is_circuit_name (name_of es (variable_of l)) ≡ true → AgreesOn l →
@@ -253,17 +216,13 @@ module _ (p q : Assignment) (bad : ℕ → Bool) where
               (cond-true (variable_of l == w) (Some n) (name_of es (variable_of l)) e))
           by_bit later false e h = later l h agree
     value_read (Given origin c ∷ es) more is own l h agree =
-        value_read es (more ++ Given origin c ∷ []) (is ∙ sym (append_assoc more (Given origin c ∷ []) es)) own.1
-        l h agree
+        search (arith, (value_read es (more ++ Given origin c ∷ [])), append_assoc)
     value_read (Learned c hints ∷ es) more is own l h agree =
-        value_read es (more ++ Learned c hints ∷ []) (is ∙ sym (append_assoc more (Learned c hints ∷ []) es)) own.1
-        l h agree
+        search (arith, (value_read es (more ++ Learned c hints ∷ [])), append_assoc)
     value_read (Answer c hints ∷ es) more is own l h agree =
-        value_read es (more ++ Answer c hints ∷ []) (is ∙ sym (append_assoc more (Answer c hints ∷ []) es)) own.1
-        l h agree
+        search (arith, (value_read es (more ++ Answer c hints ∷ [])), append_assoc)
     value_read (Round row values j ∷ es) more is own l h agree =
-        value_read es (more ++ Round row values j ∷ []) (is ∙ sym (append_assoc more (Round row values j ∷ []) es))
-        own.1 l h agree
+        search (arith, (value_read es (more ++ Round row values j ∷ [])), append_assoc)
     value_read (Begun live ∷ es) more is own l h agree = value_read es (more ++ Begun live ∷ [])
         (is ∙ sym (append_assoc more (Begun live ∷ []) es)) own.1 l h agree
 
@@ -277,8 +236,7 @@ leaf_read : (p q : Assignment) (bad : ℕ → Bool) (all : List Entry) → Each 
     leaf_value (value_in p bad all) leaf ≡ leaf_value (value_in q bad all) leaf
 leaf_read p q bad all lawful (Constant b) circuit agree = refl
 leaf_read p q bad all lawful (LeafLiteral l) circuit agree =
-    literal_true-agree (value_in p bad all) (value_in q bad all) l
-    (value_read p q bad all lawful all [] refl lawful l circuit agree)
+    search (arith, literal_true-agree, (value_read p q bad all lawful all []))
 
 pub circuit_stays : (es more : List Entry) → Each MayFollow (more ++ es) → (v : ℕ) (o : Option Name) →
     name_of es v ≡ o → is_circuit_name o ≡ true → is_circuit_name (name_of (more ++ es) v) ≡ true
@@ -288,16 +246,13 @@ circuit_stays es more lawful v (Some n) h c = ap is_circuit_name (name_stays mor
 leaf_stays : (f : Dqbf) (es more : List Entry) → Each MayFollow (more ++ es) → (v : ℕ) (leaf : Leaf) →
     IsLeafOf f es v leaf → IsCircuitLeaf (more ++ es) leaf
 leaf_stays f es more lawful v (Constant b) h = tt
-leaf_stays f es more lawful v (LeafLiteral l) h = circuit_stays es more lawful (variable_of l)
-    (name_of es (variable_of l)) refl h.1
+leaf_stays f es more lawful v (LeafLiteral l) h = search (arith, circuit_stays)
 
 pub clause_same : (f : Dqbf) (m n : Assignment) → ((v : ℕ) → Contains (declared f) v → m v ≡ n v) → (c : List Literal) →
     All (λ l. Contains (declared f) (variable_of l)) c → clause_true m c ≡ clause_true n c
 clause_same f m n same [] h = refl
 clause_same f m n same (l ∷ ls) h =
-    let here = same (variable_of l) (All-head (λ k. Contains (declared f) (variable_of k)) l ls h) in
-    ap (λ b. b || clause_true m ls) (literal_true-agree m n l here) ∙ ap (λ b. literal_true n l || b)
-    (clause_same f m n same ls (All-tail (λ k. Contains (declared f) (variable_of k)) l ls h))
+    search (arith, All-head, (literal_true-agree m n l), (clause_same f m n same ls), All-tail)
 
 -- a declared variable has its bit
 pub declared_bit : (f : Dqbf) (m : Assignment) (bit : Existential → Bool) →
@@ -305,13 +260,10 @@ pub declared_bit : (f : Dqbf) (m : Assignment) (bit : Existential → Bool) →
 declared_bit f m bit follows v inside = by_bit (is_universal f v) refl where
   by_option : is_universal f v ≡ false → (o : Option Existential) → existential_of f v ≡ o → m v ≡ existential_bit bit o
   by_option other None none = absurd (elim (Contains-append_cases f.universals (map variable f.existentials) v inside) [
-    | inl universal ↦ true≢false (sym (list_any_at (λ x. x == v) f.universals universal.0 v universal.1
-        (eq-eqb (get_or f.universals universal.0 v) v universal.2)) ∙ other)
+    | inl universal ↦ search (arith, true≢false, list_any_at, eq-eqb)
     | inr existential ↦ find_there f.existentials v existential none
   ])
-  by_option other (Some y) found =
-      let own = find_sound v f.existentials y found in
-      ap m (sym own.1) ∙ All-contains (λ z. m z.variable ≡ bit z) f.existentials y follows own.0
+  by_option other (Some y) found = search (arith, find_sound, All-contains)
 
   by_bit : (b : Bool) → is_universal f v ≡ b → m v ≡ by_universality b (m v) (existential_bit bit (existential_of f v))
   by_bit true e = refl
@@ -338,13 +290,10 @@ module _ (f : Dqbf) (well : IsWellFormed f) (es : List Entry) (clause : List Lit
       (leaf_of y ≡ out) × IsCircuitLeaf es out
   reached_leaf y out fault = by_number fault.j refl where
     by_number : (j : ℕ) → fault.j ≡ j → (leaf_of y ≡ out) × IsCircuitLeaf es out
-    by_number zero e = let none : option_map variable_of (matrix_literal f fault.j fault.i) ≡ None =
-        ap (λ k. option_map variable_of (matrix_literal f k fault.i)) e in let some = fault.own in cc
+    by_number zero e = search arith
     by_number (suc j) e =
-        let own : option_map variable_of (matrix_literal f (suc j) fault.i) ≡ Some y.variable =
-        ap (λ k. option_map variable_of (matrix_literal f k fault.i)) (sym e) ∙ fault.own in
-        let reached : ReachesGiven es hints (Fault (suc j) fault.i out) fault.clause =
-        subst (λ k. ReachesGiven es hints (Fault k fault.i out) fault.clause) e fault.reached in
+        let own : option_map variable_of (matrix_literal f (suc j) fault.i) ≡ Some y.variable = search arith in
+        let reached : ReachesGiven es hints (Fault (suc j) fault.i out) fault.clause = search arith in
         let mine = decides.rests.circuit (Fault (suc j) fault.i out) fault.clause reached in
         let place = split_at es reached.id (Given (Fault (suc j) fault.i out) fault.clause) reached.is_given in
         let o : IsOriginsClause f place.1 (Fault (suc j) fault.i out) fault.clause =
@@ -353,8 +302,7 @@ module _ (f : Dqbf) (well : IsWellFormed f) (es : List Entry) (clause : List Lit
         (ap (is_in_group decides.rests.group) mine.1 ∙ eq-eqb decides.rests.group decides.rests.group refl) in
         let rest : IsFaultRest f place.1 o.group (suc j) fault.i out o.rest = o.rest_is in
         let entry = Given (Fault (suc j) fault.i out) (negative decides.rests.group ∷ mine.0) in
-        let same : Given (Fault (suc j) fault.i out) fault.clause ≡ entry =
-        ap (Given (Fault (suc j) fault.i out)) mine.1 in
+        let same : Given (Fault (suc j) fault.i out) fault.clause ≡ entry = search arith in
         let inside : Contains es entry = subst (Contains es) same
         (subst (λ xs. Contains xs (Given (Fault (suc j) fault.i out) fault.clause)) (sym place.2)
         (Contains-append_right place.0 (Given (Fault (suc j) fault.i out) fault.clause ∷ place.1)

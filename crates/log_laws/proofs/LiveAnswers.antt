@@ -11,10 +11,9 @@ use Rattle.hint_log.specs.Growth.{Each}
 use Rattle.hint_log.specs.Live.{live_numbers, before_beginning, formula_of, formula_by, live_formula}
 use Rattle.hint_log.specs.Naming.{numbered_from_one, rows_of}
 use Rattle.hint_log.specs.Origins.{IsOriginsClause}
-use Rattle.hint_log.specs.ProductiveLog.{MatchesOrigin, IsDerivedByHints, RefutesNewRow, FollowsModel}
-use Rattle.hint_log.specs.ProductiveSession.{IsSinceBeginning, MatchesLiveOrigin, RefutesNewLiveRow, FollowsLiveModel, DecidesLiveFalse, DecidesLiveTrue, IsUndecidedSince}
+use Rattle.hint_log.specs.ProductiveLog.{MatchesOrigin, IsDerivedByHints}
+use Rattle.hint_log.specs.ProductiveSession.{IsSinceBeginning, MatchesLiveOrigin, RefutesNewLiveRow, DecidesLiveFalse, DecidesLiveTrue, IsUndecidedSince}
 use Rattle.hint_log.specs.declared.names.Name.{Name}
-use Rattle.hint_log.specs.declared.names.Name.TheVariants.{Selector}
 use Rattle.hint_log.specs.declared.origins.Origin.{Origin}
 use Rattle.hint_log.specs.declared.origins.Origin.TheVariants.{Instance, Gate, Fault, Copy, Link, TermGate, Differ}
 use Rattle.hint_log.specs.declared.origins.Leaf.{Leaf}
@@ -23,7 +22,7 @@ use Rattle.log_laws.specs.Sessions.{SessionRoundsAreFew, PlainLogsAreSessions}
 use Rattle.log_laws.proofs.FewRows.{HasNewRow, has_new_row, few_by_rows}
 use Rattle.log_laws.proofs.Found.{each_weaker, each_at}
 use Rattle.log_laws.proofs.Implied.{LinesAreImplied}
-use Rattle.log_laws.proofs.LeafFunctions.{is_in_group, MatchesInGroup, in_group}
+use Rattle.log_laws.proofs.LeafFunctions.{is_in_group, MatchesInGroup}
 use Rattle.log_laws.proofs.ReachedClauses.{name_stays}
 use Rattle.log_laws.proofs.Refuted.{IsInstanceAmong, refuted_among}
 
@@ -34,20 +33,16 @@ same_universals all (Some live) = refl
 
 new_live_row : (all : Dqbf) (earlier : List Entry) (e : Entry) → RefutesNewLiveRow all earlier e →
     HasNewRow (length all.universals) earlier e
-new_live_row all earlier e h = has_new_row (live_formula all earlier) (length all.universals)
-    (same_universals all (live_numbers earlier)) earlier e h
+new_live_row all earlier e h = search (arith, has_new_row, same_universals)
 
 pub few_session_rounds : SessionRoundsAreFew
-few_session_rounds all entries rounds = few_by_rows (length all.universals) entries
-    (each_weaker (RefutesNewLiveRow all) (HasNewRow (length all.universals)) (new_live_row all) entries rounds)
+few_session_rounds all entries rounds = search (arith, few_by_rows, each_weaker, new_live_row)
 
 -- a live clause is one of the formula's
 live_clause : (all : Dqbf) (live : List ℕ) (j : ℕ) (clause : List Literal) → Contains live j →
     numbered_from_one all.matrix j ≡ Some clause → Contains (formula_of all live).matrix clause
 live_clause all [] j clause (k, below, is) at = absurd (omega (arith, below))
-live_clause all (i ∷ live) j clause (zero, below, is) at = subst
-    (λ o. Contains (cons_option o (filter_map (numbered_from_one all.matrix) live)) clause)
-    (sym (ap (numbered_from_one all.matrix) is ∙ at)) (0, omega arith, refl)
+live_clause all (i ∷ live) j clause (zero, below, is) at = search arith
 live_clause all (i ∷ live) j clause (suc k, below, is) at =
     behind (numbered_from_one all.matrix i) (live_clause all live j clause
     (k, (let b = below in omega (arith, b)), is) at)
@@ -115,23 +110,14 @@ same_search (Answer d h ∷ more) before origin c g n lawful named since =
 same_search (Round r b j ∷ more) before origin c g n lawful named since =
     same_search more before origin c g n lawful.1 named since
 same_search (Begun live ∷ more) before origin c g n lawful named since =
-    let stays : name_of (more ++ Given origin c ∷ before) g ≡ Some n =
-    name_stays more (Given origin c ∷ before) g n lawful.1 named in
+    let stays : name_of (more ++ Given origin c ∷ before) g ≡ Some n = search (arith, name_stays) in
     let none : name_of (more ++ Given origin c ∷ before) g ≡ None = since in
     cc
 
 -- a gate's clause is its origin's by any formula
 pub gate_of_any : (f g : Dqbf) (before : List Entry) (v i : ℕ) (c : List Literal) →
     IsOriginsClause f before (Gate v i) c → IsOriginsClause g before (Gate v i) c
-gate_of_any f g before v i c o = record {
-  group = o.group;
-  rest = o.rest;
-  clause_is = o.clause_is;
-  is_group =
-      o.is_group;
-  rest_is = o.rest_is;
-  one_leaf = λ w j i' j' i'' leaf leaf' rest is. cc;
-}
+gate_of_any f g before v i c o = search arith
 
 -- an answer that rests on a circuit of its own search
 module _ (all : Dqbf) (earlier : List Entry) (clause : List Literal) (hints : List ℕ) (lawful : Each MayFollow earlier)
@@ -146,19 +132,7 @@ module _ (all : Dqbf) (earlier : List Entry) (clause : List Literal) (hints : Li
       earlier ≡ more ++ Given (Fault j i leaf) c ∷ before
       → c ≡ negative decides.decides.rests.group ∷ rest → IsOriginsClause (live_formula all earlier) before
       (Fault j i leaf) c
-  fault_of_search more before j i leaf c rest at mine =
-      let own : IsOriginsClause (live_formula all before) before (Fault j i leaf) c =
-      each_at (MatchesLiveOrigin all) more before (Given (Fault j i leaf) c)
-      (subst (Each (MatchesLiveOrigin all)) at given) in
-      let same : own.group ≡ decides.decides.rests.group = (let e : negative own.group ∷ own.rest
-      ≡ negative decides.decides.rests.group ∷ rest = sym own.clause_is ∙ mine in cc) in
-      let named : name_of before decides.decides.rests.group ≡ Some (Selector own.group) =
-      ap (name_of before) (sym same) ∙ own.is_group in
-      let lives : live_numbers earlier ≡ live_numbers before =
-      ap live_numbers at ∙ same_search more before (Fault j i leaf) c decides.decides.rests.group (Selector own.group)
-      (subst (Each MayFollow) at lawful) named
-      (subst (λ es. IsSinceBeginning es decides.decides.rests.group) at decides.current) in
-      subst (λ o. IsOriginsClause (formula_by all o) before (Fault j i leaf) c) (sym lives) own
+  fault_of_search more before j i leaf c rest at mine = search (arith, each_at, same_search)
 
   pub live_sound : IsSoundAnswer (live_formula all earlier) earlier clause hints
   live_sound = record {
@@ -194,8 +168,7 @@ module _ (all : Dqbf) (earlier : List Entry) (clause : List Literal) (hints : Li
 
       in_mine : (g : ℕ) (c : List Literal) → is_in_group g c ≡ true → (origin : Origin) →
           IsOriginsClause (live_formula all es) es origin c → (rest : List Literal) × (c ≡ negative g ∷ rest)
-      in_mine g c inside origin own = let same : g ≡ own.group = in_group g own.group c own.rest own.clause_is inside in
-          (own.rest, own.clause_is ∙ ap (λ h. negative h ∷ own.rest) (sym same))
+      in_mine g c inside origin own = search arith
 
       by : (e : Entry) → earlier ≡ more ++ e ∷ es → MatchesInGroup
           (live_formula all earlier) decides.decides.rests.group es e
@@ -240,8 +213,7 @@ plain_origin : (all : Dqbf) (earlier : List Entry) (e : Entry) → live_numbers 
 plain_origin all earlier (Named v n) none h = h
 plain_origin all earlier (Given (Instance k j) c) none h = h
 plain_origin all earlier (Given (Gate v i) c) none h = h
-plain_origin all earlier (Given (Fault j i leaf) c) none h =
-    subst (λ o. IsOriginsClause (formula_by all o) earlier (Fault j i leaf) c) (sym none) h
+plain_origin all earlier (Given (Fault j i leaf) c) none h = search arith
 plain_origin all earlier (Given (Copy side j) c) none h = h
 plain_origin all earlier (Given (Link v i) c) none h = h
 plain_origin all earlier (Given (TermGate v i) c) none h = h
@@ -256,8 +228,7 @@ origin_plain : (all : Dqbf) (earlier : List Entry) (e : Entry) → live_numbers 
 origin_plain all earlier (Named v n) none h = h
 origin_plain all earlier (Given (Instance k j) c) none h = h
 origin_plain all earlier (Given (Gate v i) c) none h = h
-origin_plain all earlier (Given (Fault j i leaf) c) none h =
-    subst (λ o. IsOriginsClause (formula_by all o) earlier (Fault j i leaf) c) none h
+origin_plain all earlier (Given (Fault j i leaf) c) none h = search arith
 origin_plain all earlier (Given (Copy side j) c) none h = h
 origin_plain all earlier (Given (Link v i) c) none h = h
 origin_plain all earlier (Given (TermGate v i) c) none h = h
@@ -293,17 +264,12 @@ undecided_plain all (Begun live ∷ es) none u = cc
 
 live_false : (es : List Entry) (c : List Literal) (hints : List ℕ) → live_numbers es ≡ None → DecidesFalse es c hints →
     DecidesLiveFalse es c hints
-live_false es c hints none d = record {
-  decides = d;
-  live = λ numbers k j clause is reached. let both : None
-      ≡ Some numbers = sym none ∙ is in cc;
-}
+live_false es c hints none d = search arith
 
 live_true : (all : Dqbf) (es : List Entry) (c : List Literal) (hints : List ℕ) → live_numbers es ≡ None →
     DecidesTrue all es c hints → DecidesLiveTrue all es c hints
 live_true all es c hints none d =
-    let live : DecidesTrue (live_formula all es) es c hints =
-    subst (λ o. DecidesTrue (formula_by all o) es c hints) (sym none) d in
+    let live : DecidesTrue (live_formula all es) es c hints = search arith in
     record { decides = live; current = ap (λ xs. name_of xs live.rests.group) (none_before es none) }
 
 plain_undecided : (all : Dqbf) (es : List Entry) → live_numbers es ≡ None → IsUndecidedSince all es → IsUndecided all es
@@ -311,41 +277,11 @@ plain_undecided all [] none u = tt
 plain_undecided all (Named v n ∷ es) none u = (tt, plain_undecided all es none u)
 plain_undecided all (Given origin c ∷ es) none u = (tt, plain_undecided all es none u)
 plain_undecided all (Learned c hints ∷ es) none u = (tt, plain_undecided all es none u)
-plain_undecided all (Answer c hints ∷ es) none u = (
-  ((λ d. u.0 (live_false es c hints none d)), (λ d. u.1 (live_true all es c hints none d))),
-  plain_undecided all es none u.2,
-)
+plain_undecided all (Answer c hints ∷ es) none u =
+    search (arith, live_false, live_true, (plain_undecided all es none u.2))
 plain_undecided all (Round row values j ∷ es) none u = (tt, plain_undecided all es none u)
 plain_undecided all (Begun live ∷ es) none u = cc
 
 pub plain_sessions : PlainLogsAreSessions
-plain_sessions all frames entries none = (
-  (λ log grouped. record {
-    givens_match_origins = each_plain (MatchesOrigin all) (MatchesLiveOrigin all)
-        (plain_origin all) entries none log.givens_match_origins;
-    lemmas_are_derived = log.lemmas_are_derived;
-    lemmas_are_new = log.lemmas_are_new;
-    rounds_refute_new_rows = each_plain (RefutesNewRow all) (RefutesNewLiveRow all)
-        (λ es e n h. subst (λ o. RefutesNewRow (formula_by all o) es e) (sym (no_earlier e es n)) h) entries none
-        log.rounds_refute_new_rows;
-    rounds_follow_a_model = each_plain (FollowsModel all) (FollowsLiveModel all)
-        (λ es e n h. subst (λ o. FollowsModel (formula_by all o) es e) (sym (no_earlier e es n)) h) entries none
-        log.rounds_follow_a_model;
-    givens_are_not_repeated = log.givens_are_not_repeated;
-    groups_are_frames = grouped;
-  }),
-  (λ session. record {
-    givens_match_origins = each_plain (MatchesLiveOrigin all) (MatchesOrigin all)
-        (origin_plain all) entries none session.givens_match_origins;
-    lemmas_are_derived = session.lemmas_are_derived;
-    lemmas_are_new = session.lemmas_are_new;
-    rounds_refute_new_rows = each_plain (RefutesNewLiveRow all) (RefutesNewRow all)
-        (λ es e n h. subst (λ o. RefutesNewRow (formula_by all o) es e) (no_earlier e es n) h) entries none
-        session.rounds_refute_new_rows;
-    rounds_follow_a_model = each_plain (FollowsLiveModel all) (FollowsModel all)
-        (λ es e n h. subst (λ o. FollowsModel (formula_by all o) es e) (no_earlier e es n) h) entries none
-        session.rounds_follow_a_model;
-    givens_are_not_repeated = session.givens_are_not_repeated;
-  }),
-  (undecided_plain all entries none, plain_undecided all entries none),
-)
+plain_sessions all frames entries none =
+    search (arith, each_plain, plain_origin, no_earlier, origin_plain, undecided_plain, plain_undecided)

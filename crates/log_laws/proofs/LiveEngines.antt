@@ -1,5 +1,5 @@
 -- What engines add to the log of a session.
-use Rattle.std.proofs.Common.{◌≡◌, ℕ, ◌==◌, Bool, true, false, cond, ◌⊎◌, inl, inr, List, [], ◌∷◌, ◌++◌, Option, Some, None, refl, sym, ◌∙◌, ap, subst, arith}
+use Rattle.std.proofs.Common.{◌≡◌, ℕ, ◌==◌, Bool, true, false, cond, ◌⊎◌, inl, inr, List, [], ◌∷◌, ◌++◌, Option, Some, None, refl, sym, subst, arith}
 use Rattle.std.proofs.lemmas.Bool.{eqb-true}
 use Rattle.dq_lits.specs.Literal.{Literal}
 use Rattle.dq_lits.specs.Formula.{Dqbf}
@@ -10,7 +10,7 @@ use Rattle.hint_log.specs.Live.{live_numbers, before_beginning, formula_by, live
 use Rattle.hint_log.specs.Naming.{rows_of}
 use Rattle.hint_log.specs.Origins.{IsOriginsClause}
 use Rattle.hint_log.specs.ProductiveLog.{RefutesNewRow, FollowsModel, IsNotRepeated, IsRightlyNamed}
-use Rattle.hint_log.specs.ProductiveSession.{MatchesLiveOrigin, RefutesNewLiveRow, FollowsLiveModel, IsUndecidedSince, DecidesLiveFalse, DecidesLiveTrue}
+use Rattle.hint_log.specs.ProductiveSession.{MatchesLiveOrigin, IsUndecidedSince, DecidesLiveFalse, DecidesLiveTrue}
 use Rattle.hint_log.specs.declared.names.Name.{Name}
 use Rattle.hint_log.specs.declared.names.Name.TheVariants.{Selector, Pair, Input, And, Bad, Copy as CopyOf, Term}
 use Rattle.hint_log.specs.declared.origins.Origin.{Origin}
@@ -99,8 +99,7 @@ module _ (all : Dqbf) (engine : Engine) (groups : List ℕ) (silent : Bool) (old
   same_name v n (Named w m ∷ more) h is = by_bit (v == w) refl (same_name v n more h.1 is) where
     by_bit : (b : Bool) → (v == w) ≡ b → name_of (more ++ old) v ≡ Some n →
         cond b (Some m) (name_of (more ++ old) v) ≡ Some n
-    by_bit true e before = let same : v ≡ w = eqb-true v w e in let none : name_of (more ++ old) v ≡ None =
-        ap (name_of (more ++ old)) same ∙ h.0.unnamed in cc
+    by_bit true e before = search (arith, eqb-true)
     by_bit false e before = before
   same_name v n (Given origin c ∷ more) h is = same_name v n more h.1 is
   same_name v n (Learned c hints ∷ more) h is = same_name v n more h.1 is
@@ -113,14 +112,10 @@ sessions_left all engine groups silent old new grew =
     let P : List Entry → List Entry → Type 0 = λ a b. LeavesSession all engine groups silent a b in
     let Q : List Entry → Entry → Type 0 = IsAddedLive all engine groups silent old.entries in
     let kept : LeavesSession all engine groups silent old.entries (grew.more ++ old.entries) = record {
-      origins = each_grown Q (MatchesLiveOrigin all) (right_origin all engine groups silent old.entries) grew.more
-          old.entries grew.each;
-      new_rows = each_grown Q (RefutesNewLiveRow all) (λ es e h. no_row all engine groups silent old.entries
-          (live_formula all es) es e h) grew.more old.entries grew.each;
-      models = each_grown Q (FollowsLiveModel all) (λ es e h. no_model all engine groups silent old.entries
-          (live_formula all es) es e h) grew.more old.entries grew.each;
-      givens = each_grown Q IsNotRepeated (first_given all engine groups silent old.entries) grew.more old.entries
-          grew.each;
+      origins = search (arith, each_grown, right_origin);
+      new_rows = search (arith, each_grown);
+      models = search (arith, each_grown);
+      givens = search (arith, each_grown, first_given);
       decisions = λ s. undecided_since all engine groups silent old.entries s grew.more grew.each;
       rows = same_rows all engine groups silent old.entries grew.more grew.each;
       names = λ v name. same_name all engine groups silent old.entries v name grew.more grew.each;
@@ -168,19 +163,8 @@ module _ (all : Dqbf) (group : ℕ) (silent : Bool) (old : List Entry) where
 
   added_live : (more : List Entry) (e : Entry) → EachOf By more old → By (more ++ old) e →
       IsAddedLive all circuits (group ∷ []) silent old (more ++ old) e
-  added_live more (Named v n) each h = record {
-    unnamed = h.unnamed;
-    own = h.own;
-    rightly =
-        rightly all (live_numbers old) n h.rightly;
-  }
-  added_live more (Given origin c) each h = record {
-    own = h.own;
-    in_group = one_of c h.in_group;
-    matches_origin =
-        origin_live more origin c each h;
-    not_repeated = h.not_repeated;
-  }
+  added_live more (Named v n) each h = search arith
+  added_live more (Given origin c) each h = search (arith, origin_live)
   added_live more (Learned c hints) each h = tt
   added_live more (Answer c hints) each h = λ s.
       let both = h s in
@@ -198,9 +182,4 @@ module _ (all : Dqbf) (group : ℕ) (silent : Bool) (old : List Entry) where
   all_live (e ∷ more) each = (added_live more e each.1 each.0, all_live more each.1)
 
 pub circuits_live : CircuitsAddLive
-circuits_live all group silent old new grew = record {
-  more = grew.more;
-  grown = grew.grown;
-  each = all_live all group silent old.entries grew.more grew.each;
-  limit = grew.limit;
-}
+circuits_live all group silent old new grew = search (arith, all_live)

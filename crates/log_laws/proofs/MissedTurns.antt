@@ -10,7 +10,6 @@ use Rattle.hint_log.specs.declared.origins.Leaf.TheVariants.{Literal as LeafLite
 use Rattle.hint_log.specs.declared.origins.Origin.TheVariants.{Fault}
 use Rattle.hint_log.specs.Growth.{Each}
 use Rattle.log_laws.specs.Examples.{Point, matching_origins, derived_lemmas, new_lemmas, new_rows, followed_models, single_givens, Meets, MissesAlone, seen_conjunction, faults_given, second_output, second_turn_at_once}
-use Rattle.log_laws.proofs.Checks.{named_by}
 use Rattle.log_laws.proofs.FalseLog.{new_name}
 use Rattle.log_laws.proofs.TrueDecided.{faults_selectors}
 use Rattle.log_laws.proofs.TrueLog.{Fits, fault_of, faults_fit, faults_logged, faults_matches, faults_derived}
@@ -22,11 +21,7 @@ output_others derived_lemmas differs = (tt, faults_derived)
 output_others new_lemmas differs = (tt, faults_new)
 output_others new_rows differs = (tt, faults_rows)
 output_others followed_models differs = (tt, faults_models)
-output_others single_givens differs = (
-  fault_first faults_given (Fault 3 1 (LeafLiteral (positive 2)))
-      (negative 5 ∷ negative 8 ∷ negative 2 ∷ []) refl refl,
-  faults_single,
-)
+output_others single_givens differs = search (arith, fault_first, faults_single)
 
 output_missed : Meets seen_conjunction second_output matching_origins → ⊥
 output_missed h =
@@ -39,12 +34,7 @@ output_missed h =
     cc
 
 pub output_misses : MissesAlone seen_conjunction second_output matching_origins
-output_misses = record {
-  missed = output_missed;
-  others = output_others;
-  logged = (named_by faults_given (negative 5 ∷ negative 8 ∷ negative 2 ∷ []) refl, faults_logged);
-  keeps_selectors = (tt, faults_selectors);
-}
+output_misses = search (arith, output_missed, output_others, faults_logged, faults_selectors)
 
 abbrev t1 : List Entry
 t1 = Named 9 (Selector 9) ∷ faults_given
@@ -71,117 +61,4 @@ turn_missed : Meets seen_conjunction second_turn_at_once single_givens → ⊥
 turn_missed h = let few : 2 ≤ 1 = h.0.groups in omega (arith, few)
 
 pub turn_misses : MissesAlone seen_conjunction second_turn_at_once single_givens
-turn_misses = record {
-  missed = turn_missed;
-  others = turn_others;
-  logged = (
-    named_by t2 (negative 9 ∷ negative 10 ∷ positive 4 ∷ []) refl,
-    (
-      new_name t1 10 (Bad 9 1) (omega arith) (omega arith) refl (
-        (λ w h. cc),
-        (
-          (λ w h. cc),
-          (
-            (λ w h. cc),
-            (
-              (λ w h. cc),
-              (
-                (λ w h. cc),
-                (
-                  (λ w h. cc),
-                  (
-                    (λ w h. cc),
-                    (
-                      (λ w h. cc),
-                      (
-                        (λ w h. cc),
-                        (
-                          (λ w h. cc),
-                          (
-                            (λ w h. cc),
-                            (
-                              (λ w h. cc),
-                              (
-                                (λ w h. cc),
-                                (
-                                  (λ w h. cc),
-                                  (
-                                    (λ w h. cc),
-                                    (
-                                      (λ w h. cc),
-                                      (
-                                        (λ w h. cc),
-                                        (
-                                          (λ w h. cc),
-                                          ((λ w h. cc), ((λ w h. cc), tt)),
-                                        ),
-                                      ),
-                                    ),
-                                  ),
-                                ),
-                              ),
-                            ),
-                          ),
-                        ),
-                      ),
-                    ),
-                  ),
-                ),
-              ),
-            ),
-          ),
-        ),
-      ) tt,
-      (
-        new_name faults_given 9 (Selector 9) (omega arith) (omega arith) refl (
-          (λ w h. cc),
-          (
-            (λ w h. cc),
-            (
-              (λ w h. cc),
-              (
-                (λ w h. cc),
-                (
-                  (λ w h. cc),
-                  (
-                    (λ w h. cc),
-                    (
-                      (λ w h. cc),
-                      (
-                        (λ w h. cc),
-                        (
-                          (λ w h. cc),
-                          (
-                            (λ w h. cc),
-                            (
-                              (λ w h. cc),
-                              (
-                                (λ w h. cc),
-                                (
-                                  (λ w h. cc),
-                                  (
-                                    (λ w h. cc),
-                                    (
-                                      (λ w h. cc),
-                                      ((λ w h. cc), ((λ w h. cc), ((λ w h. cc), ((λ w h. cc), tt)))),
-                                    ),
-                                  ),
-                                ),
-                              ),
-                            ),
-                          ),
-                        ),
-                      ),
-                    ),
-                  ),
-                ),
-              ),
-            ),
-          ),
-        ) tt,
-        faults_logged,
-      ),
-    ),
-  );
-  keeps_selectors = (tt, (tt, (tt, faults_selectors)));
-}
+turn_misses = search (arith, turn_missed, turn_others, new_name, faults_logged, faults_selectors)

@@ -1,5 +1,5 @@
 -- What holds of the clauses that an answer rests on.
-use Rattle.std.proofs.Common.{◌≡◌, ◌≢◌, ℕ, ◌+◌, ◌≤◌, ◌==◌, Bool, true, false, cond, ◌&&◌, List, [], ◌∷◌, ◌++◌, Option, None, Some, refl, sym, ◌∙◌, ap, arith, append_assoc}
+use Rattle.std.proofs.Common.{◌≡◌, ℕ, ◌+◌, ◌≤◌, ◌==◌, Bool, true, false, cond, ◌&&◌, List, [], ◌∷◌, ◌++◌, Option, Some, refl, sym, ◌∙◌, ap, arith, append_assoc}
 use Rattle.std.specs.List.{Contains}
 use Rattle.std.specs.Option.{option_and_then}
 use Rattle.std.proofs.lemmas.Bool.{eqb-true, ne_eqb}
@@ -29,27 +29,13 @@ pub record IsReached (entries : List Entry) (hints : List ℕ) (id : ℕ) : Type
 pub numbered_kept : (more old : List Entry) (id : ℕ) → id ≤ last_id old →
     numbered has_id (more ++ old) id ≡ numbered has_id old id
 numbered_kept [] old id h = refl
-numbered_kept (e ∷ more) old id h = by_bit (has_id e) (numbered_kept more old id h) where
-  by_bit : (b : Bool) → numbered has_id (more ++ old) id ≡ numbered has_id old id →
-      cond (b && (id == count has_id (more ++ old) + 1)) (Some e) (numbered has_id (more ++ old) id)
-      ≡ numbered has_id old id
-  by_bit true later =
-      let most = count_grown has_id more old in
-      let differ : id ≢ count has_id (more ++ old) + 1 = λ e. omega arith in
-      ap (λ b. cond b (Some e) (numbered has_id (more ++ old) id))
-      (ne_eqb id (count has_id (more ++ old) + 1) differ) ∙ later
-  by_bit false later = later
+numbered_kept (e ∷ more) old id h = search (arith, (numbered_kept more old id h), count_grown, ne_eqb)
 
 -- a variable keeps its name
 pub name_stays : (more old : List Entry) (v : ℕ) (n : Name) → Each MayFollow (more ++ old) → name_of old v ≡ Some n →
     name_of (more ++ old) v ≡ Some n
 name_stays [] old v n lawful is = is
-name_stays (Named w m ∷ more) old v n lawful is = by_bit (v == w) refl (name_stays more old v n lawful.1 is) where
-  by_bit : (b : Bool) → (v == w) ≡ b → name_of (more ++ old) v ≡ Some n →
-      cond b (Some m) (name_of (more ++ old) v) ≡ Some n
-  by_bit true e before = let same : v ≡ w = eqb-true v w e in let none : name_of (more ++ old) v ≡ None =
-      ap (name_of (more ++ old)) same ∙ lawful.0.unnamed in cc
-  by_bit false e before = before
+name_stays (Named w m ∷ more) old v n lawful is = search (arith, (name_stays more old v n lawful.1 is), eqb-true)
 name_stays (Given origin c ∷ more) old v n lawful is = name_stays more old v n lawful.1 is
 name_stays (Learned c hints ∷ more) old v n lawful is = name_stays more old v n lawful.1 is
 name_stays (Answer c hints ∷ more) old v n lawful is = name_stays more old v n lawful.1 is
@@ -70,14 +56,7 @@ module _ (implied : LinesAreImplied) (all : List Entry) (first : List ℕ) (a : 
 
   entry_here : (e : Entry) (es more : List Entry) (id : ℕ) → all ≡ more ++ e ∷ es → has_id e ≡ true →
       (id == count has_id es + 1) ≡ true → numbered has_id all id ≡ Some e
-  entry_here e es more id is has same =
-      let number = eqb-true id (count has_id es + 1) same in
-      let last : last_id (e ∷ es) ≡ count has_id es + 1 = ap
-      (λ b. cond b (count has_id es + 1) (count has_id es)) has in
-      ap (λ xs. numbered has_id xs id) is
-      ∙ numbered_kept more (e ∷ es) id (omega (arith, number, last))
-      ∙ ap (λ b. cond (b && (id == count has_id es + 1)) (Some e) (numbered has_id es id)) has
-      ∙ ap (λ b. cond b (Some e) (numbered has_id es id)) same
+  entry_here e es more id is has same = search (arith, eqb-true, numbered_kept)
 
   by_hints : (e : Entry) (es more : List Entry) (id : ℕ) (c : List Literal) (hints : List ℕ) → all ≡ more ++ e ∷ es →
       has_id e ≡ true → hints_of e ≡ hints →
@@ -90,38 +69,24 @@ module _ (implied : LinesAreImplied) (all : List Entry) (first : List ℕ) (a : 
       before (_) d' (record {
         hint = reached.hint;
         hinted = reached.hinted;
-        reached =
-            by_hint id _ hints reached.reached at (Contains-get_or hints k d below);
+        reached = search (arith, Contains-get_or, by_hint);
       }) h)
 
   reached_true : (es more : List Entry) → all ≡ more ++ es → Each IsDerivedByHints es → AllReachedTrue es
   reached_true [] more is derived id c reached h = cc
   reached_true (Named v n ∷ es) more is derived id c reached h =
-      reached_true es (more ++ Named v n ∷ []) (is ∙ sym (append_assoc more (Named v n ∷ []) es)) derived.1 id c
-      reached h
+      search (arith, (reached_true es (more ++ Named v n ∷ [])), append_assoc)
   reached_true (Round row values j ∷ es) more is derived id c reached h =
-      reached_true es (more ++ Round row values j ∷ []) (is ∙ sym (append_assoc more (Round row values j ∷ []) es))
-      derived.1 id c reached h
+      search (arith, (reached_true es (more ++ Round row values j ∷ [])), append_assoc)
   reached_true (Begun live ∷ es) more is derived id c reached h =
-      reached_true es (more ++ Begun live ∷ []) (is ∙ sym (append_assoc more (Begun live ∷ []) es)) derived.1 id c
-      reached h
+      search (arith, (reached_true es (more ++ Begun live ∷ [])), append_assoc)
   reached_true (Given origin d ∷ es) more is derived id c reached h =
       by_bit (reached_true es (more ++ Given origin d ∷ []) (is ∙ sym (append_assoc more (Given origin d ∷ []) es))
       derived.1) (id == count has_id es + 1) refl h where
         by_bit : AllReachedTrue es → (b : Bool) → (id == count has_id es + 1) ≡ b →
             option_and_then clause_of (cond b (Some (Given origin d)) (numbered has_id es id)) ≡ Some c →
             clause_true a c ≡ true
-        by_bit before true e h =
-            let same : d ≡ c = cc in
-            let at = entry_here (Given origin d) es more id is refl e in
-            ap (clause_true a) (sym same) ∙ given_true es more origin d is
-            (record {
-              hint = reached.hint;
-              id = id;
-              hinted = reached.hinted;
-              reached = reached.reached;
-              is_given = at;
-            })
+        by_bit before true e h = search (arith, entry_here)
         by_bit before false e h = before id c reached h
   reached_true (Learned d hints ∷ es) more is derived id c reached h =
       by_bit (reached_true es (more ++ Learned d hints ∷ [])
@@ -129,10 +94,7 @@ module _ (implied : LinesAreImplied) (all : List Entry) (first : List ℕ) (a : 
         by_bit : AllReachedTrue es → (b : Bool) → (id == count has_id es + 1) ≡ b →
             option_and_then clause_of (cond b (Some (Learned d hints)) (numbered has_id es id)) ≡ Some c →
             clause_true a c ≡ true
-        by_bit before true e h =
-            let same : d ≡ c = cc in
-            ap (clause_true a) (sym same) ∙ by_hints (Learned d hints) es more id d hints is refl refl e reached before
-            derived.0
+        by_bit before true e h = search (arith, by_hints)
         by_bit before false e h = before id c reached h
   reached_true (Answer d hints ∷ es) more is derived id c reached h =
       by_bit (reached_true es (more ++ Answer d hints ∷ []) (is ∙ sym (append_assoc more (Answer d hints ∷ []) es))
@@ -140,10 +102,7 @@ module _ (implied : LinesAreImplied) (all : List Entry) (first : List ℕ) (a : 
         by_bit : AllReachedTrue es → (b : Bool) → (id == count has_id es + 1) ≡ b →
             option_and_then clause_of (cond b (Some (Answer d hints)) (numbered has_id es id)) ≡ Some c →
             clause_true a c ≡ true
-        by_bit before true e h =
-            let same : d ≡ c = cc in
-            ap (clause_true a) (sym same) ∙ by_hints (Answer d hints) es more id d hints is refl refl e reached before
-            derived.0
+        by_bit before true e h = search (arith, by_hints)
         by_bit before false e h = before id c reached h
 
   -- and so has the answer
@@ -154,6 +113,5 @@ module _ (implied : LinesAreImplied) (all : List Entry) (first : List ℕ) (a : 
       reached_true all [] refl derived _ c (record {
         hint = _;
         hinted = Contains-get_or first k d below;
-        reached =
-            itself;
+        reached = search (arith, itself);
       }) h)

@@ -132,8 +132,7 @@ module _ (f : Dqbf) (all : List Entry) (lawful : Each MayFollow all) (m : Assign
     instance_true es more (Instance k j) c is what o =
         let rest : IsInstanceRest f es k j o.rest = o.rest_is in
         let among = row_contained es k rest.row rest.row_is in
-        let is' : all ≡ (more ++ Given (Instance k j) c ∷ []) ++ es =
-        is ∙ sym (append_assoc more (Given (Instance k j) c ∷ []) es) in
+        let is' : all ≡ (more ++ Given (Instance k j) c ∷ []) ++ es = search (arith, append_assoc) in
         let r = rows_more (more ++ Given (Instance k j) c ∷ []) es in
         let among_all : Contains (rows_of all) rest.row = subst (λ rows. Contains rows rest.row)
         (sym (ap rows_of is' ∙ r.1)) (Contains-append_left (rows_of es) r.0 rest.row among) in
@@ -142,8 +141,7 @@ module _ (f : Dqbf) (all : List Entry) (lawful : Each MayFollow all) (m : Assign
         let there = All-contains (λ clause. InstanceHolds m (instance_clause f (rows_of all) rest.row clause)) matrix
         rest.clause here (what rest.clause rest.clause_is) in
         let true' : clause_true m (filter_map (pair_literal f (rows_of all) rest.row) rest.clause) ≡ true =
-        subst (λ b. InstanceHolds m (cond b None (Some (filter_map
-        (pair_literal f (rows_of all) rest.row) rest.clause)))) rest.open_row there in
+        search arith in
         let same = by_names es (more ++ Given (Instance k j) c ∷ []) is' rest.row among rest.clause o.rest rest.named in
         ap (clause_true value) o.clause_is ∙ or_true' (not (value o.group)) (clause_true value o.rest)
         (same ∙ true') where
@@ -163,8 +161,7 @@ module _ (f : Dqbf) (all : List Entry) (lawful : Each MayFollow all) (m : Assign
         let P : Literal → Type 0 = λ k. (k ≡ negative (variable_of k)) ×
         (name_of all (variable_of k) ≡ Some (Selector (variable_of k))) in
         let here = All-head P l ls h in
-        let is : literal_true value l ≡ false = ap (literal_true value) here.0 ∙ ap
-        (λ o. not (value_by_name f.variables m o)) here.1 in
+        let is : literal_true value l ≡ false = search arith in
         ap (λ b. b || clause_true value ls) is ∙ selectors_false ls (All-tail P l ls h)
 
 pub refuted_among : LinesAreImplied → (f : Dqbf) (matrix : List (List Literal)) (earlier : List Entry)

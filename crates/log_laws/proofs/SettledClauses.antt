@@ -1,5 +1,5 @@
 -- A clause that is neither falsified nor unit.
-use Rattle.std.proofs.Common.{◌≡◌, ℕ, true, false, cond, not, ◌&&◌, inl, inr, List, [], ◌∷◌, Some, refl, sym, ◌∙◌, ap}
+use Rattle.std.proofs.Common.{◌≡◌, ℕ, true, false, cond, not, ◌&&◌, inl, inr, List, [], ◌∷◌, Some, refl, sym, ◌∙◌, ap, arith}
 use Rattle.std.specs.List.{list_any, list_all, filter}
 use Rattle.std.proofs.lemmas.Bool.{cases_Bool, false≢true, or_left, or_right, or_cases}
 use Rattle.dq_lits.specs.Literal.{Literal, positive, negative, opposite, same_literal}
@@ -19,22 +19,12 @@ not_false trues clause = filter (λ l. not (holds trues (opposite l))) clause
 other_of : (x : Literal) (xs : List Literal) → list_all (same_literal x) xs ≡ false →
     (l : Literal) × (holds xs l ≡ true) × (same_literal x l ≡ false)
 other_of x [] h = absurd (false≢true (sym h))
-other_of x (y ∷ xs) h =
-    elim (cases_Bool (same_literal x y)) [
-      | inl s ↦
-          let r = other_of x xs (sym (ap (λ b. b && list_all (same_literal x) xs) s) ∙ h) in
-          (r.0, holds_later y xs r.0 r.1, r.2)
-      | inr d ↦ (y, holds_here y xs, d)
-    ]
+other_of x (y ∷ xs) h = search (arith, cases_Bool, (other_of x xs), holds_here)
 
 any_true : (trues clause : List Literal) (l : Literal) → holds clause l ≡ true → holds trues l ≡ true →
     list_any (holds trues) clause ≡ true
 any_true trues [] l h t = absurd (false≢true h)
-any_true trues (x ∷ c) l h t =
-    elim (or_cases (same_literal l x) (holds c l) h) [
-      | inl s ↦ or_left (holds trues x) (list_any (holds trues) c) (ap (holds trues) (sym (same_literal-sound l x s)) ∙ t)
-      | inr later ↦ or_right (holds trues x) (list_any (holds trues) c) (any_true trues c l later t)
-    ]
+any_true trues (x ∷ c) l h t = search (arith, or_cases, or_left, same_literal-sound, or_right, (any_true trues c l))
 
 pub settled : (trues clause : List Literal) → status_of trues (Some clause) ≡ stuck → IsSettled trues clause
 settled trues clause h = by (not_false trues clause) (left_among trues clause) h
@@ -80,11 +70,7 @@ module _ (earlier : List Entry) (clause : List Literal) (new : IsNewByPropagatio
 
   -- each literal but one is false
   false_or_it : (k : Literal) → holds clause k ≡ true → holds new.trues (opposite k) ≡ false → k ≡ new.literal
-  false_or_it k h open' =
-      elim (cases_Bool (same_literal k new.literal)) [
-        | inl same ↦ same_literal-sound k new.literal same
-        | inr other ↦ absurd (false≢true (sym open' ∙ new.rest_false k h other))
-      ]
+  false_or_it k h open' = search (arith, cases_Bool, same_literal-sound, false≢true)
 
   not_known : (known : List Literal) → ((l : Literal) → holds known l ≡ true → holds clause l ≡ true) →
       IsSettled new.trues known → ⊥
@@ -94,10 +80,7 @@ module _ (earlier : List Entry) (clause : List Literal) (new : IsNewByPropagatio
         | inl same ↦ false≢true (sym new.not_true ∙ ap (holds new.trues) (sym (same_literal-sound r.0 new.literal same)) ∙ r.2)
         | inr other ↦ not_both r.0 r.2 (new.rest_false r.0 (inside r.0 r.1) other)
       ]
-  not_known known inside (inr two) =
-      let one = false_or_it two.one (inside two.one two.one_among) two.one_open in
-      let other = false_or_it two.other (inside two.other two.other_among) two.other_open in
-      false≢true (sym two.different ∙ ap (λ k. same_literal two.one k) (other ∙ sym one) ∙ same_literal-refl two.one)
+  not_known known inside (inr two) = search (arith, false_or_it, false≢true, same_literal-refl)
 
   pub beside : (l : Literal) → holds clause l ≡ true → holds clause (opposite l) ≡ true → ⊥
   beside l h o =

@@ -1,7 +1,7 @@
 -- An answer that rests on gates and on faults shows that every clause is true with the leaves' values.
 use Rattle.std.proofs.Common.{◌≡◌, ℕ, zero, suc, ◌+◌, ◌<◌, ◌==◌, Bool, true, false, cond, not, ◌||◌, ◌&&◌, inl, inr, List, [], ◌∷◌, ◌++◌, map, length, get_or, Option, None, Some, refl, sym, ◌∙◌, ap, subst, arith, append_assoc}
 use Rattle.std.specs.List.{All, Contains, range_with_len}
-use Rattle.std.specs.Option.{option_map, option_and_then}
+use Rattle.std.specs.Option.{option_and_then}
 use Rattle.std.proofs.lemmas.Bool.{cases_Bool, false≢true, true≢false, or_left, or_right, eq-eqb, ne_eqb, cond-false, not-false}
 use Rattle.std.proofs.lemmas.List.{get_or_default}
 use Rattle.std.proofs.lemmas.List.Elements.{All-contains, All-head, All-tail, Contains-append_cases}
@@ -22,7 +22,7 @@ use Rattle.hint_log.specs.declared.origins.Leaf.TheVariants.{Constant, Literal a
 use Rattle.hint_log.specs.declared.origins.Origin.{Origin}
 use Rattle.hint_log.specs.declared.origins.Origin.TheVariants.{Instance, Gate, Fault, Copy, Link, TermGate, Differ}
 use Rattle.hint_log.specs.Growth.{Each}
-use Rattle.hint_log.specs.Naming.{numbered_from_one, named_literal, name_literal, by_universality}
+use Rattle.hint_log.specs.Naming.{numbered_from_one, named_literal, name_literal}
 use Rattle.hint_log.specs.Origins.{leaf_with_sign, leaf_clause, matrix_literal, gate_rest, IsGateRest, IsLeafOf, IsFaultRest, IsOriginsClause}
 use Rattle.hint_log.specs.Conditions.{MayFollow}
 use Rattle.hint_log.specs.Deciding.{ReachesGiven, AreNegatedSelectors, RestsOnCircuit, IsCircuitGiven, IsFaultLeaf}
@@ -33,13 +33,11 @@ use Rattle.log_laws.proofs.ReachedClauses.{name_stays, answer_true}
 use Rattle.log_laws.proofs.Found.{variable, find_there, numbered_among, slice_get_at, named_variable}
 
 not_new : (es : List Entry) (u w : ℕ) → is_circuit_name (name_of es u) ≡ true → name_of es w ≡ None → (u == w) ≡ false
-not_new es u w h none = ne_eqb u w (λ e. let is : name_of es u ≡ None = ap (name_of es) e ∙ none in
-    false≢true (sym (ap is_circuit_name is) ∙ h))
+not_new es u w h none = search (arith, ne_eqb, false≢true)
 
 stays_named : (es : List Entry) (u w : ℕ) (n : Name) → is_circuit_name (name_of es u) ≡ true → name_of es w ≡ None →
     is_circuit_name (cond (u == w) (Some n) (name_of es u)) ≡ true
-stays_named es u w n h none = ap is_circuit_name (cond-false (u == w) (Some n) (name_of es u)
-    (not_new es u w h none)) ∙ h
+stays_named es u w n h none = search (arith, cond-false, not_new)
 
 -- the sides of a gate are named
 pub sides : (es : List Entry) (v : ℕ) (a b : Literal) → Each MayFollow es → name_of es v ≡ Some (And a b) →
@@ -51,14 +49,8 @@ sides (Named w n ∷ es) v a b lawful h = by_bit (sides es v a b lawful.1) (v ==
       cond c (Some n) (name_of es v) ≡ Some (And a b) →
       (is_circuit_name (cond (variable_of a == w) (Some n) (name_of es (variable_of a))) ≡ true) ×
       (is_circuit_name (cond (variable_of b == w) (Some n) (name_of es (variable_of b))) ≡ true)
-  by_bit later true h =
-      let is : n ≡ And a b = cc in
-      let s : HasSides es (And a b) = subst (HasSides es) is lawful.0.sides in
-      (stays_named es (variable_of a) w n s.0 lawful.0.unnamed, stays_named es (variable_of b) w n s.1 lawful.0.unnamed)
-  by_bit later false h = let s = later h in (
-    stays_named es (variable_of a) w n s.0 lawful.0.unnamed,
-    stays_named es (variable_of b) w n s.1 lawful.0.unnamed,
-  )
+  by_bit later true h = search (arith, stays_named)
+  by_bit later false h = search (arith, stays_named)
 sides (Given origin c ∷ es) v a b lawful h = sides es v a b lawful.1 h
 sides (Learned c hints ∷ es) v a b lawful h = sides es v a b lawful.1 h
 sides (Answer c hints ∷ es) v a b lawful h = sides es v a b lawful.1 h
@@ -68,8 +60,7 @@ sides (Begun live ∷ es) v a b lawful h = sides es v a b lawful.1 h
 pub both_same : (p q : Assignment) (a b : Literal) → p (variable_of a) ≡ q (variable_of a) →
     p (variable_of b) ≡ q (variable_of b) → (literal_true p a && literal_true p b) ≡
     (literal_true q a && literal_true q b)
-both_same p q a b h k = ap (λ x. x && literal_true p b) (literal_true-agree p q a h) ∙ ap (λ x. literal_true q a && x)
-    (literal_true-agree p q b k)
+both_same p q a b h k = search (arith, literal_true-agree)
 
 module _ (m : Assignment) (bad : ℕ → Bool) where
   -- a gate has the value of its sides
@@ -91,10 +82,7 @@ module _ (m : Assignment) (bad : ℕ → Bool) where
         cond c (Some n) (name_of es v) ≡ Some (And a b) →
         cond c (name_value m bad (value_in m bad es) n) (value_in m bad es v) ≡
         (literal_true (value_in m bad (Named w n ∷ es)) a && literal_true (value_in m bad (Named w n ∷ es)) b)
-    by_bit later true h =
-        let is : n ≡ And a b = cc in
-        let s : HasSides es (And a b) = subst (HasSides es) is lawful.0.sides in
-        ap (name_value m bad (value_in m bad es)) is ∙ up s
+    by_bit later true h = search arith
     by_bit later false h = later h ∙ up (sides es v a b lawful.1 h)
   gate_value_is (Given origin c ∷ es) v a b lawful h = gate_value_is es v a b lawful.1 h
   gate_value_is (Learned c hints ∷ es) v a b lawful h = gate_value_is es v a b lawful.1 h
@@ -170,10 +158,7 @@ is_bad n (Some c) = not (clause_true n c)
 
 false_among : (n : Assignment) (c : List Literal) (l : Literal) → Contains c l → clause_true n c ≡ false →
     literal_true n l ≡ false
-false_among n c l (k, below, is) h = elim (cases_Bool (literal_true n l)) [
-  | inl t ↦ absurd (true≢false (sym (list_any_at (literal_true n) c k l below (ap (literal_true n) is ∙ t)) ∙ h))
-  | inr e ↦ e
-]
+false_among n c l (k, below, is) h = search (arith, cases_Bool, true≢false, list_any_at)
 
 -- the literal of a matrix by its numbers
 pub split_literal : (o : Option (List Literal)) (i : ℕ) (l : Literal) →
@@ -247,11 +232,8 @@ module _ (implied : LinesAreImplied) (f : Dqbf) (well : IsWellFormed f) (all : L
         IsLeafOf f es (variable_of l) out → ReachesGiven all first (Fault j i out) c →
         n (variable_of l) ≡ leaf_value a out
     leaf_is_value j i l out c at is_leaf reached = elim (cases_Bool (is_universal f (variable_of l))) [
-      | inl universal ↦ ap (λ b. by_universality b (m (variable_of l))
-          (existential_bit bit (existential_of f (variable_of l)))) universal ∙ by_input universal out is_leaf
-      | inr other ↦ ap (λ b. by_universality b (m (variable_of l))
-          (existential_bit bit (existential_of f (variable_of l)))) other ∙ by_option other
-          (existential_of f (variable_of l)) refl
+      | inl universal ↦ search (arith, by_input)
+      | inr other ↦ search (arith, by_option)
     ] where
       by_input : is_universal f (variable_of l) ≡ true → (o : Leaf) → IsLeafOf f es (variable_of l) o →
           m (variable_of l) ≡ leaf_value a o
@@ -264,9 +246,7 @@ module _ (implied : LinesAreImplied) (f : Dqbf) (well : IsWellFormed f) (all : L
       same_leaf : (o : Leaf) → IsLeafOf f es (variable_of l) o →
           leaf_value (value_in m (λ _. false) all) o ≡ leaf_value a o
       same_leaf (Constant b) h = refl
-      same_leaf (LeafLiteral k) h = literal_true-agree (value_in m (λ _. false) all) a k
-          (no_bad m (λ _. false) bad all (variable_of k) lawful
-          (circuit_stays (variable_of k) (name_of es (variable_of k)) refl h.1))
+      same_leaf (LeafLiteral k) h = search (arith, literal_true-agree, no_bad, circuit_stays)
 
       by_option : is_universal f (variable_of l) ≡ false → (o : Option Existential) →
           existential_of f (variable_of l) ≡ o → existential_bit bit o ≡ leaf_value a out
@@ -276,21 +256,12 @@ module _ (implied : LinesAreImplied) (f : Dqbf) (well : IsWellFormed f) (all : L
           (All-contains (All (λ k. Contains (declared f) (variable_of k))) f.matrix r.0 well.bound
           (numbered_among f.matrix j r.0 r.1)) (numbered_among r.0 i l r.2) in
           absurd (elim (Contains-append_cases f.universals (map variable f.existentials) (variable_of l) bound) [
-            | inl universal ↦ true≢false (sym (list_any_at (λ x. x == variable_of l) f.universals universal.0
-                (variable_of l) universal.1 (eq-eqb (get_or f.universals universal.0 (variable_of l))
-                (variable_of l) universal.2)) ∙ other)
+            | inl universal ↦ search (arith, true≢false, list_any_at, eq-eqb)
             | inr existential ↦ find_there f.existentials (variable_of l) existential none
           ])
       by_option other (Some y) found =
           let own = find_sound (variable_of l) f.existentials y found in
-          let fault : IsFaultLeaf f all first y out = record {
-            j = j;
-            i = i;
-            clause = c;
-            reached = reached;
-            own =
-                ap (option_map variable_of) at ∙ ap Some (sym own.1);
-          } in
+          let fault : IsFaultLeaf f all first y out = search arith in
           let same = All-contains (λ z. (o : Leaf) → IsFaultLeaf f all first z o →
           leaf_value (value_in m (λ _. false) all) o ≡ bit z) f.existentials y outs own.0 out fault in
           sym same ∙ same_leaf out is_leaf
@@ -303,13 +274,8 @@ module _ (implied : LinesAreImplied) (f : Dqbf) (well : IsWellFormed f) (all : L
     tail_true (positive v) (Constant false) tail e h t = cc
     tail_true (negative v) (Constant true) tail e h t = cc
     tail_true (negative v) (Constant false) tail e h t = absurd (true≢false (sym (ap not e) ∙ h))
-    tail_true (positive v) (LeafLiteral k) tail e h t =
-        let is : (opposite k ∷ []) ≡ tail = cc in
-        ap (clause_true a) (sym is) ∙ ap (λ b. b || false) (literal_true-opposite a k ∙ ap not (sym e ∙ h))
-    tail_true (negative v) (LeafLiteral k) tail e h t =
-        let is : (k ∷ []) ≡ tail = cc in
-        let up : n v ≡ true = not-false (n v) h in
-        ap (clause_true a) (sym is) ∙ ap (λ b. b || false) (sym e ∙ up)
+    tail_true (positive v) (LeafLiteral k) tail e h t = search (arith, literal_true-opposite)
+    tail_true (negative v) (LeafLiteral k) tail e h t = search (arith, not-false)
 
     fault_true : (group j i : ℕ) (out : Leaf) (rest c : List Literal) → IsFaultRest f es group j i out rest →
         ReachesGiven all first (Fault j i out) c → clause_true a rest ≡ true
@@ -339,9 +305,7 @@ module _ (implied : LinesAreImplied) (f : Dqbf) (well : IsWellFormed f) (all : L
           sign (positive v) e = refl
           sign (negative v) e = absurd (true≢false e)
     some_true group (i ∷ js) (r ∷ rest) j h (suc k, below, is') t =
-        let behind : map (name_literal es) rest ≡ map Some (map (λ q. named_literal (Bad group q) false) js) = cc in
-        or_right (literal_true a r) (clause_true a rest) (some_true group js rest j behind
-        (k, (let b : k < length js = omega arith in b), is') t)
+        search (arith, or_right, (some_true group js rest j))
 
   number_in : (from count k : ℕ) → k < count → Contains (range_with_len from count) (from + k)
   number_in from zero k h = absurd (omega arith)
@@ -354,21 +318,18 @@ module _ (implied : LinesAreImplied) (f : Dqbf) (well : IsWellFormed f) (all : L
 
   module _ (k : ℕ) (below : k < length f.matrix) (is_false : clause_true n (get_or f.matrix k []) ≡ false) where
     bad_there : bad (1 + k) ≡ true
-    bad_there = let one : 1 + k ≡ suc k = omega arith in ap bad one ∙ ap (is_bad n) (slice_get_at f.matrix k [] below)
-        ∙ ap not is_false
+    bad_there = search (arith, slice_get_at)
 
     given_true : (es more : List Entry) (group : ℕ) (origin : Origin) (c : List Literal) →
         all ≡ more ++ Given origin c ∷ es → IsOriginsClause f es origin c → IsCircuitGiven group origin c →
         ReachesGiven all first origin c → clause_true a c ≡ true
     given_true es more group (Instance q j) c is o mine reached = absurd mine
     given_true es more group (Gate v i) c is o mine reached =
-        let is' : all ≡ (more ++ Given (Gate v i) c ∷ []) ++ es =
-        is ∙ sym (append_assoc more (Given (Gate v i) c ∷ []) es) in
+        let is' : all ≡ (more ++ Given (Gate v i) c ∷ []) ++ es = search (arith, append_assoc) in
         ap (clause_true a) o.clause_is ∙ or_right (not (a o.group)) (clause_true a o.rest)
         (gate_true es (more ++ Given (Gate v i) c ∷ []) is' v i o.rest o.rest_is)
     given_true es more group (Fault zero zero out) c is o mine reached =
-        let is' : all ≡ (more ++ Given (Fault 0 0 out) c ∷ []) ++ es =
-        is ∙ sym (append_assoc more (Given (Fault 0 0 out) c ∷ []) es) in
+        let is' : all ≡ (more ++ Given (Fault 0 0 out) c ∷ []) ++ es = search (arith, append_assoc) in
         ap (clause_true a) o.clause_is ∙ or_right (not (a o.group)) (clause_true a o.rest)
         (some_true es (more ++ Given (Fault 0 0 out) c ∷ []) is' o.group (range_with_len 1 (length f.matrix)) o.rest
         (1 + k) o.rest_is.1 (number_in 1 (length f.matrix) k below) bad_there)

@@ -1,5 +1,5 @@
 -- The log of a true formula meets every point.
-use Rattle.std.proofs.Common.{◌≡◌, ℕ, suc, ◌+◌, false, List, [], ◌∷◌, not, None, Some, refl, sym, ◌∙◌, ap, subst, arith}
+use Rattle.std.proofs.Common.{◌≡◌, ℕ, suc, ◌+◌, false, List, [], ◌∷◌, not, Some, refl, sym, ◌∙◌, ap, subst, arith}
 use Rattle.std.specs.List.{Contains}
 use Rattle.std.specs.Option.{option_map}
 use Rattle.std.proofs.lemmas.Bool.{false≢true}
@@ -16,7 +16,7 @@ use Rattle.hint_log.specs.Growth.{Each}
 use Rattle.hint_log.specs.Origins.{matrix_literal, gate_rest, leaf_clause, leaf_with_sign, IsLeafOf, IsOriginsClause}
 use Rattle.hint_log.specs.ProductiveLog.{MatchesOrigin, IsDerivedByHints}
 use Rattle.log_laws.specs.Examples.{seen_conjunction, gate_given, faults_given, shown}
-use Rattle.log_laws.proofs.Checks.{named_by, ids_by, contained_has}
+use Rattle.log_laws.proofs.Checks.{ids_by, contained_has}
 use Rattle.log_laws.proofs.FalseLog.{new_name}
 
 abbrev pub s1 : List Entry
@@ -77,134 +77,13 @@ abbrev pub s21 : List Entry
 s21 = Learned (negative 1 ∷ negative 5 ∷ negative 7 ∷ []) (6 ∷ 7 ∷ 2 ∷ []) ∷ s20
 
 pub gate_logged : AreLogged gate_given
-gate_logged = (
-  named_by s6 (negative 1 ∷ positive 4 ∷ negative 2 ∷ negative 3 ∷ []) refl,
-  (
-    named_by s5 (negative 1 ∷ negative 4 ∷ positive 3 ∷ []) refl,
-    (
-      named_by s4 (negative 1 ∷ negative 4 ∷ positive 2 ∷ []) refl,
-      (
-        new_name s3 4 (And (positive 2) (positive 3)) (omega arith) (omega arith) refl
-            ((λ w h. cc), ((λ w h. cc), ((λ w h. cc), tt))) (refl, refl),
-        (
-          new_name s2 3 (Input 2) (omega arith) (omega arith) refl ((λ w h. cc), ((λ w h. cc), tt)) tt,
-          (
-            new_name s1 2 (Input 1) (omega arith) (omega arith) refl ((λ w h. cc), tt) tt,
-            (new_name [] 1 (Selector 1) (omega arith) (omega arith) refl tt tt, tt),
-          ),
-        ),
-      ),
-    ),
-  ),
-)
+gate_logged = search (arith, new_name)
 
 pub faults_logged : AreLogged faults_given
-faults_logged = (
-  named_by s18 (negative 5 ∷ positive 6 ∷ positive 7 ∷ positive 8 ∷ []) refl,
-  (
-    named_by s17 (negative 5 ∷ negative 8 ∷ positive 3 ∷ []) refl,
-    (
-      named_by s16 (negative 5 ∷ negative 8 ∷ positive 2 ∷ []) refl,
-      (
-        named_by s15 (negative 5 ∷ negative 8 ∷ negative 4 ∷ []) refl,
-        (
-          named_by s14 (negative 5 ∷ negative 7 ∷ negative 3 ∷ []) refl,
-          (
-            named_by s13 (negative 5 ∷ negative 7 ∷ positive 4 ∷ []) refl,
-            (
-              named_by s12 (negative 5 ∷ negative 6 ∷ negative 2 ∷ []) refl,
-              (
-                named_by s11 (negative 5 ∷ negative 6 ∷ positive 4 ∷ []) refl,
-                (
-                  new_name s10 8 (Bad 5 3) (omega arith) (omega arith) refl (
-                    (λ w h. cc),
-                    (
-                      (λ w h. cc),
-                      (
-                        (λ w h. cc),
-                        (
-                          (λ w h. cc),
-                          (
-                            (λ w h. cc),
-                            (
-                              (λ w h. cc),
-                              ((λ w h. cc), ((λ w h. cc), ((λ w h. cc), ((λ w h. cc), tt)))),
-                            ),
-                          ),
-                        ),
-                      ),
-                    ),
-                  ) tt,
-                  (
-                    new_name s9 7 (Bad 5 2) (omega arith) (omega arith) refl (
-                      (λ w h. cc),
-                      (
-                        (λ w h. cc),
-                        (
-                          (λ w h. cc),
-                          (
-                            (λ w h. cc),
-                            (
-                              (λ w h. cc),
-                              (
-                                (λ w h. cc),
-                                ((λ w h. cc), ((λ w h. cc), ((λ w h. cc), tt))),
-                              ),
-                            ),
-                          ),
-                        ),
-                      ),
-                    ) tt,
-                    (
-                      new_name s8 6 (Bad 5 1) (omega arith) (omega arith) refl (
-                        (λ w h. cc),
-                        (
-                          (λ w h. cc),
-                          (
-                            (λ w h. cc),
-                            ((λ w h. cc), ((λ w h. cc), ((λ w h. cc), ((λ w h. cc), ((λ w h. cc), tt))))),
-                          ),
-                        ),
-                      ) tt,
-                      (
-                        new_name gate_given 5 (Selector 5) (omega arith) (omega arith) refl (
-                          (λ w h. cc),
-                          (
-                            (λ w h. cc),
-                            (
-                              (λ w h. cc),
-                              ((λ w h. cc), ((λ w h. cc), ((λ w h. cc), ((λ w h. cc), tt)))),
-                            ),
-                          ),
-                        ) tt,
-                        gate_logged,
-                      ),
-                    ),
-                  ),
-                ),
-              ),
-            ),
-          ),
-        ),
-      ),
-    ),
-  ),
-)
+faults_logged = search (arith, new_name, gate_logged)
 
 pub shown_logged : AreLogged shown
-shown_logged = (
-  (named_by s21 (negative 1 ∷ negative 5 ∷ []) refl, ids_by s21 (12 ∷ 13 ∷ 11 ∷ 8 ∷ 9 ∷ 10 ∷ 3 ∷ []) refl),
-  (
-    (named_by s20 (negative 1 ∷ negative 5 ∷ negative 7 ∷ []) refl, ids_by s20 (6 ∷ 7 ∷ 2 ∷ []) refl),
-    (
-      (
-        named_by faults_given (negative 1 ∷ negative 5 ∷ negative 6 ∷ []) refl,
-        ids_by faults_given (4 ∷ 5 ∷ 1 ∷ []) refl,
-      ),
-      faults_logged,
-    ),
-  ),
-)
+shown_logged = search (arith, ids_by, faults_logged)
 
 -- a gate's clause
 gate_of : (earlier : List Entry) (v i group : ℕ) (a b : Literal) (rest : List Literal) →
@@ -240,27 +119,10 @@ fits j i v c own j' i' leaf c' h v' own' =
     sym same ∙ ap leaf_for one
 
 fits_none : (leaf : Leaf) (c : List Literal) → Fits (Given (Fault 0 0 leaf) c)
-fits_none leaf c j i leaf' c' h v own =
-    let left : 0 ≡ j = cc in
-    let right : 0 ≡ i = cc in
-    let none : None ≡ Some v = ap (λ k. option_map variable_of (matrix_literal seen_conjunction k 0)) left ∙ ap
-    (λ k. option_map variable_of (matrix_literal seen_conjunction j k)) right ∙ own in
-    cc
+fits_none leaf c j i leaf' c' h v own = search arith
 
 gate_fits : Each (λ before e. Fits e) gate_given
-gate_fits = (
-  (λ j i leaf c h v own. cc),
-  (
-    (λ j i leaf c h v own. cc),
-    (
-      (λ j i leaf c h v own. cc),
-      (
-        (λ j i leaf c h v own. cc),
-        ((λ j i leaf c h v own. cc), ((λ j i leaf c h v own. cc), ((λ j i leaf c h v own. cc), tt))),
-      ),
-    ),
-  ),
-)
+gate_fits = search arith
 
 pub f8 : Each (λ before e. Fits e) s8
 f8 = ((λ j i leaf c h v own. cc), gate_fits)
@@ -348,15 +210,7 @@ fault_of earlier all group j i bad v literal tail is_group literal_is own leaf_i
 
 some_of : IsOriginsClause seen_conjunction s18 (Fault 0 0 (Constant false))
     (negative 5 ∷ positive 6 ∷ positive 7 ∷ positive 8 ∷ [])
-some_of = record {
-  group = 5;
-  rest = positive 6 ∷ positive 7 ∷ positive 8 ∷ [];
-  clause_is = refl;
-  is_group = refl;
-  rest_is = (refl, refl);
-  one_leaf = all_have_one s18 f18 0 0 (Constant false) (negative 5 ∷ positive 6 ∷ positive 7 ∷ positive 8 ∷ [])
-      (fits_none (Constant false) (negative 5 ∷ positive 6 ∷ positive 7 ∷ positive 8 ∷ [])) 5;
-}
+some_of = search (arith, all_have_one, f18, fits_none)
 
 pub gate_matches : Each (MatchesOrigin seen_conjunction) gate_given
 gate_matches = (
@@ -421,76 +275,13 @@ faults_matches = (
 )
 
 pub shown_matches : Each (MatchesOrigin seen_conjunction) shown
-shown_matches = (
-  tt,
-  (
-    tt,
-    (tt, faults_matches),
-  ),
-)
+shown_matches = search (arith, faults_matches)
 
 pub gate_derived : Each IsDerivedByHints gate_given
-gate_derived = (
-  tt,
-  (
-    tt,
-    (
-      tt,
-      (
-        tt,
-        (
-          tt,
-          (
-            tt,
-            (tt, tt),
-          ),
-        ),
-      ),
-    ),
-  ),
-)
+gate_derived = search arith
 
 pub faults_derived : Each IsDerivedByHints faults_given
-faults_derived = (
-  tt,
-  (
-    tt,
-    (
-      tt,
-      (
-        tt,
-        (
-          tt,
-          (
-            tt,
-            (
-              tt,
-              (
-                tt,
-                (
-                  tt,
-                  (
-                    tt,
-                    (
-                      tt,
-                      (tt, gate_derived),
-                    ),
-                  ),
-                ),
-              ),
-            ),
-          ),
-        ),
-      ),
-    ),
-  ),
-)
+faults_derived = search (arith, gate_derived)
 
 pub shown_derived : Each IsDerivedByHints shown
-shown_derived = (
-  refl,
-  (
-    refl,
-    (refl, faults_derived),
-  ),
-)
+shown_derived = search (arith, faults_derived)

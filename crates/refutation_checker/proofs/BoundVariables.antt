@@ -1,7 +1,7 @@
 -- How variables are bound in a table.
-use Rattle.std.proofs.Common.{◌≡◌, ◌≢◌, ℕ, zero, suc, ◌+◌, ◌-◌, ◌⊎◌, ◌<◌, ◌≤◌, ◌==◌, true, false, cond, inl, inr, List, [], ◌∷◌, ◌++◌, map, set, length, get_or, replicate, position, Option, None, Some, is_some, IsSome, refl, sym, ◌∙◌, ap, subst, arith, get_or-set_other, get_or-set_same}
+use Rattle.std.proofs.Common.{◌≡◌, ◌≢◌, ℕ, zero, suc, ◌+◌, ◌⊎◌, ◌<◌, ◌≤◌, ◌==◌, true, false, cond, inl, inr, List, [], ◌∷◌, ◌++◌, map, set, length, get_or, replicate, position, Option, None, Some, IsSome, refl, sym, ◌∙◌, ap, subst, arith, get_or-set_other, get_or-set_same}
 use Rattle.std.specs.List.{find}
-use Rattle.std.proofs.lemmas.Bool.{cases_Bool, cases_eq, cases_lt, eqb-true, both_ways}
+use Rattle.std.proofs.lemmas.Bool.{cases_Bool, cases_eq, cases_lt, eqb-true}
 use Rattle.std.proofs.lemmas.List.{length-set, length-append, length-map, get_or_append_left, get_or-append_right, get_or-append-add}
 use Rattle.dq_lits.specs.Formula.{Dqbf, Existential, existential_of, is_universal}
 use Rattle.dq_formula.specs.Prefix.{IsLawful, existential_variables}
@@ -50,51 +50,20 @@ pub universal_bound : (f : Dqbf) (old new : List Binding) (x place : ℕ) → Ar
     position (λ u. u == x) f.universals ≡ Some place
     → ((v : ℕ) → v ≢ x → binding_at new v ≡ binding_at old v)
     → (binding_at new x ≡ Universal place) ⊎ (binding_at new x ≡ binding_at old x) → AreBindings f [] new 0
-universal_bound f old new x place before is others here = record {
-  each = λ v. elim (cases_eq v x) [
-    | inl same ↦ subst (λ w. IsBinding f [] w (binding_at new w)) (sym same) (by here)
-    | inr apart ↦ subst (IsBinding f [] v) (sym (others v apart)) (before.each v)
-  ];
-  apart = λ v w c p h e. absurd (none v c p h);
-  led = before.led;
-  few_sets = before.few_sets;
-  few = before.few;
-}
-  where
-    by : (binding_at new x ≡ Universal place) ⊎ (binding_at new x ≡ binding_at old x) →
-        IsBinding f [] x (binding_at new x)
-    by (inl u) = subst (IsBinding f [] x) (sym u) is
-    by (inr same) = subst (IsBinding f [] x) (sym same) (before.each x)
-
-    old_none : (v c p : ℕ) → binding_at old v ≡ Bound c p → ⊥
-    old_none v c p h = let b = subst (IsBinding f [] v) h (before.each v) in let lt = b.1 in omega (arith, lt)
-
-    none : (v c p : ℕ) → binding_at new v ≡ Bound c p → ⊥
-    none v c p h = elim (cases_eq v x) [
-      | inl same ↦ elim here [
-        | inl u ↦ universal_not_bound place c p (sym u ∙ ap (binding_at new) (sym same) ∙ h)
-        | inr kept ↦ old_none x c p (sym kept ∙ ap (binding_at new) (sym same) ∙ h)
-      ]
-      | inr apart ↦ old_none v c p (sym (others v apart) ∙ h)
-    ]
+universal_bound f old new x place before is others here = search (arith, cases_eq, universal_not_bound)
 
 -- a leader's set
 pub leader_set : (f : Dqbf) (sets : List DependencySet) (of : List Binding) (place leader c q : ℕ) →
     AreBindings f sets of place
     → binding_at of leader ≡ Bound c q → sees_of f leader ≡ sees_of f (variable_at f place) → IsSetFor f sets place c
-leader_set f sets of place leader c q are is same =
-    let b = subst (IsBinding f sets leader) is (are.each leader) in
-    record { within = b.1; sees = b.2 ∙ same; few = are.few c b.1 }
+leader_set f sets of place leader c q are is same = search arith
 
 set_before : (sets : List DependencySet) (s : DependencySet) (c : ℕ) → c < length sets →
     set_at (sets ++ s ∷ []) c ≡ set_at sets c
 set_before sets s c lt = get_or_append_left sets (s ∷ []) (record { leader = 0; size = 0 }) c lt
 
 set_last : (sets : List DependencySet) (s : DependencySet) → set_at (sets ++ s ∷ []) (length sets) ≡ s
-set_last sets s =
-    get_or-append_right sets (s ∷ []) (length sets) (length sets) (record { leader = 0; size = 0 }) refl (omega arith)
-    ∙ ap (λ k. get_or (s ∷ []) k (record { leader = 0; size = 0 }))
-    (let e : length sets - length sets ≡ 0 = omega arith in e)
+set_last sets s = search (arith, get_or-append_right)
 
 -- a set more, that no existential has yet
 pub set_more : (f : Dqbf) (sets : List DependencySet) (of : List Binding) (place : ℕ) → IsLawful f →
@@ -160,52 +129,18 @@ module _ (f : Dqbf) (sets : List DependencySet) (of : List Binding) (place c : �
   now = set of (variable_at f place) (Bound c here.size)
 
   joined_leader : (d : ℕ) → c < length sets → (set_at joined d).leader ≡ (set_at sets d).leader
-  joined_leader d lt =
-      elim (cases_eq d c) [
-        | inl same ↦
-            ap (λ e. (set_at joined e).leader) same
-            ∙ ap (λ (t : DependencySet). t.leader) (get_or-set_same sets c (with_one_more here)
-            (record { leader = 0; size = 0 }) lt)
-            ∙ ap (λ e. (set_at sets e).leader) (sym same)
-        | inr apart ↦ ap (λ (t : DependencySet). t.leader) (get_or-set_other sets c d (with_one_more here)
-            (record { leader = 0; size = 0 }) apart)
-      ]
+  joined_leader d lt = search (arith, cases_eq, get_or-set_same, get_or-set_other)
 
   joined_size : (d bound : ℕ) → c < length sets → bound ≤ (set_at sets d).size → bound ≤ (set_at joined d).size
-  joined_size d bound lt le =
-      elim (cases_eq d c) [
-        | inl same ↦
-            subst (λ (t : DependencySet). bound ≤ t.size) (sym
-            (ap (set_at joined) same ∙ get_or-set_same sets c (with_one_more here)
-            (record { leader = 0; size = 0 }) lt))
-            (let h : (set_at sets d).size ≡ here.size = ap (λ e. (set_at sets e).size) same in omega (arith, le, h))
-        | inr apart ↦
-            subst (λ (t : DependencySet). bound ≤ t.size) (sym
-            (get_or-set_other sets c d (with_one_more here) (record { leader = 0; size = 0 }) apart)) le
-      ]
+  joined_size d bound lt le = search (arith, cases_eq, get_or-set_same, get_or-set_other)
 
   few_joined : (d : ℕ) → c < length sets → (set_at sets d).size ≤ place + 1 → here.size ≤ place →
       (set_at joined d).size ≤ place + 1
-  few_joined d lt le few =
-      elim (cases_eq d c) [
-        | inl same ↦
-            subst (λ (t : DependencySet). t.size ≤ place + 1)
-            (sym (ap (set_at joined) same ∙ get_or-set_same sets c (with_one_more here)
-            (record { leader = 0; size = 0 }) lt))
-            (omega (arith, few))
-        | inr apart ↦
-            subst (λ (t : DependencySet). t.size ≤ place + 1)
-            (sym (get_or-set_other sets c d (with_one_more here) (record { leader = 0; size = 0 }) apart)) le
-      ]
+  few_joined d lt le few = search (arith, cases_eq, get_or-set_same, get_or-set_other)
 
   kept_binding : c < length sets → (v : ℕ) (b : Binding) → IsBinding f sets v b → IsBinding f joined v b
   kept_binding lt v (Universal p) h = h
-  kept_binding lt v (Bound d p) h = (
-    h.0,
-    (let below = h.1 in let long = length-set sets c (with_one_more here) in omega (arith, below, long)),
-    ap (sees_of f) (joined_leader d lt) ∙ h.2,
-    (let below = h.3 in let more = joined_size d (p + 1) lt (omega (arith, below)) in omega (arith, more)),
-  )
+  kept_binding lt v (Bound d p) h = search (arith, length-set, joined_leader, joined_size)
   kept_binding lt v Free h = tt
 
   binding_here : variable_at f place < length of → binding_at now (variable_at f place) ≡ Bound c here.size
@@ -215,11 +150,7 @@ module _ (f : Dqbf) (sets : List DependencySet) (of : List Binding) (place c : �
   binding_other v apart = get_or-set_other of (variable_at f place) v (Bound c here.size) Free apart
 
   pub joined_written : variable_at f place < length of → IsWritten of now (variable_at f place)
-  joined_written lt = record {
-    count = length-set of (variable_at f place) (Bound c here.size);
-    here = ap binds_existential (binding_here lt);
-    others = binding_other;
-  }
+  joined_written lt = search (arith, length-set, binding_here, binding_other)
 
   -- no variable had the place that the existential has now
   unused : AreBindings f sets of (place + 1) → (v : ℕ) → binding_at of v ≡ Bound c here.size → ⊥
@@ -228,46 +159,19 @@ module _ (f : Dqbf) (sets : List DependencySet) (of : List Binding) (place c : �
   pub joined_bindings : AreBindings f sets of (place + 1) → IsSetFor f sets place c →
       IsSome (existential_of f (variable_at f place))
       → variable_at f place < length of → AreBindings f joined now (place + 1)
-  joined_bindings are is some lt = record {
-    each = λ v. elim (cases_eq v (variable_at f place)) [
-      | inl same ↦
-          subst (λ w. IsBinding f joined w (binding_at now w)) (sym same)
-          (subst (IsBinding f joined (variable_at f place)) (sym (binding_here lt)) (
-            some,
-            (let below = is.within in let long = length-set sets c (with_one_more here) in omega (arith, below, long)),
-            ap (sees_of f) (joined_leader c is.within) ∙ is.sees,
-            subst (λ (t : DependencySet). here.size < t.size)
-                (sym (get_or-set_same sets c (with_one_more here) (record { leader = 0; size = 0 }) is.within))
-                (omega arith),
-          ))
-      | inr apart ↦ subst (IsBinding f joined v) (sym (binding_other v apart))
-          (kept_binding is.within v (binding_at of v) (are.each v))
-    ];
-    apart = λ v w d p h e. elim (cases_eq v (variable_at f place)) [
-      | inl v_here ↦ elim (cases_eq w (variable_at f place)) [
-        | inl w_here ↦ v_here ∙ sym w_here
-        | inr w_other ↦
-            let is_it = bound_is (binding_at now v) d p c here.size h (ap (binding_at now) v_here ∙ binding_here lt) in
-            absurd (unused are w (sym (binding_other w w_other) ∙ e ∙ ap (λ x. Bound x p) is_it.0 ∙ ap
-            (Bound c) is_it.1))
-      ]
-      | inr v_other ↦ elim (cases_eq w (variable_at f place)) [
-        | inl w_here ↦
-            let is_it = bound_is (binding_at now w) d p c here.size e (ap (binding_at now) w_here ∙ binding_here lt) in
-            absurd (unused are v (sym (binding_other v v_other) ∙ h ∙ ap (λ x. Bound x p) is_it.0 ∙ ap
-            (Bound c) is_it.1))
-        | inr w_other ↦ are.apart v w d p (sym (binding_other v v_other) ∙ h) (sym (binding_other w w_other) ∙ e)
-      ]
-    ];
-    led = λ d below.
-        let long = length-set sets c (with_one_more here) in
-        subst (λ y. IsSome (existential_of f y)) (sym (joined_leader d is.within))
-        (are.led d (omega (arith, below, long)));
-    few_sets = (let h = are.few_sets in let long = length-set sets c (with_one_more here) in omega (arith, h, long));
-    few = λ d below.
-        let long = length-set sets c (with_one_more here) in
-        few_joined d is.within (are.few d (omega (arith, below, long))) is.few;
-  }
+  joined_bindings are is some lt =
+      search (
+        arith,
+        cases_eq,
+        binding_here,
+        length-set,
+        joined_leader,
+        get_or-set_same,
+        binding_other,
+        kept_binding,
+        bound_is,
+        few_joined,
+      )
 
 -- an existential stands at some place
 pub place_of_existential : (es : List Existential) (v : ℕ) → IsSome (find (λ y. y.variable == v) es)
@@ -292,20 +196,7 @@ pub record AreBoundSoFar (f : Dqbf) (sets : List DependencySet) (of : List Bindi
 pub bound_more : (f : Dqbf) (sets later : List DependencySet) (of now : List Binding) (place : ℕ) →
     AreBoundSoFar f sets of place → AreBindings f later now (place + 1)
     → IsWritten of now (variable_at f place) → AreBoundSoFar f later now (place + 1)
-bound_more f sets later of now place before are written = record {
-  bindings = are;
-  count = written.count ∙ before.count;
-  bound = λ p lt. elim (cases_eq (variable_at f p) (variable_at f place)) [
-    | inl same ↦ ap (λ v. binds_existential (binding_at now v)) same ∙ written.here
-    | inr apart ↦
-        ap binds_existential (written.others (variable_at f p) apart)
-        ∙ before.bound p (elim (cases_eq p place) [
-          | inl e ↦ absurd (apart (ap (variable_at f) e))
-          | inr e ↦
-              omega (arith, lt, e)
-        ])
-  ];
-}
+bound_more f sets later of now place before are written = search (arith, cases_eq)
 
 pub all_bound : (f : Dqbf) (sets : List DependencySet) (of : List Binding) (place : ℕ) → IsLawful f →
     length f.existentials ≤ place → place ≤ length f.existentials
@@ -377,11 +268,7 @@ pub leader_sees : (f : Dqbf) (ys leaders : List ℕ) (place : ℕ) → IsLawful 
     place < length f.existentials
     → IsLeader f (get_or leaders place 0) place → sees_of f (get_or ys (get_or leaders place 0) 0) ≡ sees_of f
     (variable_at f place)
-leader_sees f ys leaders place lawful ys_is lt leads =
-    sees_by_set (existential_of f (get_or ys (get_or leaders place 0) 0))
-    ∙ ap set_in (one_set f lawful.named ys ys_is (get_or leaders place 0) place lt leads)
-    ∙ sym (sees_by_set (existential_of f (get_or ys place 0)))
-    ∙ ap (λ vs. sees_of f (get_or vs place 0)) ys_is
+leader_sees f ys leaders place lawful ys_is lt leads = search (arith, sees_by_set, one_set)
 
 -- an existential is no universal
 pub not_universal : (f : Dqbf) (v : ℕ) → IsLawful f → IsSome (existential_of f v) → is_universal f v ≡ false
@@ -406,8 +293,4 @@ not_universal f v lawful some =
 pub not_existential : (f : Dqbf) (sets : List DependencySet) (of : List Binding) (v : ℕ) → AreAllBound f sets of →
     binds_existential (binding_at of v) ≡ false
     → existential_of f v ≡ None
-not_existential f sets of v bound other = by (existential_of f v) refl
-  where
-    by : (o : Option Existential) → existential_of f v ≡ o → o ≡ None
-    by None is = refl
-    by (Some e) is = absurd (both_ways (binds_existential (binding_at of v)) other (bound.complete v (ap is_some is)))
+not_existential f sets of v bound other = search arith

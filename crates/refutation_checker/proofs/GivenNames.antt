@@ -120,9 +120,7 @@ tree_read x n c t s names c_in s_read t_read =
 
 pub size_read : (x : Frame) (c : ℕ) (s : DependencySet) → IsFrame x → c < length x.sets → s ≡ get_or x.sets c s →
     s.size ≤ 1000001
-size_read x c s frame c_in s_read =
-    let s_is : s ≡ set_at x.sets c = s_read ∙ get_or_default x.sets c s (record { leader = 0; size = 0 }) c_in in
-    subst (λ (z : DependencySet). z.size ≤ 1000001) (sym s_is) (frame.bound.bindings.few c c_in)
+size_read x c s frame c_in s_read = search (arith, get_or_default)
 
 -- a name that is kept
 pub name_kept : (x : Frame) (n : Names) (before after : KnownBases) (c k base : ℕ) → k < length x.rows →
@@ -130,5 +128,4 @@ pub name_kept : (x : Frame) (n : Names) (before after : KnownBases) (c k base : 
     → length after.bases.items ≡ length after.numbers * 16
     → IsKeptOrNew before.numbers before.bases.items after.numbers after.bases.items (block_number x c k) (k % 16) base
     → base_of x n c (row_of x.rows k) ≡ Some base → AreKept x n after.numbers after.bases.items
-name_kept x n before after c k base k_in kept as_many new is =
-    kept_more x n before.numbers before.bases.items after.numbers after.bases.items c k base k_in kept as_many new is
+name_kept x n before after c k base k_in kept as_many new is = search (arith, kept_more)

@@ -1,6 +1,5 @@
 -- Instances by their ids.
-use Rattle.std.proofs.Common.{◌≡◌, ℕ, zero, suc, ◌+◌, ◌*◌, ◌/◌, ◌%◌, ◌<◌, ◌⊎◌, Bool, inl, inr, List, [], length, get_or, slice_get, None, refl, ◌∙◌, ap, arith}
-use Rattle.std.specs.Option.{option_and_then}
+use Rattle.std.proofs.Common.{◌≡◌, ℕ, zero, suc, ◌+◌, ◌*◌, ◌<◌, ◌⊎◌, Bool, inl, inr, List, [], length, get_or, None, refl, arith}
 use Rattle.std.proofs.Math.Nat.{mod-eq_of_lt, mul-add-mod_self_right}
 use Rattle.std.proofs.lemmas.Nat.{div-mul-add}
 use Rattle.std.proofs.lemmas.Option.{slice_get-get_or}
@@ -13,18 +12,14 @@ use Rattle.refutation_checker.proofs.JudgedRefutations.{no_row}
 pub own_id : (f : Dqbf) (rows : List (List Bool)) (k j : ℕ) → k < length rows → j < length f.matrix
     → instance_at f rows (k * length f.matrix + j + 1) ≡ instance_clause f rows (row_of rows k) (get_or f.matrix j [])
 own_id f rows k j k_in j_in =
-    let c = length f.matrix in
-    let next : k * c + j + 1 ≡ suc (k * c + j) = omega arith in
-    let row : (k * c + j) / c ≡ k = div-mul-add k c j j_in in
-    let rest : (k * c + j) % c ≡ j = mul-add-mod_self_right k c j ∙ mod-eq_of_lt j_in in
-    ap (instance_at f rows) next
-    ∙ ap (λ i. option_and_then (λ r. option_and_then (instance_clause f rows r) (slice_get f.matrix ((k * c + j) % c)))
-    (slice_get rows i)) row
-    ∙ ap (λ i. option_and_then (λ r. option_and_then (instance_clause f rows r) (slice_get f.matrix i))
-    (slice_get rows k)) rest
-    ∙ ap (option_and_then (λ r. option_and_then (instance_clause f rows r) (slice_get f.matrix j)))
-    (slice_get-get_or rows k [] k_in)
-    ∙ ap (option_and_then (instance_clause f rows (row_of rows k))) (slice_get-get_or f.matrix j [] j_in)
+    search (
+      arith,
+      (div-mul-add k),
+      (mul-add-mod_self_right k),
+      (mod-eq_of_lt j_in),
+      (slice_get-get_or rows k [] k_in),
+      (slice_get-get_or f.matrix j [] j_in),
+    )
 
 pub no_id : (f : Dqbf) (rows : List (List Bool)) (id : ℕ) → (id ≡ 0) ⊎ (length rows * length f.matrix < id) →
     instance_at f rows id ≡ None

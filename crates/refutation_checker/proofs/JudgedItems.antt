@@ -1,5 +1,5 @@
 -- Items that are judged one after another.
-use Rattle.std.proofs.Common.{◌≡◌, ℕ, ◌+◌, ◌<◌, ◌≤◌, Bool, true, false, not, cond, List, [], ◌∷◌, ◌++◌, map, drop, length, slice_get, Option, None, Some, Result, Ok, Err, is_none, is_some, inl, inr, ◌⊎◌, refl, sym, ◌∙◌, ap, ap₂, subst, arith}
+use Rattle.std.proofs.Common.{◌≡◌, ℕ, ◌+◌, ◌<◌, ◌≤◌, Bool, true, false, not, cond, List, [], ◌∷◌, ◌++◌, map, drop, length, slice_get, Option, None, Some, is_none, is_some, inl, inr, ◌⊎◌, refl, sym, ◌∙◌, ap, ap₂, subst, arith}
 use Rattle.std.specs.List.{All, AllByRecursion, filter}
 use Rattle.std.proofs.lemmas.List.Elements.{All-from_recursion}
 use Rattle.std.proofs.lemmas.Option.{slice_get_within, get_or_from_slice_get}
@@ -114,10 +114,7 @@ ids_behind first at (derived step) le ids = live_line (λ id. first ≤ id) at l
 ids_behind first at (gone deleted) le ids = live_gone (λ id. first ≤ id) at deleted ids
 
 none_some : {A : Type 0} (id : ℕ) (o : Option ℕ) → o ≡ None → o ≡ Some id → A
-none_some id o none some = absurd (apart (sym none ∙ some))
-  where
-    apart : None ≡ Some id → ⊥
-    apart h = cc
+none_some id o none some = search arith
 
 settled_by : (o : Option ℕ) (run : Run) (step : ProofStep) → is_none o ≡ false →
     (with_line o run step).fault ≡ Some step.id
@@ -163,15 +160,7 @@ module _ (x : Frame) (m : Names) (p q : ProofState) (step : ProofStep) (at : Num
             (sym (live_put (instances x) lines step.id nl
             (All-from_recursion (λ line. line.0 < step.id) lines below)));
       })
-  line_runs false underived_is is behind first id above judged =
-      inr (record {
-        id = step.id;
-        fault = judged;
-        run_fault =
-            ap (λ r. (with_item r (derived nstep)).fault) is
-            ∙ settled_by (line_fault live nl step.hints) so_far nstep
-            (line_derives live nl step.hints ∙ underived_is);
-      })
+  line_runs false underived_is is behind first id above judged = search (arith, settled_by, line_derives)
 
 module _ (f : Dqbf) (rows : List (List Bool)) where
   abbrev is_pair : ℕ → Bool
@@ -182,22 +171,11 @@ module _ (f : Dqbf) (rows : List (List Bool)) where
 
   -- a line's id lies behind those of the instances and of the lines that are held
   pub line_from_one : (p : RefutationProving) (step : ProofStep) → MayJudge f rows p (derived step) → 1 ≤ step.id
-  line_from_one p step may =
-      let id = may.lawful.numbered in
-      let le = may.judging.first in
-      omega (arith, id, le)
+  line_from_one p step may = search arith
 
   pub line_above : (p : RefutationProving) (step : ProofStep) → MayJudge f rows p (derived step) →
       p.judging.proving.fault ≡ None → All (λ line. line.0 < step.id) p.judging.proving.lines
-  line_above p step may going =
-      elim may.judging.runs [
-        | inl run ↦
-            All-from_recursion (λ line. line.0 < step.id) p.judging.proving.lines
-            (subst (λ i. AllByRecursion (λ line. line.0 < i) p.judging.proving.lines) (sym may.lawful.numbered)
-            (ids_above (frame_of f rows p) (names_in p.judging.names) run.lines p.judging.proving.lines may.at.next
-            run.held.lines_are run.above))
-        | inr settled ↦ none_some settled.id p.judging.proving.fault going settled.fault
-      ]
+  line_above p step may going = search (arith, All-from_recursion, ids_above, none_some)
 
   pub line_judging : (p : RefutationProving) (j : Judging) (step : ProofStep) → p.judging.proving.fault ≡ None →
       AreNames (frame_of f rows p) j.names →
@@ -273,15 +251,7 @@ module _ (f : Dqbf) (rows : List (List Bool)) where
     names = judging.names;
     first = next_behind first at item judging.first;
     ids = ids_behind first at item judging.first judging.ids;
-    runs = elim judging.runs [
-      | inl r ↦ absurd (apart (sym (ap is_some r.held.going) ∙ faulty))
-      | inr settled ↦ inr (record {
-        id = settled.id;
-        fault = settled.fault;
-        run_fault = ap (λ o. (unless_faulty o run (advanced run (normal_item f rows item))).fault) settled.run_fault
-            ∙ settled.run_fault;
-      })
-    ];
+    runs = search arith;
   }
     where
       apart : false ≡ true → ⊥
@@ -290,13 +260,7 @@ module _ (f : Dqbf) (rows : List (List Bool)) where
   -- what is wrong so far
   pub fault_says : (p : RefutationProving) (at : Numbering) (run : Run) → IsJudging f rows p at run →
       fault_so_far p.judging.proving.fault p.judging.proving.finished ≡ run_fault run
-  fault_says p at run judging =
-      let state = p.judging.proving in
-      elim judging.runs [
-        | inl r ↦ ap (λ o. fault_so_far o state.finished) r.held.going ∙ sym (ap run_fault r.run_is)
-        | inr settled ↦ ap (λ o. fault_so_far o state.finished) settled.fault
-            ∙ sym (ap (λ o. fault_so_far o run.finished) settled.run_fault)
-      ]
+  fault_says p at run judging = search arith
 
   -- the first k items are judged, and with the others the fault is that of all
   pub record AreJudged (p : RefutationProving) (items : List ProofItem) (k : ℕ) : Type 0 where
@@ -310,13 +274,7 @@ module _ (f : Dqbf) (rows : List (List Bool)) where
   pub none_judged : (p : RefutationProving) (items : List ProofItem) →
       IsJudging f rows p (numbered_from first) (start (instance_at f rows)) →
       AreItems is_pair (numbered_from first) items → AreJudged p items 0
-  none_judged p items judging numbered = record {
-    at = numbered_from first;
-    run = start (instance_at f rows);
-    judging = judging;
-    numbered = numbered;
-    left = going_is_fault false (instance_at f rows) (map (normal_item f rows) items);
-  }
+  none_judged p items judging numbered = search (arith, going_is_fault)
 
   module _ (p : RefutationProving) (items : List ProofItem) (k : ℕ) (item : ProofItem)
       (there : slice_get items k ≡ Some item) (before : AreJudged p items k) where
@@ -329,23 +287,11 @@ module _ (f : Dqbf) (rows : List (List Bool)) where
     pub one_judged : (q : RefutationProving) → ((at : Numbering) (run : Run) → IsJudging f rows p at run →
         IsItem is_pair at item → IsJudging f rows q (behind_item at item) (with_item run (normal_item f rows item))) →
         AreJudged q items (k + 1)
-    one_judged q goes_on = record {
-      at = behind_item before.at item;
-      run = with_item before.run (normal_item f rows item);
-      judging = goes_on before.at before.run before.judging numbered.0;
-      numbered = numbered.1;
-      left = sym (ap (λ rest. run_fault (with_items before.run (map (normal_item f rows) rest)))
-          (item_there items k item there)) ∙ before.left;
-    }
+    one_judged q goes_on = search (arith, item_there)
 
   pub all_judged : (p : RefutationProving) (items : List ProofItem) (k : ℕ) → drop k items ≡ [] →
       AreJudged p items k → HasFaultOf f rows items p
-  all_judged p items k none are = record {
-    at = are.at;
-    run = are.run;
-    judging = are.judging;
-    same = sym (ap (λ rest. run_fault (with_items are.run (map (normal_item f rows) rest))) none) ∙ are.left;
-  }
+  all_judged p items k none are = search arith
 
   stays : (id : ℕ) (run : Run) (items : List ProofItem) → run.fault ≡ Some id →
       run_fault (with_items run items) ≡ run_fault run
@@ -399,7 +345,4 @@ module _ (f : Dqbf) (rows : List (List Bool)) where
 
 pub not_settled : (o : Option ℕ) → is_some o ≡ false → o ≡ None
 not_settled None none = refl
-not_settled (Some id) none = absurd (apart none)
-  where
-    apart : true ≡ false → ⊥
-    apart h = cc
+not_settled (Some id) none = search arith

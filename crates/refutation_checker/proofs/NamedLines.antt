@@ -1,5 +1,5 @@
 -- Lines that are judged on the names of their pairs.
-use Rattle.std.proofs.Common.{◌≡◌, ℕ, ◌+◌, ◌<◌, ◌≤◌, ◌==◌, Bool, true, false, cond, inl, inr, List, [], ◌∷◌, ◌++◌, map, drop, length, Option, None, Some, is_some, is_none, refl, sym, ◌∙◌, ap, subst}
+use Rattle.std.proofs.Common.{◌≡◌, ℕ, ◌+◌, ◌<◌, ◌≤◌, Bool, true, false, List, [], ◌∷◌, ◌++◌, map, drop, length, Option, None, Some, is_none, refl, sym, ◌∙◌, ap, subst, arith}
 use Rattle.std.specs.List.{All}
 use Rattle.std.specs.Option.{option_map}
 use Rattle.std.proofs.lemmas.Bool.{cases_Bool, eqb-true}
@@ -8,12 +8,10 @@ use Rattle.dq_lits.specs.Expansion.{instance_at}
 use Rattle.dq_lits.specs.Literal.{Literal, variable_of, on_variable}
 use Rattle.dq_lits.proofs.SignedLiterals.{variable_of-on, on-on}
 use Rattle.dq_formula.specs.Prefix.{IsLawful}
-use Rattle.rup_core.specs.Judging.{Hinted, derive_line, is_derived_by, is_faulty, LineState, no_line}
+use Rattle.rup_core.specs.Judging.{Hinted, derive_line, is_derived_by, is_faulty, LineState}
 use Rattle.rup_core.specs.Lines.{clause_of_id}
-use Rattle.rup_core.specs.Proving.{ProofState, or_clause, with_derived, ended}
-use Rattle.rup_core.specs.Renaming.{AreKnown, AreKnownHints, IsKnownClause, renamed}
-use Rattle.rup_core.specs.declared.progress.Progress.{Progress}
-use Rattle.rup_core.specs.declared.progress.Progress.TheVariants.{Going, Refuted, Faulty}
+use Rattle.rup_core.specs.Proving.{ProofState, or_clause, ended}
+use Rattle.rup_core.specs.Renaming.{AreKnown, AreKnownHints, renamed}
 use Rattle.rup_core.proofs.JudgedLines.{line_derives}
 use Rattle.rup_core.proofs.RenamedVariables.{line_fault-renamed, stays_named}
 use Rattle.refutation_checker.specs.Bindings.{binding_at, AreAllBound}
@@ -22,7 +20,6 @@ use Rattle.refutation_checker.specs.Pairs.{pair_of}
 use Rattle.refutation_checker.specs.Rows.{row_of}
 use Rattle.refutation_checker.specs.Judging.{IsNamed, AreNamed, IsClause, AreLines, AreBehind, HintsLeft, named_clause, clauses_with, normal_literals, IsJudged}
 use Rattle.refutation_checker.specs.Namings.{Frame, Names, base_of, name_of, new_number, is_named, IsNaming, Extends}
-use Rattle.refutation_checker.specs.RowTrees.{number_or}
 use Rattle.refutation_checker.proofs.NamedPairs.{name_stays, named_pair, name_below, numbers_differ}
 
 abbrev AreWhole : Frame → Type 0
@@ -37,14 +34,7 @@ then_extends x n m l first second c b r whole is = second c b r whole (first c b
 -- what is named has its name still
 still_named : (x : Frame) (n m : Names) (v : ℕ) → AreWhole x → Extends x n m → is_named x n v ≡ true
     → (is_named x m v ≡ true) × (new_number x m v ≡ new_number x n v)
-still_named x n m v whole extends named = by (name_of x n v) refl named
-  where
-    by : (o : Option ℕ) → name_of x n v ≡ o → is_some o ≡ true →
-        (is_named x m v ≡ true) × (new_number x m v ≡ new_number x n v)
-    by None is h = cc
-    by (Some a) is h =
-        let later = name_stays x n m v a extends whole is in
-        (ap is_some later, ap (λ o. number_or o (m.next + v)) later ∙ sym (ap (λ o. number_or o (n.next + v)) is))
+still_named x n m v whole extends named = search (arith, name_stays)
 
 known_later : (x : Frame) (n m : Names) (literals : List Literal) → AreWhole x → Extends x n m →
     AreKnown (is_named x n) literals → AreKnown (is_named x m) literals
@@ -54,12 +44,7 @@ known_later x n m (l ∷ literals) whole extends known =
 
 pub named_later : (x : Frame) (n m : Names) (literals named : List Literal) → AreWhole x → Extends x n m →
     AreNamed x n literals named → AreNamed x m literals named
-named_later x n m literals named whole extends are = record {
-  named_are = are.named_are
-      ∙ sym (stays_named (new_number x n) (new_number x m) (is_named x n)
-      (λ v told. (still_named x n m v whole extends told).1) literals are.known);
-  known = known_later x n m literals whole extends are.known;
-}
+named_later x n m literals named whole extends are = search (arith, stays_named, still_named, known_later)
 
 known_more : (known : ℕ → Bool) (xs : List Literal) (l : Literal) → AreKnown known xs → known (variable_of l) ≡ true →
     AreKnown known (xs ++ l ∷ [])
@@ -75,18 +60,7 @@ renamed_append number (l ∷ xs) ys = ap (λ ks. on_variable (number (variable_o
 pub one_named_more : (x : Frame) (n : Names) (literals named : List Literal) (v : ℕ) (l m : Literal) →
     AreNamed x n literals named → IsNamed x n v l m
     → AreNamed x n (literals ++ on_variable v l ∷ []) (named ++ m ∷ [])
-one_named_more x n literals named v l m are is =
-    let at : variable_of (on_variable v l) ≡ v = variable_of-on v l in
-    let number : new_number x n (variable_of (on_variable v l)) ≡ variable_of m =
-    ap (new_number x n) at ∙ ap (λ o. number_or o (n.next + v)) is.name in
-    record {
-      named_are = ap (λ ls. ls ++ m ∷ []) are.named_are
-          ∙ ap (λ k. renamed (new_number x n) literals ++ k ∷ [])
-          (is.same ∙ sym (on-on (variable_of m) v l) ∙ ap (λ w. on_variable w (on_variable v l)) (sym number))
-          ∙ sym (renamed_append (new_number x n) literals (on_variable v l ∷ []));
-      known = known_more (is_named x n) literals (on_variable v l) are.known
-          (ap (is_named x n) at ∙ ap is_some is.name);
-    }
+one_named_more x n literals named v l m are is = search (arith, variable_of-on, on-on, renamed_append, known_more)
 
 -- Lines.
 pub lines_later : (x : Frame) (n m : Names) (lines others : List (ℕ × List Literal)) → AreWhole x → Extends x n m →
@@ -114,28 +88,14 @@ line_clause_named x n [] [] id are = refl
 line_clause_named x n [] (_ ∷ _) id are = absurd are
 line_clause_named x n (_ ∷ _) [] id are = absurd are
 line_clause_named x n (line ∷ lines) (other ∷ others) id are =
-    ap (λ i. cond (i == id) (Some other.1) (clause_of_id others id)) are.0 ∙ by (line.0 == id)
-    (line_clause_named x n lines others id are.2)
-  where
-    by : (b : Bool) → clause_of_id others id ≡ option_map (renamed (new_number x n)) (clause_of_id lines id)
-        → cond b (Some other.1) (clause_of_id others id) ≡ option_map (renamed (new_number x n))
-        (cond b (Some line.1) (clause_of_id lines id))
-    by true later = ap Some are.1.named_are
-    by false later = later
+    search (arith, (line_clause_named x n lines others id are.2))
 
 no_line_there : (x : Frame) (lines : List (ℕ × List Literal)) (id : ℕ) (clause : List Literal) → AreBehind x lines →
     instance_at x.formula x.rows id ≡ Some clause
     → clause_of_id lines id ≡ None
 no_line_there x [] id clause behind is = refl
 no_line_there x (line ∷ lines) id clause behind is =
-    elim (cases_Bool (line.0 == id)) [
-      | inl same ↦ absurd (apart (sym behind.0 ∙ ap (instance_at x.formula x.rows) (eqb-true line.0 id same) ∙ is))
-      | inr other ↦ ap (λ b. cond b (Some line.1) (clause_of_id lines id)) other
-          ∙ no_line_there x lines id clause behind.1 is
-    ]
-  where
-    apart : None ≡ Some clause → ⊥
-    apart h = cc
+    search (arith, cases_Bool, eqb-true, (no_line_there x lines id clause behind.1 is))
 
 -- a hint that is an instance, and one that is none
 pub hint_instance : (x : Frame) (n m : Names) (lines : List (ℕ × List Literal)) (id : ℕ) (literals named : List Literal)
@@ -155,18 +115,14 @@ or_none (Some clause) = refl
 pub hint_line : (x : Frame) (n m : Names) (lines others : List (ℕ × List Literal)) (id : ℕ) → AreWhole x →
     Extends x n m → AreLines x n lines others
     → instance_at x.formula x.rows id ≡ None → named_clause x m lines id ≡ clause_of_id others id
-hint_line x n m lines others id whole extends are none =
-    ap (λ o. option_map (renamed (new_number x m)) (or_clause (clause_of_id lines id) o)) none
-    ∙ ap (option_map (renamed (new_number x m))) (or_none (clause_of_id lines id))
-    ∙ sym (line_clause_named x m lines others id (lines_later x n m lines others whole extends are))
+hint_line x n m lines others id whole extends are none = search (arith, or_none, line_clause_named, lines_later)
 
 pub none_judged : (x : Frame) (n m : Names) (lines others : List (ℕ × List Literal)) (id : ℕ) (old new : LineState)
     (clauses : Hinted) → AreWhole x → Extends x n m
     → AreLines x n lines others → instance_at x.formula x.rows id ≡ None →
     is_derived_by new clauses ≡ is_derived_by old (clause_of_id others id ∷ clauses)
     → is_derived_by new clauses ≡ is_derived_by old (named_clause x m lines id ∷ clauses)
-none_judged x n m lines others id old new clauses whole extends are none judged =
-    judged ∙ ap (λ o. is_derived_by old (o ∷ clauses)) (sym (hint_line x n m lines others id whole extends are none))
+none_judged x n m lines others id old new clauses whole extends are none judged = search (arith, hint_line)
 
 pub clause_judged : (x : Frame) (n m : Names) (lines : List (ℕ × List Literal)) (id : ℕ)
     (clause : Option (List Literal)) (named read : List Literal) (b : Bool)
@@ -200,9 +156,7 @@ pub hints_next : (x : Frame) (n l : Names) (lines : List (ℕ × List Literal)) 
     (named_clause x m lines id ∷ clauses))
     → HintsLeft x n lines literals hints line i → HintsLeft x l lines literals hints next (i + 1)
 hints_next x n l lines literals hints line next i id at extends judged left m later =
-    judged m later (map (named_clause x m lines) (drop (i + 1) hints))
-    ∙ ap (λ ids. is_derived_by line (map (named_clause x m lines) ids)) (sym at)
-    ∙ left m (then_extends x n l m extends later)
+    search (arith, (then_extends x n l m extends later))
 
 known_all : (literals : List Literal) → AreKnown (λ v. true) literals
 known_all [] = tt
@@ -210,11 +164,7 @@ known_all (l ∷ literals) = (refl, known_all literals)
 
 known_hints : (live : LiveClauses) (hints : List ℕ) → AreKnownHints (λ v. true) live hints
 known_hints live [] = tt
-known_hints live (id ∷ hints) = (by (live id), known_hints live hints)
-  where
-    by : (o : Option (List Literal)) → IsKnownClause (λ v. true) o
-    by None = tt
-    by (Some clause) = known_all clause
+known_hints live (id ∷ hints) = search (arith, (known_hints live hints), known_all)
 
 -- names change no derivation
 same_derivation : (x : Frame) (n : Names) (lines : List (ℕ × List Literal)) (literals : List Literal) (hints : List ℕ) →
@@ -241,13 +191,7 @@ hints_end x n lines literals hints line i naming bound whole none left =
     ∙ left n (same_extends x n) ∙ same_derivation x n lines literals hints naming bound whole
 
 never_derived : (line : LineState) (clauses : Hinted) → is_faulty line ≡ true → is_derived_by line clauses ≡ false
-never_derived line clauses h = by line.progress h
-  where
-    by : (p : Progress) → is_faulty (record line { progress = p }) ≡ true →
-        is_derived_by (record line { progress = p }) clauses ≡ false
-    by Going h = cc
-    by Refuted h = cc
-    by Faulty h = refl
+never_derived line clauses h = search arith
 
 -- or none can help any more
 pub hints_fault : (x : Frame) (n : Names) (lines : List (ℕ × List Literal)) (literals : List Literal) (hints : List ℕ)
@@ -280,14 +224,5 @@ pub line_judged : (x : Frame) (n : Names) (lines : List (ℕ × List Literal)) (
     (p q : ProofState) (d : Bool)
     → AreLines x n lines p.lines → p.fault ≡ None → AreNamed x n (normal_literals x literals) named →
     q ≡ ended d id named p → IsJudged x n lines id literals q d
-line_judged x n lines id literals named p q true are going is q_is =
-    let after : ended true id named p ≡ record (with_derived None true id named p) { line = no_line } =
-    ap (λ fault. record (with_derived fault true id named p) { line = no_line }) going in
-    subst (λ s. IsJudged x n lines id literals s true) (sym (q_is ∙ after)) (
-      record { lines_are = line_more x n lines p.lines id (normal_literals x literals) named are is; going = going },
-      ap is_empty is.named_are ∙ empty_renamed (new_number x n) x literals,
-    )
-line_judged x n lines id literals named p q false are going is q_is =
-    let after : ended false id named p ≡ record (with_derived None false id named p) { line = no_line } =
-    ap (λ fault. record (with_derived fault false id named p) { line = no_line }) going in
-    ap (λ (s : ProofState). s.fault) (q_is ∙ after)
+line_judged x n lines id literals named p q true are going is q_is = search (arith, line_more, empty_renamed)
+line_judged x n lines id literals named p q false are going is q_is = search arith

@@ -97,16 +97,10 @@ module _ (x : Frame) (n : Names) (c k base next : ℕ) (nodes : List Node) where
   some_is a b h = cc
 
   next_fresh : Growth → base_of x n c row ≡ None → (base ≡ n.next) × (next ≡ n.next + size)
-  next_fresh g none =
-      let is : base ≡ n.next = g.value ∙ ap (λ x. number_or x n.next) none in
-      (is, g.next_is ∙ ap (λ t. cond t (n.next + size) n.next) (eq-eqb base n.next is))
+  next_fresh g none = search (arith, eq-eqb)
 
   pub next_more : Growth → n.next ≤ next
-  next_more g =
-      elim (cases_Bool (base == n.next)) [
-        | inl same ↦ let h = g.next_is ∙ ap (λ t. cond t (n.next + size) n.next) same in omega (arith, h)
-        | inr apart ↦ let h = g.next_is ∙ ap (λ t. cond t (n.next + size) n.next) apart in omega (arith, h)
-      ]
+  next_more g = search (arith, cases_Bool)
 
   origin_here : Growth → (e : ℕ) (r : List Bool) → IsWhole x r → agree_over x.formula (sees_at x c) row r ≡ true →
       base_of x grown c r ≡ Some e
@@ -116,11 +110,7 @@ module _ (x : Frame) (n : Names) (c k base next : ℕ) (nodes : List Node) where
       let e_is : base ≡ e = some_is base e (sym (ap (λ t. cond t (Some base) (base_of x n c r)) agree) ∙ sym
       (base_here g r whole) ∙ is) in
       inr (record { set_is = refl; agree = agree; base_is = sym e_is ∙ fresh.0; next_is = fresh.1 })
-  origin_here g e r whole agree is (Some b) known =
-      let e_is : base ≡ e = some_is base e (sym (ap (λ t. cond t (Some base) (base_of x n c r)) agree) ∙ sym
-      (base_here g r whole) ∙ is) in
-      let b_is : base ≡ b = g.value ∙ by_value (base_of x n c row) b known in
-      inl (sym (same_base g r whole agree) ∙ known ∙ ap Some (sym b_is ∙ e_is))
+  origin_here g e r whole agree is (Some b) known = search (arith, some_is, base_here, same_base)
 
   origin : Growth → (d e : ℕ) (r : List Bool) → IsWhole x r → base_of x grown d r ≡ Some e →
       (base_of x n d r ≡ Some e) ⊎ Fresh d e r
@@ -140,32 +130,16 @@ module _ (x : Frame) (n : Names) (c k base next : ℕ) (nodes : List Node) where
 
   below_by : Growth → (d e : ℕ) (r : List Bool) → IsWhole x r → (base_of x n d r ≡ Some e) ⊎ Fresh d e r →
       (1 ≤ e) × (e + (set_at x.sets d).size ≤ next)
-  below_by g d e r whole (inl old) =
-      let h = g.naming.below d e r whole old in let le = next_more g in let a = h.0 in let b = h.1 in
-      (omega (arith, a), omega (arith, b, le))
-  below_by g d e r whole (inr fresh) =
-      let one = g.naming.from_one in
-      let size_is : (set_at x.sets d).size ≡ size = ap (λ i. (set_at x.sets i).size) fresh.set_is in
-      let e_is = fresh.base_is in let next_is = fresh.next_is in
-      (omega (arith, one, e_is), omega (arith, e_is, next_is, size_is))
+  below_by g d e r whole (inl old) = search (arith, next_more)
+  below_by g d e r whole (inr fresh) = search arith
 
   apart_by : Growth → (d d' e e' : ℕ) (r s : List Bool) → IsWhole x r → IsWhole x s →
       (base_of x n d r ≡ Some e) ⊎ Fresh d e r
       → (base_of x n d' s ≡ Some e') ⊎ Fresh d' e' s → AreApart x d r e d' s e'
-  apart_by g d d' e e' r s r_whole s_whole (inl first) (inl second) =
-      g.naming.apart d d' e e' r s r_whole s_whole first second
-  apart_by g d d' e e' r s r_whole s_whole (inl first) (inr second) =
-      let h = g.naming.below d e r r_whole first in let b = h.1 in let is = second.base_is in
-      inr (inl (omega (arith, b, is)))
-  apart_by g d d' e e' r s r_whole s_whole (inr first) (inl second) =
-      let h = g.naming.below d' e' s s_whole second in let b = h.1 in let is = first.base_is in
-      inr (inr (omega (arith, b, is)))
-  apart_by g d d' e e' r s r_whole s_whole (inr first) (inr second) = inl (
-    first.set_is ∙ sym second.set_is,
-    first.base_is ∙ sym second.base_is,
-    ap (λ i. agree_over x.formula (sees_at x i) r s) first.set_is
-        ∙ sym (agree_second x.formula (sees_at x c) row r s first.agree) ∙ second.agree,
-  )
+  apart_by g d d' e e' r s r_whole s_whole (inl first) (inl second) = search arith
+  apart_by g d d' e e' r s r_whole s_whole (inl first) (inr second) = search arith
+  apart_by g d d' e e' r s r_whole s_whole (inr first) (inl second) = search arith
+  apart_by g d d' e e' r s r_whole s_whole (inr first) (inr second) = search (arith, agree_second)
 
   pub grown_naming : Growth → IsNaming x grown
   grown_naming g = record {
@@ -186,9 +160,7 @@ module _ (x : Frame) (n : Names) (c k base next : ℕ) (nodes : List Node) where
   grown_extends g = stays g
 
   pub grown_base : Growth → base_of x grown c row ≡ Some base
-  grown_base g =
-      base_here g row g.whole ∙ ap (λ t. cond t (Some base) (base_of x n c row))
-      (agree_itself x.formula (sees_at x c) row)
+  grown_base g = search (arith, base_here, agree_itself)
 
 -- the first row that agrees with one of the rows
 first_agrees : (f : Dqbf) (rows : List (List Bool)) (e : Existential) (k : ℕ) → k < length rows
@@ -337,30 +309,9 @@ module _ (x : Frame) (n : Names) (naming : IsNaming x n) (bound : AreAllBound x.
 
   one_by : (v w a : ℕ) (h : HasName x n v a) (k : HasName x n w a)
       → AreApart x h.set (row_of x.rows (row_number x v)) h.base k.set (row_of x.rows (row_number x w)) k.base → v ≡ w
-  one_by v w a h k (inl same) =
-      let h_sum = h.sum in let k_sum = k.sum in let bases = same.1 in
-      let places : h.place ≡ k.place = omega (arith, h_sum, k_sum, bases) in
-      let variables : variable_number x v ≡ variable_number x w =
-      bound.bindings.apart (variable_number x v) (variable_number x w) h.set h.place h.bound
-      (k.bound ∙ ap (λ x. Bound x k.place) (sym same.0) ∙ ap (Bound h.set) (sym places)) in
-      let binding = subst (IsBinding x.formula x.sets (variable_number x v)) h.bound
-      (bound.bindings.each (variable_number x v)) in
-      h.own
-      ∙ one_pair_of x.formula x.rows (variable_number x v) (row_of x.rows (row_number x v))
-      (row_of x.rows (row_number x w))
-      (ap (λ sees. agree_over x.formula sees (row_of x.rows (row_number x v)) (row_of x.rows (row_number x w)))
-      (sym binding.2) ∙ same.2)
-      ∙ ap (pair_of x.formula x.rows (row_of x.rows (row_number x w))) variables ∙ sym k.own
-  one_by v w a h k (inr (inl before)) =
-      let binding = subst (IsBinding x.formula x.sets (variable_number x v)) h.bound
-      (bound.bindings.each (variable_number x v)) in
-      let inside = binding.3 in let h_sum = h.sum in let k_sum = k.sum in
-      absurd (omega (arith, before, inside, h_sum, k_sum))
-  one_by v w a h k (inr (inr behind)) =
-      let binding = subst (IsBinding x.formula x.sets (variable_number x w)) k.bound
-      (bound.bindings.each (variable_number x w)) in
-      let inside = binding.3 in let h_sum = h.sum in let k_sum = k.sum in
-      absurd (omega (arith, behind, inside, h_sum, k_sum))
+  one_by v w a h k (inl same) = search (arith, one_pair_of)
+  one_by v w a h k (inr (inl before)) = search arith
+  one_by v w a h k (inr (inr behind)) = search arith
 
   -- a name belongs to one pair
   pub one_name : (v w a : ℕ) → name_of x n v ≡ Some a → name_of x n w ≡ Some a → v ≡ w
@@ -398,16 +349,4 @@ module _ (x : Frame) (n : Names) (naming : IsNaming x n) (bound : AreAllBound x.
 pub name_stays : (x : Frame) (n m : Names) (v a : ℕ) → Extends x n m →
     All (λ row. length row ≡ length x.formula.universals) x.rows → name_of x n v ≡ Some a
     → name_of x m v ≡ Some a
-name_stays x n m v a extends whole is =
-    let h = has_name x n v a is in
-    let pair : is_pair x v ≡ true =
-    and_from (nat_lt (row_number x v) (length x.rows)) (v == pair_of x.formula x.rows (row_of x.rows (row_number x v))
-    (variable_number x v))
-    (lt-ltb (row_number x v) (length x.rows) h.row_in)
-    (eq-eqb v (pair_of x.formula x.rows (row_of x.rows (row_number x v)) (variable_number x v)) h.own) in
-    ap (λ t. cond t (name_by x m (row_of x.rows (row_number x v)) (binding_at x.bindings (variable_number x v)))
-    None) pair
-    ∙ ap (name_by x m (row_of x.rows (row_number x v))) h.bound
-    ∙ ap (option_map (λ b. b + h.place)) (extends h.set h.base (row_of x.rows (row_number x v))
-    (whole (row_number x v) [] h.row_in) h.based)
-    ∙ ap Some (sym h.sum)
+name_stays x n m v a extends whole is = search (arith, has_name, and_from, nat_lt, lt-ltb, eq-eqb)

@@ -1,68 +1,32 @@
 -- The numbers of pairs.
-use Rattle.std.proofs.Common.{◌≡◌, ℕ, ◌+◌, ◌-◌, ◌*◌, ◌/◌, ◌%◌, ◌<◌, ◌==◌, Bool, true, not, cond, inl, inr, List, [], ◌∷◌, map, length, get_or, Option, None, Some, IsSome, is_some, nat_lt, refl, sym, ◌∙◌, ap, subst}
-use Rattle.std.specs.List.{find, position_or_len, filter_map}
+use Rattle.std.proofs.Common.{◌≡◌, ℕ, ◌+◌, ◌-◌, ◌/◌, ◌%◌, ◌==◌, Bool, true, List, [], ◌∷◌, map, length, get_or, Option, None, Some, nat_lt, refl, sym, ◌∙◌, ap, subst, arith}
+use Rattle.std.specs.List.{find, filter_map}
 use Rattle.std.proofs.lemmas.Bool.{cases_Bool, eqb-true, and_parts, ltb-true}
 use Rattle.std.proofs.lemmas.Option.{slice_get-get_or}
-use Rattle.dq_lits.specs.Expansion.{agree_on, pair_number, pair_literal}
+use Rattle.dq_lits.specs.Expansion.{pair_number, pair_literal}
 use Rattle.dq_lits.specs.Formula.{Existential, Dqbf, existential_of}
 use Rattle.dq_lits.specs.Literal.{Literal, variable_of, on_variable}
 use Rattle.cert_text.specs.Pairs.{is_pair_number}
-use Rattle.refutation_checker.specs.Refutation.{normal_of, normal_number}
-use Rattle.refutation_checker.specs.Pairs.{first_agreeing, pair_of, existential_part}
+use Rattle.refutation_checker.specs.Refutation.{normal_number}
+use Rattle.refutation_checker.specs.Pairs.{pair_of, existential_part}
 
 -- the existential of a variable stands on it
 found_variable : (es : List Existential) (v : ℕ) (e : Existential) → find (λ y. y.variable == v) es ≡ Some e →
     e.variable ≡ v
 found_variable [] v e found = cc
-found_variable (y ∷ es) v e found =
-    elim (cases_Bool (y.variable == v)) [
-      | inl same ↦
-          let at : Some y ≡ Some e = sym (ap (λ b. cond b (Some y) (find (λ x. x.variable == v) es)) same) ∙ found in
-          ap (λ (x : Existential). x.variable) (sym (some_is y e at)) ∙ eqb-true y.variable v same
-      | inr other ↦ found_variable es v e (sym (ap (λ b. cond b (Some y) (find (λ x. x.variable == v) es)) other)
-          ∙ found)
-    ]
-  where
-    some_is : (x z : Existential) → Some x ≡ Some z → x ≡ z
-    some_is x z h = cc
+found_variable (y ∷ es) v e found = search (arith, cases_Bool, eqb-true, (found_variable es v e))
 
 -- the pair's number is that of its existential
 pub pair_number_is : (f : Dqbf) (rows : List (List Bool)) (row : List Bool) (v : ℕ) (e : Existential) →
     existential_of f v ≡ Some e
     → pair_number f rows row e ≡ pair_of f rows row v
-pair_number_is f rows row v e found =
-    ap (λ n. position_or_len (agree_on f e row) rows * f.variables + n) (found_variable f.existentials v e found)
-    ∙ ap (λ o. first_agreeing f rows o row * f.variables + v) (sym found)
+pair_number_is f rows row v e found = search (arith, found_variable)
 
 -- the number that a line may name a pair by
 pub named_is : (f : Dqbf) (rows : List (List Bool)) (number : ℕ) → is_pair_number f (length rows) number ≡ true
     → normal_number f rows number ≡ pair_of f rows (get_or rows ((number - 1) / f.variables) [])
     ((number - 1) % f.variables + 1)
-named_is f rows number h =
-    let k = (number - 1) / f.variables in
-    let v = (number - 1) % f.variables + 1 in
-    ap (λ o. normal_of f rows number o (existential_of f v)) (slice_get-get_or rows k [] (row_within f rows number h))
-    ∙ by (existential_of f v) refl (existential_within f rows number h)
-  where
-    row_within : (g : Dqbf) (rs : List (List Bool)) (n : ℕ) → is_pair_number g (length rs) n ≡ true →
-        (n - 1) / g.variables < length rs
-    row_within g rs n t =
-        ltb-true ((n - 1) / g.variables) (length rs)
-        (and_parts (nat_lt ((n - 1) / g.variables) (length rs)) (is_some (existential_of g ((n - 1) % g.variables + 1)))
-        (and_parts (not (n == 0)) _ (and_parts (not (g.variables == 0)) _ t).1).1).0
-
-    existential_within : (g : Dqbf) (rs : List (List Bool)) (n : ℕ) → is_pair_number g (length rs) n ≡ true →
-        IsSome (existential_of g ((n - 1) % g.variables + 1))
-    existential_within g rs n t =
-        (and_parts (nat_lt ((n - 1) / g.variables) (length rs)) (is_some (existential_of g ((n - 1) % g.variables + 1)))
-        (and_parts (not (n == 0)) _ (and_parts (not (g.variables == 0)) _ t).1).1).1
-
-    by : (o : Option Existential) → existential_of f ((number - 1) % f.variables + 1) ≡ o → IsSome o
-        → normal_of f rows number (Some (get_or rows ((number - 1) / f.variables) [])) o
-        ≡ pair_of f rows (get_or rows ((number - 1) / f.variables) []) ((number - 1) % f.variables + 1)
-    by None found some = cc
-    by (Some e) found some = pair_number_is f rows (get_or rows ((number - 1) / f.variables) [])
-        ((number - 1) % f.variables + 1) e found
+named_is f rows number h = search (arith, slice_get-get_or, ltb-true, and_parts, nat_lt, pair_number_is)
 
 pub named_by : (f : Dqbf) (rows : List (List Bool)) (number variables : ℕ) → variables ≡ f.variables →
     is_pair_number f (length rows) number ≡ true

@@ -1,24 +1,24 @@
 -- Clauses that are read literal by literal, on the names of their pairs.
-use Rattle.std.proofs.Common.{◌≡◌, ℕ, zero, suc, ◌+◌, ◌<◌, ◌≤◌, ◌==◌, Bool, true, false, not, cond, ◌&&◌, ◌||◌, List, [], ◌∷◌, ◌++◌, map, take, drop, length, get_or, None, Some, is_some, IsSome, refl, sym, ◌∙◌, ap, subst, arith}
-use Rattle.std.specs.List.{All, list_any, filter_map}
+use Rattle.std.proofs.Common.{◌≡◌, ℕ, zero, suc, ◌+◌, ◌<◌, Bool, true, false, not, cond, ◌&&◌, ◌||◌, List, [], ◌∷◌, ◌++◌, map, take, drop, length, get_or, None, Some, is_some, IsSome, refl, sym, ◌∙◌, ap, subst, arith}
+use Rattle.std.specs.List.{All, list_any}
 use Rattle.std.specs.Bool.{beq}
 use Rattle.std.proofs.lemmas.List.Quantifiers.{position-Some}
 use Rattle.std.proofs.lemmas.List.{get_or_default, map_more}
 use Rattle.list_laws.proofs.Elements.{drop_at}
-use Rattle.dq_lits.specs.Expansion.{instance_clause, pair_literal, row_assignment, universal_literal_true}
+use Rattle.dq_lits.specs.Expansion.{row_assignment, universal_literal_true}
 use Rattle.dq_lits.specs.Formula.{existential_of}
 use Rattle.dq_lits.specs.Literal.{Literal, positive, negative, variable_of, on_variable, is_negative, literal_true}
 use Rattle.dq_lits.specs.Row.{bit_of}
-use Rattle.dq_formula.proofs.TrueUniversals.{true_universal, turned}
+use Rattle.dq_formula.proofs.TrueUniversals.{true_universal}
 use Rattle.cert_text.specs.Pairs.{is_pair_number}
-use Rattle.refutation_checker.specs.Bindings.{binding_at, IsBinding, is_existential as binds_existential}
+use Rattle.refutation_checker.specs.Bindings.{binding_at, is_existential as binds_existential}
 use Rattle.refutation_checker.specs.PairNames.{names_in, IsFrame, AreNames}
 use Rattle.refutation_checker.specs.declared.bindings.Binding.{Binding}
 use Rattle.refutation_checker.specs.declared.bindings.Binding.TheVariants.{Universal, Existential as Bound}
 use Rattle.refutation_checker.specs.declared.pair_names.PairNames.{PairNames}
 use Rattle.refutation_checker.specs.Judging.{IsNamed, AreNamed, on_pair, pair_part, IsRead, IsClause, clause_under, normal_literals}
 use Rattle.refutation_checker.specs.Namings.{Frame, Names, Extends, base_of, name_of}
-use Rattle.refutation_checker.specs.Pairs.{pair_of, existential_part}
+use Rattle.refutation_checker.specs.Pairs.{pair_of}
 use Rattle.refutation_checker.specs.Refutation.{normal_number, normal_literal}
 use Rattle.refutation_checker.specs.Rows.{row_of}
 use Rattle.refutation_checker.proofs.BoundVariables.{not_universal, not_existential}
@@ -37,23 +37,13 @@ part_one x row l some = ap (λ b. map (on_pair x row) (cond b (l ∷ []) [])) so
 part_append : (x : Frame) (row : List Bool) (ls ks : List Literal) →
     pair_part x row (ls ++ ks) ≡ pair_part x row ls ++ pair_part x row ks
 part_append x row [] ks = refl
-part_append x row (l ∷ ls) ks = by (is_some (existential_of x.formula (variable_of l))) (part_append x row ls ks)
-  where
-    by : (b : Bool) → pair_part x row (ls ++ ks) ≡ pair_part x row ls ++ pair_part x row ks
-        → map (on_pair x row) (cond b (l ∷ existential_part x.formula (ls ++ ks))
-        (existential_part x.formula (ls ++ ks)))
-        ≡ map (on_pair x row) (cond b (l ∷ existential_part x.formula ls) (existential_part x.formula ls)) ++ pair_part
-        x row ks
-    by true rest = ap (λ ns. on_pair x row l ∷ ns) rest
-    by false rest = rest
+part_append x row (l ∷ ls) ks = search (arith, (part_append x row ls ks))
 
 take_more : {X : Type 0} (xs : List X) (i : ℕ) (d : X) → i < length xs →
     take (i + 1) xs ≡ take i xs ++ get_or xs i d ∷ []
 take_more [] i d lt = absurd (omega (arith, lt))
 take_more (x ∷ xs) zero d lt = refl
-take_more (x ∷ xs) (suc i) d lt =
-    let e : suc i + 1 ≡ suc (i + 1) = omega arith in
-    ap (λ n. take n (x ∷ xs)) e ∙ ap (λ ys. x ∷ ys) (take_more xs i d (omega (arith, lt)))
+take_more (x ∷ xs) (suc i) d lt = search (arith, (take_more xs i d))
 
 -- the first i literals of a clause were read
 pub record AreRead (x : Frame) (n : Names) (row : List Bool) (clause named : List Literal) (i : ℕ) : Type 0 where
@@ -87,19 +77,7 @@ pub all_read : (x : Frame) (n : Names) (k j : ℕ) (row : List Bool) (clause nam
     row ≡ row_of x.rows k → clause ≡ get_or x.formula.matrix j []
     → drop i clause ≡ [] → take i clause ≡ clause → AreRead x n row clause named i →
     IsClause x n (clause_under x (k, j)) named true
-all_read x n k j row clause named i row_is clause_is none all are =
-    let none_true : list_any (universal_literal_true x.formula row) clause ≡ false =
-    sym are.none_true ∙ ap (list_any (universal_literal_true x.formula row)) none in
-    let literals = pair_part x row (take i clause) in (
-      literals,
-      (
-        ap (λ c. instance_clause x.formula x.rows (row_of x.rows k) c) (sym clause_is)
-            ∙ ap (λ r. instance_clause x.formula x.rows r clause) (sym row_is)
-            ∙ ap (λ b. cond b None (Some (filter_map (pair_literal x.formula x.rows row) clause))) none_true
-            ∙ ap Some (instance_part x.formula x.rows row clause ∙ sym (ap (pair_part x row) all)),
-        are.named_are,
-      ),
-    )
+all_read x n k j row clause named i row_is clause_is none all are = search (arith, instance_part)
 
 -- one with a true universal literal
 pub true_read : (x : Frame) (n m : Names) (k j : ℕ) (row : List Bool) (clause named old now : List Literal) (i : ℕ)
@@ -107,16 +85,7 @@ pub true_read : (x : Frame) (n m : Names) (k j : ℕ) (row : List Bool) (clause 
     → clause ≡ get_or x.formula.matrix j [] → i < length clause → l ≡ get_or clause i l → b ≡ true →
     AreRead x n row clause old i
     → IsRead x m row l old now b → IsClause x m (clause_under x (k, j)) named false
-true_read x n m k j row clause named old now i l b row_is clause_is lt l_is b_is before read =
-    let is : IsRead x m row l old now true = subst (IsRead x m row l old now) b_is read in
-    let some_true : list_any (universal_literal_true x.formula row) clause ≡ true =
-    sym before.none_true ∙ ap (list_any (universal_literal_true x.formula row)) (drop_at clause i l lt)
-    ∙ ap (λ t. universal_literal_true x.formula row t || list_any (universal_literal_true x.formula row)
-    (drop (i + 1) clause)) (sym l_is)
-    ∙ ap (λ t. t || list_any (universal_literal_true x.formula row) (drop (i + 1) clause)) is in
-    ap (λ c. instance_clause x.formula x.rows (row_of x.rows k) c) (sym clause_is)
-    ∙ ap (λ r. instance_clause x.formula x.rows r clause) (sym row_is)
-    ∙ ap (λ t. cond t None (Some (filter_map (pair_literal x.formula x.rows row) clause))) some_true
+true_read x n m k j row clause named old now i l b row_is clause_is lt l_is b_is before read = search (arith, drop_at)
 
 -- one more literal of a clause
 pub read_pair : (x : Frame) (n : Names) (row : List Bool) (l m : Literal) (old now : List Literal) →
@@ -139,12 +108,7 @@ pub read_other : (x : Frame) (n : Names) (row : List Bool) (l : Literal) (old no
     existential_of x.formula (variable_of l) ≡ None
     → b ≡ universal_literal_true x.formula row l → now ≡ old → IsRead x n row l old now b
 read_other x n row l old now true none is same = sym is
-read_other x n row l old now false none is same = (
-  sym is,
-  λ before are. subst (λ ls. AreNamed x n ls now) (sym (ap (λ ks. before ++ ks) (part_none x row l none)
-      ∙ append_none before))
-      (subst (AreNamed x n before) (sym same) are),
-)
+read_other x n row l old now false none is same = search (arith, part_none, append_none)
 
 -- a literal's name
 pub is_named : (x : Frame) (n : Names) (v a : ℕ) (l m : Literal) → name_of x n v ≡ Some a → m ≡ on_variable a l →
@@ -172,10 +136,7 @@ pub other_read : (x : Frame) (n : Names) (k y : ℕ) (l : Literal) (old : List L
     → binding ≡ binding_at x.bindings y → binds_existential binding ≡ false →
     b ≡ universal_literal_true x.formula (row_of x.rows k) l
     → IsRead x n (row_of x.rows k) l old old b
-other_read x n k y l old b binding frame y_is is other b_is =
-    let none = not_existential x.formula x.sets x.bindings (variable_of l) frame.bound
-    (ap binds_existential (ap (binding_at x.bindings) (sym y_is) ∙ sym is) ∙ other) in
-    read_other x n (row_of x.rows k) l old old b none b_is refl
+other_read x n k y l old b binding frame y_is is other b_is = search (arith, not_existential, read_other)
 
 -- and one that is
 pub existential_read : (x : Frame) (n : Names) (k y : ℕ) (l m : Literal) (old now : List Literal) → IsFrame x →
@@ -192,8 +153,7 @@ existential_read x n k y l m old now frame y_is some named is =
 
 pub bound_declared : (x : Frame) (y c p : ℕ) → IsFrame x → Bound c p ≡ binding_at x.bindings y →
     IsSome (existential_of x.formula y) × (c < length x.sets)
-bound_declared x y c p frame is =
-    let b = subst (IsBinding x.formula x.sets y) (sym is) (frame.bound.bindings.each y) in (b.0, b.1)
+bound_declared x y c p frame is = search arith
 
 -- a universal's literal
 pub universal_read : (x : Frame) (k place : ℕ) (l : Literal) (r : List Bool) (bit negated : Bool) → IsFrame x →
@@ -202,22 +162,12 @@ pub universal_read : (x : Frame) (k place : ℕ) (l : Literal) (r : List Bool) (
     negated ≡ is_negative l
     → not (beq bit negated) ≡ universal_literal_true x.formula (row_of x.rows k) l
 universal_read x k place l r bit negated frame k_in is r_is bit_is neg_is =
-    let at = subst (IsBinding x.formula x.sets (variable_of l)) is (frame.bound.bindings.each (variable_of l)) in
-    let row : r ≡ row_of x.rows k = r_is ∙ get_or_default x.rows k r [] k_in in
-    turned bit negated ∙ ap (λ b. cond b (not bit) bit) neg_is
-    ∙ sym (true_universal x.formula (row_of x.rows k) l (variable_of l) place bit refl (frame.whole k [] k_in) at
-    (bit_is ∙ ap (λ q. get_or q place false) row))
+    search (arith, get_or_default, true_universal)
 
 pub universal_within : (x : Frame) (k place v : ℕ) (r : List Bool) → IsFrame x → k < length x.rows →
     binding_at x.bindings v ≡ Universal place → r ≡ get_or x.rows k r
     → place < length r
-universal_within x k place v r frame k_in is r_is =
-    let at = subst (IsBinding x.formula x.sets v) is (frame.bound.bindings.each v) in
-    let there = position-Some (λ u. u == v) x.formula.universals place 0 at in
-    let low = there.0 in
-    let long : length r ≡ length x.formula.universals = ap length (r_is ∙ get_or_default x.rows k r [] k_in)
-    ∙ frame.whole k [] k_in in
-    omega (arith, low, long)
+universal_within x k place v r frame k_in is r_is = search (arith, position-Some, get_or_default)
 
 -- one literal more of a line
 pub line_named_more : (x : Frame) (n m : Names) (literals named now : List Literal) (i k y v : ℕ) (l a : Literal) →
@@ -243,6 +193,4 @@ pub pair_number_at : (x : Frame) (literals : List Literal) (i : ℕ) (l : Litera
     l ≡ get_or literals i l → v ≡ variable_of l
     → All (λ k. is_pair_number x.formula (length x.rows) (variable_of k) ≡ true) literals →
     is_pair_number x.formula (length x.rows) v ≡ true
-pair_number_at x literals i l v lt l_is v_is all =
-    ap (is_pair_number x.formula (length x.rows)) v_is
-    ∙ subst (λ k. is_pair_number x.formula (length x.rows) (variable_of k) ≡ true) (sym l_is) (all i l lt)
+pair_number_at x literals i l v lt l_is v_is all = search arith

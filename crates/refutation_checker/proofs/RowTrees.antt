@@ -1,9 +1,7 @@
 -- Trees that find rows by their bits on a dependency set.
-use Rattle.std.proofs.Common.{◌≡◌, ℕ, zero, suc, ◌+◌, ◌<◌, ◌≤◌, Bool, true, false, cond, List, length, Option, None, Some, refl, ◌∙◌, ap, arith}
-use Rattle.dq_lits.specs.Row.{bit_of}
-use Rattle.refutation_checker.specs.RowTrees.{node_at, next_of, walk_by, walk, IsOrderedNode, IsOrdered}
+use Rattle.std.proofs.Common.{◌≡◌, ℕ, zero, suc, ◌+◌, ◌<◌, ◌≤◌, Bool, List, length, Option, None, Some, refl, ◌∙◌, ap, arith}
+use Rattle.refutation_checker.specs.RowTrees.{node_at, next_of, walk_by, walk, IsOrdered}
 use Rattle.refutation_checker.specs.declared.row_trees.Node.{Node}
-use Rattle.refutation_checker.specs.declared.row_trees.Node.TheVariants.{Leaf, Test}
 
 some_is : (j k : ℕ) → Some j ≡ Some k → j ≡ k
 some_is j k h = cc
@@ -12,15 +10,7 @@ some_is j k h = cc
 pub steps_on : (nodes : List Node) (row : List Bool) (k j : ℕ) → IsOrdered nodes → k < length nodes →
     next_of row (node_at nodes k) ≡ Some j
     → (k < j) × (j < length nodes)
-steps_on nodes row k j ordered lt is = by (node_at nodes k) (ordered k lt) is
-  where
-    at : (b : Bool) (w : ℕ) → (k < w) × (w + 1 < length nodes) → cond b (w + 1) w ≡ j → (k < j) × (j < length nodes)
-    at true w h e = (omega (arith, e, h.0), omega (arith, e, h.1))
-    at false w h e = (omega (arith, e, h.0), omega (arith, e, h.1))
-
-    by : (node : Node) → IsOrderedNode (length nodes) k node → next_of row node ≡ Some j → (k < j) × (j < length nodes)
-    by (Leaf r n) h e = cc
-    by (Test p w) h e = at (bit_of row p) w h (some_is (cond (bit_of row p) (w + 1) w) j e)
+steps_on nodes row k j ordered lt is = search (arith, some_is)
 
 -- as many steps as there are nodes are enough
 pub enough : (nodes : List Node) (row : List Bool) → IsOrdered nodes → (n m k : ℕ) → k < length nodes →

@@ -1,5 +1,5 @@
 -- The numbers that trees of rows give.
-use Rattle.std.proofs.Common.{◌≡◌, ◌≢◌, ℕ, zero, suc, ◌+◌, ◌<◌, ◌≤◌, ◌==◌, Bool, true, false, cond, ◌&&◌, inl, inr, List, [], map, drop, length, get_or, Option, None, Some, refl, sym, ◌∙◌, ap, subst, arith}
+use Rattle.std.proofs.Common.{◌≡◌, ◌≢◌, ℕ, zero, suc, ◌+◌, ◌<◌, ◌≤◌, ◌==◌, Bool, true, false, cond, inl, inr, List, [], map, drop, length, get_or, Option, None, Some, refl, sym, ◌∙◌, ap, subst, arith}
 use Rattle.std.specs.List.{All, position_or_len}
 use Rattle.std.proofs.lemmas.List.{get_or-map, get_or_past}
 use Rattle.std.proofs.lemmas.Bool.{cases_Bool, cases_lt, cases_eq, eqb-true, eq-eqb, both_ways}
@@ -33,31 +33,16 @@ agree_second f sees r s t h = ap (λ bits. same_bits bits (map (row_assignment f
 pub agree_itself : (f : Dqbf) (sees : List ℕ) (r : List Bool) → agree_over f sees r r ≡ true
 agree_itself f sees r = same_bits-refl (map (row_assignment f r) sees)
 
-next_same : (f : Dqbf) (rows : List (List Bool)) (sees : List ℕ) (node : Node) (r s : List Bool) →
-    IsKeyNode f rows sees node
-    → length r ≡ length f.universals → length s ≡ length f.universals → agree_over f sees r s ≡ true →
-    next_of r node ≡ next_of s node
-next_same f rows sees (Leaf k n) r s keyed r_whole s_whole agree = refl
-next_same f rows sees (Test p w) r s keyed r_whole s_whole agree =
-    ap (λ b. Some (cond b (w + 1) w)) (keyed r s r_whole s_whole agree)
-
 reached_same : (f : Dqbf) (rows : List (List Bool)) (sees : List ℕ) (nodes : List Node) (r s : List Bool) →
     IsTree f rows sees nodes
     → length r ≡ length f.universals → length s ≡ length f.universals → agree_over f sees r s ≡ true →
     reached nodes r ≡ reached nodes s
-reached_same f rows sees nodes r s tree r_whole s_whole agree = by (length nodes) refl
-  where
-    by : (n : ℕ) → length nodes ≡ n → walk (node_at nodes) r n 0 ≡ walk (node_at nodes) s n 0
-    by zero all = refl
-    by (suc n) all =
-        walks_alike nodes r s tree.ordered (λ k lt. next_same f rows sees (node_at nodes k) r s
-        (tree.keyed k lt) r_whole s_whole agree) (suc n) 0 (omega (arith, all))
+reached_same f rows sees nodes r s tree r_whole s_whole agree = search (arith, walks_alike)
 
 number_same : (f : Dqbf) (rows : List (List Bool)) (sees : List ℕ) (node : Node) (r s : List Bool) →
     agree_over f sees r s ≡ true
     → number_by f rows sees r node ≡ number_by f rows sees s node
-number_same f rows sees (Leaf k n) r s agree = ap (λ b. cond b (Some n) None)
-    (agree_first f sees r s (row_of rows k) agree)
+number_same f rows sees (Leaf k n) r s agree = search (arith, agree_first)
 number_same f rows sees (Test p w) r s agree = refl
 
 -- rows that agree have one number
@@ -74,13 +59,7 @@ pub numbered_already : (f : Dqbf) (rows : List (List Bool)) (sees : List ℕ) (n
     (number : ℕ) → IsTree f rows sees nodes
     → length row ≡ length f.universals → found f rows sees nodes row ≡ Some number →
     AreNumbered f rows sees nodes nodes row number
-numbered_already f rows sees nodes row number tree whole is r r_whole =
-    elim (cases_Bool (agree_over f sees row r)) [
-      | inl agree ↦
-          sym (found_same f rows sees nodes row r tree whole r_whole agree) ∙ is
-          ∙ sym (ap (λ b. cond b (Some number) (found f rows sees nodes r)) agree)
-      | inr apart ↦ sym (ap (λ b. cond b (Some number) (found f rows sees nodes r)) apart)
-    ]
+numbered_already f rows sees nodes row number tree whole is r r_whole = search (arith, cases_Bool, found_same)
 
 -- a leaf that becomes a test
 module _ (f : Dqbf) (rows : List (List Bool)) (sees : List ℕ) (old new : List Node)
@@ -114,11 +93,7 @@ module _ (f : Dqbf) (rows : List (List Bool)) (sees : List ℕ) (old new : List 
 
   walk_at : IsParted → node_at old at ≡ kept → (r : List Bool) (n : ℕ)
       → walk (node_at new) r (suc (suc n)) at ≡ moved r (walk (node_at old) r (suc n) at)
-  walk_at split leaf r n =
-      ap (λ node. walk_by (next_of r node) at (walk (node_at new) r (suc n))) split.here
-      ∙ walk_stops new r (suc n) (goal_of r) (goal_leaf split r (bit_of r place))
-      ∙ sym (ap (moved r) (walk_stops old r (suc n) at (ap (next_of r) leaf)) ∙ ap (λ b. cond b (goal_of r) at)
-      (eq-eqb at at refl))
+  walk_at split leaf r n = search (arith, walk_stops, goal_leaf, eq-eqb)
 
   -- a row that came to the leaf goes on to one of the two behind it, and others come where they came before
   walk_parted : IsParted → IsOrdered old → node_at old at ≡ kept → (r : List Bool) (n j : ℕ) → j < length old →
@@ -147,23 +122,7 @@ module _ (f : Dqbf) (rows : List (List Bool)) (sees : List ℕ) (old new : List 
       ((j : ℕ) → j < length old → P j (node_at old j))
       → ((j : ℕ) → P j (cond mine kept fresh)) → ((j : ℕ) → P j (cond mine fresh kept)) → (j : ℕ) → j < length new →
       P j (node_at new j)
-  all_nodes split P test before without with_it j lt =
-      elim (cases_lt j (length old)) [
-        | inl low ↦ elim (cases_eq j at) [
-          | inl here ↦ subst (λ i. P i (node_at new i)) (sym here) (subst (P at) (sym split.here) test)
-          | inr apart ↦ subst (P j) (sym (split.others j low apart)) (before j low)
-        ]
-        | inr high ↦ elim (cases_eq j (length old)) [
-          | inl first ↦ subst (P j) (sym (ap (node_at new) first ∙ split.first)) (without j)
-          | inr later ↦
-              let second : j ≡ length old + 1 = omega (arith, lt, high, later, split.count) in
-              subst (P j) (sym (ap (node_at new) second ∙ split.second)) (with_it j)
-        ]
-      ]
-
-  ordered_more : (node : Node) (c d j : ℕ) → c ≤ d → IsOrderedNode c j node → IsOrderedNode d j node
-  ordered_more (Leaf i n) c d j le h = tt
-  ordered_more (Test p w) c d j le h = (h.0, omega (arith, le, h.1))
+  all_nodes split P test before without with_it j lt = search (arith, cases_lt, cases_eq)
 
   leaf_ordered : (b : Bool) (c j : ℕ) → IsOrderedNode c j (cond b kept fresh) × IsOrderedNode c j (cond b fresh kept)
   leaf_ordered true c j = (tt, tt)
@@ -176,14 +135,7 @@ module _ (f : Dqbf) (rows : List (List Bool)) (sees : List ℕ) (old new : List 
 
   pub parted_tree : IsParted → IsTree f rows sees old → at < length old → IsSeenPlace f sees place → k < length rows →
       other < length rows → IsTree f rows sees new
-  parted_tree split tree below seen k_in other_in = record {
-    ordered = all_nodes split (λ j node. IsOrderedNode (length new) j node) (below, omega (arith, split.count))
-        (λ j lt. ordered_more (node_at old j) (length old) (length new) j (omega (arith, split.count))
-        (tree.ordered j lt))
-        (λ j. (leaf_ordered mine (length new) j).0) (λ j. (leaf_ordered mine (length new) j).1);
-    keyed = all_nodes split (λ j node. IsKeyNode f rows sees node) seen tree.keyed
-        (λ j. (leaf_keyed mine k_in other_in).0) (λ j. (leaf_keyed mine k_in other_in).1);
-  }
+  parted_tree split tree below seen k_in other_in = search (arith, all_nodes, leaf_ordered, leaf_keyed)
 
   reached_parted : IsParted → IsTree f rows sees new → IsOrdered old → node_at old at ≡ kept → at < length old →
       (r : List Bool) → reached new r ≡ moved r (reached old r)
@@ -263,18 +215,12 @@ module _ (f : Dqbf) (rows : List (List Bool)) (sees : List ℕ) (old new : List 
 pub leaf_differs : (f : Dqbf) (rows : List (List Bool)) (sees : List ℕ) (nodes : List Node) (row : List Bool)
     (at k own : ℕ) → at ≡ reached nodes row
     → node_at nodes at ≡ Leaf k own → agree_over f sees (row_of rows k) row ≡ false → found f rows sees nodes row ≡ None
-leaf_differs f rows sees nodes row at k own came leaf differ =
-    ap (λ j. number_by f rows sees row (node_at nodes j)) (sym came) ∙ ap (number_by f rows sees row) leaf ∙ ap
-    (λ b. cond b (Some own) None) differ
+leaf_differs f rows sees nodes row at k own came leaf differ = search arith
 
 pub differ_apart : (f : Dqbf) (sees : List ℕ) (r s : List Bool) (place : ℕ) → length r ≡ length f.universals →
     length s ≡ length f.universals
     → IsSeenPlace f sees place → bit_of r place ≢ bit_of s place → agree_over f sees r s ≡ false
-differ_apart f sees r s place r_whole s_whole seen apart =
-    elim (cases_Bool (agree_over f sees r s)) [
-      | inl agree ↦ absurd (apart (seen r s r_whole s_whole agree))
-      | inr none ↦ none
-    ]
+differ_apart f sees r s place r_whole s_whole seen apart = search (arith, cases_Bool)
 
 -- the bits of a set's universals
 bit_at_place : (f : Dqbf) (row : List Bool) (v at : ℕ) → length row ≡ length f.universals →
@@ -310,15 +256,7 @@ pub agree_more : (f : Dqbf) (sees : List ℕ) (r s : List Bool) (i at v : ℕ) �
     length s ≡ length f.universals → i < length sees
     → v ≡ get_or sees i 0 → at ≡ position_or_len (λ u. u == v) f.universals → bit_of r at ≡ bit_of s at
     → agree_over f (drop (i + 1) sees) r s ≡ agree_over f (drop i sees) r s
-agree_more f sees r s i at v r_whole s_whole lt v_is at_is same =
-    let x = get_or sees i 0 in
-    let is : at ≡ position_or_len (λ u. u == x) f.universals =
-    at_is ∙ ap (λ w. position_or_len (λ u. u == w) f.universals) v_is in
-    let bits : row_assignment f r x ≡ row_assignment f s x =
-    sym (bit_at_place f r x at r_whole is) ∙ same ∙ bit_at_place f s x at s_whole is in
-    sym (ap (λ xs. agree_over f xs r s) (drop_at sees i 0 lt)
-    ∙ ap (λ b. b && agree_over f (drop (i + 1) sees) r s) (bits_same (row_assignment f r x)
-    (row_assignment f s x) bits))
+agree_more f sees r s i at v r_whole s_whole lt v_is at_is same = search (arith, bit_at_place, drop_at, bits_same)
 
 -- a row that differs from that of its leaf
 pub parted_all : (f : Dqbf) (rows : List (List Bool)) (sees : List ℕ) (old new : List Node) (at place k number : ℕ)

@@ -1,4 +1,4 @@
-use Rattle.std.proofs.Common.{ℕ, ◌+◌, subst, sym, Vec, Global}
+use Rattle.std.proofs.Common.{ℕ, ◌+◌, subst, sym, Vec, Global, arith}
 use Rattle.definition_order.proofs.SortedExistentials.{AreSharedSoFar, one_shared, none_shared, all_shared, past}
 use Rattle.definition_order.proofs.shared_existentials.Goals.{then-is_shared_at+in_ok-push, else-is_shared_at}
 use Rattle.dq_formula.proofs.Places.{existential_below}
@@ -18,9 +18,7 @@ loop-place-preserved c =
           (subst (λ ps. AreSharedSoFar f ranks y ps (place + 1)) (sym w.in_ok-push.ensures.items)
           (one_shared f ranks y c.loop-place.places.items place c.is_shared_at.result c.loop-place.invariant below
           c.is_shared_at.ensures w.if-is_shared_at.true))
-      | else-is_shared_at w ↦ subst (λ (v : Vec ℕ Global). AreSharedSoFar f ranks y v.items (place + 1))
-          (sym w.places-is) (none_shared f ranks y c.loop-place.places.items place c.is_shared_at.result
-          c.loop-place.invariant below c.is_shared_at.ensures w.if-is_shared_at.false)
+      | else-is_shared_at w ↦ search (arith, none_shared)
     ]
 
 pub returns : goal.returns

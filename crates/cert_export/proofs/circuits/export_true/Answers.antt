@@ -1,19 +1,16 @@
-use Rattle.std.proofs.Common.{subst, sym, arith}
+use Rattle.std.proofs.Common.{arith}
 use Rattle.std.proofs.lemmas.Grind.{common_steps}
-use Rattle.hint_log.specs.Reached.{AreReached}
-use Rattle.cert_export.proofs.ExportableCircuits.{decided_ids, decided_id, is_proved, is_few, is_writable, is_allowed}
+use Rattle.cert_export.proofs.ExportableCircuits.{decided_ids, is_proved, is_few, is_writable, is_allowed}
 use Rattle.cert_export.proofs.GateVariables.{is_numbered}
 use Rattle.list_laws.proofs.Results.{if_ok}
 use Rattle.cert_export.proofs.circuits.export_true.Goals as goal
 
 pub export_ids-requires : goal.export_ids-requires
 export_ids-requires c =
-    let entries = c.args.log.now.entries in
-    decided_ids c.args.f.now c.args.log.now c.args.id c.items.result.now c.requires.formula
-    c.every_formula_is_lawful.ensures.few_variables c.every_formula_is_lawful.ensures.few_clauses c.requires.decided
-    c.every_log_is_lawful.ensures c.reached_are_ids.ensures (decided_id c.args.f.now entries c.args.id
-    c.requires.decided.decided)
-    (subst (AreReached entries c.args.id) (sym c.items.ensures) c.in_ok-ids.ensures)
+    search (
+      arith,
+      (decided_ids c.args.f.now c.args.log.now c.args.id c.items.result.now c.requires.formula c.every_formula_is_lawful.ensures.few_variables c.every_formula_is_lawful.ensures.few_clauses c.requires.decided c.every_log_is_lawful.ensures c.reached_are_ids.ensures),
+    )
 
 pub returns : goal.returns
 returns c =

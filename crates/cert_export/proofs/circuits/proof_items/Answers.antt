@@ -5,8 +5,7 @@ use Rattle.cert_export.proofs.ExportableCircuits.{given_named, can_be_written, l
 use Rattle.cert_export.proofs.circuits.proof_items.Goals as goal
 
 pub given_names-requires-clause-known : goal.given_names-requires-clause-known
-given_names-requires-clause-known c = given_named c.args.numbers.now.f.now c.args.numbers.now.log.now.entries c.args.id
-    c.args.ids.now (part_of c.args.numbers.now.part.now) c.requires.ids c.clauses_are_named.ensures
+given_names-requires-clause-known c = search (arith, given_named)
 
 pub invariant_of-base : goal.invariant_of-base
 invariant_of-base c =

@@ -1,4 +1,4 @@
-use Rattle.std.proofs.Common.{slice_index}
+use Rattle.std.proofs.Common.{slice_index, arith}
 use Rattle.std.proofs.lemmas.List.{get_or_default}
 use Rattle.cert_export.proofs.FaultLeaves.{one_leaf_more, all_leaves}
 use Rattle.cert_export.proofs.leaves.fault_leaves.Goals as goal
@@ -13,6 +13,4 @@ loop-id-preserved c =
     c.in_ok-note_leaf.ensures.there c.in_ok-note_leaf.ensures.only
 
 pub returns-clause-whole : goal.returns-clause-whole
-returns-clause-whole c =
-    all_leaves c.args.f.now c.args.log.now.entries c.args.ids.now c.loop-id.leaves c.loop-id.id-index
-    c.loop-id-test.false c.loop-id.invariant
+returns-clause-whole c = search (arith, all_leaves)

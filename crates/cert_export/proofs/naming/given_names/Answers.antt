@@ -1,18 +1,12 @@
-use Rattle.std.proofs.Common.{◌+◌, sym, ◌∙◌, ap, subst, slice_index, is_some, take}
+use Rattle.std.proofs.Common.{◌+◌, sym, ◌∙◌, ap, subst, slice_index, is_some, take, arith}
 use Rattle.std.proofs.lemmas.List.{get_or_default}
 use Rattle.cert_export.specs.Names.{renaming, NameTable}
-use Rattle.cert_export.proofs.GivenNames.{GivenNamed, one_given, given_here, none_here, all_given, known_of}
+use Rattle.cert_export.proofs.GivenNames.{GivenNamed, one_given, given_here, none_here, all_given}
 use Rattle.cert_export.proofs.naming.given_names.Goals.{then-is_some+in_ok-name_variables, else-is_some}
 use Rattle.cert_export.proofs.naming.given_names.Goals as goal
 
 pub name_variables-requires-clause-known : goal.name_variables-requires-clause-known
-name_variables-requires-clause-known g c =
-    let ids = c.args.ids.now in
-    let i = c.loop-id.id-index in
-    known_of (g.N.Naming.Knows c.args.naming.now) c.args.log.now.entries ids
-    (slice_index ids i) c.clause.result.now c.requires.known
-    (i, c.loop-id-test.true, sym (get_or_default ids i 0 (slice_index ids i) c.loop-id-test.true))
-    (ap is_some c.origin.ensures ∙ sym c.is_some.ensures ∙ c.if-is_some.true) c.clause.ensures
+name_variables-requires-clause-known g c = search (arith, get_or_default)
 
 pub loop-id-preserved : goal.loop-id-preserved
 loop-id-preserved g c =

@@ -1,12 +1,9 @@
-use Rattle.std.proofs.Common.{◌∙◌, ap}
-use Rattle.circuit_plain.specs.Netlist.{Netlist}
+use Rattle.std.proofs.Common.{arith}
 use Rattle.cert_export.proofs.FileGates.{next_input, input_added}
 use Rattle.cert_export.proofs.netlists.add_inputs.Goals as goal
 
 pub add_input-requires-clause-undefined : goal.add_input-requires-clause-undefined
-add_input-requires-clause-undefined c =
-    next_input c.loop-i.circuit c.loop-i.i (ap (λ (n : Netlist). n.inputs) c.loop-i.invariant)
-    (ap (λ (n : Netlist). n.gates) c.loop-i.invariant ∙ c.requires.gates)
+add_input-requires-clause-undefined c = search (arith, (next_input c.loop-i.circuit c.loop-i.i))
 
 pub loop-i-preserved : goal.loop-i-preserved
 loop-i-preserved c = input_added c.loop-i.circuit c.args.circuit.now c.add_input.new.self c.loop-i.i c.loop-i.invariant

@@ -1,3 +1,4 @@
+use Rattle.std.proofs.Common.{arith}
 use Rattle.cert_export.proofs.ExportedParts.{groups, have_literals, exported}
 use Rattle.cert_export.proofs.parts.exported_part.Goals as goal
 
@@ -5,8 +6,7 @@ pub fault_group-group-requires-clause-one : goal.fault_group-group-requires-clau
 fault_group-group-requires-clause-one c = groups c.args.f.now c.args.log.now.entries c.args.id c.args.ids.now c.requires
 
 pub fault_leaves-requires-clause-literals : goal.fault_leaves-requires-clause-literals
-fault_leaves-requires-clause-literals c = have_literals c.args.f.now c.args.log.now.entries c.args.id c.args.ids.now
-    c.requires
+fault_leaves-requires-clause-literals c = search (arith, have_literals)
 
 pub returns-clause-part : goal.returns-clause-part
 returns-clause-part c =

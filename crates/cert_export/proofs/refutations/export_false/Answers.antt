@@ -1,4 +1,4 @@
-use Rattle.std.proofs.Common.{subst, sym}
+use Rattle.std.proofs.Common.{subst, sym, arith}
 use Rattle.hint_log.specs.Reached.{AreReached}
 use Rattle.cert_export.specs.Exportable.{AreExportable}
 use Rattle.cert_export.proofs.ExportableAnswers.{refuted_exportable, exported_accepted, exported_spelled}
@@ -8,10 +8,10 @@ use Rattle.cert_export.proofs.refutations.export_false.Goals as goal
 
 pub refutation-requires : goal.refutation-requires
 refutation-requires c =
-    refuted_exportable c.args.f.now c.args.live.now c.args.log.now c.args.id c.items.result.now c.requires.formula
-    c.every_formula_is_lawful.ensures.few_clauses c.requires.refuted c.every_log_is_lawful.ensures
-    c.requires.limit c.steps.ensures.within c.steps.ensures.value c.rounds_are_steps.ensures c.reached_are_ids.ensures
-    (subst (AreReached c.args.log.now.entries c.args.id) (sym c.items.ensures) c.in_ok-ids.ensures)
+    search (
+      arith,
+      (refuted_exportable c.args.f.now c.args.live.now c.args.log.now c.args.id c.items.result.now c.requires.formula c.every_formula_is_lawful.ensures.few_clauses c.requires.refuted c.every_log_is_lawful.ensures c.requires.limit c.steps.ensures.within c.steps.ensures.value c.rounds_are_steps.ensures c.reached_are_ids.ensures),
+    )
 
 pub returns : goal.returns
 returns c =

@@ -1,5 +1,4 @@
-use Rattle.std.proofs.Common.{◌∙◌, subst, sym, ap}
-use Rattle.cert_export.specs.Exportable.{AreRounds}
+use Rattle.std.proofs.Common.{◌∙◌, ap, arith}
 use Rattle.cert_export.specs.Expansion.{rows_among}
 use Rattle.cert_export.proofs.ExportableAnswers.{have_rounds}
 use Rattle.cert_export.proofs.RoundRows.{used_are_rounds}
@@ -9,10 +8,7 @@ pub used_rounds-requires : goal.used_rounds-requires
 used_rounds-requires c = have_rounds c.args.f.now c.args.live.now c.args.log.now.entries c.args.ids.now c.requires
 
 pub round_rows-requires : goal.round_rows-requires
-round_rows-requires c =
-    let entries = c.args.log.now.entries in
-    subst (AreRounds entries) (sym (c.deref.ensures.value ∙ c.in_ok-rounds.ensures))
-    (used_are_rounds entries c.args.ids.now)
+round_rows-requires c = search (arith, used_are_rounds)
 
 pub returns : goal.returns
 returns c = record {

@@ -1,7 +1,6 @@
 use Rattle.std.proofs.Common.{◌≡◌, ℕ, List, ◌∙◌, ◌≤◌, ◌*◌, length, sym, ap, subst, arith}
 use Rattle.list_laws.proofs.Numbers.{few-rows}
 use Rattle.cert_text.specs.Header.{max_count}
-use Rattle.std.specs.List.Sorted.{IsStrictlyIncreasing}
 use Rattle.dq_lits.specs.Formula.{Dqbf}
 use Rattle.hint_log.specs.Entries.{Entry}
 use Rattle.cert_export.specs.Expansion.{used_rounds}
@@ -16,16 +15,15 @@ use Rattle.cert_export.proofs.refutations.refutation_items.Goals as goal
 
 few_here : (f : Dqbf) (live : List ℕ) (entries : List Entry) (ids rounds : List ℕ) →
     AreExportable f live entries ids → rounds ≡ used_rounds entries ids → length rounds ≤ max_count
-few_here f live entries ids rounds can used = subst (λ ks. length ks ≤ max_count) (sym used)
-    (few_kept f live entries ids can)
+few_here f live entries ids rounds can used = search (arith, few_kept)
 
 pub invariant_of-names : goal.invariant_of-names
-invariant_of-names c = record {
-  rising = subst IsStrictlyIncreasing (sym c.requires.used)
-      (used_ascend c.args.log.now.entries c.args.ids.now);
-  few = few_here c.args.f.now c.args.live.now c.args.log.now.entries c.args.ids.now c.args.rounds.now c.requires.can
-      c.requires.used;
-}
+invariant_of-names c =
+    search (
+      arith,
+      (used_ascend c.args.log.now.entries c.args.ids.now),
+      (few_here c.args.f.now c.args.live.now c.args.log.now.entries c.args.ids.now c.args.rounds.now c.requires.can c.requires.used),
+    )
 
 pub names-requires-clause-known : goal.names-requires-clause-known
 names-requires-clause-known c =
@@ -36,11 +34,7 @@ names-requires-clause-known c =
     (have_names f c.args.live.now entries ids c.requires.can)
 
 pub overflow_mul-last : goal.overflow_mul-last
-overflow_mul-last c =
-    let most = few-rows (length c.args.rounds.now) c.clauses-2.result
-    (few_here c.args.f.now c.args.live.now c.args.log.now.entries c.args.ids.now c.args.rounds.now c.requires.can
-    c.requires.used) c.clauses-2.ensures.few in
-    omega (arith, most)
+overflow_mul-last c = search (arith, few-rows, few_here)
 
 pub write_lines-requires-clause-can : goal.write_lines-requires-clause-can
 write_lines-requires-clause-can c =
@@ -54,11 +48,7 @@ write_lines-requires-clause-can c =
     c.requires.used c.in_ok-names.ensures))
 
 pub write_lines-requires-clause-few : goal.write_lines-requires-clause-few
-write_lines-requires-clause-few c =
-    let most = few-rows (length c.args.rounds.now) c.clauses-2.result
-    (few_here c.args.f.now c.args.live.now c.args.log.now.entries c.args.ids.now c.args.rounds.now c.requires.can
-    c.requires.used) c.clauses-2.ensures.few in
-    omega (arith, most)
+write_lines-requires-clause-few c = search (arith, few-rows, few_here)
 
 pub returns : goal.returns
 returns c =

@@ -1,13 +1,11 @@
-use Rattle.std.proofs.Common.{◌∙◌, ◌∷◌, [], ◌++◌, take, sym, ap, slice_index}
+use Rattle.std.proofs.Common.{◌∙◌, ◌∷◌, [], ◌++◌, take, sym, ap, slice_index, arith}
 use Rattle.std.proofs.lemmas.List.{take_all, get_or_default}
 use Rattle.cert_export.specs.Expansion.{rows_among}
 use Rattle.cert_export.proofs.RoundRows.{row_more}
 use Rattle.cert_export.proofs.refutations.round_rows.Goals as goal
 
 pub row-requires : goal.row-requires
-row-requires c =
-    let here = c.requires c.loop-k.k-index 0 c.loop-k-test.true in
-    record { from_one = here.0; last = here.1 }
+row-requires c = search arith
 
 pub loop-k-preserved : goal.loop-k-preserved
 loop-k-preserved c =

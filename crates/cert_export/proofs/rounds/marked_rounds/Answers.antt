@@ -1,8 +1,8 @@
-use Rattle.std.proofs.Common.{◌≡◌, ◌∙◌, ◌+◌, ◌≤◌, ◌∷◌, [], ◌++◌, false, length, map, replicate, take, ap, sym, subst, slice_index, arith}
+use Rattle.std.proofs.Common.{◌≡◌, ◌∙◌, ◌∷◌, [], ◌++◌, false, length, map, replicate, take, ap, sym, slice_index, arith}
 use Rattle.std.proofs.lemmas.List.{take_all, take_more, get_or_default}
 use Rattle.std.proofs.lemmas.List.FromFn.{length-map-range_with_len}
 use Rattle.std.specs.List.{range_with_len}
-use Rattle.hint_log.specs.Entries.{origin_at, rounds_of}
+use Rattle.hint_log.specs.Entries.{rounds_of}
 use Rattle.cert_export.specs.Expansion.{has_instance}
 use Rattle.cert_export.specs.Exportable.{with_mark}
 use Rattle.cert_export.proofs.MarkedRounds.{none_marked, marked_more}

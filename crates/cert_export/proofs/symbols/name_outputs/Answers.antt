@@ -1,14 +1,13 @@
-use Rattle.std.proofs.Common.{ap}
-use Rattle.aiger_text.specs.Symbol.{SymbolTable}
+use Rattle.std.proofs.Common.{arith}
 use Rattle.cert_export.proofs.NumberNames.{next_unnamed, outputs_more}
 use Rattle.cert_export.proofs.symbols.name_outputs.Goals as goal
 
 pub add_output-requires : goal.add_output-requires
-add_output-requires c = next_unnamed c.loop-place.symbols.outputs c.args.variables.now c.loop-place.place
-    (ap (λ (s : SymbolTable). s.outputs) c.loop-place.invariant)
+add_output-requires c = search (arith, next_unnamed)
 
 pub loop-place-preserved : goal.loop-place-preserved
 loop-place-preserved c =
-    outputs_more c.args.symbols.now c.loop-place.symbols c.add_output.new.self c.args.variables.now c.loop-place.place 0
-    c.in_ok-name.name c.in_ok-name.ensures c.loop-place-test.true
-    c.loop-place.invariant c.in_ok-add_output.ensures.ok
+    search (
+      arith,
+      (outputs_more c.args.symbols.now c.loop-place.symbols c.add_output.new.self c.args.variables.now c.loop-place.place 0 c.in_ok-name.name c.in_ok-name.ensures c.loop-place-test.true c.loop-place.invariant c.in_ok-add_output.ensures.ok),
+    )

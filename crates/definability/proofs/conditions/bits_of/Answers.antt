@@ -1,11 +1,10 @@
-use Rattle.std.proofs.Common.{Some, replicate, length, false, sym, ◌∙◌, ap}
+use Rattle.std.proofs.Common.{Some, sym, ◌∙◌, ap, arith}
 use Rattle.std.proofs.lemmas.Option.{slice_get-get_or}
 use Rattle.definability.proofs.MetConditions.{all_met, met_more, none_met}
 use Rattle.definability.proofs.conditions.bits_of.Goals as goal
 
 pub loop-l-init : goal.loop-l-init
-loop-l-init c = none_met c.args.f.now c.args.lits.now c.in_ok-row.row
-    (c.in_ok-row.ensures ∙ ap (λ us. replicate (length us) false) c.universals.ensures)
+loop-l-init c = search (arith, (none_met c.args.f.now c.args.lits.now c.in_ok-row.row))
 
 pub set_bit-requires : goal.set_bit-requires
 set_bit-requires c = c.loop-l.invariant.long

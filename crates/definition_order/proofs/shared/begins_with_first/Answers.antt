@@ -1,12 +1,13 @@
+use Rattle.std.proofs.Common.{arith}
 use Rattle.definition_order.proofs.Firsts.{universals_apart, too_few, begins_tested}
 use Rattle.definition_order.proofs.shared.begins_with_first.Goals as goal
 
 pub returns-then-count-vars : goal.returns-then-count-vars
-returns-then-count-vars c = (
-  (λ is. cc),
-  (λ all. absurd (too_few c.args.f.now.universals c.args.vars.now c.args.count
-      c.requires.ordered c.requires.few c.if-count-vars.true all)),
-)
+returns-then-count-vars c =
+    search (
+      arith,
+      (too_few c.args.f.now.universals c.args.vars.now c.args.count c.requires.ordered c.requires.few c.if-count-vars.true),
+    )
 
 pub returns : goal.returns
 returns c =

@@ -1,12 +1,9 @@
-use Rattle.std.proofs.Common.{sym, ◌∙◌}
+use Rattle.std.proofs.Common.{sym, ◌∙◌, arith}
 use Rattle.definition_order.proofs.Firsts.{universals_apart, not_empty, last_is_there, ends_tested}
 use Rattle.definition_order.proofs.shared.ends_within.Goals as goal
 
 pub unreachable-requires : goal.unreachable-requires
-unreachable-requires c =
-    last_is_there c.args.f.now.universals c.args.xs.now c.requires.ordered
-    (not_empty c.args.xs.now c.is_empty.result c.is_empty.ensures c.if-is_empty.false)
-    (sym c.universal_place.ensures ∙ c.in-None.is)
+unreachable-requires c = search (arith, (last_is_there c.args.f.now.universals c.args.xs.now c.requires.ordered))
 
 pub returns : goal.returns
 returns c =

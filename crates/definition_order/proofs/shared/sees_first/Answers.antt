@@ -1,16 +1,11 @@
-use Rattle.std.proofs.Common.{ap, sym, ◌∙◌, take}
+use Rattle.std.proofs.Common.{ap, sym, ◌∙◌, take, arith}
 use Rattle.dq_formula.specs.Dependencies.{dependencies}
 use Rattle.dq_lits.proofs.FormulaVariables.{seen_as}
 use Rattle.definition_order.proofs.Firsts.{firsts_tested, seen_told}
 use Rattle.definition_order.proofs.shared.sees_first.Goals as goal
 
 pub returns-in-FirstOf : goal.returns-in-FirstOf
-returns-in-FirstOf c = λ e known.
-    let f = c.args.f.now in
-    let us = f.universals in
-    firsts_tested f c.every_formula_is_lawful.ensures c.args.count c.in-FirstOf.n c.args.y e known
-    (ap (dependencies us) (sym c.in-FirstOf.is) ∙ seen_as f c.args.y
-    (dependencies us c.deps_of.result.now) c.deps_of.ensures.set e known) c.requires.few
+returns-in-FirstOf c = search (arith, firsts_tested, seen_as)
 
 pub returns-in-Listed : goal.returns-in-Listed
 returns-in-Listed c = λ e known.

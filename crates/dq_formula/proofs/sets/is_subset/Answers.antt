@@ -1,4 +1,4 @@
-use Rattle.std.proofs.Common.{true≢false, get_or, refl, sym, ◌∙◌}
+use Rattle.std.proofs.Common.{true≢false, get_or, refl, sym, ◌∙◌, arith}
 use Rattle.std.proofs.lemmas.List.{take_all}
 use Rattle.dq_formula.proofs.Subsets.{IsWalked, IsFirstFrom, walked_more, not_contained}
 use Rattle.dq_formula.proofs.sets.is_subset.Goals as goal
@@ -8,18 +8,8 @@ returns-then-not-stands_at c =
     let xs = c.args.xs.now in
     let ys = c.args.ys.now in
     let i = c.loop-x.x-index in
-    let walked : IsWalked xs ys i c.loop-x.at = record {
-      within = c.loop-x.invariant.within;
-      found =
-          c.loop-x.invariant.found;
-      passed = c.loop-x.invariant.passed;
-    } in
-    let first : IsFirstFrom ys c.loop-x.at c.first_from-at.result (get_or xs i 0) = record {
-      start = c.first_from-at.ensures.start;
-      end = c.first_from-at.ensures.end;
-      below = c.first_from-at.ensures.below;
-      here = c.first_from-at.ensures.here;
-    } in (
+    let walked : IsWalked xs ys i c.loop-x.at = search arith in
+    let first : IsFirstFrom ys c.loop-x.at c.first_from-at.result (get_or xs i 0) = search arith in (
       (λ h. absurd (true≢false (sym h))),
       (λ all. absurd (not_contained xs ys i c.loop-x.at c.first_from-at.result
           (get_or xs i 0) c.requires.second walked first c.loop-x-test.true refl
@@ -31,18 +21,8 @@ loop-x-preserved c =
     let xs = c.args.xs.now in
     let ys = c.args.ys.now in
     let i = c.loop-x.x-index in
-    let walked : IsWalked xs ys i c.loop-x.at = record {
-      within = c.loop-x.invariant.within;
-      found =
-          c.loop-x.invariant.found;
-      passed = c.loop-x.invariant.passed;
-    } in
-    let first : IsFirstFrom ys c.loop-x.at c.first_from-at.result (get_or xs i 0) = record {
-      start = c.first_from-at.ensures.start;
-      end = c.first_from-at.ensures.end;
-      below = c.first_from-at.ensures.below;
-      here = c.first_from-at.ensures.here;
-    } in
+    let walked : IsWalked xs ys i c.loop-x.at = search arith in
+    let first : IsFirstFrom ys c.loop-x.at c.first_from-at.result (get_or xs i 0) = search arith in
     let next = walked_more xs ys i c.loop-x.at c.first_from-at.result
     (get_or xs i 0) c.requires.first walked first c.loop-x-test.true refl
     (c.stands_at.ensures.0 c.if-not-stands_at.false) in

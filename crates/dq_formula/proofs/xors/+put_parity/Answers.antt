@@ -1,4 +1,4 @@
-use Rattle.std.proofs.Common.{◌≡◌, ◌<◌, ◌≤◌, ◌+◌, ◌-◌, ◌++◌, ◌∷◌, [], ℕ, not, suc, length, map, drop, slice_set, sym, ◌∙◌, ap, arith}
+use Rattle.std.proofs.Common.{◌≡◌, ◌<◌, ◌+◌, ◌-◌, ◌++◌, ◌∷◌, [], ℕ, not, suc, length, map, drop, slice_set, sym, ◌∙◌, ap, arith}
 use Rattle.std.proofs.lemmas.List.{drop-set, length-set, length-map}
 use Rattle.dq_lits.specs.Literal.{opposite}
 use Rattle.dq_formula.specs.declared.formula.TheConstants.{MAX_CLAUSES}
@@ -9,9 +9,7 @@ use Rattle.dq_formula.proofs.xors.+put_parity.Goals as goal
 
 pub returns-then-even-clause-put : goal.returns-then-even-clause-put
 returns-then-even-clause-put t c =
-    let short : length c.args.clause.now ≤ 5 = omega (arith, c.requires.size, c.requires.short) in
-    rw (c.if-n-eq0.true, c.if-even.true) (put_less c.args.blocks.now c.put.new.self (c.args.clause.now ∷ [])
-    (length c.args.clause.now) 5 short c.put.ensures)
+    search (arith, (put_less c.args.blocks.now c.put.new.self (c.args.clause.now ∷ []) (length c.args.clause.now) 5))
 
 pub put_parity-requires : goal.put_parity-requires
 put_parity-requires t c =

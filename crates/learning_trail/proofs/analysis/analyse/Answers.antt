@@ -1,4 +1,4 @@
-use Rattle.std.proofs.Common.{◌≡◌, ◌∷◌, ◌++◌, [], reverse, sym, ap, ◌∙◌, subst, ◌==◌, refl}
+use Rattle.std.proofs.Common.{◌≡◌, ◌∷◌, ◌++◌, [], reverse, sym, ap, ◌∙◌, subst, ◌==◌, refl, arith}
 use Rattle.std.proofs.lemmas.Bool.{eq-eqb}
 use Rattle.list_laws.proofs.Options.{some_of}
 use Rattle.dq_lits.specs.Literal.{variable_of}
@@ -25,11 +25,7 @@ back_to_first-requires-clause-some g c =
     (λ x. variable_of x == variable_of l) k.clause l m (eq-eqb (variable_of l) (variable_of l) refl))
 
 pub add_rest-requires-clause-sound : goal.add_rest-requires-clause-sound
-add_rest-requires-clause-sound g c =
-    let live = live_in (g.C.Clauses.clauses c.args.clauses.now) in
-    let point = c.in_ok-first.ensures.first in
-    (sound_later live point.shrunk.popped (c.in_ok-first.first ∷ c.back_to_first.new.trail.steps)
-    (subst (IsSound live) point.shrunk.is c.requires.sound)).1
+add_rest-requires-clause-sound g c = search (arith, sound_later)
 
 pub returns-clause-lesson : goal.returns-clause-lesson
 returns-clause-lesson g c =

@@ -1,5 +1,4 @@
-use Rattle.std.proofs.Common.{◌≡◌, ◌∷◌, ◌++◌, [], sym, ◌∙◌, ap, subst, refl}
-use Rattle.dq_lits.specs.Literal.{opposite}
+use Rattle.std.proofs.Common.{◌∷◌, sym, ◌∙◌, subst, refl, arith}
 use Rattle.oracle.specs.Fit.{live_in}
 use Rattle.learning_trail.specs.Sound.{IsSound}
 use Rattle.learning_trail.specs.Backing.{IsRedundant}
@@ -21,27 +20,7 @@ returns-in_ok-resolve-in-Some-clause-trimmed g c = λ steps rest was sound inv.
     c.resolve.ensures.len c.in_ok-resolve-in-Some.ensures.hints c.resolve.ensures.literals c.in_ok-resolve-in-Some.ensures.marked
 
 pub returns-in_ok-add_literal-in-None-clause-trimmed : goal.returns-in_ok-add_literal-in-None-clause-trimmed
-returns-in_ok-add_literal-in-None-clause-trimmed g c = λ steps rest was sound inv.
-    let now = c.args.notes.now in
-    let step = c.args.step.now in
-    let added : c.add_literal.new.self ≡ record {
-      marks = now.marks;
-      places = now.places;
-      hints = now.hints;
-      literals =
-          now.literals ++ opposite step.literal ∷ [];
-    } =
-    c.in_ok-add_literal-in-None.ensures.ok ∙ ap (λ l. record {
-      marks = now.marks;
-      places = now.places;
-      hints = now.hints;
-      literals =
-          now.literals ++ l ∷ [];
-    }) c.not.ensures in
-    trimmed_noted (live_in (g.C.Clauses.clauses c.args.clauses.now)) steps rest was now c.add_literal.new.self step
-    sound inv (sym c.has.ensures ∙ c.if-not-has.false) added
+returns-in_ok-add_literal-in-None-clause-trimmed g c = search (arith, trimmed_noted)
 
 pub returns-then-not-has-clause-trimmed : goal.returns-then-not-has-clause-trimmed
-returns-then-not-has-clause-trimmed g c = λ steps rest was sound inv.
-    trimmed_past (live_in (g.C.Clauses.clauses c.args.clauses.now)) steps rest was c.args.notes.now c.args.step.now inv
-    (sym c.has.ensures ∙ c.if-not-has.true)
+returns-then-not-has-clause-trimmed g c = search (arith, trimmed_past)

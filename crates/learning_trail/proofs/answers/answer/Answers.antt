@@ -1,10 +1,9 @@
+use Rattle.std.proofs.Common.{arith}
 use Rattle.learning_trail.proofs.SoughtAnswers.{sought_markable, sought_concluded, concluded_named, concluded_ids, concluded_refuted, concluded_fit}
 use Rattle.learning_trail.proofs.answers.answer.Goals as goal
 
 pub back_to_decisions-requires-clause-within : goal.back_to_decisions-requires-clause-within
-back_to_decisions-requires-clause-within g c =
-    sought_markable c.args.assumptions.now (g.C.Clauses.clauses c.args.clauses.now) c.args.trail.now c.args.notes.now
-    c.args.log.now c.requires.answering
+back_to_decisions-requires-clause-within g c = search (arith, sought_markable)
 
 pub keep_answer-requires-clause-named : goal.keep_answer-requires-clause-named
 keep_answer-requires-clause-named g c =

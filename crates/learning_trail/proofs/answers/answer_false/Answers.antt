@@ -1,4 +1,4 @@
-use Rattle.std.proofs.Common.{◌≡◌, ◌∷◌, ◌++◌, ◌==◌, ◌&&◌, not, [], length, sym, ap, ◌∙◌, true, List, ℕ, Some}
+use Rattle.std.proofs.Common.{◌≡◌, ◌∷◌, ◌++◌, ◌==◌, ◌&&◌, not, [], length, sym, ap, ◌∙◌, true, List, ℕ, Some, arith}
 use Rattle.dq_lits.specs.Literal.{Literal, variable_of, opposite}
 use Rattle.dq_lits.specs.Derivation.{holds}
 use Rattle.dq_lits.proofs.SignedLiterals.{opposite_variable}
@@ -38,9 +38,7 @@ begin-requires-clause-is_id g c =
     c.in-Some.reason c.in-Some.is).is_id
 
 pub begin-requires-clause-within : goal.begin-requires-clause-within
-begin-requires-clause-within g c =
-    sought_markable c.args.assumptions.now (g.C.Clauses.clauses c.args.clauses.now) c.args.trail.now c.args.notes.now
-    c.args.log.now c.requires.answering
+begin-requires-clause-within g c = search (arith, sought_markable)
 
 pub answer-requires-clause-answering : goal.answer-requires-clause-answering
 answer-requires-clause-answering g c =

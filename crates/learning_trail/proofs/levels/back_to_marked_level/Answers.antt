@@ -1,16 +1,11 @@
-use Rattle.std.proofs.Common.{◌≡◌, length, sym, ap, ◌∙◌, arith, false, is_some, IsSome}
+use Rattle.std.proofs.Common.{◌≡◌, sym, ap, ◌∙◌, arith, false, is_some, IsSome}
 use Rattle.learning_trail.specs.Steps.{decision_of}
 use Rattle.learning_trail.specs.Marks.{is_level_marked}
 use Rattle.learning_trail.proofs.TakenLevels.{under_shorter, on_jump_level, under_next}
 use Rattle.learning_trail.proofs.levels.back_to_marked_level.Goals as goal
 
 pub levels-smaller : goal.levels-smaller
-levels-smaller c =
-    let here : decision_of c.levels.trail.steps ≡ c.last_decision.result =
-    ap decision_of (sym c.steps.ensures.value) ∙ sym c.last_decision.ensures in
-    let shorter = under_shorter c.levels.trail.steps (ap is_some here ∙ c.if-is_none.ensures) in
-    let e = ap length c.back_over_level.ensures.steps in
-    omega (arith, shorter, e)
+levels-smaller c = search (arith, under_shorter, is_some)
 
 pub levels-preserved : goal.levels-preserved
 levels-preserved c =

@@ -1,5 +1,5 @@
-use Rattle.std.proofs.Common.{◌∷◌, sym, ◌∙◌, subst}
-use Rattle.learning_trail.specs.Steps.{Trailed, IsUnder}
+use Rattle.std.proofs.Common.{sym, ◌∙◌, subst, arith}
+use Rattle.learning_trail.specs.Steps.{Trailed}
 use Rattle.learning_trail.proofs.TakenLevels.{implied_from_some, decided_from_none, on_jump_first, on_jump_level, jump_both, IsOnJump, under_decision, under_step}
 use Rattle.learning_trail.proofs.levels.jump.Goals as goal
 use Rattle.learning_trail.proofs.levels.jump.Goals.{then-is_some, else-is_some}
@@ -22,17 +22,4 @@ returns-clause-jumped c =
 
 pub returns-clause-under : goal.returns-clause-under
 returns-clause-under c =
-    let old = c.args.trail.now in
-    let step = c.args.step.now in
-    let start : IsUnder (step ∷ old.steps) c.if-is_some.trail.steps = elim c.if-is_some.branch [
-      | then-is_some w ↦
-          let implied = implied_from_some step.reason (sym c.is_some.ensures ∙ w.if-is_some.true) in
-          subst (λ (t : Trailed). IsUnder (step ∷ old.steps) t.steps) (sym w.trail-is)
-          (under_step step old.steps w.back_over_level.new.trail.steps implied c.requires.decided
-          w.back_over_level.ensures.steps)
-      | else-is_some w ↦
-          let decided = decided_from_none step.reason (sym c.is_some.ensures ∙ w.if-is_some.false) in
-          subst (λ (t : Trailed). IsUnder (step ∷ old.steps) t.steps) (sym w.trail-is)
-          (under_decision step old.steps decided)
-    ] in
-    c.back_to_marked_level.ensures.under (step ∷ old.steps) start
+    search (arith, then-is_some, implied_from_some, under_step, else-is_some, decided_from_none, under_decision)

@@ -1,4 +1,4 @@
-use Rattle.std.proofs.Common.{sym, ◌∙◌, ap, ◌≡◌, ◌+◌}
+use Rattle.std.proofs.Common.{sym, ◌∙◌, ap, ◌≡◌, ◌+◌, arith}
 use Rattle.dq_lits.specs.Derivation.{stuck}
 use Rattle.learning_trail.specs.Steps.{literals_of}
 use Rattle.learning_trail.specs.Extension.{seen}
@@ -24,5 +24,4 @@ returns-then-is_stuck c =
     is ∙ stuck_stays trues c.args.lits.now (c.loop-l.l-index + 1) (sym is ∙ more)
 
 pub returns : goal.returns
-returns c = status_whole (literals_of c.args.trail.now.steps) c.args.lits.now c.loop-l.l-index
-    (seen c.loop-l.status) c.loop-l-test.false c.loop-l.invariant
+returns c = search (arith, status_whole)

@@ -3,39 +3,19 @@ use Rattle.learning_trail.proofs.PairedValues.{paired_length, set_both}
 use Rattle.learning_trail.proofs.values.set_pair.Goals as goal
 
 pub overflow_mul-place : goal.overflow_mul-place
-overflow_mul-place c =
-    let vs = c.args.values.now in
-    let twice = paired_length vs.items c.requires.paired in
-    let here = c.requires.in_range in
-    record { fits = omega (arith, twice, here, vs.ok.0, vs.ok.1, vs.small) }
+overflow_mul-place c = search (arith, paired_length)
 
 pub index_mut-requires : goal.index_mut-requires
-index_mut-requires c =
-    let vs = c.args.values.now in
-    let twice = paired_length vs.items c.requires.paired in
-    let here = c.requires.in_range in
-    omega (arith, twice, here, vs.ok.0)
+index_mut-requires c = search (arith, paired_length)
 
 pub overflow_mul-place-2 : goal.overflow_mul-place-2
-overflow_mul-place-2 c =
-    let vs = c.args.values.now in
-    let twice = paired_length vs.items c.requires.paired in
-    let here = c.requires.in_range in
-    record { fits = omega (arith, twice, here, vs.ok.0, vs.ok.1, vs.small) }
+overflow_mul-place-2 c = search (arith, paired_length)
 
 pub overflow_add-place : goal.overflow_add-place
-overflow_add-place c =
-    let vs = c.args.values.now in
-    let twice = paired_length vs.items c.requires.paired in
-    let here = c.requires.in_range in
-    record { fits = omega (arith, twice, here, vs.ok.0, vs.ok.1, vs.small) }
+overflow_add-place c = search (arith, paired_length)
 
 pub index_mut-requires-2 : goal.index_mut-requires-2
-index_mut-requires-2 c =
-    let vs = c.args.values.now in
-    let twice = paired_length vs.items c.requires.paired in
-    let here = c.requires.in_range in
-    omega (arith, twice, here, vs.ok.0)
+index_mut-requires-2 c = search (arith, paired_length)
 
 pub returns-clause-paired : goal.returns-clause-paired
 returns-clause-paired c =

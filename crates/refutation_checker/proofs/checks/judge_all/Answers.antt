@@ -5,8 +5,7 @@ use Rattle.refutation_checker.proofs.JudgedItems.{all_judged, may_come, none_jud
 use Rattle.refutation_checker.proofs.checks.judge_all.Goals as goal
 
 pub loop-k-init : goal.loop-k-init
-loop-k-init c =
-    none_judged c.args.f.now c.args.rows.now c.args.proving.now c.args.items.now c.requires.first c.requires.numbered
+loop-k-init c = search (arith, none_judged)
 
 pub item-requires : goal.item-requires
 item-requires c =
@@ -23,9 +22,7 @@ returns-then-is_settled c =
     c.item.new.self c.in_ok-item.ensures)
 
 pub loop-k-preserved : goal.loop-k-preserved
-loop-k-preserved c =
-    one_judged c.args.f.now c.args.rows.now c.loop-k.proving c.args.items.now c.loop-k.k (item_seen c.get.result)
-    c.get.ensures c.loop-k.invariant c.item.new.self c.in_ok-item.ensures
+loop-k-preserved c = search (arith, one_judged)
 
 pub returns : goal.returns
 returns c =

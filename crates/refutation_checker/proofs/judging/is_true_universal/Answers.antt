@@ -1,4 +1,4 @@
-use Rattle.std.proofs.Common.{length, get_or, [], ap, ◌∙◌}
+use Rattle.std.proofs.Common.{get_or, [], ap, ◌∙◌, arith}
 use Rattle.std.proofs.lemmas.List.{get_or_default}
 use Rattle.list_laws.proofs.Truths.{last}
 use Rattle.dq_lits.specs.Expansion.{universal_literal_true}
@@ -6,10 +6,7 @@ use Rattle.refutation_checker.specs.PairNames.{frame}
 use Rattle.refutation_checker.proofs.judging.is_true_universal.Goals as goal
 
 pub has_true_universal-requires : goal.has_true_universal-requires
-has_true_universal-requires c =
-    let x = frame c.args.e.now in
-    ap length (get_or_default x.rows c.args.k c.index-e-k.result [] c.requires.row)
-    ∙ c.requires.frame.whole c.args.k [] c.requires.row
+has_true_universal-requires c = search (arith, get_or_default)
 
 pub returns : goal.returns
 returns c =

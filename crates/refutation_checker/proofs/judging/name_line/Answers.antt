@@ -1,4 +1,4 @@
-use Rattle.std.proofs.Common.{◌+◌, ◌-◌, ◌/◌, ◌%◌}
+use Rattle.std.proofs.Common.{◌+◌, ◌-◌, ◌/◌, ◌%◌, arith}
 use Rattle.refutation_checker.specs.PairNames.{frame, names_in}
 use Rattle.refutation_checker.proofs.NamedLines.{then_extends}
 use Rattle.refutation_checker.proofs.PairNumbers.{named_by}
@@ -6,14 +6,10 @@ use Rattle.refutation_checker.proofs.ReadClauses.{line_named_more, pair_number_a
 use Rattle.refutation_checker.proofs.judging.name_line.Goals as goal
 
 pub returns-in_err-named-clause-extends : goal.returns-in_err-named-clause-extends
-returns-in_err-named-clause-extends c =
-    then_extends (frame c.args.e.now) (names_in c.args.names.now) (names_in c.loop-l.names)
-    (names_in c.name.new.names) c.loop-l.invariant.extends c.name.ensures.extends
+returns-in_err-named-clause-extends c = search (arith, then_extends)
 
 pub returns-in_err-push-clause-extends : goal.returns-in_err-push-clause-extends
-returns-in_err-push-clause-extends c =
-    then_extends (frame c.args.e.now) (names_in c.args.names.now) (names_in c.loop-l.names)
-    (names_in c.name.new.names) c.loop-l.invariant.extends c.name.ensures.extends
+returns-in_err-push-clause-extends c = search (arith, then_extends)
 
 pub loop-l-preserved : goal.loop-l-preserved
 loop-l-preserved c =

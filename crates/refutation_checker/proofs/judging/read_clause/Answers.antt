@@ -1,4 +1,4 @@
-use Rattle.std.proofs.Common.{refl}
+use Rattle.std.proofs.Common.{refl, arith}
 use Rattle.list_laws.proofs.Sequences.{drop_end, take_past}
 use Rattle.refutation_checker.specs.PairNames.{frame, names_in}
 use Rattle.refutation_checker.specs.Rows.{row_of}
@@ -7,16 +7,10 @@ use Rattle.refutation_checker.proofs.ReadClauses.{read_more, true_read, all_read
 use Rattle.refutation_checker.proofs.judging.read_clause.Goals as goal
 
 pub returns-in_err-is_true-clause-extends : goal.returns-in_err-is_true-clause-extends
-returns-in_err-is_true-clause-extends c =
-    then_extends (frame c.args.e.now) (names_in c.args.names.now) (names_in c.loop-l.names)
-    (names_in c.read_literal.new.names) c.loop-l.invariant.extends
-    c.read_literal.ensures.extends
+returns-in_err-is_true-clause-extends c = search (arith, then_extends)
 
 pub returns-then-is_true-clause-extends : goal.returns-then-is_true-clause-extends
-returns-then-is_true-clause-extends c =
-    then_extends (frame c.args.e.now) (names_in c.args.names.now) (names_in c.loop-l.names)
-    (names_in c.read_literal.new.names) c.loop-l.invariant.extends
-    c.read_literal.ensures.extends
+returns-then-is_true-clause-extends c = search (arith, then_extends)
 
 pub returns-then-is_true-clause-read : goal.returns-then-is_true-clause-read
 returns-then-is_true-clause-read c =
@@ -44,9 +38,4 @@ loop-l-preserved c =
     }
 
 pub returns-clause-read : goal.returns-clause-read
-returns-clause-read c =
-    let x = frame c.args.e.now in
-    all_read x (names_in c.loop-l.names) c.args.k c.args.j (row_of x.rows c.args.k) c.clause-l-items.result.now
-    c.loop-l.clause.items c.loop-l.l-index refl
-    c.clause-l-items.ensures (drop_end c.clause-l-items.result.now c.loop-l.l-index c.loop-l-test.false)
-    (take_past c.loop-l.l-index c.clause-l-items.result.now c.loop-l-test.false) c.loop-l.invariant.read
+returns-clause-read c = search (arith, all_read, drop_end, take_past)

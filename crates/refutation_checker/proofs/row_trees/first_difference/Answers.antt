@@ -1,4 +1,4 @@
-use Rattle.std.proofs.Common.{◌≡◌, Bool, true, false, not, get_or, refl, sym, ◌∙◌}
+use Rattle.std.proofs.Common.{◌≡◌, Bool, true, false, not, get_or, refl, sym, ◌∙◌, arith}
 use Rattle.std.specs.Bool.{beq}
 use Rattle.dq_formula.proofs.Restrictions.{differs}
 use Rattle.refutation_checker.proofs.TreeNumbers.{differ_at, agree_more}
@@ -18,9 +18,4 @@ same false true h = cc
 same false false h = refl
 
 pub loop-x-preserved : goal.loop-x-preserved
-loop-x-preserved c =
-    agree_more c.args.f.now c.args.sees.now c.args.first.now c.args.second.now c.loop-x.x-index c.place_of-place.result
-    (get_or c.args.sees.now c.loop-x.x-index 0)
-    c.requires.first_length c.requires.second_length c.loop-x-test.true refl c.place_of-place.ensures.place
-    (sym c.bit.ensures ∙ same c.bit.result c.bit-in-loop-x.result c.if-bit.false ∙ c.bit-in-loop-x.ensures)
-    ∙ c.loop-x.invariant
+loop-x-preserved c = search (arith, agree_more)

@@ -2,30 +2,16 @@ use Rattle.std.proofs.Common.{◌≡◌, ◌<◌, [], length, sym, ◌∙◌, ap
 use Rattle.std.proofs.lemmas.List.{get_or_default}
 use Rattle.refutation_checker.specs.RowTrees.{sees_of, number_or, reached, IsLeafMatch}
 use Rattle.refutation_checker.specs.Rows.{row_of}
-use Rattle.refutation_checker.specs.declared.row_trees.LeafMatch.TheVariants.{Numbered, Differs}
+use Rattle.refutation_checker.specs.declared.row_trees.LeafMatch.TheVariants.{Differs}
 use Rattle.refutation_checker.proofs.TreeNumbers.{numbered_already, parted_all, place_small}
 use Rattle.dq_formula.proofs.Lawful.{few_places}
 use Rattle.refutation_checker.proofs.row_trees.number_in.Goals as goal
 
 pub part-requires-clause-place : goal.part-requires-clause-place
-part-requires-clause-place c =
-    let f = c.args.f.now in
-    let rows = c.args.rows.now in
-    let few = few_places f c.every_formula_is_lawful.ensures in
-    place_small f rows (sees_of f c.args.y) c.args.nodes.now.items c.reached-at.result c.in-Differs.place
-    (row_of rows c.args.k) (omega (arith, few))
-    (subst (λ ns. IsLeafMatch f rows (sees_of f c.args.y) ns c.reached-at.result (row_of rows c.args.k)
-    (Differs c.in-Differs.place)) c.deref-2.ensures.value c.in-Differs.ensures)
+part-requires-clause-place c = search (arith, few_places, place_small)
 
 pub returns-in-Numbered-clause-numbered : goal.returns-in-Numbered-clause-numbered
-returns-in-Numbered-clause-numbered c =
-    let f = c.args.f.now in
-    let rows = c.args.rows.now in
-    numbered_already f rows (sees_of f c.args.y) c.args.nodes.now.items
-    (row_of rows c.args.k) c.in-Numbered.own c.requires.tree
-    (c.requires.whole c.args.k [] c.requires.row)
-    (subst (λ ns. IsLeafMatch f rows (sees_of f c.args.y) ns c.reached-at.result (row_of rows c.args.k)
-    (Numbered c.in-Numbered.own)) c.deref-2.ensures.value c.in-Numbered.ensures)
+returns-in-Numbered-clause-numbered c = search (arith, numbered_already)
 
 pub returns-in_ok-part-in-Differs : goal.returns-in_ok-part-in-Differs
 returns-in_ok-part-in-Differs c =

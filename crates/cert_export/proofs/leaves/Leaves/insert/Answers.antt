@@ -1,15 +1,11 @@
-use Rattle.std.proofs.Common.{◌∙◌, ◌==◌, sym, refl, subst, eq-eqb, IsSome}
+use Rattle.std.proofs.Common.{◌∙◌, ◌==◌, refl, eq-eqb, arith}
 use Rattle.std.proofs.lemmas.Bool.{or_right}
 use Rattle.number_tables.specs.Numbers.{has_number}
-use Rattle.cert_export.specs.FaultLeaves.{LeafTable, leaf_of}
 use Rattle.cert_export.proofs.FaultLeaves.{has_leaf}
 use Rattle.cert_export.proofs.leaves.Leaves.insert.Goals as goal
 
 pub returns-then-contains-clause-there : goal.returns-then-contains-clause-there
-returns-then-contains-clause-there c =
-    subst (λ (t : LeafTable). IsSome (leaf_of t c.args.variable)) c.self.view_is
-    (has_leaf (record { variables = c.self.inside.variables; leaves = c.self.inside.leaves.items }) c.args.variable
-    (sym c.contains.ensures ∙ c.if-contains.true))
+returns-then-contains-clause-there c = search (arith, has_leaf)
 
 pub returns-clause-there : goal.returns-clause-there
 returns-clause-there c =

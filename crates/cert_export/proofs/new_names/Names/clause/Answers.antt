@@ -1,4 +1,4 @@
-use Rattle.std.proofs.Common.{◌∙◌, ◌++◌, ◌∷◌, take, [], ap, sym}
+use Rattle.std.proofs.Common.{◌∙◌, ◌++◌, take, [], ap, sym, arith}
 use Rattle.std.proofs.lemmas.List.{append-nil}
 use Rattle.std.specs.List.{cons_option}
 use Rattle.cert_export.specs.Names.{renaming}
@@ -14,10 +14,7 @@ loop-l-preserved c =
     c.l-item.is c.literal.ensures in
     let so_far = renamed_clause r (take c.loop-l.l-index c.args.lits.now) in
     elim c.match-literal.branch [
-      | in-Some+in_ok-push w ↦
-          ap (λ v. v.items) w.clause-is ∙ w.in_ok-push.ensures.items ∙ ap
-          (λ ls. ls ++ w.in-Some.renamed ∷ []) c.loop-l.invariant ∙ sym
-          (more ∙ ap (λ o. so_far ++ cons_option o []) w.in-Some.is)
+      | in-Some+in_ok-push w ↦ search arith
       | in_default w ↦ ap (λ v. v.items) w.clause-is ∙ c.loop-l.invariant ∙ sym
           (more ∙ ap (λ o. so_far ++ cons_option o []) w.in_default.is ∙ append-nil so_far)
     ]

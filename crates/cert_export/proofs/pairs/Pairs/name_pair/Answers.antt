@@ -1,4 +1,4 @@
-use Rattle.std.proofs.Common.{◌≡◌, ◌∙◌, ◌+◌, ◌*◌, IsSome, length, ap, sym, subst, Some}
+use Rattle.std.proofs.Common.{◌≡◌, ◌∙◌, ◌+◌, ◌*◌, length, ap, sym, Some, arith}
 use Rattle.dq_lits.specs.Literal.{variable_of}
 use Rattle.cert_text.specs.Pairs.{is_pair_number}
 use Rattle.hint_log.specs.Entries.{name_of}
@@ -38,6 +38,4 @@ pub returns-in_ok-insert-clause-right : goal.returns-in_ok-insert-clause-right
 returns-in_ok-insert-clause-right c = right_here c
 
 pub returns-in_ok-insert-clause-named : goal.returns-in_ok-insert-clause-named
-returns-in_ok-insert-clause-named c = pair_named c.args.self.now.f.now c.args.self.now.log.now.entries
-    c.args.self.now.rounds.now (renaming c.insert.new.self) c.args.l.now (right_here c)
-    (subst (λ v. IsSome (renaming c.insert.new.self v)) c.var-in-Pair.ensures.value c.in_ok-insert.ensures.there)
+returns-in_ok-insert-clause-named c = search (arith, pair_named, right_here)

@@ -1,24 +1,15 @@
-use Rattle.std.proofs.Common.{◌+◌, sym, ap, subst, slice_index, is_some, take}
+use Rattle.std.proofs.Common.{◌+◌, sym, ap, subst, slice_index, is_some, take, arith}
 use Rattle.std.proofs.lemmas.List.{get_or_default}
 use Rattle.cert_export.specs.Expansion.{rows_among, pair_renaming}
 use Rattle.cert_export.specs.Exported.{normal_names}
 use Rattle.cert_export.specs.Names.{renaming, NameTable}
-use Rattle.cert_export.specs.Pairing.{AreNamedAt}
 use Rattle.cert_export.proofs.GivenNames.{given_here, none_here, known_clause}
 use Rattle.cert_export.proofs.NamedPairs.{GivenPairs, one_instance, all_instances}
 use Rattle.cert_export.proofs.pairs.Pairs.names.Goals.{in-Some+in_ok-name_instance, in_default}
 use Rattle.cert_export.proofs.pairs.Pairs.names.Goals as goal
 
 pub name_instance-requires-clause-known : goal.name_instance-requires-clause-known
-name_instance-requires-clause-known c =
-    let f = c.args.self.now.f.now in
-    let entries = c.args.self.now.log.now.entries in
-    let ids = c.args.ids.now in
-    let i = c.loop-id.id-index in
-    known_clause (AreNamedAt f entries c.args.self.now.rounds.now) entries ids (slice_index ids i) c.in-Some.origin
-    c.clause.result.now c.requires.known
-    (i, c.loop-id-test.true, sym (get_or_default ids i 0 (slice_index ids i) c.loop-id-test.true))
-    c.in-Some.ensures c.clause.ensures
+name_instance-requires-clause-known c = search (arith, known_clause, get_or_default)
 
 pub loop-id-preserved : goal.loop-id-preserved
 loop-id-preserved c =

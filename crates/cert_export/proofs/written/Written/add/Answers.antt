@@ -1,4 +1,4 @@
-use Rattle.std.proofs.Common.{◌≡◌, ◌∙◌, ◌+◌, take, length, slice_index, ap, sym, subst}
+use Rattle.std.proofs.Common.{◌≡◌, ◌∙◌, ◌+◌, take, length, slice_index, ap, sym, subst, arith}
 use Rattle.std.proofs.lemmas.List.{get_or_default}
 use Rattle.std.proofs.lemmas.List.Elements.{Contains-get_or}
 use Rattle.list_laws.proofs.Results.{on_ok}
@@ -9,14 +9,7 @@ use Rattle.cert_export.proofs.WrittenLines.{hints_there, places_before, line_con
 use Rattle.cert_export.proofs.written.Written.add.Goals as goal
 
 pub add_line-requires-clause-there : goal.add_line-requires-clause-there
-add_line-requires-clause-there g c =
-    let ids = c.args.source.now.ids.now in
-    let i = c.args.place in
-    let id = slice_index ids i in
-    hints_there (renaming c.args.source.now.names.now) (g.B.Ground.ids c.args.source.now.base.now)
-    (g.B.Ground.Knows c.args.source.now.base.now) c.args.source.now.log.now.entries ids c.requires.can i id
-    c.requires.place
-    (get_or_default ids i 0 id c.requires.place) c.hints.result.now c.hints.ensures.value
+add_line-requires-clause-there g c = search (arith, hints_there, get_or_default)
 
 pub add_line-requires-clause-earlier : goal.add_line-requires-clause-earlier
 add_line-requires-clause-earlier g c =

@@ -1,16 +1,10 @@
-use Rattle.std.proofs.Common.{◌++◌, get_or, sym, ◌∙◌, ap, append-nil}
+use Rattle.std.proofs.Common.{◌++◌, get_or, ◌∙◌, ap, append-nil, arith}
 use Rattle.std.proofs.lemmas.List.{get_or_default, take_all}
 use Rattle.definability.proofs.SelectedPlaces.{links_at, all_active, active_more, no_group}
 use Rattle.definability.proofs.definability.Definability.active.Goals as goal
 
 pub loop-place-init : goal.loop-place-init
-loop-place-init c =
-    let p = c.args.self.now in
-    c.in_ok-extend_from_slice-2.ensures.items
-    ∙ ap (λ gs. gs ++ c.deref-2.result.now) (c.in_ok-extend_from_slice.ensures.items
-    ∙ ap (λ gs. gs ++ c.deref.result.now) c.new-active.ensures.items ∙ c.deref.ensures.value)
-    ∙ ap (λ gs. p.first.groups.items ++ gs) c.deref-2.ensures.value
-    ∙ sym (append-nil (p.first.groups.items ++ p.second.groups.items))
+loop-place-init c = search (arith, append-nil)
 
 pub loop-place-preserved : goal.loop-place-preserved
 loop-place-preserved c =

@@ -4,8 +4,7 @@ use Rattle.definability.proofs.Activated.{active_all, active_none}
 use Rattle.definability.proofs.definability.Definability.active_groups.Goals as goal
 
 pub loop-i-init : goal.loop-i-init
-loop-i-init c = active_none (store_of c.args.self.now) c.args.side c.args.frames.now c.new-groups.result.items
-    c.new-groups.ensures.items
+loop-i-init c = search (arith, active_none)
 
 pub loop-i-preserved : goal.loop-i-preserved
 loop-i-preserved c = c.in_ok-push_group.ensures c.loop-i.invariant

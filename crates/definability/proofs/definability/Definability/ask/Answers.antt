@@ -1,4 +1,4 @@
-use Rattle.std.proofs.Common.{◌∙◌, Ok, sym, ap}
+use Rattle.std.proofs.Common.{◌∙◌, Ok, sym, ap, arith}
 use Rattle.dq_formula.specs.Prefix.{existential_variables}
 use Rattle.definability.proofs.FreePairs.{apart_pair}
 use Rattle.definability.proofs.SearchAnswers.{copies_told, flags_told}
@@ -6,10 +6,10 @@ use Rattle.definability.proofs.definability.Definability.ask.Goals as goal
 
 pub pair-requires-clause-first_universals : goal.pair-requires-clause-first_universals
 pair-requires-clause-first_universals g c =
-    flags_told c.search.new.log.entries 1 c.args.self.now.copied.items c.args.question.now.f.now.universals
-    c.args.self.now.first.universals.items (g.O.Oracle.HasVariable c.search.new.oracle)
-    c.search.ensures.searched.copied.first.universals
-    (λ v named. g.met.O.Oracle.made c.search.new.oracle c.search.new.log v c.search.ensures.fit named)
+    search (
+      arith,
+      (flags_told c.search.new.log.entries 1 c.args.self.now.copied.items c.args.question.now.f.now.universals c.args.self.now.first.universals.items (g.O.Oracle.HasVariable c.search.new.oracle) c.search.ensures.searched.copied.first.universals),
+    )
 
 pub pair-requires-clause-first_long : goal.pair-requires-clause-first_long
 pair-requires-clause-first_long g c = c.requires.others ∙ sym c.requires.definability.first.universals.long
@@ -24,10 +24,10 @@ pair-requires-clause-first_existentials g c =
 
 pub pair-requires-clause-second_universals : goal.pair-requires-clause-second_universals
 pair-requires-clause-second_universals g c =
-    flags_told c.search.new.log.entries 2 c.args.self.now.copied.items c.args.question.now.f.now.universals
-    c.args.self.now.second.universals.items (g.O.Oracle.HasVariable c.search.new.oracle)
-    c.search.ensures.searched.copied.second.universals
-    (λ v named. g.met.O.Oracle.made c.search.new.oracle c.search.new.log v c.search.ensures.fit named)
+    search (
+      arith,
+      (flags_told c.search.new.log.entries 2 c.args.self.now.copied.items c.args.question.now.f.now.universals c.args.self.now.second.universals.items (g.O.Oracle.HasVariable c.search.new.oracle) c.search.ensures.searched.copied.second.universals),
+    )
 
 pub pair-requires-clause-second_long : goal.pair-requires-clause-second_long
 pair-requires-clause-second_long g c = c.requires.others ∙ sym c.requires.definability.second.universals.long

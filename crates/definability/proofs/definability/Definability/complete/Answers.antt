@@ -1,22 +1,16 @@
-use Rattle.std.proofs.Common.{◌≤◌, [], length, sym, ◌∙◌, subst}
-use Rattle.std.specs.List.{All}
+use Rattle.std.proofs.Common.{arith}
 use Rattle.std.proofs.lemmas.Option.{get_or_from_slice_get}
-use Rattle.dq_lits.specs.Literal.{variable_of}
-use Rattle.definability.specs.Copies.{IsCopied}
-use Rattle.definability.specs.declared.definability.Definability.{Definability}
 use Rattle.definability.proofs.FollowedClauses.{can_receive, more_receives, received_then, room_made}
 use Rattle.definability.proofs.definability.Definability.complete.Goals as goal
 
 pub copy_variables-requires-clause-standing : goal.copy_variables-requires-clause-standing
-copy_variables-requires-clause-standing g c =
-    (c.requires.standing.0, c.requires.standing.1, c.requires.standing.2.standing)
+copy_variables-requires-clause-standing g c = search arith
 
 pub clause-requires : goal.clause-requires
 clause-requires g c = c.requires.standing.2.live.within
 
 pub returns-in_err-copy_variables-clause-following : goal.returns-in_err-copy_variables-clause-following
-returns-in_err-copy_variables-clause-following g c = more_receives c.args.f.now c.args.self.now
-    c.copy_variables.new.self c.args.clause c.args.log.now c.copy_variables.new.log c.copy_variables.ensures.more
+returns-in_err-copy_variables-clause-following g c = search (arith, more_receives)
 
 pub returns-in_err-make_room-clause-following : goal.returns-in_err-make_room-clause-following
 returns-in_err-make_room-clause-following g c =
@@ -67,18 +61,7 @@ give_sides-requires-clause-standing g c =
     can_receive f p c.open_frame.new.self clause c.args.log.now c.open_frame.new.log c.requires.standing third
 
 pub give_sides-requires-clause-prepared : goal.give_sides-requires-clause-prepared
-give_sides-requires-clause-prepared g c = record {
-  room = subst (λ (p : Definability). c.args.clause.number ≤ length p.given.items) (sym c.open_frame.ensures.same)
-      c.in_ok-make_room.ensures.clause;
-  opened = c.in_ok-open_frame.ensures.opened;
-  covered = λ d d_is.
-      let f = c.args.f.now in
-      let there = c.clause.ensures ∙ get_or_from_slice_get f.matrix c.args.clause.place d [] d_is in
-      subst (λ (p : Definability). All (λ l. IsCopied f p.copied.items (variable_of l)) d) (sym c.open_frame.ensures.same)
-      (subst (λ (p : Definability). All (λ l. IsCopied f p.copied.items (variable_of l)) d) (sym c.make_room.ensures.same)
-      (subst (All (λ l. IsCopied f c.copy_variables.new.self.copied.items (variable_of l))) there
-      c.in_ok-copy_variables.ensures.covered));
-}
+give_sides-requires-clause-prepared g c = search (arith, get_or_from_slice_get)
 
 pub returns-clause-following : goal.returns-clause-following
 returns-clause-following g c =

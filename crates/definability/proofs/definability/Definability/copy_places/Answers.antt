@@ -1,22 +1,15 @@
-use Rattle.std.proofs.Common.{refl, arith}
+use Rattle.std.proofs.Common.{arith}
 use Rattle.definability.proofs.FollowedClauses.{can_still, copied_from, copied_next, more_none, more_then}
 use Rattle.definability.proofs.definability.Definability.copy_places.Goals as goal
 
 pub loop-place-init : goal.loop-place-init
-loop-place-init g c = (
-  c.requires.fit,
-  more_none c.args.f.now c.args.self.now c.args.log.now c.args.log.now refl,
-  (λ k low less. absurd (omega (arith, low, less))),
-)
+loop-place-init g c = search (arith, more_none)
 
 pub copy_place-requires-clause-standing : goal.copy_place-requires-clause-standing
-copy_place-requires-clause-standing g c = can_still c.args.f.now c.args.self.now c.loop-place.self c.args.log.now
-    c.loop-place.log c.requires.standing c.loop-place.invariant.1
+copy_place-requires-clause-standing g c = search (arith, can_still)
 
 pub returns-in_err-copy_place-clause-more : goal.returns-in_err-copy_place-clause-more
-returns-in_err-copy_place-clause-more g c = more_then c.args.f.now c.args.self.now c.loop-place.self
-    c.copy_place.new.self c.args.log.now c.loop-place.log c.copy_place.new.log c.loop-place.invariant.1
-    c.copy_place.ensures.more
+returns-in_err-copy_place-clause-more g c = search (arith, more_then)
 
 pub loop-place-preserved : goal.loop-place-preserved
 loop-place-preserved g c = (
@@ -31,8 +24,8 @@ loop-place-preserved g c = (
 
 pub returns-clause-copied : goal.returns-clause-copied
 returns-clause-copied g c =
-    let past = c.loop-place-test.false in
-    let count = c.declared_count-place-end.ensures in
-    copied_from c.args.f.now c.args.from c.loop-place.place c.loop-place.self c.loop-place.log.entries
-    (can_still c.args.f.now c.args.self.now c.loop-place.self c.args.log.now c.loop-place.log
-    c.requires.standing c.loop-place.invariant.1) (omega (arith, past, count)) c.loop-place.invariant.2
+    search (
+      arith,
+      (copied_from c.args.f.now c.args.from c.loop-place.place c.loop-place.self c.loop-place.log.entries (can_still c.args.f.now c.args.self.now c.loop-place.self c.args.log.now c.loop-place.log c.requires.standing c.loop-place.invariant.1)),
+      (can_still c.args.f.now c.args.self.now c.loop-place.self c.args.log.now c.loop-place.log c.requires.standing c.loop-place.invariant.1),
+    )

@@ -8,11 +8,7 @@ use Rattle.definability.proofs.definability.Definability.copy_variable.Goals as 
 use Rattle.dq_formula.proofs.Subsets.{none_contained}
 
 pub copy_place-requires-clause-place : goal.copy_place-requires-clause-place
-copy_place-requires-clause-place g c =
-    let f = c.args.f.now in
-    let below = placed_below f.universals c.args.v c.in-Some.place (sym c.universal_place.ensures ∙ c.in-Some.is) in
-    let long = declared_long f in
-    omega (arith, below, long)
+copy_place-requires-clause-place g c = search (arith, placed_below, declared_long)
 
 pub returns-in_ok-copy_place-in-Some-clause-covered : goal.returns-in_ok-copy_place-in-Some-clause-covered
 returns-in_ok-copy_place-in-Some-clause-covered g c =

@@ -1,4 +1,4 @@
-use Rattle.std.proofs.Common.{refl, ◌∙◌, subst, arith}
+use Rattle.std.proofs.Common.{◌∙◌, subst, arith}
 use Rattle.std.proofs.lemmas.List.{get_or_default}
 use Rattle.dq_lits.specs.Literal.{variable_of}
 use Rattle.definability.specs.Copies.{IsCopied}
@@ -7,20 +7,13 @@ use Rattle.definability.proofs.FlagSteps.{literals_more}
 use Rattle.definability.proofs.definability.Definability.copy_variables.Goals as goal
 
 pub loop-l-init : goal.loop-l-init
-loop-l-init g c = (
-  c.requires.fit,
-  more_none c.args.f.now c.args.self.now c.args.log.now c.args.log.now refl,
-  (λ k d less. absurd (omega (arith, less))),
-)
+loop-l-init g c = search (arith, more_none)
 
 pub copy_variable-requires-clause-standing : goal.copy_variable-requires-clause-standing
-copy_variable-requires-clause-standing g c = can_still c.args.f.now c.args.self.now c.loop-l.self c.args.log.now
-    c.loop-l.log c.requires.standing c.loop-l.invariant.1
+copy_variable-requires-clause-standing g c = search (arith, can_still)
 
 pub returns-in_err-copy_variable-clause-more : goal.returns-in_err-copy_variable-clause-more
-returns-in_err-copy_variable-clause-more g c = more_then c.args.f.now c.args.self.now c.loop-l.self
-    c.copy_variable.new.self c.args.log.now c.loop-l.log c.copy_variable.new.log c.loop-l.invariant.1
-    c.copy_variable.ensures.more
+returns-in_err-copy_variable-clause-more g c = search (arith, more_then)
 
 pub loop-l-preserved : goal.loop-l-preserved
 loop-l-preserved g c =
@@ -41,5 +34,4 @@ loop-l-preserved g c =
     )
 
 pub returns-clause-covered : goal.returns-clause-covered
-returns-clause-covered g c = λ k d lt. let past = c.loop-l-test.false in
-    c.loop-l.invariant.2 k d (omega (arith, lt, past)) lt
+returns-clause-covered g c = search arith

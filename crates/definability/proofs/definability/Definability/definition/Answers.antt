@@ -1,5 +1,4 @@
-use Rattle.std.proofs.Common.{sym, ◌∙◌, ap, subst}
-use Rattle.hint_log.specs.Conditions.{AreNamed}
+use Rattle.std.proofs.Common.{sym, ◌∙◌, ap, subst, arith}
 use Rattle.oracle.specs.Calls.{assumed}
 use Rattle.interpolants.specs.Interpolant.{partition, SharesAll, AreNodes, IsInterpolant}
 use Rattle.definability.specs.Dividing.{AreSharedCopies}
@@ -11,16 +10,7 @@ use Rattle.definability.proofs.SharedVariables.{copies_share}
 use Rattle.definability.proofs.definability.Definability.definition.Goals as goal
 
 pub from_log-requires-clause-named : goal.from_log-requires-clause-named
-from_log-requires-clause-named c =
-    let question = c.args.question.now in
-    let asked = c.args.asked.now in
-    let es = c.args.log.now.entries in
-    let groups = c.args.self.now.first.groups.items in
-    let a_side = c.deref-3.ensures.value ∙ c.in_ok-a_side.ensures
-    ∙ ap (λ gs. assumed gs c.deref-2.result.now) c.deref.ensures.value
-    ∙ ap (assumed c.args.self.now.first.groups.items) c.deref-2.ensures.value in
-    subst (AreNamed es) (sym a_side) (first_named es question.y question.conditions.now asked c.requires.copied groups
-    c.requires.definability.first.made)
+from_log-requires-clause-named c = search (arith, first_named)
 
 pub from_log-requires-clause-shares : goal.from_log-requires-clause-shares
 from_log-requires-clause-shares c =

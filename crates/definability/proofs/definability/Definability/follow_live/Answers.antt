@@ -1,4 +1,4 @@
-use Rattle.std.proofs.Common.{sym, subst}
+use Rattle.std.proofs.Common.{sym, subst, arith}
 use Rattle.definability.specs.Following.{FollowsLive}
 use Rattle.definability.specs.Store.{store_of}
 use Rattle.definability.specs.declared.definability.Definability.{Definability}
@@ -37,7 +37,4 @@ returns-clause-ready g c =
     now c.in_ok-give_live.ensures.given
 
 pub returns-clause-given : goal.returns-clause-given
-returns-clause-given g c =
-    activated_given c.requires.store.0 c.requires.store.1 c.args.frames.now c.give_live.new.self c.activate.new.self
-    c.activate.ensures.same c.in_ok-activate.ensures.first c.in_ok-activate.ensures.second c.args.live.now
-    c.in_ok-give_live.ensures.given
+returns-clause-given g c = search (arith, activated_given)

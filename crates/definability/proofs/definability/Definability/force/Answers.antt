@@ -1,4 +1,4 @@
-use Rattle.std.proofs.Common.{◌≡◌, ◌<◌, false, length, Ok, sym, ◌∙◌, ap, subst}
+use Rattle.std.proofs.Common.{◌≡◌, ◌<◌, false, length, Ok, sym, ◌∙◌, ap, subst, arith}
 use Rattle.std.specs.List.{All}
 use Rattle.dq_lits.specs.Derivation.{is_tautology}
 use Rattle.dq_lits.specs.Literal.{variable_of}
@@ -109,8 +109,7 @@ row_of_copies-requires-clause-made g c =
     c.search_first.ensures.fit named)))
 
 pub row_of_copies-requires-clause-long : goal.row_of_copies-requires-clause-long
-row_of_copies-requires-clause-long g c =
-    c.requires.row ∙ sym c.requires.definability.first.universals.long ∙ sym (ap length c.deref-in-Sat.ensures.value)
+row_of_copies-requires-clause-long g c = search arith
 
 pub row_of_values-requires-clause-made : goal.row_of_values-requires-clause-made
 row_of_values-requires-clause-made g c =

@@ -1,20 +1,13 @@
-use Rattle.std.proofs.Common.{[], length, replicate, ◌∙◌, subst, arith}
-use Rattle.std.specs.List.{All}
+use Rattle.std.proofs.Common.{length, replicate, arith}
 use Rattle.std.proofs.lemmas.Option.{get_or_from_slice_get}
-use Rattle.dq_lits.specs.Literal.{variable_of}
-use Rattle.definability.specs.Copies.{IsCopied}
 use Rattle.definability.proofs.FirstStores.{by_clause, by_copies, file_receiving, given_then, can_give_still}
 use Rattle.definability.proofs.definability.Definability.give_clause.Goals as goal
 
 pub copy_variables-requires-clause-standing : goal.copy_variables-requires-clause-standing
-copy_variables-requires-clause-standing g c =
-    let f = c.args.f.now in (f, replicate (length f.matrix) 0, c.requires.open_file.standing)
+copy_variables-requires-clause-standing g c = search (arith, replicate)
 
 pub returns-in_err-copy_variables-clause-more : goal.returns-in_err-copy_variables-clause-more
-returns-in_err-copy_variables-clause-more g c =
-    let f = c.args.f.now in
-    by_copies f c.args.self.now c.copy_variables.new.self c.args.log.now c.copy_variables.new.log
-    c.requires.open_file c.copy_variables.ensures.more
+returns-in_err-copy_variables-clause-more g c = search (arith, by_copies)
 
 pub give_sides-requires-clause-standing : goal.give_sides-requires-clause-standing
 give_sides-requires-clause-standing g c =
@@ -26,20 +19,7 @@ give_sides-requires-clause-standing g c =
     )
 
 pub give_sides-requires-clause-prepared : goal.give_sides-requires-clause-prepared
-give_sides-requires-clause-prepared g c =
-    let f = c.args.f.now in
-    let h = can_give_still f c.args.self.now c.copy_variables.new.self c.args.log.now c.copy_variables.new.log
-    c.requires.open_file
-    (by_copies f c.args.self.now c.copy_variables.new.self c.args.log.now c.copy_variables.new.log
-    c.requires.open_file c.copy_variables.ensures.more) in
-    record {
-      room = (let long = h.given in let below = c.requires.place in omega (arith, long, below));
-      opened = h.opened;
-      covered = λ d d_is.
-          subst (All (λ l. IsCopied f c.copy_variables.new.self.copied.items (variable_of l)))
-          (c.clause.ensures ∙ get_or_from_slice_get f.matrix c.args.place d [] d_is)
-          c.in_ok-copy_variables.ensures.covered;
-    }
+give_sides-requires-clause-prepared g c = search (arith, can_give_still, by_copies, get_or_from_slice_get)
 
 pub returns-clause-more : goal.returns-clause-more
 returns-clause-more g c =

@@ -1,4 +1,4 @@
-use Rattle.std.proofs.Common.{◌∷◌, [], Some, sym, refl, ◌∙◌, ap, subst}
+use Rattle.std.proofs.Common.{◌∷◌, [], Some, sym, ◌∙◌, ap, subst, arith}
 use Rattle.std.specs.List.{All, Contains}
 use Rattle.std.proofs.lemmas.Option.{slice_get-get_or}
 use Rattle.dq_lits.specs.Literal.{variable_of, opposite}
@@ -7,10 +7,8 @@ use Rattle.hint_log.specs.Entries.{Given, with_entry}
 use Rattle.hint_log.specs.declared.origins.Origin.TheVariants.{Copy}
 use Rattle.oracle.specs.Calls.{IsPlain}
 use Rattle.definability.specs.Copies.{IsCopied}
-use Rattle.definability.specs.Store.{store_of}
 use Rattle.definability.proofs.FollowedClauses.{copy_given, group_made, side_copied, side_existentials, side_existentials_long, side_universals_long}
 use Rattle.definability.proofs.GivenClauses.{copies_plain}
-use Rattle.definability.proofs.StoreSteps.{following_none}
 use Rattle.definability.proofs.definability.Definability.give_copy.Goals as goal
 
 pub clause-requires : goal.clause-requires
@@ -22,18 +20,13 @@ copied_clause-requires-clause-bound g c =
     (c.requires.formula.bound c.args.clause.place [] c.requires.standing.2.live.within)
 
 pub copied_clause-requires-clause-universals : goal.copied_clause-requires-clause-universals
-copied_clause-requires-clause-universals g c =
-    side_universals_long c.requires.standing.0 c.requires.standing.1 c.args.f.now c.args.self.now c.args.log.now
-    c.requires.standing.2.standing c.requires.standing.2.complete c.args.side c.requires.side c.side.result.now c.side.ensures.first c.side.ensures.second
+copied_clause-requires-clause-universals g c = search (arith, side_universals_long)
 
 pub copied_clause-requires-clause-existentials : goal.copied_clause-requires-clause-existentials
-copied_clause-requires-clause-existentials g c =
-    side_existentials_long c.requires.standing.0 c.requires.standing.1 c.args.f.now c.args.self.now c.args.log.now
-    c.requires.standing.2.standing c.requires.standing.2.complete c.args.side c.requires.side c.side.result.now c.side.ensures.first c.side.ensures.second
+copied_clause-requires-clause-existentials g c = search (arith, side_existentials_long)
 
 pub returns-in_err-lits-clause-following : goal.returns-in_err-lits-clause-following
-returns-in_err-lits-clause-following g c = λ all numbered h.
-    following_none all numbered (store_of c.args.self.now) c.args.log.now c.args.log.now refl h.standing.store
+returns-in_err-lits-clause-following g c = search arith
 
 pub add-requires-clause-made : goal.add-requires-clause-made
 add-requires-clause-made g c =
@@ -59,8 +52,7 @@ add-requires-clause-plain g c =
     covered))
 
 pub returns-in_err-add-clause-following : goal.returns-in_err-add-clause-following
-returns-in_err-add-clause-following g c = λ all numbered h.
-    following_none all numbered (store_of c.args.self.now) c.args.log.now c.add.new.log c.in_err-add.ensures.err h.standing.store
+returns-in_err-add-clause-following g c = search arith
 
 pub returns-clause-following : goal.returns-clause-following
 returns-clause-following g c = λ all numbered h.

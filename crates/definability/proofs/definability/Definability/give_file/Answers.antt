@@ -39,12 +39,10 @@ returns-in_err-copy_places-clause-following g c =
     (c.open_frame.ensures.following f numbered f c.requires.standing) c.copy_places.ensures.more
 
 pub returns-in_err-copy_places-clause-first_groups : goal.returns-in_err-copy_places-clause-first_groups
-returns-in_err-copy_places-clause-first_groups g c = c.copy_places.ensures.more.first_groups
-    ∙ ap (λ (p : Definability). p.first.groups) c.open_frame.ensures.same
+returns-in_err-copy_places-clause-first_groups g c = search arith
 
 pub returns-in_err-copy_places-clause-second_groups : goal.returns-in_err-copy_places-clause-second_groups
-returns-in_err-copy_places-clause-second_groups g c = c.copy_places.ensures.more.second_groups
-    ∙ ap (λ (p : Definability). p.second.groups) c.open_frame.ensures.same
+returns-in_err-copy_places-clause-second_groups g c = search arith
 
 pub give_matrix-requires-clause-open_file : goal.give_matrix-requires-clause-open_file
 give_matrix-requires-clause-open_file g c =
@@ -78,28 +76,10 @@ returns-clause-following g c =
     c.give_matrix.ensures.more.follows
 
 pub returns-clause-first_groups : goal.returns-clause-first_groups
-returns-clause-first_groups g c = c.give_matrix.ensures.more.first_groups ∙ c.copy_places.ensures.more.first_groups
-    ∙ ap (λ (p : Definability). p.first.groups) c.open_frame.ensures.same
+returns-clause-first_groups g c = search arith
 
 pub returns-clause-second_groups : goal.returns-clause-second_groups
-returns-clause-second_groups g c = c.give_matrix.ensures.more.second_groups ∙ c.copy_places.ensures.more.second_groups
-    ∙ ap (λ (p : Definability). p.second.groups) c.open_frame.ensures.same
+returns-clause-second_groups g c = search arith
 
 pub returns-clause-given : goal.returns-clause-given
-returns-clause-given g c = on_ok c.give_matrix.result (λ given. record {
-  copied = record {
-    complete = λ k low.
-        let many = c.in_ok-copy_places.ensures.copied.complete k low in
-        let more = c.give_matrix.ensures.more.follows.parts k in
-        omega (arith, many, more);
-    flags = λ k low. c.give_matrix.ensures.more.follows.copied k (c.in_ok-copy_places.ensures.copied.flags k low);
-  };
-  given = given;
-  opened = (
-    c.in_ok-open_frame.ensures.opened.0,
-    ap (λ fs. slice_get fs.items 0) (c.give_matrix.ensures.more.frames ∙ c.copy_places.ensures.more.frames)
-        ∙ c.in_ok-open_frame.ensures.opened.1,
-  );
-  frames = ap (λ fs. length fs.items) (c.give_matrix.ensures.more.frames ∙ c.copy_places.ensures.more.frames)
-      ∙ c.open_frame.ensures.long ∙ c.requires.frames;
-}) c.give_matrix.ensures.given
+returns-clause-given g c = search (arith, on_ok)

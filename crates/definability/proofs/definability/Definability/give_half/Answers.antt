@@ -13,11 +13,7 @@ copy_at-requires-2 g c = (places_within c.args.f.now c.args.self.now c.args.log.
     c.args.place c.requires.place).2
 
 pub index-requires : goal.index-requires
-index-requires g c =
-    let below = (places_within c.args.f.now c.args.self.now c.args.log.now.entries c.requires.standing c.args.place
-    c.requires.place).3 in
-    let vec = c.args.self.now.links.ok.0 in
-    omega (arith, below, vec)
+index-requires g c = search arith
 
 pub add-requires-clause-made : goal.add-requires-clause-made
 add-requires-clause-made g c =
@@ -37,15 +33,10 @@ add-requires-clause-plain g c =
     c.copy_at.result c.copy_at-2.result c.copy_at.ensures c.copy_at-2.ensures (omega (arith, so_far))))
 
 pub returns-in_err-add-clause-more : goal.returns-in_err-add-clause-more
-returns-in_err-add-clause-more g c = more_none c.args.f.now c.args.self.now c.args.log.now c.add.new.log
-    c.in_err-add.ensures.err
+returns-in_err-add-clause-more g c = search (arith, more_none)
 
 pub index_mut-requires : goal.index_mut-requires
-index_mut-requires g c =
-    let below = (places_within c.args.f.now c.args.self.now c.args.log.now.entries c.requires.standing c.args.place
-    c.requires.place).0 in
-    let vec = c.args.self.now.parts.ok.0 in
-    omega (arith, below, vec)
+index_mut-requires g c = search arith
 
 pub returns-clause-more : goal.returns-clause-more
 returns-clause-more g c = record {

@@ -68,9 +68,7 @@ pub returns-clause-following : goal.returns-clause-following
 returns-clause-following g c = c.loop-i.invariant.1
 
 pub returns-clause-given : goal.returns-clause-given
-returns-clause-given g c =
-    let past = c.loop-i-test.false in
-    given_all (store_of c.loop-i.self) c.args.live.now c.loop-i.i (omega (arith, past)) c.loop-i.invariant.2
+returns-clause-given g c = search (arith, given_all)
 
 pub returns-clause-nothing : goal.returns-clause-nothing
 returns-clause-nothing g c = c.loop-i.invariant.3

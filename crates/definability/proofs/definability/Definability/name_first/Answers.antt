@@ -15,19 +15,14 @@ new_var-requires-clause-fresh g c =
     c.requires.standing.1 c.requires.standing.2 1 (omega (arith, so_far))
 
 pub returns-in_err-v-clause-more : goal.returns-in_err-v-clause-more
-returns-in_err-v-clause-more g c = more_none c.args.f.now c.args.self.now c.args.log.now c.new_var.new.log
-    c.in_err-v.ensures.err
+returns-in_err-v-clause-more g c = search (arith, more_none)
 
 pub put-requires : goal.put-requires
 put-requires g c = (places_within c.args.f.now c.args.self.now c.args.log.now.entries c.requires.standing c.args.place
     c.requires.place).1
 
 pub index_mut-requires : goal.index_mut-requires
-index_mut-requires g c =
-    let below = (places_within c.args.f.now c.args.self.now c.args.log.now.entries c.requires.standing c.args.place
-    c.requires.place).0 in
-    let vec = c.args.self.now.parts.ok.0 in
-    omega (arith, below, vec)
+index_mut-requires g c = search arith
 
 pub returns-clause-more : goal.returns-clause-more
 returns-clause-more g c = record {

@@ -3,29 +3,20 @@ use Rattle.std.proofs.lemmas.Option.{slice_get-get_or}
 use Rattle.dq_lits.specs.Formula.{declared}
 use Rattle.definability.specs.Store.{store_of}
 use Rattle.definability.proofs.FollowedClauses.{more_none}
-use Rattle.definability.proofs.PartAnswers.{link_opened, places_within}
+use Rattle.definability.proofs.PartAnswers.{link_opened}
 use Rattle.definability.proofs.definability.Definability.open_link.Goals as goal
 
 pub returns-in_err-who-clause-more : goal.returns-in_err-who-clause-more
 returns-in_err-who-clause-more g c = more_none c.args.f.now c.args.self.now c.args.log.now c.args.log.now refl
 
 pub returns-in_err-group-clause-more : goal.returns-in_err-group-clause-more
-returns-in_err-group-clause-more g c = more_none c.args.f.now c.args.self.now c.args.log.now c.group.new.log
-    c.in_err-group.ensures.err
+returns-in_err-group-clause-more g c = search (arith, more_none)
 
 pub index_mut-requires : goal.index_mut-requires
-index_mut-requires g c =
-    let below = (places_within c.args.f.now c.args.self.now c.args.log.now.entries c.requires.standing c.args.place
-    c.requires.place).3 in
-    let vec = c.args.self.now.links.ok.0 in
-    omega (arith, below, vec)
+index_mut-requires g c = search arith
 
 pub index_mut-requires-2 : goal.index_mut-requires-2
-index_mut-requires-2 g c =
-    let below = (places_within c.args.f.now c.args.self.now c.args.log.now.entries c.requires.standing c.args.place
-    c.requires.place).0 in
-    let vec = c.args.self.now.parts.ok.0 in
-    omega (arith, below, vec)
+index_mut-requires-2 g c = search arith
 
 pub returns-clause-more : goal.returns-clause-more
 returns-clause-more g c = record {

@@ -1,23 +1,21 @@
-use Rattle.std.proofs.Common.{◌≡◌, ◌++◌, ◌∙◌, Ok, Err, ap, sym, subst, rules}
-use Rattle.hint_log.specs.declared.stops.Stop.TheVariants.{Limit}
+use Rattle.std.proofs.Common.{◌≡◌, ◌++◌, ◌∙◌, Ok, ap, sym, subst, arith}
 use Rattle.oracle.proofs.SomeLimits.{some_limit}
 use Rattle.std.specs.List.{All}
-use Rattle.dq_lits.specs.Derivation.{is_tautology}
-use Rattle.oracle.specs.Calls.{IsMade, IsPlain, assumed}
+use Rattle.oracle.specs.Calls.{IsPlain, assumed}
 use Rattle.oracle.specs.declared.oracles.Answer.TheVariants.{Unsat}
 use Rattle.definability.proofs.ApartLiterals.{asked_plain, both_apart}
 use Rattle.definability.proofs.SearchAnswers.{places_below, active_made, refuted_grew, shows, on_answer, two_joined, refuted_under, searched_learned, searched_refuted}
 use Rattle.definability.proofs.definability.Definability.search.Goals as goal
 
 pub active-requires : goal.active-requires
-active-requires g c = places_below c.args.question.now.places.now _ _ c.requires.definability.as_many
-    c.requires.posed.places_within
+active-requires g c = search (arith, places_below)
 
 pub solve-requires-clause-made : goal.solve-requires-clause-made
 solve-requires-clause-made g c =
-    subst (All (IsMade c.args.log.now.entries)) (sym c.deref-3.ensures.value)
-    (active_made c.args.question.now.f.now c.args.self.now c.args.log.now.entries c.args.question.now.places.now
-    c.in_ok-active.active.items c.requires.definability c.in_ok-active.ensures)
+    search (
+      arith,
+      (active_made c.args.question.now.f.now c.args.self.now c.args.log.now.entries c.args.question.now.places.now c.in_ok-active.active.items c.requires.definability c.in_ok-active.ensures),
+    )
 
 pub solve-requires-clause-plain : goal.solve-requires-clause-plain
 solve-requires-clause-plain g c =
@@ -30,14 +28,7 @@ solve-requires-clause-plain g c =
     question.conditions.now asked c.requires.copied)
 
 pub solve-requires-clause-apart : goal.solve-requires-clause-apart
-solve-requires-clause-apart g c =
-    let question = c.args.question.now in
-    let asked = c.args.asked.now in
-    let both = two_joined c.deref.result.now c.deref-2.result.now asked.first.items asked.second.items
-    c.in_ok-assume.assume.items c.deref-4.result.now c.deref.ensures.value c.deref-2.ensures.value
-    c.in_ok-assume.ensures c.deref-4.ensures.value in
-    ap is_tautology both ∙ both_apart c.args.log.now.entries question.y question.conditions.now asked c.requires.copied
-    c.requires.posed.consistent c.requires.posed.others
+solve-requires-clause-apart g c = search (arith, two_joined, both_apart)
 
 pub returns-in_err-answer-clause-searched : goal.returns-in_err-answer-clause-searched
 returns-in_err-answer-clause-searched g c = searched_learned c.args.question.now.f.now c.args.self.now c.args.log.now
@@ -89,6 +80,4 @@ returns-clause-unsat g c = λ id is.
     (c.solve.ensures.unsat id (c.in_ok-answer.was ∙ ap Ok e)))
 
 pub returns-in_err-answer-clause-limit : goal.returns-in_err-answer-clause-limit
-returns-in_err-answer-clause-limit g c = λ is.
-    let stop : c.in_err-answer.field-0.0 ≡ Limit = search rules in
-    some_limit c.solve.new.log (c.in_err-answer.ensures.limit (ap (λ e. Err e) stop))
+returns-in_err-answer-clause-limit g c = search (arith, some_limit)

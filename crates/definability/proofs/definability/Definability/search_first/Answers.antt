@@ -1,8 +1,6 @@
-use Rattle.std.proofs.Common.{◌≡◌, refl, Ok, ap, ◌∙◌, rules, Err}
-use Rattle.hint_log.specs.declared.stops.Stop.TheVariants.{Limit}
+use Rattle.std.proofs.Common.{refl, Ok, ap, ◌∙◌, arith}
 use Rattle.oracle.proofs.SomeLimits.{some_limit}
 use Rattle.oracle.specs.Calls.{assumed}
-use Rattle.oracle.specs.declared.oracles.Answer.TheVariants.{Unsat}
 use Rattle.definability.proofs.SearchAnswers.{on_answer, refuted_under, searched_learned, searched_refuted}
 use Rattle.definability.proofs.FirstCopySearch.{first_plain, shows_clause, first_grew}
 use Rattle.definability.proofs.definability.Definability.search_first.Goals as goal
@@ -31,16 +29,7 @@ returns-clause-searched g c =
     c.deref.ensures.value refl refuted)))
 
 pub returns-clause-unsat : goal.returns-clause-unsat
-returns-clause-unsat g c = λ id is.
-    let e : c.in_ok-answer.answer ≡ Unsat id = cc in
-    shows_clause c.derived_line_is_implied.ensures c.ids_stay.ensures c.reached_are_ids.ensures c.args.f.now
-    c.args.self.now c.args.asked.now c.args.log.now c.solve.new.log id
-    c.requires.definability c.requires.copies (g.met.O.Oracle.searched c.solve.new.self c.solve.new.log c.solve.ensures.fit)
-    (refuted_under c.args.log.now c.solve.new.log c.deref.result.now c.args.self.now.first.groups.items
-    c.args.asked.now c.args.asked.now id c.deref.ensures.value refl
-    (c.solve.ensures.unsat id (c.in_ok-answer.was ∙ ap Ok e)))
+returns-clause-unsat g c = search (arith, shows_clause, refuted_under)
 
 pub returns-in_err-answer-clause-limit : goal.returns-in_err-answer-clause-limit
-returns-in_err-answer-clause-limit g c = λ is.
-    let stop : c.in_err-answer.field-0.0 ≡ Limit = search rules in
-    some_limit c.solve.new.log (c.in_err-answer.ensures.limit (ap (λ e. Err e) stop))
+returns-in_err-answer-clause-limit g c = search (arith, some_limit)

@@ -1,24 +1,11 @@
-use Rattle.std.proofs.Common.{◌∷◌, [], refl, arith, length-append}
+use Rattle.std.proofs.Common.{refl, arith, length-append}
 use Rattle.std.proofs.lemmas.List.{length-map}
-use Rattle.dq_formula.specs.Blocks.{blocks_of}
 use Rattle.dq_formula.proofs.ClauseBlocks.{length_clauses_at, few_blocks}
-use Rattle.dq_formula.proofs.BlockSteps.{before, are_put}
+use Rattle.dq_formula.proofs.BlockSteps.{are_put}
 use Rattle.dq_formula.proofs.blocks.Blocks.put.Goals as goal
 
 pub overflow_cast-place : goal.overflow_cast-place
-overflow_cast-place c =
-    let s = c.args.self.now in
-    let few = few_blocks (blocks_of s) 0 0 s.places.items c.requires.arranged in
-    omega (
-      arith,
-      c.len.ensures,
-      s.full.ok.0,
-      few,
-      length-append (before s) (s.current.items ∷ []),
-      length-map s.full.items (λ block. block.items),
-      length_clauses_at (blocks_of s) s.places.items,
-      c.requires.few,
-    )
+overflow_cast-place c = search (arith, few_blocks, length-append, length-map, length_clauses_at)
 
 pub returns : goal.returns
 returns c =

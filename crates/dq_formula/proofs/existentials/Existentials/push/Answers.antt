@@ -10,10 +10,8 @@ invariant_of-self-2 c =
     let e = c.self.inside in
     let absent = ap (λ xs. has_number xs c.args.y) (sym (ap keys_of (sym c.self.view_is)
     ∙ keys e.variables e.sets.items c.self.invariant)) ∙ c.requires in
-    let variables : c.insert.new.self ≡ e.variables ++ c.args.y ∷ [] =
-    c.in_ok-insert.ensures.numbers ∙ with_absent e.variables c.args.y absent in
-    let sets : c.push.new.self.items ≡ e.sets.items ++ c.args.set ∷ [] =
-    rw c.unwrap.ensures at c.push.ensures.items ∙ ap (λ vs. vs ++ c.args.set ∷ []) c.reserve.ensures.items in
+    let variables : c.insert.new.self ≡ e.variables ++ c.args.y ∷ [] = search (arith, with_absent) in
+    let sets : c.push.new.self.items ≡ e.sets.items ++ c.args.set ∷ [] = search arith in
     omega (
       arith,
       c.self.invariant,
@@ -28,9 +26,7 @@ returns-clause-ok c =
     let e = c.self.inside in
     let absent = ap (λ xs. has_number xs c.args.y) (sym (ap keys_of (sym c.self.view_is)
     ∙ keys e.variables e.sets.items c.self.invariant)) ∙ c.requires in
-    let variables : c.insert.new.self ≡ e.variables ++ c.args.y ∷ [] =
-    c.in_ok-insert.ensures.numbers ∙ with_absent e.variables c.args.y absent in
-    let sets : c.push.new.self.items ≡ e.sets.items ++ c.args.set ∷ [] =
-    rw c.unwrap.ensures at c.push.ensures.items ∙ ap (λ vs. vs ++ c.args.set ∷ []) c.reserve.ensures.items in
+    let variables : c.insert.new.self ≡ e.variables ++ c.args.y ∷ [] = search (arith, with_absent) in
+    let sets : c.push.new.self.items ≡ e.sets.items ++ c.args.set ∷ [] = search arith in
     rw (← c.self.view_is, variables, sets) (zip-append e.variables e.sets.items (c.args.y ∷ [])
     (c.args.set ∷ []) c.self.invariant)

@@ -1,4 +1,4 @@
-use Rattle.std.proofs.Common.{◌≡◌, ◌++◌, map, ap, ◌∙◌}
+use Rattle.std.proofs.Common.{◌≡◌, ◌++◌, map, ◌∙◌, arith}
 use Rattle.dq_formula.specs.Layout.{unseeing_entry, formula_of}
 use Rattle.dq_formula.specs.Prefix.{free_variables}
 use Rattle.dq_formula.proofs.FreeExistentials.{kept-unseeing, distinct-unseeing, AreNew-free, formula_of-unseeing}
@@ -21,8 +21,7 @@ returns-clause-ok c =
     let es = f.existentials in
     let vs = free_variables (formula_of f.vars us es f.matrix) in
     let free : c.deref.result.now ≡ vs = c.deref.ensures.value ∙ (rw (← c.self.view_is) at c.in_ok-free.ensures) in
-    let entries : c.push_unseeing.new.self ≡ es ++ map unseeing_entry vs =
-    c.in_ok-push_unseeing.ensures.ok ∙ ap (λ keys. es ++ map unseeing_entry keys) free in
+    let entries : c.push_unseeing.new.self ≡ es ++ map unseeing_entry vs = search arith in
     rw (← c.self.view_is, entries) (formula_of-unseeing f.vars us es f.matrix vs)
 
 pub invariant_of-self-2 : goal.invariant_of-self-2
@@ -32,6 +31,5 @@ invariant_of-self-2 c =
     let es = f.existentials in
     let vs = free_variables (formula_of f.vars us es f.matrix) in
     let free : c.deref.result.now ≡ vs = c.deref.ensures.value ∙ (rw (← c.self.view_is) at c.in_ok-free.ensures) in
-    let entries : c.push_unseeing.new.self ≡ es ++ map unseeing_entry vs =
-    c.in_ok-push_unseeing.ensures.ok ∙ ap (λ keys. es ++ map unseeing_entry keys) free in
+    let entries : c.push_unseeing.new.self ≡ es ++ map unseeing_entry vs = search arith in
     rw entries (kept-unseeing f.vars us f.matrix vs es c.self.invariant (AreNew-free f.vars us es f.matrix))

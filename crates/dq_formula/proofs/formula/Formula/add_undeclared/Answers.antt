@@ -1,4 +1,4 @@
-use Rattle.std.proofs.Common.{◌≡◌, ◌+◌, suc, [], ◌∷◌, ◌++◌, take, sym, ap, ◌∙◌, arith}
+use Rattle.std.proofs.Common.{◌≡◌, ◌+◌, [], ◌∷◌, ◌++◌, take, arith}
 use Rattle.std.proofs.Math.Seq.{take-suc}
 use Rattle.std.proofs.lemmas.List.{take_all}
 use Rattle.dq_formula.proofs.formula.Formula.add_undeclared.Goals as goal
@@ -7,9 +7,7 @@ pub loop-lit-preserved : goal.loop-lit-preserved
 loop-lit-preserved c =
     let i = c.loop-lit.lit-index in
     let clause = c.args.clause.now in
-    let next : take (i + 1) clause ≡ take i clause ++ c.lit-item.result ∷ [] =
-    let e : i + 1 ≡ suc i = omega arith in rw e (take-suc clause i c.lit-item.result c.loop-lit-test.true ∙ ap
-    (λ l. take i clause ++ l ∷ []) (sym c.lit-item.is)) in
+    let next : take (i + 1) clause ≡ take i clause ++ c.lit-item.result ∷ [] = search (arith, take-suc) in
     λ earlier are. rw next (c.in_ok-add_if_undeclared.ensures earlier (take i clause)
     (c.loop-lit.invariant earlier are))
 

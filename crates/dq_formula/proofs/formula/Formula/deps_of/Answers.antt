@@ -1,4 +1,4 @@
-use Rattle.std.proofs.Common.{◌≡◌, ◌∙◌, sym, ap, refl, eqb, None, Some, true≢false}
+use Rattle.std.proofs.Common.{◌≡◌, ◌∙◌, sym, ap, refl, eqb, None, Some, true≢false, arith}
 use Rattle.std.specs.Map.{lookup}
 use Rattle.std.specs.Option.{option_copied}
 use Rattle.std.proofs.lemmas.Map.Views.{IfSome-lookup_from_All}
@@ -16,15 +16,13 @@ unreachable-requires c =
 pub returns-clause-set : goal.returns-clause-set
 returns-clause-set c =
     let f = c.self.inside in
-    let some : lookup (eqb c.args.y) f.existentials ≡ Some c.in-Some.deps.now =
-    sym c.set_of.ensures ∙ ap option_copied c.in-Some.is in
+    let some : lookup (eqb c.args.y) f.existentials ≡ Some c.in-Some.deps.now = search arith in
     rw (← c.self.view_is, find-existential f.universals c.args.y f.existentials, some) refl
 
 pub returns-clause-form : goal.returns-clause-form
 returns-clause-form c =
     let f = c.self.inside in
-    let some : lookup (eqb c.args.y) f.existentials ≡ Some c.in-Some.deps.now =
-    sym c.set_of.ensures ∙ ap option_copied c.in-Some.is in
+    let some : lookup (eqb c.args.y) f.existentials ≡ Some c.in-Some.deps.now = search arith in
     let form = IfSome-lookup_from_All (IsDependencySet f.universals)
     (eqb c.args.y) f.existentials c.self.invariant.sets in
     rw (← c.self.view_is) (rw some at form)

@@ -1,4 +1,4 @@
-use Rattle.std.proofs.Common.{◌≡◌, eqb, map, ap, subst, ◌∙◌, IsPermutation}
+use Rattle.std.proofs.Common.{◌≡◌, eqb, map, ap, subst, ◌∙◌, IsPermutation, arith}
 use Rattle.std.specs.List.{IsDistinct, dedup, slice_index}
 use Rattle.std.proofs.lemmas.List.Filters.{dedup_is}
 use Rattle.dq_lits.specs.Formula.{Dqbf}
@@ -13,8 +13,7 @@ picked-requires c =
     let xs = c.args.xs.now in
     let sorted = c.sort_unstable.new.self.items in
     let same : c.self.inside.universals ≡ us = ap (λ (f : Dqbf). f.universals) c.self.view_is in
-    let moved : IsPermutation (map (place us) xs) sorted = subst
-    (λ ps. IsPermutation ps sorted) c.in_ok-places.ensures c.sort_unstable.ensures.permutation in
+    let moved : IsPermutation (map (place us) xs) sorted = search arith in
     let left : c.deref.result.now ≡ dedup eqb sorted = c.deref.ensures.value
     ∙ dedup_is eqb sorted c.dedup.new.self.items c.dedup.ensures.filtered in
     rw (left, c.items.ensures, same) (places-below us xs sorted c.requires moved)
@@ -26,8 +25,7 @@ returns-clause-listed c =
     let sorted = c.sort_unstable.new.self.items in
     let same : c.self.inside.universals ≡ us = ap (λ (f : Dqbf). f.universals) c.self.view_is in
     let distinct : IsDistinct eqb us = subst (IsDistinct eqb) same c.self.invariant.distinct_universals in
-    let moved : IsPermutation (map (place us) xs) sorted = subst
-    (λ ps. IsPermutation ps sorted) c.in_ok-places.ensures c.sort_unstable.ensures.permutation in
+    let moved : IsPermutation (map (place us) xs) sorted = search arith in
     let left : c.deref.result.now ≡ dedup eqb sorted = c.deref.ensures.value
     ∙ dedup_is eqb sorted c.dedup.new.self.items c.dedup.ensures.filtered in
     let universals : c.items.result.now ≡ us = c.items.ensures ∙ same in
@@ -42,8 +40,7 @@ returns-clause-form c =
     let sorted = c.sort_unstable.new.self.items in
     let same : c.self.inside.universals ≡ us = ap (λ (f : Dqbf). f.universals) c.self.view_is in
     let distinct : IsDistinct eqb us = subst (IsDistinct eqb) same c.self.invariant.distinct_universals in
-    let moved : IsPermutation (map (place us) xs) sorted = subst
-    (λ ps. IsPermutation ps sorted) c.in_ok-places.ensures c.sort_unstable.ensures.permutation in
+    let moved : IsPermutation (map (place us) xs) sorted = search arith in
     let left : c.deref.result.now ≡ dedup eqb sorted = c.deref.ensures.value
     ∙ dedup_is eqb sorted c.dedup.new.self.items c.dedup.ensures.filtered in
     let universals : c.items.result.now ≡ us = c.items.ensures ∙ same in

@@ -1,14 +1,13 @@
-use Rattle.std.proofs.Common.{cond, not, sym, ◌∙◌, ap}
-use Rattle.dq_formula.proofs.TrueUniversals.{true_universal, no_universal, turned}
+use Rattle.std.proofs.Common.{sym, ◌∙◌, arith}
+use Rattle.dq_formula.proofs.TrueUniversals.{true_universal, no_universal}
 use Rattle.dq_formula.proofs.formula.Formula.is_true_universal.Goals as goal
 
 pub returns-in-Some : goal.returns-in-Some
 returns-in-Some c =
-    turned c.get.result c.is_neg.result
-    ∙ ap (λ n. cond n (not c.get.result) c.get.result) c.is_neg.ensures
-    ∙ sym (true_universal c.args.self.now c.args.row.now c.args.l c.var.result c.in-Some.place c.get.result
-    c.var.ensures.value c.requires
-    (sym c.universal_place.ensures ∙ c.in-Some.is) c.get.ensures)
+    search (
+      arith,
+      (true_universal c.args.self.now c.args.row.now c.args.l c.var.result c.in-Some.place c.get.result c.var.ensures.value c.requires (sym c.universal_place.ensures ∙ c.in-Some.is) c.get.ensures),
+    )
 
 pub returns-in-None : goal.returns-in-None
 returns-in-None c = sym (no_universal c.args.self.now c.args.row.now c.args.l c.var.result c.var.ensures.value

@@ -1,4 +1,4 @@
-use Rattle.std.proofs.Common.{◌==◌, ◌∙◌, sym}
+use Rattle.std.proofs.Common.{◌∙◌, sym, arith}
 use Rattle.list_laws.proofs.Folds.{place_holds}
 use Rattle.dq_formula.proofs.Places.{place-absent}
 use Rattle.dq_formula.proofs.Subsets.{none_contained}
@@ -9,10 +9,7 @@ returns-in-Some-clause-found c = λ among. place_holds c.args.self.now.universal
     (sym c.universal_place.ensures ∙ c.in-Some.is)
 
 pub returns-in-None-clause-place : goal.returns-in-None-clause-place
-returns-in-None-clause-place c =
-    let none = rw (← c.self.view_is) at c.universal_place.ensures in
-    rw (← c.self.view_is) (c.len.ensures.value ∙ sym (place-absent (λ u. u == c.args.x) c.self.inside.universals
-    (sym none ∙ c.in-None.is)))
+returns-in-None-clause-place c = search (arith, place-absent)
 
 pub returns-in-None-clause-found : goal.returns-in-None-clause-found
 returns-in-None-clause-found c = λ among. absurd (none_contained c.args.self.now.universals c.args.x

@@ -1,4 +1,4 @@
-use Rattle.std.proofs.Common.{◌≡◌, false, true, length, map, sym, subst, ◌∙◌, arith}
+use Rattle.std.proofs.Common.{◌≡◌, true, length, map, sym, subst, ◌∙◌, arith}
 use Rattle.std.proofs.lemmas.List.{length-map}
 use Rattle.std.proofs.lemmas.Option.{IfSome_then}
 use Rattle.dq_lits.specs.Formula.{Existential, existential_of}
@@ -6,21 +6,11 @@ use Rattle.dq_lits.specs.Henkin.{same_bits}
 use Rattle.dq_lits.specs.Row.{assignment_of}
 use Rattle.dq_formula.specs.Dependencies.{dependencies}
 use Rattle.dq_formula.proofs.Distinct.{length-dependencies}
-use Rattle.dq_formula.proofs.Restrictions.{same_bits-from_places, same_bits-from_difference, differs}
+use Rattle.dq_formula.proofs.Restrictions.{same_bits-from_places, same_bits-from_difference}
 use Rattle.dq_formula.proofs.formula.Formula.same_on.Goals as goal
 
 pub returns-then-first-second : goal.returns-then-first-second
-returns-then-first-second c =
-    let us = c.args.self.now.universals in
-    let deps = c.deps_of-deps.result.now in
-    let m = assignment_of us c.args.r1.now in
-    let n = assignment_of us c.args.r2.now in
-    let differ : false ≡ same_bits (map m (dependencies us deps)) (map n (dependencies us deps)) =
-    sym (same_bits-from_difference (map m (dependencies us deps)) (map n (dependencies us deps)) c.loop-i.i
-    (λ e. differs c.seen_bit-first.result c.seen_bit-second.result c.if-first-second.true
-    (c.seen_bit-first.ensures ∙ e ∙ sym c.seen_bit-second.ensures))) in
-    IfSome_then (existential_of c.args.self.now c.args.y) c.deps_of-deps.ensures.set
-    (λ (e : Existential) set. subst (λ ds. false ≡ same_bits (map m ds) (map n ds)) set differ)
+returns-then-first-second c = search (arith, same_bits-from_difference)
 
 pub returns : goal.returns
 returns c =

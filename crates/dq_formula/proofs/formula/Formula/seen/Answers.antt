@@ -1,5 +1,4 @@
-use Rattle.std.proofs.Common.{◌≤◌, length, subst}
-use Rattle.dq_formula.specs.Dependencies.{IsDependencySet}
+use Rattle.std.proofs.Common.{◌≤◌, length, arith}
 use Rattle.dq_formula.proofs.Lawful.{take-filter}
 use Rattle.dq_formula.proofs.Subsets.{distinct_universals}
 use Rattle.dq_formula.proofs.formula.Formula.seen.Goals as goal
@@ -7,7 +6,6 @@ use Rattle.dq_formula.proofs.formula.Formula.seen.Goals as goal
 pub returns-in-FirstOf-clause-ordered : goal.returns-in-FirstOf-clause-ordered
 returns-in-FirstOf-clause-ordered c =
     let f = c.args.self.now in
-    let within : c.in-FirstOf.n ≤ length f.universals = subst
-    (IsDependencySet f.universals) c.in-FirstOf.is c.deps_of.ensures.form in
+    let within : c.in-FirstOf.n ≤ length f.universals = search arith in
     rw c.universals.ensures (take-filter c.in-FirstOf.n f.universals
     (distinct_universals f c.every_formula_is_lawful.ensures.prefix) within)

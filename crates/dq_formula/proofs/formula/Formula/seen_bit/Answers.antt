@@ -1,6 +1,4 @@
-use Rattle.std.proofs.Common.{◌≡◌, ◌<◌, eqb, get_or, ap, sym, subst, ◌∙◌, length, map}
-use Rattle.std.specs.List.{IsDistinct}
-use Rattle.dq_lits.specs.Formula.{Dqbf}
+use Rattle.std.proofs.Common.{◌≡◌, ◌<◌, get_or, ap, sym, subst, ◌∙◌, length, map, arith}
 use Rattle.dq_lits.specs.Row.{bit_of, assignment_of}
 use Rattle.dq_formula.specs.Dependencies.{dependencies, listed_universals, IsDependencySet}
 use Rattle.dq_formula.proofs.Distinct.{place-listed}
@@ -18,14 +16,7 @@ get-requires-in-Some c =
     rw (c.place_of.ensures.place, c.requires.row_length) (place-listed us vs c.args.i x kept l at)
 
 pub returns-then-i-n : goal.returns-then-i-n
-returns-then-i-n c =
-    let us = c.args.self.now.universals in
-    let row = c.args.row.now in
-    let same = ap (λ (f : Dqbf). f.universals) c.self.view_is in
-    let distinct : IsDistinct eqb us = subst (IsDistinct eqb) same c.self.invariant.distinct_universals in
-    let within = subst (IsDependencySet us) c.in-FirstOf.is c.requires.form in
-    c.get.ensures ∙ bit-first us row c.in-FirstOf.n c.args.i distinct c.requires.row_length within c.if-i-n.true
-    ∙ ap (λ deps. bit_of (map (assignment_of us row) (dependencies us deps)) c.args.i) (sym c.in-FirstOf.is)
+returns-then-i-n c = search (arith, bit-first)
 
 pub returns-in-Some : goal.returns-in-Some
 returns-in-Some c =

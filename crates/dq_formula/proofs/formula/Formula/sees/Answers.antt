@@ -1,9 +1,8 @@
-use Rattle.std.proofs.Common.{◌≡◌, None, Some, position, eqb, ap, sym, subst, ◌∙◌}
+use Rattle.std.proofs.Common.{◌≡◌, None, Some, position, eqb, ap, sym, subst, ◌∙◌, arith}
 use Rattle.std.specs.List.{IsDistinct}
 use Rattle.std.proofs.lemmas.Option.{IfSome_then}
 use Rattle.dq_lits.specs.Formula.{Existential, Dqbf}
 use Rattle.dq_formula.specs.Dependencies.{dependencies, IsDependencySet}
-use Rattle.dq_formula.proofs.Places.{flip}
 use Rattle.dq_formula.proofs.Distinct.{sees-none, sees-first, sees-listed}
 use Rattle.dq_formula.proofs.formula.Formula.sees.Goals as goal
 
@@ -11,9 +10,7 @@ pub returns-in_default : goal.returns-in_default
 returns-in_default c =
     let us = c.args.self.now.universals in
     let same : c.self.inside.universals ≡ us = ap (λ (f : Dqbf). f.universals) c.self.view_is in
-    let none : position (eqb c.args.x) us ≡ None =
-    subst (λ xs. position (eqb c.args.x) xs ≡ None) same (ap (λ p. position p c.self.inside.universals) (flip c.args.x)
-    ∙ sym c.place.ensures.place ∙ c.in_default.is) in
+    let none : position (eqb c.args.x) us ≡ None = search arith in
     IfSome_then _ c.deps_of-deps.ensures.set (λ (e : Existential) set. sees-none us c.deps_of-deps.result.now e.sees
     c.args.x c.deps_of-deps.ensures.form set none)
 
@@ -23,9 +20,7 @@ returns-in-FirstOf c =
     let n = c.in-FirstOf.n in
     let same : c.self.inside.universals ≡ us = ap (λ (f : Dqbf). f.universals) c.self.view_is in
     let distinct : IsDistinct eqb us = subst (IsDistinct eqb) same c.self.invariant.distinct_universals in
-    let place : position (eqb c.args.x) us ≡ Some c.in-Some.place =
-    subst (λ xs. position (eqb c.args.x) xs ≡ Some c.in-Some.place) same
-    (ap (λ p. position p c.self.inside.universals) (flip c.args.x) ∙ sym c.place.ensures.place ∙ c.in-Some.is) in
+    let place : position (eqb c.args.x) us ≡ Some c.in-Some.place = search arith in
     let form = subst (IsDependencySet us) c.in-FirstOf.is c.deps_of-deps.ensures.form in
     IfSome_then _ c.deps_of-deps.ensures.set (λ (e : Existential) set. sees-first us n e.sees c.args.x c.in-Some.place
     distinct form (ap (dependencies us) (sym c.in-FirstOf.is) ∙ set) place)
@@ -36,9 +31,7 @@ returns-in-Listed c =
     let vs = c.in-Listed.vars in
     let same : c.self.inside.universals ≡ us = ap (λ (f : Dqbf). f.universals) c.self.view_is in
     let distinct : IsDistinct eqb us = subst (IsDistinct eqb) same c.self.invariant.distinct_universals in
-    let place : position (eqb c.args.x) us ≡ Some c.in-Some.place =
-    subst (λ xs. position (eqb c.args.x) xs ≡ Some c.in-Some.place) same
-    (ap (λ p. position p c.self.inside.universals) (flip c.args.x) ∙ sym c.place.ensures.place ∙ c.in-Some.is) in
+    let place : position (eqb c.args.x) us ≡ Some c.in-Some.place = search arith in
     let form = subst (IsDependencySet us) c.in-Listed.is c.deps_of-deps.ensures.form in
     let range = rw c.items.ensures at c.finds.ensures.within in
     let result = rw c.items.ensures at c.finds.ensures.found in

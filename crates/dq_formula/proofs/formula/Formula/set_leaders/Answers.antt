@@ -1,14 +1,11 @@
-use Rattle.std.proofs.Common.{length, ap, ◌∙◌, arith}
+use Rattle.std.proofs.Common.{length, arith}
 use Rattle.std.proofs.lemmas.List.{length-map, length_push}
 use Rattle.dq_formula.specs.Sets.{IsLeader}
 use Rattle.dq_formula.proofs.SetLeaders.{leaders_more}
 use Rattle.dq_formula.proofs.formula.Formula.set_leaders.Goals as goal
 
 pub leader_of-requires : goal.leader_of-requires
-leader_of-requires c =
-    let many = ap length c.existentials-place-end.ensures ∙ length-map c.args.self.now.existentials (λ y. y.variable) in
-    let test = c.loop-place-test.true in
-    omega (arith, test, many)
+leader_of-requires c = search (arith, length-map)
 
 pub loop-place-preserved : goal.loop-place-preserved
 loop-place-preserved c =

@@ -1,4 +1,4 @@
-use Rattle.std.proofs.Common.{◌≡◌, ◌+◌, suc, [], ◌∷◌, ◌++◌, take, arith, ◌∙◌, sym, ap}
+use Rattle.std.proofs.Common.{◌≡◌, ◌+◌, [], ◌∷◌, ◌++◌, take, arith}
 use Rattle.std.proofs.Math.Seq.{take-suc}
 use Rattle.dq_formula.proofs.Free.{none_undeclared}
 use Rattle.dq_formula.proofs.formula.Formula.undeclared.Goals as goal
@@ -10,8 +10,5 @@ pub loop-j-preserved : goal.loop-j-preserved
 loop-j-preserved c =
     let j = c.loop-j.j in
     let matrix = c.args.self.now.matrix in
-    let next : take (j + 1) matrix ≡ take j matrix ++ c.clause.result.now ∷ [] =
-    let e : j + 1 ≡ suc j = omega arith in rw e (take-suc matrix j []
-    (omega (arith, c.loop-j-test.true, c.clauses-j-end.ensures.value)) ∙ ap (λ clause. take j matrix ++ clause ∷ [])
-    (sym c.clause.ensures)) in
+    let next : take (j + 1) matrix ≡ take j matrix ++ c.clause.result.now ∷ [] = search (arith, take-suc) in
     rw next (c.in_ok-add_undeclared.ensures (take j matrix) c.loop-j.invariant)

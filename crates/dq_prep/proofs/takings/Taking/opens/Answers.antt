@@ -1,6 +1,4 @@
-use Rattle.std.proofs.Common.{◌+◌, take, sym, subst}
-use Rattle.dq_prep.specs.Roles.{AreOpen}
-use Rattle.dq_prep.specs.Units.{taken_literals}
+use Rattle.std.proofs.Common.{sym, subst, arith}
 use Rattle.std.specs.List.{Contains}
 use Rattle.dq_lits.specs.Literal.{variable_of}
 use Rattle.dq_lits.specs.Formula.{declared}
@@ -13,9 +11,4 @@ role-requires-clause-bound c =
     (c.requires.bound c.loop-l.l-index c.l-item.result c.loop-l-test.true)
 
 pub loop-l-preserved : goal.loop-l-preserved
-loop-l-preserved c =
-    subst (AreOpen c.args.self.now.formula.now (taken_literals c.args.self.now.trace)
-    (take (c.loop-l.l-index + 1) c.args.clause.now)) (sym c.with_role-opens.ensures)
-    (open-more c.args.self.now.formula.now c.args.self.now.trace c.args.clause.now c.loop-l.l-index c.l-item.result
-    c.loop-l.opens c.role.result c.requires.right.units c.loop-l-test.true c.l-item.is c.role.ensures
-    c.loop-l.invariant)
+loop-l-preserved c = search (arith, open-more)

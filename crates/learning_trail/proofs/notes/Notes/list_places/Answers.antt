@@ -1,4 +1,4 @@
-use Rattle.std.proofs.Common.{List, refl, sym, ◌∙◌, ap, get_or}
+use Rattle.std.proofs.Common.{List, refl, sym, ◌∙◌, ap, get_or, arith}
 use Rattle.std.proofs.lemmas.List.Sorted.{IsNonDecreasingBy-from_sort, Contains-permutation}
 use Rattle.dq_lits.specs.Literal.{variable_of}
 use Rattle.learning_trail.specs.declared.notes.Mark.{Mark}
@@ -9,8 +9,7 @@ use Rattle.learning_trail.proofs.TouchedMarks.{mark_shown}
 use Rattle.learning_trail.proofs.notes.Notes.list_places.Goals as goal
 
 pub returns-clause-sorted : goal.returns-clause-sorted
-returns-clause-sorted c = IsNonDecreasingBy-from_sort (λ x. x) c.sort_unstable.new.self.items
-    c.sort_unstable.ensures.sorted
+returns-clause-sorted c = search (arith, IsNonDecreasingBy-from_sort)
 
 pub returns-clause-covered : goal.returns-clause-covered
 returns-clause-covered c = λ at l h on.

@@ -8,22 +8,10 @@ use Rattle.learning_trail.proofs.PairedValues.{paired_length, read_signed, sign_
 use Rattle.learning_trail.proofs.values.Values.of.Goals as goal
 
 pub index-requires : goal.index-requires
-index-requires c =
-    let inside = c.self.inside.values in
-    let twice = paired_length inside.items c.self.invariant in
-    let shown : length (plain inside.items) ≡ length c.args.self.now = ap length c.self.view_is in
-    let low = sign_low (is_negative c.args.l) in
-    let at = c.place.ensures.value in
-    let two = c.place.ensures.from_two in
-    let known = c.requires in
-    omega (arith, twice, shown, low, at, two, known, inside.ok.0)
+index-requires c = search (arith, paired_length, sign_low)
 
 pub returns-clause-from_one : goal.returns-clause-from_one
-returns-clause-from_one c =
-    let low = sign_low (is_negative c.args.l) in
-    let at = c.place.ensures.value in
-    let two = c.place.ensures.from_two in
-    omega (arith, low, at, two)
+returns-clause-from_one c = search (arith, sign_low)
 
 pub returns-clause-value : goal.returns-clause-value
 returns-clause-value c = λ i e.

@@ -1,4 +1,4 @@
-use Rattle.std.proofs.Common.{◌+◌, sym, ◌∙◌, ap, subst}
+use Rattle.std.proofs.Common.{◌+◌, sym, ◌∙◌, ap, subst, arith}
 use Rattle.list_laws.proofs.Sequences.{drop_end}
 use Rattle.list_laws.proofs.Elements.{drop_at}
 use Rattle.rup_core.specs.Proving.{ProofState}
@@ -8,16 +8,10 @@ use Rattle.refutation_checker.proofs.NamedLines.{then_extends, lines_later, hint
 use Rattle.refutation_checker.proofs.judging.Judging.hint_all.Goals as goal
 
 pub returns-in_err-hint-clause-extends : goal.returns-in_err-hint-clause-extends
-returns-in_err-hint-clause-extends c =
-    then_extends (frame c.args.e.now) (names_in c.args.self.now.names) (names_in c.loop-id.self.names)
-    (names_in c.hint.new.self.names) c.loop-id.invariant.extends
-    c.hint.ensures.extends
+returns-in_err-hint-clause-extends c = search (arith, then_extends)
 
 pub returns-then-is_faulty-clause-extends : goal.returns-then-is_faulty-clause-extends
-returns-then-is_faulty-clause-extends c =
-    then_extends (frame c.args.e.now) (names_in c.args.self.now.names) (names_in c.loop-id.self.names)
-    (names_in c.hint.new.self.names) c.loop-id.invariant.extends
-    c.hint.ensures.extends
+returns-then-is_faulty-clause-extends c = search (arith, then_extends)
 
 pub returns-then-is_faulty-clause-judged : goal.returns-then-is_faulty-clause-judged
 returns-then-is_faulty-clause-judged c lines literals are behind begun =

@@ -1,11 +1,11 @@
-use Rattle.std.proofs.Common.{length, sym, ◌∙◌, subst}
+use Rattle.std.proofs.Common.{length, sym, ◌∙◌, subst, arith}
 use Rattle.std.specs.Prelude.{OnOk}
 use Rattle.cert_text.specs.Grammar.{IsItem}
 use Rattle.cert_text.specs.Items.{item_seen}
 use Rattle.cert_text.specs.Numbering.{Numbering, behind_item}
 use Rattle.cert_text.specs.Pairs.{is_pair_number}
 use Rattle.rup_core.specs.Runs.{Run, with_item}
-use Rattle.refutation_checker.specs.Proving.{IsJudging, MayJudge}
+use Rattle.refutation_checker.specs.Proving.{IsJudging}
 use Rattle.refutation_checker.specs.Refutation.{normal_item}
 use Rattle.refutation_checker.specs.declared.proving.RefutationProving.{RefutationProving}
 use Rattle.refutation_checker.proofs.JudgedItems.{gone_judging, not_settled, settled_judging}
@@ -17,12 +17,10 @@ returns-then-is_settled c at run judging lawful =
     (sym c.is_settled.ensures ∙ c.if-is_settled.true) at run judging
 
 pub line-requires-clause-may : goal.line-requires-clause-may
-line-requires-clause-may c =
-    subst (λ i. MayJudge c.args.f.now c.args.rows.now c.args.self.now (item_seen i)) c.in-Line.is c.requires
+line-requires-clause-may c = search arith
 
 pub line-requires-clause-going : goal.line-requires-clause-going
-line-requires-clause-going c =
-    not_settled c.args.self.now.judging.proving.fault (sym c.is_settled.ensures ∙ c.if-is_settled.false)
+line-requires-clause-going c = search (arith, not_settled)
 
 pub returns-in-Line : goal.returns-in-Line
 returns-in-Line c =

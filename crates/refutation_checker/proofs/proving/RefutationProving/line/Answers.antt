@@ -1,3 +1,4 @@
+use Rattle.std.proofs.Common.{arith}
 use Rattle.cert_text.specs.Steps.{step_seen}
 use Rattle.refutation_checker.proofs.JudgedItems.{line_above, line_from_one, line_judging}
 use Rattle.list_laws.proofs.Results.{on_ok}
@@ -13,8 +14,7 @@ pub judge-requires-clause-pairs : goal.judge-requires-clause-pairs
 judge-requires-clause-pairs c = c.requires.may.lawful.on_variables
 
 pub judge-requires-clause-from_one : goal.judge-requires-clause-from_one
-judge-requires-clause-from_one c =
-    line_from_one c.args.f.now c.args.rows.now c.args.self.now (step_seen c.args.step) c.requires.may
+judge-requires-clause-from_one c = search (arith, line_from_one)
 
 pub judge-requires-clause-above : goal.judge-requires-clause-above
 judge-requires-clause-above c =

@@ -1,13 +1,9 @@
+use Rattle.std.proofs.Common.{arith}
 use Rattle.refutation_checker.proofs.JudgedItems.{none_yet}
 use Rattle.refutation_checker.proofs.proving.RefutationProving.new.Goals as goal
 
 pub begin-requires : goal.begin-requires
-begin-requires c = record {
-  lawful = c.every_formula_is_lawful.ensures;
-  whole = c.requires.whole;
-  few = c.requires.few;
-  bound = c.in_ok-bindings.ensures;
-}
+begin-requires c = search arith
 
 pub returns : goal.returns
 returns c =
