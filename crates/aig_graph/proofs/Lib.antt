@@ -10,3 +10,4 @@ pub mod WrittenBits
 pub mod GatheredCones
 mod PutInNodes
 mod MadeGates
+mod WordBits

@@ -5,3 +5,4 @@ pub mod Marking
 pub mod Outputs
 pub mod Substituting
 pub mod Putting
+pub mod Words

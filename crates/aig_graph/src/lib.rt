@@ -17,3 +17,4 @@ mod nodes;
 mod substituting;
 mod supports;
 mod values;
+mod words;

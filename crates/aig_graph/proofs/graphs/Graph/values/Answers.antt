@@ -15,7 +15,7 @@ loop-place-preserved c =
     let d = Constant false in
     let n = get_or nodes i d in
     let here = c.requires.nodes i d c.loop-place-test.true in
-    let value = node_has_value graph row c.write_values.new.buf (length graph.gates)
+    let value = node_has_value graph (bit_of row) (bit_of c.write_values.new.buf) (length graph.gates)
     (λ g below. c.write_values.ensures.values g (subst (λ m. g < m) (sym c.gates.ensures) below)) n here in
     written_more (node_value graph (bit_of row)) nodes c.args.out.now c.loop-place.out c.set.new.self i d
     c.loop-place-test.true c.requires.a_bit_a_node c.loop-place.invariant
