@@ -13,4 +13,5 @@ pub mod SettledDefinitions
 pub mod TreeNodes
 pub mod WrittenRows
 pub mod KnownPoints
+mod RowWords
 pub mod PatchedPairs

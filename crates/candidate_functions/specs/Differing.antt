@@ -1,9 +1,10 @@
 -- Words of private contracts: what is known of nodes at the rows of a table, and the pairs at which
 -- they are patched.
-use Rattle.std.specs.Prelude.{◌≡◌, ℕ, ◌+◌, ◌-◌, ◌<◌, ◌⊎◌, Bool, true, List, length, map, Some, slice_get, take}
+use Rattle.std.specs.Prelude.{◌≡◌, ℕ, ◌+◌, ◌-◌, ◌<◌, ◌⊎◌, Bool, true, List, length, [], map, Some, slice_get, slice_index_or, take}
 use Rattle.std.specs.List.{All, Contains}
 use Rattle.dq_lits.specs.Row.{bit_of}
 use Rattle.aig_graph.specs.Graph.{AigGraph, node_value}
+use Rattle.aig_graph.specs.Words.{word_bit}
 use Rattle.aig_graph.specs.declared.nodes.Node.{Node}
 use Rattle.expansion.specs.Table.{PointBits}
 use Rattle.candidate_functions.specs.Pairs.{IsPair}
@@ -18,6 +19,12 @@ values_under graph nodes row = map (node_value graph (bit_of row)) nodes
 abbrev pub AreValues : List (List Bool) → AigGraph → List Node → List (List Bool) → Type 0
 AreValues rows graph nodes values =
     values ≡ map (values_under graph nodes) (take (length values) rows)
+
+-- the values of nodes under 64 rows from a place on, side by side: no row has all bits false
+abbrev pub AreWordsFrom : List (List Bool) → AigGraph → List Node → ℕ → List ℕ → Type 0
+AreWordsFrom rows graph nodes first words =
+    (b : ℕ) → b < 64
+    → map (word_bit b) words ≡ values_under graph nodes (slice_index_or rows (first + b) [])
 
 -- the row has a bit at a place, which is this one
 pub record HasBitAt (row : List Bool) (place : ℕ) (bit : Bool) : Type 0 where

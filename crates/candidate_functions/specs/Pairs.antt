@@ -1,6 +1,6 @@
 -- Words of private contracts: the pairs of existentials with one dependency set, as nodes.
 use Rattle.std.specs.Prelude.{◌≡◌, ℕ, ◌+◌, ◌<◌, ◌≤◌, ◌-◌, ◌==◌, ◌⊎◌, Bool, true, false, not, ◌&&◌, ◌||◌, List, length, map, Option, None, Some, slice_get, slice_index, slice_index_or}
-use Rattle.std.specs.List.{All, Contains, list_all, list_any, position_or_len}
+use Rattle.std.specs.List.{All, Contains, list_any, position_or_len}
 use Rattle.std.specs.Option.{option_map}
 use Rattle.dq_lits.specs.Formula.{Existential, Dqbf, existential_of}
 use Rattle.dq_lits.specs.Henkin.{same_bit}

@@ -2,24 +2,18 @@
 //! doesn't grow where a guess was right.
 //!
 //! Patched at all pairs, circuits are so large that counterexamples teach little (94 rounds in
-//! place of 14). The walks stop at 2^23 gates in a call; at the rows that are left all is patched
-//! unseen.
+//! place of 14). What isn't known of a node is patched unseen.
 
 ghost use Rattle.std.specs.Prelude.{◌≡◌, ◌≤◌, ◌<◌, ◌+◌, ℕ, length, map, All, Contains, IfOk, IsTrue};
 ghost use Rattle.dq_lits.specs.Row.{bit_of};
 ghost use Rattle.aig_graph.specs.Graph.{IsNode, size_of, node_value};
 ghost use Rattle.expansion.specs.Table.{point_bits};
-ghost use Rattle.candidate_functions.specs.Differing.{AreValues, HasBitAt, HasKnownPoint};
+ghost use Rattle.candidate_functions.specs.Differing.{HasBitAt, HasKnownPoint};
 
 use crate::outputs::Known;
 use aig_graph::{Graph, Node};
 use dq_lits::{Memory, Row, RowList};
-use expansion::Table;
 use std::alloc::Global;
-
-// The most gates that are gone over: rows times gates have no bound. At rows behind these, nodes are
-// patched without a look.
-const MOST_WORK: usize = 1 << 23;
 
 // A node for each existential, and their bits at the first rows of the table.
 #[derive(Drop)]
@@ -35,33 +29,6 @@ pub(crate) struct Own<'a> {
     pub y: u64,
     pub node: Node,
     pub values: &'a RowList,
-}
-
-// The bits of nodes at the first rows of a table.
-pub(crate) fn values_at_rows(
-    alloc: Global,
-    table: &Table,
-    nodes: &[Node],
-    graph: &Graph,
-) -> Result<RowList, Memory>
-    requires short { All (λ row. length row ≤ graph.now.inputs) table.now.rows }
-    requires nodes { All (IsNode graph.now) nodes.now }
-    ensures { IfOk result (AreValues table.now.rows graph.now nodes.now) }
-{
-    let mut buf = Row::new(alloc, graph.len())?;
-    let mut values = RowList::new(alloc);
-    for k in 0..rows_to_see(table, graph) {
-        values.push(values_at(alloc, nodes, table.row(k + 1), graph, &mut buf)?)?;
-    }
-    Ok(values)
-}
-
-// How many rows there is work for.
-fn rows_to_see(table: &Table, graph: &Graph) -> u64
-    ensures { result ≤ length table.now.rows }
-{
-    let most = MOST_WORK / graph.len().max(1);
-    table.rows().min(most as u64)
 }
 
 // The bits of nodes at a row.

@@ -6,8 +6,9 @@ ghost use Rattle.dq_formula.specs.Prefix.{existential_variables};
 use crate::counts::BranchCounts;
 use crate::outputs::Known;
 use crate::samples::Samples;
+use crate::values::bit_at;
 use dq_formula::Formula;
-use dq_lits::{Memory, Row};
+use dq_lits::Memory;
 use expansion::{Points, Table};
 use std::alloc::Global;
 
@@ -188,18 +189,8 @@ impl Examples<'_> {
     // Whether the universal of a test is true in an example.
     fn is_one(&self, number: usize, test: Test) -> bool {
         match number.checked_sub(self.table.rows() as usize) {
-            Some(number) => bit_at(self.table, number, test.twin),
-            None => bit_at(self.table, number, test.own),
+            Some(number) => bit_at(self.table, number as u64, test.twin),
+            None => bit_at(self.table, number as u64, test.own),
         }
     }
-}
-
-// The bit at a place of a row, by its number from 0 on.
-fn bit_at(table: &Table, number: usize, place: usize) -> bool {
-    let k = number as u64;
-    if k >= table.rows() {
-        return false;
-    }
-    let row: &Row = table.row(k + 1);
-    place < row.len() && row.get(place)
 }

@@ -23,3 +23,4 @@ mod rules;
 mod samples;
 mod trees;
 mod twins;
+mod values;

@@ -12,9 +12,10 @@ ghost use Rattle.candidate_functions.specs.Pairs.{IsClass, IsByRules, AreByRules
 
 use crate::classes::{Classes, no_classes};
 use crate::definitions::given_at;
-use crate::differing::{Others, Own, has_all_points, values_at_rows};
+use crate::differing::{Others, Own, has_all_points};
 use crate::patches::patched;
 use crate::samples::Samples;
+use crate::values::values_at_rows;
 use aig_graph::{Graph, Node};
 use dq_formula::Formula;
 use dq_lits::Memory;

@@ -1,0 +1,122 @@
+-- Rows side by side in words: how they are written, and the values that are read from them.
+use Rattle.std.proofs.Common.{◌≡◌, ◌≢◌, ℕ, ◌+◌, ◌<◌, ◌≤◌, Bool, false, ◌==◌, List, [], ◌∷◌, ◌++◌, map, length, get_or, take, drop, min, ◌*◌, inl, inr, ◌⊎◌, sym, ◌∙◌, ap, subst, arith, length-append}
+use mathlib.Core.Path.{fun_ext}
+use Rattle.std.specs.List.{All}
+use Rattle.std.proofs.Math.Seq.{take-append_seam}
+use Rattle.std.proofs.lemmas.List.{get_or_past}
+use Rattle.std.proofs.lemmas.Nat.Bits.{bit_at-zero}
+use Rattle.std.proofs.lemmas.Option.{slice_get-get_or}
+use Rattle.list_laws.proofs.Numbers.{below_or_here}
+use Rattle.dq_lits.specs.Row.{bit_of}
+use Rattle.aig_graph.specs.Graph.{AigGraph, node_value}
+use Rattle.aig_graph.specs.Words.{word_bit, row_at}
+use Rattle.aig_graph.specs.declared.nodes.Node.{Node}
+use Rattle.candidate_functions.specs.Differing.{values_under, AreValues, AreWordsFrom}
+use Rattle.candidate_functions.proofs.KnownPoints.{row_valued}
+
+-- how far the word of an input was written
+pub record IsWordSoFar (rows : List (List Bool)) (first place b word : ℕ) : Type 0 where
+  pub bits : (j : ℕ) → j < b → word_bit j word ≡ bit_of (get_or rows (first + j) []) place
+  pub clear : (j : ℕ) → b ≤ j → word_bit j word ≡ false
+
+pub no_bit : (b : ℕ) → word_bit b 0 ≡ false
+no_bit b = ap (λ n. n == 1) (bit_at-zero b)
+
+pub word_begins : (rows : List (List Bool)) (first place : ℕ) → IsWordSoFar rows first place 0 0
+word_begins rows first place = record {
+  bits = λ j below. absurd (omega (arith, below));
+  clear = λ j from. no_bit j;
+}
+
+pub word_goes_on : (rows : List (List Bool)) (first place b word next : ℕ) → IsWordSoFar rows first place b word →
+    word_bit b next ≡ bit_of (get_or rows (first + b) []) place →
+    ((j : ℕ) → j ≢ b → word_bit j next ≡ word_bit j word) → IsWordSoFar rows first place (b + 1) next
+word_goes_on rows first place b word next before here others = record {
+  bits = λ j below. by j (below_or_here j b below);
+  clear = λ j from. others j (λ e. omega (arith, e, from)) ∙ before.clear j (omega (arith, from));
+} where
+  by : (j : ℕ) → (j < b) ⊎ (j ≡ b) → word_bit j next ≡ bit_of (get_or rows (first + j) []) place
+  by j (inl below) = others j (λ e. omega (arith, e, below)) ∙ before.bits j below
+  by j (inr is) = subst (λ k. word_bit k next ≡ bit_of (get_or rows (first + k) []) place) (sym is) here
+
+-- how many of the inputs' words were made
+pub record AreInputsSoFar (rows : List (List Bool)) (first count : ℕ) (words : List ℕ) : Type 0 where
+  pub long : length words ≡ count
+  pub bits : (b i : ℕ) → b < 64 → i < count → row_at words b i ≡ bit_of (get_or rows (first + b) []) i
+
+-- the words have the rows
+same_row : (words : List ℕ) (row : List Bool) (b : ℕ) → length row ≤ length words →
+    ((i : ℕ) → i < length words → row_at words b i ≡ bit_of row i) → row_at words b ≡ bit_of row
+same_row words row b short bits = fun_ext (λ i. by i (below_or_from i (length words)))
+  where
+    below_or_from : (i n : ℕ) → (i < n) ⊎ (n ≤ i)
+    below_or_from i n = search (arith)
+
+    by : (i : ℕ) → (i < length words) ⊎ (length words ≤ i) → row_at words b i ≡ bit_of row i
+    by i (inl below) = bits i below
+    by i (inr from) =
+        ap (word_bit b) (get_or_past words i 0 from) ∙ no_bit b
+        ∙ sym (get_or_past row i false (omega (arith, short, from)))
+
+short_row : (rows : List (List Bool)) (inputs k : ℕ) → All (λ row. length row ≤ inputs) rows →
+    length (get_or rows k []) ≤ inputs
+short_row rows inputs k short = by (below_or_from k (length rows))
+  where
+    below_or_from : (i n : ℕ) → (i < n) ⊎ (n ≤ i)
+    below_or_from i n = search (arith)
+
+    by : (k < length rows) ⊎ (length rows ≤ k) → length (get_or rows k []) ≤ inputs
+    by (inl below) = short k [] below
+    by (inr from) = subst (λ row. length row ≤ inputs) (sym (get_or_past rows k [] from)) (omega arith)
+
+pub words_from : (rows : List (List Bool)) (graph : AigGraph) (nodes : List Node) (first : ℕ) (inputs words : List ℕ) →
+    All (λ row. length row ≤ length inputs) rows →
+    ((b i : ℕ) → b < 64 → i < length inputs → row_at inputs b i ≡ bit_of (get_or rows (first + b) []) i) →
+    ((b : ℕ) → b < 64 → map (word_bit b) words ≡ map (node_value graph (row_at inputs b)) nodes) →
+    AreWordsFrom rows graph nodes first words
+words_from rows graph nodes first inputs words short bits values b below =
+    let row = get_or rows (first + b) [] in
+    values b below ∙ ap (λ m. map (node_value graph m) nodes)
+    (same_row inputs row b (short_row rows (length inputs) (first + b) short) (λ i inside. bits b i below inside))
+
+-- what a list that was lent has behind the call
+pub lent_back : (old new : List ℕ) (count : ℕ) → count ≡ length new →
+    take count (new ++ drop (length new) old) ≡ new
+lent_back old new count long =
+    subst (λ n. take n (new ++ drop (length new) old) ≡ new) (sym long) (take-append_seam new (drop (length new) old))
+
+-- how many rows were added
+pub record ArePushed (rows : List (List Bool)) (graph : AigGraph) (nodes : List Node) (old values : List (List Bool))
+    (b : ℕ) : Type 0 where
+  pub are : AreValues rows graph nodes values
+  pub long : length values ≡ length old + b
+
+pub pushed_more : (rows : List (List Bool)) (graph : AigGraph) (nodes : List Node) (words : List ℕ)
+    (old values next : List (List Bool)) (row : List Bool) (b : ℕ) → b < 64 →
+    AreWordsFrom rows graph nodes (length old) words → length old + b < length rows →
+    ArePushed rows graph nodes old values b → row ≡ map (word_bit b) words → next ≡ values ++ row ∷ [] →
+    ArePushed rows graph nodes old next (b + 1)
+pushed_more rows graph nodes words old values next row b below from inside before row_is next_is =
+    let k = length old + b in
+    let more : length (values ++ row ∷ []) ≡ k + 1 =
+    length-append values (row ∷ []) ∙ ap (λ n. n + 1) before.long in
+    subst (λ v. ArePushed rows graph nodes old v (b + 1)) (sym next_is) (record {
+      are = subst (λ n. values ++ row ∷ [] ≡ map (values_under graph nodes) (take n rows)) (sym more)
+          (row_valued rows graph nodes k (get_or rows k []) row values (slice_get-get_or rows k [] inside)
+          (row_is ∙ from b below)
+          (subst (λ n. values ≡ map (values_under graph nodes) (take n rows)) before.long before.are));
+      long = more ∙ (let e : length old + b + 1 ≡ length old + (b + 1) = omega arith in e);
+    })
+
+-- the same of whatever table and graph the words are
+pub record AreRowsPushed (words : List ℕ) (old values : List (List Bool)) (count b : ℕ) : Type 0 where
+  pub long : length values ≡ length old + b
+  pub are : (rows : List (List Bool)) (graph : AigGraph) (nodes : List Node) → AreValues rows graph nodes old →
+      AreWordsFrom rows graph nodes (length old) words → length old + count ≤ length rows →
+      ArePushed rows graph nodes old values b
+
+-- how many parts of the rows were seen
+pub record AreSeen (rows : List (List Bool)) (graph : AigGraph) (nodes : List Node) (count part : ℕ)
+    (values : List (List Bool)) : Type 0 where
+  pub are : AreValues rows graph nodes values
+  pub long : length values ≡ min count (part * 64)
