@@ -1,4 +1,5 @@
 mod TokenCuts
+mod EndedNumbers
 mod FirstLine
 mod KeptBytes
 pub mod LineWords

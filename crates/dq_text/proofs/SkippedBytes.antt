@@ -1,5 +1,5 @@
 -- Bytes between tokens, passed in runs.
-use Rattle.std.proofs.Common.{◌≡◌, ◌≢◌, ◌==◌, ◌||◌, ℕ, ◌≤◌, ◌<◌, Bool, true, false, cond, List, [], ◌∷◌, ◌++◌, length, take, drop, ◌-◌, append-nil, refl, sym, ◌∙◌, ap, subst, arith, inl, inr, append_assoc, if◌then◌else◌}
+use Rattle.std.proofs.Common.{◌≡◌, ◌≢◌, ◌==◌, ◌||◌, ℕ, ◌+◌, ◌≤◌, ◌<◌, Bool, true, false, cond, List, [], ◌∷◌, ◌++◌, length, take, drop, ◌-◌, append-nil, refl, sym, ◌∙◌, ap, subst, arith, inl, inr, append_assoc, if◌then◌else◌}
 use Rattle.std.specs.List.{All}
 use Rattle.std.proofs.lemmas.Bool.{ne_eqb}
 use Rattle.std.proofs.lemmas.List.{take_all, length-drop}
@@ -111,6 +111,19 @@ comment_end_line InLine line bytes left more ends = ap (λ xs. line_behind line 
 
 -- Between tokens.
 
+-- what was kept before a token's first byte doesn't matter
+kept_nothing : (token : TokenSummary) (place : LinePlace) (line : ℕ) (bytes : List ℕ) → is_begun token.head ≡ false →
+    tokens_behind token place line bytes ≡ tokens_behind no_bytes place line bytes
+kept_nothing token place line [] fresh = ap (λ b. cond b (record { summary = token; line = line } ∷ []) []) fresh
+kept_nothing token place line (byte ∷ bytes) fresh =
+    let p = place_after (kind_of byte) place in
+    let l = line_after (kind_of byte) line in
+    let rest = tokens_behind no_bytes p l bytes in
+    ap (λ t. cond (is_in_token (kind_of byte) place) (tokens_behind t p l bytes) (ended token line rest))
+    (first_grown token byte (none_begun token.head fresh))
+    ∙ ap (λ b. cond (is_in_token (kind_of byte) place) (tokens_behind (grown no_bytes byte) p l bytes)
+    (cond b (record { summary = token; line = line } ∷ rest) rest)) fresh
+
 between_step : (place : LinePlace) (line byte : ℕ) (xs : List ℕ) → is_in_token (kind_of byte) place ≡ false →
     tokens_behind no_bytes place line (byte ∷ xs) ≡ tokens_behind no_bytes (place_after (kind_of byte) place)
     (line_after (kind_of byte) line) xs
@@ -119,34 +132,42 @@ between_step place line byte xs between =
     let l = line_after (kind_of byte) line in
     ap (λ b. cond b (tokens_behind (grown no_bytes byte) p l xs) (tokens_behind no_bytes p l xs)) between
 
-pub passed : (old new : TokenPieces) (byte : ℕ) (behind left : List ℕ) → old.token ≡ no_bytes → new.token ≡ no_bytes →
+pub passed : (old new : TokenPieces) (byte : ℕ) (behind left : List ℕ) → is_begun old.token.head ≡ false →
+    is_begun new.token.head ≡ false →
     is_in_token (kind_of byte) old.place ≡ false → new.place ≡ place_after (kind_of byte) old.place →
     new.line ≡ line_after (kind_of byte) old.line → length left ≤ length behind → EndsComment new.place behind left →
     Skips old new (byte ∷ behind) left
 passed old new byte behind left old_fresh new_fresh between place line shorter ends = record {
   shorter = omega (arith, shorter);
   tokens = λ more.
-      ap (λ t. tokens_behind t old.place old.line (byte ∷ (behind ++ more))) old_fresh
+      kept_nothing old.token old.place old.line (byte ∷ (behind ++ more)) old_fresh
       ∙ between_step old.place old.line byte (behind ++ more) between
       ∙ ap (λ p. tokens_behind no_bytes p (line_after (kind_of byte) old.line) (behind ++ more)) (sym place)
       ∙ ap (λ l. tokens_behind no_bytes new.place l (behind ++ more)) (sym line)
       ∙ comment_end_tokens new.place new.line behind left more ends
-      ∙ ap (λ t. tokens_behind t new.place new.line (left ++ more)) (sym new_fresh);
+      ∙ sym (kept_nothing new.token new.place new.line (left ++ more) new_fresh);
   lines = λ more.
       ap (λ l. line_behind l (behind ++ more)) (sym line)
       ∙ comment_end_line new.place new.line behind left more ends;
 }
 
+outside : (place : LinePlace) (bytes : List ℕ) → place ≢ InComment → EndsComment place bytes bytes
+outside LineStart bytes is = refl
+outside InLine bytes is = refl
+outside InComment bytes is = absurd (is refl)
+
 -- a space outside comments
-pub blank_passed : (pieces : TokenPieces) (byte : ℕ) (behind : List ℕ) → pieces.token ≡ no_bytes →
-    is_in_token (kind_of byte) pieces.place ≡ false → byte ≡ 32 → EndsComment pieces.place behind behind →
-    Skips pieces pieces (byte ∷ behind) behind
-blank_passed pieces byte behind fresh between space ends =
-    let kind : kind_of byte ≡ Blank = ap kind_of space in
-    passed pieces pieces byte behind behind fresh fresh between
-    (sym (ap (λ k. place_after k pieces.place) kind))
-    (sym (ap (λ k. line_after k pieces.line) kind))
-    (omega arith) ends
+pub blank_passed : (pieces : TokenPieces) (behind : List ℕ) → is_begun pieces.token.head ≡ false →
+    pieces.place ≢ InComment → Skips pieces pieces (32 ∷ behind) behind
+blank_passed pieces behind fresh is =
+    passed pieces pieces 32 behind behind fresh fresh refl refl refl (omega arith) (outside pieces.place behind is)
+
+-- an LF
+pub feed_passed : (old new : TokenPieces) (behind : List ℕ) → is_begun old.token.head ≡ false →
+    new.token ≡ old.token → new.place ≡ LineStart → new.line ≡ old.line + 1 → Skips old new (10 ∷ behind) behind
+feed_passed old new behind fresh token place line =
+    passed old new 10 behind behind fresh (ap (λ t. is_begun t.head) token ∙ fresh) refl place line (omega arith)
+    (subst (λ p. EndsComment p behind behind) (sym place) refl)
 
 pub nothing_skipped : (pieces : TokenPieces) (bytes : List ℕ) → Skips pieces pieces bytes bytes
 nothing_skipped pieces bytes = record { shorter = omega arith; tokens = λ more. refl; lines = λ more. refl }
@@ -162,33 +183,6 @@ skipped_on old middle new bytes rest left first second =
       lines = λ more. first.lines more ∙ second.lines more;
     }
 
--- what was kept before a token's first byte doesn't matter
-kept_nothing : (token : TokenSummary) (place : LinePlace) (line : ℕ) (bytes : List ℕ) → is_begun token.head ≡ false →
-    tokens_behind token place line bytes ≡ tokens_behind no_bytes place line bytes
-kept_nothing token place line [] fresh = ap (λ b. cond b (record { summary = token; line = line } ∷ []) []) fresh
-kept_nothing token place line (byte ∷ bytes) fresh =
-    let p = place_after (kind_of byte) place in
-    let l = line_after (kind_of byte) line in
-    let rest = tokens_behind no_bytes p l bytes in
-    ap (λ t. cond (is_in_token (kind_of byte) place) (tokens_behind t p l bytes) (ended token line rest))
-    (first_grown token byte (none_begun token.head fresh))
-    ∙ ap (λ b. cond (is_in_token (kind_of byte) place) (tokens_behind (grown no_bytes byte) p l bytes)
-    (cond b (record { summary = token; line = line } ∷ rest) rest)) fresh
-
 pub shorter_on : (old new : TokenPieces) (bytes left : List ℕ) (n : ℕ) → length bytes < n → Skips old new bytes left →
     length left < n
 shorter_on old new bytes left n short skips = let s = skips.shorter in omega (arith, short, s)
-
-pub skipped_fresh : (old fresh new : TokenPieces) (bytes left : List ℕ) → is_begun old.token.head ≡ false →
-    fresh.token ≡ no_bytes →
-    fresh.place ≡ old.place → fresh.line ≡ old.line → Skips fresh new bytes left → Skips old new bytes left
-skipped_fresh old fresh new bytes left none is_fresh place line skips = record {
-  shorter = skips.shorter;
-  tokens = λ more.
-      kept_nothing old.token old.place old.line (bytes ++ more) none
-      ∙ ap (λ t. tokens_behind t old.place old.line (bytes ++ more)) (sym is_fresh)
-      ∙ ap (λ p. tokens_behind fresh.token p old.line (bytes ++ more)) (sym place)
-      ∙ ap (λ l. tokens_behind fresh.token fresh.place l (bytes ++ more)) (sym line)
-      ∙ skips.tokens more;
-  lines = λ more. ap (λ l. line_behind l (bytes ++ more)) (sym line) ∙ skips.lines more;
-}

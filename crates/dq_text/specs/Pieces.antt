@@ -1,15 +1,17 @@
 -- The tokens of a text that comes in pieces, wherever it is cut: a token may begin in one piece and
 -- end in another, so that what is known of it is its summary.
-use Rattle.std.specs.Prelude.{ℕ, ◌≡◌, ◌≢◌, ◌<◌, ◌≤◌, ◌++◌, length, Bool, true, false, List, [], ◌∷◌, if◌then◌else◌}
+use Rattle.std.specs.Prelude.{ℕ, ℤ, ◌≡◌, ◌≢◌, ◌<◌, ◌≤◌, ◌++◌, length, Bool, true, false, List, [], ◌∷◌, if◌then◌else◌}
 use Rattle.std.specs.List.{All}
 use Rattle.dq_text.specs.Bytes.{kind_of}
 use Rattle.dq_text.specs.Cursor.{begins_token}
 use Rattle.dq_text.specs.LongestRuns.{IsVisible}
+use Rattle.dq_text.specs.Number.{number_of}
 use Rattle.dq_text.specs.Summary.{is_begun, no_bytes, grown, summary_of}
 use Rattle.dq_text.specs.Token.{TextToken, place_after, line_after, is_in_token, is_separator}
 use Rattle.dq_text.specs.declared.bytes.ByteKind.{ByteKind}
 use Rattle.dq_text.specs.declared.cursors.LinePlace.{LinePlace}
 use Rattle.dq_text.specs.declared.cursors.LinePlace.TheVariants.{LineStart, InLine, InComment}
+use Rattle.dq_text.specs.declared.numbers.Number.TheVariants.{Int}
 use Rattle.dq_text.specs.declared.summaries.TokenSummary.{TokenSummary}
 use Rattle.dq_text.specs.declared.token_pieces.TokenPieces.{TokenPieces}
 
@@ -71,6 +73,12 @@ pub record IsWholeToken (pieces : TokenPieces) (bytes text behind : List ℕ) : 
   pub some : 0 < length text
   pub visible : All IsVisible text
   pub ends : begins_with_separator behind ≡ true
+
+-- no token is begun, and the bytes begin with one that ends in them and is this number
+pub record IsWholeNumber (pieces : TokenPieces) (bytes : List ℕ) (n : ℤ) (behind : List ℕ) : Type 0 where
+  pub text : List ℕ
+  pub token : IsWholeToken pieces bytes text behind
+  pub number : number_of text ≡ Int n
 
 -- the bytes are some without an LF, and then these
 pub record IsBehindLine (bytes left : List ℕ) : Type 0 where

@@ -3,7 +3,8 @@
 ghost use Rattle.std.specs.Prelude.{◌≡◌, ◌≤◌, ◌<◌, ◌^◌, ◌∷◌, false, pos, neg_ℤ, length, map, take, IfSome};
 ghost use Rattle.dq_text.specs.Line.{line_tokens};
 ghost use Rattle.dq_text.specs.Number.{number_of};
-ghost use Rattle.dq_text.specs.ShortNumber.{AreFewDigits, BeginsWithNatural, IsLeadingValue};
+ghost use Rattle.dq_text.specs.Pieces.{begins_with_separator};
+ghost use Rattle.dq_text.specs.ShortNumber.{AreFewDigits, BeginsWithNatural, EndsNatural, EndsNumber, IsLeadingValue};
 ghost use Rattle.dq_text.specs.Token.{goes_on};
 ghost use Rattle.dq_text.specs.declared.numbers.Number.TheVariants.{Int};
 
@@ -23,6 +24,18 @@ pub fn short_number(bytes: &[u8]) -> Option<(i64, &[u8])>
     match bytes.split_first() {
         Some((b'-', digits)) => behind_minus(digits),
         _ => without_minus(bytes),
+    }
+}
+
+/// The number that these bytes begin with and that ends in them, and the bytes from the separator on
+/// that ends it. There may be one where it finds none: one of 19 digits or more.
+#[inline(always)]
+pub fn ended_number(bytes: &[u8]) -> Option<(i64, &[u8])>
+    ensures { IfSome result (λ found. EndsNumber bytes.now found.0 found.1.now) }
+{
+    match bytes.split_first() {
+        Some((b'-', digits)) => ended_behind_minus(digits),
+        _ => ended_without_minus(bytes),
     }
 }
 
@@ -68,6 +81,25 @@ fn without_minus(bytes: &[u8]) -> Option<(i64, &[u8])>
     Some((as_signed(value), behind))
 }
 
+#[inline(always)]
+fn ended_behind_minus(digits: &[u8]) -> Option<(i64, &[u8])>
+    ensures { IfSome result (λ found. EndsNumber (45 ∷ digits.now) found.0 found.1.now) }
+{
+    let (value, behind) = ended_natural(digits)?;
+    if value == 0 {
+        return None;
+    }
+    Some((negated(value), behind))
+}
+
+#[inline(always)]
+fn ended_without_minus(bytes: &[u8]) -> Option<(i64, &[u8])>
+    ensures { IfSome result (λ found. EndsNumber bytes.now found.0 found.1.now) }
+{
+    let (value, behind) = ended_natural(bytes)?;
+    Some((as_signed(value), behind))
+}
+
 fn negated(value: u64) -> i64
     requires { value < 10 ^ 18 }
     ensures { result ≡ neg_ℤ (pos value) }
@@ -93,6 +125,33 @@ fn short_natural(bytes: &[u8]) -> Option<(u64, &[u8])>
     }
     let behind = behind_token(&bytes[count..])?;
     Some((value, behind))
+}
+
+// The value of the digits that these bytes begin with, at most 18, and the bytes from the separator
+// on that ends them.
+#[inline(always)]
+fn ended_natural(bytes: &[u8]) -> Option<(u64, &[u8])>
+    ensures { IfSome result (λ found. EndsNatural bytes.now found.0 found.1.now) }
+{
+    let (value, count) = leading_value(first_bytes(bytes));
+    if count == 0 {
+        return None;
+    }
+    let behind = &bytes[count..];
+    if !begins_with_separator(behind) {
+        return None;
+    }
+    Some((value, behind))
+}
+
+#[inline(always)]
+fn begins_with_separator(bytes: &[u8]) -> bool
+    ensures { result ≡ begins_with_separator bytes.now }
+{
+    match bytes.split_first() {
+        None => false,
+        Some((byte, _)) => separates(*byte),
+    }
 }
 
 #[inline(always)]

@@ -1,15 +1,19 @@
 //! The tokens of a text that comes in pieces, wherever it is cut. Of a token whose end didn't come
 //! yet its summary alone is kept, so that a token of any length is read in the same memory.
 
-ghost use Rattle.std.specs.Prelude.{◌≡◌, ◌<◌, ◌≤◌, ◌∷◌, ◌++◌, [], ℕ, List, length, true, false, IfOk, OnOk, IfSome};
+ghost use Rattle.std.specs.Prelude.{◌≡◌, ◌≢◌, ◌<◌, ◌≤◌, ◌∷◌, ◌++◌, [], ℕ, List, length, true, false, IfOk, OnOk, IfSome};
 ghost use Rattle.dq_text.specs.Bytes.{kind_of};
-ghost use Rattle.dq_text.specs.Pieces.{SummarizedToken, IsAtStart, IsWholeToken, IsBehindLine, EndsComment, Skips, tokens_to_come, last_line_to_come, no_pieces, ended};
-ghost use Rattle.dq_text.specs.Summary.{summary_of, no_bytes};
+ghost use Rattle.dq_text.specs.Number.{number_of};
+ghost use Rattle.dq_text.specs.declared.cursors.LinePlace.TheVariants.{InComment};
+ghost use Rattle.dq_text.specs.declared.numbers.Number.TheVariants.{Int};
+ghost use Rattle.dq_text.specs.Pieces.{SummarizedToken, IsAtStart, IsWholeToken, IsWholeNumber, IsBehindLine, EndsComment, Skips, tokens_to_come, last_line_to_come, no_pieces, ended};
+ghost use Rattle.dq_text.specs.Summary.{summary_of, no_bytes, is_begun};
 ghost use Rattle.dq_text.specs.Token.{line_after, is_in_token};
 
 use crate::bytes::{ByteKind, byte_kind};
 use crate::cursors::{LinePlace, is_token_byte, next_place, separator_free_length};
 use crate::lines::cut_line;
+use crate::short_numbers::ended_number;
 use crate::summaries::{TokenSummary, grown, is_begun, no_bytes};
 use dq_lits::Memory;
 
@@ -27,6 +31,12 @@ pub trait TakesTokens {
             → gives self.new tokens last answer
             → gives self.old
             (record { summary = summary_of text.now; line = line } ∷ tokens) last answer) };
+
+    /// Takes the next token, which is this number and came in one piece.
+    fn number(&mut self, number: i64, line: u64) -> Result<(), Memory>
+        ensures { OnOk result ((text : List ℕ) (tokens : List SummarizedToken) (last : ℕ)
+            (answer : Self.Answer) → number_of text ≡ Int number → gives self.new tokens last answer
+            → gives self.old (record { summary = summary_of text; line = line } ∷ tokens) last answer) };
 
     /// Takes the next token, of which the summary was kept.
     fn summary(&mut self, token: TokenSummary, line: u64) -> Result<(), Memory>
@@ -83,8 +93,53 @@ impl TokenPieces {
 
     // Takes a token that begins and ends here, or else a byte, and what stands between it and the
     // next token; what is left is shorter.
-    #[tactic(auto, using(crate::proofs::SkippedBytes::shorter_on))]
+    #[inline(always)]
     fn step<'a, T: TakesTokens>(
+        &mut self,
+        taker: &mut T,
+        rest: &'a [u8],
+    ) -> Result<&'a [u8], Memory>
+        requires some { 0 < length rest.now }
+        ensures shorter { IfOk result (λ left. length left.now < length rest.now) }
+        ensures given { IfOk result (λ left. (bytes : List ℕ) (answer : T.Answer)
+            → T.gives taker.new (tokens_to_come self.new (left.now ++ bytes))
+            (last_line_to_come self.new (left.now ++ bytes)) answer
+            → T.gives taker.old (tokens_to_come self.old (rest.now ++ bytes))
+            (last_line_to_come self.old (rest.now ++ bytes)) answer) }
+    {
+        match plain_number(self, rest) {
+            Some((number, behind)) => self.step_number(taker, rest, number, behind),
+            None => self.step_other(taker, rest),
+        }
+    }
+
+    // The same with the number that begins here.
+    #[inline(always)]
+    #[tactic(auto, using(crate::proofs::SkippedBytes::shorter_on))]
+    fn step_number<'a, T: TakesTokens>(
+        &mut self,
+        taker: &mut T,
+        rest: &'a [u8],
+        number: i64,
+        behind: &'a [u8],
+    ) -> Result<&'a [u8], Memory>
+        requires { IsWholeNumber self.old rest.now number behind.now }
+        ensures shorter { IfOk result (λ left. length left.now < length rest.now) }
+        ensures given { IfOk result (λ left. (bytes : List ℕ) (answer : T.Answer)
+            → T.gives taker.new (tokens_to_come self.new (left.now ++ bytes))
+            (last_line_to_come self.new (left.now ++ bytes)) answer
+            → T.gives taker.old (tokens_to_come self.old (rest.now ++ bytes))
+            (last_line_to_come self.old (rest.now ++ bytes)) answer) }
+    {
+        let left = self.take_number(taker, rest, number, behind)?;
+        let next = skip_between(self, left)?;
+        Ok(next)
+    }
+
+    // The same with any token or byte. Numbers are many more, and what calls it is to stay small.
+    #[inline(never)]
+    #[tactic(auto, using(crate::proofs::SkippedBytes::shorter_on))]
+    fn step_other<'a, T: TakesTokens>(
         &mut self,
         taker: &mut T,
         rest: &'a [u8],
@@ -99,6 +154,31 @@ impl TokenPieces {
     {
         let left = self.take(taker, rest)?;
         let behind = skip_to_token(self, left)?;
+        Ok(behind)
+    }
+
+    // Takes the number that begins here; what is left is shorter.
+    #[inline(always)]
+    fn take_number<'a, T: TakesTokens>(
+        &mut self,
+        taker: &mut T,
+        rest: &'a [u8],
+        number: i64,
+        behind: &'a [u8],
+    ) -> Result<&'a [u8], Memory>
+        requires { IsWholeNumber self.old rest.now number behind.now }
+        ensures fresh { OnOk result (is_begun self.new.token.head ≡ false) }
+        ensures shorter { IfOk result (λ left. length left.now < length rest.now) }
+        ensures given { IfOk result (λ left. (bytes : List ℕ) (answer : T.Answer)
+            → T.gives taker.new (tokens_to_come self.new (left.now ++ bytes))
+            (last_line_to_come self.new (left.now ++ bytes)) answer
+            → T.gives taker.old (tokens_to_come self.old (rest.now ++ bytes))
+            (last_line_to_come self.old (rest.now ++ bytes)) answer) }
+    {
+        // Only the contract speaks of it.
+        let _ = rest;
+        taker.number(number, self.line)?;
+        self.place = LinePlace::InLine;
         Ok(behind)
     }
 
@@ -138,54 +218,87 @@ fn skip_to_token<'a>(pieces: &mut TokenPieces, bytes: &'a [u8]) -> Result<&'a [u
     if is_begun(pieces.token.head) {
         return Ok(bytes);
     }
-    pieces.token = no_bytes();
-    let left = skip_between(pieces, bytes)?;
-    Ok(left)
+    skip_between(pieces, bytes)
 }
 
-// The same between tokens.
+// The same where none is begun.
+#[inline(always)]
 #[tactic(auto, using(crate::proofs::SkippedBytes::nothing_skipped, crate::proofs::SkippedBytes::skipped_on))]
 fn skip_between<'a>(pieces: &mut TokenPieces, bytes: &'a [u8]) -> Result<&'a [u8], Memory>
-    requires { pieces.old.token ≡ no_bytes }
+    requires { is_begun pieces.old.token.head ≡ false }
     ensures { IfOk result (λ left. Skips pieces.old pieces.new bytes.now left.now) }
 {
     let mut rest = bytes;
     while let Some((byte, behind)) = rest.split_first() {
-        if is_token_byte(byte_kind(*byte), pieces.place) {
-            break;
+        if is_plain_blank(pieces, *byte) {
+            rest = behind;
+        } else if *byte == b'\n' {
+            pass_feed(pieces)?;
+            rest = behind;
+        } else {
+            if is_token_byte(byte_kind(*byte), pieces.place) {
+                break;
+            }
+            rest = pass(pieces, *byte, behind)?;
         }
-        rest = pass(pieces, *byte, behind)?;
     }
     Ok(rest)
 }
 
+// Whether a byte is a space outside comments: the usual case, which changes nothing.
+#[inline(always)]
+fn is_plain_blank(pieces: &TokenPieces, byte: u8) -> bool
+    requires { is_begun pieces.now.token.head ≡ false }
+    ensures { result ≡ true
+        → (behind : List ℕ) → Skips pieces.now pieces.now (byte ∷ behind) behind }
+{
+    if byte != b' ' {
+        return false;
+    }
+    is_outside_comments(pieces.place)
+}
+
+#[inline(always)]
+fn is_outside_comments(place: LinePlace) -> bool
+    ensures { result ≡ true → place ≢ InComment }
+{
+    match place {
+        LinePlace::InComment => false,
+        LinePlace::LineStart => true,
+        LinePlace::InLine => true,
+    }
+}
+
+// Goes behind an LF.
+#[inline(always)]
+fn pass_feed(pieces: &mut TokenPieces) -> Result<(), Memory>
+    requires { is_begun pieces.old.token.head ≡ false }
+    ensures fresh { OnOk result (is_begun pieces.new.token.head ≡ false) }
+    ensures skips { OnOk result
+        ((behind : List ℕ) → Skips pieces.old pieces.new (10 ∷ behind) behind) }
+{
+    if pieces.line == u64::MAX {
+        return Err(Memory);
+    }
+    pieces.line += 1;
+    pieces.place = LinePlace::LineStart;
+    Ok(())
+}
+
 // Goes behind a byte of no token, and in a comment on to the LF that ends it.
+#[inline(never)]
 fn pass<'a>(pieces: &mut TokenPieces, byte: u8, behind: &'a [u8]) -> Result<&'a [u8], Memory>
-    requires fresh { pieces.old.token ≡ no_bytes }
+    requires fresh { is_begun pieces.old.token.head ≡ false }
     requires between { is_in_token (kind_of byte) pieces.old.place ≡ false }
-    ensures fresh { OnOk result (pieces.new.token ≡ no_bytes) }
+    ensures fresh { OnOk result (is_begun pieces.new.token.head ≡ false) }
     ensures shorter { IfOk result (λ left. length left.now ≤ length behind.now) }
     ensures skips { IfOk result
         (λ left. Skips pieces.old pieces.new (byte ∷ behind.now) left.now) }
 {
-    if is_plain_blank(byte, pieces.place) {
-        return Ok(behind);
-    }
     let kind = byte_kind(byte);
     pieces.line = counted_line(kind, pieces.line)?;
     pieces.place = next_place(kind, pieces.place);
     Ok(to_comment_end(pieces.place, behind))
-}
-
-// Whether a byte is a space outside comments: the usual case, which changes nothing.
-fn is_plain_blank(byte: u8, place: LinePlace) -> bool
-    ensures blank { result ≡ true → byte ≡ 32 }
-    ensures end { result ≡ true → (bytes : List ℕ) → EndsComment place bytes bytes }
-{
-    match place {
-        LinePlace::InComment => false,
-        LinePlace::LineStart | LinePlace::InLine => byte == b' ',
-    }
 }
 
 // In a comment, the bytes from the LF that ends it; elsewhere all.
@@ -206,6 +319,23 @@ fn to_line_end(bytes: &[u8]) -> &[u8]
 {
     let (line, _) = cut_line(bytes);
     &bytes[line.len()..]
+}
+
+// The number that begins here, where no token is begun and it ends in these bytes. It may be found
+// as another token.
+#[inline(always)]
+fn plain_number<'a>(pieces: &TokenPieces, bytes: &'a [u8]) -> Option<(i64, &'a [u8])>
+    ensures { IfSome result
+        (λ found. IsWholeNumber pieces.now bytes.now found.0 found.1.now) }
+{
+    if is_begun(pieces.token.head) {
+        return None;
+    }
+    if is_outside_comments(pieces.place) {
+        ended_number(bytes)
+    } else {
+        None
+    }
 }
 
 // The token that begins here, where none is begun and it ends in these bytes.

@@ -1,14 +1,8 @@
-use Rattle.std.proofs.Common.{◌∙◌, ap, refl}
+use Rattle.std.proofs.Common.{◌∙◌, ap}
 use Rattle.dq_text.specs.Token.{place_after, line_after}
 use Rattle.dq_text.specs.declared.token_pieces.TokenPieces.{TokenPieces}
-use Rattle.dq_text.proofs.SkippedBytes.{passed, blank_passed}
+use Rattle.dq_text.proofs.SkippedBytes.{passed}
 use Rattle.dq_text.proofs.token_pieces.pass.Goals as goal
-
-pub returns-then-is_plain_blank-clause-skips : goal.returns-then-is_plain_blank-clause-skips
-returns-then-is_plain_blank-clause-skips c =
-    blank_passed c.args.pieces.now c.args.byte c.args.behind.now c.requires.fresh c.requires.between
-    (c.if-is_plain_blank.ensures.blank refl)
-    (c.if-is_plain_blank.ensures.end refl c.args.behind.now)
 
 pub returns-clause-skips : goal.returns-clause-skips
 returns-clause-skips c =
