@@ -1,5 +1,5 @@
 -- Places, sorted and without repeats, pick listed elements in the order of the list.
-use Rattle.std.proofs.Common.{◌≡◌, ℕ, ◌+◌, ◌-◌, ◌≤◌, ◌<◌, Bool, true, false, ◌||◌, List, [], ◌∷◌, length, map, get_or, refl, ap, sym, ◌∙◌, arith, ◌&&◌, eqb, filter, true≢false, zero-add}
+use Rattle.std.proofs.Common.{◌≡◌, ℕ, ◌+◌, ◌-◌, ◌≤◌, ◌<◌, Bool, true, false, ◌||◌, List, [], ◌∷◌, length, map, get_or, refl, ap, sym, subst, ◌∙◌, arith, ◌&&◌, eqb, filter, true≢false, zero-add}
 use native.Mathlib.Numerals.{unary_clauses}
 use Rattle.std.proofs.lemmas.Bool.{eqb-true}
 use Rattle.std.proofs.lemmas.List.Elements.{All-head, All-tail, All-map, Contains-get_or, filter_agree}
@@ -85,6 +85,33 @@ in_order us xs sorted distinct among moved order =
     at-zero : (us ps : List ℕ) → at us 0 ps ≡ map (λ p. get_or us p 0) ps
     at-zero us [] = refl
     at-zero us (p ∷ ps) = rw (sub-zero, at-zero us ps) refl
+
+-- at their own places stand the elements
+at-places : (us xs : List ℕ) → AllAmong us xs → at us 0 (map (place us) xs) ≡ xs
+at-places us [] among = refl
+at-places us (x ∷ xs) among = rw (
+  sub-zero,
+  get_or-place us x 0 (All-head (λ x. has us x ≡ true) x xs among),
+  at-places us xs (All-tail (λ x. has us x ≡ true) x xs among),
+) refl
+
+pub rises_behind : (us behind rest : List ℕ) (x p least high : ℕ) → rest ≡ x ∷ behind → p ≡ place us x → least ≤ p →
+    p < high → Rise (p + 1) high (map (place us) behind) → Rise least high (map (place us) rest)
+rises_behind us behind rest x p least high is place_is above below rise =
+    subst (λ xs. Rise least high (map (place us) xs)) (sym is)
+    (subst (λ k. (least ≤ k) × (k < high) × Rise (k + 1) high (map (place us) behind)) place_is (above, below, rise))
+
+pub none_rise : (us rest : List ℕ) (least high : ℕ) → length rest ≡ 0 → Rise least high (map (place us) rest)
+none_rise us [] least high none = tt
+none_rise us (x ∷ rest) least high none = absurd (omega (arith, none))
+
+-- elements at rising places are those that are listed, in order
+pub rising_listed : (us xs : List ℕ) → IsDistinct eqb us → AllAmong us xs → Rise 0 (length us) (map (place us) xs) →
+    filter (has xs) us ≡ xs
+rising_listed us xs distinct among rise =
+    let are = at-places us xs among in
+    let picked = at-filter us 0 (map (place us) xs) distinct (rw zero-add rise) in
+    sym (sym are ∙ picked ∙ ap (λ ys. filter (has ys) us) are)
 
 -- and they are places of the list
 pub places-below : (us xs sorted : List ℕ) → AllAmong us xs → IsPermutation (map (place us) xs) sorted →

@@ -87,6 +87,7 @@ impl Blocks {
     }
 
     // Makes room for so many clauses, with so many literals in all. The clauses stay.
+    #[inline(always)]
     pub(crate) fn make_room(&mut self, clauses: usize, literals: usize) -> Result<(), Memory>
         requires arranged { AreArranged self.old }
         ensures same { clauses_of self.new ≡ clauses_of self.old }
@@ -103,6 +104,7 @@ impl Blocks {
 
     // Begins a block for so many literals, unless nothing stands in the current one: then this is
     // made as large.
+    #[inline(never)]
     fn open(&mut self, literals: usize) -> Result<(), Memory>
         requires arranged { AreArranged self.old }
         ensures same { clauses_of self.new ≡ clauses_of self.old }
@@ -124,6 +126,7 @@ impl Blocks {
     }
 
     // Puts a clause behind the others, where there is room for it.
+    #[inline(always)]
     pub(crate) fn put(&mut self, clause: &[Lit])
         requires arranged { AreArranged self.old }
         requires few { length (clauses_of self.old) < MAX_CLAUSES }
@@ -163,13 +166,24 @@ fn has_room(block: &Vec<Lit>, literals: usize) -> bool
 
 // Makes room for so many places. It grows by an eighth, so that little more is held than is needed
 // while they are copied.
+#[inline(always)]
 fn reserve_places(places: &mut Vec<Place>, more: usize) -> Result<(), Memory>
     ensures same { places.new.items ≡ places.old.items }
     ensures room { OnOk result (length places.new.items + more ≤ vec_capacity places.new) }
 {
     if more > places.capacity() - places.len() {
-        let eighth = places.len() / 8;
-        places.reserve_exact(more.max(eighth))?;
+        return grow_places(places, more);
     }
+    Ok(())
+}
+
+// The same where there is none. What calls it is to stay small.
+#[inline(never)]
+fn grow_places(places: &mut Vec<Place>, more: usize) -> Result<(), Memory>
+    ensures same { places.new.items ≡ places.old.items }
+    ensures room { OnOk result (length places.new.items + more ≤ vec_capacity places.new) }
+{
+    let eighth = places.len() / 8;
+    places.reserve_exact(more.max(eighth))?;
     Ok(())
 }

@@ -335,6 +335,41 @@ impl Formula {
         ensures listed { IfOk result (λ vars. vars ≡ listed_universals self.now.universals xs.now) }
         ensures form { IfOk result (λ vars. vars ≡ listed_universals self.now.universals vars) }
     {
+        if self.are_in_order(xs) {
+            let vars = Vec::from_slice(self.matrix.alloc(), xs)?;
+            return Ok(Vars::from_vec(vars));
+        }
+        self.sorted(xs)
+    }
+
+    // Whether they stand so already: the usual case, which takes one list.
+    fn are_in_order(&self, xs: &[u64]) -> bool
+        requires { All (λ x. is_universal self.now x ≡ true) xs.now }
+        ensures { result ≡ true → listed_universals self.now.universals xs.now ≡ xs.now }
+    {
+        // A look at a field shows the invariant.
+        let _ = &self.vars;
+        let count = self.universals().len();
+        let mut least = 0;
+        let mut rest = xs;
+        while let Some((x, behind)) = rest.split_first() {
+            let place = self.place_of(*x);
+            if place < least || count <= place {
+                return false;
+            }
+            least = place + 1;
+            rest = behind;
+        }
+        true
+    }
+
+    // The same of universals that stand in any order.
+    #[inline(never)]
+    fn sorted(&self, xs: &[u64]) -> Result<Vars, Memory>
+        requires { All (λ x. is_universal self.now x ≡ true) xs.now }
+        ensures listed { IfOk result (λ vars. vars ≡ listed_universals self.now.universals xs.now) }
+        ensures form { IfOk result (λ vars. vars ≡ listed_universals self.now.universals vars) }
+    {
         let mut places = self.places(xs)?;
         places.sort_unstable();
         places.dedup();
