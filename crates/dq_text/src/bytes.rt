@@ -1,6 +1,6 @@
 //! What a byte is to lines and tokens.
 
-ghost use Rattle.std.specs.Prelude.{◌≡◌, ◌<◌, ◌≤◌};
+ghost use Rattle.std.specs.Prelude.{◌≡◌};
 ghost use Rattle.dq_text.specs.Bytes.{kind_of};
 
 /// What a byte is to the cutting of a text into lines and tokens.
@@ -18,30 +18,10 @@ pub enum ByteKind {
 pub fn byte_kind(byte: u8) -> ByteKind
     ensures { result ≡ kind_of byte }
 {
-    if byte > b' ' {
-        visible_kind(byte)
-    } else {
-        low_kind(byte)
-    }
-}
-
-fn visible_kind(byte: u8) -> ByteKind
-    requires { 32 < byte }
-    ensures { result ≡ kind_of byte }
-{
-    match byte {
-        b'c' => ByteKind::LetterC,
-        _ => ByteKind::Other,
-    }
-}
-
-fn low_kind(byte: u8) -> ByteKind
-    requires { byte ≤ 32 }
-    ensures { result ≡ kind_of byte }
-{
     match byte {
         b' ' | b'\t' | b'\r' => ByteKind::Blank,
         b'\n' => ByteKind::LineFeed,
+        b'c' => ByteKind::LetterC,
         _ => ByteKind::Other,
     }
 }
