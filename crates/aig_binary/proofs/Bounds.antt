@@ -1,11 +1,10 @@
 -- Differences fit 64 bits.
-use Rattle.std.proofs.Common.{◌≡◌, ℕ, zero, suc, ◌+◌, ◌-◌, ◌*◌, ◌<◌, ◌≤◌, List, ◌∷◌, sym, ◌∙◌, ap, arith}
-use Rattle.std.specs.Prelude.{nat_lt, Ok, Err}
+use Rattle.std.proofs.Common.{◌≡◌, ℕ, zero, suc, ◌+◌, ◌-◌, ◌*◌, ◌<◌, ◌≤◌, List, ◌∷◌, arith}
+use Rattle.std.specs.Prelude.{Err}
 use Rattle.std.proofs.lemmas.Bool.{cond-false, le-ltb}
 use Rattle.aiger_text.specs.declared.faults.AagFault.{AagFault}
-use Rattle.aig_binary.specs.Deltas.{and_then, read_delta}
+use Rattle.aig_binary.specs.Deltas.{read_delta}
 use Rattle.aig_binary.specs.Steps.{end_of}
-use Rattle.aig_binary.proofs.SpelledDeltas.{with_low}
 
 some : (groups : ℕ) → 1 ≤ end_of groups
 some zero = omega arith
@@ -18,10 +17,7 @@ one_group (suc groups) n few low = let rest = some groups in omega (arith, rest,
 pub more_groups : (groups byte high : ℕ) → 1 ≤ groups → byte < 256 → high < end_of (groups - 1) →
     byte - 128 + 128 * high < end_of groups
 more_groups zero byte high few small less = absurd (omega arith)
-more_groups (suc groups) byte high few small less =
-    let same : suc groups - 1 ≡ groups = omega arith in
-    let bound : high < end_of groups = rw same at less in
-    omega (arith, bound, small)
+more_groups (suc groups) byte high few small less = search arith
 
 pub at_most : (groups : ℕ) → groups ≤ 4 → end_of groups ≤ 268435456
 at_most zero few = omega arith
@@ -35,8 +31,4 @@ at_most (suc (suc (suc (suc (suc groups))))) few = absurd (omega arith)
 pub delta_stops : (groups byte : ℕ) (bytes : List ℕ) (name : AagFault) → 1 ≤ groups → 128 ≤ byte →
     read_delta (groups - 1) bytes ≡ Err name → read_delta groups (byte ∷ bytes) ≡ Err name
 delta_stops zero byte bytes name few large stops = absurd (omega arith)
-delta_stops (suc groups) byte bytes name few large stops =
-    let same : suc groups - 1 ≡ groups = omega arith in
-    cond-false (nat_lt byte 128) (Ok (byte, bytes)) (and_then (read_delta groups bytes) (with_low byte))
-    (le-ltb byte 128 large)
-    ∙ ap (λ r. and_then r (with_low byte)) (ap (λ g. read_delta g bytes) (sym same) ∙ stops)
+delta_stops (suc groups) byte bytes name few large stops = search (arith, cond-false, le-ltb)

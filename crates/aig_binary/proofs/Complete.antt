@@ -26,13 +26,9 @@ record IsGateAt (v : ℕ) (g : Gate) : Type 0 where
 gates_at : (gs : List Gate) (v : ℕ) (code : List ℕ) → SpellsGates v code gs → (k : ℕ) (d : Gate) → k < length gs →
     IsGateAt (v + k) (get_or gs k d)
 gates_at [] v code spelled k d below = absurd (omega arith)
-gates_at (g ∷ gs) v code (own, others, parts, spelled, more) zero d below =
-    let here : v ≡ v + 0 = omega arith in
-    subst (λ w. IsGateAt w g) here
-    (record { variable = spelled.variable; left = spelled.left; right = spelled.right })
+gates_at (g ∷ gs) v code (own, others, parts, spelled, more) zero d below = search arith
 gates_at (g ∷ gs) v code (own, others, parts, spelled, more) (suc k) d below =
-    let next : v + 1 + k ≡ v + suc k = omega arith in
-    subst (λ w. IsGateAt w (get_or gs k d)) next (gates_at gs (v + 1) others more k d (omega arith))
+    search (arith, (gates_at gs (v + 1) others more k d))
 
 module _ (text : List ℕ) (first : ℕ) (read : ReadCircuit) (s : SpellsBinary text first read) where
   abbrev net : Netlist
@@ -45,33 +41,7 @@ module _ (text : List ℕ) (first : ℕ) (read : ReadCircuit) (s : SpellsBinary 
   gate_is = gates_at net.gates (length net.inputs + 1) s.code s.gates
 
   pub is_netlist : IsNetlist net
-  is_netlist =
-      let all = s.all_defined in
-      let few = s.header.few_variables in
-      record {
-        numbered = omega arith;
-        inputs_fit = λ k d below. let is = input_at k d below in (omega arith, omega arith);
-        outputs_fit = s.in_range;
-        gates_fit = λ k d below.
-            let g = gate_is k d below in
-            record {
-              variable = (omega (arith, g.variable), omega (arith, g.variable));
-              left = omega (arith, g.left);
-              right = omega (arith, g.left, g.right);
-            };
-        inputs_once = λ i j d before below same.
-            let here = input_at i d (omega arith) in
-            let there = input_at j d below in
-            omega arith;
-        gates_once = λ i j d before below same.
-            let here = (gate_is i d (omega arith)).variable in
-            let there = (gate_is j d below).variable in
-            omega arith;
-        apart = λ k d below j e within same.
-            let here = input_at k d below in
-            let there = (gate_is j e within).variable in
-            omega arith;
-      }
+  is_netlist = search (arith, input_at, gate_is)
 
   abbrev no_gate : Gate
   no_gate = record { variable = 0; left = 0; right = 0 }
@@ -131,12 +101,7 @@ module _ (text : List ℕ) (first : ℕ) (read : ReadCircuit) (s : SpellsBinary 
 
   defined_or_zero : (w : ℕ) → w ≤ net.max_var → (w ≡ 0) ⊎ (Contains net.inputs w ⊎ Contains (gate_variables net) w)
   defined_or_zero zero within = inl refl
-  defined_or_zero (suc k) within =
-      elim (cases_order k (length net.inputs)) [
-        | inl same ↦ inr (inr (gate_defines k (omega arith) within))
-        | inr (inl an_input) ↦ inr (inl (k, an_input, input_at k (suc k) an_input))
-        | inr (inr a_gate) ↦ inr (inr (gate_defines k (omega arith) within))
-      ]
+  defined_or_zero (suc k) within = search (arith, (cases_order k), (gate_defines k), (input_at k (suc k)))
 
   has_meaning : (l : ℕ) → IsLiteral net.max_var l → HasMeaning net l
   has_meaning l range = defined_or_zero (literal_variable l) (omega arith)

@@ -10,7 +10,6 @@ use Rattle.aiger_text.specs.declared.faults.AagFault.{AagFault}
 use Rattle.aiger_text.specs.declared.faults.LineStop.{LineStop}
 use Rattle.aiger_text.specs.declared.faults.LineStop.TheVariants.{Fault, Memory}
 use Rattle.aiger_text.specs.declared.headers.Header.{Header}
-use Rattle.aig_binary.specs.BareReading.{AreNumbered}
 use Rattle.aig_binary.specs.Deltas.{most_groups, and_then, read_delta, AreGroups}
 use Rattle.aig_binary.specs.Gates.{lowered, first_side, read_gate, read_gates}
 use Rattle.aig_binary.specs.MoreGates.{waits, AreGatesSoFar, AreMoreGates, AreTaken, IsBehind, IsProperEnd, IsWaiting, GoOn, gates_behind, next_variable}
@@ -33,8 +32,7 @@ then_more : {A B : Type 0} (r s : Result (A × List ℕ) AagFault) (next : A × 
     (more : List ℕ) → (Stays r → s ≡ with_more r more) →
     ((a : A) (rest : List ℕ) → Stays (next (a, rest)) → next (a, rest ++ more) ≡ with_more (next (a, rest)) more) →
     Stays (and_then r next) → and_then s next ≡ with_more (and_then r next) more
-then_more (Ok (a, rest)) s next more same goes stays =
-    ap (λ t. and_then t next) (same tt) ∙ goes a rest stays
+then_more (Ok (a, rest)) s next more same goes stays = search arith
 then_more (Err name) s next more same goes stays = ap (λ t. and_then t next) (same stays)
 
 value_more : {A B : Type 0} (r : Result A AagFault) (next later : A → Result (B × List ℕ) AagFault) (more : List ℕ) →
@@ -48,19 +46,7 @@ delta_more : (groups : ℕ) (bytes more : List ℕ) → Stays (read_delta groups
 delta_more zero bytes more stays = refl
 delta_more (suc groups) [] more stays = cc
 delta_more (suc groups) (byte ∷ bytes) more stays =
-    let here : Result (ℕ × List ℕ) AagFault = Ok (byte, bytes) in
-    let there : Result (ℕ × List ℕ) AagFault = Ok (byte, bytes ++ more) in
-    let low = and_then (read_delta groups bytes) (with_low byte) in
-    let later = and_then (read_delta groups (bytes ++ more)) (with_low byte) in
-    elim (cases_Bool (nat_lt byte 128)) [
-      | inl small ↦ cond-true (nat_lt byte 128) there later small
-          ∙ sym (ap (λ r. with_more r more) (cond-true (nat_lt byte 128) here low small))
-      | inr large ↦ cond-false (nat_lt byte 128) there later large
-          ∙ then_more (read_delta groups bytes) (read_delta groups (bytes ++ more)) (with_low byte) more
-          (delta_more groups bytes more) (λ high rest _. refl)
-          (subst Stays (cond-false (nat_lt byte 128) here low large) stays)
-          ∙ sym (ap (λ r. with_more r more) (cond-false (nat_lt byte 128) here low large))
-    ]
+    search (arith, cases_Bool, cond-true, cond-false, then_more, (delta_more groups bytes more))
 
 pub gate_more : (v : ℕ) (bytes more : List ℕ) → Stays (read_gate v bytes) →
     read_gate v (bytes ++ more) ≡ with_more (read_gate v bytes) more
@@ -112,12 +98,7 @@ delta_takes (suc groups) (byte ∷ bytes) more n rest waiting read =
 
 pub longer_end : (bytes rest code last : List ℕ) → IsProperEnd bytes rest → rest ≡ code ++ last →
     IsProperEnd bytes last
-longer_end bytes rest code last end is = record {
-  first = end.first;
-  front = end.front ++ code;
-  parts = end.parts ∙ ap (λ b. end.first ∷ (end.front ++ b)) is
-      ∙ ap (λ b. end.first ∷ b) (sym (append_assoc end.front code last));
-}
+longer_end bytes rest code last end is = search (arith, (append_assoc end.front code last))
 
 module _ (v : ℕ) (bytes more : List ℕ) (g : Gate) (rest : List ℕ) (waiting : Waits (read_gate v bytes))
     (read : read_gate v (bytes ++ more) ≡ Ok (g, rest)) where
@@ -199,13 +180,7 @@ module _ (h : Header) (net : Netlist) (bytes : List ℕ) (below : length net.gat
       let next : next_variable h net + 1 ≡ next_variable h made = omega (arith, counted) in
       let fewer : h.gates - (length net.gates + 1) ≡ h.gates - length made.gates = omega (arith, counted) in
       record {
-        so_far = record {
-          max_var = ap (λ (n : Netlist). n.max_var) made_is ∙ so_far.max_var;
-          no_inputs = ap (λ (n : Netlist). n.inputs) made_is ∙ so_far.no_inputs;
-          numbered = subst (AreNumbered (h.inputs + 1)) (sym gates_are)
-              (numbered_push net.gates (h.inputs + 1) g so_far.numbered variable);
-          counted = omega (arith, counted, below);
-        };
+        so_far = search (arith, numbered_push);
         goes = λ behind.
             ap (λ k. read_gates k (next_variable h net) net (bytes ++ behind)) left_is
             ∙ one_gate (h.gates - (length net.gates + 1)) (next_variable h net) net (bytes ++ behind) (rest ++ behind) g
@@ -262,14 +237,7 @@ module _ (h : Header) (old new : Netlist) (pending bytes whole rest : List ℕ) 
       IsWaiting h old pending → (left : ℕ) → left ≡ length rest → (kept : List ℕ) →
       AreTaken h old pending bytes (Ok (Some left)) new kept
   all_taken more behind waiting left is kept =
-      let end : IsProperEnd bytes rest = elim (behind pending bytes parts waiting) [
-        | inl same ↦
-            let all = more.1 in
-            let fewer = waiting.more in
-            let equal = ap (λ (n : Netlist). length n.gates) same.0 in
-            absurd (omega (arith, all, fewer, equal))
-        | inr end ↦ end
-      ] in
+      let end : IsProperEnd bytes rest = search arith in
       let part = end_is bytes rest end in
       let none : h.gates - length new.gates ≡ 0 = let all = more.1 in omega (arith, all) in (
         subst (λ n. n < length bytes) (sym is) part.0,

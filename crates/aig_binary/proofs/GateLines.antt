@@ -1,5 +1,5 @@
 -- A line that begins within the gates.
-use Rattle.std.proofs.Common.{◌≡◌, ◌≢◌, ℕ, ◌+◌, ◌-◌, ◌<◌, Bool, true, false, inl, inr, List, [], ◌∷◌, ◌++◌, length, drop, None, Some, Result, Ok, Err, refl, sym, ◌∙◌, ap, arith, append-nil}
+use Rattle.std.proofs.Common.{◌≡◌, ◌≢◌, ℕ, ◌-◌, ◌<◌, Bool, true, false, inr, List, [], ◌∷◌, ◌++◌, length, drop, None, Some, Result, Ok, Err, refl, sym, ◌∙◌, ap, arith, append-nil}
 use Rattle.std.specs.List.{All}
 use Rattle.std.proofs.Math.Seq.{drop-length}
 use Rattle.std.proofs.lemmas.List.{length-drop}
@@ -16,13 +16,7 @@ NoFeed byte = byte ≢ 10
 module _ (old mid : AigLines) (text : List ℕ) where
   -- the gates go on behind the text's end
   pub last_gates : TakesBytes old text (Ok None) mid → GoesOn old text false mid
-  last_gates takes = record {
-    line = λ bytes behind line.
-        let last = line.last refl in
-        ap (binary_gives old) (last.1 ∙ sym (append-nil text)) ∙ takes [] ∙ ap (binary_gives mid) (sym last.2);
-    end = [];
-    any = takes;
-  }
+  last_gates takes = search (arith, append-nil)
 
   -- or behind the line's
   module _ (new : AigLines) (takes : TakesBytes old text (Ok None) mid) where
@@ -35,14 +29,12 @@ module _ (old mid : AigLines) (text : List ℕ) where
       end = 10 ∷ [];
       any = λ behind. to_feed behind ∙ feeds behind;
     }
-    fed_gates (Err (Refused line name)) feeds = λ bytes behind is.
-        ap (binary_gives old) (is.fed refl) ∙ to_feed behind ∙ feeds behind
+    fed_gates (Err (Refused line name)) feeds = search (arith, to_feed)
     fed_gates (Err Memory) feeds = tt
 
   pub gates_stop : (ended : Bool) (new : AigLines) (stop : AagStop) → TakesBytes old text (Err stop) new →
       TakesBinary old text ended (Err stop) new
-  gates_stop true new (Refused line name) takes = λ bytes behind is.
-      ap (binary_gives old) (is.fed refl) ∙ takes (10 ∷ behind)
+  gates_stop true new (Refused line name) takes = search arith
   gates_stop false new (Refused line name) takes = λ bytes behind is.
       ap (binary_gives old) ((is.last refl).1 ∙ sym (append-nil text)) ∙ takes []
   gates_stop ended new Memory takes = tt
@@ -61,9 +53,7 @@ module _ (old mid : AigLines) (text : List ℕ) where
         let any : (behind : List ℕ) → binary_gives old (text ++ behind) ≡ binary_gives mid behind =
         λ behind. takes.2 behind ∙ ap (λ r. binary_gives mid (r ++ behind)) nothing in
         record {
-          line = λ bytes behind line.
-              let last = line.last refl in
-              ap (binary_gives old) (last.1 ∙ sym (append-nil text)) ∙ any [] ∙ ap (binary_gives mid) (sym last.2);
+          line = search (arith, append-nil);
           end = [];
           any = any;
         }
@@ -75,10 +65,7 @@ module _ (old mid : AigLines) (text : List ℕ) where
 
       rest_fed : (r : Result (Unit {0}) AagStop) → TakesText mid rest (Ok tt) new → (behind : List ℕ) →
           binary_gives old (text ++ (10 ∷ behind)) ≡ binary_gives new behind
-      rest_fed r reads behind =
-          takes.2 (10 ∷ behind)
-          ∙ reads (rest ++ (10 ∷ behind)) behind (record { parts = inl refl; one_line = free_rest })
-          (some_behind rest behind)
+      rest_fed r reads behind = search (arith, free_rest, some_behind)
 
       some_rest : 0 < left → rest ≢ []
       some_rest some = λ none.
@@ -103,10 +90,7 @@ module _ (old mid : AigLines) (text : List ℕ) where
         end = 10 ∷ [];
         any = rest_fed (Ok tt) reads;
       }
-      rest_taken true (Err (Refused line name)) some reads = λ bytes behind is.
-          ap (binary_gives old) (is.fed refl) ∙ takes.2 (10 ∷ behind)
-          ∙ reads (rest ++ (10 ∷ behind)) behind (record { parts = inl refl; one_line = free_rest })
-          (some_behind rest behind)
+      rest_taken true (Err (Refused line name)) some reads = search (arith, free_rest, some_behind)
       rest_taken false (Err (Refused line name)) some reads = λ bytes behind is.
           ap (binary_gives old) ((is.last refl).1 ∙ sym (append-nil text)) ∙ takes.2 []
           ∙ ap (binary_gives mid) (append-nil rest)

@@ -1,5 +1,5 @@
 -- What lines and bytes do to the reading of a circuit file in the binary form.
-use Rattle.std.proofs.Common.{◌≡◌, ◌≢◌, ℕ, suc, ◌+◌, ◌-◌, ◌<◌, Bool, true, false, inl, inr, List, [], ◌∷◌, ◌++◌, length, drop, Option, None, Some, Result, Ok, Err, refl, sym, ◌∙◌, ap, arith, subst, length-append}
+use Rattle.std.proofs.Common.{◌≡◌, ◌≢◌, ℕ, suc, ◌+◌, ◌-◌, ◌<◌, Bool, true, false, inl, inr, List, [], ◌∷◌, ◌++◌, length, Option, None, Some, Result, Ok, Err, refl, sym, ◌∙◌, ap, arith, subst, length-append}
 use Rattle.std.specs.List.{All}
 use Rattle.circuit_plain.specs.Netlist.{Netlist}
 use Rattle.dq_text.specs.BlankLine.{is_blank_line}
@@ -41,8 +41,7 @@ first_line false text bytes behind line =
 
 some_bytes : (ended : Bool) (text bytes behind : List ℕ) → IsLine text ended bytes behind → bytes ≢ []
 some_bytes true text bytes behind line = λ none. some_behind text behind (sym (line.fed refl) ∙ none)
-some_bytes false text bytes behind line =
-    let last = line.last refl in λ none. last.0 (sym last.1 ∙ none)
+some_bytes false text bytes behind line = search arith
 
 pub text_taken : (old new : AigLines) (text : List ℕ) (ended : Bool) (r : Result (Unit {0}) AagStop) →
     All NoFeed text → TakesText old text r new → TakesBinary old text ended r new
@@ -240,38 +239,10 @@ module _ (old new : AigLines) (bytes : List ℕ) (place : old.place ≡ Gates) (
       (header_line : new.reader.header_line ≡ old.reader.header_line) where
     -- a gate waits for more
     pub some_bytes_read : left ≡ None → new.place ≡ Gates → new.pending.items ≡ kept → TakesBytes old bytes (Ok None) new
-    some_bytes_read none new_place pending behind =
-        let goes = subst (λ o. AreTaken old.reader.header old.circuit old.pending.items bytes (Ok o) new.circuit kept)
-        none taken in
-        before behind
-        ∙ ap (by_gates old.reader.header old.reader.header_line) (goes.0 behind)
-        ∙ ap (λ p. by_gates old.reader.header old.reader.header_line
-        (gates_behind old.reader.header new.circuit (p ++ behind))) (sym pending)
-        ∙ ap (λ g. by_gates g old.reader.header_line (gates_behind g new.circuit (new.pending.items ++ behind)))
-        (sym header)
-        ∙ ap (λ n. by_gates new.reader.header n
-        (gates_behind new.reader.header new.circuit (new.pending.items ++ behind))) (sym header_line)
-        ∙ ap (λ p. gives_at p new behind) (sym new_place)
+    some_bytes_read none new_place pending behind = search arith
 
     -- all gates came
     pub all_bytes_read : (count : ℕ) → left ≡ Some count → new.place ≡ Symbols →
         new.number ≡ binary_line old.reader.header_line old.reader.header + 1 → new.reader.symbols ≡ no_symbols →
         TakesBytes old bytes (Ok (Some count)) new
-    all_bytes_read count some new_place number table =
-        let goes = subst (λ o. AreTaken old.reader.header old.circuit old.pending.items bytes (Ok o) new.circuit kept)
-        some taken in (
-          goes.0,
-          new_place,
-          λ behind. before behind
-              ∙ ap (by_gates old.reader.header old.reader.header_line) (goes.2 behind)
-              ∙ ap (λ n. and_then (read_symbols old.reader.header no_symbols
-              (lines_from n (drop (length bytes - count) bytes ++ behind)))
-              (λ ending. Ok (file_with old.reader.header new.circuit ending))) (sym number)
-              ∙ ap (λ t. and_then (read_symbols old.reader.header t
-              (lines_from new.number (drop (length bytes - count) bytes ++ behind)))
-              (λ ending. Ok (file_with old.reader.header new.circuit ending))) (sym table)
-              ∙ ap (λ g. and_then (read_symbols g new.reader.symbols
-              (lines_from new.number (drop (length bytes - count) bytes ++ behind)))
-              (λ ending. Ok (file_with g new.circuit ending))) (sym header)
-              ∙ ap (λ p. gives_at p new (drop (length bytes - count) bytes ++ behind)) (sym new_place),
-        )
+    all_bytes_read count some new_place number table = search arith

@@ -1,5 +1,5 @@
 -- From the header to the outputs, from these to the gates, and from the gates to the symbols.
-use Rattle.std.proofs.Common.{◌≡◌, ℕ, suc, ◌+◌, ◌-◌, ◌<◌, List, [], ◌++◌, length, Result, Err, sym, ◌∙◌, ap, arith, append-nil}
+use Rattle.std.proofs.Common.{◌≡◌, ℕ, ◌+◌, ◌-◌, ◌<◌, List, [], length, Result, Err, ap, arith, append-nil}
 use Rattle.circuit_plain.specs.Netlist.{Netlist}
 use Rattle.aiger_text.specs.ReaderState.{body_of}
 use Rattle.aiger_text.specs.Scan.{Body, LineFault, start}
@@ -9,7 +9,6 @@ use Rattle.aiger_text.specs.declared.headers.Header.{Header}
 use Rattle.aig_binary.specs.Deltas.{and_then}
 use Rattle.aig_binary.specs.FilesByLine.{binary_gives, gives_at, AreGates}
 use Rattle.aig_binary.specs.Gates.{read_gates}
-use Rattle.aig_binary.specs.MoreGates.{gates_behind, next_variable}
 use Rattle.aig_binary.specs.Scan.{behind_gates, behind_header, behind_outputs, binary_line, on_line, read_outputs}
 use Rattle.aig_binary.specs.declared.files_by_line.AigLines.{AigLines}
 use Rattle.aig_binary.specs.declared.files_by_line.Place.{Place}
@@ -29,21 +28,13 @@ module _ (l : AigLines) where
   -- behind the header
   pub outputs_begin : (first : ℕ) (h : Header) (bytes : List ℕ) → l.place ≡ Outputs →
       body_of l.reader ≡ start first h → l.number ≡ first + 1 → behind_header first bytes h ≡ binary_gives l bytes
-  outputs_begin first h bytes place is number =
-      let all : h.outputs - 0 ≡ h.outputs = omega arith in
-      sym (gives_there Outputs bytes place ∙ ap (λ b. outputs_give b l.number bytes) is
-      ∙ ap (λ n. outputs_give (start first h) n bytes) number
-      ∙ ap (λ k. and_then (read_outputs k (start first h).netlist (first + 1) bytes) (behind_outputs first h)) all)
+  outputs_begin first h bytes place is number = search (arith, gives_there)
 
   -- behind the last output
   pub outputs_end : (bytes : List ℕ) → l.place ≡ Outputs →
       length l.reader.circuit.outputs ≡ l.reader.header.outputs →
       binary_gives l bytes ≡ behind_outputs l.reader.header_line l.reader.header (l.reader.circuit, bytes)
-  outputs_end bytes place all =
-      let none : l.reader.header.outputs - length l.reader.circuit.outputs ≡ 0 = omega (arith, all) in
-      gives_there Outputs bytes place
-      ∙ ap (λ k. and_then (read_outputs k l.reader.circuit l.number bytes)
-      (behind_outputs l.reader.header_line l.reader.header)) none
+  outputs_end bytes place all = search (arith, gives_there)
 
 abbrev gates_give : ℕ → Header → ℕ → ℕ → Netlist → List ℕ → Result ReadCircuit LineFault
 gates_give line h more v net bytes = on_line (binary_line line h) (read_gates more v net bytes) (behind_gates line h)
@@ -57,26 +48,9 @@ no_gates line h net bytes none = ap (λ k. gates_give line h k (h.inputs + 1) ne
 pub outputs_missing : (l : AigLines) → l.place ≡ Outputs →
     length l.reader.circuit.outputs < l.reader.header.outputs →
     binary_gives l [] ≡ Err (record { line = l.number; name = Truncated })
-outputs_missing l place below =
-    let left : l.reader.header.outputs - length l.reader.circuit.outputs
-    ≡ suc (l.reader.header.outputs - (length l.reader.circuit.outputs + 1)) = omega (arith, below) in
-    gives_there l Outputs [] place
-    ∙ ap (λ k. and_then (read_outputs k l.reader.circuit l.number [])
-    (behind_outputs l.reader.header_line l.reader.header)) left
+outputs_missing l place below = search (arith, gives_there)
 
 -- or before the last gate
 pub gates_missing : (l : AigLines) → l.place ≡ Gates → AreGates l →
     binary_gives l [] ≡ Err (record { line = l.number; name = Truncated })
-gates_missing l place are =
-    let h = l.reader.header in
-    let net = l.circuit in
-    let below = are.waiting.more in
-    let left : h.gates - length net.gates ≡ suc (h.gates - (length net.gates + 1)) = omega (arith, below) in
-    let stops : gates_behind h net (l.pending.items ++ []) ≡ Err Truncated =
-    ap (gates_behind h net) (append-nil l.pending.items)
-    ∙ ap (λ k. read_gates k (next_variable h net) net l.pending.items) left
-    ∙ gate_stops (h.gates - (length net.gates + 1)) (next_variable h net) net l.pending.items Truncated
-    are.waiting.waits in
-    gives_there l Gates [] place
-    ∙ ap (λ r. on_line (binary_line l.reader.header_line h) r (behind_gates l.reader.header_line h)) stops
-    ∙ ap (λ n. Err (record { line = n; name = Truncated })) (sym are.number)
+gates_missing l place are = search (arith, append-nil, gate_stops, gives_there)

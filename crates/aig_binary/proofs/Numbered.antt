@@ -1,6 +1,5 @@
 -- Gates of consecutive variables: the next one is new, and so are the inputs before them.
 use Rattle.std.proofs.Common.{◌≡◌, ℕ, zero, suc, ◌+◌, ◌<◌, inl, inr, get_or, List, [], ◌∷◌, ◌++◌, length, sym, ◌∙◌, ap, arith}
-use Rattle.std.specs.List.{range_with_len}
 use Rattle.std.proofs.lemmas.List.{get_or-map, length-map}
 use Rattle.std.proofs.lemmas.List.FromFn.{length-range_with_len, get_or-range_with_len}
 use Rattle.circuit_plain.specs.Netlist.{Netlist, IsDefined, variable_of_gate}
@@ -18,8 +17,7 @@ pub numbered_at : (gs : List Gate) (v k : ℕ) (d : Gate) → AreNumbered v gs �
     (get_or gs k d).variable ≡ v + k
 numbered_at [] v k d are below = absurd (omega arith)
 numbered_at (g ∷ gs) v zero d (here, more) below = let last : v ≡ v + 0 = omega arith in here ∙ last
-numbered_at (g ∷ gs) v (suc k) d (here, more) below = let later = numbered_at gs (v + 1) k d more (omega arith) in
-    omega arith
+numbered_at (g ∷ gs) v (suc k) d (here, more) below = search (arith, (numbered_at gs (v + 1) k d more))
 
 no_gate : Gate
 no_gate = record { variable = 0; left = 0; right = 0 }
@@ -55,8 +53,4 @@ fresh_input net n i are_inputs are below =
 
 pub one_more_input : (net : Netlist) (i : ℕ) →
     record net { inputs = first_variables i ++ (i + 1) ∷ [] } ≡ record net { inputs = first_variables (i + 1) }
-one_more_input net i =
-    let next : suc i ≡ i + 1 = omega arith in
-    let last : 1 + i ≡ i + 1 = omega arith in
-    let more = ap (range_with_len 1) (sym next) ∙ range_more 1 i ∙ ap (λ k. range_with_len 1 i ++ k ∷ []) last in
-    ap (λ xs. record net { inputs = xs }) (sym more)
+one_more_input net i = search (arith, (range_more 1 i))

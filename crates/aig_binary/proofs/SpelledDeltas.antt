@@ -21,18 +21,9 @@ pub delta_from : (groups : ℕ) (code : List ℕ) (n : ℕ) (rest : List ℕ) �
     read_delta groups (code ++ rest) ≡ Ok (n, rest)
 delta_from groups [] n rest are few = absurd are
 delta_from zero (byte ∷ bytes) n rest are few = absurd (omega arith)
-delta_from (suc groups) (byte ∷ bytes) n rest (inl (low, last, is)) few =
-    cond-true (nat_lt byte 128) (Ok (byte, bytes ++ rest))
-    (and_then (read_delta groups (bytes ++ rest)) (with_low byte))
-    (lt-ltb byte 128 low)
-    ∙ ap (λ bs. Ok (byte, bs ++ rest)) last
-    ∙ ap (λ k. Ok (k, rest)) (sym is)
+delta_from (suc groups) (byte ∷ bytes) n rest (inl (low, last, is)) few = search (arith, cond-true, lt-ltb)
 delta_from (suc groups) (byte ∷ bytes) n rest (inr (large, (high, are, is))) few =
-    cond-false (nat_lt byte 128) (Ok (byte, bytes ++ rest))
-    (and_then (read_delta groups (bytes ++ rest)) (with_low byte))
-    (le-ltb byte 128 large)
-    ∙ ap (λ r. and_then r (with_low byte)) (delta_from groups bytes high rest are (omega arith))
-    ∙ ap (λ k. Ok (k, rest)) (sym is)
+    search (arith, cond-false, le-ltb, (delta_from groups bytes high rest are))
 
 -- the bytes begin with the groups of this number
 pub record IsDelta (groups : ℕ) (bytes : List ℕ) (n : ℕ) (rest : List ℕ) : Type 0 where
@@ -68,11 +59,7 @@ delta_is (suc groups) (byte ∷ bytes) n rest read =
     let here : Result (ℕ × List ℕ) AagFault = Ok (byte, bytes) in
     let more = and_then (read_delta groups bytes) (with_low byte) in
     elim (cases_Bool (nat_lt byte 128)) [
-      | inl low ↦
-          let same = ok_is (read_delta (suc groups) (byte ∷ bytes)) (byte, bytes) (n, rest)
-          (cond-true (nat_lt byte 128) here more low) read in
-          last_group groups byte n bytes rest (ltb-true byte 128 low) (ap (λ (p : ℕ × List ℕ). p.0) same)
-          (ap (λ (p : ℕ × List ℕ). p.1) same)
+      | inl low ↦ search (arith, ok_is, cond-true, last_group, ltb-true)
       | inr large ↦
           let on = goes_on (read_delta groups bytes) (with_low byte) (n, rest)
           (sym (cond-false (nat_lt byte 128) here more large) ∙ read) in

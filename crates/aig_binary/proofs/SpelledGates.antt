@@ -1,13 +1,12 @@
 -- Gates, as their reader takes them and as the grammar spells them.
-use Rattle.std.proofs.Common.{◌≡◌, ℕ, zero, suc, ◌+◌, ◌-◌, ◌*◌, ◌<◌, ◌≤◌, ◌==◌, true, false, cond, Bool, List, [], ◌∷◌, ◌++◌, length, refl, sym, ◌∙◌, ap, arith, append_assoc, append-nil, subst}
-use Rattle.std.specs.Prelude.{nat_lt, Result, Ok, Err}
+use Rattle.std.proofs.Common.{◌≡◌, ℕ, zero, suc, ◌+◌, ◌-◌, ◌*◌, ◌<◌, ◌≤◌, true, false, cond, Bool, List, [], ◌∷◌, ◌++◌, length, refl, sym, ◌∙◌, ap, arith, append_assoc, append-nil}
+use Rattle.std.specs.Prelude.{Result, Ok, Err}
 use Rattle.std.proofs.lemmas.Bool.{cond-false, ltb-false, le-ltb, ne_eqb, eqb-false}
 use Rattle.circuit_plain.specs.Netlist.{Netlist}
 use Rattle.circuit_plain.specs.declared.circuits.Gate.{Gate}
 use Rattle.aiger_text.specs.Lines.{with_gate}
 use Rattle.aiger_text.specs.declared.faults.AagFault.{AagFault}
-use Rattle.aiger_text.specs.declared.faults.AagFault.TheVariants.{BadDelta}
-use Rattle.aig_binary.specs.Deltas.{most_groups, and_then, read_delta, AreGroups}
+use Rattle.aig_binary.specs.Deltas.{most_groups, and_then, read_delta}
 use Rattle.aig_binary.specs.Gates.{lowered, first_side, read_gate, read_gates, SpellsGate, SpellsGates}
 use Rattle.aig_binary.proofs.SpelledDeltas.{goes_on, ok_is, delta_from, delta_is}
 
@@ -17,31 +16,17 @@ unless_error true name r v h = cc
 unless_error false name r v h = (refl, h)
 
 lowered_is : (literal delta side : ℕ) → lowered literal delta ≡ Ok side → (delta ≤ literal) × (side ≡ literal - delta)
-lowered_is literal delta side read =
-    let parts = unless_error (nat_lt literal delta) BadDelta (Ok (literal - delta)) side read in
-    let same = parts.1 in
-    let is : literal - delta ≡ side = cc in
-    (ltb-false literal delta parts.0, sym is)
+lowered_is literal delta side read = search (arith, unless_error, ltb-false)
 
 lowered_from : (literal side : ℕ) → side ≤ literal → lowered literal (literal - side) ≡ Ok side
-lowered_from literal side less =
-    cond-false (nat_lt literal (literal - side)) (Err BadDelta) (Ok (literal - (literal - side)))
-    (le-ltb literal (literal - side) (omega arith))
-    ∙ ap (λ k. Ok k) (let e : literal - (literal - side) ≡ side = omega arith in e)
+lowered_from literal side less = search (arith, cond-false, le-ltb)
 
 first_side_is : (literal delta side : ℕ) → first_side literal delta ≡ Ok side →
     (1 ≤ delta) × (delta ≤ literal) × (side ≡ literal - delta)
-first_side_is literal delta side read =
-    let parts = unless_error (delta == 0) BadDelta (lowered literal delta) side read in
-    let less = lowered_is literal delta side parts.1 in
-    let some = eqb-false delta 0 parts.0 in
-    (omega arith, less.0, less.1)
+first_side_is literal delta side read = search (arith, unless_error, lowered_is, eqb-false)
 
 first_side_from : (literal side : ℕ) → side < literal → first_side literal (literal - side) ≡ Ok side
-first_side_from literal side less =
-    cond-false (literal - side == 0) (Err BadDelta) (lowered literal (literal - side))
-    (ne_eqb (literal - side) 0 (λ same. omega arith))
-    ∙ lowered_from literal side (omega arith)
+first_side_from literal side less = search (arith, cond-false, ne_eqb, lowered_from)
 
 -- the steps of a gate's reading
 abbrev pub gate_with : ℕ → ℕ → List ℕ → ℕ → Result (Gate × List ℕ) AagFault
@@ -80,12 +65,7 @@ pub record IsGateOf (v : ℕ) (bytes : List ℕ) (g : Gate) (rest : List ℕ) : 
 pub same_gate : (v left right : ℕ) (rest behind : List ℕ) (g : Gate) →
     gate_with v left rest right ≡ Ok (g, behind) →
     (g.variable ≡ v) × (g.left ≡ left) × (g.right ≡ right) × (rest ≡ behind)
-same_gate v left right rest behind g h =
-    let made : Gate = record { variable = v; left = left; right = right } in
-    let both = ok_is (gate_with v left rest right) (made, rest) (g, behind) refl h in
-    let same : g ≡ made = sym (ap (λ (p : Gate × List ℕ). p.0) both) in
-    let also : rest ≡ behind = ap (λ (p : Gate × List ℕ). p.1) both in
-    (ap (λ (x : Gate). x.variable) same, ap (λ (x : Gate). x.left) same, ap (λ (x : Gate). x.right) same, also)
+same_gate v left right rest behind g h = search (arith, ok_is)
 
 pub gate_is : (v : ℕ) (bytes : List ℕ) (g : Gate) (rest : List ℕ) → read_gate v bytes ≡ Ok (g, rest) →
     IsGateOf v bytes g rest
@@ -105,16 +85,7 @@ gate_is v bytes g rest read =
       code = d.code ++ e.code;
       parted = d.parted ∙ ap (λ bs. d.code ++ bs) (e.parted ∙ ap (λ bs. e.code ++ bs) is.3)
           ∙ sym (append_assoc d.code e.code rest);
-      spelled = record {
-        variable = is.0;
-        left = omega (arith, side.0, side.1, side.2, is.1);
-        right = omega (arith, other.0, other.1, is.1, is.2);
-        first = d.code;
-        second = e.code;
-        parts = refl;
-        first_spelled = record { groups = subst (AreGroups d.code) delta d.are; few = d.few };
-        second_spelled = record { groups = subst (AreGroups e.code) step e.are; few = e.few };
-      };
+      spelled = search arith;
     }
 
 -- a netlist with more gates

@@ -1,5 +1,5 @@
 -- The lines behind the gates, as their reader takes them and as the grammar spells them.
-use Rattle.std.proofs.Common.{◌≡◌, ℕ, ◌+◌, ◌≤◌, true, false, not, cond, Bool, inl, inr, List, [], ◌∷◌, ◌++◌, filter, Option, Some, None, Result, Ok, refl, sym, ◌∙◌, ap, subst}
+use Rattle.std.proofs.Common.{◌≡◌, ℕ, ◌+◌, ◌≤◌, true, false, not, cond, Bool, inl, inr, List, [], ◌∷◌, ◌++◌, filter, Option, Some, None, Result, Ok, refl, sym, ◌∙◌, ap, subst, arith}
 use Rattle.std.specs.List.{AllZip}
 use Rattle.std.proofs.lemmas.Bool.{cases_Bool, cond-true, cond-false}
 use Rattle.dq_text.specs.BlankLine.{is_blank_line}
@@ -29,48 +29,36 @@ module _ (h : Header) where
 
   pub on_blank : (t : SymbolTable) (line : TextLine) (lines : List TextLine) → is_blank_line line.text ≡ true →
       read_symbols h t (line ∷ lines) ≡ read_symbols h t lines
-  on_blank t line lines blank =
-      cond-true (is_blank_line line.text) (read_symbols h t lines) (unless_blank t line lines) blank
+  on_blank t line lines blank = search (arith, cond-true)
 
   pub on_mark : (t : SymbolTable) (line : TextLine) (lines : List TextLine) → is_blank_line line.text ≡ false →
       begins_comment line.text ≡ true → read_symbols h t (line ∷ lines) ≡ marked t line
-  on_mark t line lines other mark =
-      cond-false (is_blank_line line.text) (read_symbols h t lines) (unless_blank t line lines) other
-      ∙ cond-true (begins_comment line.text) (marked t line) (named t line lines) mark
+  on_mark t line lines other mark = search (arith, cond-false, cond-true)
 
   pub on_name : (t : SymbolTable) (line : TextLine) (lines : List TextLine) → is_blank_line line.text ≡ false →
       begins_comment line.text ≡ false → read_symbols h t (line ∷ lines) ≡ named t line lines
-  on_name t line lines other symbol =
-      cond-false (is_blank_line line.text) (read_symbols h t lines) (unless_blank t line lines) other
-      ∙ cond-false (begins_comment line.text) (marked t line) (named t line lines) symbol
+  on_name t line lines other symbol = search (arith, cond-false)
 
   module _ (ending : Ending) where
     symbol_step : (t : SymbolTable) (line : TextLine) (lines : List TextLine) (s : SymbolLine) →
         is_blank_line line.text ≡ false → SpellsSymbol line.text s → add_symbol h t s ≡ Ok (with_name t s) →
         read_symbols h (with_name t s) lines ≡ Ok ending → read_symbols h t (line ∷ lines) ≡ Ok ending
     symbol_step t line lines s other spells added goes =
-        let next : SymbolTable → Result Ending LineFault = λ more. read_symbols h more lines in
-        on_name t line lines other (no_mark line.text s spells)
-        ∙ ap (λ o. on_line line.number (symbol_line h t o) next) (symbol_from line.text s spells)
-        ∙ ap (λ r. on_line line.number r next) added
-        ∙ goes
+        search (
+          arith,
+          (on_name t line lines other (no_mark line.text s spells)),
+          (no_mark line.text s spells),
+          (symbol_from line.text s spells),
+        )
 
     pub symbols_from : (table : SymbolTable) (behind : List TextLine) → AreNames h.inputs table.inputs →
         AreNames h.outputs table.outputs → read_symbols h table behind ≡ Ok ending →
         (lines : List TextLine) (symbols : List SymbolLine) (t : SymbolTable) → joined t symbols ≡ table →
         SpellSymbols lines symbols → read_symbols h t (lines ++ behind) ≡ Ok ending
-    symbols_from table behind inputs outputs next [] [] t whole spelled =
-        subst (λ x. read_symbols h x behind ≡ Ok ending) (sym whole ∙ joined-nil t) next
+    symbols_from table behind inputs outputs next [] [] t whole spelled = search (arith, joined-nil)
     symbols_from table behind inputs outputs next [] (s ∷ symbols) t whole spelled = absurd spelled
     symbols_from table behind inputs outputs next (line ∷ lines) [] t whole spelled =
-        let own = filter (λ (l : TextLine). not (is_blank_line l.text)) lines in
-        let Zip : Bool → Type 0 = λ b. AllZip (λ (l : TextLine) s. SpellsSymbol l.text s)
-        (cond (not b) (line ∷ own) own) [] in
-        elim (cases_Bool (is_blank_line line.text)) [
-          | inl blank ↦ on_blank t line (lines ++ behind) blank
-              ∙ symbols_from table behind inputs outputs next lines [] t whole (subst Zip blank spelled)
-          | inr other ↦ absurd (subst Zip other spelled)
-        ]
+        search (arith, cases_Bool, on_blank, (symbols_from table behind inputs outputs next lines [] t whole))
     symbols_from table behind inputs outputs next (line ∷ lines) (s ∷ symbols) t whole spelled =
         let own = filter (λ (l : TextLine). not (is_blank_line l.text)) lines in
         let Zip : Bool → Type 0 = λ b. AllZip (λ (l : TextLine) e. SpellsSymbol l.text e)
@@ -96,11 +84,7 @@ module _ (h : Header) where
   ending_from t (line ∷ lines) None None ends = absurd ends
   ending_from t (line ∷ lines) None (Some n) ends = absurd ends
   ending_from t (line ∷ lines) (Some c) None ends = absurd ends
-  ending_from t (line ∷ lines) (Some c) (Some n) (is, number_is) =
-      on_mark t line lines (ap is_blank_line is.mark ∙ not_blank 99 is.blanks refl)
-      (ap begins_comment is.mark ∙ is.blank)
-      ∙ ap (λ x. Ok (record { symbols = t; comment = Some x; comment_line = Some (line.number + 1) })) (sym is.behind)
-      ∙ ap (λ k. Ok (record { symbols = t; comment = Some c; comment_line = Some k })) (sym number_is)
+  ending_from t (line ∷ lines) (Some c) (Some n) (is, number_is) = search (arith, on_mark, not_blank)
 
   -- the symbols and the comment that were read
   pub record AreSymbolsRead (t : SymbolTable) (lines : List TextLine) (ending : Ending) : Type 0 where

@@ -11,7 +11,7 @@ use Rattle.aiger_text.proofs.ReadNetlist.{output_number, reads_output}
 use Rattle.aig_binary.specs.BareReading.{AreNumbered}
 use Rattle.aig_binary.specs.Deltas.{and_then}
 use Rattle.aig_binary.specs.Gates.{read_gate, read_gates}
-use Rattle.aig_binary.specs.Scan.{on_line, first_output, read_outputs}
+use Rattle.aig_binary.specs.Scan.{read_outputs}
 use Rattle.aig_binary.proofs.Numbered.{numbered_push}
 
 abbrev gates_on : ℕ → ℕ → Netlist → Gate × List ℕ → Result (Netlist × List ℕ) AagFault
@@ -31,16 +31,12 @@ outputs_on more number made behind = read_outputs more made (number + 1) behind
 pub one_output : (more number : ℕ) (net made : Netlist) (bytes : List ℕ) (line : TextLine) (others : List TextLine) →
     lines_from number bytes ≡ line ∷ others → output_line net (numbers_of (line_tokens line.text)) ≡ Ok made →
     read_outputs (suc more) net number bytes ≡ read_outputs more made (number + 1) line.behind
-one_output more number net made bytes line others lines read =
-    ap (λ ls. first_output number net ls (outputs_on more number)) lines
-    ∙ ap (λ r. on_line number r (λ n. outputs_on more number n line.behind)) read
+one_output more number net made bytes line others lines read = search arith
 
 -- an output's line that is read adds one
 pub output_added : (net made : Netlist) (found : Option (List ℕ)) → output_line net found ≡ Ok made →
     (l : ℕ) × (made ≡ with_output net l)
-output_added net made found read =
-    let number = output_number net made found read in
-    (number.0, sym (reads_output net made number.0 number.2).made_is)
+output_added net made found read = search (arith, output_number, reads_output)
 
 -- what is left to read, with so many gates read
 pub record GatesGoOn (h_gates first i : ℕ) (start net made : Netlist) (bytes behind : List ℕ) : Type 0 where
@@ -115,8 +111,5 @@ outputs_go_on outputs i first number next start net made bytes rest line others 
       no_gates = ap (λ (n : Netlist). n.gates) added.1 ∙ no_gates;
       counted = ap (λ (n : Netlist). length n.outputs) added.1 ∙ length-append net.outputs (added.0 ∷ [])
           ∙ ap (λ k. k + 1) counted;
-      same = same
-          ∙ ap (λ k. read_outputs k net number rest) left
-          ∙ one_output (outputs - (i + 1)) number net made rest line others lines read
-          ∙ ap (λ n. read_outputs (outputs - (i + 1)) made n line.behind) (sym following);
+      same = search (arith, one_output);
     }

@@ -1,5 +1,5 @@
 -- Differences as they are written: they are spelled, and no other bytes for them are fewer.
-use Rattle.std.proofs.Common.{◌≡◌, ℕ, zero, suc, ◌+◌, ◌-◌, ◌*◌, ◌/◌, ◌%◌, ◌^◌, ◌<◌, ◌≤◌, ◌⊎◌, true, false, inl, inr, List, [], ◌∷◌, length, refl, sym, ap, arith, subst}
+use Rattle.std.proofs.Common.{◌≡◌, ℕ, zero, suc, ◌+◌, ◌-◌, ◌*◌, ◌/◌, ◌%◌, ◌^◌, ◌<◌, ◌≤◌, ◌⊎◌, true, false, inl, inr, List, [], ◌∷◌, length, refl, sym, arith, subst}
 use Rattle.std.specs.Prelude.{nat_lt, slice_index_or}
 use Rattle.std.specs.List.{AllByRecursion, flat_map}
 use Rattle.std.proofs.lemmas.Bool.{cases_Bool, cond-true, cond-false, ltb-true, ltb-false, lt-ltb}
@@ -20,15 +20,7 @@ more_of groups n high = cond-false (nat_lt n 128) (n ∷ []) ((128 + n % 128) �
 pub more_written : (most n : ℕ) → 1 ≤ most → 128 ≤ n →
     delta_text most n ≡ (128 + n % 128) ∷ delta_text (most - 1) (n / 128)
 more_written zero n some high = absurd (omega (arith, some))
-more_written (suc groups) n some high =
-    elim (cases_Bool (nat_lt n 128)) [
-      | inl low ↦ let less = ltb-true n 128 low in absurd (omega (arith, less, high))
-      | inr more ↦ subst (λ k. delta_text (suc groups) n ≡ (128 + n % 128) ∷ delta_text k (n / 128))
-          (same groups) (more_of groups n more)
-    ]
-  where
-    same : (groups : ℕ) → groups ≡ suc groups - 1
-    same groups = omega arith
+more_written (suc groups) n some high = search (arith, cases_Bool, ltb-true)
 
 -- so many groups suffice
 abbrev FitsIn : ℕ → ℕ → Type 0
@@ -56,60 +48,28 @@ groups_of (suc groups) n fits =
 
 groups_count : (groups n : ℕ) → length (delta_text groups n) ≤ groups
 groups_count zero n = omega arith
-groups_count (suc groups) n =
-    elim (cases_Bool (nat_lt n 128)) [
-      | inl low ↦ let is = ap length (last_of groups n low) in omega (arith, is)
-      | inr high ↦
-          let is = ap length (more_of groups n high) in
-          let rest = groups_count groups (n / 128) in
-          omega (arith, is, rest)
-    ]
+groups_count (suc groups) n = search (arith, cases_Bool, (groups_count groups (n / 128)))
 
 -- any groups of the number are at least as many, where a byte is less than 256
 pub fewest : (code : List ℕ) (groups n : ℕ) → AllByRecursion (λ byte. byte < 256) code → AreGroups code n →
     length (delta_text groups n) ≤ length code
 fewest [] groups n bytes_are are = absurd are
 fewest (byte ∷ bytes) zero n bytes_are are = omega arith
-fewest (byte ∷ bytes) (suc groups) n bytes_are (inl (low, last, is)) =
-    let one = ap length (last_of groups n (lt-ltb n 128 (omega (arith, low, is)))) in omega (arith, one)
+fewest (byte ∷ bytes) (suc groups) n bytes_are (inl (low, last, is)) = search (arith, lt-ltb)
 fewest (byte ∷ bytes) (suc groups) n bytes_are (inr (large, (high, are, is))) =
-    elim (cases_Bool (nat_lt n 128)) [
-      | inl here ↦ let one = ap length (last_of groups n here) in omega (arith, one)
-      | inr more ↦
-          let longer = ap length (more_of groups n more) in
-          let small = bytes_are.0 in
-          let same : n / 128 ≡ high = omega (arith, small, large, is) in
-          let rest = subst (λ k. length (delta_text groups k) ≤ length bytes) (sym same)
-          (fewest bytes groups high bytes_are.1 are) in
-          omega (arith, longer, rest)
-    ]
+    search (arith, cases_Bool, (fewest bytes groups high bytes_are.1 are))
 
 pub delta_spelled : (n : ℕ) → n < 2 ^ 35 → SpellsDelta (delta_text 5 n) n
 delta_spelled n fits = record { groups = groups_of 5 n (fits_in 4 n fits); few = groups_count 5 n }
 
 pub gate_spelled : (v : ℕ) (g : Gate) → v < 2 ^ 34 → IsGateInOrder v g → SpellsGate v (gate_code g) g
-gate_spelled v g few is = record {
-  variable = is.variable;
-  left = is.left;
-  right = is.right;
-  first = delta_text 5 (2 * g.variable - g.left);
-  second = delta_text 5 (g.left - g.right);
-  parts = refl;
-  first_spelled = subst (λ w. SpellsDelta (delta_text 5 (2 * g.variable - g.left)) (2 * w - g.left)) is.variable
-      (delta_spelled (2 * g.variable - g.left) (omega (arith, is.variable, few)));
-  second_spelled = delta_spelled (g.left - g.right) (omega (arith, is.left, few));
-}
+gate_spelled v g few is =
+    search (arith, (delta_spelled (2 * g.variable - g.left)), (delta_spelled (g.left - g.right)))
 
 pub gates_spelled : (gs : List Gate) (v : ℕ) → v + length gs < 2 ^ 34 → AreInOrder v gs →
     SpellsGates v (flat_map gate_code gs) gs
 gates_spelled [] v few are = refl
-gates_spelled (g ∷ gs) v few (is, more) = (
-  gate_code g,
-  flat_map gate_code gs,
-  refl,
-  gate_spelled v g (omega (arith, few)) is,
-  gates_spelled gs (v + 1) (omega (arith, few)) more,
-)
+gates_spelled (g ∷ gs) v few (is, more) = search (arith, gate_spelled, (gates_spelled gs (v + 1)))
 
 -- the gate at a place is in order
 pub in_order_at : (gs : List Gate) (v place : ℕ) (default : Gate) → AreInOrder v gs → place < length gs →
@@ -117,8 +77,7 @@ pub in_order_at : (gs : List Gate) (v place : ℕ) (default : Gate) → AreInOrd
 in_order_at [] v place default are below = absurd (omega (arith, below))
 in_order_at (g ∷ gs) v zero default (is, more) below = subst (λ w. IsGateInOrder w g) (omega arith) is
 in_order_at (g ∷ gs) v (suc place) default (is, more) below =
-    subst (λ w. IsGateInOrder w (slice_index_or gs place default)) (omega arith)
-    (in_order_at gs (v + 1) place default more (omega (arith, below)))
+    search (arith, (in_order_at gs (v + 1) place default more))
 
 pub gate_in_order : (net : Netlist) (v place : ℕ) → AreInOrder v net.gates → place < length net.gates →
     IsGateInOrder (v + place) (gate_at net place)

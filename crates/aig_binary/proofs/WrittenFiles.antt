@@ -5,13 +5,13 @@ use Rattle.std.specs.List.{AllByRecursion, flat_map}
 use Rattle.std.proofs.lemmas.List.Elements.{recursion_from_All}
 use Rattle.circuit_plain.specs.Netlist.{IsLiteral}
 use Rattle.dq_text.specs.Line.{TextLine, lines_from}
-use Rattle.dq_text.specs.Written.{number_text, number_line}
+use Rattle.dq_text.specs.Written.{number_line}
 use Rattle.dq_text.proofs.LineWords.{AreWords, word_no_feed, natural_is_word}
 use Rattle.aiger_text.specs.Canonical.{comment_text, ending_text}
 use Rattle.aiger_text.specs.Lines.{max_count}
 use Rattle.aiger_text.specs.declared.files.AagFile.{AagFile}
 use Rattle.aiger_text.proofs.WrittenLines.{lines_before, number_after, one_line, joined_are, line_is_read}
-use Rattle.aiger_text.proofs.WrittenNetlist.{front_counts, header_of_form, counts_are_words, form_no_feed, form_spells}
+use Rattle.aiger_text.proofs.WrittenNetlist.{header_of_form, counts_are_words, form_no_feed, form_spells}
 use Rattle.aiger_text.proofs.WrittenSymbols.{symbols_at, symbol_line_text, symbols_joined, symbols_spell, symbols_no_feed, symbols_writable, table_is}
 use Rattle.aig_binary.specs.Grammar.{SpellsOutputs, EndsOn, SpellsBinary}
 use Rattle.aig_binary.specs.Written.{gate_code, binary_text, IsBinaryFile}
@@ -61,11 +61,7 @@ written_spells file first is =
     let number = first + 1 + length net.outputs + 1 in
     let after = number_after number texts in
     let writable = symbols_writable file spellable in
-    let header_is : binary_text file ≡ header ++ 10 ∷ bytes =
-    ap (λ counts. codes "aig " ++ (counts ++ bytes)) (counts_are_words net)
-    ∙ ap (λ bs. codes "aig " ++ bs) (append_assoc (flat_map number_text (front_counts net) ++ decimal
-    (length net.gates))
-    (10 ∷ []) bytes) in (
+    let header_is : binary_text file ≡ header ++ 10 ∷ bytes = search (arith, counts_are_words, append_assoc) in (
       comment_line after file.comment,
       record {
         header_line = record { text = header; number = first; behind = bytes };
@@ -87,9 +83,7 @@ written_spells file first is =
         parted = refl;
         gates = gates_spelled net.gates (length net.inputs + 1)
             (omega (arith, is.all_defined, spellable.few_variables)) is.gates;
-        lines_behind = ap (lines_from number) (symbols_joined file.symbols.inputs file.symbols.outputs
-            (comment_text file.comment))
-            ∙ joined_are number texts (comment_text file.comment) (symbols_no_feed symbols writable);
+        lines_behind = search (arith, symbols_joined, joined_are, symbols_no_feed);
         symbols_spelled = symbols_spell number symbols (comment_text file.comment) writable;
         comment = ends_on after file.comment;
         table = table_is file.symbols;

@@ -166,6 +166,15 @@ impl AigLines {
         ensures end { EndsBinary self result }
         ensures bare { IfOk result IsBare }
     {
+        self.take_end(alloc)
+    }
+
+    // The same of lines that are lent.
+    fn take_end(&mut self, alloc: Global) -> Result<BareCircuit, AagStop>
+        requires { AreAigLines self.old }
+        ensures end { EndsBinary self.old result }
+        ensures bare { IfOk result IsBare }
+    {
         match self.place {
             Place::Outputs => Err(refused(self.number, AagFault::Truncated)),
             Place::Gates => Err(refused(self.number, AagFault::Truncated)),

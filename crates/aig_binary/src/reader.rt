@@ -2,9 +2,10 @@
 
 ghost use Rattle.std.specs.Prelude.{◌≡◌, ◌+◌, ◌<◌, ◌^◌, [], length, IfOk, IfErr, IfSome};
 ghost use Rattle.aiger_text.specs.ReaderState.{IsCircuitReader};
+ghost use Rattle.aiger_text.specs.Symbol.{SymbolTable};
 ghost use Rattle.aig_binary.specs.BareReading.{listed, IsReadingBy};
 ghost use Rattle.aiger_text.specs.declared.faults.AagStop.TheVariants.{Memory as NoMemory};
-ghost use Rattle.aig_binary.specs.BareFile.{IsBare, IsBareOf, bare_with};
+ghost use Rattle.aig_binary.specs.BareFile.{CanCount, IsBare, IsBareOf, bare_with};
 ghost use Rattle.aig_binary.specs.Endings.{ending_of};
 ghost use Rattle.aig_binary.specs.Steps.{IsFresh};
 ghost use Rattle.aig_binary.specs.Scan.{behind_gates, behind_outputs, behind_header, scan_binary};
@@ -128,18 +129,12 @@ fn finished(
     ensures bare { IfOk result IsBare }
     ensures refused_memory { IfErr result (λ stop. stop ≡ NoMemory) }
 {
+    let (comment, comment_line) = text_of(alloc, comment)?;
     let CircuitReader {
         header,
         symbols,
         ..
     } = reader;
-    let (comment, comment_line) = match comment {
-        None => (None, None),
-        Some(found) => (
-            Some(Text::from_bytes(alloc, found.bytes)?),
-            Some(found.line),
-        ),
-    };
     Ok(BareCircuit {
         inputs: header.inputs,
         file: AagFile {
@@ -149,4 +144,22 @@ fn finished(
         },
         comment_line,
     })
+}
+
+// A comment's text, and its line.
+fn text_of(alloc: Global, comment: Option<Comment>) -> Result<(Option<Text>, Option<u64>), AagStop>
+    requires fits { IfSome comment (λ c. c.line + length c.bytes.now < 2 ^ 63) }
+    ensures text { IfOk result (λ kept. (table : SymbolTable)
+        → record { symbols = table; comment = kept.0; comment_line = kept.1 }
+        ≡ ending_of table comment.entry) }
+    ensures line { IfOk result (λ kept. CanCount kept.0 kept.1) }
+    ensures refused_memory { IfErr result (λ stop. stop ≡ NoMemory) }
+{
+    match comment {
+        None => Ok((None, None)),
+        Some(found) => {
+            let text = Text::from_bytes(alloc, found.bytes)?;
+            Ok((Some(text), Some(found.line)))
+        }
+    }
 }

@@ -1,4 +1,4 @@
-use Rattle.std.proofs.Common.{◌+◌, [], ◌∷◌, ◌++◌, sym, ◌∙◌, ap, subst, arith}
+use Rattle.std.proofs.Common.{◌+◌, sym, ap, subst, arith}
 use Rattle.circuit_plain.specs.Netlist.{Netlist}
 use Rattle.aig_binary.specs.BareReading.{AreNumbered}
 use Rattle.aig_binary.proofs.Numbered.{fresh_input, one_more_input}
@@ -13,6 +13,4 @@ add_input-requires-clause-undefined c =
     (omega arith)
 
 pub loop-i-preserved : goal.loop-i-preserved
-loop-i-preserved c =
-    c.in_ok-add_input.ensures.ok ∙ ap (λ (n : Netlist). record n { inputs = n.inputs ++ (c.loop-i.i + 1) ∷ [] })
-    c.loop-i.invariant ∙ one_more_input c.args.circuit.now c.loop-i.i
+loop-i-preserved c = search (arith, (one_more_input c.args.circuit.now c.loop-i.i))

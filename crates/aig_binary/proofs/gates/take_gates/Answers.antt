@@ -1,4 +1,4 @@
-use Rattle.std.proofs.Common.{rules, ◌≡◌, ◌+◌, ◌*◌, ◌/◌, ◌<◌, length, subst, arith}
+use Rattle.std.proofs.Common.{◌≡◌, ◌+◌, ◌*◌, ◌/◌, length, subst, arith}
 use Rattle.circuit_plain.specs.Netlist.{IsDefined}
 use Rattle.aig_binary.proofs.Numbered.{fresh_gate}
 use Rattle.aig_binary.proofs.Steps.{gates_go_on, gates_stop}
@@ -6,9 +6,10 @@ use Rattle.aig_binary.proofs.gates.take_gates.Goals as goal
 
 pub returns-in_err-gate-clause-gates : goal.returns-in_err-gate-clause-gates
 returns-in_err-gate-clause-gates c =
-    let stops = gates_stop c.args.header.gates (c.args.header.inputs + 1) c.loop-i.i c.args.circuit.now c.loop-i.circuit
-    c.args.deltas.now c.loop-i.deltas in
-    search rules
+    search (
+      arith,
+      (gates_stop c.args.header.gates (c.args.header.inputs + 1) c.loop-i.i c.args.circuit.now c.loop-i.circuit c.args.deltas.now c.loop-i.deltas),
+    )
 
 pub add_gate-requires-clause-undefined : goal.add_gate-requires-clause-undefined
 add_gate-requires-clause-undefined c =
@@ -22,16 +23,7 @@ add_gate-requires-clause-undefined c =
 
 pub loop-i-preserved : goal.loop-i-preserved
 loop-i-preserved c =
-    let below : c.loop-i.i < c.args.header.gates = search rules in
-    let on = gates_go_on c.args.header.gates (c.args.header.inputs + 1) c.loop-i.i c.args.circuit.now c.loop-i.circuit
-    c.add_gate.new.self c.in_ok-gate.gate c.args.deltas.now c.loop-i.deltas c.next_gate.new.deltas below
-    c.loop-i.invariant.max_var c.loop-i.invariant.no_inputs c.loop-i.invariant.numbered c.loop-i.invariant.counted
-    c.loop-i.invariant.same c.in_ok-gate.ensures.read c.in_ok-gate.ensures.variable c.in_ok-add_gate.ensures.ok in
-    record {
-      max_var = on.max_var;
-      no_inputs = on.no_inputs;
-      numbered = on.numbered;
-      counted = on.counted;
-      shorter = omega (arith, c.next_gate.ensures.shorter, c.loop-i.invariant.shorter);
-      same = on.same;
-    }
+    search (
+      arith,
+      (gates_go_on c.args.header.gates (c.args.header.inputs + 1) c.loop-i.i c.args.circuit.now c.loop-i.circuit c.add_gate.new.self c.in_ok-gate.gate c.args.deltas.now c.loop-i.deltas c.next_gate.new.deltas),
+    )

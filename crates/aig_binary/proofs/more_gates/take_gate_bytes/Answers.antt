@@ -1,4 +1,4 @@
-use Rattle.std.proofs.Common.{◌≡◌, ◌++◌, length, Ok, ◌∙◌, ap, subst}
+use Rattle.std.proofs.Common.{◌≡◌, ◌++◌, length, Ok, ◌∙◌, ap, subst, arith}
 use Rattle.aig_binary.specs.MoreGates.{AreMoreGates}
 use Rattle.aig_binary.proofs.CutGates.{all_taken, stop_taken}
 use Rattle.aig_binary.proofs.more_gates.take_gate_bytes.Goals as goal
@@ -17,10 +17,4 @@ returns-in-Ok-true-clause-taken c =
     (length c.rest.result.now) (ap length c.rest.ensures) c.extend.new.pending.items
 
 pub returns-in-Err-clause-taken : goal.returns-in-Err-clause-taken
-returns-in-Err-clause-taken c =
-    let pending = c.args.pending.now.items in
-    let bytes = c.args.bytes.now in
-    let parts : c.new-deltas.result ≡ pending ++ bytes =
-    c.new-deltas.ensures ∙ c.deref.ensures.value ∙ c.in_ok-extend.ensures in
-    stop_taken c.args.header c.args.circuit.now c.take_whole_gates.new.circuit pending bytes c.new-deltas.result
-    c.take_whole_gates.new.deltas parts c.in-Err.stop c.in-Err.ensures.gates c.extend.new.pending.items
+returns-in-Err-clause-taken c = search (arith, stop_taken)
