@@ -66,9 +66,7 @@ module _ (b : DatabaseState) (clause : List Literal) (entries : List Entry) (som
       ∙ get_or_append_left (zeros ++ b.frames) ((newest b).number ∷ []) 0 (j - 1) (omega (arith, low, high, few))
 
   given_stays : (place : ℕ) → place < length b.added → given_at after place ≡ given_at b place
-  given_stays place below =
-      let same = database.stack.many_given in
-      get_or_append_left b.given (0 ∷ []) 0 place (omega (arith, below, same))
+  given_stays place below = search (arith, get_or_append_left)
 
   grown : IsGrown b b.table after.added after.frames after.given b.groups b.open_frames after.live
   grown = record {
@@ -95,11 +93,7 @@ module _ (b : DatabaseState) (clause : List Literal) (entries : List Entry) (som
   pub clause_database : IsDatabase after entries
   clause_database = record {
     well_formed = record {
-      prefix = record {
-        in_range = database.well_formed.prefix.in_range;
-        declared_once = database.well_formed.prefix.declared_once;
-        sees_universals = database.well_formed.prefix.sees_universals;
-      };
+      prefix = search arith;
       bound = subst (All (All (λ l. Contains (declared b.file) (variable_of l)))) (sym longer)
           (All-append (All (λ l. Contains (declared b.file) (variable_of l))) (matrix ++ b.added) (clause ∷ [])
           database.well_formed.bound (All-cons (All (λ l. Contains (declared b.file) (variable_of l))) clause [] bound
@@ -107,12 +101,7 @@ module _ (b : DatabaseState) (clause : List Literal) (entries : List Entry) (som
     };
     stack = clause_added b clause database.stack some_open;
     table = database.table;
-    groups = record {
-      made = database.groups.made;
-      none_of_file = database.groups.none_of_file;
-      apart = database.groups.apart;
-      off_table = database.groups.off_table;
-    };
+    groups = search arith;
     givens = entries_same b b.table after.added after.frames after.given b.groups b.open_frames after.live grown
         (λ frame g has. has) entries database.givens;
     done = done;
@@ -130,10 +119,7 @@ module _ (b : DatabaseState) (clause : List Literal) (entries : List Entry) (som
           let same = given_stays place below in
           let r = database.instances k place row c row_is c_is (omega (arith, less, same)) live in
           (r.0, subst (λ f. HasGroup b f r.0) (sym (same_frame b clause database.stack some_open place below)) r.1, r.2)
-      instance k place row c row_is (inr (here, same)) less live =
-          let long = database.stack.many_given in
-          let none = zero_behind b.given place (omega (arith, here, long)) in
-          absurd (omega (arith, less, none))
+      instance k place row c row_is (inr (here, same)) less live = search (arith, zero_behind)
 
 pub clauses_come : ClausesCome
 clauses_come b clause entries some_open bound database = clause_database b clause entries some_open bound database

@@ -1,5 +1,5 @@
 -- A database to whose table a row was added.
-use Rattle.std.proofs.Common.{◌≡◌, ℕ, ◌+◌, ◌-◌, ◌≤◌, Bool, true, false, cond, inl, List, [], ◌∷◌, ◌++◌, length, replicate, slice_get, Some, refl, sym, ◌∙◌, ap, subst, arith}
+use Rattle.std.proofs.Common.{◌≡◌, ℕ, ◌+◌, ◌≤◌, Bool, true, false, cond, inl, List, [], ◌∷◌, ◌++◌, length, replicate, slice_get, Some, refl, sym, ◌∙◌, ap, subst, arith}
 use Rattle.std.proofs.lemmas.List.{length-append, length-replicate, get_or-replicate, get_or_append_left}
 use Rattle.dq_lits.specs.Literal.{Literal}
 use Rattle.dq_lits.specs.Formula.{Dqbf}
@@ -70,12 +70,7 @@ row_keeps : (f : Dqbf) (group : ℕ) (more old : List Entry) → EachOf (IsRowEn
     × KeepsEntries (part instances old) (part instances (more ++ old)) × NamesStay old (more ++ old)
 row_keeps f group [] old each logged = ((λ v n is. is), (λ e has. has), (λ v n is. is))
 row_keeps f group (e ∷ more) old each logged =
-    let before = row_keeps f group more old each.1 logged.1 in
-    let here = entry_keeps f group (more ++ old) logged.1 e each.0 in (
-      (λ v n is. here.0 v n (before.0 v n is)),
-      (λ x has. here.1 x (before.1 x has)),
-      (λ v n is. here.2 v n (before.2 v n is)),
-    )
+    search (arith, (row_keeps f group more old each.1 logged.1), entry_keeps)
 
 no_circuit : circuits ≡ instances → ⊥
 no_circuit e = cc
@@ -96,11 +91,7 @@ rightly f matrix (Term l r) h = tt
 -- what a row adds is right in the session
 row_added : (b : DatabaseState) (first earlier : List Entry) (e : Entry) → IsRowEntry b.file b.table.group earlier e →
     IsAddedLive (all_of b) instances (groups_of b) true first earlier e
-row_added b first earlier (Named v n) h = record {
-  unnamed = h.unnamed;
-  own = h.own;
-  rightly = rightly b.file (b.file.matrix ++ b.added) n h.rightly;
-}
+row_added b first earlier (Named v n) h = search arith
 row_added b first earlier (Given (Instance k j) c) h = record {
   own = refl;
   in_group = (b.table.group, h.in_group, inl (0, omega arith, refl));
@@ -122,13 +113,7 @@ row_added b first earlier (Begun live) h = absurd h
 pub row_grew : (b : DatabaseState) (first : List Entry) (old new : ProofLog) →
     Grew (IsRowEntry b.file b.table.group) old new
     → Grew (IsAddedLive (all_of b) instances (groups_of b) true first) old new
-row_grew b first old new g = record {
-  more = g.more;
-  grown = g.grown;
-  each = each_of_weaker (IsRowEntry b.file b.table.group) (IsAddedLive (all_of b) instances (groups_of b) true first)
-      (row_added b first) g.more old.entries g.each;
-  limit = g.limit;
-}
+row_grew b first old new g = search (arith, each_of_weaker, row_added)
 
 module _ (b : DatabaseState) (t : TableState) (row : List Bool) (old : List Entry) (more : List Entry)
     (database : IsDatabase b old) (logged : AreLogged (more ++ old)) (group : t.group ≡ b.table.group)
@@ -138,10 +123,7 @@ module _ (b : DatabaseState) (t : TableState) (row : List Bool) (old : List Entr
   after = record b { table = t }
 
   file_frame : (j : ℕ) → 1 ≤ j → j ≤ length b.file.matrix → frame_of (frames_of b) j ≡ 0
-  file_frame j low high =
-      let long = length-replicate {A = ℕ} (length b.file.matrix) 0 in
-      get_or_append_left (replicate (length b.file.matrix) 0) b.frames 0 (j - 1) (omega (arith, low, high, long))
-      ∙ get_or-replicate (length b.file.matrix) (j - 1) 0 0 (omega (arith, low, high))
+  file_frame j low high = search (arith, length-replicate, get_or_append_left, replicate, get_or-replicate)
 
   row_entry : (earlier : List Entry) (e : Entry) → IsRowEntry b.file b.table.group earlier e →
       IsDatabaseEntry after earlier e
@@ -242,12 +224,4 @@ pub row_answer : (x b : DatabaseState) → x ≡ b → (t : TableState) (row : L
     IsDatabase b old.entries → AreLogged new.entries → t.group ≡ x.table.group → Grew (IsRowEntry x.file x.table.group) old new
     → IsFullTable x.file t new.entries → t.rows ≡ x.table.rows ++ row ∷ []
     → IsFullDatabase (record x { table = t }) new.entries
-row_answer x b view t row old new database logged group added table rows =
-    let g = subst (λ (y : DatabaseState). Grew (IsRowEntry y.file y.table.group) old new) view added in
-    let here = subst (λ (y : DatabaseState). IsFullTable y.file t new.entries) view table in
-    subst (λ (y : DatabaseState). IsFullDatabase (record y { table = t }) new.entries) (sym view)
-    (subst (IsFullDatabase (record b { table = t })) (sym g.grown)
-    (row_database b t row old.entries g.more database (subst AreLogged g.grown logged)
-    (group ∙ ap (λ (y : DatabaseState). y.table.group) view)
-    (rows ∙ ap (λ (y : DatabaseState). y.table.rows ++ row ∷ []) view)
-    (subst (IsFullTable b.file t) g.grown here) g.each))
+row_answer x b view t row old new database logged group added table rows = search (arith, row_database)

@@ -56,10 +56,7 @@ begun_stack f t =
       many_given = refl;
       numbered = λ place below. absurd (omega (arith, below));
       first = omega arith;
-      ascending_live = λ i j l k less l_is k_is.
-          let a = ap (λ (x : Live). x.clause) (live_is n i l l_is).1 in
-          let c = ap (λ (x : Live). x.clause) (live_is n j k k_is).1 in
-          omega (arith, a, c, less);
+      ascending_live = search (arith, live_is);
       file_live = number_live n;
       open_live = λ place below is_open. absurd (omega (arith, below));
       frames = λ l has.
@@ -111,12 +108,7 @@ module _ (f : Dqbf) (t : TableState) where
     well_formed = subst (λ m. IsWellFormed (with_matrix f m)) (sym (append-nil f.matrix)) formula;
     stack = begun_stack f t;
     table = table;
-    groups = record {
-      made = λ frame g has. absurd (no_group frame g has);
-      none_of_file = λ frame g has. absurd (no_group frame g has);
-      apart = λ frame other g h has has' same. absurd (no_group frame g has);
-      off_table = λ frame g has same. no_group frame g has;
-    };
+    groups = search arith;
     givens = subst (λ (l : ProofLog). Each (IsDatabaseEntry b) l.entries) (sym named) (tt, all_none old.entries none);
     done = λ place. omega arith;
     instances = no_instances (part instances new.entries);
@@ -145,20 +137,4 @@ pub begun_as : (f : Dqbf) (t : TableState) (es : List Entry) → IsDatabase (beg
       live = live;
     }) es
 begun_as f t es database added frames given groups open_frames live added_is frames_is given_is groups_is open_is live_is =
-    let build : List (List Literal) → List ℕ → List ℕ → List (Option Group) → List OpenFrame → List Live → DatabaseState =
-    λ cs fs ns gs os ls. record {
-      file = f;
-      table = t;
-      added = cs;
-      frames = fs;
-      given = ns;
-      groups = gs;
-      open_frames = os;
-      live = ls;
-    } in
-    subst (λ cs. IsDatabase (build cs frames given groups open_frames live) es) (sym added_is)
-    (subst (λ fs. IsDatabase (build [] fs given groups open_frames live) es) (sym frames_is)
-    (subst (λ ns. IsDatabase (build [] [] ns groups open_frames live) es) (sym given_is)
-    (subst (λ gs. IsDatabase (build [] [] [] gs open_frames live) es) (sym groups_is)
-    (subst (λ os. IsDatabase (build [] [] [] (None ∷ []) os live) es) (sym open_is)
-    (subst (λ ls. IsDatabase (build [] [] [] (None ∷ []) [] ls) es) (sym live_is) database)))))
+    search arith

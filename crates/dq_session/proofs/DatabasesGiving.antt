@@ -15,7 +15,7 @@ use Rattle.hint_log.proofs.NamedEntries.{unnamed_before}
 use Rattle.log_laws.specs.Engines.{instances}
 use Rattle.log_laws.specs.Sessions.{IsInOneOf, IsAddedLive}
 use Rattle.log_laws.proofs.Kept.{each_of_weaker}
-use Rattle.log_laws.proofs.LargerLogs.{grown_by, grown_by_none, grown_then}
+use Rattle.log_laws.proofs.LargerLogs.{grown_by, grown_then}
 use Rattle.oracle.specs.declared.groups.Group.{Group}
 use Rattle.dq_session.specs.Databases.{DatabaseState, all_of, live_of, HasGroup, number_of, IsFullDatabase}
 use Rattle.dq_session.specs.Changes.{groups_of, IsCaughtUp}
@@ -27,14 +27,7 @@ use Rattle.dq_session.proofs.PreservedDatabases.{has_number}
 
 pub giving_none : (b : DatabaseState) (log new : ProofLog) → IsFullDatabase b log.entries
     → length (fault_groups log.entries) ≤ fault_room log.entries → new ≡ log → IsGiving b log b new
-giving_none b log new full few same = subst (IsGiving b log b) (sym same) (record {
-  caught_up = record { same = refl; more = λ place. omega arith; many_groups = refl; made = λ F g has. has };
-  grew = λ silent. grown_by_none (IsAddedLive (all_of b) instances (groups_of b) silent log.entries) log log refl;
-  new_groups = λ F g has. inl has;
-  names = λ v none. none;
-  database = full;
-  few = few;
-})
+giving_none b log new full few same = search arith
 
 -- a group among the frames' is some frame's
 pub group_in : (groups : List (Option Group)) (v : ℕ) → Contains (filter_map (option_map number_of) groups) v →
@@ -105,16 +98,7 @@ module _ (a b c : DatabaseState) (first middle last : ProofLog) (x : IsGiving a 
 
   pub giving_then : IsGiving a first c last
   giving_then = record {
-    caught_up = record {
-      same = y.caught_up.same
-          ∙ ap (λ (s : DatabaseState). record s { given = c.given; groups = c.groups }) x.caught_up.same;
-      more = λ place.
-          let m = x.caught_up.more place in
-          let n = y.caught_up.more place in
-          omega (arith, m, n);
-      many_groups = y.caught_up.many_groups ∙ x.caught_up.many_groups;
-      made = λ F g has. y.caught_up.made F g (x.caught_up.made F g has);
-    };
+    caught_up = search arith;
     grew = grew;
     new_groups = λ F g has. by F g (y.new_groups F g has);
     names = λ v none. x.names v (y.names v none);
@@ -144,10 +128,7 @@ giving_group b frame g log new full few logged one free plain unnamed is =
           (with_entry log entry) entry refl (record { unnamed = unnamed; own = inl refl; rightly = tt });
       new_groups = λ F h has. by F h (new_or_old b frame g log.entries one free logged plain unnamed full.database F h has);
       names = λ v none. unnamed_before entry log.entries v none;
-      database = record {
-        database = group_database b frame g log.entries one free logged plain unnamed full.database;
-        rows = full.rows;
-      };
+      database = search (arith, group_database);
       few = few;
     })
   where
@@ -160,8 +141,7 @@ giving_group b frame g log new full few logged one free plain unnamed is =
 pub free_at : (b : DatabaseState) (groups : List (Option Group)) → groups ≡ b.groups → (frame : ℕ) →
     frame < length b.groups → (o : Option Group) → o ≡ get_or groups frame o → is_some o ≡ false
     → slice_get b.groups frame ≡ Some None
-free_at b groups same frame below None is none =
-    slice_get-get_or b.groups frame None below ∙ ap Some (sym (is ∙ ap (λ gs. get_or gs frame None) same))
+free_at b groups same frame below None is none = search (arith, slice_get-get_or)
 free_at b groups same frame below (Some g) is none = cc
 
 -- what an answer shows of live clauses doesn't rest on how many instances were given

@@ -1,7 +1,6 @@
 -- An instance of an added clause, given under the next row that it lacks.
-use Rattle.std.proofs.Common.{◌≡◌, ℕ, suc, ◌+◌, ◌-◌, ◌≤◌, ◌<◌, ◌==◌, ◌⊎◌, inl, inr, Bool, true, false, true≢false, cond, List, [], ◌∷◌, ◌++◌, length, slice_get, get_or, set, Option, Some, refl, sym, ◌∙◌, ap, subst, arith}
+use Rattle.std.proofs.Common.{◌≡◌, ℕ, suc, ◌+◌, ◌-◌, ◌≤◌, ◌<◌, ◌⊎◌, inl, inr, Bool, true, false, true≢false, List, [], ◌∷◌, ◌++◌, length, slice_get, get_or, set, Option, Some, refl, sym, ◌∙◌, ap, subst, arith}
 use Rattle.std.specs.List.{Contains, list_any, filter_map}
-use Rattle.std.specs.Option.{option_and_then}
 use Rattle.std.proofs.lemmas.Bool.{cases_lt, eqb-true, eq-eqb, ne_eqb}
 use Rattle.std.proofs.lemmas.List.{length-set, get_or_default, get_or-set_same, get_or-set_other}
 use Rattle.std.proofs.lemmas.Option.{slice_get-get_or, slice_get_within}
@@ -9,7 +8,7 @@ use Rattle.list_laws.proofs.Elements.{old_or_last}
 use Rattle.dq_lits.specs.Literal.{Literal, negative}
 use Rattle.dq_lits.specs.Expansion.{universal_literal_true}
 use Rattle.hint_log.specs.Conditions.{AreLogged}
-use Rattle.hint_log.specs.Entries.{Entry, Named, Given, Learned, Answer, Round, Begun, ProofLog, with_entry, is_round, numbered, rounds_of, row_of, row_at}
+use Rattle.hint_log.specs.Entries.{Entry, Named, Given, Learned, Answer, Round, Begun, ProofLog, with_entry, row_at}
 use Rattle.hint_log.specs.Growth.{Each}
 use Rattle.hint_log.specs.Naming.{numbered_from_one, AreNamedAs, on_arbiter, rows_of}
 use Rattle.hint_log.specs.Origins.{IsOriginsClause}
@@ -43,33 +42,14 @@ row_there (Named v n ∷ es) k row is = row_there es k row is
 row_there (Given o c ∷ es) k row is = row_there es k row is
 row_there (Learned c hs ∷ es) k row is = row_there es k row is
 row_there (Answer c hs ∷ es) k row is = row_there es k row is
-row_there (Round r values j ∷ es) k row is = by (row_there es k row) (old_or_last (rows_of es) r row k is)
-  where
-    by : (slice_get (rows_of es) k ≡ Some row → row_at es (k + 1) ≡ Some row)
-        → (slice_get (rows_of es) k ≡ Some row) ⊎ ((k ≡ length (rows_of es)) × (r ≡ row))
-        → row_at (Round r values j ∷ es) (k + 1) ≡ Some row
-    by before (inl old) =
-        let below = slice_get_within (rows_of es) k row old in
-        let many = rounds_are_rows es in
-        let other : (k + 1 == rounds_of es + 1) ≡ false =
-        ne_eqb (k + 1) (rounds_of es + 1) (λ e. omega (arith, e, below, many)) in
-        ap (λ t. option_and_then row_of (cond t (Some (Round r values j)) (numbered is_round es (k + 1)))) other
-        ∙ before old
-    by before (inr (place, same)) =
-        let many = rounds_are_rows es in
-        let here : (k + 1 == rounds_of es + 1) ≡ true = eq-eqb (k + 1) (rounds_of es + 1) (omega (arith, place, many)) in
-        ap (λ t. option_and_then row_of (cond t (Some (Round r values j)) (numbered is_round es (k + 1)))) here
-        ∙ ap Some same
+row_there (Round r values j ∷ es) k row is =
+    search (arith, (row_there es k row), old_or_last, slice_get_within, rounds_are_rows, ne_eqb, eq-eqb)
 row_there (Begun live ∷ es) k row is = row_there es k row is
 
 right_there : (xs ys : List (List Literal)) (p : ℕ) (c : List Literal) → slice_get ys p ≡ Some c →
     slice_get (xs ++ ys) (length xs + p) ≡ Some c
-right_there [] ys p c is =
-    let same : 0 + p ≡ p = omega arith in
-    ap (slice_get ys) same ∙ is
-right_there (x ∷ xs) ys p c is =
-    let same : length (x ∷ xs) + p ≡ suc (length xs + p) = omega arith in
-    ap (slice_get (x ∷ xs ++ ys)) same ∙ right_there xs ys p c is
+right_there [] ys p c is = search arith
+right_there (x ∷ xs) ys p c is = search (arith, (right_there xs ys p c is))
 
 module _ (b : DatabaseState) (place k : ℕ) (g : Group) (row : List Bool) (clause : List Literal) (es : List Entry)
     (database : IsDatabase b es) (below : place < length b.added) (next : k ≡ given_at b place + 1)
@@ -85,18 +65,10 @@ module _ (b : DatabaseState) (place k : ℕ) (g : Group) (row : List Bool) (clau
   given_here = let many = database.stack.many_given in get_or-set_same b.given place k 0 (omega (arith, below, many))
 
   given_cases : (p : ℕ) → ((p ≡ place) × (given_at after p ≡ k)) ⊎ (given_at after p ≡ given_at b p)
-  given_cases p = by (p == place) refl
-    where
-      by : (t : Bool) → (p == place) ≡ t → ((p ≡ place) × (given_at after p ≡ k)) ⊎ (given_at after p ≡ given_at b p)
-      by true e = let same = eqb-true p place e in inl (same, ap (given_at after) same ∙ given_here)
-      by false e = inr (get_or-set_other b.given place p k 0 (λ same. true≢false (sym (eq-eqb p place same) ∙ e)))
+  given_cases p = search (arith, eqb-true, given_here, get_or-set_other, eq-eqb)
 
   more_given : (p : ℕ) → given_at b p ≤ given_at after p
-  more_given p = by (given_cases p)
-    where
-      by : ((p ≡ place) × (given_at after p ≡ k)) ⊎ (given_at after p ≡ given_at b p) → given_at b p ≤ given_at after p
-      by (inl (same, is)) = let there = ap (given_at b) same in omega (arith, there, is, next)
-      by (inr is) = omega (arith, is)
+  more_given p = search (arith, given_cases)
 
   stack : IsStack after
   stack =
@@ -142,46 +114,11 @@ module _ (b : DatabaseState) (place k : ℕ) (g : Group) (row : List Bool) (clau
       → (list_any (universal_literal_true b.file row) clause ≡ false →
       HasInstance b.file (number_of g) b.table.rows own (k - 1) (length b.file.matrix + place) row clause)
       → HasDoneInstances after own
-  instances_in own names entries here i p r c r_is c_is less open_row = by (given_cases p)
-    where
-      old : i < given_at b p → Instances own i p r c
-      old before =
-          let there = database.instances i p r c r_is c_is before open_row in (
-            there.0,
-            there.1,
-            instance_kept b.file (number_of there.0) b.table.rows mine own names entries i
-                (length b.file.matrix + p) r c there.2,
-          )
-
-      new : p ≡ place → i ≡ k - 1 → Instances own i p r c
-      new same at =
-          let rows_same : Some row ≡ Some r = sym row_is ∙ ap (slice_get b.table.rows) (sym at) ∙ r_is in
-          let row_same : row ≡ r = cc in
-          let clauses_same : Some clause ≡ Some c = sym clause_is ∙ ap (slice_get b.added) (sym same) ∙ c_is in
-          let clause_same : clause ≡ c = cc in
-          let still : list_any (universal_literal_true b.file row) clause ≡ false =
-          ap (λ x. list_any (universal_literal_true b.file x) clause) row_same
-          ∙ ap (list_any (universal_literal_true b.file r)) clause_same ∙ open_row in
-          subst (λ q. Instances own i q r c) (sym same)
-          (subst (λ q. Instances own q place r c) (sym at)
-          (subst (λ x. Instances own (k - 1) place x c) row_same
-          (subst (Instances own (k - 1) place row) clause_same (g, has, here still))))
-
-      by : ((p ≡ place) × (given_at after p ≡ k)) ⊎ (given_at after p ≡ given_at b p) → Instances own i p r c
-      by (inr is) = old (omega (arith, less, is))
-      by (inl (same, is)) = at (cases_lt i (k - 1))
-        where
-          at : (i < k - 1) ⊎ (k - 1 ≤ i) → Instances own i p r c
-          at (inl before) = let there = ap (given_at b) same in old (omega (arith, before, next, there))
-          at (inr past) = new same (omega (arith, past, less, is, next))
+  instances_in own names entries here i p r c r_is c_is less open_row =
+      search (arith, given_cases, instance_kept, cases_lt)
 
   groups_stand : (more : List Entry) → ((h : Group) → IsMade es h → IsMade more h) → AreFrameGroups after more
-  groups_stand more stays = record {
-    made = λ F h there. stays h (database.groups.made F h there);
-    none_of_file = database.groups.none_of_file;
-    apart = database.groups.apart;
-    off_table = database.groups.off_table;
-  }
+  groups_stand more stays = search arith
 
   caught_up : IsCaughtUp b after
   caught_up = record { same = refl; more = more_given; many_groups = refl; made = λ F h there. there }
@@ -239,11 +176,7 @@ module _ (b : DatabaseState) (place k : ℕ) (g : Group) (row : List Bool) (clau
     frame_instance = record {
       right = right;
       in_frame = inr (g, subst (λ F. HasGroup b F g) (sym (frame_of_added b place)) has, (rest, refl));
-      done = λ p same.
-          let is : p ≡ place = omega (arith, same) in
-          let at = ap (given_at after) is in
-          let here = given_here in
-          omega (arith, here, at);
+      done = search (arith, given_here);
     }
 
     not_yet : (d : List Literal) → Contains es (Given (Instance k (number_at b place)) d) → ⊥
@@ -316,10 +249,7 @@ given_under b place k g row clause log new full logged few below next last has r
       grew = λ silent. grown_by_none (Added b log silent) log log refl;
       new_groups = λ F h there. inl there;
       names = λ v none. none;
-      database = record {
-        database = passed_database b place k g row clause log.entries full.database below next last has row_is clause_is passed;
-        rows = full.rows;
-      };
+      database = search (arith, passed_database);
       few = few;
     })
     by false live =
@@ -340,11 +270,7 @@ given_under b place k g row clause log new full logged few below next last has r
           });
           new_groups = λ F h there. inl there;
           names = λ v none. none;
-          database = record {
-            database = given_database b place k g row clause log.entries full.database below next last has row_is clause_is logged
-                full.rows a.rest a.named live;
-            rows = full.rows;
-          };
+          database = search (arith, given_database);
           few = few;
         })
 

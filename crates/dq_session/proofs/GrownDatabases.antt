@@ -1,5 +1,5 @@
 -- What was given stays right where a database gets further clauses, groups and rows.
-use Rattle.std.proofs.Common.{◌≡◌, ℕ, ◌≤◌, ◌⊎◌, inl, inr, List, [], ◌∷◌, Option, Some, None, IsSome, sym, subst, arith}
+use Rattle.std.proofs.Common.{◌≡◌, ℕ, ◌≤◌, ◌⊎◌, inl, inr, List, [], ◌∷◌, Option, Some, None, sym, subst, arith}
 use Rattle.dq_lits.specs.Literal.{Literal}
 use Rattle.dq_lits.specs.Formula.{Dqbf}
 use Rattle.hint_log.specs.Conditions.{AreNamed, MayFollow}
@@ -25,21 +25,7 @@ pub instance_by : (f : Dqbf) (matrix : List (List Literal)) (earlier : List Entr
     → ((clause : List Literal) → numbered_from_one f.matrix j ≡ Some clause →
     numbered_from_one matrix j ≡ Some clause)
     → IsOriginsClause f earlier (Instance k j) c → IsOriginsClause (with_matrix f matrix) earlier (Instance k j) c
-instance_by f matrix earlier k j c same o = record {
-  group = o.group;
-  rest = o.rest;
-  clause_is = o.clause_is;
-  is_group = o.is_group;
-  rest_is = record {
-    row = o.rest_is.row;
-    clause = o.rest_is.clause;
-    row_is = o.rest_is.row_is;
-    clause_is = same o.rest_is.clause o.rest_is.clause_is;
-    open_row = o.rest_is.open_row;
-    named = o.rest_is.named;
-  };
-  one_leaf = λ v a i a' i' leaf leaf' rest' is. cc;
-}
+instance_by f matrix earlier k j c same o = search arith
 
 module _ (b : DatabaseState) (table : TableState) (added : List (List Literal)) (frames given : List ℕ)
     (groups : List (Option Group)) (open_frames : List OpenFrame) (live : List Live) where
@@ -80,18 +66,7 @@ module _ (b : DatabaseState) (table : TableState) (added : List (List Literal)) 
 
     instance_kept : (earlier : List Entry) (k j : ℕ) (c : List Literal) → IsFrameInstance b earlier k j c →
         IsFrameInstance after earlier k j c
-    instance_kept earlier k j c h =
-        let at = h.right.rest_is.clause_is in
-        record {
-          right = instance_by (all_of b) (all_of after).matrix earlier k j c (grown.clauses j) h.right;
-          in_frame = subst (λ frame. IsInFrame after frame c) (sym (grown.same_frames j h.right.rest_is.clause at))
-              (in_frame (frame_of (frames_of b) j) c h.in_frame);
-          done = λ place is.
-              let before = h.done place is in
-              let more = grown.more_given place h.right.rest_is.clause (subst
-              (λ i. numbered_from_one (all_of b).matrix i ≡ Some h.right.rest_is.clause) is at) in
-              omega (arith, before, more);
-        }
+    instance_kept earlier k j c h = search (arith, instance_by)
 
     module _ (Q : List Entry → Entry → Type 0)
         (no_frame : (earlier : List Entry) (origin : Origin) (c : List Literal) → Q earlier (Given origin c) →
@@ -137,15 +112,7 @@ module _ (b : DatabaseState) (table : TableState) (added : List (List Literal)) 
 
     may_each : (es : List Entry) → AreNewGroups es → Each MayFollow es → Each May es
     may_each [] new logged = tt
-    may_each (e ∷ es) new logged = ((before, logged.0), may_each es before logged.1)
-      where
-        weaker : (frame : ℕ) (g : Group) → HasGroup b frame g ⊎ (name_of (e ∷ es) (number_of g) ≡ None) →
-            HasGroup b frame g ⊎ (name_of es (number_of g) ≡ None)
-        weaker frame g (inl old) = inl old
-        weaker frame g (inr none) = inr (unnamed_before e es (number_of g) none)
-
-        before : AreNewGroups es
-        before frame g has = weaker frame g (new frame g has)
+    may_each (e ∷ es) new logged = search (arith, (may_each es), (unnamed_before e es))
 
     -- with further ones
     pub entries_kept : (es : List Entry) → AreNewGroups es → Each MayFollow es → Each (IsDatabaseEntry b) es →

@@ -1,5 +1,5 @@
 -- The formula of now, clause by clause.
-use Rattle.std.proofs.Common.{◌≡◌, ℕ, zero, suc, ◌+◌, ◌-◌, ◌≤◌, ◌<◌, ◌⊎◌, inl, inr, List, [], ◌∷◌, ◌++◌, map, take, length, slice_get, get_or, Option, Some, None, refl, sym, ◌∙◌, ap, arith}
+use Rattle.std.proofs.Common.{◌≡◌, ℕ, zero, suc, ◌+◌, ◌-◌, ◌≤◌, ◌<◌, ◌⊎◌, inl, inr, List, [], ◌∷◌, ◌++◌, map, take, length, slice_get, get_or, Option, Some, refl, sym, ◌∙◌, ap, arith}
 use Rattle.std.specs.List.{All, Contains, filter_map, cons_option}
 use Rattle.std.proofs.lemmas.List.{length-append}
 use Rattle.std.proofs.lemmas.List.Elements.{All-contains}
@@ -22,9 +22,7 @@ first_clauses b i = filter_map (λ (l : Live). numbered_from_one (all_of b).matr
 numbered_there : (m : List (List Literal)) (j : ℕ) → 1 ≤ j → j ≤ length m →
     numbered_from_one m j ≡ Some (get_or m (j - 1) [])
 numbered_there m zero low high = absurd (omega (arith, low))
-numbered_there m (suc i) low high =
-    let back : suc i - 1 ≡ i = omega arith in
-    slice_get-get_or m i [] (omega (arith, high)) ∙ ap (λ n. Some (get_or m n [])) (sym back)
+numbered_there m (suc i) low high = search (arith, slice_get-get_or)
 
 by_number : {Y : Type 0} (h : ℕ → Option Y) (xs : List Live) →
     filter_map (λ (l : Live). h l.clause) xs ≡ filter_map h (map (λ (l : Live). l.clause) xs)
@@ -34,11 +32,7 @@ by_number h (x ∷ xs) = ap (cons_option (h x.clause)) (by_number h xs)
 few_pass : {X Y : Type 0} (h : X → Option Y) (xs : List X) (i : ℕ) → length (filter_map h (take i xs)) ≤ i
 few_pass h xs zero = omega arith
 few_pass h [] (suc i) = omega arith
-few_pass {Y = Y} h (x ∷ xs) (suc i) = by (h x) (few_pass h xs i)
-  where
-    by : (o : Option Y) → length (filter_map h (take i xs)) ≤ i → length (cons_option o (filter_map h (take i xs))) ≤ suc i
-    by None few = omega (arith, few)
-    by (Some y) few = omega (arith, few)
+few_pass {Y = Y} h (x ∷ xs) (suc i) = search (arith, (few_pass h xs i))
 
 -- a live clause is one of those that were numbered
 pub live_within : (b : DatabaseState) (es : List Entry) → IsDatabase b es → (i : ℕ) (l : Live) → slice_get b.live i ≡ Some l →

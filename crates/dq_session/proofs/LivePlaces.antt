@@ -100,43 +100,13 @@ AreGivenTo b at =
     → given_at b place ≡ length b.table.rows
 
 pub given_to_none : (b : DatabaseState) → IsStack b → AreGivenTo b (length b.file.matrix)
-given_to_none b s i place l less is number =
-    let past = added_behind b s i l is (omega (arith, number)) in
-    absurd (omega (arith, past, less))
+given_to_none b s i place l less is number = search (arith, added_behind)
 
 pub given_to_more : (b c : DatabaseState) (old new : ProofLog) (at done : ℕ) (l : Live) → IsGiving b old c new
     → slice_get b.live at ≡ Some l → l.clause ≡ number_at b done → given_at c done ≡ length c.table.rows
     → AreGivenTo b at → AreGivenTo c (at + 1)
-given_to_more b c old new at done l giving is number now before i place k less k_is k_number = by (cases_lt i at)
-  where
-    same_live : b.live ≡ c.live
-    same_live = sym (ap (λ (x : DatabaseState). x.live) giving.caught_up.same)
-
-    there : slice_get b.live i ≡ Some k
-    there = ap (λ ls. slice_get ls i) same_live ∙ k_is
-
-    same_file : length c.file.matrix ≡ length b.file.matrix
-    same_file = ap (λ (x : DatabaseState). length x.file.matrix) giving.caught_up.same
-
-    same_rows : length c.table.rows ≡ length b.table.rows
-    same_rows = ap (λ (x : DatabaseState). length x.table.rows) giving.caught_up.same
-
-    by : (i < at) ⊎ (at ≤ i) → given_at c place ≡ length c.table.rows
-    by (inl old) =
-        let file = same_file in
-        let rows = same_rows in
-        let had = before i place k old there (omega (arith, k_number, file)) in
-        let more = giving.caught_up.more place in
-        let within = giving.database.database.done place in
-        omega (arith, had, more, within, rows)
-    by (inr here) =
-        let i_is : i ≡ at = omega (arith, here, less) in
-        let both : Some k ≡ Some l = sym there ∙ ap (slice_get b.live) i_is ∙ is in
-        let one : k ≡ l = cc in
-        let numbers = ap (λ (x : Live). x.clause) one in
-        let file = same_file in
-        let place_is : place ≡ done = omega (arith, numbers, number, k_number, file) in
-        ap (given_at c) place_is ∙ now
+given_to_more b c old new at done l giving is number now before i place k less k_is k_number =
+    search (arith, cases_lt)
 
 pub all_given : (b : DatabaseState) (at : ℕ) → length b.live ≤ at → AreGivenTo b at → IsWhole b
 all_given b at past given place below has =
@@ -150,10 +120,4 @@ pub added_there : (b m : DatabaseState) → IsCaughtUp b m → IsStack m → (it
     → l ≡ get_or items at l → (slice_get m.live at ≡ Some l) × (place : ℕ) × (l.clause ≡ number_at m place)
     × (place < length m.added)
 added_there b m caught stack items items_are at many many_is past below l l_is =
-    let long = ap (λ (x : DatabaseState). length x.live) caught.same in
-    let file = ap (λ (x : DatabaseState). length x.file.matrix) caught.same in
-    let there : slice_get m.live at ≡ Some l =
-    slice_get-get_or m.live at l (omega (arith, below, long))
-    ∙ ap Some (sym (l_is ∙ ap (λ xs. get_or xs at l) items_are)) in
-    let r = added_at m stack at l there (omega (arith, past, many_is, file)) in
-    (there, r.0, r.1, r.2)
+    search (arith, slice_get-get_or, added_at)

@@ -1,5 +1,5 @@
 -- An answer to the groups of open frames.
-use Rattle.std.proofs.Common.{◌≡◌, ℕ, zero, suc, ◌+◌, ◌-◌, ◌≤◌, ◌<◌, ◌⊎◌, inl, inr, false, List, [], ◌∷◌, ◌++◌, map, length, replicate, slice_index_or, get_or, None, Some, refl, sym, ◌∙◌, ap, subst, arith}
+use Rattle.std.proofs.Common.{◌≡◌, ℕ, zero, suc, ◌-◌, ◌≤◌, ◌<◌, ◌⊎◌, inl, inr, false, List, [], ◌∷◌, ◌++◌, map, length, replicate, slice_index_or, None, Some, refl, sym, ◌∙◌, ap, subst, arith}
 use Rattle.std.specs.List.{All, Contains}
 use Rattle.std.proofs.lemmas.Bool.{cases_lt}
 use Rattle.std.proofs.lemmas.List.{length-append, length-replicate, get_or_append_left, get_or_default, get_or-append-add}
@@ -28,7 +28,7 @@ use Rattle.oracle.specs.declared.groups.Group.{Group}
 use Rattle.expansion.specs.Searches.{switches}
 use Rattle.expansion.specs.Table.{IsFullTable}
 use Rattle.expansion.proofs.TableAnswers.{learned_grew, found_rows, searched, in_active, negated_selectors, by_numbers, active_named, own_instance}
-use Rattle.dq_session.specs.Databases.{DatabaseState, all_of, frames_of, live_of, now_of, number_at, frame_at, HasGroup, number_of, IsOpen, IsInFrame, IsDatabaseEntry, IsDatabase, IsFullDatabase}
+use Rattle.dq_session.specs.Databases.{DatabaseState, all_of, frames_of, live_of, now_of, number_at, frame_at, HasGroup, number_of, IsOpen, IsDatabaseEntry, IsDatabase, IsFullDatabase}
 use Rattle.dq_session.specs.Changes.{open_groups}
 use Rattle.dq_session.specs.Shown.{IsRefutedLive}
 use Rattle.dq_session.specs.Searching.{LiveAnswersRefute}
@@ -46,11 +46,7 @@ group_open b es database g has =
 
 -- the frame of an added clause
 pub frame_of_added : (b : DatabaseState) (place : ℕ) → frame_of (frames_of b) (number_at b place) ≡ frame_at b place
-frame_of_added b place =
-    let zeros : List ℕ = replicate (length b.file.matrix) 0 in
-    let long = length-replicate {A = ℕ} (length b.file.matrix) 0 in
-    let there : number_at b place - 1 ≡ length zeros + place = omega (arith, long) in
-    ap (λ i. get_or (zeros ++ b.frames) i 0) there ∙ get_or-append-add zeros b.frames place 0
+frame_of_added b place = search (arith, replicate, length-replicate, get_or-append-add)
 
 -- a clause of an open frame is live
 pub live_by_frame : (b : DatabaseState) (es : List Entry) → IsDatabase b es → (j : ℕ) (c : List Literal) →
@@ -91,27 +87,13 @@ module _ (b : DatabaseState) (es : List Entry) (database : IsDatabase b es) (ear
   open_frame : (k j : ℕ) → IsDatabaseEntry b earlier (Given (Instance k j) c) → IsActive b c →
       (IsInGroup b.table.group c → IsInstance (Instance k j) × IsOriginsClause b.file earlier (Instance k j) c)
       → IsOpen b (frame_of (frames_of b) j) ⊎ (j ≤ length b.file.matrix)
-  open_frame k j entry (inl inside) own =
-      inr (numbered_low b.file.matrix j (own inside).1.rest_is.clause (own inside).1.rest_is.clause_is).1
-  open_frame k j entry (inr (frame, g, is_open, has, inside)) own = by entry.in_frame
-    where
-      by : IsInFrame b (frame_of (frames_of b) j) c →
-          IsOpen b (frame_of (frames_of b) j) ⊎ (j ≤ length b.file.matrix)
-      by (inl (zero_is, of_table)) =
-          absurd (database.groups.off_table frame g has (in_one_group (number_of g) b.table.group c inside of_table))
-      by (inr (h, other, in_other)) =
-          let same = database.groups.apart frame (frame_of (frames_of b) j) g h has other
-          (in_one_group (number_of g) (number_of h) c inside in_other) in
-          inl (subst (IsOpen b) same is_open)
+  open_frame k j entry (inl inside) own = search (arith, numbered_low)
+  open_frame k j entry (inr (frame, g, is_open, has, inside)) own = search (arith, in_one_group)
 
   live_instance : (origin : Origin) → IsDatabaseEntry b earlier (Given origin c) → IsActive b c →
       (IsInGroup b.table.group c → IsInstance origin × IsOriginsClause b.file earlier origin c)
       → IsLiveInstance b earlier c origin
-  live_instance (Instance k j) entry is_active own = (
-    entry.right,
-    live_by_frame b es database j entry.right.rest_is.clause entry.right.rest_is.clause_is
-        (open_frame k j entry is_active own),
-  )
+  live_instance (Instance k j) entry is_active own = search (arith, live_by_frame, open_frame)
   live_instance (Gate v i) entry (inl inside) own = absurd (own inside).0
   live_instance (Gate v i) entry (inr (frame, g, is_open, has, inside)) own = absurd (entry frame g has inside)
   live_instance (Fault j i leaf) entry (inl inside) own = absurd (own inside).0
@@ -169,11 +151,7 @@ contains_map (g ∷ gs) v (suc k, below, is) =
 -- the file's clauses are well-formed alone
 pub file_formed : (b : DatabaseState) → IsWellFormed (all_of b) → IsWellFormed b.file
 file_formed b formed = record {
-  prefix = record {
-    in_range = formed.prefix.in_range;
-    declared_once = formed.prefix.declared_once;
-    sees_universals = formed.prefix.sees_universals;
-  };
+  prefix = search arith;
   bound = λ k d below.
       let long = length-append b.file.matrix b.added in
       subst (All (λ l. Contains (declared b.file) (variable_of l)))
@@ -182,11 +160,7 @@ file_formed b formed = record {
 }
 
 pub full_table : (b : DatabaseState) (es : List Entry) → IsFullDatabase b es → IsFullTable b.file b.table es
-full_table b es full = record {
-  formula = file_formed b full.database.well_formed;
-  table = full.database.table;
-  rows = full.rows;
-}
+full_table b es full = search (arith, file_formed)
 
 pub open_made : (b : DatabaseState) (es : List Entry) → IsDatabase b es → All (IsMade es) (open_groups b)
 open_made b es database k d below =

@@ -19,12 +19,7 @@ set_or_old [] i k y z is = inr is
 set_or_old (x ∷ xs) zero zero y z is = inl (refl, cc)
 set_or_old (x ∷ xs) zero (suc k) y z is = inr is
 set_or_old (x ∷ xs) (suc i) zero y z is = inr is
-set_or_old (x ∷ xs) (suc i) (suc k) y z is = further (set_or_old xs i k y z is)
-  where
-    further : ((k ≡ i) × (y ≡ z)) ⊎ (slice_get xs k ≡ Some z) →
-        ((suc k ≡ suc i) × (y ≡ z)) ⊎ (slice_get xs k ≡ Some z)
-    further (inl (here, same)) = inl (ap suc here, same)
-    further (inr old) = inr old
+set_or_old (x ∷ xs) (suc i) (suc k) y z is = search (arith, (set_or_old xs i k y z is))
 
 pub set_here : {X : Type 0} (xs : List X) (i : ℕ) (x y : X) → slice_get xs i ≡ Some x →
     slice_get (set xs i y) i ≡ Some y
@@ -60,11 +55,7 @@ module _ (b : DatabaseState) (frame : ℕ) (g : Group) (es : List Entry) (one : 
   kept F h has = set_other b.groups frame F (Some g) (Some h) (apart_from F h has) has
 
   pub new_or_old : (F : ℕ) (h : Group) → HasGroup after F h → ((F ≡ frame) × (g ≡ h)) ⊎ HasGroup b F h
-  new_or_old F h has = by (set_or_old b.groups frame F (Some g) (Some h) has)
-    where
-      by : ((F ≡ frame) × (Some g ≡ Some h)) ⊎ HasGroup b F h → ((F ≡ frame) × (g ≡ h)) ⊎ HasGroup b F h
-      by (inl (here, same)) = inl (here, cc)
-      by (inr old) = inr old
+  new_or_old F h has = search (arith, set_or_old)
 
   named_apart : (F : ℕ) (h : Group) → HasGroup b F h → number_of h ≡ number_of g → ⊥
   named_apart F h has same =

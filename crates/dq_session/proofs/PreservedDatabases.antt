@@ -1,5 +1,5 @@
 -- A database stands where others add to the log.
-use Rattle.std.proofs.Common.{◌≡◌, ◌≢◌, ℕ, zero, suc, ◌==◌, Bool, true, false, true≢false, cond, ◌⊎◌, inl, inr, List, [], ◌∷◌, ◌++◌, slice_get, Option, Some, None, refl, sym, ◌∙◌, ap, subst, arith}
+use Rattle.std.proofs.Common.{◌≡◌, ◌≢◌, ℕ, zero, suc, Bool, false, true≢false, cond, ◌⊎◌, inl, inr, List, [], ◌∷◌, ◌++◌, slice_get, Option, Some, None, refl, sym, ◌∙◌, ap, subst, arith}
 use Rattle.std.specs.List.{Contains, filter_map, cons_option}
 use Rattle.std.specs.Option.{option_map}
 use Rattle.std.proofs.lemmas.Bool.{eqb-true}
@@ -14,7 +14,6 @@ use Rattle.hint_log.specs.declared.origins.Origin.TheVariants.{Instance, Gate, F
 use Rattle.log_laws.specs.Engines.{Engine, circuits, instances, copies, same_engine, origin_engine, name_engine, is_engine, part, IsInGroup, IsOwnGiven}
 use Rattle.log_laws.specs.Sessions.{IsAddedLive}
 use Rattle.oracle.specs.declared.groups.Group.{Group}
-use Rattle.expansion.specs.Table.{IsTablePart}
 use Rattle.dq_session.specs.Databases.{DatabaseState, HasGroup, number_of, IsInNoFrame, IsDatabaseEntry, HasDoneInstances, IsDatabase}
 use Rattle.dq_session.specs.Changes.{groups_of}
 use Rattle.dq_session.specs.Preservation.{EnginesLeaveDatabases, RoundsLeaveDatabases, BeginningsLeaveDatabases}
@@ -38,11 +37,7 @@ part_same b (Begun live) es f = refl
 
 pub name_more : (es : List Entry) (w : ℕ) (n : Name) (v : ℕ) (m : Name) → name_of es w ≡ None →
     name_of es v ≡ Some m → name_of (Named w n ∷ es) v ≡ Some m
-name_more es w n v m none is = by (v == w) refl
-  where
-    by : (t : Bool) → (v == w) ≡ t → cond t (Some n) (name_of es v) ≡ Some m
-    by true e = let gone : name_of es v ≡ None = ap (name_of es) (eqb-true v w e) ∙ none in cc
-    by false e = is
+name_more es w n v m none is = search (arith, eqb-true)
 
 names_stay : (b : DatabaseState) (e : Entry) (es : List Entry) → IsForeign b es e → (v : ℕ) (m : Name) →
     name_of es v ≡ Some m → name_of (e ∷ es) v ≡ Some m
@@ -80,13 +75,7 @@ pub database_stands : (b : DatabaseState) (e : Entry) (es : List Entry) → IsFo
 database_stands b e es f database = record {
   well_formed = database.well_formed;
   stack = database.stack;
-  table = record {
-    group = names_stay b e es f b.table.group (Selector b.table.group) database.table.group;
-    existentials = database.table.existentials;
-    own_group = (own_given b e es f, database.table.own_group);
-    own = subst (IsTablePart b.file b.table) (sym (part_same b e es f)) database.table.own;
-    first_rows = database.table.first_rows;
-  };
+  table = search (arith, names_stay, own_given, part_same);
   groups = record {
     made = λ frame g has. record {
       positive = (database.groups.made frame g has).positive;
@@ -120,10 +109,7 @@ not_own_name engine o other (inr some) = ap (is_engine instances) some ∙ other
 pub contains_group : (groups : List (Option Group)) (frame : ℕ) (g : Group) → slice_get groups frame ≡ Some (Some g) →
     Contains (filter_map (option_map number_of) groups) (number_of g)
 contains_group [] frame g is = cc
-contains_group (o ∷ groups) zero g is =
-    let here : o ≡ Some g = cc in
-    subst (λ x. Contains (cons_option (option_map number_of x) (filter_map (option_map number_of) groups)) (number_of g))
-    (sym here) (0, omega arith, refl)
+contains_group (o ∷ groups) zero g is = search arith
 contains_group (o ∷ groups) (suc frame) g is = behind o (contains_group groups frame g is)
   where
     behind : (x : Option Group) → Contains (filter_map (option_map number_of) groups) (number_of g) →
@@ -194,11 +180,7 @@ databases_left all b engine groups silent old new grew other apart =
     )
 
 pub round_left : RoundsLeaveDatabases
-round_left b row values j earlier full =
-    (database_stands b (Round row values j) earlier tt full.database, ap (λ rs. rs ++ row ∷ []) full.rows)
+round_left b row values j earlier full = search (arith, database_stands)
 
 pub beginning_left : BeginningsLeaveDatabases
-beginning_left b live earlier = (
-  database_stands b (Begun live) earlier tt,
-  (λ full. record { database = database_stands b (Begun live) earlier tt full.database; rows = full.rows }),
-)
+beginning_left b live earlier = search (arith, (database_stands b))

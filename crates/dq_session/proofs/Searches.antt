@@ -1,5 +1,5 @@
 -- A search over the groups of open frames.
-use Rattle.std.proofs.Common.{◌≡◌, ℕ, zero, suc, ◌+◌, Bool, true≢false, List, [], ◌∷◌, ◌++◌, take, slice_get, Option, Some, None, sym, ◌∙◌, ap, subst, arith}
+use Rattle.std.proofs.Common.{◌≡◌, ℕ, zero, suc, ◌+◌, Bool, true≢false, List, [], ◌∷◌, ◌++◌, take, slice_get, Option, Some, None, sym, ◌∙◌, ap, arith}
 use Rattle.std.specs.List.{filter_map, cons_option}
 use Rattle.dq_lits.specs.Formula.{Dqbf}
 use Rattle.hint_log.specs.Deciding.{IsInstance}
@@ -30,13 +30,7 @@ search_added all groups silent first earlier (Begun live) h = absurd h
 -- what a search adds is right in a session, over whatever clauses and groups
 pub search_grew : (all : Dqbf) (groups : List ℕ) (silent : Bool) (first : List Entry) (old new : ProofLog) →
     Grew (IsSearchEntry silent) old new → Grew (IsAddedLive all instances groups silent first) old new
-search_grew all groups silent first old new g = record {
-  more = g.more;
-  grown = g.grown;
-  each = each_of_weaker (IsSearchEntry silent) (IsAddedLive all instances groups silent first)
-      (search_added all groups silent first) g.more old.entries g.each;
-  limit = g.limit;
-}
+search_grew all groups silent first old new g = search (arith, each_of_weaker, search_added)
 
 module _ (b : DatabaseState) (es : List Entry) (database : IsDatabase b es) where
   pub open_hold : HoldInstances (open_groups b) es
@@ -72,10 +66,8 @@ taken_more {Y = Y} h (z ∷ xs) (suc i) x is =
 -- what the table's search says, by the database's parts
 pub by_parts : (P : TableState → List Group → Type 0) (x b : DatabaseState) → x ≡ b → (gs : List Group) →
     gs ≡ open_groups b → P x.table gs → P b.table (open_groups b)
-by_parts P x b view gs same holds =
-    subst (P b.table) same (subst (λ (y : DatabaseState). P y.table gs) view holds)
+by_parts P x b view gs same holds = search arith
 
 pub same_database : (x b : DatabaseState) → x ≡ b → (t : TableState) → t ≡ x.table → (es : List Entry) → IsFullDatabase b es →
     IsFullDatabase (record x { table = t }) es
-same_database x b view t same es full =
-    subst (λ s. IsFullDatabase (record x { table = s }) es) (sym same) (subst (λ y. IsFullDatabase y es) (sym view) full)
+same_database x b view t same es full = search arith

@@ -148,8 +148,7 @@ module _ (b : DatabaseState) (clause : List Literal) (s : IsStack b) (some_open 
   o = newest b
 
   o_is : slice_get b.open_frames (length b.open_frames - 1) ≡ Some o
-  o_is = slice_get-get_or b.open_frames (length b.open_frames - 1) (record { number = 0; start = 0 })
-      (omega (arith, some_open))
+  o_is = search (arith, slice_get-get_or)
 
   abbrev number : ℕ
   number = length b.file.matrix + length b.added + 1
@@ -168,15 +167,10 @@ module _ (b : DatabaseState) (clause : List Literal) (s : IsStack b) (some_open 
 
   -- a place of the longer list
   old_place : (place : ℕ) → place < length (b.added ++ clause ∷ []) → (place < length b.added) ⊎ (place ≡ length b.added)
-  old_place place below = by (cases_lt place (length b.added))
-    where
-      by : (place < length b.added) ⊎ (length b.added ≤ place) → (place < length b.added) ⊎ (place ≡ length b.added)
-      by (inl less) = inl less
-      by (inr past) = let more = more_added in inr (omega (arith, below, past, more))
+  old_place place below = search (arith, cases_lt, more_added)
 
   pub same_frame : (place : ℕ) → place < length b.added → frame_at after place ≡ frame_at b place
-  same_frame place below =
-      get_or_append_left b.frames (o.number ∷ []) 0 place (let many = s.many_frames in omega (arith, below, many))
+  same_frame place below = search (arith, get_or_append_left)
 
   new_frame : frame_at after (length b.added) ≡ o.number
   new_frame = ap (λ n. get_or (b.frames ++ o.number ∷ []) n 0) (sym s.many_frames)
@@ -259,9 +253,7 @@ module _ (b : DatabaseState) (clause : List Literal) (s : IsStack b) (some_open 
               ⊎ ((place : ℕ) × (l.clause ≡ number_at b place) × (place < length (b.added ++ clause ∷ []))
               × (l.frame ≡ frame_at after place) × IsOpen b l.frame)
           wider (inl file) = inl file
-          wider (inr (place, is', below, frame, is_open)) =
-              let more = more_added in
-              inr (place, is', omega (arith, below, more), frame ∙ sym (same_frame place below), is_open)
+          wider (inr (place, is', below, frame, is_open)) = search (arith, more_added, same_frame)
       framed l n (inr (here, same)) =
           let more = more_added in
           subst (λ (x : Live). ((1 ≤ x.clause) × (x.clause ≤ length b.file.matrix) × (x.frame ≡ 0))
@@ -353,10 +345,7 @@ module _ (b : DatabaseState) (s : IsStack b) (some_open : 1 ≤ length b.open_fr
     frames = λ l has. let at = place_of (take closing.start b.live) l has in
         let there = take_there closing.start b.live at.0 l at.1 in
         framed l at.0 there.0 there.1 (s.frames l (element_at b.live at.0 l there.1));
-    known = λ i p is. let at = take_there top b.open_frames i p is in let h = s.known i p at.1 in
-        let start = (lower i p is).1 in let closed = (s.known top closing closing_is).2 in
-        let many = length-take-le closing.start b.live closed in
-        (h.0, h.1, omega (arith, start, many));
+    known = search (arith, take_there, closing_is, length-take-le);
     ascending = λ i j p q less p_is q_is. s.ascending i j p q less (take_there top b.open_frames i p p_is).1
         (take_there top b.open_frames j q q_is).1;
     last = λ i n p l p_is l_is. s.last i n p l (take_there top b.open_frames i p p_is).1

@@ -1,24 +1,14 @@
-use Rattle.std.proofs.Common.{◌≡◌, [], ◌∷◌, ◌++◌, sym, subst}
-use Rattle.dq_lits.specs.Formula.{IsWellFormed}
-use Rattle.hint_log.specs.Growth.{Grew}
-use Rattle.expansion.specs.Adding.{IsRowEntry}
-use Rattle.expansion.specs.Table.{IsFullTable}
-use Rattle.dq_session.specs.Databases.{DatabaseState, IsFullDatabase}
+use Rattle.std.proofs.Common.{arith}
 use Rattle.dq_session.proofs.AddedRows.{row_grew, row_answer}
 use Rattle.dq_session.proofs.LiveRefutations.{file_formed}
 use Rattle.list_laws.proofs.Results.{on_both}
 use Rattle.dq_session.proofs.databases.ClauseDatabase.add_row.Goals as goal
 
 pub add_row-requires-clause-formula : goal.add_row-requires-clause-formula
-add_row-requires-clause-formula g c = subst (λ (x : DatabaseState). IsWellFormed x.file) (sym c.self.view_is)
-    (file_formed c.args.self.now c.requires.database.well_formed)
+add_row-requires-clause-formula g c = search (arith, (file_formed c.args.self.now c.requires.database.well_formed))
 
 pub returns-clause-grew : goal.returns-clause-grew
-returns-clause-grew g c =
-    let log = c.args.log.now in
-    row_grew c.args.self.now log.entries log c.add_row.new.log
-    (subst (λ (x : DatabaseState). Grew (IsRowEntry x.file x.table.group) log c.add_row.new.log) c.self.view_is
-    c.add_row.ensures.added)
+returns-clause-grew g c = search (arith, row_grew)
 
 pub returns-clause-database : goal.returns-clause-database
 returns-clause-database g c =

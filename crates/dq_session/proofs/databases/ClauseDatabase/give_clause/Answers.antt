@@ -1,4 +1,4 @@
-use Rattle.std.proofs.Common.{◌≡◌, length, sym, ◌∙◌, ap, subst, arith}
+use Rattle.std.proofs.Common.{length, sym, ◌∙◌, ap, subst, arith}
 use Rattle.dq_session.specs.Databases.{DatabaseState, frame_at, HasGroup}
 use Rattle.dq_session.proofs.DatabasesGiving.{giving_then}
 use Rattle.dq_session.proofs.databases.ClauseDatabase.give_clause.Goals as goal
@@ -24,16 +24,10 @@ loop-k-preserved g c =
     )
 
 pub returns-in_err-give_under-clause-giving : goal.returns-in_err-give_under-clause-giving
-returns-in_err-give_under-clause-giving g c =
-    giving_then c.args.self.now c.loop-k.self c.give_under.new.self c.args.log.now c.loop-k.log c.give_under.new.log
-    c.loop-k.invariant.1 c.give_under.ensures.giving
+returns-in_err-give_under-clause-giving g c = search (arith, giving_then)
 
 pub returns-clause-giving : goal.returns-clause-giving
 returns-clause-giving g c = c.loop-k.invariant.1
 
 pub returns-clause-done : goal.returns-clause-done
-returns-clause-done g c =
-    let test = c.loop-k-test.false in
-    let within = c.loop-k.invariant.3 in
-    let all : c.loop-k.k ≡ c.rows-rows.result = omega (arith, test, within) in
-    c.loop-k.invariant.4 ∙ all ∙ c.loop-k.invariant.2
+returns-clause-done g c = search arith

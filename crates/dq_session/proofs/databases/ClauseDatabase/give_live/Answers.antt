@@ -1,19 +1,11 @@
-use Rattle.std.proofs.Common.{◌≡◌, ◌-◌, length, sym, ◌∙◌, ap, subst, refl, arith}
+use Rattle.std.proofs.Common.{◌≡◌, ◌-◌, length, ◌∙◌, ap, arith}
 use Rattle.dq_session.specs.Databases.{DatabaseState, given_at}
 use Rattle.dq_session.proofs.DatabasesGiving.{giving_none, giving_then}
-use Rattle.dq_session.proofs.LivePlaces.{AreGivenTo, given_to_none, given_to_more, all_given, added_there}
+use Rattle.dq_session.proofs.LivePlaces.{given_to_none, given_to_more, all_given, added_there}
 use Rattle.dq_session.proofs.databases.ClauseDatabase.give_live.Goals as goal
 
 pub loop-at-init : goal.loop-at-init
-loop-at-init g c =
-    let b = c.args.self.now in
-    let log = c.args.log.now in (
-      c.requires.fit,
-      giving_none b log log c.requires.database c.requires.few refl,
-      subst (AreGivenTo b)
-          (sym (c.clauses-at.ensures.value ∙ ap (λ (x : DatabaseState). length x.file.matrix) c.self.view_is))
-          (given_to_none b c.requires.database.database.stack),
-    )
+loop-at-init g c = search (arith, giving_none, given_to_none)
 
 pub overflow_sub-place : goal.overflow_sub-place
 overflow_sub-place g c =
@@ -94,15 +86,7 @@ loop-at-preserved g c =
     )
 
 pub returns-in_err-give_clause-clause-giving : goal.returns-in_err-give_clause-clause-giving
-returns-in_err-give_clause-clause-giving g c =
-    giving_then c.args.self.now c.loop-at.self c.give_clause.new.self c.args.log.now c.loop-at.log c.give_clause.new.log
-    c.loop-at.invariant.1 c.give_clause.ensures.giving
+returns-in_err-give_clause-clause-giving g c = search (arith, giving_then)
 
 pub returns-clause-whole : goal.returns-clause-whole
-returns-clause-whole g c =
-    let test = c.loop-at-test.false in
-    let end = c.len-at-end.ensures in
-    let vec = c.self.inside.live.ok.0 in
-    let long = ap (λ (x : DatabaseState). length x.live) c.self.view_is in
-    let same = ap (λ (x : DatabaseState). length x.live) c.loop-at.invariant.1.caught_up.same in
-    all_given c.loop-at.self c.loop-at.at (omega (arith, test, end, vec, long, same)) c.loop-at.invariant.2
+returns-clause-whole g c = search (arith, all_given)

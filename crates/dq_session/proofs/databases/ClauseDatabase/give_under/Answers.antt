@@ -1,5 +1,4 @@
-use Rattle.std.proofs.Common.{sym, ap, subst}
-use Rattle.expansion.specs.Table.{IsFullTable}
+use Rattle.std.proofs.Common.{ap, arith}
 use Rattle.dq_session.specs.Databases.{DatabaseState, frame_at}
 use Rattle.dq_session.proofs.GivenClauses.{group_at, give_answer}
 use Rattle.dq_session.proofs.LiveRefutations.{full_table}
@@ -16,10 +15,7 @@ give-requires-clause-made g c =
     c.index.result.now c.index.ensures c.index-2.result.now c.index-2.ensures c.in-Some.group c.in-Some.is)
 
 pub give-requires-clause-table : goal.give-requires-clause-table
-give-requires-clause-table g c =
-    let es = c.args.log.now.entries in
-    subst (λ (x : DatabaseState). IsFullTable x.file x.table es) (sym c.self.view_is)
-    (full_table c.args.self.now es c.requires.database)
+give-requires-clause-table g c = search (arith, full_table)
 
 pub returns-clause-giving : goal.returns-clause-giving
 returns-clause-giving g c =

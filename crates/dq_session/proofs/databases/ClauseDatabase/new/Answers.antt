@@ -1,20 +1,15 @@
+use Rattle.std.proofs.Common.{arith}
 use Rattle.dq_session.proofs.BegunDatabases.{begun_database, begun_grew, begun_as}
 use Rattle.dq_session.proofs.databases.ClauseDatabase.new.Goals as goal
 
 pub returns-in_err-live-clause-grew : goal.returns-in_err-live-clause-grew
-returns-in_err-live-clause-grew g c =
-    begun_grew c.args.f.now c.in_ok-table.table c.args.log.now c.new.new.log c.in_ok-table.ensures.unnamed
-    c.in_ok-table.ensures.named
+returns-in_err-live-clause-grew g c = search (arith, begun_grew)
 
 pub returns-in_err-groups-clause-grew : goal.returns-in_err-groups-clause-grew
-returns-in_err-groups-clause-grew g c =
-    begun_grew c.args.f.now c.in_ok-table.table c.args.log.now c.new.new.log c.in_ok-table.ensures.unnamed
-    c.in_ok-table.ensures.named
+returns-in_err-groups-clause-grew g c = search (arith, begun_grew)
 
 pub returns-clause-grew : goal.returns-clause-grew
-returns-clause-grew g c =
-    begun_grew c.args.f.now c.in_ok-table.table c.args.log.now c.new.new.log c.in_ok-table.ensures.unnamed
-    c.in_ok-table.ensures.named
+returns-clause-grew g c = search (arith, begun_grew)
 
 pub returns-clause-database : goal.returns-clause-database
 returns-clause-database g c =

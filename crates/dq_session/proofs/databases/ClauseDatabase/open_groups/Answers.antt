@@ -8,13 +8,7 @@ use Rattle.dq_session.proofs.Searches.{taken_more}
 use Rattle.dq_session.proofs.databases.ClauseDatabase.open_groups.Goals as goal
 
 pub push_group-requires : goal.push_group-requires
-push_group-requires c =
-    let i = c.loop-frame.frame-index in
-    let items = c.deref-frame-items.result.now in
-    let none : OpenFrame = record { number = 0; start = 0 } in
-    let o = get_or items i none in
-    let are = c.deref-frame-items.ensures.value ∙ ap (λ (x : DatabaseState). x.open_frames) c.self.view_is in
-    c.requires i o (subst (λ xs. slice_get xs i ≡ Some o) are (slice_get-get_or items i none c.loop-frame-test.true))
+push_group-requires c = search (arith, slice_get-get_or)
 
 pub loop-frame-preserved : goal.loop-frame-preserved
 loop-frame-preserved c =

@@ -1,11 +1,9 @@
-use Rattle.std.proofs.Common.{◌∙◌, ap, subst, sym, map, length}
+use Rattle.std.proofs.Common.{◌∙◌, ap, subst, sym, map, length, arith}
 use Rattle.std.specs.List.{All}
 use Rattle.std.proofs.lemmas.List.{length-map}
 use Rattle.expansion.specs.Searches.{HoldInstances, switches, AreFound}
 use Rattle.expansion.specs.Silence.{is_silent}
-use Rattle.expansion.specs.Table.{IsFullTable}
 use Rattle.oracle.specs.Calls.{IsMade, IsRefutedUnder}
-use Rattle.dq_session.specs.Databases.{DatabaseState}
 use Rattle.dq_session.proofs.LiveModels.{found_live, databases_searched}
 use Rattle.dq_session.proofs.LiveRefutations.{full_table, open_made, live_answers}
 use Rattle.dq_session.proofs.Searches.{search_grew, open_hold, by_parts, same_database}
@@ -15,12 +13,7 @@ pub open_groups-requires : goal.open_groups-requires
 open_groups-requires g c i o is = (c.requires.database.database.stack.known i o is).1
 
 pub solve_with-requires-clause-table : goal.solve_with-requires-clause-table
-solve_with-requires-clause-table g c =
-    let es = c.args.log.now.entries in (
-      c.self.inside.file.now,
-      subst (λ (x : DatabaseState). IsFullTable x.file x.table es) (sym c.self.view_is)
-          (full_table c.args.self.now es c.requires.database),
-    )
+solve_with-requires-clause-table g c = search (arith, full_table)
 
 pub solve_with-requires-clause-made : goal.solve_with-requires-clause-made
 solve_with-requires-clause-made g c =
@@ -35,9 +28,7 @@ solve_with-requires-clause-instances g c =
     (open_hold c.args.self.now es c.requires.database.database)
 
 pub returns-clause-grew : goal.returns-clause-grew
-returns-clause-grew g c all groups first =
-    search_grew all groups (is_silent c.solve_with.result) first c.args.log.now c.solve_with.new.log
-    c.solve_with.ensures.grew
+returns-clause-grew g c all groups first = search (arith, search_grew)
 
 pub returns-clause-database : goal.returns-clause-database
 returns-clause-database g c =

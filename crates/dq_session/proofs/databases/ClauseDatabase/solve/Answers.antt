@@ -1,7 +1,5 @@
-use Rattle.std.proofs.Common.{◌≡◌, ◌⊎◌, ℕ, None, sym, subst}
-use Rattle.std.specs.List.{Contains}
+use Rattle.std.proofs.Common.{subst, arith}
 use Rattle.dq_lits.specs.Expansion.{IsExpansionUnsatisfiable}
-use Rattle.hint_log.specs.Entries.{name_of}
 use Rattle.log_laws.specs.Engines.{instances}
 use Rattle.log_laws.specs.Sessions.{IsAddedLive}
 use Rattle.log_laws.proofs.LargerLogs.{grown_then}
@@ -33,17 +31,14 @@ returns-clause-refuted g c id e =
     c.give_live.ensures.giving.caught_up.same (c.search.ensures.refuted id e)
 
 pub returns-clause-shown : goal.returns-clause-shown
-returns-clause-shown g c id e =
-    shown_before c.args.self.now c.give_live.new.self c.search.new.log.entries id
-    c.give_live.ensures.giving.caught_up (c.search.ensures.shown id e)
+returns-clause-shown g c id e = search (arith, shown_before)
 
 pub returns-clause-fresh : goal.returns-clause-fresh
 returns-clause-fresh g c =
-    subst (λ (x : DatabaseState). (n : ℕ) → Contains (groups_of x) n
-    → Contains (groups_of c.args.self.now) n ⊎ (name_of c.args.log.now.entries n ≡ None))
-    (sym c.search.ensures.same)
-    (groups_fresh c.args.self.now c.args.log.now c.give_live.new.self c.give_live.new.log c.give_live.ensures.giving)
+    search (
+      arith,
+      (groups_fresh c.args.self.now c.args.log.now c.give_live.new.self c.give_live.new.log c.give_live.ensures.giving),
+    )
 
 pub returns-in_err-give_live-clause-fresh : goal.returns-in_err-give_live-clause-fresh
-returns-in_err-give_live-clause-fresh g c =
-    groups_fresh c.args.self.now c.args.log.now c.give_live.new.self c.give_live.new.log c.give_live.ensures.giving
+returns-in_err-give_live-clause-fresh g c = search (arith, groups_fresh)

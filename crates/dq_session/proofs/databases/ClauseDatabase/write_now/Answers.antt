@@ -1,8 +1,7 @@
-use Rattle.std.proofs.Common.{◌≡◌, ◌≤◌, [], ◌∷◌, ◌++◌, length, get_or, slice_get, Some, sym, ◌∙◌, ap, subst, arith}
-use Rattle.std.specs.List.{All, filter_map}
+use Rattle.std.proofs.Common.{◌≡◌, [], ◌∷◌, ◌++◌, length, get_or, slice_get, Some, sym, ◌∙◌, ap, subst, arith}
+use Rattle.std.specs.List.{filter_map}
 use Rattle.std.proofs.lemmas.List.{take_all}
 use Rattle.std.proofs.lemmas.Option.{slice_get-get_or}
-use Rattle.dq_lits.specs.Literal.{variable_of}
 use Rattle.dq_lits.specs.Formula.{Dqbf}
 use Rattle.hint_log.specs.Live.{with_matrix}
 use Rattle.hint_log.specs.Naming.{numbered_from_one}
@@ -15,57 +14,16 @@ pub loop-live-init : goal.loop-live-init
 loop-live-init c = c.requires.empty
 
 pub clause-requires-clause-from_one : goal.clause-requires-clause-from_one
-clause-requires-clause-from_one c =
-    let b = c.args.self.now in
-    let i = c.loop-live.live-index in
-    let items = c.deref-live-items.result.now in
-    let none : Live = record { clause = 0; frame = 0 } in
-    let l = get_or items i none in
-    let are = c.deref-live-items.ensures.value ∙ ap (λ (x : DatabaseState). x.live) c.self.view_is in
-    let there = subst (λ xs. slice_get xs i ≡ Some l) are (slice_get-get_or items i none c.loop-live-test.true) in
-    let low = (live_within b c.requires.database.0 c.requires.database.1 i l there).0 in
-    omega (arith, low)
+clause-requires-clause-from_one c = search (arith, slice_get-get_or, live_within)
 
 pub clause-requires-clause-last : goal.clause-requires-clause-last
-clause-requires-clause-last c =
-    let b = c.args.self.now in
-    let i = c.loop-live.live-index in
-    let items = c.deref-live-items.result.now in
-    let none : Live = record { clause = 0; frame = 0 } in
-    let l = get_or items i none in
-    let are = c.deref-live-items.ensures.value ∙ ap (λ (x : DatabaseState). x.live) c.self.view_is in
-    let there = subst (λ xs. slice_get xs i ≡ Some l) are (slice_get-get_or items i none c.loop-live-test.true) in
-    (live_within b c.requires.database.0 c.requires.database.1 i l there).1
+clause-requires-clause-last c = search (arith, slice_get-get_or, live_within)
 
 pub add_clause-requires-clause-in_range : goal.add_clause-requires-clause-in_range
-add_clause-requires-clause-in_range c =
-    let b = c.args.self.now in
-    let i = c.loop-live.live-index in
-    let items = c.deref-live-items.result.now in
-    let none : Live = record { clause = 0; frame = 0 } in
-    let l = get_or items i none in
-    let are = c.deref-live-items.ensures.value ∙ ap (λ (x : DatabaseState). x.live) c.self.view_is in
-    let there = subst (λ xs. slice_get xs i ≡ Some l) are (slice_get-get_or items i none c.loop-live-test.true) in
-    subst (λ n. All (λ x. variable_of x ≤ n) c.clause.result.now)
-    (sym (ap (λ (f : Dqbf). f.variables) c.loop-live.invariant))
-    (clause_bound b c.requires.database.0 c.requires.database.1 i l there c.clause.result.now c.clause.ensures)
+add_clause-requires-clause-in_range c = search (arith, slice_get-get_or, clause_bound)
 
 pub add_clause-requires-clause-few : goal.add_clause-requires-clause-few
-add_clause-requires-clause-few c =
-    let b = c.args.self.now in
-    let i = c.loop-live.live-index in
-    let items = c.deref-live-items.result.now in
-    let none : Live = record { clause = 0; frame = 0 } in
-    let l = get_or items i none in
-    let are = c.deref-live-items.ensures.value ∙ ap (λ (x : DatabaseState). x.live) c.self.view_is in
-    let there = subst (λ xs. slice_get xs i ≡ Some l) are (slice_get-get_or items i none c.loop-live-test.true) in
-    let within = live_within b c.requires.database.0 c.requires.database.1 i l there in
-    let low = within.0 in
-    let high = within.1 in
-    let few = few_so_far b i in
-    let many = ap (λ (f : Dqbf). length f.matrix) c.loop-live.invariant in
-    let bound = c.requires.few in
-    omega (arith, low, high, few, many, bound)
+add_clause-requires-clause-few c = search (arith, slice_get-get_or, live_within, few_so_far)
 
 pub loop-live-preserved : goal.loop-live-preserved
 loop-live-preserved c =
