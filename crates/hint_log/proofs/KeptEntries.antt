@@ -44,9 +44,7 @@ clauses_more [] (_ ∷ _) ns k c h l n = absurd (omega (arith, l))
 clauses_more [] [] (_ ∷ _) k c h l n = absurd (omega (arith, n))
 clauses_more (_ ∷ ks) [] ns k c h l n = absurd (omega (arith, l))
 clauses_more (_ ∷ ks) (_ ∷ ls) [] k c h l n = absurd (omega (arith, n))
-clauses_more (k1 ∷ ks) (c1 ∷ ls) (h1 ∷ ns) k c h l n =
-    ap (λ cs. record { kind = k1; literals = c1; numbers = h1 } ∷ cs)
-    (clauses_more ks ls ns k c h (omega (arith, l)) (omega (arith, n)))
+clauses_more (k1 ∷ ks) (c1 ∷ ls) (h1 ∷ ns) k c h l n = search (arith, (clauses_more ks ls ns k c h))
 
 clause_is : (ks : List ClauseKind) (ls : List (List Literal)) (ns : List (List ℕ)) (i : ℕ) (k : ClauseKind)
     (d : KeptClause) → length ls ≡ length ks
@@ -122,11 +120,7 @@ pub ids_counted : (log : ProofLog) (limit steps : ℕ) (es : List EntryKind) (na
     (rs : List KeptRound) (vs : List (List ℕ)) → record { limit = limit; entries = log_entries es names ks ls ns rs vs }
     ≡ log → IsKept limit steps es names ks ls ns rs vs
     → last_id log.entries ≡ length ks
-ids_counted log limit steps es names ks ls ns rs vs is kept =
-    let cs = kept_clauses ks ls ns in
-    ap (λ (p : ProofLog). last_id p.entries) (sym is) ∙ ids_are (reverse es) (reverse names) (reverse cs)
-    (reverse rs) vs kept.interleaved
-    ∙ length-reverse cs ∙ length_clauses ks ls ns kept.literals_long kept.numbers_long
+ids_counted log limit steps es names ks ls ns rs vs is kept = search (arith, ids_are, length-reverse, length_clauses)
 
 pub rounds_counted : (log : ProofLog) (limit steps : ℕ) (es : List EntryKind) (names : List (ℕ × Name))
     (ks : List ClauseKind) (ls : List (List Literal)) (ns : List (List ℕ))
@@ -164,13 +158,11 @@ pub at_round : (log : ProofLog) (limit steps : ℕ) (es : List EntryKind) (names
     → 1 ≤ k → k ≤ rounds_of log.entries → r ≡ get_or rs (k - 1) r →
     numbered is_round log.entries k ≡ Some (round_entry r)
 at_round log limit steps es names ks ls ns rs vs k r is kept one last r_is =
-    let many = rounds_counted log limit steps es names ks ls ns rs vs is kept in
-    let next : k - 1 + 1 ≡ k = omega (arith, one) in
-    ap (λ (p : ProofLog). numbered is_round p.entries k) (sym is)
-    ∙ ap (numbered is_round (log_entries es names ks ls ns rs vs)) (sym next)
-    ∙ round_at_place (reverse es) (reverse names) (reverse (kept_clauses ks ls ns)) rs vs kept.interleaved (k - 1) r
-    (omega (arith, one, last, many))
-    ∙ ap (λ x. Some (round_entry x)) (sym r_is)
+    search (
+      arith,
+      (rounds_counted log limit steps es names ks ls ns rs vs is kept),
+      (round_at_place (reverse es) (reverse names)),
+    )
 
 -- a clause more
 pub record IsMore (e : Entry) (log : ProofLog) (limit steps : ℕ) (es : List EntryKind) (names : List (ℕ × Name))
@@ -183,21 +175,12 @@ pub record IsMore (e : Entry) (log : ProofLog) (limit steps : ℕ) (es : List En
 steps_more : (e : Entry) (entries : List Entry) (counted steps : ℕ) → counted ≡ (if is_counted e then 1 else 0) →
     steps ≡ steps_of entries
     → steps + counted ≡ steps_of (e ∷ entries)
-steps_more e entries counted steps counted_is steps_is = by (is_counted e) counted_is
-  where
-    by : (b : Bool) → counted ≡ (if b then 1 else 0) → steps + counted ≡
-        (if b then steps_of entries + 1 else steps_of entries)
-    by true one = omega (arith, one, steps_is)
-    by false none = omega (arith, none, steps_is)
+steps_more e entries counted steps counted_is steps_is = search arith
 
 within_more : (e : Entry) (entries : List Entry) (counted steps limit : ℕ) → counted ≡ (if is_counted e then 1 else 0) →
     steps ≡ steps_of entries → steps ≤ limit
     → (is_counted e ≡ true → steps_of entries < limit) → steps + counted ≤ limit
-within_more e entries counted steps limit counted_is steps_is within room = by (is_counted e) counted_is room
-  where
-    by : (b : Bool) → counted ≡ (if b then 1 else 0) → (b ≡ true → steps_of entries < limit) → steps + counted ≤ limit
-    by true one less = let below = less refl in omega (arith, one, steps_is, below)
-    by false none less = omega (arith, none, within)
+within_more e entries counted steps limit counted_is steps_is within room = search arith
 
 pub one_clause_more : (log : ProofLog) (limit steps counted : ℕ) (es more_es : List EntryKind) (names : List (ℕ × Name))
     (ks more_ks : List ClauseKind)
@@ -230,17 +213,7 @@ one_clause_more log limit steps counted es more_es names ks more_ks ls more_ls n
     λ counts_one. rw (same, same_limit) (room counts_one) in
     let follows : MayFollow before (entry_by k c h) = subst (λ ps. MayFollow ps (entry_by k c h)) (sym same) may in
     record {
-      kept = record {
-        interleaved = rw (kinds_back, clauses_back) kept.interleaved;
-        literals_long = rw (ls_is, ks_is) (let l = kept.literals_long in
-            omega (arith, l, length-append ls (c ∷ []), length-append ks (k ∷ [])));
-        numbers_long = rw (ns_is, ks_is) (let n = kept.numbers_long in
-            omega (arith, n, length-append ns (h ∷ []), length-append ks (k ∷ [])));
-        numbers_are = rw clauses (numbers_more cs one kept.numbers_are own);
-        steps_are = rw entries (steps_more (entry_by k c h) before counted steps counts kept.steps_are);
-        within = within_more (entry_by k c h) before counted steps limit counts kept.steps_are kept.within less;
-        logged = rw entries ((follows, kept.logged));
-      };
+      kept = search (arith, length-append, numbers_more, steps_more, within_more);
       entries = entries ∙ ap (λ ps. entry_by k c h ∷ ps) same;
       limit_is = same_limit;
     }
@@ -286,15 +259,7 @@ one_name_more log limit steps var name es more_es names more_names ks ls ns rs v
     rw (kinds_back, names_back) refl in
     let follows : IsNewName before var name = subst (λ ps. IsNewName ps var name) (sym same) asked in
     record {
-      kept = record {
-        interleaved = rw (kinds_back, names_back) kept.interleaved;
-        literals_long = kept.literals_long;
-        numbers_long = kept.numbers_long;
-        numbers_are = kept.numbers_are;
-        steps_are = rw entries kept.steps_are;
-        within = kept.within;
-        logged = rw entries ((follows, kept.logged));
-      };
+      kept = search arith;
       entries = entries ∙ ap (λ ps. Named var name ∷ ps) same;
       limit_is = ap (λ (p : ProofLog). p.limit) is;
     }
@@ -323,15 +288,7 @@ one_beginning_more log limit steps stays more es more_es names ks ls ns rs count
     let entries : log_entries more_es names ks ls ns rs (kept_lives more_counts more_added) ≡ Begun live ∷ before =
     rw (kinds_back, lives_are) refl in
     record {
-      kept = record {
-        interleaved = rw (kinds_back, lives_are) kept.interleaved;
-        literals_long = kept.literals_long;
-        numbers_long = kept.numbers_long;
-        numbers_are = kept.numbers_are;
-        steps_are = rw entries kept.steps_are;
-        within = kept.within;
-        logged = rw entries ((tt, kept.logged));
-      };
+      kept = search arith;
       entries = entries ∙ ap (λ ps. Begun live ∷ ps) same;
       limit_is = ap (λ (p : ProofLog). p.limit) is;
     }
@@ -340,9 +297,7 @@ pub more_log : (e : Entry) (log : ProofLog) (limit steps : ℕ) (es : List Entry
     (ks : List ClauseKind) (ls : List (List Literal))
     (ns : List (List ℕ)) (rs : List KeptRound) (vs : List (List ℕ)) → IsMore e log limit steps es names ks ls ns rs vs
     → record { limit = limit; entries = log_entries es names ks ls ns rs vs } ≡ with_entry log e
-more_log e log limit steps es names ks ls ns rs vs more =
-    let build : ℕ → List Entry → ProofLog = λ n entries. record { limit = n; entries = entries } in
-    ap (λ n. build n (log_entries es names ks ls ns rs vs)) more.limit_is ∙ ap (build log.limit) more.entries
+more_log e log limit steps es names ks ls ns rs vs more = search arith
 
 pub clause_found : (log : ProofLog) (limit steps : ℕ) (es : List EntryKind) (names : List (ℕ × Name))
     (ks : List ClauseKind) (ls : List (List Literal)) (ns : List (List ℕ))
@@ -364,11 +319,11 @@ pub hints_found : (log : ProofLog) (limit steps : ℕ) (es : List EntryKind) (na
     numbers ≡ get_or ns (id - 1) [] → hints ≡ hints_of (entry_by k [] numbers)
     → hints_at log.entries id ≡ Some hints
 hints_found log limit steps es names ks ls ns rs vs id k numbers hints is kept known k_is numbers_is hints_is =
-    let at = at_id log limit steps es names ks ls ns rs vs id is kept known in
-    let found = at.is k k_is in
-    ap (option_and_then (λ e. Some (hints_of e))) found.0
-    ∙ ap Some (hints_by k (get_or ls (id - 1) []) (get_or ns (id - 1) []) ∙ ap (λ xs. hints_of (entry_by k [] xs))
-    (sym numbers_is) ∙ sym hints_is)
+    search (
+      arith,
+      (at_id log limit steps es names ks ls ns rs vs id is kept known),
+      (hints_by k (get_or ls (id - 1) []) (get_or ns (id - 1) [])),
+    )
 
 pub hints_earlier : (log : ProofLog) (limit steps : ℕ) (es : List EntryKind) (names : List (ℕ × Name))
     (ks : List ClauseKind) (ls : List (List Literal)) (ns : List (List ℕ))
@@ -396,11 +351,11 @@ pub origin_found : (log : ProofLog) (limit steps : ℕ) (es : List EntryKind) (n
     numbers ≡ get_or ns (id - 1) [] → origin ≡ origin_of (entry_by k [] numbers)
     → origin_at log.entries id ≡ origin
 origin_found log limit steps es names ks ls ns rs vs id k numbers origin is kept known k_is numbers_is origin_is =
-    let at = at_id log limit steps es names ks ls ns rs vs id is kept known in
-    let found = at.is k k_is in
-    ap (option_and_then origin_of) found.0
-    ∙ origin_by k (get_or ls (id - 1) []) (get_or ns (id - 1) []) ∙ ap (λ xs. origin_of (entry_by k [] xs))
-    (sym numbers_is) ∙ sym origin_is
+    search (
+      arith,
+      (at_id log limit steps es names ks ls ns rs vs id is kept known),
+      (origin_by k (get_or ls (id - 1) []) (get_or ns (id - 1) [])),
+    )
 
 pub origin_numbers : (log : ProofLog) (limit steps : ℕ) (es : List EntryKind) (names : List (ℕ × Name))
     (ks : List ClauseKind) (ls : List (List Literal)) (ns : List (List ℕ))
@@ -409,8 +364,7 @@ pub origin_numbers : (log : ProofLog) (limit steps : ℕ) (es : List EntryKind) 
     → IsKept limit steps es names ks ls ns rs vs → IsId log.entries id → k ≡ get_or ks (id - 1) k →
     numbers ≡ get_or ns (id - 1) [] → HasNumbers k numbers
 origin_numbers log limit steps es names ks ls ns rs vs id k numbers is kept known k_is numbers_is =
-    let at = at_id log limit steps es names ks ls ns rs vs id is kept known in
-    subst (HasNumbers k) (sym numbers_is) (at.is k k_is).1
+    search (arith, (at_id log limit steps es names ks ls ns rs vs id is kept known))
 
 pub names_found : (log : ProofLog) (limit steps : ℕ) (es : List EntryKind) (names : List (ℕ × Name))
     (ks : List ClauseKind) (ls : List (List Literal)) (ns : List (List ℕ))

@@ -1,5 +1,5 @@
 -- The numbers that the last beginning names, in what is kept.
-use Rattle.std.proofs.Common.{◌≡◌, ℕ, List, [], ◌∷◌, ◌++◌, take, reverse, refl, sym, ap, ◌∙◌}
+use Rattle.std.proofs.Common.{◌≡◌, ℕ, List, [], ◌∷◌, ◌++◌, take, refl, arith}
 use Rattle.std.proofs.lemmas.List.{reverse-append}
 use Rattle.dq_lits.specs.Literal.{Literal}
 use Rattle.hint_log.specs.declared.kinds.EntryKind.{EntryKind}
@@ -9,7 +9,7 @@ use Rattle.hint_log.specs.declared.kinds.ClauseKind.TheVariants.{OfInstance, OfG
 use Rattle.hint_log.specs.declared.kinds.KeptRound.{KeptRound}
 use Rattle.hint_log.specs.declared.names.Name.{Name}
 use Rattle.hint_log.specs.Entries.{Entry}
-use Rattle.hint_log.specs.Kept.{KeptClause, entry_by, interleaved, AreInterleaved, newest_of, live_lists, kept_lives}
+use Rattle.hint_log.specs.Kept.{KeptClause, entry_by, interleaved, AreInterleaved, newest_of, kept_lives}
 use Rattle.hint_log.specs.Live.{last_live}
 
 live_by : (k : ClauseKind) (ls : List Literal) (ns : List ℕ) (es : List Entry) →
@@ -41,8 +41,7 @@ newest_is_last [] (n ∷ ns) cs rs vs h = absurd h
 newest_is_last (Naming ∷ ks) [] cs rs vs h = absurd h
 newest_is_last (Naming ∷ ks) ((v, name) ∷ ns) cs rs vs h = newest_is_last ks ns cs rs vs h
 newest_is_last (Clause ∷ ks) ns [] rs vs h = absurd h
-newest_is_last (Clause ∷ ks) ns (c ∷ cs) rs vs h = live_by c.kind c.literals c.numbers (interleaved ks ns cs rs vs)
-    ∙ newest_is_last ks ns cs rs vs h
+newest_is_last (Clause ∷ ks) ns (c ∷ cs) rs vs h = search (arith, live_by, (newest_is_last ks ns cs rs vs h))
 newest_is_last (Failure ∷ ks) ns cs [] vs h = absurd h
 newest_is_last (Failure ∷ ks) ns cs (r ∷ rs) vs h = newest_is_last ks ns cs rs vs h
 newest_is_last (Beginning ∷ ks) ns cs rs [] h = absurd h
@@ -54,6 +53,4 @@ pub live_more : (stays : ℕ) (more last counts more_counts : List ℕ) (added m
     → more_counts ≡ counts ++ stays ∷ [] → more_added ≡ added ++ more ∷ [] →
     kept_lives more_counts more_added ≡ (take stays last ++ more) ∷ kept_lives counts added
 live_more stays more last counts more_counts added more_added last_is counts_is added_is =
-    ap (λ xs. live_lists xs (reverse more_added)) (ap reverse counts_is ∙ reverse-append counts (stays ∷ []))
-    ∙ ap (live_lists (stays ∷ reverse counts)) (ap reverse added_is ∙ reverse-append added (more ∷ []))
-    ∙ ap (λ xs. (take stays xs ++ more) ∷ kept_lives counts added) (sym last_is)
+    search (arith, reverse-append)

@@ -1,5 +1,5 @@
 -- The names, as they are kept.
-use Rattle.std.proofs.Common.{◌≡◌, ℕ, zero, suc, ◌<◌, length, slice_get, arith, eqb, cond, Bool, true, false, true≢false, List, [], ◌∷◌, ◌++◌, Option, Some, None, IsSome, IfSome, IfNone, refl, sym, ap, subst, ◌∙◌}
+use Rattle.std.proofs.Common.{◌≡◌, ℕ, zero, suc, ◌<◌, length, slice_get, arith, eqb, cond, true, false, true≢false, List, [], ◌∷◌, ◌++◌, Option, Some, None, IsSome, IfSome, IfNone, refl, sym, ap, subst, ◌∙◌}
 use Rattle.std.specs.Map.{lookup}
 use Rattle.std.proofs.lemmas.Bool.{eqb-true}
 use Rattle.hint_log.specs.Entries.{name_of, names_of}
@@ -12,19 +12,12 @@ use Rattle.hint_log.specs.declared.names.Name.{Name}
 lookup_other : (names : List (ℕ × Name)) (w v : ℕ) (name : Name) → eqb v w ≡ false →
     lookup (eqb v) (names ++ (w, name) ∷ []) ≡ lookup (eqb v) names
 lookup_other [] w v name other = ap (λ b. cond b (Some name) None) other
-lookup_other (n ∷ names) w v name other = ap (λ found. cond (eqb v n.0) (Some n.1) found)
-    (lookup_other names w v name other)
+lookup_other (n ∷ names) w v name other = search (arith, (lookup_other names w v name other))
 
 lookup_new : (names : List (ℕ × Name)) (w v : ℕ) (name : Name) → eqb v w ≡ true → lookup (eqb v) names ≡ None →
     lookup (eqb v) (names ++ (w, name) ∷ []) ≡ Some name
 lookup_new [] w v name here none = ap (λ b. cond b (Some name) None) here
-lookup_new (n ∷ names) w v name here none = by (eqb v n.0) (lookup_new names w v name here) none
-  where
-    by : (b : Bool) → (lookup (eqb v) names ≡ None → lookup (eqb v) (names ++ (w, name) ∷ []) ≡ Some name) →
-        cond b (Some n.1) (lookup (eqb v) names) ≡ None
-        → cond b (Some n.1) (lookup (eqb v) (names ++ (w, name) ∷ [])) ≡ Some name
-    by true more is = cc
-    by false more is = more is
+lookup_new (n ∷ names) w v name here none = search (arith, (lookup_new names w v name here))
 
 pub found_names : (entries : List Entry) (v : ℕ) → AreNamedOnce entries →
     lookup (eqb v) (names_of entries) ≡ name_of entries v
@@ -34,13 +27,8 @@ found_names (Learned _ _ ∷ entries) v once = found_names entries v once
 found_names (Answer _ _ ∷ entries) v once = found_names entries v once
 found_names (Round _ _ _ ∷ entries) v once = found_names entries v once
 found_names (Begun _ ∷ entries) v once = found_names entries v once
-found_names (Named w name ∷ entries) v once = by (eqb v w) refl (found_names entries v once.1)
-  where
-    by : (b : Bool) → eqb v w ≡ b → lookup (eqb v) (names_of entries) ≡ name_of entries v
-        → lookup (eqb v) (names_of entries ++ (w, name) ∷ []) ≡ cond b (Some name) (name_of entries v)
-    by true here before =
-        lookup_new (names_of entries) w v name here (before ∙ ap (name_of entries) (eqb-true v w here) ∙ once.0)
-    by false other before = lookup_other (names_of entries) w v name other ∙ before
+found_names (Named w name ∷ entries) v once =
+    search (arith, (found_names entries v once.1), lookup_new, eqb-true, lookup_other)
 
 pub no_name : (name : Option Name) → None ≡ name → IsSome name → ⊥
 no_name None none some = absurd (true≢false (sym some))
@@ -58,8 +46,7 @@ no_gap xs ys i same lt none = some_there ys i lt (none ∙ ap (λ zs. slice_get 
 pub place_of_kept : (xs ys : List (ℕ × Name)) (v : ℕ) (o : Option ℕ) → xs ≡ ys →
     IfSome o (λ place. (name : Name) × (slice_get xs place ≡ Some (v, name)))
     → IfSome o (λ place. (name : Name) × (slice_get ys place ≡ Some (v, name)))
-place_of_kept xs ys v o same there =
-    subst (λ ns. IfSome o (λ place. (name : Name) × (slice_get ns place ≡ Some (v, name)))) same there
+place_of_kept xs ys v o same there = search arith
 
 pub none_of_kept : (found name : Option Name) (o : Option ℕ) → found ≡ name → IfNone o (found ≡ None) →
     IfNone o (name ≡ None)

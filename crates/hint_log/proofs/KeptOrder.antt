@@ -1,5 +1,5 @@
 -- What is kept, entry by entry, newest first.
-use Rattle.std.proofs.Common.{◌≡◌, ℕ, ◌+◌, ◌<◌, ◌==◌, Bool, true, false, ◌&&◌, cond, if◌then◌else◌, List, [], ◌∷◌, ◌++◌, length, reverse, get_or, Option, Some, None, refl, sym, ap, ◌∙◌, arith}
+use Rattle.std.proofs.Common.{◌≡◌, ℕ, ◌+◌, ◌<◌, ◌==◌, Bool, true, false, cond, if◌then◌else◌, List, [], ◌∷◌, ◌++◌, length, reverse, get_or, Option, Some, None, refl, sym, ap, ◌∙◌, arith}
 use Rattle.std.specs.Option.{option_map}
 use Rattle.std.proofs.Math.Seq.{get_or-append_seam}
 use Rattle.std.proofs.lemmas.Bool.{eqb-true, eqb-false}
@@ -152,10 +152,7 @@ ids_are [] (n ∷ ns) cs rs vs h = absurd h
 ids_are (Naming ∷ ks) [] cs rs vs h = absurd h
 ids_are (Naming ∷ ks) ((v, name) ∷ ns) cs rs vs h = ids_are ks ns cs rs vs h
 ids_are (Clause ∷ ks) ns [] rs vs h = absurd h
-ids_are (Clause ∷ ks) ns (c ∷ cs) rs vs h =
-    let es = interleaved ks ns cs rs vs in
-    let before = ids_are ks ns cs rs vs h in
-    ap (λ b. if b then last_id es + 1 else last_id es) (has_id_by c.kind c.literals c.numbers) ∙ omega (arith, before)
+ids_are (Clause ∷ ks) ns (c ∷ cs) rs vs h = search (arith, (ids_are ks ns cs rs vs h), has_id_by)
 ids_are (Failure ∷ ks) ns cs [] vs h = absurd h
 ids_are (Failure ∷ ks) ns cs (r ∷ rs) vs h = ids_are ks ns cs rs vs h
 ids_are (Beginning ∷ ks) ns cs rs [] h = absurd h
@@ -237,17 +234,7 @@ clauses_found (Naming ∷ ks) [] cs rs vs h id = absurd h
 clauses_found (Naming ∷ ks) ((v, name) ∷ ns) cs rs vs h id = clauses_found ks ns cs rs vs h id
 clauses_found (Clause ∷ ks) ns [] rs vs h id = absurd h
 clauses_found (Clause ∷ ks) ns (c ∷ cs) rs vs h id =
-    let es = interleaved ks ns cs rs vs in
-    ap (λ b. if b && (id == last_id es + 1) then Some (clause_entry c) else numbered has_id es id)
-    (has_id_by c.kind c.literals c.numbers)
-    ∙ ap (λ n. if id == n + 1 then Some (clause_entry c) else numbered has_id es id) (ids_are ks ns cs rs vs h)
-    ∙ by (id == length cs + 1) (clauses_found ks ns cs rs vs h id)
-  where
-    by : (b : Bool) → numbered has_id (interleaved ks ns cs rs vs) id ≡ option_map clause_entry (from_oldest cs id)
-        → (if b then Some (clause_entry c) else numbered has_id (interleaved ks ns cs rs vs) id)
-        ≡ option_map clause_entry (if b then Some c else from_oldest cs id)
-    by true before = refl
-    by false before = before
+    search (arith, has_id_by, ids_are, (clauses_found ks ns cs rs vs h id))
 clauses_found (Failure ∷ ks) ns cs [] vs h id = absurd h
 clauses_found (Failure ∷ ks) ns cs (r ∷ rs) vs h id = clauses_found ks ns cs rs vs h id
 clauses_found (Beginning ∷ ks) ns cs rs [] h id = absurd h
@@ -264,11 +251,7 @@ rounds_found [] (n ∷ ns) cs rs vs h k = absurd h
 rounds_found (Naming ∷ ks) [] cs rs vs h k = absurd h
 rounds_found (Naming ∷ ks) ((v, name) ∷ ns) cs rs vs h k = rounds_found ks ns cs rs vs h k
 rounds_found (Clause ∷ ks) ns [] rs vs h k = absurd h
-rounds_found (Clause ∷ ks) ns (c ∷ cs) rs vs h k =
-    let es = interleaved ks ns cs rs vs in
-    ap (λ b. if b && (k == rounds_of es + 1) then Some (clause_entry c) else numbered is_round es k)
-    (no_round_by c.kind c.literals c.numbers)
-    ∙ rounds_found ks ns cs rs vs h k
+rounds_found (Clause ∷ ks) ns (c ∷ cs) rs vs h k = search (arith, no_round_by, (rounds_found ks ns cs rs vs h k))
 rounds_found (Failure ∷ ks) ns cs [] vs h k = absurd h
 rounds_found (Failure ∷ ks) ns cs (r ∷ rs) vs h k =
     let es = interleaved ks ns cs rs vs in
@@ -289,17 +272,23 @@ pub clause_at_place : (ks : List EntryKind) (ns : List (ℕ × Name)) (clauses :
     → (i : ℕ) (d : KeptClause) → i < length clauses → numbered has_id (interleaved ks ns (reverse clauses) rs vs)
     (i + 1) ≡ Some (clause_entry (get_or clauses i d))
 clause_at_place ks ns clauses rs vs h i d lt =
-    let long = length-reverse clauses in
-    clauses_found ks ns (reverse clauses) rs vs h (i + 1)
-    ∙ ap (option_map clause_entry) (found_oldest (reverse clauses) i d (omega (arith, lt, long)))
-    ∙ ap (λ cs. Some (clause_entry (get_or cs i d))) (reverse-reverse clauses)
+    search (
+      arith,
+      (length-reverse clauses),
+      (clauses_found ks ns (reverse clauses) rs vs h (i + 1)),
+      (found_oldest (reverse clauses) i d),
+      (reverse-reverse clauses),
+    )
 
 pub round_at_place : (ks : List EntryKind) (ns : List (ℕ × Name)) (cs : List KeptClause) (rounds : List KeptRound)
     (vs : List (List ℕ)) → AreInterleaved ks ns cs (reverse rounds) vs
     → (i : ℕ) (d : KeptRound) → i < length rounds → numbered is_round (interleaved ks ns cs (reverse rounds) vs) (i + 1)
     ≡ Some (round_entry (get_or rounds i d))
 round_at_place ks ns cs rounds vs h i d lt =
-    let long = length-reverse rounds in
-    rounds_found ks ns cs (reverse rounds) vs h (i + 1)
-    ∙ ap (option_map round_entry) (found_oldest (reverse rounds) i d (omega (arith, lt, long)))
-    ∙ ap (λ rs. Some (round_entry (get_or rs i d))) (reverse-reverse rounds)
+    search (
+      arith,
+      (length-reverse rounds),
+      (rounds_found ks ns cs (reverse rounds) vs h (i + 1)),
+      (found_oldest (reverse rounds) i d),
+      (reverse-reverse rounds),
+    )

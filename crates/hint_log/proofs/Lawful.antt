@@ -1,5 +1,5 @@
 -- Laws of logs.
-use Rattle.std.proofs.Common.{◌≡◌, ℕ, ◌+◌, ◌≤◌, ◌==◌, Bool, true, false, true≢false, ◌&&◌, if◌then◌else◌, List, [], ◌∷◌, Option, Some, None, IsSome, Contains, slice_index_or, refl, sym, ap, ◌∙◌, subst, arith}
+use Rattle.std.proofs.Common.{◌≡◌, ℕ, ◌+◌, ◌≤◌, ◌==◌, Bool, true, false, true≢false, ◌&&◌, if◌then◌else◌, List, [], ◌∷◌, Option, Some, None, IsSome, Contains, slice_index_or, refl, sym, ◌∙◌, subst, arith}
 use Rattle.std.specs.Option.{option_and_then}
 use Rattle.std.proofs.lemmas.Bool.{eqb-true}
 use Rattle.list_laws.proofs.Options.{some_is, none_is_some}
@@ -37,11 +37,7 @@ name_stays (Learned _ _) es v some = some
 name_stays (Answer _ _) es v some = some
 name_stays (Round _ _ _) es v some = some
 name_stays (Begun _) es v some = some
-name_stays (Named w name) es v some = by (v == w)
-  where
-    by : (b : Bool) → IsSome (if b then Some name else name_of es v)
-    by true = refl
-    by false = some
+name_stays (Named w name) es v some = search arith
 
 named_stay : (e : Entry) (es : List Entry) (clause : List Literal) → AreNamed es clause → AreNamed (e ∷ es) clause
 named_stay e es clause named = λ k d below. name_stays e es (variable_of (slice_index_or clause k d)) (named k d below)
@@ -76,12 +72,7 @@ circuit_stays (Learned _ _) es v asked is = is
 circuit_stays (Answer _ _) es v asked is = is
 circuit_stays (Round _ _ _) es v asked is = is
 circuit_stays (Begun _) es v asked is = is
-circuit_stays (Named w name) es v asked is = by (v == w) refl
-  where
-    by : (b : Bool) → (v == w) ≡ b → is_circuit_name (if b then Some name else name_of es v) ≡ true
-    by true same = absurd (true≢false (sym is ∙ ap (λ u. is_circuit_name (name_of es u)) (eqb-true v w same)
-        ∙ ap is_circuit_name asked.unnamed))
-    by false other = is
+circuit_stays (Named w name) es v asked is = search (arith, true≢false, eqb-true)
 
 -- so does one of a definition
 term_stays : (e : Entry) (es : List Entry) (v : ℕ) → MayFollow es e → is_term_name (name_of es v) ≡ true →
@@ -91,27 +82,16 @@ term_stays (Learned _ _) es v asked is = is
 term_stays (Answer _ _) es v asked is = is
 term_stays (Round _ _ _) es v asked is = is
 term_stays (Begun _) es v asked is = is
-term_stays (Named w name) es v asked is = by (v == w) refl
-  where
-    by : (b : Bool) → (v == w) ≡ b → is_term_name (if b then Some name else name_of es v) ≡ true
-    by true same = absurd (true≢false (sym is ∙ ap (λ u. is_term_name (name_of es u)) (eqb-true v w same)
-        ∙ ap is_term_name asked.unnamed))
-    by false other = is
+term_stays (Named w name) es v asked is = search (arith, true≢false, eqb-true)
 
 sides_stay : (e : Entry) (es : List Entry) (name : Name) → MayFollow es e → HasSides es name → HasSides (e ∷ es) name
 sides_stay e es (Selector _) asked sides = tt
 sides_stay e es (Pair _ _) asked sides = tt
 sides_stay e es (Input _) asked sides = tt
-sides_stay e es (And a b) asked sides = (
-  circuit_stays e es (variable_of a) asked sides.0,
-  circuit_stays e es (variable_of b) asked sides.1,
-)
+sides_stay e es (And a b) asked sides = search (arith, circuit_stays)
 sides_stay e es (Bad _ _) asked sides = tt
 sides_stay e es (Copy _ _) asked sides = tt
-sides_stay e es (Term a b) asked sides = (
-  term_stays e es (variable_of a) asked sides.0,
-  term_stays e es (variable_of b) asked sides.1,
-)
+sides_stay e es (Term a b) asked sides = search (arith, term_stays)
 
 pub sides_are_named_lem : (entries : List Entry) (v : ℕ) (name : Name) → AreLogged entries →
     name_of entries v ≡ Some name → HasSides entries name
@@ -168,11 +148,4 @@ rounds_are_steps_lem (Begun _ ∷ es) = let before = rounds_are_steps_lem es in 
 
 pub ids_stay_lem : (e : Entry) (entries : List Entry) (id : ℕ) → IsId entries id →
     numbered has_id (e ∷ entries) id ≡ numbered has_id entries id
-ids_stay_lem e es id known = by (has_id e) (id == last_id es + 1) refl
-  where
-    by : (a b : Bool) → (id == last_id es + 1) ≡ b → (if a && b then Some e else numbered has_id es id)
-        ≡ numbered has_id es id
-    by a true same = let last = known.last in let at : id ≡ last_id es + 1 = eqb-true id (last_id es + 1) same in
-        absurd (omega (arith, last, at))
-    by true false other = refl
-    by false false other = refl
+ids_stay_lem e es id known = search (arith, eqb-true)

@@ -1,14 +1,13 @@
 -- Lemmas on what entries name and say.
-use Rattle.std.proofs.Common.{◌≡◌, ℕ, ◌==◌, Bool, true, false, cond, List, ◌∷◌, Some, None, [], subst, zero, suc, arith, ◌≤◌, length, ◌++◌, sym, Option, refl, ◌+◌, ◌&&◌, ◌∙◌, ap}
+use Rattle.std.proofs.Common.{◌≡◌, ℕ, ◌==◌, Bool, true, false, cond, List, ◌∷◌, Some, None, [], subst, zero, suc, arith, ◌≤◌, length, ◌++◌, sym, Option, refl, ◌+◌, ◌&&◌}
 use Rattle.std.specs.List.{Contains}
 use Rattle.std.proofs.lemmas.Option.{slice_get_within}
 use Rattle.std.proofs.lemmas.List.{append_assoc}
-use Rattle.std.specs.Option.{option_and_then}
 use Rattle.std.proofs.lemmas.Bool.{eqb-true}
 use Rattle.list_laws.proofs.Members.{contains_later, contains_first}
 use Rattle.dq_lits.specs.Formula.{Dqbf}
 use Rattle.dq_lits.specs.Literal.{Literal, negative, variable_of}
-use Rattle.hint_log.specs.Entries.{Entry, Named, Given, Learned, Answer, Round, Begun, name_of, has_id, numbered, clause_of, clause_at, last_id}
+use Rattle.hint_log.specs.Entries.{Entry, Named, Given, Learned, Answer, Round, Begun, name_of, has_id, numbered, clause_at, last_id}
 use Rattle.hint_log.specs.Growth.{Each, EachOf}
 use Rattle.hint_log.specs.Live.{live_numbers, AreNumbers}
 use Rattle.hint_log.specs.ProductiveSession.{MatchesLiveOrigin}
@@ -19,11 +18,7 @@ use Rattle.hint_log.specs.declared.names.Name.{Name}
 
 -- what has no name had none before
 pub unnamed_before : (e : Entry) (es : List Entry) (v : ℕ) → name_of (e ∷ es) v ≡ None → name_of es v ≡ None
-unnamed_before (Named w n) es v none = by (v == w) none
-  where
-    by : (b : Bool) → cond b (Some n) (name_of es v) ≡ None → name_of es v ≡ None
-    by true is = cc
-    by false is = is
+unnamed_before (Named w n) es v none = search arith
 unnamed_before (Given o c) es v none = none
 unnamed_before (Learned c hs) es v none = none
 unnamed_before (Answer c hs) es v none = none
@@ -39,8 +34,7 @@ live_are_numbers all (Given origin c ∷ es) live given h = live_are_numbers all
 live_are_numbers all (Learned c hints ∷ es) live given h = live_are_numbers all es live given.1 h
 live_are_numbers all (Answer c hints ∷ es) live given h = live_are_numbers all es live given.1 h
 live_are_numbers all (Round row values j ∷ es) live given h = live_are_numbers all es live given.1 h
-live_are_numbers all (Begun numbers ∷ es) live given h = let same : numbers ≡ live = cc in
-    subst (AreNumbers all) same given.0
+live_are_numbers all (Begun numbers ∷ es) live given h = search arith
 
 -- a fact of each entry is one of this entry
 pub each_one : (P : List Entry → Entry → Type 0) (es : List Entry) (e : Entry) → Each P es → Contains es e →
@@ -57,10 +51,7 @@ number_below xs (suc k) x is = let below = slice_get_within xs k x is in (omega 
 pub each_both : (P : List Entry → Entry → Type 0) (more first old : List Entry) → EachOf P more (first ++ old) →
     EachOf P first old → EachOf P (more ++ first) old
 each_both P [] first old a b = b
-each_both P (e ∷ more) first old a b = (
-  subst (λ es. P es e) (sym (append_assoc more first old)) a.0,
-  each_both P more first old a.1 b,
-)
+each_both P (e ∷ more) first old a b = search (arith, append_assoc, (each_both P more first old a.1 b))
 
 pub entry_known : (es : List Entry) (id : ℕ) (e : Entry) → numbered has_id es id ≡ Some e → (1 ≤ id) × (id ≤ last_id es)
 entry_known [] id e at = cc
@@ -82,17 +73,11 @@ entry_known (x ∷ es) id e at = by (has_id x) refl (id == last_id es + 1) refl 
     )
 
 pub clause_known : (es : List Entry) (id : ℕ) (c : List Literal) → clause_at es id ≡ Some c → IsId es id
-clause_known es id c at = by (numbered has_id es id) refl at
-  where
-    by : (o : Option Entry) → numbered has_id es id ≡ o → option_and_then clause_of o ≡ Some c → IsId es id
-    by None e h = let n : None ≡ Some c = h in cc
-    by (Some x) e h = let r = entry_known es id x e in record { from_one = r.0; last = r.1 }
+clause_known es id c at = search (arith, entry_known)
 
 pub is_selector_here : (es : List Entry) (g : ℕ) (l : Literal) → name_of es g ≡ Some (Selector g) → l ≡ negative g →
     (l ≡ negative (variable_of l)) × (name_of es (variable_of l) ≡ Some (Selector (variable_of l)))
-is_selector_here es g l named h =
-    let v : variable_of l ≡ g = ap variable_of h in
-    (h ∙ ap negative (sym v), ap (name_of es) v ∙ named ∙ ap (λ w. Some (Selector w)) (sym v))
+is_selector_here es g l named h = search arith
 
 pub numbered_low : (xs : List (List Literal)) (j : ℕ) (c : List Literal) → numbered_from_one xs j ≡ Some c →
     (1 ≤ j) × (j ≤ length xs)
@@ -106,14 +91,8 @@ none_below false n o h = h
 -- a name stands in the log
 pub named_contains : (es : List Entry) (v : ℕ) (n : Name) → name_of es v ≡ Some n → Contains es (Named v n)
 named_contains [] v n is = cc
-named_contains (Named w m ∷ es) v n is = by (v == w) refl (named_contains es v n) is where
-  by : (b : Bool) → (v == w) ≡ b → (name_of es v ≡ Some n → Contains es (Named v n)) →
-      cond b (Some m) (name_of es v) ≡ Some n → Contains (Named w m ∷ es) (Named v n)
-  by true e later is =
-      let same : m ≡ n = cc in
-      let here : Named w m ≡ Named v n = ap (λ x. Named x m) (sym (eqb-true v w e)) ∙ ap (Named v) same in
-      subst (Contains (Named w m ∷ es)) here (contains_first (Named w m) es)
-  by false e later is = contains_later (Named w m) (Named v n) es (later is)
+named_contains (Named w m ∷ es) v n is =
+    search (arith, (named_contains es v n), eqb-true, contains_first, contains_later)
 named_contains (Given o c ∷ es) v n is = contains_later (Given o c) (Named v n) es (named_contains es v n is)
 named_contains (Learned c h ∷ es) v n is = contains_later (Learned c h) (Named v n) es (named_contains es v n is)
 named_contains (Answer c h ∷ es) v n is = contains_later (Answer c h) (Named v n) es (named_contains es v n is)

@@ -1,5 +1,5 @@
 -- Names of variables that are named one after the other, and others behind them.
-use Rattle.std.proofs.Common.{◌≡◌, ◌≢◌, ℕ, zero, suc, ◌+◌, ◌-◌, ◌≤◌, ◌<◌, ◌⊎◌, inl, inr, eqb, cond, not, nat_lt, Bool, true, false, List, [], ◌∷◌, ◌++◌, length, get_or, slice_get, is_some, Option, None, Some, refl, sym, ◌∙◌, ap, subst, arith, append_assoc}
+use Rattle.std.proofs.Common.{◌≡◌, ℕ, zero, suc, ◌+◌, ◌-◌, ◌≤◌, ◌<◌, ◌⊎◌, eqb, cond, not, nat_lt, Bool, true, false, List, [], ◌∷◌, ◌++◌, length, get_or, slice_get, is_some, Option, None, Some, refl, sym, ◌∙◌, ap, subst, arith, append_assoc}
 use Rattle.std.specs.List.{AllByRecursion, position, position_or_len}
 use Rattle.std.specs.Map.{keys_of, lookup}
 use Rattle.std.proofs.lemmas.Bool.{eqb-true, eqb-false, ne_eqb}
@@ -17,53 +17,31 @@ length_from n (x ∷ xs) = ap suc (length_from (n + 1) xs)
 from_push : (n : ℕ) (xs : List Name) (x : Name) →
     names_from n (xs ++ x ∷ []) ≡ names_from n xs ++ (n + length xs, x) ∷ []
 from_push n [] x = let same : n ≡ n + 0 = omega arith in ap (λ v. (v, x) ∷ []) same
-from_push n (y ∷ ys) x =
-    let same : n + 1 + length ys ≡ n + suc (length ys) = omega arith in
-    ap (λ xs. (n, y) ∷ xs) (from_push (n + 1) ys x ∙ ap (λ v. names_from (n + 1) ys ++ (v, x) ∷ []) same)
+from_push n (y ∷ ys) x = search (arith, (from_push (n + 1) ys x))
 
 -- the name at a place: in order, or behind
 pub at_from : (n : ℕ) (xs : List Name) (ys : List (ℕ × Name)) (i : ℕ) (d : Name) → i < length xs →
     slice_get (names_from n xs ++ ys) i ≡ Some (n + i, get_or xs i d)
 at_from n [] ys i d below = absurd (omega (arith, below))
 at_from n (x ∷ xs) ys zero d below = let same : n ≡ n + 0 = omega arith in ap (λ v. Some (v, x)) same
-at_from n (x ∷ xs) ys (suc i) d below =
-    let same : n + 1 + i ≡ n + suc i = omega arith in
-    at_from (n + 1) xs ys i d (omega (arith, below)) ∙ ap (λ v. Some (v, get_or xs i d)) same
+at_from n (x ∷ xs) ys (suc i) d below = search (arith, (at_from (n + 1) xs ys i d))
 
 pub at_behind : (n : ℕ) (xs : List Name) (ys : List (ℕ × Name)) (i : ℕ) → length xs ≤ i →
     slice_get (names_from n xs ++ ys) i ≡ slice_get ys (i - length xs)
 at_behind n [] ys i past = let same : i ≡ i - 0 = omega arith in ap (slice_get ys) same
 at_behind n (x ∷ xs) ys zero past = absurd (omega (arith, past))
-at_behind n (x ∷ xs) ys (suc i) past =
-    let same : i - length xs ≡ suc i - suc (length xs) = omega arith in
-    at_behind (n + 1) xs ys i (omega (arith, past)) ∙ ap (slice_get ys) same
+at_behind n (x ∷ xs) ys (suc i) past = search (arith, (at_behind (n + 1) xs ys i))
 
 -- the name of a variable: in order, or behind
 pub lookup_from : (n : ℕ) (xs : List Name) (ys : List (ℕ × Name)) (v : ℕ) (d : Name) → n ≤ v → v < n + length xs →
     lookup (eqb v) (names_from n xs ++ ys) ≡ Some (get_or xs (v - n) d)
 lookup_from n [] ys v d low high = absurd (omega (arith, low, high))
-lookup_from n (x ∷ xs) ys v d low high = by_bit (eqb v n) refl (lookup_from (n + 1) xs ys v d) where
-  by_bit : (b : Bool) → eqb v n ≡ b →
-      (n + 1 ≤ v → v < n + 1 + length xs → lookup (eqb v) (names_from (n + 1) xs ++ ys)
-      ≡ Some (get_or xs (v - (n + 1)) d)) →
-      cond b (Some x) (lookup (eqb v) (names_from (n + 1) xs ++ ys)) ≡ Some (get_or (x ∷ xs) (v - n) d)
-  by_bit true e later =
-      let is : v ≡ n = eqb-true v n e in
-      let none : 0 ≡ v - n = omega (arith, is) in
-      ap (λ i. Some (get_or (x ∷ xs) i d)) none
-  by_bit false e later =
-      let differ : v ≢ n = eqb-false v n e in
-      let one : suc (v - (n + 1)) ≡ v - n = omega (arith, low, differ) in
-      later (omega (arith, low, differ)) (omega (arith, high)) ∙ ap (λ i. Some (get_or (x ∷ xs) i d)) one
+lookup_from n (x ∷ xs) ys v d low high = search (arith, (lookup_from (n + 1) xs ys v d), eqb-true, eqb-false)
 
 pub lookup_behind : (n : ℕ) (xs : List Name) (ys : List (ℕ × Name)) (v : ℕ) → (v < n) ⊎ (n + length xs ≤ v) →
     lookup (eqb v) (names_from n xs ++ ys) ≡ lookup (eqb v) ys
 lookup_behind n [] ys v outside = refl
-lookup_behind n (x ∷ xs) ys v outside =
-    ap (λ b. cond b (Some x) (lookup (eqb v) (names_from (n + 1) xs ++ ys)))
-    (ne_eqb v n (λ e. elim outside [ inl low ↦ omega (arith, e, low) | inr high ↦ omega (arith, e, high) ]))
-    ∙ lookup_behind (n + 1) xs ys v
-    (elim outside [ inl low ↦ inl (omega (arith, low)) | inr high ↦ inr (omega (arith, high)) ])
+lookup_behind n (x ∷ xs) ys v outside = search (arith, ne_eqb, (lookup_behind (n + 1) xs ys v))
 
 -- one more in order, where none is behind
 pub in_order : (xs more : List Name) (ys : List (ℕ × Name)) (v : ℕ) (x : Name) → more ≡ xs ++ x ∷ [] → ys ≡ [] →
@@ -78,9 +56,7 @@ in_order xs more ys v x more_is none v_is =
 insert_absent : (entries : List (ℕ × Name)) (k : ℕ) (v : Name) → AllByRecursion (λ e. eqb k e.0 ≡ false) entries
     → insert_entry eqb entries k v ≡ entries ++ (k, v) ∷ []
 insert_absent [] k v absent = refl
-insert_absent (e ∷ entries) k v absent =
-    ap (λ b. cond b ((e.0, v) ∷ entries) (e ∷ insert_entry eqb entries k v)) absent.0 ∙ ap (λ es. e ∷ es)
-    (insert_absent entries k v absent.1)
+insert_absent (e ∷ entries) k v absent = search (arith, (insert_absent entries k v absent.1))
 
 absent_behind : (k : ℕ) (xs ys : List (ℕ × Name)) → AllByRecursion (λ e. eqb k e.0 ≡ false) (xs ++ ys) →
     AllByRecursion (λ e. eqb k e.0 ≡ false) ys
@@ -91,9 +67,7 @@ absent_behind k (x ∷ xs) ys absent = absent_behind k xs ys absent.1
 pub out_of_order : (xs : List Name) (ys more : List (ℕ × Name)) (v : ℕ) (x : Name) →
     AllByRecursion (λ e. eqb v e.0 ≡ false) (names_from 1 xs ++ ys) → more ≡ insert_entry eqb ys v x →
     names_from 1 xs ++ more ≡ (names_from 1 xs ++ ys) ++ (v, x) ∷ []
-out_of_order xs ys more v x absent is =
-    ap (λ zs. names_from 1 xs ++ zs) (is ∙ insert_absent ys v x (absent_behind v (names_from 1 xs) ys absent))
-    ∙ sym (append_assoc (names_from 1 xs) ys ((v, x) ∷ []))
+out_of_order xs ys more v x absent is = search (arith, insert_absent, absent_behind, append_assoc)
 
 -- a list of length 0 has nothing
 pub none_there : (ys : List (ℕ × Name)) → length ys ≡ 0 → ys ≡ []
@@ -111,10 +85,7 @@ at_key (y ∷ ys) v below = by_bit (eqb v y.0) refl (at_key ys v) below where
       (name : Name) × (slice_get (y ∷ ys) (cond (not b) (1 + position_or_len (eqb v) (keys_of ys)) 0)
       ≡ Some (v, name))
   by_bit true same later h = (y.1, ap (λ n. Some (n, y.1)) (sym (eqb-true v y.0 same)))
-  by_bit false other later h =
-      let at = later (omega (arith, h)) in
-      let one : 1 + position_or_len (eqb v) (keys_of ys) ≡ suc (position_or_len (eqb v) (keys_of ys)) = omega arith in
-      (at.0, ap (slice_get (y ∷ ys)) one ∙ at.1)
+  by_bit false other later h = search arith
 
 at_position : (ys : List (ℕ × Name)) (v i : ℕ) → position (eqb v) (keys_of ys) ≡ Some i →
     (name : Name) × (slice_get ys i ≡ Some (v, name))
@@ -131,13 +102,7 @@ at_position ys v i found = by_bit (nat_lt (position_or_len (eqb v) (keys_of ys))
 pub found_behind : (xs : List Name) (ys names : List (ℕ × Name)) (v i place : ℕ) → names_from 1 xs ++ ys ≡ names →
     position (eqb v) (keys_of ys) ≡ Some i → place ≡ length xs + i →
     (name : Name) × (slice_get names place ≡ Some (v, name))
-found_behind xs ys names v i place are found is =
-    let behind = at_position ys v i found in
-    let same : place - length xs ≡ i = omega (arith, is) in (
-      behind.0,
-      ap (λ ns. slice_get ns place) (sym are)
-          ∙ at_behind 1 xs ys place (omega (arith, is)) ∙ ap (slice_get ys) same ∙ behind.1,
-    )
+found_behind xs ys names v i place are found is = search (arith, at_position, at_behind)
 
 pub name_at_place : (xs : List Name) (ys names : List (ℕ × Name)) (v : ℕ) → names_from 1 xs ++ ys ≡ names → 1 ≤ v →
     v ≤ length xs → (name : Name) × (slice_get names (v - 1) ≡ Some (v, name))

@@ -37,14 +37,7 @@ pub record IsWith (old new : Pending) (ids : List ℕ) : Type 0 where
   pub only : (v : ℕ) → is_pending new v ≡ true → (is_pending old v ≡ true) ⊎ Contains ids v
 
 pub with_none : (p : Pending) → IsWith p p []
-with_none p = record {
-  kept = λ v h. h;
-  added = λ v has. absurd (nothing v has);
-  only = λ v h. inl h;
-}
-  where
-    nothing : (v : ℕ) → Contains {X = ℕ} [] v → ⊥
-    nothing v (k, lt, at) = omega (arith, lt)
+with_none p = search arith
 
 pub with_one_more : (old now next : Pending) (ids : List ℕ) (x : ℕ) → IsWith old now ids →
     ((w : ℕ) → is_pending next w ≡ cond (x == w) true (is_pending now w))
@@ -92,11 +85,7 @@ pub record AreReachedSoFar (entries : List Entry) (id : ℕ) (pending : Pending)
 only_id : (id v : ℕ) (none one : Pending) → ((w : ℕ) → is_pending none w ≡ false) →
     ((w : ℕ) → is_pending one w ≡ cond (id == w) true (is_pending none w))
     → is_pending one v ≡ true → id ≡ v
-only_id id v none one empty is h = by (id == v) refl (sym (is v) ∙ h)
-  where
-    by : (b : Bool) → (id == v) ≡ b → cond b true (is_pending none v) ≡ true → id ≡ v
-    by true same one_is = eqb-true id v same
-    by false other one_is = absurd (true≢false (sym one_is ∙ empty v))
+only_id id v none one empty is h = search (arith, eqb-true, true≢false)
 
 pub first_pending : (entries : List Entry) (id : ℕ) (none one : Pending) → ((w : ℕ) → is_pending none w ≡ false)
     → ((w : ℕ) → is_pending one w ≡ cond (id == w) true (is_pending none w)) → AreReachedSoFar entries id one []
@@ -138,11 +127,7 @@ one_more_reached entries id at before taken after up hints so_far takes found ea
             | inl old ↦ so_far.sound_pending v (takes.fewer v old)
             | inr new ↦ by_hint at v hints reached_at found new
           ];
-      sound = λ v has. elim (head_or_tail v has) [
-        | inl here ↦
-            subst (Reaches entries id) (sym here) reached_at
-        | inr behind ↦ so_far.sound v behind
-      ];
+      sound = search (arith, head_or_tail);
       start = elim so_far.start [ inl was ↦ stays id was | inr has ↦ inr (later id has) ];
       closed = λ i hint own has own_found in_own.
           elim (head_or_tail i has) [

@@ -1,5 +1,4 @@
-use Rattle.std.proofs.Common.{◌∙◌, ◌+◌, ◌-◌, ◌≤◌, ◌<◌, ◌⊎◌, inl, inr, length, ap, sym, arith, eqb}
-use Rattle.std.specs.Map.{lookup}
+use Rattle.std.proofs.Common.{◌-◌, length, ap, sym, arith}
 use Rattle.std.proofs.lemmas.List.{length-append}
 use Rattle.hint_log.specs.Kept.{names_from}
 use Rattle.hint_log.proofs.OrderedNames.{found_behind, length_from, lookup_behind, name_at_place, none_found}
@@ -31,14 +30,4 @@ returns-in-Some-clause-some c =
     (sym c.in-Some.ensures.index) (omega (arith, all, long, both, first, others, below))
 
 pub returns-in-None-clause-none : goal.returns-in-None-clause-none
-returns-in-None-clause-none c =
-    let xs = c.self.inside.ordered.items in
-    let ys = c.self.inside.others.entries in
-    let v = c.args.var in
-    let outside : (v < 1) ⊎ (1 + length xs ≤ v) = elim c.else-var-ge1.branch [
-      | else-var-ge1-via-then-var-ge1+else-var-len w ↦
-          (let past = w.if-var-len.false in let many = w.len.ensures in inr (omega (arith, past, many)))
-      | else-var-ge1-via-else-var-ge1 w ↦ (let low = w.if-var-ge1.false in inl (omega (arith, low)))
-    ] in
-    ap (lookup (eqb v)) (sym c.self.view_is) ∙ lookup_behind 1 xs ys v outside ∙ none_found (lookup (eqb v) ys)
-    (sym c.in-None.ensures.found)
+returns-in-None-clause-none c = search (arith, lookup_behind, none_found)

@@ -19,12 +19,7 @@ get-requires c =
     c.requires).numbers_inside
 
 pub returns-clause-value : goal.returns-clause-value
-returns-clause-value c =
-    let l = c.self.inside in
-    hints_found c.args.self.now l.limit l.steps l.entries.items l.names l.kinds.items l.literals l.numbers
-    l.rounds.items (kept_lives l.stays.items l.added) c.args.id c.index.result.now c.get.result.now
-    c.kept_hints.result.now c.self.view_is c.self.invariant c.requires
-    c.index.ensures c.get.ensures c.kept_hints.ensures
+returns-clause-value c = search (arith, hints_found)
 
 pub returns-clause-earlier : goal.returns-clause-earlier
 returns-clause-earlier c =

@@ -19,11 +19,7 @@ get-requires c =
     c.requires).numbers_inside
 
 pub kept_origin-requires : goal.kept_origin-requires
-kept_origin-requires c =
-    let l = c.self.inside in
-    origin_numbers c.args.self.now l.limit l.steps l.entries.items l.names l.kinds.items l.literals l.numbers
-    l.rounds.items (kept_lives l.stays.items l.added) c.args.id c.index.result.now c.get.result.now c.self.view_is
-    c.self.invariant c.requires c.index.ensures c.get.ensures
+kept_origin-requires c = search (arith, origin_numbers)
 
 pub returns : goal.returns
 returns c =

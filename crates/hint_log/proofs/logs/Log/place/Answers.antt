@@ -1,3 +1,4 @@
+use Rattle.std.proofs.Common.{arith}
 use Rattle.hint_log.specs.Kept.{kept_lives}
 use Rattle.hint_log.specs.Entries.{names_of}
 use Rattle.hint_log.proofs.KeptNames.{place_of_kept, none_of_kept}
@@ -12,8 +13,4 @@ returns-clause-some c =
     l.rounds.items (kept_lives l.stays.items l.added) c.self.view_is c.self.invariant) c.place.ensures.some
 
 pub returns-clause-none : goal.returns-clause-none
-returns-clause-none c =
-    let l = c.self.inside in
-    none_of_kept _ _ c.place.result
-    (names_found c.args.self.now l.limit l.steps l.entries.items l.names l.kinds.items l.literals l.numbers
-    l.rounds.items (kept_lives l.stays.items l.added) c.args.var c.self.view_is c.self.invariant) c.place.ensures.none
+returns-clause-none c = search (arith, none_of_kept, names_found)

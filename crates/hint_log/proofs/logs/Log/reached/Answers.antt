@@ -1,4 +1,4 @@
-use Rattle.std.proofs.Common.{reverse, ap, sym, ◌∙◌, subst}
+use Rattle.std.proofs.Common.{reverse, ap, sym, ◌∙◌, subst, arith}
 use Rattle.hint_log.proofs.KeptEntries.{newest}
 use Rattle.hint_log.proofs.Lawful.{reached_are_ids_lem}
 use Rattle.hint_log.proofs.ReachedIds.{AreReachedSoFar, first_pending, one_more_reached, all_reached}
@@ -6,16 +6,13 @@ use Rattle.hint_log.proofs.logs.Log.reached.Goals as goal
 
 pub loop-at-init : goal.loop-at-init
 loop-at-init c =
-    subst (AreReachedSoFar c.args.self.now.entries c.args.id c.insert.new.self)
-    (ap reverse (sym c.new-reached.ensures.items))
-    (first_pending c.args.self.now.entries c.args.id c.new-pending.result c.insert.new.self
-    c.new-pending.ensures c.in_ok-insert.ensures.ok)
+    search (
+      arith,
+      (first_pending c.args.self.now.entries c.args.id c.new-pending.result c.insert.new.self c.new-pending.ensures c.in_ok-insert.ensures.ok),
+    )
 
 pub hints-requires : goal.hints-requires
-hints-requires c =
-    reached_are_ids_lem c.args.self.now.entries c.args.id c.in-Some.at c.every_log_is_lawful.ensures
-    (record { from_one = c.requires.from_one; last = c.requires.last })
-    (c.loop-at.invariant.sound_pending c.in-Some.at c.in-Some.ensures.some.was)
+hints-requires c = search (arith, reached_are_ids_lem)
 
 pub loop-at-preserved : goal.loop-at-preserved
 loop-at-preserved c =

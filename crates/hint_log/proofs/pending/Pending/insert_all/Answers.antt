@@ -1,4 +1,4 @@
-use Rattle.std.proofs.Common.{take, get_or, sym, subst}
+use Rattle.std.proofs.Common.{take, get_or, sym, subst, arith}
 use Rattle.std.proofs.lemmas.List.{take_all, take_more}
 use Rattle.hint_log.proofs.ReachedIds.{IsWith, with_none, with_one_more}
 use Rattle.hint_log.proofs.pending.Pending.insert_all.Goals as goal
@@ -18,13 +18,7 @@ pub returns-clause-kept : goal.returns-clause-kept
 returns-clause-kept c = c.loop-number.invariant.kept
 
 pub returns-clause-added : goal.returns-clause-added
-returns-clause-added c =
-    let ids = c.args.numbers.now in
-    (subst (IsWith c.args.self.now c.loop-number.self) (take_all c.loop-number.number-index ids c.loop-number-test.false)
-    c.loop-number.invariant).added
+returns-clause-added c = search (arith, take_all)
 
 pub returns-clause-only : goal.returns-clause-only
-returns-clause-only c =
-    let ids = c.args.numbers.now in
-    (subst (IsWith c.args.self.now c.loop-number.self) (take_all c.loop-number.number-index ids c.loop-number-test.false)
-    c.loop-number.invariant).only
+returns-clause-only c = search (arith, take_all)
