@@ -1,9 +1,8 @@
 -- A partition as it is kept: with the same set of assumptions, and the same nodes of shared variables.
-use Rattle.std.proofs.Common.{◌≡◌, ℕ, Bool, true, ◌&&◌, inl, inr, List, IsSome, sym, ◌∙◌, ap, subst}
-use Rattle.dq_lits.specs.Literal.{Assignment, Literal, variable_of, opposite}
-use Rattle.dq_lits.specs.Derivation.{holds, AreSame}
+use Rattle.std.proofs.Common.{◌≡◌, ℕ, Bool, true, inl, inr, List, IsSome, sym, ◌∙◌, subst, arith}
+use Rattle.dq_lits.specs.Literal.{Assignment, Literal}
+use Rattle.dq_lits.specs.Derivation.{AreSame}
 use Rattle.hint_log.specs.Entries.{Entry}
-use Rattle.hint_log.specs.Naming.{is_selector}
 use Rattle.aig_graph.specs.Graph.{AigGraph}
 use Rattle.aig_graph.specs.declared.nodes.Node.{Node}
 use Rattle.interpolants.specs.Interpolant.{Partition, partition, node_of, is_on_a, IsReachedGiven, SideHolds, IsOther, IsInSide, IsOfA, IsOfB, SharesAll, AreNodes, Agrees, IsInterpolant}
@@ -19,10 +18,7 @@ module _ (es : List Entry) (id : ℕ) (a_side assumed : List Literal) (shared ke
   p = partition es id assumed kept
 
   on_a : (c : List Literal) → is_on_a p c ≡ is_on_a q c
-  on_a c =
-      any_same (λ l. holds assumed (opposite l) && is_selector es (variable_of l))
-      (λ l. holds a_side (opposite l) && is_selector es (variable_of l))
-      (λ l. ap (λ b. b && is_selector es (variable_of l)) (same (opposite l))) c
+  on_a c = search (arith, any_same)
 
   given : (at : ℕ) (c : List Literal) → IsReachedGiven p at c → IsReachedGiven q at c
   given at c g = record { reached = g.reached; given = g.given; clause_is = g.clause_is }

@@ -1,5 +1,5 @@
 -- Entries that are derived one by one are derived by the clauses of the whole log.
-use Rattle.std.proofs.Common.{◌≡◌, ℕ, ◌+◌, ◌==◌, ◌&&◌, cond, inl, inr, List, [], ◌∷◌, Some, None, sym, ◌∙◌, ap, subst}
+use Rattle.std.proofs.Common.{◌≡◌, ℕ, ◌+◌, ◌==◌, ◌&&◌, cond, inl, inr, List, [], ◌∷◌, Some, None, sym, ◌∙◌, ap, subst, arith}
 use Rattle.std.specs.Option.{option_and_then}
 use Rattle.std.proofs.lemmas.Bool.{cases_Bool}
 use Rattle.dq_lits.specs.Literal.{Literal}
@@ -43,10 +43,8 @@ module _ (stays : (e : Entry) (es : List Entry) (id : ℕ) → IsId es id →
       IsDerived (clause_at (e ∷ es)) clause hints
   entry_here (Named v n) es clause hints logged derived c o h = cc
   entry_here (Given origin c') es clause hints logged derived c o h = cc
-  entry_here (Learned c' hs) es clause hints logged derived c o h =
-      line_here (Learned c' hs) es c' clause hs hints logged.0.1 derived c h
-  entry_here (Answer c' hs) es clause hints logged derived c o h =
-      line_here (Answer c' hs) es c' clause hs hints logged.0.1 derived c h
+  entry_here (Learned c' hs) es clause hints logged derived c o h = search (arith, line_here)
+  entry_here (Answer c' hs) es clause hints logged derived c o h = search (arith, line_here)
   entry_here (Round r v j) es clause hints logged derived c o h = cc
   entry_here (Begun live) es clause hints logged derived c o h = cc
 
@@ -54,11 +52,7 @@ module _ (stays : (e : Entry) (es : List Entry) (id : ℕ) → IsId es id →
   each_derived [] logged each id clause hints c o h = cc
   each_derived (e ∷ es) logged each id clause hints c o h =
       elim (cases_Bool (has_id e && (id == last_id es + 1))) [
-        | inl here ↦
-            let is : numbered has_id (e ∷ es) id ≡ Some e = ap (λ b. cond b (Some e) (numbered has_id es id)) here in
-            entry_here e es clause hints logged each.0 (sym (ap (option_and_then clause_of) is) ∙ c)
-            (sym (ap (option_and_then origin_of) is) ∙ o)
-            (sym (ap (option_and_then (λ x. Some (hints_of x))) is) ∙ h)
+        | inl here ↦ search (arith, entry_here)
         | inr later ↦
             let is : numbered has_id (e ∷ es) id ≡ numbered has_id es id =
             ap (λ b. cond b (Some e) (numbered has_id es id)) later in

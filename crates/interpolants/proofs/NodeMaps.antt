@@ -1,5 +1,5 @@
 -- Nodes by numbers, the first that is listed for each, as they are collected pair by pair.
-use Rattle.std.proofs.Common.{◌≡◌, ℕ, ◌==◌, ◌<◌, ◌+◌, Bool, true, false, cond, List, [], ◌∷◌, ◌++◌, take, length, get_or, Option, Some, None, refl, sym, ◌∙◌, ap}
+use Rattle.std.proofs.Common.{◌≡◌, ℕ, ◌==◌, ◌<◌, ◌+◌, Bool, true, false, cond, List, [], ◌∷◌, ◌++◌, take, length, get_or, Option, Some, None, refl, sym, ◌∙◌, ap, arith}
 use Rattle.std.specs.Option.{is_some}
 use Rattle.std.proofs.lemmas.Bool.{eqb-true}
 use Rattle.std.proofs.lemmas.List.{take_more}
@@ -15,13 +15,7 @@ or_else (Some n) later = Some n
 node_of-append : (xs : List (ℕ × Node)) (p : ℕ × Node) (w : ℕ) →
     node_of (xs ++ p ∷ []) w ≡ or_else (node_of xs w) (cond (w == p.0) (Some p.1) None)
 node_of-append [] p w = refl
-node_of-append (x ∷ xs) p w = by (w == x.0) (node_of-append xs p w)
-  where
-    by : (b : Bool) → node_of (xs ++ p ∷ []) w ≡ or_else (node_of xs w) (cond (w == p.0) (Some p.1) None) →
-        cond b (Some x.1) (node_of (xs ++ p ∷ []) w) ≡ or_else (cond b (Some x.1) (node_of xs w))
-        (cond (w == p.0) (Some p.1) None)
-    by true later = refl
-    by false later = later
+node_of-append (x ∷ xs) p w = search (arith, (node_of-append xs p w))
 
 module _ (pairs : List (ℕ × Node)) (i : ℕ) (p : ℕ × Node) (lt : i < length pairs) (at : get_or pairs i p ≡ p)
     (before kept : List (ℕ × Node)) (so_far : (n : ℕ) → node_of before n ≡ node_of (take i pairs) n) where

@@ -1,10 +1,9 @@
 -- Partial interpolants, noted id by id.
-use Rattle.std.proofs.Common.{◌≡◌, ℕ, ◌+◌, ◌==◌, ◌<◌, ◌≤◌, Bool, cond, inl, inr, List, map, length, get_or, Some, Contains, refl, ◌∙◌, ap, subst, arith}
+use Rattle.std.proofs.Common.{◌≡◌, ℕ, ◌+◌, ◌==◌, ◌<◌, ◌≤◌, Bool, cond, inl, inr, List, length, get_or, Some, Contains, ◌∙◌, ap, subst, arith}
 use Rattle.std.specs.List.{AllPairs}
 use Rattle.std.proofs.lemmas.List.{get_or_default}
 use Rattle.std.proofs.lemmas.List.Kept.{AllPairs-from_increasing}
 use Rattle.std.proofs.lemmas.Bool.{cases_lt, eq-eqb, ne_eqb}
-use Rattle.dq_lits.specs.Literal.{opposite}
 use Rattle.hint_log.specs.Reached.{Reaches, AreReached}
 use Rattle.aig_graph.specs.Graph.{AigGraph}
 use Rattle.aig_graph.specs.Made.{Extends}
@@ -27,15 +26,7 @@ rises ids up i k less lt = up i k 0 less lt
 
 stands_before : (ids : List ℕ) → AllPairs (λ x y. x < y) ids → (i k : ℕ) → i < length ids → k < length ids →
     get_or ids k 0 < get_or ids i 0 → k < i
-stands_before ids up i k i_lt k_lt less =
-    elim (cases_lt k i) [
-      | inl before ↦ before
-      | inr after ↦ elim (cases_lt i k) [
-        | inl later ↦ let more = rises ids up i k later k_lt in absurd (omega (arith, more, less))
-        | inr same ↦ let e : k ≡ i = omega (arith, after, same) in let n = ap (λ n. get_or ids n 0) e in
-            absurd (omega (arith, n, less))
-      ]
-    ]
+stands_before ids up i k i_lt k_lt less = search (arith, cases_lt)
 
 place_of : (ids : List ℕ) (at : ℕ) → Contains ids at → (k : ℕ) × (k < length ids) × (get_or ids k 0 ≡ at)
 place_of ids at (k, lt, is) = (k, lt, get_or_default ids k 0 at lt ∙ is)
@@ -52,8 +43,7 @@ noted_before q local initial g ids i notes reached lt noted at reaches less =
 
 part_kept_of : (q : Partition) (local : ℕ → Bool) (old new : AigGraph) (at : ℕ) (n : Node) → Extends old new →
     AreNodes q.shared old → IsPartOf q local old at n → IsPartOf q local new at n
-part_kept_of q local old new at n e nodes part clause found =
-    part_kept q local old new (map opposite clause) n e nodes (part clause found)
+part_kept_of q local old new at n e nodes part clause found = search (arith, part_kept)
 
 pub noted_more : (q : Partition) (local : ℕ → Bool) (initial g new : AigGraph) (ids : List ℕ) (i : ℕ)
     (notes more : List (ℕ × Node)) (node : Node) →
@@ -83,9 +73,7 @@ noted_more q local initial g new ids i notes more node reached nodes lt noted e 
                 subst (λ n. HasPart q local new more (get_or ids n 0)) same
                 (record {
                   node = node;
-                  noted = put (get_or ids i 0) ∙ ap
-                      (λ b. cond b (Some node) (node_of notes (get_or ids i 0)))
-                      (eq-eqb (get_or ids i 0) (get_or ids i 0) refl);
+                  noted = search (arith, eq-eqb);
                   part = part;
                 })
           ];

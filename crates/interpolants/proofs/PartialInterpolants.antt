@@ -1,10 +1,10 @@
 -- Partial interpolants: leaves, resolution, and the answer's own literals (K. McMillan, 2003).
-use Rattle.std.proofs.Common.{◌≡◌, ◌⊎◌, ℕ, Bool, true, false, true≢false, not, ◌||◌, ◌&&◌, inl, inr, List, ◌∷◌, map, Option, Some, None, IsSome, Contains, refl, sym, ◌∙◌, ap, subst}
+use Rattle.std.proofs.Common.{◌≡◌, ◌⊎◌, ℕ, Bool, true, false, true≢false, not, ◌||◌, ◌&&◌, inl, inr, List, ◌∷◌, map, Option, Some, None, IsSome, refl, sym, ◌∙◌, ap, arith}
 use Rattle.std.specs.Option.{is_some}
 use Rattle.std.specs.List.{list_all}
 use Rattle.std.proofs.lemmas.Bool.{and_parts, or_cases, or_left, or_right, cases_Bool}
 use Rattle.list_laws.proofs.Members.{no_element}
-use Rattle.dq_lits.specs.Literal.{Assignment, Literal, positive, variable_of, opposite, same_literal, literal_true}
+use Rattle.dq_lits.specs.Literal.{Assignment, Literal, positive, variable_of, opposite, literal_true}
 use Rattle.dq_lits.specs.Derivation.{holds}
 use Rattle.dq_lits.proofs.Truth.{same_literal-sound, literal_true-opposite}
 use Rattle.dq_lits.proofs.HeldLiterals.{any_one, any_gives, negated-held, holds-opposites}
@@ -28,12 +28,7 @@ agrees_before shared old new e nodes inputs m agrees v n is = sym (e.values n (n
 
 pub input_after : (shared : List (ℕ × Node)) (old new : AigGraph) → Extends old new → AreNodes shared old → (i : ℕ) →
     IsSharedInput shared old i → IsSharedInput shared new i
-input_after shared old new e nodes i s = record {
-  variable = s.variable;
-  node = s.node;
-  node_is = s.node_is;
-  reads = subst (λ xs. Contains xs i) (sym (e.supports s.node (nodes s.variable s.node s.node_is))) s.reads;
-}
+input_after shared old new e nodes i s = search arith
 
 pub nodes_after : (shared : List (ℕ × Node)) (old new : AigGraph) → Extends old new → AreNodes shared old →
     AreNodes shared new
@@ -42,8 +37,7 @@ nodes_after shared old new e nodes v n is = e.nodes n (nodes v n is)
 pub reads_kept : (shared : List (ℕ × Node)) (old new : AigGraph) (n : Node) → Extends old new → AreNodes shared old →
     IsNode old n → ReadsShared shared old n →
     ReadsShared shared new n
-reads_kept shared old new n e nodes is reads i has = input_after shared old new e nodes i
-    (reads i (subst (λ xs. Contains xs i) (e.supports n is) has))
+reads_kept shared old new n e nodes is reads i has = search (arith, (input_after shared old new e nodes i))
 
 pub reads_made : (shared : List (ℕ × Node)) (old new : AigGraph) (f : Bool → Bool → Bool) (a b n : Node) →
     Extends old new → AreNodes shared old →
@@ -83,12 +77,7 @@ part_weaker q local g trues more n sub part = record {
 with_pivot : (local : ℕ → Bool) (side : Bool) (m : Assignment) (trues : List Literal) (x : Literal) →
     AreTrueOn local side m trues →
     (local (variable_of x) ≡ side → literal_true m x ≡ true) → AreTrueOn local side m (x ∷ trues)
-with_pivot local side m trues x t pivot l h s =
-    elim (or_cases (same_literal l x) (holds trues l) h) [
-      | inl same ↦ let is = same_literal-sound l x same in ap (literal_true m) is ∙ pivot
-          (ap (λ k. local (variable_of k)) (sym is) ∙ s)
-      | inr later ↦ t l later s
-    ]
+with_pivot local side m trues x t pivot l h s = search (arith, or_cases, same_literal-sound)
 
 -- the other literals of a clause that leads to the pivot are false
 without_pivot : (local : ℕ → Bool) (side : Bool) (m : Assignment) (trues clause : List Literal) (x : Literal) →
@@ -96,13 +85,7 @@ without_pivot : (local : ℕ → Bool) (side : Bool) (m : Assignment) (trues cla
     ((l : Literal) → holds clause l ≡ true → (l ≡ x) ⊎ (holds trues (opposite l) ≡ true)) →
     (local (variable_of x) ≡ side → literal_true m x ≡ false) → AreTrueOn local side m (map opposite clause)
 without_pivot local side m trues clause x t leads pivot l h s =
-    elim (leads (opposite l) (sym (holds-opposites clause l) ∙ h)) [
-      | inl is ↦
-          let here : l ≡ opposite x = sym (opposite-opposite l) ∙ ap opposite is in
-          ap (literal_true m) here ∙ literal_true-opposite m x ∙ ap not
-          (pivot (ap local (sym (ap variable_of here ∙ opposite_variable x)) ∙ s))
-      | inr before ↦ t l (ap (holds trues) (sym (opposite-opposite l)) ∙ before) s
-    ]
+    search (arith, holds-opposites, opposite-opposite, literal_true-opposite, opposite_variable)
 
 -- a pivot of the A side
 pub resolve_local : (q : Partition) (local : ℕ → Bool) (old new : AigGraph) (trues clause : List Literal) (x : Literal)
@@ -177,14 +160,12 @@ shared_of false s h a = cc
 
 local_is_a : (q : Partition) (variables : List Literal) → AreOfA q variables → (v : ℕ) →
     is_local q.shared variables v ≡ true → IsOfA q v × (is_some (node_of q.shared v) ≡ false)
-local_is_a q variables of_a v h = let r = not_shared (holds variables (positive v)) (is_some (node_of q.shared v)) h in
-    (of_a.sound v r.0, r.1)
+local_is_a q variables of_a v h = search (arith, not_shared)
 
 other_is_shared : (q : Partition) (variables : List Literal) → AreOfA q variables → (v : ℕ) → IsOfA q v →
     is_local q.shared variables v ≡ false →
     is_some (node_of q.shared v) ≡ true
-other_is_shared q variables of_a v is h = shared_of (holds variables (positive v)) (is_some (node_of q.shared v)) h
-    (of_a.complete v is)
+other_is_shared q variables of_a v is h = search (arith, shared_of)
 
 is_shared : (o : Option Node) → IsSome o → is_some o ≡ true
 is_shared None h = cc
@@ -192,9 +173,7 @@ is_shared (Some n) h = refl
 
 local_not_b : (q : Partition) (variables : List Literal) → AreOfA q variables → SharesAll q → (v : ℕ) →
     is_local q.shared variables v ≡ true → IsOfB q v → ⊥
-local_not_b q variables of_a shares v h of_b =
-    let r = local_is_a q variables of_a v h in
-    true≢false (sym (is_shared (node_of q.shared v) (shares v r.0 of_b)) ∙ r.1)
+local_not_b q variables of_a shares v h of_b = search (arith, local_is_a, true≢false, is_shared)
 
 shared_not_local : (b s : Bool) → s ≡ true → (b && not s) ≡ false
 shared_not_local true true h = refl
@@ -225,14 +204,7 @@ leaf_a q variables g at clause n of_a given on_a part = record {
   follows = λ inputs m agrees side t.
       let w = any_gives (literal_true m) clause (side at clause given on_a) in
       let l = w.0 in
-      let of : IsOfA q (variable_of l) = inr (record {
-        at = at;
-        clause = clause;
-        given = given;
-        on_side = on_a;
-        stands =
-            stands_there clause l w.1;
-      }) in
+      let of : IsOfA q (variable_of l) = search (arith, stands_there) in
       part.value inputs m agrees ∙ elim (cases_Bool (is_local q.shared variables (variable_of l))) [
         | inl local ↦ absurd (one_of m l w.2 (t (opposite l) (negated-held clause l w.1)
             (ap (is_local q.shared variables) (opposite_variable l) ∙ local)))
@@ -263,14 +235,7 @@ leaf_b q variables g at clause of_a shares given on_b = record {
   contradicts = λ inputs m agrees side t v.
       let w = any_gives (literal_true m) clause (side at clause given on_b) in
       let l = w.0 in
-      let of : IsOfB q (variable_of l) = inr (record {
-        at = at;
-        clause = clause;
-        given = given;
-        on_side = on_b;
-        stands =
-            stands_there clause l w.1;
-      }) in
+      let of : IsOfB q (variable_of l) = search (arith, stands_there) in
       elim (cases_Bool (is_local q.shared variables (variable_of l))) [
         | inl local ↦ local_not_b q variables of_a shares (variable_of l) local of
         | inr other ↦ one_of m l w.2 (t (opposite l) (negated-held clause l w.1)
@@ -293,19 +258,7 @@ answer_part q variables old new clause p n of_a shares nodes e found part asked 
       let here = part.follows inputs m before side (λ l h local.
       elim (cases_Bool (holds q.a_side l)) [
         | inl of_side ↦ assumed l of_side
-        | inr of_other ↦
-            absurd (local_not_b q variables of_a shares (variable_of l) local
-            (inl (
-              l,
-              record {
-                clause = clause;
-                clause_is = found;
-                negated = sym (holds-opposites clause l) ∙ h;
-                not_a =
-                    of_other;
-              },
-              refl,
-            )))
+        | inr of_other ↦ search (arith, local_not_b, holds-opposites)
       ]) in
       let there = all_from (is_asked_true q.shared q.a_side m) clause
       (λ l h. asked_true (holds q.a_side (opposite l)) (is_some (node_of q.shared (variable_of l)))
@@ -320,14 +273,7 @@ answer_part q variables old new clause p n of_a shares nodes e found part asked 
       let in_clause : holds clause (opposite l) ≡ true = sym (holds-opposites clause l) ∙ h in
       elim (cases_Bool (holds q.a_side l)) [
         | inl of_side ↦
-            let of : IsOfA q (variable_of l) = inl (stands_there q.a_side l of_side) in
-            let shared = other_is_shared q variables of_a (variable_of l) of other in
-            let here = all_give (is_asked_true q.shared q.a_side m) clause (opposite l) both.1 in_clause in
-            asked_is (holds q.a_side (opposite (opposite l))) (is_some (node_of q.shared (variable_of (opposite l))))
-            (literal_true m (opposite (opposite l))) (literal_true m l)
-            here (ap (holds q.a_side) (opposite-opposite l) ∙ of_side)
-            (ap (λ w. is_some (node_of q.shared w)) (opposite_variable l) ∙ shared)
-            (ap (literal_true m) (opposite-opposite l))
+            search (arith, stands_there, other_is_shared, all_give, asked_is, opposite-opposite, opposite_variable)
         | inr of_other ↦ others l (record { clause = clause; clause_is = found; negated = in_clause; not_a = of_other })
       ]) both.0;
   reads = asked.reads;

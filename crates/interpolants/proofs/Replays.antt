@@ -1,11 +1,11 @@
 -- The replay of a derived line: each hinted clause but the last leads to a pivot, and the last one is false.
-use Rattle.std.proofs.Common.{◌≡◌, ◌⊎◌, ℕ, suc, ◌+◌, ◌<◌, ◌≤◌, Bool, true, false, not, cond, ◌||◌, ◌&&◌, inl, inr, List, [], ◌∷◌, map, drop, length, get_or, Option, None, Some, Contains, refl, sym, ◌∙◌, ap, subst, add-one}
+use Rattle.std.proofs.Common.{◌≡◌, ◌⊎◌, ℕ, ◌+◌, ◌<◌, ◌≤◌, Bool, true, false, not, cond, ◌||◌, ◌&&◌, inl, inr, List, [], ◌∷◌, map, drop, length, get_or, Option, None, Some, Contains, refl, sym, ◌∙◌, ap, subst, add-one, arith}
 use Rattle.std.specs.List.{list_all, filter, find}
 use Rattle.std.proofs.Math.Seq.{drop-cons}
 use Rattle.std.proofs.lemmas.Bool.{cases_Bool, and_parts, or_cases}
 use Rattle.std.proofs.lemmas.List.{get_or_default, drop_all}
 use Rattle.dq_lits.specs.Literal.{Literal, opposite, same_literal}
-use Rattle.dq_lits.specs.Derivation.{LiveClauses, unit, stuck, holds, status_by, status_of, fault_by, hint_fault, is_tautology, IsDerived, AreSame}
+use Rattle.dq_lits.specs.Derivation.{LiveClauses, unit, stuck, holds, status_by, status_of, fault_by, hint_fault, IsDerived, AreSame}
 use Rattle.dq_lits.proofs.Truth.{same_literal-sound}
 use Rattle.dq_lits.proofs.HeldLiterals.{filter-holds}
 use Rattle.interpolants.specs.Replay.{trues_of, Leads, IsReplay, is_open, IsReplaying}
@@ -17,16 +17,7 @@ use Rattle.dq_lits.proofs.EqualTruths.{hint_fault-same}
 none_open : (p : Literal → Bool) (xs : List Literal) → find p xs ≡ None → (l : Literal) → holds xs l ≡ true →
     p l ≡ false
 none_open p [] e l h = cc
-none_open p (x ∷ xs) e l h =
-    elim (cases_Bool (p x)) [
-      | inl here ↦ let n : Some x ≡ None = sym (ap (λ b. cond b (Some x) (find p xs)) here) ∙ e in cc
-      | inr not_here ↦
-          let later : find p xs ≡ None = sym (ap (λ b. cond b (Some x) (find p xs)) not_here) ∙ e in
-          elim (or_cases (same_literal l x) (holds xs l) h) [
-            | inl same ↦ ap p (same_literal-sound l x same) ∙ not_here
-            | inr further ↦ none_open p xs later l further
-          ]
-    ]
+none_open p (x ∷ xs) e l h = search (arith, cases_Bool, or_cases, same_literal-sound, (none_open p xs))
 
 first_open : (p : Literal → Bool) (xs : List Literal) (l : Literal) → find p xs ≡ Some l →
     (rest : List Literal) × (filter p xs ≡ l ∷ rest)
@@ -86,8 +77,7 @@ hint_leads live trues place hint hints clause l found first h =
 
 hints_left : (hints : List ℕ) (i hint : ℕ) → i < length hints → get_or hints i 0 ≡ hint →
     drop i hints ≡ hint ∷ drop (i + 1) hints
-hints_left hints i hint lt at =
-    rw (add-one) (drop-cons hints i 0 lt ∙ ap (λ h. h ∷ drop (suc i) hints) at)
+hints_left hints i hint lt at = search (arith, add-one, drop-cons)
 
 contains_at : (hints : List ℕ) (i hint : ℕ) → i < length hints → get_or hints i 0 ≡ hint → Contains hints hint
 contains_at hints i hint lt at = (i, lt, get_or_default hints i hint 0 lt ∙ at)
@@ -107,11 +97,7 @@ replaying_more live first hints i hint trues more clause l link links longer bef
     let leads : Leads live (trues_of first links) link = record {
       clause = clause;
       clause_is = ap live hint_is ∙ found;
-      leads = λ k h.
-          elim (r.1 k h) [
-            | inl this ↦ inl (this ∙ sym pivot)
-            | inr is_false ↦ inr (sym (before.same (opposite k)) ∙ is_false)
-          ];
+      leads = search arith;
     } in
     let P : List Link → Type 0 = λ ls. IsReplaying live first hints (i + 1) more ls in
     subst P (sym longer_is) (record {
@@ -141,30 +127,15 @@ replay_ends live first hints i hint trues clause links before lt at found closed
 pub replay_has_end : (live : LiveClauses) (first : List Literal) (hints : List ℕ) (i : ℕ) (trues : List Literal)
     (links : List Link) →
     IsReplaying live first hints i trues links → length hints ≤ i → ⊥
-replay_has_end live first hints i trues links before all =
-    let n : Some (i + 1) ≡ None = sym (ap (hint_fault live trues (i + 1)) (drop_all i hints all)) ∙ before.left in
-    cc
+replay_has_end live first hints i trues links before all = search (arith, drop_all)
 
 -- what a derived line's propagation starts with
 pub derived_starts : (live : LiveClauses) (clause : List Literal) (hints : List ℕ) (trues : List Literal) →
     IsDerived live clause hints → AreSame trues (map opposite clause) →
     hint_fault live trues 1 hints ≡ None
-derived_starts live clause hints trues derived same =
-    hint_fault-same live hints trues (map opposite clause) 1 same ∙ no_tautology (is_tautology clause)
-    (hint_fault live (map opposite clause) 1 hints) derived
-  where
-    no_tautology : (b : Bool) (rest : Option ℕ) → cond b (Some 0) rest ≡ None → rest ≡ None
-    no_tautology true rest h = cc
-    no_tautology false rest h = h
+derived_starts live clause hints trues derived same = search (arith, hint_fault-same)
 
 pub replay_starts : (live : LiveClauses) (clause : List Literal) (hints : List ℕ) (trues : List Literal)
     (links : List Link) → IsDerived live clause hints →
     AreSame trues (map opposite clause) → links ≡ [] → IsReplaying live (map opposite clause) hints 0 trues links
-replay_starts live clause hints trues links derived same none =
-    let P : List Link → Type 0 = λ ls. IsReplaying live (map opposite clause) hints 0 trues ls in
-    subst P (sym none) (record {
-      same = same;
-      left = derived_starts live clause hints trues derived same;
-      led = tt;
-      hinted = tt;
-    })
+replay_starts live clause hints trues links derived same none = search (arith, derived_starts)

@@ -1,6 +1,5 @@
 -- A line's hinted clauses, resolved the last one first.
-use Rattle.std.proofs.Common.{◌≡◌, ℕ, ◌≤◌, ◌<◌, Bool, true, false, not, ◌||◌, ◌&&◌, inl, inr, List, [], ◌∷◌, map, Option, Some, IsSome, Contains, sym, ◌∙◌, ap, subst}
-use Rattle.std.specs.Option.{is_some}
+use Rattle.std.proofs.Common.{◌≡◌, ℕ, ◌≤◌, ◌<◌, Bool, true, false, not, ◌||◌, ◌&&◌, inl, inr, List, [], ◌∷◌, map, Option, Some, IsSome, Contains, sym, ◌∙◌, ap, subst, arith}
 use Rattle.std.proofs.lemmas.Bool.{cases_Bool}
 use Rattle.dq_lits.specs.Literal.{Assignment, Literal, variable_of, is_negative, positive, negative, opposite, literal_true}
 use Rattle.dq_lits.specs.Derivation.{holds}
@@ -38,15 +37,11 @@ some_node n r o is here = let s : Some n ≡ Some r = sym is ∙ here in cc
 pub noted_part : (q : Partition) (local : ℕ → Bool) (g : AigGraph) (notes : List (ℕ × Node)) (at : ℕ) (n : Node) →
     HasPart q local g notes at → node_of notes at ≡ Some n →
     IsPartOf q local g at n
-noted_part q local g notes at n has is =
-    subst (IsPartOf q local g at) (some_node has.node n (node_of notes at) has.noted is) has.part
+noted_part q local g notes at n has is = search (arith, some_node)
 
 pub is_noted : (q : Partition) (local : ℕ → Bool) (g : AigGraph) (notes : List (ℕ × Node)) (at : ℕ) →
     HasPart q local g notes at → IsSome (node_of notes at)
-is_noted q local g notes at has = some_there (node_of notes at) has.node has.noted
-  where
-    some_there : (o : Option Node) (n : Node) → o ≡ Some n → IsSome o
-    some_there o n is = ap is_some is
+is_noted q local g notes at has = search arith
 
 pub resolving_first : (q : Partition) (local : ℕ → Bool) (first : List Literal) (hints : List ℕ) (g : AigGraph)
     (links : List Link) (last : ℕ) (notes : List (ℕ × Node)) (node : Node) →
@@ -75,11 +70,7 @@ pub next_is_node : (q : Partition) (local : ℕ → Bool) (first : List Literal)
     links ≡ link ∷ rest → node_of notes link.hint ≡ Some r →
     IsNode g r
 next_is_node q local first hints notes initial g links rest link node r parts before is r_is =
-    let led = subst (AreLed (clause_at q.entries) first) is before.led in
-    let hinted = subst (AreHinted hints) is before.hinted in
-    let part = noted_part q local initial notes link.hint r (parts link.hint hinted.0) r_is led.0.clause
-    led.0.clause_is in
-    before.extends.nodes r part.is_node
+    search (arith, (noted_part q local initial notes link.hint r))
 
 pub resolving_next : (q : Partition) (local : ℕ → Bool) (first : List Literal) (hints : List ℕ)
     (notes : List (ℕ × Node)) (initial g new : AigGraph) (links rest : List Link) (link : Link)
@@ -118,8 +109,7 @@ resolving_next q local first hints notes initial g new links rest link node r ma
 pub all_resolved : (q : Partition) (local : ℕ → Bool) (first : List Literal) (hints : List ℕ) (initial g : AigGraph)
     (links : List Link) (node : Node) →
     IsResolving q local first hints initial g links node → links ≡ [] → IsPart q local g first node
-all_resolved q local first hints initial g links node resolved none =
-    subst (λ ls. IsPart q local g (trues_of first ls) node) none resolved.part
+all_resolved q local first hints initial g links node resolved none = search arith
 
 pub noted_hints : (q : Partition) (local : ℕ → Bool) (g : AigGraph) (notes : List (ℕ × Node)) (at : ℕ) (hints : List ℕ)
     → Reaches q.entries q.id at →
@@ -131,6 +121,4 @@ noted_hints q local g notes at hints reached found earlier noted hint has =
 pub part_of_clause : (q : Partition) (local : ℕ → Bool) (g : AigGraph) (at : ℕ) (clause : List Literal) (n : Node) →
     clause_at q.entries at ≡ Some clause →
     IsPart q local g (map opposite clause) n → IsPartOf q local g at n
-part_of_clause q local g at clause n found part other other_found =
-    let P : List Literal → Type 0 = λ c. IsPart q local g (map opposite c) n in
-    subst P (some_same clause other (sym found ∙ other_found)) part
+part_of_clause q local g at clause n found part other other_found = search (arith, some_same)

@@ -1,5 +1,5 @@
 -- Sets of literals, as they are kept: the variables of the positive ones and those of the negative ones.
-use Rattle.std.proofs.Common.{◌≡◌, ℕ, ◌+◌, ◌<◌, nat_eq, Bool, true, false, cond, ◌||◌, ◌&&◌, inl, inr, List, [], ◌∷◌, ◌++◌, map, take, length, get_or, refl, sym, ◌∙◌, ap}
+use Rattle.std.proofs.Common.{◌≡◌, ℕ, ◌+◌, ◌<◌, nat_eq, Bool, true, false, cond, ◌||◌, ◌&&◌, inl, inr, List, [], ◌∷◌, ◌++◌, map, take, length, get_or, refl, sym, ◌∙◌, ap, arith}
 use Rattle.std.specs.List.{list_any}
 use Rattle.std.proofs.lemmas.Bool.{cases_Bool, eqb-true}
 use Rattle.std.proofs.lemmas.List.{take_more}
@@ -80,33 +80,23 @@ pub add_positive : (ps more ns : List ℕ) (old : List Literal) (v : ℕ) (l : L
     v ≡ variable_of l → is_negative l ≡ false →
     more ≡ cond (list_any (nat_eq v) ps) ps (ps ++ v ∷ []) → (k : Literal) →
     holds (members more ns) k ≡ (same_literal k l || holds old k)
-add_positive ps more ns old v l is at sign more_is k =
-    positive_added ps more ns v k more_is ∙ ap (λ j. same_literal k j || holds (members ps ns) k)
-    (ap positive at ∙ as_positive l sign)
-    ∙ ap (λ ls. same_literal k l || holds ls k) is
+add_positive ps more ns old v l is at sign more_is k = search (arith, positive_added, as_positive)
 
 pub add_negative : (ps ns more : List ℕ) (old : List Literal) (v : ℕ) (l : Literal) → members ps ns ≡ old →
     v ≡ variable_of l → is_negative l ≡ true →
     more ≡ cond (list_any (nat_eq v) ns) ns (ns ++ v ∷ []) → (k : Literal) →
     holds (members ps more) k ≡ (same_literal k l || holds old k)
-add_negative ps ns more old v l is at sign more_is k =
-    negative_added ps ns more v k more_is ∙ ap (λ j. same_literal k j || holds (members ps ns) k)
-    (ap negative at ∙ as_negative l sign)
-    ∙ ap (λ ls. same_literal k l || holds ls k) is
+add_negative ps ns more old v l is at sign more_is k = search (arith, negative_added, as_negative)
 
 pub find_positive : (ps ns : List ℕ) (now : List Literal) (v : ℕ) (l : Literal) → members ps ns ≡ now →
     v ≡ variable_of l → is_negative l ≡ false →
     list_any (nat_eq v) ps ≡ holds now l
-find_positive ps ns now v l is at sign =
-    sym (has_positive ps ns v) ∙ ap (holds (members ps ns)) (ap positive at ∙ as_positive l sign) ∙ ap
-    (λ ls. holds ls l) is
+find_positive ps ns now v l is at sign = search (arith, has_positive, as_positive)
 
 pub find_negative : (ps ns : List ℕ) (now : List Literal) (v : ℕ) (l : Literal) → members ps ns ≡ now →
     v ≡ variable_of l → is_negative l ≡ true →
     list_any (nat_eq v) ns ≡ holds now l
-find_negative ps ns now v l is at sign =
-    sym (has_negative ps ns v) ∙ ap (holds (members ps ns)) (ap negative at ∙ as_negative l sign) ∙ ap
-    (λ ls. holds ls l) is
+find_negative ps ns now v l is at sign = search (arith, has_negative, as_negative)
 
 -- a list as a set, literal by literal
 pub holds-more : (xs : List Literal) (x l : Literal) → holds (xs ++ x ∷ []) l ≡ (same_literal l x || holds xs l)

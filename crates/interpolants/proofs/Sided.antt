@@ -1,5 +1,5 @@
 -- The variables of the A side, collected clause by clause.
-use Rattle.std.proofs.Common.{◌≡◌, ℕ, ◌<◌, ◌≤◌, true, ◌||◌, ◌&&◌, inl, inr, List, [], ◌∷◌, take, length, get_or, Contains, Some, ◌+◌, sym, ◌∙◌, ap, subst, Option, IsSome}
+use Rattle.std.proofs.Common.{◌≡◌, ℕ, ◌<◌, ◌≤◌, true, ◌||◌, inl, inr, List, [], ◌∷◌, take, length, get_or, Contains, ◌+◌, sym, ◌∙◌, ap, subst, Option, IsSome, arith}
 use Rattle.std.specs.List.{list_any}
 use Rattle.std.specs.Option.{is_some}
 use Rattle.list_laws.proofs.Members.{only_one, no_element}
@@ -7,11 +7,10 @@ use Rattle.hint_log.specs.declared.origins.Origin.{Origin}
 use Rattle.std.proofs.lemmas.Bool.{or_cases, or_left, or_right}
 use Rattle.std.proofs.lemmas.List.{get_or_default, take_all, take_more}
 use Rattle.std.proofs.lemmas.List.Elements.{Contains-append_cases}
-use Rattle.dq_lits.specs.Literal.{Literal, positive, variable_of, opposite}
+use Rattle.dq_lits.specs.Literal.{Literal, positive, opposite}
 use Rattle.dq_lits.specs.Derivation.{holds}
 use Rattle.dq_lits.proofs.SignedLiterals.{opposite_variable}
 use Rattle.hint_log.specs.Entries.{clause_at}
-use Rattle.hint_log.specs.Naming.{is_selector}
 use Rattle.hint_log.specs.Reached.{AreReached}
 use Rattle.interpolants.specs.Interpolant.{Partition, is_on_a, IsReachedGiven, stands_on}
 use Rattle.interpolants.specs.Sides.{AreSelectors, AreOfA, AreOfSome}
@@ -30,21 +29,13 @@ contains_place ids i lt = (i, lt, get_or_default ids i (get_or ids i 0) 0 lt)
 
 pub some_first : (q : Partition) (variables : List Literal) →
     ((v : ℕ) → holds variables (positive v) ≡ stands_on q.a_side v) → AreOfSome q [] variables
-some_first q variables plain = record {
-  sound = λ v h. inl (sym (plain v) ∙ h);
-  assumed = λ v h. plain v ∙ h;
-  given = λ at has clause given on_a v h. absurd (no_element at has);
-}
+some_first q variables plain = search (arith, no_element)
 
 -- by the selectors of the A side, whether a clause is on it
 pub on_a_by_selectors : (q : Partition) (selectors : List Literal) → AreSelectors q.entries q.a_side selectors →
     (clause : List Literal) →
     list_any (λ l. holds selectors (opposite l)) clause ≡ is_on_a q clause
-on_a_by_selectors q selectors are clause =
-    any_same (λ l. holds selectors (opposite l)) (λ l. holds q.a_side (opposite l) && is_selector q.entries
-    (variable_of l))
-    (λ l. are (opposite l) ∙ ap (λ v. holds q.a_side (opposite l) && is_selector q.entries v)
-    (opposite_variable l)) clause
+on_a_by_selectors q selectors are clause = search (arith, any_same, opposite_variable)
 
 pub some_more : (q : Partition) (ids : List ℕ) (i : ℕ) (variables more clause : List Literal) →
     AreOfSome q (take i ids) variables → i < length ids →
@@ -55,20 +46,13 @@ some_more q ids i variables more clause before lt given on_a are =
     let at = get_or ids i 0 in
     let P : List ℕ → Type 0 = λ xs. AreOfSome q xs more in
     subst P (sym (take_more ids i 0 lt)) (record {
-      sound = λ v h.
-          elim (or_cases (holds variables (positive v)) (stands_on clause v) (sym (are v) ∙ h)) [
-            | inl old ↦ before.sound v old
-            | inr new ↦ inr (record { at = at; clause = clause; given = given; on_side = on_a; stands = new })
-          ];
+      sound = search (arith, or_cases);
       assumed = λ v h. are v ∙ or_left (holds variables (positive v)) (stands_on clause v) (before.assumed v h);
       given = λ other has c other_given other_on_a v h.
           elim (Contains-append_cases (take i ids) (at ∷ []) other has) [
             | inl early ↦ are v ∙ or_left (holds variables (positive v)) (stands_on clause v)
                 (before.given other early c other_given other_on_a v h)
-            | inr here ↦
-                let same : clause ≡ c = same_clause q at other clause c (only_one at other here) given other_given in
-                are v ∙ or_right (holds variables (positive v)) (stands_on clause v)
-                (ap (λ ls. stands_on ls v) same ∙ h)
+            | inr here ↦ search (arith, same_clause, only_one, or_right)
           ];
     })
   where
@@ -98,15 +82,4 @@ some_past q ids i variables before lt not_here =
 pub some_all : (q : Partition) (ids : List ℕ) (i : ℕ) (variables : List Literal) → AreReached q.entries q.id ids →
     length ids ≤ i → AreOfSome q (take i ids) variables →
     AreOfA q variables
-some_all q ids i variables reached all some =
-    let P : List ℕ → Type 0 = λ xs. AreOfSome q xs variables in
-    let whole = subst P (take_all i ids all) some in
-    record {
-      sound = whole.sound;
-      complete = λ v of.
-          elim of [
-            | inl assumed ↦ whole.assumed v assumed
-            | inr side ↦ whole.given side.at (reached.complete side.at side.given.reached) side.clause side.given
-                side.on_side v side.stands
-          ];
-    }
+some_all q ids i variables reached all some = search (arith, take_all)

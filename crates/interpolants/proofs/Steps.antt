@@ -1,5 +1,5 @@
 -- Interpolants as they are built, literal by literal and link by link.
-use Rattle.std.proofs.Common.{◌≡◌, ℕ, Bool, true, false, not, ◌||◌, ◌&&◌, List, [], ◌∷◌, ◌++◌, Option, Some, None, Contains, refl, sym, ◌∙◌, ap, subst}
+use Rattle.std.proofs.Common.{◌≡◌, ℕ, Bool, true, false, not, ◌||◌, ◌&&◌, List, [], ◌∷◌, ◌++◌, Option, Some, None, refl, sym, ◌∙◌, ap, arith}
 use Rattle.std.specs.Option.{is_some}
 use Rattle.std.specs.List.{list_any, list_all}
 use Rattle.std.proofs.lemmas.List.Folds.{list_any-append, list_all-append}
@@ -35,14 +35,7 @@ literal_value shared g l n lit is inputs m agrees = is.value inputs m (agrees (v
 
 literal_reads : (shared : List (ℕ × Node)) (g : AigGraph) (l : Literal) (n lit : Node) →
     IsLiteralNode shared g l n lit → ReadsShared shared g lit
-literal_reads shared g l n lit is i has =
-    record {
-      variable = variable_of l;
-      node = n;
-      node_is = is.node_is;
-      reads =
-          subst (λ xs. Contains xs i) is.support has;
-    }
+literal_reads shared g l n lit is i has = search arith
 
 pub shared_more : (shared : List (ℕ × Node)) (old new : AigGraph) (clause : List Literal) (l : Literal)
     (node n lit made : Node) → Extends old new → AreNodes shared old →

@@ -1,5 +1,5 @@
 -- Lemmas on the truth of literals and clauses.
-use Rattle.std.proofs.Common.{◌≡◌, ℕ, ◌==◌, Bool, true, ◌||◌, ◌&&◌, inl, inr, List, [], ◌∷◌, refl, sym, ◌∙◌, ap}
+use Rattle.std.proofs.Common.{◌≡◌, ℕ, ◌==◌, Bool, true, ◌||◌, ◌&&◌, List, [], ◌∷◌, refl, sym, ◌∙◌, ap, arith}
 use Rattle.std.specs.List.{list_any, list_all}
 use Rattle.std.proofs.lemmas.Bool.{eq-eqb, or_right}
 use Rattle.dq_lits.specs.Literal.{Literal, variable_of, same_literal}
@@ -22,8 +22,7 @@ any_same p q same (x ∷ xs) = ap (λ b. b || list_any p xs) (same x) ∙ ap (λ
 -- a literal's variable stands where it does
 pub stands_there : (clause : List Literal) (l : Literal) → holds clause l ≡ true →
     stands_on clause (variable_of l) ≡ true
-stands_there clause l h = any_one (λ k. variable_of k == variable_of l) clause l h
-    (eq-eqb (variable_of l) (variable_of l) refl)
+stands_there clause l h = search (arith, any_one, eq-eqb)
 
 pub stands_same : (xs ys : List Literal) → AreSame xs ys → (v : ℕ) → stands_on xs v ≡ true → stands_on ys v ≡ true
 stands_same xs ys same v h =

@@ -1,7 +1,7 @@
 //! The partial interpolant of a derived clause: its hints are replayed, and their clauses are
 //! resolved, the last one first.
 
-ghost use Rattle.std.specs.Prelude.{◌≡◌, ◌&&◌, ◌||◌, ℕ, List, true, false, IfOk, None};
+ghost use Rattle.std.specs.Prelude.{◌≡◌, ◌&&◌, ◌||◌, ℕ, List, [], true, false, IfOk, None};
 ghost use Rattle.dq_lits.specs.Literal.{Literal, variable_of};
 ghost use Rattle.hint_log.specs.Conditions.{IsId};
 ghost use Rattle.hint_log.specs.Entries.{clause_at, origin_at};
@@ -15,9 +15,8 @@ ghost use Rattle.interpolants.specs.Parts.{IsPart, IsPartOf, HaveParts, AreNoted
 ghost use Rattle.interpolants.specs.Replay.{AreDerived, IsReplay};
 
 use crate::chains::Chain;
-use crate::literal_sets::LiteralSet;
 use crate::node_maps::NodeMap;
-use crate::replaying::{assume_false, propagate};
+use crate::replaying::replay;
 use crate::sides::Side;
 use crate::splits::Split;
 use aig_graph::{Graph, Node};
@@ -43,16 +42,37 @@ pub(crate) fn derived_part(
     ensures part { IfOk result
         (IsPartOf (partition_of split.now) (local_of split.now) graph.new at) }
 {
+    let mut chain = Chain::new(alloc);
+    by_chain(alloc, split, at, notes, &mut chain, graph)
+}
+
+// The same, with a chain for the replay.
+fn by_chain(
+    alloc: Global,
+    split: &Split,
+    at: u64,
+    notes: &NodeMap,
+    chain: &mut Chain,
+    graph: &mut Graph,
+) -> Result<Node, Memory>
+    requires empty { chain.old ≡ [] }
+    requires id { IsId split.now.log.now.entries at }
+    requires derived { AreDerived split.now.log.now.entries }
+    requires reached { Reaches split.now.log.now.entries split.now.id at }
+    requires not_given { origin_at split.now.log.now.entries at ≡ None }
+    requires nodes { AreNodes split.now.shared.now graph.old }
+    requires parts { AreNoted (partition_of split.now) (local_of split.now) graph.old notes.now at }
+    ensures extends { Extends graph.old graph.new }
+    ensures part { IfOk result
+        (IsPartOf (partition_of split.now) (local_of split.now) graph.new at) }
+{
     let log = split.log;
     log.every_log_is_lawful();
     reached_are_ids();
     let clause = log.clause(at);
     let hints = log.hints(at);
-    let mut chain = Chain::new(alloc);
-    let mut trues = LiteralSet::new(alloc);
-    assume_false(&mut trues, clause)?;
-    let last = propagate(log, &mut trues, &mut chain, clause, hints)?;
-    let node = resolve(split, notes, &mut chain, last, graph)?;
+    let last = replay(alloc, log, clause, hints, chain)?;
+    let node = resolve(split, notes, chain, last, graph)?;
     Ok(node)
 }
 

@@ -1,6 +1,6 @@
 //! An interpolant, read off the derivation of an answer.
 
-ghost use Rattle.std.specs.Prelude.{IfOk};
+ghost use Rattle.std.specs.Prelude.{◌≡◌, [], IfOk};
 ghost use Rattle.hint_log.specs.Conditions.{AreNamed, IsId};
 ghost use Rattle.hint_log.specs.Growth.{Each};
 ghost use Rattle.hint_log.specs.ProductiveLog.{IsDerivedByHints};
@@ -14,7 +14,7 @@ ghost use Rattle.interpolants.specs.Splits.{divided, partition_of};
 use crate::node_maps::{NodeMap, map_of};
 use crate::parts::note_all;
 use crate::shared::with_asked;
-use crate::sides::side_of;
+use crate::sides::Side;
 use crate::splits::{Answer, Split};
 use aig_graph::{Graph, Node};
 use dq_lits::{Lit, Memory};
@@ -97,11 +97,37 @@ fn by_map(
     ensures interpolant { IfOk result
         (IsInterpolant (divided answer.now a_side.now shared.now) graph.new) }
 {
-    let side = side_of(alloc, answer, a_side)?;
+    let mut side = Side::new(alloc);
+    by_side(alloc, answer, a_side, &mut side, shared, graph)
+}
+
+// The same, with an empty side to be filled.
+fn by_side(
+    alloc: Global,
+    answer: &Answer,
+    a_side: &[Lit],
+    side: &mut Side,
+    shared: &NodeMap,
+    graph: &mut Graph,
+) -> Result<Node, Memory>
+    requires no_assumed { side.old.assumed ≡ [] }
+    requires no_selectors { side.old.selectors ≡ [] }
+    requires no_variables { side.old.variables ≡ [] }
+    requires id { IsId answer.now.log.now.entries answer.now.id }
+    requires derived { AreDerived answer.now.log.now.entries }
+    requires ids { AreReached answer.now.log.now.entries answer.now.id answer.now.ids.now }
+    requires named { AreNamed answer.now.log.now.entries a_side.now }
+    requires shares { SharesAll (divided answer.now a_side.now shared.now) }
+    requires nodes { AreNodes shared.now graph.old }
+    ensures extends { Extends graph.old graph.new }
+    ensures interpolant { IfOk result
+        (IsInterpolant (divided answer.now a_side.now shared.now) graph.new) }
+{
+    side.fill(answer, a_side)?;
     let split = Split {
         log: answer.log,
         id: answer.id,
-        side: &side,
+        side,
         shared,
     };
     interpolant(alloc, &split, answer.ids, graph)

@@ -15,6 +15,7 @@ use crate::chains::{Chain, Link};
 use crate::literal_sets::LiteralSet;
 use dq_lits::{Lit, Memory};
 use hint_log::Log;
+use std::alloc::Global;
 
 /// The first literal that isn't false.
 pub(crate) fn open_literal(trues: &LiteralSet, clause: &[Lit]) -> Option<Lit>
@@ -28,8 +29,49 @@ pub(crate) fn open_literal(trues: &LiteralSet, clause: &[Lit]) -> Option<Lit>
     None
 }
 
-/// Makes a line's literals false.
-pub(crate) fn assume_false(trues: &mut LiteralSet, clause: &[Lit]) -> Result<(), Memory>
+/// Replays a derived line by its hints, and answers the hint whose clause became false.
+pub(crate) fn replay(
+    alloc: Global,
+    log: &Log,
+    clause: &[Lit],
+    hints: &[u64],
+    chain: &mut Chain,
+) -> Result<u64, Memory>
+    requires ids { AreIds log.now.entries hints.now }
+    requires none { chain.old ≡ [] }
+    requires derived { IsDerived (clause_at log.now.entries) clause.now hints.now }
+    ensures { IfOk result
+        (λ last.
+        IsReplay (clause_at log.now.entries) (map opposite clause.now) hints.now chain.new
+        last) }
+{
+    let mut trues = LiteralSet::new(alloc);
+    replay_over(log, &mut trues, chain, clause, hints)
+}
+
+// Replays a line, with an empty set.
+fn replay_over(
+    log: &Log,
+    trues: &mut LiteralSet,
+    chain: &mut Chain,
+    clause: &[Lit],
+    hints: &[u64],
+) -> Result<u64, Memory>
+    requires ids { AreIds log.now.entries hints.now }
+    requires none { chain.old ≡ [] }
+    requires empty { trues.old ≡ [] }
+    requires derived { IsDerived (clause_at log.now.entries) clause.now hints.now }
+    ensures { IfOk result
+        (λ last.
+        IsReplay (clause_at log.now.entries) (map opposite clause.now) hints.now chain.new
+        last) }
+{
+    assume_false(trues, clause)?;
+    propagate(log, trues, chain, clause, hints)
+}
+
+// Makes a line's literals false.
+fn assume_false(trues: &mut LiteralSet, clause: &[Lit]) -> Result<(), Memory>
     requires { trues.old ≡ [] }
     ensures { IfOk result (λ _. AreSame trues.new (map opposite clause.now)) }
 {
@@ -39,8 +81,8 @@ pub(crate) fn assume_false(trues: &mut LiteralSet, clause: &[Lit]) -> Result<(),
     Ok(())
 }
 
-/// Propagates by a derived line's hints, and answers the hint whose clause became false.
-pub(crate) fn propagate(
+// Propagates by a derived line's hints, and answers the hint whose clause became false.
+fn propagate(
     log: &Log,
     trues: &mut LiteralSet,
     chain: &mut Chain,

@@ -3,7 +3,7 @@
 //! A given clause is on the A side where it negates a selector of that side, so that neither groups
 //! nor origins are known here.
 
-ghost use Rattle.std.specs.Prelude.{◌≡◌, ◌||◌, ℕ, List, [], IfOk, OnOk, Some};
+ghost use Rattle.std.specs.Prelude.{◌≡◌, ◌||◌, ℕ, List, [], OnOk, Some};
 ghost use Rattle.std.specs.List.{list_any};
 ghost use Rattle.dq_lits.specs.Literal.{Literal, positive, opposite};
 ghost use Rattle.dq_lits.specs.Derivation.{holds, AreSame};
@@ -37,28 +37,22 @@ pub(crate) fn is_on_side(selectors: &LiteralSet, clause: &[Lit]) -> bool
     clause.iter().any(|l| selectors.has(l.not()))
 }
 
-/// The side of these assumptions, in what an answer reaches.
-pub(crate) fn side_of(alloc: Global, answer: &Answer, a_side: &[Lit]) -> Result<Side, Memory>
-    requires id { IsId answer.now.log.now.entries answer.now.id }
-    requires ids { AreReached answer.now.log.now.entries answer.now.id answer.now.ids.now }
-    requires named { AreNamed answer.now.log.now.entries a_side.now }
-    ensures same { IfOk result (λ side. AreSame side.assumed a_side.now) }
-    ensures side { IfOk result
-        (λ side. (shared : List (ℕ × NodeValue))
-        → IsSide (divided answer.now side.assumed shared) side) }
-{
-    let mut side = Side {
-        assumed: LiteralSet::new(alloc),
-        selectors: LiteralSet::new(alloc),
-        variables: LiteralSet::new(alloc),
-    };
-    side.fill(answer, a_side)?;
-    Ok(side)
-}
-
 impl Side {
-    // Fills an empty side.
-    fn fill(&mut self, answer: &Answer, a_side: &[Lit]) -> Result<(), Memory>
+    /// An empty side. It takes no memory.
+    pub(crate) fn new(alloc: Global) -> Side
+        ensures assumed { result.assumed ≡ [] }
+        ensures selectors { result.selectors ≡ [] }
+        ensures variables { result.variables ≡ [] }
+    {
+        Side {
+            assumed: LiteralSet::new(alloc),
+            selectors: LiteralSet::new(alloc),
+            variables: LiteralSet::new(alloc),
+        }
+    }
+
+    /// Makes an empty side that of these assumptions, in what an answer reaches.
+    pub(crate) fn fill(&mut self, answer: &Answer, a_side: &[Lit]) -> Result<(), Memory>
         requires id { IsId answer.now.log.now.entries answer.now.id }
         requires ids { AreReached answer.now.log.now.entries answer.now.id answer.now.ids.now }
         requires named { AreNamed answer.now.log.now.entries a_side.now }

@@ -1,3 +1,4 @@
+use Rattle.std.proofs.Common.{arith}
 use Rattle.aig_graph.proofs.LargerGraphs.{grown_twice}
 use Rattle.interpolants.specs.Splits.{partition_of, local_of}
 use Rattle.interpolants.proofs.ResolvedHints.{is_noted, next_is_node, resolving_first, next_hinted, resolving_next, all_resolved}
@@ -9,9 +10,7 @@ at-node-requires c =
     (c.requires.replay.2 c.args.last c.requires.replay.3.last_hinted)
 
 pub loop-link-init : goal.loop-link-init
-loop-link-init c first hints parts replay =
-    resolving_first (partition_of c.args.split.now) (local_of c.args.split.now) first
-    hints c.args.graph.now c.args.chain.now c.args.last c.args.notes.now c.at-node.result parts replay c.at-node.ensures
+loop-link-init c first hints parts replay = search (arith, resolving_first)
 
 pub at-requires : goal.at-requires
 at-requires c =

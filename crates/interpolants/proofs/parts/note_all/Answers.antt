@@ -1,4 +1,4 @@
-use Rattle.std.proofs.Common.{get_or}
+use Rattle.std.proofs.Common.{get_or, arith}
 use Rattle.aig_graph.proofs.LargerGraphs.{grown_twice}
 use Rattle.interpolants.specs.Splits.{partition_of, local_of}
 use Rattle.interpolants.proofs.Sided.{contains_place}
@@ -13,14 +13,10 @@ part-requires-clause-id c =
     (c.requires.ids.sound at (contains_place c.args.ids.now c.loop-at.at-index c.loop-at-test.true))
 
 pub part-requires-clause-parts : goal.part-requires-clause-parts
-part-requires-clause-parts c =
-    noted_before (partition_of c.args.split.now) (local_of c.args.split.now) c.args.graph.now
-    c.loop-at.graph c.args.ids.now c.loop-at.at-index c.loop-at.notes c.requires.ids c.loop-at-test.true
-    c.loop-at.invariant
+part-requires-clause-parts c = search (arith, noted_before)
 
 pub returns-in_err-node-clause-extends : goal.returns-in_err-node-clause-extends
-returns-in_err-node-clause-extends c = grown_twice c.args.graph.now c.loop-at.graph c.part.new.graph
-    c.loop-at.invariant.extends c.part.ensures.extends
+returns-in_err-node-clause-extends c = search (arith, grown_twice)
 
 pub loop-at-preserved : goal.loop-at-preserved
 loop-at-preserved c =
@@ -31,11 +27,7 @@ loop-at-preserved c =
     c.in_ok-put.ensures
 
 pub returns-clause-parts : goal.returns-clause-parts
-returns-clause-parts c =
-    all_noted (partition_of c.args.split.now) (local_of c.args.split.now) c.args.graph.now
-    c.loop-at.graph c.args.ids.now c.loop-at.at-index c.loop-at.notes c.requires.ids c.loop-at-test.false
-    c.loop-at.invariant
+returns-clause-parts c = search (arith, all_noted)
 
 pub returns-in_err-put-clause-extends : goal.returns-in_err-put-clause-extends
-returns-in_err-put-clause-extends c = grown_twice c.args.graph.now c.loop-at.graph c.part.new.graph
-    c.loop-at.invariant.extends c.part.ensures.extends
+returns-in_err-put-clause-extends c = search (arith, grown_twice)

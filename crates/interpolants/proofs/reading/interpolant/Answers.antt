@@ -1,3 +1,4 @@
+use Rattle.std.proofs.Common.{arith}
 use Rattle.hint_log.specs.Reached.{itself}
 use Rattle.aig_graph.proofs.LargerGraphs.{grown_twice}
 use Rattle.interpolants.specs.Splits.{partition_of, local_of}
@@ -27,12 +28,10 @@ with_asked-requires-clause-reads c =
     part.reads
 
 pub returns-in_err-node-clause-extends : goal.returns-in_err-node-clause-extends
-returns-in_err-node-clause-extends c = grown_twice c.args.graph.now c.note_all.new.graph c.with_asked.new.graph
-    c.note_all.ensures.extends c.with_asked.ensures.extends
+returns-in_err-node-clause-extends c = search (arith, grown_twice)
 
 pub returns-clause-extends : goal.returns-clause-extends
-returns-clause-extends c = grown_twice c.args.graph.now c.note_all.new.graph c.with_asked.new.graph
-    c.note_all.ensures.extends c.with_asked.ensures.extends
+returns-clause-extends c = search (arith, grown_twice)
 
 pub returns-clause-interpolant : goal.returns-clause-interpolant
 returns-clause-interpolant c =

@@ -1,12 +1,11 @@
-use Rattle.std.proofs.Common.{take, sym, subst, ap, ◌∙◌, ◌++◌, ◌∷◌, []}
+use Rattle.std.proofs.Common.{take, sym, subst, ap, ◌∙◌, ◌++◌, ◌∷◌, [], arith}
 use Rattle.std.proofs.lemmas.List.{take_more}
 use Rattle.aig_graph.proofs.LargerGraphs.{grown_twice}
 use Rattle.interpolants.specs.Parts.{IsAsked}
 use Rattle.interpolants.proofs.shared.with_asked.Goals as goal
 
 pub returns-in_err-node-clause-extends : goal.returns-in_err-node-clause-extends
-returns-in_err-node-clause-extends c = grown_twice c.args.graph.now c.loop-l.graph c.and_asked.new.graph
-    c.loop-l.invariant.extends c.and_asked.ensures.extends
+returns-in_err-node-clause-extends c = search (arith, grown_twice)
 
 pub loop-l-preserved : goal.loop-l-preserved
 loop-l-preserved c =

@@ -1,9 +1,8 @@
-use Rattle.std.proofs.Common.{◌≡◌, ◌+◌, true≢false, take, get_or, sym, ◌∙◌, ap, subst}
-use Rattle.hint_log.specs.Entries.{origin_at}
+use Rattle.std.proofs.Common.{◌≡◌, ◌+◌, true≢false, take, get_or, sym, ◌∙◌, ap, subst, arith}
 use Rattle.interpolants.specs.Interpolant.{is_on_a, IsReachedGiven}
 use Rattle.interpolants.specs.Sides.{AreOfSome}
 use Rattle.interpolants.specs.Splits.{divided}
-use Rattle.interpolants.proofs.Sided.{contains_place, some_more, some_past, some_all, some_first, on_a_by_selectors, is_given, given_is}
+use Rattle.interpolants.proofs.Sided.{contains_place, some_more, some_past, some_all, on_a_by_selectors, given_is}
 use Rattle.interpolants.proofs.sides.add_given.Goals as goal
 use Rattle.interpolants.proofs.sides.add_given.Goals.{then-is_some+then-is_on_side+in_ok-add_variables, then-is_some+else-is_on_side, else-is_some}
 use Rattle.list_laws.proofs.Options.{some_same}
@@ -32,13 +31,7 @@ loop-at-preserved c = λ assumed shared selectors first.
     let reached = c.requires.ids.sound at (contains_place ids i c.loop-at-test.true) in
     elim c.if-is_some.branch [
       | then-is_some+then-is_on_side+in_ok-add_variables w ↦
-          let given : IsReachedGiven q at w.clause-clause.result.now =
-          record {
-            reached = reached;
-            given = is_given (origin_at q.entries at) c.origin.result c.origin.ensures
-                (sym c.is_some.ensures ∙ w.if-is_some.true);
-            clause_is = w.clause-clause.ensures;
-          } in
+          let given : IsReachedGiven q at w.clause-clause.result.now = search arith in
           subst (AreOfSome q (take (i + 1) ids)) (sym w.variables-is)
           (some_more q ids i c.loop-at.variables w.add_variables.new.set w.clause-clause.result.now before
           c.loop-at-test.true given (sym (on_a_by_selectors q c.args.selectors.now selectors
@@ -51,11 +44,7 @@ loop-at-preserved c = λ assumed shared selectors first.
           (sym given.clause_is ∙ w.clause-clause.ensures) in
           true≢false (sym on_a ∙ ap (is_on_a q) same ∙ sym (on_a_by_selectors q c.args.selectors.now selectors
           w.clause-clause.result.now) ∙ sym w.is_on_side.ensures ∙ w.if-is_on_side.false)))
-      | else-is_some w ↦
-          subst (AreOfSome q (take (i + 1) ids)) (sym w.variables-is)
-          (some_past q ids i c.loop-at.variables before c.loop-at-test.true (λ clause given on_a.
-          true≢false (sym (given_is (origin_at q.entries at) c.origin.result c.origin.ensures given.given)
-          ∙ sym c.is_some.ensures ∙ w.if-is_some.false)))
+      | else-is_some w ↦ search (arith, some_past, given_is)
     ]
 
 pub returns : goal.returns
@@ -65,5 +54,4 @@ returns c = λ assumed shared selectors first.
     (c.loop-at.invariant assumed shared selectors first)
 
 pub loop-at-init : goal.loop-at-init
-loop-at-init c = λ assumed shared selectors first. some_first
-    (divided c.args.answer.now assumed shared) c.args.variables.now first
+loop-at-init c = search arith

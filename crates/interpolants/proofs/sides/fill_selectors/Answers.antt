@@ -1,4 +1,4 @@
-use Rattle.std.proofs.Common.{take, ◌+◌, sym, ◌∙◌, ap, subst}
+use Rattle.std.proofs.Common.{take, ◌+◌, sym, ◌∙◌, ap, subst, arith}
 use Rattle.hint_log.specs.Naming.{is_selector, is_selector_name}
 use Rattle.interpolants.specs.Sides.{AreSelectors}
 use Rattle.interpolants.proofs.Sets.{selector_more, selector_past}
@@ -18,8 +18,5 @@ loop-l-preserved c =
           subst (AreSelectors es (take (i + 1) xs)) (sym w.set-is)
           (selector_more xs i x c.loop-l-test.true (sym c.l-item.is) es c.loop-l.set c.loop-l.invariant w.add.new.self
           (is ∙ w.if-is_selector.true) w.in_ok-add.ensures)
-      | else-is_selector w ↦
-          subst (AreSelectors es (take (i + 1) xs)) (sym w.set-is)
-          (selector_past xs i x c.loop-l-test.true (sym c.l-item.is) es c.loop-l.set c.loop-l.invariant
-          (is ∙ w.if-is_selector.false))
+      | else-is_selector w ↦ search (arith, selector_past)
     ]

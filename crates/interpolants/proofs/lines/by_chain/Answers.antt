@@ -3,16 +3,16 @@ use Rattle.dq_lits.specs.Literal.{opposite}
 use Rattle.hint_log.specs.Reached.{itself, by_hint}
 use Rattle.interpolants.specs.Splits.{partition_of, local_of}
 use Rattle.interpolants.proofs.ResolvedHints.{noted_hints, part_of_clause}
-use Rattle.interpolants.proofs.lines.derived_part.Goals as goal
+use Rattle.interpolants.proofs.lines.by_chain.Goals as goal
 
-pub propagate-requires-clause-ids : goal.propagate-requires-clause-ids
-propagate-requires-clause-ids c = λ hint has.
+pub replay-requires-clause-ids : goal.replay-requires-clause-ids
+replay-requires-clause-ids c = λ hint has.
     c.reached_are_ids.ensures c.args.split.now.log.now.entries c.args.at hint c.every_log_is_lawful.ensures
     c.requires.id
     (by_hint c.args.at hint c.hints-hints.result.now itself c.hints-hints.ensures.value has)
 
-pub propagate-requires-clause-derived : goal.propagate-requires-clause-derived
-propagate-requires-clause-derived c =
+pub replay-requires-clause-derived : goal.replay-requires-clause-derived
+replay-requires-clause-derived c =
     c.requires.derived c.args.at c.clause-clause.result.now c.hints-hints.result.now c.clause-clause.ensures
     c.requires.not_given c.hints-hints.ensures.value
 
