@@ -3,7 +3,7 @@
 //! An existential in no clause is asked for nothing. After 32 questions in a row that found none no
 //! definition is asked for; gates are read off all the same.
 
-ghost use Rattle.std.specs.Prelude.{◌≡◌, ◌<◌, ℕ, true, length, replicate, None, Some, All, OnOk, IfOk, IfSome, IsErrOf, slice_get, slice_set};
+ghost use Rattle.std.specs.Prelude.{◌≡◌, ◌<◌, ℕ, true, List, [], length, replicate, None, Some, All, OnOk, IfOk, IfSome, IsErrOf, slice_get, slice_set};
 ghost use Rattle.dq_lits.specs.Formula.{Existential, IsWellFormed};
 ghost use Rattle.aig_graph.specs.Made.{Extends};
 ghost use Rattle.hint_log.specs.Growth.{Grew};
@@ -62,28 +62,61 @@ struct Order<'f, 'p, 's> {
 
 impl Definitions {
     // Nothing is known yet.
-    fn none(alloc: Global, gates: Gates, f: &Formula) -> Result<Definitions, Memory>
+    fn none(alloc: Global, f: &Formula) -> Result<Definitions, Memory>
         ensures { (graph : _) → IfOk result (AreKnownIn f.now graph) }
     {
-        let ranks = gates.ranks(f)?;
-        Ok(Definitions {
+        let gates = Gates::new(alloc, f)?;
+        let mut definitions = Definitions::empty(alloc, gates);
+        match definitions.begin(f) {
+            Ok(()) => Ok(definitions),
+            Err(e) => {
+                drop(definitions);
+                Err(e)
+            }
+        }
+    }
+
+    // Of no formula yet.
+    fn empty(alloc: Global, gates: Gates) -> Definitions
+        ensures rules { result.rules.items ≡ [] }
+        ensures guesses { result.guesses.items ≡ [] }
+    {
+        Definitions {
             gates,
-            ranks,
-            questions: Questions::none(alloc, f)?,
-            nodes: no_nodes(alloc, f.existentials().len())?,
+            ranks: Vec::new(alloc),
+            questions: Questions::none(alloc),
+            nodes: Vec::new(alloc),
             rules: Vec::new(alloc),
             guesses: Vec::new(alloc),
-        })
+        }
+    }
+
+    // Makes them those of a formula of which nothing is known yet.
+    fn begin(&mut self, f: &Formula) -> Result<(), Memory>
+        requires rules { self.old.rules.items ≡ [] }
+        requires guesses { self.old.guesses.items ≡ [] }
+        ensures { (graph : _) → OnOk result (AreKnownIn f.now graph self.new) }
+    {
+        let ranks = self.gates.ranks(f)?;
+        self.questions.begin(f)?;
+        let nodes = no_nodes(self.questions.alloc, f.existentials().len())?;
+        self.ranks = ranks;
+        self.nodes = nodes;
+        Ok(())
     }
 
     /// What is known of a formula that this row refutes: nothing is asked of it.
     pub fn refuted(alloc: Global, f: &Formula, row: Row) -> Result<Definitions, Memory>
         ensures { (graph : _) → IfOk result (AreKnownIn f.now graph) }
     {
-        let gates = Gates::new(alloc, f)?;
-        let mut definitions = Definitions::none(alloc, gates, f)?;
-        definitions.questions.conditions.keep_row(row)?;
-        Ok(definitions)
+        let mut definitions = Definitions::none(alloc, f)?;
+        match definitions.questions.conditions.keep_row(row) {
+            Ok(()) => Ok(definitions),
+            Err(e) => {
+                drop(definitions);
+                Err(e)
+            }
+        }
     }
 
     /// The gates that the clauses state of a formula's existentials. Nothing is asked of it.
@@ -92,11 +125,26 @@ impl Definitions {
         ensures extends { Extends graph.old graph.new }
         ensures known { IfOk result (AreKnownIn f.now graph.new) }
     {
-        let gates = Gates::new(alloc, f)?;
-        let mut definitions = Definitions::none(alloc, gates, f)?;
-        definitions.read_gates(graph, f)?;
-        definitions.find_suspects(f, graph)?;
-        Ok(definitions)
+        let mut definitions = Definitions::none(alloc, f)?;
+        match definitions.read_stated(graph, f) {
+            Ok(()) => Ok(definitions),
+            Err(e) => {
+                drop(definitions);
+                Err(e)
+            }
+        }
+    }
+
+    // Reads the gates that the clauses state, and looks for the clauses that these don't make true.
+    fn read_stated(&mut self, graph: &mut Graph, f: &Formula) -> Result<(), Memory>
+        requires inputs { HasInputs f.now graph.old }
+        requires known { AreKnownIn f.now graph.old self.old }
+        ensures extends { Extends graph.old graph.new }
+        ensures known { OnOk result (AreKnownIn f.now graph.new self.new) }
+    {
+        self.read_gates(graph, f)?;
+        self.find_suspects(f, graph)?;
+        Ok(())
     }
 
     /// Rows at which no function of some existential makes all clauses true, if the questions found
@@ -173,6 +221,34 @@ impl Definitions {
         };
         self.note(place, Found::Defined(node));
         Ok(())
+    }
+
+    // Asks for definitions of the existentials, and then for guesses.
+    fn find_and_guess<O: Oracle>(
+        &mut self,
+        oracle: &mut O,
+        definability: &Definability,
+        graph: &mut Graph,
+        f: &Formula,
+        log: &mut Log,
+    ) -> Result<(), Stop>
+        requires fit { O.Fits oracle.old log.old }
+        requires may { MayAsk f.now graph.old definability.now log.old.entries }
+        requires known { AreKnownIn f.now graph.old self.old }
+        ensures fit { O.Fits oracle.new log.new }
+        ensures asked { HasAsked f.now graph.old graph.new definability.now log.old log.new }
+        ensures known { OnOk result (AreKnownIn f.now graph.new self.new) }
+        ensures limit { IsErrOf result Stop.Limit → IsAtSomeLimit log.new }
+    {
+        let places = existentials_in_order(self.questions.alloc, f, &self.ranks)?;
+        self.questions.set_order(&places)?;
+        let order = Order {
+            f,
+            definability,
+            places: &places,
+        };
+        self.find_all(oracle, graph, &order, log)?;
+        self.guess_all(oracle, definability, graph, f, log)
     }
 
     // Asks for definitions of the existentials in this order.
@@ -297,16 +373,12 @@ pub fn find_definitions<O: Oracle>(
     ensures known { IfOk result (AreKnownIn f.now graph.new) }
     ensures limit { IsErrOf result Stop.Limit → IsAtSomeLimit log.new }
 {
-    let gates = Gates::new(alloc, f)?;
-    let mut definitions = Definitions::none(alloc, gates, f)?;
-    let places = existentials_in_order(alloc, f, &definitions.ranks)?;
-    definitions.questions.set_order(&places)?;
-    let order = Order {
-        f,
-        definability,
-        places: &places,
-    };
-    definitions.find_all(oracle, graph, &order, log)?;
-    definitions.guess_all(oracle, definability, graph, f, log)?;
-    Ok(definitions)
+    let mut definitions = Definitions::none(alloc, f)?;
+    match definitions.find_and_guess(oracle, definability, graph, f, log) {
+        Ok(()) => Ok(definitions),
+        Err(e) => {
+            drop(definitions);
+            Err(e)
+        }
+    }
 }

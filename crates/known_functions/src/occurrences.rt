@@ -15,6 +15,14 @@ pub(crate) struct Occurrences {
 }
 
 impl Occurrences {
+    /// None. It takes no memory.
+    pub(crate) fn none(alloc: Global) -> Occurrences {
+        Occurrences {
+            starts: Vec::new(alloc),
+            numbers: Vec::new(alloc),
+        }
+    }
+
     /// The occurrences in a formula's clauses.
     pub(crate) fn new(alloc: Global, f: &Formula) -> Result<Occurrences, Memory> {
         let mut starts = counts(alloc, f)?;

@@ -56,23 +56,33 @@ pub(crate) struct Questions {
 }
 
 impl Questions {
-    /// Nothing was asked yet.
-    pub(crate) fn none(alloc: Global, f: &Formula) -> Result<Questions, Memory> {
-        let count = f.existentials().len();
-        Ok(Questions {
+    /// Of no formula yet. It takes no memory.
+    pub(crate) fn none(alloc: Global) -> Questions {
+        Questions {
             alloc,
-            occurrences: Occurrences::new(alloc, f)?,
+            occurrences: Occurrences::none(alloc),
             conditions: Conditions::none(alloc),
             samples: Samples::new(alloc),
             order: Vec::new(alloc),
-            numbers: vec![in alloc; 0usize; count]?,
-            is_free: vec![in alloc; false; count]?,
+            numbers: Vec::new(alloc),
+            is_free: Vec::new(alloc),
             in_vain: 0,
-            loose: vec![in alloc; 0u8; count]?,
+            loose: Vec::new(alloc),
             passed: 0,
             met: 0,
             left: 0,
-        })
+        }
+    }
+
+    /// Makes them those of a formula of which nothing was asked yet.
+    pub(crate) fn begin(&mut self, f: &Formula) -> Result<(), Memory> {
+        let alloc = self.alloc;
+        let count = f.existentials().len();
+        self.occurrences = Occurrences::new(alloc, f)?;
+        self.numbers = vec![in alloc; 0usize; count]?;
+        self.is_free = vec![in alloc; false; count]?;
+        self.loose = vec![in alloc; 0u8; count]?;
+        Ok(())
     }
 
     /// Says in which order the existentials are asked for.
@@ -178,14 +188,19 @@ impl Questions {
         let values = bits_of(self.alloc, values)?;
         let sample = Sample::new(self.alloc, f, row, values)?;
         let mut walk = Walk::new(self.alloc, f, &self.occurrences, &self.numbers, sample);
-        for number in 0..MOST_PASSES {
-            let is_back = number % 2 == 1;
-            if !pass(&mut walk, &self.order, is_back, &mut self.is_free)? {
-                return Ok(());
-            }
-        }
-        Ok(())
+        pass_often(&mut walk, &self.order, &mut self.is_free)
     }
+}
+
+// Goes through the existentials, forwards and backwards by turns, as long as there is a new one.
+fn pass_often(walk: &mut Walk, order: &[usize], is_free: &mut [bool]) -> Result<(), Memory> {
+    for number in 0..MOST_PASSES {
+        let is_back = number % 2 == 1;
+        if !pass(walk, order, is_back, is_free)? {
+            return Ok(());
+        }
+    }
+    Ok(())
 }
 
 fn sees_few(f: &Formula, place: usize) -> bool

@@ -2,13 +2,7 @@ use Rattle.std.proofs.Common.{◌<◌, sym, subst, length}
 use Rattle.std.specs.List.{All}
 use Rattle.std.proofs.lemmas.List.Elements.{Contains-get_or}
 use Rattle.known_functions.proofs.Asked.{nothing_asked, asked_then}
-use Rattle.known_functions.proofs.definitions.find_definitions.Goals as goal
-
-pub returns-in_err-gates-clause-asked : goal.returns-in_err-gates-clause-asked
-returns-in_err-gates-clause-asked g c = nothing_asked _ _ _ _ c.requires.may
-
-pub returns-in_err-definitions-clause-asked : goal.returns-in_err-definitions-clause-asked
-returns-in_err-definitions-clause-asked g c = nothing_asked _ _ _ _ c.requires.may
+use Rattle.known_functions.proofs.definitions.Definitions.find_and_guess.Goals as goal
 
 pub returns-in_err-places-clause-asked : goal.returns-in_err-places-clause-asked
 returns-in_err-places-clause-asked g c = nothing_asked _ _ _ _ c.requires.may
@@ -17,7 +11,7 @@ pub returns-in_err-set_order-clause-asked : goal.returns-in_err-set_order-clause
 returns-in_err-set_order-clause-asked g c = nothing_asked _ _ _ _ c.requires.may
 
 pub find_all-requires-clause-known : goal.find_all-requires-clause-known
-find_all-requires-clause-known g c = c.in_ok-definitions.ensures c.args.graph.now
+find_all-requires-clause-known g c = c.requires.known
 
 pub find_all-requires-clause-places : goal.find_all-requires-clause-places
 find_all-requires-clause-places g c =
@@ -28,11 +22,6 @@ find_all-requires-clause-places g c =
 
 pub guess_all-requires-clause-may : goal.guess_all-requires-clause-may
 guess_all-requires-clause-may g c = c.find_all.ensures.asked.may
-
-pub returns-in_err-guess_all-clause-asked : goal.returns-in_err-guess_all-clause-asked
-returns-in_err-guess_all-clause-asked g c =
-    asked_then c.args.f.now c.args.graph.now c.find_all.new.graph c.guess_all.new.graph c.args.definability.now
-    c.args.log.now c.find_all.new.log c.guess_all.new.log c.find_all.ensures.asked c.guess_all.ensures.asked
 
 pub returns-clause-asked : goal.returns-clause-asked
 returns-clause-asked g c =

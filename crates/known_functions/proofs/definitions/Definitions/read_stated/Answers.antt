@@ -1,5 +1,5 @@
 use Rattle.known_functions.proofs.Defined.{left_known}
-use Rattle.known_functions.proofs.definitions.Definitions.stated.Goals as goal
+use Rattle.known_functions.proofs.definitions.Definitions.read_stated.Goals as goal
 
 pub returns-clause-known : goal.returns-clause-known
 returns-clause-known c = left_known c.args.f.now c.read_gates.new.graph c.read_gates.new.self c.find_suspects.new.self
