@@ -1,9 +1,9 @@
 //! The goals that a refutation begins with: the instances that its lines hint at.
 
-ghost use Rattle.std.specs.Prelude.{◌≡◌, ◌≤◌, ◌+◌, [], List, length, All, IfOk};
+ghost use Rattle.std.specs.Prelude.{◌≡◌, ◌≤◌, ◌+◌, [], List, length, All, IfOk, OnOk};
 ghost use Rattle.cert_text.specs.Header.{max_count};
 ghost use Rattle.lifted_proofs.specs.UnitTables.{IsUnitTable};
-ghost use Rattle.lifted_proofs.specs.Goals.{IsGoal, IsPlanOf};
+ghost use Rattle.lifted_proofs.specs.Goals.{IsGoal, IsPlanOf, Grows};
 ghost use Rattle.lifted_proofs.specs.declared.goals.Goal.{Goal};
 ghost use Rattle.lifted_proofs.specs.Carried.{IsFirstGoal};
 ghost use Rattle.lifted_proofs.specs.Planned.{IsInstanceId, AreFirstGoals, IsPlanFor};
@@ -43,9 +43,24 @@ pub(crate) fn planned(
 {
     let goals = first_goals(table.alloc, sources, wanted)?;
     let mut plan = begun(table, rows, goals)?;
+    match settle(&mut plan, table) {
+        Ok(()) => Ok(plan),
+        Err(memory) => {
+            drop(plan);
+            Err(memory)
+        }
+    }
+}
+
+// Finds the reasons of a plan that has none.
+fn settle(plan: &mut Plan, table: &UnitTable) -> Result<(), Memory>
+    requires plan { IsPlanOf table.now plan.old }
+    requires none { plan.old.reasons.items ≡ [] }
+    ensures whole { OnOk result (IsWhole table.now plan.new) }
+    ensures grows { OnOk result (Grows plan.old plan.new) }
+{
     let mut known = BTreeMap::new(table.alloc);
-    plan.settle_all(&mut known, table)?;
-    Ok(plan)
+    plan.settle_all(&mut known, table)
 }
 
 // The goals of these instances.

@@ -67,11 +67,32 @@ fn lift(table: &UnitTable, d: &Dqr, sources: &[Source]) -> Result<Dqr, Memory>
     ensures rows { IfOk result (λ e. Keeps d.now.rows e.rows) }
     ensures lines { IfOk result (λ e. AreNumberedLines e.items) }
 {
-    allowed_lines_are_numbered();
     let last = d.rows.items().len() as u64 * sources.len() as u64;
     let wanted = hinted_instances(table.alloc, &d.items, last)?;
+    lift_wanted(table, d, sources, &wanted)
+}
+
+// The same, by the instances that its lines hint at.
+fn lift_wanted(
+    table: &UnitTable,
+    d: &Dqr,
+    sources: &[Source],
+    wanted: &NumberSet,
+) -> Result<Dqr, Memory>
+    requires right { IsUnitTable table.now }
+    requires refutes { Refutes table.now d.now }
+    requires sources { AreSources table.now.formula.now table.now.units.now (kept_matrix table.now)
+        sources.now }
+    requires wanted { AreWanted (lines_of d.now.items) (length d.now.rows * length sources.now)
+        wanted.now }
+    ensures allowed { IfOk result (IsDqrOf table.now.formula.now) }
+    ensures refutes { IfOk result (λ e. refutation_fault table.now.formula.now e ≡ None) }
+    ensures rows { IfOk result (λ e. Keeps d.now.rows e.rows) }
+    ensures lines { IfOk result (λ e. AreNumberedLines e.items) }
+{
+    allowed_lines_are_numbered();
     let plan = planned(table, &d.rows, sources, wanted.items())?;
-    let steps = lifted_lines(table, d, sources, &wanted, &plan)?;
+    let steps = lifted_lines(table, d, sources, wanted, &plan)?;
     Ok(Dqr {
         rows: plan.rows,
         items: ItemList::of_lines(steps),
