@@ -1,5 +1,4 @@
--- A design with one box, worked out: a gate of two inputs is the specification, and the box, which reads
--- both, is the implementation. Its formula computes, and it meets all that the laws ask of a design.
+-- The design whose box reads both inputs meets all that the laws ask of one.
 use Rattle.std.proofs.Common.{◌≡◌, ◌≢◌, ℕ, zero, suc, ◌<◌, List, [], ◌∷◌, get_or, refl, arith}
 use Rattle.std.specs.List.{All, AllPairs, Contains}
 use Rattle.std.proofs.lemmas.List.Elements.{All-from_recursion, All-nil}
@@ -10,55 +9,8 @@ use Rattle.circuit_plain.specs.Ground.{IsGrounded, input as ground_input, gate a
 use Rattle.circuit_plain.specs.Reach.{Reaches, itself, left, right}
 use Rattle.circuit_plain.specs.declared.circuits.Gate.{Gate}
 use Rattle.pec_front.specs.Boxes.{BlackBox, PartialDesign, IsFurtherInput, AreBoxes, StandInOrder, IsAcyclic, IsDesign, AllDriven}
+use Rattle.pec_front.specs.Examples.{specification, implementation, design, reading_both}
 use Rattle.pec_front.specs.Encoding.{design_formula, design_universals, driven_existential}
-
-gate : Gate
-gate = record { variable = 3; left = 4; right = 2 }
-
-abbrev pub specification : Netlist
-specification =
-    record {
-      max_var = 3;
-      inputs = 1 ∷ 2 ∷ [];
-      outputs = 6 ∷ [];
-      gates = record { variable = 3; left = 4; right = 2 }
-          ∷ [];
-    }
-
-abbrev pub implementation : Netlist
-implementation = record { max_var = 3; inputs = 1 ∷ 2 ∷ 3 ∷ []; outputs = 6 ∷ []; gates = [] }
-
-abbrev pub design : BlackBox → PartialDesign
-design box = record { specification = specification; implementation = implementation; boxes = box ∷ [] }
-
-abbrev expected : List (List Literal)
-expected =
-    (negative 6 ∷ positive 2 ∷ []) ∷ (negative 6 ∷ positive 1 ∷ []) ∷ (positive 6 ∷ negative 2 ∷ negative 1 ∷ [])
-    ∷ (negative 7 ∷ negative 3 ∷ positive 1 ∷ []) ∷ (negative 7 ∷ positive 3 ∷ negative 1 ∷ [])
-    ∷ (positive 7 ∷ positive 3 ∷ positive 1 ∷ []) ∷ (positive 7 ∷ negative 3 ∷ negative 1 ∷ [])
-    ∷ (negative 8 ∷ negative 4 ∷ positive 2 ∷ []) ∷ (negative 8 ∷ positive 4 ∷ negative 2 ∷ [])
-    ∷ (positive 8 ∷ positive 4 ∷ positive 2 ∷ []) ∷ (positive 8 ∷ negative 4 ∷ negative 2 ∷ [])
-    ∷ (negative 9 ∷ negative 6 ∷ positive 5 ∷ []) ∷ (negative 9 ∷ positive 6 ∷ negative 5 ∷ [])
-    ∷ (positive 9 ∷ positive 6 ∷ positive 5 ∷ []) ∷ (positive 9 ∷ negative 6 ∷ negative 5 ∷ [])
-    ∷ (positive 9 ∷ negative 7 ∷ negative 8 ∷ [])
-    ∷ []
-
-abbrev box : BlackBox
-box = record { ins = 2 ∷ 4 ∷ []; outs = 6 ∷ [] }
-
-matrix-is : (design_formula (design box)).matrix ≡ expected
-matrix-is = refl
-
-variables-are : (design_formula (design box)).variables ≡ 9
-variables-are = refl
-
-universals-are : design_universals (design box) ≡ 1 ∷ 2 ∷ 3 ∷ 4 ∷ []
-universals-are = refl
-
-driven-is : driven_existential (design box) 2 ≡ record { variable = 5; sees = 3 ∷ 4 ∷ [] }
-driven-is = refl
-
--- what the laws ask of a design
 
 once-nil : AllPairs (λ (a b : ℕ). a ≢ b) []
 once-nil i j d less below = absurd (omega (arith, below))
@@ -107,7 +59,7 @@ in-2 = ground_input (1, omega arith, refl)
 out-3 : IsGrounded specification 3
 out-3 = ground_gate (record { variable = 3; left = 4; right = 2 }) (0, omega arith, refl) in-2 in-1
 
-is-design : IsDesign (design box)
+pub is-design : IsDesign (design reading_both)
 is-design = record {
   specification = specification-is;
   implementation = implementation-is;
@@ -131,7 +83,7 @@ is-design = record {
     by-signal (suc zero) below = ground_input (1, omega arith, refl)
     by-signal (suc (suc j)) below = absurd (omega (arith, below))
 
-is-acyclic : IsAcyclic (design box)
+pub is-acyclic : IsAcyclic (design reading_both)
 is-acyclic = record {
   specification = All-from_recursion (λ (g : Gate). IsGrounded specification g.variable) specification.gates
       (out-3, tt);
@@ -151,14 +103,14 @@ apart-from-3 : (v : ℕ) → v ≢ 3 → All (λ out. ¬ Reaches implementation 
 apart-from-3 v other = All-from_recursion (λ out. ¬ Reaches implementation v (literal_variable out)) (6 ∷ [])
     ((λ r. other (reach-input (no-gates v) r)), tt)
 
-are-boxes : AreBoxes (design box)
+pub are-boxes : AreBoxes (design reading_both)
 are-boxes = record {
-  further = All-from_recursion (IsFurtherInput (design box)) (6 ∷ []) ((2, omega arith, omega arith, refl), tt);
+  further = All-from_recursion (IsFurtherInput (design reading_both)) (6 ∷ []) ((2, omega arith, omega arith, refl), tt);
   driven_once = AllPairs-cons (λ (a b : ℕ). a ≢ b) 6 [] (All-nil (λ b. 6 ≢ b)) once-nil;
   ordered = ordered;
 }
   where
-    ordered : StandInOrder implementation (box ∷ [])
+    ordered : StandInOrder implementation (reading_both ∷ [])
     ordered zero zero d less below =
         All-from_recursion
         (λ l. All (λ out. ¬ Reaches implementation (literal_variable l) (literal_variable out)) (6 ∷ []))
@@ -167,7 +119,7 @@ are-boxes = record {
     ordered (suc i) zero d less below = absurd (omega (arith, less))
     ordered i (suc j) d less below = absurd (omega (arith, below))
 
-all-driven : AllDriven (design box)
+pub all-driven : AllDriven (design reading_both)
 all-driven zero low below = absurd (omega (arith, low))
 all-driven (suc zero) low below = absurd (omega (arith, low))
 all-driven (suc (suc zero)) low below = refl

@@ -4,6 +4,7 @@ pub mod Choices
 pub mod Copies
 pub mod Encoder
 pub mod Encoding
+pub mod Examples
 pub mod Formulas
 pub mod Kept
 pub mod Latest

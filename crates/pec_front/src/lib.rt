@@ -13,6 +13,7 @@ mod boxes;
 mod copies;
 mod designs;
 mod encoders;
+pub mod examples;
 mod faults;
 mod formulas;
 mod kept_clauses;
