@@ -1,5 +1,5 @@
 -- Items that are judged one after another.
-use Rattle.std.proofs.Common.{◌≡◌, ℕ, ◌+◌, ◌<◌, ◌≤◌, Bool, true, false, not, List, [], ◌∷◌, drop, length, slice_get, Option, None, Some, Result, Ok, Err, is_some, refl, sym, ◌∙◌, ap, subst, arith}
+use Rattle.std.proofs.Common.{◌≡◌, ℕ, ◌+◌, ◌<◌, ◌≤◌, Bool, true, false, List, [], ◌∷◌, drop, length, slice_get, Option, None, Some, is_some, refl, sym, ◌∙◌, ap, subst, arith}
 use Rattle.std.specs.List.{All, AllByRecursion}
 use Rattle.std.proofs.lemmas.List.Elements.{All-from_recursion, recursion_from_All}
 use Rattle.list_laws.proofs.Elements.{drop-next}
@@ -9,7 +9,7 @@ use Rattle.dq_lits.specs.Derivation.{ProofStep}
 use Rattle.dq_lits.specs.Formula.{Dqbf}
 use Rattle.dq_lits.specs.Literal.{Literal}
 use Rattle.circuit_plain.specs.Netlist.{Netlist}
-use Rattle.rup_core.specs.Items.{ProofItem, derived, gone, is_among}
+use Rattle.rup_core.specs.Items.{ProofItem, derived, gone}
 use Rattle.rup_core.specs.Proving.{ProofState, run_over, with_derived, without_lines, ended}
 use Rattle.rup_core.specs.Runs.{Run, advanced, run_fault, start, unless_faulty, with_item, with_items}
 use Rattle.rup_core.proofs.DeletedClauses.{going_is_fault}
@@ -42,8 +42,7 @@ without_above : (fault : Option ℕ) (ids : List ℕ) (p : ProofState) (next : �
     AllByRecursion (λ line. line.0 < next) p.lines →
     AllByRecursion (λ line. line.0 < next) (without_lines fault ids p).lines
 without_above (Some _) ids p next above = above
-without_above None ids p next above = some_left (λ line. line.0 < next)
-    (λ line. not (is_among ids line.0)) p.lines above
+without_above None ids p next above = search (arith, some_left)
 
 module _ (f : Dqbf) (net : Netlist) where
   abbrev is_variable : ℕ → Bool
@@ -52,15 +51,10 @@ module _ (f : Dqbf) (net : Netlist) where
   -- a line's id lies behind those of the lines that are held
   pub line_above : (p : CircuitProving) (step : ProofStep) (lines : List (ℕ × List Literal)) →
       MayJudge f net p (derived step) → lines ≡ p.proving.lines → All (λ line. line.0 < step.id) lines
-  line_above p step lines may same =
-      subst (λ ls. All (λ line. line.0 < step.id) ls) (sym same)
-      (subst (λ id. All (λ line. line.0 < id) p.proving.lines) (sym may.lawful.numbered) may.judging.above)
+  line_above p step lines may same = search arith
 
   pub line_from_one : (p : CircuitProving) (step : ProofStep) → MayJudge f net p (derived step) → 1 ≤ step.id
-  line_from_one p step may =
-      let id = may.lawful.numbered in
-      let first = may.judging.first in
-      omega (arith, id, first)
+  line_from_one p step may = search arith
 
   -- a line more, where there are marks enough
   pub line_run : (p w : CircuitProving) (m : Candidate) (new : ProofState) (item : ProofItem) →
@@ -80,23 +74,7 @@ module _ (f : Dqbf) (net : Netlist) where
       new.proving ≡ ended d step.id step.literals w.proving → (at : Numbering) → IsJudging f net p at →
       IsItem is_variable at (derived step) → IsJudging f net new (behind_item at (derived step))
   line_judging p w new step d tables rest q_is at judging lawful =
-      let id = lawful.numbered in
-      let same : w.proving.lines ≡ p.proving.lines = ap (λ (q : ProofState). q.lines) rest in
-      let above : AllByRecursion (λ line. line.0 < step.id) w.proving.lines =
-      subst (AllByRecursion (λ line. line.0 < step.id)) (sym same)
-      (subst (λ i. AllByRecursion (λ line. line.0 < i) p.proving.lines) (sym id)
-      (recursion_from_All (λ line. line.0 < at.next) p.proving.lines judging.above)) in
-      record {
-        literals = subst (λ (t : NegatedTables). AreClauseLiterals f net t.literals.items)
-            (sym tables) judging.literals;
-        first = (let le = judging.first in omega (arith, le));
-        ids = live_line (λ i. first_proof_id f net ≤ i) at judging.first judging.ids;
-        above = All-from_recursion (λ line. line.0 < at.next + 1) new.proving.lines
-            (subst (λ (s : ProofState). AllByRecursion (λ line. line.0 < at.next + 1) s.lines) (sym q_is)
-            (subst (λ i. AllByRecursion (λ line. line.0 < i + 1)
-            (with_derived w.proving.fault d step.id step.literals w.proving).lines) id
-            (by_fault w.proving.fault d step.id step.literals w.proving above)));
-      }
+      search (arith, recursion_from_All, live_line, All-from_recursion, by_fault)
 
   -- ids that are deleted
   pub ids_free : (p : CircuitProving) (ids : List ℕ) → MayJudge f net p (gone ids) →
@@ -142,18 +120,11 @@ module _ (f : Dqbf) (net : Netlist) where
     pub one_judged : (q : CircuitProving) → run_of f net q ≡ with_item (run_of f net p) item →
         ((at : Numbering) → IsJudging f net p at → IsItem is_variable at item
         → IsJudging f net q (behind_item at item)) → AreJudged first q items (k + 1)
-    one_judged q run goes_on = record {
-      at = behind_item before.at item;
-      judging = goes_on before.at before.judging numbered.0;
-      numbered = numbered.1;
-      left = ap (λ r. run_fault (with_items r (drop (k + 1) items))) run
-          ∙ sym (ap (λ rest. run_fault (with_items (run_of f net p) rest)) (drop-next items k item at)) ∙ before.left;
-    }
+    one_judged q run goes_on = search (arith, drop-next)
 
   pub all_judged : (first p : CircuitProving) (items : List ProofItem) (k : ℕ) → length items ≤ k →
       AreJudged first p items k → run_fault (run_of f net p) ≡ run_fault (with_items (run_of f net first) items)
-  all_judged first p items k end are =
-      sym (ap (λ rest. run_fault (with_items (run_of f net p) rest)) (drop_end items k end)) ∙ are.left
+  all_judged first p items k end are = search (arith, drop_end)
 
   -- behind a line that isn't derived nothing changes
   stays : (run : Run) (items : List ProofItem) → is_some run.fault ≡ true →

@@ -1,5 +1,5 @@
 -- Which literals of a circuit stand for variables.
-use Rattle.std.proofs.Common.{◌≡◌, ◌≢◌, ℕ, ◌+◌, ◌*◌, ◌<◌, ◌≤◌, ◌==◌, Bool, true, false, cond, inl, inr, List, length, take, get_or, position, None, sym, ◌∙◌, ap, subst, arith}
+use Rattle.std.proofs.Common.{◌≡◌, ◌≢◌, ℕ, ◌+◌, ◌*◌, ◌<◌, ◌≤◌, ◌==◌, false, cond, inl, inr, List, length, take, get_or, position, None, sym, ◌∙◌, ap, subst, arith}
 use Rattle.std.specs.List.{AllPairs, Contains}
 use Rattle.std.specs.Prelude.{slice_index}
 use Rattle.std.proofs.lemmas.Bool.{cases_Bool, cases_lt}
@@ -39,26 +39,10 @@ no_literal c v n answer no_input no_output is answer_is =
 
 module _ (c : MappedCircuit) (kept : IsNetlist c.netlist) where
   input_below : (p : ℕ) → slice_index c.netlist.inputs p ≤ c.netlist.max_var
-  input_below p =
-      elim (cases_lt p (length c.netlist.inputs)) [
-        | inl below ↦ (kept.inputs_fit p 0 below).1
-        | inr past ↦ let none : slice_index c.netlist.inputs p ≡ 0 = get_or_past c.netlist.inputs p 0 past in
-            omega (arith, none)
-      ]
+  input_below p = search (arith, cases_lt, get_or_past)
 
   output_below : (p : ℕ) → slice_index c.netlist.outputs p ≤ 2 * c.netlist.max_var + 1
-  output_below p =
-      elim (cases_lt p (length c.netlist.outputs)) [
-        | inl below ↦ kept.outputs_fit p 0 below
-        | inr past ↦ let none : slice_index c.netlist.outputs p ≡ 0 = get_or_past c.netlist.outputs p 0 past in
-            omega (arith, none)
-      ]
+  output_below p = search (arith, cases_lt, get_or_past)
 
   pub literal_below : (v : ℕ) → circuit_literal c v ≤ 2 * c.netlist.max_var + 1
-  literal_below v = by (has c.mapping.inputs v)
-    where
-      by : (b : Bool) → cond b (2 * slice_index c.netlist.inputs (place c.mapping.inputs v))
-          (slice_index c.netlist.outputs (place c.mapping.outputs v))
-          ≤ 2 * c.netlist.max_var + 1
-      by true = let le = input_below (place c.mapping.inputs v) in omega (arith, le)
-      by false = output_below (place c.mapping.outputs v)
+  literal_below v = search (arith, input_below, output_below)

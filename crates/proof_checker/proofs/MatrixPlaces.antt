@@ -37,23 +37,16 @@ module _ (net : Netlist) (i : ℕ) (below : i / 3 < length net.gates) (t : ℕ �
 
   pub gate_left : (o : ℕ) (items : List ℕ) → i % 3 ≡ 0 → o ≡ opposite_of t.0 → items ≡ o ∷ t.1 ∷ []
       → slice_get (flat_map gate_clauses net.gates) i ≡ Some items
-  gate_left o items rest o_is items_is =
-      found_at 0 rest
-      ∙ ap Some (sym (items_is ∙ ap (λ x. x ∷ t.1 ∷ []) o_is ∙ ap (λ (u : ℕ × ℕ × ℕ). opposite_of u.0 ∷ u.1 ∷ []) is))
+  gate_left o items rest o_is items_is = search (arith, found_at)
 
   pub gate_right : (o : ℕ) (items : List ℕ) → i % 3 ≡ 1 → o ≡ opposite_of t.0 → items ≡ o ∷ t.2 ∷ []
       → slice_get (flat_map gate_clauses net.gates) i ≡ Some items
-  gate_right o items rest o_is items_is =
-      found_at 1 rest
-      ∙ ap Some (sym (items_is ∙ ap (λ x. x ∷ t.2 ∷ []) o_is ∙ ap (λ (u : ℕ × ℕ × ℕ). opposite_of u.0 ∷ u.2 ∷ []) is))
+  gate_right o items rest o_is items_is = search (arith, found_at)
 
   pub gate_both : (o p : ℕ) (items : List ℕ) → i % 3 ≡ 2 → o ≡ opposite_of t.1 → p ≡ opposite_of t.2 →
       items ≡ t.0 ∷ o ∷ p ∷ []
       → slice_get (flat_map gate_clauses net.gates) i ≡ Some items
-  gate_both o p items rest o_is p_is items_is =
-      found_at 2 rest
-      ∙ ap Some (sym (items_is ∙ ap (λ x. t.0 ∷ x ∷ p ∷ []) o_is ∙ ap (λ x. t.0 ∷ opposite_of t.1 ∷ x ∷ []) p_is
-      ∙ ap (λ (u : ℕ × ℕ × ℕ). u.0 ∷ opposite_of u.1 ∷ opposite_of u.2 ∷ []) is))
+  gate_both o p items rest o_is p_is items_is = search (arith, found_at)
 
 -- where the variable is true, the literal is false
 abbrev falsity_clause : (ℕ → ℕ) → ℕ × Literal → List ℕ
@@ -63,17 +56,13 @@ falsity_clause outputs o = opposite_of (2 * o.0) ∷ opposite_of (literal_under 
 one_mapped : (outputs : ℕ → ℕ) (bad : ℕ) (clause : List Literal) →
     falsity_clauses outputs bad clause ≡ map (falsity_clause outputs) (map (λ l. (bad, l)) clause)
 one_mapped outputs bad [] = refl
-one_mapped outputs bad (l ∷ clause) = ap (λ cs. (opposite_of (2 * bad) ∷ opposite_of (literal_under outputs l) ∷ []) ∷
-    cs) (one_mapped outputs bad clause)
+one_mapped outputs bad (l ∷ clause) = search (arith, (one_mapped outputs bad clause))
 
 falsity_mapped : (outputs : ℕ → ℕ) (bad : ℕ) (clauses : List (List Literal)) →
     all_falsity_clauses outputs bad clauses ≡ map (falsity_clause outputs) (clause_literals bad clauses)
 falsity_mapped outputs bad [] = refl
 falsity_mapped outputs bad (clause ∷ clauses) =
-    ap (λ cs. cs ++ all_falsity_clauses outputs (bad + 1) clauses) (one_mapped outputs bad clause)
-    ∙ ap (λ cs. map (falsity_clause outputs) (map (λ l. (bad, l)) clause) ++ cs)
-    (falsity_mapped outputs (bad + 1) clauses)
-    ∙ sym (map-append (falsity_clause outputs) (map (λ l. (bad, l)) clause) (clause_literals (bad + 1) clauses))
+    search (arith, one_mapped, (falsity_mapped outputs (bad + 1) clauses), map-append)
 
 abbrev IsBelow : ℕ → ℕ × Literal → Type 0
 IsBelow n o = o.0 < n
@@ -170,10 +159,7 @@ pub by_id : (c : Candidate) (id i : ℕ) → id ≢ 0 → i ≡ id - 1
     → negated_candidate c id ≡ option_and_then without_constants
     (slice_get (negated_clauses c.formula c.circuit.netlist (circuit_literal c.circuit)) i)
 by_id c zero i some is = absurd (some refl)
-by_id c (suc n) i some is =
-    let same : n ≡ i = omega (arith, is) in
-    ap (λ k. option_and_then without_constants (slice_get (negated_clauses c.formula c.circuit.netlist
-    (circuit_literal c.circuit)) k)) same
+by_id c (suc n) i some is = search arith
 
 pub behind_gates : (c : Candidate) (i n : ℕ) → n ≡ length c.circuit.netlist.gates → n ≤ i / 3
     → slice_get (negated_clauses c.formula c.circuit.netlist (circuit_literal c.circuit)) i ≡ slice_get
@@ -190,14 +176,7 @@ pub next_clause : (first j : ℕ) (matrix : List (List Literal)) (all new goal :
     new ≡ all ++ map (λ l. (first + j, l)) clause
     → new ++ clause_literals (first + (j + 1)) (drop (j + 1) matrix) ≡ goal
 next_clause first j matrix all new goal clause below is before added =
-    let own : List (ℕ × Literal) = map (λ l. (first + j, l)) (get_or matrix j []) in
-    let next : first + (j + 1) ≡ first + j + 1 = omega arith in
-    ap (λ ls. ls ++ clause_literals (first + (j + 1)) (drop (j + 1) matrix))
-    (added ∙ ap (λ ls. all ++ map (λ l. (first + j, l)) ls) is)
-    ∙ ap (λ n. (all ++ own) ++ clause_literals n (drop (j + 1) matrix)) next
-    ∙ append_assoc all own (clause_literals (first + j + 1) (drop (j + 1) matrix))
-    ∙ sym (ap (λ cs. all ++ clause_literals (first + j) cs) (drop_at matrix j [] below))
-    ∙ before
+    search (arith, (append_assoc all), (drop_at matrix j [] below))
 
 pub place_below : (clause : List Literal) (i : ℕ) → IsSome (slice_get clause i) → i < length clause
 place_below [] i some = cc

@@ -1,5 +1,5 @@
 -- When the clauses of the negated matrix are true.
-use Rattle.std.proofs.Common.{◌≡◌, ℕ, zero, suc, ◌+◌, ◌-◌, ◌*◌, ◌/◌, ◌%◌, ◌<◌, ◌==◌, Bool, true, false, not, cond, ◌||◌, ◌&&◌, inl, inr, List, [], ◌∷◌, ◌++◌, map, length, slice_get, None, Some, refl, sym, ◌∙◌, ap, arith}
+use Rattle.std.proofs.Common.{◌≡◌, ℕ, zero, suc, ◌+◌, ◌*◌, ◌/◌, ◌%◌, ◌<◌, ◌==◌, Bool, true, false, not, cond, ◌||◌, ◌&&◌, List, [], ◌∷◌, ◌++◌, map, length, slice_get, Some, refl, ◌∙◌, ap, arith}
 use Rattle.std.specs.List.{AllByRecursion, list_any, list_all, filter, flat_map, range_with_len}
 use Rattle.std.specs.Option.{option_and_then}
 use Rattle.std.proofs.lemmas.Bool.{cases_Bool, eqb-true}
@@ -18,28 +18,13 @@ rest-zero (suc (suc r)) small other = absurd (omega (arith, small))
 
 module _ (e : ℕ → Bool) where
   bit_by_parts : (l r w : ℕ) → l % 2 ≡ r → l / 2 ≡ w → literal_bit e l ≡ cond (r == 1) (not (e w)) (e w)
-  bit_by_parts l r w rest half =
-      ap (λ x. cond (x == 1) (not (e (l / 2))) (e (l / 2))) rest ∙ ap (λ x. cond (r == 1) (not (e x)) (e x)) half
+  bit_by_parts l r w rest half = search arith
 
   pub even_bit : (w : ℕ) → literal_bit e (2 * w) ≡ e w
   even_bit w = bit_by_parts (2 * w) 0 w (omega arith) (omega arith)
 
   pub opposite_bit : (l : ℕ) → literal_bit e (opposite_of l) ≡ not (literal_bit e l)
-  opposite_bit l =
-      elim (cases_Bool (l % 2 == 1)) [
-        | inl odd ↦
-            let one : l % 2 ≡ 1 = eqb-true (l % 2) 1 odd in
-            ap (λ b. literal_bit e (cond b (l - 1) (l + 1))) odd
-            ∙ bit_by_parts (l - 1) 0 (l / 2) (omega (arith, one)) (omega (arith, one))
-            ∙ sym (not-not (e (l / 2)))
-            ∙ sym (ap not (bit_by_parts l 1 (l / 2) one refl))
-        | inr even ↦
-            let small : l % 2 < 2 = omega arith in
-            let none : l % 2 ≡ 0 = rest-zero (l % 2) small even in
-            ap (λ b. literal_bit e (cond b (l - 1) (l + 1))) even
-            ∙ bit_by_parts (l + 1) 1 (l / 2) (omega (arith, none)) (omega (arith, none))
-            ∙ sym (ap not (bit_by_parts l 0 (l / 2) none refl))
-      ]
+  opposite_bit l = search (arith, cases_Bool, eqb-true, bit_by_parts, not-not, rest-zero)
 
   abbrev pub IsTrueClause : List ℕ → Type 0
   IsTrueClause clause = list_any (literal_bit e) clause ≡ true
@@ -49,15 +34,12 @@ module _ (e : ℕ → Bool) where
 
   pair_true : (k l : ℕ) (p q : Bool) → literal_bit e k ≡ p → literal_bit e l ≡ q → (p || (q || false)) ≡ true
       → IsTrueClause (k ∷ l ∷ [])
-  pair_true k l p q is_p is_q holds =
-      ap (λ b. b || (literal_bit e l || false)) is_p ∙ ap (λ b. p || (b || false)) is_q ∙ holds
+  pair_true k l p q is_p is_q holds = search arith
 
   triple_true : (j k l : ℕ) (p q r : Bool) → literal_bit e j ≡ p → literal_bit e k ≡ q → literal_bit e l ≡ r →
       (p || (q || (r || false))) ≡ true
       → IsTrueClause (j ∷ k ∷ l ∷ [])
-  triple_true j k l p q r is_p is_q is_r holds =
-      ap (λ b. b || (literal_bit e k || (literal_bit e l || false))) is_p
-      ∙ ap (λ b. p || (b || (literal_bit e l || false))) is_q ∙ ap (λ b. p || (q || (b || false))) is_r ∙ holds
+  triple_true j k l p q r is_p is_q is_r holds = search arith
 
   -- a gate's clauses
   abbrev pub MeetsGate : Gate → Type 0
@@ -80,21 +62,7 @@ module _ (e : ℕ → Bool) where
 
   pub gate_true : (g : Gate) → MeetsGate g → AreTrue (gate_clauses g)
   gate_true g meets =
-      let a = literal_bit e g.left in
-      let b = literal_bit e g.right in
-      let here : literal_bit e (2 * g.variable) ≡ (a && b) = even_bit g.variable ∙ meets in
-      let negated : literal_bit e (opposite_of (2 * g.variable)) ≡ not (a && b) =
-      opposite_bit (2 * g.variable) ∙ ap not here in (
-        pair_true (opposite_of (2 * g.variable)) g.left (not (a && b)) a negated refl (left_holds a b),
-        (
-          pair_true (opposite_of (2 * g.variable)) g.right (not (a && b)) b negated refl (right_holds a b),
-          (
-            triple_true (2 * g.variable) (opposite_of g.left) (opposite_of g.right) (a && b) (not a) (not b) here
-                (opposite_bit g.left) (opposite_bit g.right) (both_hold a b),
-            tt,
-          ),
-        ),
-      )
+      search (arith, even_bit, opposite_bit, pair_true, left_holds, right_holds, triple_true, both_hold)
 
   all-append : (xs ys : List (List ℕ)) → AreTrue xs → AreTrue ys → AreTrue (xs ++ ys)
   all-append [] ys h k = k
@@ -102,8 +70,7 @@ module _ (e : ℕ → Bool) where
 
   gates_true : (gates : List Gate) → AllByRecursion MeetsGate gates → AreTrue (flat_map gate_clauses gates)
   gates_true [] meets = tt
-  gates_true (g ∷ gates) meets = all-append (gate_clauses g) (flat_map gate_clauses gates) (gate_true g meets.0)
-      (gates_true gates meets.1)
+  gates_true (g ∷ gates) meets = search (arith, all-append, gate_true, (gates_true gates meets.1))
 
   module _ (m : Assignment) (outputs : ℕ → ℕ) where
     -- the variable has its value
@@ -121,21 +88,8 @@ module _ (e : ℕ → Bool) where
     falsity_true : (bad : ℕ) (t : Bool) → e bad ≡ not t → (clause : List Literal) → AllByRecursion HasItsBit clause
         → (t ≡ false → clause_true m clause ≡ false) → AreTrue (falsity_clauses outputs bad clause)
     falsity_true bad t is [] have implied = tt
-    falsity_true bad t is (l ∷ clause) have implied = (
-      pair_true (opposite_of (2 * bad)) (opposite_of (literal_under outputs l)) t (not (literal_true m l))
-          (opposite_bit (2 * bad) ∙ ap not (even_bit bad ∙ is) ∙ not-not t)
-          (opposite_bit (literal_under outputs l) ∙ ap not (literal_is l have.0))
-          (false_or t (literal_true m l) (λ f. or-left (literal_true m l) (clause_true m clause) (implied f))),
-      falsity_true bad t is clause have.1 (λ f. or-right (literal_true m l) (clause_true m clause) (implied f)),
-    )
-      where
-        or-left : (a b : Bool) → (a || b) ≡ false → a ≡ false
-        or-left true b h = h
-        or-left false b h = refl
-
-        or-right : (a b : Bool) → (a || b) ≡ false → b ≡ false
-        or-right true b h = cc
-        or-right false b h = h
+    falsity_true bad t is (l ∷ clause) have implied =
+        search (arith, pair_true, opposite_bit, even_bit, not-not, false_or, (falsity_true bad t is clause have.1))
 
     -- each variable from `bad` on tells that its clause is false
     abbrev pub TellFalsity : ℕ → List (List Literal) → Type 0
@@ -147,9 +101,7 @@ module _ (e : ℕ → Bool) where
         → AreTrue (all_falsity_clauses outputs bad clauses)
     all_falsity_true bad [] have tell = tt
     all_falsity_true bad (clause ∷ clauses) have tell =
-        all-append (falsity_clauses outputs bad clause) (all_falsity_clauses outputs (bad + 1) clauses)
-        (falsity_true bad (clause_true m clause) tell.0 clause have.0 (λ f. f))
-        (all_falsity_true (bad + 1) clauses have.1 tell.1)
+        search (arith, all-append, falsity_true, (all_falsity_true (bad + 1) clauses have.1 tell.1))
 
     some_false : (bad : ℕ) (clauses : List (List Literal)) → TellFalsity bad clauses
         → list_any (literal_bit e) (map (λ v. 2 * v) (range_with_len bad (length clauses))) ≡ not
@@ -178,43 +130,18 @@ module _ (e : ℕ → Bool) where
         (some_false (net.max_var + 1) f.matrix tell ∙ ap not fails, tt))
 
   literal_same : (l : ℕ) → literal_true e (as_literal l) ≡ literal_bit e l
-  literal_same l = by (l % 2 == 1)
-    where
-      by : (b : Bool) → literal_true e (cond b (negative (l / 2)) (positive (l / 2))) ≡ cond b (not (e (l / 2)))
-          (e (l / 2))
-      by true = refl
-      by false = refl
+  literal_same l = search arith
 
   module _ (constant : e 0 ≡ false) where
     kept_same : (clause : List ℕ) → clause_true e (map as_literal (filter (λ l. not (l == 0)) clause)) ≡ list_any
         (literal_bit e) clause
     kept_same [] = refl
-    kept_same (l ∷ clause) =
-        elim (cases_Bool (l == 0)) [
-          | inl none ↦
-              let is : l ≡ 0 = eqb-true l 0 none in
-              ap (λ b. clause_true e (map as_literal (cond (not b) (l ∷ filter (λ k. not (k == 0)) clause)
-              (filter (λ k. not (k == 0)) clause)))) none
-              ∙ kept_same clause
-              ∙ sym (ap (λ b. b || list_any (literal_bit e) clause) (ap (literal_bit e) is ∙ constant))
-          | inr other ↦
-              ap (λ b. clause_true e (map as_literal (cond (not b) (l ∷ filter (λ k. not (k == 0)) clause)
-              (filter (λ k. not (k == 0)) clause)))) other
-              ∙ ap (λ b. b || clause_true e (map as_literal (filter (λ k. not (k == 0)) clause))) (literal_same l)
-              ∙ ap (λ b. literal_bit e l || b) (kept_same clause)
-        ]
+    kept_same (l ∷ clause) = search (arith, cases_Bool, eqb-true, (kept_same clause), literal_same)
 
     pub without_true : (literals : List ℕ) (clause : List Literal) → without_constants literals ≡ Some clause →
         IsTrueClause literals
         → clause_true e clause ≡ true
-    without_true literals clause is holds = by (list_any (λ l. l == 1) literals) is
-      where
-        by : (b : Bool) → cond b None (Some (map as_literal (filter (λ l. not (l == 0)) literals))) ≡ Some clause →
-            clause_true e clause ≡ true
-        by true h = cc
-        by false h =
-            let same : map as_literal (filter (λ l. not (l == 0)) literals) ≡ clause = cc in
-            ap (clause_true e) (sym same) ∙ kept_same literals ∙ holds
+    without_true literals clause is holds = search (arith, kept_same)
 
     clause_at : (clauses : List (List ℕ)) → AreTrue clauses → (i : ℕ) (clause : List Literal)
         → option_and_then without_constants (slice_get clauses i) ≡ Some clause → clause_true e clause ≡ true

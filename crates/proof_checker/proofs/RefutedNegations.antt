@@ -39,9 +39,7 @@ candidate_mapped : (f : Dqbf) (net : Netlist) (r : Result Mapping MapError) (c :
     with_mapping f net r ≡ Ok c
     → IsMapping f net c.circuit.mapping
 unfolding mapping_or
-candidate_mapped f net (Ok mapping) c h is =
-    let same : mapping ≡ c.circuit.mapping = ap (mapping_or mapping) is in
-    subst (IsMapping f net) same h
+candidate_mapped f net (Ok mapping) c h is = search (arith, mapping_or)
 candidate_mapped f net (Err fault) c h is = cc
 
 module _ (f : Dqbf) (c : MappedCircuit) (formed : IsWellFormed f) (kept : IsNetlist c.netlist)

@@ -51,8 +51,7 @@ module _ (net : Netlist) (kept : IsNetlist net) (complete : IsComplete net) (bit
       value_if v b h ≡ x
   unfolding value_if
   value_if-is v true known x value is =
-      let found = grounded_have_values net bits v (known_grounded v (contains-has (known_variables net) v known)) in
-      values_are_unique net bits v found.0 x kept found.1 value
+      search (arith, grounded_have_values, known_grounded, contains-has, values_are_unique)
   value_if-is v false unknown x value is = cc
 
   -- false where the circuit has no such variable
@@ -65,11 +64,7 @@ module _ (net : Netlist) (kept : IsNetlist net) (complete : IsComplete net) (bit
     in_range : v ≤ net.max_var
 
   value_of_circuit : {v : ℕ} {b : Bool} → HasValue net bits v b → IsOfCircuit v
-  value_of_circuit constant = record {
-    known = has-contains (known_variables net) 0 (known_constant net);
-    in_range =
-        omega arith;
-  }
+  value_of_circuit constant = search (arith, has-contains, known_constant)
   value_of_circuit (input {v} i i_in e) =
       let v_in : Contains net.inputs v = (i, i_in, get_or_default net.inputs i v 0 i_in ∙ e) in
       record {
@@ -91,19 +86,11 @@ module _ (net : Netlist) (kept : IsNetlist net) (complete : IsComplete net) (bit
 
     pub witness_value : (v : ℕ) (b : Bool) → HasValue net bits v b → witness v ≡ b
     unfolding witness circuit_value
-    witness_value v b value =
-        let here = value_of_circuit value in
-        ap (λ t. cond t (circuit_value v) (tell (v - (net.max_var + 1))))
-        (lt-ltb v (net.max_var + 1) (omega (arith, here.in_range)))
-        ∙ value_if-is v (has (known_variables net) v) refl b value here.known
+    witness_value v b value = search (arith, value_of_circuit, lt-ltb, value_if-is)
 
     pub witness_tells : (j : ℕ) → witness (net.max_var + 1 + j) ≡ tell j
     unfolding witness
-    witness_tells j =
-        let behind : net.max_var + 1 + j - (net.max_var + 1) ≡ j = omega arith in
-        ap (λ t. cond t (circuit_value (net.max_var + 1 + j)) (tell (net.max_var + 1 + j - (net.max_var + 1))))
-        (le-ltb (net.max_var + 1 + j) (net.max_var + 1) (omega arith))
-        ∙ ap tell behind
+    witness_tells j = search (arith, le-ltb)
 
     pub witness_meets : (g : Gate) → Contains net.gates g → witness g.variable ≡
         (literal_bit witness g.left && literal_bit witness g.right)

@@ -1,17 +1,10 @@
-use Rattle.std.proofs.Common.{◌+◌, sym, ◌∙◌, refl, arith}
-use Rattle.cert_text.specs.CircuitProof.{first_proof_id}
+use Rattle.std.proofs.Common.{◌+◌, sym, ◌∙◌, arith}
 use Rattle.cert_text.specs.Items.{item_seen}
-use Rattle.cert_text.specs.Numbering.{numbered_from}
 use Rattle.proof_checker.proofs.DerivedLines.{all_judged, may_come, one_judged, settled}
 use Rattle.proof_checker.proofs.checks.judge_all.Goals as goal
 
 pub loop-k-init : goal.loop-k-init
-loop-k-init c = record {
-  at = numbered_from (first_proof_id c.args.f.now c.args.c.now);
-  judging = c.requires.first;
-  numbered = c.requires.items;
-  left = refl;
-}
+loop-k-init c = search arith
 
 pub item-requires : goal.item-requires
 item-requires c =

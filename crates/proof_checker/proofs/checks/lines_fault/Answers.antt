@@ -1,21 +1,12 @@
-use Rattle.std.proofs.Common.{◌∙◌}
-use Rattle.cert_text.specs.CircuitProof.{first_proof_id, is_proof_variable}
-use Rattle.cert_text.specs.Grammar.{AreItems}
-use Rattle.cert_text.specs.Numbering.{numbered_from}
-use Rattle.proof_checker.specs.Judging.{IsJudging}
-use Rattle.proof_checker.proofs.DerivedLines.{fault_is, said_of}
+use Rattle.std.proofs.Common.{◌∙◌, arith}
+use Rattle.proof_checker.proofs.DerivedLines.{fault_is}
 use Rattle.proof_checker.proofs.checks.lines_fault.Goals as goal
 
 pub judge_all-requires-clause-first : goal.judge_all-requires-clause-first
-judge_all-requires-clause-first c =
-    said_of (λ f net. IsJudging f net c.in_ok-proving.proving (numbered_from (first_proof_id f net)))
-    c.args.bench.now c.formula.result.now c.circuit.result.now c.formula.ensures c.circuit.ensures
-    c.in_ok-proving.ensures.judging
+judge_all-requires-clause-first c = search arith
 
 pub judge_all-requires-clause-items : goal.judge_all-requires-clause-items
-judge_all-requires-clause-items c =
-    said_of (λ f net. AreItems (is_proof_variable f net) (numbered_from (first_proof_id f net)) c.args.items.now)
-    c.args.bench.now c.formula.result.now c.circuit.result.now c.formula.ensures c.circuit.ensures c.requires.are
+judge_all-requires-clause-items c = search arith
 
 pub returns : goal.returns
 returns c =

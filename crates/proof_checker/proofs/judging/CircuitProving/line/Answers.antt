@@ -1,19 +1,15 @@
-use Rattle.std.proofs.Common.{map}
+use Rattle.std.proofs.Common.{map, arith}
 use Rattle.cert_text.specs.Steps.{step_seen}
-use Rattle.rup_core.specs.Items.{derived}
 use Rattle.rup_core.specs.Judging.{derive_line}
 use Rattle.rup_core.specs.Proving.{with_lines}
 use Rattle.proof_checker.specs.CircuitProof.{negated_candidate}
 use Rattle.proof_checker.specs.declared.judging.CircuitProving.{CircuitProving}
-use Rattle.proof_checker.proofs.DerivedLines.{line_judging, line_run}
+use Rattle.proof_checker.proofs.DerivedLines.{line_judging}
 use Rattle.list_laws.proofs.Results.{on_ok}
 use Rattle.proof_checker.proofs.judging.CircuitProving.line.Goals as goal
 
 pub returns-clause-run : goal.returns-clause-run
-returns-clause-run c =
-    on_ok c.line.result (λ run.
-    line_run c.args.f.now c.args.c.now c.args.self.now c.widen.new.self c.new-matrix.result c.line.new.self
-    (derived (step_seen c.args.step)) c.new-matrix.ensures c.widen.ensures.tables c.widen.ensures.rest run) c.line.ensures.run
+returns-clause-run c = search (arith, on_ok)
 
 pub returns-clause-judging : goal.returns-clause-judging
 returns-clause-judging c =

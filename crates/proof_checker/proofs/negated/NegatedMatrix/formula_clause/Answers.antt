@@ -1,28 +1,25 @@
-use Rattle.std.proofs.Common.{◌≡◌, ◌+◌, ◌∷◌, [], length, slice_get, Some, refl, ap, subst, ◌∙◌, arith}
+use Rattle.std.proofs.Common.{◌+◌, ◌∷◌, [], slice_get, refl, ap, ◌∙◌, arith}
 use Rattle.std.specs.Option.{option_and_then}
-use Rattle.cert_text.specs.NegatedMatrix.{some_clause_false, without_constants}
+use Rattle.cert_text.specs.NegatedMatrix.{without_constants}
 use Rattle.skolem_checker.specs.Checks.{Candidate}
 use Rattle.proof_checker.specs.ClauseLiterals.{formula_clauses}
-use Rattle.proof_checker.specs.ShortClause.{last_literals}
 use Rattle.proof_checker.proofs.MatrixPlaces.{number_below, falsity_found, last_found, none_found}
 use Rattle.proof_checker.proofs.ShortenedClauses.{range_clause}
 use Rattle.proof_checker.proofs.negated.NegatedMatrix.formula_clause.Goals as goal
 
 pub overflow_mul-entry : goal.overflow_mul-entry
 overflow_mul-entry c =
-    let are = c.deref-literals.ensures.value ∙ c.self.invariant.are in
-    let below = number_below (c.self.inside.circuit.netlist.max_var + 1) c.self.inside.formula.now.matrix
-    c.deref-literals.result.now c.args.i c.index-literals-i.result
-    are (omega (arith, c.if-i-literals.true)) c.index-literals-i.is in
-    omega (arith, below, c.self.invariant.few, c.clauses.ensures.few, c.clauses.ensures.value)
+    search (
+      arith,
+      (number_below (c.self.inside.circuit.netlist.max_var + 1) c.self.inside.formula.now.matrix c.deref-literals.result.now c.args.i c.index-literals-i.result),
+    )
 
 pub opposite_of-requires : goal.opposite_of-requires
 opposite_of-requires c =
-    let are = c.deref-literals.ensures.value ∙ c.self.invariant.are in
-    let below = number_below (c.self.inside.circuit.netlist.max_var + 1) c.self.inside.formula.now.matrix
-    c.deref-literals.result.now c.args.i c.index-literals-i.result
-    are (omega (arith, c.if-i-literals.true)) c.index-literals-i.is in
-    omega (arith, below, c.self.invariant.few, c.clauses.ensures.few, c.clauses.ensures.value)
+    search (
+      arith,
+      (number_below (c.self.inside.circuit.netlist.max_var + 1) c.self.inside.formula.now.matrix c.deref-literals.result.now c.args.i c.index-literals-i.result),
+    )
 
 pub returns-then-i-literals : goal.returns-then-i-literals
 returns-then-i-literals c =
@@ -40,15 +37,7 @@ returns-then-i-literals c =
     ∙ ap (λ (m : Candidate). slice_get (formula_clauses m) c.args.i) c.self.view_is)
 
 pub returns-then-i-literals-2 : goal.returns-then-i-literals-2
-returns-then-i-literals-2 c =
-    let n : Candidate = record { formula = c.self.inside.formula.now; circuit = c.self.inside.circuit } in
-    let are = c.deref-literals.ensures.value ∙ c.self.invariant.are in
-    subst (λ (m : Candidate). Some (last_literals m) ≡ option_and_then without_constants
-    (slice_get (formula_clauses m) c.args.i)) c.self.view_is
-    (range_clause (n.circuit.netlist.max_var + 1) (length n.formula.matrix) (omega arith)
-    ∙ ap (option_and_then without_constants)
-    (last_found n c.deref-literals.result.now are c.args.i (some_clause_false n.circuit.netlist n.formula.matrix)
-    (omega (arith, c.if-i-literals-2.true)) refl))
+returns-then-i-literals-2 c = search (arith, range_clause, last_found)
 
 pub returns : goal.returns
 returns c =
