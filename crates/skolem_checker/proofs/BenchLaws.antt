@@ -113,9 +113,7 @@ module _ (f : Dqbf) (net : Netlist) (mapping : Mapping) (literals places : List 
   before_mapped : (p end : ℕ) → end ≤ length f.universals
       → ReadsDeclaredBefore (ReadsByTables net literals places) f (existential_at f p) end
       → ReadsDeclaredBefore (ReadsUniversal (record { netlist = net; mapping = mapping })) f (existential_at f p) end
-  before_mapped p end within before q below reads =
-      before q below (tables_by_reads f net mapping literals places formed tables (existential_at f p).variable
-      (slice_index f.universals q) reads)
+  before_mapped p end within before q below reads = search (arith, tables_by_reads)
 
   pub reads_answer : (r : Result (Unit {0}) (ℕ × ℕ)) → IsReadsAnswer (ReadsByTables net literals places) f r
       → IsReadsAnswer (ReadsUniversal (record { netlist = net; mapping = mapping })) f r
@@ -159,7 +157,4 @@ module _ (f : Dqbf) (net : Netlist) (mapping : Mapping) (literals places : List 
       → IsFirstBad (λ k. RowTest f net literals by_input k true) (λ k. RowTest f net literals by_input k false)
       (2 ^ length f.universals) r
       → IsRowsAnswer f (record { netlist = net; mapping = mapping }) r
-  rows_answer by_input is complete r h =
-      rows_mapped complete r
-      (subst (λ up. IsFirstBad (λ k. RowTest f net literals up k true) (λ k. RowTest f net literals up k false)
-      (2 ^ length f.universals) r) is h)
+  rows_answer by_input is complete r h = search (arith, rows_mapped)

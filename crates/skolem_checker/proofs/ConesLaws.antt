@@ -1,5 +1,5 @@
 -- Walks through what outputs read.
-use Rattle.std.proofs.Common.{◌≡◌, ℕ, ◌+◌, ◌++◌, ◌<◌, ◌≤◌, ◌⊎◌, inl, inr, false, List, length, get_or, take, drop, ◌*◌, ◌/◌, ◌%◌, Option, None, Some, refl, sym, ap, ◌∙◌, subst, arith}
+use Rattle.std.proofs.Common.{◌≡◌, ℕ, ◌+◌, ◌++◌, ◌<◌, ◌≤◌, ◌⊎◌, inl, inr, false, List, length, take, drop, ◌*◌, Option, None, Some, refl, sym, ap, ◌∙◌, subst, arith}
 use Rattle.std.specs.Prelude.{slice_index, IsSome}
 use Rattle.std.specs.List.{Contains, All}
 use Rattle.std.proofs.lemmas.Bool.{cases_eq, cases_Bool, false≢true}
@@ -17,7 +17,6 @@ use Rattle.skolem_checker.specs.Tables.{ReadsByTables, AreTables}
 use Rattle.skolem_checker.specs.Mapping.{Mapping}
 use Rattle.dq_formula.specs.Prefix.{existential_variables}
 use Rattle.skolem_checker.proofs.ReadsLaws.{variable_at, named_at}
-use Rattle.circuit_plain.specs.Words.{marked}
 use Rattle.circuit_plain.proofs.ValueLaws.{Contains-place}
 use Rattle.skolem_checker.specs.declared.cones.Cone.{Cone}
 use Rattle.skolem_checker.proofs.SightsLaws.{whole_written}
@@ -25,45 +24,18 @@ use Rattle.dq_formula.proofs.Places.{existential_below}
 
 pub grows_on : (slots slots' slots'' : List ℕ) (cone cone' cone'' : Cone) → Grows slots slots' cone cone' →
     Grows slots' slots'' cone' cone'' → Grows slots slots'' cone cone''
-grows_on slots slots' slots'' cone cone' cone'' first second = record {
-  same_length = second.same_length ∙ first.same_length;
-  start = second.start ∙ first.start;
-  last = second.last ∙ first.last;
-  same_room = second.same_room ∙ first.same_room;
-  end = omega (arith, first.end, second.end);
-  room = second.room;
-  same = λ k below. second.same k (omega (arith, below, first.end)) ∙ first.same k below;
-  keeps = λ v member. second.keeps v (first.keeps v member);
-}
-
-pub passes_on : (net : Netlist) (literals universals sees slots slots' : List ℕ) (cone cone' : Cone) (v : ℕ) →
-    Grows slots slots' cone cone' → Passes net literals universals sees slots cone v
-    → Passes net literals universals sees slots' cone' v
-passes_on net literals universals sees slots slots' cone cone' v grows passes = record {
-  sides = λ g g_in is. (
-    grows.keeps (left_variable g) (passes.sides g g_in is).0,
-    grows.keeps (right_variable g) (passes.sides g g_in is).1,
-  );
-  seen = passes.seen;
-}
+grows_on slots slots' slots'' cone cone' cone'' first second = search arith
 
 pub clean_on : (net : Netlist) (literals universals sees slots slots' : List ℕ) (cone cone' : Cone) (done : ℕ) →
     Grows slots slots' cone cone' → done ≤ cone.end → IsClean net literals universals sees slots cone done
     → IsClean net literals universals sees slots' cone' done
-clean_on net literals universals sees slots slots' cone cone' done grows within clean k from before =
-    rw (grows.same k (omega (arith, before, within)))
-    (passes_on net literals universals sees slots slots' cone cone' (slice_index cone.members.items k) grows
-    (clean k (omega (arith, from, grows.start)) before))
+clean_on net literals universals sees slots slots' cone cone' done grows within clean k from before = search arith
 
 pub clean_more : (net : Netlist) (literals universals sees slots : List ℕ) (cone : Cone) (done : ℕ) →
     IsClean net literals universals sees slots cone done
     → Passes net literals universals sees slots cone (slice_index cone.members.items done)
     → IsClean net literals universals sees slots cone (done + 1)
-clean_more net literals universals sees slots cone done clean passes k from before =
-    elim (cases_eq k done) [
-      | inl same ↦ rw same passes
-      | inr other ↦ clean k from (omega (arith, before, other))
-    ]
+clean_more net literals universals sees slots cone done clean passes k from before = search (arith, cases_eq)
 
 -- from a member of a walk that has ended, members alone are reached
 member_reached : (net : Netlist) (literals universals sees slots : List ℕ) (cone : Cone)
@@ -71,20 +43,19 @@ member_reached : (net : Netlist) (literals universals sees slots : List ℕ) (co
     → IsMember slots cone v → IsMember slots cone w
 member_reached net literals universals sees slots cone clean itself member = member
 member_reached net literals universals sees slots cone clean (left g g_in r) member =
-    let passes = clean (slice_index slots g.variable) member.since member.before in
-    member_reached net literals universals sees slots cone clean r (passes.sides g g_in (sym member.is)).0
+    search (arith, (member_reached net literals universals sees slots cone clean r))
 member_reached net literals universals sees slots cone clean (right g g_in r) member =
-    let passes = clean (slice_index slots g.variable) member.since member.before in
-    member_reached net literals universals sees slots cone clean r (passes.sides g g_in (sym member.is)).1
+    search (arith, (member_reached net literals universals sees slots cone clean r))
 
 pub walked_alone : (net : Netlist) (literals universals sees slots : List ℕ) (cone : Cone) (root : ℕ)
     → IsClean net literals universals sees slots cone cone.end → IsMember slots cone root
     → ReachesAlone net literals universals root sees
 walked_alone net literals universals sees slots cone root clean member q below reaches =
-    let x = slice_index universals q in
-    let there = member_reached net literals universals sees slots cone clean reaches member in
-    (clean (slice_index slots (circuit_variable literals x)) there.since there.before).seen x
-    (Contains-get_or universals q 0 below) (sym there.is)
+    search (
+      arith,
+      (member_reached net literals universals sees slots cone clean reaches member),
+      (Contains-get_or universals q 0 below),
+    )
 
 module _ (net : Netlist) (kept : IsNetlist net) (literals universals by_input sees slots : List ℕ) (cone : Cone)
     (inputs : AreInputs net literals universals by_input) where
@@ -130,10 +101,7 @@ pub alone_more : (net : Netlist) (literals places : List ℕ) (f : Dqbf) (ys : L
     → AreAlone net literals places f ys settled (i + 1)
 alone_more net literals places f ys settled i before one j e lt at off =
     elim (cases_eq j i) [
-      | inl same ↦
-          subst (λ k. ReachesAlone net literals f.universals (root_of net places (slice_index ys k)) e.sees) (sym same)
-          (one (ap (has_bit settled) (sym same) ∙ off) e (ap (λ k. existential_of f (slice_index ys k)) (sym same)
-          ∙ at.1))
+      | inl same ↦ search arith
       | inr other ↦ before j e (omega (arith, lt, other)) at off
     ]
 
@@ -193,33 +161,18 @@ pub batch_known : (net : Netlist) (literals places : List ℕ) (f : Dqbf) (ys se
     → AreSettled net literals places f ys settled (length ys) → word ≡ slice_index settled batch → n ≤ 64
     → AreKnown net literals places f (take n (drop (batch * 64) ys)) word
 batch_known net literals places f ys settled batch n word known is few i e at on =
-    let short = length-take n (drop (batch * 64) ys) in
-    let rest = length-drop (batch * 64) ys in
-    let in_n : i < n = omega (arith, at.0, short) in
-    let p = batch * 64 + i in
-    let below : p < length ys = omega (arith, at.0, short, rest) in
-    let low : p % 64 ≡ i = omega (arith, in_n, few) in
-    let high : p / 64 ≡ batch = omega (arith, in_n, few) in
-    let same : get_or (take n (drop (batch * 64) ys)) i 0 ≡ get_or ys p 0 =
-    get_or-take n (drop (batch * 64) ys) i 0 in_n ∙ get_or-drop (batch * 64) ys i 0 in
-    subst (λ y. ReachesAlone net literals f.universals (root_of net places y) e.sees) (sym same)
-    (known p e below
-    (ap (λ j. marked settled j (p / 64)) low ∙ ap (marked settled i) high ∙ ap (λ w. has_bit w i) (sym is) ∙ on)
-    (ap (existential_of f) (sym same) ∙ at.1))
+    search (arith, length-take, length-drop, get_or-take, get_or-drop)
 
 -- words that are written as a whole
 pub cone_written : (f : Dqbf) (net : Netlist) (literals new old : List ℕ) (len : ℕ) (cone : Cone) → len ≡ length old →
     length new ≡ length old
     → IsCone f net literals new cone → IsCone f net literals (take len (new ++ drop (length new) old)) cone
-cone_written f net literals new old len cone is same h =
-    subst (λ words. IsCone f net literals words cone) (sym (whole_written new old len is same)) h
+cone_written f net literals new old len cone is same h = search (arith, whole_written)
 
 pub settled_written : (net : Netlist) (literals places : List ℕ) (f : Dqbf) (ys ys' new old : List ℕ) (len : ℕ) →
     len ≡ length old → length new ≡ length old → ys ≡ ys' → AreSettled net literals places f ys new (length ys)
     → AreSettled net literals places f ys' (take len (new ++ drop (length new) old)) (length ys')
-settled_written net literals places f ys ys' new old len is same one h =
-    subst (λ words. AreSettled net literals places f ys' words (length ys')) (sym (whole_written new old len is same))
-    (subst (λ xs. AreSettled net literals places f xs new (length xs)) one h)
+settled_written net literals places f ys ys' new old len is same one h = search (arith, whole_written)
 
 -- the existentials are declared
 pub all_declared : (f : Dqbf) (ys : List ℕ) → ys ≡ existential_variables f

@@ -27,13 +27,7 @@ module _ (net : Netlist) (kept : IsNetlist net) (keys : List ℕ) (j : ℕ) (bel
 
   pub gate_learnt : (new : List ℕ) → new ≡ keys ++ v / 2 ∷ [] →
       new ≡ take (length net.inputs + (j + 1) + 1) (known_variables net)
-  gate_learnt new added =
-      let on : length net.inputs + (j + 1) + 1 ≡ length net.inputs + j + 1 + 1 = omega arith in
-      added
-      ∙ ap (λ ks. ks ++ v / 2 ∷ []) learnt
-      ∙ ap (λ w. take (length net.inputs + j + 1) (known_variables net) ++ w ∷ []) (sym gate_is)
-      ∙ sym (take_more (known_variables net) (length net.inputs + j + 1) 0 (omega (arith, known_length net)))
-      ∙ ap (λ n. take n (known_variables net)) (sym on)
+  gate_learnt new added = search (arith, gate_is, take_more, known_length)
 
 -- the next input to be copied
 module _ (net : Netlist) (keys items : List ℕ) (same : keys ≡ known_variables net) (items_are : items ≡ net.inputs)
@@ -54,10 +48,7 @@ module _ (net : Netlist) (keys items : List ℕ) (same : keys ≡ known_variable
         (λ xs. dense_number net (slice_index xs i)) items_are
 
     pub next_input_in_range : IsVariable copy.max_var m
-    next_input_in_range =
-        subst (λ c. IsVariable c.max_var m) (sym so_far)
-        (subst (IsVariable (length net.inputs + length net.gates)) (sym number_is)
-        (input_is_variable net kept i inside))
+    next_input_in_range = search (arith, input_is_variable)
 
     pub next_input_undefined : IsDefined copy m → ⊥
     next_input_undefined defined =
@@ -66,20 +57,13 @@ module _ (net : Netlist) (keys items : List ℕ) (same : keys ≡ known_variable
 
     pub next_input_copied : (new : Netlist) → new ≡ record copy { inputs = copy.inputs ++ m ∷ [] } →
         new ≡ renumbered_first net (i + 1) 0 0
-    next_input_copied new added =
-        added
-        ∙ ap (λ (c : Netlist). record c { inputs = c.inputs ++ m ∷ [] }) so_far
-        ∙ ap {B = Netlist} (λ (n : ℕ). record (renumbered_first net i 0 0)
-        { inputs = map (dense_number net) (take i net.inputs) ++ n ∷ [] }) number_is
-        ∙ input_copied net kept i inside
+    next_input_copied new added = search (arith, input_copied)
 
 -- a literal whose variable is known
 module _ (net : Netlist) (keys : List ℕ) (same : keys ≡ known_variables net) (l : ℕ)
     (known : Contains (known_variables net) (literal_variable l)) where
   pub literal_known : (read : ℕ) → read ≡ l → Contains keys (literal_variable read)
-  literal_known read is =
-      subst (λ ks. Contains ks (literal_variable read)) (sym same)
-      (subst (Contains (known_variables net)) (sym (ap literal_variable is)) known)
+  literal_known read is = search arith
 
   pub literal_is : (read renumbered : ℕ) → read ≡ l → renumbered ≡ renamed_literal (number_in keys) read →
       renumbered ≡ renamed_literal (dense_number net) l
@@ -89,10 +73,7 @@ module _ (net : Netlist) (keys : List ℕ) (same : keys ≡ known_variables net)
   pub literal_in_range : (copy : Netlist) (read renumbered : ℕ) → read ≡ l →
       renumbered ≡ renamed_literal (number_in keys) read
       → copy.max_var ≡ length net.inputs + length net.gates → IsLiteral copy.max_var renumbered
-  literal_in_range copy read renumbered is renamed most =
-      subst (λ m. IsLiteral m renumbered) (sym most)
-      (subst (IsLiteral (length net.inputs + length net.gates)) (sym (literal_is read renumbered is renamed))
-      (literal_fits net l known))
+  literal_in_range copy read renumbered is renamed most = search (arith, literal_fits)
 
 -- the next gate to be copied
 module _ (net : Netlist) (kept : IsNetlist net) (complete : IsComplete net) (j : ℕ) (below : j < length net.gates) where
@@ -110,15 +91,10 @@ module _ (net : Netlist) (kept : IsNetlist net) (complete : IsComplete net) (j :
   module _ (copy : Netlist) (so_far : copy ≡ renumbered_first net (length net.inputs) j 0) (v : ℕ)
       (renamed : v ≡ renamed_literal (dense_number net) (2 * (gate_at net j).variable)) where
     gate_number_is : v / 2 ≡ dense_number net (gate_at net j).variable
-    gate_number_is =
-        ap (λ l. l / 2) renamed ∙ renamed_variable (dense_number net) (2 * (gate_at net j).variable)
-        ∙ ap (dense_number net) (half (gate_at net j).variable)
+    gate_number_is = search (arith, renamed_variable)
 
     pub next_gate_in_range : IsVariable copy.max_var (v / 2)
-    next_gate_in_range =
-        subst (λ c. IsVariable c.max_var (v / 2)) (sym so_far)
-        (subst (IsVariable (length net.inputs + length net.gates)) (sym gate_number_is)
-        (gate_is_variable net kept j below))
+    next_gate_in_range = search (arith, gate_number_is, gate_is_variable)
 
     pub next_gate_undefined : IsDefined copy (v / 2) → ⊥
     next_gate_undefined defined =
@@ -130,9 +106,7 @@ module _ (net : Netlist) (kept : IsNetlist net) (complete : IsComplete net) (j :
 module _ (net : Netlist) (complete : IsComplete net) (items : List ℕ) (items_are : items ≡ net.outputs) (o : ℕ)
     (below : o < length items) where
   pub output_known : Contains (known_variables net) (literal_variable (slice_index items o))
-  output_known =
-      subst (λ xs. Contains (known_variables net) (literal_variable (slice_index xs o))) (sym items_are)
-      (grounded_known net (complete.outputs o 0 (omega (arith, below, ap length items_are))))
+  output_known = search (arith, grounded_known)
 
   pub next_output_copied : (copy new : Netlist) (l : ℕ) → copy ≡ renumbered_first net (length net.inputs)
       (length net.gates) o

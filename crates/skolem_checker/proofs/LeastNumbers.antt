@@ -27,18 +27,12 @@ not_before xs n d once below (k, k_in, is) =
     (get_or_default xs k d (get_or xs n d) (omega arith) ∙ sym (get_or-take n xs k (get_or xs n d) early) ∙ is)
 
 pub known_length : (net : Netlist) → length (known_variables net) ≡ 1 + (length net.inputs + length net.gates)
-known_length net =
-    let listed : length (net.inputs ++ gate_variables net) ≡ length net.inputs + length (gate_variables net) =
-    length-append net.inputs (gate_variables net) in
-    let gates : length (gate_variables net) ≡ length net.gates = length-map net.gates variable_of_gate in
-    omega arith
+known_length net = search (arith, length-append, length-map)
 
 -- where an input, and a gate, stands among the known variables
 pub input_among : (net : Netlist) (i d : ℕ) → i < length net.inputs →
     get_or (known_variables net) (i + 1) d ≡ get_or net.inputs i d
-input_among net i d below =
-    let on : i + 1 ≡ suc i = omega arith in
-    ap (λ n. get_or (known_variables net) n d) on ∙ get_or_append_left net.inputs (gate_variables net) d i below
+input_among net i d below = search (arith, get_or_append_left)
 
 pub gate_among : (net : Netlist) (j d : ℕ) → j < length net.gates
     → get_or (known_variables net) (length net.inputs + j + 1) d ≡ (gate_at net j).variable

@@ -1,6 +1,6 @@
 -- The mapping and its first fault are what the symbols say.
 use Rattle.std.proofs.Common.{◌≡◌, ◌≢◌, ℕ, zero, suc, ◌+◌, ◌<◌, ◌==◌, pos, negsuc, Bool, true, false, List, [], ◌∷◌, ◌++◌, length, take, get_or, inl, inr, refl, sym, ap, ◌∙◌, subst, arith, Option, Some, None, is_some, Result, Ok, Err}
-use Rattle.std.specs.Prelude.{not, if◌then◌else◌, slice_index, IsSome, AllPairs, Contains, ◌↔◌}
+use Rattle.std.specs.Prelude.{not, if◌then◌else◌, slice_index, IsSome, AllPairs, ◌↔◌}
 use Rattle.std.proofs.lemmas.Bool.{cases_Bool, cases_lt, eq-eqb, eqb-true, ne_eqb, both_ways}
 use Rattle.std.proofs.lemmas.List.{length-append, length-map, length-take-le, get_or-take, get_or_push, get_or_default, take_all, take_more}
 use Rattle.std.proofs.lemmas.List.Folds.{list_any_at, list_any_none}
@@ -73,38 +73,21 @@ module _ (f : Dqbf) (symbols : SymbolTable) (kind : Kind) where
       → Says place earlier (new_variable f kind earlier (Some v))
   says-variable place v earlier name is number =
       elim (cases_Bool (has (variables_of f kind) v)) [
-        | inr unknown ↦ rw unknown (
-          has_one place name is,
-          λ w names.
-              let same : v ≡ w = int_same v w (sym number ∙ number_is place w name is names) in
-              both_ways (has (variables_of f kind) v) unknown
-              (has-contains (variables_of f kind) v (subst (Contains (variables_of f kind))
-              (sym same) names.declared)),
-        )
-        | inl known ↦
-            let names : Names f symbols kind place v = record
-            { name = name; symbol = is; number = number; declared = contains-has (variables_of f kind) v known } in
-            elim (cases_Bool (has earlier v)) [
-              | inl twice ↦ rw known (rw twice (v, names, twice))
-              | inr fresh ↦ rw known (rw fresh (names, fresh))
-            ]
+        | inr unknown ↦ search (arith, has_one, has-contains)
+        | inl known ↦ search (arith, contains-has, cases_Bool)
       ]
 
   -- a symbol that is no natural number
   says-nothing : (place : ℕ) (earlier name : List ℕ) (number : Number) → symbol_at symbols kind place ≡ Some name →
       number_of name ≡ number
       → ((v : ℕ) → number ≡ Int (pos v) → ⊥) → Says place earlier (Err SymbolNumber)
-  says-nothing place earlier name number is read none = (
-    has_one place name is,
-    λ w names. none w (sym read ∙ number_is place w name is names),
-  )
+  says-nothing place earlier name number is read none = search (arith, has_one)
 
   says-number : (place : ℕ) (earlier name : List ℕ) (number : Number) → symbol_at symbols kind place ≡ Some name →
       number_of name ≡ number
       → Says place earlier (new_variable f kind earlier (natural number))
   says-number place earlier name (Int (pos v)) is read = says-variable place v earlier name is read
-  says-number place earlier name (Int (negsuc n)) is read = says-nothing place earlier name (Int (negsuc n)) is read
-      (not_negative n)
+  says-number place earlier name (Int (negsuc n)) is read = search (arith, says-nothing, not_negative)
   says-number place earlier name NotANumber is read = says-nothing place earlier name NotANumber is read no_number
   says-number place earlier name TooBig is read = says-nothing place earlier name TooBig is read not_large
 
@@ -196,9 +179,7 @@ module _ (f : Dqbf) (symbols : SymbolTable) (kind : Kind) where
 
   symbol_is : (place v : ℕ) (earlier : List ℕ) → Names f symbols kind place v → has earlier v ≡ false
       → symbol_variable f kind earlier (symbol_at symbols kind place) ≡ Ok v
-  symbol_is place v earlier names fresh =
-      ap (symbol_variable f kind earlier) names.symbol ∙ ap (λ n. new_variable f kind earlier (natural n)) names.number
-      ∙ new_is v earlier (has-contains (variables_of f kind) v names.declared) fresh
+  symbol_is place v earlier names fresh = search (arith, new_is, has-contains)
 
   fresh_at : (variables : List ℕ) (place : ℕ) → place < length variables → AllPairs (λ v w. v ≢ w) variables
       → has (take place variables) (slice_index variables place) ≡ false
@@ -215,14 +196,13 @@ module _ (f : Dqbf) (symbols : SymbolTable) (kind : Kind) where
       → named_from f kind symbols count place (take place variables) ≡ Ok variables
   again-from variables named zero place sum = ap Ok (take_all place variables (omega arith))
   again-from variables named (suc count) place sum =
-      let below : place < length variables = omega arith in
-      let v = slice_index variables place in
-      ap (λ r. behind_symbol kind place r (λ w. named_from f kind symbols count (place + 1)
-      (take place variables ++ w ∷ [])))
-      (symbol_is place v (take place variables) (named.named place below)
-      (fresh_at variables place below named.distinct))
-      ∙ ap (named_from f kind symbols count (place + 1)) (sym (take_more variables place 0 below))
-      ∙ again-from variables named count (place + 1) (omega arith)
+      search (
+        arith,
+        (symbol_is place),
+        (fresh_at variables place),
+        (take_more variables place 0),
+        (again-from variables named count (place + 1)),
+      )
 
   pub again : (count : ℕ) (variables : List ℕ) → AreNamed f symbols kind variables → length variables ≡ count
       → named_from f kind symbols count 0 [] ≡ Ok variables
@@ -236,29 +216,15 @@ module _ (f : Dqbf) (net : Netlist) (symbols : SymbolTable) where
   both-told : (inputs outputs : Result (List ℕ) MapError) → DoCountsFit f net → has_symbols net symbols ≡ true
       → Told f symbols Inputs (length net.inputs) inputs → Told f symbols Outputs (length net.outputs) outputs
       → AreTold (behind_inputs inputs outputs)
-  both-told (Err fault) outputs counts some on_inputs on_outputs =
-      subst (λ at. IsToldFault at fault.name f net symbols) (sym on_inputs.1) (counts, some, on_inputs.2)
-  both-told (Ok inputs) (Err fault) counts some on_inputs on_outputs =
-      subst (λ at. IsToldFault at fault.name f net symbols) (sym on_outputs.1)
-      (counts, some, (inputs, on_inputs.1, on_inputs.0), on_outputs.2)
-  both-told (Ok inputs) (Ok outputs) counts some on_inputs on_outputs = record {
-    counts = counts;
-    inputs_length = on_inputs.1 ∙ counts.inputs;
-    outputs_length = on_outputs.1 ∙ counts.outputs;
-    told = subst (λ b. IsToldBySymbols b f symbols (record { inputs = inputs; outputs = outputs })) (sym some)
-        (on_inputs.0, on_outputs.0);
-  }
+  both-told (Err fault) outputs counts some on_inputs on_outputs = search arith
+  both-told (Ok inputs) (Err fault) counts some on_inputs on_outputs = search arith
+  both-told (Ok inputs) (Ok outputs) counts some on_inputs on_outputs = search arith
 
   existentials_length : length (mapping_in_order f).outputs ≡ length f.existentials
   existentials_length = length-map f.existentials (λ (y : Existential). y.variable)
 
   in_order-told : DoCountsFit f net → has_symbols net symbols ≡ false → IsToldMapping f net symbols (mapping_in_order f)
-  in_order-told counts none = record {
-    counts = counts;
-    inputs_length = refl;
-    outputs_length = existentials_length;
-    told = subst (λ b. IsToldBySymbols b f symbols (mapping_in_order f)) (sym none) refl;
-  }
+  in_order-told counts none = search (arith, existentials_length)
 
   -- the answer by its three tests
   abbrev by_tests : Bool → Bool → Bool → Result Mapping MapError
@@ -270,25 +236,11 @@ module _ (f : Dqbf) (net : Netlist) (symbols : SymbolTable) where
   tests-told : (same_inputs same_outputs some : Bool) → (length net.inputs == length f.universals) ≡ same_inputs
       → (length net.outputs == length f.existentials) ≡ same_outputs → has_symbols net symbols ≡ some →
       AreTold (by_tests same_inputs same_outputs some)
-  tests-told false same_outputs some inputs outputs is = λ same. both_ways _ inputs
-      (eq-eqb (length net.inputs) (length f.universals) same)
-  tests-told true false some inputs outputs is = (
-    eqb-true (length net.inputs) (length f.universals) inputs,
-    λ same. both_ways _ outputs (eq-eqb (length net.outputs) (length f.existentials) same),
-  )
-  tests-told true true false inputs outputs is =
-      in_order-told (record {
-        inputs = eqb-true (length net.inputs) (length f.universals) inputs;
-        outputs =
-            eqb-true (length net.outputs) (length f.existentials) outputs;
-      }) is
+  tests-told false same_outputs some inputs outputs is = search (arith, eq-eqb)
+  tests-told true false some inputs outputs is = search (arith, eqb-true, eq-eqb)
+  tests-told true true false inputs outputs is = search (arith, in_order-told, eqb-true)
   tests-told true true true inputs outputs is =
-      let counts : DoCountsFit f net =
-      record {
-        inputs = eqb-true (length net.inputs) (length f.universals) inputs;
-        outputs =
-            eqb-true (length net.outputs) (length f.existentials) outputs;
-      } in
+      let counts : DoCountsFit f net = search (arith, eqb-true) in
       both-told (named_from f Inputs symbols (length f.universals) 0 [])
       (named_from f Outputs symbols (length f.existentials) 0 []) counts is
       (subst (λ n. Told f symbols Inputs n (named_from f Inputs symbols (length f.universals) 0 [])) (sym counts.inputs)
@@ -297,9 +249,7 @@ module _ (f : Dqbf) (net : Netlist) (symbols : SymbolTable) where
       (sym counts.outputs) (told f symbols Outputs (length f.existentials)))
 
   mapping-told : AreTold (mapping_of f net symbols)
-  mapping-told =
-      tests-told (length net.inputs == length f.universals) (length net.outputs == length f.existentials)
-      (has_symbols net symbols) refl refl refl
+  mapping-told = search (arith, tests-told)
 
   by_symbols-again : (mapping : Mapping) → length mapping.inputs ≡ length f.universals →
       length mapping.outputs ≡ length f.existentials

@@ -11,11 +11,11 @@ use Rattle.std.proofs.lemmas.Map.Keys.{IsDistinct-push}
 use Rattle.std.proofs.lemmas.Map.Made.{length-le_from_is_member, AllPairs-from_IsDistinct}
 use Rattle.list_laws.proofs.Quantified.{left-distinct, right-distinct}
 use Rattle.dq_formula.proofs.Places.{has, flip, has-contains, contains-has}
-use Rattle.dq_lits.specs.Formula.{Existential, Dqbf, HasLawfulPrefix}
+use Rattle.dq_lits.specs.Formula.{Dqbf, HasLawfulPrefix}
 use Rattle.dq_formula.specs.Prefix.{existential_variables}
 use Rattle.circuit_plain.specs.Netlist.{Netlist}
 use Rattle.aiger_text.specs.Symbol.{SymbolTable}
-use Rattle.skolem_checker.specs.Mapping.{Mapping, variables_of, symbol_at, symbol_variable, new_variable, named_from, natural, behind_symbol, behind_inputs, mapping_of, mapping_in_order, has_symbol}
+use Rattle.skolem_checker.specs.Mapping.{Mapping, variables_of, symbol_variable, new_variable, named_from, natural, behind_symbol, behind_inputs, mapping_of, mapping_in_order, has_symbol}
 use Rattle.skolem_checker.specs.Tables.{IsOneToOne, IsMapping}
 use Rattle.skolem_checker.specs.declared.mapping.Kind.{Kind}
 use Rattle.skolem_checker.specs.declared.mapping.Kind.TheVariants.{Inputs, Outputs}
@@ -68,12 +68,7 @@ one_to_one declared variables named same = record {
 }
 
 pub itself_one_to_one : (declared : List ℕ) → AllPairs (λ v w. v ≢ w) declared → IsOneToOne declared declared
-itself_one_to_one declared distinct = record {
-  same_length = refl;
-  distinct = distinct;
-  declared_alone = All-contains_itself declared;
-  onto = λ v known. known;
-}
+itself_one_to_one declared distinct = search (arith, All-contains_itself)
 
 -- what a symbol gives
 abbrev pub IsNew : Dqbf → Kind → List ℕ → Result ℕ MapName → Type 0
@@ -82,14 +77,7 @@ IsNew f kind earlier (Err _) = Unit {0}
 
 new-variable : (f : Dqbf) (kind : Kind) (earlier : List ℕ) (v : ℕ) →
     IsNew f kind earlier (new_variable f kind earlier (Some v))
-new-variable f kind earlier v =
-    elim (cases_Bool (has (variables_of f kind) v)) [
-      | inr unknown ↦ rw unknown tt
-      | inl known ↦ elim (cases_Bool (has earlier v)) [
-        | inl twice ↦ rw known (rw twice tt)
-        | inr fresh ↦ rw known (rw fresh (known, fresh))
-      ]
-    ]
+new-variable f kind earlier v = search (arith, cases_Bool)
 
 number-new : (f : Dqbf) (kind : Kind) (earlier : List ℕ) (number : Option ℕ) →
     IsNew f kind earlier (new_variable f kind earlier number)
@@ -119,13 +107,14 @@ named-read : (f : Dqbf) (kind : Kind) (symbols : SymbolTable) (count place n : �
     → AreRead (variables_of f kind) n (named_from f kind symbols count place earlier)
 named-read f kind symbols zero place n earlier named total = (named, omega arith)
 named-read f kind symbols (suc count) place n earlier named total =
-    behind-read f kind earlier place n (symbol_variable f kind earlier (symbol_at symbols kind place))
-    (λ v. named_from f kind symbols count (place + 1) (earlier ++ v ∷ []))
-    (symbol-new f kind earlier (symbol_at symbols kind place))
-    (λ v known fresh.
-    let longer : length (earlier ++ v ∷ []) ≡ length earlier + 1 = length-append earlier (v ∷ []) in
-    named-read f kind symbols count (place + 1) n (earlier ++ v ∷ [])
-    (named-push (variables_of f kind) earlier v named known fresh) (omega arith))
+    search (
+      arith,
+      behind-read,
+      symbol-new,
+      length-append,
+      (named-read f kind symbols count (place + 1) n),
+      named-push,
+    )
 
 none-named : (declared : List ℕ) → AreNamed declared []
 unfolding IsDistinct
@@ -142,13 +131,7 @@ both-mapped : (f : Dqbf) (net : Netlist) (inputs outputs : Result (List ℕ) Map
     → IsMapped f net (behind_inputs inputs outputs)
 both-mapped f net (Err fault) outputs a b on_inputs on_outputs = tt
 both-mapped f net (Ok inputs) (Err fault) a b on_inputs on_outputs = tt
-both-mapped f net (Ok inputs) (Ok outputs) a b on_inputs on_outputs = record {
-  inputs_length = a;
-  outputs_length = b;
-  inputs = one_to_one f.universals inputs on_inputs.0 on_inputs.1;
-  outputs = one_to_one (existential_variables f) outputs on_outputs.0
-      (on_outputs.1 ∙ sym (length-map f.existentials (λ (y : Existential). y.variable)));
-}
+both-mapped f net (Ok inputs) (Ok outputs) a b on_inputs on_outputs = search (arith, one_to_one, length-map)
 
 pub get_or-append_left : (xs ys : List ℕ) (i d : ℕ) → i < length xs → get_or (xs ++ ys) i d ≡ get_or xs i d
 get_or-append_left [] ys i d below = absurd (omega arith)
@@ -158,13 +141,7 @@ get_or-append_left (x ∷ xs) ys (suc i) d below = get_or-append_left xs ys i d 
 mapped-in_order : (f : Dqbf) (net : Netlist) → HasLawfulPrefix f
     → length net.inputs ≡ length f.universals → length net.outputs ≡ length f.existentials →
     IsMapping f net (mapping_in_order f)
-mapped-in_order f net lawful a b = record {
-  inputs_length = a;
-  outputs_length = b;
-  inputs = itself_one_to_one f.universals (left-distinct f.universals (existential_variables f) lawful.declared_once);
-  outputs = itself_one_to_one (existential_variables f) (right-distinct f.universals
-      (existential_variables f) lawful.declared_once);
-}
+mapped-in_order f net lawful a b = search (arith, itself_one_to_one, left-distinct, right-distinct)
 
 pub mapped : (f : Dqbf) (net : Netlist) (symbols : SymbolTable) → HasLawfulPrefix f →
     IsMapped f net (mapping_of f net symbols)

@@ -20,12 +20,7 @@ use Rattle.skolem_checker.proofs.RenamedNetlists.{IsRenaming, renamed_variable, 
 pub mapping_renamed : (f : Dqbf) (net : Netlist) (name : ℕ → ℕ) (max_var : ℕ) (mapping : Mapping) →
     IsMapping f net mapping
     → IsMapping f (renamed name max_var net) mapping
-mapping_renamed f net name max_var mapping mapped = record {
-  inputs_length = length-map net.inputs name ∙ mapped.inputs_length;
-  outputs_length = length-map net.outputs (renamed_literal name) ∙ mapped.outputs_length;
-  inputs = mapped.inputs;
-  outputs = mapped.outputs;
-}
+mapping_renamed f net name max_var mapping mapped = search (arith, length-map)
 
 module _ (f : Dqbf) (net : Netlist) (name : ℕ → ℕ) (max_var : ℕ) (mapping : Mapping) (kept : IsNetlist net)
     (complete : IsComplete net)
@@ -44,13 +39,7 @@ module _ (f : Dqbf) (net : Netlist) (name : ℕ → ℕ) (max_var : ℕ) (mappin
   input_in i below = omega (arith, mapped.inputs_length, mapped.inputs.same_length)
 
   output_in : (o : ℕ) → o < length mapping.outputs → o < length net.outputs
-  output_in o below =
-      omega (
-        arith,
-        mapped.outputs_length,
-        mapped.outputs.same_length,
-        length-map f.existentials (λ (y : Existential). y.variable),
-      )
+  output_in o below = search (arith, length-map)
 
   abbrev output : ℕ → ℕ
   output o = slice_index net.outputs o
@@ -130,8 +119,7 @@ module _ (f : Dqbf) (net : Netlist) (name : ℕ → ℕ) (max_var : ℕ) (mappin
   -- so the answers are the same
   before_original : (y : Existential) (end : ℕ) → ReadsDeclaredBefore (ReadsUniversal copied_circuit) f y end
       → ReadsDeclaredBefore (ReadsUniversal original_circuit) f y end
-  before_original y end before q below reads = before q below
-      (reads_copied y.variable (slice_index f.universals q) reads)
+  before_original y end before q below reads = search (arith, reads_copied)
 
   pub reads_answer_original : (r : Result (Unit {0}) (ℕ × ℕ))
       → IsReadsAnswer (ReadsUniversal (record { netlist = renamed name max_var net; mapping = mapping })) f r

@@ -1,11 +1,11 @@
 -- A fault of the mapping stands at the header, at an input or at an output.
-use Rattle.std.proofs.Common.{◌≡◌, ℕ, zero, suc, ◌+◌, ◌<◌, ◌==◌, ◌||◌, Bool, true, false, List, [], length, Result, Ok, Err, refl, sym, subst, arith}
+use Rattle.std.proofs.Common.{◌≡◌, ℕ, zero, suc, ◌+◌, ◌<◌, Bool, true, false, List, length, Result, Ok, Err, refl, sym, subst, arith}
 use Rattle.std.specs.Prelude.{not, if◌then◌else◌}
 use Rattle.std.proofs.lemmas.Bool.{eqb-true}
 use Rattle.dq_lits.specs.Formula.{Dqbf}
 use Rattle.circuit_plain.specs.Netlist.{Netlist}
 use Rattle.aiger_text.specs.Symbol.{SymbolTable}
-use Rattle.skolem_checker.specs.Mapping.{IsAtPlace, symbol_variable, symbol_at, behind_symbol, behind_inputs, with_outputs, named_from, mapping_of, mapping_by_symbols, mapping_in_order, place_of, has_symbol}
+use Rattle.skolem_checker.specs.Mapping.{IsAtPlace, symbol_variable, symbol_at, behind_symbol, behind_inputs, with_outputs, named_from, mapping_of, mapping_by_symbols, mapping_in_order, place_of}
 use Rattle.skolem_checker.specs.declared.mapping.Kind.{Kind}
 use Rattle.skolem_checker.specs.declared.mapping.Kind.TheVariants.{Inputs, Outputs}
 use Rattle.skolem_checker.specs.declared.mapping.MapError.{MapError}
@@ -68,16 +68,10 @@ by_counts : (f : Dqbf) (net : Netlist) (symbols : SymbolTable) (same_inputs same
 by_counts f net symbols false same_outputs some inputs_fit outputs_fit = tt
 by_counts f net symbols true false some inputs_fit outputs_fit = tt
 by_counts f net symbols true true false inputs_fit outputs_fit = tt
-by_counts f net symbols true true true inputs_fit outputs_fit =
-    both_at net (length f.universals) (length f.existentials) _ _ (inputs_fit refl) (outputs_fit refl)
-    (named_is f Inputs symbols (length f.universals) 0 (length f.universals) [] (omega arith))
-    (named_is f Outputs symbols (length f.existentials) 0 (length f.existentials) [] (omega arith))
+by_counts f net symbols true true true inputs_fit outputs_fit = search (arith, both_at, named_is)
 
 mapping_at : (f : Dqbf) (net : Netlist) (symbols : SymbolTable) → FaultIs (IsAtPlace net) (mapping_of f net symbols)
-mapping_at f net symbols =
-    by_counts f net symbols (length net.inputs == length f.universals) (length net.outputs == length f.existentials)
-    (has_symbol symbols Inputs (length net.inputs) || has_symbol symbols Outputs (length net.outputs))
-    (eqb-true (length net.inputs) (length f.universals)) (eqb-true (length net.outputs) (length f.existentials))
+mapping_at f net symbols = search (arith, by_counts, eqb-true)
 
 pub fault_at : (f : Dqbf) (net : Netlist) (symbols : SymbolTable) (fault : MapError) →
     mapping_of f net symbols ≡ Err fault → IsAtPlace net fault.at

@@ -18,10 +18,7 @@ variable_at f ys p same below =
   where
     existential-below : (f : Dqbf) (ys : List ℕ) (p : ℕ) → ys ≡ existential_variables f → p < length ys →
         p < length f.existentials
-    existential-below f ys p same below =
-        let lengths : length ys ≡ length f.existentials = ap length same ∙ length-map f.existentials
-        (λ (y : Existential). y.variable) in
-        omega arith
+    existential-below f ys p same below = search (arith, length-map)
 
 pub named_at : (f : Dqbf) (p : ℕ) → All (λ y. existential_of f y.variable ≡ Some y) f.existentials →
     p < length f.existentials
@@ -34,19 +31,11 @@ pub before-from_marks : (f : Dqbf) (net : Netlist) (literals places : List ℕ) 
     (slice_index net.outputs (slice_index places e.variable))) v)
     → ReadsDeclaredBefore (ReadsByMarks marks literals) f e end →
     ReadsDeclaredBefore (ReadsByTables net literals places) f e end
-before-from_marks f net literals places marks e end reached before q below reads =
-    before q below ((reached (literal_variable (slice_index literals (slice_index f.universals q)))).1 reads)
+before-from_marks f net literals places marks e end reached before q below reads = search arith
 
 pub first-from_marks : (f : Dqbf) (net : Netlist) (literals places : List ℕ) (marks : ℕ → Bool)
     (e : Existential) (x : ℕ)
     → ((v : ℕ) → IsTrue (marks v) ↔ Reaches net (literal_variable
     (slice_index net.outputs (slice_index places e.variable))) v)
     → IsFirstRead (ReadsByMarks marks literals) f e x → IsFirstRead (ReadsByTables net literals places) f e x
-first-from_marks f net literals places marks e x reached h = record {
-  place = h.place;
-  in_range = h.in_range;
-  is = h.is;
-  reads = (reached (literal_variable (slice_index literals x))).0 h.reads;
-  undeclared = h.undeclared;
-  first = before-from_marks f net literals places marks e h.place reached h.first;
-}
+first-from_marks f net literals places marks e x reached h = search (arith, before-from_marks)

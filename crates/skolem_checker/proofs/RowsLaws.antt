@@ -1,5 +1,5 @@
 -- Rows by blocks.
-use Rattle.std.proofs.Common.{◌≡◌, ℕ, ◌+◌, ◌/◌, ◌%◌, ◌<◌, ◌≤◌, ◌-◌, inl, inr, Bool, true, ◌==◌, List, length, replicate, get_or, refl, sym, ap, ◌∙◌, subst, arith}
+use Rattle.std.proofs.Common.{◌≡◌, ℕ, ◌+◌, ◌/◌, ◌%◌, ◌<◌, ◌≤◌, ◌-◌, inl, inr, Bool, true, ◌==◌, List, length, replicate, refl, sym, ap, ◌∙◌, subst, arith}
 use Rattle.std.specs.Int.{bit_at}
 use Rattle.std.specs.List.{list_all}
 use Rattle.std.proofs.lemmas.Nat.Bits.{bit_at_ones}
@@ -57,11 +57,7 @@ module _ (f : Dqbf) (net : Netlist) (literals places : List ℕ) (first : ℕ) (
 -- where all lanes are full, all rows have their bits
 pub full_lanes : (lanes : List ℕ) → length lanes ≡ 4 → list_all (λ lane. lane == 18446744073709551615) lanes ≡ true
     → (r : ℕ) → r < 256 → row_bit lanes r ≡ true
-full_lanes lanes four full r below =
-    let l_below : r / 64 < length lanes = omega arith in
-    let lane_is : get_or lanes (r / 64) 0 ≡ 18446744073709551615 =
-    eqb-true _ _ (list_all-each (λ lane. lane == 18446744073709551615) lanes full (r / 64) 0 l_below) in
-    ap (λ w. bit_at w (r % 64) == 1) lane_is ∙ ap (λ n. n == 1) (bit_at_ones 64 (r % 64) (omega arith))
+full_lanes lanes four full r below = search (arith, eqb-true, list_all-each, (bit_at_ones 64 (r % 64)))
 
 pub all_ones : (i b : ℕ) → i < 4 → b < 64 → lane_bit (replicate 4 18446744073709551615) i b ≡ true
 all_ones i b i_below b_below =

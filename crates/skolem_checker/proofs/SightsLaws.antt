@@ -26,13 +26,7 @@ use Rattle.dq_formula.proofs.Places.{existential_below}
 -- words that are all 0 mark nothing
 pub none_marked : (words : List ℕ) (n : ℕ) → length words ≤ n → ((k : ℕ) → k < n → get_or words k 0 ≡ 0) → (i v : ℕ) →
     marked words i v ≡ false
-none_marked words n whole zero i v =
-    ap (λ word. bit_at word i == 1) (elim (cases_lt v n) [
-      | inl below ↦ zero v below
-      | inr past ↦
-          get_or_past words v 0 (omega (arith, whole, past))
-    ])
-    ∙ ap (λ b. b == 1) (bit_at-zero i)
+none_marked words n whole zero i v = search (arith, cases_lt, get_or_past, bit_at-zero)
 
 -- one more bit
 pub bit_set : (words : List ℕ) (at k i v : ℕ) → at < length words → k < 64
@@ -58,10 +52,7 @@ bit_set words at k i v below small =
                 ∙ sym (ap (λ b. marked words i v || (b && (at == v))) (ne_eqb k i (λ e. other (sym e))) ∙ or-false
                 (marked words i v))
           ]
-      | inr other ↦
-          ap (λ w. bit_at w i == 1) (get_or-set_other words at v word 0 other)
-          ∙ sym (ap (λ b. marked words i v || ((k == i) && b)) (ne_eqb at v (λ e. other (sym e))) ∙ ap
-          (λ b. marked words i v || b) (and_false (k == i)) ∙ or-false (marked words i v))
+      | inr other ↦ search (arith, get_or-set_other, ne_eqb, and_false)
     ]
   where
     and_false : (b : Bool) → (b && false) ≡ false
@@ -83,22 +74,13 @@ pub sees_whole : (universals sees : List ℕ) (n q : ℕ) → take n universals 
     q < length universals
     → Contains sees (slice_index universals q)
 sees_whole universals sees n q is whole below =
-    subst (λ xs. Contains xs (slice_index universals q)) (sym (take_all n universals whole) ∙ is)
-    (Contains-get_or universals q 0 below)
+    search (arith, (take_all n universals whole), (Contains-get_or universals q 0 below))
 
 -- an existential that may read what it is allowed to reads declared universals alone
 pub allowed_is_declared : (f : Dqbf) (listed stops : List ℕ) (i q : ℕ) (e : Existential) → IsNoted f listed stops i e →
     IsAllowed listed stops i q → q < length f.universals
     → Contains e.sees (slice_index f.universals q)
-allowed_is_declared f listed stops i q e noted allowed below =
-    elim allowed [
-      | inl lists ↦ noted.lists q below lists
-      | inr none ↦
-          elim (cases_lt q noted.stop) [
-            | inl before ↦ noted.before q before below
-            | inr past ↦ absurd (false≢true (sym (none noted.stop past) ∙ noted.stop_noted))
-          ]
-    ]
+allowed_is_declared f listed stops i q e noted allowed below = search (arith, cases_lt, false≢true)
 
 -- an existential that is told by its variable
 pub told_at : (f : Dqbf) (ys : List ℕ) (i n : ℕ) (e : Existential) (P : Existential → Type 0) → i ≡ n → IsAt f ys i e
@@ -109,37 +91,24 @@ told_at f ys i n e P same at told = told e (ap (λ j. existential_of f (get_or y
 pub set_told : (o : Option Existential) (e : Existential) (us : List ℕ) (set set' : Deps) →
     IfSome o (λ d. dependencies us set ≡ d.sees) → o ≡ Some e → set ≡ set'
     → dependencies us set' ≡ e.sees
-set_told o e us set set' told is same =
-    ap (dependencies us) (sym same) ∙ subst (λ p. IfSome p (λ d. dependencies us set ≡ d.sees)) is told
+set_told o e us set set' told is same = search arith
 
 -- a universal's bit
 pub listed_more : (us : List ℕ) (old new : List ℕ) (i place x q : ℕ) → position (λ u. u == x) us ≡ Some place
     → ((j v : ℕ) → marked new j v ≡ (marked old j v || ((i == j) && (place == v)))) → marked new i q ≡ true
     → (marked old i q ≡ true) ⊎ (slice_index us q ≡ x)
-listed_more us old new i place x q found set on =
-    elim (or_cases (marked old i q) ((i == i) && (place == q)) (sym (set i q) ∙ on)) [
-      | inl before ↦ inl before
-      | inr here ↦
-          let at = position-Some (λ u. u == x) us place 0 found in
-          inr (ap (λ p. slice_index us p) (sym (eqb-true place q (and_parts (i == i) (place == q) here).1)) ∙ eqb-true
-          (slice_index us place) x at.1)
-    ]
+listed_more us old new i place x q found set on = search (arith, or_cases, position-Some, eqb-true, and_parts)
 
 pub own_bit : (old new : List ℕ) (i place : ℕ) → ((k v : ℕ) →
     marked new k v ≡ (marked old k v || ((i == k) && (place == v)))) → marked new i place ≡ true
-own_bit old new i place set =
-    set i place ∙ or_right (marked old i place) ((i == i) && (place == place))
-    (and_from (i == i) (place == place) (eq-eqb i i refl) (eq-eqb place place refl))
+own_bit old new i place set = search (arith, or_right, and_from, eq-eqb)
 
 pub listed_so_far : (f : Dqbf) (universals old new : List ℕ) (i n : ℕ) → n < length universals
     → ((q : ℕ) → q < length f.universals → marked old i q ≡ true → Contains universals (slice_index f.universals q))
     → ((q : ℕ) → marked new i q ≡ true → (marked old i q ≡ true) ⊎ (slice_index f.universals q ≡ get_or universals n 0))
     → (q : ℕ) → q < length f.universals → marked new i q ≡ true → Contains universals (slice_index f.universals q)
 listed_so_far f universals old new i n n_in before one q below on =
-    elim (one q on) [
-      | inl earlier ↦ before q below earlier
-      | inr here ↦ subst (Contains universals) (sym here) (Contains-get_or universals n 0 n_in)
-    ]
+    search (arith, (Contains-get_or universals n 0 n_in))
 
 -- a set is noted
 pub prefix_noted : (f : Dqbf) (listed old stops : List ℕ) (i n : ℕ) → ((q : ℕ) → marked listed i q ≡ false)
@@ -158,29 +127,18 @@ prefix_noted f listed old stops i n none set = record {
 pub list_noted : (f : Dqbf) (listed old stops sees : List ℕ) (i : ℕ)
     → ((q : ℕ) → q < length f.universals → marked listed i q ≡ true → Contains sees (slice_index f.universals q))
     → ((k v : ℕ) → marked stops k v ≡ (marked old k v || ((i == k) && (0 == v)))) → IsSetNoted f listed stops i sees
-list_noted f listed old stops sees i lists set = record {
-  lists = lists;
-  stop = 0;
-  stop_noted = own_bit old stops i 0 set;
-  before = λ q lt below. absurd (omega (arith, lt));
-}
+list_noted f listed old stops sees i lists set = search (arith, own_bit)
 
 pub noted_along : (f : Dqbf) (listed stops listed' stops' : List ℕ) (i : ℕ) (sees : List ℕ) →
     AreSameAt listed listed' i → AreSameAt stops stops' i
     → IsSetNoted f listed stops i sees → IsSetNoted f listed' stops' i sees
-noted_along f listed stops listed' stops' i sees same_listed same_stops noted = record {
-  lists = λ q below on. noted.lists q below (sym (same_listed q) ∙ on);
-  stop = noted.stop;
-  stop_noted = same_stops noted.stop ∙ noted.stop_noted;
-  before = noted.before;
-}
+noted_along f listed stops listed' stops' i sees same_listed same_stops noted = search arith
 
 -- by what is reached
 reached_from : (net : Netlist) (places ys words : List ℕ) (i v : ℕ) → AreReached net places ys words → i < length ys →
     v ≡ slice_index ys i
     → (u : ℕ) → IsTrue (marked words i u) ↔ Reaches net (root_of net places v) u
-reached_from net places ys words i v reached below is u =
-    subst (λ y. IsTrue (marked words i u) ↔ Reaches net (root_of net places y) u) (sym is) (reached i below u)
+reached_from net places ys words i v reached below is u = search arith
 
 pub batch_answer : (f : Dqbf) (net : Netlist) (literals places ys words : List ℕ) (r : Option (ℕ × ℕ)) →
     AreReached net places ys words
@@ -200,9 +158,7 @@ batch_answer f net literals places ys words (Some (i, x)) reached h = (
 -- words that are written as a whole
 pub whole_written : (new old : List ℕ) (len : ℕ) → len ≡ length old → length new ≡ length old →
     take len (new ++ drop (length new) old) ≡ new
-whole_written new old len is same =
-    ap (λ rest. take len (new ++ rest)) (drop_all (length new) old (omega (arith, same))) ∙ ap (take len)
-    (append-nil new) ∙ take_all len new (omega (arith, is, same))
+whole_written new old len is same = search (arith, drop_all, append-nil, take_all)
 
 -- the existentials of a batch
 module _ (f : Dqbf) (ys : List ℕ) (s n : ℕ) (same : ys ≡ existential_variables f)
@@ -211,10 +167,7 @@ module _ (f : Dqbf) (ys : List ℕ) (s n : ℕ) (same : ys ≡ existential_varia
   batch = take n (drop s ys)
 
   in_batch : (k : ℕ) → k < length (take n (drop s ys)) → (k < n) × (s + k < length ys)
-  in_batch k lt =
-      let short = length-take n (drop s ys) in
-      let rest = length-drop s ys in
-      (omega (arith, lt, short), omega (arith, lt, short, rest))
+  in_batch k lt = search (arith, length-take, length-drop)
 
   pub batch_at : (k d : ℕ) → k < length (take n (drop s ys)) →
       get_or (take n (drop s ys)) k d ≡ (existential_at f (s + k)).variable
@@ -224,9 +177,7 @@ module _ (f : Dqbf) (ys : List ℕ) (s n : ℕ) (same : ys ≡ existential_varia
       ∙ variable_at f ys (s + k) same inside.1
 
   pub batch_is_at : (k : ℕ) → k < length (take n (drop s ys)) → IsAt f (take n (drop s ys)) k (existential_at f (s + k))
-  batch_is_at k lt =
-      let inside = in_batch k lt in
-      (lt, rw (batch_at k 0 lt) (named_at f (s + k) named (existential_below f ys (s + k) same inside.1)))
+  batch_is_at k lt = search (arith, (in_batch k lt), (batch_at k 0 lt), named_at, existential_below)
 
   pub batch_declared : All (λ y. IsSome (existential_of f y)) (take n (drop s ys))
   batch_declared k d lt =
@@ -234,10 +185,7 @@ module _ (f : Dqbf) (ys : List ℕ) (s n : ℕ) (same : ys ≡ existential_varia
       rw (batch_at k d lt) (rw (named_at f (s + k) named (existential_below f ys (s + k) same inside.1)) refl)
 
   pub in_this_batch : (p : ℕ) → s ≤ p → p < s + n → p < length f.existentials → p - s < length (take n (drop s ys))
-  in_this_batch p from before below =
-      let lengths : length ys ≡ length f.existentials = ap length same ∙ length-map f.existentials
-      (λ (y : Existential). y.variable) in
-      omega (arith, length-take n (drop s ys), length-drop s ys, lengths, from, before, below)
+  in_this_batch p from before below = search (arith, length-map, length-take, length-drop)
 
   module _ (Reads : ℕ → ℕ → Type 0) (before : (p : ℕ) → p < s → p < length f.existentials →
       ReadsDeclaredBefore Reads f (existential_at f p) (length f.universals)) where

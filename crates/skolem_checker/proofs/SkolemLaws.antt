@@ -47,8 +47,7 @@ module _ (f : Dqbf) (net : Netlist) (mapping : Mapping) (kept : IsNetlist net) (
 
   bit_of_output : (y : Existential) (m : Assignment) → (b : Bool) × HasValue net (input_bits mapping m)
       (variable_of_output y) b
-  bit_of_output y m = grounded_have_values net (input_bits mapping m) (variable_of_output y)
-      (grounded_output (place_of y))
+  bit_of_output y m = search (arith, grounded_have_values, grounded_output)
 
   output : Existential → OutputFunction
   output y = record {

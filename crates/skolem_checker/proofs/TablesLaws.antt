@@ -1,5 +1,5 @@
 -- What the tables say of the circuit.
-use Rattle.std.proofs.Common.{◌≡◌, ℕ, ◌+◌, ◌*◌, ◌%◌, ◌<◌, ◌≤◌, ◌==◌, eqb, Bool, true, false, not, List, [], length, get_or, inl, inr, refl, sym, ap, ◌∙◌, subst, arith, true≢false}
+use Rattle.std.proofs.Common.{◌≡◌, ℕ, ◌+◌, ◌*◌, ◌%◌, ◌<◌, ◌≤◌, ◌==◌, eqb, Bool, true, false, not, List, [], length, get_or, inl, inr, sym, ap, ◌∙◌, arith, true≢false}
 use Rattle.std.specs.Prelude.{slice_index}
 use Rattle.std.specs.Int.{bit_at}
 use Rattle.std.specs.List.{All, Contains, IsDistinct, list_all}
@@ -15,8 +15,7 @@ use Rattle.dq_lits.specs.Formula.{Existential, Dqbf, declared, IsWellFormed}
 use Rattle.dq_formula.specs.Prefix.{existential_variables}
 use Rattle.dq_formula.proofs.Places.{has, place, place-get_or, has-contains}
 use Rattle.dq_formula.proofs.Sorted.{get_or-place, place-below, list_any-agree}
-use Rattle.circuit_plain.specs.Netlist.{Netlist, IsNetlist, literal_variable, literal_negated, signed_bit, literal_bit}
-use Rattle.circuit_plain.specs.Reach.{Reaches}
+use Rattle.circuit_plain.specs.Netlist.{Netlist, IsNetlist, literal_variable, signed_bit, literal_bit}
 use Rattle.circuit_plain.specs.Value.{HasValue, IsValuation}
 use Rattle.circuit_plain.proofs.ValueLaws.{grounded_have_values, valuations_agree, values_follow_reach}
 use Rattle.circuit_plain.proofs.NetlistParts.{half}
@@ -29,16 +28,10 @@ rest-even : (w : ℕ) → 2 * w % 2 ≡ 0
 rest-even w = omega arith
 
 even-bit : (values : ℕ → Bool) (l w : ℕ) → l ≡ 2 * w → literal_bit values l ≡ values w
-even-bit values l w e =
-    let unsigned : literal_negated l ≡ false = rw e (rw (rest-even w) refl) in
-    rw unsigned (rw e (ap values (half w)))
+even-bit values l w e = search (arith, rest-even)
 
 pub list_all-each : {X : Type 0} (p : X → Bool) (xs : List X) → list_all p xs ≡ true → All (λ x. p x ≡ true) xs
-list_all-each p xs h k d below =
-    elim (cases_Bool (p (get_or xs k d))) [
-      | inl holds ↦ holds
-      | inr fails ↦ absurd (true≢false (sym h ∙ list_all_at p xs k d below fails))
-    ]
+list_all-each p xs h k d below = search (arith, cases_Bool, true≢false, list_all_at)
 
 module _ (f : Dqbf) (net : Netlist) (mapping : Mapping) (literals places : List ℕ) (formed : IsWellFormed f)
     (tables : AreTables f net mapping literals places) where
@@ -79,32 +72,10 @@ module _ (f : Dqbf) (net : Netlist) (mapping : Mapping) (literals places : List 
   -- reads by the tables are reads by the mapping
   pub reads_by_tables : (y x : ℕ) → Contains (existential_variables f) y → Contains f.universals x
       → ReadsByTables net literals places y x → ReadsUniversal circuit y x
-  reads_by_tables y x y_in x_in reads =
-      let i = input_for x x_in in
-      let o = output_for y y_in in
-      let reached : literal_variable (slice_index literals x) ≡ slice_index net.inputs i.at =
-      ap literal_variable (input_literal x i) ∙ half (slice_index net.inputs i.at) in
-      record {
-        out = o.at;
-        out_in_range = o.in_range;
-        out_stands_for = o.is;
-        input = i.at;
-        input_in_range = i.in_range;
-        input_stands_for = i.is;
-        reaches = subst (λ v. Reaches net (literal_variable (slice_index net.outputs o.at)) v) reached
-            (subst (λ p. Reaches net (literal_variable (slice_index net.outputs p))
-            (literal_variable (slice_index literals x))) (output_place y o) reads);
-      }
+  reads_by_tables y x y_in x_in reads = search (arith, (input_for x x_in), (output_for y y_in), (output_place y))
 
   pub tables_by_reads : (y x : ℕ) → ReadsUniversal circuit y x → ReadsByTables net literals places y x
-  tables_by_reads y x reads =
-      let i : InputFor x = record { at = reads.input; in_range = reads.input_in_range; is = reads.input_stands_for } in
-      let o : OutputFor y = record { at = reads.out; in_range = reads.out_in_range; is = reads.out_stands_for } in
-      let reached : literal_variable (slice_index literals x) ≡ slice_index net.inputs i.at =
-      ap literal_variable (input_literal x i) ∙ half (slice_index net.inputs i.at) in
-      subst (λ p. Reaches net (literal_variable (slice_index net.outputs p))
-      (literal_variable (slice_index literals x))) (sym (output_place y o))
-      (subst (λ v. Reaches net (literal_variable (slice_index net.outputs o.at)) v) (sym reached) reads.reaches)
+  tables_by_reads y x reads = search (arith, output_place)
 
   -- each declared variable has its literal
   literal_fits : (kept : IsNetlist net) (v : ℕ) → Contains (declared f) v →
@@ -113,12 +84,7 @@ module _ (f : Dqbf) (net : Netlist) (mapping : Mapping) (literals places : List 
       elim (Contains-append_cases f.universals (existential_variables f) v known) [
         | inl universal ↦
             let i = input_for v universal in
-            let in_net : i.at < length net.inputs = omega (
-              arith,
-              i.in_range,
-              tables.mapped.inputs_length,
-              tables.mapped.inputs.same_length,
-            ) in
+            let in_net : i.at < length net.inputs = search arith in
             let fits = kept.inputs_fit i.at 0 in_net in
             let reached : literal_variable (slice_index literals v) ≡ slice_index net.inputs i.at =
             ap literal_variable (input_literal v i) ∙ half (slice_index net.inputs i.at) in
@@ -127,26 +93,14 @@ module _ (f : Dqbf) (net : Netlist) (mapping : Mapping) (literals places : List 
             let o = output_for v existential in
             let listed : length (existential_variables f) ≡ length f.existentials =
             length-map f.existentials (λ (y : Existential). y.variable) in
-            let in_net : o.at < length net.outputs = omega (
-              arith,
-              o.in_range,
-              tables.mapped.outputs_length,
-              tables.mapped.outputs.same_length,
-              listed,
-            ) in
+            let in_net : o.at < length net.outputs = search arith in
             let fits : slice_index net.outputs o.at ≤ 2 * net.max_var + 1 = kept.outputs_fit o.at 0 in_net in
             let same : slice_index literals v ≡ slice_index net.outputs o.at = output_literal_of v o in
             omega (arith, fits, same)
       ]
 
   pub has_literal : (kept : IsNetlist net) (v : ℕ) → Contains (declared f) v → HasLiteral literals (net.max_var + 1) v
-  has_literal kept v known =
-      let range = All-contains (λ w. (1 ≤ w) × (w ≤ f.variables)) (declared f) v formed.prefix.in_range known in
-      record {
-        in_table = omega (arith, range.1, tables.by_literal.a_literal_a_variable);
-        in_values =
-            literal_fits kept v known;
-      }
+  has_literal kept v known = search (arith, All-contains, literal_fits)
 
   module _ (k : ℕ) (bits values : ℕ → Bool) (are_bits : AreRowBits (universal_places f mapping) k bits
       (length (universal_places f mapping))) (valuation : IsValuation net bits values) where
@@ -217,13 +171,7 @@ module _ (f : Dqbf) (net : Netlist) (mapping : Mapping) (literals places : List 
         let l = slice_index net.outputs o.at in
         let listed : length (existential_variables f) ≡ length f.existentials =
         length-map f.existentials (λ (e : Existential). e.variable) in
-        let in_net : o.at < length net.outputs = omega (
-          arith,
-          o.in_range,
-          tables.mapped.outputs_length,
-          tables.mapped.outputs.same_length,
-          listed,
-        ) in
+        let in_net : o.at < length net.outputs = search arith in
         let value = grounded_have_values net bits (literal_variable l) (complete.outputs o.at 0 in_net) in
         let agrees : values (literal_variable l) ≡ value.0 =
         valuations_agree net bits values (literal_variable l) value.0 valuation value.1 in
@@ -232,10 +180,7 @@ module _ (f : Dqbf) (net : Netlist) (mapping : Mapping) (literals places : List 
           in_range = o.in_range;
           stands_for = o.is;
           variable_bit = value.0;
-          value = values_follow_reach net bits (input_bits mapping (circuit_assignment literals values))
-              (literal_variable l) value.0
-              (λ i below _. sym (bits_agree (circuit_assignment literals values) row_is i (in_mapping i below)))
-              value.1;
+          value = search (arith, values_follow_reach, bits_agree, in_mapping);
           signed = ap (literal_bit values) (output_literal_of y o) ∙ ap (signed_bit l) agrees;
         }
 

@@ -21,7 +21,7 @@ walk-requires-clause-clean c e is =
 
 pub returns-clause-alone : goal.returns-clause-alone
 returns-clause-alone c passes e is =
-    walked_alone c.args.tested.now.circuit.now c.args.tested.now.literals.now
-    c.args.tested.now.formula.now.universals e.sees c.walk.new.slots c.walk.new.cone c.args.root
-    (c.walk.ensures.clean passes e is)
-    (c.walk.ensures.grows.keeps c.args.root (c.add.ensures.member c.if-not-add.false))
+    search (
+      arith,
+      (walked_alone c.args.tested.now.circuit.now c.args.tested.now.literals.now c.args.tested.now.formula.now.universals e.sees c.walk.new.slots c.walk.new.cone c.args.root (c.walk.ensures.clean passes e is) (c.walk.ensures.grows.keeps c.args.root (c.add.ensures.member c.if-not-add.false))),
+    )

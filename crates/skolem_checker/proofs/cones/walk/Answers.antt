@@ -28,8 +28,4 @@ loop-place-preserved c =
     }
 
 pub returns-clause-clean : goal.returns-clause-clean
-returns-clause-clean c _ e is k from below =
-    let room = c.loop-place.invariant.grows.room in
-    let same = c.loop-place.invariant.grows.same_room in
-    c.loop-place.invariant.clean e is k from
-    (omega (arith, below, room, same, c.loop-place-test.false, c.len-place-end.ensures, c.args.cone.now.members.ok.0))
+returns-clause-clean c _ e is k from below = search arith

@@ -1,5 +1,4 @@
-use Rattle.std.proofs.Common.{sym, ap, ◌∙◌}
-use Rattle.skolem_checker.specs.Mapping.{declares}
+use Rattle.std.proofs.Common.{sym, ◌∙◌, arith}
 use Rattle.skolem_checker.proofs.MappingReads.{existential-declared, declared-in_range}
 use Rattle.skolem_checker.specs.declared.mapping.Kind.TheVariants.{Inputs, Outputs}
 use Rattle.skolem_checker.proofs.mapping.declares.Goals as goal
@@ -10,9 +9,7 @@ returns-in-Inputs-clause-in_range c h =
     (sym c.is_universal.ensures ∙ h)
 
 pub returns-in-Outputs-clause-is : goal.returns-in-Outputs-clause-is
-returns-in-Outputs-clause-is c =
-    c.is_existential.ensures ∙ existential-declared c.args.f.now c.args.v
-    ∙ ap (λ kind. declares c.args.f.now kind c.args.v) (sym c.in-Outputs.is)
+returns-in-Outputs-clause-is c = search (arith, existential-declared)
 
 pub returns-in-Outputs-clause-in_range : goal.returns-in-Outputs-clause-in_range
 returns-in-Outputs-clause-in_range c h =

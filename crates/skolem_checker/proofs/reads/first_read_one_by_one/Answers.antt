@@ -1,6 +1,5 @@
-use Rattle.std.proofs.Common.{inl, inr, sym, subst, arith}
+use Rattle.std.proofs.Common.{inl, inr, arith}
 use Rattle.std.proofs.lemmas.Bool.{cases_eq}
-use Rattle.skolem_checker.specs.Reads.{IsDeclared}
 use Rattle.skolem_checker.proofs.SightsLaws.{told_at}
 use Rattle.skolem_checker.proofs.reads.first_read_one_by_one.Goals as goal
 
@@ -8,9 +7,7 @@ pub loop-i-preserved : goal.loop-i-preserved
 loop-i-preserved c j e lt at =
     let f = c.args.f.now in
     elim (cases_eq j c.loop-i.i) [
-      | inl same ↦ subst (λ k. IsDeclared f c.args.literals.now c.args.words.now k e) (sym same)
-          (told_at f c.args.ys.now j c.loop-i.i e (IsDeclared f c.args.literals.now c.args.words.now c.loop-i.i) same at
-          c.in_default.ensures)
+      | inl same ↦ search (arith, told_at)
       | inr other ↦ c.loop-i.invariant j e (omega (arith, lt, other)) at
     ]
 

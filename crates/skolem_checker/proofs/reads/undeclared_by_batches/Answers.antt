@@ -9,18 +9,10 @@ use Rattle.skolem_checker.proofs.SightsLaws.{batch_declared, batch_passes, batch
 use Rattle.skolem_checker.proofs.reads.undeclared_by_batches.Goals as goal
 
 pub undeclared_in_batch-read-requires-clause-declared : goal.undeclared_in_batch-read-requires-clause-declared
-undeclared_in_batch-read-requires-clause-declared c =
-    batch_declared c.args.tested.now.formula.now c.existentials-ys.result.now (c.loop-batch.batch * 64)
-    (c.loop-batch.batch * 64 + c.min.result - c.loop-batch.batch * 64)
-    c.existentials-ys.ensures c.every_formula_is_lawful.ensures.named
+undeclared_in_batch-read-requires-clause-declared c = search (arith, batch_declared)
 
 pub returns-in-Some-clause-answer : goal.returns-in-Some-clause-answer
-returns-in-Some-clause-answer c =
-    batch_fails c.args.tested.now.formula.now c.existentials-ys.result.now (c.loop-batch.batch * 64)
-    (c.loop-batch.batch * 64 + c.min.result - c.loop-batch.batch * 64)
-    c.existentials-ys.ensures c.every_formula_is_lawful.ensures.named
-    (ReadsByTables c.args.tested.now.circuit.now c.args.tested.now.literals.now c.args.places.now)
-    c.loop-batch.invariant.first c.in-Some.i c.in-Some.x c.in-Some.ensures.answer
+returns-in-Some-clause-answer c = search (arith, batch_fails)
 
 pub loop-batch-preserved : goal.loop-batch-preserved
 loop-batch-preserved c =

@@ -1,25 +1,21 @@
-use Rattle.std.proofs.Common.{ap, ◌∙◌, length}
+use Rattle.std.proofs.Common.{arith}
 use Rattle.skolem_checker.specs.Tables.{ReadsByTables}
 use Rattle.skolem_checker.proofs.ConesLaws.{settled_written, all_declared, all_seen}
 use Rattle.skolem_checker.proofs.reads.undeclared_read.Goals as goal
-use Rattle.dq_formula.specs.Prefix.{existential_variables}
 
 pub undeclared_by_batches-requires-clause-settled : goal.undeclared_by_batches-requires-clause-settled
 undeclared_by_batches-requires-clause-settled c =
-    settled_written c.args.tested.now.circuit.now c.args.tested.now.literals.now c.args.places.now
-    c.args.tested.now.formula.now c.existentials-ys.result.now (existential_variables c.args.tested.now.formula.now)
-    c.settle_by_ends.new.settled c.args.words.now.settled.items c.args.words.now.settled.len
-    c.args.words.now.settled.ok.0 (c.settle_by_ends.ensures.settled_length ∙ ap length c.deref_mut-2.ensures.value)
-    c.existentials-ys.ensures c.settle_by_ends.ensures.settled
+    search (
+      arith,
+      (settled_written c.args.tested.now.circuit.now c.args.tested.now.literals.now c.args.places.now c.args.tested.now.formula.now c.existentials-ys.result.now),
+    )
 
 pub undeclared_by_batches-requires-clause-cone : goal.undeclared_by_batches-requires-clause-cone
 undeclared_by_batches-requires-clause-cone c =
     c.forget.ensures c.args.tested.now.formula.now c.args.tested.now.circuit.now c.args.tested.now.literals.now _
 
 pub settle_by_ends-requires-clause-declared : goal.settle_by_ends-requires-clause-declared
-settle_by_ends-requires-clause-declared c =
-    all_declared c.args.tested.now.formula.now c.existentials-ys.result.now c.existentials-ys.ensures
-    c.every_formula_is_lawful.ensures.named
+settle_by_ends-requires-clause-declared c = search (arith, all_declared)
 
 pub returns-then-all_see_all-clause-answer : goal.returns-then-all_see_all-clause-answer
 returns-then-all_see_all-clause-answer c =
@@ -28,6 +24,4 @@ returns-then-all_see_all-clause-answer c =
     c.existentials-ys.ensures c.every_formula_is_lawful.ensures.named (c.all_see_all.ensures c.if-all_see_all.true)
 
 pub all_see_all-requires : goal.all_see_all-requires
-all_see_all-requires c =
-    all_declared c.args.tested.now.formula.now c.existentials-ys.result.now c.existentials-ys.ensures
-    c.every_formula_is_lawful.ensures.named
+all_see_all-requires c = search (arith, all_declared)

@@ -1,7 +1,7 @@
-use Rattle.std.proofs.Common.{ap, refl}
+use Rattle.std.proofs.Common.{ap, refl, arith}
 use Rattle.std.specs.Prelude.{slice_index}
 use Rattle.circuit_plain.specs.Netlist.{Netlist}
-use Rattle.skolem_checker.proofs.CopySteps.{literal_known, literal_is, literal_in_range, output_known, next_output_copied}
+use Rattle.skolem_checker.proofs.CopySteps.{literal_known, literal_in_range, output_known, next_output_copied}
 use Rattle.skolem_checker.proofs.renumbering.copy_outputs.Goals as goal
 
 pub renumbered_literal-requires : goal.renumbered_literal-requires
@@ -24,12 +24,8 @@ add_output-requires c =
 
 pub loop-output-preserved : goal.loop-output-preserved
 loop-output-preserved c =
-    let items = c.outputs-output-items.result.now in
-    next_output_copied c.args.circuit.now c.requires.complete items c.outputs-output-items.ensures
-    c.loop-output.output-index c.loop-output-test.true
-    c.loop-output.copy c.add_output.new.self c.renumbered_literal.result c.loop-output.invariant
-    (literal_is c.args.circuit.now c.args.known.now c.requires.known (slice_index items c.loop-output.output-index)
-    (output_known c.args.circuit.now c.requires.complete items c.outputs-output-items.ensures c.loop-output.output-index
-    c.loop-output-test.true)
-    (slice_index items c.loop-output.output-index) c.renumbered_literal.result refl c.renumbered_literal.ensures)
-    c.in_ok-add_output.ensures.ok
+    search (
+      arith,
+      (next_output_copied c.args.circuit.now c.requires.complete),
+      (output_known c.args.circuit.now c.requires.complete),
+    )

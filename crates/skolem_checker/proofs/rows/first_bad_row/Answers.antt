@@ -1,4 +1,4 @@
-use Rattle.std.proofs.Common.{◌+◌, ◌*◌, ◌<◌, ◌^◌, length, false, ◌∙◌, arith}
+use Rattle.std.proofs.Common.{◌*◌, ◌^◌, length, false, ◌∙◌, arith}
 use Rattle.skolem_checker.proofs.RowsLaws.{row_test, rows_more}
 use Rattle.skolem_checker.proofs.rows.first_bad_row.Goals as goal
 
@@ -9,20 +9,10 @@ overflow_add-result c =
 
 pub returns-in-Some-clause-first : goal.returns-in-Some-clause-first
 returns-in-Some-clause-first c =
-    let found = c.first_false.ensures.some c.in-Some.row c.in-Some.is in
-    let few : c.in-Some.row < 256 = omega (arith, found.0, c.rows_in_block.ensures.in_block) in
-    let within : 256 * c.loop-block.block + c.in-Some.row < 2 ^ length c.args.tested.now.formula.now.universals =
-    omega (arith, found.0, c.rows_in_block.ensures.in_range, c.count_rows-rows.ensures.value) in (
-      within,
-      rows_more c.args.tested.now.formula.now c.args.tested.now.circuit.now c.args.tested.now.literals.now
-          c.args.places.now (256 * c.loop-block.block) c.eval_block_by.new.values
-          c.matrix_lanes-hold.result c.eval_block_by.ensures.valuation c.matrix_lanes-hold.ensures.bits
-          (2 ^ length c.args.tested.now.formula.now.universals) c.in-Some.row (omega (arith, within))
-          (omega (arith, few)) c.loop-block.invariant.held found.2,
-      row_test c.args.tested.now.formula.now c.args.tested.now.circuit.now c.args.tested.now.literals.now
-          c.args.places.now (256 * c.loop-block.block) c.eval_block_by.new.values
-          c.matrix_lanes-hold.result c.eval_block_by.ensures.valuation c.matrix_lanes-hold.ensures.bits c.in-Some.row
-          false few found.1,
+    search (
+      arith,
+      (rows_more c.args.tested.now.formula.now c.args.tested.now.circuit.now c.args.tested.now.literals.now c.args.places.now (256 * c.loop-block.block) c.eval_block_by.new.values c.matrix_lanes-hold.result c.eval_block_by.ensures.valuation c.matrix_lanes-hold.ensures.bits (2 ^ length c.args.tested.now.formula.now.universals) c.in-Some.row),
+      (row_test c.args.tested.now.formula.now c.args.tested.now.circuit.now c.args.tested.now.literals.now c.args.places.now (256 * c.loop-block.block) c.eval_block_by.new.values c.matrix_lanes-hold.result c.eval_block_by.ensures.valuation c.matrix_lanes-hold.ensures.bits c.in-Some.row false),
     )
 
 pub loop-block-preserved : goal.loop-block-preserved

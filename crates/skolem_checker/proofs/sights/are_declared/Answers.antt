@@ -4,6 +4,7 @@ use Rattle.skolem_checker.proofs.sights.are_declared.Goals as goal
 
 pub returns-clause-declared : goal.returns-clause-declared
 returns-clause-declared c all i e at q below reads =
-    allowed_is_declared c.args.tested.now.formula.now c.note_sets.new.listed c.note_sets.new.stops i q e
-    (c.note_sets.ensures.noted i e at)
-    (c.are_allowed.ensures all i q (omega (arith, at.0, c.requires.few)) below reads) below
+    search (
+      arith,
+      (allowed_is_declared c.args.tested.now.formula.now c.note_sets.new.listed c.note_sets.new.stops i q e (c.note_sets.ensures.noted i e at)),
+    )

@@ -1,4 +1,4 @@
-use Rattle.std.proofs.Common.{sym, subst}
+use Rattle.std.proofs.Common.{sym, subst, arith}
 use Rattle.dq_formula.specs.Dependencies.{dependencies}
 use Rattle.skolem_checker.specs.Reads.{IsSetNoted}
 use Rattle.skolem_checker.proofs.SightsLaws.{prefix_noted, list_noted}
@@ -13,9 +13,4 @@ returns-in-FirstOf-clause-noted c =
     c.set_bit.ensures.set)
 
 pub returns-in-Listed-clause-noted : goal.returns-in-Listed-clause-noted
-returns-in-Listed-clause-noted c =
-    let f = c.args.f.now in
-    subst (λ set. IsSetNoted f c.list.new.listed c.set_bit-in-Listed.new.words c.args.i (dependencies f.universals set))
-    (sym c.in-Listed.is)
-    (list_noted f c.list.new.listed c.args.stops.now c.set_bit-in-Listed.new.words c.in-Listed.universals c.args.i
-    (rw c.items.ensures at c.list.ensures.lists) c.set_bit-in-Listed.ensures.set)
+returns-in-Listed-clause-noted c = search (arith, list_noted)

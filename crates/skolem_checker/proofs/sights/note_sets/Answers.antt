@@ -1,6 +1,5 @@
-use Rattle.std.proofs.Common.{inl, inr, sym, ◌∙◌, subst, refl, arith}
+use Rattle.std.proofs.Common.{inl, inr, ◌∙◌, arith}
 use Rattle.std.proofs.lemmas.Bool.{cases_eq}
-use Rattle.skolem_checker.specs.Reads.{IsSetNoted, IsNoted}
 use Rattle.skolem_checker.proofs.SightsLaws.{told_at, set_told, noted_along}
 use Rattle.skolem_checker.proofs.sights.note_sets.Goals as goal
 
@@ -14,12 +13,7 @@ loop-i-preserved c =
       stops_length = c.note_set.ensures.stops_length ∙ c.loop-i.invariant.stops_length;
       noted = λ j e lt at.
           elim (cases_eq j c.loop-i.i) [
-            | inl same ↦
-                subst (λ k. IsSetNoted f listed stops k e.sees) (sym same)
-                (told_at f c.args.ys.now j c.loop-i.i e (IsNoted f listed stops c.loop-i.i) same at
-                (λ d is. subst (IsSetNoted f listed stops c.loop-i.i)
-                (set_told _ d f.universals c.deps_of.result.now c.deps_of.result.now c.deps_of.ensures.set is refl)
-                c.note_set.ensures.noted))
+            | inl same ↦ search (arith, told_at, set_told)
             | inr other ↦
                 let stays = c.note_set.ensures.others j other in
                 noted_along f c.loop-i.listed c.loop-i.stops listed stops j e.sees stays.0 stays.1
