@@ -1,12 +1,12 @@
 -- What the words of a written number are to the grammar.
-use Rattle.std.proofs.Common.{◌≡◌, ◌≢◌, ◌==◌, ℕ, ◌^◌, ◌<◌, Bool, true, false, ◌&&◌, if◌then◌else◌, List, [], ◌∷◌, length, suc, pos, ◌∙◌, ap, arith}
+use Rattle.std.proofs.Common.{◌≡◌, ◌≢◌, ◌==◌, ℕ, ℤ, ◌^◌, ◌<◌, Bool, true, false, not, ◌&&◌, if◌then◌else◌, List, [], ◌∷◌, length, suc, pos, negsuc, nat_lt, refl, inl, inr, ◌∙◌, ap, arith}
 use Rattle.std.specs.Fmt.{decimal}
 use Rattle.std.specs.Str.{bytes_eq}
-use Rattle.std.proofs.lemmas.Bool.{ne_eqb}
+use Rattle.std.proofs.lemmas.Bool.{cases_Bool, eqb-true, ne_eqb}
 use Rattle.dq_text.proofs.Numerals.{AreDigits, tells, decimal_digits, natural_is_read, negative_is_read}
-use Rattle.dq_text.specs.Number.{number_of}
-use Rattle.dq_text.specs.declared.numbers.Number.TheVariants.{Int}
-use Rattle.dqdimacs_reader.specs.Lexeme.{word_or, lexeme_of, number_lexeme}
+use Rattle.dq_text.specs.Number.{are_digits, decimal_value, unsigned_of, negative_of, number_of}
+use Rattle.dq_text.specs.declared.numbers.Number.TheVariants.{Int, NotANumber, TooBig}
+use Rattle.dqdimacs_reader.specs.Lexeme.{word_or, lexeme_of, lexeme_of_int, number_lexeme}
 use Rattle.dqdimacs_reader.specs.declared.lexemes.Lexeme.{Lexeme}
 use Rattle.dqdimacs_reader.specs.declared.lexemes.Lexeme.TheVariants.{P as LetterP, Cnf, A, D, E, X, Natural, Negative}
 
@@ -54,3 +54,39 @@ natural_word n small = let of = decimal_digits n small in digits_lexeme (decimal
 pub negative_word : (n : ℕ) → suc n < 10 ^ 18 → lexeme_of (45 ∷ decimal (suc n)) ≡ Negative (suc n)
 negative_word n small = number_first 45 (decimal (suc n)) (omega arith) ∙ ap (number_lexeme true)
     (negative_is_read n small)
+
+int_by : (minus : Bool) (n : ℤ) → number_lexeme minus (Int n) ≡ lexeme_of_int n
+int_by minus (pos n) = refl
+int_by minus (negsuc n) = refl
+
+not_digits : (d : ℕ) (ds : List ℕ) → (d == 45) ≡ false → are_digits (d ∷ ds) ≡ false →
+    number_of (d ∷ ds) ≡ NotANumber
+not_digits d ds plain none =
+    ap (λ b. if b then negative_of ds else unsigned_of (d ∷ ds)) plain
+    ∙ ap (λ b. if not b then NotANumber else if nat_lt (decimal_value (d ∷ ds)) (10 ^ 18)
+    then Int (pos (decimal_value (d ∷ ds))) else TooBig) none
+
+digits_small : (d : ℕ) (ds : List ℕ) → are_digits (d ∷ ds) ≡ true → d < 97
+digits_small d ds are = let range = tells.parts d ds are in omega (arith, range.0.1)
+
+number_small : (d : ℕ) (ds : List ℕ) (n : ℤ) → number_of (d ∷ ds) ≡ Int n → d < 97
+number_small d ds n is =
+    elim (cases_Bool (d == 45)) [
+      | inl minus ↦ let e = eqb-true d 45 minus in omega (arith, e)
+      | inr plain ↦
+          elim (cases_Bool (are_digits (d ∷ ds))) [
+            | inl are ↦ digits_small d ds are
+            | inr none ↦ absurd (no_number d ds n is (not_digits d ds plain none))
+          ]
+    ]
+  where
+    no_number : (d : ℕ) (ds : List ℕ) (n : ℤ) → number_of (d ∷ ds) ≡ Int n → number_of (d ∷ ds) ≡ NotANumber → ⊥
+    no_number d ds n is none = cc
+
+pub int_word : (text : List ℕ) (n : ℤ) → number_of text ≡ Int n → lexeme_of text ≡ lexeme_of_int n
+int_word [] n is = absurd (nothing n is)
+  where
+    nothing : (n : ℤ) → NotANumber ≡ Int n → ⊥
+    nothing n is = cc
+int_word (d ∷ ds) n is =
+    number_first d ds (number_small d ds n is) ∙ ap (number_lexeme (d == 45)) is ∙ int_by (d == 45) n

@@ -1,5 +1,5 @@
 -- What a token is to the grammar.
-use Rattle.std.specs.Prelude.{ℕ, suc, pos, negsuc, Bool, List, [], ◌∷◌, codes, if◌then◌else◌}
+use Rattle.std.specs.Prelude.{ℕ, ℤ, suc, pos, negsuc, Bool, List, [], ◌∷◌, codes, if◌then◌else◌}
 use Rattle.std.specs.Str.{bytes_eq}
 use Rattle.dq_text.specs.Number.{begins_with_minus, number_of}
 use Rattle.dq_text.specs.declared.numbers.Number.{Number}
@@ -16,6 +16,11 @@ number_lexeme minus NotANumber = Other
 number_lexeme minus TooBig = if minus then NegativeLarge else Large
 number_lexeme minus (Int (pos n)) = Natural n
 number_lexeme minus (Int (negsuc n)) = Negative (suc n)
+
+-- the lexeme of a number below 10^18
+abbrev pub lexeme_of_int : ℤ → Lexeme
+lexeme_of_int (pos n) = Natural n
+lexeme_of_int (negsuc n) = Negative (suc n)
 
 -- a word of the grammar, or else what is left
 abbrev pub word_or : List ℕ → Lexeme → Lexeme

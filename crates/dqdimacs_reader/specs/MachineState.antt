@@ -1,11 +1,13 @@
 -- The machine's fields as a state of the definition.
-use Rattle.std.specs.Prelude.{◌≡◌, ◌≢◌, ℕ, ◌≤◌, ◌<◌, Bool, true, false, List, length}
+use Rattle.std.specs.Prelude.{◌≡◌, ◌≢◌, ℕ, ◌≤◌, ◌<◌, Bool, true, false, List, length, Option, None}
 use Rattle.std.specs.List.{All, AllPairs}
 use Rattle.dq_lits.specs.Literal.{Literal, positive, negative, variable_of}
 use Rattle.dq_lits.specs.Formula.{Dqbf, is_universal}
 use Rattle.dq_formula.specs.Prefix.{is_declared}
 use Rattle.dqdimacs_reader.specs.Building.{empty_formula}
-use Rattle.dqdimacs_reader.specs.Machine.{State, Reading, before_header, before_format, before_variables, before_clauses, at_part, in_universals, in_existentials, at_dependent, in_dependencies, in_clause, in_xor, max_xor}
+use Rattle.dqdimacs_reader.specs.Machine.{State, Reading, check, advance, literal_or_end, before_header, before_format, before_variables, before_clauses, at_part, in_universals, in_existentials, at_dependent, in_dependencies, in_clause, in_xor, max_xor}
+use Rattle.dqdimacs_reader.specs.declared.faults.FormulaFault.{FormulaFault}
+use Rattle.dqdimacs_reader.specs.declared.lexemes.Lexeme.{Lexeme}
 use Rattle.dqdimacs_reader.specs.declared.machine.Machine.{Machine}
 use Rattle.dqdimacs_reader.specs.declared.machine.Stage.{Stage}
 use Rattle.dqdimacs_reader.specs.declared.machine.Stage.TheVariants.{Header, Format, Variables, Clauses, PrefixPart, Universals, Existentials, Dependent, Dependencies, Clause, Xor}
@@ -71,3 +73,17 @@ IsReaderStateAt Xor r y xs literals = IsClause r literals × IsXorLine literals
 -- what the calls that build the formula ask for
 abbrev pub IsReaderState : Machine → Type 0
 IsReaderState m = IsReaderStateAt m.stage (reading_of m) m.dependent m.dependencies.items m.literals
+
+-- a lexeme passes its checks, and leads on from here to there
+pub record GoesOn (old : Machine) (lexeme : Lexeme) (new : Machine) : Type 0 where
+  pub passed : check (state_of old) lexeme ≡ None
+  pub state : state_of new ≡ advance (state_of old) lexeme
+  pub ready : IsReaderState new
+
+-- A literal on a variable, or the zero in its place, passes these checks, and stands behind the
+-- others from there on.
+pub record TakesLiteral (old : Machine) (checks : Option FormulaFault) (literals : List Literal)
+    (v : ℕ) (is_negative : Bool) (new : Machine) : Type 0 where
+  pub passed : checks ≡ None
+  pub state : state_of new ≡ literal_or_end (reading_of old) literals v (literal_on is_negative v)
+  pub ready : IsReaderState new

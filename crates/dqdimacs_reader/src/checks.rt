@@ -64,6 +64,7 @@ pub fn declared_fault(formula: &Formula, lexeme: Lexeme) -> Option<FormulaFault>
 }
 
 /// At the variable of an item.
+#[inline(always)]
 pub fn dependent_fault(formula: &Formula, lexeme: Lexeme) -> Option<FormulaFault>
     ensures { result
         ≡ check_entry lexeme (check_dependent (record { clauses = 0; constraints = 0; formula = formula.now })) }
@@ -80,6 +81,7 @@ pub fn dependent_fault(formula: &Formula, lexeme: Lexeme) -> Option<FormulaFault
 }
 
 /// At a dependency of an item.
+#[inline(always)]
 pub fn dependency_fault(formula: &Formula, lexeme: Lexeme) -> Option<FormulaFault>
     ensures { result
         ≡ check_entry lexeme (check_dependency (record { clauses = 0; constraints = 0; formula = formula.now })) }
@@ -97,6 +99,7 @@ pub fn dependency_fault(formula: &Formula, lexeme: Lexeme) -> Option<FormulaFaul
 
 /// At the start of a set, an item, a clause or an XOR line, where so many of the last two were read
 /// of those that the header states.
+#[inline(always)]
 pub fn part_fault(
     formula: &Formula,
     constraints: u64,
@@ -122,6 +125,7 @@ pub fn part_fault(
 }
 
 /// Inside a clause.
+#[inline(always)]
 pub fn literal_fault(formula: &Formula, lexeme: Lexeme) -> Option<FormulaFault>
     ensures { result
         ≡ check_in_clause (record { clauses = 0; constraints = 0; formula = formula.now }) lexeme }
@@ -136,6 +140,7 @@ pub fn literal_fault(formula: &Formula, lexeme: Lexeme) -> Option<FormulaFault>
 }
 
 // A literal of a clause by its variable, or the zero that ends it.
+#[inline(always)]
 fn number_fault(formula: &Formula, v: u64) -> Option<FormulaFault>
     ensures { result
         ≡ check_literal (record { clauses = 0; constraints = 0; formula = formula.now }) v }
@@ -150,6 +155,7 @@ fn number_fault(formula: &Formula, v: u64) -> Option<FormulaFault>
 }
 
 // Where so many clauses come to the matrix.
+#[inline(always)]
 fn room_fault(formula: &Formula, more: usize) -> Option<FormulaFault>
     requires { more ≤ 16 }
     ensures { result

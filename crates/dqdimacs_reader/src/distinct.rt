@@ -4,7 +4,7 @@
 //! The set is made anew for each long clause: to clear a large one for each small clause would be
 //! quadratic.
 
-ghost use Rattle.std.specs.Prelude.{◌≡◌, [], IfOk, IfSome, OnOk, OnErr, not};
+ghost use Rattle.std.specs.Prelude.{◌≡◌, [], None, IfOk, IfSome, OnOk, OnErr, not};
 ghost use Rattle.std.specs.List.{list_any};
 ghost use Rattle.dq_lits.specs.Literal.{same_literal};
 ghost use Rattle.dqdimacs_reader.specs.Building.{add_literal};
@@ -54,14 +54,18 @@ impl DistinctLiterals {
     }
 
     /// Takes all literals away, and keeps their memory.
+    #[inline(always)]
     pub fn clear(&mut self)
         ensures { self.new ≡ [] }
     {
         self.literals.clear();
-        self.keys = None;
+        if self.keys.is_some() {
+            forget(&mut self.keys);
+        }
     }
 
     /// Adds a literal, unless it is there already.
+    #[inline(always)]
     pub fn add(&mut self, literal: Lit) -> Result<(), Memory>
         ensures ok { OnOk result (self.new ≡ add_literal self.old literal) }
         ensures err { OnErr result (self.new ≡ self.old) }
@@ -80,22 +84,34 @@ impl DistinctLiterals {
     }
 }
 
+// Lets the keys go. Few clauses have them, and what calls it is to stay small.
+#[inline(never)]
+fn forget(keys: &mut Option<NumberSet>)
+    ensures { keys.new ≡ None }
+{
+    *keys = None;
+}
+
+#[inline(always)]
 fn add_to_few(literals: &mut Vec<Lit>, literal: Lit) -> Result<(), Memory>
     ensures ok { OnOk result (literals.new.items ≡ add_literal literals.old.items literal) }
     ensures err { OnErr result (literals.new.items ≡ literals.old.items) }
 {
     if !is_among(literals, literal) {
-        literals.push(literal)?;
+        literals.reserve(1)?;
+        literals.push_reserved(literal);
     }
     Ok(())
 }
 
+#[inline(always)]
 fn is_among(literals: &[Lit], literal: Lit) -> bool
     ensures { result ≡ list_any (same_literal literal) literals.now }
 {
     literals.iter().any(|l| *l == literal)
 }
 
+#[inline(never)]
 fn add_by_key(
     alloc: Global,
     literals: &mut Vec<Lit>,

@@ -1,7 +1,7 @@
 //! What a token is to the grammar.
 
 ghost use Rattle.std.specs.Prelude.{◌≡◌, false};
-ghost use Rattle.dqdimacs_reader.specs.Lexeme.{number_lexeme, word_or, lexeme_of, summary_lexeme};
+ghost use Rattle.dqdimacs_reader.specs.Lexeme.{number_lexeme, lexeme_of_int, word_or, lexeme_of, summary_lexeme};
 
 use dq_text::{Head, Number, TokenSummary, has_minus, is_word, read_number, summary_number};
 
@@ -94,7 +94,17 @@ fn number(minus: bool, number: Number) -> Lexeme
         Number::NotANumber => Lexeme::Other,
         Number::TooBig if minus => Lexeme::NegativeLarge,
         Number::TooBig => Lexeme::Large,
-        Number::Int(n) if n < 0 => Lexeme::Negative(n.unsigned_abs()),
-        Number::Int(n) => Lexeme::Natural(n.unsigned_abs()),
+        Number::Int(n) => number_lexeme(n),
+    }
+}
+
+/// What a number below 10^18 is to the grammar.
+pub fn number_lexeme(n: i64) -> Lexeme
+    ensures { result ≡ lexeme_of_int n }
+{
+    if n < 0 {
+        Lexeme::Negative(n.unsigned_abs())
+    } else {
+        Lexeme::Natural(n.unsigned_abs())
     }
 }

@@ -12,6 +12,7 @@ mod faults;
 pub mod laws;
 mod lexemes;
 mod machine;
+mod plain_steps;
 mod reader;
 mod steps;
 mod token_reader;

@@ -40,9 +40,7 @@ pub fn step(machine: &mut Machine, lexeme: Lexeme) -> Result<(), Memory>
         (Stage::Universals, Lexeme::Natural(v)) => declare_universal(machine, v),
         (Stage::Existentials, Lexeme::Natural(v)) => declare_existential(machine, v),
         (Stage::Dependent, Lexeme::Natural(y)) => {
-            machine.dependent = y;
-            machine.dependencies.clear();
-            machine.stage = Stage::Dependencies;
+            begin_dependencies(machine, y);
             Ok(())
         }
         (Stage::Dependencies, Lexeme::Natural(x)) => take_dependency(machine, x),
@@ -80,8 +78,9 @@ fn begin_part(machine: &mut Machine, lexeme: Lexeme) -> Result<(), Memory>
     Ok(())
 }
 
-// A clause or an XOR line begins, where the header's number has one more.
-fn begin_literals(machine: &mut Machine, stage: Stage)
+/// A clause or an XOR line begins, where the header's number has one more.
+#[inline(always)]
+pub fn begin_literals(machine: &mut Machine, stage: Stage)
     requires due { machine.old.constraints < machine.old.clauses }
     ensures reading { reading_of machine.new ≡ reading_of machine.old }
     ensures stage { machine.new.stage ≡ stage }
@@ -123,8 +122,22 @@ fn declare_existential(machine: &mut Machine, v: u64) -> Result<(), Memory>
     machine.formula.add_first(v)
 }
 
-// A dependency of an item, or its end.
-fn take_dependency(machine: &mut Machine, x: u64) -> Result<(), Memory>
+/// The variable of an item.
+#[inline(always)]
+pub fn begin_dependencies(machine: &mut Machine, y: u64)
+    requires stage { machine.old.stage ≡ Stage.Dependent }
+    requires ready { IsReaderState machine.old }
+    requires passed { check (state_of machine.old) (Lexeme.Natural y) ≡ None }
+    ensures state { state_of machine.new ≡ advance (state_of machine.old) (Lexeme.Natural y) }
+    ensures ready { IsReaderState machine.new }
+{
+    machine.dependent = y;
+    machine.dependencies.clear();
+    machine.stage = Stage::Dependencies;
+}
+
+/// A dependency of an item, or its end.
+pub fn take_dependency(machine: &mut Machine, x: u64) -> Result<(), Memory>
     requires stage { machine.old.stage ≡ Stage.Dependencies }
     requires ready { IsReaderState machine.old }
     requires passed { check_dependency (reading_of machine.old) x ≡ None }
@@ -143,8 +156,9 @@ fn take_dependency(machine: &mut Machine, x: u64) -> Result<(), Memory>
     Ok(())
 }
 
-// A literal of a clause by its variable, or the clause's end.
-fn take_literal(machine: &mut Machine, v: u64, negative: bool) -> Result<(), Memory>
+/// A literal of a clause by its variable, or the clause's end.
+#[inline(always)]
+pub fn take_literal(machine: &mut Machine, v: u64, negative: bool) -> Result<(), Memory>
     requires stage { machine.old.stage ≡ Stage.Clause }
     requires ready { IsReaderState machine.old }
     requires passed { check_literal (reading_of machine.old) v ≡ None }

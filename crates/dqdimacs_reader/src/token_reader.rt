@@ -12,8 +12,9 @@ ghost use Rattle.dqdimacs_reader.specs.declared.faults.ReadStop.{ReadStop as Sto
 ghost use Rattle.dqdimacs_reader.specs.declared.faults.ReadStop.TheVariants.{Memory as OutOfMemory};
 
 use crate::faults::{FormulaFault, ReadStop};
-use crate::lexemes::{Lexeme, classify, classify_summary};
+use crate::lexemes::{Lexeme, classify, classify_summary, number_lexeme};
 use crate::machine::{Machine, Stage, start, token_fault};
+use crate::plain_steps::take_plain;
 use crate::steps::step;
 use dq_formula::Formula;
 use dq_lits::Memory;
@@ -76,6 +77,7 @@ impl TokenReader {
     }
 
     // Takes the next token as a lexeme.
+    #[inline(always)]
     fn take(&mut self, lexeme: Lexeme, line: u64)
         ensures { (token : SummarizedToken) (tokens : List SummarizedToken) (last : ℕ)
             (answer : Result Dqbf Stop)
@@ -83,8 +85,13 @@ impl TokenReader {
             → may_answer self.new tokens last answer
             → may_answer self.old (token ∷ tokens) last answer }
     {
-        if self.stopped.is_none() {
-            self.stopped = stop_at(&mut self.machine, lexeme, line);
+        if self.stopped.is_some() {
+            return;
+        }
+        match take_plain(&mut self.machine, lexeme) {
+            Ok(true) => {}
+            Ok(false) => self.stopped = stop_at(&mut self.machine, lexeme, line),
+            Err(Memory) => self.stopped = Some(ReadStop::Memory),
         }
     }
 }
@@ -94,12 +101,21 @@ impl TakesTokens for TokenReader {
 
     ghost gives = { may_answer };
 
+    #[inline(never)]
     fn token(&mut self, text: &[u8], line: u64) -> Result<(), Memory> {
         summaries_tell_words_and_numbers();
         self.take(classify(text), line);
         Ok(())
     }
 
+    #[inline(always)]
+    fn number(&mut self, number: i64, line: u64) -> Result<(), Memory> {
+        summaries_tell_words_and_numbers();
+        self.take(number_lexeme(number), line);
+        Ok(())
+    }
+
+    #[inline(never)]
     fn summary(&mut self, token: TokenSummary, line: u64) -> Result<(), Memory> {
         self.take(classify_summary(token), line);
         Ok(())
@@ -107,6 +123,7 @@ impl TakesTokens for TokenReader {
 }
 
 // What stops the reading at a token, if anything does; else the machine goes on behind it.
+#[inline(never)]
 fn stop_at(machine: &mut Machine, lexeme: Lexeme, line: u64) -> Option<ReadStop>
     requires { IsReaderState machine.old }
     ensures taken { goes_to (state_of machine.old) lexeme line
