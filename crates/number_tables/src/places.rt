@@ -58,6 +58,7 @@ impl Places {
     }
 
     /// Gives a place to a number that has none.
+    #[inline(always)]
     pub(crate) fn put(&mut self, number: u64, place: usize) -> Result<(), Memory>
         requires { place_in self.old number ≡ None }
         ensures ok { OnOk result (Puts (place_in self.old) (place_in self.new) number place) }
@@ -101,6 +102,7 @@ fn slot(table: &[u32], number: u64) -> u32
 }
 
 // Writes a place into the table, which grows to hold it.
+#[inline(always)]
 fn write(table: &mut Vec<u32>, number: usize, place: u32) -> Result<(), Memory>
     requires { number < 2 ^ 40 }
     ensures ok { OnOk result ((n : ℕ) → slice_index_or table.new.items n 4294967295

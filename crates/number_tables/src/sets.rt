@@ -70,6 +70,7 @@ impl NumberSet {
 
     /// Adds a number behind the others, unless it is there already, and says whether it wasn't. The
     /// only error is want of memory, and then nothing changed.
+    #[inline(always)]
     pub fn insert(&mut self, number: u64) -> Result<bool, Memory>
         ensures added { IfOk result (λ is_new. is_new ≡ not (has_number self.old number)) }
         ensures numbers { OnOk result (self.new ≡ with_number self.old number) }
