@@ -1,11 +1,12 @@
 //! Numbers of few digits, read in one pass over their bytes.
 
 ghost use Rattle.std.specs.Prelude.{◌≡◌, ◌≤◌, ◌<◌, ◌^◌, ◌∷◌, false, pos, neg_ℤ, length, map, take, IfSome};
+ghost use Rattle.dq_text.specs.Bytes.{kind_of};
 ghost use Rattle.dq_text.specs.Line.{line_tokens};
 ghost use Rattle.dq_text.specs.Number.{number_of};
 ghost use Rattle.dq_text.specs.Pieces.{begins_with_separator};
 ghost use Rattle.dq_text.specs.ShortNumber.{AreFewDigits, BeginsWithNatural, EndsNatural, EndsNumber, IsLeadingValue};
-ghost use Rattle.dq_text.specs.Token.{goes_on};
+ghost use Rattle.dq_text.specs.Token.{goes_on, is_separator};
 ghost use Rattle.dq_text.specs.declared.numbers.Number.TheVariants.{Int};
 
 use crate::cursors::separates;
@@ -150,8 +151,38 @@ fn begins_with_separator(bytes: &[u8]) -> bool
 {
     match bytes.split_first() {
         None => false,
-        Some((byte, _)) => separates(*byte),
+        Some((byte, _)) => ends_word(*byte),
     }
+}
+
+// Whether a byte is a separator, in fewest steps for a space and an LF.
+#[inline(always)]
+fn ends_word(byte: u8) -> bool
+    ensures { result ≡ is_separator (kind_of byte) }
+{
+    match byte {
+        b'\n' => true,
+        _ => parts_words(byte),
+    }
+}
+
+// The same in fewest steps for a space.
+#[inline(always)]
+fn parts_words(byte: u8) -> bool
+    ensures { result ≡ is_separator (kind_of byte) }
+{
+    match byte {
+        b' ' => true,
+        _ => is_rare_separator(byte),
+    }
+}
+
+// The same for any byte. Few numbers end before a tab or a CR, and what calls it is to stay small.
+#[inline(never)]
+fn is_rare_separator(byte: u8) -> bool
+    ensures { result ≡ is_separator (kind_of byte) }
+{
+    separates(byte)
 }
 
 #[inline(always)]
@@ -189,6 +220,6 @@ fn behind_token(bytes: &[u8]) -> Option<&[u8]>
 {
     match bytes.split_first() {
         None => Some(bytes),
-        Some((byte, rest)) => { if separates(*byte) { Some(rest) } else { None } }
+        Some((byte, rest)) => { if parts_words(*byte) { Some(rest) } else { None } }
     }
 }
