@@ -128,8 +128,8 @@ pub fn literal(number: i64) -> Lit
     }
 }
 
-// Takes ids below this one, and the 0 behind them.
-#[inline(always)]
+// Takes ids below this one, and the 0 behind them. By itself its loop stays in registers.
+#[inline(never)]
 fn take_hints<'a>(id: u64, line: &'a [u8], hints: &mut Vec<u64>) -> Result<Option<&'a [u8]>, Memory>
     ensures { IfOk result
         (λ left.
