@@ -83,6 +83,7 @@ impl Existentials {
     }
 
     // Puts one that isn't there behind the others.
+    #[inline(always)]
     pub(crate) fn push(&mut self, y: u64, set: Deps) -> Result<(), Memory>
         requires { has_number (keys_of self.old) y ≡ false }
         ensures ok { OnOk result (self.new ≡ self.old ++ (y, set) ∷ []) }

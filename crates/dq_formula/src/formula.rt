@@ -404,6 +404,7 @@ impl Formula {
     }
 
     /// Adds a clause with these literals, as they stand, behind those added before.
+    #[inline(always)]
     pub fn add_clause(&mut self, lits: &[Lit]) -> Result<(), Memory>
         requires in_range { All (λ l. variable_of l ≤ self.old.variables) lits.now }
         requires few { length self.old.matrix < MAX_CLAUSES }

@@ -64,6 +64,7 @@ impl Matrix {
     }
 
     // Adds a clause behind the others.
+    #[inline(always)]
     pub(crate) fn push(&mut self, clause: &[Lit]) -> Result<(), Memory>
         requires { length self.old < MAX_CLAUSES }
         ensures ok { OnOk result (self.new ≡ self.old ++ clause.now ∷ []) }

@@ -321,8 +321,8 @@ fn to_line_end(bytes: &[u8]) -> &[u8]
     &bytes[line.len()..]
 }
 
-// The number that begins here, where no token is begun and it ends in these bytes. It may be found
-// as another token.
+// The number that begins here, where no token is begun and it ends in these bytes. One that isn't
+// found here is taken as any token.
 #[inline(always)]
 fn plain_number<'a>(pieces: &TokenPieces, bytes: &'a [u8]) -> Option<(i64, &'a [u8])>
     ensures { IfSome result
