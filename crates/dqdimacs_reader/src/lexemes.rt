@@ -1,6 +1,6 @@
 //! What a token is to the grammar.
 
-ghost use Rattle.std.specs.Prelude.{◌≡◌, false};
+ghost use Rattle.std.specs.Prelude.{◌≡◌, false, MatchOption};
 ghost use Rattle.dqdimacs_reader.specs.Lexeme.{number_lexeme, lexeme_of_int, word_or, lexeme_of, summary_lexeme};
 
 use dq_text::{Head, Number, TokenSummary, has_minus, is_word, read_number, summary_number};
@@ -35,11 +35,12 @@ pub enum Lexeme {
 pub fn classify(text: &[u8]) -> Lexeme
     ensures { result ≡ lexeme_of text.now }
 {
-    let lexeme = number(has_minus(text), read_number(text));
-    if may_be_word(text) {
-        word_or(text, lexeme)
-    } else {
-        lexeme
+    if !may_be_word(text) {
+        return number(has_minus(text), read_number(text));
+    }
+    match word(text) {
+        Some(lexeme) => lexeme,
+        None => number(has_minus(text), read_number(text)),
     }
 }
 
@@ -70,20 +71,31 @@ pub fn classify_summary(token: TokenSummary) -> Lexeme
 fn word_or(text: &[u8], lexeme: Lexeme) -> Lexeme
     ensures { result ≡ word_or text.now lexeme }
 {
+    match word(text) {
+        Some(word) => word,
+        None => lexeme,
+    }
+}
+
+// The word of the grammar that a token is, if it is one.
+fn word(text: &[u8]) -> Option<Lexeme>
+    ensures { MatchOption result ((rest : Lexeme) → word_or text.now rest ≡ rest)
+        (λ lexeme. (rest : Lexeme) → word_or text.now rest ≡ lexeme) }
+{
     if is_word(text, b"p") {
-        Lexeme::P
+        Some(Lexeme::P)
     } else if is_word(text, b"cnf") {
-        Lexeme::Cnf
+        Some(Lexeme::Cnf)
     } else if is_word(text, b"a") {
-        Lexeme::A
+        Some(Lexeme::A)
     } else if is_word(text, b"d") {
-        Lexeme::D
+        Some(Lexeme::D)
     } else if is_word(text, b"e") {
-        Lexeme::E
+        Some(Lexeme::E)
     } else if is_word(text, b"x") {
-        Lexeme::X
+        Some(Lexeme::X)
     } else {
-        lexeme
+        None
     }
 }
 
