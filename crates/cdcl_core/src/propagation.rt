@@ -21,13 +21,14 @@ ghost use Rattle.cdcl_core.specs.Visits.{IsOtherAt, IsVisitable, IsLooked, IsOth
 
 use crate::arenas::Arena;
 use crate::cursors::{Cursors, has_place};
+use crate::delays::still_waits;
 use crate::watches::{OpenList, Watches, close, first_of, has_list, put_back, put_elsewhere};
 use dq_lits::TruthValue;
 use learning_trail::{ClauseStatus, Code, Step, Trail, is_false, is_true, status_of};
 
 /// Propagates to the end, or to a falsified clause, whose id it answers. All literals but the
 /// newest one were processed. The clauses that are watched second at a false literal may wait for
-/// all those that are watched first at one.
+/// those that are watched first at one.
 pub(crate) fn propagate(
     trail: &mut Trail,
     arena: &Arena,
@@ -87,8 +88,8 @@ fn pass_short(trail: &mut Trail, arena: &Arena, short: &[u64]) -> Option<u64>
 }
 
 // Visits the clauses that are watched at the negation of a true literal, from a place of the trail
-// on. Those that are watched second at one wait until all that are watched first were visited, at
-// whichever literal, or for those at the same literal alone.
+// on. Those that are watched second at one wait until those that are watched first were visited, at
+// this literal and at so many further ones, or at the same literal alone.
 fn visit_from(
     trail: &mut Trail,
     arena: &Arena,
@@ -110,7 +111,8 @@ fn visit_from(
     let mut second_at = from;
     'visits: loop {
         let is_more = at < trail.len();
-        if second_at < at && !(waits && is_more) {
+        let wait = still_waits(waits, second_at, at);
+        if second_at < at && !(wait && is_more) {
             if let Some(id) = visit_at(trail, arena, cursors, second, first, second_at) {
                 return Some(id);
             }
