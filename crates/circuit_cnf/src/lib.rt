@@ -11,6 +11,7 @@ mod circuits;
 mod doubts;
 mod failures;
 mod fault_clauses;
+mod few_rows;
 mod gates;
 pub mod laws;
 mod leaves;

@@ -266,6 +266,7 @@ impl Checker {
             × IsAtLimit log.new (positive (group_of self.now) ∷ positive group ∷ []) }
     {
         faults.say(oracle, bads, part, log)?;
+        self.focus_on_rows(oracle, faults.f);
         match oracle.solve(&[self.gates.group, *faults.group], &[], log)? {
             Answer::Unsat(id) => Ok(Some(id)),
             Answer::Sat => Ok(None),
