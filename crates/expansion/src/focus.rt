@@ -7,7 +7,8 @@
 //! the newest open clause true, which mends the boxes in the order of the clauses: by turns 13
 //! rounds, and 12 for a chain of 32. So both take turns at first, each twice as many rounds long as
 //! the one before, where the newest row looks like that of boxes between gates: most of its arbiters
-//! are new, as those of gates are, which see all universals, and some aren't.
+//! are new, as those of gates are, which see all universals, and some aren't. It is the first two
+//! turns of the other kind that mend such chains; where they don't, further ones never did.
 
 use crate::tables::Table;
 use dq_lits::Memory;
@@ -45,10 +46,11 @@ impl Table {
     }
 }
 
-// Whether it is the other one's turn behind so many rows: turns are of 1, 2, 4, 8, 16 and 32 rounds.
-// Where it has mended nothing by then it won't: chains of boxes without gates take longer by it.
+// Whether it is the other one's turn behind so many rows: turns are of 1, 2, 4 and 8 rounds. Where it
+// has mended nothing by then it won't: chains of boxes without gates take a round more for each of
+// its rounds.
 fn is_other_turn(rows: usize) -> bool {
-    matches!(rows, 1..=2 | 7..=14 | 31..=62)
+    matches!(rows, 1..=2 | 7..=14)
 }
 
 // The greatest of some variables, or 0.
