@@ -12,6 +12,9 @@ pub(crate) struct Index {
     // Where each existential's numbers begin.
     starts: Vec<usize>,
     numbers: Vec<u32>,
+    // The number of an empty clause, if there is one: then the matrix is never true, so that a constant
+    // is right for every existential, and no other clause is to be looked at.
+    empty: Vec<u32>,
 }
 
 impl Index {
@@ -21,11 +24,18 @@ impl Index {
         let total = add_up(&mut starts);
         let mut numbers = zeros(alloc, total)?;
         fill(f, &mut starts, &mut numbers);
-        Ok(Index { starts, numbers })
+        Ok(Index {
+            starts,
+            numbers,
+            empty: first_empty(alloc, f)?,
+        })
     }
 
-    /// The numbers of the clauses on an existential.
+    /// The numbers of the clauses on an existential; that of an empty clause, if there is one.
     pub(crate) fn on(&self, f: &Formula, y: u64) -> &[u32] {
+        if !self.empty.is_empty() {
+            return &self.empty;
+        }
         let Some(place) = f.existential_place(y) else {
             return &[];
         };
@@ -45,6 +55,18 @@ impl Index {
             None => self.numbers.len(),
         }
     }
+}
+
+// The number of the first clause without literals.
+fn first_empty(alloc: Global, f: &Formula) -> Result<Vec<u32>, Memory> {
+    let mut found = Vec::new(alloc);
+    for number in 0..f.clauses() {
+        if f.clause(number).is_empty() {
+            found.push(number as u32)?;
+            return Ok(found);
+        }
+    }
+    Ok(found)
 }
 
 fn zeros(alloc: Global, count: usize) -> Result<Vec<u32>, Memory> {
