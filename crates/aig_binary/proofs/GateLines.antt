@@ -14,11 +14,7 @@ abbrev NoFeed : ℕ → Type 0
 NoFeed byte = byte ≢ 10
 
 module _ (old mid : AigLines) (text : List ℕ) where
-  -- the gates go on behind the text's end
-  pub last_gates : TakesBytes old text (Ok None) mid → GoesOn old text false mid
-  last_gates takes = search (arith, append-nil)
-
-  -- or behind the line's
+  -- the gates go on behind the line's end
   module _ (new : AigLines) (takes : TakesBytes old text (Ok None) mid) where
     to_feed : (behind : List ℕ) → binary_gives old (text ++ (10 ∷ behind)) ≡ binary_gives mid (10 ∷ behind)
     to_feed behind = takes (10 ∷ behind)

@@ -1,25 +1,18 @@
 -- From the header to the outputs, from these to the gates, and from the gates to the symbols.
-use Rattle.std.proofs.Common.{◌≡◌, ℕ, ◌+◌, ◌-◌, ◌<◌, List, [], length, Result, Err, ap, arith, append-nil}
+use Rattle.std.proofs.Common.{◌≡◌, ℕ, ◌+◌, ◌<◌, List, [], length, Result, Err, ap, arith, append-nil}
 use Rattle.circuit_plain.specs.Netlist.{Netlist}
 use Rattle.aiger_text.specs.ReaderState.{body_of}
-use Rattle.aiger_text.specs.Scan.{Body, LineFault, start}
+use Rattle.aiger_text.specs.Scan.{LineFault, start}
 use Rattle.aiger_text.specs.declared.faults.AagFault.TheVariants.{Truncated}
 use Rattle.aiger_text.specs.declared.files.ReadCircuit.{ReadCircuit}
 use Rattle.aiger_text.specs.declared.headers.Header.{Header}
-use Rattle.aig_binary.specs.Deltas.{and_then}
 use Rattle.aig_binary.specs.FilesByLine.{binary_gives, gives_at, AreGates}
 use Rattle.aig_binary.specs.Gates.{read_gates}
-use Rattle.aig_binary.specs.Scan.{behind_gates, behind_header, behind_outputs, binary_line, on_line, read_outputs}
+use Rattle.aig_binary.specs.Scan.{behind_gates, behind_header, behind_outputs, binary_line, on_line}
 use Rattle.aig_binary.specs.declared.files_by_line.AigLines.{AigLines}
 use Rattle.aig_binary.specs.declared.files_by_line.Place.{Place}
 use Rattle.aig_binary.specs.declared.files_by_line.Place.TheVariants.{Outputs, Gates}
 use Rattle.aig_binary.proofs.Steps.{gate_stops}
-
--- what outputs' lines give, by what was read
-abbrev outputs_give : Body → ℕ → List ℕ → Result ReadCircuit LineFault
-outputs_give b number bytes =
-    and_then (read_outputs (b.header.outputs - length b.netlist.outputs) b.netlist number bytes)
-    (behind_outputs b.header_line b.header)
 
 module _ (l : AigLines) where
   pub gives_there : (place : Place) (bytes : List ℕ) → l.place ≡ place → binary_gives l bytes ≡ gives_at place l bytes
@@ -29,12 +22,6 @@ module _ (l : AigLines) where
   pub outputs_begin : (first : ℕ) (h : Header) (bytes : List ℕ) → l.place ≡ Outputs →
       body_of l.reader ≡ start first h → l.number ≡ first + 1 → behind_header first bytes h ≡ binary_gives l bytes
   outputs_begin first h bytes place is number = search (arith, gives_there)
-
-  -- behind the last output
-  pub outputs_end : (bytes : List ℕ) → l.place ≡ Outputs →
-      length l.reader.circuit.outputs ≡ l.reader.header.outputs →
-      binary_gives l bytes ≡ behind_outputs l.reader.header_line l.reader.header (l.reader.circuit, bytes)
-  outputs_end bytes place all = search (arith, gives_there)
 
 abbrev gates_give : ℕ → Header → ℕ → ℕ → Netlist → List ℕ → Result ReadCircuit LineFault
 gates_give line h more v net bytes = on_line (binary_line line h) (read_gates more v net bytes) (behind_gates line h)

@@ -24,9 +24,6 @@ module _ (h : Header) where
   named t line lines =
       on_line line.number (symbol_line h t (symbol_of line.text)) (λ more. read_symbols h more lines)
 
-  abbrev unless_blank : SymbolTable → TextLine → List TextLine → Result Ending LineFault
-  unless_blank t line lines = cond (begins_comment line.text) (marked t line) (named t line lines)
-
   pub on_blank : (t : SymbolTable) (line : TextLine) (lines : List TextLine) → is_blank_line line.text ≡ true →
       read_symbols h t (line ∷ lines) ≡ read_symbols h t lines
   on_blank t line lines blank = search (arith, cond-true)
