@@ -1,6 +1,6 @@
 -- An accepted definition's existential has the output's value, and that depends only on what the
 -- definition may read.
-use Rattle.std.proofs.Common.{◌≡◌, ◌≢◌, ℕ, zero, suc, ◌+◌, ◌-◌, ◌*◌, ◌≤◌, ◌<◌, ◌==◌, nat_lt, Bool, true, false, cond, not, ◌&&◌, ◌||◌, List, [], ◌∷◌, ◌++◌, map, length, slice_get, None, Some, refl, sym, ap, ap₂, ◌∙◌, subst, arith}
+use Rattle.std.proofs.Common.{◌≡◌, ◌≢◌, ℕ, zero, suc, ◌+◌, ◌-◌, ◌*◌, ◌≤◌, ◌<◌, ◌==◌, nat_lt, Bool, true, false, cond, not, ◌&&◌, List, [], ◌∷◌, ◌++◌, map, length, slice_get, None, Some, refl, sym, ap, ap₂, ◌∙◌, arith}
 use Rattle.std.specs.List.{All, AllByRecursion, Contains, flat_map, list_any}
 use Rattle.std.specs.Option.{option_and_then}
 use Rattle.std.proofs.lemmas.Bool.{eq-eqb, ne_eqb, cond-true, cond-false}
@@ -79,23 +79,7 @@ module _ (variable : (e : ℕ → Bool) (v : ℕ) → literal_bit e (2 * v) ≡ 
   differ_hold : (e : ℕ → Bool) (y out : ℕ) (a b : Bool) → e y ≡ a → literal_bit e out ≡ b → (a ≡ b → ⊥) →
       AllByRecursion (Holds e)
       ((2 * y ∷ out ∷ []) ∷ (opposite_of (2 * y) ∷ opposite_of out ∷ []) ∷ [])
-  differ_hold e y out a b y_is out_is differ =
-      let first : literal_bit e (2 * y) ≡ a = variable e y ∙ y_is in
-      let second : literal_bit e (opposite_of (2 * y)) ≡ not a = opposite e (2 * y) ∙ ap not first in
-      let third : literal_bit e (opposite_of out) ≡ not b = opposite e out ∙ ap not out_is in (
-        ap₂ (λ x z. x || (z || false)) first out_is ∙ some a b differ,
-        (ap₂ (λ x z. x || (z || false)) second third ∙ other a b differ, tt),
-      )
-    where
-      some : (a b : Bool) → (a ≡ b → ⊥) → (a || (b || false)) ≡ true
-      some true b differ = refl
-      some false true differ = refl
-      some false false differ = absurd (differ refl)
-
-      other : (a b : Bool) → (a ≡ b → ⊥) → (not a || (not b || false)) ≡ true
-      other false b differ = refl
-      other true false differ = refl
-      other true true differ = absurd (differ refl)
+  differ_hold e y out a b y_is out_is differ = search arith
 
   clause_at : (e : ℕ → Bool) → e 0 ≡ false → (clauses : List (List ℕ)) → AllByRecursion (Holds e) clauses → (i : ℕ)
       (clause : List Literal) → option_and_then without_constants (slice_get clauses i) ≡ Some clause →
@@ -112,8 +96,7 @@ module _ (variable : (e : ℕ → Bool) (v : ℕ) → literal_bit e (2 * v) ≡ 
   clause_same : (m n : Assignment) (c : List Literal) → AllByRecursion (λ l. m (variable_of l) ≡ n (variable_of l)) c →
       clause_true m c ≡ clause_true n c
   clause_same m n [] same = refl
-  clause_same m n (l ∷ ls) same =
-      ap₂ (λ a b. a || b) (literal_same m n l same.0) (clause_same m n ls same.1)
+  clause_same m n (l ∷ ls) same = search (arith, literal_same, (clause_same m n ls same.1))
 
   module _ (refute : (live : LiveClauses) (items : List ProofItem) → ItemsDerive live items → (m : Assignment) →
       MakesTrue m live → ⊥)
@@ -134,9 +117,7 @@ module _ (variable : (e : ℕ → Bool) (v : ℕ) → literal_bit e (2 * v) ≡ 
           ∙ cond-false (v == 0) false (m v) (ne_eqb v 0 apart)
 
       zeroed : end 0 ≡ false
-      zeroed =
-          kept_bit f start (f.variables + 1) d.gates lawful.gates 0 (omega arith)
-          ∙ cond-true (0 == 0) false (m 0) refl
+      zeroed = search (arith, kept_bit, cond-true)
 
       declared_same : (v : ℕ) → Contains (declared f) v → end v ≡ m v
       declared_same v is =
@@ -160,9 +141,7 @@ module _ (variable : (e : ℕ → Bool) (v : ℕ) → literal_bit e (2 * v) ≡ 
       in_matrix : (clauses : List (List Literal)) → AllByRecursion (λ c. clause_true end c ≡ true) clauses → (i : ℕ)
           (clause : List Literal) → slice_get clauses i ≡ Some clause → clause_true end clause ≡ true
       in_matrix [] all i clause is = cc
-      in_matrix (c ∷ clauses) all zero clause is =
-          let same : c ≡ clause = cc in
-          subst (λ x. clause_true end x ≡ true) same all.0
+      in_matrix (c ∷ clauses) all zero clause is = search arith
       in_matrix (c ∷ clauses) all (suc i) clause is = in_matrix clauses all.1 i clause is
 
       base_true : (a b : Bool) → m d.existential ≡ a → literal_bit end d.output ≡ b → (a ≡ b → ⊥) →

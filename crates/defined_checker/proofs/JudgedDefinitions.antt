@@ -1,5 +1,5 @@
 -- A definition that reads only what it may is judged by its proof.
-use Rattle.std.proofs.Common.{◌≡◌, Option, None, Some, sym, subst}
+use Rattle.std.proofs.Common.{◌≡◌, Option, None, Some, arith}
 use Rattle.dq_lits.specs.Derivation.{ProofFault, proof_fault, underived, unfinished}
 use Rattle.dq_lits.specs.Formula.{Existential, Dqbf, existential_of}
 use Rattle.cert_text.specs.DefinitionBlocks.{Definition, defined}
@@ -19,5 +19,4 @@ pub judged_steps : (f : Dqbf) (d : Definition) (y : Existential) (fault : Option
     (said : Option DefinitionFault) → existential_of f d.existential ≡ Some y → ReadsItsOwn f y d →
     fault ≡ proof_fault (definition_base f d) d.steps → said ≡ named_fault d.existential fault →
     IsJudged f (defined d) said
-judged_steps f d y fault said is own h names =
-    subst (IsJudged f (defined d)) (sym names) (by_fault f d y fault is own (sym h))
+judged_steps f d y fault said is own h names = search (arith, by_fault)

@@ -1,5 +1,5 @@
 -- The least of some variables that no definition may read, looked for one by one.
-use Rattle.std.proofs.Common.{◌≡◌, ℕ, ◌+◌, ◌≤◌, ◌<◌, nat_lt, cond, ◌⊎◌, inl, inr, List, length, get_or, Option, None, Some, refl, sym, ap, ◌∙◌, subst, arith}
+use Rattle.std.proofs.Common.{◌≡◌, ℕ, ◌+◌, ◌≤◌, ◌<◌, nat_lt, cond, ◌⊎◌, inl, inr, List, length, get_or, Option, None, Some, refl, sym, ap, subst, arith}
 use Rattle.std.specs.List.{All, Contains}
 use Rattle.std.proofs.lemmas.Bool.{cases_Bool, ltb-true, ltb-false}
 use Rattle.std.proofs.lemmas.List.{get_or_default}
@@ -22,11 +22,7 @@ module _ (May : ℕ → Type 0) (xs : List ℕ) where
   nothing k below = absurd (omega (arith, below))
 
   at_last : (k i : ℕ) → k < i + 1 → (k < i) ⊎ (k ≡ i)
-  at_last k i below =
-      elim (cases_Bool (nat_lt k i)) [
-        | inl low ↦ inl (ltb-true k i low)
-        | inr other ↦ let high = ltb-false k i other in inr (omega (arith, below, high))
-      ]
+  at_last k i below = search (arith, cases_Bool, nat_lt, ltb-true, ltb-false)
 
   pub passed : (i : ℕ) (least : Option ℕ) → IsLeastBefore i least → May (get_or xs i 0) → IsLeastBefore (i + 1) least
   passed i None before may =
@@ -79,31 +75,15 @@ module _ (May : ℕ → Type 0) (xs : List ℕ) where
       ]
 
   pub all_may : (i : ℕ) → length xs ≤ i → IsLeastBefore i None → All May xs
-  all_may i end before k d below =
-      subst May (get_or_default xs k 0 d below) (before k (omega (arith, below, end)))
+  all_may i end before k d below = search (arith, get_or_default)
 
   pub is_least : (i v : ℕ) → length xs ≡ i → IsLeastBefore i (Some v) →
       Contains xs v × ((May v → ⊥) × ((w : ℕ) → Contains xs w → (May w → ⊥) → v ≤ w))
-  is_least i v end before =
-      let k = before.0.0 in
-      let low : k < length xs = omega (arith, before.0.1.0, end) in (
-        (k, low, get_or_default xs k v 0 low ∙ before.0.1.1.0),
-        (
-          (λ may. before.0.1.1.1 (subst May (sym before.0.1.1.0) may)),
-          λ w there foreign.
-              let is : get_or xs there.0 0 ≡ w = get_or_default xs there.0 0 w there.1 ∙ there.2 in
-              subst (λ n. v ≤ n) is
-              (before.1 there.0 (omega (arith, there.1, end)) (λ may. foreign (subst May is may))),
-        ),
-      )
+  is_least i v end before = search (arith, get_or_default)
 
 pub with_one : (May : ℕ → Type 0) (xs : List ℕ) (i : ℕ) (least new : Option ℕ) → IsLeastBefore May xs i least →
     IsWithLeaf (May (get_or xs i 0)) least (get_or xs i 0) new → IsLeastBefore May xs (i + 1) new
-with_one May xs i least new before step =
-    elim step [
-      | inl may ↦ subst (IsLeastBefore May xs (i + 1)) (sym may.1) (passed May xs i least before may.0)
-      | inr foreign ↦ subst (IsLeastBefore May xs (i + 1)) (sym foreign.1) (found May xs i least before foreign.0)
-    ]
+with_one May xs i least new before step = search arith
 
 pub answer : (f : Dqbf) (y : Existential) (xs : List ℕ) (i : ℕ) (least : Option ℕ) → length xs ≤ i → i ≤ length xs →
     IsLeastBefore (MayDefine f y) xs i least → IsLeastForeign f y xs least

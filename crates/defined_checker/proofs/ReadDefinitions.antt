@@ -1,5 +1,5 @@
 -- A definition's value depends only on what is in its cone.
-use Rattle.std.proofs.Common.{◌≡◌, ◌≢◌, ℕ, zero, suc, ◌+◌, ◌≤◌, ◌<◌, ◌==◌, nat_le, Bool, true, false, ◌&&◌, inl, inr, List, [], ◌∷◌, length, refl, sym, ap, ap₂, ◌∙◌, subst, arith}
+use Rattle.std.proofs.Common.{◌≡◌, ℕ, zero, suc, ◌+◌, ◌≤◌, ◌<◌, ◌==◌, nat_le, Bool, true, false, inl, inr, List, [], ◌∷◌, length, refl, sym, ap, ◌∙◌, arith}
 use Rattle.std.specs.List.{Contains}
 use Rattle.std.proofs.lemmas.Bool.{cases_Bool, eqb-true, leb-true, and_parts, cond-true, cond-false, eq-eqb}
 use Rattle.dq_lits.specs.Literal.{Assignment}
@@ -37,31 +37,7 @@ module _ (f : Dqbf) (net : Netlist) (out : ℕ) where
       Agree (at + 1) (with_bit m g.variable (gate_value g (m (left_variable g)) (m (right_variable g))))
       (with_bit n g.variable (gate_value g (n (left_variable g)) (n (right_variable g))))
   one_gate m n at g is low_left low_right in_net agree v below reached =
-      let a = gate_value g (m (left_variable g)) (m (right_variable g)) in
-      let b = gate_value g (n (left_variable g)) (n (right_variable g)) in
-      elim (cases_Bool (v == g.variable)) [
-        | inl same ↦
-            let here : v ≡ g.variable = eqb-true v g.variable same in
-            let r : Reaches net out g.variable = subst (Reaches net out) here reached in
-            let equal : a ≡ b = ap₂ (λ x y. signed_bit g.left x && signed_bit g.right y)
-            (agree (left_variable g) low_left (left_reached net out g in_net r))
-            (agree (right_variable g) low_right (right_reached net out g in_net r)) in
-            cond-true (v == g.variable) a (m v) same ∙ equal ∙ sym (cond-true (v == g.variable) b (n v) same)
-        | inr other ↦
-            let apart : v ≢ at = λ h. absurd (differ v g.variable (h ∙ sym is) other) in
-            let low : v < at = omega (arith, below, apart) in
-            cond-false (v == g.variable) a (m v) other ∙ agree v low reached
-            ∙ sym (cond-false (v == g.variable) b (n v) other)
-      ]
-    where
-      differ : (v w : ℕ) → v ≡ w → (v == w) ≡ false → ⊥
-      differ v w same other = apart (sym other ∙ ap (λ x. v == x) (sym same) ∙ itself_equal v)
-        where
-          apart : false ≡ true → ⊥
-          apart h = cc
-
-          itself_equal : (k : ℕ) → (k == k) ≡ true
-          itself_equal k = eq-eqb k k refl
+      search (arith, cases_Bool, eqb-true, left_reached, right_reached, cond-true, cond-false, eq-eqb)
 
   all_gates : (gates : List Gate) (m n : Assignment) (at : ℕ) → AreGatesFrom f at gates →
       ((g : Gate) → Contains gates g → Contains net.gates g) → Agree at m n →

@@ -10,19 +10,17 @@ use Rattle.cert_text.specs.DefinitionText.{definitions_of}
 use Rattle.cert_text.specs.declared.faults.CertRefusal.{CertRefusal}
 use Rattle.defined_checker.specs.DefinitionReads.{IsFirstForeign}
 use Rattle.defined_checker.specs.Forced.{AcceptedDefinitionsAreForced, AcceptedPairsAreFree, AreRight, IsRight}
-use Rattle.defined_checker.specs.FreePairs.{IsFreePair}
-use Rattle.defined_checker.specs.Judging.{AcceptsFaultless, AreJudged, IsChecked, IsJudged, ReadsItsOwn, SpellsFaultless, counts_of, defines, no_counts, open_end, pair, reads, separates, step}
+use Rattle.defined_checker.specs.Judging.{AcceptsFaultless, AreJudged, IsChecked, IsJudged, ReadsItsOwn, SpellsFaultless, defines, open_end, pair, reads, separates, step}
 use Rattle.defined_checker.specs.declared.checks.DefinedCounts.{DefinedCounts}
 use Rattle.defined_checker.specs.declared.faults.DefStop.{DefStop}
 use Rattle.defined_checker.specs.declared.faults.DefStop.TheVariants.{Refused, Invalid, Memory}
 use Rattle.defined_checker.specs.declared.faults.DefinitionFault.{DefinitionFault}
-use Rattle.defined_checker.specs.declared.faults.DefinitionFault.TheVariants.{Reads, Step}
+use Rattle.defined_checker.specs.declared.faults.DefinitionFault.TheVariants.{Step}
 
 block_right : AcceptedDefinitionsAreForced → AcceptedPairsAreFree → (f : Dqbf) (y : ℕ) (block : DefinitionBlock) →
     IsWellFormed f → AreBlocksOf f (y ∷ []) (block ∷ []) → IsJudged f block None → IsRight f block
 block_right forced pairs f y (defined d) formed lawful judged = forced f d formed lawful.0.1 judged
-block_right forced pairs f y (free p) formed lawful judged = λ e is value alike holds. pairs f p e is judged value alike
-    holds
+block_right forced pairs f y (free p) formed lawful judged = search arith
 
 pub all_right : AcceptedDefinitionsAreForced → AcceptedPairsAreFree → (f : Dqbf) (ys : List ℕ)
     (blocks : List DefinitionBlock) → IsWellFormed f → AreBlocksOf f ys blocks → AreJudged f blocks None →
@@ -30,24 +28,12 @@ pub all_right : AcceptedDefinitionsAreForced → AcceptedPairsAreFree → (f : D
 all_right forced pairs f ys [] formed lawful judged = tt
 all_right forced pairs f [] (block ∷ blocks) formed lawful judged = absurd lawful
 all_right forced pairs f (y ∷ ys) (block ∷ blocks) formed lawful judged =
-    elim judged [
-      | inl h ↦ (
-        block_right forced pairs f y block formed (lawful.0, tt) h.0,
-        all_right forced pairs f ys blocks formed lawful.1 h.1,
-      )
-      | inr h ↦ absurd (apart h.0 h.1.1)
-    ]
-  where
-    apart : (name : DefinitionFault) → None ≡ Some name → ⊥
-    apart name h = cc
+    search (arith, block_right, (all_right forced pairs f ys blocks formed lawful.1))
 
 -- a block is judged in one way
 least_once : (f : Dqbf) (y : Existential) (d : Definition) (v w : ℕ) → IsFirstForeign f y d v →
     IsFirstForeign f y d w → v ≡ w
-least_once f y d v w a b =
-    let low = a.least w b.foreign in
-    let high = b.least v a.foreign in
-    omega (arith, low, high)
+least_once f y d v w a b = search arith
 
 module _ (f : Dqbf) where
   own_for : (d : Definition) (y z : Existential) → existential_of f d.existential ≡ Some y →
@@ -55,16 +41,10 @@ module _ (f : Dqbf) where
   own_for d y z a b = some_same y z (sym a ∙ b)
 
   fault_once : (o : Option ProofFault) (a b : ProofFault) → o ≡ Some a → o ≡ Some b → a ≡ b
-  fault_once o a b is same = inner (sym is ∙ same)
-    where
-      inner : Some a ≡ Some b → a ≡ b
-      inner h = cc
+  fault_once o a b is same = search arith
 
   no_fault : (o : Option ProofFault) (a : ProofFault) → o ≡ Some a → o ≡ None → ⊥
-  no_fault o a is none = apart (sym is ∙ none)
-    where
-      apart : Some a ≡ None → ⊥
-      apart h = cc
+  no_fault o a is none = search arith
 
   id_once : (a b : ℕ) → underived a ≡ underived b → a ≡ b
   id_once a b h = cc
@@ -75,41 +55,32 @@ module _ (f : Dqbf) where
   pub judged_once : (block : DefinitionBlock) (a b : Option DefinitionFault) → IsJudged f block a → IsJudged f block b →
       a ≡ b
   judged_once (defined d) _ _ (reads {y = y} {v = v} is first) (reads {y = z} {v = w} same other) =
-      ap (λ x. Some (Reads d.existential x))
-      (least_once f y d v w first (subst (λ e. IsFirstForeign f e d w) (sym (own_for d y z is same)) other))
-  judged_once (defined d) _ _ (reads {y = y} {v = v} is first) (step {y = z} same own fault) =
-      absurd (subst (λ e. ReadsItsOwn f e d) (sym (own_for d y z is same)) own v first.foreign)
+      search (arith, least_once, own_for)
+  judged_once (defined d) _ _ (reads {y = y} {v = v} is first) (step {y = z} same own fault) = search (arith, own_for)
   judged_once (defined d) _ _ (reads {y = y} {v = v} is first) (open_end {y = z} same own fault) =
       absurd (subst (λ e. ReadsItsOwn f e d) (sym (own_for d y z is same)) own v first.foreign)
   judged_once (defined d) _ _ (reads {y = y} {v = v} is first) (defines {y = z} same own fault) =
       absurd (subst (λ e. ReadsItsOwn f e d) (sym (own_for d y z is same)) own v first.foreign)
-  judged_once (defined d) _ _ (step {y = y} is own fault) (reads {y = z} {v = w} same other) =
-      absurd (subst (λ e. ReadsItsOwn f e d) (own_for d y z is same) own w other.foreign)
+  judged_once (defined d) _ _ (step {y = y} is own fault) (reads {y = z} {v = w} same other) = search (arith, own_for)
   judged_once (defined d) _ _ (step {id = i} is own fault) (step {id = j} same other again) =
       ap (λ x. Some (Step d.existential x)) (id_once i j (fault_once _ (underived i) (underived j) fault again))
   judged_once (defined d) _ _ (step {id = i} is own fault) (open_end same other again) =
       absurd (not_open i (fault_once _ (underived i) unfinished fault again))
-  judged_once (defined d) _ _ (step {id = i} is own fault) (defines same other again) =
-      absurd (no_fault _ (underived i) fault again)
+  judged_once (defined d) _ _ (step {id = i} is own fault) (defines same other again) = search (arith, no_fault)
   judged_once (defined d) _ _ (open_end {y = y} is own fault) (reads {y = z} {v = w} same other) =
       absurd (subst (λ e. ReadsItsOwn f e d) (own_for d y z is same) own w other.foreign)
   judged_once (defined d) _ _ (open_end is own fault) (step {id = j} same other again) =
       absurd (not_open j (sym (fault_once _ unfinished (underived j) fault again)))
   judged_once (defined d) _ _ (open_end is own fault) (open_end same other again) = refl
-  judged_once (defined d) _ _ (open_end is own fault) (defines same other again) =
-      absurd (no_fault _ unfinished fault again)
+  judged_once (defined d) _ _ (open_end is own fault) (defines same other again) = search (arith, no_fault)
   judged_once (defined d) _ _ (defines {y = y} is own fault) (reads {y = z} {v = w} same other) =
       absurd (subst (λ e. ReadsItsOwn f e d) (own_for d y z is same) own w other.foreign)
-  judged_once (defined d) _ _ (defines is own fault) (step {id = j} same other again) =
-      absurd (no_fault _ (underived j) again fault)
-  judged_once (defined d) _ _ (defines is own fault) (open_end same other again) =
-      absurd (no_fault _ unfinished again fault)
+  judged_once (defined d) _ _ (defines is own fault) (step {id = j} same other again) = search (arith, no_fault)
+  judged_once (defined d) _ _ (defines is own fault) (open_end same other again) = search (arith, no_fault)
   judged_once (defined d) _ _ (defines is own fault) (defines same other again) = refl
   judged_once (free p) _ _ (pair is none) (pair same other) = refl
-  judged_once (free p) _ _ (pair {y = y} is none) (separates {y = z} same other) =
-      absurd (none (subst (λ e. IsFreePair f e p) (some_same z y (sym same ∙ is)) other))
-  judged_once (free p) _ _ (separates {y = y} is own) (pair {y = z} same other) =
-      absurd (other (subst (λ e. IsFreePair f e p) (some_same y z (sym is ∙ same)) own))
+  judged_once (free p) _ _ (pair {y = y} is none) (separates {y = z} same other) = search (arith, some_same)
+  judged_once (free p) _ _ (separates {y = y} is own) (pair {y = z} same other) = search (arith, some_same)
   judged_once (free p) _ _ (separates is own) (separates same other) = refl
 
   pub all_judged_once : (blocks : List DefinitionBlock) (a b : Option DefinitionFault) → AreJudged f blocks a →
@@ -132,23 +103,14 @@ module _ (f : Dqbf) where
 
 -- a text is judged in one way
 read_once : (r : Result (List DefinitionBlock) CertRefusal) (a b : List DefinitionBlock) → r ≡ Ok a → r ≡ Ok b → a ≡ b
-read_once r a b is same = inner (sym is ∙ same)
-  where
-    inner : ◌≡◌ {A = Result (List DefinitionBlock) CertRefusal} (Ok a) (Ok b) → a ≡ b
-    inner h = cc
+read_once r a b is same = search arith
 
 not_both : (r : Result (List DefinitionBlock) CertRefusal) (a : List DefinitionBlock) (refusal : CertRefusal) →
     r ≡ Ok a → r ≡ Err refusal → ⊥
-not_both r a refusal is same = apart (sym is ∙ same)
-  where
-    apart : ◌≡◌ {A = Result (List DefinitionBlock) CertRefusal} (Ok a) (Err refusal) → ⊥
-    apart h = cc
+not_both r a refusal is same = search arith
 
 refused_once : (r : Result (List DefinitionBlock) CertRefusal) (a b : CertRefusal) → r ≡ Err a → r ≡ Err b → a ≡ b
-refused_once r a b is same = inner (sym is ∙ same)
-  where
-    inner : ◌≡◌ {A = Result (List DefinitionBlock) CertRefusal} (Err a) (Err b) → a ≡ b
-    inner h = cc
+refused_once r a b is same = search arith
 
 some_once : (a b : DefinitionFault) → Some a ≡ Some b → a ≡ b
 some_once a b h = cc
@@ -158,23 +120,18 @@ none_some a h = cc
 
 pub checked_once : (f : Dqbf) (text : List ℕ) (first : ℕ) (a b : Result DefinedCounts DefStop) → IsChecked f text first a →
     IsChecked f text first b → (a ≡ Err Memory → ⊥) → (b ≡ Err Memory → ⊥) → a ≡ b
-checked_once f text first (Ok c) (Ok d) p q some more =
-    ap Ok (p.1.1.1 ∙ ap (counts_of no_counts) (read_once _ p.0 q.0 p.1.0 q.1.0) ∙ sym q.1.1.1)
+checked_once f text first (Ok c) (Ok d) p q some more = search (arith, read_once)
 checked_once f text first (Ok c) (Err (Refused r)) p q some more = absurd (not_both _ p.0 r p.1.0 q)
 checked_once f text first (Ok c) (Err (Invalid x)) p q some more =
-    absurd (none_some x (all_judged_once f p.0 None (Some x) p.1.1.0
-    (subst (λ bs. AreJudged f bs (Some x)) (sym (read_once _ p.0 q.0 p.1.0 q.1.0)) q.1.1)))
+    search (arith, none_some, all_judged_once, read_once)
 checked_once f text first (Err (Refused r)) (Ok d) p q some more = absurd (not_both _ q.0 r q.1.0 p)
-checked_once f text first (Err (Refused r)) (Err (Refused s)) p q some more =
-    ap (λ x. Err (Refused x)) (refused_once _ r s p q)
+checked_once f text first (Err (Refused r)) (Err (Refused s)) p q some more = search (arith, refused_once)
 checked_once f text first (Err (Refused r)) (Err (Invalid x)) p q some more = absurd (not_both _ q.0 r q.1.0 p)
 checked_once f text first (Err (Invalid x)) (Ok d) p q some more =
-    absurd (none_some x (all_judged_once f q.0 None (Some x) q.1.1.0
-    (subst (λ bs. AreJudged f bs (Some x)) (sym (read_once _ q.0 p.0 q.1.0 p.1.0)) p.1.1)))
+    search (arith, none_some, all_judged_once, read_once)
 checked_once f text first (Err (Invalid x)) (Err (Refused r)) p q some more = absurd (not_both _ p.0 r p.1.0 q)
 checked_once f text first (Err (Invalid x)) (Err (Invalid y)) p q some more =
-    ap (λ n. Err (Invalid n)) (some_once x y (all_judged_once f p.0 (Some x) (Some y) p.1.1
-    (subst (λ bs. AreJudged f bs (Some y)) (sym (read_once _ p.0 q.0 p.1.0 q.1.0)) q.1.1)))
+    search (arith, some_once, all_judged_once, read_once)
 checked_once f text first (Err Memory) b p q some more = absurd (some refl)
 checked_once f text first (Ok c) (Err Memory) p q some more = absurd (more refl)
 checked_once f text first (Err (Refused r)) (Err Memory) p q some more = absurd (more refl)
@@ -208,12 +165,7 @@ module _ (f : Dqbf) (text : List ℕ) (first : ℕ)
 
     pub accepts_faultless : (result : Result DefinedCounts DefStop) → IsChecked f text first result →
         AcceptsFaultless f text result
-    accepts_faultless (Ok counts) checked = record {
-      blocks = checked.0;
-      spelled = spelled checked.0 checked.1.0;
-      judged = checked.1.1.0;
-      counted = checked.1.1.1;
-    }
+    accepts_faultless (Ok counts) checked = search arith
     accepts_faultless (Err (Refused refusal)) checked =
         none_faultless (Refused refusal) checked (refused_had_memory refusal)
     accepts_faultless (Err (Invalid fault)) checked = none_faultless (Invalid fault) checked (invalid_had_memory fault)

@@ -5,7 +5,7 @@ use Rattle.list_laws.proofs.Elements.{get-append_left, get-append_right}
 use Rattle.dq_lits.specs.Formula.{Dqbf}
 use Rattle.circuit_plain.specs.Netlist.{left_variable, right_variable}
 use Rattle.circuit_plain.specs.declared.circuits.Gate.{Gate}
-use Rattle.cert_text.specs.AllowedDefinitions.{AreGatesFrom, IsDefinitionOf, IsGateAt, is_readable}
+use Rattle.cert_text.specs.AllowedDefinitions.{AreGatesFrom, IsDefinitionOf, IsGateAt}
 use Rattle.cert_text.specs.DefinitionBlocks.{Definition}
 use Rattle.cert_text.specs.NegatedMatrix.{gate_clauses}
 use Rattle.cert_text.proofs.NegatedClauses.{gates_counted}

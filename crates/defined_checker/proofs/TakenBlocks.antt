@@ -1,16 +1,16 @@
 -- Blocks that are taken one after the other.
-use Rattle.std.proofs.Common.{◌≡◌, ℕ, zero, suc, ◌<◌, List, [], ◌∷◌, ◌++◌, map, length, get_or, inl, inr, Option, None, Some, IsSome, is_some, Result, Ok, Err, refl, sym, ap, ◌∙◌, subst, arith, append_assoc, append-nil}
+use Rattle.std.proofs.Common.{◌≡◌, ℕ, zero, suc, ◌<◌, List, [], ◌∷◌, ◌++◌, map, length, get_or, inl, inr, Option, None, Some, IsSome, is_some, Result, Ok, Err, refl, sym, ap, subst, arith, append_assoc, append-nil}
 use Rattle.std.specs.List.{All, AllByRecursion}
 use Rattle.std.proofs.lemmas.List.Elements.{recursion_from_All}
 use Rattle.dq_lits.specs.Formula.{Existential, Dqbf, existential_of}
 use Rattle.dq_formula.specs.Prefix.{existential_variables}
 use Rattle.dq_text.specs.Line.{LineCursor, lines_from}
 use Rattle.cert_text.specs.DefinitionBlocks.{DefinitionBlock}
-use Rattle.cert_text.specs.DefinitionText.{PartRead, part_up_to, read_block, read_blocks}
+use Rattle.cert_text.specs.DefinitionText.{read_blocks}
 use Rattle.cert_text.specs.Lines.{and_read}
 use Rattle.cert_text.specs.Scan.{blank_lines}
 use Rattle.cert_text.specs.declared.faults.CertRefusal.{CertRefusal}
-use Rattle.defined_checker.specs.Judging.{AreJudged, IsJudged, counted, counts_of, no_counts}
+use Rattle.defined_checker.specs.Judging.{AreJudged, IsJudged, counted, counts_of}
 use Rattle.defined_checker.specs.Answers.{IsFaultWith}
 use Rattle.defined_checker.specs.Tallies.{IsTalliedWith}
 use Rattle.defined_checker.specs.declared.checks.DefinedCounts.{DefinedCounts}
@@ -27,37 +27,14 @@ module _ (f : Dqbf) (left : LineCursor) where
   abbrev pub to_read : List ℕ → Read
   to_read ys = read_blocks f ys (lines_from left.number left.rest) left.number
 
-  abbrev pub block_to_read : ℕ → Result (PartRead DefinitionBlock) CertRefusal
-  block_to_read y = read_block f y (lines_from left.number left.rest) left.number
-
-  pub block_refused : (before : List DefinitionBlock) (y : ℕ) (ys : List ℕ) (refusal : CertRefusal) →
-      block_to_read y ≡ Err refusal → put_behind before (to_read (y ∷ ys)) ≡ Err refusal
-  block_refused before y ys refusal is =
-      ap (λ r. put_behind before (and_read r (λ block.
-      and_read (read_blocks f ys block.rest block.number) (λ blocks. Ok (block.part ∷ blocks))))) is
-
   one_more : (before : List DefinitionBlock) (block : DefinitionBlock) (read : Read) →
       put_behind before (and_read read (λ blocks. Ok (block ∷ blocks))) ≡ put_behind (before ++ block ∷ []) read
   one_more before block (Ok blocks) = ap Ok (sym (append_assoc before (block ∷ []) blocks))
   one_more before block (Err refusal) = refl
 
-  pub block_taken : (before : List DefinitionBlock) (y : ℕ) (ys : List ℕ) (block : DefinitionBlock)
-      (behind : LineCursor) → block_to_read y ≡ Ok (part_up_to block behind) →
-      put_behind before (to_read (y ∷ ys))
-      ≡ put_behind (before ++ block ∷ []) (read_blocks f ys (lines_from behind.number behind.rest) behind.number)
-  block_taken before y ys block behind is =
-      ap (λ r. put_behind before (and_read r (λ b.
-      and_read (read_blocks f ys b.rest b.number) (λ blocks. Ok (b.part ∷ blocks))))) is
-      ∙ one_more before block (read_blocks f ys (lines_from behind.number behind.rest) behind.number)
-
   pub all_taken : (before : List DefinitionBlock) →
       put_behind before (to_read []) ≡ and_read (blank_lines (lines_from left.number left.rest)) (λ _. Ok before)
-  all_taken before = by (blank_lines (lines_from left.number left.rest))
-    where
-      by : (r : Result (Unit {0}) CertRefusal) →
-          put_behind before (and_read r (λ _. Ok [])) ≡ and_read r (λ _. Ok before)
-      by (Ok _) = ap Ok (append-nil before)
-      by (Err refusal) = refl
+  all_taken before = search (arith, append-nil)
 
 -- the blocks so far, with one more
 counts_behind : (counts : DefinedCounts) (blocks : List DefinitionBlock) (block : DefinitionBlock) →
@@ -69,43 +46,23 @@ judged_behind : (f : Dqbf) (blocks : List DefinitionBlock) (block : DefinitionBl
     AreJudged f blocks None → IsJudged f block fault → AreJudged f (blocks ++ block ∷ []) fault
 judged_behind f [] block None before is = inl (is, refl)
 judged_behind f [] block (Some name) before is = inr (name, (is, refl))
-judged_behind f (b ∷ blocks) block fault before is =
-    elim before [
-      | inl h ↦ inl (h.0, judged_behind f blocks block fault h.1 is)
-      | inr h ↦ absurd (apart h.0 h.1.1)
-    ]
-  where
-    apart : (name : DefinitionFault) → None ≡ Some name → ⊥
-    apart name h = cc
+judged_behind f (b ∷ blocks) block fault before is = search (arith, (judged_behind f blocks block fault))
 
 fault_stays : (f : Dqbf) (blocks : List DefinitionBlock) (block : DefinitionBlock) (name : DefinitionFault) →
     AreJudged f blocks (Some name) → AreJudged f (blocks ++ block ∷ []) (Some name)
-fault_stays f [] block name before = absurd (apart before)
-  where
-    apart : Some name ≡ None → ⊥
-    apart h = cc
-fault_stays f (b ∷ blocks) block name before =
-    elim before [
-      | inl h ↦ inl (h.0, fault_stays f blocks block name h.1)
-      | inr h ↦ inr h
-    ]
+fault_stays f [] block name before = search arith
+fault_stays f (b ∷ blocks) block name before = search (arith, (fault_stays f blocks block name))
 
 pub tallied_first : (f : Dqbf) (block : DefinitionBlock) (counts others : DefinedCounts) (fault : Option DefinitionFault) →
     others ≡ counted block counts → IsJudged f block fault →
     IsTalliedWith f block (record { counts = counts; fault = None }) (record { counts = others; fault = fault })
-tallied_first f block counts others fault is judged blocks before = record {
-  judged = judged_behind f blocks block fault before.judged judged;
-  counts = is ∙ ap (counted block) before.counts ∙ sym (counts_behind no_counts blocks block);
-}
+tallied_first f block counts others fault is judged blocks before = search (arith, judged_behind, counts_behind)
 
 pub tallied_later : (f : Dqbf) (block : DefinitionBlock) (counts others : DefinedCounts) (name : DefinitionFault) →
     others ≡ counted block counts →
     IsTalliedWith f block (record { counts = counts; fault = Some name })
     (record { counts = others; fault = Some name })
-tallied_later f block counts others name is blocks before = record {
-  judged = fault_stays f blocks block name before.judged;
-  counts = is ∙ ap (counted block) before.counts ∙ sym (counts_behind no_counts blocks block);
-}
+tallied_later f block counts others name is blocks before = search (arith, fault_stays, counts_behind)
 
 pub tallied_by : (f : Dqbf) (block : DefinitionBlock) (fault : Option DefinitionFault) (counts others : DefinedCounts)
     (new : Option DefinitionFault) → IsFaultWith f block fault new → others ≡ counted block counts →

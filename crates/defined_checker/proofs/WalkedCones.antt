@@ -44,14 +44,7 @@ has_listed ns v there = by ns there.0 there.1 there.2
 -- what was noted stays noted
 pub noted_kept : (last : ℕ) (old new : Cone) (variable v : ℕ) → Keeps last old new variable → Noted last old v →
     Noted last new v
-noted_kept last old new variable v keeps noted =
-    elim noted [
-      | inl none ↦ inl none
-      | inr some ↦ elim some [
-        | inl leaf ↦ inr (inl (leaf.0, (leaf.1.0, keeps.leaves_stay v leaf.1.1)))
-        | inr gate ↦ inr (inr (gate.0, keeps.gates_stay (v - last - 1) gate.1))
-      ]
-    ]
+noted_kept last old new variable v keeps noted = search arith
 
 module _ (f : Dqbf) (d : Definition) where
   abbrev last : ℕ
@@ -66,30 +59,7 @@ module _ (f : Dqbf) (d : Definition) where
   -- with one more variable of the cone, which lies below the gates that were passed
   pub walked_kept : (from : ℕ) (old new : Cone) (variable : ℕ) → IsWalked f d from old → Keeps last old new variable →
       Reaches net out variable → variable < last + 1 + from → IsWalked f d from new
-  walked_kept from old new variable walked keeps reached low = record {
-    as_many = keeps.as_many ∙ walked.as_many;
-    leaves = λ v is. elim (keeps.leaves_new v is) [
-      | inl before ↦ walked.leaves v before
-      | inr own ↦ record {
-        from_one = own.1.0;
-        of_formula = own.1.1;
-        reached = subst (Reaches net out) (sym own.0) reached;
-      }
-    ];
-    gates = λ k is. elim (keeps.gates_new k is) [
-      | inl before ↦ walked.gates k before
-      | inr own ↦ subst (Reaches net out) own reached
-    ];
-    output = noted_kept last old new variable out keeps walked.output;
-    sides = λ k g behind there is. elim (keeps.gates_new k is) [
-      | inl before ↦
-          let s = walked.sides k g behind there before in (
-            noted_kept last old new variable (left_variable g) keeps s.0,
-            noted_kept last old new variable (right_variable g) keeps s.1,
-          )
-      | inr own ↦ absurd (omega (arith, low, behind, own))
-    ];
-  }
+  walked_kept from old new variable walked keeps reached low = search (arith, noted_kept)
 
   -- the next gate is in the cone, and its sides are noted
   pub passed_gate : (place : ℕ) (cone : Cone) (g : Gate) → IsWalked f d (place + 1) cone →
@@ -117,26 +87,6 @@ module _ (f : Dqbf) (d : Definition) where
         where
           apart : false ≡ true → ⊥
           apart h = cc
-
-  -- the next gate isn't in the cone
-  pub passed_over : (place : ℕ) (cone : Cone) → IsWalked f d (place + 1) cone → bit_of cone.gates place ≡ false →
-      IsWalked f d place cone
-  passed_over place cone walked none = record {
-    as_many = walked.as_many;
-    leaves = walked.leaves;
-    gates = walked.gates;
-    output = walked.output;
-    sides = λ k h behind is marked. elim (cases_Bool (k == place)) [
-      | inl here ↦ absurd (apart (sym none ∙ ap (bit_of cone.gates) (sym (eqb-true k place here)) ∙ marked))
-      | inr other ↦ walked.sides k h (after k place behind other) is marked
-    ];
-  }
-    where
-      apart : false ≡ true → ⊥
-      apart h = cc
-
-      after : (k p : ℕ) → p ≤ k → (k == p) ≡ false → p + 1 ≤ k
-      after k p le other = omega (arith, le, λ (same : k ≡ p). apart (sym other ∙ eq-eqb k p same))
 
   no_bit : (n k : ℕ) → bit_of (replicate n false) k ≡ false
   no_bit zero k = refl
@@ -197,14 +147,7 @@ module _ (f : Dqbf) (d : Definition) where
         all_noted (right_variable g) x (one_marked g there.0 there.1 there.2 noted).1 r
 
     pub leaf_found : (v : ℕ) → IsRead f d v → has_number cone.leaves v ≡ true
-    leaf_found v read =
-        elim (all_noted out v walked.output read.reached) [
-          | inl none ↦ absurd (omega (arith, none, read.from_one))
-          | inr some ↦ elim some [
-            | inl leaf ↦ leaf.1.1
-            | inr gate ↦ absurd (omega (arith, gate.0, read.of_formula))
-          ]
-        ]
+    leaf_found v read = search (arith, all_noted)
 
 pub walk_first : (f : Dqbf) (d : Definition) (last many : ℕ) (gates : List Bool) (leaves : List ℕ) (cone : Cone) →
     last ≡ f.variables → many ≡ length d.gates → gates ≡ replicate many false → leaves ≡ [] →

@@ -1,11 +1,9 @@
-use Rattle.defined_checker.specs.DefinitionReads.{MayDefine}
+use Rattle.std.proofs.Common.{arith}
 use Rattle.defined_checker.proofs.LeastForeign.{answer, with_one}
 use Rattle.defined_checker.proofs.reads.least_foreign.Goals as goal
 
 pub loop-leaf-preserved : goal.loop-leaf-preserved
-loop-leaf-preserved c e is =
-    with_one (MayDefine c.args.f.now e) c.args.leaves.now c.loop-leaf.leaf-index c.loop-leaf.least c.with_leaf-least.result
-    (c.loop-leaf.invariant e is) (c.with_leaf-least.ensures e is)
+loop-leaf-preserved c e is = search (arith, with_one)
 
 pub returns : goal.returns
 returns c e is =

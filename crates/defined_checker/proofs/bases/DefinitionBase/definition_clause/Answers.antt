@@ -1,4 +1,4 @@
-use Rattle.std.proofs.Common.{◌≡◌, ◌∙◌, ◌*◌, ◌-◌, ◌/◌, ◌<◌, ◌≤◌, ap, arith, length, slice_get, sym}
+use Rattle.std.proofs.Common.{◌≡◌, ◌∙◌, ◌*◌, ◌-◌, ◌/◌, ◌≤◌, ap, arith, length, slice_get, sym}
 use Rattle.std.specs.Option.{option_and_then}
 use Rattle.cert_text.specs.NegatedMatrix.{without_constants}
 use Rattle.defined_checker.specs.Bases.{DefinitionIn, differing}
@@ -6,13 +6,7 @@ use Rattle.defined_checker.proofs.SmallGates.{behind_gates, of_gates}
 use Rattle.defined_checker.proofs.bases.DefinitionBase.definition_clause.Goals as goal
 
 pub returns-then-i-gates-clause-clause : goal.returns-then-i-gates-clause-clause
-returns-then-i-gates-clause-clause c =
-    let d = c.args.self.now.definition in
-    let same = ap (λ (x : DefinitionIn). length x.definition.gates) c.self.view_is in
-    let below : c.args.i / 3 < length d.gates =
-    omega (arith, c.if-i-gates.true, c.len-gates.ensures, c.self.inside.definition.now.gates.ok.0, same) in
-    c.short.ensures.clause c.args.self.now.formula ∙ c.gate_clause.ensures
-    ∙ sym (ap (option_and_then without_constants) (of_gates d.gates (differing d) c.args.i below))
+returns-then-i-gates-clause-clause c = search (arith, of_gates)
 
 pub returns-then-i-gates-clause-place : goal.returns-then-i-gates-clause-place
 returns-then-i-gates-clause-place c = c.short.ensures.place c.args.self.now.formula
