@@ -1,5 +1,5 @@
 -- A text can hold an exported block, and its output reads what the leaf reads in the log.
-use Rattle.std.proofs.Common.{◌≡◌, nat_le, nat_lt, ℕ, zero, suc, ◌+◌, ◌*◌, ◌≤◌, ◌<◌, ◌==◌, ◌||◌, ◌&&◌, ◌⊎◌, inl, inr, Bool, true, false, cond, List, [], ◌∷◌, map, length, get_or, Option, None, Some, refl, sym, ◌∙◌, ap, subst, arith}
+use Rattle.std.proofs.Common.{◌≡◌, nat_le, nat_lt, ℕ, zero, suc, ◌+◌, ◌≤◌, ◌<◌, ◌==◌, inl, inr, Bool, true, false, List, [], ◌∷◌, map, length, get_or, Some, refl, sym, ◌∙◌, ap, subst, arith}
 use Rattle.std.specs.List.{Contains, position_or_len}
 use Rattle.std.proofs.lemmas.Bool.{and_from, le-leb, lt-ltb, eq-eqb, ne_eqb}
 use Rattle.std.proofs.lemmas.List.{length-map, get_or_default}
@@ -7,12 +7,10 @@ use Rattle.std.proofs.lemmas.List.Sums.{position_or_len_is}
 use Rattle.list_laws.proofs.Members.{tested_inside}
 use Rattle.dq_lits.specs.Derivation.{ProofStep}
 use Rattle.dq_lits.specs.Formula.{Dqbf}
-use Rattle.dq_lits.specs.Literal.{Literal, positive, variable_of, is_negative}
+use Rattle.dq_lits.specs.Literal.{Literal, variable_of}
 use Rattle.dq_formula.specs.Prefix.{is_declared}
 use Rattle.hint_log.specs.Conditions.{is_term_name}
-use Rattle.hint_log.specs.Entries.{Entry, Answer, name_of}
-use Rattle.hint_log.specs.Origins.{IsTermLeaf}
-use Rattle.hint_log.specs.declared.names.Name.{Name}
+use Rattle.hint_log.specs.Entries.{Entry, name_of}
 use Rattle.hint_log.specs.declared.names.Name.TheVariants.{Copy as CopyOf, Term}
 use Rattle.hint_log.specs.declared.origins.Leaf.{Leaf}
 use Rattle.hint_log.specs.declared.origins.Leaf.TheVariants.{Constant, Literal as LeafLiteral}
@@ -20,7 +18,6 @@ use Rattle.circuit_plain.specs.Netlist.{Netlist, left_variable, right_variable, 
 use Rattle.circuit_plain.specs.Reach.{Reaches, itself, left, right}
 use Rattle.circuit_plain.specs.declared.circuits.Gate.{Gate}
 use Rattle.cert_text.specs.AllowedDefinitions.{IsGateAt, AreGatesFrom, IsDefinitionOf, is_readable, is_output, first_definition_id}
-use Rattle.cert_text.specs.DefinitionBlocks.{Definition}
 use Rattle.cert_text.specs.Grammar.{AreSteps}
 use Rattle.cert_text.specs.Header.{max_count}
 use Rattle.cert_text.specs.Variables.{is_up_to}
@@ -28,14 +25,14 @@ use Rattle.defined_checker.specs.DefinitionReads.{definition_netlist, IsRead}
 use Rattle.definition_proofs.specs.Shown.{ReadsCopy, itself as reads_itself, left as reads_left, right as reads_right, TermLeafReads}
 use Rattle.cert_export.specs.CircuitPart.{aiger_literal, leaf_code, literal_code, or_zero}
 use Rattle.cert_export.specs.Renaming.{Renaming}
-use Rattle.cert_export.proofs.CircuitNumbers.{position_below, HasNumber, code_at}
+use Rattle.cert_export.proofs.CircuitNumbers.{position_below}
 use Rattle.definition_export.specs.ExportedDefinition.{definition_renaming, exported_definition, exported_gates, term_gate}
 use Rattle.definition_proofs.specs.Shown.{IsDeclaredCopy, IsLeafDeclared}
 use Rattle.definition_export.specs.Exporting.{IsLeafListed, IsTermBefore}
 use Rattle.definition_export.specs.Parts.{AreDefinitionIds}
 use Rattle.definition_export.proofs.BlockLines.{inside_before, term_in_log}
 use Rattle.definition_export.proofs.OrderedTerms.{term_sides}
-use Rattle.definition_export.proofs.NumberedVariables.{IsNumbered, number_cases, number_bounds, injective, gate_numbered, term_numbered, in_range}
+use Rattle.definition_export.proofs.NumberedVariables.{IsNumbered, number_cases, injective, gate_numbered, term_numbered, in_range}
 use Rattle.cert_text.proofs.CircuitLiterals.{half_even, half_odd}
 
 -- a code stands on its number
@@ -61,21 +58,10 @@ mapped g (x ∷ xs) (suc i) d h = mapped g xs i d (omega (arith, h))
 
 readable_declared : (f : Dqbf) (code n : ℕ) → literal_variable code ≡ n → is_declared f n ≡ true →
     is_readable f code ≡ true
-readable_declared f code n is h = by_bits (literal_variable code == 0) (nat_lt f.variables (literal_variable code))
-    (ap (is_declared f) is ∙ h) where
-      by_bits : (a b : Bool) → is_declared f (literal_variable code) ≡ true →
-          (a || (b || is_declared f (literal_variable code))) ≡ true
-      by_bits true b k = refl
-      by_bits false true k = refl
-      by_bits false false k = k
+readable_declared f code n is h = search (arith, nat_lt)
 
 readable_gate : (f : Dqbf) (code n : ℕ) → literal_variable code ≡ n → f.variables < n → is_readable f code ≡ true
-readable_gate f code n is h = by_bit (literal_variable code == 0) (lt-ltb f.variables (literal_variable code)
-    (omega (arith, is, h))) where
-      by_bit : (a : Bool) → nat_lt f.variables (literal_variable code) ≡ true →
-          (a || (nat_lt f.variables (literal_variable code) || is_declared f (literal_variable code))) ≡ true
-      by_bit true k = refl
-      by_bit false k = ap (λ b. b || is_declared f (literal_variable code)) k
+readable_gate f code n is h = search (arith, lt-ltb, nat_lt)
 
 module _ (f : Dqbf) (entries : List Entry) (id : ℕ) (ids : List ℕ) (y : ℕ) (leaf : Leaf) (gates : List ℕ)
     (d : AreDefinitionIds f entries id ids y leaf gates) where
@@ -107,22 +93,17 @@ module _ (f : Dqbf) (entries : List Entry) (id : ℕ) (ids : List ℕ) (y : ℕ)
           gate g.3 g.4 g.5 (omega (arith, number, first, is)) (inside g.3 g.4 g.5)
 
   side_code : (l : Literal) (n : ℕ) → r (variable_of l) ≡ Some n → literal_variable (literal_code r l) ≡ n
-  side_code l n is = ap (λ o. literal_variable (aiger_literal (is_negative l) (or_zero o))) is
-      ∙ code_variable (is_negative l) n
+  side_code l n is = search (arith, code_variable)
 
   side_readable : (l : Literal) (n : ℕ) → r (variable_of l) ≡ Some n → IsSide l n →
       is_readable f (literal_code r l) ≡ true
-  side_readable l n is (copy named declared_is) = readable_declared f (literal_code r l) n (side_code l n is)
-      declared_is
-  side_readable l n is (gate a b named number inside) = readable_gate f (literal_code r l) n (side_code l n is)
-      (omega (arith, number))
+  side_readable l n is (copy named declared_is) = search (arith, readable_declared, side_code)
+  side_readable l n is (gate a b named number inside) = search (arith, readable_gate, side_code)
 
   side_small : (l : Literal) (n : ℕ) → IsSide l n → n ≤ f.variables + length gates
   side_small l n (copy named declared_is) = let b = in_range f n d.well_formed declared_is in let c = b.1 in
       omega (arith, c)
-  side_small l n (gate a b named number inside) =
-      let below = position_below (variable_of l) gates (tested_inside gates (variable_of l) inside) in
-      omega (arith, number, below)
+  side_small l n (gate a b named number inside) = search (arith, position_below, tested_inside)
 
   side_before : (l : Literal) (n v : ℕ) → IsTermBefore entries gates v l → IsSide l n →
       n < f.variables + 1 + place v
@@ -213,11 +194,7 @@ module _ (f : Dqbf) (entries : List Entry) (id : ℕ) (ids : List ℕ) (y : ℕ)
       (subst (IsLeafListed entries gates) is d.block.leaf_listed)
 
   constant_allowed : (code : ℕ) → literal_variable code ≡ 0 → is_output f (length gates) code ≡ true
-  constant_allowed code is = and_from (is_readable f code) (nat_le (literal_variable code)
-      (f.variables + length gates))
-      (ap (λ b. b || (nat_lt f.variables (literal_variable code) || is_declared f (literal_variable code)))
-      (eq-eqb (literal_variable code) 0 is))
-      (le-leb (literal_variable code) (f.variables + length gates) (omega (arith, is)))
+  constant_allowed code is = search (arith, and_from, nat_le, nat_lt, eq-eqb, le-leb)
 
   output_allowed : (out : Leaf) → leaf ≡ out → is_output f (length gates) (leaf_code r out) ≡ true
   output_allowed (Constant true) is = constant_allowed 1 (half_odd 0)
@@ -311,11 +288,7 @@ module _ (f : Dqbf) (entries : List Entry) (id : ℕ) (ids : List ℕ) (y : ℕ)
     reads x h = by_leaf leaf refl h.reached where
       by_leaf : (out : Leaf) → leaf ≡ out → Reaches net (literal_variable (leaf_code r leaf)) x →
           TermLeafReads entries out x
-      by_leaf (Constant b) is reach = none_from_zero (literal_variable (leaf_code r leaf)) x reach
-          (ap (λ o. literal_variable (leaf_code r o)) is ∙ constant b) h.from_one where
-            constant : (c : Bool) → literal_variable (leaf_code r (Constant c)) ≡ 0
-            constant true = half_odd 0
-            constant false = half_even 0
+      by_leaf (Constant b) is reach = search (arith, none_from_zero, half_odd, half_even)
       by_leaf (LeafLiteral l) is reach =
           let side = leaf_side l is in
           let n : literal_variable (leaf_code r leaf) ≡ side.0 = ap (λ o. literal_variable (leaf_code r o)) is

@@ -1,5 +1,5 @@
 -- The given clauses that an answer rests on, renamed, are those of the block's base, under its ids.
-use Rattle.std.proofs.Common.{◌≡◌, nat_lt, ℕ, zero, suc, ◌+◌, ◌-◌, ◌*◌, ◌≤◌, ◌<◌, ◌==◌, ◌⊎◌, Bool, true, false, cond, not, inl, inr, List, [], ◌∷◌, ◌++◌, map, length, get_or, slice_get, Option, None, Some, refl, sym, ◌∙◌, ap, subst, arith, append_assoc}
+use Rattle.std.proofs.Common.{◌≡◌, nat_lt, ℕ, zero, suc, ◌+◌, ◌*◌, ◌≤◌, ◌<◌, ◌==◌, ◌⊎◌, true, false, inl, inr, List, [], ◌∷◌, ◌++◌, map, length, get_or, slice_get, Option, None, Some, refl, sym, ◌∙◌, ap, subst, arith}
 use Rattle.std.specs.List.{Contains, flat_map, cons_option, position_or_len}
 use Rattle.std.specs.Option.{option_map, option_and_then}
 use Rattle.std.proofs.lemmas.Bool.{cond-true, cond-false, lt-ltb, le-ltb}
@@ -9,22 +9,20 @@ use Rattle.list_laws.proofs.Members.{tested_inside}
 use Rattle.list_laws.proofs.Elements.{place_within}
 use Rattle.dq_lits.specs.Literal.{Literal, positive, negative, variable_of, is_negative, opposite, on_variable}
 use Rattle.dq_lits.specs.Derivation.{ProofStep, LiveClauses}
-use Rattle.dq_lits.specs.Formula.{Dqbf, declared, existential_of, IsWellFormed}
+use Rattle.dq_lits.specs.Formula.{Dqbf, declared, IsWellFormed}
 use Rattle.dq_formula.specs.Prefix.{is_declared}
 use Rattle.hint_log.specs.Conditions.{is_term_name, MayFollow}
-use Rattle.hint_log.specs.Entries.{Entry, Given, name_of}
+use Rattle.hint_log.specs.Entries.{Entry, name_of}
 use Rattle.hint_log.specs.Growth.{Each}
 use Rattle.hint_log.specs.Naming.{numbered_from_one, named_literal, name_literal, AreNamedAs}
-use Rattle.hint_log.specs.Origins.{leaf_with_sign, leaf_clause, with_sign, gate_rest, is_second, IsCopyRest, IsTermRest, IsTermLeaf, IsDifferRest, IsOriginsClause}
+use Rattle.hint_log.specs.Origins.{leaf_with_sign, leaf_clause, with_sign, gate_rest, is_second, IsCopyRest, IsTermRest, IsTermLeaf, IsDifferRest}
 use Rattle.hint_log.specs.declared.names.Name.{Name}
 use Rattle.hint_log.specs.declared.names.Name.TheVariants.{Selector, Copy as CopyOf, Term}
 use Rattle.hint_log.specs.declared.origins.Leaf.{Leaf}
 use Rattle.hint_log.specs.declared.origins.Leaf.TheVariants.{Constant, Literal as LeafLiteral}
-use Rattle.hint_log.specs.declared.origins.Origin.{Origin}
-use Rattle.hint_log.specs.declared.origins.Origin.TheVariants.{Instance, Gate as GateOf, Fault, Copy, Link, TermGate, Differ}
-use Rattle.circuit_plain.specs.declared.circuits.Gate.{Gate}
+use Rattle.hint_log.specs.declared.origins.Origin.TheVariants.{TermGate, Differ}
 use Rattle.cert_text.specs.DefinitionBlocks.{Definition}
-use Rattle.cert_text.specs.NegatedMatrix.{opposite_of, gate_clauses, as_literal, without_constants}
+use Rattle.cert_text.specs.NegatedMatrix.{opposite_of, gate_clauses, without_constants}
 use Rattle.cert_text.proofs.NegatedClauses.{gates_counted}
 use Rattle.defined_checker.specs.DefinitionBase.{definition_base, definition_clauses}
 use Rattle.log_laws.proofs.Found.{named_variable, numbered_among}
@@ -32,12 +30,11 @@ use Rattle.log_laws.proofs.ReachedClauses.{name_stays}
 use Rattle.cert_export.specs.CircuitPart.{leaf_code, literal_code}
 use Rattle.cert_export.specs.Renaming.{Renaming, renamed_clause}
 use Rattle.cert_export.proofs.CircuitClauses.{behind, gate_at, gate_codes}
-use Rattle.cert_export.proofs.CircuitNumbers.{IsPlace, position_is, HasNumber, code_at, clause_codes, opposite_code, opposite_number, renamed_is}
+use Rattle.cert_export.proofs.CircuitNumbers.{IsPlace, position_is, HasNumber, code_at, clause_codes, opposite_code, opposite_number}
 use Rattle.cert_export.proofs.Codes.{false_behind}
 use Rattle.cert_export.proofs.Instances.{same_on}
-use Rattle.cert_export.proofs.PairNames.{from_one}
-use Rattle.definition_export.specs.ExportedDefinition.{definition_number, definition_renaming, definition_id, last_definition_id, exported_definition, exported_gates, term_gate}
-use Rattle.definition_proofs.specs.Shown.{IsDeclaredCopy, ReadDeclaredCopies, IsLeafDeclared}
+use Rattle.definition_export.specs.ExportedDefinition.{definition_number, definition_renaming, definition_id, last_definition_id, exported_definition, term_gate}
+use Rattle.definition_proofs.specs.Shown.{ReadDeclaredCopies, IsLeafDeclared}
 use Rattle.definition_export.specs.Exporting.{IsLeafListed, IsTermBefore}
 use Rattle.definition_export.proofs.OrderedTerms.{term_sides}
 use Rattle.definition_export.proofs.NumberedVariables.{copy_numbered, gate_numbered, term_numbered, in_range}
@@ -53,28 +50,11 @@ module _ (f : Dqbf) (d : Definition) where
   pub matrix_there : (j : ℕ) (clause : List Literal) → numbered_from_one f.matrix j ≡ Some clause →
       (definition_base f d j ≡ Some clause) × (j ≤ length f.matrix)
   matrix_there zero clause h = cc
-  matrix_there (suc i) clause h =
-      let at = from_one f.matrix (suc i) clause h in
-      let e : suc i - 1 ≡ i = omega arith in
-      let there : slice_get f.matrix i ≡ Some clause = ap (slice_get f.matrix) (sym e) ∙ at.1 in
-      let below = place_within f.matrix i clause there in (
-        cond-true (nat_lt i (length f.matrix)) (slice_get f.matrix i)
-            (option_and_then without_constants (slice_get (definition_clauses d) (i - length f.matrix)))
-            (lt-ltb i (length f.matrix) below) ∙ there,
-        omega (arith, below),
-      )
+  matrix_there (suc i) clause h = search (arith, place_within, cond-true, nat_lt, lt-ltb)
 
   pub behind_matrix : (k : ℕ) → definition_base f d (length f.matrix + suc k) ≡
       option_and_then without_constants (slice_get (definition_clauses d) k)
-  behind_matrix k =
-      let C = length f.matrix in
-      let e : C + suc k ≡ suc (C + k) = omega arith in
-      let m : C + k - C ≡ k = omega arith in
-      let no : nat_lt (C + k) C ≡ false = le-ltb (C + k) C (omega arith) in
-      ap (definition_base f d) e
-      ∙ cond-false (nat_lt (C + k) C) (slice_get f.matrix (C + k))
-      (option_and_then without_constants (slice_get (definition_clauses d) (C + k - C))) no
-      ∙ ap (λ n. option_and_then without_constants (slice_get (definition_clauses d) n)) m
+  behind_matrix k = search (arith, nat_lt, le-ltb, cond-false)
 
 module _ (f : Dqbf) (all : List Entry) (y : ℕ) (leaf : Leaf) (gates : List ℕ) (steps : List ProofStep)
     (well : IsWellFormed f) (lawful : Each MayFollow all) (sides : ReadDeclaredCopies f all)
@@ -202,8 +182,7 @@ module _ (f : Dqbf) (all : List Entry) (y : ℕ) (leaf : Leaf) (gates : List ℕ
           )
 
     leaf_number : (l : Literal) → leaf ≡ LeafLiteral l → IsTermLeaf es (LeafLiteral l) → HasNumber r l
-    leaf_number l is_leaf term = term_numbered f gates all well l (term_stays (variable_of l) term)
-        (subst (IsLeafDeclared f all) is_leaf leaf_declared) (subst (IsLeafListed all gates) is_leaf leaf_listed)
+    leaf_number l is_leaf term = search (arith, term_numbered, term_stays)
 
     -- the clauses by which the existential and the output differ
     module _ (copy : ℕ) (copy_is : name_of es copy ≡ Some (CopyOf 1 y)) where

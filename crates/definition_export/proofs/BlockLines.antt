@@ -8,10 +8,9 @@ use Rattle.dq_lits.specs.Derivation.{ProofStep, is_empty, proof_fault}
 use Rattle.dq_lits.specs.Formula.{Dqbf}
 use Rattle.dq_formula.specs.Prefix.{is_declared}
 use Rattle.hint_log.specs.Conditions.{MayFollow, is_term_name}
-use Rattle.hint_log.specs.Deciding.{ReachesGiven}
 use Rattle.hint_log.specs.Entries.{Entry, Given, Answer, has_id, last_id, numbered, name_of}
 use Rattle.hint_log.specs.Growth.{Each}
-use Rattle.hint_log.specs.Origins.{IsCopyRest, IsDifferRest, IsOriginsClause, IsTermLeaf}
+use Rattle.hint_log.specs.Origins.{IsCopyRest, IsDifferRest, IsOriginsClause}
 use Rattle.hint_log.specs.Reached.{Reaches}
 use Rattle.hint_log.specs.declared.names.Name.TheVariants.{Selector, Term}
 use Rattle.hint_log.specs.declared.origins.Leaf.{Leaf}
@@ -29,7 +28,7 @@ use Rattle.log_laws.proofs.ReachedClauses.{name_stays}
 use Rattle.cert_export.specs.Given.{IsGivenRightly}
 use Rattle.cert_export.specs.LineOrder.{IsRenamedBase, AreLineNumbers, AreLines, AreFinished}
 use Rattle.cert_export.specs.Lines.{clause_or_empty, is_derived, derived_ids, line_clause, line_number, line_steps}
-use Rattle.cert_export.specs.Renaming.{Renaming, IsInjective, renamed_clause, IsPartOf, IsRenamingOf}
+use Rattle.cert_export.specs.Renaming.{Renaming, IsInjective, renamed_clause, IsRenamingOf}
 use Rattle.cert_export.proofs.Allowed.{consecutive, steps_allowed}
 use Rattle.cert_export.proofs.Answers.{answer_there, reached_given, selectors_dropped}
 use Rattle.cert_export.proofs.DerivedLines.{lines_are_derived}
@@ -85,10 +84,7 @@ module _ (f : Dqbf) (entries : List Entry) (id : ℕ) (ids : List ℕ) (y : ℕ)
 
   -- the leaf stands on a gate or a first copy
   pub term_in_log : (l : Literal) → leaf ≡ LeafLiteral l → is_term_name (name_of entries (variable_of l)) ≡ true
-  term_in_log l is =
-      let there : is_term_name (name_of d.can.shown.earlier (variable_of l)) ≡ true =
-      subst (IsTermLeaf d.can.shown.earlier) is d.can.shown.leaf_is in
-      ap (λ xs. is_term_name (name_of xs (variable_of l))) d.can.shown.answered ∙ there
+  term_in_log l is = search arith
 
   pub inside_before : (v : ℕ) (l : Literal) → Contains gates v → IsTermBefore entries gates v l → (a b : Literal) →
       name_of entries (variable_of l) ≡ Some (Term a b) → Contains gates (variable_of l)
@@ -154,8 +150,7 @@ module _ (f : Dqbf) (entries : List Entry) (id : ℕ) (ids : List ℕ) (y : ℕ)
   number = line_number (last_definition_id f gates) (derived_ids entries ids)
 
   answer_at : numbered has_id entries id ≡ Some (Answer d.can.shown.clause d.can.shown.hints)
-  answer_at = ap (λ xs. numbered has_id xs id) d.can.shown.answered ∙ ap (numbered has_id all) id_is
-      ∙ answer_there d.can.shown.earlier d.can.shown.clause d.can.shown.hints lawful'
+  answer_at = search (arith, id_is, answer_there, lawful')
 
   module _ (r : Renaming) (names : IsRenamingOf target entries ids r) where
     abbrev steps : List ProofStep
@@ -178,8 +173,7 @@ module _ (f : Dqbf) (entries : List Entry) (id : ℕ) (ids : List ℕ) (y : ℕ)
         let b = base_clause steps h origin c at kept.0 in (b.0 ∙ ap Some (sym kept.1), b.1)
 
     injective_r : IsInjective r
-    injective_r v w n h k = injective f gates entries d.logged d.well_formed v w n (names.right v n h)
-        (names.right w n k)
+    injective_r v w n h k = search (arith, injective)
 
     numbers : AreLineNumbers entries id (last_definition_id f gates) number
     numbers = lines_have_numbers entries id (last_definition_id f gates) ids d.reached
@@ -212,10 +206,7 @@ module _ (f : Dqbf) (entries : List Entry) (id : ℕ) (ids : List ℕ) (y : ℕ)
         d.can.lemmas_are_derived base_right lines false finished
 
     in_proof : (v x : ℕ) → r v ≡ Some x → is_up_to (f.variables + length gates) x ≡ true
-    in_proof v x h =
-        let b = number_bounds f gates d.well_formed v (name_of entries v) x (names.right v x h) in
-        and_from (nat_le 1 x) (nat_le x (f.variables + length gates)) (le-leb 1 x b.0)
-        (le-leb x (f.variables + length gates) b.1)
+    in_proof v x h = search (arith, number_bounds, and_from, nat_le, le-leb)
 
     pub steps_are_allowed : AreSteps (is_up_to (f.variables + length gates)) (first_definition_id f (length gates)) steps
     steps_are_allowed =

@@ -1,5 +1,5 @@
 -- Needed gates by their places: the greatest is taken out, and what its gate reads is added, until none waits.
-use Rattle.std.proofs.Common.{◌≡◌, ℕ, zero, suc, ◌+◌, ◌<◌, ◌==◌, ◌⊎◌, Bool, true, false, true≢false, cond, List, [], ◌∷◌, ◌++◌, length, get_or, slice_get, slice_index, OnOk, Result, Ok, Err, Option, Some, Contains, inl, inr, refl, sym, ap, ◌∙◌, subst, arith}
+use Rattle.std.proofs.Common.{◌≡◌, ℕ, zero, suc, ◌+◌, ◌<◌, ◌==◌, ◌⊎◌, true, false, true≢false, cond, List, [], ◌∷◌, ◌++◌, length, get_or, slice_get, slice_index, OnOk, Result, Ok, Err, Some, Contains, inl, inr, refl, sym, ap, ◌∙◌, subst, arith}
 use Rattle.std.specs.List.{All}
 use Rattle.std.specs.List.Sorted.{IsStrictlyIncreasing}
 use Rattle.std.proofs.lemmas.Bool.{cases_Bool, eqb-true, eqb-false, eq-eqb}
@@ -11,71 +11,21 @@ use Rattle.dq_lits.specs.declared.memory.Memory.{Memory}
 use Rattle.hint_log.specs.Entries.{Entry, name_of}
 use Rattle.hint_log.specs.declared.names.Name.TheVariants.{Term}
 use Rattle.number_tables.specs.Numbers.{place_of}
-use Rattle.definition_export.specs.Closing.{is_waiting, Takes, IsPlaceOf, IsWithPlace, IsSidePlace, IsWithSides, IsGateWaiting, AreWithin, AreClosed, AreTermNames}
+use Rattle.definition_export.specs.Closing.{is_waiting, Takes, IsWithPlace, IsSidePlace, IsWithSides, IsGateWaiting, AreWithin, AreClosed, AreTermNames}
 use Rattle.definition_export.specs.declared.places.PlaceSet.{PlaceSet}
 
 -- one place more
 module _ (terms : List ℕ) (variable place : ℕ) (old new : PlaceSet)
     (is : (p : ℕ) → is_waiting new p ≡ cond (place == p) true (is_waiting old p)) where
   pub place_added : place_of terms variable ≡ Some place → IsWithPlace terms variable old new
-  place_added at = record {
-    kept = λ p h. is p ∙ always p (place == p) h;
-    there = λ p h. is p ∙ ap (λ b. cond b true (is_waiting old p)) (eq-eqb place p (same p (sym at ∙ h)));
-    only = λ p h. by_bit p (place == p) refl (sym (is p) ∙ h);
-  } where
-    always : (p : ℕ) (b : Bool) → is_waiting old p ≡ true → cond b true (is_waiting old p) ≡ true
-    always p true h = refl
-    always p false h = h
-
-    same : (p : ℕ) → Some place ≡ Some p → place ≡ p
-    same p e = cc
-
-    by_bit : (p : ℕ) (b : Bool) → (place == p) ≡ b → cond b true (is_waiting old p) ≡ true →
-        (is_waiting old p ≡ true) ⊎ IsPlaceOf terms variable p
-    by_bit p true e h = inr (at ∙ ap Some (eqb-true place p e))
-    by_bit p false e h = inl h
+  place_added at = search (arith, eq-eqb, eqb-true)
 
 -- both sides of a gate were added
 pub sides_added : (entries : List Entry) (terms : List ℕ) (place v : ℕ) (a b : Literal) (old mid new : PlaceSet) →
     slice_get terms place ≡ Some v → name_of entries v ≡ Some (Term a b) →
     IsWithPlace terms (variable_of a) old mid → IsWithPlace terms (variable_of b) mid new →
     IsWithSides entries terms place old new
-sides_added entries terms place v a b old mid new at named first second = record {
-  kept = λ p h. second.kept p (first.kept p h);
-  there = λ p s. there p s;
-  only = λ p h. elim (second.only p h) [
-    | inl before ↦ elim (first.only p before) [
-      | inl older ↦ inl older
-      | inr left ↦ inr (side a (inl refl) p left)
-    ]
-    | inr right ↦ inr (side b (inr refl) p right)
-  ];
-} where
-  side : (l : Literal) → (l ≡ a) ⊎ (l ≡ b) → (p : ℕ) → IsPlaceOf terms (variable_of l) p →
-      IsSidePlace entries terms place p
-  side l either p is = record {
-    variable = v;
-    left = a;
-    right = b;
-    literal = l;
-    at = at;
-    named = named;
-    either = either;
-    side_is = is;
-  }
-
-  there : (p : ℕ) → IsSidePlace entries terms place p → is_waiting new p ≡ true
-  there p s =
-      let both : Some v ≡ Some s.variable = sym at ∙ s.at in
-      let same : v ≡ s.variable = cc in
-      let names : Some (Term a b) ≡ Some (Term s.left s.right) = sym named ∙ ap (name_of entries) same ∙ s.named in
-      let left : s.left ≡ a = cc in
-      let right : s.right ≡ b = cc in
-      elim s.either [
-        | inl is ↦ second.kept p (first.there p (ap (λ l. place_of terms (variable_of l)) (sym (is ∙ left))
-            ∙ s.side_is))
-        | inr is ↦ second.there p (ap (λ l. place_of terms (variable_of l)) (sym (is ∙ right)) ∙ s.side_is)
-      ]
+sides_added entries terms place v a b old mid new at named first second = search arith
 
 -- the same, where the second one may be refused
 pub both_added : (entries : List Entry) (terms items : List ℕ) (place : ℕ) (a b : Literal) (old mid new : PlaceSet)
@@ -85,10 +35,7 @@ pub both_added : (entries : List Entry) (terms items : List ℕ) (place : ℕ) (
     OnOk r (IsWithSides entries terms place old new)
 both_added entries terms items place a b old mid new (Err e) is small named v w v_is w_is first second = tt
 both_added entries terms items place a b old mid new (Ok u) is small named v w v_is w_is first second =
-    let at : slice_get terms place ≡ Some (get_or items place 0) =
-    slice_get-get_or terms place 0 small ∙ ap (λ xs. Some (get_or xs place 0)) (sym is) in
-    sides_added entries terms place (get_or items place 0) a b old mid new at named
-    (subst (λ n. IsWithPlace terms n old mid) v_is first) (subst (λ n. IsWithPlace terms n mid new) w_is second)
+    search (arith, slice_get-get_or, sides_added)
 
 -- a place's gate has a name
 pub term_there : (entries : List Entry) (terms items : List ℕ) (place : ℕ) → AreTermNames entries terms →
@@ -114,13 +61,7 @@ nothing v (k, lt, at) = omega (arith, lt)
 
 pub closing_first : (entries : List Entry) (terms : List ℕ) (first : PlaceSet) → AreWithin terms first →
     IsClosing entries terms first first []
-closing_first entries terms first within = record {
-  rising = λ k lt. absurd (omega (arith, lt));
-  below = λ p h. within p h;
-  within = λ p has. absurd (nothing p has);
-  first_in = λ p h. inl h;
-  sides_in = λ p q has s. absurd (nothing p has);
-}
+closing_first entries terms first within = search arith
 
 pub closing_more : (entries : List Entry) (terms : List ℕ) (first before taken after : PlaceSet) (at : ℕ)
     (up : List ℕ) → AreTermNames entries terms → IsClosing entries terms first before up → Takes before taken at →

@@ -1,18 +1,16 @@
 -- Answers that show definitions can be exported, and what is exported of them is such as it should be.
-use Rattle.std.proofs.Common.{◌≡◌, ℕ, zero, suc, ◌+◌, ◌*◌, ◌^◌, ◌≤◌, ◌<◌, ◌⊎◌, inl, inr, true, List, [], ◌∷◌, ◌++◌, length, get_or, IfOk, Result, Ok, Err, Option, None, Some, IsSome, refl, sym, ◌∙◌, ap, subst, arith}
+use Rattle.std.proofs.Common.{◌≡◌, ℕ, zero, suc, ◌≤◌, true, List, ◌∷◌, length, get_or, IfOk, Result, Ok, Err, Option, None, Some, IsSome, refl, sym, ◌∙◌, ap, subst, arith}
 use Rattle.std.specs.List.{All, Contains}
 use Rattle.std.specs.Option.{option_and_then}
 use Rattle.std.proofs.lemmas.List.{length-map, get_or_default}
-use Rattle.std.proofs.lemmas.List.Elements.{All-contains}
 use Rattle.dq_lits.specs.Derivation.{ProofStep}
 use Rattle.dq_lits.specs.Formula.{Dqbf, IsWellFormed}
 use Rattle.dq_lits.specs.Literal.{Literal, variable_of}
 use Rattle.dq_lits.specs.declared.memory.Memory.{Memory}
-use Rattle.dq_formula.specs.Prefix.{IsLawful}
 use Rattle.hint_log.specs.Conditions.{AreLogged, AreNamed, IsId, MayFollow, is_term_name}
-use Rattle.hint_log.specs.Entries.{Entry, Given, clause_at, clause_of, has_id, last_id, name_of, numbered}
+use Rattle.hint_log.specs.Entries.{Entry, Given, clause_at, clause_of, has_id, name_of, numbered}
 use Rattle.hint_log.specs.Growth.{Each}
-use Rattle.hint_log.specs.Origins.{gate_rest, IsCopyRest, IsTermRest, IsOriginsClause}
+use Rattle.hint_log.specs.Origins.{gate_rest, IsTermRest, IsOriginsClause}
 use Rattle.hint_log.specs.ProductiveLog.{MatchesOrigin}
 use Rattle.hint_log.specs.Reached.{AreReached, Reaches, by_hint}
 use Rattle.hint_log.specs.declared.names.Name.{Name}
@@ -21,7 +19,6 @@ use Rattle.hint_log.specs.declared.origins.Leaf.{Leaf}
 use Rattle.hint_log.specs.declared.origins.Origin.{Origin}
 use Rattle.hint_log.specs.declared.origins.Origin.TheVariants.{Instance, Gate as GateOf, Fault, Copy, Link, TermGate, Differ}
 use Rattle.hint_log.proofs.NamedEntries.{number_below}
-use Rattle.cert_text.specs.DefinitionBlocks.{Definition}
 use Rattle.circuit_plain.specs.declared.circuits.Gate.{Gate}
 use Rattle.log_laws.proofs.Found.{each_at, split_at}
 use Rattle.log_laws.proofs.ReachedClauses.{name_stays}
@@ -79,14 +76,9 @@ module _ (f : Dqbf) (entries : List Entry) (id : ℕ) (ids : List ℕ) (y : ℕ)
         by_origin (GateOf v i) at mine own = absurd mine.0
         by_origin (Fault j i out) at mine own = absurd mine.0
         by_origin (Link v i) at mine own = absurd mine.0
-        by_origin (Copy side j) at mine own =
-            let rest = own.rest_is.1 in (number_below f.matrix j rest.clause rest.clause_is).1
-        by_origin (TermGate v i) at mine own =
-            let rest = own.rest_is in (mine.0, part_of v rest.left rest.right i own.rest rest.rest_is)
-        by_origin (Differ x out part) at mine own = elim own.rest_is.0 [
-          | inl one ↦ (let e = one in omega (arith, e))
-          | inr two ↦ (let e = two in omega (arith, e))
-        ]
+        by_origin (Copy side j) at mine own = search (arith, number_below)
+        by_origin (TermGate v i) at mine own = search arith
+        by_origin (Differ x out part) at mine own = search arith
 
   pub can_be_written : (r : Renaming) → IsRenamingOf (definition_renaming f entries gates) entries ids r →
       CanBeWritten r (HasDefinitionId f gates) entries ids
@@ -136,13 +128,7 @@ pub steps_or_memory : (f : Dqbf) (entries : List Entry) (ids gates : List ℕ) (
     ≡ line_steps r (definition_id f gates) entries (line_number last (derived_ids entries ids)) (derived_ids entries ids))
     → IfOk result (AreBlockSteps f entries ids gates)
 steps_or_memory f entries ids gates r last (Err e) names is h = tt
-steps_or_memory f entries ids gates r last (Ok steps) names is h = (
-  r,
-  names,
-  h
-      ∙ ap (λ n. line_steps r (definition_id f gates) entries (line_number n (derived_ids entries ids))
-      (derived_ids entries ids)) is,
-)
+steps_or_memory f entries ids gates r last (Ok steps) names is h = search arith
 
 -- a block of these parts
 pub block_of : (f : Dqbf) (entries : List Entry) (y : ℕ) (leaf : Leaf) (gates : List ℕ) (steps : List ProofStep)
@@ -151,23 +137,12 @@ pub block_of : (f : Dqbf) (entries : List Entry) (y : ℕ) (leaf : Leaf) (gates 
     IsExportedDefinition f entries y leaf (exported_definition f entries y leaf gates steps) →
     IsExportedDefinition f entries y leaf
     (record { existential = y; output = output; gates = listed; steps = steps })
-block_of f entries y leaf gates steps output listed output_is listed_is h =
-    subst (λ o. IsExportedDefinition f entries y leaf
-    (record { existential = y; output = o; gates = listed; steps = steps })) (sym output_is)
-    (subst (λ gs. IsExportedDefinition f entries y leaf (record {
-      existential = y;
-      output = leaf_code (definition_renaming f entries gates) leaf;
-      gates = gs;
-      steps = steps;
-    })) (sym listed_is) h)
+block_of f entries y leaf gates steps output listed output_is listed_is h = search arith
 
 -- the answer's id
 pub answer_id : (f : Dqbf) (entries : List Entry) (id y : ℕ) (leaf : Leaf) → CanExportDefinition f entries id y leaf →
     IsId entries id
-answer_id f entries id y leaf can = record {
-  from_one = let last = can.shown.last in let is = ap last_id can.shown.answered in omega (arith, last, is);
-  last = let last = can.shown.last in omega (arith, last);
-}
+answer_id f entries id y leaf can = search arith
 
 pub ids_are : (entries : List Entry) (id : ℕ) (ids : List ℕ) → ((es : List Entry) (n i : ℕ) → AreLogged es →
     IsId es n → Reaches es n i → IsId es i) → AreLogged entries → IsId entries id → AreReached entries id ids →
@@ -194,13 +169,4 @@ pub definition_ids : (f : Dqbf) (entries : List Entry) (id y : ℕ) (leaf : Leaf
     AreReached entries id ids → All (IsId entries) ids →
     ((m : ℕ) → AreReached entries m ids → AreBlockGates entries m leaf gates) → n ≡ length gates →
     (n ≤ 10000000000000000) → AreDefinitionIds f entries id ids y leaf gates
-definition_ids f entries id y leaf ids gates n well few lawful can reached are block n_is small = record {
-  well_formed = well;
-  few_clauses = few;
-  logged = lawful;
-  can = can;
-  reached = reached;
-  are_ids = are;
-  block = block id reached;
-  few_gates = omega (arith, n_is, small);
-}
+definition_ids f entries id y leaf ids gates n well few lawful can reached are block n_is small = search arith

@@ -1,8 +1,8 @@
 -- Numbers of a block's variables: those of the formula are their own, and gates come behind.
-use Rattle.std.proofs.Common.{◌≡◌, ℕ, ◌+◌, ◌^◌, ◌≤◌, ◌<◌, ◌==◌, ◌&&◌, ◌⊎◌, inl, inr, Bool, true, false, cond, List, [], ◌∷◌, length, get_or, Option, None, Some, refl, sym, ◌∙◌, ap, subst, arith}
+use Rattle.std.proofs.Common.{◌≡◌, ℕ, ◌+◌, ◌^◌, ◌≤◌, ◌<◌, ◌==◌, ◌⊎◌, inl, inr, Bool, true, false, List, length, Option, None, Some, refl, sym, ◌∙◌, ap, arith}
 use Rattle.std.specs.List.{Contains, position_or_len}
 use Rattle.std.specs.Option.{option_map}
-use Rattle.std.proofs.lemmas.Bool.{eqb-true, and_from, and_parts, eq-eqb, cond-true}
+use Rattle.std.proofs.lemmas.Bool.{eqb-true, and_parts, cond-true}
 use Rattle.std.proofs.lemmas.List.Elements.{All-contains}
 use Rattle.list_laws.proofs.Members.{contains_tested}
 use Rattle.dq_lits.specs.Literal.{Literal, variable_of}
@@ -27,13 +27,7 @@ in_range f x well declared_is = All-contains (λ v. (1 ≤ v) × (v ≤ f.variab
 
 -- and small
 pub lawful_range : (f : Dqbf) (x : ℕ) → IsLawful f → is_declared f x ≡ true → (1 ≤ x) × (x < 2 ^ 62)
-lawful_range f x lawful declared_is =
-    let r = All-contains (λ v. (1 ≤ v) × (v ≤ f.variables)) (declared f) x lawful.prefix.in_range
-    (contains_tested (declared f) x declared_is) in
-    let one = r.0 in
-    let low = r.1 in
-    let few : f.variables ≤ 1000000 = lawful.few_variables in
-    (one, omega (arith, low, few))
+lawful_range f x lawful declared_is = search (arith, All-contains, contains_tested)
 
 module _ (f : Dqbf) (gates : List ℕ) where
   abbrev pub IsCopyNumber : Option Name → ℕ → Type 0
@@ -53,17 +47,7 @@ module _ (f : Dqbf) (gates : List ℕ) where
   number_cases v (Some (Input u)) x h = cc
   number_cases v (Some (And a b)) x h = cc
   number_cases v (Some (Bad g j)) x h = cc
-  number_cases v (Some (CopyOf side u)) x h = by_bit ((side == 1) && is_declared f u) refl h where
-    by_bit : (b : Bool) → ((side == 1) && is_declared f u) ≡ b → cond b (Some u) None ≡ Some x →
-        IsNumbered v (Some (CopyOf side u)) x
-    by_bit true e h =
-        let parts = and_parts (side == 1) (is_declared f u) e in
-        let same : u ≡ x = cc in
-        inl (
-          ap (λ s. Some (CopyOf s u)) (eqb-true side 1 parts.0) ∙ ap (λ w. Some (CopyOf 1 w)) same,
-          ap (is_declared f) (sym same) ∙ parts.1,
-        )
-    by_bit false e h = cc
+  number_cases v (Some (CopyOf side u)) x h = search (arith, and_parts, eqb-true)
   number_cases v (Some (Term a b)) x h = by_option (place_from_one gates v) refl h where
     by_option : (o : Option ℕ) → place_from_one gates v ≡ o → option_map (λ p. f.variables + p) o ≡ Some x →
         IsNumbered v (Some (Term a b)) x
@@ -81,11 +65,7 @@ module _ (f : Dqbf) (gates : List ℕ) where
 
   module _ (entries : List Entry) (lawful : Each MayFollow entries) (well : IsWellFormed f) where
     same_gate : (v w n : ℕ) → IsPlace gates v n → IsPlace gates w n → v ≡ w
-    same_gate v w n p q =
-        let a = p.number in
-        let b = q.number in
-        let same : p.place ≡ q.place = omega (arith, a, b) in
-        sym p.there ∙ ap (λ k. get_or gates k 0) same ∙ q.there
+    same_gate v w n p q = search arith
 
     by_cases : (v w x : ℕ) → IsNumbered v (name_of entries v) x → IsNumbered w (name_of entries w) x → v ≡ w
     by_cases v w x (inl c) (inl d) = names_are_unique_lem entries v w (CopyOf 1 x) lawful c.0 d.0
@@ -95,30 +75,21 @@ module _ (f : Dqbf) (gates : List ℕ) where
     by_cases v w x (inr g) (inl c) =
         let r = in_range f x well c.1 in let low = r.1 in let n = g.1.number in let is = g.2 in
         absurd (omega (arith, low, n, is))
-    by_cases v w x (inr g) (inr h) =
-        let a = g.2 in
-        let b = h.2 in
-        let same : g.0 ≡ h.0 = omega (arith, a, b) in
-        same_gate v w h.0 (subst (IsPlace gates v) same g.1) h.1
+    by_cases v w x (inr g) (inr h) = search (arith, same_gate)
 
     pub injective : IsInjective (definition_renaming f entries gates)
-    injective v w x h k = by_cases v w x (number_cases v (name_of entries v) x h)
-        (number_cases w (name_of entries w) x k)
+    injective v w x h k = search (arith, by_cases, number_cases)
 
   -- literals that have numbers
   pub copy_numbered : (entries : List Entry) (l : Literal) (x : ℕ) →
       name_of entries (variable_of l) ≡ Some (CopyOf 1 x) → is_declared f x ≡ true →
       definition_renaming f entries gates (variable_of l) ≡ Some x
-  copy_numbered entries l x named declared_is =
-      ap (definition_number f gates (variable_of l)) named
-      ∙ cond-true ((1 == 1) && is_declared f x) (Some x) None declared_is
+  copy_numbered entries l x named declared_is = search (arith, cond-true)
 
   pub gate_numbered : (entries : List Entry) (v : ℕ) (a b : Literal) → name_of entries v ≡ Some (Term a b) →
       Contains gates v →
       definition_renaming f entries gates v ≡ Some (f.variables + (position_or_len (λ z. z == v) gates + 1))
-  gate_numbered entries v a b named inside =
-      ap (definition_number f gates v) named
-      ∙ ap (option_map (λ p. f.variables + p)) (place_there gates v inside)
+  gate_numbered entries v a b named inside = search (arith, place_there)
 
   pub term_numbered : (entries : List Entry) → IsWellFormed f → (l : Literal) →
       is_term_name (name_of entries (variable_of l)) ≡ true → IsDeclaredCopy f entries l →

@@ -1,5 +1,5 @@
 -- Needed gates in the order of naming, each once.
-use Rattle.std.proofs.Common.{◌≡◌, ◌≢◌, nat_lt, is_some, ℕ, zero, suc, ◌+◌, ◌≤◌, ◌<◌, ◌==◌, ◌⊎◌, ◌||◌, not, inl, inr, Bool, true, false, true≢false, cond, List, [], ◌∷◌, ◌++◌, map, take, length, get_or, slice_get, slice_index, IfOk, Result, Ok, Err, Option, None, Some, IsSome, refl, sym, ◌∙◌, ap, subst, arith}
+use Rattle.std.proofs.Common.{◌≡◌, ◌≢◌, nat_lt, is_some, ℕ, zero, suc, ◌+◌, ◌≤◌, ◌<◌, ◌==◌, ◌⊎◌, inl, inr, true, true≢false, List, [], ◌∷◌, ◌++◌, map, take, length, get_or, slice_index, IfOk, Result, Ok, Err, Option, None, Some, IsSome, refl, sym, ◌∙◌, ap, subst, arith}
 use Rattle.std.specs.List.{All, AllPairs, Contains, position_or_len}
 use Rattle.std.specs.Option.{option_and_then}
 use Rattle.std.specs.List.Sorted.{IsStrictlyIncreasing}
@@ -8,7 +8,7 @@ use Rattle.std.proofs.lemmas.List.{length-map, get_or_default, get_or-take, map-
 use Rattle.std.proofs.lemmas.List.Kept.{AllPairs-from_increasing}
 use Rattle.std.proofs.lemmas.List.Sums.{position_or_len_is, passes_at_first}
 use Rattle.std.proofs.lemmas.List.Elements.{All-contains, Contains-append_right}
-use Rattle.std.proofs.lemmas.Option.{slice_get-get_or, slice_get_within, get_or_from_slice_get, slice_get-map}
+use Rattle.std.proofs.lemmas.Option.{slice_get-get_or, get_or_from_slice_get}
 use Rattle.list_laws.proofs.Members.{tested_inside}
 use Rattle.list_laws.proofs.Sequences.{take-few}
 use Rattle.dq_lits.specs.Literal.{Literal, variable_of}
@@ -16,8 +16,8 @@ use Rattle.dq_lits.specs.declared.memory.Memory.{Memory}
 use Rattle.dq_lits.specs.Formula.{Dqbf, Existential, declared, existential_of}
 use Rattle.dq_lits.proofs.FormulaVariables.{find_sound}
 use Rattle.dq_formula.specs.Prefix.{is_declared}
-use Rattle.hint_log.specs.Entries.{Entry, Given, count, has_id, name_of, numbered, origin_at, origin_of}
-use Rattle.hint_log.specs.Reached.{Reaches, AreReached}
+use Rattle.hint_log.specs.Entries.{Entry, Given, count, has_id, name_of, numbered, origin_of}
+use Rattle.hint_log.specs.Reached.{AreReached}
 use Rattle.hint_log.specs.declared.names.Name.TheVariants.{Term}
 use Rattle.hint_log.specs.declared.origins.Leaf.{Leaf}
 use Rattle.hint_log.specs.declared.origins.Leaf.TheVariants.{Constant, Literal as LeafLiteral}
@@ -71,20 +71,8 @@ picked g (x ∷ xs) (suc i) d h = picked g xs i d (omega (arith, h))
 -- of two places in a rising list the lesser one comes first
 comes_first : (up : List ℕ) → IsStrictlyIncreasing up → (i j m n : ℕ) → i < length up → j < length up →
     slice_index up i ≡ m → slice_index up j ≡ n → m < n → i < j
-comes_first up rising i j m n small high is_m is_n low = by_cases (nat_lt i j) refl where
-  by_cases : (b : Bool) → nat_lt i j ≡ b → i < j
-  by_cases true e = ltb-true i j e
-  by_cases false e = by_equal (i == j) refl where
-    by_equal : (b : Bool) → (i == j) ≡ b → i < j
-    by_equal true same =
-        let equal : slice_index up i ≡ slice_index up j = ap (slice_index up) (eqb-true i j same) in
-        absurd (omega (arith, equal, is_m, is_n, low))
-    by_equal false other =
-        let not_less = ltb-false i j e in
-        let not_same = eqb-false i j other in
-        let above : j < i = omega (arith, not_less, not_same) in
-        let more = AllPairs-from_increasing up rising j i 0 above small in
-        absurd (omega (arith, more, is_m, is_n, low))
+comes_first up rising i j m n small high is_m is_n low =
+    search (arith, nat_lt, ltb-true, eqb-true, ltb-false, eqb-false, AllPairs-from_increasing)
 
 module _ (entries : List Entry) (terms : List ℕ) (up : List ℕ) (names : AreTermNames entries terms)
     (rising : IsStrictlyIncreasing up) (within : (p : ℕ) → Contains up p → p < length terms) where

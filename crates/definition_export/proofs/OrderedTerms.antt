@@ -1,5 +1,5 @@
 -- The gates over first copies in the order of naming: each once, and behind those that it reads.
-use Rattle.std.proofs.Common.{◌≡◌, ◌≢◌, ℕ, ◌+◌, ◌≤◌, ◌<◌, ◌==◌, ◌⊎◌, inl, inr, Bool, true, false, cond, List, [], ◌∷◌, ◌++◌, length, length-append, get_or, slice_get, Option, None, Some, IsSome, is_some, refl, sym, ◌∙◌, ap, subst, arith}
+use Rattle.std.proofs.Common.{◌≡◌, ℕ, ◌+◌, ◌≤◌, ◌<◌, ◌==◌, ◌⊎◌, inl, inr, Bool, true, false, cond, List, [], ◌∷◌, ◌++◌, length, length-append, get_or, slice_get, Option, None, Some, IsSome, is_some, refl, sym, ◌∙◌, ap, subst, arith}
 use Rattle.std.specs.List.{AllPairs, Contains}
 use Rattle.std.proofs.lemmas.Bool.{eqb-true, eq-eqb, cond-true, cond-false}
 use Rattle.std.proofs.lemmas.List.Quantifiers.{all_pairs_push, position-Some}
@@ -14,8 +14,8 @@ use Rattle.hint_log.specs.Growth.{Each}
 use Rattle.hint_log.specs.declared.names.Name.{Name}
 use Rattle.hint_log.specs.declared.names.Name.TheVariants.{Selector, Pair, Input, And, Bad, Copy as CopyOf, Term}
 use Rattle.log_laws.proofs.ReachedClauses.{name_stays}
-use Rattle.number_tables.specs.Numbers.{has_number, place_of, with_number}
-use Rattle.definition_export.specs.Closing.{IsSidePlace, AreTermNames}
+use Rattle.number_tables.specs.Numbers.{has_number, place_of}
+use Rattle.definition_export.specs.Closing.{AreTermNames}
 use Rattle.definition_export.specs.Exporting.{is_term_entry}
 use Rattle.definition_export.specs.TermOrder.{with_term, with_terms}
 
@@ -61,8 +61,7 @@ abbrev IsTermName : List Entry → ℕ → Type 0
 IsTermName es v = (a : Literal) × (b : Literal) × (name_of es v ≡ Some (Term a b))
 
 at_inside : (xs : List ℕ) (p v : ℕ) → slice_get xs p ≡ Some v → Contains xs v
-at_inside xs p v h =
-    (p, slice_get_within xs p v h, get_or_from_slice_get xs p v _ h)
+at_inside xs p v h = search (arith, slice_get_within, get_or_from_slice_get)
 
 abbrev IsOrdered : List Entry → Type 0
 IsOrdered es = (p q v : ℕ) (a b l : Literal) → slice_get (terms_over es) p ≡ Some v →
@@ -138,10 +137,7 @@ module _ (u : ℕ) (n : Name) (es : List Entry) (lawful : Each MayFollow (Named 
   -- a variable that had a name had this one
   name_before : (v : ℕ) (m : Name) → IsSome (name_of es v) → name_of (Named u n ∷ es) v ≡ Some m →
       name_of es v ≡ Some m
-  name_before v m there named = by_option (name_of es v) refl there where
-    by_option : (o : Option Name) → name_of es v ≡ o → IsSome o → name_of es v ≡ Some m
-    by_option None is k = cc
-    by_option (Some k) is s = is ∙ sym (kept_name v k is) ∙ named
+  name_before v m there named = search (arith, kept_name)
 
   old_name : (v : ℕ) → Contains old v → (m : Name) → name_of (Named u n ∷ es) v ≡ Some m → name_of es v ≡ Some m
   old_name v inside m named = let t = h.named v inside in name_before v m (ap is_some t.2) named
@@ -256,10 +252,7 @@ listed (Begun live ∷ es) lawful = let h = listed es lawful.1 in
 -- there are as many as names
 few_more : (old : List ℕ) (u : ℕ) (n : Name) (m : ℕ) → has_number old u ≡ false → length old ≤ m →
     length (with_term old (u, n)) ≤ cond (is_term_entry (Named u n)) (m + 1) m
-few_more old u (Term a b) m new h =
-    let long = length-append old (u ∷ []) in
-    let is = ap length (cond-false (has_number old u) old (old ++ u ∷ []) new) in
-    omega (arith, long, is, h)
+few_more old u (Term a b) m new h = search (arith, length-append, cond-false)
 few_more old u (And a b) m new h = h
 few_more old u (Selector g) m new h = h
 few_more old u (Pair k y) m new h = h
@@ -269,8 +262,7 @@ few_more old u (CopyOf side x) m new h = h
 
 few_over : (es : List Entry) → Each MayFollow es → length (terms_over es) ≤ count is_term_entry es
 few_over [] lawful = omega arith
-few_over (Named u n ∷ es) lawful = few_more (terms_over es) u n (count is_term_entry es)
-    (is_new u n es lawful (listed es lawful.1)) (few_over es lawful.1)
+few_over (Named u n ∷ es) lawful = search (arith, few_more, (few_over es lawful.1))
 few_over (Given origin c ∷ es) lawful = few_over es lawful.1
 few_over (Learned c hints ∷ es) lawful = few_over es lawful.1
 few_over (Answer c hints ∷ es) lawful = few_over es lawful.1
@@ -279,8 +271,7 @@ few_over (Begun live ∷ es) lawful = few_over es lawful.1
 
 pub few_terms : (es : List Entry) (terms : List ℕ) → Each MayFollow es → terms ≡ with_terms [] (names_of es) →
     length terms ≤ count is_term_entry es
-few_terms es terms lawful are = subst (λ xs. length xs ≤ count is_term_entry es) (sym (are ∙ terms_are es))
-    (few_over es lawful)
+few_terms es terms lawful are = search (arith, terms_are, few_over)
 
 -- the place of a number
 pub at_place : (xs : List ℕ) (v p : ℕ) → place_of xs v ≡ Some p → slice_get xs p ≡ Some v

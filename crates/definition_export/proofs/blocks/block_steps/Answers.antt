@@ -1,6 +1,6 @@
 use Rattle.std.proofs.Common.{◌+◌, ◌*◌, arith}
 use Rattle.cert_export.specs.Names.{renaming}
-use Rattle.definition_export.proofs.ExportableDefinitions.{can_be_written, given_named, steps_or_memory}
+use Rattle.definition_export.proofs.ExportableDefinitions.{can_be_written, steps_or_memory}
 use Rattle.definition_export.proofs.blocks.block_steps.Goals as goal
 
 pub write_lines-requires-clause-can : goal.write_lines-requires-clause-can

@@ -1,4 +1,4 @@
-use Rattle.std.proofs.Common.{◌≡◌, OnOk, sym, ◌∙◌, ap, get_or, is_some, Ok, Err, Some}
+use Rattle.std.proofs.Common.{◌≡◌, sym, ◌∙◌, ap, is_some, Some}
 use Rattle.hint_log.specs.declared.names.Name.TheVariants.{Term}
 use Rattle.definition_export.proofs.ClosedPlaces.{both_added, term_there}
 use Rattle.definition_export.proofs.needed.add_sides.Goals as goal

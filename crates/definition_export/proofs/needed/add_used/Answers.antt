@@ -1,4 +1,4 @@
-use Rattle.std.proofs.Common.{sym, subst, take, get_or, slice_index}
+use Rattle.std.proofs.Common.{sym, subst, take, get_or, arith}
 use Rattle.std.proofs.lemmas.List.{take_all, take_more}
 use Rattle.definition_export.proofs.ClosedPlaces.{AreUsedSoFar, one_used}
 use Rattle.definition_export.proofs.needed.add_used.Goals as goal
@@ -20,5 +20,4 @@ pub returns-clause-kept : goal.returns-clause-kept
 returns-clause-kept c = c.loop-id.invariant.kept
 
 pub returns-clause-there : goal.returns-clause-there
-returns-clause-there c = (subst (λ xs. AreUsedSoFar c.args.log.now.entries c.args.terms.now xs c.args.waiting.now
-    c.loop-id.waiting) (take_all c.loop-id.id-index c.args.ids.now c.loop-id-test.false) c.loop-id.invariant).there
+returns-clause-there c = search (arith, take_all)

@@ -1,13 +1,10 @@
-use Rattle.std.proofs.Common.{◌∙◌, ap, [], ◌∷◌, reverse, sym, subst}
+use Rattle.std.proofs.Common.{◌∙◌, ap, [], ◌∷◌, reverse, sym, subst, arith}
 use Rattle.std.proofs.lemmas.List.{reverse-append}
 use Rattle.definition_export.proofs.ClosedPlaces.{IsClosing, closing_first, closing_more, waiting_within, all_closed}
 use Rattle.definition_export.proofs.needed.closed.Goals as goal
 
 pub loop-place-init : goal.loop-place-init
-loop-place-init c =
-    subst (IsClosing c.args.log.now.entries c.args.terms.now c.args.waiting c.args.waiting)
-    (ap reverse (sym c.new-places.ensures.items))
-    (closing_first c.args.log.now.entries c.args.terms.now c.args.waiting c.requires.within)
+loop-place-init c = search (arith, closing_first)
 
 pub add_sides-requires-clause-within : goal.add_sides-requires-clause-within
 add_sides-requires-clause-within c = waiting_within c.args.log.now.entries c.args.terms.now c.args.waiting

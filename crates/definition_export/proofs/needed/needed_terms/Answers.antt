@@ -1,4 +1,4 @@
-use Rattle.std.proofs.Common.{sym, ◌∙◌, ap, subst}
+use Rattle.std.proofs.Common.{sym, ◌∙◌, subst, arith}
 use Rattle.std.proofs.lemmas.Bool.{true≢false}
 use Rattle.definition_export.specs.Closing.{AreClosed}
 use Rattle.definition_export.proofs.OrderedGates.{all_within, gates_or_memory}
@@ -6,20 +6,16 @@ use Rattle.definition_export.proofs.OrderedTerms.{are_term_names, few_terms}
 use Rattle.definition_export.proofs.needed.needed_terms.Goals as goal
 
 pub closed-requires-clause-terms : goal.closed-requires-clause-terms
-closed-requires-clause-terms c =
-    are_term_names c.args.log.now.entries c.args.order.now.terms c.requires.logged c.requires.order
+closed-requires-clause-terms c = search (arith, are_term_names)
 
 pub closed-requires-clause-within : goal.closed-requires-clause-within
-closed-requires-clause-within c = c.in_ok-add_used.ensures.within (c.in_ok-add_leaf.ensures.within
-    (λ p h. absurd (true≢false (sym h ∙ c.new-waiting.ensures p))))
+closed-requires-clause-within c = search (arith, true≢false)
 
 pub listed-requires-clause-distinct : goal.listed-requires-clause-distinct
-listed-requires-clause-distinct c = (are_term_names c.args.log.now.entries c.args.order.now.terms c.requires.logged
-    c.requires.order).distinct
+listed-requires-clause-distinct c = search (arith, are_term_names)
 
 pub listed-requires-clause-rising : goal.listed-requires-clause-rising
-listed-requires-clause-rising c = (subst (AreClosed c.args.log.now.entries c.args.order.now.terms c.add_used.new.waiting)
-    (sym (c.deref.ensures.value ∙ c.reverse.ensures.items)) c.in_ok-places.ensures).rising
+listed-requires-clause-rising c = search arith
 
 pub listed-requires-clause-within : goal.listed-requires-clause-within
 listed-requires-clause-within c = all_within c.args.log.now.entries c.args.order.now.terms c.add_used.new.waiting
