@@ -22,7 +22,7 @@ use Rattle.oracle.specs.Calls.{IsMade}
 use Rattle.oracle.specs.declared.groups.Group.{Group}
 use Rattle.definability.specs.Copies.{group_variable}
 use Rattle.definability.specs.Growing.{HasFewFaults}
-use Rattle.definability.proofs.GivenClauses.{in_by, in_same, in_then}
+use Rattle.definability.proofs.GivenClauses.{in_by, in_then}
 use Rattle.definition_proofs.specs.Terms.{is_proof_origin, GrewByProof}
 use Rattle.definition_proofs.specs.Differing.{differing, IsPut, IsDifferenceOf, IsDifference, IsExistential, AreUndiffered, HasDifferenceAlone, LeavesTerms, AreDiffering}
 use Rattle.definition_proofs.specs.declared.differing.Difference.{Difference}
@@ -35,27 +35,15 @@ some_name (Some n) is = (n, refl)
 pub term_leaf_stays : (old new : List Entry) → NamesStay old new → (leaf : Leaf) → IsTermLeaf old leaf →
     IsTermLeaf new leaf
 term_leaf_stays old new stay (Constant b) is = tt
-term_leaf_stays old new stay (LeafLiteral l) is =
-    let n = some_name (name_of old (variable_of l)) is in
-    ap is_term_name (stay (variable_of l) n.0 n.1 ∙ sym n.1) ∙ is
+term_leaf_stays old new stay (LeafLiteral l) is = search (arith, some_name)
 
 pub difference_stays : (old new : List Entry) → NamesStay old new → (d : Difference) → IsDifference old d →
     IsDifference new d
-difference_stays old new stay d is = record {
-  positive_copy = is.positive_copy;
-  copy_is = stay (variable_of d.copy) (CopyOf 1 d.existential) is.copy_is;
-  leaf_is = term_leaf_stays old new stay d.output is.leaf_is;
-}
+difference_stays old new stay d is = search (arith, term_leaf_stays)
 
 pub none_differ : (group : ℕ) (d : Difference) (old new : ProofLog) → new ≡ old → HasFewFaults old.entries →
     AreDiffering group d old new
-none_differ group d old new is few = subst (λ (l : ProofLog). AreDiffering group d old l) (sym is) (record {
-  grew = λ f existential. in_same f group old old refl;
-  names = λ v. refl;
-  entries = λ e inside. inside;
-  givens = λ o c inside. inl inside;
-  few = few;
-})
+none_differ group d old new is few = search arith
 
 module _ (group : ℕ) (d : Difference) (old log new : ProofLog) (part : ℕ) (which : (part ≡ 1) ⊎ (part ≡ 2))
     (is_group : name_of log.entries group ≡ Some (Selector group)) (difference : IsDifference log.entries d)

@@ -165,8 +165,7 @@ no_gates t old new logged none unnamed made is empty = record {
   g = group_variable t.group
 
   not_named : (v : ℕ) (a b : Literal) → name_of new v ≡ Some (Term a b) → ⊥
-  not_named v a b named = elim (name_cases old (group_variable t.group) v (Selector (group_variable t.group)) (Term a b)
-      (sym (ap (λ es. name_of es v) is) ∙ named)) [ inl same ↦ cc | inr was ↦ none.unnamed v a b was ]
+  not_named v a b named = search (arith, name_cases)
 
   before : (o : Origin) (c : List Literal) → Contains new (Given o c) → Contains old (Given o c)
   before o c inside = given_before (group_variable t.group) (Selector (group_variable t.group)) old o c

@@ -1,5 +1,5 @@
 -- Values of the first copies under which gates over them have their values: a definition has the existential's.
-use Rattle.std.proofs.Common.{◌≡◌, ℕ, Bool, true, false, not, ◌||◌, ◌&&◌, List, [], ◌∷◌, Some, refl, sym, ◌∙◌, ap, subst}
+use Rattle.std.proofs.Common.{◌≡◌, ℕ, Bool, true, false, not, ◌||◌, ◌&&◌, List, [], ◌∷◌, Some, refl, sym, ◌∙◌, ap, arith}
 use Rattle.std.specs.List.{Contains}
 use Rattle.std.proofs.lemmas.List.Elements.{Contains-get_or}
 use Rattle.list_laws.proofs.Truths.{gate_bit}
@@ -144,8 +144,7 @@ module _ (f : Dqbf) (graph : AigGraph) (p : Definability) (terms : Terms) (es : 
         ∙ defined.definition.defines m holds_there
 
     own_declared : Contains (declared f) d.existential
-    own_declared = subst (Contains (declared f)) (found_variable f d.existential defined.existential defined.found)
-        (found_declared f d.existential defined.existential defined.found)
+    own_declared = search (arith, found_variable, found_declared)
 
     copy_value : values (variable_of d.copy) ≡ leaf_value values d.output
     copy_value = sym (copied d.existential (variable_of d.copy) own_declared difference.copy_is) ∙ own_value

@@ -54,8 +54,7 @@ stands_still f graph old new stay _ _ (not_gate g l stands) =
 copy_named : (f : Dqbf) (es : List Entry) (i : ℕ) (l : Literal) →
     name_literal es l ≡ Some (named_literal (CopyOf 1 (input_variable f i)) false) →
     name_of es (variable_of l) ≡ Some (CopyOf 1 (input_variable f i))
-copy_named f es i l named = (named_variable es l (CopyOf 1 (input_variable f i)) false (name_of es (variable_of l)) refl
-    named).0
+copy_named f es i l named = search (arith, named_variable)
 
 -- it stands on a first copy, or on a gate over first copies
 pub on_term : (f : Dqbf) (graph : AigGraph) (es : List Entry) (n : Node) (l : Literal) → StandsFor f graph es n l →
@@ -79,26 +78,16 @@ IsReadFrom f support x = (i : ℕ) × (x ≡ input_variable f i) × Contains sup
 
 copy_reads : (f : Dqbf) (es : List Entry) (i x : ℕ) (l : Literal) →
     name_of es (variable_of l) ≡ Some (CopyOf 1 (input_variable f i)) → ReadsCopy es l x → x ≡ input_variable f i
-copy_reads f es i x l named (itself _ _ is) =
-    let both : Some (CopyOf 1 x) ≡ Some (CopyOf 1 (input_variable f i)) = sym is ∙ named in cc
-copy_reads f es i x l named (left _ a b _ is reads) =
-    let both : Some (Term a b) ≡ Some (CopyOf 1 (input_variable f i)) = sym is ∙ named in cc
-copy_reads f es i x l named (right _ a b _ is reads) =
-    let both : Some (Term a b) ≡ Some (CopyOf 1 (input_variable f i)) = sym is ∙ named in cc
+copy_reads f es i x l named (itself _ _ is) = search arith
+copy_reads f es i x l named (left _ a b _ is reads) = search arith
+copy_reads f es i x l named (right _ a b _ is reads) = search arith
 
 -- a gate reaches what its sides reach
 side_reads : (es : List Entry) (l a b : Literal) (x : ℕ) → name_of es (variable_of l) ≡ Some (Term a b) →
     ReadsCopy es l x → ReadsCopy es a x ⊎ ReadsCopy es b x
-side_reads es l a b x named (itself _ _ is) =
-    let both : Some (CopyOf 1 x) ≡ Some (Term a b) = sym is ∙ named in cc
-side_reads es l a b x named (left _ c d _ is reads) =
-    let both : Some (Term c d) ≡ Some (Term a b) = sym is ∙ named in
-    let same : c ≡ a = cc in
-    inl (subst (λ k. ReadsCopy es k x) same reads)
-side_reads es l a b x named (right _ c d _ is reads) =
-    let both : Some (Term c d) ≡ Some (Term a b) = sym is ∙ named in
-    let same : d ≡ b = cc in
-    inr (subst (λ k. ReadsCopy es k x) same reads)
+side_reads es l a b x named (itself _ _ is) = search arith
+side_reads es l a b x named (left _ c d _ is reads) = search arith
+side_reads es l a b x named (right _ c d _ is reads) = search arith
 
 from_either : (f : Dqbf) (xs ys zs : List ℕ) (x : ℕ) → zs ≡ xs ++ ys → IsReadFrom f xs x ⊎ IsReadFrom f ys x →
     IsReadFrom f zs x
@@ -110,8 +99,7 @@ from_either f xs ys zs x is (inr r) =
 -- it reaches what the node reads
 reads_inputs : (f : Dqbf) (graph : AigGraph) (es : List Entry) (n : Node) (l : Literal) → StandsFor f graph es n l →
     (x : ℕ) → ReadsCopy es l x → IsReadFrom f (node_support graph n) x
-reads_inputs f graph es _ _ (input i l below named) x reads =
-    (i, copy_reads f es i x l (copy_named f es i l named) reads, (0, omega arith, refl))
+reads_inputs f graph es _ _ (input i l below named) x reads = search (arith, copy_reads, copy_named)
 reads_inputs f graph es _ _ (gate g v sides a b at are on_left on_right named) x reads =
     from_either f (node_support graph sides.left) (node_support graph sides.right) (gate_support graph.gates g) x
     (gate_support_in graph.inputs graph.gates g sides are at)
@@ -157,16 +145,11 @@ module _ (f : Dqbf) (graph : AigGraph) (es : List Entry) (literals : BTreeMap �
 
   pub found_stands : (g : ℕ) (l : Literal) → HasLiteral f graph es literals g → Some l ≡ get nat_cmp literals g →
       StandsFor f graph es (Gate g false) l
-  found_stands g l known found = subst (StandsFor f graph es (Gate g false)) (sym (some_is (found ∙ known.found)))
-      known.stands
+  found_stands g l known found = search (arith, some_is)
 
   pub known_still : (new : List Entry) → NamesStay es new → (g : ℕ) → HasLiteral f graph es literals g →
       HasLiteral f graph new literals g
-  known_still new stay g known = record {
-    literal = known.literal;
-    found = known.found;
-    stands = stands_still f graph es new stay (Gate g false) known.literal known.stands;
-  }
+  known_still new stay g known = search (arith, stands_still)
 
   -- a gate that is looked into
   module _ (g : ℕ) (m n : Node) (negated : Bool) (look : IsGateLook graph g false (LookGate m n negated))
@@ -251,8 +234,7 @@ module _ (f : Dqbf) (graph : AigGraph) (node : Node) (gates : List ℕ) (first :
 
   gate_literal_stands : (l : Literal) (new : ProofLog) → IsLeafFor f graph new.entries (Gate g false) (LeafLiteral l) →
       StandsFor f graph new.entries (Gate g false) l
-  gate_literal_stands l new (k, is, stands) = let same : l ≡ k = cc in
-      subst (StandsFor f graph new.entries (Gate g false)) (sym same) stands
+  gate_literal_stands l new (k, is, stands) = search arith
 
   module _ (next : Terms) (new : ProofLog) (grew : (h : Dqbf) (y : ℕ) → GrewByProof h (group_variable terms.group) y log
       new) where
@@ -309,6 +291,4 @@ pub node_known : (f : Dqbf) (graph : AigGraph) (node : Node) (gates : List ℕ) 
     (terms : Terms) (log : ProofLog) (literals : BTreeMap ℕ Literal) (at : ℕ) → at ≡ 0 →
     AreConeGates graph node gates →
     AreLiteralsFrom f graph gates first old terms log literals at → IsKnown f graph log.entries literals node
-node_known f graph node gates first old terms log literals at none cone far g is =
-    let (k, below, there) = cone.root g is in
-    far.each k g (omega (arith, none)) (slice_get-get_or gates k g below ∙ ap Some there)
+node_known f graph node gates first old terms log literals at none cone far g is = search (arith, slice_get-get_or)

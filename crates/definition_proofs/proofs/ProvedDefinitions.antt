@@ -54,9 +54,7 @@ is_existential f graph y node defined none =
 
 pub own_declared : (f : Dqbf) (graph : AigGraph) (y : ℕ) (node : Node) → IsDefinedBy f graph y node →
     Contains (declared f) y
-own_declared f graph y node defined =
-    subst (Contains (declared f)) (found_variable f y defined.existential defined.found)
-    (found_declared f y defined.existential defined.found)
+own_declared f graph y node defined = search (arith, found_variable, found_declared)
 
 -- no other existential's difference is given
 pub own_differs : (f : Dqbf) (group y : ℕ) (old new : ProofLog) → GrewByProof f group y old new →
@@ -69,28 +67,21 @@ own_differs f group y old new grew x part output c inside = elim (grew.givens (D
 pub leaf_stays : (f : Dqbf) (graph : AigGraph) (old new : List Entry) → NamesStay old new → (n : Node) (output : Leaf) →
     IsLeafFor f graph old n output → IsLeafFor f graph new n output
 leaf_stays f graph old new stay (Constant b) output is = is
-leaf_stays f graph old new stay (Input i negated) output (l, is, stands) =
-    (l, is, stands_still f graph old new stay (Input i negated) l stands)
-leaf_stays f graph old new stay (Gate g negated) output (l, is, stands) =
-    (l, is, stands_still f graph old new stay (Gate g negated) l stands)
+leaf_stays f graph old new stay (Input i negated) output (l, is, stands) = search (arith, stands_still)
+leaf_stays f graph old new stay (Gate g negated) output (l, is, stands) = search (arith, stands_still)
 
 leaf_on_term : (f : Dqbf) (graph : AigGraph) (es : List Entry) (n : Node) (output : Leaf) →
     IsLeafFor f graph es n output → IsTermLeaf es output
 leaf_on_term f graph es (Constant b) output is = subst (IsTermLeaf es) (sym is) tt
-leaf_on_term f graph es (Input i negated) output (l, is, stands) =
-    subst (IsTermLeaf es) (sym is) (on_term f graph es (Input i negated) l stands)
-leaf_on_term f graph es (Gate g negated) output (l, is, stands) =
-    subst (IsTermLeaf es) (sym is) (on_term f graph es (Gate g negated) l stands)
+leaf_on_term f graph es (Input i negated) output (l, is, stands) = search (arith, on_term)
+leaf_on_term f graph es (Gate g negated) output (l, is, stands) = search (arith, on_term)
 
 pub leaf_reads : (f : Dqbf) (graph : AigGraph) (es : List Entry) (n : Node) (output : Leaf) →
     IsLeafFor f graph es n output → (x : ℕ) → TermLeafReads es output x →
     Contains (map (input_variable f) (node_support graph n)) x
-leaf_reads f graph es (Constant b) output is x reads =
-    absurd (subst (λ o. TermLeafReads es o x) is reads)
-leaf_reads f graph es (Input i negated) output (l, is, stands) x reads =
-    reads_support f graph es (Input i negated) l stands x (subst (λ o. TermLeafReads es o x) is reads)
-leaf_reads f graph es (Gate g negated) output (l, is, stands) x reads =
-    reads_support f graph es (Gate g negated) l stands x (subst (λ o. TermLeafReads es o x) is reads)
+leaf_reads f graph es (Constant b) output is x reads = search arith
+leaf_reads f graph es (Input i negated) output (l, is, stands) x reads = search (arith, reads_support)
+leaf_reads f graph es (Gate g negated) output (l, is, stands) x reads = search (arith, reads_support)
 
 -- clauses of the three groups
 copy_is_right : (y : ℕ) (output : Leaf) (o : Origin) → is_copy_of 1 o ≡ true → IsDefinitionGiven y output o
@@ -252,8 +243,7 @@ module _ (f : Dqbf) (graph : AigGraph) (p : Definability) (first t : Terms) (y :
       }
 
       own_leaf : IsLeafFor f graph last.entries node output
-      own_leaf = leaf_stays f graph log.entries last.entries (λ v n there. same.names v ∙ stay v n there) node output
-          leaf.leaf_is
+      own_leaf = search (arith, leaf_stays)
 
       pub proved_by : (id : ℕ) → IsShownDefinition last.entries y output id →
           IsProvedBy f graph p y node t last.entries (record { id = id; leaf = output })

@@ -1,5 +1,5 @@
 -- What a search in some groups leaves and shows.
-use Rattle.std.proofs.Common.{◌≡◌, ℕ, true, inl, inr, List, [], ◌∷◌, get_or, Some, refl, sym, ◌∙◌, ap, subst}
+use Rattle.std.proofs.Common.{◌≡◌, ℕ, true, inl, inr, List, [], ◌∷◌, get_or, Some, refl, sym, ◌∙◌, ap, subst, arith}
 use Rattle.std.specs.List.{Contains}
 use Rattle.std.proofs.lemmas.List.Elements.{All-contains, Contains-append_right}
 use Rattle.std.proofs.lemmas.List.Folds.{list_any_at}
@@ -41,14 +41,7 @@ learned_proof f group y old new g = record {
 }
 
 pub same_leaves : (group : ℕ) (old new : List Entry) → HasSameGivens old new → LeavesTerms group old new
-same_leaves group old new same = record {
-  names = λ v n is. same.names v ∙ is;
-  terms = λ v a b is. sym (same.names v) ∙ is;
-  copies = λ v x is. sym (same.names v) ∙ is;
-  entries = same.entries;
-  gates = λ v i c inside. same.givens _ c inside;
-  in_group = λ o rest inside. same.givens o _ inside;
-}
+same_leaves group old new same = search arith
 
 -- an assumed literal is the selector of one of the groups
 selector_among : (gs : List Group) (l : Literal) → holds (assumed gs []) l ≡ true →

@@ -1,11 +1,9 @@
-use Rattle.definability.specs.Copies.{group_variable}
+use Rattle.std.proofs.Common.{arith}
 use Rattle.definition_proofs.proofs.GivenDifferences.{none_differ, second_put, second_stopped}
 use Rattle.definition_proofs.proofs.differing.Difference.give_parts.Goals as goal
 
 pub returns-in_err-give_part-clause-differing : goal.returns-in_err-give_part-clause-differing
-returns-in_err-give_part-clause-differing g c =
-    none_differ (group_variable c.args.group.now) c.args.self.now c.args.log.now c.give_part.new.log
-    c.in_err-give_part.ensures.err c.requires.few
+returns-in_err-give_part-clause-differing g c = search (arith, none_differ)
 
 pub returns-in_err-give_part-2-clause-differing : goal.returns-in_err-give_part-2-clause-differing
 returns-in_err-give_part-2-clause-differing g c =

@@ -1,4 +1,4 @@
-use Rattle.std.proofs.Common.{refl}
+use Rattle.std.proofs.Common.{refl, arith}
 use Rattle.definability.specs.Copies.{group_variable}
 use Rattle.definition_proofs.proofs.NodeLiterals.{known_found, left_known, right_known, gate_stands, on_term}
 use Rattle.definition_proofs.proofs.DeclaredSides.{stands_declared}
@@ -24,18 +24,7 @@ literal-b-requires-clause-found g c =
     c.in-Gate.right c.in-Gate.field-2 c.in-Gate.ensures c.requires.sides)
 
 pub gate-requires-clause-sides : goal.gate-requires-clause-sides
-gate-requires-clause-sides g c =
-    let f = c.args.inputs.now.f.now in
-    let graph = c.args.inputs.now.graph.now in
-    let es = c.args.log.now.entries in
-    let literals = c.args.literals.now in
-    let left = left_known f graph es literals c.args.g c.in-Gate.left c.in-Gate.right c.in-Gate.field-2
-    c.in-Gate.ensures c.requires.sides in
-    let right = right_known f graph es literals c.args.g c.in-Gate.left c.in-Gate.right c.in-Gate.field-2
-    c.in-Gate.ensures c.requires.sides in (
-      on_term f graph es c.in-Gate.left c.literal-a.result (c.literal-a.ensures es c.requires.copies left),
-      on_term f graph es c.in-Gate.right c.literal-b.result (c.literal-b.ensures es c.requires.copies right),
-    )
+gate-requires-clause-sides g c = search (arith, left_known, right_known, on_term)
 
 pub returns-clause-leaf : goal.returns-clause-leaf
 returns-clause-leaf g c =

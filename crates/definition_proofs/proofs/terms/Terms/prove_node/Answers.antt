@@ -1,4 +1,4 @@
-use Rattle.std.proofs.Common.{[], ◌∷◌, ◌++◌, sym, ◌∙◌, ap, subst}
+use Rattle.std.proofs.Common.{[], ◌∷◌, ◌++◌, sym, ◌∙◌, ap, subst, arith}
 use Rattle.definability.specs.Copies.{group_variable}
 use Rattle.definability.proofs.DeclaredPlaces.{copies_declared, whole_copies}
 use Rattle.definition_proofs.specs.Proving.{IsProvedBy}
@@ -9,11 +9,7 @@ use Rattle.definition_proofs.proofs.ProvedDefinitions.{is_existential, own_decla
 use Rattle.definition_proofs.proofs.terms.Terms.prove_node.Goals as goal
 
 pub leaf-requires-clause-copies : goal.leaf-requires-clause-copies
-leaf-requires-clause-copies g c =
-    let p = c.args.definability.now in
-    let definability = c.requires.beside.definability in
-    whole_copies c.args.f.now 1 p.copied.items p.first c.args.log.now.entries c.requires.beside.whole
-    definability.first.universals definability.first.existentials
+leaf-requires-clause-copies g c = search (arith, whole_copies)
 
 pub invariant_of-inputs-clause-as_many : goal.invariant_of-inputs-clause-as_many
 invariant_of-inputs-clause-as_many g c =
@@ -23,8 +19,7 @@ invariant_of-inputs-clause-as_many g c =
     definability.first.existentials).long
 
 pub copied_variable-requires-clause-bound : goal.copied_variable-requires-clause-bound
-copied_variable-requires-clause-bound g c =
-    own_declared c.args.f.now c.args.graph.now c.args.y c.args.node c.requires.definition
+copied_variable-requires-clause-bound g c = search (arith, own_declared)
 
 pub give-requires-clause-difference : goal.give-requires-clause-difference
 give-requires-clause-difference g c = difference c.args.f.now c.args.graph.now c.args.definability.now c.args.self.now c.leaf.new.self c.args.y
