@@ -5,7 +5,7 @@ use Rattle.dq_lits.specs.Derivation.{AreSame}
 use Rattle.hint_log.specs.Entries.{Entry}
 use Rattle.aig_graph.specs.Graph.{AigGraph}
 use Rattle.aig_graph.specs.declared.nodes.Node.{Node}
-use Rattle.interpolants.specs.Interpolant.{Partition, partition, node_of, is_on_a, IsReachedGiven, SideHolds, IsOther, IsInSide, IsOfA, IsOfB, SharesAll, AreNodes, Agrees, IsInterpolant}
+use Rattle.interpolants.specs.Interpolant.{Partition, partition, node_of, is_on_a, IsReachedGiven, SideHolds, IsOther, IsInSide, IsOfA, IsOfB, SharesAll, Agrees, IsInterpolant}
 use Rattle.interpolants.proofs.Truth.{any_same, stands_same}
 
 module _ (es : List Entry) (id : ℕ) (a_side assumed : List Literal) (shared kept : List (ℕ × Node))
@@ -48,9 +48,6 @@ module _ (es : List Entry) (id : ℕ) (a_side assumed : List Literal) (shared ke
 
   pub shares_kept : SharesAll q → SharesAll p
   shares_kept shares v a b = subst IsSome (sym (nodes v)) (shares v (of_a v a) (of_b v b))
-
-  pub nodes_kept : (g : AigGraph) → AreNodes shared g → AreNodes kept g
-  nodes_kept g are v n is = are v n (sym (nodes v) ∙ is)
 
   agrees : (g : AigGraph) (inputs : ℕ → Bool) (m : Assignment) → Agrees shared g inputs m → Agrees kept g inputs m
   agrees g inputs m h v n is = h v n (sym (nodes v) ∙ is)

@@ -2,7 +2,7 @@
 use Rattle.std.proofs.Common.{◌≡◌, ℕ, ◌<◌, ◌≤◌, true, ◌||◌, inl, inr, List, [], ◌∷◌, take, length, get_or, Contains, ◌+◌, sym, ◌∙◌, ap, subst, Option, IsSome, arith}
 use Rattle.std.specs.List.{list_any}
 use Rattle.std.specs.Option.{is_some}
-use Rattle.list_laws.proofs.Members.{only_one, no_element}
+use Rattle.list_laws.proofs.Members.{only_one}
 use Rattle.hint_log.specs.declared.origins.Origin.{Origin}
 use Rattle.std.proofs.lemmas.Bool.{or_cases, or_left, or_right}
 use Rattle.std.proofs.lemmas.List.{get_or_default, take_all, take_more}
@@ -26,10 +26,6 @@ given_is o found is h = ap is_some (sym is) ∙ h
 
 pub contains_place : (ids : List ℕ) (i : ℕ) → i < length ids → Contains ids (get_or ids i 0)
 contains_place ids i lt = (i, lt, get_or_default ids i (get_or ids i 0) 0 lt)
-
-pub some_first : (q : Partition) (variables : List Literal) →
-    ((v : ℕ) → holds variables (positive v) ≡ stands_on q.a_side v) → AreOfSome q [] variables
-some_first q variables plain = search (arith, no_element)
 
 -- by the selectors of the A side, whether a clause is on it
 pub on_a_by_selectors : (q : Partition) (selectors : List Literal) → AreSelectors q.entries q.a_side selectors →
