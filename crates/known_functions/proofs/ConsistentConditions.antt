@@ -42,11 +42,7 @@ consistent_with xs l consistent apart = elim (cases_Bool (is_tautology (xs ++ l 
     ]
 
 pub no_conditions : (f : Dqbf) (y : ℕ) → AreConditions f y []
-no_conditions f y = record {
-  declared = All-nil (λ l. Contains (declared f) (variable_of l));
-  consistent = refl;
-  others = All-nil (λ l. variable_of l ≢ y);
-}
+no_conditions f y = search (arith, All-nil)
 
 pub one_more : (f : Dqbf) (y : ℕ) (lits : List Literal) (l : Literal) → AreConditions f y lits →
     is_declared f (variable_of l) ≡ true → variable_of l ≢ y → holds lits (opposite l) ≡ false
@@ -122,12 +118,4 @@ next_universal f lawful y known lits l p below is before are = record {
 -- variables may be the variables of literals
 pub universal_range : (f : Dqbf) → IsLawful f → (p : ℕ) → p < length f.universals →
     (1 ≤ get_or f.universals p 0) × (get_or f.universals p 0 < 2 ^ 62)
-universal_range f lawful p below =
-    let us = f.universals in
-    let long = length-append us (existential_variables f) in
-    let range = lawful.prefix.in_range p 0 (omega (arith, below, long)) in
-    let same = get_or_append_left us (existential_variables f) 0 p below in
-    let low : 1 ≤ get_or us p 0 = subst (λ v. 1 ≤ v) same range.0 in
-    let high : get_or us p 0 ≤ f.variables = subst (λ v. v ≤ f.variables) same range.1 in
-    let few = lawful.few_variables in
-    (low, omega (arith, high, few))
+universal_range f lawful p below = search (arith, length-append, get_or_append_left)

@@ -1,5 +1,5 @@
 -- What is kept while definitions are asked for: the list of definitions grows.
-use Rattle.std.proofs.Common.{◌≡◌, ◌≢◌, ℕ, zero, suc, ◌<◌, ◌==◌, List, [], ◌++◌, length, get_or, slice_get, replicate, set, Bool, Option, None, Some, refl, sym, ◌∙◌, ap, subst, inl, inr, arith, Result, Ok, Err, get_or-set_same, get_or-set_other, length-set}
+use Rattle.std.proofs.Common.{◌≡◌, ◌≢◌, ℕ, zero, suc, ◌<◌, ◌==◌, List, [], length, get_or, slice_get, replicate, set, Bool, Option, None, Some, refl, sym, ◌∙◌, ap, subst, inl, inr, arith, Result, Ok, Err, get_or-set_same, get_or-set_other, length-set}
 use Rattle.std.specs.List.{All}
 use Rattle.std.specs.Option.{IfSome}
 use Rattle.std.specs.Result.{IfOk}
@@ -12,7 +12,7 @@ use Rattle.std.proofs.lemmas.Option.{slice_get_within, slice_get-get_or}
 use Rattle.dq_lits.specs.Formula.{Existential, Dqbf, existential_of, HasLawfulPrefix}
 use Rattle.dq_formula.specs.Prefix.{IsLawful, existential_variables}
 use Rattle.hint_log.specs.Entries.{Entry, ProofLog}
-use Rattle.hint_log.specs.Growth.{EachOf, Grew}
+use Rattle.hint_log.specs.Growth.{Grew}
 use Rattle.aig_graph.specs.declared.nodes.Node.{Node}
 use Rattle.aig_graph.specs.Made.{Extends}
 use Rattle.defining_nodes.specs.Definitions.{IsDefinition}
@@ -47,13 +47,8 @@ pub nothing_known : (f : Dqbf) (ranks : List ℕ) (graph : AigGraph) (definition
     (rules : List Rule) (guesses : List (Option Node))
     → definitions ≡ replicate (length f.existentials) None → rules ≡ [] → guesses ≡ [] →
     AreKnown f ranks graph definitions rules guesses
-nothing_known f ranks graph definitions rules guesses none empty no_guess = record {
-  one_each = ap length none ∙ length-replicate (length f.existentials) None;
-  defined = λ k d below node is. (let no = ap (λ ds. definition_of f ds (get_or f.existentials k d)) none ∙ none_at
-      (length f.existentials) _ in let e : Some node ≡ None = sym is ∙ no in cc);
-  forced = subst (All (IsRule f)) (sym empty) (All-nil (IsRule f));
-  guessed = subst (AreGuesses f graph) (sym no_guess) (λ k d below node is. cc);
-}
+nothing_known f ranks graph definitions rules guesses none empty no_guess =
+    search (arith, length-replicate, none_at, All-nil)
 
 -- nodes of existentials that each have some property, and one more at a place
 pub put_stays : (f : Dqbf) → HasLawfulPrefix f → (P : Existential → Node → Type 0) (p : ℕ) (y : Existential)
@@ -100,30 +95,17 @@ known_at f ranks lawful graph p y before next rules guesses at here known = reco
 -- nothing is guessed yet
 pub nothing_guessed : (f : Dqbf) (graph : AigGraph) (guesses : List (Option Node)) →
     guesses ≡ replicate (length f.existentials) None → AreGuesses f graph guesses
-nothing_guessed f graph guesses none k d below node is =
-    let no = ap (λ ds. definition_of f ds (get_or f.existentials k d)) none ∙ none_at (length f.existentials) _ in
-    let e : Some node ≡ None = sym is ∙ no in
-    cc
+nothing_guessed f graph guesses none k d below node is = search (arith, none_at)
 
 -- a log that was limited while it grew
 pub grew_within : (P : List Entry → Entry → Type 0) (old mid new : ProofLog) → mid.entries ≡ old.entries →
     Grew P mid new → Grew P old (record new { limit = old.limit })
-grew_within P old mid new same grew = record {
-  more = grew.more;
-  grown = grew.grown ∙ ap (λ es. grew.more ++ es) same;
-  each = subst (EachOf P grew.more) same grew.each;
-  limit = refl;
-}
+grew_within P old mid new same grew = search arith
 
 pub known_stays : (f : Dqbf) (ranks : List ℕ) (old new : AigGraph) (definitions : List (Option Node))
     (rules : List Rule) (guesses : List (Option Node)) → Extends old new
     → AreKnown f ranks old definitions rules guesses → AreKnown f ranks new definitions rules guesses
-known_stays f ranks old new definitions rules guesses extends known = record {
-  one_each = known.one_each;
-  defined = definitions_stay old new extends f ranks definitions known.defined;
-  forced = known.forced;
-  guessed = guesses_stay old new extends f guesses known.guessed;
-}
+known_stays f ranks old new definitions rules guesses extends known = search (arith, definitions_stay, guesses_stay)
 
 -- the existential that a variable of the list of all names
 pub named_at : (f : Dqbf) → IsLawful f → (variables : List ℕ) → variables ≡ existential_variables f → (i v : ℕ) →
@@ -144,8 +126,7 @@ named_at f lawful variables all i v below is =
 -- what was found defines it, where it is a definition
 pub found_defines : (f : Dqbf) (ranks : List ℕ) (graph : AigGraph) (y : Existential) (found : Found) →
     IsFound f ranks graph y found → (node : Node) → definition_in found ≡ Some node → IsDefinition f ranks graph y node
-found_defines f ranks graph y (Defined own) is node same = subst (IsDefinition f ranks graph y)
-    (let e : own ≡ node = cc in e) is
+found_defines f ranks graph y (Defined own) is node same = search arith
 found_defines f ranks graph y (Free pair) is node same = cc
 
 -- what forces it, where it is forced
@@ -164,33 +145,19 @@ pub with_guesses : (f : Dqbf) (ranks : List ℕ) (graph : AigGraph) (definitions
     (before after : List (Option Node))
     → AreKnown f ranks graph definitions rules before → AreGuesses f graph after →
     AreKnown f ranks graph definitions rules after
-with_guesses f ranks graph definitions rules before after known guessed = record {
-  one_each = known.one_each;
-  defined = known.defined;
-  forced = known.forced;
-  guessed = guessed;
-}
+with_guesses f ranks graph definitions rules before after known guessed = search arith
 
 -- a call that asks for guesses leaves what is known
 pub left-refl : (d : Definitions) → LeavesKnown d d
 left-refl d = record { ranks = refl; nodes = refl; rules = refl; guesses = refl }
 
 pub left-trans : (d e g : Definitions) → LeavesKnown d e → LeavesKnown e g → LeavesKnown d g
-left-trans d e g one other = record {
-  ranks = other.ranks ∙ one.ranks;
-  nodes = other.nodes ∙ one.nodes;
-  rules = other.rules ∙ one.rules;
-  guesses = other.guesses ∙ one.guesses;
-}
+left-trans d e g one other = search arith
 
 pub left_known : (f : Dqbf) (graph : AigGraph) (d e : Definitions) → LeavesKnown d e →
     AreKnown f d.ranks.items graph d.nodes.items d.rules.items d.guesses.items
     → AreKnown f e.ranks.items graph e.nodes.items e.rules.items e.guesses.items
-left_known f graph d e left known =
-    subst (λ rs. AreKnown f rs graph e.nodes.items e.rules.items e.guesses.items) (sym left.ranks)
-    (subst (λ ns. AreKnown f d.ranks.items graph ns e.rules.items e.guesses.items) (sym left.nodes)
-    (subst (λ rs. AreKnown f d.ranks.items graph d.nodes.items rs e.guesses.items) (sym left.rules)
-    (subst (AreKnown f d.ranks.items graph d.nodes.items d.rules.items) (sym left.guesses) known)))
+left_known f graph d e left known = search arith
 
 -- what was found is a guess, where it is a node
 pub found_guess : (f : Dqbf) (graph : AigGraph) (y : Existential) (conditions : List Literal) (node : Node) →

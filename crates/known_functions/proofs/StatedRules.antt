@@ -1,5 +1,5 @@
 -- The rule that a clause states by itself.
-use Rattle.std.proofs.Common.{◌≡◌, ◌≢◌, ℕ, ◌<◌, ◌+◌, ◌==◌, Bool, true, false, true≢false, not, ◌||◌, List, [], ◌∷◌, ◌++◌, take, get_or, length, Option, None, Some, refl, sym, ◌∙◌, ap, subst, if◌then◌else◌}
+use Rattle.std.proofs.Common.{◌≡◌, ◌≢◌, ℕ, ◌<◌, ◌+◌, ◌==◌, Bool, true, false, true≢false, not, ◌||◌, List, [], ◌∷◌, ◌++◌, take, get_or, length, Option, None, Some, refl, sym, ◌∙◌, ap, subst, if◌then◌else◌, arith}
 use Rattle.list_laws.proofs.Truths.{not_true}
 use mathlib.Core.Bool.{beq}
 use Rattle.std.specs.Prelude.{IsSome}
@@ -103,14 +103,8 @@ differ false false h = cc
 -- a literal fits on either side of the test
 pub fits_own : (y : ℕ) (e : Existential) (bit sign : Bool) (l : Literal) (v : ℕ) → v ≡ variable_of l →
     sign ≡ is_negative l → v ≡ y → sign ≡ not bit → FitsRule y e bit l
-fits_own y e bit sign l v is signed same says = record {
-  own = λ h. sym signed ∙ says;
-  seen = λ h. absurd (true≢false (sym (eq-eqb (variable_of l) y (sym is ∙ same)) ∙ h));
-}
+fits_own y e bit sign l v is signed same says = search (arith, true≢false, eq-eqb)
 
 pub fits_seen : (y : ℕ) (e : Existential) (bit : Bool) (l : Literal) (v : ℕ) → v ≡ variable_of l → v ≢ y →
     Contains e.sees v → FitsRule y e bit l
-fits_seen y e bit l v is other seen = record {
-  own = λ h. absurd (other (is ∙ eqb-true (variable_of l) y h));
-  seen = λ h. subst (Contains e.sees) is seen;
-}
+fits_seen y e bit l v is other seen = search (arith, eqb-true)

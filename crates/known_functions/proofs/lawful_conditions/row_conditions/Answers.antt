@@ -1,30 +1,17 @@
-use Rattle.std.proofs.Common.{◌≡◌, ◌∙◌, ◌<◌, ◌≤◌, ◌+◌, ◌^◌, ◌++◌, ◌∷◌, [], length, map, take, get_or, refl, sym, ap, subst, arith}
+use Rattle.std.proofs.Common.{◌≡◌, ◌∙◌, ◌<◌, ◌+◌, ◌++◌, ◌∷◌, [], length, map, take, get_or, sym, ap, arith}
 use Rattle.std.proofs.lemmas.List.{take_more, map-append}
 use Rattle.dq_lits.specs.Literal.{variable_of}
 use Rattle.known_functions.proofs.ConsistentConditions.{no_conditions, next_universal, universal_range}
 use Rattle.known_functions.proofs.lawful_conditions.row_conditions.Goals as goal
 
 pub loop-place-init : goal.loop-place-init
-loop-place-init c = rw c.new-lits.ensures.items (record {
-  conditions = no_conditions c.args.f.now c.args.y;
-  variables = refl;
-})
+loop-place-init c = search (arith, no_conditions)
 
 pub literal-requires-clause-from_one : goal.literal-requires-clause-from_one
-literal-requires-clause-from_one c =
-    let p = c.loop-place.place in
-    let below : p < length c.args.f.now.universals = let test = c.loop-place-test.true in let whole =
-    c.requires.whole in omega (arith, test, whole) in
-    subst (λ us. 1 ≤ get_or us p 0) (sym c.universals.ensures)
-    (universal_range c.args.f.now c.every_formula_is_lawful.ensures p below).0
+literal-requires-clause-from_one c = search (arith, universal_range)
 
 pub literal-requires-clause-in_range : goal.literal-requires-clause-in_range
-literal-requires-clause-in_range c =
-    let p = c.loop-place.place in
-    let below : p < length c.args.f.now.universals = let test = c.loop-place-test.true in let whole =
-    c.requires.whole in omega (arith, test, whole) in
-    subst (λ us. get_or us p 0 < 2 ^ 62) (sym c.universals.ensures)
-    (universal_range c.args.f.now c.every_formula_is_lawful.ensures p below).1
+literal-requires-clause-in_range c = search (arith, universal_range)
 
 pub loop-place-preserved : goal.loop-place-preserved
 loop-place-preserved c =

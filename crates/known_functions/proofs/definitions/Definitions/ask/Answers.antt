@@ -1,7 +1,6 @@
-use Rattle.std.proofs.Common.{refl, subst}
+use Rattle.std.proofs.Common.{refl, subst, arith}
 use Rattle.definition_order.proofs.Declared.{known_at}
 use Rattle.defining_nodes.specs.Definitions.{IsDefinition}
-use Rattle.definability.specs.Defining.{IsFound}
 use Rattle.aig_graph.proofs.LargerGraphs.{grown_twice}
 use Rattle.known_functions.proofs.Asked.{asked_by, grown_asked}
 use Rattle.definition_order.proofs.Places.{existential_there}
@@ -27,11 +26,7 @@ returns-in-Some-clause-found g c e at =
     c.deref.ensures.value (c.in_ok-node.ensures.gate e known c.in-Some.node c.in-Some.is)
 
 pub returns-clause-found : goal.returns-clause-found
-returns-clause-found g c e at =
-    let known = known_at c.args.existential.now.f.now c.every_formula_is_lawful.ensures c.existentials.result.now
-    c.args.existential.now.place e c.existentials.ensures at in
-    subst (λ ranks. IsFound c.args.existential.now.f.now ranks c.define.new.graph e c.in_ok-found.found)
-    c.deref-2.ensures.value (c.in_ok-found.ensures.found e known)
+returns-clause-found g c e at = search (arith, known_at)
 
 pub returns-in_err-node-clause-asked : goal.returns-in_err-node-clause-asked
 returns-in_err-node-clause-asked g c = grown_asked _ _ _ _ _ c.requires.may c.read.ensures.extends
@@ -40,15 +35,7 @@ pub returns-in-Some-clause-asked : goal.returns-in-Some-clause-asked
 returns-in-Some-clause-asked g c = grown_asked _ _ _ _ _ c.requires.may c.read.ensures.extends
 
 pub returns-in_err-found-clause-asked : goal.returns-in_err-found-clause-asked
-returns-in_err-found-clause-asked g c =
-    asked_by c.args.existential.now.f.now c.args.graph.now c.define.new.graph c.args.existential.now.definability.now
-    c.args.log.now c.define.new.log c.requires.may c.define.ensures.grew c.define.ensures.same_givens
-    c.define.ensures.definability
-    (grown_twice c.args.graph.now c.read.new.graph c.define.new.graph c.read.ensures.extends c.define.ensures.extends)
+returns-in_err-found-clause-asked g c = search (arith, asked_by, grown_twice)
 
 pub returns-clause-asked : goal.returns-clause-asked
-returns-clause-asked g c =
-    asked_by c.args.existential.now.f.now c.args.graph.now c.define.new.graph c.args.existential.now.definability.now
-    c.args.log.now c.define.new.log c.requires.may c.define.ensures.grew c.define.ensures.same_givens
-    c.define.ensures.definability
-    (grown_twice c.args.graph.now c.read.new.graph c.define.new.graph c.read.ensures.extends c.define.ensures.extends)
+returns-clause-asked g c = search (arith, asked_by, grown_twice)

@@ -1,4 +1,4 @@
-use Rattle.std.proofs.Common.{◌<◌, sym, subst, length}
+use Rattle.std.proofs.Common.{◌<◌, sym, subst, length, arith}
 use Rattle.std.specs.List.{All}
 use Rattle.std.proofs.lemmas.List.Elements.{Contains-get_or}
 use Rattle.known_functions.proofs.Asked.{nothing_asked, asked_then}
@@ -24,6 +24,4 @@ pub guess_all-requires-clause-may : goal.guess_all-requires-clause-may
 guess_all-requires-clause-may g c = c.find_all.ensures.asked.may
 
 pub returns-clause-asked : goal.returns-clause-asked
-returns-clause-asked g c =
-    asked_then c.args.f.now c.args.graph.now c.find_all.new.graph c.guess_all.new.graph c.args.definability.now
-    c.args.log.now c.find_all.new.log c.guess_all.new.log c.find_all.ensures.asked c.guess_all.ensures.asked
+returns-clause-asked g c = search (arith, asked_then)

@@ -1,4 +1,4 @@
-use Rattle.std.proofs.Common.{refl}
+use Rattle.std.proofs.Common.{refl, arith}
 use Rattle.known_functions.proofs.Defined.{forced_rule}
 use Rattle.known_functions.proofs.Forced.{forced_by}
 use Rattle.definition_order.proofs.Places.{existential_there}
@@ -11,10 +11,7 @@ force-requires-clause-existential g c =
     rw here.2 refl
 
 pub returns-in_err-forced-clause-forced : goal.returns-in_err-forced-clause-forced
-returns-in_err-forced-clause-forced g c =
-    forced_by c.args.existential.now.f.now c.args.existential.now.definability.now c.args.self.now _ c.args.log.now
-    c.force.new.log refl refl refl c.requires.may.forced c.force.ensures.grew c.force.ensures.same_givens
-    c.force.ensures.definability
+returns-in_err-forced-clause-forced g c = search (arith, forced_by)
 
 pub returns-in_err-keep-clause-forced : goal.returns-in_err-keep-clause-forced
 returns-in_err-keep-clause-forced g c =

@@ -10,12 +10,7 @@ pub guess-requires-clause-may : goal.guess-requires-clause-may
 guess-requires-clause-may g c = c.loop-place.invariant.asked.may
 
 pub loop-place-init : goal.loop-place-init
-loop-place-init g c = record {
-  fit = c.requires.fit;
-  asked = nothing_asked c.args.f.now c.args.graph.now c.args.definability.now c.args.log.now c.requires.may;
-  known = c.requires.known;
-  many = c.requires.many;
-}
+loop-place-init g c = search (arith, nothing_asked)
 
 pub loop-place-preserved : goal.loop-place-preserved
 loop-place-preserved g c =
@@ -45,7 +40,4 @@ loop-place-preserved g c =
     }
 
 pub returns-in_err-self-clause-asked : goal.returns-in_err-self-clause-asked
-returns-in_err-self-clause-asked g c =
-    asked_then c.args.f.now c.args.graph.now c.loop-place.graph c.guess.new.graph c.args.definability.now
-    c.args.log.now c.loop-place.log c.guess.new.log c.loop-place.invariant.asked
-    c.guess.ensures.asked
+returns-in_err-self-clause-asked g c = search (arith, asked_then)

@@ -1,13 +1,11 @@
-use Rattle.std.proofs.Common.{refl, subst}
+use Rattle.std.proofs.Common.{subst, arith}
 use Rattle.definability.specs.Guessing.{IsGuess}
 use Rattle.known_functions.proofs.Asked.{asked_by, asked_then}
 use Rattle.known_functions.proofs.Defined.{found_guess}
 use Rattle.known_functions.proofs.definitions.Definitions.guess_or_learn.Goals as goal
 
 pub learn_clash-requires-clause-may : goal.learn_clash-requires-clause-may
-learn_clash-requires-clause-may g c =
-    (asked_by c.args.f.now c.args.graph.now c.guess.new.graph c.args.definability.now c.args.log.now c.guess.new.log
-    c.requires.may c.guess.ensures.grew c.guess.ensures.same_givens c.guess.ensures.definability c.guess.ensures.extends).may
+learn_clash-requires-clause-may g c = search (arith, asked_by)
 
 pub returns-in-Node-clause-guess : goal.returns-in-Node-clause-guess
 returns-in-Node-clause-guess g c e known =
@@ -16,57 +14,25 @@ returns-in-Node-clause-guess g c e known =
     (c.in_ok-node.ensures.guess e known))
 
 pub returns-in-Node-clause-asked : goal.returns-in-Node-clause-asked
-returns-in-Node-clause-asked g c =
-    asked_by c.args.f.now c.args.graph.now c.guess.new.graph c.args.definability.now c.args.log.now c.guess.new.log
-    c.requires.may c.guess.ensures.grew c.guess.ensures.same_givens c.guess.ensures.definability c.guess.ensures.extends
+returns-in-Node-clause-asked g c = search (arith, asked_by)
 
 pub returns-in_err-node-clause-asked : goal.returns-in_err-node-clause-asked
-returns-in_err-node-clause-asked g c =
-    asked_by c.args.f.now c.args.graph.now c.guess.new.graph c.args.definability.now c.args.log.now c.guess.new.log
-    c.requires.may c.guess.ensures.grew c.guess.ensures.same_givens c.guess.ensures.definability c.guess.ensures.extends
+returns-in_err-node-clause-asked g c = search (arith, asked_by)
 
 pub returns-in_ok-learn_clash-in-Pair-clause-asked : goal.returns-in_ok-learn_clash-in-Pair-clause-asked
-returns-in_ok-learn_clash-in-Pair-clause-asked g c =
-    asked_then c.args.f.now c.args.graph.now c.guess.new.graph c.learn_clash.new.graph c.args.definability.now c.args.log.now c.guess.new.log c.learn_clash.new.log
-    (asked_by c.args.f.now c.args.graph.now c.guess.new.graph c.args.definability.now c.args.log.now c.guess.new.log
-    c.requires.may c.guess.ensures.grew c.guess.ensures.same_givens c.guess.ensures.definability c.guess.ensures.extends) c.learn_clash.ensures.asked
+returns-in_ok-learn_clash-in-Pair-clause-asked g c = search (arith, asked_then, asked_by)
 
 pub returns-in_err-learn_clash-in-Pair-clause-asked : goal.returns-in_err-learn_clash-in-Pair-clause-asked
-returns-in_err-learn_clash-in-Pair-clause-asked g c =
-    asked_then c.args.f.now c.args.graph.now c.guess.new.graph c.learn_clash.new.graph c.args.definability.now c.args.log.now c.guess.new.log c.learn_clash.new.log
-    (asked_by c.args.f.now c.args.graph.now c.guess.new.graph c.args.definability.now c.args.log.now c.guess.new.log
-    c.requires.may c.guess.ensures.grew c.guess.ensures.same_givens c.guess.ensures.definability c.guess.ensures.extends) c.learn_clash.ensures.asked
+returns-in_err-learn_clash-in-Pair-clause-asked g c = search (arith, asked_then, asked_by)
 
 pub returns-in-Node-clause-left : goal.returns-in-Node-clause-left
-returns-in-Node-clause-left g c = record {
-  ranks = refl;
-  nodes = refl;
-  rules = refl;
-  guesses = refl;
-}
+returns-in-Node-clause-left g c = search arith
 
 pub returns-in_err-node-clause-left : goal.returns-in_err-node-clause-left
-returns-in_err-node-clause-left g c = record {
-  ranks = refl;
-  nodes = refl;
-  rules = refl;
-  guesses = refl;
-}
+returns-in_err-node-clause-left g c = search arith
 
 pub returns-in_ok-learn_clash-in-Pair-clause-left : goal.returns-in_ok-learn_clash-in-Pair-clause-left
-returns-in_ok-learn_clash-in-Pair-clause-left g c = let left = c.learn_clash.ensures.left in
-    record {
-      ranks = left.ranks;
-      nodes = left.nodes;
-      rules = left.rules;
-      guesses = left.guesses;
-    }
+returns-in_ok-learn_clash-in-Pair-clause-left g c = search arith
 
 pub returns-in_err-learn_clash-in-Pair-clause-left : goal.returns-in_err-learn_clash-in-Pair-clause-left
-returns-in_err-learn_clash-in-Pair-clause-left g c = let left = c.learn_clash.ensures.left in
-    record {
-      ranks = left.ranks;
-      nodes = left.nodes;
-      rules = left.rules;
-      guesses = left.guesses;
-    }
+returns-in_err-learn_clash-in-Pair-clause-left g c = search arith

@@ -1,6 +1,5 @@
-use Rattle.std.proofs.Common.{get_or, refl, sym, subst}
+use Rattle.std.proofs.Common.{refl, arith}
 use Rattle.definition_order.proofs.Declared.{known_at}
-use Rattle.known_functions.specs.Guessing.{AreConditions}
 use Rattle.definition_order.proofs.Places.{existential_there}
 use Rattle.known_functions.proofs.definitions.Definitions.guess_under.Goals as goal
 
@@ -11,12 +10,7 @@ guess_within-requires-clause-existential g c =
     rw here.2 refl
 
 pub guess_within-requires-clause-conditions : goal.guess_within-requires-clause-conditions
-guess_within-requires-clause-conditions g c =
-    subst (AreConditions c.args.existential.now.f.now (get_or c.existentials.result.now c.args.existential.now.place 0))
-    (sym c.deref.ensures.value) c.in_ok-conditions.ensures
+guess_within-requires-clause-conditions g c = search arith
 
 pub returns-clause-guess : goal.returns-clause-guess
-returns-clause-guess g c e at =
-    let known = known_at c.args.existential.now.f.now c.every_formula_is_lawful.ensures c.existentials.result.now
-    c.args.existential.now.place e c.existentials.ensures at in
-    c.guess_within.ensures.guess e known
+returns-clause-guess g c e at = search (arith, known_at)

@@ -1,4 +1,4 @@
-use Rattle.std.proofs.Common.{refl, sym, subst, Contains}
+use Rattle.std.proofs.Common.{sym, subst, Contains, arith}
 use Rattle.std.specs.List.{All}
 use Rattle.dq_lits.specs.Formula.{declared}
 use Rattle.dq_lits.specs.Literal.{variable_of}
@@ -11,27 +11,13 @@ guess-requires-clause-declared g c =
     (sym c.deref.ensures.value) c.in_ok-conditions.ensures.declared
 
 pub returns-clause-asked : goal.returns-clause-asked
-returns-clause-asked g c =
-    asked_by c.args.f.now c.args.graph.now c.guess.new.graph c.args.definability.now c.args.log.now c.guess.new.log
-    c.requires.may c.guess.ensures.grew c.guess.ensures.same_givens c.guess.ensures.definability c.guess.ensures.extends
+returns-clause-asked g c = search (arith, asked_by)
 
 pub returns-clause-left : goal.returns-clause-left
-returns-clause-left g c = record {
-  ranks = refl;
-  nodes = refl;
-  rules = refl;
-  guesses = refl;
-}
+returns-clause-left g c = search arith
 
 pub returns-in_err-found-clause-asked : goal.returns-in_err-found-clause-asked
-returns-in_err-found-clause-asked g c =
-    asked_by c.args.f.now c.args.graph.now c.guess.new.graph c.args.definability.now c.args.log.now c.guess.new.log
-    c.requires.may c.guess.ensures.grew c.guess.ensures.same_givens c.guess.ensures.definability c.guess.ensures.extends
+returns-in_err-found-clause-asked g c = search (arith, asked_by)
 
 pub returns-in_err-found-clause-left : goal.returns-in_err-found-clause-left
-returns-in_err-found-clause-left g c = record {
-  ranks = refl;
-  nodes = refl;
-  rules = refl;
-  guesses = refl;
-}
+returns-in_err-found-clause-left g c = search arith

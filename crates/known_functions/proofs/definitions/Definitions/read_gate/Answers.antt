@@ -1,4 +1,4 @@
-use Rattle.std.proofs.Common.{◌≡◌, ◌∙◌, set, refl, subst, sym, Some}
+use Rattle.std.proofs.Common.{◌≡◌, ◌∙◌, set, refl, subst, sym, Some, arith}
 use Rattle.aig_graph.specs.declared.nodes.Node.{Node}
 use Rattle.dq_formula.specs.Prefix.{existential_variables}
 use Rattle.defining_nodes.specs.Definitions.{IsDefinition}
@@ -14,9 +14,7 @@ read-requires-clause-existential c =
     rw here.2 refl
 
 pub returns-in_default-clause-known : goal.returns-in_default-clause-known
-returns-in_default-clause-known c =
-    known_stays c.args.f.now c.args.self.now.ranks.items c.args.graph.now c.read.new.graph c.args.self.now.nodes.items
-    c.args.self.now.rules.items c.args.self.now.guesses.items c.read.ensures.extends c.requires.known
+returns-in_default-clause-known c = search (arith, known_stays)
 
 pub returns-clause-known : goal.returns-clause-known
 returns-clause-known c =
