@@ -1,15 +1,14 @@
 -- Goals that are asked for.
-use Rattle.std.proofs.Common.{◌≡◌, ℕ, ◌+◌, ◌<◌, ◌≤◌, Bool, true, false, cond, ◌&&◌, ◌||◌, ◌⊎◌, inl, inr, List, [], ◌∷◌, ◌++◌, length, get_or, slice_get, reverse, Option, Some, None, IfSome, refl, sym, ◌∙◌, ap, subst, arith}
-use Rattle.std.specs.List.{All, AllZip, list_any, filter}
-use Rattle.std.proofs.lemmas.Option.{slice_get_within, slice_get-get_or, same_Some, IfSome_then}
+use Rattle.std.proofs.Common.{◌≡◌, ℕ, ◌+◌, ◌<◌, ◌≤◌, Bool, true, false, ◌⊎◌, inl, inr, List, [], ◌∷◌, ◌++◌, length, get_or, slice_get, reverse, Some, IfSome, refl, sym, ◌∙◌, ap, subst, arith}
+use Rattle.std.specs.List.{All, AllZip}
+use Rattle.std.proofs.lemmas.Option.{slice_get_within, slice_get-get_or}
 use Rattle.std.proofs.lemmas.List.{length-append}
 use Rattle.list_laws.proofs.Elements.{last_or_before, last_there, kept_there}
-use Rattle.dq_lits.specs.Literal.{Literal, variable_of, literal_true}
-use Rattle.dq_prep.specs.Reduction.{stays}
-use Rattle.dq_lits.specs.Formula.{Existential, Dqbf, existential_of}
+use Rattle.dq_lits.specs.Literal.{Literal, variable_of}
+use Rattle.dq_lits.specs.Formula.{Dqbf, existential_of}
 use Rattle.dq_lits.specs.Henkin.{same_bits, restriction}
 use Rattle.dq_lits.specs.Derivation.{is_tautology}
-use Rattle.dq_lits.specs.Expansion.{agree_on, row_assignment, universal_literal_true}
+use Rattle.dq_lits.specs.Expansion.{row_assignment}
 use Rattle.dq_lits.proofs.Choices.{same_bits-refl}
 use Rattle.dq_prep.specs.declared.traces.Taken.{Taken}
 use Rattle.dq_prep.specs.Units.{AreUnits, IsUnit, left_of, without_false, is_satisfied}
@@ -28,12 +27,7 @@ pub seen-same : (t : UnitTable) {j : ℕ} {u : Taken} {v : ℕ} (a b : List Bool
     → slice_get t.units.now j ≡ Some u → v ≡ variable_of u.literal
     → IfSome (existential_of t.formula.now v) (λ e. r ≡ same_bits (restriction e (row_assignment t.formula.now a))
     (restriction e (row_assignment t.formula.now b))) → r ≡ true → SeeSame t j a b
-seen-same t {v = v} a b r at is said same = record {
-  unit = _;
-  unit_at = at;
-  agrees = subst (λ w. IfSome (existential_of t.formula.now w) (λ y. agree_on t.formula.now y a b ≡ true)) is
-      (IfSome_then (existential_of t.formula.now v) said (λ y p. sym p ∙ same));
-}
+seen-same t {v = v} a b r at is said same = search arith
 
 pub keeps-itself : {X : Type 0} (xs : List X) → Keeps xs xs
 keeps-itself xs k x at = at
@@ -45,29 +39,11 @@ keeps-more xs ys k x at = kept_there xs ys k x at
 module _ (f : Dqbf) (units : List Taken) (rows more : List (List Bool)) (goals more-goals : List Goal)
     (keeps : Keeps rows more) (keeps-goals : Keeps goals more-goals) where
   goal-grows : (g : Goal) → IsGoal f units rows g → IsGoal f units more g
-  goal-grows g it = record {
-    source = it.source;
-    plain = it.plain;
-    row = it.row;
-    row_at = keeps g.row it.row it.row_at;
-    none_true = it.none_true;
-  }
+  goal-grows g it = search arith
 
   asked-grows : (lowered j h : ℕ) → IsAsked f units rows goals lowered j h
       → IsAsked f units more more-goals lowered j h
-  asked-grows lowered j h it = record {
-    unit = it.unit;
-    unit_at = it.unit_at;
-    goal = it.goal;
-    goal_at = keeps-goals h it.goal it.goal_at;
-    taken = it.taken;
-    place = it.place;
-    low = it.low;
-    low_at = keeps lowered it.low it.low_at;
-    row = it.row;
-    row_at = keeps it.goal.row it.row it.row_at;
-    agrees = it.agrees;
-  }
+  asked-grows lowered j h it = search arith
 
   pub all-asked-grow : (lowered : ℕ) (places hints : List ℕ) → AllZip (IsAsked f units rows goals lowered) places hints
       → AllZip (IsAsked f units more more-goals lowered) places hints
@@ -77,21 +53,10 @@ module _ (f : Dqbf) (units : List Taken) (rows more : List (List Bool)) (goals m
   all-asked-grow lowered (j ∷ js) (h ∷ hs) all = (asked-grows lowered j h all.0, all-asked-grow lowered js hs all.1)
 
   pub lowered-grows : (g : Goal) (lowered : ℕ) → IsLowered f units rows g lowered → IsLowered f units more g lowered
-  lowered-grows g lowered it = record {
-    row = it.row;
-    low = it.low;
-    row_at = keeps g.row it.row it.row_at;
-    low_at = keeps lowered it.low it.low_at;
-    serves = it.serves;
-  }
+  lowered-grows g lowered it = search arith
 
   reason-grows : (g : Goal) (r : Reason) → IsReason f units rows goals g r → IsReason f units more more-goals g r
-  reason-grows g r it = record {
-    lowered = lowered-grows g r.lowered it.lowered;
-    places = it.places;
-    false_units = it.false_units;
-    asked = all-asked-grow r.lowered it.places r.hints.items it.asked;
-  }
+  reason-grows g r it = search (arith, lowered-grows, all-asked-grow)
 
 -- the goal of a unit
 pub unit-goal : (f : Dqbf) (units : List Taken) (rows : List (List Bool)) (j row : ℕ) (u : Taken) (g : Goal)
@@ -102,16 +67,7 @@ unit-goal f units rows j row u g are at within is =
   where
     plain-rest : (clause trues : List Literal) → left_of f trues clause ≡ u.literal ∷ []
         → is_tautology (without_false trues clause) ≡ false
-    plain-rest clause trues left = by (is_tautology (without_false trues clause)) refl
-      where
-        by : (b : Bool) → is_tautology (without_false trues clause) ≡ b
-            → is_tautology (without_false trues clause) ≡ false
-        by false is = is
-        by true is =
-            let whole : without_false trues clause ≡ u.literal ∷ [] =
-            ap (λ b. cond b (without_false trues clause)
-            (filter (stays f (without_false trues clause)) (without_false trues clause))) (sym is) ∙ left in
-            ap is_tautology whole ∙ alone-plain u.literal
+    plain-rest clause trues left = search (arith, alone-plain)
 
     made : IsUnit f (first_units units j) u
         → IsGoal f units rows (record { source = record { taken = j; place = u.place }; row = row })
@@ -123,38 +79,19 @@ unit-goal f units rows j row u g are at within is =
         let unsatisfied : is_satisfied trues (clause_at f u.place) ≡ false =
         ap (is_satisfied trues) clause ∙ it.unsatisfied in
         record {
-          source = record {
-            taken = omega (arith, slice_get_within units j u at);
-            place = where-at.0;
-            unsatisfied = unsatisfied;
-          };
+          source = search (arith, slice_get_within);
           plain = sym (tautology-stays trues (clause_at f u.place) unsatisfied)
               ∙ plain-rest (clause_at f u.place) trues left;
           row = get_or rows row [];
           row_at = slice_get-get_or rows row [] within;
-          none_true = ap (list_any (universal_literal_true f (get_or rows row []))) left
-              ∙ ap (λ b. (b && literal_true (row_assignment f (get_or rows row [])) u.literal) || false)
-              it.existential;
+          none_true = search arith;
         }
 
 pub asked-made : {t : UnitTable} {p : Plan} {lowered j h : ℕ} {goal : Goal} {u : Taken} {a b : List Bool}
     → IsGoalAt t p h goal → slice_get t.units.now j ≡ Some u → goal.source.taken ≡ j → goal.source.place ≡ u.place
     → slice_get p.rows lowered ≡ Some a → slice_get p.rows goal.row ≡ Some b → SeeSame t j a b
     → IsAskedIn t p lowered j h
-asked-made {t = t} {u = u} {a = a} {b = b} goal at taken place low-at row-at see = record {
-  unit = u;
-  unit_at = at;
-  goal = _;
-  goal_at = goal.at;
-  taken = taken;
-  place = place;
-  low = a;
-  low_at = low-at;
-  row = b;
-  row_at = row-at;
-  agrees = subst (λ w. IfSome (existential_of t.formula.now (variable_of w.literal))
-      (λ y. agree_on t.formula.now y a b ≡ true)) (same_Some see.unit u (sym see.unit_at ∙ at)) see.agrees;
-}
+asked-made {t = t} {u = u} {a = a} {b = b} goal at taken place low-at row-at see = search arith
 
 -- the newest goal is that of the unit under the row itself
 asked-itself : (f : Dqbf) (units : List Taken) (rows : List (List Bool)) (goals : List Goal) (j row : ℕ) (u : Taken)
@@ -162,25 +99,7 @@ asked-itself : (f : Dqbf) (units : List Taken) (rows : List (List Bool)) (goals 
     → IsAsked f units rows (goals ++ record { source = record { taken = j; place = u.place }; row = row } ∷ [])
     row j (length goals)
 asked-itself f units rows goals j row u at within =
-    let g : Goal = record { source = record { taken = j; place = u.place }; row = row } in
-    let row-at = slice_get-get_or rows row [] within in
-    record {
-      unit = u;
-      unit_at = at;
-      goal = g;
-      goal_at = last_there goals g;
-      taken = refl;
-      place = refl;
-      low = get_or rows row [];
-      low_at = row-at;
-      row = get_or rows row [];
-      row_at = row-at;
-      agrees = itself (existential_of f (variable_of u.literal));
-    }
-  where
-    itself : (o : Option Existential) → IfSome o (λ y. agree_on f y (get_or rows row []) (get_or rows row []) ≡ true)
-    itself None = tt
-    itself (Some y) = same_bits-refl (restriction y (row_assignment f (get_or rows row [])))
+    search (arith, (slice_get-get_or rows row [] within), (last_there goals), same_bits-refl)
 
 -- what a plan has, with more rows and goals
 pub plan-grows : (f : Dqbf) (units : List Taken) (p q : Plan) → IsPlan f units p → Keeps p.rows q.rows
@@ -208,14 +127,7 @@ plan-grows f units p q plan rows goals reasons whole each room fewer = record {
 }
 
 pub adds-none : {t : UnitTable} {p : Plan} {Now : Type 0} → IsPlanOf t p → Now → Adds t p p Now
-adds-none {p = p} plan now = record {
-  plan = plan;
-  grows = record {
-    grows = record { rows = keeps-itself p.rows; goals = keeps-itself p.goals.items };
-    reasons = refl;
-  };
-  now = now;
-}
+adds-none {p = p} plan now = search (arith, keeps-itself)
 
 -- the goal of a unit is added
 pub unit-added : (t : UnitTable) (p q : Plan) (j row h : ℕ) (u : Taken) → IsPlanOf t p
@@ -230,10 +142,7 @@ unit-added t p q j row h u plan at within same more h-is =
     let kept : Keeps p.goals.items q.goals.items =
     subst (Keeps p.goals.items) (sym more) (keeps-more p.goals.items (g ∷ [])) in
     let longer = ap (λ (xs : List Goal). length xs) more ∙ length-append p.goals.items (g ∷ []) in
-    let asked : IsAsked f units p.rows q.goals.items row j h =
-    subst (λ gs. IsAsked f units p.rows gs row j h) (sym more)
-    (subst (IsAsked f units p.rows (p.goals.items ++ g ∷ []) row j) (sym h-is)
-    (asked-itself f units p.rows p.goals.items j row u at within)) in
+    let asked : IsAsked f units p.rows q.goals.items row j h = search (arith, asked-itself) in
     subst (λ x. Adds t p x (IsAskedIn t x row j h)) (sym same) (record {
       plan = record {
         right = plan.right;

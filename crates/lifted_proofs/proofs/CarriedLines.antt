@@ -1,16 +1,14 @@
 -- Lines of the simpler formula's refutation, derived from those that derive its instances.
-use Rattle.std.proofs.Common.{◌≡◌, ℕ, zero, suc, ◌+◌, ◌-◌, ◌*◌, ◌/◌, ◌%◌, ◌<◌, ◌==◌, nat_lt, Bool, true, false, not, cond, ◌&&◌, inl, inr, List, [], ◌∷◌, ◌++◌, map, length, get_or, slice_get, Option, Some, None, is_some, refl, sym, ◌∙◌, ap, subst, arith}
-use Rattle.std.specs.List.{All, filter_map, position_or_len, cons_option}
-use Rattle.std.specs.Option.{option_map}
+use Rattle.std.proofs.Common.{◌≡◌, ℕ, zero, suc, ◌+◌, ◌-◌, ◌/◌, ◌%◌, ◌<◌, ◌==◌, nat_lt, Bool, true, false, not, cond, ◌&&◌, inl, inr, List, [], ◌∷◌, ◌++◌, map, length, get_or, slice_get, Option, Some, None, is_some, refl, sym, ◌∙◌, ap, subst, arith}
+use Rattle.std.specs.List.{All, filter_map, position_or_len}
 use Rattle.std.proofs.lemmas.Bool.{true≢false, cases_eq, cond-true, cond-false, eq-eqb, ne_eqb, ltb-true}
 use Rattle.std.proofs.lemmas.Option.{slice_get-get_or, same_Some}
 use Rattle.std.proofs.lemmas.List.Elements.{All-head, All-tail}
 use Rattle.list_laws.proofs.Sequences.{none-gone}
-use Rattle.dq_lits.specs.Literal.{Literal, variable_of, on_variable}
+use Rattle.dq_lits.specs.Literal.{Literal, variable_of}
 use Rattle.dq_lits.specs.Formula.{Existential, Dqbf, existential_of}
-use Rattle.dq_lits.specs.Henkin.{restriction}
 use Rattle.dq_lits.specs.Derivation.{LiveClauses, with_clause, IsDerived, ProofStep, unfinished, line_fault, fault_of_step, is_empty, is_tautology}
-use Rattle.dq_lits.specs.Expansion.{agree_on, row_assignment, pair_number, pair_literal}
+use Rattle.dq_lits.specs.Expansion.{pair_number, pair_literal}
 use Rattle.dq_lits.proofs.Choices.{same_bits-refl}
 use Rattle.dq_lits.proofs.Derivations.{no_step_fault}
 use Rattle.dq_prep.specs.Lifted.{IsCarried}
@@ -124,10 +122,7 @@ move-items to Wanted finished live other n m (derived s ∷ items) (t ∷ ts) sh
 first-stays : {X : Type 0} (p : X → Bool) (xs ys : List X) (k : ℕ) (x : X) → Keeps xs ys → slice_get xs k ≡ Some x
     → p x ≡ true → position_or_len p ys ≡ position_or_len p xs
 first-stays p [] ys k x keeps at passes = cc
-first-stays p (z ∷ xs) [] k x keeps at passes = nothing (keeps 0 z refl)
-  where
-    nothing : None ≡ Some z → position_or_len p [] ≡ position_or_len p (z ∷ xs)
-    nothing h = cc
+first-stays p (z ∷ xs) [] k x keeps at passes = search arith
 first-stays p (z ∷ xs) (y ∷ ys) zero x keeps at passes =
     let same : y ≡ z = same_Some y z (keeps 0 z refl) in
     let here : p z ≡ true = ap p (same_Some z x at) ∙ passes in
@@ -142,22 +137,14 @@ first-stays p (z ∷ xs) (y ∷ ys) (suc k) x keeps at passes =
 -- a row's pair stays where rows come behind
 pub pair-stays : (f : Dqbf) (rows more : List (List Bool)) (k : ℕ) (row : List Bool) (y : Existential)
     → Keeps rows more → slice_get rows k ≡ Some row → pair_number f more row y ≡ pair_number f rows row y
-pair-stays f rows more k row y keeps at =
-    ap (λ n. n * f.variables + y.variable)
-    (first-stays (agree_on f y row) rows more k row keeps at (same_bits-refl (restriction y (row_assignment f row))))
+pair-stays f rows more k row y keeps at = search (arith, first-stays, same_bits-refl)
 
 pub pairs-stay : (f : Dqbf) (rows more : List (List Bool)) (k : ℕ) (row : List Bool) (clause : List Literal)
     → Keeps rows more → slice_get rows k ≡ Some row
     → filter_map (pair_literal f more row) clause ≡ filter_map (pair_literal f rows row) clause
 pairs-stay f rows more k row [] keeps at = refl
 pairs-stay f rows more k row (l ∷ ls) keeps at =
-    ap (λ o. cons_option o (filter_map (pair_literal f more row) ls)) (by (existential_of f (variable_of l)))
-    ∙ ap (cons_option (pair_literal f rows row l)) (pairs-stay f rows more k row ls keeps at)
-  where
-    by : (o : Option Existential) → option_map (λ y. on_variable (pair_number f more row y) l) o
-        ≡ option_map (λ y. on_variable (pair_number f rows row y) l) o
-    by None = refl
-    by (Some y) = ap (λ n. Some (on_variable n l)) (pair-stays f rows more k row y keeps at)
+    search (arith, (pairs-stay f rows more k row ls keeps at), (pair-stays f rows more k row))
 
 -- and so do the numbers that lines name pairs by
 pub number-stays : (f : Dqbf) (rows more : List (List Bool)) (number : ℕ) → Keeps rows more
@@ -186,7 +173,4 @@ pub literals-stay : (f : Dqbf) (rows more : List (List Bool)) (ls : List Literal
     → map (normal_literal f more) ls ≡ map (normal_literal f rows) ls
 literals-stay f rows more [] keeps all = refl
 literals-stay f rows more (l ∷ ls) keeps all =
-    let IsPair : Literal → Type 0 = λ k. is_pair_number f (length rows) (variable_of k) ≡ true in
-    ap (λ n. on_variable n l ∷ map (normal_literal f more) ls)
-    (number-stays f rows more (variable_of l) keeps (All-head IsPair l ls all))
-    ∙ ap (λ xs. normal_literal f rows l ∷ xs) (literals-stay f rows more ls keeps (All-tail IsPair l ls all))
+    search (arith, (number-stays f rows more), All-head, (literals-stay f rows more ls keeps), All-tail)

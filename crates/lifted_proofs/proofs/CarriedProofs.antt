@@ -3,7 +3,7 @@ use Rattle.std.proofs.Common.{◌≡◌, ℕ, zero, suc, ◌+◌, ◌-◌, ◌<�
 use Rattle.std.specs.Option.{option_map}
 use Rattle.std.proofs.lemmas.Bool.{cases_lt, cond-true, cond-false, le-leb, lt-leb}
 use Rattle.std.proofs.lemmas.List.Elements.{All-map}
-use Rattle.std.proofs.lemmas.Option.{slice_get_within, same_Some, get_or_from_slice_get}
+use Rattle.std.proofs.lemmas.Option.{slice_get_within, get_or_from_slice_get}
 use Rattle.dq_lits.proofs.SignedLiterals.{variable_of-on}
 use Rattle.dq_lits.specs.Literal.{Literal, variable_of}
 use Rattle.dq_lits.specs.Derivation.{LiveClauses, ProofStep}
@@ -31,67 +31,31 @@ data IsIndex (ps : List ℕ) (k d : ℕ) (n : ℕ) : Type 0 where
 index-is : (ps : List ℕ) (k d : ℕ) → IsIndex ps k d (get_or ps k d)
 index-is [] k d = outside (omega arith) refl
 index-is (p ∷ ps) zero d = inside refl
-index-is (p ∷ ps) (suc k) d = by (get_or ps k d) (index-is ps k d)
-  where
-    by : (n : ℕ) → IsIndex ps k d n → IsIndex (p ∷ ps) (suc k) d n
-    by n (inside at) = inside at
-    by n (outside past is) = outside (omega (arith, past)) is
+index-is (p ∷ ps) (suc k) d = search (arith, (index-is ps k d))
 
 pub carried-circuit : (largest clauses : ℕ) (places : List ℕ) (v : ℕ) → v ≤ largest
     → carried_variable largest clauses places v ≡ v
-carried-circuit largest clauses places v low =
-    cond-true (nat_le v largest) v
-    (largest + 1 + get_or places (v - largest - 1) (v - largest - 1 + clauses)) (le-leb v largest low)
+carried-circuit largest clauses places v low = search (arith, cond-true, nat_le, le-leb)
 
 carried-behind : (largest clauses : ℕ) (places : List ℕ) (v : ℕ) → largest < v
     → carried_variable largest clauses places v
     ≡ largest + 1 + get_or places (v - largest - 1) (v - largest - 1 + clauses)
-carried-behind largest clauses places v high =
-    cond-false (nat_le v largest) v
-    (largest + 1 + get_or places (v - largest - 1) (v - largest - 1 + clauses)) (lt-leb v largest high)
+carried-behind largest clauses places v high = search (arith, cond-false, nat_le, lt-leb)
 
 pub carried-clause : (largest clauses : ℕ) (places : List ℕ) (v j p : ℕ) → v ≡ largest + 1 + j
     → slice_get places j ≡ Some p → carried_variable largest clauses places v ≡ largest + 1 + p
-carried-clause largest clauses places v j p is at =
-    let place : v - largest - 1 ≡ j = omega (arith, is) in
-    carried-behind largest clauses places v (omega (arith, is))
-    ∙ ap (λ n. largest + 1 + n)
-    (ap (λ k. get_or places k (v - largest - 1 + clauses)) place ∙ get_or_from_slice_get places j p (v - largest - 1 + clauses) at)
+carried-clause largest clauses places v j p is at = search (arith, carried-behind, get_or_from_slice_get)
 
 pub carried-once : (largest clauses : ℕ) (places : List ℕ) → AllPairs (λ i j. i ≢ j) places
     → ((p : ℕ) → StandsIn places p → p < clauses) → IsOneToOne (carried_variable largest clauses places)
 carried-once largest clauses places distinct within v w same = elim (cases_lt largest v) [
-  | inr low-v ↦ elim (cases_lt largest w) [
-    | inr low-w ↦
-        sym (carried-circuit largest clauses places v low-v) ∙ same ∙ carried-circuit largest clauses places w low-w
-    | inl high-w ↦
-        absurd (omega (
-          arith,
-          low-v,
-          carried-circuit largest clauses places v low-v,
-          same,
-          carried-behind largest clauses places w high-w,
-        ))
-  ]
+  | inr low-v ↦ search (arith, cases_lt, carried-circuit, carried-behind)
   | inl high-v ↦ elim (cases_lt largest w) [
-    | inr low-w ↦
-        absurd (omega (
-          arith,
-          low-w,
-          carried-circuit largest clauses places w low-w,
-          same,
-          carried-behind largest clauses places v high-v,
-        ))
+    | inr low-w ↦ search (arith, carried-circuit, carried-behind)
     | inl high-w ↦
         let k = v - largest - 1 in
         let j = w - largest - 1 in
-        let is : get_or places k (k + clauses) ≡ get_or places j (j + clauses) =
-        omega (
-          arith,
-          same,
-          carried-behind largest clauses places v high-v,
-          carried-behind largest clauses places w high-w,
-        ) in
+        let is : get_or places k (k + clauses) ≡ get_or places j (j + clauses) = search (arith, carried-behind) in
         let one : k ≡ j = by k j (get_or places k (k + clauses)) (get_or places j (j + clauses))
         (index-is places k (k + clauses)) (index-is places j (j + clauses)) is in
         omega (arith, one, high-v, high-w)
@@ -109,37 +73,17 @@ carried-once largest clauses places distinct within v w same = elim (cases_lt la
 -- ---- ids
 
 pub id-gate : (c : Carrying) (id : ℕ) → id ≤ c.gates → carried_id c id ≡ id
-id-gate c id low =
-    cond-true (nat_le id c.gates) id
-    (get_or c.ids (id - c.gates - 1) (id - c.gates - 1 - length c.ids + c.some_false)) (le-leb id c.gates low)
+id-gate c id low = search (arith, cond-true, nat_le, le-leb)
 
 id-behind : (c : Carrying) (id : ℕ) → c.gates < id
     → carried_id c id ≡ get_or c.ids (id - c.gates - 1) (id - c.gates - 1 - length c.ids + c.some_false)
-id-behind c id high =
-    cond-false (nat_le id c.gates) id
-    (get_or c.ids (id - c.gates - 1) (id - c.gates - 1 - length c.ids + c.some_false)) (lt-leb id c.gates high)
+id-behind c id high = search (arith, cond-false, nat_le, lt-leb)
 
 pub id-literal : (c : Carrying) (id k i : ℕ) → id ≡ c.gates + 1 + k → slice_get c.ids k ≡ Some i → carried_id c id ≡ i
-id-literal c id k i is at =
-    let place : id - c.gates - 1 ≡ k = omega (arith, is) in
-    let d : ℕ = id - c.gates - 1 - length c.ids + c.some_false in
-    id-behind c id (omega (arith, is)) ∙ ap (λ n. get_or c.ids n d) place
-    ∙ by (get_or c.ids k d) (index-is c.ids k d)
-  where
-    by : (n : ℕ) → IsIndex c.ids k (id - c.gates - 1 - length c.ids + c.some_false) n → n ≡ i
-    by n (inside there) = same_Some n i (sym there ∙ at)
-    by n (outside past e) = absurd (omega (arith, past, slice_get_within c.ids k i at))
+id-literal c id k i is at = search (arith, id-behind, index-is, slice_get_within)
 
 pub id-line : (c : Carrying) (id i : ℕ) → id ≡ c.gates + 1 + length c.ids + i → carried_id c id ≡ c.some_false + i
-id-line c id i is =
-    let d : ℕ = id - c.gates - 1 - length c.ids + c.some_false in
-    id-behind c id (omega (arith, is))
-    ∙ by (get_or c.ids (id - c.gates - 1) d) (index-is c.ids (id - c.gates - 1) d)
-  where
-    by : (n : ℕ) → IsIndex c.ids (id - c.gates - 1) (id - c.gates - 1 - length c.ids + c.some_false) n
-        → n ≡ c.some_false + i
-    by n (inside there) = absurd (omega (arith, is, slice_get_within c.ids (id - c.gates - 1) n there))
-    by n (outside past e) = omega (arith, is, e)
+id-line c id i is = search (arith, id-behind, index-is, slice_get_within)
 
 -- ---- the lines
 
@@ -170,29 +114,7 @@ module _ (old base : LiveClauses) (c : Carrying) (is_variable : ℕ → Bool) (f
 
   hint-low : (h i : ℕ) → 1 ≤ h → h < next + i
       → (1 ≤ carried_id c h) × (carried_id c h < first + length steps + i)
-  hint-low h i from-one before = elim (cases_lt c.gates h) [
-    | inr low ↦
-        let is = id-gate c h low in (
-          omega (arith, is, from-one),
-          omega (arith, is, low, ready.gates),
-        )
-    | inl high ↦ by (get_or c.ids (h - c.gates - 1) 0) (index-is c.ids (h - c.gates - 1) 0) high
-  ]
-    where
-      by : (n : ℕ) → IsIndex c.ids (h - c.gates - 1) 0 n → c.gates < h
-          → (1 ≤ carried_id c h) × (carried_id c h < first + length steps + i)
-      by n (inside at) high =
-          let is = id-literal c h (h - c.gates - 1) n (omega (arith, high)) at in
-          let low = ready.ids (h - c.gates - 1) n at in (
-            omega (arith, is, low.0),
-            omega (arith, is, low.1),
-          )
-      by n (outside past e) high =
-          let k = h - c.gates - 1 - length c.ids in
-          let is = id-line c h k (omega (arith, high, past)) in (
-            omega (arith, is, ready.some_from_one),
-            omega (arith, is, before, past, high, ready.next_is, ready.some_false),
-          )
+  hint-low h i from-one before = search (arith, cases_lt, id-gate, index-is, id-literal, id-line)
 
   lines-allowed : (old_variable : ℕ → Bool) (items : List ProofItem) (at : Numbering) (i : ℕ) → at.next ≡ next + i
       → ((v : ℕ) → old_variable v ≡ true → is_variable (carried_variable c.largest c.clauses c.places v) ≡ true)
@@ -224,11 +146,8 @@ module _ (old base : LiveClauses) (c : Carrying) (is_variable : ℕ → Bool) (f
   renamed-numbered old_variable [] at n is are = tt
   renamed-numbered old_variable (gone ids ∷ items) at n is are =
       renamed-numbered old_variable items (without_all at ids) n (next_kept at ids ∙ is) are.1
-  renamed-numbered old_variable (derived s ∷ items) at n is are = (
-    are.0.numbered ∙ is,
-    λ k d below. tt,
-    renamed-numbered old_variable items (with_next at) (n + 1) (ap (λ m. m + 1) is) are.1,
-  )
+  renamed-numbered old_variable (derived s ∷ items) at n is are =
+      search (arith, (renamed-numbered old_variable items))
 
   renamed-moved : (items : List ProofItem)
       → AreMoved (carried_id c) (lines_of (map (renamed_item number) items)) (map (carried_line c) (lines_of items))

@@ -7,7 +7,7 @@ use Rattle.std.proofs.lemmas.Option.{get_or_from_slice_get, same_Some}
 use Rattle.std.proofs.lemmas.List.Elements.{All-contains, All-map}
 use Rattle.list_laws.proofs.Members.{tested_inside, contains_later}
 use Rattle.list_laws.proofs.Truths.{both_true}
-use Rattle.dq_lits.specs.Literal.{Literal, variable_of, opposite, on_variable, same_literal}
+use Rattle.dq_lits.specs.Literal.{Literal, variable_of, opposite, on_variable}
 use Rattle.dq_lits.specs.Formula.{Existential, Dqbf, is_universal, existential_of, IsWellFormed}
 use Rattle.dq_lits.specs.Derivation.{LiveClauses, holds, is_tautology, IsDerived}
 use Rattle.dq_lits.specs.Expansion.{agree_on, pair_number, pair_literal}
@@ -15,7 +15,7 @@ use Rattle.dq_lits.proofs.HeldLiterals.{any_one, filter-holds, negated-held, fil
 use Rattle.dq_lits.proofs.SignedLiterals.{same_literal-refl, opposite_variable, opposite-opposite, variable_of-on, one_variable}
 use Rattle.dq_prep.specs.declared.traces.Taken.{Taken}
 use Rattle.dq_prep.specs.Lifted.{AreFalsifying}
-use Rattle.dq_prep.specs.Units.{AreUnits, left_of}
+use Rattle.dq_prep.specs.Units.{AreUnits}
 use Rattle.dq_prep.specs.Roles.{open_literals, is_open}
 use Rattle.dq_formula.specs.Prefix.{existential_variables}
 use Rattle.dq_formula.proofs.Entries.{is_some-find, list_any-map}
@@ -42,12 +42,7 @@ abbrev stands_on : List Literal → ℕ → Bool
 stands_on trues v = list_any (λ t. variable_of t == v) trues
 
 off-holds : (trues : List Literal) (p : Literal) → stands_on trues (variable_of p) ≡ false → holds trues p ≡ false
-off-holds trues p off = elim (cases_Bool (holds trues p)) [
-  | inr none ↦ none
-  | inl held ↦
-      absurd (true≢false (sym (any_one (λ t. variable_of t == variable_of p) trues p held
-      (eq-eqb (variable_of p) (variable_of p) refl)) ∙ off))
-]
+off-holds trues p off = search (arith, cases_Bool, true≢false, any_one, eq-eqb)
 
 -- the units' clauses have these ids, and each stands on a variable that is free so far
 abbrev Ready : (Literal → Literal) → LiveClauses → List Literal → List (ℕ × Literal) → Type 0
@@ -76,22 +71,16 @@ falsify on live last clause turns at trues [] ready covers = (
   All-map (λ l. holds trues (opposite l) ≡ true) on clause (λ k d below.
       elim (covers (get_or clause k d) (holds-at clause k d below)) [ inl here ↦ here | inr none ↦ absurd none ]),
 )
-falsify on live last clause turns at trues (x ∷ xs) ready covers = (
-  ready.0,
-  off-holds trues (on x.1) ready.1,
-  off-holds trues (opposite (on x.1)) (ap (stands_on trues) (opposite_variable (on x.1)) ∙ ready.1),
-  falsify on live last clause turns at (on x.1 ∷ trues) xs ready.2 (λ l inside. elim (covers l inside) [
-    | inl here ↦ inl (or_right (same_literal (opposite (on l)) (on x.1)) (holds trues (opposite (on l))) here)
-    | inr has ↦ elim has [
-      | inl is ↦ inl (or_left (same_literal (opposite (on l)) (on x.1)) (holds trues (opposite (on l)))
-          (ap (same_literal (opposite (on l))) (ap on is ∙ turns l) ∙ same-itself (opposite (on l))))
-      | inr later ↦ inr later
-    ]
-  ]),
-)
-  where
-    same-itself : (l : Literal) → same_literal l l ≡ true
-    same-itself l = same_literal-refl l
+falsify on live last clause turns at trues (x ∷ xs) ready covers =
+    search (
+      arith,
+      off-holds,
+      opposite_variable,
+      (falsify on live last clause turns at (on x.1 ∷ trues) xs ready.2),
+      or_right,
+      or_left,
+      same_literal-refl,
+    )
 
 -- what stands on the pairs of some literals, negated
 negated-on : (f : Dqbf) (rows : List (List Bool)) (row : List Bool) (ls : List Literal) (n : ℕ)
@@ -99,18 +88,17 @@ negated-on : (f : Dqbf) (rows : List (List Bool)) (row : List Bool) (ls : List L
     → (l : Literal) × (holds ls l ≡ true) × (pair_of f rows row (variable_of l) ≡ n)
 negated-on f rows row [] n h = absurd (true≢false (sym h))
 negated-on f rows row (l ∷ ls) n h =
-    elim (or_cases (variable_of (opposite (paired f rows row l)) == n)
-    (stands_on (map opposite (map (paired f rows row) ls)) n) h) [
-      | inl here ↦ (
-        l,
-        or_left (same_literal l l) (holds ls l) (same_literal-refl l),
-        sym (opposite_variable (paired f rows row l) ∙ variable_of-on (pair_of f rows row (variable_of l)) l)
-            ∙ eqb-true (variable_of (opposite (paired f rows row l))) n here,
-      )
-      | inr later ↦
-          let r = negated-on f rows row ls n later in
-          (r.0, or_right (same_literal r.0 l) (holds ls r.0) r.1, r.2)
-    ]
+    search (
+      arith,
+      or_cases,
+      or_left,
+      same_literal-refl,
+      opposite_variable,
+      variable_of-on,
+      eqb-true,
+      (negated-on f rows row ls n),
+      or_right,
+    )
 
 -- the line of a unit's goal is the unit's literal on its pair
 unit-line : (f : Dqbf) (units : List Taken) (rows : List (List Bool)) (goals : List Goal) (lowered j h : ℕ)
@@ -124,11 +112,7 @@ unit-line f units rows goals lowered j h low u goal well are a low-at unit-is go
     let it = unit-at f units j a.unit are a.unit_at in
     let at = get-at f.matrix a.unit.place it.clause it.at in
     let v = variable_of a.unit.literal in
-    let left : left_by f units a.goal.source ≡ a.unit.literal ∷ [] =
-    ap (λ n. left_of f (first_literals units n) (clause_at f a.goal.source.place)) a.taken
-    ∙ ap (λ n. left_of f (first_literals units j) (clause_at f n)) a.place
-    ∙ ap (left_of f (first_literals units j)) (at.1 [])
-    ∙ it.left in
+    let left : left_by f units a.goal.source ≡ a.unit.literal ∷ [] = search arith in
     let row-is : row_of rows a.goal.row ≡ a.row = get_or_from_slice_get rows a.goal.row a.row [] a.row_at in
     let there = unit-existential f (first_units units j) a.unit well it in
     ap (goal_line f units rows) (sym same-goal)
@@ -178,12 +162,7 @@ collect : (f : Dqbf) (units : List Taken) (rows : List (List Bool)) (goals : Lis
     → AllZip (IsAsked f units rows goals lowered) places hints → AllPairs (λ i j. i ≢ j) places
     → AreFree f units rows low trues places → AreNamed f units rows live goals ids hints
     → Collected f units rows live low trues places (map ids hints)
-collect f units rows goals live ids lowered low well are low-at trues [] [] asked distinct free named = record {
-  hinted = [];
-  ids = refl;
-  ready = tt;
-  has = λ j u inside at. absurd (omega (arith, inside.1));
-}
+collect f units rows goals live ids lowered low well are low-at trues [] [] asked distinct free named = search arith
 collect f units rows goals live ids lowered low well are low-at trues [] (h ∷ hs) asked distinct free named =
     absurd asked
 collect f units rows goals live ids lowered low well are low-at trues (j ∷ js) [] asked distinct free named =
@@ -208,10 +187,7 @@ collect f units rows goals live ids lowered low well are low-at trues (j ∷ js)
       hinted = (ids h, u.literal) ∷ rest.hinted;
       ids = ap (λ xs. ids h ∷ xs) rest.ids;
       ready = (line, off, rest.ready);
-      has = λ k w inside at. elim (cases-first j k js inside) [
-        | inl is ↦ inl (ap (λ x. x.literal) (same_Some u w (sym a.unit_at ∙ ap (slice_get units) (sym is) ∙ at)))
-        | inr later ↦ inr (rest.has k w later at)
-      ];
+      has = search (arith, cases-first);
     }
   where
     cases-first : (j k : ℕ) (js : List ℕ) → Contains (j ∷ js) k → (k ≡ j) ⊎ Contains js k
@@ -244,10 +220,7 @@ open_of f units g = open_literals f (first_literals units g.source.taken) (claus
 pub map-within : (p q : Literal → Literal) (xs : List Literal) → ((l : Literal) → holds xs l ≡ true → p l ≡ q l)
     → map p xs ≡ map q xs
 map-within p q [] same = refl
-map-within p q (x ∷ xs) same =
-    ap (λ y. y ∷ map p xs) (same x (or_left (same_literal x x) (holds xs x) (same_literal-refl x)))
-    ∙ ap (λ ys. q x ∷ ys)
-    (map-within p q xs (λ l h. same l (or_right (same_literal l x) (holds xs l) h)))
+map-within p q (x ∷ xs) same = search (arith, or_left, same_literal-refl, (map-within p q xs), or_right)
 
 module _ (f : Dqbf) (units : List Taken) (rows : List (List Bool)) (goals : List Goal) (g : Goal) (r : Reason)
     (s : Settled f units rows goals g r) where
@@ -328,13 +301,7 @@ module _ (f : Dqbf) (units : List Taken) (rows : List (List Bool)) (goals : List
               | inl is ↦
                   true≢false (sym (satisfied-by trues clause n.0 (open-inside n.0 n.1) (ap (holds trues) is ∙ taken))
                   ∙ s.goal.source.unsatisfied)
-              | inr is ↦
-                  let passes = (and_parts (not (is_universal f (variable_of n.0))) (not (holds trues (opposite n.0)))
-                  (filter-passes (is_open f trues) clause n.0 n.1)).1 in
-                  true≢false (sym passes
-                  ∙ ap (λ q. not (holds trues (opposite q))) is
-                  ∙ ap (λ q. not (holds trues q)) (opposite-opposite u.literal)
-                  ∙ ap not taken)
+              | inr is ↦ search (arith, and_parts, filter-passes, true≢false, opposite-opposite)
             ])
       ]
 
@@ -379,9 +346,7 @@ module _ (f : Dqbf) (units : List Taken) (rows : List (List Bool)) (goals : List
                 inr (subst (Has c.hinted) has.is (c.has has.place has.unit has.among has.unit_at))
             | inr free ↦
                 let existential : not (is_universal f (variable_of l)) ≡ true =
-                sym (existential-or-universal f l s.well (is-bound l part))
-                ∙ filter-passes (λ k. is_some (existential_of f (variable_of k))) (clause_at f g.source.place) l
-                inside in
+                search (arith, existential-or-universal, is-bound, filter-passes) in
                 let is-open' : is_open f trues l ≡ true =
                 both_true (not (is_universal f (variable_of l))) (not (holds trues (opposite l))) existential
                 (ap not free) in
@@ -402,10 +367,7 @@ module _ (f : Dqbf) (units : List Taken) (rows : List (List Bool)) (goals : List
         | inl false' ↦
             let has = s.reason.false_units.all l inside false' in
             absurd (no-place s.reason.places r.hints.items s.reason.asked none has.place has.among)
-        | inr free ↦
-            ap (λ b. not (is_universal f (variable_of l)) && not b) free
-            ∙ and-true (not (is_universal f (variable_of l)))
-            ∙ sym (existential-or-universal f l s.well (bound k d below))
+        | inr free ↦ search (arith, and-true, existential-or-universal)
       ]))
     where
       and-true : (b : Bool) → (b && true) ≡ b

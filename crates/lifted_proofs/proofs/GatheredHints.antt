@@ -1,8 +1,8 @@
 -- Hints that are gathered, and the goals of the instances that they hint at.
-use Rattle.std.proofs.Common.{◌≡◌, ℕ, zero, suc, ◌+◌, ◌<◌, ◌≤◌, ◌==◌, Bool, true, false, cond, ◌||◌, inl, inr, List, [], ◌∷◌, ◌++◌, map, take, length, get_or, slice_get, Some, refl, sym, ◌∙◌, ap, subst, arith}
+use Rattle.std.proofs.Common.{◌≡◌, ℕ, zero, suc, ◌+◌, ◌<◌, ◌≤◌, ◌==◌, ◌||◌, inl, inr, List, [], ◌∷◌, ◌++◌, map, take, length, get_or, slice_get, Some, refl, sym, ◌∙◌, ap, subst, arith}
 use Rattle.std.specs.List.{All, Contains}
 use Rattle.std.proofs.lemmas.Bool.{or_cases, or_left, or_right, cases_Bool, eq-eqb, eqb-true}
-use Rattle.std.proofs.lemmas.Option.{slice_get_within, get_or_from_slice_get, same_Some}
+use Rattle.std.proofs.lemmas.Option.{slice_get_within, get_or_from_slice_get}
 use Rattle.std.proofs.lemmas.List.{take_more, append-nil, append_assoc, map-append}
 use Rattle.std.proofs.lemmas.List.Elements.{All-tail, Contains-push, Contains-push_cases, Contains-append_left}
 use Rattle.std.proofs.lemmas.List.Folds.{list_any-append}
@@ -16,21 +16,7 @@ use Rattle.lifted_proofs.specs.declared.goals.Source.{Source}
 use Rattle.lifted_proofs.specs.declared.goals.Goal.{Goal}
 
 with-has : (xs : List ℕ) (n h : ℕ) → has_number (with_number xs n) h ≡ (has_number xs h || (n == h))
-with-has xs n h = by (has_number xs n) refl
-  where
-    or-none : (b : Bool) → (b || false) ≡ b
-    or-none true = refl
-    or-none false = refl
-
-    by : (b : Bool) → has_number xs n ≡ b → has_number (cond b xs (xs ++ n ∷ [])) h ≡ (has_number xs h || (n == h))
-    by true there = elim (cases_Bool (n == h)) [
-      | inl same ↦
-          let is : has_number xs h ≡ true = ap (has_number xs) (sym (eqb-true n h same)) ∙ there in
-          is ∙ sym (ap (λ b. b || (n == h)) is)
-      | inr other ↦ sym (or-none (has_number xs h)) ∙ ap (λ b. has_number xs h || b) (sym other)
-    ]
-    by false there =
-        list_any-append (λ m. m == h) xs (n ∷ []) ∙ ap (λ b. has_number xs h || b) (or-none (n == h))
+with-has xs n h = search (arith, cases_Bool, eqb-true, list_any-append)
 
 pub hint-added : (last : ℕ) (hints : List ℕ) (i : ℕ) (start old new : List ℕ) → i < length hints
     → get_or hints i 0 ≤ last → AddsHints last (take i hints) start old → new ≡ with_number old (get_or hints i 0)
@@ -46,10 +32,7 @@ hint-added last hints i start old new within low was more =
         | inr is ↦ has h ∙ or_right (has_number old h) (n == h) (eq-eqb n h is)
       ];
       each = λ h there. elim (or_cases (has_number old h) (n == h) (sym (has h) ∙ there)) [
-        | inl before ↦ elim (was.each h before) [
-          | inl first ↦ inl first
-          | inr it ↦ inr (Contains-append_left (take i hints) (n ∷ []) h it.0, it.1)
-        ]
+        | inl before ↦ search (arith, Contains-append_left)
         | inr is ↦
             let same = eqb-true n h is in
             inr (
@@ -71,10 +54,7 @@ hint-skipped last hints i start old new within high was same =
         | inl before ↦ was.all h before low-h
         | inr is ↦ absurd (omega (arith, is, high, low-h))
       ];
-      each = λ h there. elim (was.each h there) [
-        | inl first ↦ inl first
-        | inr it ↦ inr (Contains-append_left (take i hints) (n ∷ []) h it.0, it.1)
-      ];
+      each = search (arith, Contains-append_left);
     }))
 
 lines-append : (xs : List ProofItem) (item : ProofItem)
@@ -86,9 +66,13 @@ lines-append (gone ids ∷ xs) item = lines-append xs item
 pub next-line : (items : List ProofItem) (k : ℕ) (item : ProofItem) → slice_get items k ≡ Some item
     → lines_of (take (k + 1) items) ≡ lines_of (take k items) ++ lines_of (item ∷ [])
 next-line items k item at =
-    ap lines_of (take_more items k item (slice_get_within items k item at)
-    ∙ ap (λ x. take k items ++ x ∷ []) (get_or_from_slice_get items k item item at))
-    ∙ lines-append (take k items) item
+    search (
+      arith,
+      (take_more items k item (slice_get_within items k item at)),
+      (slice_get_within items k item at),
+      (get_or_from_slice_get items k item item at),
+      (lines-append (take k items) item),
+    )
 
 hinted-before : (xs : List ProofStep) (s : ProofStep) (h : ℕ) → IsHinted xs h → IsHinted (xs ++ s ∷ []) h
 hinted-before xs s h (t, (inside, hint)) = (t, (Contains-append_left xs (s ∷ []) t inside, hint))
@@ -103,10 +87,7 @@ wanted-more items k last s old new at was added =
         | inl before ↦ added.kept h (was.all h (hinted.0, (before, hinted.1.1)) low)
         | inr is ↦ added.all h (subst (λ (x : ProofStep). Contains x.hints h) (sym is) hinted.1.1) low
       ];
-      each = λ h there. elim (added.each h there) [
-        | inl before ↦ let it = was.each h before in (hinted-before xs s h it.0, it.1)
-        | inr it ↦ ((s, (Contains-push xs s, it.0)), it.1)
-      ];
+      each = search (arith, hinted-before, Contains-push);
     })
 
 pub wanted-same : (items : List ProofItem) (k last : ℕ) (ids : List ℕ) (old new : List ℕ)
@@ -127,16 +108,17 @@ pub first-more : (sources : List Source) (wanted : List ℕ) (i : ℕ) (g : Goal
     → i < length wanted → AreFirstGoals sources (take i wanted) goals → IsFirstGoal sources (get_or wanted i 0) g
     → new ≡ goals ++ g ∷ [] → AreFirstGoals sources (take (i + 1) wanted) new
 first-more sources wanted i g goals new within was it more =
-    subst (λ hs. AreFirstGoals sources hs new) (sym (take_more wanted i 0 within))
-    (subst (AreFirstGoals sources (take i wanted ++ get_or wanted i 0 ∷ [])) (sym more)
-    (first-append sources (take i wanted) goals (get_or wanted i 0) g was it))
+    search (
+      arith,
+      (take_more wanted i 0 within),
+      (first-append sources (take i wanted) goals (get_or wanted i 0) g was it),
+    )
 
 pub first-at : (sources : List Source) (hs : List ℕ) (gs : List Goal) (k h : ℕ) → AreFirstGoals sources hs gs
     → slice_get hs k ≡ Some h → (g : Goal) × ((slice_get gs k ≡ Some g) × IsFirstGoal sources h g)
 first-at sources [] gs k h all at = cc
 first-at sources (x ∷ hs) [] k h all at = absurd all
-first-at sources (x ∷ hs) (g ∷ gs) zero h all at =
-    (g, (refl, subst (λ n. IsFirstGoal sources n g) (same_Some x h at) all.0))
+first-at sources (x ∷ hs) (g ∷ gs) zero h all at = search arith
 first-at sources (x ∷ hs) (g ∷ gs) (suc k) h all at = first-at sources hs gs k h all.1 at
 
 pub first-back : (sources : List Source) (hs : List ℕ) (gs : List Goal) (k : ℕ) (d : Goal) → AreFirstGoals sources hs gs
@@ -157,11 +139,7 @@ pub carried-item : {X : Type 0} (to : ProofStep → X) (items : List ProofItem) 
     (start old new : List X) → slice_get items k ≡ Some item → old ≡ start ++ map to (lines_of (take k items))
     → new ≡ old ++ map to (lines_of (item ∷ [])) → new ≡ start ++ map to (lines_of (take (k + 1) items))
 carried-item to items k item start old new at was more =
-    more ∙ ap (λ xs. xs ++ map to (lines_of (item ∷ []))) was
-    ∙ append_assoc start (map to (lines_of (take k items))) (map to (lines_of (item ∷ [])))
-    ∙ ap (λ xs. start ++ xs)
-    (sym (map-append to (lines_of (take k items)) (lines_of (item ∷ [])))
-    ∙ ap (map to) (sym (next-line items k item at)))
+    search (arith, (append_assoc start), (map-append to), (next-line items k item at))
 
 -- what holds of all lines holds of an item's
 pub item-all : (P : ProofStep → Type 0) (items : List ProofItem) (k : ℕ) (item : ProofItem)
@@ -177,16 +155,10 @@ item-all P (derived s ∷ items) zero item at all =
     at-first : (i : ℕ) (d : ProofStep) → i < 1 → s ≡ get_or (s ∷ []) i d
     at-first zero d below = refl
     at-first (suc i) d below = absurd (omega (arith, below))
-item-all P (gone ids ∷ items) zero item at all =
-    subst (λ x. All P (lines_of (x ∷ []))) (same-one (gone ids) item at) (λ i d below. absurd (omega (arith, below)))
-  where
-    same-one : (a b : ProofItem) → Some a ≡ Some b → a ≡ b
-    same-one a b e = cc
+item-all P (gone ids ∷ items) zero item at all = search arith
 item-all P (derived s ∷ items) (suc k) item at all = item-all P items k item at (All-tail P s (lines_of items) all)
 item-all P (gone ids ∷ items) (suc k) item at all = item-all P items k item at all
 
 pub line-all : (P : ProofStep → Type 0) (item : ProofItem) (s : ProofStep) → item ≡ derived s
     → All P (lines_of (item ∷ [])) → P s
-line-all P item s is all =
-    let one : All P (s ∷ []) = subst (λ x. All P (lines_of (x ∷ []))) is all in
-    one 0 s (omega arith)
+line-all P item s is all = search arith

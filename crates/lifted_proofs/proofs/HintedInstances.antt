@@ -1,5 +1,5 @@
 -- The instances that lines hint at.
-use Rattle.std.proofs.Common.{◌≡◌, ℕ, zero, suc, ◌+◌, ◌-◌, ◌/◌, ◌%◌, ◌<◌, ◌≤◌, ◌==◌, Bool, true, false, not, cond, ◌&&◌, inl, inr, List, [], ◌∷◌, map, length, get_or, slice_get, Option, Some, None, is_some, refl, sym, ◌∙◌, ap, subst, arith}
+use Rattle.std.proofs.Common.{◌≡◌, ℕ, zero, suc, ◌+◌, ◌-◌, ◌/◌, ◌%◌, ◌<◌, ◌≤◌, ◌==◌, Bool, true, false, not, cond, inl, inr, List, [], ◌∷◌, map, length, get_or, slice_get, Option, Some, None, is_some, refl, sym, ◌∙◌, ap, subst, arith}
 use Rattle.std.specs.List.{All, Contains, list_any, filter, filter_map}
 use Rattle.std.specs.Option.{option_and_then}
 use Rattle.std.proofs.lemmas.Bool.{true≢false, cases_Bool, cond-false, ne_eqb}
@@ -7,10 +7,10 @@ use Rattle.std.proofs.lemmas.Option.{same_Some, option_and_then_some}
 use Rattle.std.proofs.lemmas.List.{map-id}
 use Rattle.std.proofs.lemmas.List.Elements.{All-cons}
 use Rattle.list_laws.proofs.Sequences.{none-gone}
-use Rattle.dq_lits.specs.Literal.{Literal, positive, negative, variable_of, opposite, literal_true}
+use Rattle.dq_lits.specs.Literal.{Literal, variable_of, opposite}
 use Rattle.dq_lits.specs.Formula.{Dqbf, existential_of, is_universal, IsWellFormed}
 use Rattle.dq_lits.specs.Derivation.{LiveClauses, ClauseStatus, falsified, unit, stuck, status_of, fault_by, hint_fault, with_clause, IsDerived, ProofStep, line_fault, is_empty, is_tautology, holds}
-use Rattle.dq_lits.specs.Expansion.{instance_at, instance_clause, pair_literal, universal_literal_true, row_assignment}
+use Rattle.dq_lits.specs.Expansion.{instance_at, instance_clause, pair_literal, universal_literal_true}
 use Rattle.dq_lits.proofs.HeldLiterals.{any_one, filter-holds}
 use Rattle.dq_lits.proofs.SignedLiterals.{opposite_variable}
 use Rattle.dq_lits.proofs.Derivations.{no_step_fault}
@@ -42,12 +42,7 @@ plain-only (Some c) = cond (is_tautology c) None (Some c)
 there-plain : (o : Option (List Literal)) → is_some (plain-only o) ≡ true
     → (c : List Literal) × ((o ≡ Some c) × (is_tautology c ≡ false))
 there-plain None h = absurd (true≢false (sym h))
-there-plain (Some c) h = by (is_tautology c) refl h
-  where
-    by : (b : Bool) → is_tautology c ≡ b → is_some (cond b None (Some c)) ≡ true
-        → (k : List Literal) × ((Some c ≡ Some k) × (is_tautology k ≡ false))
-    by true is h = absurd (true≢false (sym h))
-    by false is h = (c, (refl, is))
+there-plain (Some c) h = search (arith, true≢false)
 
 hints-live : (live : LiveClauses) (trues : List Literal) (place : ℕ) (hints : List ℕ)
     → hint_fault live trues place hints ≡ None → All (λ h. is_some (live h) ≡ true) hints
@@ -216,20 +211,4 @@ plain-source f units rows s row well source none plain =
   where
     one-true : (l : Literal) → is_universal f (variable_of l) ≡ true → holds (left_by f units s) l ≡ true
         → holds (left_by f units s) (opposite l) ≡ true → ⊥
-    one-true l universal here there = elim (cases_Bool (literal_true (row_assignment f row) l)) [
-      | inl on ↦ true≢false (sym (any_one (universal_literal_true f row) (left_by f units s) l here
-          (ap (λ b. b && literal_true (row_assignment f row) l) universal ∙ on)) ∙ none)
-      | inr off ↦ true≢false (sym (any_one (universal_literal_true f row) (left_by f units s) (opposite l) there
-          (ap (λ v. is_universal f v && literal_true (row_assignment f row) (opposite l)) (opposite_variable l)
-          ∙ ap (λ b. b && literal_true (row_assignment f row) (opposite l)) universal
-          ∙ turned-true l off)) ∙ none)
-    ]
-      where
-        turned-true : (l : Literal) → literal_true (row_assignment f row) l ≡ false
-            → literal_true (row_assignment f row) (opposite l) ≡ true
-        turned-true (positive v) off = ap not off
-        turned-true (negative v) off = not-off (row_assignment f row v) off
-          where
-            not-off : (b : Bool) → not b ≡ false → b ≡ true
-            not-off true h = refl
-            not-off false h = absurd (true≢false h)
+    one-true l universal here there = search (arith, cases_Bool, true≢false, any_one, opposite_variable)

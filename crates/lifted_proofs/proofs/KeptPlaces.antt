@@ -1,9 +1,8 @@
 -- The places of the clauses that are kept, and of those that go.
-use Rattle.std.proofs.Common.{◌≡◌, ◌≢◌, ℕ, zero, suc, ◌+◌, ◌<◌, ◌==◌, ◌||◌, Bool, true, false, not, cond, inl, inr, List, [], ◌∷◌, length, Option, Some, None, slice_get, refl, sym, ◌∙◌, ap, subst, arith, is_some, get_or, ◌++◌}
+use Rattle.std.proofs.Common.{◌≡◌, ◌≢◌, ℕ, zero, suc, ◌+◌, ◌<◌, Bool, true, false, not, cond, inl, inr, List, [], ◌∷◌, length, Option, Some, None, slice_get, refl, sym, ◌∙◌, ap, subst, arith, is_some, get_or, ◌++◌}
 use Rattle.std.specs.List.{cons_option, filter, Contains, range_with_len, filter_map, All, AllPairs}
 use Rattle.std.proofs.lemmas.Bool.{true≢false, cases_eq, cases_Bool, cond-true, cond-false, eq-eqb, ne_eqb, or_cases, or_left, or_right}
 use Rattle.std.proofs.lemmas.Option.{same_Some, get_or_from_slice_get, slice_get_within}
-use Rattle.list_laws.proofs.Truths.{not_true}
 use Rattle.dq_lits.specs.Literal.{Literal, opposite, same_literal}
 use Rattle.dq_lits.specs.Formula.{Dqbf}
 use Rattle.dq_lits.specs.Derivation.{holds, is_tautology}
@@ -27,11 +26,7 @@ use Rattle.std.proofs.lemmas.List.Kept.{AllPairs-filter}
 
 part-filter : (p : Literal → Bool) (ys : List Literal) → IsPart (filter p ys) ys
 part-filter p [] = all_gone
-part-filter p (y ∷ ys) = by (p y) (part-filter p ys)
-  where
-    by : (b : Bool) → IsPart (filter p ys) ys → IsPart (cond b (y ∷ filter p ys) (filter p ys)) (y ∷ ys)
-    by true rest = here rest
-    by false rest = gone_one rest
+part-filter p (y ∷ ys) = search (arith, (part-filter p ys), filter, here, gone_one)
 
 part-part : {xs ys zs : List Literal} → IsPart xs ys → IsPart ys zs → IsPart xs zs
 part-part all_gone q = all_gone
@@ -79,32 +74,20 @@ taken-clause : (f : Dqbf) (units : List Taken) (place : ℕ) (clause left : List
     → slice_get f.matrix place ≡ Some clause → taken_at place units ≡ Some left
     → IsTakenAt f units place clause left
 taken-clause f [] place clause left are at is = cc
-taken-clause f (u ∷ us) place clause left are at is = elim (cases_eq u.place place) [
-  | inl same ↦
-      let own : u.literal ∷ [] ≡ left = same_Some (u.literal ∷ []) left
-      (sym (cond-true (u.place == place) (Some (u.literal ∷ [])) (taken_at place us) (eq-eqb u.place place same)) ∙ is) in
-      let clause-is : are.0.clause ≡ clause = same_Some are.0.clause clause
-      (sym are.0.at ∙ ap (slice_get f.matrix) same ∙ at) in
-      record {
-        literal = u.literal;
-        left_is = sym own;
-        held = or_left (same_literal u.literal u.literal) (holds (taken_literals us) u.literal)
-            (same_literal-refl u.literal);
-        part = subst (λ xs. IsPart xs clause) (are.0.left ∙ own)
-            (subst (IsPart (left_of f (taken_literals us) are.0.clause)) clause-is
-            (part-left f (taken_literals us) are.0.clause));
-      }
-  | inr apart ↦
-      let rest = taken-clause f us place clause left are.1 at
-      (sym (cond-false (u.place == place) (Some (u.literal ∷ [])) (taken_at place us) (ne_eqb u.place place apart))
-      ∙ is) in
-      record {
-        literal = rest.literal;
-        left_is = rest.left_is;
-        held = or_right (same_literal rest.literal u.literal) (holds (taken_literals us) rest.literal) rest.held;
-        part = rest.part;
-      }
-]
+taken-clause f (u ∷ us) place clause left are at is =
+    search (
+      arith,
+      cases_eq,
+      cond-true,
+      eq-eqb,
+      or_left,
+      same_literal-refl,
+      part-left,
+      (taken-clause f us place clause left are.1 at),
+      cond-false,
+      ne_eqb,
+      or_right,
+    )
 
 -- what is kept of a clause is a part of it, and has no literal that is false
 pub record IsLeft (units : List Taken) (clause left : List Literal) : Type 0 where
@@ -116,36 +99,22 @@ pub units-agree : (f : Dqbf) (units : List Taken) (l : Literal) → AreUnits f u
     → holds (taken_literals units) l ≡ true → holds (taken_literals units) (opposite l) ≡ false
 units-agree f [] l are held = absurd (true≢false (sym held))
 units-agree f (u ∷ us) l are held =
-    let trues = taken_literals us in
-    let fresh = unit-fresh f us u are.0 in
-    elim (or_cases (same_literal l u.literal) (holds trues l) held) [
-      | inl same ↦
-          let is = same_literal-sound l u.literal same in
-          ap (λ k. same_literal (opposite k) u.literal || holds trues (opposite k)) is
-          ∙ ap (λ b. b || holds trues (opposite u.literal)) (not-same u.literal) ∙ fresh
-      | inr later ↦ elim (cases_Bool (same_literal (opposite l) u.literal)) [
-        | inl same ↦
-            let is : l ≡ opposite u.literal =
-            sym (opposite-opposite l) ∙ ap opposite (same_literal-sound (opposite l) u.literal same) in
-            absurd (true≢false (sym later ∙ ap (holds trues) is ∙ fresh))
-        | inr other ↦
-            ap (λ b. b || holds trues (opposite l)) other ∙ units-agree f us l are.1 later
-      ]
-    ]
+    search (
+      arith,
+      (unit-fresh f us u are.0),
+      or_cases,
+      (same_literal-sound l u.literal),
+      (not-same u.literal),
+      cases_Bool,
+      (opposite-opposite l),
+      same_literal-sound,
+      true≢false,
+      (units-agree f us l are.1),
+    )
 
 left-open : (f : Dqbf) (trues clause : List Literal) (l : Literal) → holds (left_of f trues clause) l ≡ true
     → holds trues (opposite l) ≡ false
-left-open f trues clause l held = by (is_tautology rest) held
-  where
-    rest : List Literal
-    rest = without_false trues clause
-
-    from : holds rest l ≡ true → holds trues (opposite l) ≡ false
-    from h = not_true (holds trues (opposite l)) (filter-passes (λ k. not (holds trues (opposite k))) clause l h)
-
-    by : (b : Bool) → holds (cond b rest (filter (stays f rest) rest)) l ≡ true → holds trues (opposite l) ≡ false
-    by true h = from h
-    by false h = from (holds_of_filter l (stays f rest) rest h)
+left-open f trues clause l held = search (arith, filter-passes, holds_of_filter)
 
 pub left-is : (f : Dqbf) (units : List Taken) (place : ℕ) (clause left : List Literal) → AreUnits f units
     → slice_get f.matrix place ≡ Some clause → kept_clause f units place clause ≡ Some left → IsLeft units clause left
@@ -183,10 +152,7 @@ abbrev pub StandsIn : List ℕ → ℕ → Type 0
 StandsIn ps p = (j : ℕ) × (slice_get ps j ≡ Some p)
 
 pub range-more : (count : ℕ) → range_with_len 0 (count + 1) ≡ range_with_len 0 count ++ count ∷ []
-range-more count =
-    let next : count + 1 ≡ suc count = omega arith in
-    let last : 0 + count ≡ count = omega arith in
-    ap (range_with_len 0) next ∙ range_more 0 count ∙ ap (λ n. range_with_len 0 count ++ n ∷ []) last
+range-more count = search (arith, (range_more 0 count))
 
 module _ (f : Dqbf) (units : List Taken) (kept : Bool) where
   abbrev chosen : ℕ → Bool
@@ -224,8 +190,7 @@ module _ (f : Dqbf) (units : List Taken) (kept : Bool) where
   -- one clause more
   pub places-more : (count : ℕ) → places_of f units kept (count + 1)
       ≡ places_of f units kept count ++ cond (beq (is_some (kept_at f units count)) kept) (count ∷ []) []
-  places-more count =
-      ap (filter chosen) (range-more count) ∙ filter-append chosen (range_with_len 0 count) (count ∷ [])
+  places-more count = search (arith, range-more, filter-append)
 
 -- what is kept, by the places of clauses
 kept-from : (f : Dqbf) (units : List Taken) (first : ℕ) (clauses : List (List Literal))
@@ -263,17 +228,10 @@ module _ (f : Dqbf) (units : List Taken) where
 
   as-long : (ps : List ℕ) → length (kept_of ps) ≡ length (filter_map (kept_at f units) ps)
   as-long [] = refl
-  as-long (q ∷ qs) = by (kept_at f units q) (as-long qs)
-    where
-      by : (o : Option (List Literal)) → length (kept_of qs) ≡ length (filter_map (kept_at f units) qs)
-          → length (cond (beq (is_some o) true) (q ∷ kept_of qs) (kept_of qs))
-          ≡ length (cons_option o (filter_map (kept_at f units) qs))
-      by None e = e
-      by (Some left) e = ap suc e
+  as-long (q ∷ qs) = search (arith, (as-long qs))
 
   pub as-many : length (kept_places f units) ≡ length (kept_clauses f units 0 f.matrix)
-  as-many = as-long (range_with_len 0 (length f.matrix)) ∙ ap (λ (cs : List (List Literal)). length cs)
-      (sym (kept-are f units))
+  as-many = search (arith, as-long, kept-are)
 
   pub left-at : (j p : ℕ) → slice_get (kept_places f units) j ≡ Some p
       → slice_get (kept_clauses f units 0 f.matrix) j ≡ kept_at f units p
@@ -282,10 +240,4 @@ module _ (f : Dqbf) (units : List Taken) where
 -- a dropped clause is satisfied
 pub dropped-true : (f : Dqbf) (units : List Taken) (place : ℕ) → is_some (kept_at f units place) ≡ false
     → is_satisfied (taken_literals units) (clause_at f place) ≡ true
-dropped-true f units place none = by (is_satisfied (taken_literals units) (clause_at f place)) none
-  where
-    by : (b : Bool)
-        → is_some (cond b (taken_at place units) (Some (left_of f (taken_literals units) (clause_at f place)))) ≡ false
-        → b ≡ true
-    by true h = refl
-    by false h = cc
+dropped-true f units place none = search arith

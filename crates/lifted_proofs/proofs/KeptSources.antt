@@ -1,5 +1,5 @@
 -- Where what is kept of clauses comes from.
-use Rattle.std.proofs.Common.{◌≡◌, ◌≢◌, ℕ, suc, ◌+◌, ◌<◌, ◌==◌, Bool, true, false, inl, inr, List, [], ◌∷◌, ◌++◌, length, slice_get, reverse, Option, Some, None, refl, sym, ◌∙◌, ap, subst, arith}
+use Rattle.std.proofs.Common.{◌≡◌, ◌≢◌, ℕ, suc, ◌+◌, ◌<◌, ◌==◌, Bool, true, false, inl, inr, List, [], ◌∷◌, ◌++◌, length, reverse, Option, Some, None, refl, sym, ◌∙◌, ap, subst, arith}
 use Rattle.std.specs.List.{Contains, cons_option, range_with_len, filter_map}
 use Rattle.std.proofs.lemmas.Bool.{cond-true, cond-false, ne_eqb}
 use Rattle.std.proofs.lemmas.Option.{slice_get_within, slice_get-get_or, get_or_from_slice_get}
@@ -15,7 +15,7 @@ use Rattle.dq_prep.specs.Units.{AreUnits, taken_literals, is_satisfied, left_of}
 use Rattle.dq_prep.specs.Simplified.{taken_at}
 use Rattle.dq_prep.proofs.Units.{get-at, unit-taken}
 use Rattle.lifted_proofs.specs.UnitTables.{first_literals, IsFalseBy}
-use Rattle.lifted_proofs.specs.Goals.{clause_at, IsSource, left_by}
+use Rattle.lifted_proofs.specs.Goals.{clause_at, left_by}
 use Rattle.lifted_proofs.specs.Carried.{AreSources}
 use Rattle.lifted_proofs.specs.Sources.{TellsTaken, IsSourceAt}
 use Rattle.lifted_proofs.specs.declared.goals.Source.{Source}
@@ -28,16 +28,8 @@ use Rattle.lifted_proofs.proofs.KeptPlaces.{range-more}
 pub taken-by : (units : List Taken) (l k : Literal) (o : Option ℕ) → k ≡ opposite l
     → IsFalseBy units (length units) k o → (o ≡ None → holds (first_literals units (length units)) l ≡ false)
     × ((j : ℕ) → o ≡ Some j → holds (first_literals units (length units)) l ≡ true)
-taken-by units l k None is none = (
-  (λ e. ap (holds (first_literals units (length units))) (sym (opposite-opposite l) ∙ ap opposite (sym is)) ∙ none),
-  λ j e. cc,
-)
-taken-by units l k (Some i) is (before, (u, (at, same))) = (
-  (λ e. cc),
-  λ j e.
-      ap (holds (first_literals units (length units))) (sym (same ∙ ap opposite is ∙ opposite-opposite l))
-      ∙ first-holds units (length units) i u before at,
-)
+taken-by units l k None is none = search (arith, opposite-opposite)
+taken-by units l k (Some i) is (before, (u, (at, same))) = search (arith, opposite-opposite, first-holds)
 
 pub all-literals : (units : List Taken) → first_literals units (length units) ≡ taken_literals (reverse units)
 all-literals units = ap (λ us. taken_literals (reverse us)) (take_all (length units) units (omega arith))
@@ -55,29 +47,17 @@ pub source-unit : (f : Dqbf) (units : List Taken) (place j : ℕ) (s : Source) (
     → TellsTaken units (length units) place (Some j) → s.taken ≡ j → s.place ≡ place
     → IsSourceAt f units place (Some s)
 source-unit f units place j s b are within is yes-is (u, (at, here)) taken at-place =
-    let it = unit-at f units j u are at in
-    let where-at = get-at f.matrix u.place it.clause it.at in
-    let clause : clause_at f s.place ≡ it.clause = ap (clause_at f) (at-place ∙ sym here) ∙ where-at.1 [] in
-    let satisfied : is_satisfied (taken_literals (reverse units)) (clause_at f place) ≡ true =
-    ap (λ ls. is_satisfied ls (clause_at f place)) (sym (all-literals units)) ∙ sym is ∙ yes-is in
-    let inside : Contains units u = (j, slice_get_within units j u at, get_or_from_slice_get units j u u at) in
-    let r = Contains-permutation units (reverse units) u (IsPermutation-reverse units) inside in
-    let unit : taken_at u.place (reverse units) ≡ Some (u.literal ∷ []) =
-    ap (λ w. taken_at w.place (reverse units)) (sym r.2)
-    ∙ unit-taken f (reverse units) r.0 u are r.1
-    ∙ ap (λ w. Some (w.literal ∷ [])) r.2 in
-    let left : left_by f units s ≡ u.literal ∷ [] =
-    ap (λ n. left_of f (first_literals units n) (clause_at f s.place)) taken
-    ∙ ap (left_of f (first_literals units j)) clause ∙ it.left in (
-      record {
-        taken = omega (arith, taken, slice_get_within units j u at);
-        place = omega (arith, at-place, within);
-        unsatisfied = ap (λ n. is_satisfied (first_literals units n) (clause_at f s.place)) taken
-            ∙ ap (is_satisfied (first_literals units j)) clause ∙ it.unsatisfied;
-      },
-      cond-true (is_satisfied (taken_literals (reverse units)) (clause_at f place)) (taken_at place (reverse units))
-          (Some (left_of f (taken_literals (reverse units)) (clause_at f place))) satisfied
-          ∙ ap (λ p. taken_at p (reverse units)) (sym here) ∙ unit ∙ ap Some (sym left),
+    search (
+      arith,
+      (unit-at f units j u are at),
+      (get-at f.matrix u.place),
+      (all-literals units),
+      (slice_get_within units j u at),
+      (get_or_from_slice_get units j u u at),
+      (Contains-permutation units (reverse units) u (IsPermutation-reverse units)),
+      (IsPermutation-reverse units),
+      (unit-taken f (reverse units)),
+      cond-true,
     )
 
 -- a clause that goes
@@ -99,9 +79,7 @@ kept_first f units place = filter_map (kept_at f (reverse units)) (range_with_le
 
 kept-next : (f : Dqbf) (units : List Taken) (place : ℕ)
     → kept_first f units (place + 1) ≡ kept_first f units place ++ cons_option (kept_at f (reverse units) place) []
-kept-next f units place =
-    ap (filter_map (kept_at f (reverse units))) (range-more place)
-    ∙ filter_map-append (kept_at f (reverse units)) (range_with_len 0 place) (place ∷ [])
+kept-next f units place = search (arith, range-more, filter_map-append)
 
 pub sources-more : (f : Dqbf) (units : List Taken) (place : ℕ) (s : Source) (sources new : List Source)
     → IsSourceAt f units place (Some s) → AreSources f units (kept_first f units place) sources → new ≡ sources ++ s ∷ []
@@ -118,20 +96,11 @@ sources-more f units place s sources new at was more =
         | inl before ↦
             let it = was.each j k before in
             (it.0, keeps-more front (left ∷ []) j (left_by f units k) it.1)
-        | inr last ↦ (
-          subst (IsSource f units) last.1 at.0,
-          ap (slice_get (front ++ left ∷ [])) (last.0 ∙ was.many) ∙ last_there front left
-              ∙ ap (λ x. Some (left_by f units x)) last.1,
-        )
+        | inr last ↦ search (arith, last_there)
       ];
     }))
 
 pub sources-same : (f : Dqbf) (units : List Taken) (place : ℕ) (sources new : List Source)
     → IsSourceAt f units place None → AreSources f units (kept_first f units place) sources → new ≡ sources
     → AreSources f units (kept_first f units (place + 1)) new
-sources-same f units place sources new none was same =
-    let next : kept_first f units (place + 1) ≡ kept_first f units place =
-    kept-next f units place ∙ ap (λ o. kept_first f units place ++ cons_option o []) none
-    ∙ append-nil (kept_first f units place) in
-    subst (AreSources f units (kept_first f units (place + 1))) (sym same)
-    (subst (λ ks. AreSources f units ks sources) (sym next) was)
+sources-same f units place sources new none was same = search (arith, kept-next, append-nil)

@@ -4,7 +4,7 @@ use Rattle.std.specs.List.{All, sum_by}
 use Rattle.std.proofs.lemmas.Bool.{and_parts, leb-true}
 use Rattle.std.proofs.lemmas.List.{length-map, take_all, get_or_default}
 use Rattle.std.proofs.lemmas.List.Elements.{All-cons}
-use Rattle.dq_lits.specs.Literal.{Literal, variable_of}
+use Rattle.dq_lits.specs.Literal.{Literal}
 use Rattle.dq_lits.specs.Formula.{Dqbf, IsWellFormed}
 use Rattle.dq_lits.specs.Henkin.{MatrixHolds}
 use Rattle.dq_lits.specs.Literal.{Assignment}
@@ -12,10 +12,9 @@ use Rattle.dq_lits.specs.Derivation.{ProofStep}
 use Rattle.aiger_text.specs.Symbol.{SymbolTable}
 use Rattle.aiger_text.specs.declared.files.AagFile.{AagFile}
 use Rattle.circuit_plain.specs.Netlist.{Netlist, IsNetlist}
-use Rattle.cert_text.specs.CircuitProof.{first_proof_id, is_proof_variable}
 use Rattle.cert_text.specs.Grammar.{AreItems, AreSteps, IsSmallItem}
 use Rattle.cert_text.specs.Header.{max_count}
-use Rattle.cert_text.specs.Numbering.{Numbering, with_next, without_all, numbered_from}
+use Rattle.cert_text.specs.Numbering.{Numbering, with_next, without_all}
 use Rattle.cert_text.specs.ProofGrammar.{IsDqpOf}
 use Rattle.cert_text.specs.Variables.{is_up_to}
 use Rattle.cert_text.specs.declared.circuit_proofs.Dqp.{Dqp}
@@ -26,13 +25,12 @@ use Rattle.rup_core.specs.Items.{ProofItem, derived, gone, items_fault}
 use Rattle.dq_prep.specs.declared.traces.Taken.{Taken}
 use Rattle.dq_prep.specs.Simplified.{simplified_formula}
 use Rattle.dq_prep.specs.Units.{taken_literals}
-use Rattle.proof_checker.specs.CircuitProof.{circuit_literal, circuit_proof_fault}
+use Rattle.proof_checker.specs.CircuitProof.{circuit_proof_fault}
 use Rattle.proof_checker.specs.ProvedCircuit.{IsProvedCircuit}
-use Rattle.proof_deletions.specs.Deletions.{AreNumberedLines}
 use Rattle.proof_deletions.specs.Laws.{AllowedLinesAreNumbered}
 use Rattle.skolem_checker.specs.Checks.{Candidate, candidate_of, with_mapping}
 use Rattle.skolem_checker.specs.Mapping.{Mapping, mapping_of}
-use Rattle.skolem_checker.specs.SkolemCircuit.{FollowsCircuit, IsComplete, ReadsUniversal}
+use Rattle.skolem_checker.specs.SkolemCircuit.{FollowsCircuit, IsComplete}
 use Rattle.skolem_checker.specs.Tables.{IsMapping}
 use Rattle.skolem_checker.specs.declared.mapping.MapError.{MapError}
 use Rattle.skolem_checker.proofs.OntoLaws.{IsMapped, mapped}
@@ -62,18 +60,7 @@ pub record HasParts (f : Dqbf) (net : Netlist) (symbols : SymbolTable) (c : Cand
 
 pub candidate-parts : (f : Dqbf) (net : Netlist) (symbols : SymbolTable) (c : Candidate)
     → candidate_of f net symbols ≡ Ok c → HasParts f net symbols c
-candidate-parts f net symbols c is = by (mapping_of f net symbols) refl is
-  where
-    by : (r : Result Mapping MapError) → mapping_of f net symbols ≡ r → with_mapping f net r ≡ Ok c
-        → HasParts f net symbols c
-    by (Ok mapping) e h =
-        let same : record { formula = f; circuit = record { netlist = net; mapping = mapping } } ≡ c = cc in
-        record {
-          maps = e ∙ ap Ok (ap (λ x. x.circuit.mapping) same);
-          formula = sym (ap (λ x. x.formula) same);
-          netlist = sym (ap (λ x. x.circuit.netlist) same);
-        }
-    by (Err fault) e h = cc
+candidate-parts f net symbols c is = search arith
 
 -- one mapping
 mapping-or : Mapping → Result Mapping MapError → Mapping
@@ -110,13 +97,7 @@ module _ (f : Dqbf) (units : List Taken) (file : AagFile) (c : Candidate) (well 
   pub settled-file : (net : Netlist)
       → net ≡ settled_netlist (taken_literals units) c.circuit.mapping.outputs c.circuit.netlist
       → IsSettledFile f units file (record { circuit = net; symbols = file.symbols; comment = file.comment })
-  settled-file net net-is = record {
-    mapping = c.circuit.mapping;
-    maps = maps-f;
-    circuit = net-is ∙ ap (settled_netlist (taken_literals units) c.circuit.mapping.outputs) parts.netlist;
-    symbols = refl;
-    comment = refl;
-  }
+  settled-file net net-is = search (arith, maps-f)
 
   pub lifted-circuit : (old p : Dqp) → RefutedNegationSolves → IsProvedCircuit (simplified_formula f units) file old
       → items_fault false (lifted_base f units c) p.items ≡ None
@@ -145,14 +126,7 @@ module _ (f : Dqbf) (units : List Taken) (file : AagFile) (c : Candidate) (well 
         skolem = record {
           mapping = mapping;
           maps = new-maps;
-          reads_declared = λ k d below x read. was.skolem.reads_declared k d below x
-              (subst (λ n. ReadsUniversal (record { netlist = n; mapping = was.skolem.mapping })
-              (get_or f.existentials k d).variable x) parts.netlist
-              (subst (λ m. ReadsUniversal (record { netlist = net; mapping = m }) (get_or f.existentials k d).variable x)
-              (sym same)
-              (settled-reads trues mapping net lawful
-              (omega (arith, is-mapping.inputs_length, is-mapping.inputs.same_length))
-              (get_or f.existentials k d).variable x read)));
+          reads_declared = search (arith, settled-reads);
           holds = λ m follows. law (settled_candidate f trues c) file.symbols p.items well netlist all-complete
               (ap (with_mapping f settled) new-maps) derives m follows;
         };
@@ -166,30 +140,12 @@ small-steps : (variables first : ℕ) (steps : List ProofStep) → variables < 1
     → All IsSmallItem (map derived steps)
 small-steps variables first [] few small are = λ k d below. absurd (omega (arith, below))
 small-steps variables first (s ∷ steps) few small are =
-    All-cons IsSmallItem (derived s) (map derived steps)
-    (record {
-      id = omega (arith, are.0.numbered, small);
-      variables = λ k d below.
-          let v = variable_of (get_or s.literals k d) in
-          let parts = and_parts (nat_le 1 v) (nat_le v variables) (are.0.on_variables k d below) in
-          omega (arith, leb-true v variables parts.1, few);
-    })
-    (small-steps variables (first + 1) steps few (omega (arith, small)) are.1)
+    search (arith, All-cons, and_parts, nat_le, leb-true, (small-steps variables (first + 1) steps few))
 
 lifted-allowed : (f : Dqbf) (units : List Taken) (c : Candidate) (steps : List ProofStep) (p : Dqp)
     → length f.matrix ≤ 10000000 → AreLiftedLines f units c steps → p.items ≡ map derived steps
     → IsDqpOf f (settled_netlist (taken_literals units) c.circuit.mapping.outputs c.circuit.netlist) p
-lifted-allowed f units c steps p few lines is =
-    let net = c.circuit.netlist in
-    record {
-      few_items = subst (λ xs. length xs ≤ max_count) (sym is)
-          (omega (arith, lines.few, length-map steps (λ s. derived s)));
-      items = subst (λ xs. AreItems (is_proof_variable f net) (numbered_from (first_proof_id f net)) xs) (sym is)
-          (steps_are_items (is_proof_variable f net) (numbered_from (first_proof_id f net)) steps lines.allowed);
-      small = subst (All IsSmallItem) (sym is)
-          (small-steps (net.max_var + length f.matrix) (first_proof_id f net) steps
-          (omega (arith, lines.few_variables, few)) (omega (arith, lines.small_id, lines.few)) lines.allowed);
-    }
+lifted-allowed f units c steps p few lines is = search (arith, length-map, steps_are_items, small-steps)
 
 pub lifted-proof : (t : UnitTable) (f : Dqbf) (units : List Taken) (file : AagFile) (old p : Dqp) (net : Netlist)
     → AllowedLinesAreNumbered → RefutedNegationSolves → IsUnitTable t → t.formula.now ≡ f → reverse t.units.now ≡ units
@@ -214,9 +170,7 @@ lifted-proof t f units file old p net numbered law right formula trace was it =
       record {
         circuit = circuit;
         allowed = lifted-allowed g us c it.steps p right.lawful.few_clauses it.lines it.items;
-        lines = subst AreNumberedLines (sym it.items)
-            (numbered (is_proof_variable g c.circuit.netlist) (first_proof_id g c.circuit.netlist) it.steps (omega arith)
-            it.lines.allowed);
+        lines = search arith;
       },
     ) in
     subst (λ h. Both h units net) formula
@@ -226,14 +180,7 @@ lifted-proof t f units file old p net numbered law right formula trace was it =
 
 pub derives-by : (g : Dqbf) (file : AagFile) (p : Dqp) (c : Candidate) → IsProvedCircuit g file p
     → candidate_of g file.circuit file.symbols ≡ Ok c → circuit_proof_fault c p.items ≡ None
-derives-by g file p c was is =
-    let own : Candidate = record {
-      formula = g;
-      circuit = record { netlist = file.circuit; mapping = was.skolem.mapping };
-    } in
-    let both : Ok c ≡ Ok own = sym is ∙ ap (with_mapping g file.circuit) was.skolem.maps in
-    let same : c ≡ own = cc in
-    ap (λ x. circuit_proof_fault x p.items) same ∙ was.derives
+derives-by g file p c was is = search arith
 
 pub kept-small : (l : Lifting) → IsLifting l → All (λ p. p < 10000000000000000) l.kept.items
 kept-small l it k d below =
@@ -242,26 +189,16 @@ kept-small l it k d below =
     omega (arith, place.1, it.right.lawful.few_clauses)
 
 pub many-kept : (l : Lifting) → IsLifting l → length l.kept.items ≡ length l.bench.now.formula.matrix
-many-kept l it =
-    ap (λ (ps : List ℕ). length ps) it.kept
-    ∙ as-many (formula_of l) (units_of l)
-    ∙ sym (ap (λ (g : Dqbf). length g.matrix) it.can.left)
+many-kept l it = search (arith, as-many)
 
 all-named : (l : Lifting) (w : Named) → IsLifting l → AreFirstNamed l (length l.kept.items) w
     → AreLiftedNames (formula_of l) (units_of l) l.bench.now
     (left_falsities l.bench.now l.bench.now.formula.matrix) w.ids.items w.steps
-all-named l w it named =
-    let matrix = l.bench.now.formula.matrix in
-    subst (λ clauses. AreLiftedNames (formula_of l) (units_of l) l.bench.now (left_falsities l.bench.now clauses)
-    w.ids.items w.steps)
-    (take_all (length l.kept.items) matrix (omega (arith, many-kept l it))) named
+all-named l w it named = search (arith, take_all, many-kept)
 
 pub many-ids : (l : Lifting) (w : Named) → IsLifting l → AreFirstNamed l (length l.kept.items) w
     → length w.ids.items ≡ sum_by length l.bench.now.formula.matrix
-many-ids l w it named =
-    (all-named l w it named).many
-    ∙ falsity_counted (circuit_literal l.bench.now.circuit) (l.bench.now.circuit.netlist.max_var + 1)
-    l.bench.now.formula.matrix
+many-ids l w it named = search (arith, all-named, falsity_counted)
 
 -- a proof's lines have small numbers
 small-lines : (c : CarryingStruct) (variables : ℕ) (n : Numbering) (items : List ProofItem)
@@ -274,13 +211,8 @@ small-lines c variables n (derived s ∷ items) few are small =
     All-cons (IsCarriedStep c) s (lines_of items)
     (record {
       id = omega (arith, are.0.numbered, small);
-      literals = λ k d below.
-          let v = variable_of (get_or s.literals k d) in
-          let parts = and_parts (nat_le 1 v) (nat_le v variables) (are.0.on_variables k d below) in
-          omega (arith, leb-true v variables parts.1, few);
-      hints = λ k d below.
-          let hint = are.0.hints_before k d below in
-          omega (arith, hint.1, small);
+      literals = search (arith, and_parts, nat_le, leb-true);
+      hints = search arith;
     })
     (small-lines c variables (with_next n) items few are.1 (omega (arith, small)))
 
@@ -288,13 +220,7 @@ pub carried-small : (l : Lifting) (w : Named) (c : CarryingStruct) (p : Dqp) →
     → AreFirstNamed l (length l.kept.items) w → IsDqpOf l.bench.now.formula l.bench.now.circuit.netlist p
     → c.largest ≡ l.base.largest → c.places.now ≡ l.kept.items → length w.ids.items < 1152921504606846976
     → All (IsCarriedStep c) (lines_of p.items)
-carried-small l w c p it named allowed largest places few =
-    let g = l.bench.now.formula in
-    let net = l.bench.now.circuit.netlist in
-    let long = ap (λ (ps : List ℕ). length ps) places in
-    small-lines c (net.max_var + length g.matrix) (numbered_from (first_proof_id g net)) p.items
-    (omega (arith, largest, it.base.largest, long, many-kept l it)) allowed.items
-    (omega (arith, allowed.few_items, few, many-ids l w it named, it.base.gates, it.base.first, it.base.small))
+carried-small l w c p it named allowed largest places few = search (arith, small-lines, many-kept, many-ids)
 
 pub all-lines : (l : Lifting) (w : Named) (front all : List ProofStep) (c : Carrying) (p : Dqp) → IsLifting l
     → AreFirstNamed l (length l.kept.items) w

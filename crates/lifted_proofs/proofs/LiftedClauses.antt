@@ -1,8 +1,8 @@
 -- The clauses of what is left, as clauses of the formula over the settled circuit.
-use Rattle.std.proofs.Common.{◌≡◌, ℕ, zero, suc, ◌+◌, ◌*◌, ◌<◌, ◌≤◌, ◌⊎◌, true, false, inl, inr, List, [], ◌∷◌, map, length, get_or, Some, None, slice_get, refl, sym, ◌∙◌, ap, subst, arith}
+use Rattle.std.proofs.Common.{◌≡◌, ℕ, zero, suc, ◌+◌, ◌*◌, ◌<◌, ◌≤◌, ◌⊎◌, true, false, inl, inr, List, [], ◌∷◌, map, length, get_or, Some, slice_get, refl, sym, ◌∙◌, ap, subst, arith}
 use Rattle.std.specs.List.{range_with_len, sum_by}
 use Rattle.std.proofs.lemmas.Bool.{true≢false, cases_Bool}
-use Rattle.std.proofs.lemmas.Option.{slice_get_within, same_Some, slice_get-get_or}
+use Rattle.std.proofs.lemmas.Option.{slice_get_within, slice_get-get_or}
 use Rattle.dq_lits.specs.Literal.{Literal, positive, negative, variable_of, on_variable, opposite}
 use Rattle.dq_lits.specs.Formula.{Dqbf}
 use Rattle.dq_lits.specs.Derivation.{holds}
@@ -33,10 +33,7 @@ pub clause-stays : (largest clauses : ℕ) (places : List ℕ) (ls : List Litera
     → map (λ l. on_variable (carried_variable largest clauses places (variable_of l)) l) ls ≡ ls
 clause-stays largest clauses places [] all = refl
 clause-stays largest clauses places (l ∷ ls) all =
-    ap (λ k. k ∷ map (λ l. on_variable (carried_variable largest clauses places (variable_of l)) l) ls)
-    (on-same (carried_variable largest clauses places (variable_of l)) l
-    (carried-circuit largest clauses places (variable_of l) all.0))
-    ∙ ap (λ ks. l ∷ ks) (clause-stays largest clauses places ls all.1)
+    search (arith, on-same, carried-circuit, (clause-stays largest clauses places ls all.1))
 
 module _ (f : Dqbf) (units : List Taken) (c : Candidate) (can : IsLiftable f units c) where
   abbrev largest : ℕ
@@ -57,10 +54,7 @@ module _ (f : Dqbf) (units : List Taken) (c : Candidate) (can : IsLiftable f uni
   base-literal : (p : ℕ) (l : Literal) (id : ℕ) → IsLiteralId f c p l id
       → lifted_base f units c id ≡ without_constants (falsity (circuit_literal (settled_candidate f trues c).circuit)
       (largest + 1 + p) l)
-  base-literal p l id it =
-      at-literal f (settled_candidate f trues c).circuit.netlist (circuit_literal (settled_candidate f trues c).circuit)
-      p it.place id it.clause l it.clause_at it.at it.is
-      (before_below f.matrix p it.place it.clause it.clause_at (slice_get_within it.clause it.place l it.at))
+  base-literal p l id it = search (arith, at-literal, before_below, slice_get_within)
 
   -- a literal that was taken is true
   pub base-true : (p : ℕ) (l : Literal) (id : ℕ) → IsLiteralId f c p l id → holds (taken_literals units) l ≡ true
@@ -73,8 +67,7 @@ module _ (f : Dqbf) (units : List Taken) (c : Candidate) (can : IsLiftable f uni
 
   named-at : (j p : ℕ) → slice_get (kept_places f units) j ≡ Some p
       → to (negative (largest + 1 + j)) ≡ negative (largest + 1 + p)
-  named-at j p at = ap negative
-      (carried-clause largest (length f.matrix) (kept_places f units) (largest + 1 + j) j p refl at)
+  named-at j p at = search (arith, carried-clause)
 
   fits : (l : Literal) → was l ≤ 2 * largest + 1
   fits l = literal-in-range c.circuit l can.lawful
@@ -90,29 +83,16 @@ module _ (f : Dqbf) (units : List Taken) (c : Candidate) (can : IsLiftable f uni
   old-free : (j p : ℕ) (l : Literal) (clause : List Literal) → slice_get (kept_places f units) j ≡ Some p
       → 2 ≤ was l → without_constants (falsity (circuit_literal c.circuit) (largest + 1 + j) l) ≡ Some clause
       → negative (largest + 1 + p) ∷ as_literal (opposite_of (was l)) ∷ [] ≡ map to clause
-  old-free j p l clause at free is =
-      let own : negative (largest + 1 + j) ∷ as_literal (opposite_of (was l)) ∷ [] ≡ clause =
-      same_Some (negative (largest + 1 + j) ∷ as_literal (opposite_of (was l)) ∷ []) clause
-      (sym (falsity-free (largest + 1 + j) (was l) (omega arith) free) ∙ is) in
-      ap (λ k. k ∷ as_literal (opposite_of (was l)) ∷ []) (sym (named-at j p at))
-      ∙ ap (λ k. to (negative (largest + 1 + j)) ∷ k ∷ []) (sym (other-stays l))
-      ∙ ap (map to) own
+  old-free j p l clause at free is = search (arith, falsity-free, (named-at j p at), (other-stays l))
 
   old-true : (j p : ℕ) (l : Literal) (clause : List Literal) → slice_get (kept_places f units) j ≡ Some p
       → was l ≡ 1 → without_constants (falsity (circuit_literal c.circuit) (largest + 1 + j) l) ≡ Some clause
       → negative (largest + 1 + p) ∷ [] ≡ map to clause
-  old-true j p l clause at one is =
-      let own : negative (largest + 1 + j) ∷ [] ≡ clause =
-      same_Some (negative (largest + 1 + j) ∷ []) clause
-      (sym (falsity-true (largest + 1 + j) (was l) (omega arith) one) ∙ is) in
-      ap (λ k. k ∷ []) (sym (named-at j p at)) ∙ ap (map to) own
+  old-true j p l clause at one is = search (arith, falsity-true, named-at)
 
   old-false : (j : ℕ) (l : Literal) (clause : List Literal) → was l ≡ 0
       → without_constants (falsity (circuit_literal c.circuit) (largest + 1 + j) l) ≡ Some clause → ⊥
-  old-false j l clause none is = nothing (sym (falsity-false (largest + 1 + j) (was l) (omega arith) none) ∙ is)
-    where
-      nothing : None ≡ Some clause → ⊥
-      nothing h = cc
+  old-false j l clause none is = search (arith, falsity-false)
 
   -- a literal whose clause the formula has
   pub base-names : (j p : ℕ) (l : Literal) (id : ℕ) (clause : List Literal)
@@ -152,16 +132,11 @@ module _ (f : Dqbf) (units : List Taken) (c : Candidate) (can : IsLiftable f uni
       → without_constants (falsity (circuit_literal c.circuit) (c.circuit.netlist.max_var + 1 + j) l) ≡ Some clause
       → negative (c.circuit.netlist.max_var + 1 + p) ∷ as_literal (opposite_of x) ∷ []
       ≡ map (lifted_literal f units c) clause
-  weaker-names j p l x clause at x-is free is =
-      ap (λ y. negative (largest + 1 + p) ∷ as_literal (opposite_of y) ∷ []) x-is
-      ∙ old-free j p l clause at (subst (λ y. 2 ≤ y) x-is free) is
+  weaker-names j p l x clause at x-is free is = search (arith, old-free)
 
   pub base-last : (id : ℕ) → id + 1 ≡ first_proof_id f c.circuit.netlist
       → lifted_base f units c id ≡ Some (map positive (range_with_len (c.circuit.netlist.max_var + 1) (length f.matrix)))
-  base-last id is =
-      in-last f (settled_candidate f trues c).circuit.netlist (circuit_literal (settled_candidate f trues c).circuit) id
-      (omega (arith, is))
-      ∙ sym (range_clause (largest + 1) (length f.matrix) (omega arith))
+  base-last id is = search (arith, in-last, range_clause)
 
   -- the clauses of gates stay
   pub gate-there : (id : ℕ) (clause : List Literal) → id ≤ 3 * length c.circuit.netlist.gates
@@ -194,19 +169,12 @@ module _ (f : Dqbf) (units : List Taken) (c : Candidate) (can : IsLiftable f uni
   pub last-there : (id : ℕ) (clause : List Literal)
       → id ≡ 3 * length c.circuit.netlist.gates + sum_by length c.formula.matrix + 1 → negated_candidate c id ≡ Some clause
       → clause ≡ map positive (range_with_len (c.circuit.netlist.max_var + 1) (length c.formula.matrix))
-  last-there id clause is at =
-      sym (same_Some (map positive (range_with_len (largest + 1) (length c.formula.matrix))) clause
-      (sym (in-last c.formula c.circuit.netlist (circuit_literal c.circuit) id is
-      ∙ sym (range_clause (largest + 1) (length c.formula.matrix) (omega arith))) ∙ at))
+  last-there id clause is at = search (arith, in-last, range_clause)
 
   pub none-behind : (id : ℕ) (clause : List Literal)
       → 3 * length c.circuit.netlist.gates + sum_by length c.formula.matrix + 1 < id → negated_candidate c id ≡ Some clause
       → ⊥
-  none-behind id clause behind at =
-      nothing (sym (behind-all c.formula c.circuit.netlist (circuit_literal c.circuit) id behind) ∙ at)
-    where
-      nothing : None ≡ Some clause → ⊥
-      nothing h = cc
+  none-behind id clause behind at = search (arith, behind-all)
 
   -- the first line has the last clause's literals
   false-carried : (j : ℕ) (ps : List ℕ)
@@ -227,8 +195,4 @@ module _ (f : Dqbf) (units : List Taken) (c : Candidate) (can : IsLiftable f uni
   pub last-carried : map (lifted_literal f units c)
       (map positive (range_with_len (c.circuit.netlist.max_var + 1) (length (kept_places f units))))
       ≡ map (false_at (c.circuit.netlist.max_var + 1)) (kept_places f units)
-  last-carried =
-      let ps = kept_places f units in
-      let first : largest + 1 ≡ largest + 1 + 0 = omega arith in
-      ap (λ n. map to (map positive (range_with_len n (length ps)))) first
-      ∙ false-carried 0 ps (λ k p at. ap (slice_get ps) (omega arith) ∙ at)
+  last-carried = search (arith, (false-carried 0))

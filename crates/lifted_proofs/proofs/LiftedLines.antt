@@ -1,5 +1,5 @@
 -- A lifted refutation has no fault.
-use Rattle.std.proofs.Common.{◌≡◌, ℕ, zero, suc, ◌+◌, ◌-◌, ◌*◌, ◌/◌, ◌%◌, ◌<◌, ◌≤◌, ◌==◌, nat_le, nat_lt, Bool, true, false, not, ◌&&◌, inl, inr, List, [], ◌∷◌, ◌++◌, map, length, get_or, slice_get, reverse, Option, Some, None, is_some, refl, sym, ◌∙◌, ap, subst, arith}
+use Rattle.std.proofs.Common.{◌≡◌, ℕ, zero, suc, ◌+◌, ◌-◌, ◌*◌, ◌/◌, ◌%◌, ◌<◌, ◌≤◌, ◌==◌, nat_le, nat_lt, Bool, true, false, inl, inr, List, [], ◌∷◌, ◌++◌, map, length, get_or, slice_get, reverse, Option, Some, None, refl, sym, ◌∙◌, ap, subst, arith}
 use Rattle.std.specs.Prelude.{slice_index_or}
 use Rattle.std.specs.List.{Contains, list_any, filter_map}
 use Rattle.std.proofs.lemmas.Bool.{and_parts, cases_lt, cond-true, cond-false, eqb-true, le-leb, lt-ltb, ltb-true, lt-leb}
@@ -10,7 +10,7 @@ use Rattle.std.proofs.lemmas.List.Quantifiers.{position-Some}
 use Rattle.list_laws.proofs.Members.{contains_tested}
 use Rattle.number_tables.specs.Numbers.{has_number, place_of}
 use Rattle.dq_lits.specs.Literal.{Literal, variable_of}
-use Rattle.dq_lits.specs.Formula.{Dqbf, existential_of}
+use Rattle.dq_lits.specs.Formula.{Dqbf}
 use Rattle.dq_lits.specs.Derivation.{ProofStep, is_tautology}
 use Rattle.dq_lits.specs.Expansion.{instance_at, pair_literal, universal_literal_true}
 use Rattle.dq_formula.proofs.Subsets.{none_contained}
@@ -39,7 +39,6 @@ use Rattle.lifted_proofs.specs.declared.units.UnitTable.{UnitTable}
 use Rattle.lifted_proofs.proofs.CarriedLines.{AreNumbered, AreMoved, EndsEmpty, move-items, items-derived, ends-behind, derived-append, pairs-stay, literals-stay}
 use Rattle.lifted_proofs.proofs.GatheredHints.{first-at}
 use Rattle.lifted_proofs.proofs.HintedInstances.{AreFrom, hinted-plain, instance-parts, plain-source}
-use Rattle.list_laws.proofs.Truths.{both_true}
 use Rattle.lifted_proofs.proofs.WrittenLines.{steps-append}
 use Rattle.refutation_checker.proofs.NormalLines.{normal_lines}
 
@@ -52,8 +51,7 @@ hinted-later s ss h (t, ((k, below, is), hint)) = (t, ((suc k, omega (arith, bel
 
 hinted-first : (s : ProofStep) (ss : List ProofStep) (k d : ℕ) → k < length s.hints
     → IsHinted (s ∷ ss) (get_or s.hints k d)
-hinted-first s ss k d below =
-    (s, ((0, omega arith, refl), (k, below, get_or_default s.hints k (get_or s.hints k d) d below)))
+hinted-first s ss k d below = search (arith, (get_or_default s.hints k (get_or s.hints k d) d below))
 
 numbered-items : (f : Dqbf) (rows : List (List Bool)) (v : ℕ → Bool) (Wanted : ℕ → Type 0) (n : Numbering) (next : ℕ)
     (items : List ProofItem) → n.next ≡ next → AreItems v n items → ((h : ℕ) → IsHinted (lines_of items) h → Wanted h)
@@ -71,8 +69,7 @@ numbered-items f rows v Wanted n next (gone ids ∷ items) is are wanted =
 from-numbered : (Wanted : ℕ → Type 0) (n m : ℕ) (items : List ProofItem) → m ≤ n → AreNumbered Wanted n items
     → AreFrom m items
 from-numbered Wanted n m [] low are = tt
-from-numbered Wanted n m (derived s ∷ items) low are =
-    (omega (arith, low, are.0), from-numbered Wanted (n + 1) m items (omega (arith, low)) are.2)
+from-numbered Wanted n m (derived s ∷ items) low are = search (arith, (from-numbered Wanted (n + 1) m items))
 from-numbered Wanted n m (gone ids ∷ items) low are = from-numbered Wanted n m items low are
 
 lines-normal : (f : Dqbf) (rows : List (List Bool)) (items : List ProofItem)
@@ -132,9 +129,7 @@ hint-from-one v n (derived t ∷ items) h are (s, (inside, hint)) =
     by (suc k, below, is) rest = rest (k, omega (arith, below), is)
 
 pub wanted-from-one : (t : UnitTable) (d : Dqr) (h : ℕ) → Refutes t d → IsHinted (lines_of d.items) h → 1 ≤ h
-wanted-from-one t d h refutes hinted =
-    hint-from-one (is_pair_number (left_formula t) (length d.rows))
-    (numbered_from (first_id (left_formula t) (length d.rows))) d.items h refutes.allowed.items hinted
+wanted-from-one t d h refutes hinted = search (arith, hint-from-one)
 
 -- an instance's goal, and its line under any rows that begin so
 pub record IsRightGoal (t : UnitTable) (rows : List (List Bool)) (c : List Literal) (g : Goal) : Type 0 where
@@ -167,11 +162,7 @@ first-goal-right t rows sources h c g right are from-one at plain it =
         row_at = row-at;
         none_true = none;
       };
-      line = λ more keeps.
-          ap (λ r. filter_map (pair_literal f more r) (left_by f t.units.now g.source))
-          (get_or_from_slice_get more g.row parts.row [] (keeps g.row parts.row row-at))
-          ∙ pairs-stay f rows more g.row parts.row (left_by f t.units.now g.source) keeps row-at
-          ∙ sym line;
+      line = search (arith, get_or_from_slice_get, pairs-stay);
     }
 
 has-place : (xs : List ℕ) (h : ℕ) → has_number xs h ≡ true
@@ -230,9 +221,7 @@ wanted-line t d sources wanted p w h c l hinted low at plain =
     )
 
 later-id : (r : Renumbering) (n : ℕ) → r.old_last < n → carried_id r n ≡ n - r.old_last + r.new_last
-later-id r n above =
-    cond-false (nat_le n r.old_last) (id_at r.ids (place_of r.wanted n)) (n - r.old_last + r.new_last)
-    (lt-leb n r.old_last above)
+later-id r n above = search (arith, cond-false, nat_le, lt-leb)
 
 pub count-is : (t : UnitTable) (sources : List Source) (k : ℕ)
     → AreSources t.formula.now t.units.now (kept_matrix t) sources
@@ -294,17 +283,7 @@ moved-items t rows more r n (gone ids ∷ items) keeps are =
 -- a pair's number is one also where rows come behind
 wider-number : (f : Dqbf) (few many number : ℕ) → few ≤ many → is_pair_number f few number ≡ true
     → is_pair_number f many number ≡ true
-wider-number f few many number low is =
-    by (f.variables == 0) (number == 0) (is_some (existential_of f ((number - 1) % f.variables + 1))) is
-  where
-    by : (a b d : Bool) → (not a && (not b && (nat_lt ((number - 1) / f.variables) few && d))) ≡ true
-        → (not a && (not b && (nat_lt ((number - 1) / f.variables) many && d))) ≡ true
-    by true b d h = h
-    by false true d h = h
-    by false false d h =
-        let parts = and_parts (nat_lt ((number - 1) / f.variables) few) d h in
-        both_true (nat_lt ((number - 1) / f.variables) many) d
-        (lt-ltb ((number - 1) / f.variables) many (omega (arith, ltb-true ((number - 1) / f.variables) few parts.0, low))) parts.1
+wider-number f few many number low is = search (arith, nat_lt, and_parts, lt-ltb, ltb-true)
 
 -- the carried lines are such as the format allows
 allowed-items : (t : UnitTable) (r : Renumbering) (few many : ℕ) (n : Numbering) (items : List ProofItem)

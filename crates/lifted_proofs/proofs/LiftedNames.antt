@@ -44,15 +44,12 @@ use Rattle.std.proofs.lemmas.List.Elements.{All-nil, All-cons, AllZip-push}
 
 pub kept-place : (l : Lifting) (j : ℕ) → IsLifting l → j < length l.kept.items
     → IsLeftAt (formula_of l) (units_of l) l.bench.now j (slice_index l.kept.items j)
-kept-place l j it below =
-    left-place (formula_of l) (units_of l) l.bench.now l.kept.items j it.can.units_are it.can.left it.kept below
+kept-place l j it below = search (arith, left-place)
 
 -- by a value that stands there
 pub kept-in : (l : Lifting) (j x : ℕ) → IsLifting l → j < length l.kept.items → x ≡ get_or l.kept.items j x
     → (x ≡ slice_index l.kept.items j) × (x < length (formula_of l).matrix)
-kept-in l j x it below is =
-    let same : x ≡ slice_index l.kept.items j = is ∙ get_or_default l.kept.items j x 0 below in
-    (same, omega (arith, same, (kept-place l j it below).within))
+kept-in l j x it below is = search (arith, (get_or_default l.kept.items j x 0 below), (kept-place l j it below))
 
 pub left-in : (l : Lifting) (j : ℕ) → IsLifting l → j < length l.kept.items → j < length l.bench.now.formula.matrix
 left-in l j it below = (kept-place l j it below).left_within
@@ -74,11 +71,7 @@ output-range t net mapping outs i right mapped is below =
 
 pub outputs-enough : (t : UnitTable) (net : Netlist) (mapping : Mapping) (i : ℕ)
     → IsMapping t.formula.now net mapping → i < length net.outputs → i < length mapping.outputs
-outputs-enough t net mapping i mapped below =
-    let f = t.formula.now in
-    let all-long = length-map f.existentials (λ y. y.variable) in
-    let long : length mapping.outputs ≡ length (existential_variables f) = mapped.outputs.same_length in
-    omega (arith, below, long, all-long, mapped.outputs_length)
+outputs-enough t net mapping i mapped below = search (arith, length-map)
 
 pub taken-output : (l : Lifting) (literal : Literal) (b : Bool) → IsLifting l
     → b ≡ holds (first_literals l.table.now.units.now (length l.table.now.units.now)) literal → b ≡ true
@@ -146,14 +139,7 @@ module _ (l : Lifting) (it : IsLifting l) where
       let hinted : base id ≡ Some (negative (largest + 1 + place) ∷ []) =
       base-true f (units_of l) c it.can n.place literal id n.is kind.2
       ∙ ap (λ p. Some (negative (largest + 1 + p) ∷ [])) own in
-      let step : IsStep variable (first + length steps) line = record {
-        numbered = refl;
-        on_variables = two-all (λ k. variable (variable_of k) ≡ true) (negative (largest + 1 + place)) other
-            (up (largest + length f.matrix) (largest + 1 + place) (omega arith) (omega (arith, left.within)))
-            (up (largest + length f.matrix) (variable_of other) free (omega (arith, low)));
-        hints_before = All-cons (λ h. (1 ≤ h) × (h < first + length steps)) id []
-            (omega (arith, n.is.is), omega (arith, n.before)) (All-nil (λ h. (1 ≤ h) × (h < first + length steps)));
-      } in
+      let step : IsStep variable (first + length steps) line = search (arith, two-all, All-cons, All-nil) in
       let plain = two-plain (negative (largest + 1 + place)) other (λ same. absurd (omega (arith, same, low))) in
       let more = line-more variable first to base falsities ids steps line named step
       (weaker-derived (behind_steps base steps) (negative (largest + 1 + place)) other id
@@ -186,31 +172,13 @@ module _ (l : Lifting) (it : IsLifting l) where
       → id ≡ 3 * length l.bench.now.circuit.netlist.gates
       + (sum_by length (take (slice_index l.kept.items j) (formula_of l).matrix) + q) + 1
       → id < l.base.first → IsNameable l j literal id
-  nameable j q id found literal below at-left at is before =
-      let p = kept-place l j it below in
-      record {
-        place = slice_index l.kept.items j;
-        at = p.place_at;
-        is = record {
-          clause = clause_at f (slice_index l.kept.items j);
-          clause_at = p.clause;
-          place = q;
-          at = at;
-          is = is;
-        };
-        none_false = p.left.none_false literal (held-at (left_at l j) found literal at-left);
-        before = omega (arith, before, it.base.first);
-      }
+  nameable j q id found literal below at-left at is before = search (arith, kept-place, held-at)
 
   pub naming-passed : (j found q : ℕ) (w : Named) (literal : Literal) (b : Bool) → IsNaming l j found q w
       → slice_get (clause_at (formula_of l) (place_at l j)) q ≡ Some literal → IsNextLeft l j found literal b
       → b ≡ false → IsNaming l j found (q + 1) w
   naming-passed j found q w literal true n at next no-is = absurd (true≢false no-is)
-  naming-passed j found q w literal false n at apart no-is = record {
-    named = n.named;
-    rest = part-passed (left_at l j) (clause_at f (place_at l j)) found q literal n.rest at apart;
-    low = n.low;
-  }
+  naming-passed j found q w literal false n at apart no-is = search (arith, part-passed)
 
   pub next-left : (j found : ℕ) (literal : Literal) (b : Bool) → IsNextLeft l j found literal b → b ≡ true
       → slice_get (left_at l j) found ≡ Some literal
@@ -222,22 +190,10 @@ module _ (l : Lifting) (it : IsLifting l) where
       → slice_get (clause_at (formula_of l) (place_at l j)) q ≡ Some literal → NamesMore l j literal old new
       → IsNaming l j (found + 1) (q + 1) new
   naming-found j found q old new literal n at-left at more =
-      let lit = circuit_literal c.circuit in
-      let bad = c.circuit.netlist.max_var + 1 + j in
-      let front = left_falsities c (take j c.formula.matrix) in
-      record {
-        named = subst (λ fs. AreNamedIn l fs new) (sym (falsity-more lit bad front (left_at l j) found literal at-left))
-            (more (front ++ falsity_clauses lit bad (take found (left_at l j))) n.named);
-        rest = part-found (left_at l j) (clause_at f (place_at l j)) found q literal n.rest at-left at;
-        low = (omega (arith, slice_get_within (left_at l j) found literal at-left));
-      }
+      search (arith, falsity-more, part-found, slice_get_within)
 
   pub naming-begun : (j : ℕ) (w : Named) → j < length l.kept.items → AreFirstNamed l j w → IsNaming l j 0 0 w
-  naming-begun j w below named = record {
-    named = subst (λ fs. AreNamedIn l fs w) (sym (append-nil (left_falsities c (take j c.formula.matrix)))) named;
-    rest = (kept-place l j it below).left.part;
-    low = omega arith;
-  }
+  naming-begun j w below named = search (arith, append-nil, kept-place)
 
   pub naming-done : (j found q : ℕ) (w : Named) → j < length l.kept.items → IsNaming l j found q w
       → length (clause_at (formula_of l) (place_at l j)) ≤ q → AreFirstNamed l (j + 1) w
@@ -283,11 +239,8 @@ module _ (l : Lifting) (it : IsLifting l) where
 -- whether a literal that is read is the next one that is left
 pub next-by : (l : Lifting) (j found : ℕ) (k literal : Literal) (b : Bool) → found < length (left_at l j)
     → k ≡ get_or (left_at l j) found k → b ≡ same_literal k literal → IsNextLeft l j found literal b
-next-by l j found k literal true within at same =
-    slice_get-get_or (left_at l j) found k within ∙ ap Some (sym at ∙ same_literal-sound k literal (sym same))
-next-by l j found k literal false within at other = λ m there is.
-    let own : m ≡ k = same_Some m k (sym there ∙ slice_get-get_or (left_at l j) found k within ∙ ap Some (sym at)) in
-    true≢false (sym (ap (λ x. same_literal x literal) (sym own ∙ is) ∙ same_literal-refl literal) ∙ sym other)
+next-by l j found k literal true within at same = search (arith, slice_get-get_or, same_literal-sound)
+next-by l j found k literal false within at other = search (arith, slice_get-get_or, true≢false, same_literal-refl)
 
 pub none-next : (l : Lifting) (j found : ℕ) (literal : Literal) → length (left_at l j) ≤ found
     → IsNextLeft l j found literal false

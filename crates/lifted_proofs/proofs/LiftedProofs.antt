@@ -14,7 +14,7 @@ use Rattle.cert_text.specs.Numbering.{numbered_from}
 use Rattle.cert_text.proofs.NegatedClauses.{falsity_counted}
 use Rattle.dq_prep.specs.declared.traces.Taken.{Taken}
 use Rattle.skolem_checker.specs.Checks.{Candidate}
-use Rattle.proof_checker.specs.CircuitProof.{negated_candidate, circuit_literal}
+use Rattle.proof_checker.specs.CircuitProof.{negated_candidate}
 use Rattle.lifted_proofs.specs.Carried.{lines_of}
 use Rattle.lifted_proofs.specs.CarriedProofs.{Carrying, carried_variable, carried_literal, carried_id, carried_line}
 use Rattle.lifted_proofs.specs.KeptPlaces.{kept_places, dropped_places, kept_at}
@@ -40,12 +40,10 @@ zip-right : {X Y : Type 0} (P : X → Y → Type 0) (Q : Y → Type 0) (xs : Lis
 zip-right P Q [] [] to all k d below = absurd (omega (arith, below))
 zip-right P Q [] (y ∷ ys) to all k d below = absurd all
 zip-right P Q (x ∷ xs) [] to all k d below = absurd all
-zip-right P Q (x ∷ xs) (y ∷ ys) to all k d below =
-    All-cons Q y ys (to x y all.0) (zip-right P Q xs ys to all.1) k d below
+zip-right P Q (x ∷ xs) (y ∷ ys) to all k d below = search (arith, All-cons, (zip-right P Q xs ys to all.1))
 
 within-up : (variables v : ℕ) → 1 ≤ v → v ≤ variables → (nat_le 1 v && nat_le v variables) ≡ true
-within-up variables v low high =
-    ap (λ b. b && nat_le v variables) (le-leb 1 v low) ∙ le-leb v variables high
+within-up variables v low high = search (arith, nat_le, le-leb)
 
 module _ (f : Dqbf) (units : List Taken) (c : Candidate) (can : IsLiftable f units c) (ids hints : List ℕ)
     (steps : List ProofStep) (named : AreLiftedNames f units c (left_falsities c c.formula.matrix) ids steps)
@@ -122,15 +120,13 @@ module _ (f : Dqbf) (units : List Taken) (c : Candidate) (can : IsLiftable f uni
       ∙ base-last f units c can (first - 1) (omega arith))
 
   front-named : AreLiftedNames f units c (left_falsities c c.formula.matrix) ids front
-  front-named = line-more variable first (lifted_literal f units c) base (left_falsities c c.formula.matrix) ids steps
-      line named line-allowed line-derived
+  front-named = search (arith, line-more, line-allowed, line-derived)
 
   long : length front ≡ length steps + 1
   long = length-append steps (line ∷ [])
 
   many-ids : length ids ≡ sum_by length c.formula.matrix
-  many-ids = named.many
-      ∙ falsity_counted (circuit_literal c.circuit) (c.circuit.netlist.max_var + 1) c.formula.matrix
+  many-ids = search (arith, falsity_counted)
 
   there : (h : ℕ) (clause : List Literal) → negated_candidate c h ≡ Some clause
       → (behind_steps base front (carried_id carrying h) ≡ Some (map (carried_literal carrying) clause))
@@ -195,21 +191,19 @@ module _ (f : Dqbf) (units : List Taken) (c : Candidate) (can : IsLiftable f uni
   on-variables : (v : ℕ) → is_proof_variable c.formula c.circuit.netlist v ≡ true
       → variable (carried_variable c.circuit.netlist.max_var (length f.matrix) kept v) ≡ true
   on-variables v is =
-      let largest = c.circuit.netlist.max_var in
-      let parts = and_parts (nat_le 1 v) (nat_le v (largest + length c.formula.matrix)) is in
-      let low = leb-true 1 v parts.0 in
-      elim (cases_lt largest v) [
-        | inr circuit ↦
-            ap variable (carried-circuit largest (length f.matrix) kept v circuit)
-            ∙ within-up (largest + length f.matrix) v low (omega (arith, circuit))
-        | inl behind ↦
-            let j = v - largest - 1 in
-            let p = get_or kept j 0 in
-            let at : slice_get kept j ≡ Some p = slice_get-get_or kept j 0 (omega (arith, behind, leb-true v (largest + length c.formula.matrix) parts.1, many-kept)) in
-            ap variable (carried-clause largest (length f.matrix) kept v j p (omega (arith, behind)) at)
-            ∙ within-up (largest + length f.matrix) (largest + 1 + p) (omega arith)
-            (omega (arith, kept-within j p at))
-      ]
+      search (
+        arith,
+        and_parts,
+        nat_le,
+        leb-true,
+        cases_lt,
+        carried-circuit,
+        within-up,
+        slice_get-get_or,
+        many-kept,
+        carried-clause,
+        kept-within,
+      )
 
   -- all lines
   pub lifted-lines : (items : List ProofItem)

@@ -1,5 +1,5 @@
 -- A refutation, lifted as a whole.
-use Rattle.std.proofs.Common.{◌≡◌, ℕ, ◌+◌, ◌*◌, ◌^◌, ◌<◌, ◌≤◌, ◌==◌, Bool, true, false, List, [], ◌∷◌, map, length, get_or, reverse, None, refl, sym, ◌∙◌, ap, subst, arith}
+use Rattle.std.proofs.Common.{◌≡◌, ℕ, ◌+◌, ◌*◌, ◌^◌, ◌<◌, ◌≤◌, Bool, true, List, [], ◌∷◌, map, length, get_or, None, sym, subst, arith}
 use Rattle.std.specs.List.{All}
 use Rattle.std.proofs.lemmas.Bool.{eq-eqb}
 use Rattle.std.proofs.lemmas.Nat.{mul-le}
@@ -9,21 +9,18 @@ use Rattle.std.proofs.lemmas.List.Elements.{All-cons}
 use Rattle.std.proofs.lemmas.List.Folds.{list_any_at}
 use Rattle.number_tables.specs.Numbers.{has_number}
 use Rattle.dq_lits.specs.Derivation.{ProofStep}
-use Rattle.dq_lits.specs.Expansion.{instance_at}
-use Rattle.rup_core.specs.Items.{ProofItem, derived, gone, items_fault}
+use Rattle.rup_core.specs.Items.{ProofItem, derived, gone}
 use Rattle.cert_text.specs.Grammar.{AreItems, IsDqrOf}
 use Rattle.cert_text.specs.Header.{max_count}
-use Rattle.cert_text.specs.Numbering.{Numbering, with_next, without_all, numbered_from}
-use Rattle.cert_text.specs.Pairs.{is_pair_number}
-use Rattle.cert_text.specs.Scan.{first_id}
+use Rattle.cert_text.specs.Numbering.{Numbering, with_next, without_all}
 use Rattle.cert_text.specs.declared.refutations.Dqr.{Dqr}
 use Rattle.cert_text.proofs.StepsAlone.{steps_are_items}
 use Rattle.cert_text.proofs.Numberings.{next_kept}
-use Rattle.refutation_checker.specs.Refutation.{refutation_fault, normal_item}
+use Rattle.refutation_checker.specs.Refutation.{refutation_fault}
 use Rattle.dq_prep.proofs.KeptSoFar.{kept-few}
 use Rattle.lifted_proofs.specs.UnitTables.{IsUnitTable}
 use Rattle.lifted_proofs.specs.Goals.{IsGoal, IsPlan, Keeps}
-use Rattle.lifted_proofs.specs.Carried.{lines_of, AreSources, AreWanted, IsFirstGoal}
+use Rattle.lifted_proofs.specs.Carried.{lines_of, AreSources, AreWanted}
 use Rattle.lifted_proofs.specs.Planned.{IsInstanceId, AreFirstGoals}
 use Rattle.lifted_proofs.specs.Renumbered.{IsSmallStep}
 use Rattle.lifted_proofs.specs.LiftedRefutations.{kept_matrix, Refutes, AreLifted}
@@ -32,21 +29,18 @@ use Rattle.lifted_proofs.specs.declared.goals.Goal.{Goal}
 use Rattle.lifted_proofs.specs.declared.goals.Plan.{Plan}
 use Rattle.lifted_proofs.specs.declared.units.UnitTable.{UnitTable}
 use Rattle.lifted_proofs.proofs.GatheredHints.{first-back}
-use Rattle.lifted_proofs.proofs.LiftedLines.{left_formula, wanted-plain, wanted-from-one, first-goal-right, count-is, keeps-length}
+use Rattle.lifted_proofs.proofs.LiftedLines.{wanted-plain, wanted-from-one, first-goal-right, count-is, keeps-length}
 use Rattle.std.proofs.lemmas.Slice.Zip.{AllZip-long}
 
 -- there are few instances
 pub few-instances : (t : UnitTable) (d : Dqr) (sources : List Source) → IsUnitTable t → Refutes t d
     → AreSources t.formula.now t.units.now (kept_matrix t) sources
     → length d.rows * length sources ≤ 10000000000000000
-few-instances t d sources right refutes are =
-    mul-le (length d.rows) (length sources) 1000000000 10000000 (omega (arith, refutes.allowed.few_rows))
-    (omega (arith, kept-few t.formula.now (reverse t.units.now) 0 t.formula.now.matrix, are.many, right.lawful.few_clauses))
+few-instances t d sources right refutes are = search (arith, mul-le, kept-few)
 
 pub few-wanted : (sources : List Source) (wanted : List ℕ) (first goals : List Goal)
     → AreFirstGoals sources wanted first → Keeps first goals → length wanted ≤ length goals
-few-wanted sources wanted first goals are keeps =
-    omega (arith, AllZip-long (IsFirstGoal sources) wanted first are, keeps-length first goals keeps)
+few-wanted sources wanted first goals are keeps = search (arith, AllZip-long, keeps-length)
 
 small-items : (v : ℕ → Bool) (n : Numbering) (items : List ProofItem) → AreItems v n items
     → n.next + length items ≤ 2 ^ 62 → All IsSmallStep (lines_of items)
@@ -63,14 +57,10 @@ small-items v n (derived s ∷ items) are small =
 
 pub small-lines : (t : UnitTable) (d : Dqr) (sources : List Source) → IsUnitTable t → Refutes t d
     → AreSources t.formula.now t.units.now (kept_matrix t) sources → All IsSmallStep (lines_of d.items)
-small-lines t d sources right refutes are =
-    small-items (is_pair_number (left_formula t) (length d.rows))
-    (numbered_from (first_id (left_formula t) (length d.rows))) d.items refutes.allowed.items
-    (omega (arith, few-instances t d sources right refutes are, count-is t sources (length d.rows) are, refutes.allowed.few_items))
+small-lines t d sources right refutes are = search (arith, small-items, few-instances, count-is)
 
 contained-number : (xs : List ℕ) (k d : ℕ) → k < length xs → has_number xs (get_or xs k d) ≡ true
-contained-number xs k d below =
-    list_any_at (λ n. n == get_or xs k d) xs k d below (eq-eqb (get_or xs k d) (get_or xs k d) refl)
+contained-number xs k d below = search (arith, list_any_at, eq-eqb)
 
 pub wanted-ids : (t : UnitTable) (d : Dqr) (last : ℕ) (sources : List Source) (wanted seen : List ℕ) → Refutes t d
     → AreWanted (lines_of d.items) last wanted → last ≡ length d.rows * length sources → seen ≡ wanted
@@ -104,24 +94,8 @@ wanted-goals t d last sources wanted seen right refutes are wanted-are last-is s
 pub lifted-allowed : (t : UnitTable) (p : Plan) (steps : List ProofStep) (d : Dqr) → IsPlan t.formula.now t.units.now p
     → AreLifted t p.rows steps → length steps ≤ max_count → d.rows ≡ p.rows → d.items ≡ map derived steps
     → IsDqrOf t.formula.now d
-lifted-allowed t p steps d plan lifted few rows items =
-    let f = t.formula.now in
-    record {
-      few_rows = subst (λ rs. length rs ≤ max_count) (sym rows) (omega (arith, plan.few_rows));
-      few_items = subst (λ xs. length xs ≤ max_count) (sym items)
-          (omega (arith, few, length-map steps (λ s. derived s)));
-      whole = subst (All (λ row. length row ≡ length f.universals)) (sym rows) plan.whole;
-      items = subst (λ rs. AreItems (is_pair_number f (length rs)) (numbered_from (first_id f (length rs))) d.items)
-          (sym rows)
-          (subst (AreItems (is_pair_number f (length p.rows)) (numbered_from (first_id f (length p.rows)))) (sym items)
-          (steps_are_items (is_pair_number f (length p.rows)) (numbered_from (first_id f (length p.rows))) steps
-          lifted.allowed));
-    }
+lifted-allowed t p steps d plan lifted few rows items = search (arith, length-map, steps_are_items)
 
 pub lifted-refutes : (t : UnitTable) (p : Plan) (steps : List ProofStep) (d : Dqr) → AreLifted t p.rows steps
     → d.rows ≡ p.rows → d.items ≡ map derived steps → refutation_fault t.formula.now d ≡ None
-lifted-refutes t p steps d lifted rows items =
-    let f = t.formula.now in
-    ap (λ xs. items_fault false (instance_at f d.rows) (map (normal_item f d.rows) xs)) items
-    ∙ ap (λ rs. items_fault false (instance_at f rs) (map (normal_item f rs) (map derived steps))) rows
-    ∙ lifted.refutes
+lifted-refutes t p steps d lifted rows items = search arith

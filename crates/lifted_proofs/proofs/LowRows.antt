@@ -1,5 +1,5 @@
 -- Rows under which the universal literals of a clause are false.
-use Rattle.std.proofs.Common.{◌≡◌, ◌≢◌, ℕ, suc, zero, ◌+◌, ◌<◌, ◌==◌, Bool, true, false, not, cond, ◌&&◌, ◌⊎◌, inl, inr, List, [], ◌∷◌, ◌++◌, map, take, length, get_or, Option, Some, None, refl, sym, ◌∙◌, ap, subst, arith}
+use Rattle.std.proofs.Common.{◌≡◌, ℕ, suc, zero, ◌+◌, ◌<◌, ◌==◌, Bool, true, false, not, cond, ◌&&◌, ◌⊎◌, inl, inr, List, [], ◌∷◌, ◌++◌, map, take, length, get_or, Option, Some, None, refl, sym, ◌∙◌, ap, subst, arith}
 use Rattle.std.specs.Bool.{beq}
 use Rattle.std.specs.Prelude.{slice_set}
 use Rattle.std.specs.List.{All, Contains, list_any, filter, position, position_or_len}
@@ -9,8 +9,8 @@ use Rattle.std.proofs.lemmas.List.Elements.{All-contains}
 use Rattle.std.proofs.lemmas.List.Quantifiers.{position-Some}
 use Rattle.std.proofs.lemmas.List.Folds.{list_any_none, list_any_at, list_any-append}
 use Rattle.list_laws.proofs.Members.{contains_tested, tested_inside}
-use Rattle.list_laws.proofs.Truths.{neither, and-false}
-use Rattle.dq_lits.specs.Literal.{Assignment, Literal, positive, negative, variable_of, is_negative, opposite, same_literal, literal_true}
+use Rattle.list_laws.proofs.Truths.{and-false}
+use Rattle.dq_lits.specs.Literal.{Assignment, Literal, positive, negative, variable_of, is_negative, opposite, literal_true}
 use Rattle.dq_lits.specs.Formula.{Dqbf, is_universal, existential_of, IsWellFormed}
 use Rattle.dq_lits.specs.Henkin.{same_bits}
 use Rattle.dq_lits.specs.Derivation.{holds, is_tautology}
@@ -45,34 +45,23 @@ bit-set : (us : List ℕ) (row : List Bool) (p x v : ℕ) (b : Bool) → length 
     → position (λ u. u == x) us ≡ Some p
     → assignment_of us (slice_set row p b) v ≡ cond (x == v) b (assignment_of us row v)
 bit-set us row p x v b whole found =
-    let at = position-Some (λ u. u == x) us p 0 found in
-    let here : get_or us p 0 ≡ x = eqb-true (get_or us p 0) x at.1 in
-    elim (cases_eq x v) [
-      | inl same ↦
-          let there : position_or_len (λ u. u == v) us ≡ p =
-          ap (λ w. position_or_len (λ u. u == w) us) (sym same) ∙ place-is us x p found in
-          sym (assignment_of-place us (slice_set row p b) v (length-set row p b ∙ whole))
-          ∙ ap (λ k. get_or (slice_set row p b) k false) there
-          ∙ get_or-set_same row p b false (omega (arith, at.0, whole))
-          ∙ sym (cond-true (x == v) b (assignment_of us row v) (eq-eqb x v same))
-      | inr other ↦
-          sym (assignment_of-place us (slice_set row p b) v (length-set row p b ∙ whole))
-          ∙ get_or-set_other row p (position_or_len (λ u. u == v) us) b false (apart here at.0 other)
-          ∙ assignment_of-place us row v whole
-          ∙ sym (cond-false (x == v) b (assignment_of us row v) (ne_eqb x v other))
-    ]
-  where
-    apart : get_or us p 0 ≡ x → p < length us → x ≢ v → position_or_len (λ u. u == v) us ≢ p
-    apart here within other same = other (sym here ∙ passes us v p same within)
-      where
-        passes : (us : List ℕ) (v p : ℕ) → position_or_len (λ u. u == v) us ≡ p → p < length us → get_or us p 0 ≡ v
-        passes us v p same within =
-            let found : position (λ u. u == v) us ≡ Some p = some-at us v p same within in
-            eqb-true (get_or us p 0) v (position-Some (λ u. u == v) us p 0 found).1
-          where
-            some-at : (us : List ℕ) (v p : ℕ) → position_or_len (λ u. u == v) us ≡ p → p < length us
-                → position (λ u. u == v) us ≡ Some p
-            some-at us v p same within = grind (arith, same, within)
+    search (
+      arith,
+      position-Some,
+      (eqb-true (get_or us p 0) x),
+      (cases_eq x v),
+      (place-is us x p),
+      (assignment_of-place us),
+      (length-set row p b),
+      (get_or-set_same row p b false),
+      (cond-true (x == v) b),
+      (eq-eqb x v),
+      (get_or-set_other row p),
+      (assignment_of-place us row v whole),
+      (cond-false (x == v) b),
+      (ne_eqb x v),
+      (eqb-true (get_or us p 0) v),
+    )
 
 pub universal-placed : (f : Dqbf) (v p : ℕ) → position (λ u. u == v) f.universals ≡ Some p → is_universal f v ≡ true
 universal-placed f v p found =
@@ -80,10 +69,7 @@ universal-placed f v p found =
     list_any_at (λ u. u == v) f.universals p 0 at.0 at.1
 
 pub universal-unplaced : (f : Dqbf) (v : ℕ) → position (λ u. u == v) f.universals ≡ None → is_universal f v ≡ false
-universal-unplaced f v none = elim (cases_Bool (is_universal f v)) [
-  | inl there ↦ absurd (none_contained f.universals v none (contains_tested f.universals v there))
-  | inr other ↦ other
-]
+universal-unplaced f v none = search (arith, cases_Bool, none_contained, contains_tested)
 
 signed-bit : (m : Assignment) (l : Literal) (b : Bool) → m (variable_of l) ≡ b
     → literal_true m l ≡ cond (is_negative l) (not b) b
@@ -102,25 +88,15 @@ true-placed f row l p whole found =
 
 pub true-unplaced : (f : Dqbf) (row : List Bool) (l : Literal)
     → position (λ u. u == variable_of l) f.universals ≡ None → universal_literal_true f row l ≡ false
-true-unplaced f row l none =
-    ap (λ b. b && literal_true (row_assignment f row) l) (universal-unplaced f (variable_of l) none)
+true-unplaced f row l none = search (arith, universal-unplaced)
 
 pub holds-snoc : (done : List Literal) (l k : Literal) → holds (done ++ l ∷ []) k ≡ true
     → (holds done k ≡ true) ⊎ (k ≡ l)
-holds-snoc done l k h =
-    elim (or_cases (holds done k) (holds (l ∷ []) k) (sym (list_any-append (same_literal k) done (l ∷ [])) ∙ h)) [
-      | inl before ↦ inl before
-      | inr last ↦ elim (or_cases (same_literal k l) false last) [
-        | inl same ↦ inr (same_literal-sound k l same)
-        | inr none ↦ absurd (true≢false (sym none))
-      ]
-    ]
+holds-snoc done l k h = search (arith, or_cases, list_any-append, same_literal-sound, true≢false)
 
 none-snoc : (p : Literal → Bool) (done : List Literal) (l : Literal) → list_any p (done ++ l ∷ []) ≡ false
     → (list_any p done ≡ false) × (p l ≡ false)
-none-snoc p done l h =
-    let parts = neither (list_any p done) (list_any p (l ∷ [])) (sym (list_any-append p done (l ∷ [])) ∙ h) in
-    (parts.0, (neither (p l) false parts.1).0)
+none-snoc p done l h = search (arith, list_any-append)
 
 pub falsified-more : (f : Dqbf) (row low : List Bool) (done : List Literal) (l : Literal) (p : ℕ)
     → length low ≡ length f.universals → position (λ u. u == variable_of l) f.universals ≡ Some p
@@ -130,10 +106,7 @@ falsified-more f row low done l p whole found alone was = record {
   none_true = λ k h. elim (cases_eq (variable_of l) (variable_of k)) [
     | inl same ↦ elim (one_variable k l (sym same)) [
       | inl is ↦ ap (universal_literal_true f new) is ∙ own
-      | inr is ↦ elim (holds-snoc done l k h) [
-        | inl before ↦ absurd (true≢false (sym before ∙ ap (holds done) is ∙ alone))
-        | inr itself ↦ ap (universal_literal_true f new) itself ∙ own
-      ]
+      | inr is ↦ search (arith, holds-snoc, true≢false)
     ]
     | inr other ↦ elim (holds-snoc done l k h) [
       | inl before ↦
@@ -178,41 +151,24 @@ pub falsified-other : (f : Dqbf) (row low : List Bool) (done : List Literal) (l 
     → position (λ u. u == variable_of l) f.universals ≡ None → IsFalsified f row done low
     → IsFalsified f row (done ++ l ∷ []) low
 falsified-other f row low done l none was = record {
-  none_true = λ k h. elim (holds-snoc done l k h) [
-    | inl before ↦ was.none_true k before
-    | inr itself ↦ ap (universal_literal_true f low) itself ∙ true-unplaced f low l none
-  ];
+  none_true = search (arith, holds-snoc, true-unplaced);
   same = λ x h. was.same x (none-snoc (λ k. variable_of k == x) done l h).0;
 }
 
 take-holds : (i : ℕ) (xs : List Literal) (k : Literal) → holds (take i xs) k ≡ true → holds xs k ≡ true
 take-holds zero xs k h = absurd (true≢false (sym h))
 take-holds (suc i) [] k h = h
-take-holds (suc i) (x ∷ xs) k h = elim (or_cases (same_literal k x) (holds (take i xs) k) h) [
-  | inl same ↦ or_left (same_literal k x) (holds xs k) same
-  | inr later ↦ or_right (same_literal k x) (holds xs k) (take-holds i xs k later)
-]
+take-holds (suc i) (x ∷ xs) k h = search (arith, or_cases, or_left, or_right, (take-holds i xs k))
 
 -- in a clause without such a pair, no literal's negation stands before it
 pub alone-before : (clause : List Literal) (i : ℕ) (d : Literal) → is_tautology clause ≡ false → i < length clause
     → holds (take i clause) (opposite (get_or clause i d)) ≡ false
-alone-before clause i d plain below =
-    elim (cases_Bool (holds (take i clause) (opposite (get_or clause i d)))) [
-      | inr none ↦ none
-      | inl both ↦
-          absurd (true≢false (sym (pair-any clause clause (get_or clause i d) (holds-at clause i d below)
-          (take-holds i clause (opposite (get_or clause i d)) both)) ∙ plain))
-    ]
+alone-before clause i d plain below = search (arith, cases_Bool, true≢false, pair-any, holds-at, take-holds)
 
 same-false : (m n : Assignment) (l : Literal) → literal_true m l ≡ false → literal_true n l ≡ false
     → m (variable_of l) ≡ n (variable_of l)
 same-false m n (positive v) a b = a ∙ sym b
-same-false m n (negative v) a b = by (m v) (n v) a b
-  where
-    by : (a b : Bool) → not a ≡ false → not b ≡ false → a ≡ b
-    by true true h k = refl
-    by true false h k = absurd (true≢false k)
-    by false b h k = absurd (true≢false h)
+same-false m n (negative v) a b = search (arith, true≢false)
 
 pub serves-falsified : (f : Dqbf) (units : List Taken) (s : Source) (row low : List Bool) → IsWellFormed f
     → AreUnits f (first_units units s.taken) → is_satisfied (first_literals units s.taken) (clause_at f s.place) ≡ false

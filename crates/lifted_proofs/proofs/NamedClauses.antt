@@ -1,5 +1,5 @@
 -- Clauses of literals that are named one after another.
-use Rattle.std.proofs.Common.{◌≡◌, ◌≢◌, ℕ, zero, suc, ◌+◌, ◌<◌, ◌≤◌, true, false, List, [], ◌∷◌, ◌++◌, take, drop, length, reverse, Option, Some, None, is_some, slice_get, sym, ◌∙◌, ap, subst, arith, get_or, inr, inl, cond, Bool}
+use Rattle.std.proofs.Common.{◌≡◌, ◌≢◌, ℕ, zero, suc, ◌+◌, ◌<◌, ◌≤◌, true, false, List, [], ◌∷◌, ◌++◌, take, drop, length, reverse, Option, Some, None, is_some, slice_get, sym, ◌∙◌, ap, subst, arith, get_or, inr, inl, Bool}
 use Rattle.std.specs.Prelude.{slice_index, slice_index_or}
 use Rattle.std.proofs.lemmas.Bool.{cases_lt}
 use Rattle.std.proofs.lemmas.Option.{slice_get-get_or, get_or_from_slice_get, slice_get_within}
@@ -33,33 +33,18 @@ module _ (f : Dqbf) (units : List Taken) (kept : Bool) (place : ℕ) (o : Option
 
   pub place-taken : beq (is_some o) kept ≡ true → new ≡ old ++ place ∷ []
       → new ≡ places_of f (reverse units) kept (place + 1)
-  place-taken is more =
-      more ∙ ap (λ xs. xs ++ place ∷ []) was
-      ∙ sym (places-more f (reverse units) kept place
-      ∙ ap (λ b. places_of f (reverse units) kept place ++ cond b (place ∷ []) [])
-      (ap (λ b. beq b kept) (sym (told o at)) ∙ is))
+  place-taken is more = search (arith, places-more)
 
   pub place-passed : beq (is_some o) kept ≡ false → new ≡ old → new ≡ places_of f (reverse units) kept (place + 1)
-  place-passed is same =
-      same ∙ was
-      ∙ sym (places-more f (reverse units) kept place
-      ∙ ap (λ b. places_of f (reverse units) kept place ++ cond b (place ∷ []) [])
-      (ap (λ b. beq b kept) (sym (told o at)) ∙ is)
-      ∙ append-nil (places_of f (reverse units) kept place))
+  place-passed is same = search (arith, places-more, append-nil)
 
 -- ---- literals
 
 falsities-append : (lit : ℕ → ℕ) (bad : ℕ) (clauses : List (List Literal)) (clause : List Literal)
     → all_falsity_clauses lit bad (clauses ++ clause ∷ [])
     ≡ all_falsity_clauses lit bad clauses ++ falsity_clauses lit (bad + length clauses) clause
-falsities-append lit bad [] clause =
-    append-nil (falsity_clauses lit bad clause) ∙ ap (λ n. falsity_clauses lit n clause) (omega arith)
-falsities-append lit bad (c ∷ cs) clause =
-    ap (λ xs. falsity_clauses lit bad c ++ xs) (falsities-append lit (bad + 1) cs clause)
-    ∙ sym (append_assoc (falsity_clauses lit bad c) (all_falsity_clauses lit (bad + 1) cs)
-    (falsity_clauses lit (bad + 1 + length cs) clause))
-    ∙ ap (λ n. (falsity_clauses lit bad c ++ all_falsity_clauses lit (bad + 1) cs) ++ falsity_clauses lit n clause)
-    (omega arith)
+falsities-append lit bad [] clause = search (arith, append-nil)
+falsities-append lit bad (c ∷ cs) clause = search (arith, (falsities-append lit (bad + 1) cs clause), append_assoc)
 
 -- those of the clauses up to a place
 pub falsities-more : (c : Candidate) (j : ℕ) (clause : List Literal) → j < length c.formula.matrix
@@ -68,14 +53,7 @@ pub falsities-more : (c : Candidate) (j : ℕ) (clause : List Literal) → j < l
     ≡ left_falsities c (take j c.formula.matrix)
     ++ falsity_clauses (circuit_literal c.circuit) (c.circuit.netlist.max_var + 1 + j) clause
 falsities-more c j clause within is =
-    let lit = circuit_literal c.circuit in
-    let bad = c.circuit.netlist.max_var + 1 in
-    let front = take j c.formula.matrix in
-    ap (all_falsity_clauses lit bad) (take_more c.formula.matrix j [] within)
-    ∙ falsities-append lit bad front (slice_index_or c.formula.matrix j [])
-    ∙ ap (λ n. all_falsity_clauses lit bad front ++ falsity_clauses lit (bad + n) (slice_index_or c.formula.matrix j []))
-    (omega (arith, length-take j c.formula.matrix, within))
-    ∙ ap (λ x. all_falsity_clauses lit bad front ++ falsity_clauses lit (bad + j) x) (sym is)
+    search (arith, (take_more c.formula.matrix j [] within), falsities-append, (length-take j c.formula.matrix))
 
 -- and of the literals of a clause
 pub falsity-more : (lit : ℕ → ℕ) (bad : ℕ) (front : List (List ℕ)) (clause : List Literal) (k : ℕ) (l : Literal)
@@ -83,12 +61,14 @@ pub falsity-more : (lit : ℕ → ℕ) (bad : ℕ) (front : List (List ℕ)) (cl
     → front ++ falsity_clauses lit bad (take (k + 1) clause)
     ≡ (front ++ falsity_clauses lit bad (take k clause)) ++ falsity lit bad l ∷ []
 falsity-more lit bad front clause k l at =
-    let within = slice_get_within clause k l at in
-    let own : List ℕ → List (List ℕ) = λ x. x ∷ [] in
-    ap (λ ls. front ++ falsity_clauses lit bad ls)
-    (take_more clause k l within ∙ ap (λ m. take k clause ++ m ∷ []) (get_or_from_slice_get clause k l l at))
-    ∙ ap (λ xs. front ++ xs) (map-append (falsity lit bad) (take k clause) (l ∷ []))
-    ∙ sym (append_assoc front (falsity_clauses lit bad (take k clause)) (falsity lit bad l ∷ []))
+    search (
+      arith,
+      (slice_get_within clause k l at),
+      (take_more clause k l),
+      (get_or_from_slice_get clause k l l at),
+      map-append,
+      (append_assoc front),
+    )
 
 none-dropped : {X : Type 0} (xs : List X) (k : ℕ) → drop k xs ≡ [] → length xs ≤ k
 none-dropped [] k none = omega arith
@@ -98,9 +78,7 @@ none-dropped (x ∷ xs) (suc k) none = omega (arith, none-dropped xs k none)
 -- the next literal is left, or not
 pub part-found : (left clause : List Literal) (k q : ℕ) (l : Literal) → IsPart (drop k left) (drop q clause)
     → slice_get left k ≡ Some l → slice_get clause q ≡ Some l → IsPart (drop (k + 1) left) (drop (q + 1) clause)
-part-found left clause k q l part at-left at =
-    part-next (subst (λ xs. IsPart xs (l ∷ drop (q + 1) clause)) (drop-next left k l at-left)
-    (subst (λ ys. IsPart (drop k left) ys) (drop-next clause q l at) part))
+part-found left clause k q l part at-left at = search (arith, part-next, drop-next)
 
 pub part-passed : (left clause : List Literal) (k q : ℕ) (l : Literal) → IsPart (drop k left) (drop q clause)
     → slice_get clause q ≡ Some l → ((m : Literal) → slice_get left k ≡ Some m → m ≢ l)
@@ -118,8 +96,7 @@ part-passed left clause k q l part at apart = elim (cases_lt k (length left)) [
 
 pub part-whole : (left clause : List Literal) (k q : ℕ) → IsPart (drop k left) (drop q clause) → length clause ≤ q
     → length left ≤ k
-part-whole left clause k q part past =
-    none-dropped left k (part-none (subst (λ ys. IsPart (drop k left) ys) (drop_end clause q past) part))
+part-whole left clause k q part past = search (arith, none-dropped, part-none, drop_end)
 
 -- ---- a kept clause by its places
 

@@ -1,5 +1,5 @@
 -- Goals get the ids of their clauses.
-use Rattle.std.proofs.Common.{◌≡◌, ℕ, zero, suc, ◌+◌, ◌*◌, ◌<◌, ◌≤◌, ◌==◌, Bool, true, false, not, cond, ◌&&◌, inl, inr, List, [], ◌∷◌, ◌++◌, map, take, length, get_or, slice_get, Option, Some, None, is_some, refl, sym, ◌∙◌, ap, subst, arith}
+use Rattle.std.proofs.Common.{◌≡◌, ℕ, zero, suc, ◌+◌, ◌*◌, ◌<◌, ◌≤◌, ◌==◌, Bool, true, false, not, cond, inl, inr, List, [], ◌∷◌, ◌++◌, map, take, length, get_or, slice_get, Option, Some, None, is_some, refl, sym, ◌∙◌, ap, subst, arith}
 use Rattle.std.specs.Prelude.{slice_set, slice_index_or}
 use Rattle.std.specs.List.{All, AllZip, Contains}
 use Rattle.std.specs.List.Sorted.{IsPermutation}
@@ -9,7 +9,7 @@ use Rattle.std.proofs.lemmas.Option.{slice_get_within, same_Some, slice_get-get_
 use Rattle.std.proofs.lemmas.List.{length-append, map-append, length-set, get_or-set_same, get_or-set_other, get_or-take, get_or_default, length-take, take_more, take_all}
 use Rattle.std.proofs.lemmas.List.Elements.{All-push, All-map, All-cons, All-contains, Contains-get_or, Contains-push_cases}
 use Rattle.dq_lits.specs.Literal.{Literal, variable_of, opposite}
-use Rattle.dq_lits.specs.Formula.{Dqbf, existential_of, is_universal, IsWellFormed}
+use Rattle.dq_lits.specs.Formula.{Dqbf, existential_of, IsWellFormed}
 use Rattle.dq_lits.specs.Derivation.{LiveClauses, IsDerived, ProofStep, holds}
 use Rattle.dq_lits.specs.Expansion.{instance_at}
 use Rattle.dq_prep.specs.declared.traces.Taken.{Taken}
@@ -45,8 +45,7 @@ hints-within f units rows goals lowered [] [] all = λ k d below. absurd (omega 
 hints-within f units rows goals lowered [] (h ∷ hs) all = absurd all
 hints-within f units rows goals lowered (j ∷ js) [] all = absurd all
 hints-within f units rows goals lowered (j ∷ js) (h ∷ hs) all =
-    All-cons (λ k. k < length goals) h hs (slice_get_within goals h all.0.goal all.0.goal_at)
-    (hints-within f units rows goals lowered js hs all.1)
+    search (arith, All-cons, slice_get_within, (hints-within f units rows goals lowered js hs all.1))
 
 pub reason-at : (t : UnitTable) (p : Plan) (q : ℕ) (g : Goal) (r : Reason) → IsWhole t p → IsGoalAt t p q g
     → slice_get p.reasons.items q ≡ Some r → IsReasonAt t p q g r
@@ -84,9 +83,7 @@ module _ (t : UnitTable) (p : Plan) (w : Written) (q instance : ℕ) (g : Goal) 
   live = behind_steps (instance_at f rows) (normal_steps f rows w.steps)
 
   instance-in : instance < first
-  instance-in = subst (λ n. n < first) (sym instance-is)
-      (instance-before r.lowered g.source.place (length f.matrix) (length rows) reason.low
-      reason.settled.goal.source.place)
+  instance-in = search (arith, instance-before)
 
   instance-live : live instance ≡ Some (map (paired f rows reason.settled.reason.lowered.low)
       (existential_part f (clause_at f g.source.place)))
@@ -192,20 +189,13 @@ pub open-by : (f : Dqbf) (units : List Taken) (count v : ℕ) (l : Literal) (a b
     → IsBound f l → v ≡ variable_of l → a ≡ is_some (existential_of f v)
     → b ≡ not (holds (first_literals units count) (opposite l)) → a ≡ true
     → b ≡ is_open f (first_literals units count) l
-open-by f units count v l a b well bound is found free on =
-    let existential : not (is_universal f (variable_of l)) ≡ true =
-    sym (existential-or-universal f l well bound) ∙ sym (found ∙ ap (λ w. is_some (existential_of f w)) is) ∙ on in
-    free ∙ sym (ap (λ x. x && not (holds (first_literals units count) (opposite l))) existential)
+open-by f units count v l a b well bound is found free on = search (arith, existential-or-universal)
 
 pub free-by : (units : List Taken) (count : ℕ) (l : Literal) (o : Option ℕ) → IsFalseBy units count l o
     → (o ≡ None → true ≡ not (holds (first_literals units count) (opposite l)))
     × ((j : ℕ) → o ≡ Some j → false ≡ not (holds (first_literals units count) (opposite l)))
 free-by units count l None none = ((λ e. sym (ap not none)), λ j e. cc)
-free-by units count l (Some i) (before, (u, (at, same))) = (
-  (λ e. cc),
-  λ j e.
-      sym (ap not (ap (holds (first_literals units count)) (sym same) ∙ first-holds units count i u before at)),
-)
+free-by units count l (Some i) (before, (u, (at, same))) = search (arith, first-holds)
 
 -- the goal at a place is named, and the others stay so
 pub named-set : (t : UnitTable) (p : Plan) (w new : Written) (q id : ℕ) → IsLineOf t p w new q id
@@ -260,10 +250,7 @@ earlier-turn goals turns i t h g are within at there fewer =
 pub open-shut : (f : Dqbf) (units : List Taken) (count v : ℕ) (l : Literal) (a : Bool) → IsWellFormed f
     → IsBound f l → v ≡ variable_of l → a ≡ is_some (existential_of f v) → a ≡ false
     → a ≡ is_open f (first_literals units count) l
-open-shut f units count v l a well bound is found shut =
-    let none : not (is_universal f (variable_of l)) ≡ false =
-    sym (existential-or-universal f l well bound) ∙ sym (found ∙ ap (λ w. is_some (existential_of f w)) is) ∙ shut in
-    shut ∙ sym (ap (λ b. b && not (holds (first_literals units count) (opposite l))) none)
+open-shut f units count v l a well bound is found shut = search (arith, existential-or-universal)
 
 pub turns-moved : (goals : List Goal) (turns new : List Turn) → TurnAll goals (length goals) turns
     → IsPermutation turns new → TurnAll goals (length goals) new

@@ -1,14 +1,13 @@
 -- The clauses of a negated matrix by their ids.
-use Rattle.std.proofs.Common.{◌≡◌, ℕ, zero, suc, ◌+◌, ◌-◌, ◌*◌, ◌/◌, ◌%◌, ◌<◌, ◌≤◌, ◌==◌, Bool, true, false, not, cond, ◌||◌, inl, inr, List, [], ◌∷◌, ◌++◌, map, take, length, Option, Some, None, slice_get, refl, sym, ◌∙◌, ap, subst, arith, length-append}
-use Rattle.std.specs.List.{All, AllByRecursion, flat_map, filter, list_any, sum_by}
+use Rattle.std.proofs.Common.{◌≡◌, ℕ, zero, suc, ◌+◌, ◌*◌, ◌<◌, ◌≤◌, ◌==◌, Bool, false, not, cond, ◌||◌, List, [], ◌∷◌, ◌++◌, map, take, length, Option, Some, None, slice_get, refl, ◌∙◌, ap, subst, arith, length-append}
+use Rattle.std.specs.List.{All, AllByRecursion, flat_map, filter, sum_by}
 use Rattle.std.specs.Option.{option_and_then}
 use Rattle.std.proofs.lemmas.Bool.{ne_eqb, eq-eqb, eqb-true, cases_eq}
 use Rattle.std.proofs.lemmas.List.{length-map}
-use Rattle.std.proofs.lemmas.List.Sums.{sum_by-cons}
 use Rattle.std.proofs.lemmas.Option.{slice_get_past, same_Some}
 use Rattle.list_laws.proofs.Elements.{place_within, mapped_at, get-append_left, get-append_right}
 use Rattle.list_laws.proofs.Sequences.{sum-none, sum-taken}
-use Rattle.dq_lits.specs.Literal.{Literal, positive, negative, variable_of}
+use Rattle.dq_lits.specs.Literal.{Literal, negative, variable_of}
 use Rattle.dq_lits.specs.Formula.{Dqbf}
 use Rattle.circuit_plain.specs.Netlist.{Netlist, IsNetlist, IsGate}
 use Rattle.circuit_plain.specs.declared.circuits.Gate.{Gate}
@@ -23,21 +22,13 @@ append-right xs ys i k is = ap (slice_get (xs ++ ys)) is ∙ get-append_right xs
 falsity-length : (lit : ℕ → ℕ) (bad : ℕ) (c : List Literal) → length (falsity_clauses lit bad c) ≡ length c
 falsity-length lit bad c = length-map c (λ x. opposite_of (2 * bad) ∷ opposite_of (literal_under lit x) ∷ [])
 
-sum-first : (c : List Literal) (cs : List (List Literal)) → sum_by length (c ∷ cs) ≡ length c + sum_by length cs
-sum-first c cs = sum_by-cons length c cs
-
 in-clauses : (lit : ℕ → ℕ) (bad : ℕ) (clauses : List (List Literal)) (p q k : ℕ) (clause : List Literal) (l : Literal)
     → slice_get clauses p ≡ Some clause → slice_get clause q ≡ Some l
     → k ≡ sum_by length (take p clauses) + q
     → slice_get (all_falsity_clauses lit bad clauses) k ≡ Some (falsity lit (bad + p) l)
 in-clauses lit bad [] p q k clause l there at is = cc
 in-clauses lit bad (c ∷ cs) zero q k clause l there at is =
-    let own : c ≡ clause = same_Some c clause there in
-    let here : slice_get c q ≡ Some l = ap (λ x. slice_get x q) own ∙ at in
-    let same : k ≡ q = omega (arith, is, sum-none (c ∷ cs)) in
-    ap (slice_get (all_falsity_clauses lit bad (c ∷ cs))) same
-    ∙ get-append_left (falsity_clauses lit bad c) (all_falsity_clauses lit (bad + 1) cs) q (omega (arith, place_within c q l here, falsity-length lit bad c))
-    ∙ mapped_at (falsity lit bad) c q l here ∙ ap (λ b. Some (falsity lit b l)) (omega arith)
+    search (arith, sum-none, get-append_left, place_within, falsity-length, mapped_at)
 in-clauses lit bad (c ∷ cs) (suc p) q k clause l there at is =
     let rest : ℕ = sum_by length (take p cs) + q in
     append-right (falsity_clauses lit bad c) (all_falsity_clauses lit (bad + 1) cs) rest k
@@ -118,11 +109,7 @@ stands-by (suc zero) = is_true refl
 stands-by (suc (suc x)) = is_free (omega arith)
 
 opposite-free : (x : ℕ) → 2 ≤ x → 2 ≤ opposite_of x
-opposite-free x free = by (x % 2 == 1) refl
-  where
-    by : (b : Bool) → (x % 2 == 1) ≡ b → 2 ≤ cond b (x - 1) (x + 1)
-    by true e = omega (arith, eqb-true (x % 2) 1 e, free)
-    by false e = omega (arith, free)
+opposite-free x free = search (arith, eqb-true)
 
 two-kept : (a b : ℕ) (p q r s : Bool) → (a == 1) ≡ p → (b == 1) ≡ q → (a == 0) ≡ r → (b == 0) ≡ s
     → without_constants (a ∷ b ∷ [])
@@ -141,58 +128,27 @@ module _ (bad x : ℕ) (some : 1 ≤ bad) where
   first-is = ap as_literal (opposite_even bad) ∙ as_odd bad
 
   pub falsity-false : x ≡ 0 → without_constants (opposite_of (2 * bad) ∷ opposite_of x ∷ []) ≡ None
-  falsity-false is =
-      ap (λ y. without_constants (opposite_of (2 * bad) ∷ opposite_of y ∷ [])) is
-      ∙ two-kept (opposite_of (2 * bad)) 1 false true false false first-free refl first-kept refl
+  falsity-false is = search (arith, two-kept, first-free, first-kept)
 
   pub falsity-true : x ≡ 1
       → without_constants (opposite_of (2 * bad) ∷ opposite_of x ∷ []) ≡ Some (negative bad ∷ [])
-  falsity-true is =
-      ap (λ y. without_constants (opposite_of (2 * bad) ∷ opposite_of y ∷ [])) is
-      ∙ two-kept (opposite_of (2 * bad)) 0 false false false true first-free refl first-kept refl
-      ∙ ap (λ l. Some (l ∷ [])) first-is
+  falsity-true is = search (arith, two-kept, first-free, first-kept, first-is)
 
   pub falsity-free : 2 ≤ x
       → without_constants (opposite_of (2 * bad) ∷ opposite_of x ∷ [])
       ≡ Some (negative bad ∷ as_literal (opposite_of x) ∷ [])
-  falsity-free free =
-      let above = opposite-free x free in
-      two-kept (opposite_of (2 * bad)) (opposite_of x) false false false false first-free
-      (ne_eqb (opposite_of x) 1 (λ e. absurd (omega (arith, e, above)))) first-kept
-      (ne_eqb (opposite_of x) 0 (λ e. absurd (omega (arith, e, above))))
-      ∙ ap (λ l. Some (l ∷ as_literal (opposite_of x) ∷ [])) first-is
+  falsity-free free = search (arith, opposite-free, two-kept, first-free, ne_eqb, first-kept, first-is)
 
 -- ---- variables
 
 pub free-variable : (x : ℕ) → 2 ≤ x → 1 ≤ variable_of (as_literal (opposite_of x))
-free-variable x free = by (opposite_of x) (opposite-free x free)
-  where
-    by : (y : ℕ) → 2 ≤ y → 1 ≤ variable_of (as_literal y)
-    by y above = sign (y % 2 == 1)
-      where
-        sign : (b : Bool) → 1 ≤ variable_of (cond b (negative (y / 2)) (positive (y / 2)))
-        sign true = omega (arith, above)
-        sign false = omega (arith, above)
+free-variable x free = search (arith, opposite-free)
 
 pub literal-fits : (x max : ℕ) → x ≤ 2 * max + 1 → variable_of (as_literal x) ≤ max
-literal-fits x max less = by (x % 2 == 1)
-  where
-    by : (b : Bool) → variable_of (cond b (negative (x / 2)) (positive (x / 2))) ≤ max
-    by true = omega (arith, less)
-    by false = omega (arith, less)
+literal-fits x max less = search arith
 
 pub opposite-fits : (x max : ℕ) → x ≤ 2 * max + 1 → opposite_of x ≤ 2 * max + 1
-opposite-fits x max less = by (x % 2 == 1) refl
-  where
-    by : (b : Bool) → (x % 2 == 1) ≡ b → cond b (x - 1) (x + 1) ≤ 2 * max + 1
-    by true e = omega (arith, less)
-    by false e = elim (cases_eq (x % 2) 1) [
-      | inl odd ↦ absurd (clash (sym (eq-eqb (x % 2) 1 odd) ∙ e))
-      | inr even ↦ omega (arith, less, even)
-    ]
-      where
-        clash : true ≡ false → ⊥
-        clash h = cc
+opposite-fits x max less = search (arith, cases_eq, eq-eqb)
 
 -- no literal of these is above
 abbrev AreWithin : ℕ → List ℕ → Type 0
@@ -204,24 +160,11 @@ AreOn max ls = AllByRecursion (λ l. variable_of l ≤ max) ls
 kept-fits : (max : ℕ) (xs : List ℕ) → AreWithin max xs
     → AreOn max (map as_literal (filter (λ l. not (l == 0)) xs))
 kept-fits max [] all = tt
-kept-fits max (x ∷ xs) all = by (x == 0) (kept-fits max xs all.1)
-  where
-    rest : List ℕ
-    rest = filter (λ l. not (l == 0)) xs
-
-    by : (b : Bool) → AreOn max (map as_literal rest) → AreOn max (map as_literal (cond (not b) (x ∷ rest) rest))
-    by true fit = fit
-    by false fit = (literal-fits x max all.0, fit)
+kept-fits max (x ∷ xs) all = search (arith, (kept-fits max xs all.1), literal-fits)
 
 constants-fit : (max : ℕ) (xs : List ℕ) (clause : List Literal) → AreWithin max xs → without_constants xs ≡ Some clause
     → AreOn max clause
-constants-fit max xs clause all is = by (list_any (λ l. l == 1) xs) is
-  where
-    by : (b : Bool) → cond b None (Some (map as_literal (filter (λ l. not (l == 0)) xs))) ≡ Some clause
-        → AreOn max clause
-    by true h = cc
-    by false h = subst (AreOn max)
-        (same_Some (map as_literal (filter (λ l. not (l == 0)) xs)) clause h) (kept-fits max xs all)
+constants-fit max xs clause all is = search (arith, kept-fits)
 
 gate-fits : (max : ℕ) (gates : List Gate) (i : ℕ) (xs : List ℕ) → All (IsGate max) gates
     → slice_get (flat_map gate_clauses gates) i ≡ Some xs → AreWithin max xs

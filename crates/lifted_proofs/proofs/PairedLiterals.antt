@@ -1,5 +1,5 @@
 -- Literals on pairs.
-use Rattle.std.proofs.Common.{◌≡◌, ℕ, ◌+◌, ◌-◌, ◌*◌, ◌%◌, ◌≤◌, ◌==◌, Bool, true, false, not, cond, inl, inr, List, [], ◌∷◌, map, get_or, Option, Some, None, IfSome, is_some, refl, sym, ◌∙◌, ap, subst}
+use Rattle.std.proofs.Common.{◌≡◌, ℕ, ◌+◌, ◌-◌, ◌*◌, ◌%◌, ◌≤◌, ◌==◌, Bool, true, false, not, inl, inr, List, [], ◌∷◌, map, get_or, Option, Some, None, IfSome, is_some, refl, sym, ◌∙◌, ap, subst, arith}
 use Rattle.std.specs.List.{All, Contains, list_any, filter, filter_map, position_or_len}
 use Rattle.std.proofs.lemmas.Bool.{true≢false, or_cases, or_left, or_right, cases_Bool}
 use Rattle.std.proofs.lemmas.List.Elements.{All-contains, Contains-append_cases, Contains-append_right, All-tail, All-head}
@@ -33,9 +33,7 @@ opposite-on n (negative v) = refl
 -- the opposite of a literal on its pair
 pub opposite-paired : (f : Dqbf) (rows : List (List Bool)) (row : List Bool) (l : Literal)
     → opposite (paired f rows row l) ≡ paired f rows row (opposite l)
-opposite-paired f rows row l =
-    opposite-on (pair_of f rows row (variable_of l)) l
-    ∙ ap (λ v. on_variable (pair_of f rows row v) (opposite l)) (sym (opposite_variable l))
+opposite-paired f rows row l = search (arith, opposite-on, opposite_variable)
 
 -- a bound variable is an existential's or a universal's
 pub existential-or-universal : (f : Dqbf) (l : Literal) → IsWellFormed f → IsBound f l
@@ -73,18 +71,12 @@ pub left-paired : (f : Dqbf) (rows : List (List Bool)) (row : List Bool) (trues 
     → IsWellFormed f → All (IsBound f) clause
     → filter_map (pair_literal f rows row) (left_of f trues clause)
     ≡ map (paired f rows row) (open_literals f trues clause)
-left-paired f rows row trues clause well bound =
-    instance_part f rows row (left_of f trues clause)
-    ∙ ap (map (paired f rows row))
-    (existentials-are f (left_of f trues clause) well (all-left f (IsBound f) trues clause bound)
-    ∙ left-opens f trues clause)
+left-paired f rows row trues clause well bound = search (arith, instance_part, existentials-are, all-left, left-opens)
 
 pub clause-paired : (f : Dqbf) (rows : List (List Bool)) (row : List Bool) (clause : List Literal)
     → list_any (universal_literal_true f row) clause ≡ false
     → instance_clause f rows row clause ≡ Some (map (paired f rows row) (existential_part f clause))
-clause-paired f rows row clause none =
-    ap (λ b. cond b None (Some (filter_map (pair_literal f rows row) clause))) none
-    ∙ ap Some (instance_part f rows row clause)
+clause-paired f rows row clause none = search (arith, instance_part)
 
 -- rows that agree give one pair
 pub one-pair : (f : Dqbf) (rows : List (List Bool)) (r s : List Bool) (v : ℕ)
@@ -113,8 +105,7 @@ pub bound-range : (f : Dqbf) (v : ℕ) → IsWellFormed f → Contains (declared
 bound-range f v well bound = All-contains (InRange f) (declared f) v well.prefix.in_range bound
 
 pub existential-range : (f : Dqbf) (v : ℕ) → IsWellFormed f → Contains (existential_variables f) v → InRange f v
-existential-range f v well inside =
-    bound-range f v well (Contains-append_right f.universals (existential_variables f) v inside)
+existential-range f v well inside = search (arith, bound-range, Contains-append_right)
 
 -- a literal of a list on pairs
 pub paired-in : (f : Dqbf) (rows : List (List Bool)) (row : List Bool) (ls : List Literal) (p : Literal)
@@ -122,30 +113,13 @@ pub paired-in : (f : Dqbf) (rows : List (List Bool)) (row : List Bool) (ls : Lis
     → (l : Literal) × (holds ls l ≡ true) × (p ≡ paired f rows row l)
 paired-in f rows row [] p h = absurd (true≢false (sym h))
 paired-in f rows row (l ∷ ls) p h =
-    elim (or_cases (same_literal p (paired f rows row l)) (holds (map (paired f rows row) ls) p) h) [
-      | inl same ↦ (
-        l,
-        or_left (same_literal l l) (holds ls l) (same_literal-refl l),
-        same_literal-sound p (paired f rows row l) same,
-      )
-      | inr later ↦
-          let r = paired-in f rows row ls p later in
-          (r.0, or_right (same_literal r.0 l) (holds ls r.0) r.1, r.2)
-    ]
+    search (arith, or_cases, or_left, same_literal-refl, same_literal-sound, (paired-in f rows row ls p), or_right)
 
 pub paired-holds : (f : Dqbf) (rows : List (List Bool)) (row : List Bool) (ls : List Literal) (l : Literal)
     → holds ls l ≡ true → holds (map (paired f rows row) ls) (paired f rows row l) ≡ true
 paired-holds f rows row [] l h = h
-paired-holds f rows row (k ∷ ks) l h = elim (or_cases (same_literal l k) (holds ks l) h) [
-  | inl same ↦
-      or_left (same_literal (paired f rows row l) (paired f rows row k))
-      (holds (map (paired f rows row) ks) (paired f rows row l))
-      (ap (λ x. same_literal (paired f rows row l) (paired f rows row x)) (sym (same_literal-sound l k same))
-      ∙ same_literal-refl (paired f rows row l))
-  | inr later ↦
-      or_right (same_literal (paired f rows row l) (paired f rows row k))
-      (holds (map (paired f rows row) ks) (paired f rows row l)) (paired-holds f rows row ks l later)
-]
+paired-holds f rows row (k ∷ ks) l h =
+    search (arith, or_cases, or_left, same_literal-sound, same_literal-refl, or_right, (paired-holds f rows row ks l))
 
 -- on pairs no literal comes to stand beside its negation
 pub paired-plain : (f : Dqbf) (rows : List (List Bool)) (row : List Bool) (ls : List Literal)

@@ -1,11 +1,11 @@
 -- Lines stay derived where every literal gets another variable, no two variables the same.
-use Rattle.std.proofs.Common.{◌≡◌, ℕ, ◌+◌, ◌==◌, Bool, true, false, not, cond, ◌&&◌, inl, inr, List, [], ◌∷◌, map, Option, Some, None, refl, sym, ◌∙◌, ap}
+use Rattle.std.proofs.Common.{◌≡◌, ℕ, ◌+◌, ◌==◌, Bool, not, List, [], ◌∷◌, map, Option, Some, None, refl, ◌∙◌, ap, arith}
 use Rattle.std.specs.List.{list_any, list_all, filter}
 use Rattle.std.specs.Option.{option_map}
 use Rattle.std.proofs.lemmas.Bool.{cases_eq, eq-eqb, ne_eqb}
 use Rattle.dq_lits.specs.Literal.{Literal, positive, negative, opposite, same_literal, variable_of, on_variable}
 use Rattle.dq_lits.specs.Derivation.{LiveClauses, ClauseStatus, falsified, unit, stuck, with_clause, holds, status_by, status_of, fault_by, hint_fault, line_fault, is_empty, ProofStep}
-use Rattle.rup_core.specs.Items.{ProofItem, derived, gone, items_fault, without_clauses, is_among}
+use Rattle.rup_core.specs.Items.{ProofItem, derived, gone, items_fault, without_clauses}
 
 abbrev pub renamed : (ℕ → ℕ) → Literal → Literal
 renamed r l = on_variable (r (variable_of l)) l
@@ -26,10 +26,7 @@ IsRenamed r live other = (id : ℕ) → other id ≡ option_map (map (renamed r)
 
 module _ (r : ℕ → ℕ) (one : IsOneToOne r) where
   same-number : (v w : ℕ) → (r v == r w) ≡ (v == w)
-  same-number v w = elim (cases_eq v w) [
-    | inl same ↦ eq-eqb (r v) (r w) (ap r same) ∙ sym (eq-eqb v w same)
-    | inr apart ↦ ne_eqb (r v) (r w) (λ e. apart (one v w e)) ∙ sym (ne_eqb v w apart)
-  ]
+  same-number v w = search (arith, cases_eq, eq-eqb, ne_eqb)
 
   same-renamed : (k l : Literal) → same_literal (renamed r k) (renamed r l) ≡ same_literal k l
   same-renamed (positive v) (positive w) = same-number v w
@@ -58,13 +55,7 @@ module _ (r : ℕ → ℕ) (one : IsOneToOne r) where
   open-renamed : (trues clause : List Literal)
       → open_in (map (renamed r) trues) (map (renamed r) clause) ≡ map (renamed r) (open_in trues clause)
   open-renamed trues [] = refl
-  open-renamed trues (l ∷ ls) =
-      rw (opposite-held trues l, open-renamed trues ls) (by (not (holds trues (opposite l))))
-    where
-      by : (b : Bool) → cond b (renamed r l ∷ map (renamed r) (open_in trues ls)) (map (renamed r) (open_in trues ls))
-          ≡ map (renamed r) (cond b (l ∷ open_in trues ls) (open_in trues ls))
-      by true = refl
-      by false = refl
+  open-renamed trues (l ∷ ls) = search (arith, opposite-held, (open-renamed trues ls))
 
   abbrev status_renamed : ClauseStatus → ClauseStatus
   status_renamed falsified = falsified
@@ -79,18 +70,12 @@ module _ (r : ℕ → ℕ) (one : IsOneToOne r) where
   by-renamed : (trues rest : List Literal)
       → status_by (map (renamed r) trues) (map (renamed r) rest) ≡ status_renamed (status_by trues rest)
   by-renamed trues [] = refl
-  by-renamed trues (l ∷ rest) =
-      rw (all-same l rest, holds-renamed trues l) (by (list_all (same_literal l) rest && not (holds trues l)))
-    where
-      by : (b : Bool) → cond b (unit (renamed r l)) stuck ≡ status_renamed (cond b (unit l) stuck)
-      by true = refl
-      by false = refl
+  by-renamed trues (l ∷ rest) = search (arith, all-same, holds-renamed)
 
   of-renamed : (trues : List Literal) (o : Option (List Literal))
       → status_of (map (renamed r) trues) (option_map (map (renamed r)) o) ≡ status_renamed (status_of trues o)
   of-renamed trues None = refl
-  of-renamed trues (Some clause) =
-      ap (status_by (map (renamed r) trues)) (open-renamed trues clause) ∙ by-renamed trues (open_in trues clause)
+  of-renamed trues (Some clause) = search (arith, open-renamed, by-renamed)
 
   hints-renamed : (live other : LiveClauses) → IsRenamed r live other → (hints : List ℕ) (trues : List Literal)
       (place : ℕ) → hint_fault other (map (renamed r) trues) place hints ≡ hint_fault live trues place hints
@@ -118,12 +103,7 @@ module _ (r : ℕ → ℕ) (one : IsOneToOne r) where
 
   line-renamed : (live other : LiveClauses) → IsRenamed r live other → (literals : List Literal) (hints : List ℕ)
       → line_fault other (map (renamed r) literals) hints ≡ line_fault live literals hints
-  line-renamed live other is literals hints =
-      rw (
-        any-renamed literals literals,
-        opposites-renamed literals,
-        hints-renamed live other is hints (map opposite literals) 1,
-      )
+  line-renamed live other is literals hints = search (arith, any-renamed, opposites-renamed, hints-renamed)
 
   empty-renamed : (ls : List Literal) → is_empty (map (renamed r) ls) ≡ is_empty ls
   empty-renamed [] = refl
@@ -131,22 +111,11 @@ module _ (r : ℕ → ℕ) (one : IsOneToOne r) where
 
   with-renamed : (live other : LiveClauses) (id : ℕ) (clause : List Literal) → IsRenamed r live other
       → IsRenamed r (with_clause live id clause) (with_clause other id (map (renamed r) clause))
-  with-renamed live other id clause is i = by (i == id) (is i)
-    where
-      by : (b : Bool) → other i ≡ option_map (map (renamed r)) (live i)
-          → cond b (Some (map (renamed r) clause)) (other i)
-          ≡ option_map (map (renamed r)) (cond b (Some clause) (live i))
-      by true e = refl
-      by false e = e
+  with-renamed live other id clause is i = search arith
 
   without-renamed : (live other : LiveClauses) (ids : List ℕ) → IsRenamed r live other
       → IsRenamed r (without_clauses live ids) (without_clauses other ids)
-  without-renamed live other ids is i = by (is_among ids i) (is i)
-    where
-      by : (b : Bool) → other i ≡ option_map (map (renamed r)) (live i)
-          → cond b None (other i) ≡ option_map (map (renamed r)) (cond b None (live i))
-      by true e = refl
-      by false e = e
+  without-renamed live other ids is i = search arith
 
   pub items-renamed : (finished : Bool) (live other : LiveClauses) (items : List ProofItem) → IsRenamed r live other
       → items_fault finished other (map (renamed_item r) items) ≡ items_fault finished live items

@@ -1,18 +1,17 @@
 -- A circuit whose outputs are settled can be evaluated, and reads no more.
-use Rattle.std.proofs.Common.{◌≡◌, ℕ, zero, suc, ◌≤◌, ◌⊎◌, Bool, true, false, cond, inl, inr, List, [], ◌∷◌, length, refl, subst, arith}
+use Rattle.std.proofs.Common.{◌≡◌, ℕ, zero, suc, ◌≤◌, ◌⊎◌, inl, inr, List, [], ◌∷◌, length, refl, subst, arith}
 use Rattle.std.specs.Prelude.{slice_index}
 use Rattle.std.specs.List.{All}
 use Rattle.std.proofs.lemmas.List.Elements.{All-cons, All-head, All-tail, All-contains, All-weaker}
-use Rattle.dq_lits.specs.Literal.{Literal, positive, negative}
+use Rattle.dq_lits.specs.Literal.{Literal}
 use Rattle.dq_lits.specs.Formula.{Dqbf}
-use Rattle.dq_lits.specs.Derivation.{holds}
 use Rattle.aiger_text.specs.Symbol.{SymbolTable}
 use Rattle.circuit_plain.specs.Ground.{IsGrounded, constant, input, gate}
-use Rattle.circuit_plain.specs.Netlist.{Netlist, IsNetlist, IsGate, IsLiteral, literal_variable}
+use Rattle.circuit_plain.specs.Netlist.{Netlist, IsNetlist, IsLiteral, literal_variable}
 use Rattle.circuit_plain.specs.Reach.{Reaches, itself, left, right}
 use Rattle.skolem_checker.specs.Mapping.{Mapping, mapping_of}
 use Rattle.skolem_checker.specs.SkolemCircuit.{IsComplete, MappedCircuit, ReadsUniversal}
-use Rattle.lifted_proofs.specs.SettledCircuits.{settled_output, settled_outputs, settled_netlist}
+use Rattle.lifted_proofs.specs.SettledCircuits.{settled_outputs, settled_netlist}
 use Rattle.lifted_proofs.proofs.SettledOutputs.{as-long}
 
 -- what holds of the constants and of each output
@@ -22,14 +21,13 @@ settled-all P trues [] [] zero-has one-has all = all
 settled-all P trues (v ∷ vs) [] zero-has one-has all = all
 settled-all P trues [] (o ∷ os) zero-has one-has all = all
 settled-all P trues (v ∷ vs) (o ∷ os) zero-has one-has all =
-    All-cons P (settled_output trues v o) (settled_outputs trues vs os)
-    (by (holds trues (positive v)) (holds trues (negative v)) (All-head P o os all))
-    (settled-all P trues vs os zero-has one-has (All-tail P o os all))
-  where
-    by : (a b : Bool) → P o → P (cond a 1 (cond b 0 o))
-    by true b own = one-has
-    by false true own = zero-has
-    by false false own = own
+    search (
+      arith,
+      (All-cons P),
+      (All-head P o os all),
+      (settled-all P trues vs os zero-has one-has),
+      (All-tail P o os all),
+    )
 
 -- an output is as it was, or constant
 out-at : (trues : List Literal) (vs outs : List ℕ) (i : ℕ)
@@ -38,23 +36,14 @@ out-at : (trues : List Literal) (vs outs : List ℕ) (i : ℕ)
 out-at trues [] [] i = inl refl
 out-at trues (v ∷ vs) [] i = inl refl
 out-at trues [] (o ∷ os) i = inl refl
-out-at trues (v ∷ vs) (o ∷ os) zero = by (holds trues (positive v)) (holds trues (negative v))
-  where
-    by : (a b : Bool) → (cond a 1 (cond b 0 o) ≡ o) ⊎ (literal_variable (cond a 1 (cond b 0 o)) ≡ 0)
-    by true b = inr refl
-    by false true = inr refl
-    by false false = inl refl
+out-at trues (v ∷ vs) (o ∷ os) zero = search arith
 out-at trues (v ∷ vs) (o ∷ os) (suc i) = out-at trues vs os i
 
 -- from the constant nothing is reached
 from-zero : (net : Netlist) → IsNetlist net → {v x : ℕ} → v ≡ 0 → Reaches net v x → x ≡ 0
 from-zero net lawful e itself = e
-from-zero net lawful e (left g inside l) =
-    let fits = All-contains (IsGate net.max_var) net.gates g lawful.gates_fit inside in
-    absurd (omega (arith, e, fits.variable.0))
-from-zero net lawful e (right g inside l) =
-    let fits = All-contains (IsGate net.max_var) net.gates g lawful.gates_fit inside in
-    absurd (omega (arith, e, fits.variable.0))
+from-zero net lawful e (left g inside l) = search (arith, All-contains)
+from-zero net lawful e (right g inside l) = search (arith, All-contains)
 
 module _ (trues : List Literal) (mapping : Mapping) (net : Netlist) where
   abbrev settled : Netlist

@@ -9,13 +9,13 @@ use Rattle.std.proofs.lemmas.List.Quantifiers.{all_pairs_push}
 use Rattle.std.proofs.lemmas.List.Folds.{list_any-append, list_any_at}
 use Rattle.list_laws.proofs.Elements.{last_or_before, last_there}
 use Rattle.number_tables.specs.Numbers.{has_number, with_number}
-use Rattle.dq_lits.specs.Literal.{Literal, opposite, same_literal}
+use Rattle.dq_lits.specs.Literal.{Literal, opposite}
 use Rattle.dq_lits.specs.Formula.{Dqbf}
 use Rattle.dq_lits.specs.Derivation.{holds}
 use Rattle.dq_lits.specs.Expansion.{universal_literal_true}
 use Rattle.dq_lits.proofs.SignedLiterals.{same_literal-refl, opposite-opposite}
 use Rattle.dq_prep.specs.declared.traces.Taken.{Taken}
-use Rattle.lifted_proofs.specs.UnitTables.{first_literals, IsFalseBy}
+use Rattle.lifted_proofs.specs.UnitTables.{IsFalseBy}
 use Rattle.lifted_proofs.specs.Goals.{clause_at, left_by, IsReason, IsPlan, MakesFalse, HasFalse, AreFalseUnits, Keeps, GrowsGoals, IsLoweredIn, Settles, AreFalseUnitsOf, Adds, IsGoalAt, IsAskedIn, IsPlanOf, IsGoalOf, IsRowAdded}
 use Rattle.lifted_proofs.specs.FalsifiedRows.{IsFalsified}
 use Rattle.lifted_proofs.specs.declared.goals.Goal.{Goal}
@@ -28,13 +28,7 @@ use Rattle.lifted_proofs.specs.declared.units.UnitTable.{UnitTable}
 use Rattle.list_laws.proofs.Members.{contains_tested}
 
 grows-on : {p q r : Plan} → GrowsGoals p q → GrowsGoals q r → GrowsGoals p r
-grows-on a b = record {
-  grows = record {
-    rows = λ k x at. b.grows.rows k x (a.grows.rows k x at);
-    goals = λ k x at. b.grows.goals k x (a.grows.goals k x at);
-  };
-  reasons = b.reasons ∙ a.reasons;
-}
+grows-on a b = search arith
 
 -- the row itself serves
 pub lowered-here : {t : UnitTable} {p : Plan} {g : Goal} {row : List Bool} (clause : List Literal) (b : Bool)
@@ -86,51 +80,20 @@ row-added t p q g row low clause place plan goal at is falsified' whole added =
 plan-reasoned : (f : Dqbf) (units : List Taken) (p s : Plan) (g : Goal) (r : Reason) → IsPlan f units p
     → slice_get p.goals.items (length p.reasons.items) ≡ Some g → IsReason f units p.rows p.goals.items g r
     → s.reasons.items ≡ p.reasons.items ++ r ∷ [] → IsPlan f units (record p { reasons = s.reasons })
-plan-reasoned f units p s g r plan at reason more = record {
-  whole = plan.whole;
-  goals = plan.goals;
-  reasons = λ k w x here why.
-      elim (last_or_before p.reasons.items r k x (ap (λ xs. slice_get xs k) (sym more) ∙ why)) [
-        | inl before ↦ plan.reasons k w x here before
-        | inr last ↦
-            let same : g ≡ w = same_Some g w (sym at ∙ ap (slice_get p.goals.items) (sym last.0) ∙ here) in
-            subst (IsReason f units p.rows p.goals.items w) last.1
-            (subst (λ y. IsReason f units p.rows p.goals.items y r) same reason)
-      ];
-  few_rows = plan.few_rows;
-  few_reasons = (
-      let longer = ap (λ (xs : List Reason). length xs) more ∙ length-append p.reasons.items (r ∷ []) in
-      omega (arith, slice_get_within p.goals.items (length p.reasons.items) g at, longer));
-}
+plan-reasoned f units p s g r plan at reason more = search (arith, last_or_before, length-append, slice_get_within)
 
 holds-before : (done : List Literal) (l k : Literal) → holds done k ≡ true → holds (done ++ l ∷ []) k ≡ true
-holds-before done l k h =
-    list_any-append (same_literal k) done (l ∷ []) ∙ or_left (holds done k) (holds (l ∷ []) k) h
+holds-before done l k h = search (arith, list_any-append, or_left)
 
 makes-more : (units : List Taken) (count : ℕ) (done : List Literal) (l : Literal) (places : List ℕ)
     → All (MakesFalse units count done) places → All (MakesFalse units count (done ++ l ∷ [])) places
-makes-more units count done l places all = λ k d below.
-    let it = all k d below in
-    record {
-      before = it.before;
-      unit = it.unit;
-      unit_at = it.unit_at;
-      held = holds-before done l (opposite it.unit.literal) it.held;
-    }
+makes-more units count done l places all = search (arith, (holds-before done l))
 
 -- a literal that no unit makes false
 pub places-same : (units : List Taken) (count : ℕ) (done : List Literal) (l : Literal) (places : List ℕ)
     → IsFalseBy units count l None → AreFalseUnits units count done places
     → AreFalseUnits units count (done ++ l ∷ []) places
-places-same units count done l places none was = record {
-  distinct = was.distinct;
-  each = makes-more units count done l places was.each;
-  all = λ k h held. elim (holds-snoc done l k h) [
-    | inl before ↦ was.all k before held
-    | inr last ↦
-        absurd (true≢false (sym held ∙ ap (λ x. holds (first_literals units count) (opposite x)) last ∙ none))
-  ];
-}
+places-same units count done l places none was = search (arith, makes-more, holds-snoc, true≢false)
 
 -- a literal that a unit makes false
 pub places-more : (units : List Taken) (count j : ℕ) (done : List Literal) (l : Literal) (places : List ℕ)
@@ -144,10 +107,7 @@ places-more units count j done l places (before, (u, (at, is))) was =
           (record {
             distinct = was.distinct;
             each = makes-more units count done l places was.each;
-            all = λ k h held. elim (holds-snoc done l k h) [
-              | inl old ↦ was.all k old held
-              | inr last ↦ found k last places (contains_tested places j there)
-            ];
+            all = search (arith, holds-snoc, contains_tested);
           })
       | inr new ↦
           subst (AreFalseUnits units count (done ++ l ∷ []))
@@ -162,16 +122,9 @@ places-more units count j done l places (before, (u, (at, is))) was =
                   before = before;
                   unit = u;
                   unit_at = at;
-                  held = list_any-append (same_literal (opposite u.literal)) done (l ∷ [])
-                      ∙ or_right (holds done (opposite u.literal)) (holds (l ∷ []) (opposite u.literal))
-                      (or_left (same_literal (opposite u.literal) l) false
-                      (ap (λ x. same_literal (opposite x) l) is
-                      ∙ ap (λ x. same_literal x l) (opposite-opposite l) ∙ same_literal-refl l));
+                  held = search (arith, list_any-append, or_right, or_left, opposite-opposite, same_literal-refl);
                 });
-            all = λ k h held. elim (holds-snoc done l k h) [
-              | inl old ↦ wider (was.all k old held)
-              | inr last ↦ found k last (places ++ j ∷ []) (Contains-push places j)
-            ];
+            all = search (arith, holds-snoc, wider, Contains-push);
           })
     ]
   where
@@ -185,39 +138,21 @@ places-more units count j done l places (before, (u, (at, is))) was =
     }
 
     wider : {k : Literal} → HasFalse units k places → HasFalse units k (places ++ j ∷ [])
-    wider it = record {
-      place = it.place;
-      among = Contains-append_left places (j ∷ []) it.place it.among;
-      unit = it.unit;
-      unit_at = it.unit_at;
-      is = it.is;
-    }
+    wider it = search (arith, Contains-append_left)
 
 pub step-false : (units : List Taken) (count j : ℕ) (clause own : List Literal) (i : ℕ) (l : Literal) (o : Option ℕ)
     (places new : List ℕ) → clause ≡ own → i < length clause → l ≡ get_or clause i l → IsFalseBy units count l o
     → o ≡ Some j → AreFalseUnits units count (take i own) places → new ≡ with_number places j
     → AreFalseUnits units count (take (i + 1) own) new
 step-false units count j clause own i l o places new is below at said some was more =
-    let long : i < length own = subst (λ (xs : List Literal). i < length xs) is below in
-    let read : l ≡ get_or own i l = at ∙ ap (λ xs. get_or xs i l) is in
-    let front : take (i + 1) own ≡ take i own ++ l ∷ [] =
-    take_more own i l long ∙ ap (λ k. take i own ++ k ∷ []) (sym read) in
-    subst (AreFalseUnits units count (take (i + 1) own)) (sym more)
-    (subst (λ ls. AreFalseUnits units count ls (with_number places j)) (sym front)
-    (places-more units count j (take i own) l places (subst (IsFalseBy units count l) some said) was))
+    search (arith, (take_more own i l), (places-more units count j (take i own) l places))
 
 pub step-open : (units : List Taken) (count : ℕ) (clause own : List Literal) (i : ℕ) (l : Literal) (o : Option ℕ)
     (places new : List ℕ) → clause ≡ own → i < length clause → l ≡ get_or clause i l → IsFalseBy units count l o
     → o ≡ None → AreFalseUnits units count (take i own) places → new ≡ places
     → AreFalseUnits units count (take (i + 1) own) new
 step-open units count clause own i l o places new is below at said none was same =
-    let long : i < length own = subst (λ (xs : List Literal). i < length xs) is below in
-    let read : l ≡ get_or own i l = at ∙ ap (λ xs. get_or xs i l) is in
-    let front : take (i + 1) own ≡ take i own ++ l ∷ [] =
-    take_more own i l long ∙ ap (λ k. take i own ++ k ∷ []) (sym read) in
-    subst (AreFalseUnits units count (take (i + 1) own)) (sym same)
-    (subst (λ ls. AreFalseUnits units count ls places) (sym front)
-    (places-same units count (take i own) l places (subst (IsFalseBy units count l) none said) was))
+    search (arith, (take_more own i l), (places-same units count (take i own) l places))
 
 -- hints that are found so far
 abbrev pub AskSoFar : UnitTable → Plan → Plan → ℕ → List ℕ → List ℕ → Type 0
@@ -229,18 +164,14 @@ pub step-asked : (t : UnitTable) (start p q : Plan) (lowered i j h : ℕ) (place
     → i < length places → j ≡ get_or places i j → more ≡ hints ++ h ∷ []
     → AskSoFar t start q lowered (take (i + 1) places) more
 step-asked t start p q lowered i j h places hints more was added within at is =
-    let grows = added.grows.grows in
-    let row = get_or p.rows lowered [] in record {
-      plan = added.plan;
-      grows = grows-on was.grows added.grows;
-      now = (
-        slice_get_within q.rows lowered row (grows.rows lowered row (slice_get-get_or p.rows lowered [] was.now.0)),
-        subst (AllZip (IsAskedIn t q lowered) (take (i + 1) places)) (sym is)
-            (all_zip_more (IsAskedIn t q lowered) places hints i j h within at
-            (all-asked-grow t.formula.now t.units.now p.rows q.rows p.goals.items q.goals.items grows.rows grows.goals
-            lowered (take i places) hints was.now.1) added.now),
-      );
-    }
+    search (
+      arith,
+      (grows-on was.grows added.grows),
+      (slice_get_within q.rows lowered),
+      (slice_get-get_or p.rows lowered [] was.now.0),
+      all_zip_more,
+      (all-asked-grow t.formula.now t.units.now p.rows q.rows p.goals.items q.goals.items),
+    )
 
 -- the next goal has its reason now
 pub settled-next : (t : UnitTable) (p q r s : Plan) (g : Goal) (k : ℕ) (places seen : List ℕ) (reason : Reason)
@@ -262,10 +193,7 @@ settled-next t p q r s g k places seen reason goal k-is are pq same qr s-is more
       asked = subst (λ xs. AllZip (IsAskedIn t r reason.lowered) xs reason.hints.items) same qr.now;
     } in
     subst (Settles t p) (sym s-is) (record {
-      plan = record {
-        right = qr.plan.right;
-        plan = plan-reasoned t.formula.now t.units.now r s g reason qr.plan.plan at made more;
-      };
+      plan = search (arith, plan-reasoned);
       grows = record { rows = grows.grows.rows; goals = grows.grows.goals };
       more = ap (λ (xs : List Reason). length xs) more ∙ length-append r.reasons.items (reason ∷ [])
           ∙ ap (λ (xs : List Reason). length xs + 1) grows.reasons;

@@ -1,18 +1,18 @@
 -- The literals of a circuit whose outputs are settled.
-use Rattle.std.proofs.Common.{◌≡◌, ℕ, zero, suc, ◌+◌, ◌*◌, ◌<◌, ◌≤◌, ◌==◌, Bool, true, false, not, cond, ◌||◌, inl, inr, List, [], ◌∷◌, length, refl, sym, ◌∙◌, ap, subst, arith}
+use Rattle.std.proofs.Common.{◌≡◌, ℕ, zero, suc, ◌+◌, ◌*◌, ◌<◌, ◌≤◌, ◌==◌, true, false, inl, inr, List, [], ◌∷◌, length, refl, sym, ◌∙◌, ap, arith}
 use Rattle.std.specs.Prelude.{slice_index}
 use Rattle.std.specs.List.{All, Contains, list_any, position_or_len}
 use Rattle.std.proofs.lemmas.Bool.{true≢false, cases_eq, cases_Bool, eq-eqb, ne_eqb, or_cases}
 use Rattle.std.proofs.lemmas.List.{length-map}
 use Rattle.std.proofs.lemmas.List.Elements.{All-contains}
-use Rattle.dq_lits.specs.Literal.{Literal, positive, negative, variable_of, opposite, same_literal}
+use Rattle.dq_lits.specs.Literal.{Literal, positive, negative, variable_of, opposite}
 use Rattle.dq_lits.specs.Formula.{Dqbf, is_universal, IsWellFormed}
 use Rattle.dq_lits.specs.Derivation.{holds}
 use Rattle.dq_lits.proofs.Truth.{same_literal-sound}
 use Rattle.dq_formula.specs.Prefix.{existential_variables}
 use Rattle.dq_formula.proofs.Places.{has-contains, contains-has}
 use Rattle.circuit_plain.specs.Netlist.{IsNetlist, IsVariable, IsLiteral}
-use Rattle.cert_text.specs.NegatedMatrix.{opposite_of, literal_under}
+use Rattle.cert_text.specs.NegatedMatrix.{literal_under}
 use Rattle.dq_prep.specs.declared.traces.Taken.{Taken}
 use Rattle.dq_prep.specs.Units.{AreUnits, taken_literals}
 use Rattle.dq_prep.proofs.ToldValues.{unit-existential}
@@ -43,21 +43,8 @@ out-same : (trues : List Literal) (vs outs : List ℕ) (v : ℕ) → holds trues
 out-same trues [] [] v p n = refl
 out-same trues [] (o ∷ os) v p n = refl
 out-same trues (w ∷ vs) [] v p n = refl
-out-same trues (w ∷ vs) (o ∷ os) v p n = elim (cases_eq w v) [
-  | inl same ↦
-      let here : place_in (w ∷ vs) v ≡ 0 = ap (λ b. cond (not b) (1 + place_in vs v) 0) (eq-eqb w v same) in
-      ap (slice_index (settled_outputs trues (w ∷ vs) (o ∷ os))) here
-      ∙ ap (λ b. cond b 1 (cond (holds trues (negative w)) 0 o)) (ap (λ u. holds trues (positive u)) same ∙ p)
-      ∙ ap (λ b. cond b 0 o) (ap (λ u. holds trues (negative u)) same ∙ n)
-      ∙ sym (ap (slice_index (o ∷ os)) here)
-  | inr apart ↦
-      let later : place_in (w ∷ vs) v ≡ 1 + place_in vs v =
-      ap (λ b. cond (not b) (1 + place_in vs v) 0) (ne_eqb w v apart) in
-      ap (slice_index (settled_outputs trues (w ∷ vs) (o ∷ os))) later
-      ∙ next-place (settled_output trues w o) (settled_outputs trues vs os) (place_in vs v)
-      ∙ out-same trues vs os v p n
-      ∙ sym (ap (slice_index (o ∷ os)) later ∙ next-place o os (place_in vs v))
-]
+out-same trues (w ∷ vs) (o ∷ os) v p n =
+    search (arith, cases_eq, eq-eqb, ne_eqb, next-place, (out-same trues vs os v p n))
 
 -- that of one with a unit is settled
 out-settled : (trues : List Literal) (vs outs : List ℕ) (v : ℕ) → list_any (λ y. y == v) vs ≡ true
@@ -66,22 +53,8 @@ out-settled : (trues : List Literal) (vs outs : List ℕ) (v : ℕ) → list_any
     ≡ settled_output trues v (slice_index outs (place_in vs v))
 out-settled trues [] outs v there long = absurd (true≢false (sym there))
 out-settled trues (w ∷ vs) [] v there long = absurd (omega (arith, long))
-out-settled trues (w ∷ vs) (o ∷ os) v there long = elim (cases_eq w v) [
-  | inl same ↦
-      let here : place_in (w ∷ vs) v ≡ 0 = ap (λ b. cond (not b) (1 + place_in vs v) 0) (eq-eqb w v same) in
-      ap (slice_index (settled_outputs trues (w ∷ vs) (o ∷ os))) here
-      ∙ ap (λ u. settled_output trues u o) same
-      ∙ sym (ap (λ k. settled_output trues v (slice_index (o ∷ os) k)) here)
-  | inr apart ↦
-      let later : place_in (w ∷ vs) v ≡ 1 + place_in vs v =
-      ap (λ b. cond (not b) (1 + place_in vs v) 0) (ne_eqb w v apart) in
-      let rest : list_any (λ y. y == v) vs ≡ true =
-      sym (ap (λ b. b || list_any (λ y. y == v) vs) (ne_eqb w v apart)) ∙ there in
-      ap (slice_index (settled_outputs trues (w ∷ vs) (o ∷ os))) later
-      ∙ next-place (settled_output trues w o) (settled_outputs trues vs os) (place_in vs v)
-      ∙ out-settled trues vs os v rest (omega (arith, long))
-      ∙ sym (ap (λ x. settled_output trues v x) (ap (slice_index (o ∷ os)) later ∙ next-place o os (place_in vs v)))
-]
+out-settled trues (w ∷ vs) (o ∷ os) v there long =
+    search (arith, cases_eq, eq-eqb, ne_eqb, next-place, (out-settled trues vs os v))
 
 -- ---- a candidate's literals
 
@@ -89,48 +62,28 @@ pub literal-same : (f : Dqbf) (trues : List Literal) (c : Candidate) (l : Litera
     → holds trues (opposite l) ≡ false
     → literal_under (circuit_literal (settled_candidate f trues c).circuit) l
     ≡ literal_under (circuit_literal c.circuit) l
-literal-same f trues c (positive v) p n =
-    ap (λ o. cond (list_any (λ x. x == v) c.circuit.mapping.inputs)
-    (2 * slice_index c.circuit.netlist.inputs (place_in c.circuit.mapping.inputs v)) o)
-    (out-same trues c.circuit.mapping.outputs c.circuit.netlist.outputs v p n)
-literal-same f trues c (negative v) n p =
-    ap (λ o. opposite_of (cond (list_any (λ x. x == v) c.circuit.mapping.inputs)
-    (2 * slice_index c.circuit.netlist.inputs (place_in c.circuit.mapping.inputs v)) o))
-    (out-same trues c.circuit.mapping.outputs c.circuit.netlist.outputs v p n)
+literal-same f trues c (positive v) p n = search (arith, out-same)
+literal-same f trues c (negative v) n p = search (arith, out-same)
 
 pub literal-settled : (f : Dqbf) (trues : List Literal) (c : Candidate) (l : Literal) → HasOutput c (variable_of l)
     → holds trues l ≡ true → holds trues (opposite l) ≡ false
     → literal_under (circuit_literal (settled_candidate f trues c).circuit) l ≡ 1
-literal-settled f trues c (positive v) has yes-is no-is =
-    ap (λ b. cond b (2 * slice_index c.circuit.netlist.inputs (place_in c.circuit.mapping.inputs v))
-    (slice_index (settled_outputs trues c.circuit.mapping.outputs c.circuit.netlist.outputs)
-    (place_in c.circuit.mapping.outputs v))) has.no_input
-    ∙ out-settled trues c.circuit.mapping.outputs c.circuit.netlist.outputs v has.output has.enough
-    ∙ ap (λ b. cond b 1 (cond (holds trues (negative v)) 0
-    (slice_index c.circuit.netlist.outputs (place_in c.circuit.mapping.outputs v)))) yes-is
-literal-settled f trues c (negative v) has yes-is no-is =
-    let Is : ℕ → ℕ = λ x. opposite_of x in
-    ap (λ b. Is (cond b (2 * slice_index c.circuit.netlist.inputs (place_in c.circuit.mapping.inputs v))
-    (slice_index (settled_outputs trues c.circuit.mapping.outputs c.circuit.netlist.outputs)
-    (place_in c.circuit.mapping.outputs v)))) has.no_input
-    ∙ ap Is (out-settled trues c.circuit.mapping.outputs c.circuit.netlist.outputs v has.output has.enough
-    ∙ ap (λ b. cond b 1 (cond (holds trues (negative v)) 0
-    (slice_index c.circuit.netlist.outputs (place_in c.circuit.mapping.outputs v)))) no-is
-    ∙ ap (λ b. cond b 0 (slice_index c.circuit.netlist.outputs (place_in c.circuit.mapping.outputs v))) yes-is)
+literal-settled f trues c (positive v) has yes-is no-is = search (arith, out-settled)
+literal-settled f trues c (negative v) has yes-is no-is = search (arith, out-settled)
 
 -- the units' existentials are those of the formula
 unit-variable : (f : Dqbf) (units : List Taken) (l : Literal) → IsWellFormed f → AreUnits f units
     → holds (taken_literals units) l ≡ true
     → Contains (existential_variables f) (variable_of l) × (is_universal f (variable_of l) ≡ false)
 unit-variable f [] l well are held = absurd (true≢false (sym held))
-unit-variable f (u ∷ us) l well are held = elim (or_cases (same_literal l u.literal) (holds (taken_literals us) l) held) [
-  | inl same ↦
-      let is : variable_of l ≡ variable_of u.literal = ap variable_of (same_literal-sound l u.literal same) in (
-        subst (Contains (existential_variables f)) (sym is) (unit-existential f us u well are.0),
-        ap (is_universal f) is ∙ are.0.existential,
-      )
-  | inr later ↦ unit-variable f us l well are.1 later
-]
+unit-variable f (u ∷ us) l well are held =
+    search (
+      arith,
+      or_cases,
+      (same_literal-sound l u.literal),
+      (unit-existential f us u well are.0),
+      (unit-variable f us l well are.1),
+    )
 
 pub unit-output : (f : Dqbf) (units : List Taken) (c : Candidate) (l : Literal) → IsWellFormed f → AreUnits f units
     → IsMapping f c.circuit.netlist c.circuit.mapping → holds (taken_literals units) l ≡ true
@@ -166,18 +119,13 @@ input-fits max (x ∷ xs) zero all = omega (arith, (all 0 0 (omega arith)).1)
 input-fits max (x ∷ xs) (suc i) all = input-fits max xs i (λ k d below. all (suc k) d (omega (arith, below)))
 
 variable-fits : (c : MappedCircuit) (v : ℕ) → IsNetlist c.netlist → circuit_literal c v ≤ 2 * c.netlist.max_var + 1
-variable-fits c v lawful = by (list_any (λ x. x == v) c.mapping.inputs)
-  where
-    by : (b : Bool) → cond b (2 * slice_index c.netlist.inputs (place_in c.mapping.inputs v))
-        (slice_index c.netlist.outputs (place_in c.mapping.outputs v)) ≤ 2 * c.netlist.max_var + 1
-    by true = input-fits c.netlist.max_var c.netlist.inputs (place_in c.mapping.inputs v) lawful.inputs_fit
-    by false = index-fits c.netlist.max_var c.netlist.outputs (place_in c.mapping.outputs v) lawful.outputs_fit
+variable-fits c v lawful =
+    search (arith, (input-fits c.netlist.max_var c.netlist.inputs), (index-fits c.netlist.max_var c.netlist.outputs))
 
 pub literal-in-range : (c : MappedCircuit) (l : Literal) → IsNetlist c.netlist
     → literal_under (circuit_literal c) l ≤ 2 * c.netlist.max_var + 1
 literal-in-range c (positive v) lawful = variable-fits c v lawful
-literal-in-range c (negative v) lawful =
-    opposite-fits (circuit_literal c v) c.netlist.max_var (variable-fits c v lawful)
+literal-in-range c (negative v) lawful = search (arith, opposite-fits, variable-fits)
 
 -- the outputs by their places
 pub settled-at : (trues : List Literal) (vs outs : List ℕ) (i : ℕ) → i < length vs → i < length outs
@@ -185,5 +133,4 @@ pub settled-at : (trues : List Literal) (vs outs : List ℕ) (i : ℕ) → i < l
 settled-at trues [] outs i in-vs in-outs = absurd (omega (arith, in-vs))
 settled-at trues (v ∷ vs) [] i in-vs in-outs = absurd (omega (arith, in-outs))
 settled-at trues (v ∷ vs) (o ∷ os) zero in-vs in-outs = refl
-settled-at trues (v ∷ vs) (o ∷ os) (suc i) in-vs in-outs =
-    settled-at trues vs os i (omega (arith, in-vs)) (omega (arith, in-outs))
+settled-at trues (v ∷ vs) (o ∷ os) (suc i) in-vs in-outs = search (arith, (settled-at trues vs os i))

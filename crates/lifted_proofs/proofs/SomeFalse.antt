@@ -2,8 +2,8 @@
 use Rattle.std.proofs.Common.{◌≡◌, ℕ, zero, suc, ◌+◌, ◌<◌, ◌||◌, ◌⊎◌, true, false, inl, inr, List, [], ◌∷◌, ◌++◌, map, Some, refl, ◌∙◌, ap, subst, arith, ◌≢◌}
 use Rattle.std.specs.List.{All, AllZip, list_any, range_with_len, AllPairs}
 use Rattle.std.proofs.lemmas.Bool.{cases_eq, ne_eqb, or_left, or_right}
-use Rattle.std.proofs.lemmas.Option.{same_Some, get_or_from_slice_get, slice_get_within}
-use Rattle.dq_lits.specs.Literal.{Literal, positive, negative, opposite, same_literal}
+use Rattle.std.proofs.lemmas.Option.{get_or_from_slice_get, slice_get_within}
+use Rattle.dq_lits.specs.Literal.{Literal, positive, negative, opposite}
 use Rattle.dq_lits.specs.Derivation.{LiveClauses, IsDerived, holds}
 use Rattle.dq_lits.proofs.SignedLiterals.{same_literal-refl}
 use Rattle.dq_prep.specs.Lifted.{AreFalsifying}
@@ -36,18 +36,12 @@ behind_units first (p ∷ ps) trues = behind_units first ps (not_false first p �
 stays-true : (first : ℕ) (ps : List ℕ) (trues : List Literal) (l : Literal) → holds trues l ≡ true
     → holds (behind_units first ps trues) l ≡ true
 stays-true first [] trues l held = held
-stays-true first (p ∷ ps) trues l held =
-    stays-true first ps (not_false first p ∷ trues) l
-    (or_right (same_literal l (not_false first p)) (holds trues l) held)
+stays-true first (p ∷ ps) trues l held = search (arith, (stays-true first ps), or_right)
 
 unit-true : (first : ℕ) (ps : List ℕ) (trues : List Literal) (p : ℕ) → StandsIn ps p
     → holds (behind_units first ps trues) (not_false first p) ≡ true
 unit-true first [] trues p (j, at) = cc
-unit-true first (q ∷ qs) trues p (zero, at) =
-    stays-true first qs (not_false first q ∷ trues) (not_false first p)
-    (or_left (same_literal (not_false first p) (not_false first q)) (holds trues (not_false first p))
-    (ap (λ x. same_literal (not_false first p) (not_false first x)) (same_Some q p at)
-    ∙ same_literal-refl (not_false first p)))
+unit-true first (q ∷ qs) trues p (zero, at) = search (arith, stays-true, or_left, same_literal-refl)
 unit-true first (q ∷ qs) trues p (suc j, at) = unit-true first qs (not_false first q ∷ trues) p (j, at)
 
 -- where no positive literal is true, and none of these negative ones, they falsify the last clause
@@ -86,14 +80,8 @@ none-positive first (p ∷ ps) v = none-positive first ps v
 kept-true : (first : ℕ) (ps : List ℕ) (p : ℕ) → StandsIn ps p
     → holds (map opposite (map (is_false first) ps)) (not_false first p) ≡ true
 kept-true first [] p (j, at) = cc
-kept-true first (q ∷ qs) p (zero, at) =
-    or_left (same_literal (not_false first p) (not_false first q))
-    (holds (map opposite (map (is_false first) qs)) (not_false first p))
-    (ap (λ x. same_literal (not_false first p) (not_false first x)) (same_Some q p at)
-    ∙ same_literal-refl (not_false first p))
-kept-true first (q ∷ qs) p (suc j, at) =
-    or_right (same_literal (not_false first p) (not_false first q))
-    (holds (map opposite (map (is_false first) qs)) (not_false first p)) (kept-true first qs p (j, at))
+kept-true first (q ∷ qs) p (zero, at) = search (arith, or_left, same_literal-refl)
+kept-true first (q ∷ qs) p (suc j, at) = search (arith, or_right, (kept-true first qs p (j, at)))
 
 fresh-here : (first : ℕ) (ps : List ℕ) (p : ℕ) → (StandsIn ps p → ⊥)
     → holds (map opposite (map (is_false first) ps)) (not_false first p) ≡ false

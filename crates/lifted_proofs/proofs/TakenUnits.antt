@@ -30,38 +30,43 @@ later-units f (x ∷ xs) ys are = later-units f xs ys are.1
 pub first-are-units : (f : Dqbf) (units : List Taken) (count : ℕ) → AreUnits f (reverse units)
     → AreUnits f (first_units units count)
 first-are-units f units count are =
-    later-units f (reverse (drop count units)) (reverse (take count units))
-    (subst (AreUnits f) (ap reverse (sym (take-append-drop count units))
-    ∙ reverse-append (take count units) (drop count units)) are)
+    search (
+      arith,
+      (later-units f (reverse (drop count units)) (reverse (take count units))),
+      (take-append-drop count units),
+      (reverse-append (take count units) (drop count units)),
+    )
 
 pub first-more : (units : List Taken) (j : ℕ) (u : Taken) → slice_get units j ≡ Some u
     → first_units units (j + 1) ≡ u ∷ first_units units j
 first-more units j u at =
-    ap reverse (take_more units j u (slice_get_within units j u at))
-    ∙ reverse-append (take j units) (get_or units j u ∷ [])
-    ∙ ap (λ x. x ∷ reverse (take j units)) (get_or_from_slice_get units j u u at)
+    search (
+      arith,
+      (take_more units j u (slice_get_within units j u at)),
+      (slice_get_within units j u at),
+      (reverse-append (take j units) (get_or units j u ∷ [])),
+      (get_or_from_slice_get units j u u at),
+    )
 
 -- a unit, by the units before it
 pub unit-at : (f : Dqbf) (units : List Taken) (j : ℕ) (u : Taken) → AreUnits f (reverse units)
     → slice_get units j ≡ Some u → IsUnit f (first_units units j) u
-unit-at f units j u are at =
-    let all = first-are-units f units (j + 1) are in
-    let both : AreUnits f (u ∷ first_units units j) = subst (AreUnits f) (first-more units j u at) all in
-    both.0
+unit-at f units j u are at = search (arith, (first-are-units f units (j + 1) are), (first-more units j u at))
 
 -- the literal of a unit is among those of the first ones
 pub first-holds : (units : List Taken) (count j : ℕ) (u : Taken) → j < count → slice_get units j ≡ Some u
     → holds (first_literals units count) u.literal ≡ true
 first-holds units count j u before at =
-    let inside : Contains (take count units) u = (
-      j,
-      omega (arith, before, slice_get_within units j u at, length-take count units),
-      get_or-take count units j u before ∙ get_or_from_slice_get units j u u at,
-    ) in
-    let r = Contains-permutation (take count units) (reverse (take count units)) u
-    (IsPermutation-reverse (take count units)) inside in
-    ap (λ x. holds (first_literals units count) x.literal) (sym r.2)
-    ∙ taken-holds (reverse (take count units)) r.0 u r.1
+    search (
+      arith,
+      (slice_get_within units j u at),
+      (length-take count units),
+      (get_or-take count units j u before),
+      (get_or_from_slice_get units j u u at),
+      (Contains-permutation (take count units) (reverse (take count units)) u (IsPermutation-reverse (take count units))),
+      (IsPermutation-reverse (take count units)),
+      (taken-holds (reverse (take count units))),
+    )
 
 holds-unit : (units : List Taken) (l : Literal) → holds (taken_literals units) l ≡ true
     → (u : Taken) × Contains units u × (u.literal ≡ l)
@@ -106,31 +111,30 @@ units-apart : (f : Dqbf) (units : List Taken) (i j : ℕ) (u w : Taken) → AreU
     → i < j → slice_get units i ≡ Some u → slice_get units j ≡ Some w
     → variable_of u.literal ≢ variable_of w.literal
 units-apart f units i j u w are before at-i at-j same =
-    let it = unit-at f units j w are at-j in
-    let trues = first_literals units j in
-    let held = first-holds units j i u before at-i in
-    elim (one_variable u.literal w.literal same) [
-      | inl is ↦
-          let inside : holds it.clause w.literal ≡ true =
-          left-holds f w.literal trues it.clause
-          (ap (λ c. holds c w.literal) it.left
-          ∙ or_left (same_literal w.literal w.literal) false (same_literal-refl w.literal)) in
-          true≢false (sym (satisfied-by trues it.clause w.literal inside (ap (holds trues) (sym is) ∙ held))
-          ∙ it.unsatisfied)
-      | inr is ↦ true≢false (sym held ∙ ap (holds trues) is ∙ unit-fresh f (first_units units j) w it)
-    ]
+    search (
+      arith,
+      (unit-at f units j w are at-j),
+      (first-holds units j i u before at-i),
+      (one_variable u.literal w.literal same),
+      (left-holds f w.literal),
+      or_left,
+      (same_literal-refl w.literal),
+      true≢false,
+      satisfied-by,
+      (unit-fresh f),
+    )
 
 pub one-unit : (f : Dqbf) (units : List Taken) (i j : ℕ) (u w : Taken) → AreUnits f (reverse units)
     → slice_get units i ≡ Some u → slice_get units j ≡ Some w
     → variable_of u.literal ≡ variable_of w.literal → i ≡ j
-one-unit f units i j u w are at-i at-j same = elim (cases_eq i j) [
-  | inl is ↦ is
-  | inr other ↦ elim (cases_lt i j) [
-    | inl before ↦ absurd (units-apart f units i j u w are before at-i at-j same)
-    | inr behind ↦
-        absurd (units-apart f units j i w u are (omega (arith, behind, other)) at-j at-i (sym same))
-  ]
-]
+one-unit f units i j u w are at-i at-j same =
+    search (
+      arith,
+      (cases_eq i j),
+      (cases_lt i j),
+      (units-apart f units i j u w are),
+      (units-apart f units j i w u are),
+    )
 
 -- where no unit is on the variable, none makes the literal false
 pub none-false : (f : Dqbf) (units : List Taken) (count : ℕ) (l : Literal) → IsWellFormed f
@@ -151,28 +155,14 @@ none-false f units count l well are none =
 pub untold-false : (units : List Taken) (count : ℕ) (l : Literal)
     → TellsUnit units (length units) (variable_of l) None → IsFalseBy units count l None
 untold-false units count l none =
-    elim (cases_Bool (holds (first_literals units count) (opposite l))) [
-      | inr other ↦ other
-      | inl held ↦
-          let first = held-first units count (opposite l) held in
-          absurd (none first.place first.unit (slice_get_within units first.place first.unit first.at) first.at
-          (ap variable_of first.is ∙ opposite_variable l))
-    ]
+    search (arith, cases_Bool, (held-first units count), (slice_get_within units), (opposite_variable l))
 
 pub other-false : (units : List Taken) (count : ℕ) (l : Literal) (j : ℕ)
     → TellsUnit units (length units) (variable_of l) (Some j)
     → ((u : Taken) → slice_get units j ≡ Some u → j < count → u.literal ≡ opposite l → ⊥)
     → IsFalseBy units count l None
 other-false units count l j told none =
-    elim (cases_Bool (holds (first_literals units count) (opposite l))) [
-      | inr other ↦ other
-      | inl held ↦
-          let first = held-first units count (opposite l) held in
-          let is = told.1 first.place first.unit (slice_get_within units first.place first.unit first.at) first.at
-          (ap variable_of first.is ∙ opposite_variable l) in
-          absurd (none first.unit (ap (slice_get units) (sym is) ∙ first.at)
-          (subst (λ n. n < count) is first.before) first.is)
-    ]
+    search (arith, cases_Bool, (held-first units count), (slice_get_within units), (opposite_variable l))
 
 one-at : (units : List Taken) (i j : ℕ) (w u : Taken) → i ≡ j → slice_get units i ≡ Some w
     → slice_get units j ≡ Some u → u ≡ w
@@ -181,20 +171,8 @@ one-at units i j w u same there at = same_Some u w (sym at ∙ ap (slice_get uni
 -- one more unit, on another variable
 pub tells-more : (units : List Taken) (j v : ℕ) (u : Taken) (o : Option ℕ) → slice_get units j ≡ Some u
     → variable_of u.literal ≢ v → TellsUnit units j v o → TellsUnit units (j + 1) v o
-tells-more units j v u None at other told = λ i w below there same. elim (cases_lt i j) [
-  | inl before ↦ told i w before there same
-  | inr behind ↦ other (ap (λ x. variable_of x.literal) (one-at units i j w u (omega (arith, below, behind)) there at)
-      ∙ same)
-]
-tells-more units j v u (Some place) at other told = (
-  omega (arith, told.0),
-  λ i w below there same. elim (cases_lt i j) [
-    | inl before ↦ told.1 i w before there same
-    | inr behind ↦
-        absurd (other (ap (λ x. variable_of x.literal)
-        (one-at units i j w u (omega (arith, below, behind)) there at) ∙ same))
-  ],
-)
+tells-more units j v u None at other told = search (arith, cases_lt, one-at)
+tells-more units j v u (Some place) at other told = search (arith, cases_lt, one-at)
 
 -- the existential at a place has the newest unit
 pub tells-here : (f : Dqbf) (units : List Taken) (j : ℕ) (u : Taken) (v : ℕ) → AreUnits f (reverse units)
@@ -222,12 +200,7 @@ table-more f units j place u on are at found within told v p at-v = elim (cases_
       (sym (ap (λ k. get_or (slice_set on place (Some j)) k None) same
       ∙ get_or-set_same on place (Some j) None within))
       (tells-here f units j u v are at (same-place f (variable_of u.literal) v place found here))
-  | inr other ↦
-      subst (TellsUnit units (j + 1) v) (sym (get_or-set_other on place p (Some j) None other))
-      (tells-more units j v u (slice_index_or on p None) at
-      (λ same. other (same_Some p place (sym at-v
-      ∙ ap (λ n. position (λ y. y == n) (existential_variables f)) (sym same) ∙ found)))
-      (told v p at-v))
+  | inr other ↦ search (arith, get_or-set_other, tells-more)
 ]
 
 -- a unit on no existential changes nothing
@@ -235,11 +208,7 @@ pub table-stays : (f : Dqbf) (units : List Taken) (j : ℕ) (u : Taken) (on : Li
     → slice_get units j ≡ Some u
     → position (λ y. y == variable_of u.literal) (existential_variables f) ≡ None
     → TellUnits f units j on → TellUnits f units (j + 1) on
-table-stays f units j u on at none told v p at-v =
-    tells-more units j v u (slice_index_or on p None) at
-    (λ same.
-    let e : None ≡ Some p = sym none ∙ ap (λ n. position (λ y. y == n) (existential_variables f)) same ∙ at-v in cc)
-    (told v p at-v)
+table-stays f units j u on at none told v p at-v = search (arith, tells-more)
 
 pub unit-some : (f : Dqbf) (units : List Taken) (j : ℕ) (u : Taken) (v : ℕ) → IsWellFormed f
     → AreUnits f (reverse units) → slice_get units j ≡ Some u → v ≡ variable_of u.literal
@@ -264,17 +233,11 @@ pub told-at : (f : Dqbf) (units : List Taken) (on : List (Option ℕ)) (l : Lite
     → o ≡ position (λ y. y == v) (existential_variables f) → o ≡ Some place → x ≡ slice_index_or on place x
     → TellsUnit units (length units) (variable_of l) x
 told-at f units on l v place o x tell many is at found read =
-    let here : position (λ y. y == variable_of l) (existential_variables f) ≡ Some place =
-    subst (λ w. position (λ y. y == w) (existential_variables f) ≡ Some place) is (sym at ∙ found) in
-    let within = position-Some (λ y. y == variable_of l) (existential_variables f) place 0 here in
-    let below : place < length on = omega (arith, within.0, many, length-map f.existentials (λ y. y.variable)) in
-    subst (TellsUnit units (length units) (variable_of l))
-    (get_or_default on place None x below ∙ sym read) (tell (variable_of l) place here)
+    search (arith, position-Some, length-map, get_or_default)
 
 pub told-none : (units : List Taken) (count : ℕ) (l : Literal) (x : Option ℕ)
     → TellsUnit units (length units) (variable_of l) x → x ≡ None → IsFalseBy units count l None
-told-none units count l x told none =
-    untold-false units count l (subst (TellsUnit units (length units) (variable_of l)) none told)
+told-none units count l x told none = search (arith, untold-false)
 
 pub told-within : (units : List Taken) (l : Literal) (x : Option ℕ) (j : ℕ)
     → TellsUnit units (length units) (variable_of l) x → x ≡ Some j → j < length units
@@ -284,17 +247,12 @@ pub told-other : (units : List Taken) (count : ℕ) (l : Literal) (x : Option �
     → TellsUnit units (length units) (variable_of l) x → x ≡ Some j
     → ((u : Taken) → slice_get units j ≡ Some u → j < count → u.literal ≡ opposite l → ⊥)
     → IsFalseBy units count l None
-told-other units count l x j told some none =
-    other-false units count l j (subst (TellsUnit units (length units) (variable_of l)) some told) none
+told-other units count l x j told some none = search (arith, (other-false units count l j))
 
 pub here-false : (units : List Taken) (j : ℕ) (l k : Literal) (u : Taken) (b : Bool) → slice_get units j ≡ Some u
     → k ≡ opposite l → b ≡ same_literal u.literal k → IsFalseAt units j l b
-here-false units j l k u true at is same =
-    (u, (at, same_literal-sound u.literal k (sym same) ∙ is))
-here-false units j l k u false at is other = λ w there same.
-    let one : u ≡ w = same_Some u w (sym at ∙ there) in
-    true≢false (sym (same_literal-refl k)
-    ∙ ap (λ x. same_literal x k) (is ∙ sym same ∙ ap (λ x. x.literal) (sym one)) ∙ sym other)
+here-false units j l k u true at is same = search (arith, same_literal-sound)
+here-false units j l k u false at is other = search (arith, true≢false, same_literal-refl)
 
 pub not-false-here : (units : List Taken) (j : ℕ) (l : Literal) (b : Bool) → IsFalseAt units j l b → b ≡ false
     → (u : Taken) → slice_get units j ≡ Some u → u.literal ≡ opposite l → ⊥
@@ -320,9 +278,4 @@ pub step-off : (f : Dqbf) (units : List Taken) (j v : ℕ) (u : Taken) (o : Opti
     → o ≡ position (λ y. y == v) (existential_variables f) → o ≡ None
     → (length on ≡ length f.existentials) × TellUnits f units j on → new ≡ on
     → (length new ≡ length f.existentials) × TellUnits f units (j + 1) new
-step-off f units j v u o on new at is found none was same =
-    let here : position (λ y. y == variable_of u.literal) (existential_variables f) ≡ None =
-    subst (λ w. position (λ y. y == w) (existential_variables f) ≡ None) is (sym found ∙ none) in (
-      ap (λ (xs : List (Option ℕ)). length xs) same ∙ was.0,
-      subst (TellUnits f units (j + 1)) (sym same) (table-stays f units j u on at here was.1),
-    )
+step-off f units j v u o on new at is found none was same = search (arith, table-stays)

@@ -1,20 +1,14 @@
-use Rattle.std.proofs.Common.{◌≡◌, None, reverse, subst, sym}
+use Rattle.std.proofs.Common.{reverse, subst, arith}
 use Rattle.std.specs.Prelude.{IfOk}
-use Rattle.cert_text.specs.ProofGrammar.{IsDqpOf}
-use Rattle.proof_checker.specs.CircuitProof.{circuit_proof_fault}
 use Rattle.lifted_proofs.specs.LiftedCircuits.{AreLiftedLines}
 use Rattle.lifted_proofs.specs.Liftings.{formula_of, units_of}
 use Rattle.lifted_proofs.proofs.circuits.lifted_lines.Goals as goal
 
 pub lines_by-requires-clause-allowed : goal.lines_by-requires-clause-allowed
-lines_by-requires-clause-allowed c =
-    subst (λ b. IsDqpOf b.formula b.circuit.netlist c.args.p.now) (sym c.in_ok-lifting.ensures.bench)
-    c.requires.allowed
+lines_by-requires-clause-allowed c = search arith
 
 pub lines_by-requires-clause-derives : goal.lines_by-requires-clause-derives
-lines_by-requires-clause-derives c =
-    subst (λ b. circuit_proof_fault b c.args.p.now.items ≡ None) (sym c.in_ok-lifting.ensures.bench)
-    c.requires.derives
+lines_by-requires-clause-derives c = search arith
 
 pub returns : goal.returns
 returns c =

@@ -11,13 +11,10 @@ settled-requires-clause-mapped c =
     c.requires.left c.requires.bench).mapped
 
 pub lifted_lines-requires-clause-can : goal.lifted_lines-requires-clause-can
-lifted_lines-requires-clause-can c =
-    is-liftable c.args.table.now c.args.file.now c.args.g.now c.args.p.now c.args.bench.now c.requires.right
-    c.requires.left c.requires.bench
+lifted_lines-requires-clause-can c = search (arith, is-liftable)
 
 pub lifted_lines-requires-clause-derives : goal.lifted_lines-requires-clause-derives
-lifted_lines-requires-clause-derives c =
-    derives-by c.args.g.now c.args.file.now c.args.p.now c.args.bench.now c.requires.left.proved c.requires.bench
+lifted_lines-requires-clause-derives c = search (arith, derives-by)
 
 pub of_lines-requires : goal.of_lines-requires
 of_lines-requires c =

@@ -1,5 +1,4 @@
-use Rattle.std.proofs.Common.{◌≡◌, ◌<◌, ◌+◌, ℕ, List, length, refl, ap, subst, sym, arith}
-use Rattle.std.specs.List.{All}
+use Rattle.std.proofs.Common.{◌≡◌, ◌+◌, ℕ, List, length, refl, ap, arith}
 use Rattle.lifted_proofs.specs.CarriedProofs.{Carrying}
 use Rattle.lifted_proofs.specs.Liftables.{carrying_of}
 use Rattle.lifted_proofs.specs.Liftings.{formula_of, units_of}
@@ -7,14 +6,7 @@ use Rattle.lifted_proofs.proofs.LiftedCircuits.{kept-small, carried-small, all-l
 use Rattle.lifted_proofs.proofs.circuits.lines_by.Goals as goal
 
 pub carry-requires-clause-can : goal.carry-requires-clause-can
-carry-requires-clause-can c =
-    let l = c.args.lifting.now in
-    let it = c.requires.lifting in
-    record {
-      largest = omega (arith, it.base.few);
-      places = subst (All (λ p. p < 10000000000000000)) (sym c.deref.ensures.value) (kept-small l it);
-      some_false = omega (arith, it.base.small, c.len.ensures.small);
-    }
+carry-requires-clause-can c = search (arith, kept-small)
 
 pub carry-requires-clause-small : goal.carry-requires-clause-small
 carry-requires-clause-small c =

@@ -1,10 +1,6 @@
-use Rattle.std.proofs.Common.{◌*◌, length, ap, arith}
+use Rattle.std.proofs.Common.{arith}
 use Rattle.lifted_proofs.proofs.LiftedRefutations.{few-instances}
 use Rattle.lifted_proofs.proofs.refutations.lift.Goals as goal
 
 pub overflow_mul-last : goal.overflow_mul-last
-overflow_mul-last c =
-    let few = few-instances c.args.table.now c.args.d.now c.args.sources.now c.requires.right c.requires.refutes
-    c.requires.sources in
-    let rows = ap (λ xs. length xs * length c.args.sources.now) c.items.ensures in
-    omega (arith, few, rows)
+overflow_mul-last c = search (arith, few-instances)

@@ -1,7 +1,6 @@
-use Rattle.std.proofs.Common.{◌*◌, length, refl, sym, ap, subst, arith}
+use Rattle.std.proofs.Common.{◌*◌, length, refl, arith}
 use Rattle.cert_text.specs.Pairs.{is_pair_number}
 use Rattle.cert_text.specs.Scan.{first_id}
-use Rattle.proof_deletions.specs.Deletions.{AreNumberedLines}
 use Rattle.proof_deletions.proofs.NumberedLines.{from_one}
 use Rattle.lifted_proofs.proofs.LiftedRefutations.{wanted-ids, wanted-goals, lifted-allowed, lifted-refutes}
 use Rattle.lifted_proofs.proofs.refutations.lift_wanted.Goals as goal
@@ -33,15 +32,7 @@ returns-clause-allowed c =
     c.in_ok-steps.ensures.lifted c.in_ok-steps.ensures.few refl c.of_lines.ensures
 
 pub returns-clause-refutes : goal.returns-clause-refutes
-returns-clause-refutes c =
-    lifted-refutes c.args.table.now c.in_ok-plan.plan c.in_ok-steps.steps
-    (record { rows = c.in_ok-plan.plan.rows; items = c.of_lines.result }) c.in_ok-steps.ensures.lifted refl
-    c.of_lines.ensures
+returns-clause-refutes c = search (arith, lifted-refutes)
 
 pub returns-clause-lines : goal.returns-clause-lines
-returns-clause-lines c =
-    let f = c.args.table.now.formula.now in
-    let rows = c.in_ok-plan.plan.rows in
-    subst AreNumberedLines (sym c.of_lines.ensures)
-    (c.allowed_lines_are_numbered.ensures (is_pair_number f (length rows)) (first_id f (length rows))
-    c.in_ok-steps.steps (omega arith) c.in_ok-steps.ensures.lifted.allowed)
+returns-clause-lines c = search arith

@@ -1,4 +1,4 @@
-use Rattle.std.proofs.Common.{◌≡◌, ◌+◌, ◌*◌, ℕ, List, ◌++◌, map, length, ◌∙◌, ap, arith}
+use Rattle.std.proofs.Common.{◌≡◌, ◌+◌, ◌*◌, ◌++◌, map, length, ◌∙◌, ap, arith}
 use Rattle.list_laws.proofs.Numbers.{few-rows}
 use Rattle.lifted_proofs.specs.Carried.{Renumbering, carried_step, lines_of}
 use Rattle.lifted_proofs.proofs.LiftedLines.{all-lifted, renumber}
@@ -6,29 +6,13 @@ use Rattle.lifted_proofs.proofs.LiftedRefutations.{few-instances, few-wanted, sm
 use Rattle.lifted_proofs.proofs.refutations.lifted_lines.Goals as goal
 
 pub overflow_mul-renumbered : goal.overflow_mul-renumbered
-overflow_mul-renumbered c =
-    let few = few-instances c.args.table.now c.args.d.now c.args.sources.now c.requires.right c.requires.refutes
-    c.requires.sources in
-    let rows = ap (λ xs. length xs * length c.args.sources.now) c.items-2.ensures in
-    omega (arith, few, rows)
+overflow_mul-renumbered c = search (arith, few-instances)
 
 pub carry-requires-clause-can : goal.carry-requires-clause-can
-carry-requires-clause-can c =
-    let p = c.args.plan.now in
-    let wanted = few-wanted c.args.sources.now c.args.wanted.now c.requires.plan.first p.goals.items
-    c.requires.plan.goals c.requires.plan.goals_kept in
-    let same = ap (λ (xs : List ℕ). length xs) c.deref.ensures.value in
-    let few = few-rows (length p.rows) c.clauses.result (omega (arith, c.requires.whole.plan.plan.few_rows))
-    (omega (arith, c.clauses.ensures.few)) in
-    let rows = ap (λ xs. length xs * c.clauses.result) c.items.ensures in
-    record {
-      ids = omega (arith, wanted, same, c.in_ok-written.ensures.written.many);
-      small = omega (arith, few, rows, c.len.ensures.small);
-    }
+carry-requires-clause-can c = search (arith, few-wanted, few-rows)
 
 pub carry-requires-clause-small : goal.carry-requires-clause-small
-carry-requires-clause-small c =
-    small-lines c.args.table.now c.args.d.now c.args.sources.now c.requires.right c.requires.refutes c.requires.sources
+carry-requires-clause-small c = search (arith, small-lines)
 
 pub returns-clause-lifted : goal.returns-clause-lifted
 returns-clause-lifted c =

@@ -1,10 +1,9 @@
+use Rattle.std.proofs.Common.{arith}
 use Rattle.lifted_proofs.proofs.LowRows.{unplaced-true, placed-true}
 use Rattle.lifted_proofs.proofs.rows.is_true.Goals as goal
 
 pub returns-in_default : goal.returns-in_default
-returns-in_default c =
-    unplaced-true c.args.f.now c.args.row.now c.args.l c.var.result c.universal_place.result c.var.ensures.value
-    c.universal_place.ensures c.in_default.is
+returns-in_default c = search (arith, unplaced-true)
 
 pub returns : goal.returns
 returns c =

@@ -1,6 +1,6 @@
 use Rattle.std.proofs.Common.{◌≡◌, ◌<◌, ◌/◌, ◌*◌, ◌++◌, ◌∷◌, [], ◌∙◌, ℕ, length, get_or, sym, ap, subst, arith}
 use Rattle.std.proofs.lemmas.List.{get_or_default}
-use Rattle.circuit_plain.specs.Netlist.{Netlist, IsNetlist, IsDefined, IsLiteral, IsVariable, gate_at}
+use Rattle.circuit_plain.specs.Netlist.{Netlist, IsNetlist, IsDefined, gate_at}
 use Rattle.circuit_plain.proofs.NetlistParts.{MayBeAdded, may_be_added, gate_added}
 use Rattle.lifted_proofs.proofs.settled.add_gates.Goals as goal
 
@@ -15,11 +15,7 @@ may net i t lawful below is =
     (may_be_added net lawful i (gate_at net i) below (at-place net i below))
 
 pub add_gate-requires-clause-in_range : goal.add_gate-requires-clause-in_range
-add_gate-requires-clause-in_range c =
-    let net = c.args.circuit.now in
-    let it = may net c.loop-i.i c.gate-literal.result c.every_circuit_is_a_netlist.ensures
-    (omega (arith, c.loop-i-test.true, c.gates-i-end.ensures)) c.gate-literal.ensures in
-    subst (λ (n : Netlist). IsVariable n.max_var (c.gate-literal.result.0 / 2)) (sym c.loop-i.invariant) it.variable
+add_gate-requires-clause-in_range c = search arith
 
 pub add_gate-requires-clause-undefined : goal.add_gate-requires-clause-undefined
 add_gate-requires-clause-undefined c =
@@ -30,18 +26,10 @@ add_gate-requires-clause-undefined c =
     c.loop-i.invariant defined)
 
 pub add_gate-requires-clause-a_in_range : goal.add_gate-requires-clause-a_in_range
-add_gate-requires-clause-a_in_range c =
-    let net = c.args.circuit.now in
-    let it = may net c.loop-i.i c.gate-literal.result c.every_circuit_is_a_netlist.ensures
-    (omega (arith, c.loop-i-test.true, c.gates-i-end.ensures)) c.gate-literal.ensures in
-    subst (λ (n : Netlist). IsLiteral n.max_var c.gate-literal.result.1) (sym c.loop-i.invariant) it.left_fits
+add_gate-requires-clause-a_in_range c = search arith
 
 pub add_gate-requires-clause-b_in_range : goal.add_gate-requires-clause-b_in_range
-add_gate-requires-clause-b_in_range c =
-    let net = c.args.circuit.now in
-    let it = may net c.loop-i.i c.gate-literal.result c.every_circuit_is_a_netlist.ensures
-    (omega (arith, c.loop-i-test.true, c.gates-i-end.ensures)) c.gate-literal.ensures in
-    subst (λ (n : Netlist). IsLiteral n.max_var c.gate-literal.result.2) (sym c.loop-i.invariant) it.right_fits
+add_gate-requires-clause-b_in_range c = search arith
 
 pub loop-i-preserved : goal.loop-i-preserved
 loop-i-preserved c =

@@ -1,4 +1,4 @@
-use Rattle.std.proofs.Common.{get_or, ap}
+use Rattle.std.proofs.Common.{get_or, ap, arith}
 use Rattle.std.proofs.lemmas.Option.{slice_get-get_or}
 use Rattle.lifted_proofs.proofs.TakenUnits.{step-on, step-off}
 use Rattle.lifted_proofs.proofs.units.units_on.Goals.{in-Some, in_default}
@@ -15,9 +15,5 @@ loop-j-preserved c =
           c.match-existential_place.on.items c.requires.units
           (slice_get-get_or units c.loop-j.j c.index-units-j.result c.loop-j-test.true) c.var.ensures.value
           c.existential_place.ensures w.in-Some.is c.loop-j.invariant (ap (λ v. v.items) w.on-is)
-      | in_default w ↦
-          step-off f units c.loop-j.j c.var.result u c.existential_place.result c.loop-j.on.items
-          c.match-existential_place.on.items
-          (slice_get-get_or units c.loop-j.j c.index-units-j.result c.loop-j-test.true) c.var.ensures.value
-          c.existential_place.ensures w.in_default.is c.loop-j.invariant (ap (λ v. v.items) w.on-is)
+      | in_default w ↦ search (arith, step-off, slice_get-get_or)
     ]

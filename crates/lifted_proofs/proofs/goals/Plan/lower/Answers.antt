@@ -1,10 +1,9 @@
+use Rattle.std.proofs.Common.{arith}
 use Rattle.lifted_proofs.proofs.SettledGoals.{lowered-here, row-added}
 use Rattle.lifted_proofs.proofs.goals.Plan.lower.Goals as goal
 
 pub returns-then-not-any_true : goal.returns-then-not-any_true
-returns-then-not-any_true c =
-    lowered-here c.clause-clause.result.now c.any_true.result c.requires.plan c.row-row.ensures.at
-    c.clause-clause.ensures c.any_true.ensures c.if-not-any_true.true
+returns-then-not-any_true c = search (arith, lowered-here)
 
 pub returns : goal.returns
 returns c =

@@ -4,9 +4,7 @@ use Rattle.lifted_proofs.proofs.SettledGoals.{settled-next}
 use Rattle.lifted_proofs.proofs.goals.Plan.settle.Goals as goal
 
 pub ask_all-requires-clause-row : goal.ask_all-requires-clause-row
-ask_all-requires-clause-row c =
-    let it = c.in_ok-lowered.ensures.now in
-    slice_get_within c.lower.new.self.rows c.in_ok-lowered.lowered it.low it.low_at
+ask_all-requires-clause-row c = search (arith, slice_get_within)
 
 pub returns : goal.returns
 returns c =

@@ -1,13 +1,11 @@
-use Rattle.std.proofs.Common.{◌≡◌, ◌<◌, ◌∙◌, List, [], length, get_or, sym, ap, subst, arith}
+use Rattle.std.proofs.Common.{◌≡◌, ◌∙◌, List, [], length, get_or, ap, arith}
 use Rattle.dq_lits.specs.Literal.{Literal}
 use Rattle.lifted_proofs.specs.Liftings.{left_at}
 use Rattle.lifted_proofs.proofs.LiftedNames.{left-in, none-next, next-by}
 use Rattle.lifted_proofs.proofs.liftings.Lifting.is_next.Goals as goal
 
 pub clause-left-requires : goal.clause-left-requires
-clause-left-requires c =
-    subst (λ g. c.args.j < length g.matrix) (sym c.formula.ensures)
-    (left-in c.args.self.now c.args.j c.requires.lifting c.requires.within)
+clause-left-requires c = search (arith, (left-in c.args.self.now c.args.j c.requires.lifting c.requires.within))
 
 pub returns-then-found-left : goal.returns-then-found-left
 returns-then-found-left c =

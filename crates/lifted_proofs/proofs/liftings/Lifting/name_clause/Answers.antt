@@ -1,11 +1,10 @@
-use Rattle.std.proofs.Common.{◌≤◌, ◌∙◌, ap, subst, length, get_or, []}
+use Rattle.std.proofs.Common.{◌≤◌, ◌∙◌, ap, subst, length, get_or, [], arith}
 use Rattle.lifted_proofs.specs.Liftings.{formula_of}
 use Rattle.lifted_proofs.proofs.LiftedNames.{naming-begun, naming-done}
 use Rattle.lifted_proofs.proofs.liftings.Lifting.name_clause.Goals as goal
 
 pub loop-q-init : goal.loop-q-init
-loop-q-init c =
-    naming-begun c.args.self.now c.requires.lifting c.args.j c.args.named.now c.requires.within c.requires.named
+loop-q-init c = search (arith, naming-begun)
 
 pub returns : goal.returns
 returns c =

@@ -1,24 +1,18 @@
-use Rattle.std.proofs.Common.{◌<◌, ◌*◌, ◌∷◌, [], ◌++◌, map, length, sym, ◌∙◌, ap, subst, arith}
+use Rattle.std.proofs.Common.{◌*◌, ◌∷◌, [], ◌++◌, map, length, ◌∙◌, ap, arith}
 use Rattle.std.specs.Prelude.{slice_index_or}
-use Rattle.std.specs.List.{All}
 use Rattle.lifted_proofs.proofs.NamedGoals.{line-instance, line-added, no-hints}
 use Rattle.lifted_proofs.proofs.lines.Written.id_of.Goals as goal
 
 pub returns-then-is_empty-clause-line : goal.returns-then-is_empty-clause-line
 returns-then-is_empty-clause-line c =
-    let r = c.reason-reason.result.now in
-    line-instance c.args.table.now c.args.plan.now c.args.self.now c.args.q c.instance_id-instance.result
-    c.goal-goal.result r c.goal-goal.ensures c.reason-reason.ensures c.requires.written.lines
-    c.instance_id-instance.ensures
-    (no-hints r.hints.items (grind (arith, c.is_empty.ensures, c.if-is_empty.true, r.hints.ok.0)))
+    search (
+      arith,
+      (line-instance c.args.table.now c.args.plan.now c.args.self.now c.args.q c.instance_id-instance.result c.goal-goal.result),
+      no-hints,
+    )
 
 pub ids_at-requires : goal.ids_at-requires
-ids_at-requires c =
-    let ids = c.args.self.now.ids.items in
-    subst (λ xs. All (λ h. h < length xs) c.deref-2.result.now) (sym c.deref.ensures.value)
-    (subst (All (λ h. h < length ids)) (sym c.deref-2.ensures.value)
-    (subst (λ n. All (λ h. h < n) c.reason-reason.result.now.hints.items) (sym c.requires.written.many)
-    c.reason-reason.ensures.hints))
+ids_at-requires c = search arith
 
 pub returns-clause-line : goal.returns-clause-line
 returns-clause-line c =

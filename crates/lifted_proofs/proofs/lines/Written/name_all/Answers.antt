@@ -1,4 +1,4 @@
-use Rattle.std.proofs.Common.{get_or}
+use Rattle.std.proofs.Common.{get_or, arith}
 use Rattle.std.proofs.lemmas.List.{get_or_default}
 use Rattle.lifted_proofs.specs.declared.turns.Turn.{Turn}
 use Rattle.lifted_proofs.proofs.NamedGoals.{hints-first, turn-named, all-named}
@@ -26,6 +26,4 @@ loop-turn-preserved c =
     )
 
 pub returns-clause-named : goal.returns-clause-named
-returns-clause-named c =
-    all-named c.args.table.now c.args.plan.now c.loop-turn.self c.args.order.now c.loop-turn.turn-index
-    c.requires.order c.loop-turn-test.false c.loop-turn.invariant.1
+returns-clause-named c = search (arith, all-named)

@@ -3,18 +3,10 @@ use Rattle.lifted_proofs.proofs.TakenUnits.{place-none, told-at, told-none, told
 use Rattle.lifted_proofs.proofs.units.UnitTable.false_by.Goals as goal
 
 pub returns-in_default : goal.returns-in_default
-returns-in_default c =
-    let t = c.args.self.now in
-    place-none t.formula.now t.units.now c.args.count c.args.l c.var.result c.existential_place.result
-    c.requires.right.well c.requires.right.units c.var.ensures.value c.existential_place.ensures c.in_default.is
+returns-in_default c = search (arith, place-none)
 
 pub returns-in_default-index : goal.returns-in_default-index
-returns-in_default-index c =
-    let t = c.args.self.now in
-    told-none t.units.now c.args.count c.args.l c.index.result.now
-    (told-at t.formula.now t.units.now t.on.items c.args.l c.var.result c.in-Some.place c.existential_place.result
-    c.index.result.now c.requires.right.tell c.requires.right.many c.var.ensures.value c.existential_place.ensures
-    c.in-Some.is c.index.ensures) c.in_default-index.is
+returns-in_default-index c = search (arith, told-none, told-at)
 
 pub returns-then-j-count : goal.returns-then-j-count
 returns-then-j-count c =
