@@ -1,5 +1,5 @@
 -- Clauses that are added one by one.
-use Rattle.std.proofs.Common.{◌≡◌, ℕ, ◌+◌, ◌*◌, ◌<◌, List, [], ◌∷◌, ◌++◌, sym, ◌∙◌, ap, append_assoc}
+use Rattle.std.proofs.Common.{◌≡◌, ℕ, ◌+◌, ◌*◌, ◌<◌, List, [], ◌∷◌, ◌++◌, sym, ◌∙◌, ap, append_assoc, arith}
 use Rattle.std.specs.Option.{option_map}
 use Rattle.std.proofs.lemmas.List.Elements.{All-from_recursion}
 use Rattle.std.proofs.lemmas.List.Elements.{filter_map-append}
@@ -13,8 +13,7 @@ use Rattle.pec_front.specs.Kept.{kept, AreWithin}
 
 pub three-within : (variables a b c : ℕ) → literal_variable a < variables + 1 → literal_variable b < variables + 1
     → literal_variable c < variables + 1 → AreWithin variables (a ∷ b ∷ c ∷ [])
-three-within variables a b c x y z =
-    All-from_recursion (λ l. literal_variable l < variables + 1) (a ∷ b ∷ c ∷ []) (x, (y, (z, tt)))
+three-within variables a b c x y z = search (arith, All-from_recursion)
 
 abbrev pub with_clauses : Dqbf → List (List Literal) → Dqbf
 with_clauses f clauses = record f { matrix = f.matrix ++ clauses }

@@ -47,15 +47,8 @@ pub next-copy : (d : PartialDesign) (first : ℕ) (ss : List ℕ) (i : ℕ) → 
     → all_copies d first (take (suc i) ss)
     ≡ all_copies d first (take i ss) ++ copy_clauses d (first + i) (get_or ss i 0)
 next-copy d first [] i below = absurd (omega (arith, below))
-next-copy d first (s ∷ ss) zero below =
-    append-nil (copy_clauses d first s)
-    ∙ ap (λ k. copy_clauses d k s) (let e : first ≡ first + 0 = omega arith in e)
-next-copy d first (s ∷ ss) (suc i) below =
-    ap (λ cs. copy_clauses d first s ++ cs) (next-copy d (suc first) ss i (omega (arith, below)))
-    ∙ sym (append_assoc (copy_clauses d first s) (all_copies d (suc first) (take i ss))
-    (copy_clauses d (suc first + i) (get_or ss i 0)))
-    ∙ ap (λ k. all_copies d first (s ∷ take i ss) ++ copy_clauses d k (get_or ss i 0))
-    (let e : suc first + i ≡ first + suc i = omega arith in e)
+next-copy d first (s ∷ ss) zero below = search (arith, append-nil)
+next-copy d first (s ∷ ss) (suc i) below = search (arith, (next-copy d (suc first) ss i), append_assoc)
 
 -- the clauses on a pair of outputs
 abbrev pub output_clauses : PartialDesign → ℕ → ℕ → List (List ℕ)
@@ -67,18 +60,9 @@ pub next-output : (d : PartialDesign) (first : ℕ) (outs : List ℕ) (o : ℕ) 
     → all_outputs d first (take (suc o) outs)
     ≡ all_outputs d first (take o outs) ++ output_clauses d (first + o) (get_or outs o 0)
 next-output d first [] o below = absurd (omega (arith, below))
-next-output d first (s ∷ ss) zero below =
-    append-nil (output_clauses d first s)
-    ∙ ap (λ k. output_clauses d k s) (let e : first ≡ first + 0 = omega arith in e)
-next-output d first (s ∷ ss) (suc o) below =
-    ap (λ cs. output_clauses d first s ++ cs) (next-output d (suc first) ss o (omega (arith, below)))
-    ∙ sym (append_assoc (output_clauses d first s) (all_outputs d (suc first) (take o ss))
-    (output_clauses d (suc first + o) (get_or ss o 0)))
-    ∙ ap (λ k. all_outputs d first (s ∷ take o ss) ++ output_clauses d k (get_or ss o 0))
-    (let e : suc first + o ≡ first + suc o = omega arith in e)
+next-output d first (s ∷ ss) zero below = search (arith, append-nil)
+next-output d first (s ∷ ss) (suc o) below = search (arith, (next-output d (suc first) ss o), append_assoc)
 
 pub next-demand : (d : PartialDesign) (o : ℕ)
     → map (demand d) (range_with_len 0 (o + 1)) ≡ map (demand d) (range_with_len 0 o) ++ demand d o ∷ []
-next-demand d o =
-    ap (map (demand d)) (sym (range_append 0 o 1)) ∙ map-join (demand d) (range_with_len 0 o) ((0 + o) ∷ [])
-    ∙ ap (λ k. map (demand d) (range_with_len 0 o) ++ demand d k ∷ []) (let e : 0 + o ≡ o = omega arith in e)
+next-demand d o = search (arith, (range_append 0 o 1), map-join)

@@ -1,5 +1,5 @@
 -- Functions that fit give a choice that solves the formula.
-use Rattle.std.proofs.Common.{◌≡◌, ◌≢◌, ℕ, zero, suc, ◌+◌, ◌-◌, ◌*◌, ◌<◌, ◌≤◌, ◌==◌, nat_lt, Bool, true, false, not, cond, ◌&&◌, inl, inr, List, [], ◌∷◌, ◌++◌, map, length, get_or, refl, sym, ◌∙◌, ap, subst, arith, length-append}
+use Rattle.std.proofs.Common.{◌≡◌, ◌≢◌, ℕ, zero, suc, ◌+◌, ◌-◌, ◌*◌, ◌<◌, ◌≤◌, ◌==◌, nat_lt, Bool, true, false, not, cond, ◌&&◌, List, [], ◌∷◌, ◌++◌, map, length, get_or, refl, sym, ◌∙◌, ap, subst, arith, length-append}
 use Rattle.std.specs.List.{All, AllPairs, AllByRecursion, Contains, list_any, flat_map, range_with_len}
 use Rattle.std.proofs.Math.ListN.{get_or-append}
 use Rattle.std.proofs.lemmas.Bool.{true≢false, lt-ltb, le-ltb, ltb-true, ltb-false, cond-true, cond-false, or_left, or_right, eq-eqb, eqb-true}
@@ -131,9 +131,7 @@ behind m zero low = absurd (omega (arith, low))
 behind m (suc v) low = refl
 
 row-bit : (s : Site) (v : ℕ) → 1 ≤ v → v < 1 + (inputs_of s.p.d + signals_of s.p.d) → in_row (row_of s) v ≡ s.m v
-row-bit s v low high =
-    let back : 1 + (v - 1) ≡ v = omega (arith, low) in
-    get_or-map-range_with_len s.m 1 (inputs_of s.p.d + signals_of s.p.d) (v - 1) v false (omega (arith, low, high)) back
+row-bit s v low high = search (arith, get_or-map-range_with_len)
 
 seeing-value : (s : Site) (v : ℕ) → first_specified s.p.d ≤ v → v < end_of s.p.d → s.m v ≡ all_of s.p (row_of s) v
 seeing-value s v low high =
@@ -174,96 +172,50 @@ driven-value s i low high =
 -- the copies that a driven input sees have their bits in the row
 copies-in-row : (s : Site) (out : ℕ) → map s.m (copies_for (first_copy s.p.d) s.p.d.boxes out)
     ≡ map (in_row (row_of s)) (copies_for (first_copy s.p.d) s.p.d.boxes out)
-copies-in-row s out =
-    let seen = copies_for (first_copy s.p.d) s.p.d.boxes out in
-    map-agree s.m (in_row (row_of s)) seen (λ k e below.
-    let two = copies-inside s.p.d.boxes (first_copy s.p.d) out k e below in
-    sym (row-bit s (get_or seen k e) (let low = two.0 in omega (arith, low)) (let high = two.1 in omega (arith, high))))
+copies-in-row s out = search (arith, map-agree, copies-inside, row-bit)
 
 spec-input : (s : Site) (i : ℕ) → i < inputs_of s.p.d → with_constant s.m (1 + i) ≡ design_bits s.p (row_of s) i
-spec-input s i early =
-    behind s.m (1 + i) (omega arith)
-    ∙ sym (row-bit s (1 + i) (omega arith) (omega (arith, early)))
-    ∙ sym (cond-true (nat_lt i (inputs_of s.p.d)) (in_row (row_of s) (1 + i)) _ (lt-ltb i (inputs_of s.p.d) early))
+spec-input s i early = search (arith, row-bit, cond-true, nat_lt, lt-ltb)
 
 late-bit : (s : Site) (i : ℕ) → inputs_of s.p.d ≤ i → design_bits s.p (row_of s) i
     ≡ s.p.h (2 * input_of s.p i) (map (in_row (row_of s)) (driven_existential s.p.d i).sees)
-late-bit s i low = cond-false (nat_lt i (inputs_of s.p.d)) (in_row (row_of s) (1 + i))
-    (s.p.h (2 * input_of s.p i) (map (in_row (row_of s)) (driven_existential s.p.d i).sees))
-    (le-ltb i (inputs_of s.p.d) low)
+late-bit s i low = search (arith, cond-false, nat_lt, le-ltb)
 
 imp-input : (s : Site) (i : ℕ) → i < length s.p.d.implementation.inputs
     → with_constant s.m (implemented_input s.p.d i) ≡ design_bits s.p (row_of s) i
-imp-input s i below = by (nat_lt i (inputs_of s.p.d)) refl
-  where
-    late : ℕ
-    late = first_driven s.p.d + (i - inputs_of s.p.d)
-
-    by : (b : Bool) → nat_lt i (inputs_of s.p.d) ≡ b → with_constant s.m (implemented_input s.p.d i)
-        ≡ design_bits s.p (row_of s) i
-    by true e = ap (with_constant s.m)
-        (cond-true (nat_lt i (inputs_of s.p.d)) (1 + i) (first_driven s.p.d + (i - inputs_of s.p.d)) e)
-        ∙ spec-input s i (ltb-true i (inputs_of s.p.d) e)
-    by false e =
-        let low : inputs_of s.p.d ≤ i = ltb-false i (inputs_of s.p.d) e in
-        ap (with_constant s.m)
-        (cond-false (nat_lt i (inputs_of s.p.d)) (1 + i) (first_driven s.p.d + (i - inputs_of s.p.d)) e)
-        ∙ behind s.m (first_driven s.p.d + (i - inputs_of s.p.d)) (omega arith)
-        ∙ driven-value s i low below
-        ∙ ap (s.p.h (2 * input_of s.p i)) (copies-in-row s (2 * input_of s.p i))
-        ∙ sym (late-bit s i low)
+imp-input s i below =
+    search (
+      arith,
+      nat_lt,
+      cond-true,
+      spec-input,
+      ltb-true,
+      ltb-false,
+      cond-false,
+      driven-value,
+      copies-in-row,
+      late-bit,
+    )
 
 spec-gate : (s : Site) (k : ℕ) → k < length s.p.d.specification.gates → with_constant s.m (first_specified s.p.d + k)
     ≡ spec_values s.p (row_of s) (gate_var s.p.d.specification k)
-spec-gate s k below =
-    let v = first_specified s.p.d + k in
-    let back : v - first_specified s.p.d ≡ k = omega arith in
-    behind s.m v (omega arith) ∙ seeing-value s v (omega arith) (omega (arith, below))
-    ∙ cond-true (nat_lt v (first_implemented s.p.d))
-    (spec_values s.p (row_of s) (gate_var s.p.d.specification (v - first_specified s.p.d)))
-    (imp_or_flags s.p (row_of s) v)
-    (lt-ltb v (first_implemented s.p.d) (omega (arith, below)))
-    ∙ ap (λ n. spec_values s.p (row_of s) (gate_var s.p.d.specification n)) back
+spec-gate s k below = search (arith, seeing-value, cond-true, nat_lt, lt-ltb)
 
 past-spec : (s : Site) (v : ℕ) → first_implemented s.p.d ≤ v → v < end_of s.p.d → with_constant s.m v
     ≡ imp_or_flags s.p (row_of s) v
-past-spec s v low high =
-    behind s.m v (omega (arith, low)) ∙ seeing-value s v (omega (arith, low)) high
-    ∙ cond-false (nat_lt v (first_implemented s.p.d))
-    (spec_values s.p (row_of s) (gate_var s.p.d.specification (v - first_specified s.p.d)))
-    (imp_or_flags s.p (row_of s) v)
-    (le-ltb v (first_implemented s.p.d) low)
+past-spec s v low high = search (arith, seeing-value, cond-false, nat_lt, le-ltb)
 
 imp-gate : (s : Site) (k : ℕ) → k < length s.p.d.implementation.gates
     → with_constant s.m (first_implemented s.p.d + k) ≡ imp_values s.p (row_of s) (gate_var s.p.d.implementation k)
-imp-gate s k below =
-    let v = first_implemented s.p.d + k in
-    let back : v - first_implemented s.p.d ≡ k = omega arith in
-    past-spec s v (omega arith) (omega (arith, below))
-    ∙ cond-true (nat_lt v (first_same s.p.d))
-    (imp_values s.p (row_of s) (gate_var s.p.d.implementation (v - first_implemented s.p.d)))
-    (flags_of s.p (row_of s) v)
-    (lt-ltb v (first_same s.p.d) (omega (arith, below)))
-    ∙ ap (λ n. imp_values s.p (row_of s) (gate_var s.p.d.implementation n)) back
+imp-gate s k below = search (arith, past-spec, cond-true, nat_lt, lt-ltb)
 
 past-gates : (s : Site) (v : ℕ) → first_same s.p.d ≤ v → v < end_of s.p.d → with_constant s.m v
     ≡ flags_of s.p (row_of s) v
-past-gates s v low high =
-    past-spec s v (omega (arith, low)) high
-    ∙ cond-false (nat_lt v (first_same s.p.d))
-    (imp_values s.p (row_of s) (gate_var s.p.d.implementation (v - first_implemented s.p.d)))
-    (flags_of s.p (row_of s) v)
-    (le-ltb v (first_same s.p.d) low)
+past-gates s v low high = search (arith, past-spec, cond-false, nat_lt, le-ltb)
 
 same-flag : (s : Site) (j : ℕ) → j < signals_of s.p.d → with_constant s.m (first_same s.p.d + j)
     ≡ same_flag s.p (row_of s) j
-same-flag s j below =
-    let v = first_same s.p.d + j in
-    let back : v - first_same s.p.d ≡ j = omega arith in
-    past-gates s v (omega arith) (omega (arith, below))
-    ∙ cond-true (nat_lt v (first_agree s.p.d)) (same_flag s.p (row_of s) (v - first_same s.p.d))
-    (agree_flag s.p (row_of s) (v - first_agree s.p.d)) (lt-ltb v (first_agree s.p.d) (omega (arith, below)))
-    ∙ ap (same_flag s.p (row_of s)) back
+same-flag s j below = search (arith, past-gates, cond-true, nat_lt, lt-ltb)
 
 agree-flag : (s : Site) (o : ℕ) → o < length s.p.d.specification.outputs → with_constant s.m (first_agree s.p.d + o)
     ≡ agree_flag s.p (row_of s) o
@@ -280,14 +232,7 @@ seen-value : (net : Netlist) (input : ℕ → ℕ) (first_gate : ℕ) (m : Assig
     → IsValuation net bits n → ((i : ℕ) → i < length net.inputs → with_constant m (input i) ≡ bits i) →
     ((k : ℕ) → k < length net.gates → with_constant m (first_gate + k) ≡ n (gate_var net k)) → (v : ℕ)
     → IsGrounded net v → seen_by (numbered_variable net input first_gate) m v ≡ n v
-seen-value net input first_gate m bits n is inputs gates v ground =
-    elim (number-cases net input first_gate v ground) [
-      | inl z ↦ let c : with_constant m 0 ≡ false = refl in ap (with_constant m) z.1 ∙ c ∙ sym is.constant
-          ∙ ap n (sym z.0)
-      | inr (inl w) ↦ ap (with_constant m) w.numbered ∙ inputs w.place w.below ∙ sym (is.inputs w.place w.below)
-          ∙ ap n w.is
-      | inr (inr w) ↦ ap (with_constant m) w.numbered ∙ gates w.place w.below ∙ ap n (w.is no_gate)
-    ]
+seen-value net input first_gate m bits n is inputs gates v ground = search (arith, number-cases)
 
 spec-seen : (s : Site) (v : ℕ) → IsGrounded s.p.d.specification v → seen_by (specified_variable s.p.d) s.m v
     ≡ spec_values s.p (row_of s) v
@@ -303,16 +248,12 @@ imp-seen s = seen-value s.p.d.implementation (implemented_input s.p.d) (first_im
 spec-literal : (s : Site) (l : ℕ) → IsGrounded s.p.d.specification (literal_variable l)
     → literal_bit (with_constant s.m) (on_number (specified_variable s.p.d) l)
     ≡ literal_bit (spec_values s.p (row_of s)) l
-spec-literal s l ground = on_number-bit (specified_variable s.p.d) s.m l
-    ∙ same-bits (seen_by (specified_variable s.p.d) s.m) (spec_values s.p (row_of s)) l
-    (spec-seen s (literal_variable l) ground)
+spec-literal s l ground = search (arith, on_number-bit, same-bits, spec-seen)
 
 imp-literal : (s : Site) (l : ℕ) → IsGrounded s.p.d.implementation (literal_variable l)
     → literal_bit (with_constant s.m) (on_number (implemented_variable s.p.d) l)
     ≡ literal_bit (imp_values s.p (row_of s)) l
-imp-literal s l ground = on_number-bit (implemented_variable s.p.d) s.m l
-    ∙ same-bits (seen_by (implemented_variable s.p.d) s.m) (imp_values s.p (row_of s)) l
-    (imp-seen s (literal_variable l) ground)
+imp-literal s l ground = search (arith, on_number-bit, same-bits, imp-seen)
 
 -- all clauses of gates
 gates-true : (w : Ground) (number : ℕ → ℕ) (m : Assignment) (bits n : ℕ → Bool) → IsValuation w.net bits n
@@ -396,17 +337,7 @@ output-clauses : (s : Site) (o : ℕ) → o < length s.p.d.specification.outputs
     (on_number (specified_variable s.p.d) (get_or s.p.d.specification.outputs o 0))
     (on_number (implemented_variable s.p.d) (get_or s.p.d.implementation.outputs o 0)))
 output-clauses s o below =
-    let d = s.p.d in
-    let n = with_constant s.m in
-    let a = get_or d.specification.outputs o 0 in
-    let b = get_or d.implementation.outputs o 0 in
-    let many = s.p.keeps.outputs in
-    let left = spec-literal s a (s.p.keeps.specified_outputs o below) in
-    let right = imp-literal s b (s.p.keeps.implemented_outputs o (omega (arith, below, many))) in
-    agreement-true s.m (first_agree d + o) (on_number (specified_variable d) a) (on_number (implemented_variable d) b)
-    (agree-flag s o below
-    ∙ sym (ap (λ x. same_bit x (literal_bit n (on_number (implemented_variable d) b))) left
-    ∙ ap (same_bit (literal_bit (spec_values s.p (row_of s)) a)) right))
+    search (arith, (spec-literal s), (imp-literal s), (agreement-true s.m), (agree-flag s o below))
 
 pub read-from : (m bit : ℕ → Bool) (next : ℕ) (ins : List ℕ)
     → ((j : ℕ) → j < length ins → bit (next + j) ≡ literal_bit m (get_or ins j 0)) →
@@ -428,14 +359,7 @@ pub box-copies : (m bit : ℕ → Bool) (boxes : List BlackBox) (next : ℕ) →
     ≡ bits_read m box
 box-copies m bit [] next once same box (k, below, e) out inside = absurd (omega (arith, below))
 box-copies m bit (b ∷ boxes) next once same box (zero, below, e) out inside =
-    let in-b : Contains b.outs out = subst (λ (z : BlackBox). Contains z.outs out) (sym e) inside in
-    let here = any-contained (λ o. o == out) b.outs in-b.0 out in-b.1 in-b.2 (eq-eqb out out refl) in
-    let long = length-append b.ins (signals boxes) in
-    ap (map bit) (cond-true (list_any (λ o. o == out) b.outs) (range_with_len next (length b.ins))
-    (copies_for (next + length b.ins) boxes out) here)
-    ∙ read-from m bit next b.ins
-    (λ j low. same j (omega (arith, low, long)) ∙ ap (literal_bit m) (get_or-append b.ins (signals boxes) 0 j low))
-    ∙ ap (bits_read m) e
+    search (arith, any-contained, eq-eqb, length-append, cond-true, read-from, get_or-append)
 box-copies m bit (b ∷ boxes) next once same box (suc k, below, e) out inside =
     let later : Contains boxes box = (k, omega (arith, below), e) in
     let long = length-append b.ins (signals boxes) in
@@ -527,9 +451,6 @@ demand-true s o below = by (raw_true s.m downs) refl
         (literal_bit (imp_values s.p (row_of s)) (get_or (signals s.p.d.boxes) j 0))
         (sym (same-flag s j low) ∙ up j low)) o below))
       where
-        opp : ℕ → ℕ
-        opp i = opposite_of (2 * (first_same s.p.d + i))
-
         down : (j : ℕ) → j < signals_of s.p.d → (c : Bool)
             → literal_bit (with_constant s.m) (opposite_of (2 * (first_same s.p.d + j))) ≡ c → c ≡ false
         down j low false h = refl

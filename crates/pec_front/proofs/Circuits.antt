@@ -1,5 +1,5 @@
 -- Numbered gates: what their clauses say makes a valuation of the circuit.
-use Rattle.std.proofs.Common.{◌≡◌, ℕ, ◌+◌, ◌*◌, ◌/◌, ◌%◌, ◌<◌, ◌==◌, Bool, true, false, not, cond, ◌&&◌, ◌||◌, [], ◌∷◌, length, get_or, sym, ◌∙◌, ap, arith}
+use Rattle.std.proofs.Common.{◌≡◌, ℕ, ◌*◌, ◌/◌, ◌%◌, ◌<◌, ◌==◌, Bool, true, false, not, cond, ◌&&◌, ◌||◌, [], ◌∷◌, length, get_or, sym, ◌∙◌, ap, arith}
 use Rattle.std.specs.List.{All}
 use Rattle.list_laws.proofs.Truths.{gate_bit}
 use Rattle.dq_lits.specs.Literal.{Assignment}
@@ -17,18 +17,10 @@ seen_by number m v = with_constant m (number v)
 
 pub on_number-bit : (number : ℕ → ℕ) (m : Assignment) (l : ℕ) → literal_bit (with_constant m) (on_number number l)
     ≡ literal_bit (seen_by number m) l
-on_number-bit number m l =
-    let half : (2 * number (l / 2) + l % 2) / 2 ≡ number (l / 2) = omega arith in
-    let rest : (2 * number (l / 2) + l % 2) % 2 ≡ l % 2 = omega arith in
-    ap (λ n. cond (n == 1) (not (with_constant m ((2 * number (l / 2) + l % 2) / 2)))
-    (with_constant m ((2 * number (l / 2) + l % 2) / 2))) rest
-    ∙ ap (λ v. cond (l % 2 == 1) (not (with_constant m v)) (with_constant m v)) half
+on_number-bit number m l = search arith
 
 pub even-bit : (m : ℕ → Bool) (v : ℕ) → literal_bit m (2 * v) ≡ m v
-even-bit m v =
-    let half : (2 * v) / 2 ≡ v = omega arith in
-    let rest : (2 * v) % 2 ≡ 0 = omega arith in
-    ap (λ n. cond (n == 1) (not (m ((2 * v) / 2))) (m ((2 * v) / 2))) rest ∙ ap m half
+even-bit m v = search arith
 
 -- a gate's clauses make its equation
 pub gate-holds : (number : ℕ → ℕ) (m : Assignment) (g : Gate)
@@ -64,8 +56,7 @@ pub is-valuation : (net : Netlist) (number : ℕ → ℕ) (bits : ℕ → Bool) 
     All (λ g. All (λ c. raw_true m c ≡ true) (gate_clauses (numbered_gate number g))) net.gates →
     All (λ g. seen_by number m g.variable
     ≡ (literal_bit (seen_by number m) g.left && literal_bit (seen_by number m) g.right)) net.gates
-is-valuation net number bits m zero' inputs gates k d below = gate-holds number m (get_or net.gates k d)
-    (gates k d below)
+is-valuation net number bits m zero' inputs gates k d below = search (arith, gate-holds)
 
 -- two valuations under the same bits agree on what is grounded
 pub same-values : GroundedHaveValues → ValuationsAgree → (net : Netlist) (bits m n : ℕ → Bool)

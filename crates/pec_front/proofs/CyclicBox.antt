@@ -2,7 +2,7 @@
 use Rattle.std.proofs.Common.{◌≡◌, Bool, true, false, not, [], ◌∷◌, sym, arith}
 use Rattle.std.proofs.lemmas.Bool.{true≢false}
 use Rattle.circuit_plain.specs.Reach.{itself}
-use Rattle.pec_front.specs.Boxes.{BlackBox, BoxFunctions, BoxesFit, StandInOrder}
+use Rattle.pec_front.specs.Boxes.{BoxesFit, StandInOrder}
 use Rattle.pec_front.specs.Examples.{implementation, design, reading_itself, negation}
 
 pub cyclic-unordered : ¬ StandInOrder implementation (reading_itself ∷ [])

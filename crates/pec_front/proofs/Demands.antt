@@ -1,6 +1,6 @@
 -- The clause that a pair of outputs agrees where all copies have their signals' values is kept as
 -- it stands: it has no constant, and no literal twice.
-use Rattle.std.proofs.Common.{◌≡◌, ℕ, zero, suc, ◌+◌, ◌-◌, ◌*◌, ◌/◌, ◌%◌, ◌≤◌, ◌==◌, Bool, false, not, cond, ◌||◌, List, [], ◌∷◌, ◌++◌, map, None, Some, refl, sym, ◌∙◌, ap, arith, append_assoc}
+use Rattle.std.proofs.Common.{◌≡◌, ℕ, zero, suc, ◌+◌, ◌*◌, ◌≤◌, ◌==◌, Bool, false, not, cond, ◌||◌, List, [], ◌∷◌, ◌++◌, map, None, Some, refl, sym, ◌∙◌, ap, arith, append_assoc}
 use Rattle.std.specs.Prelude.{fold}
 use Rattle.std.specs.List.{list_any, filter, range_with_len, cons_option}
 use Rattle.std.specs.Option.{option_map}
@@ -20,46 +20,27 @@ abbrev negated : ℕ → List ℕ → List ℕ
 negated s is = map (λ i. opposite_of (2 * (s + i))) is
 
 as-negative : (v : ℕ) → as_literal (opposite_of (2 * v)) ≡ negative v
-as-negative v =
-    ap as_literal (opposite_even v)
-    ∙ cond-true ((2 * v + 1) % 2 == 1) (negative ((2 * v + 1) / 2)) (positive ((2 * v + 1) / 2))
-    (ap (λ n. n == 1) (let e : (2 * v + 1) % 2 ≡ 1 = omega arith in e))
-    ∙ ap negative (let e : (2 * v + 1) / 2 ≡ v = omega arith in e)
+as-negative v = search (arith, opposite_even, cond-true)
 
 no-ones : (s : ℕ) → 1 ≤ s → (a n : ℕ) → list_any (λ l. l == 1) (negated s (range_with_len a n)) ≡ false
 no-ones s low a zero = refl
-no-ones s low a (suc n) =
-    let up = opposite_even (s + a) in
-    ap (λ b. b || list_any (λ l. l == 1) (negated s (range_with_len (a + 1) n)))
-    (ne_eqb (opposite_of (2 * (s + a))) 1 (λ e. omega (arith, up, e, low)))
-    ∙ no-ones s low (a + 1) n
+no-ones s low a (suc n) = search (arith, opposite_even, ne_eqb, (no-ones s low (a + 1) n))
 
 no-zeros : (s a n : ℕ) → filter (λ l. not (l == 0)) (negated s (range_with_len a n)) ≡ negated s (range_with_len a n)
 no-zeros s a zero = refl
-no-zeros s a (suc n) =
-    let l = opposite_of (2 * (s + a)) in
-    let rest = negated s (range_with_len (a + 1) n) in
-    let up = opposite_even (s + a) in
-    ap (λ b. cond (not b) (l ∷ filter (λ k. not (k == 0)) rest) (filter (λ k. not (k == 0)) rest))
-    (ne_eqb l 0 (λ e. omega (arith, up, e)))
-    ∙ ap (λ ks. l ∷ ks) (no-zeros s (a + 1) n)
+no-zeros s a (suc n) = search (arith, opposite_even, ne_eqb, (no-zeros s (a + 1) n))
 
 as-negatives : (s a n : ℕ) → map as_literal (negated s (range_with_len a n))
     ≡ map (λ i. negative (s + i)) (range_with_len a n)
 as-negatives s a zero = refl
-as-negatives s a (suc n) =
-    ap (λ l. l ∷ map as_literal (negated s (range_with_len (a + 1) n))) (as-negative (s + a))
-    ∙ ap (λ ls. negative (s + a) ∷ ls) (as-negatives s (a + 1) n)
+as-negatives s a (suc n) = search (arith, as-negative, (as-negatives s (a + 1) n))
 
 -- no literal of a list is one of those to come
 abbrev Fresh : List Literal → ℕ → ℕ → Type 0
 Fresh clause s a = (i : ℕ) → a ≤ i → list_any (same_literal (negative (s + i))) clause ≡ false
 
 fresh-more : (clause : List Literal) (s a : ℕ) → Fresh clause s a → Fresh (clause ++ negative (s + a) ∷ []) s (a + 1)
-fresh-more clause s a fresh i low =
-    list_any-append (same_literal (negative (s + i))) clause (negative (s + a) ∷ [])
-    ∙ ap (λ b. b || ((s + i == s + a) || false)) (fresh i (omega (arith, low)))
-    ∙ ap (λ b. b || false) (ne_eqb (s + i) (s + a) (λ e. omega (arith, e, low)))
+fresh-more clause s a fresh i low = search (arith, list_any-append, ne_eqb)
 
 all-added : (clause : List Literal) (s a n : ℕ) → Fresh clause s a
     → fold add_literal clause (map (λ i. negative (s + i)) (range_with_len a n))
@@ -88,10 +69,7 @@ demand-kept d o =
     let one : list_any (λ l. l == 1) (2 * u ∷ flags) ≡ false =
     ap (λ b. b || list_any (λ l. l == 1) flags) (ne_eqb (2 * u) 1 (λ e. omega (arith, e)))
     ∙ no-ones s (omega arith) 0 q in
-    let zero-free : filter (λ l. not (l == 0)) (2 * u ∷ flags) ≡ 2 * u ∷ flags =
-    ap (λ b. cond (not b) (2 * u ∷ filter (λ l. not (l == 0)) flags) (filter (λ l. not (l == 0)) flags))
-    (ne_eqb (2 * u) 0 (λ e. omega (arith, e)))
-    ∙ ap (λ ls. 2 * u ∷ ls) (no-zeros s 0 q) in
+    let zero-free : filter (λ l. not (l == 0)) (2 * u ∷ flags) ≡ 2 * u ∷ flags = search (arith, ne_eqb, no-zeros) in
     let plain : map as_literal (2 * u ∷ flags) ≡ positive u ∷ literals =
     ap (λ l. l ∷ map as_literal flags) (as_even u) ∙ ap (λ ls. positive u ∷ ls) (as-negatives s 0 q) in
     ap (λ b. keep b (map as_literal (filter (λ l. not (l == 0)) (2 * u ∷ flags)))) one

@@ -1,7 +1,7 @@
 -- A clause's distinct literals say what the clause says.
-use Rattle.std.proofs.Common.{◌≡◌, Bool, true, false, not, cond, ◌||◌, List, [], ◌∷◌, ◌++◌, refl, sym, ◌∙◌, ap}
+use Rattle.std.proofs.Common.{◌≡◌, Bool, true, false, not, ◌||◌, List, [], ◌∷◌, ◌++◌, refl, sym, ◌∙◌, ap, arith}
 use Rattle.std.specs.Prelude.{fold}
-use Rattle.std.specs.List.{AllByRecursion, list_any}
+use Rattle.std.specs.List.{AllByRecursion}
 use Rattle.std.proofs.lemmas.Bool.{true≢false, eqb-true}
 use Rattle.std.proofs.lemmas.List.Folds.{list_any-append}
 use Rattle.dq_lits.specs.Literal.{Assignment, Literal, positive, negative, literal_true, clause_true, same_literal}
@@ -21,22 +21,7 @@ same-truth m (negative v) (negative w) e = ap (λ u. not (m u)) (eqb-true v w e)
 
 add-truth : (m : Assignment) (clause : List Literal) (l : Literal) → clause_true m (add_literal clause l)
     ≡ (clause_true m clause || literal_true m l)
-add-truth m clause l = by (list_any (same_literal l) clause) refl
-  where
-    known : (b : Bool) → literal_true m l ≡ b → list_any (same_literal l) clause ≡ true → clause_true m clause
-        ≡ (clause_true m clause || literal_true m l)
-    known true e h =
-        let r = contained (same_literal l) clause h in
-        let up : clause_true m clause ≡ true = any-contained (literal_true m) clause r.1.0 r.0 r.1.1 r.1.2
-        (sym (same-truth m l r.0 r.2) ∙ e) in
-        up ∙ sym (ap (λ b. b || literal_true m l) up)
-    known false e h = or-nothing (clause_true m clause) ∙ ap (λ b. clause_true m clause || b) (sym e)
-
-    by : (b : Bool) → list_any (same_literal l) clause ≡ b → clause_true m (cond b clause (clause ++ l ∷ []))
-        ≡ (clause_true m clause || literal_true m l)
-    by true e = known (literal_true m l) refl e
-    by false e = list_any-append (literal_true m) clause (l ∷ []) ∙ ap (λ b. clause_true m clause || b)
-        (sym (or-nothing (literal_true m l)))
+add-truth m clause l = search (arith, contained, any-contained, same-truth, or-nothing, list_any-append)
 
 fold-truth : (m : Assignment) (clause literals : List Literal) → clause_true m (fold add_literal clause literals)
     ≡ (clause_true m clause || clause_true m literals)
@@ -56,11 +41,7 @@ push-part P (k ∷ ks) l all one = (all.0, push-part P ks l all.1 one)
 
 add-each : (P : Literal → Type 0) (clause : List Literal) (l : Literal) → AllByRecursion P clause → P l
     → AllByRecursion P (add_literal clause l)
-add-each P clause l all one = by (list_any (same_literal l) clause)
-  where
-    by : (b : Bool) → AllByRecursion P (cond b clause (clause ++ l ∷ []))
-    by true = all
-    by false = push-part P clause l all one
+add-each P clause l all one = search (arith, push-part)
 
 fold-each : (P : Literal → Type 0) (clause literals : List Literal) → AllByRecursion P clause
     → AllByRecursion P literals → AllByRecursion P (fold add_literal clause literals)

@@ -1,5 +1,5 @@
 -- Driven inputs that are declared one by one.
-use Rattle.std.proofs.Common.{◌≡◌, ℕ, zero, suc, ◌+◌, ◌-◌, ◌*◌, ◌<◌, ◌≤◌, ◌^◌, ◌==◌, nat_lt, Bool, true, false, cond, ◌||◌, List, [], ◌∷◌, ◌++◌, map, length, get_or, drop, refl, sym, ◌∙◌, ap, subst, arith}
+use Rattle.std.proofs.Common.{◌≡◌, ℕ, zero, suc, ◌+◌, ◌-◌, ◌*◌, ◌<◌, ◌≤◌, ◌^◌, ◌==◌, nat_lt, Bool, true, false, List, [], ◌∷◌, ◌++◌, map, length, get_or, drop, refl, sym, ◌∙◌, ap, subst, arith}
 use Rattle.std.specs.List.{All, list_any, filter, range_with_len}
 use Rattle.std.proofs.lemmas.Bool.{ne_eqb, eq-eqb, cond-true, cond-false, le-ltb}
 use Rattle.std.proofs.lemmas.List.{append-nil, get_or_default, get_or-drop, length-drop}
@@ -9,9 +9,9 @@ use Rattle.dq_lits.specs.Formula.{Existential, Dqbf, declared, is_universal}
 use Rattle.dq_formula.specs.Dependencies.{listed_universals}
 use Rattle.circuit_plain.specs.Netlist.{literal_variable}
 use Rattle.number_tables.specs.Numbers.{has_number}
-use Rattle.pec_front.specs.Boxes.{PartialDesign, AreBoxes, IsFurtherInput, signals, driven, inputs_of}
+use Rattle.pec_front.specs.Boxes.{PartialDesign, AreBoxes, IsFurtherInput, driven, inputs_of}
 use Rattle.pec_front.specs.Copies.{numbers_in, AreCopies, IsKnownOut}
-use Rattle.pec_front.specs.Encoding.{signals_of, driven_of, first_copy, first_driven, first_specified, implemented_input, copies_for, driven_existential, design_universals}
+use Rattle.pec_front.specs.Encoding.{signals_of, driven_of, first_copy, first_driven, first_specified, implemented_input, driven_existential, design_universals}
 use Rattle.pec_front.specs.declared.copies.Span.{Span}
 use Rattle.pec_front.proofs.DeclaredRanges.{range-misses}
 use Rattle.pec_front.proofs.Numbers.{map-join, driven-numbers, copies-inside, copies-seen}
@@ -23,34 +23,20 @@ use Rattle.list_laws.proofs.Numbers.{range_append}
 filter-none : (p : ℕ → Bool) (a n : ℕ) → ((v : ℕ) → a ≤ v → v < a + n → p v ≡ false)
     → filter p (range_with_len a n) ≡ []
 filter-none p a zero none = refl
-filter-none p a (suc n) none =
-    cond-false (p a) (a ∷ filter p (range_with_len (a + 1) n)) (filter p (range_with_len (a + 1) n))
-    (none a (omega arith) (omega arith))
-    ∙ filter-none p (a + 1) n (λ v low high. none v (omega (arith, low)) (omega (arith, high)))
+filter-none p a (suc n) none = search (arith, cond-false, (filter-none p (a + 1) n))
 
 filter-all : (p : ℕ → Bool) (a n : ℕ) → ((v : ℕ) → a ≤ v → v < a + n → p v ≡ true)
     → filter p (range_with_len a n) ≡ range_with_len a n
 filter-all p a zero all = refl
-filter-all p a (suc n) all =
-    cond-true (p a) (a ∷ filter p (range_with_len (a + 1) n)) (filter p (range_with_len (a + 1) n))
-    (all a (omega arith) (omega arith))
-    ∙ ap (λ vs. a ∷ vs)
-    (filter-all p (a + 1) n (λ v low high. all v (omega (arith, low)) (omega (arith, high))))
+filter-all p a (suc n) all = search (arith, cond-true, (filter-all p (a + 1) n))
 
 filter-join : (p : ℕ → Bool) (xs ys : List ℕ) → filter p (xs ++ ys) ≡ filter p xs ++ filter p ys
 filter-join p [] ys = refl
-filter-join p (x ∷ xs) ys = by (p x) (filter-join p xs ys)
-  where
-    by : (b : Bool) → filter p (xs ++ ys) ≡ filter p xs ++ filter p ys
-        → cond b (x ∷ filter p (xs ++ ys)) (filter p (xs ++ ys)) ≡ cond b (x ∷ filter p xs) (filter p xs) ++ filter p ys
-    by true e = ap (λ vs. x ∷ vs) e
-    by false e = e
+filter-join p (x ∷ xs) ys = search (arith, (filter-join p xs ys))
 
 before-range : (a n v : ℕ) → v < a → list_any (λ x. x == v) (range_with_len a n) ≡ false
 before-range a zero v low = refl
-before-range a (suc n) v low =
-    ap (λ b. b || list_any (λ x. x == v) (range_with_len (a + 1) n)) (ne_eqb a v (λ e. omega (arith, e, low)))
-    ∙ before-range (a + 1) n v (omega (arith, low))
+before-range a (suc n) v low = search (arith, ne_eqb, (before-range (a + 1) n v))
 
 -- universals in a range, in order
 listed-range : (s n a k : ℕ) → s ≤ a → a + k ≤ s + n
@@ -61,11 +47,7 @@ listed-range s n a k low high =
     let middle = range_with_len a k in
     let behind = range_with_len (a + k) (s + n - (a + k)) in
     let start : s + (a - s) ≡ a = omega (arith, low) in
-    let whole : range_with_len s n ≡ before ++ (middle ++ behind) =
-    ap (range_with_len s) (let e : n ≡ a - s + (k + (s + n - (a + k))) = omega (arith, low, high) in e)
-    ∙ sym (range_append s (a - s) (k + (s + n - (a + k))))
-    ∙ ap (λ t. before ++ range_with_len t (k + (s + n - (a + k)))) start
-    ∙ ap (λ vs. before ++ vs) (sym (range_append a k (s + n - (a + k)))) in
+    let whole : range_with_len s n ≡ before ++ (middle ++ behind) = search (arith, range_append) in
     ap (filter p) whole
     ∙ filter-join p before (middle ++ behind)
     ∙ ap (λ vs. vs ++ filter p (middle ++ behind))
@@ -84,39 +66,20 @@ listed-none s n = filter-none (λ u. false) s n (λ v from to. refl)
 pub seen-in-order : (d : PartialDesign) (i : ℕ) (span : Span)
     → numbers_in span ≡ (driven_existential d i).sees
     → listed_universals (design_universals d) (numbers_in span) ≡ (driven_existential d i).sees
-seen-in-order d i span is = by span.count refl
-  where
-    n : ℕ
-    n = inputs_of d + signals_of d
-
-    inside : (k : ℕ) → k < span.count → (first_copy d ≤ span.start + k) × (span.start + k < first_copy d + signals_of d)
-    inside k low =
-        let long = length-range_with_len span.start span.count in
-        let all = subst
-        (λ (vs : List ℕ). All (λ v. (first_copy d ≤ v) × (v < first_copy d + length (signals d.boxes))) vs) (sym is)
-        (copies-inside d.boxes (first_copy d) (2 * get_or d.implementation.inputs i 0)) in
-        subst (λ v. (first_copy d ≤ v) × (v < first_copy d + signals_of d))
-        (get_or-range_with_len span.start span.count k 0 low) (all k 0 (omega (arith, low, long)))
-
-    by : (count : ℕ) → span.count ≡ count
-        → listed_universals (design_universals d) (numbers_in span) ≡ (driven_existential d i).sees
-    by zero e =
-        let none : numbers_in span ≡ [] = ap (range_with_len span.start) e in
-        ap (listed_universals (design_universals d)) none ∙ listed-none 1 n ∙ sym none ∙ is
-    by (suc count) e =
-        let first = inside 0 (omega (arith, e)) in
-        let last = inside count (omega (arith, e)) in
-        let low : 1 ≤ span.start = (let l = first.0 in omega (arith, l)) in
-        let high : span.start + span.count ≤ 1 + n = (let h = last.1 in omega (arith, h, e)) in
-        listed-range 1 n span.start span.count low high ∙ is
+seen-in-order d i span is =
+    search (
+      arith,
+      (length-range_with_len span.start span.count),
+      (copies-inside d.boxes),
+      (get_or-range_with_len span.start span.count),
+      (listed-none 1),
+      (listed-range 1),
+    )
 
 -- the numbers of a driven input's copies are small
 pub copies-small : (d : PartialDesign) (i : ℕ) (span : Span) → first_driven d < 2 ^ 32
     → numbers_in span ≡ (driven_existential d i).sees → All (λ n. n < 2 ^ 32) (numbers_in span)
-copies-small d i span few is =
-    subst (λ (vs : List ℕ). All (λ n. n < 2 ^ 32) vs) (sym is)
-    (λ k e below. let two = copies-inside d.boxes (first_copy d) (2 * get_or d.implementation.inputs i 0) k e below in
-    (let high = two.1 in omega (arith, high, few)))
+copies-small d i span few is = search (arith, copies-inside)
 
 -- and they are universals
 pub copies-universal : (d : PartialDesign) (i : ℕ) (f : Dqbf) (vs : List ℕ) → f.universals ≡ design_universals d
@@ -143,10 +106,7 @@ pub driven-more : (d : PartialDesign) (f old new : Dqbf) (i k : ℕ) (vs : List 
     }
     → new ≡ record f { existentials = driven-part d (k + 1) }
 driven-more d f old new i k vs number place is are so_far sees added =
-    let late : implemented_input d i ≡ number =
-    cond-false (nat_lt i (inputs_of d)) (1 + i) (first_driven d + (i - inputs_of d))
-    (le-ltb i (inputs_of d) (omega (arith, place)))
-    ∙ (let e : first_driven d + (i - inputs_of d) ≡ number = omega (arith, place, is) in e) in
+    let late : implemented_input d i ≡ number = search (arith, cond-false, nat_lt, le-ltb) in
     added
     ∙ ap (λ (g : Dqbf). record g
     { existentials = g.existentials ++ record { variable = number; sees = listed_universals g.universals vs } ∷ [] })
@@ -166,18 +126,7 @@ driven-more d f old new i k vs number place is are so_far sees added =
 pub driven-new : (d : PartialDesign) (f old : Dqbf) (k number : ℕ) → f.universals ≡ design_universals d
     → old ≡ record f { existentials = driven-part d k } → number ≡ first_driven d + k
     → list_any (λ x. x == number) (declared old) ≡ false
-driven-new d f old k number are so_far is =
-    let p = inputs_of d in
-    let q = signals_of d in
-    let fd = first_driven d in
-    ap (λ (g : Dqbf). list_any (λ x. x == number) (declared g)) so_far
-    ∙ ap (λ us. list_any (λ x. x == number) (us ++ map (λ (y : Existential). y.variable) (driven-part d k))) are
-    ∙ ap (λ vs. list_any (λ x. x == number) (design_universals d ++ vs))
-    (driven-numbers d k p fd (omega arith) (let e : fd ≡ fd + (p - p) = omega arith in e))
-    ∙ list_any-append (λ x. x == number) (design_universals d) (range_with_len fd k)
-    ∙ ap (λ b. b || list_any (λ x. x == number) (range_with_len fd k))
-    (range-misses 1 (p + q) number (omega (arith, is)))
-    ∙ range-misses fd k number (omega (arith, is))
+driven-new d f old k number are so_far is = search (arith, driven-numbers, list_any-append, range-misses)
 
 -- what boxes drive are further inputs, by their positive literals
 pub known-outs : (d : PartialDesign) (further : List ℕ) → AreBoxes d
@@ -195,10 +144,7 @@ known-outs d further boxes is k e below =
     let long = length-drop (inputs_of d) inputs in
     let inside : i - inputs_of d < length (drop (inputs_of d) inputs) = omega (arith, low, high, long) in
     let there : get_or (drop (inputs_of d) inputs) (i - inputs_of d) (literal_variable out) ≡ literal_variable out =
-    get_or-drop (inputs_of d) inputs (i - inputs_of d) (literal_variable out)
-    ∙ ap (λ j. get_or inputs j (literal_variable out)) (let j : inputs_of d + (i - inputs_of d) ≡ i =
-    omega (arith, low) in j)
-    ∙ get_or_default inputs i (literal_variable out) 0 high ∙ half in (
+    search (arith, get_or-drop, get_or_default) in (
       omega (arith, double),
       ap (λ vs. has_number vs (literal_variable out)) is
           ∙ any-contained (λ x. x == literal_variable out) (drop (inputs_of d) inputs) (i - inputs_of d)
@@ -209,9 +155,7 @@ known-outs d further boxes is k e below =
 pub span-seen : (d : PartialDesign) (copies : ℕ → Span) (inputs : List ℕ) (i : ℕ) (span : Span)
     → AreCopies (first_copy d) d.boxes copies → span ≡ copies (get_or inputs i 0) → inputs ≡ d.implementation.inputs
     → numbers_in span ≡ (driven_existential d i).sees
-span-seen d copies inputs i span are is same =
-    ap numbers_in is ∙ are (get_or inputs i 0)
-    ∙ ap (λ (xs : List ℕ). copies_for (first_copy d) d.boxes (2 * get_or xs i 0)) same
+span-seen d copies inputs i span are is same = search arith
 
 -- what is declared before the variables that see all
 pub declared-further : (d : PartialDesign) (f : Dqbf) (n : ℕ) → f.universals ≡ design_universals d

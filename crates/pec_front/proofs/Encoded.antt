@@ -1,12 +1,11 @@
 -- From the formula's clauses back to those over circuit literals.
-use Rattle.std.proofs.Common.{◌≡◌, ◌≢◌, ℕ, ◌==◌, Bool, true, false, not, cond, inl, inr, List, [], ◌∷◌, map, Option, Some, None, refl, sym, ◌∙◌, ap}
+use Rattle.std.proofs.Common.{◌≡◌, ◌≢◌, ℕ, ◌==◌, Bool, true, false, not, cond, List, [], ◌∷◌, map, Option, Some, None, arith}
 use Rattle.std.specs.List.{All, AllByRecursion, list_any, filter, filter_map, flat_map, cons_option}
 use Rattle.std.specs.Option.{option_map}
 use Rattle.std.proofs.lemmas.Bool.{eqb-true, or_cases, or_parts, or_left, or_right}
 use Rattle.std.proofs.lemmas.List.Elements.{All-head, All-tail}
 use Rattle.list_laws.proofs.Sequences.{all_behind, all_before}
-use Rattle.list_laws.proofs.Truths.{unequal}
-use Rattle.dq_lits.specs.Literal.{Assignment, Literal, literal_true, clause_true}
+use Rattle.dq_lits.specs.Literal.{Assignment, Literal, clause_true}
 use Rattle.circuit_plain.specs.Netlist.{literal_bit}
 use Rattle.cert_text.specs.NegatedMatrix.{as_literal, without_constants}
 use Rattle.dqdimacs_reader.specs.Building.{distinct}
@@ -15,31 +14,18 @@ use Rattle.pec_front.proofs.Clauses.{with_constant, raw_true, plain-literal}
 
 constant-true : (m : Assignment) (clause : List ℕ) → list_any (λ l. l == 1) clause ≡ true → raw_true m clause ≡ true
 constant-true m [] h = h
-constant-true m (l ∷ ls) h = elim (or_cases (l == 1) (list_any (λ k. k == 1) ls) h) [
-  | inl here ↦
-      let one : literal_bit (with_constant m) 1 ≡ true = refl in
-      or_left (literal_bit (with_constant m) l) (raw_true m ls)
-      (ap (literal_bit (with_constant m)) (eqb-true l 1 here) ∙ one)
-  | inr later ↦ or_right (literal_bit (with_constant m) l) (raw_true m ls) (constant-true m ls later)
-]
+constant-true m (l ∷ ls) h = search (arith, or_cases, or_left, eqb-true, or_right, (constant-true m ls))
 
 kept-step : (m : Assignment) (b : Bool) (l : ℕ) (ls : List ℕ) (rest : List ℕ) → (l == 0) ≡ b → l ≢ 1
     → (clause_true m (map as_literal rest) ≡ true → raw_true m ls ≡ true) →
     clause_true m (map as_literal (cond (not b) (l ∷ rest) rest)) ≡ true → raw_true m (l ∷ ls) ≡ true
 kept-step m true l ls rest zero' one later h = or_right (literal_bit (with_constant m) l) (raw_true m ls) (later h)
-kept-step m false l ls rest nonzero one later h =
-    elim (or_cases (literal_true m (as_literal l)) (clause_true m (map as_literal rest)) h) [
-      | inl here ↦ or_left (literal_bit (with_constant m) l) (raw_true m ls)
-          (sym (plain-literal m l (unequal l 0 nonzero) one) ∙ here)
-      | inr further ↦ or_right (literal_bit (with_constant m) l) (raw_true m ls) (later further)
-    ]
+kept-step m false l ls rest nonzero one later h = search (arith, or_cases, or_left, plain-literal, or_right)
 
 kept-true : (m : Assignment) (clause : List ℕ) → list_any (λ l. l == 1) clause ≡ false →
     clause_true m (map as_literal (filter (λ l. not (l == 0)) clause)) ≡ true → raw_true m clause ≡ true
 kept-true m [] none h = h
-kept-true m (l ∷ ls) none h =
-    let parts = or_parts (l == 1) (list_any (λ k. k == 1) ls) none in
-    kept-step m (l == 0) l ls (filter (λ k. not (k == 0)) ls) refl (unequal l 1 parts.0) (kept-true m ls parts.1) h
+kept-true m (l ∷ ls) none h = search (arith, or_parts, kept-step, (kept-true m ls))
 
 abbrev MayHold : Assignment → Option (List Literal) → Type 0
 MayHold m None = Unit {0}
@@ -47,21 +33,12 @@ MayHold m (Some clause) = clause_true m clause ≡ true
 
 raw-from : (m : Assignment) (clause : List ℕ) → MayHold m (option_map distinct (without_constants clause))
     → raw_true m clause ≡ true
-raw-from m clause h = by (list_any (λ l. l == 1) clause) refl h
-  where
-    kept : List Literal
-    kept = map as_literal (filter (λ l. not (l == 0)) clause)
-
-    by : (b : Bool) → list_any (λ l. l == 1) clause ≡ b → MayHold m (option_map distinct (cond b None (Some kept)))
-        → raw_true m clause ≡ true
-    by true e g = constant-true m clause e
-    by false e g = kept-true m clause e (sym (distinct-truth m kept) ∙ g)
+raw-from m clause h = search (arith, (constant-true m clause), (kept-true m clause), (distinct-truth m))
 
 may-step : (m : Assignment) (o : Option (List Literal)) (rest : List (List Literal))
     → All (λ c. clause_true m c ≡ true) (cons_option o rest) → MayHold m o × All (λ c. clause_true m c ≡ true) rest
 may-step m None rest all = (tt, all)
-may-step m (Some c) rest all =
-    (All-head (λ k. clause_true m k ≡ true) c rest all, All-tail (λ k. clause_true m k ≡ true) c rest all)
+may-step m (Some c) rest all = search (arith, All-head, All-tail)
 
 -- each clause holds as it was
 pub all-raw : (m : Assignment) (clauses : List (List ℕ)) → All (λ c. clause_true m c ≡ true)
@@ -76,5 +53,4 @@ all-raw m (c ∷ cs) all =
 pub each-part : {X Y : Type 0} (P : Y → Type 0) (f : X → List Y) (xs : List X) → AllByRecursion P (flat_map f xs)
     → AllByRecursion (λ x. AllByRecursion P (f x)) xs
 each-part P f [] all = tt
-each-part P f (x ∷ xs) all =
-    (all_before P (f x) (flat_map f xs) all, each-part P f xs (all_behind P (f x) (flat_map f xs) all))
+each-part P f (x ∷ xs) all = search (arith, all_before, (each-part P f xs), all_behind)

@@ -4,7 +4,7 @@ use Rattle.std.specs.List.{All, flat_map, list_any, range_with_len, position_or_
 use Rattle.std.proofs.lemmas.Bool.{cond-true, lt-ltb}
 use Rattle.std.proofs.lemmas.List.{take_all}
 use Rattle.std.proofs.lemmas.List.Elements.{All-from_recursion, recursion_from_All, All-map}
-use Rattle.circuit_plain.specs.Netlist.{Netlist, IsNetlist, gate_at, literal_variable}
+use Rattle.circuit_plain.specs.Netlist.{Netlist, IsNetlist, gate_at}
 use Rattle.circuit_plain.specs.Ground.{IsGrounded}
 use Rattle.circuit_plain.specs.declared.circuits.Gate.{Gate}
 use Rattle.cert_text.specs.NegatedMatrix.{gate_clauses}
@@ -33,13 +33,7 @@ pub gate-within : (net : Netlist) (number : ℕ → ℕ) (variables : ℕ) → I
     → IsGrounded net (gate_at net i).variable → (g : Gate) → g ≡ numbered_gate number (gate_at net i)
     → AreWithin variables (2 * g.variable ∷ g.left ∷ g.right ∷ [])
 gate-within net number variables is fits i below ground g same =
-    let at = gate_at net i in
-    let two = gate-sides net is i below ground in
-    subst (λ (h : Gate). AreWithin variables (2 * h.variable ∷ h.left ∷ h.right ∷ [])) (sym same)
-    (three-within variables (2 * number at.variable) (on_number number at.left) (on_number number at.right)
-    (double-small (variables + 1) (number at.variable) (fits at.variable ground))
-    (on-small (variables + 1) number at.left (fits (literal_variable at.left) two.0))
-    (on-small (variables + 1) number at.right (fits (literal_variable at.right) two.1)))
+    search (arith, gate-sides, three-within, double-small, on-small)
 
 abbrev pub gate_part : (ℕ → ℕ) → Gate → List (List ℕ)
 gate_part number g = gate_clauses (numbered_gate number g)
@@ -64,15 +58,7 @@ pub copy-within : (d : PartialDesign) → IsDesign d → (variables i flag copy 
     → signal ≡ on_number (implemented_variable d) (get_or (signals d.boxes) i 0)
     → AreWithin variables (2 * flag ∷ copy ∷ signal ∷ [])
 copy-within d keeps variables i flag copy signal many below is-flag is-copy is-signal =
-    let ground = keeps.signals_stand i below in
-    let l = get_or (signals d.boxes) i 0 in
-    let end : end_of d ≡ variables + 1 = omega (arith, many) in
-    three-within variables (2 * flag) copy signal
-    (double-small (variables + 1) flag (omega (arith, is-flag, below, end)))
-    (omega (arith, is-copy, below, end))
-    (subst (λ n. literal_variable n < variables + 1) (sym is-signal)
-    (subst (λ n. literal_variable (on_number (implemented_variable d) l) < n) end
-    (on-small (end_of d) (implemented_variable d) l (imp-small d keeps (literal_variable l) ground))))
+    search (arith, three-within, double-small, on-small, imp-small)
 
 -- one copy more
 pub copies-next : (d : PartialDesign) (f old new : Dqbf) (ss : List ℕ) (i flag copy signal : ℕ)
@@ -83,11 +69,7 @@ pub copies-next : (d : PartialDesign) (f old new : Dqbf) (ss : List ℕ) (i flag
     → length new.matrix ≤ length old.matrix + 4
     → AreAdded f new (all_copies d 0 (take (i + 1) ss)) (4 * (i + 1))
 copies-next d f old new ss i flag copy signal are below is-flag is-copy is-signal before added few =
-    let part : agreement_clauses flag copy signal ≡ copy_clauses d (0 + i) (get_or ss i 0) =
-    ap (λ n. agreement_clauses n copy signal) is-flag
-    ∙ ap (λ n. agreement_clauses (first_same d + i) n signal) is-copy
-    ∙ ap (agreement_clauses (first_same d + i) (2 * (first_copy d + i))) is-signal
-    ∙ ap (λ k. copy_clauses d k (get_or ss i 0)) (let e : i ≡ 0 + i = omega arith in e) in
+    let part : agreement_clauses flag copy signal ≡ copy_clauses d (0 + i) (get_or ss i 0) = search arith in
     subst (AreAdded f new (all_copies d 0 (take (i + 1) ss)))
     (let e : 4 * i + 4 ≡ 4 * (i + 1) = omega arith in e)
     (part-added f old new (all_copies d 0 (take i ss)) (agreement_clauses flag copy signal)
@@ -102,20 +84,7 @@ pub output-within : (d : PartialDesign) → IsDesign d → (variables o flag a b
     → b ≡ on_number (implemented_variable d) (get_or d.implementation.outputs o 0)
     → AreWithin variables (2 * flag ∷ a ∷ b ∷ [])
 output-within d keeps variables o flag a b many below is-flag is-a is-b =
-    let k = get_or d.specification.outputs o 0 in
-    let l = get_or d.implementation.outputs o 0 in
-    let same = keeps.outputs in
-    let end : end_of d ≡ variables + 1 = omega (arith, many) in
-    three-within variables (2 * flag) a b
-    (double-small (variables + 1) flag (omega (arith, is-flag, below, end)))
-    (subst (λ n. literal_variable n < variables + 1) (sym is-a)
-    (subst (λ n. literal_variable (on_number (specified_variable d) k) < n) end
-    (on-small (end_of d) (specified_variable d) k
-    (spec-small d (literal_variable k) (keeps.specified_outputs o below)))))
-    (subst (λ n. literal_variable n < variables + 1) (sym is-b)
-    (subst (λ n. literal_variable (on_number (implemented_variable d) l) < n) end
-    (on-small (end_of d) (implemented_variable d) l
-    (imp-small d keeps (literal_variable l) (keeps.implemented_outputs o (omega (arith, below, same)))))))
+    search (arith, three-within, double-small, on-small, spec-small, imp-small)
 
 -- one pair more
 pub outputs-next : (d : PartialDesign) (f old new : Dqbf) (o flag a b : ℕ) → o < length d.specification.outputs
@@ -128,10 +97,7 @@ pub outputs-next : (d : PartialDesign) (f old new : Dqbf) (o flag a b : ℕ) →
     → AreAdded f new (all_outputs d 0 (take (o + 1) d.specification.outputs)) (4 * (o + 1))
 outputs-next d f old new o flag a b below is-flag is-a is-b before added few =
     let outs = d.specification.outputs in
-    let part : agreement_clauses flag a b ≡ output_clauses d (0 + o) (get_or outs o 0) =
-    ap (λ n. agreement_clauses n a b) is-flag ∙ ap (λ n. agreement_clauses (first_agree d + o) n b) is-a
-    ∙ ap (agreement_clauses (first_agree d + o) (on_number (specified_variable d) (get_or outs o 0))) is-b
-    ∙ ap (λ k. output_clauses d k (get_or outs o 0)) (let e : o ≡ 0 + o = omega arith in e) in
+    let part : agreement_clauses flag a b ≡ output_clauses d (0 + o) (get_or outs o 0) = search arith in
     subst (AreAdded f new (all_outputs d 0 (take (o + 1) outs)))
     (let e : 4 * o + 4 ≡ 4 * (o + 1) = omega arith in e)
     (part-added f old new (all_outputs d 0 (take o outs)) (agreement_clauses flag a b)
@@ -183,29 +149,18 @@ pub flag-more : (d : PartialDesign) (items new : List Literal) (flag : Literal) 
     → items ≡ positive (first_agree d) ∷ map (λ k. negative (first_same d + k)) (range_with_len 0 i)
     → new ≡ items ++ flag ∷ [] → flag ≡ negative number → number ≡ first_same d + i
     → new ≡ positive (first_agree d) ∷ map (λ k. negative (first_same d + k)) (range_with_len 0 (i + 1))
-flag-more d items new flag i number so_far added is-flag is-number =
-    let negated : ℕ → Literal = λ k. negative (first_same d + k) in
-    let here : flag ≡ negated (0 + i) =
-    is-flag ∙ ap negative (let e : number ≡ first_same d + (0 + i) = omega (arith, is-number) in e) in
-    added ∙ ap (λ (ls : List Literal). ls ++ flag ∷ []) so_far
-    ∙ ap (λ (l : Literal). positive (first_agree d) ∷ (map negated (range_with_len 0 i) ++ l ∷ [])) here
-    ∙ ap (λ (ls : List Literal). positive (first_agree d) ∷ ls)
-    (sym (map-join negated (range_with_len 0 i) ((0 + i) ∷ [])) ∙ ap (map negated) (range_append 0 i 1))
+flag-more d items new flag i number so_far added is-flag is-number = search (arith, map-join, (range_append 0 i 1))
 
 -- another first literal
 pub demand-set : (d : PartialDesign) (items : List Literal) (o number : ℕ) (first : Literal) → 1 ≤ length items
     → drop 1 items ≡ drop 1 (demand_clause d 0) → first ≡ positive number → number ≡ first_agree d + o
     → set items 0 first ≡ demand_clause d o
 demand-set d [] o number first some flags is is-number = absurd (omega (arith, some))
-demand-set d (l ∷ ls) o number first some flags is is-number =
-    ap (λ (k : Literal). k ∷ ls) (is ∙ ap positive is-number)
-    ∙ ap (λ (ks : List Literal). positive (first_agree d + o) ∷ ks) flags
+demand-set d (l ∷ ls) o number first some flags is is-number = search arith
 
 -- a demand has a literal
 pub demand-some : (d : PartialDesign) (o : ℕ) (clause : List Literal) → clause ≡ demand_clause d o → 1 ≤ length clause
-demand-some d o clause is =
-    let long : length clause ≡ suc (length (drop 1 (demand_clause d o))) = ap (λ (c : List Literal). length c) is in
-    omega (arith, long)
+demand-some d o clause is = search arith
 
 pub demand-in-range : (d : PartialDesign) (o variables : ℕ) (clause : List Literal) → variables ≡ end_of d - 1
     → o < length d.specification.outputs → clause ≡ demand_clause d o
@@ -224,24 +179,17 @@ demand-in-range d o variables clause many below is =
 pub gates-all : (net : Netlist) (number : ℕ → ℕ) (f new : Dqbf) (i : ℕ) → i ≡ length net.gates
     → AreAdded f new (flat_map (gate_part number) (take i net.gates)) (3 * i)
     → AreAdded f new (flat_map (gate_part number) net.gates) (3 * length net.gates)
-gates-all net number f new i all added =
-    subst (λ (gs : List Gate). AreAdded f new (flat_map (gate_part number) gs) (3 * length net.gates))
-    (take_all (length net.gates) net.gates (omega arith))
-    (subst (λ k. AreAdded f new (flat_map (gate_part number) (take k net.gates)) (3 * k)) all added)
+gates-all net number f new i all added = search (arith, take_all)
 
 -- the numbers of a numbering are those of the design
 pub numbers-within : (n : Numbering) (net : Netlist) (number : ℕ → ℕ) (end variables : ℕ)
     → IsNumberingOf n net number → ((v : ℕ) → IsGrounded net v → number v < end) → end ≡ variables + 1
     → AreNumbersWithin n variables
-numbers-within n net number end variables is fits same v ground =
-    subst (λ (f : ℕ → ℕ). f v < variables + 1) (sym is.numbered)
-    (subst (λ k. number v < k) same (fits v (subst (λ (m : Netlist). IsGrounded m v) is.circuit ground)))
+numbers-within n net number end variables is fits same v ground = search arith
 
 numbered-part : (n : Numbering) (net : Netlist) (number : ℕ → ℕ) → IsNumberingOf n net number
     → flat_map (gate_part (number_in n)) n.circuit.now.gates ≡ flat_map (gate_part number) net.gates
-numbered-part n net number is =
-    ap (λ (f : ℕ → ℕ). flat_map (gate_part f) n.circuit.now.gates) is.numbered
-    ∙ ap (λ (m : Netlist). flat_map (gate_part number) m.gates) is.circuit
+numbered-part n net number is = search arith
 
 -- all parts
 pub matrix-built : (e : Encoder) (d : PartialDesign) → IsEncoder e d → (f g h i j k : Dqbf) (l m n o p : ℕ)
@@ -272,14 +220,7 @@ matrix-built e d is f g h i j k l m n o p none first second third fourth fifth =
 pub specified-is : (d : PartialDesign) (n : Numbering) (net : Netlist) (shared further gate : ℕ)
     → IsNumberingOf n net (numbered_variable net (input_number shared further) gate) → net ≡ d.specification
     → shared ≡ inputs_of d → gate ≡ first_specified d → IsNumberingOf n d.specification (specified_variable d)
-specified-is d n net shared further gate of same is-shared is-gate = record {
-  is = of.is;
-  circuit = of.circuit ∙ same;
-  numbered = of.numbered ∙ ap (λ (m : Netlist). numbered_variable m (input_number shared further) gate) same
-      ∙ ap (λ s. numbered_variable d.specification (input_number s further) gate) is-shared
-      ∙ ap (numbered_variable d.specification (input_number (inputs_of d) further)) is-gate
-      ∙ specified-numbers d further;
-}
+specified-is d n net shared further gate of same is-shared is-gate = search (arith, (specified-numbers d further))
 
 pub implemented-is : (d : PartialDesign) (n : Numbering) (net : Netlist) (shared further gate : ℕ)
     → IsNumberingOf n net (numbered_variable net (input_number shared further) gate) → net ≡ d.implementation

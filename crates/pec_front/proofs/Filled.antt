@@ -1,5 +1,5 @@
 -- A choice that solves a design's formula makes the outputs agree where its functions fill the boxes.
-use Rattle.std.proofs.Common.{◌≡◌, ℕ, zero, suc, ◌+◌, ◌-◌, ◌*◌, ◌<◌, ◌≤◌, nat_lt, Bool, true, false, not, List, [], ◌∷◌, ◌++◌, map, length, get_or, refl, sym, ◌∙◌, ap, subst, arith}
+use Rattle.std.proofs.Common.{◌≡◌, ℕ, zero, suc, ◌+◌, ◌-◌, ◌*◌, ◌<◌, ◌≤◌, nat_lt, Bool, true, false, not, List, [], ◌∷◌, ◌++◌, map, length, get_or, sym, ◌∙◌, ap, subst, arith}
 use Rattle.std.specs.List.{All, AllByRecursion, Contains, list_any, flat_map, range_with_len}
 use Rattle.std.specs.Prelude.{slice_index}
 use Rattle.std.proofs.Math.ListN.{get_or-append}
@@ -17,7 +17,7 @@ use Rattle.circuit_plain.specs.Ground.{IsGrounded}
 use Rattle.circuit_plain.specs.Value.{IsValuation, GroundedHaveValues, ValuationsAgree}
 use Rattle.cert_text.specs.NegatedMatrix.{opposite_of, gate_clauses}
 use Rattle.pec_front.specs.Boxes.{PartialDesign, signals, IsDesign, inputs_of}
-use Rattle.pec_front.specs.Encoding.{signals_of, driven_of, first_copy, first_driven, first_specified, first_implemented, first_same, first_agree, end_of, specified_variable, implemented_input, implemented_variable, on_number, numbered_gate, agreement_clauses, all_copies, all_outputs, demand, raw_clauses, driven_existential, design_universals, seeing_all, design_formula}
+use Rattle.pec_front.specs.Encoding.{signals_of, driven_of, first_copy, first_specified, first_same, first_agree, end_of, specified_variable, implemented_input, implemented_variable, on_number, numbered_gate, agreement_clauses, all_copies, all_outputs, demand, raw_clauses, driven_existential, design_universals, seeing_all, design_formula}
 use Rattle.pec_front.specs.Choices.{signal_bits, AreDriven, ChoicesFillBoxes}
 use Rattle.pec_front.proofs.Clauses.{with_constant, opposite-bit}
 use Rattle.pec_front.proofs.Circuits.{even-bit, seen_by, on_number-bit, same-values, same-bits}
@@ -52,14 +52,7 @@ universal-bit c i below =
     sym (ap c.a at) ∙ c.universals i 0 (omega (arith, long, below)) ∙ ap (signal_bits c.d c.bits c.mi) at
 
 input-bit : (c : Case) (i : ℕ) → i < inputs_of c.d → with_constant c.a (1 + i) ≡ c.bits i
-input-bit c i below =
-    let first : nat_lt (1 + i) (first_copy c.d) ≡ true = lt-ltb (1 + i) (first_copy c.d) (omega (arith, below)) in
-    let back : 1 + i - 1 ≡ i = omega arith in
-    behind c.a (1 + i) (omega arith)
-    ∙ universal-bit c i (omega (arith, below))
-    ∙ cond-true (nat_lt (1 + i) (first_copy c.d)) (c.bits (1 + i - 1))
-    (literal_bit c.mi (get_or (signals c.d.boxes) (1 + i - first_copy c.d) 0)) first
-    ∙ ap c.bits back
+input-bit c i below = search (arith, nat_lt, lt-ltb, universal-bit, cond-true)
 
 copy-bit : (c : Case) (j : ℕ) → j < signals_of c.d → with_constant c.a (first_copy c.d + j)
     ≡ literal_bit c.mi (get_or (signals c.d.boxes) j 0)
@@ -115,24 +108,7 @@ driven-bit c i low below =
 -- the implementation's inputs have their bits
 implemented-bit : (c : Case) (i : ℕ) → i < length c.d.implementation.inputs
     → with_constant c.a (implemented_input c.d i) ≡ c.bits i
-implemented-bit c i below = by (nat_lt i (inputs_of c.d)) refl
-  where
-    early : ℕ
-    early = 1 + i
-
-    late : ℕ
-    late = first_driven c.d + (i - inputs_of c.d)
-
-    by : (b : Bool) → nat_lt i (inputs_of c.d) ≡ b → with_constant c.a (implemented_input c.d i) ≡ c.bits i
-    by true e =
-        let small : i < inputs_of c.d = ltb-true i (inputs_of c.d) e in
-        ap (with_constant c.a) (cond-true (nat_lt i (inputs_of c.d)) early late e) ∙ input-bit c i small
-    by false e =
-        let low : inputs_of c.d ≤ i = ltb-false i (inputs_of c.d) e in
-        let is : implemented_input c.d i ≡ late = cond-false (nat_lt i (inputs_of c.d)) early late e in
-        behind c.a (implemented_input c.d i) (omega (arith, is))
-        ∙ driven-bit c i low below
-        ∙ c.implemented.inputs i below
+implemented-bit c i below = search (arith, nat_lt, ltb-true, cond-true, input-bit, ltb-false, cond-false, driven-bit)
 
 all-clauses : (c : Case) → AllByRecursion (Raw c.a) (raw_clauses c.d)
 all-clauses c = all-raw c.a (raw_clauses c.d) (c.solves c.a c.follows)
@@ -150,9 +126,7 @@ abbrev behind_gates : PartialDesign → List (List ℕ)
 behind_gates d = all_copies d 0 (signals d.boxes) ++ (all_outputs d 0 d.specification.outputs ++ demands d)
 
 copies-hold : (c : Case) → AllByRecursion (Raw c.a) (behind_gates c.d)
-copies-hold c =
-    all_behind (Raw c.a) (implemented_clauses c.d) (behind_gates c.d)
-    (all_behind (Raw c.a) (specified_clauses c.d) (implemented_clauses c.d ++ behind_gates c.d) (all-clauses c))
+copies-hold c = search (arith, all_behind, all-clauses)
 
 specified-valuation : (c : Case) → IsValuation c.d.specification c.bits (seen_by (specified_variable c.d) c.a)
 specified-valuation c =
@@ -161,10 +135,14 @@ specified-valuation c =
 
 implemented-valuation : (c : Case) → IsValuation c.d.implementation c.bits (seen_by (implemented_variable c.d) c.a)
 implemented-valuation c =
-    seen-valuation c.d.implementation c.keeps.implementation (implemented_input c.d) (first_implemented c.d) c.bits
-    c.a (implemented-bit c)
-    (all_before (Raw c.a) (implemented_clauses c.d) (behind_gates c.d)
-    (all_behind (Raw c.a) (specified_clauses c.d) (implemented_clauses c.d ++ behind_gates c.d) (all-clauses c)))
+    search (
+      arith,
+      (seen-valuation c.d.implementation c.keeps.implementation),
+      (implemented-bit c),
+      all_before,
+      all_behind,
+      (all-clauses c),
+    )
 
 -- a grounded literal of the implementation has its bit under its number
 implemented-literal : (c : Case) (l : ℕ) → IsGrounded c.d.implementation (literal_variable l) →
@@ -196,11 +174,7 @@ copies-at d m i (s ∷ rest) zero k e below all =
     (all_before (Raw m)
     (agreement_clauses (first_same d + i) (2 * (first_copy d + i)) (on_number (implemented_variable d) s))
     (all_copies d (suc i) rest) all)
-copies-at d m i (s ∷ rest) (suc j) k e below all =
-    copies-at d m (suc i) rest j k (omega (arith, e)) (omega (arith, below))
-    (all_behind (Raw m)
-    (agreement_clauses (first_same d + i) (2 * (first_copy d + i)) (on_number (implemented_variable d) s))
-    (all_copies d (suc i) rest) all)
+copies-at d m i (s ∷ rest) (suc j) k e below all = search (arith, (copies-at d m (suc i) rest j k), all_behind)
 
 outputs-at : (d : PartialDesign) (m : Assignment) (i : ℕ) (rest : List ℕ) (j k : ℕ) → i + j ≡ k → j < length rest
     → AllByRecursion (Raw m) (all_outputs d i rest) →
@@ -216,11 +190,7 @@ outputs-at d m i (s ∷ rest) zero k e below all =
     (agreement_clauses (first_agree d + n) (on_number (specified_variable d) s)
     (on_number (implemented_variable d) (slice_index d.implementation.outputs n)))) here
     (all_before (Raw m) one (all_outputs d (suc i) rest) all)
-outputs-at d m i (s ∷ rest) (suc j) k e below all =
-    let one = agreement_clauses (first_agree d + i) (on_number (specified_variable d) s)
-    (on_number (implemented_variable d) (slice_index d.implementation.outputs i)) in
-    outputs-at d m (suc i) rest j k (omega (arith, e)) (omega (arith, below))
-    (all_behind (Raw m) one (all_outputs d (suc i) rest) all)
+outputs-at d m i (s ∷ rest) (suc j) k e below all = search (arith, (outputs-at d m (suc i) rest j k), all_behind)
 
 -- each copy has its signal's value, so its flag is true
 flag-true : (c : Case) (j : ℕ) → j < signals_of c.d → with_constant c.a (first_same c.d + j) ≡ true

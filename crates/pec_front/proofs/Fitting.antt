@@ -1,7 +1,7 @@
 -- A choice that solves a design's formula fills its boxes.
-use Rattle.std.proofs.Common.{◌≡◌, ℕ, zero, suc, ◌+◌, ◌*◌, ◌<◌, ◌≤◌, ◌==◌, Bool, true, false, not, ◌||◌, inl, inr, List, [], ◌∷◌, length, get_or, refl, sym, ◌∙◌, ap, arith}
-use Rattle.std.specs.List.{All, AllByRecursion, list_any, flat_map, position_or_len}
-use Rattle.std.proofs.lemmas.Bool.{true≢false, eq-eqb, ne_eqb, cond-true, or_cases}
+use Rattle.std.proofs.Common.{◌≡◌, ℕ, ◌*◌, ◌<◌, Bool, true, false, not, ◌||◌, inl, inr, List, [], ◌∷◌, length, get_or, refl, sym, ◌∙◌, ap, arith}
+use Rattle.std.specs.List.{All, AllByRecursion, flat_map}
+use Rattle.std.proofs.lemmas.Bool.{true≢false, eq-eqb, cond-true, or_cases}
 use Rattle.std.proofs.lemmas.List.Elements.{All-head, All-tail, All-from_recursion}
 use Rattle.std.proofs.lemmas.List.Folds.{list_any_at}
 use Rattle.std.proofs.lemmas.List.Sums.{position_or_len_is}
@@ -52,19 +52,7 @@ means m flag a b all up =
 -- an input's number is by its place
 pub input-number : (net : Netlist) → IsNetlist net → (input : ℕ → ℕ) (first i : ℕ) → i < length net.inputs →
     numbered_variable net input first (get_or net.inputs i 0) ≡ input i
-input-number net is input first i below = go (get_or net.inputs i 0) refl (is.inputs_fit i 0 below).0
-  where
-    go : (v : ℕ) → get_or net.inputs i 0 ≡ v → 1 ≤ v → numbered_variable net input first v ≡ input i
-    go zero e low = absurd (omega (arith, low))
-    go (suc v) e low =
-        let here : (get_or net.inputs i 0 == suc v) ≡ true = eq-eqb (get_or net.inputs i 0) (suc v) e in
-        cond-true (list_any (λ x. x == suc v) net.inputs) (input (position_or_len (λ x. x == suc v) net.inputs))
-        (first + position_or_len (λ g. g.variable == suc v) net.gates)
-        (list_any_at (λ x. x == suc v) net.inputs i 0 below here)
-        ∙ ap input (position_or_len_is (λ x. x == suc v) net.inputs i 0 (omega (arith, below))
-        (λ k earlier. ne_eqb (get_or net.inputs k 0) (suc v)
-        (λ same. is.inputs_once k i 0 earlier below (same ∙ sym e)))
-        (λ inside. here))
+input-number net is input first i below = search (arith, eq-eqb, cond-true, list_any_at, position_or_len_is)
 
 -- a circuit whose gates' clauses hold is seen as a valuation
 pub seen-valuation : (net : Netlist) → IsNetlist net → (input : ℕ → ℕ) (first : ℕ) (bits : ℕ → Bool) (m : Assignment) →

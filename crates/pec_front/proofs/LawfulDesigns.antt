@@ -1,5 +1,5 @@
 -- Boxes that were read, and that stand in order, make a lawful design.
-use Rattle.std.proofs.Common.{◌≡◌, ◌≢◌, ℕ, ◌+◌, ◌-◌, ◌*◌, ◌%◌, ◌<◌, ◌≤◌, ◌==◌, Bool, true, false, not, ◌||◌, ◌⊎◌, inl, inr, List, [], ◌∷◌, ◌++◌, map, length, get_or, drop, None, refl, sym, ◌∙◌, ap, subst, arith}
+use Rattle.std.proofs.Common.{◌≡◌, ◌≢◌, ℕ, ◌+◌, ◌-◌, ◌*◌, ◌%◌, ◌<◌, ◌≤◌, ◌==◌, Bool, true, false, ◌||◌, ◌⊎◌, inl, inr, List, [], ◌∷◌, ◌++◌, map, length, get_or, drop, None, refl, sym, ◌∙◌, ap, subst, arith}
 use Rattle.std.specs.List.{All, AllPairs, Contains, list_any, list_all, position}
 use Rattle.std.proofs.lemmas.Bool.{eqb-true, eq-eqb, and_parts}
 use Rattle.std.proofs.lemmas.List.{get_or_default, get_or-drop, length-drop, get_or-map, length-map}
@@ -59,16 +59,14 @@ known-grounded net complete v h =
 -- where a search finds nothing, nothing passes
 not-found : (p : ℕ → Bool) (xs : List ℕ) → position p xs ≡ None → (i : ℕ) → i < length xs
     → p (get_or xs i 0) ≡ false
-not-found p xs none i below = by (p (get_or xs i 0)) refl
-  where
-    by : (b : Bool) → p (get_or xs i 0) ≡ b → b ≡ false
-    by false e = refl
-    by true e =
-        let here = any-contained p xs i (get_or xs i 0) below
-        (get_or_default xs i (get_or xs i 0) 0 below) e in
-        let found = (first-place p xs 0 here).0 in
-        let past = place-absent p xs none in
-        absurd (omega (arith, found, past))
+not-found p xs none i below =
+    search (
+      arith,
+      (any-contained p xs i (get_or xs i 0) below (get_or_default xs i (get_or xs i 0) 0 below)),
+      (get_or_default xs i (get_or xs i 0) 0 below),
+      (first-place p xs 0),
+      (place-absent p xs none),
+    )
 
 -- what is driven is driven by some box
 drives-any : (boxes : List BlackBox) (out : ℕ) → Contains (driven boxes) out
@@ -113,10 +111,7 @@ module _ (specification implementation : Netlist) (is_spec : IsNetlist specifica
       (list_all (is_further (wires_of specification implementation)) box.outs) (read.admitted k d below)).0)))
 
   even-out : (out : ℕ) → is_further (wires_of specification implementation) out ≡ true → out ≡ 2 * literal_variable out
-  even-out out h =
-      let parts = and_parts (out % 2 == 0) (has_number further (literal_variable out)) h in
-      let even : out % 2 ≡ 0 = eqb-true (out % 2) 0 parts.0 in
-      omega (arith, even)
+  even-out out h = search (arith, and_parts, eqb-true)
 
   is-further : (out : ℕ) → is_further (wires_of specification implementation) out ≡ true
       → IsFurtherInput (design_with specification implementation boxes) out
@@ -151,10 +146,7 @@ module _ (specification implementation : Netlist) (is_spec : IsNetlist specifica
       let at : get_or further k 0 ≡ v =
       get_or-drop p implementation.inputs k 0
       ∙ ap (λ n. get_or implementation.inputs n 0) (let e : p + k ≡ i = omega (arith, low) in e) in
-      let known : has_number (driven_inputs boxes) v ≡ true =
-      ap (has_number (driven_inputs boxes)) (sym at)
-      ∙ unnot (has_number (driven_inputs boxes) (get_or further k 0))
-      (not-found (λ n. not (has_number (driven_inputs boxes) n)) further read.all_driven k under) in
+      let known : has_number (driven_inputs boxes) v ≡ true = search (arith, unnot, not-found) in
       let r = contained (λ out. literal_variable out == v) (driven boxes)
       (mapped literal_variable (driven boxes) v known) in
       let half : literal_variable r.0 ≡ v = eqb-true (literal_variable r.0) v r.2 in

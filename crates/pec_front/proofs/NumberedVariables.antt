@@ -1,5 +1,5 @@
 -- The number of a circuit's variable by its place among inputs and gates.
-use Rattle.std.proofs.Common.{◌≡◌, ℕ, zero, suc, ◌+◌, ◌-◌, ◌<◌, ◌≤◌, ◌==◌, nat_lt, Bool, true, false, cond, not, ◌||◌, inl, inr, List, [], ◌∷◌, ◌++◌, map, length, Some, refl, sym, ◌∙◌, ap, arith}
+use Rattle.std.proofs.Common.{◌≡◌, ℕ, zero, suc, ◌+◌, ◌-◌, ◌<◌, ◌≤◌, ◌==◌, nat_lt, Bool, true, false, cond, not, inl, inr, List, [], ◌∷◌, ◌++◌, map, length, Some, refl, sym, ◌∙◌, ap, arith}
 use Rattle.std.specs.List.{list_any, position_or_len}
 use Rattle.std.proofs.lemmas.Bool.{cond-true, cond-false, lt-ltb, le-ltb}
 use Rattle.std.proofs.lemmas.List.{get_or_default}
@@ -18,15 +18,7 @@ use Rattle.list_laws.proofs.Members.{contained_at}
 place-joined : (p : ℕ → Bool) (xs ys : List ℕ) → position_or_len p (xs ++ ys)
     ≡ cond (list_any p xs) (position_or_len p xs) (length xs + position_or_len p ys)
 place-joined p [] ys = let e : position_or_len p ys ≡ 0 + position_or_len p ys = omega arith in e
-place-joined p (x ∷ xs) ys = by (p x) (list_any p xs) (place-joined p xs ys)
-  where
-    by : (a b : Bool) → position_or_len p (xs ++ ys)
-        ≡ cond b (position_or_len p xs) (length xs + position_or_len p ys)
-        → cond (not a) (1 + position_or_len p (xs ++ ys)) 0
-        ≡ cond (a || b) (cond (not a) (1 + position_or_len p xs) 0) (suc (length xs) + position_or_len p ys)
-    by true b e = refl
-    by false true e = ap (λ n. 1 + n) e
-    by false false e = omega (arith, e)
+place-joined p (x ∷ xs) ys = search (arith, (place-joined p xs ys))
 
 place-mapped : {X : Type 0} (f : X → ℕ) (p : ℕ → Bool) (xs : List X)
     → position_or_len p (map f xs) ≡ position_or_len (λ x. p (f x)) xs

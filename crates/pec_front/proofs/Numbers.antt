@@ -1,5 +1,5 @@
 -- The numbers of a circuit's variables, and the ranges that a design's formula declares.
-use Rattle.std.proofs.Common.{◌≡◌, ◌≢◌, ℕ, zero, suc, ◌+◌, ◌-◌, ◌*◌, ◌<◌, ◌≤◌, ◌==◌, nat_lt, Bool, true, false, ◌||◌, ◌⊎◌, inl, inr, List, [], ◌∷◌, ◌++◌, map, length, get_or, refl, sym, ◌∙◌, ap, subst, arith, length-append}
+use Rattle.std.proofs.Common.{◌≡◌, ◌≢◌, ℕ, zero, suc, ◌+◌, ◌-◌, ◌<◌, ◌≤◌, ◌==◌, nat_lt, Bool, true, false, ◌||◌, ◌⊎◌, inl, inr, List, [], ◌∷◌, ◌++◌, map, length, get_or, refl, sym, ◌∙◌, ap, subst, arith, length-append}
 use Rattle.std.specs.List.{All, AllPairs, Contains, list_any, range_with_len, position_or_len}
 use Rattle.std.proofs.lemmas.Bool.{true≢false, eqb-true, eq-eqb, le-ltb, cond-true, cond-false}
 use Rattle.std.proofs.lemmas.List.Elements.{All-append, All-map, All-contains_itself}
@@ -10,7 +10,7 @@ use Rattle.circuit_plain.specs.Netlist.{Netlist}
 use Rattle.circuit_plain.specs.declared.circuits.Gate.{Gate}
 use Rattle.circuit_plain.specs.Ground.{IsGrounded}
 use Rattle.pec_front.specs.Boxes.{BlackBox, PartialDesign, signals, inputs_of}
-use Rattle.pec_front.specs.Encoding.{signals_of, driven_of, first_copy, first_driven, first_specified, end_of, numbered_variable, implemented_input, copies_for, driven_existential, design_universals, seeing_all, design_formula}
+use Rattle.pec_front.specs.Encoding.{signals_of, driven_of, first_driven, first_specified, end_of, numbered_variable, copies_for, driven_existential, design_universals, seeing_all, design_formula}
 use Rattle.pec_front.proofs.Values.{ground_cases, any-contained}
 use Rattle.list_laws.proofs.Numbers.{range_append, range_distinct}
 
@@ -74,15 +74,6 @@ number-cases net input first_gate (suc u) ground = by (list_any (λ x. x == suc 
     v : ℕ
     v = suc u
 
-    is-input : ℕ → Bool
-    is-input x = x == suc u
-
-    by-input : ℕ
-    by-input = input (position_or_len (λ x. x == suc u) net.inputs)
-
-    by-gate : ℕ
-    by-gate = first_gate + position_or_len (λ (g : Gate). g.variable == suc u) net.gates
-
     by : (b : Bool) → list_any (λ x. x == suc u) net.inputs ≡ b →
         ((suc u ≡ 0) × (numbered_variable net input first_gate (suc u) ≡ 0))
         ⊎ (OfInput net input (suc u) (numbered_variable net input first_gate (suc u))
@@ -93,9 +84,7 @@ number-cases net input first_gate (suc u) ground = by (list_any (λ x. x == suc 
           place = position_or_len (λ x. x == suc u) net.inputs;
           below = r.0;
           is = eqb-true (get_or net.inputs (position_or_len (λ x. x == suc u) net.inputs) 0) (suc u) r.1;
-          numbered = cond-true (list_any (λ x. x == suc u) net.inputs)
-              (input (position_or_len (λ x. x == suc u) net.inputs))
-              (first_gate + position_or_len (λ (g : Gate). g.variable == suc u) net.gates) e;
+          numbered = search (arith, cond-true);
         }))
     by false e =
         elim (ground_cases ground) [
@@ -118,19 +107,10 @@ number-cases net input first_gate (suc u) ground = by (list_any (λ x. x == suc 
         ]
 
 pub range-contains : (a n v : ℕ) → a ≤ v → v < a + n → Contains (range_with_len a n) v
-range-contains a n v low high =
-    let long = length-range_with_len a n in (
-      v - a,
-      omega (arith, long, low, high),
-      get_or-range_with_len a n (v - a) v (omega (arith, low, high))
-          ∙ (let e : a + (v - a) ≡ v = omega (arith, low) in e),
-    )
+range-contains a n v low high = search (arith, (length-range_with_len a n), (get_or-range_with_len a n (v - a) v))
 
 pub range-all : (P : ℕ → Type 0) (a n : ℕ) → ((v : ℕ) → a ≤ v → v < a + n → P v) → All P (range_with_len a n)
-range-all P a n each k d below =
-    let long = length-range_with_len a n in
-    let inside : k < n = omega (arith, below, long) in
-    subst P (sym (get_or-range_with_len a n k d inside)) (each (a + k) (omega arith) (omega (arith, inside)))
+range-all P a n each k d below = search (arith, length-range_with_len, get_or-range_with_len)
 
 pub map-join : {X Y : Type 0} (f : X → Y) (xs ys : List X) → map f (xs ++ ys) ≡ map f xs ++ map f ys
 map-join f [] ys = refl
@@ -139,12 +119,7 @@ map-join f (x ∷ xs) ys = ap (λ zs. f x ∷ zs) (map-join f xs ys)
 pub driven-numbers : (d : PartialDesign) (n i v : ℕ) → inputs_of d ≤ i → v ≡ first_driven d + (i - inputs_of d)
     → map (λ (y : Existential). y.variable) (map (driven_existential d) (range_with_len i n)) ≡ range_with_len v n
 driven-numbers d zero i v low e = refl
-driven-numbers d (suc n) i v low e =
-    let late : implemented_input d i ≡ first_driven d + (i - inputs_of d) =
-    cond-false (nat_lt i (inputs_of d)) (1 + i) (first_driven d + (i - inputs_of d)) (le-ltb i (inputs_of d) low) in
-    ap (λ b. b ∷ map (λ (y : Existential). y.variable) (map (driven_existential d) (range_with_len (i + 1) n)))
-    (late ∙ sym e)
-    ∙ ap (λ bs. v ∷ bs) (driven-numbers d n (i + 1) (v + 1) (omega (arith, low)) (omega (arith, low, e)))
+driven-numbers d (suc n) i v low e = search (arith, cond-false, nat_lt, le-ltb, (driven-numbers d n (i + 1) (v + 1)))
 
 seeing-numbers : (d : PartialDesign) (vs : List ℕ) → map (λ (y : Existential). y.variable) (map (seeing_all d) vs) ≡ vs
 seeing-numbers d [] = refl
@@ -200,10 +175,7 @@ copies-inside (box ∷ boxes) next out = by (list_any (λ o. o == out) box.outs)
         later k d below in (let low = two.0 in omega (arith, low), let high = two.1 in omega (arith, high, long)))
 
 pub copies-seen : (d : PartialDesign) (i : ℕ) → All (Contains (design_universals d)) (driven_existential d i).sees
-copies-seen d i k e below =
-    let two = copies-inside d.boxes (first_copy d) (2 * get_or d.implementation.inputs i 0) k e below in
-    range-contains 1 (inputs_of d + signals_of d) (get_or (driven_existential d i).sees k e)
-    (let low = two.0 in omega (arith, low)) (let high = two.1 in omega (arith, high))
+copies-seen d i k e below = search (arith, copies-inside, range-contains)
 
 pub lawful-prefix : (d : PartialDesign) → HasLawfulPrefix (design_formula d)
 lawful-prefix d = record {

@@ -18,10 +18,8 @@ use Rattle.list_laws.proofs.Members.{contained_at}
 reads-box : (boxes : List BlackBox) (box : BlackBox) (l : ℕ) → Contains boxes box → Contains box.ins l
     → Contains (signals boxes) l
 reads-box [] box l (k, below, e) inside = absurd (omega (arith, below))
-reads-box (b ∷ boxes) box l (zero, below, e) inside = Contains-append_left b.ins (signals boxes) l
-    (subst (λ (z : BlackBox). Contains z.ins l) (sym e) inside)
-reads-box (b ∷ boxes) box l (suc k, below, e) inside = Contains-append_right b.ins (signals boxes) l
-    (reads-box boxes box l (k, omega (arith, below), e) inside)
+reads-box (b ∷ boxes) box l (zero, below, e) inside = search (arith, Contains-append_left)
+reads-box (b ∷ boxes) box l (suc k, below, e) inside = search (arith, Contains-append_right, (reads-box boxes box l))
 
 -- a design with two fillings whose inputs have the same bits
 pub record Twice : Type 0 where
@@ -113,13 +111,7 @@ box-same t k earlier e below out inside =
 boxes-same : (t : Twice) (k : ℕ) → Same t k
 boxes-same t zero j e before below out inside = absurd (omega (arith, before))
 boxes-same t (suc k) j e before below out inside =
-    elim (cases_lt j k) [
-      | inl sooner ↦ boxes-same t k j e sooner below out inside
-      | inr now ↦
-          let is : j ≡ k = omega (arith, before, now) in
-          box-same t k (boxes-same t k) e (omega (arith, below, is)) out
-          (subst (λ (n : ℕ). Contains (get_or t.d.boxes n e).outs out) is inside)
-    ]
+    search (arith, (cases_lt j k), (boxes-same t k j e), (box-same t k (boxes-same t k) e), (boxes-same t k))
 
 -- a row is filled in one way
 pub filled-once : (t : Twice) (v : ℕ) → IsGrounded t.d.implementation v → t.mi v ≡ t.ni v

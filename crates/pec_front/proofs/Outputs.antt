@@ -1,7 +1,7 @@
 -- Skolem functions of a design's formula give functions that fit.
-use Rattle.std.proofs.Common.{◌≡◌, ℕ, ◌+◌, ◌-◌, ◌*◌, ◌<◌, ◌==◌, nat_lt, Bool, false, List, map, length, get_or, refl, sym, ◌∙◌, ap, subst, arith}
+use Rattle.std.proofs.Common.{◌≡◌, ℕ, ◌+◌, ◌*◌, ◌<◌, ◌==◌, nat_lt, Bool, false, List, map, length, get_or, refl, sym, ◌∙◌, ap, arith}
 use Rattle.std.specs.List.{Contains, list_any, position_or_len}
-use Rattle.std.proofs.lemmas.Bool.{eqb-true, eq-eqb, ne_eqb, le-ltb, cond-false}
+use Rattle.std.proofs.lemmas.Bool.{eqb-true, eq-eqb, le-ltb, cond-false}
 use Rattle.std.proofs.lemmas.List.{get_or-map}
 use Rattle.std.proofs.lemmas.List.Elements.{All-contains}
 use Rattle.std.proofs.lemmas.List.Sums.{position_or_len_is}
@@ -11,7 +11,7 @@ use Rattle.dq_lits.specs.Henkin.{HenkinChoice, Solves, choice_value, restriction
 use Rattle.dq_lits.specs.Skolem.{OutputFunction}
 use Rattle.circuit_plain.specs.Netlist.{literal_bit}
 use Rattle.pec_front.specs.Boxes.{bits_read, driven, IsFurtherInput, AreFilled, signals}
-use Rattle.pec_front.specs.Encoding.{first_copy, driven_existential, design_formula}
+use Rattle.pec_front.specs.Encoding.{first_copy, design_formula}
 use Rattle.pec_front.specs.Choices.{chosen_functions, signal_bits, ChosenBoxesFit}
 use Rattle.pec_front.specs.Laws.{DesignFormulasAreWellFormed}
 use Rattle.pec_front.specs.Outputs.{placed_at, driven_by_literal, OutputsAreBoxes}
@@ -56,13 +56,7 @@ outputs-fit choices chosen formed d output keeps acyclic boxes all-driven skolem
 
     signals-read : (j : ℕ) → j < length (signals d.boxes) → signal_bits d bits mi (first_copy d + j)
         ≡ literal_bit mi (get_or (signals d.boxes) j 0)
-    signals-read j below =
-        let v = first_copy d + j in
-        let late : nat_lt v (first_copy d) ≡ false = le-ltb v (first_copy d) (omega arith) in
-        let back : v - first_copy d ≡ j = omega arith in
-        cond-false (nat_lt v (first_copy d)) (bits (v - 1))
-        (literal_bit mi (get_or (signals d.boxes) (v - first_copy d) 0)) late
-        ∙ ap (λ k. literal_bit mi (get_or (signals d.boxes) k 0)) back
+    signals-read j below = search (arith, nat_lt, le-ltb, cond-false)
 
     by-choice : AreFilled d.boxes (chosen_functions d made.0) mi
     by-choice k e below j f under =
@@ -75,17 +69,10 @@ outputs-fit choices chosen formed d output keeps acyclic boxes all-driven skolem
         let i = further.0 in
         let two : out ≡ 2 * get_or inputs i 0 = further.3 in
         let inside : i < length inputs = further.2 in
-        let place : position_or_len (λ x. 2 * x == out) inputs ≡ i =
-        position_or_len_is (λ x. 2 * x == out) inputs i 0 (omega (arith, inside))
-        (λ n earlier. ne_eqb (2 * get_or inputs n 0) out
-        (λ same. keeps.implementation.inputs_once n i 0 earlier inside (omega (arith, same, two))))
-        (λ low. eq-eqb (2 * get_or inputs i 0) out (sym two)) in
+        let place : position_or_len (λ x. 2 * x == out) inputs ≡ i = search (arith, position_or_len_is) in
         let y = driven_by_literal d out in
         let m = signal_bits d bits mi in
-        let reads : restriction y m ≡ bits_read mi box =
-        ap (λ p. restriction (driven_existential d p) m) place
-        ∙ box-copies mi m d.boxes (first_copy d) boxes.driven_once signals-read box in-boxes (2 * get_or inputs i 0)
-        (subst (λ (n : ℕ). Contains box.outs n) two in-box) in
+        let reads : restriction y m ≡ bits_read mi box = search (arith, box-copies, signals-read) in
         filled k e below j f under
         ∙ ap (seen_values output y) (sym reads)
         ∙ sym (made.1 y m)

@@ -30,31 +30,17 @@ pub level-set : (variables levels : List ℕ) (variable level place : ℕ)
     → place_of variables variable ≡ Some place → length levels ≡ length variables → (v : ℕ)
     → level_at (set levels place level) (place_of variables v)
     ≡ cond (v == variable) level (level_at levels (place_of variables v))
-level-set variables levels variable level place found sized v = by (v == variable) refl
-  where
-    at : (place < length variables) × ((get_or variables place 0 == variable) ≡ true)
-    at = let s = position-Some (λ x. x == variable) variables place 0 found in (s.0, s.1)
-
-    inside : place < length levels
-    inside = let low = at.0 in omega (arith, low, sized)
-
-    other : (o : Option ℕ) → place_of variables v ≡ o → v ≢ variable
-        → level_at (set levels place level) o ≡ level_at levels o
-    other None e apart = refl
-    other (Some q) e apart =
-        let here = position-Some (λ x. x == v) variables q 0 e in
-        get_or-set_other levels place q level 0
-        (λ same. apart (sym (eqb-true (get_or variables q 0) v here.1)
-        ∙ ap (λ k. get_or variables k 0) same ∙ eqb-true (get_or variables place 0) variable at.1))
-
-    by : (b : Bool) → (v == variable) ≡ b → level_at (set levels place level) (place_of variables v)
-        ≡ cond b level (level_at levels (place_of variables v))
-    by true e =
-        let same : v ≡ variable = eqb-true v variable e in
-        ap (level_at (set levels place level)) (ap (place_of variables) same ∙ found)
-        ∙ get_or-set_same levels place level 0 inside
-    by false e =
-        other (place_of variables v) refl (λ same. true≢false (sym (eq-eqb v variable same) ∙ e))
+level-set variables levels variable level place found sized v =
+    search (
+      arith,
+      position-Some,
+      (get_or-set_other levels place),
+      eqb-true,
+      (eqb-true (get_or variables place 0) variable),
+      (eqb-true v variable),
+      (get_or-set_same levels place level 0),
+      (eq-eqb v variable),
+    )
 
 pub no-level : (n : ℕ) (o : Option ℕ) → level_at (replicate n 0) o ≡ 0
 no-level n None = refl
@@ -77,72 +63,17 @@ pub record MarkedFirst (old new : ℕ → ℕ) (outs : List ℕ) (count level : 
 
 pub marked-all : (old new : ℕ → ℕ) (outs : List ℕ) (count level : ℕ) → length outs ≤ count
     → MarkedFirst old new outs count level → IsMarked old new outs level
-marked-all old new outs count level many all = record {
-  marked = λ j d below.
-      ap (λ (out : ℕ). new (literal_variable out)) (get_or_default outs j d 0 below)
-      ∙ all.marked j (omega (arith, below, many));
-  others = all.others;
-}
+marked-all old new outs count level many all = search (arith, get_or_default)
 
 pub boxes-none : (net : Netlist) (boxes : List BlackBox) (levels : ℕ → ℕ) → ((v : ℕ) → levels v ≡ 0)
     → AreMarked net boxes 0 levels
-boxes-none net boxes levels zeros = record {
-  outs = λ j d below. absurd (omega (arith, below));
-  bounded = λ v. let e = zeros v in omega (arith, e);
-  reached = λ v place below. let e = zeros v in absurd (omega (arith, e, below));
-}
+boxes-none net boxes levels zeros = search arith
 
 pub boxes-more : (net : Netlist) (boxes : List BlackBox) (i : ℕ) (box : BlackBox) (old new : ℕ → ℕ)
     → i < length boxes → get_or boxes i box ≡ box → AreMarked net boxes i old
     → IsMarked old new box.outs (i + 1) → AreMarked net boxes (i + 1) new
 boxes-more net boxes i box old new inside at before marked =
-    record { outs = outs; bounded = bounded; reached = reached }
-  where
-    outs : (j : ℕ) (d : BlackBox) → j < i + 1
-        → All (λ out. j < new (literal_variable out)) (get_or boxes j d).outs
-    outs j d below k e under =
-        let out = get_or (get_or boxes j d).outs k e in
-        let v = literal_variable out in
-        elim (cases_lt j i) [
-          | inl early ↦
-              let high = before.outs j d early k e under in
-              elim (marked.others v) [
-                | inl same ↦ omega (arith, high, same)
-                | inr m ↦ (let level = m.0 in omega (arith, level, early))
-              ]
-          | inr late ↦
-              let same : j ≡ i = omega (arith, late, below) in
-              let is : get_or boxes j d ≡ box =
-              ap (λ n. get_or boxes n d) same ∙ get_or_default boxes i d box inside ∙ at in
-              let level = marked.marked k e
-              (subst (λ (b : BlackBox). k < length b.outs) is under) in
-              let there : new v ≡ i + 1 =
-              ap (λ (b : BlackBox). new (literal_variable (get_or b.outs k e))) is ∙ level in
-              omega (arith, there, same)
-        ]
-
-    bounded : (v : ℕ) → new v ≤ i + 1
-    bounded v =
-        let low = before.bounded v in
-        elim (marked.others v) [
-          | inl same ↦ omega (arith, same, low)
-          | inr m ↦ (let level = m.0 in omega (arith, level))
-        ]
-
-    reached : (v place : ℕ) → place < new v → ReachesBox net boxes v place
-    reached v place less =
-        elim (marked.others v) [
-          | inl same ↦ before.reached v place (omega (arith, same, less))
-          | inr m ↦ record {
-            box = i;
-            in_range = inside;
-            behind = (let level = m.0 in omega (arith, level, less));
-            out = m.1.0;
-            default = box;
-            drives = subst (λ (b : BlackBox). Contains b.outs m.1.0) (sym at) m.1.1;
-            reaches = subst (λ x. Reaches net v x) (sym m.1.2) itself;
-          }
-        ]
+    search (arith, cases_lt, get_or_default, literal_variable, itself)
 
 -- the first gates of an order, so many, are no lower than what they read
 pub record RaisedFirst (net : Netlist) (boxes : List BlackBox) (order : List ℕ) (count : ℕ)
@@ -166,18 +97,11 @@ module _ (net : Netlist) (kept : IsNetlist net) (order : List ℕ) (ordered : Is
   -- gates at two places have two variables
   two-places : (p q : ℕ) → p < length net.gates → q < length net.gates → p ≢ q
       → (gate_at net p).variable ≢ (gate_at net q).variable
-  two-places p q p_in q_in apart same =
-      elim (cases_lt p q) [
-        | inl less ↦ kept.gates_once p q no-gate less q_in same
-        | inr more ↦ kept.gates_once q p no-gate (let m : q ≢ p = (λ e. apart (sym e)) in omega (arith, more, m)) p_in
-            (sym same)
-      ]
+  two-places p q p_in q_in apart same = search (arith, cases_lt)
 
   earlier-gate : (i k : ℕ) → i < k → k < length order
       → (gate_at net (get_or order i 0)).variable ≢ (gate_at net (get_or order k 0)).variable
-  earlier-gate i k less below =
-      two-places (get_or order i 0) (get_or order k 0) (place-below i (omega (arith, less, below)))
-      (place-below k below) (ordered.each_once i k 0 less below)
+  earlier-gate i k less below = search (arith, two-places, place-below)
 
   -- what is settled before a gate is not its variable
   fresh : (j k : ℕ) (v : ℕ) → j ≤ k → k < length order → IsSettled net (take j order) v
@@ -237,25 +161,8 @@ module _ (net : Netlist) (kept : IsNetlist net) (order : List ℕ) (ordered : Is
           × (new (right_variable (gate_at net (get_or order j 0))) ≤ new (gate_at net (get_or order j 0)).variable)
       gates j under =
           elim (cases_lt j k) [
-            | inl early ↦
-                let own = stays k old new raised (gate_at net (get_or order j 0)).variable
-                (earlier-gate j k early below) in
-                let a = left-stays j (omega (arith, early)) in
-                let b = right-stays j (omega (arith, early)) in
-                let two = before.gates j early in
-                ((let t = two.0 in omega (arith, own, a, t)), (let t = two.1 in omega (arith, own, b, t)))
-            | inr late ↦
-                let same : j ≡ k = omega (arith, late, under) in
-                subst (λ (n : ℕ).
-                (new (left_variable (gate_at net (get_or order n 0))) ≤ new
-                (gate_at net (get_or order n 0)).variable)
-                × (new (right_variable (gate_at net (get_or order n 0))) ≤ new
-                (gate_at net (get_or order n 0)).variable)) (sym same) (
-                  (let a = left-stays k (omega arith) in let m =
-                      le-max_left (old (left_variable g)) (old (right_variable g)) in omega (arith, a, m, here)),
-                  (let b = right-stays k (omega arith) in let m =
-                      le-max_right (old (left_variable g)) (old (right_variable g)) in omega (arith, b, m, here)),
-                )
+            | inl early ↦ search (arith, earlier-gate, left-stays, right-stays)
+            | inr late ↦ search (arith, left-stays, le-max_left, right-stays, le-max_right)
           ]
 
       outs : (j : ℕ) (d : BlackBox) → j < length boxes → All (λ out. j < new (literal_variable out))
@@ -295,15 +202,7 @@ module _ (net : Netlist) (kept : IsNetlist net) (order : List ℕ) (ordered : Is
           }
 
       below-one : (a b place : ℕ) → place < max a b → (place < a) ⊎ (place < b)
-      below-one a b place less =
-          elim (cases_lt place a) [
-            | inl low ↦ inl low
-            | inr high ↦
-                elim (cases_lt place b) [
-                  | inl low ↦ inr low
-                  | inr more ↦ (let m = max-le {a = a} {b = b} {k = place} high more in absurd (omega (arith, m, less)))
-                ]
-          ]
+      below-one a b place less = search (arith, cases_lt, max-le)
 
       reached : (v place : ℕ) → place < new v → ReachesBox net boxes v place
       reached v place less = by (v == g.variable) refl
@@ -360,13 +259,14 @@ pub none-above : (levels : ℕ → ℕ) (ls : List ℕ) (place : ℕ)
     → list_any (λ l. nat_lt place (levels (literal_variable l))) ls ≡ false
     → All (λ l. levels (literal_variable l) ≤ place) ls
 none-above levels ls place none k d below =
-    elim (cases_lt place (levels (literal_variable (get_or ls k d)))) [
-      | inr fine ↦ fine
-      | inl high ↦ absurd (true≢false
-          (sym (any-contained (λ l. nat_lt place (levels (literal_variable l))) ls k (get_or ls k d) below
-          (get_or_default ls k (get_or ls k d) d below)
-          (lt-ltb place (levels (literal_variable (get_or ls k d))) high)) ∙ none))
-    ]
+    search (
+      arith,
+      (cases_lt place),
+      true≢false,
+      any-contained,
+      (get_or_default ls k (get_or ls k d) d below),
+      (lt-ltb place),
+    )
 
 -- one box more reads nothing above its place
 pub below-more : (levels : ℕ → ℕ) (boxes : List BlackBox) (i : ℕ) (box : BlackBox) (ls : List ℕ) → i < length boxes
@@ -374,30 +274,13 @@ pub below-more : (levels : ℕ → ℕ) (boxes : List BlackBox) (i : ℕ) (box :
     → list_any (λ l. nat_lt i (levels (literal_variable l))) ls ≡ false
     → (j : ℕ) → j < i + 1 → IsBelow levels boxes j
 below-more levels boxes i box ls inside at is before none j below d under =
-    elim (cases_lt j i) [
-      | inl early ↦ before j early d under
-      | inr late ↦
-          let same : j ≡ i = omega (arith, late, below) in
-          let here : get_or boxes j d ≡ box =
-          ap (λ n. get_or boxes n d) same ∙ get_or_default boxes i d box inside ∙ sym at in
-          subst (λ n. All (λ l. levels (literal_variable l) ≤ n) (get_or boxes j d).ins) (sym same)
-          (subst (λ xs. All (λ l. levels (literal_variable l) ≤ i) xs)
-          (is ∙ ap (λ (b : BlackBox). b.ins) (sym here)) (none-above levels ls i none))
-    ]
+    search (arith, cases_lt, get_or_default, none-above)
 
 -- a box that reads something above its place
 pub found-above : (levels : ℕ → ℕ) (boxes : List BlackBox) (i : ℕ) (box : BlackBox) (ls : List ℕ) → i < length boxes
     → box ≡ get_or boxes i box → ls ≡ box.ins
     → list_any (λ l. nat_lt i (levels (literal_variable l))) ls ≡ true → IsAbove levels boxes i
-found-above levels boxes i box ls inside at is some =
-    let r = contained (λ l. nat_lt i (levels (literal_variable l))) ls some in
-    record {
-      in_range = inside;
-      signal = r.0;
-      default = box;
-      reads = subst (λ xs. Contains xs r.0) (is ∙ ap (λ (b : BlackBox). b.ins) at) r.1;
-      above = ltb-true i (levels (literal_variable r.0)) r.2;
-    }
+found-above levels boxes i box ls inside at is some = search (arith, contained, ltb-true)
 
 -- what the pass and the search for the first box that is above its place show
 pub order-shown : LatestShowsOrder → (net : Netlist) (boxes : List BlackBox) (levels : ℕ → ℕ) (found : Option ℕ)
@@ -405,13 +288,7 @@ pub order-shown : LatestShowsOrder → (net : Netlist) (boxes : List BlackBox) (
     → MatchOption found (StandInOrder net boxes) (IsFirstOutOfOrder net boxes)
 order-shown shows net boxes levels None latest above = (shows net boxes levels latest).1 (λ i d below. above i d below)
 order-shown shows net boxes levels (Some place) latest above = record {
-  is = record {
-    in_range = above.0.in_range;
-    signal = above.0.signal;
-    default = above.0.default;
-    reads = above.0.reads;
-    reaches = latest.reached (literal_variable above.0.signal) place above.0.above;
-  };
+  is = search arith;
   first = λ k low o.
       let r = o.reaches in
       let high = All-contains (λ out. r.box < levels (literal_variable out)) (get_or boxes r.box r.default).outs r.out

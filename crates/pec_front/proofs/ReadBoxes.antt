@@ -1,5 +1,5 @@
 -- Boxes that a comment states are admitted, and drive each further input once.
-use Rattle.std.proofs.Common.{◌≡◌, ◌≢◌, ℕ, zero, suc, ◌+◌, ◌<◌, ◌==◌, nat_lt, Bool, true, false, cond, inl, inr, List, [], ◌∷◌, ◌++◌, map, length, get_or, Option, None, Some, Result, Ok, Err, refl, sym, ◌∙◌, ap, subst, arith, length-append, append_assoc}
+use Rattle.std.proofs.Common.{◌≡◌, ◌≢◌, ℕ, zero, suc, ◌+◌, nat_lt, Bool, true, false, cond, List, [], ◌∷◌, ◌++◌, map, length, get_or, Option, None, Some, Result, Ok, Err, refl, sym, ap, subst, arith, length-append, append_assoc}
 use Rattle.std.specs.List.{All, AllPairs}
 use Rattle.std.specs.Option.{option_and_then}
 use Rattle.std.proofs.Math.ListN.{get_or-append}
@@ -9,14 +9,14 @@ use Rattle.std.proofs.lemmas.List.{get_or_default}
 use Rattle.std.proofs.lemmas.List.Concat.{flat_map-append}
 use Rattle.std.proofs.lemmas.List.Elements.{All-append, All-from_recursion, All-nil}
 use Rattle.circuit_plain.specs.Netlist.{Netlist, literal_variable}
-use Rattle.dq_text.specs.Line.{TextLine, LineCursor, line_tokens, lines_from}
+use Rattle.dq_text.specs.Line.{TextLine, LineCursor, line_tokens}
 use Rattle.number_tables.specs.Numbers.{has_number}
 use Rattle.pec_front.specs.BoxLine.{is_box, admitted, box_line, box_of, small_numbers}
-use Rattle.pec_front.specs.Boxes.{BlackBox, driven}
-use Rattle.pec_front.specs.Reading.{Refusal, wires_of, driven_inputs, repeats, with_box, go_on, read_boxes, max_boxes, box_count, behind_pec, read_lines, read_comment, first_undriven, unless_undriven, all_driven, comment_boxes}
+use Rattle.pec_front.specs.Boxes.{BlackBox}
+use Rattle.pec_front.specs.Reading.{Refusal, driven_inputs, repeats, with_box, go_on, read_boxes, behind_pec, read_lines, first_undriven, all_driven, comment_boxes}
 use Rattle.pec_front.specs.Steps.{AreReadBoxes}
 use Rattle.pec_front.specs.declared.faults.PecFault.{PecFault}
-use Rattle.pec_front.specs.declared.faults.PecFault.TheVariants.{BoxTwice, BadBox, Limit}
+use Rattle.pec_front.specs.declared.faults.PecFault.TheVariants.{BoxTwice, BadBox}
 use Rattle.pec_front.specs.declared.wires.Wires.{Wires}
 use Rattle.pec_front.proofs.Values.{any-contained}
 
@@ -38,23 +38,18 @@ pub record Good (wires : Wires) (boxes : List BlackBox) : Type 0 where
 once-more : (xs : List ℕ) (x : ℕ) → AllPairs (λ v w. v ≢ w) xs → has_number xs x ≡ false
     → AllPairs (λ v w. v ≢ w) (xs ++ x ∷ [])
 once-more xs x once apart i j d less below =
-    elim (cases_lt j (length xs)) [
-      | inl early ↦ λ e. once i j d less early
-          (sym (get_or-append xs (x ∷ []) d i (omega (arith, less, early))) ∙ e ∙ get_or-append xs (x ∷ []) d j early)
-      | inr late ↦ λ e.
-          let low : i < length xs = omega (arith, less, below, long) in
-          let at : j ≡ length xs = omega (arith, late, below, long) in
-          let last : get_or (xs ++ x ∷ []) j d ≡ x =
-          ap (λ k. get_or (xs ++ x ∷ []) k d) at ∙ get_or-append_seam xs x [] d in
-          let same : get_or xs i d ≡ x = sym (get_or-append xs (x ∷ []) d i low) ∙ e ∙ last in
-          let there : has_number xs x ≡ true =
-          any-contained (λ n. n == x) xs i (get_or xs i d) low
-          (get_or_default xs i (get_or xs i d) d low) (eq-eqb (get_or xs i d) x same) in
-          true≢false (sym there ∙ apart)
-    ]
-  where
-    long : length (xs ++ x ∷ []) ≡ length xs + 1
-    long = length-append xs (x ∷ [])
+    search (
+      arith,
+      (cases_lt j (length xs)),
+      (get_or-append xs (x ∷ []) d i),
+      (get_or-append xs (x ∷ []) d j),
+      (get_or-append_seam xs x [] d),
+      any-contained,
+      (get_or_default xs i (get_or xs i d) d),
+      (eq-eqb (get_or xs i d) x),
+      true≢false,
+      (length-append xs (x ∷ [])),
+    )
 
 nothing-more : (xs : List ℕ) → xs ++ [] ≡ xs
 nothing-more [] = refl
@@ -76,10 +71,7 @@ map-behind (x ∷ xs) ys = ap (λ zs. literal_variable x ∷ zs) (map-behind xs 
 -- what one more box drives stands behind what the others drive
 pub driven-more : (boxes : List BlackBox) (box : BlackBox)
     → driven_inputs (boxes ++ box ∷ []) ≡ driven_inputs boxes ++ map literal_variable box.outs
-driven-more boxes box =
-    ap (map literal_variable) (flat_map-append (λ (b : BlackBox). b.outs) boxes (box ∷ []))
-    ∙ map-behind (driven boxes) (driven (box ∷ []))
-    ∙ ap (λ outs. driven_inputs boxes ++ map literal_variable outs) (nothing-more box.outs)
+driven-more boxes box = search (arith, flat_map-append, map-behind, nothing-more)
 
 with-box-good : (wires : Wires) (boxes more : List BlackBox) (found : Option BlackBox)
     → with_box boxes (admitted wires found) ≡ Ok more → Good wires boxes → Good wires more
@@ -103,8 +95,7 @@ with-box-good wires boxes more (Some box) h good = by (is_box wires box) refl h
 
 read-good : (wires : Wires) (count : ℕ) (boxes more : List BlackBox) (lines : List TextLine) (number : ℕ)
     → read_boxes wires count boxes lines number ≡ Ok more → Good wires boxes → Good wires more
-read-good wires zero boxes more lines number h good = subst (Good wires) (ok-is Refusal (List BlackBox) boxes more h)
-    good
+read-good wires zero boxes more lines number h good = search (arith, ok-is)
 read-good wires (suc count) boxes more [] number h good = absurd (refusal-isn't-ok _ more h)
 read-good wires (suc count) boxes more (line ∷ lines) number h good =
     by (with_box boxes (box_line wires (line_tokens line.text))) refl h
@@ -122,43 +113,24 @@ read-good wires (suc count) boxes more (line ∷ lines) number h good =
         (with-box-good wires boxes others (option_and_then box_of (small_numbers (line_tokens line.text))) e good)
 
 none-good : (wires : Wires) → Good wires []
-none-good wires = record {
-  admitted = All-nil (λ box. is_box wires box ≡ true);
-  once = λ i j d less below. absurd (omega (arith, below));
-}
+none-good wires = search (arith, All-nil)
 
 behind-good : (wires : Wires) (line : ℕ) (count : Option ℕ) (lines : List TextLine) (boxes : List BlackBox)
     → behind_pec wires line count lines ≡ Ok boxes → Good wires boxes
 behind-good wires line None lines boxes h = absurd (refusal-isn't-ok _ boxes h)
-behind-good wires line (Some count) lines boxes h = by (nat_lt max_boxes count) h
-  where
-    by : (b : Bool) → cond b (Err (record { line = line; name = Limit })) (read_boxes wires count [] lines (line + 1))
-        ≡ Ok boxes
-        → Good wires boxes
-    by true g = absurd (refusal-isn't-ok _ boxes g)
-    by false g = read-good wires count [] boxes lines (line + 1) g (none-good wires)
+behind-good wires line (Some count) lines boxes h = search (arith, nat_lt, refusal-isn't-ok, read-good, none-good)
 
 lines-good : (wires : Wires) (lines : List TextLine) (number : ℕ) (boxes : List BlackBox)
     → read_lines wires lines number ≡ Ok boxes → Good wires boxes
 lines-good wires [] number boxes h = absurd (refusal-isn't-ok _ boxes h)
-lines-good wires (line ∷ lines) number boxes h =
-    behind-good wires line.number (box_count (line_tokens line.text)) lines boxes h
+lines-good wires (line ∷ lines) number boxes h = search (arith, behind-good)
 
 driven-all : (wires : Wires) (line : ℕ) (r : Result (List BlackBox) Refusal) (boxes : List BlackBox)
     → all_driven wires line r ≡ Ok boxes → (r ≡ Ok boxes) × (first_undriven wires boxes ≡ None)
 driven-all wires line (Err refusal) boxes h = absurd (refusal-isn't-ok refusal boxes h)
-driven-all wires line (Ok others) boxes h = by (first_undriven wires others) refl h
-  where
-    by : (o : Option ℕ) → first_undriven wires others ≡ o → unless_undriven line others o ≡ Ok boxes
-        → (given (List BlackBox) Refusal others ≡ Ok boxes) × (first_undriven wires boxes ≡ None)
-    by (Some place) e g = absurd (refusal-isn't-ok _ boxes g)
-    by None e g = (g, subst (λ bs. first_undriven wires bs ≡ None) (ok-is Refusal (List BlackBox) others boxes g) e)
+driven-all wires line (Ok others) boxes h = search (arith, refusal-isn't-ok, ok-is)
 
 pub are-read : (specification implementation : Netlist) (comment : LineCursor) (first_input : ℕ)
     (boxes : List BlackBox) → comment_boxes specification implementation comment first_input ≡ Ok boxes
     → AreReadBoxes specification implementation boxes
-are-read specification implementation comment first_input boxes h =
-    let wires = wires_of specification implementation in
-    let two = driven-all wires (first_input + length specification.inputs) (read_comment wires comment) boxes h in
-    let good = lines-good wires (lines_from comment.number comment.rest) comment.number boxes two.0 in
-    record { admitted = good.admitted; once = good.once; all_driven = two.1 }
+are-read specification implementation comment first_input boxes h = search (arith, driven-all, lines-good)

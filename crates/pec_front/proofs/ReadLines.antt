@@ -5,7 +5,7 @@ use Rattle.dq_text.specs.Line.{TextLine, line_tokens}
 use Rattle.pec_front.specs.BoxLine.{box_line}
 use Rattle.pec_front.specs.Boxes.{BlackBox}
 use Rattle.number_tables.specs.Numbers.{has_number}
-use Rattle.pec_front.specs.Reading.{Refusal, with_box, go_on, read_boxes, unless_undriven, all_driven}
+use Rattle.pec_front.specs.Reading.{Refusal, with_box, read_boxes, unless_undriven, all_driven}
 use Rattle.pec_front.specs.Steps.{KnowsDriven, IsListReading}
 use Rattle.pec_front.specs.declared.box_lines.ReadBoxes.{ReadBoxes}
 use Rattle.pec_front.specs.declared.faults.PecFault.TheVariants.{BoxMissing}
@@ -18,11 +18,7 @@ pub line-taken : (wires : Wires) (left : ℕ) (boxes more : List BlackBox) (line
     → with_box boxes (box_line wires (line_tokens line.text)) ≡ Ok more → next ≡ line.number + 1
     → read_boxes wires left boxes lines number ≡ read_boxes wires (left - 1) more others next
 line-taken wires zero boxes more lines others line number next low is fits at = absurd (omega (arith, low))
-line-taken wires (suc k) boxes more lines others line number next low is fits at =
-    ap (λ ls. read_boxes wires (suc k) boxes ls number) is
-    ∙ ap (λ r. go_on line.number r (λ bs. read_boxes wires k bs others (line.number + 1))) fits
-    ∙ ap (read_boxes wires k more others) (sym at)
-    ∙ ap (λ n. read_boxes wires n more others next) (let e : k ≡ suc k - 1 = omega arith in e)
+line-taken wires (suc k) boxes more lines others line number next low is fits at = search arith
 
 -- where the first further input that isn't driven is found
 pub undriven-refused : (wires : Wires) (line : ℕ) (lines : Result (List BlackBox) Refusal) (read : ReadBoxes)

@@ -1,5 +1,5 @@
 -- The copies that a driven input sees are those of what its box reads.
-use Rattle.std.proofs.Common.{◌≡◌, ℕ, suc, ◌+◌, ◌-◌, ◌*◌, ◌/◌, ◌<◌, ◌==◌, nat_lt, Bool, true, false, ◌||◌, List, [], ◌∷◌, ◌++◌, map, length, get_or, refl, sym, ◌∙◌, ap, arith, length-append}
+use Rattle.std.proofs.Common.{◌≡◌, ℕ, suc, ◌+◌, ◌*◌, ◌/◌, ◌<◌, ◌==◌, nat_lt, Bool, true, false, ◌||◌, List, [], ◌∷◌, ◌++◌, map, length, get_or, refl, sym, ◌∙◌, ap, arith, length-append}
 use Rattle.std.specs.List.{All, Contains, list_any, range_with_len, position_or_len}
 use Rattle.std.proofs.Math.ListN.{get_or-append}
 use Rattle.std.proofs.lemmas.Bool.{true≢false, eq-eqb, ne_eqb, le-ltb, cond-true, cond-false}
@@ -35,16 +35,7 @@ found d bits mi (box ∷ boxes) before next out e at h =
     ins = box.ins
 
     bit-at : (j : ℕ) → j < length ins → signal_bits d bits mi (next + j) ≡ literal_bit mi (get_or ins j 0)
-    bit-at j below =
-        let v = next + j in
-        let late : nat_lt v (first_copy d) ≡ false = le-ltb v (first_copy d) (omega (arith, at)) in
-        let back : v - first_copy d ≡ length before + j = omega (arith, at) in
-        cond-false (nat_lt v (first_copy d)) (bits (v - 1))
-        (literal_bit mi (get_or (signals d.boxes) (v - first_copy d) 0)) late
-        ∙ ap (λ k. literal_bit mi (get_or (signals d.boxes) k 0)) back
-        ∙ ap (λ xs. literal_bit mi (get_or xs (length before + j) 0)) e
-        ∙ ap (literal_bit mi)
-        (get_or-append-add before (ins ++ signals boxes) j 0 ∙ get_or-append ins (signals boxes) 0 j below)
+    bit-at j below = search (arith, nat_lt, le-ltb, cond-false, get_or-append-add, get_or-append)
 
     by : (b : Bool) → list_any (λ o. o == out) box.outs ≡ b →
         (list_any (λ z. list_any (λ o. o == out) z.outs) boxes ≡ true → Driver d bits mi (next + length ins) boxes

@@ -23,11 +23,7 @@ pub any-contained : {X : Type 0} (p : X → Bool) (xs : List X) (i : ℕ) (x : X
     → p x ≡ true → list_any p xs ≡ true
 any-contained p [] i x below e h = absurd (omega (arith, below))
 any-contained p (y ∷ ys) zero x below e h = ap (λ b. b || list_any p ys) (ap p e ∙ h)
-any-contained p (y ∷ ys) (suc i) x below e h = by (p y) (any-contained p ys i x (omega (arith, below)) e h)
-  where
-    by : (b : Bool) → list_any p ys ≡ true → (b || list_any p ys) ≡ true
-    by true g = refl
-    by false g = g
+any-contained p (y ∷ ys) (suc i) x below e h = search (arith, (any-contained p ys i x))
 
 -- how a grounded variable comes to be one
 pub record GroundedGate (net : Netlist) (v : ℕ) : Type 0 where
@@ -84,9 +80,7 @@ decide net gates v = by (v == 0) (list_any (λ x. x == v) net.inputs) (list_any 
     by false false false ea eb ec = inr (λ ground. elim (ground_cases ground) [
       | inl z ↦ true≢false (sym (eq-eqb v 0 z) ∙ ea)
       | inr (inl c) ↦ true≢false (sym (any-contained (λ x. x == v) net.inputs c.0 v c.1 c.2 (eq-eqb v v refl)) ∙ eb)
-      | inr (inr w) ↦ true≢false
-          (sym (any-contained (λ (g : Gate). g.variable == v) net.gates w.member.0 w.by w.member.1 w.member.2
-          (eq-eqb w.by.variable v (sym w.is))) ∙ ec)
+      | inr (inr w) ↦ search (arith, true≢false, any-contained, eq-eqb)
     ])
 
 abbrev pick : (w : Ground) (bits : ℕ → Bool) (v : ℕ) → IsGrounded w.net v ⊎ (¬ IsGrounded w.net v) → Bool

@@ -19,15 +19,7 @@ pub next-new : (net : Netlist) → IsNetlist net → (i : ℕ) → i < length ne
 next-new net kept i below keys is v at among =
     elim (Contains-append_cases net.inputs (take i (gate_variables net)) v (subst (λ ks. Contains ks v) is among)) [
       | inl input ↦ input_apart net kept v (gate_at net i) input (contained_at net.gates i no-gate below) at
-      | inr earlier ↦
-          let k = earlier.0 in
-          let inside = earlier.1 in
-          let long = length-map net.gates variable_of_gate in
-          let short = length-take-le i (gate_variables net) (omega (arith, below, long)) in
-          let low : k < i = omega (arith, inside, short) in
-          kept.gates_once k i no-gate low below
-          (sym (gate-variable-at net k v (omega (arith, low, below)))
-          ∙ sym (get_or-take i (gate_variables net) k v low) ∙ earlier.2 ∙ at)
+      | inr earlier ↦ search (arith, length-map, length-take-le, gate-variable-at, get_or-take)
     ]
 
 pub next-pushed : (net : Netlist) (i : ℕ) → i < length net.gates → (keys new : List ℕ)

@@ -1,19 +1,18 @@
 -- The formula of a design binds every variable of its matrix.
-use Rattle.std.proofs.Common.{◌≡◌, ◌≢◌, ℕ, suc, ◌+◌, ◌-◌, ◌*◌, ◌/◌, ◌%◌, ◌<◌, ◌≤◌, ◌==◌, nat_lt, Bool, true, false, not, cond, inl, inr, List, [], ◌∷◌, ◌++◌, map, length, get_or, Some, None, refl, sym, ◌∙◌, ap, subst, arith}
-use Rattle.std.specs.List.{All, AllByRecursion, Contains, list_any, filter, filter_map, flat_map, cons_option, range_with_len}
+use Rattle.std.proofs.Common.{◌≡◌, ◌≢◌, ℕ, suc, ◌+◌, ◌-◌, ◌*◌, ◌/◌, ◌<◌, ◌≤◌, ◌==◌, nat_lt, false, not, List, [], ◌∷◌, ◌++◌, map, length, get_or, sym, subst, arith}
+use Rattle.std.specs.List.{All, AllByRecursion, Contains, list_any, filter, filter_map, flat_map, range_with_len}
 use Rattle.std.specs.Option.{option_map}
 use Rattle.std.proofs.lemmas.Bool.{eqb-true, or_parts, cond-true, cond-false, ltb-true, ltb-false}
 use Rattle.std.proofs.lemmas.List.Elements.{All-from_recursion, recursion_from_All, All-map}
-use Rattle.list_laws.proofs.Truths.{unequal}
-use Rattle.dq_lits.specs.Literal.{Literal, positive, negative, variable_of}
-use Rattle.circuit_plain.specs.Netlist.{Netlist, literal_negated}
+use Rattle.dq_lits.specs.Literal.{Literal, variable_of}
+use Rattle.circuit_plain.specs.Netlist.{Netlist}
 use Rattle.circuit_plain.specs.declared.circuits.Gate.{Gate}
 use Rattle.circuit_plain.specs.Ground.{IsGrounded}
 use Rattle.circuit_plain.specs.Netlist.{IsNetlist}
 use Rattle.cert_text.specs.NegatedMatrix.{opposite_of, gate_clauses, as_literal, without_constants}
 use Rattle.dqdimacs_reader.specs.Building.{distinct}
-use Rattle.pec_front.specs.Boxes.{PartialDesign, IsAcyclic, signals, IsDesign, inputs_of}
-use Rattle.pec_front.specs.Encoding.{signals_of, first_copy, first_driven, first_specified, first_implemented, first_same, first_agree, end_of, numbered_variable, specified_variable, implemented_input, implemented_variable, on_number, numbered_gate, agreement_clauses, all_copies, all_outputs, demand, raw_clauses, design_formula}
+use Rattle.pec_front.specs.Boxes.{PartialDesign, IsAcyclic, signals, IsDesign}
+use Rattle.pec_front.specs.Encoding.{signals_of, first_copy, first_same, first_agree, end_of, numbered_variable, specified_variable, implemented_variable, on_number, numbered_gate, agreement_clauses, all_copies, all_outputs, demand, raw_clauses, design_formula}
 use Rattle.pec_front.specs.Choices.{ChosenBoxesFit, chosen_functions}
 use Rattle.pec_front.specs.Laws.{FittingBoxesChoose, DesignFormulasAreWellFormed, EncodingIsFaithful}
 use Rattle.pec_front.proofs.Values.{sides}
@@ -34,83 +33,34 @@ abbrev Within : ℕ → Literal → Type 0
 Within end l = (1 ≤ variable_of l) × (variable_of l < end)
 
 opposite-small : (end l : ℕ) → Small end l → Small end (opposite_of l)
-opposite-small end l small = by (l % 2 == 1) refl
-  where
-    by : (b : Bool) → (l % 2 == 1) ≡ b → (opposite_of l) / 2 < end
-    by true e =
-        let odd : l % 2 ≡ 1 = eqb-true (l % 2) 1 e in
-        let is : opposite_of l ≡ l - 1 = cond-true (l % 2 == 1) (l - 1) (l + 1) e in
-        let half : (l - 1) / 2 ≡ l / 2 = omega (arith, odd) in
-        let whole : opposite_of l / 2 ≡ l / 2 = ap (λ n. n / 2) is ∙ half in
-        omega (arith, whole, small)
-    by false e =
-        let even : l % 2 ≢ 1 = unequal (l % 2) 1 e in
-        let is : opposite_of l ≡ l + 1 = cond-false (l % 2 == 1) (l - 1) (l + 1) e in
-        let half : (l + 1) / 2 ≡ l / 2 = omega (arith, even) in
-        let whole : opposite_of l / 2 ≡ l / 2 = ap (λ n. n / 2) is ∙ half in
-        omega (arith, whole, small)
+opposite-small end l small = search (arith, eqb-true, cond-true, cond-false)
 
 pub double-small : (end v : ℕ) → v < end → Small end (2 * v)
 double-small end v h = let half : 2 * v / 2 ≡ v = omega arith in omega (arith, half, h)
 
 pub on-small : (end : ℕ) (number : ℕ → ℕ) (l : ℕ) → number (l / 2) < end → Small end (on_number number l)
-on-small end number l h = let half : (2 * number (l / 2) + l % 2) / 2 ≡ number (l / 2) =
-    omega arith in omega (arith, half, h)
+on-small end number l h = search arith
 
 gate-small : (end : ℕ) (number : ℕ → ℕ) (g : Gate) → number g.variable < end → number (g.left / 2) < end
     → number (g.right / 2) < end → AllByRecursion (SmallClause end) (gate_clauses (numbered_gate number g))
-gate-small end number g out left right =
-    let o = double-small end (number g.variable) out in
-    let a = on-small end number g.left left in
-    let b = on-small end number g.right right in
-    let no = opposite-small end (2 * number g.variable) o in
-    let na = opposite-small end (on_number number g.left) a in
-    let nb = opposite-small end (on_number number g.right) b in
-    ((no, (a, tt)), ((no, (b, tt)), ((o, (na, (nb, tt))), tt)))
+gate-small end number g out left right = search (arith, double-small, on-small, opposite-small)
 
 agreement-small : (end flag a b : ℕ) → flag < end → Small end a → Small end b → AllByRecursion (SmallClause end)
     (agreement_clauses flag a b)
-agreement-small end flag a b f x y =
-    let up = double-small end flag f in
-    let down = opposite-small end (2 * flag) up in
-    let nx = opposite-small end a x in
-    let ny = opposite-small end b y in
-    ((down, (nx, (y, tt))), ((down, (x, (ny, tt))), ((up, (x, (y, tt))), ((up, (nx, (ny, tt))), tt))))
+agreement-small end flag a b f x y = search (arith, double-small, opposite-small)
 
 number-small : (end : ℕ) (net : Netlist) (input : ℕ → ℕ) (first_gate : ℕ) → 1 ≤ end
     → ((i : ℕ) → i < length net.inputs → input i < end) → first_gate + length net.gates ≤ end → (v : ℕ)
     → IsGrounded net v →
     numbered_variable net input first_gate v < end
-number-small end net input first_gate low inputs gates v ground =
-    elim (number-cases net input first_gate v ground) [
-      | inl z ↦ (let e = z.1 in omega (arith, low, e))
-      | inr (inl w) ↦ (let e = w.numbered in let s = inputs w.place w.below in omega (arith, e, s))
-      | inr (inr w) ↦ (let e = w.numbered in let s = w.below in omega (arith, e, s, gates))
-    ]
+number-small end net input first_gate low inputs gates v ground = search (arith, number-cases)
 
 pub spec-small : (d : PartialDesign) (v : ℕ) → IsGrounded d.specification v → specified_variable d v < end_of d
-spec-small d v ground = number-small (end_of d) d.specification (λ i. 1 + i) (first_specified d) (omega arith)
-    (λ i below. omega (arith, below)) (omega arith) v ground
+spec-small d v ground = search (arith, number-small)
 
 pub imp-small : (d : PartialDesign) → IsDesign d → (v : ℕ) → IsGrounded d.implementation v
     → implemented_variable d v < end_of d
-imp-small d keeps v ground = number-small (end_of d) d.implementation (implemented_input d) (first_implemented d)
-    (omega arith) inputs (omega arith) v ground
-  where
-    inputs : (i : ℕ) → i < length d.implementation.inputs → implemented_input d i < end_of d
-    inputs i below = by (nat_lt i (inputs_of d)) refl
-      where
-        by : (b : Bool) → nat_lt i (inputs_of d) ≡ b → implemented_input d i < end_of d
-        by true e =
-            let is : implemented_input d i ≡ 1 + i = cond-true (nat_lt i (inputs_of d)) (1 + i)
-            (first_driven d + (i - inputs_of d)) e in
-            let few : i < inputs_of d = ltb-true i (inputs_of d) e in
-            omega (arith, is, few)
-        by false e =
-            let is : implemented_input d i ≡ first_driven d + (i - inputs_of d) =
-            cond-false (nat_lt i (inputs_of d)) (1 + i) (first_driven d + (i - inputs_of d)) e in
-            let low : inputs_of d ≤ i = ltb-false i (inputs_of d) e in
-            omega (arith, is, low, below)
+imp-small d keeps v ground = search (arith, number-small, nat_lt, cond-true, ltb-true, cond-false, ltb-false)
 
 gates-small : (end : ℕ) (net : Netlist) (number : ℕ → ℕ) → IsNetlist net
     → All (λ (g : Gate). IsGrounded net g.variable) net.gates → ((v : ℕ) → IsGrounded net v → number v < end) →
@@ -193,46 +143,18 @@ raw-small d keeps acyclic =
 
 -- what is left of a clause stands on numbers from 1 on
 literal-within : (end l : ℕ) → l ≢ 0 → l ≢ 1 → Small end l → Within end (as_literal l)
-literal-within end l nonzero nonone small = by (literal_negated l)
-  where
-    big : 1 ≤ l / 2
-    big = omega (arith, nonzero, nonone)
-
-    by : (b : Bool) → Within end (cond b (negative (l / 2)) (positive (l / 2)))
-    by true = (big, small)
-    by false = (big, small)
+literal-within end l nonzero nonone small = search arith
 
 plain-within : (end : ℕ) (clause : List ℕ) → list_any (λ l. l == 1) clause ≡ false → SmallClause end clause
     → AllByRecursion (Within end) (map as_literal (filter (λ l. not (l == 0)) clause))
 plain-within end [] none all = tt
-plain-within end (l ∷ ls) none all =
-    let parts = or_parts (l == 1) (list_any (λ k. k == 1) ls) none in
-    by parts.0 (l == 0) refl (plain-within end ls parts.1 all.1)
-  where
-    rest : List ℕ
-    rest = filter (λ k. not (k == 0)) ls
-
-    by : (l == 1) ≡ false → (b : Bool) → (l == 0) ≡ b → AllByRecursion (Within end) (map as_literal rest)
-        → AllByRecursion (Within end) (map as_literal (cond (not b) (l ∷ rest) rest))
-    by one true e more = more
-    by one false e more = (literal-within end l (unequal l 0 e) (unequal l 1 one) all.0, more)
+plain-within end (l ∷ ls) none all = search (arith, or_parts, (plain-within end ls), literal-within)
 
 matrix-within : (end : ℕ) (clauses : List (List ℕ)) → AllByRecursion (SmallClause end) clauses →
     AllByRecursion (AllByRecursion (Within end))
     (filter_map (λ clause. option_map distinct (without_constants clause)) clauses)
 matrix-within end [] all = tt
-matrix-within end (c ∷ cs) all = by (list_any (λ l. l == 1) c) refl (matrix-within end cs all.1)
-  where
-    kept : List Literal
-    kept = map as_literal (filter (λ l. not (l == 0)) c)
-
-    by : (b : Bool) → list_any (λ l. l == 1) c ≡ b → AllByRecursion (AllByRecursion (Within end))
-        (filter_map (λ clause. option_map distinct (without_constants clause)) cs) →
-        AllByRecursion (AllByRecursion (Within end))
-        (cons_option (option_map distinct (cond b None (Some kept)))
-        (filter_map (λ clause. option_map distinct (without_constants clause)) cs))
-    by true e rest = rest
-    by false e rest = (distinct-each (Within end) kept (plain-within end c e all.0), rest)
+matrix-within end (c ∷ cs) all = search (arith, (matrix-within end cs all.1), distinct-each, plain-within)
 
 pub well-formed : DesignFormulasAreWellFormed
 well-formed d keeps acyclic = record {

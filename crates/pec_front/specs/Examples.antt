@@ -1,9 +1,8 @@
 -- Designs to hold the definitions against: a gate of two inputs is the specification, and what drives one
 -- further input is the implementation.
-use Rattle.std.specs.Prelude.{Bool, true, not, List, [], ◌∷◌}
+use Rattle.std.specs.Prelude.{true, not, List, [], ◌∷◌}
 use Rattle.dq_lits.specs.Literal.{Literal, positive, negative}
 use Rattle.circuit_plain.specs.Netlist.{Netlist}
-use Rattle.circuit_plain.specs.declared.circuits.Gate.{Gate}
 use Rattle.pec_front.specs.Boxes.{BlackBox, BoxFunctions, PartialDesign}
 
 abbrev pub specification : Netlist

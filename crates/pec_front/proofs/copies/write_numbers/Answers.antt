@@ -4,15 +4,7 @@ use Rattle.list_laws.proofs.Numbers.{range_append}
 use Rattle.pec_front.proofs.copies.write_numbers.Goals as goal
 
 pub overflow_add-span : goal.overflow_add-span
-overflow_add-span c =
-    let start = c.args.span.start in
-    let count = c.args.span.count in
-    let i = c.loop-i.i in
-    let below = c.loop-i-test.true in
-    let long = length-range_with_len start count in
-    let at = get_or-range_with_len start count i 0 below in
-    let small = c.requires i 0 (omega (arith, long, below)) in
-    omega (arith, at, small)
+overflow_add-span c = search (arith, length-range_with_len, get_or-range_with_len)
 
 pub loop-i-preserved : goal.loop-i-preserved
 loop-i-preserved c =

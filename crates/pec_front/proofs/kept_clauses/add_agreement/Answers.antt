@@ -33,10 +33,4 @@ add_clause-requires-4-clause-within c =
     (subst (λ (n : ℕ). n < vs + 1) (sym c.opposite_of-not_b.ensures.variable) b))
 
 pub returns-clause-clauses : goal.returns-clause-clauses
-returns-clause-clauses c =
-    on_ok c.add_clause-4.result
-    (agreement-added c.args.f.now c.add_clause.new.f c.add_clause-2.new.f c.add_clause-3.new.f c.add_clause-4.new.f
-    c.args.flag c.args.a c.args.b c.opposite_of-differ.result c.opposite_of-not_a.result c.opposite_of-not_b.result
-    c.opposite_of-differ.ensures.value c.opposite_of-not_a.ensures.value c.opposite_of-not_b.ensures.value
-    c.in_ok-add_clause.ensures.clauses c.in_ok-add_clause-2.ensures.clauses c.in_ok-add_clause-3.ensures.clauses)
-    c.add_clause-4.ensures.clauses
+returns-clause-clauses c = search (arith, on_ok, agreement-added)

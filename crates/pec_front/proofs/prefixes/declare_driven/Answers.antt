@@ -20,16 +20,7 @@ write_numbers-requires c =
     (c.inputs-inputs.ensures ∙ ap (λ (n : Netlist). n.inputs) c.implementation.ensures))
 
 pub add_listed-requires-clause-undeclared : goal.add_listed-requires-clause-undeclared
-add_listed-requires-clause-undeclared c =
-    let d = c.args.design.now in
-    let i = c.loop-i.i in
-    let first = c.requires.first in
-    let shared : length c.inputs-shared.result.now ≡ inputs_of d =
-    ap (λ (xs : List ℕ). length xs)
-    (c.inputs-shared.ensures ∙ ap (λ (n : Netlist). n.inputs) c.specification.ensures) in
-    driven-new d c.args.f.now c.loop-i.f (i - inputs_of d) (c.args.first + (i - length c.inputs-shared.result.now))
-    c.requires.universals c.loop-i.invariant
-    (ap (λ n. n + (i - length c.inputs-shared.result.now)) first ∙ ap (λ n. first_driven d + (i - n)) shared)
+add_listed-requires-clause-undeclared c = search (arith, driven-new)
 
 pub add_listed-requires-clause-listed : goal.add_listed-requires-clause-listed
 add_listed-requires-clause-listed c =

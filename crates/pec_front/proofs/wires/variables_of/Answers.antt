@@ -13,10 +13,4 @@ push-requires c =
     (c.gate-lhs.result.0 / 2) (omega (arith, lhs))
 
 pub loop-i-preserved : goal.loop-i-preserved
-loop-i-preserved c =
-    let net = c.args.circuit.now in
-    let i : ℕ = c.loop-i.i in
-    let below : i < length net.gates = omega arith in
-    let lhs : c.gate-lhs.result.0 ≡ 2 * (gate_at net i).variable = ap (λ (t : ℕ × ℕ × ℕ). t.0) c.gate-lhs.ensures in
-    next-pushed net i below c.loop-i.variables c.push.new.self c.loop-i.invariant
-    (c.gate-lhs.result.0 / 2) (omega (arith, lhs)) c.in_ok-push.ensures.ok
+loop-i-preserved c = search (arith, next-pushed)

@@ -1,9 +1,5 @@
-use Rattle.std.proofs.Common.{◌≡◌, ◌+◌, ◌*◌, length, sym, ◌∙◌, ap, subst, arith}
-use Rattle.std.specs.List.{All}
+use Rattle.std.proofs.Common.{◌≡◌, ◌+◌, ◌*◌, length, ◌∙◌, ap, arith}
 use Rattle.list_laws.proofs.Results.{on_ok}
-use Rattle.circuit_plain.specs.Ground.{IsGrounded}
-use Rattle.circuit_plain.specs.Netlist.{Netlist}
-use Rattle.circuit_plain.specs.declared.circuits.Gate.{Gate}
 use Rattle.dq_lits.specs.Formula.{Dqbf}
 use Rattle.pec_front.specs.Encoding.{signals_of, end_of, specified_variable, implemented_variable}
 use Rattle.pec_front.proofs.EncoderSteps.{numbers-within, matrix-built}
@@ -11,9 +7,7 @@ use Rattle.pec_front.proofs.WellFormed.{spec-small, imp-small}
 use Rattle.pec_front.proofs.encoders.Encoder.add_matrix.Goals as goal
 
 pub add_gates-requires-clause-grounded : goal.add_gates-requires-clause-grounded
-add_gates-requires-clause-grounded c =
-    subst (λ (net : Netlist). All (λ (g : Gate). IsGrounded net g.variable) net.gates)
-    (sym c.requires.encoder.specified.circuit) c.every_design_is_lawful.ensures.acyclic.specification
+add_gates-requires-clause-grounded c = search arith
 
 pub add_gates-requires-clause-within : goal.add_gates-requires-clause-within
 add_gates-requires-clause-within c =
@@ -24,9 +18,7 @@ add_gates-requires-clause-within c =
     c.requires.encoder.specified (spec-small d) end
 
 pub add_gates-requires-2-clause-grounded : goal.add_gates-requires-2-clause-grounded
-add_gates-requires-2-clause-grounded c =
-    subst (λ (net : Netlist). All (λ (g : Gate). IsGrounded net g.variable) net.gates)
-    (sym c.requires.encoder.implemented.circuit) c.every_design_is_lawful.ensures.acyclic.implementation
+add_gates-requires-2-clause-grounded c = search arith
 
 pub add_gates-requires-2-clause-within : goal.add_gates-requires-2-clause-within
 add_gates-requires-2-clause-within c =

@@ -1,22 +1,13 @@
-use Rattle.std.proofs.Common.{ℕ, ◌+◌, List, length, get_or, refl, sym, ◌∙◌, ap, subst}
+use Rattle.std.proofs.Common.{ℕ, List, get_or, sym, ◌∙◌, ap, subst, arith}
 use Rattle.std.specs.List.{All, Contains}
 use Rattle.circuit_plain.specs.Netlist.{literal_variable}
-use Rattle.number_tables.specs.Numbers.{has_number, place_of}
+use Rattle.number_tables.specs.Numbers.{has_number}
 use Rattle.pec_front.specs.Boxes.{BlackBox}
-use Rattle.pec_front.specs.Steps.{level_at, level_in, IsMarked}
 use Rattle.pec_front.proofs.RaisedLevels.{no-level, boxes-none, boxes-more, input-known}
 use Rattle.pec_front.proofs.levels.Levels.mark_all.Goals as goal
 
 pub loop-i-init : goal.loop-i-init
-loop-i-init c =
-    let variables = c.args.self.now.variables.now in
-    record {
-      marked = boxes-none c.args.circuit.now c.args.boxes.now (level_in c.args.self.now)
-          (λ v. ap (λ ls. level_at ls (place_of variables v)) c.requires.start
-          ∙ no-level (length variables) (place_of variables v));
-      sized = c.requires.sized;
-      same = refl;
-    }
+loop-i-init c = search (arith, boxes-none, no-level)
 
 pub mark-requires-clause-known : goal.mark-requires-clause-known
 mark-requires-clause-known c k d below =
@@ -30,13 +21,4 @@ mark-requires-clause-known c k d below =
     ap (λ vs. has_number vs v) (c.loop-i.invariant.same ∙ c.requires.variables) ∙ input-known net v (each k d below)
 
 pub loop-i-preserved : goal.loop-i-preserved
-loop-i-preserved c =
-    let old = level_in c.loop-i.self in
-    let new = level_in c.mark.new.self in
-    record {
-      marked = boxes-more c.args.circuit.now c.args.boxes.now c.loop-i.i c.index-boxes-i.result old new
-          c.loop-i-test.true (sym c.index-boxes-i.is) c.loop-i.invariant.marked
-          (subst (λ (os : List ℕ). IsMarked old new os (c.loop-i.i + 1)) c.outs.ensures c.mark.ensures.marked);
-      sized = c.mark.ensures.sized;
-      same = c.mark.ensures.variables ∙ c.loop-i.invariant.same;
-    }
+loop-i-preserved c = search (arith, boxes-more)
