@@ -1,17 +1,16 @@
 -- A group that has no clause yet.
-use Rattle.std.proofs.Common.{◌≡◌, ℕ, zero, suc, ◌<◌, ◌==◌, Bool, true, false, cond, List, [], ◌∷◌, length, Some, None, refl, sym, ◌∙◌, ap, subst, arith}
+use Rattle.std.proofs.Common.{◌≡◌, ℕ, zero, suc, ◌<◌, List, [], ◌∷◌, length, None, refl, subst, arith}
 use Rattle.std.specs.List.{Contains}
 use Rattle.dq_lits.specs.Literal.{Literal, negative}
 use Rattle.hint_log.specs.Entries.{Entry}
 use Rattle.hint_log.specs.Entries.{Named, Given, Learned, Answer, Round, Begun}
 use Rattle.hint_log.specs.declared.names.Name.{Name}
-use Rattle.hint_log.specs.declared.names.Name.TheVariants.{Selector}
 use Rattle.hint_log.specs.declared.origins.Origin.{Origin}
 use Rattle.hint_log.specs.Entries.{name_of}
 use Rattle.hint_log.specs.Growth.{Each}
 use Rattle.log_laws.specs.Engines.{IsInGroup}
 use Rattle.log_laws.proofs.Found.{each_weaker}
-use Rattle.oracle.specs.Searched.{IsGivenToGroup, IsOfGroup}
+use Rattle.oracle.specs.Searched.{IsGivenToGroup}
 use Rattle.circuit_cnf.specs.Gates.{IsGateGiven}
 
 abbrev pub IsUnused : ℕ → List Entry → Entry → Type 0
@@ -20,27 +19,14 @@ IsUnused group earlier _ = Unit {0}
 
 unnamed_before : (es : List Entry) (group w : ℕ) (n : Name) → name_of (Named w n ∷ es) group ≡ None →
     name_of es group ≡ None
-unnamed_before es group w n = by (group == w) where
-  by : (b : Bool) → cond b (Some n) (name_of es group) ≡ None → name_of es group ≡ None
-  by true h = cc
-  by false h = h
+unnamed_before es group w n = search arith
 
 pub group_is_unused : (group : ℕ) (es : List Entry) → name_of es group ≡ None → Each IsGivenToGroup es →
     Each (IsUnused group) es
 group_is_unused group [] unnamed grouped = tt
-group_is_unused group (Named w n ∷ es) unnamed grouped = (
-  tt,
-  group_is_unused group es (unnamed_before es group w n unnamed) grouped.1,
-)
-group_is_unused group (Given origin c ∷ es) unnamed grouped = (no, group_is_unused group es unnamed grouped.1) where
-  no : IsInGroup group c → ⊥
-  no inside =
-      let of_group : IsOfGroup es c = grouped.0 in
-      let both : negative of_group.group ∷ of_group.rest ≡ negative group ∷ inside.0 =
-      sym of_group.clause_is ∙ inside.1 in
-      let same : of_group.group ≡ group = cc in
-      let none : None ≡ Some (Selector of_group.group) = sym unnamed ∙ ap (name_of es) (sym same) ∙ of_group.named in
-      cc
+group_is_unused group (Named w n ∷ es) unnamed grouped = search (arith, (group_is_unused group es), unnamed_before)
+group_is_unused group (Given origin c ∷ es) unnamed grouped =
+    search (arith, (group_is_unused group es unnamed grouped.1))
 group_is_unused group (Learned c h ∷ es) unnamed grouped = (tt, group_is_unused group es unnamed grouped.1)
 group_is_unused group (Answer c h ∷ es) unnamed grouped = (tt, group_is_unused group es unnamed grouped.1)
 group_is_unused group (Round r b j ∷ es) unnamed grouped = (tt, group_is_unused group es unnamed grouped.1)

@@ -1,5 +1,5 @@
 -- Values that make the clauses of a turn true falsify a clause of the matrix.
-use Rattle.std.proofs.Common.{◌≡◌, ℕ, suc, ◌+◌, ◌≤◌, ◌<◌, ◌==◌, Bool, true, false, not, cond, ◌||◌, ◌&&◌, inl, inr, List, [], ◌∷◌, length, get_or, slice_get, Some, None, refl, sym, ◌∙◌, ap, subst, arith}
+use Rattle.std.proofs.Common.{◌≡◌, ℕ, suc, ◌+◌, ◌<◌, Bool, true, false, not, cond, ◌||◌, ◌&&◌, inl, inr, List, [], ◌∷◌, length, get_or, slice_get, Some, None, refl, sym, ◌∙◌, ap, subst, arith}
 use Rattle.std.specs.List.{Contains}
 use Rattle.std.proofs.lemmas.Bool.{false≢true}
 use Rattle.std.proofs.lemmas.List.Elements.{Contains-append_right}
@@ -31,13 +31,7 @@ use Rattle.circuit_cnf.specs.Turning.{NamesAreKept, AreFailing}
 pub switched_on : (values : Assignment) (live : LiveClauses) (g h : Literal) → is_negative g ≡ false →
     is_negative h ≡ false → IsModelUnder values live (g ∷ h ∷ []) →
     (values (variable_of g) ≡ true) × (values (variable_of h) ≡ true)
-switched_on values live g h g_plain h_plain m = (
-  on g g_plain (m.assumptions_true 0 g (omega arith)),
-  on h h_plain (m.assumptions_true 1 g (omega arith)),
-) where
-  on : (l : Literal) → is_negative l ≡ false → literal_true values l ≡ true → values (variable_of l) ≡ true
-  on (positive v) plain is = is
-  on (negative v) plain is = cc
+switched_on values live g h g_plain h_plain m = search arith
 
 -- a group's clause is true by its rest where the group is on
 rest_true : (values : Assignment) (group : ℕ) (rest : List Literal) → values group ≡ true →
@@ -71,24 +65,15 @@ signed_leaf_value values true (LeafLiteral l) = literal_true-opposite values l
 under_leaf : (values : Assignment) (leaf : ℕ → Leaf) (l : Literal) →
     literal_true (λ v. leaf_value values (leaf v)) l ≡ not (leaf_value values
     (leaf_with_sign (not (is_negative l)) (leaf (variable_of l))))
-under_leaf values leaf (positive v) = twice (leaf_value values (leaf v)) ∙ ap not
-    (sym (signed_leaf_value values true (leaf v))) where
-      twice : (b : Bool) → b ≡ not (not b)
-      twice true = refl
-      twice false = refl
+under_leaf values leaf (positive v) = search (arith, signed_leaf_value)
 under_leaf values leaf (negative v) = refl
 
 -- a leaf whose clause is true is true
 leaf_true : (values : Assignment) (leaf : Leaf) (tail : List Literal) → leaf_clause leaf ≡ Some tail →
     clause_true values tail ≡ true → leaf_value values leaf ≡ true
 leaf_true values (Constant true) tail is h = refl
-leaf_true values (Constant false) tail is h = let same : [] ≡ tail = cc in
-    absurd (false≢true (ap (clause_true values) same ∙ h))
-leaf_true values (LeafLiteral l) tail is h = let same : l ∷ [] ≡ tail = cc in
-    or_last (literal_true values l) (ap (clause_true values) same ∙ h) where
-      or_last : (b : Bool) → (b || false) ≡ true → b ≡ true
-      or_last true k = refl
-      or_last false k = absurd (false≢true k)
+leaf_true values (Constant false) tail is h = search (arith, false≢true)
+leaf_true values (LeafLiteral l) tail is h = search (arith, false≢true)
 
 leaf_constant : (values : Assignment) (leaf : Leaf) → leaf_clause leaf ≡ None → leaf_value values leaf ≡ true
 leaf_constant values (Constant true) h = refl
@@ -152,16 +137,12 @@ are_failing f gates leaf sel values old log new learned model gates_on sel_on kn
   bad = get_or given.bads some.0 (positive 0)
 
   bad_true : values (variable_of (get_or given.bads some.0 (positive 0))) ≡ true
-  bad_true = on (get_or given.bads some.0 (positive 0)) (given.bads_are some.0 among).positive_literal some.2 where
-    on : (l : Literal) → is_negative l ≡ false → literal_true values l ≡ true → values (variable_of l) ≡ true
-    on (positive v) plain is = is
-    on (negative v) plain is = cc
+  bad_true = search arith
 
   one_false : (i : ℕ) (l : Literal) → slice_get (get_or f.matrix some.0 []) i ≡ Some l →
       HasFault sel (variable_of bad) (some.0 + 1) (i + 1) l (leaf (variable_of l)) log.entries →
       literal_true (λ v. leaf_value values (leaf v)) l ≡ false
-  one_false i l at (inl none) = under_leaf values leaf l ∙ ap not
-      (leaf_constant values (leaf_with_sign (not (is_negative l)) (leaf (variable_of l))) none)
+  one_false i l at (inl none) = search (arith, under_leaf, leaf_constant)
   one_false i l at (inr tail) =
       let c = negative sel ∷ negative (variable_of bad) ∷ tail.0 in
       let whole = rest_true values sel (negative (variable_of bad) ∷ tail.0) sel_on

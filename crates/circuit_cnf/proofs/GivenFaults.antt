@@ -49,9 +49,7 @@ fault_added f standing start es group bad literal output clause place tail ready
         let left : clause ≡ j = cc in
         let right : place ≡ i = cc in
         let same : output ≡ leaf = cc in
-        let here : Some (variable_of literal) ≡ Some v = sym (ap (option_map variable_of) ready.literal_is) ∙ ap
-        (λ x. option_map variable_of (matrix_literal f x place)) left ∙ ap
-        (λ x. option_map variable_of (matrix_literal f j x)) right ∙ own in
+        let here : Some (variable_of literal) ≡ Some v = search arith in
         let variable : variable_of literal ≡ v = cc in
         sym same ∙ sym (ready.one_leaf k l v other rest inside own' (sym variable));
   };
@@ -60,17 +58,7 @@ fault_added f standing start es group bad literal output clause place tail ready
   by_number : (c : ℕ) → 1 ≤ c → matrix_literal f c place ≡ Some literal → name_of es bad ≡ Some (Bad group c) →
       IsFaultOrSome f es group c place output (negative bad ∷ tail)
   by_number zero one at named = absurd (omega (arith, one))
-  by_number (suc c) one at named = record {
-    literal = literal;
-    bad = bad;
-    tail = tail;
-    literal_is = at;
-    leaf_is =
-        ready.leaf_is;
-    bad_is = named;
-    tail_is = tail_is;
-    rest_is = refl;
-  }
+  by_number (suc c) one at named = search arith
 
 pub fault_grown : (f : Dqbf) (standing : ℕ) (start : List Entry) (g bad literal : Literal) (output : Leaf)
     (clause place : ℕ) (lits tail : List Literal) (log new : ProofLog) → is_negative g ≡ false →

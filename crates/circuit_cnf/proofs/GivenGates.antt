@@ -25,13 +25,6 @@ pub gate_added : (f : Dqbf) (old es : List Entry) (group v part : ℕ) (a b : Li
 gate_added f old es group v part a b rest ready is = record {
   own = refl;
   in_group = (group, (rest, refl), inl refl);
-  matches_origin = record {
-    group = group;
-    rest = rest;
-    clause_is = refl;
-    is_group = ready.is_group;
-    rest_is = record { left = a; right = b; named = ready.is_gate; rest_is = is };
-    one_leaf = λ w j k j' k' leaf leaf' rest' e. cc;
-  };
+  matches_origin = search arith;
   not_repeated = record { first = λ h c inside. ready.fresh part c (omega arith) inside; groups = ready.few };
 }

@@ -1,5 +1,5 @@
 -- What a new group says of the clauses, call by call.
-use Rattle.std.proofs.Common.{◌≡◌, ℕ, Bool, zero, suc, ◌+◌, ◌≤◌, ◌<◌, true, false, inl, inr, List, [], ◌∷◌, map, length, get_or, Option, Some, None, refl, sym, ◌∙◌, ap, subst, arith}
+use Rattle.std.proofs.Common.{◌≡◌, ℕ, Bool, zero, suc, ◌+◌, ◌≤◌, ◌<◌, true, false, inl, inr, List, [], ◌∷◌, map, length, get_or, Some, None, refl, sym, ◌∙◌, ap, subst, arith}
 use Rattle.std.specs.List.{range_with_len}
 use Rattle.std.specs.Option.{option_map}
 use Rattle.std.proofs.lemmas.Bool.{false≢true}
@@ -8,7 +8,6 @@ use Rattle.dq_lits.specs.Literal.{Literal, positive, negative, variable_of, is_n
 use Rattle.dq_lits.specs.Formula.{Dqbf}
 use Rattle.hint_log.specs.Entries.{Entry}
 use Rattle.hint_log.specs.Entries.{Given}
-use Rattle.hint_log.specs.declared.names.Name.{Name}
 use Rattle.hint_log.specs.declared.names.Name.TheVariants.{Bad}
 use Rattle.hint_log.specs.declared.origins.Leaf.{Leaf}
 use Rattle.hint_log.specs.declared.origins.Leaf.TheVariants.{Constant, Literal as LeafLiteral}
@@ -16,7 +15,7 @@ use Rattle.hint_log.specs.declared.origins.Origin.TheVariants.{Fault}
 use Rattle.hint_log.specs.Conditions.{is_circuit_name}
 use Rattle.hint_log.specs.Entries.{ProofLog, with_entry, name_of}
 use Rattle.hint_log.specs.Growth.{Grew}
-use Rattle.hint_log.specs.Naming.{name_literal, AreNamedAs}
+use Rattle.hint_log.specs.Naming.{AreNamedAs}
 use Rattle.hint_log.specs.Origins.{matrix_literal, IsLeafOf}
 use Rattle.hint_log.specs.ProductiveLog.{fault_groups, with_group, fault_room}
 use Rattle.log_laws.specs.Engines.{circuits, IsAddedBy, LeavesRest}
@@ -69,18 +68,12 @@ some_leaf_more f group leaf bads es before j i v out rest inside own =
 
 circuit_stays : (old new : List Entry) → NamesStay old new → (v : ℕ) → is_circuit_name (name_of old v) ≡ true →
     is_circuit_name (name_of new v) ≡ true
-circuit_stays old new stay v h = by (name_of old v) refl h where
-  by : (o : Option Name) → name_of old v ≡ o → is_circuit_name o ≡ true → is_circuit_name (name_of new v) ≡ true
-  by None e is = absurd (false≢true is)
-  by (Some n) e is = ap is_circuit_name (stay v n e) ∙ is
+circuit_stays old new stay v h = search (arith, false≢true)
 
 pub leaf_of_stays : (f : Dqbf) (old new : List Entry) (v : ℕ) (out : Leaf) → NamesStay old new → IsLeafOf f old v out →
     IsLeafOf f new v out
 leaf_of_stays f old new v (Constant b) stay h = h
-leaf_of_stays f old new v (LeafLiteral l) stay h = (
-  (λ u. let r = h.0 u in (r.0, stay (variable_of l) _ r.1)),
-  circuit_stays old new stay (variable_of l) h.1,
-)
+leaf_of_stays f old new v (LeafLiteral l) stay h = search (arith, circuit_stays)
 
 -- the bads by their places
 bad_from : (es : List Entry) (group from : ℕ) (count : ℕ) (bads : List Literal) (j : ℕ) →
@@ -89,21 +82,13 @@ bad_from : (es : List Entry) (group from : ℕ) (count : ℕ) (bads : List Liter
     (is_negative (get_or bads j (positive 0)) ≡ false)
 bad_from es group from zero bads j h below = absurd (omega (arith, below))
 bad_from es group from (suc count) [] j h below = cc
-bad_from es group from (suc count) (l ∷ bads) zero h below =
-    let here : name_literal es l ≡ Some (bad_name group from) = cc in
-    let n = named_variable es l (Bad group from) false (name_of es (variable_of l)) refl here in
-    let number : from ≡ 0 + from = omega arith in
-    (n.0 ∙ ap (λ n. Some (Bad group n)) number, n.1)
+bad_from es group from (suc count) (l ∷ bads) zero h below = search (arith, named_variable)
 bad_from es group from (suc count) (l ∷ bads) (suc j) h below =
-    let later : AreNamedAs es bads (map (bad_name group) (range_with_len (from + 1) count)) = cc in
-    let r = bad_from es group (from + 1) count bads j later (omega (arith, below)) in
-    let number : j + (from + 1) ≡ suc j + from = omega arith in
-    (r.0 ∙ ap (λ n. Some (Bad group n)) number, r.1)
+    search (arith, (bad_from es group (from + 1) count bads j))
 
 pub bads_are_at : (es : List Entry) (group count : ℕ) (bads : List Literal) →
     AreNamedAs es bads (map (bad_name group) (range_with_len 1 count)) → (j : ℕ) → j < count → IsBadAt group j bads es
-bads_are_at es group count bads h j below = let r = bad_from es group 1 count bads j h below in
-    record { named = r.0; positive_literal = r.1 }
+bads_are_at es group count bads h j below = search (arith, (bad_from es group 1 count bads j h below))
 
 counted : (es : List Entry) (group from count : ℕ) (bads : List Literal) →
     AreNamedAs es bads (map (bad_name group) (range_with_len from count)) → length bads ≡ count
@@ -121,8 +106,7 @@ bads_count es group count bads h = counted es group 1 count bads h
 pub bads_stay : (old new : List Entry) (group count : ℕ) (bads : List Literal) →
     ((v : ℕ) → name_of new v ≡ name_of old v) → AreNamedAs old bads (map (bad_name group) (range_with_len 1 count)) →
     AreNamedAs new bads (map (bad_name group) (range_with_len 1 count))
-bads_stay old new group count bads names are = named_stay old new (λ v n h. names v ∙ h) bads
-    (map (bad_name group) (range_with_len 1 count)) are
+bads_stay old new group count bads names are = search (arith, named_stay)
 
 -- that some clause is false is given behind the faults of the chosen clauses
 pub chosen_given : (f : Dqbf) (group : ℕ) (leaf : ℕ → Leaf) (bads : List Literal) (chosen : ℕ → Bool)

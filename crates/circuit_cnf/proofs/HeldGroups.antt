@@ -1,10 +1,10 @@
 -- An answer to the gates' group and the faults' group.
-use Rattle.std.proofs.Common.{◌≡◌, ℕ, true, false, inl, inr, ◌⊎◌, List, [], ◌∷◌, ◌++◌, Some, sym, ◌∙◌, ap, subst}
+use Rattle.std.proofs.Common.{◌≡◌, ℕ, true, inl, inr, ◌⊎◌, List, [], ◌∷◌, ◌++◌, Some, sym, ◌∙◌, ap, subst, arith}
 use Rattle.std.specs.List.{Contains}
 use Rattle.std.proofs.lemmas.Bool.{true≢false, or_cases}
 use Rattle.std.proofs.lemmas.List.Elements.{Contains-append_right}
 use Rattle.list_laws.proofs.Members.{contains_first, contains_cases}
-use Rattle.dq_lits.specs.Literal.{Literal, positive, negative, variable_of, opposite, same_literal}
+use Rattle.dq_lits.specs.Literal.{Literal, positive, negative, variable_of, opposite}
 use Rattle.dq_lits.specs.Formula.{Dqbf, Existential}
 use Rattle.dq_lits.specs.Derivation.{holds}
 use Rattle.dq_lits.proofs.Truth.{same_literal-sound}
@@ -33,16 +33,7 @@ use Rattle.oracle.proofs.LearnedEntries.{learned_names}
 only_selectors : (g h : ℕ) (l : Literal) → holds (positive g ∷ positive h ∷ []) (opposite l) ≡ true →
     (l ≡ negative g) ⊎ (l ≡ negative h)
 only_selectors g h (positive v) held = cc
-only_selectors g h (negative v) held = elim (or_cases (same_literal (positive v) (positive g))
-    (holds (positive h ∷ []) (positive v)) held) [
-      | inl e ↦ (let same : positive v ≡ positive g = same_literal-sound (positive v) (positive g) e in let is : v ≡ g = cc in
-          inl (ap negative is))
-      | inr later ↦ elim (or_cases (same_literal (positive v) (positive h)) false later) [
-        | inl e ↦ (let same : positive v ≡ positive h = same_literal-sound (positive v) (positive h) e in let is : v ≡ h = cc in
-            inr (ap negative is))
-        | inr e ↦ absurd (true≢false (sym e))
-      ]
-    ]
+only_selectors g h (negative v) held = search (arith, or_cases, same_literal-sound, true≢false)
 
 -- what was learned gives nothing
 pub learned_givens : (more old : List Entry) → EachOf IsLearnedEntry more old → (origin : Origin) (c : List Literal) →
@@ -51,8 +42,7 @@ learned_givens [] old h origin c inside = inside
 learned_givens (Named v n ∷ more) old h origin c inside = absurd h.0
 learned_givens (Given o d ∷ more) old h origin c inside = absurd h.0
 learned_givens (Learned d hints ∷ more) old h origin c inside =
-    elim (contains_cases (Learned d hints) (Given origin c) (more ++ old) inside)
-    [ inl is ↦ cc | inr later ↦ learned_givens more old h.1 origin c later ]
+    search (arith, contains_cases, (learned_givens more old h.1 origin c))
 learned_givens (Answer d hints ∷ more) old h origin c inside = absurd h.0
 learned_givens (Round row values j ∷ more) old h origin c inside = absurd h.0
 learned_givens (Begun live ∷ more) old h origin c inside = absurd h.0

@@ -6,13 +6,13 @@ use Rattle.std.specs.BTreeMap.{get, is_at}
 use Rattle.std.specs.Map.{lookup}
 use Rattle.std.specs.Ordering.{is_eq}
 use Rattle.std.proofs.lemmas.Bool.{eqb-true, eq-eqb, false≢true, cond-true, cond-false}
-use Rattle.list_laws.proofs.Numbers.{below_or_here, equal_pairs, same_pair}
+use Rattle.list_laws.proofs.Numbers.{below_or_here, equal_pairs}
 use Rattle.list_laws.proofs.Members.{contains_later, contains_first, contains_cases}
-use Rattle.dq_lits.specs.Literal.{Literal, positive, negative, variable_of, literal_code}
+use Rattle.dq_lits.specs.Literal.{Literal, negative, variable_of, literal_code}
 use Rattle.hint_log.specs.Entries.{Entry}
 use Rattle.hint_log.specs.Entries.{Named, Given, Learned, Answer, Round, Begun}
 use Rattle.hint_log.specs.declared.names.Name.{Name}
-use Rattle.hint_log.specs.declared.names.Name.TheVariants.{Selector, And, Bad}
+use Rattle.hint_log.specs.declared.names.Name.TheVariants.{And, Bad}
 use Rattle.hint_log.specs.declared.origins.Origin.TheVariants.{Gate}
 use Rattle.hint_log.specs.Conditions.{AreLogged}
 use Rattle.hint_log.specs.Entries.{name_of}
@@ -24,7 +24,6 @@ use Rattle.log_laws.proofs.Kept.{NamesStay, name_stays_by, name_cases, some_stay
 use Rattle.circuit_cnf.specs.declared.gates.Gates.{Gates}
 use Rattle.circuit_cnf.specs.declared.gates.Unfinished.{Unfinished}
 use Rattle.circuit_cnf.specs.Gates.{pair_cmp, HasGateClauses, IsGateClause, IsGateGiven, IsUnfinished, AreKnown}
-use Rattle.dq_lits.proofs.SignedLiterals.{same_code}
 
 not_some : (o : Option Name) → o ≡ None → IsSome o → ⊥
 not_some None none some = absurd (false≢true some)
@@ -51,8 +50,7 @@ no_part v a b rest is = cc
 clauses_stay : (old new : List Entry) → ((x : Entry) → Contains old x → Contains new x) →
     (group v : ℕ) (a b : Literal) (parts : ℕ) → HasGateClauses old group v a b parts →
     HasGateClauses new group v a b parts
-clauses_stay old new more group v a b parts have i rest most is =
-    more (Given (Gate v i) (negative group ∷ rest)) (have i rest most is)
+clauses_stay old new more group v a b parts have i rest most is = search arith
 
 -- a gate's name more
 pub named_more : (gates : Gates) (es : List Entry) (v : ℕ) (a b : Literal) → AreKnown gates es →
@@ -60,17 +58,10 @@ pub named_more : (gates : Gates) (es : List Entry) (v : ℕ) (a b : Literal) →
     get pair_cmp gates.variables (literal_code a, literal_code b) ≡ None →
     AreKnown (record gates { unfinished = Some (unfinished_gate v a b 0) }) (Named v (And a b) ∷ es)
 named_more gates es v a b before ready unnamed none = record {
-  made = record {
-    positive = before.made.positive;
-    named = stay (variable_of gates.group.selector)
-        (Selector (variable_of gates.group.selector)) before.made.named;
-  };
+  made = search arith;
   known = λ c d w is. elim (name_cases es v w (And a b) (And c d) is) [
     | inl here ↦ inr (unfinished_gate v a b 0, refl, sym here.0)
-    | inr old ↦ elim (before.known c d w old) [
-      | inl found ↦ inl found
-      | inr last ↦ (let both : None ≡ Some last.0 = sym ready ∙ last.1 in cc)
-    ]
+    | inr old ↦ search arith
   ];
   sound = λ c d w found. stay w (And c d) (before.sound c d w found);
   clauses = λ c d w found. clauses_stay es (Named v (And a b) ∷ es) more (variable_of gates.group.selector) w c d 3
@@ -99,14 +90,7 @@ gate_clause : (gates : Gates) (es : List Entry) (gate : Unfinished) (part : ℕ)
     AreKnown gates es → name_of es gate.variable ≡ Some (And gate.left gate.right) →
     gate_rest gate.variable gate.left gate.right part ≡ Some rest →
     IsGateClause es (Gate gate.variable part) (negative (variable_of gates.group.selector) ∷ rest)
-gate_clause gates es gate part rest before named is f = record {
-  group = variable_of gates.group.selector;
-  rest = rest;
-  clause_is = refl;
-  is_group = before.made.named;
-  rest_is = record { left = gate.left; right = gate.right; named = named; rest_is = is };
-  one_leaf = λ w j k j' k' leaf leaf' rest' e. cc;
-}
+gate_clause gates es gate part rest before named is f = search arith
 
 abbrev with_parts : Gates → Unfinished → ℕ → Gates
 with_parts gates gate parts = record gates { unfinished = Some (record gate { parts = parts }) }
@@ -119,12 +103,7 @@ pub part_more : (gates : Gates) (es : List Entry) (gate : Unfinished) (parts : �
     (negative (variable_of gates.group.selector) ∷ rest) ∷ es)
 part_more gates es gate parts rest before is_last below rest_is = record {
   made = record { positive = before.made.positive; named = before.made.named };
-  known = λ c d w is. elim (before.known c d w is) [
-    | inl found ↦ inl found
-    | inr last ↦ (let both : Some (record gate { parts = parts }) ≡ Some last.0 = sym is_last ∙ last.1 in
-        let same : record gate { parts = parts } ≡ last.0 = cc in
-        inr (record gate { parts = parts + 1 }, refl, ap (λ (u : Unfinished). u.variable) same ∙ last.2))
-  ];
+  known = search arith;
   sound = before.sound;
   clauses = λ c d w found. clauses_stay es (e ∷ es) more group w c d 3 (before.clauses c d w found);
   origins = λ w i c inside. elim (contains_cases e (Given (Gate w i) c) es inside) [
@@ -213,48 +192,25 @@ finished gates new es gate before is_last all group_same ready updates = record 
   here = before.last gate is_last
 
   found_here : get pair_cmp new.variables (literal_code gate.left, literal_code gate.right) ≡ Some gate.variable
-  found_here = updates key ∙ cond-true (is_eq (pair_cmp key key)) (Some gate.variable)
-      (get pair_cmp gates.variables key) (same_pair key)
+  found_here = search (arith, cond-true)
 
   old_found : (c d : Literal) (w : ℕ) → get pair_cmp gates.variables (literal_code c, literal_code d) ≡ Some w →
       (e : Bool) → is_eq (pair_cmp key (literal_code c, literal_code d)) ≡ e →
       get pair_cmp new.variables (literal_code c, literal_code d) ≡ Some w
-  old_found c d w found true e =
-      let codes = equal_pairs key (literal_code c, literal_code d) e in
-      let left = same_code gate.left c codes.0 in let right = same_code gate.right d codes.1 in
-      let both : None ≡ Some w = sym here.unknown ∙ ap (λ x. get pair_cmp gates.variables
-      (literal_code x, literal_code gate.right)) left ∙ ap
-      (λ x. get pair_cmp gates.variables (literal_code c, literal_code x)) right ∙ found in
-      cc
-  old_found c d w found false e =
-      updates (literal_code c, literal_code d) ∙ cond-false (is_eq (pair_cmp key (literal_code c, literal_code d)))
-      (Some gate.variable) (get pair_cmp gates.variables (literal_code c, literal_code d)) e ∙ found
+  old_found c d w found true e = search (arith, equal_pairs)
+  old_found c d w found false e = search (arith, cond-false)
 
   cases_found : (c d : Literal) (w : ℕ) → get pair_cmp new.variables (literal_code c, literal_code d) ≡ Some w →
       ((gate.variable ≡ w) × (gate.left ≡ c) × (gate.right ≡ d)) ⊎
       (get pair_cmp gates.variables (literal_code c, literal_code d) ≡ Some w)
-  cases_found c d w found = by (is_eq (pair_cmp key (literal_code c, literal_code d))) refl
-      (sym (updates (literal_code c, literal_code d)) ∙ found) where
-        by : (e : Bool) → is_eq (pair_cmp key (literal_code c, literal_code d)) ≡ e →
-            cond e (Some gate.variable) (get pair_cmp gates.variables (literal_code c, literal_code d)) ≡ Some w →
-            ((gate.variable ≡ w) × (gate.left ≡ c) × (gate.right ≡ d)) ⊎
-            (get pair_cmp gates.variables (literal_code c, literal_code d) ≡ Some w)
-        by true e is =
-            let codes = equal_pairs key (literal_code c, literal_code d) e in
-            let same : gate.variable ≡ w = cc in
-            inl (same, same_code gate.left c codes.0, same_code gate.right d codes.1)
-        by false e is = inr is
+  cases_found c d w found = search (arith, equal_pairs)
 
 -- a map with the same entries, as a refused call leaves it
 pub known_as_before : (gates : Gates) (variables : BTreeMap (ℕ × ℕ) ℕ) (es : List Entry) → AreKnown gates es →
     variables.entries ≡ gates.variables.entries → AreKnown (record gates { variables = variables }) es
 known_as_before gates variables es before same = record {
   made = before.made;
-  known = λ a b v is. elim (before.known a b v is) [
-    | inl found ↦
-        inl (found_same (literal_code a, literal_code b) ∙ found)
-    | inr last ↦ inr last
-  ];
+  known = search (arith, found_same);
   sound = λ a b v found. before.sound a b v (sym (found_same (literal_code a, literal_code b)) ∙ found);
   clauses = λ a b v found. before.clauses a b v (sym (found_same (literal_code a, literal_code b)) ∙ found);
   origins = before.origins;
@@ -288,11 +244,7 @@ pub record LeavesGates (gates : Gates) (old new : List Entry) : Type 0 where
 pub known_stay : (gates : Gates) (old new : List Entry) → LeavesGates gates old new → AreKnown gates old →
     AreKnown gates new
 known_stay gates old new leaves before = record {
-  made = record {
-    positive = before.made.positive;
-    named = leaves.stay (variable_of gates.group.selector)
-        (Selector (variable_of gates.group.selector)) before.made.named;
-  };
+  made = search arith;
   known = λ a b v is. before.known a b v (leaves.ands v a b is);
   sound = λ a b v found. leaves.stay v (And a b) (before.sound a b v found);
   clauses = λ a b v found. clauses_stay old new leaves.more (variable_of gates.group.selector) v a b 3
@@ -321,12 +273,7 @@ pair_is x y a b h k = ap (λ z. pair z y) h ∙ ap (λ z. pair (literal_code a) 
 pub name_in_range : (es : List Entry) (v : ℕ) (n : Name) → AreLogged es → name_of es v ≡ Some n →
     (1 ≤ v) × (v < 4611686018427387904)
 name_in_range [] v n logged is = cc
-name_in_range (Named w m ∷ es) v n logged is = by (v == w) refl (name_in_range es v n logged.1) is where
-  by : (b : Bool) → (v == w) ≡ b → (name_of es v ≡ Some n → (1 ≤ v) × (v < 4611686018427387904)) →
-      cond b (Some m) (name_of es v) ≡ Some n → (1 ≤ v) × (v < 4611686018427387904)
-  by true e later is = subst (λ x. (1 ≤ x) × (x < 4611686018427387904)) (sym (eqb-true v w e))
-      (logged.0.from_one, logged.0.in_range)
-  by false e later is = later is
+name_in_range (Named w m ∷ es) v n logged is = search (arith, (name_in_range es v n logged.1), eqb-true)
 name_in_range (Given o c ∷ es) v n logged is = name_in_range es v n logged.1 is
 name_in_range (Learned c h ∷ es) v n logged is = name_in_range es v n logged.1 is
 name_in_range (Answer c h ∷ es) v n logged is = name_in_range es v n logged.1 is

@@ -1,5 +1,5 @@
 -- From the values of leaves to those of the outputs at a row.
-use Rattle.std.proofs.Common.{◌≡◌, ℕ, zero, suc, ◌<◌, ◌==◌, Bool, false, not, ◌||◌, ◌&&◌, List, [], ◌∷◌, map, length, get_or, slice_get, position, Some, refl, sym, ◌∙◌, ap, arith}
+use Rattle.std.proofs.Common.{◌≡◌, ℕ, zero, suc, ◌<◌, ◌==◌, Bool, false, ◌&&◌, List, [], ◌∷◌, map, length, get_or, slice_get, position, Some, refl, sym, ◌∙◌, ap, arith}
 use Rattle.std.proofs.lemmas.List.{get_or-map}
 use Rattle.list_laws.proofs.Sequences.{mapped_long}
 use Rattle.dq_lits.specs.Literal.{Assignment, Literal, positive, variable_of, literal_true}
@@ -54,9 +54,7 @@ module _ (f : Dqbf) (graph : AigGraph) (es : List Entry) (inputs : List Literal)
   pub node_is_leaf : (node : Node) (leaf : Leaf) → HasLeaf f graph es node leaf →
       node_value graph (bit_of row) node ≡ leaf_value values leaf
   node_is_leaf node leaf (constant b) = refl
-  node_is_leaf node leaf (input i x v negated place named) =
-      let at = get_at f.universals i x 0 place in
-      signed_leaf values negated v (bit_of row i) (input_bit i at.0 x v at.1 named)
+  node_is_leaf node leaf (input i x v negated place named) = search (arith, get_at, signed_leaf, input_bit)
   node_is_leaf node leaf (gate g v sides negated a b at are_sides on_left on_right named) =
       signed_leaf values negated v (gate_value (bit_of row) graph.gates g)
       (gate_value_in (bit_of row) graph.inputs graph.gates g sides are_sides at

@@ -1,5 +1,5 @@
 -- The inputs in the cones of nodes that read universals alone.
-use Rattle.std.proofs.Common.{◌≡◌, ℕ, get_or, ◌+◌, ◌<◌, Bool, true, false, inl, inr, List, [], ◌∷◌, length, Some, refl, sym, ◌∙◌, ap, subst, arith}
+use Rattle.std.proofs.Common.{◌≡◌, ℕ, get_or, ◌+◌, ◌<◌, Bool, true, false, List, [], ◌∷◌, length, Some, refl, sym, ◌∙◌, ap, subst, arith}
 use Rattle.std.specs.Prelude.{◌↔◌}
 use Rattle.std.specs.List.{All, Contains}
 use Rattle.std.proofs.lemmas.List.{get_or_default}
@@ -10,7 +10,7 @@ use Rattle.dq_lits.specs.Row.{bit_of}
 use Rattle.aig_graph.specs.declared.nodes.Node.{Node}
 use Rattle.aig_graph.specs.declared.nodes.Node.TheVariants.{Constant, Input, Gate}
 use Rattle.aig_graph.specs.declared.nodes.Look.TheVariants.{Gate as LookGate}
-use Rattle.aig_graph.specs.Graph.{AigGraph, IsEarlierNode, IsNode, IsGraph, IsGateLook, gate_support, node_support, place_of}
+use Rattle.aig_graph.specs.Graph.{AigGraph, IsEarlierNode, IsNode, IsGraph, IsGateLook, node_support, place_of}
 use Rattle.aig_graph.specs.Made.{IsReadBy}
 use Rattle.aig_graph.specs.Marking.{IsInCone, root, left, right}
 use Rattle.aig_graph.specs.Outputs.{ReadsUniversals}
@@ -25,15 +25,9 @@ same_support graph (Constant x) b p is_a is_b at_a at_b = cc
 same_support graph (Input i s) (Constant x) p is_a is_b at_a at_b = cc
 same_support graph (Gate g s) (Constant x) p is_a is_b at_a at_b = cc
 same_support graph (Input i s) (Input j t) p is_a is_b at_a at_b = ap (λ k. k ∷ []) (some_is at_a ∙ sym (some_is at_b))
-same_support graph (Input i s) (Gate h t) p is_a is_b at_a at_b = let d = some_is at_a in let e = some_is at_b in
-    absurd (omega (arith, d, e, is_a))
-same_support graph (Gate g s) (Input j t) p is_a is_b at_a at_b = let d = some_is at_a in let e = some_is at_b in
-    absurd (omega (arith, d, e, is_b))
-same_support graph (Gate g s) (Gate h t) p is_a is_b at_a at_b =
-    let d = some_is at_a in
-    let e = some_is at_b in
-    let same : g ≡ h = omega (arith, d, e) in
-    ap (gate_support graph.gates) same
+same_support graph (Input i s) (Gate h t) p is_a is_b at_a at_b = search (arith, some_is)
+same_support graph (Gate g s) (Input j t) p is_a is_b at_a at_b = search (arith, some_is)
+same_support graph (Gate g s) (Gate h t) p is_a is_b at_a at_b = search (arith, some_is)
 
 module _ (graph : AigGraph) (lawful : IsGraph graph) (nodes : List Node) (are : All (IsNode graph) nodes) where
   -- what is read from a place in the cones, one of the nodes reads
@@ -99,13 +93,8 @@ pub sides_over_universals : (f : Dqbf) (graph : AigGraph) (marks : List Bool) (g
     IsGateLook graph g false (LookGate m n negated) → IsEarlierNode (length f.universals) g m × IsEarlierNode
     (length f.universals) g n
 sides_over_universals f graph marks g low closed marked m n negated look =
-    let is = look.look_is in
-    let left_is : m ≡ look.sides.left = cc in
-    let right_is : n ≡ look.sides.right = cc in (
-      subst (IsEarlierNode (length f.universals) g) (sym left_is)
-          (over_universals f graph marks g low look.sides.left look.are_sides.left
-          (λ p at. closed g p look.sides marked look.at (inl at))),
-      subst (IsEarlierNode (length f.universals) g) (sym right_is)
-          (over_universals f graph marks g low look.sides.right look.are_sides.right
-          (λ p at. closed g p look.sides marked look.at (inr at))),
+    search (
+      arith,
+      (over_universals f graph marks g low look.sides.left look.are_sides.left),
+      (over_universals f graph marks g low look.sides.right look.are_sides.right),
     )

@@ -9,7 +9,7 @@ use Rattle.list_laws.proofs.Members.{contains_cases}
 use Rattle.dq_lits.specs.Literal.{Literal, positive}
 use Rattle.dq_lits.specs.Formula.{Dqbf}
 use Rattle.hint_log.specs.Entries.{Entry}
-use Rattle.hint_log.specs.Entries.{Named, Given}
+use Rattle.hint_log.specs.Entries.{Named}
 use Rattle.hint_log.specs.declared.names.Name.TheVariants.{Bad}
 use Rattle.hint_log.specs.Entries.{ProofLog, with_entry, name_of}
 use Rattle.hint_log.specs.Growth.{Grew}
@@ -51,20 +51,9 @@ bad_more group old log new bads i v before unnamed is = subst
           (grown_by (IsAddedBy h circuits standing true start) log (with_entry log (Named v (Bad group (i + 1))))
           (Named v (Bad group (i + 1))) refl (record { unnamed = unnamed; own = inr refl; rightly = tt }));
       faults = before.faults;
-      alone = record {
-        names = λ w name is. elim (name_cases log.entries v w (Bad group (i + 1)) name is) [
-          | inl here ↦ inr (i + 1, sym here.1)
-          | inr earlier ↦ before.alone.names w name earlier
-        ];
-        givens = λ origin c inside. elim (contains_cases (Named v (Bad group (i + 1)))
-            (Given origin c) log.entries inside)
-            [ inl is ↦ cc | inr earlier ↦ before.alone.givens origin c earlier ];
-      };
+      alone = search (arith, name_cases, contains_cases);
       named = whole;
-      names = λ w j named. elim (name_cases log.entries v w (Bad group (i + 1)) (Bad group j) named) [
-        | inl same ↦ (let clash = same.1 in let number : i + 1 ≡ j = cc in omega (arith, number))
-        | inr earlier ↦ (let most = before.names w j earlier in omega (arith, most))
-      ];
+      names = search (arith, name_cases);
     }) where
       whole : AreNamedAs (Named v (Bad group (i + 1)) ∷ log.entries) (bads ++ positive v ∷ [])
           (map (bad_name group) (range_with_len 1 (i + 1)))

@@ -1,5 +1,5 @@
 -- Inputs that are named one after the other.
-use Rattle.std.proofs.Common.{◌≡◌, ℕ, suc, ◌+◌, ◌≤◌, ◌<◌, ◌==◌, Bool, true, false, cond, inl, inr, ◌⊎◌, List, [], ◌∷◌, ◌++◌, map, length, take, get_or, Some, None, IsSome, refl, sym, ◌∙◌, ap, subst, arith}
+use Rattle.std.proofs.Common.{◌≡◌, ℕ, ◌+◌, ◌≤◌, ◌<◌, ◌==◌, true, false, inl, inr, ◌⊎◌, List, [], ◌∷◌, ◌++◌, map, length, take, get_or, Some, None, IsSome, refl, sym, ◌∙◌, ap, subst, arith}
 use Rattle.std.specs.List.{Contains}
 use Rattle.std.specs.BTreeMap.{get, is_at}
 use Rattle.std.specs.Map.{lookup}
@@ -43,10 +43,7 @@ pub record InputsSoFar (f : Dqbf) (old log : ProofLog) (inputs : List Literal) (
 -- what has no name had none before a further name
 pub unnamed_before : (entries : List Entry) (v w : ℕ) (name : Name) → name_of (Named v name ∷ entries) w ≡ None →
     name_of entries w ≡ None
-unnamed_before entries v w name is = by_bit (w == v) is where
-  by_bit : (b : Bool) → cond b (Some name) (name_of entries w) ≡ None → name_of entries w ≡ None
-  by_bit true e = cc
-  by_bit false e = e
+unnamed_before entries v w name is = search arith
 
 pub no_inputs : (f : Dqbf) (old : ProofLog) → HasNone circuits old.entries → InputsSoFar f old old [] 0
 no_inputs f old none = record {
@@ -142,8 +139,7 @@ input_more f old log new inputs i v before below unnamed is =
 
 pub all_inputs : (f : Dqbf) (old log : ProofLog) (inputs : List Literal) (i : ℕ) → length f.universals ≤ i →
     InputsSoFar f old log inputs i → AreInputs f.universals inputs log.entries
-all_inputs f old log inputs i most so_far = subst (λ xs. AreInputs xs inputs log.entries)
-    (take_past i f.universals most) so_far.inputs_are
+all_inputs f old log inputs i most so_far = search (arith, take_past)
 
 -- a checker without gates
 pub new_checker : (f : Dqbf) (log new : ProofLog) (checker : Checker) → HasNoGates log.entries →

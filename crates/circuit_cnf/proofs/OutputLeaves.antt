@@ -1,5 +1,5 @@
 -- The leaves of outputs.
-use Rattle.std.proofs.Common.{◌≡◌, ℕ, zero, suc, ◌+◌, ◌≤◌, ◌<◌, Bool, true, false, inl, inr, List, [], ◌∷◌, map, length, slice_get, Some, sym, ◌∙◌, ap, subst, arith}
+use Rattle.std.proofs.Common.{◌≡◌, ℕ, zero, suc, ◌≤◌, ◌<◌, Bool, true, false, inl, inr, List, [], ◌∷◌, map, length, slice_get, Some, sym, ◌∙◌, ap, subst, arith}
 use Rattle.std.specs.Prelude.{◌↔◌}
 use Rattle.std.specs.List.{All, Contains}
 use Rattle.std.proofs.lemmas.List.Elements.{All-contains}
@@ -59,10 +59,8 @@ cone_checker f checker gates group old log new before names grew bads known = re
 
 pub cones_are_closed : (graph : AigGraph) (nodes : List Node) (marks : List Bool) →
     ((p : ℕ) → ((bit_of marks p ≡ true) ↔ IsInCone graph nodes p)) → AreClosed graph marks
-cones_are_closed graph nodes marks exact g p sides marked at (inl is) =
-    (exact p).1 (left g p sides ((exact (graph.inputs + g)).0 marked) at is)
-cones_are_closed graph nodes marks exact g p sides marked at (inr is) =
-    (exact p).1 (right g p sides ((exact (graph.inputs + g)).0 marked) at is)
+cones_are_closed graph nodes marks exact g p sides marked at (inl is) = search (arith, left)
+cones_are_closed graph nodes marks exact g p sides marked at (inr is) = search (arith, right)
 
 mapped : {X Y : Type 0} (h : X → Y) (xs : List X) (k : ℕ) (x : X) (y : Y) → slice_get xs k ≡ Some x →
     slice_get (map h xs) k ≡ Some y → y ≡ h x

@@ -1,5 +1,5 @@
 -- The outputs' values at a row.
-use Rattle.std.proofs.Common.{◌≡◌, ℕ, zero, suc, ◌+◌, ◌≤◌, ◌<◌, ◌==◌, Bool, true, false, not, cond, ◌&&◌, List, [], ◌∷◌, map, length, get_or, slice_index, position, Some, None, refl, sym, ◌∙◌, ap, subst, arith, nat_lt}
+use Rattle.std.proofs.Common.{◌≡◌, ℕ, zero, suc, ◌+◌, ◌≤◌, ◌<◌, ◌==◌, Bool, true, false, not, cond, List, [], ◌∷◌, map, length, get_or, slice_index, position, Some, None, refl, sym, ◌∙◌, ap, subst, arith, nat_lt}
 use Rattle.std.specs.List.{position_or_len}
 use Rattle.std.proofs.lemmas.Bool.{false≢true, eq-eqb, ne_eqb, leb-true, ltb-false}
 use Rattle.std.proofs.lemmas.List.{ext_get_or, get_or-map, length-append, get_or_append_left, get_or-append-add}
@@ -86,23 +86,16 @@ gate_same : (m n : ℕ → Bool) → ((i : ℕ) → m i ≡ n i) → (gates : Li
     gate_value m gates g ≡ gate_value n gates g
 gate_same m n inputs [] g = refl
 gate_same m n inputs (s ∷ gates) g =
-    ap (λ b. cond (g == length gates) (b && value_by m (gate_value m gates) s.right) (gate_value m gates g))
-    (value_same m n (gate_value m gates) (gate_value n gates) inputs (gate_same m n inputs gates) s.left)
-    ∙ ap (λ b. cond (g == length gates) (value_by n (gate_value n gates) s.left && b) (gate_value m gates g))
-    (value_same m n (gate_value m gates) (gate_value n gates) inputs (gate_same m n inputs gates) s.right)
-    ∙ ap (λ b. cond (g == length gates) (value_by n (gate_value n gates) s.left && value_by n
-    (gate_value n gates) s.right) b) (gate_same m n inputs gates g)
+    search (arith, value_same, (gate_same m n inputs gates), (gate_same m n inputs gates g))
 
 pub node_same : (graph : AigGraph) (m n : ℕ → Bool) → ((i : ℕ) → m i ≡ n i) → (node : Node) →
     node_value graph m node ≡ node_value graph n node
-node_same graph m n inputs node = value_same m n (gate_value m graph.gates) (gate_value n graph.gates) inputs
-    (gate_same m n inputs graph.gates) node
+node_same graph m n inputs node = search (arith, value_same, gate_same)
 
 pub values_same : (graph : AigGraph) (m n : ℕ → Bool) → ((i : ℕ) → m i ≡ n i) → (nodes : List Node) →
     map (node_value graph m) nodes ≡ map (node_value graph n) nodes
 values_same graph m n inputs [] = refl
-values_same graph m n inputs (x ∷ xs) = ap (λ b. b ∷ map (node_value graph m) xs) (node_same graph m n inputs x) ∙ ap
-    (λ bs. node_value graph n x ∷ bs) (values_same graph m n inputs xs)
+values_same graph m n inputs (x ∷ xs) = search (arith, node_same, (values_same graph m n inputs xs))
 
 abbrev pub nobody : Existential
 nobody = record { variable = 0; sees = [] }
@@ -191,13 +184,8 @@ pub failure_is : (f : Dqbf) (graph : AigGraph) (nodes : List Node) (row values :
     HasLawfulPrefix f → length nodes ≡ length f.existentials → length row ≡ length f.universals →
     values ≡ map (node_value graph (bit_of row)) nodes → IsFalseClause f row values j →
     IsFailure f (outputs_of f graph nodes) row values j
-failure_is f graph nodes row values j lawful count long are false_there = record {
-  row_length = long;
-  values_are = are ∙ output_values f graph nodes row lawful count long;
-  clause = false_there.0;
-  clause_is = false_there.1;
-  is_false = false_there.2;
-}
+failure_is f graph nodes row values j lawful count long are false_there =
+    search (arith, (output_values f graph nodes row lawful count long))
 
 -- where every clause is true there is no failure
 pub no_failure : (f : Dqbf) (graph : AigGraph) (nodes : List Node) (row values : List Bool) → HasLawfulPrefix f →
@@ -217,12 +205,4 @@ no_failure f graph nodes row values lawful count long are all other (suc i) fail
     (clause_true (round_assignment f row values)) (sym clause) ∙ all i within)
 
 pub failures_refute_rows : FailuresRefuteRows
-failures_refute_rows f output entries row values j failure untried = record {
-  row_length = failure.row_length;
-  values_length = ap length failure.values_are ∙ mapped_long
-      (λ y. (output y).value (row_assignment f row)) f.existentials;
-  untried = untried;
-  clause = failure.clause;
-  clause_is = failure.clause_is;
-  is_false = failure.is_false;
-}
+failures_refute_rows f output entries row values j failure untried = search (arith, mapped_long)

@@ -1,5 +1,5 @@
 -- What a group says, fault after fault.
-use Rattle.std.proofs.Common.{◌≡◌, ℕ, ◌+◌, ◌≤◌, ◌<◌, Bool, true, false, ◌&&◌, ◌||◌, inl, inr, ◌⊎◌, not, List, [], ◌∷◌, ◌++◌, length, get_or, slice_get, Some, None, refl, sym, ◌∙◌, ap, subst, arith}
+use Rattle.std.proofs.Common.{◌≡◌, ℕ, ◌+◌, ◌≤◌, ◌<◌, true, false, inl, inr, ◌⊎◌, not, List, [], ◌∷◌, ◌++◌, length, get_or, slice_get, Some, refl, sym, ◌∙◌, ap, subst, arith}
 use Rattle.std.specs.List.{Contains}
 use Rattle.std.proofs.lemmas.Bool.{false≢true}
 use Rattle.std.proofs.lemmas.List.Elements.{Contains-append_right}
@@ -20,7 +20,7 @@ use Rattle.circuit_cnf.specs.Faults.{AreSaid, HasFault, HasItsFaults, HaveChosen
 use Rattle.circuit_cnf.specs.Saying.{MaySay, given_after, given_before, leaf_in, selector_in}
 use Rattle.circuit_cnf.specs.declared.fault_clauses.Faults.{Faults}
 use Rattle.circuit_cnf.specs.declared.fault_clauses.ClauseSelection.{ClauseSelection}
-use Rattle.circuit_cnf.proofs.ClauseFaults.{few_more, one_leaf_more, leaf_stays_leaf}
+use Rattle.circuit_cnf.proofs.ClauseFaults.{few_more, one_leaf_more}
 use Rattle.circuit_cnf.proofs.GivenFaults.{IsFaultReady, fault_grown}
 use Rattle.circuit_cnf.proofs.GroupFaults.{some_leaf_more}
 use Rattle.circuit_cnf.proofs.SomeFault.{some_grown}
@@ -38,11 +38,7 @@ said_then f group leaf old log new before after = record {
 fault_in_more : (group bad j i : ℕ) (l : Literal) (out : Leaf) (more es : List Entry) →
     HasFault group bad j i l out es → HasFault group bad j i l out (more ++ es)
 fault_in_more group bad j i l out more es (inl none) = inl none
-fault_in_more group bad j i l out more es (inr some) = inr (
-  some.0,
-  some.1,
-  Contains-append_right more es (Given (Fault j i out) (negative group ∷ negative bad ∷ some.0)) some.2,
-)
+fault_in_more group bad j i l out more es (inr some) = search (arith, Contains-append_right)
 
 faults_then : (f : Dqbf) (group bad j : ℕ) (leaf : ℕ → Leaf) (clause : List Literal) (i : ℕ) (log new : ProofLog) →
     AreSaid f group leaf log new →
@@ -69,15 +65,8 @@ faulted_then f group bad j leaf clause log new said (inr never) =
 pub never_bad : (group bad j i : ℕ) (l : Literal) (leaf : Leaf) (es : List Entry) →
     leaf_with_sign (not (is_negative l)) leaf ≡ Constant false → HasFault group bad j i l leaf es →
     IsNeverBad group bad es
-never_bad group bad j i l leaf es true_anyway (inl none) =
-    let clash : Some [] ≡ None = sym (ap leaf_clause true_anyway) ∙ none in cc
-never_bad group bad j i l leaf es true_anyway (inr some) =
-    let both : Some [] ≡ Some some.0 = sym (ap leaf_clause true_anyway) ∙ some.1 in
-    let nothing : [] ≡ some.0 = cc in (
-      Fault j i leaf,
-      subst (λ tail. Contains es (Given (Fault j i leaf) (negative group ∷ negative bad ∷ tail)))
-          (sym nothing) some.2,
-    )
+never_bad group bad j i l leaf es true_anyway (inl none) = search arith
+never_bad group bad j i l leaf es true_anyway (inr some) = search arith
 
 -- the first literals of a clause have their faults
 pub record FaultsSoFar (f : Dqbf) (group bad j : ℕ) (leaf : ℕ → Leaf) (clause : List Literal) (old log : ProofLog)
@@ -90,18 +79,13 @@ pub next_fault : (f : Dqbf) (group bad j : ℕ) (leaf : ℕ → Leaf) (clause : 
     AreSaid f group leaf log new → slice_get clause i ≡ Some l →
     HasFault group bad j (i + 1) l (leaf (variable_of l)) new.entries →
     FaultsSoFar f group bad j leaf clause old new (i + 1)
-next_fault f group bad j leaf clause old log new i l before said at here = record {
-  said = said_then f group leaf old log new before.said said;
-  given = λ k m below is. by k m is (below_or_here k i below);
-} where
-  by : (k : ℕ) (m : Literal) → slice_get clause k ≡ Some m → (k < i) ⊎ (k ≡ i) →
-      HasFault group bad j (k + 1) m (leaf (variable_of m)) new.entries
-  by k m is (inl below) = faults_then f group bad j leaf clause i log new said before.given k m below is
-  by k m is (inr same) =
-      let both : Some l ≡ Some m = sym at ∙ ap (slice_get clause) (sym same) ∙ is in
-      let literal : l ≡ m = cc in
-      subst (λ x. HasFault group bad j (x + 1) m (leaf (variable_of m)) new.entries) (sym same)
-      (subst (λ x. HasFault group bad j (i + 1) x (leaf (variable_of x)) new.entries) literal here)
+next_fault f group bad j leaf clause old log new i l before said at here =
+    search (
+      arith,
+      (said_then f group leaf old log new before.said said),
+      below_or_here,
+      (faults_then f group bad j leaf clause i log new said before.given),
+    )
 
 -- the first clauses of a part have their faults, and those that had theirs before it
 pub record PartSoFar (f : Dqbf) (group : ℕ) (bads : List Literal) (leaf : ℕ → Leaf) (part : ClauseSelection)
@@ -131,41 +115,17 @@ module _ (f : Dqbf) (group : ℕ) (bads : List Literal) (leaf : ℕ → Leaf) (p
         (here (subst (λ n. bit_of part.marks.now n ≡ part.are_set) is mine))
 
   pub part_given : length f.matrix ≤ j → HaveChosenFaults f group bads leaf (given_after part) log.entries
-  part_given whole k below is = by part.are_set (bit_of part.marks.now k) refl refl is where
-    soon : k < j
-    soon = omega (arith, below, whole)
-
-    by : (set bit : Bool) → part.are_set ≡ set → bit_of part.marks.now k ≡ bit → (not set || bit) ≡ true →
-        HasItsFaults f group bads leaf k log.entries
-    by true true is_set is_bit h = so_far.given k soon (is_bit ∙ sym is_set)
-    by true false is_set is_bit h = absurd (false≢true h)
-    by false true is_set is_bit h = so_far.before k below
-        (ap (λ b. not b && bit_of part.marks.now k) is_set ∙ is_bit)
-    by false false is_set is_bit h = so_far.given k soon (is_bit ∙ sym is_set)
+  part_given whole k below is = search (arith, false≢true)
 
 module _ (s : Faults) (log : ProofLog) (may : MaySay s log.entries) where
   pub nothing_said : AreSaid s.f.now (selector_in s) (leaf_in s) log log
-  nothing_said = record {
-    grew = λ standing start unnamed. record { more = []; grown = refl; each = tt; limit = refl };
-    names = λ v. refl;
-    few = may.few;
-    one_leaf = may.one_leaf;
-  }
+  nothing_said = search arith
 
   pub same_said : (new : ProofLog) → new ≡ log → AreSaid s.f.now (selector_in s) (leaf_in s) log new
   same_said new same = subst (AreSaid s.f.now (selector_in s) (leaf_in s) log) (sym same) nothing_said
 
   pub may_say_on : (new : ProofLog) → AreSaid s.f.now (selector_in s) (leaf_in s) log new → MaySay s new.entries
-  may_say_on new said = record {
-    made = record { positive = may.made.positive; named = said.names (selector_in s) ∙ may.made.named };
-    inputs = may.inputs;
-    outputs = may.outputs;
-    leaves = λ v inside. leaf_stays_leaf s.f.now log.entries new.entries v (leaf_in s v) said.names
-        (may.leaves v inside);
-    bound = may.bound;
-    few = said.few;
-    one_leaf = said.one_leaf;
-  }
+  may_say_on new said = search arith
 
   -- the fault of a literal is given
   pub fault_is_said : (bad literal : Literal) (out : Leaf) (clause place : ℕ) (lits tail : List Literal)
@@ -192,10 +152,7 @@ module _ (s : Faults) (log : ProofLog) (may : MaySay s log.entries) where
             ∙ sym leaf_is;
       } in
       let e : new.entries ≡ Given (Fault clause place (leaf_in s (variable_of literal)))
-      (negative (selector_in s) ∷ lits) ∷ log.entries =
-      ap (λ (l : ProofLog). l.entries) added ∙ ap (λ l. Given (Fault clause place out) (l ∷ lits) ∷ log.entries)
-      (negated-positive sel may.made.positive)
-      ∙ ap (λ o. Given (Fault clause place o) (negative (selector_in s) ∷ lits) ∷ log.entries) leaf_is in
+      (negative (selector_in s) ∷ lits) ∷ log.entries = search (arith, negated-positive) in
       record {
         grew = λ standing start unnamed. fault_grown s.f.now standing start sel bad literal out clause place lits tail
             log new may.made.positive plain ready tail_is lits_are added unnamed;

@@ -1,5 +1,5 @@
 -- Leaves of a gate's sides.
-use Rattle.std.proofs.Common.{◌≡◌, ℕ, zero, suc, ◌+◌, ◌<◌, Bool, true, false, inl, inr, List, [], ◌∷◌, length, get_or, Some, refl, sym, ◌∙◌, ap, subst, arith}
+use Rattle.std.proofs.Common.{◌≡◌, ℕ, zero, suc, ◌+◌, ◌<◌, Bool, true, false, List, [], ◌∷◌, length, get_or, Some, refl, sym, ◌∙◌, ap, subst, arith}
 use Rattle.dq_lits.specs.Literal.{Literal, positive, negative, variable_of}
 use Rattle.dq_lits.specs.Formula.{Dqbf}
 use Rattle.dq_lits.specs.Row.{bit_of}
@@ -15,7 +15,6 @@ use Rattle.hint_log.specs.declared.origins.Leaf.{Leaf}
 use Rattle.hint_log.specs.declared.origins.Leaf.TheVariants.{Literal as LeafLiteral}
 use Rattle.hint_log.specs.Conditions.{is_circuit_name}
 use Rattle.hint_log.specs.Entries.{name_of}
-use Rattle.hint_log.specs.Naming.{named_literal, name_literal}
 use Rattle.hint_log.specs.Origins.{leaf_with_sign}
 use Rattle.log_laws.proofs.Found.{named_variable, slice_get_at}
 use Rattle.log_laws.proofs.Kept.{NamesStay}
@@ -37,14 +36,8 @@ pub input_at : (es : List Entry) (us : List ℕ) (inputs : List Literal) (i : �
     (v : ℕ) × (get_or inputs i (positive 0) ≡ positive v) × (name_of es v ≡ Some (InputName (get_or us i 0)))
 input_at es [] inputs i h below = absurd (omega arith)
 input_at es (u ∷ us) [] i h below = cc
-input_at es (u ∷ us) (l ∷ ls) zero h below =
-    let here : name_literal es l ≡ Some (named_literal (InputName u) false) = cc in
-    let n = named_variable es l (InputName u) false (name_of es (variable_of l)) refl here in
-    (variable_of l, as_positive l n.1, n.0)
-input_at es (u ∷ us) (l ∷ ls) (suc i) h below =
-    let later : AreInputs us ls es = cc in
-    let small : i < length us = omega arith in
-    input_at es us ls i later small
+input_at es (u ∷ us) (l ∷ ls) zero h below = search (arith, named_variable, as_positive)
+input_at es (u ∷ us) (l ∷ ls) (suc i) h below = search (arith, (input_at es us ls i))
 
 -- either sign of a gate
 gate_sign : (f : Dqbf) (graph : AigGraph) (es : List Entry) (n : Node) (leaf : Leaf) → HasLeaf f graph es n leaf →
@@ -73,8 +66,7 @@ pub leaf_is_circuit : (f : Dqbf) (graph : AigGraph) (es : List Entry) (n : Node)
     HasLeaf f graph es n leaf → (l : Literal) → leaf ≡ LeafLiteral l →
     is_circuit_name (name_of es (variable_of l)) ≡ true
 leaf_is_circuit f graph es _ _ (constant b) l is = cc
-leaf_is_circuit f graph es _ _ (input i x v s at named) l is =
-    ap (λ w. is_circuit_name (name_of es w)) (sym (signed_variable s v l is)) ∙ ap is_circuit_name named
+leaf_is_circuit f graph es _ _ (input i x v s at named) l is = search (arith, signed_variable)
 leaf_is_circuit f graph es _ _ (gate g v sides s a b at are on_left on_right named) l is =
     ap (λ w. is_circuit_name (name_of es w)) (sym (signed_variable s v l is)) ∙ ap is_circuit_name named
 
@@ -90,8 +82,7 @@ side_has_leaf f graph es inputs literals marks low are have (Input i negated) ea
     subst (λ l. HasLeaf f graph es (Input i negated) (leaf_with_sign negated (LeafLiteral l))) (sym at.1)
     (input i (get_or f.universals i 0) at.0 negated (slice_get_at f.universals i 0 below) at.2)
 side_has_leaf f graph es inputs literals marks low are have (Gate g negated) earlier marked =
-    gate_sign f graph es (Gate g false) (LeafLiteral (get_or literals g (positive 0)))
-    (have g earlier (marked (graph.inputs + g) refl)) g (get_or literals g (positive 0)) refl refl negated
+    search (arith, gate_sign)
 
 -- the sides of a look, with the literals that stand for them
 pub record AreSideLeaves (f : Dqbf) (graph : AigGraph) (es : List Entry) (g : ℕ) (a b : Literal) : Type 0 where
@@ -109,20 +100,11 @@ pub side_leaves : (f : Dqbf) (graph : AigGraph) (es : List Entry) (inputs litera
     LeafLiteral a ≡ leaf_by inputs literals m → LeafLiteral b ≡ leaf_by inputs literals n →
     AreSideLeaves f graph es (length literals) a b
 side_leaves f graph es inputs literals marks low are have closed marked m n negated a b look a_is b_is =
-    let is = look.look_is in
-    let left_is : m ≡ look.sides.left = cc in
-    let right_is : n ≡ look.sides.right = cc in
-    let left = side_has_leaf f graph es inputs literals marks low are have look.sides.left look.are_sides.left
-    (λ p at. closed (length literals) p look.sides marked look.at (inl at)) in
-    let right = side_has_leaf f graph es inputs literals marks low are have look.sides.right look.are_sides.right
-    (λ p at. closed (length literals) p look.sides marked look.at (inr at)) in
-    record {
-      sides = look.sides;
-      at = look.at;
-      are_sides = look.are_sides;
-      left = subst (HasLeaf f graph es look.sides.left) (sym (a_is ∙ ap (leaf_by inputs literals) left_is)) left;
-      right = subst (HasLeaf f graph es look.sides.right) (sym (b_is ∙ ap (leaf_by inputs literals) right_is)) right;
-    }
+    search (
+      arith,
+      (side_has_leaf f graph es inputs literals marks low are have look.sides.left look.are_sides.left),
+      (side_has_leaf f graph es inputs literals marks low are have look.sides.right look.are_sides.right),
+    )
 
 pub gate_leaf : (f : Dqbf) (graph : AigGraph) (old new : List Entry) (g v : ℕ) (a b l : Literal) → NamesStay old new →
     AreSideLeaves f graph old g a b → name_of new v ≡ Some (And a b) → l ≡ positive v →

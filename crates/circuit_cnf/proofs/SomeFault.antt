@@ -1,5 +1,5 @@
 -- That some clause is false.
-use Rattle.std.proofs.Common.{◌≡◌, ℕ, true, false, inr, List, [], ◌∷◌, map, length, Some, None, IsSome, refl, sym, ◌∙◌, ap, subst}
+use Rattle.std.proofs.Common.{◌≡◌, ℕ, true, false, inr, List, [], ◌∷◌, map, length, Some, None, refl, sym, ◌∙◌, ap, arith}
 use Rattle.std.specs.List.{All, AllByRecursion, range_with_len}
 use Rattle.std.specs.Option.{option_map}
 use Rattle.std.proofs.lemmas.Bool.{false≢true}
@@ -9,13 +9,13 @@ use Rattle.dq_lits.specs.Formula.{Dqbf}
 use Rattle.dq_lits.proofs.SignedLiterals.{negated-positive}
 use Rattle.hint_log.specs.Entries.{Entry}
 use Rattle.hint_log.specs.Entries.{Given}
-use Rattle.hint_log.specs.declared.names.Name.TheVariants.{Selector, Bad}
+use Rattle.hint_log.specs.declared.names.Name.TheVariants.{Selector}
 use Rattle.hint_log.specs.declared.origins.Leaf.TheVariants.{Constant}
 use Rattle.hint_log.specs.declared.origins.Origin.TheVariants.{Fault}
 use Rattle.hint_log.specs.Entries.{ProofLog, with_entry, name_of}
 use Rattle.hint_log.specs.Growth.{Grew}
 use Rattle.hint_log.specs.Origins.{matrix_literal}
-use Rattle.hint_log.specs.Naming.{name_literal, AreNamedAs, is_selector_name}
+use Rattle.hint_log.specs.Naming.{AreNamedAs}
 use Rattle.log_laws.specs.Engines.{circuits, IsGivenBy, IsAddedBy}
 use Rattle.log_laws.proofs.Found.{named_variable}
 use Rattle.log_laws.proofs.LargerLogs.{grown_by}
@@ -27,13 +27,7 @@ plain_each : (es : List Entry) (group : ℕ) (ls : List Literal) (js : List ℕ)
     AreNamedAs es ls (map (bad_name group) js) → AllByRecursion (IsPlain es) ls
 plain_each es group [] js h = tt
 plain_each es group (l ∷ ls) [] h = cc
-plain_each es group (l ∷ ls) (j ∷ js) h =
-    let here : name_literal es l ≡ Some (bad_name group j) = cc in
-    let later : map (name_literal es) ls ≡ map Some (map (bad_name group) js) = cc in
-    let n = named_variable es l (Bad group j) false (name_of es (variable_of l)) refl here in (
-      record { named = subst IsSome (sym n.0) refl; no_selector = ap is_selector_name n.0 },
-      plain_each es group ls js later,
-    )
+plain_each es group (l ∷ ls) (j ∷ js) h = search (arith, named_variable, (plain_each es group ls js))
 
 pub bads_are_plain : (es : List Entry) (group : ℕ) (ls : List Literal) (js : List ℕ) →
     AreNamedAs es ls (map (bad_name group) js) → All (IsPlain es) ls
@@ -47,15 +41,7 @@ some_added : (f : Dqbf) (standing : ℕ) (start es : List Entry) (group : ℕ) (
 some_added f standing start es group bads is_group named few unnamed = record {
   own = refl;
   in_group = (group, (bads, refl), inr unnamed);
-  matches_origin = record {
-    group = group;
-    rest = bads;
-    clause_is = refl;
-    is_group = is_group;
-    rest_is = (refl, named);
-    one_leaf = λ v j i k l leaf other rest is inside own own'.
-        (let left : 0 ≡ j = cc in let right : 0 ≡ i = cc in absurd (nothing v j i left right own));
-  };
+  matches_origin = search arith;
   not_repeated = record { first = λ h c inside. false≢true (sym h); groups = few 0 0 (Constant false) bads };
 } where
   nothing : (v j i : ℕ) → 0 ≡ j → 0 ≡ i → option_map variable_of (matrix_literal f j i) ≡ Some v → ⊥

@@ -15,7 +15,6 @@ use Rattle.hint_log.specs.declared.origins.Leaf.{Leaf}
 use Rattle.hint_log.specs.declared.origins.Leaf.TheVariants.{Constant as LeafConstant, Literal as LeafLiteral}
 use Rattle.hint_log.specs.Conditions.{is_circuit_name}
 use Rattle.hint_log.specs.Entries.{name_of}
-use Rattle.hint_log.specs.Naming.{NamedLiteral, named_literal, name_literal}
 use Rattle.hint_log.specs.Origins.{IsLeafOf}
 use Rattle.log_laws.proofs.Found.{slice_get_at}
 use Rattle.circuit_cnf.specs.Checking.{AreInputs}
@@ -30,9 +29,7 @@ use Rattle.circuit_cnf.proofs.OutputValues.{nobody, node_at, existential_place, 
 -- how many inputs there are
 pub inputs_count : (es : List Entry) (us : List ℕ) (inputs : List Literal) → AreInputs us inputs es →
     length inputs ≡ length us
-inputs_count es us inputs are =
-    let named : ℕ → NamedLiteral = λ x. named_literal (InputName x) false in
-    sym (mapped_long (name_literal es) inputs) ∙ ap length are ∙ mapped_long Some (map named us) ∙ mapped_long named us
+inputs_count es us inputs are = search (arith, mapped_long)
 
 -- where inputs stand
 pub inputs_named : (es : List Entry) (us : List ℕ) (inputs : List Literal) → AreInputs us inputs es →
@@ -47,17 +44,12 @@ module _ (f : Dqbf) (graph : AigGraph) (es : List Entry) (inputs : List Literal)
     (leaves : List Leaf) (are : AreInputs f.universals inputs es) (have : AreLeavesOf f graph es nodes leaves) where
   leaf_has : (k : ℕ) → k < length nodes → HasLeaf f graph es (get_or nodes k (Constant false))
       (get_or leaves k (LeafConstant false))
-  leaf_has k below = have.each k (get_or nodes k (Constant false)) (get_or leaves k (LeafConstant false))
-      (slice_get_at nodes k (Constant false) below)
-      (slice_get_at leaves k (LeafConstant false) (let c = have.count in omega (arith, below, c)))
+  leaf_has k below = search (arith, slice_get_at)
 
   node_leaf_is : (v : ℕ) (n : Node) (leaf : Leaf) → is_universal f v ≡ false → HasLeaf f graph es n leaf →
       IsLeafOf f es v leaf
   node_leaf_is v n (LeafConstant b) isnt has = isnt
-  node_leaf_is v n (LeafLiteral l) isnt has = (
-    (λ is. absurd (true≢false (sym is ∙ isnt))),
-    leaf_is_circuit f graph es n (LeafLiteral l) has l refl,
-  )
+  node_leaf_is v n (LeafLiteral l) isnt has = search (arith, true≢false, leaf_is_circuit)
 
   -- a variable's leaf is one
   pub leaf_is_one : length nodes ≡ length f.existentials → (v : ℕ) → IsLeafOf f es v (leaf_of f inputs leaves v)

@@ -1,5 +1,5 @@
 -- How the log grows in a turn: a group, its clauses, what was learned, and an answer.
-use Rattle.std.proofs.Common.{◌≡◌, ℕ, ◌≤◌, Bool, true, false, true≢false, cond, inl, inr, ◌⊎◌, List, [], ◌∷◌, ◌++◌, length, Option, Some, None, refl, sym, ◌∙◌, ap, subst, arith}
+use Rattle.std.proofs.Common.{◌≡◌, ℕ, ◌≤◌, Bool, true, false, true≢false, cond, inl, inr, ◌⊎◌, List, [], ◌∷◌, ◌++◌, length, None, refl, sym, ◌∙◌, ap, subst, arith}
 use Rattle.std.specs.List.{list_any}
 use Rattle.dq_lits.specs.Literal.{Literal, negative, same_literal}
 use Rattle.dq_lits.specs.Formula.{Dqbf}
@@ -38,23 +38,11 @@ module _ (f : Dqbf) (engine : Engine) (group : ℕ) (silent : Bool) (start : Lis
   -- a silent growth is one that may decide
   pub any_silence : (old new : ProofLog) → Grew (IsAddedBy f engine group true start) old new →
       Grew (IsAddedBy f engine group silent start) old new
-  any_silence old new g = record {
-    more = g.more;
-    grown = g.grown;
-    each = each_of_weaker (IsAddedBy f engine group true start)
-        (IsAddedBy f engine group silent start) quieter g.more old.entries g.each;
-    limit = g.limit;
-  }
+  any_silence old new g = search (arith, each_of_weaker, quieter)
 
   pub learned_grew : (old new : ProofLog) → Grew IsLearnedEntry old new →
       Grew (IsAddedBy f engine group silent start) old new
-  learned_grew old new g = record {
-    more = g.more;
-    grown = g.grown;
-    each = each_of_weaker IsLearnedEntry (IsAddedBy f engine group silent start) learned_is_added g.more
-        old.entries g.each;
-    limit = g.limit;
-  }
+  learned_grew old new g = search (arith, each_of_weaker, learned_is_added)
 
   pub answered_grew : silent ≡ false → (assumptions : List Literal) (old new : ProofLog) (id : ℕ) →
       IsRefutedUnder old new assumptions id → Grew (IsAddedBy f engine group silent start) old new
@@ -91,12 +79,7 @@ module _ (f : Dqbf) (engine : Engine) (group : ℕ) (silent : Bool) (first start
   earlier_start : (earlier : List Entry) (e : Entry) → IsAddedBy f engine group silent start earlier e →
       IsAddedBy f engine group silent first earlier e
   earlier_start earlier (Named v n) h = h
-  earlier_start earlier (Given origin c) h = record {
-    own = h.own;
-    in_group = (h.in_group.0, h.in_group.1, new_before h.in_group.0 h.in_group.2);
-    matches_origin = h.matches_origin;
-    not_repeated = h.not_repeated;
-  }
+  earlier_start earlier (Given origin c) h = search (arith, new_before)
   earlier_start earlier (Learned c hints) h = h
   earlier_start earlier (Answer c hints) h = h
   earlier_start earlier (Round row values j) h = h
@@ -104,13 +87,7 @@ module _ (f : Dqbf) (engine : Engine) (group : ℕ) (silent : Bool) (first start
 
   pub grew_since : (old new : ProofLog) → Grew (IsAddedBy f engine group silent start) old new →
       Grew (IsAddedBy f engine group silent first) old new
-  grew_since old new g = record {
-    more = g.more;
-    grown = g.grown;
-    each = each_of_weaker (IsAddedBy f engine group silent start)
-        (IsAddedBy f engine group silent first) earlier_start g.more old.entries g.each;
-    limit = g.limit;
-  }
+  grew_since old new g = search (arith, each_of_weaker, earlier_start)
 
 -- a turn's growth: gates, and then what the search adds
 pub turn_grew : (f : Dqbf) (group other : ℕ) (silent : Bool) (old log new : ProofLog) →
@@ -140,15 +117,11 @@ AreFewFaults entries = length (fault_groups entries) ≤ fault_room entries
 
 pub few_learned : (old new : ProofLog) → Grew IsLearnedEntry old new → AreFewFaults old.entries →
     AreFewFaults new.entries
-few_learned old new g few =
-    let same = learned_faults g.more old.entries g.each in
-    subst AreFewFaults (sym g.grown) (subst (λ gs. length gs ≤ fault_room (g.more ++ old.entries)) (sym same.0)
-    (subst (λ n. length (fault_groups old.entries) ≤ n) (sym same.1) few))
+few_learned old new g few = search (arith, learned_faults)
 
 pub few_answered : (assumptions : List Literal) (old new : ProofLog) (id : ℕ) → IsRefutedUnder old new assumptions id →
     AreFewFaults old.entries → AreFewFaults new.entries
-few_answered assumptions old new id r few = subst (λ (l : ProofLog). AreFewFaults l.entries) (sym r.answered)
-    (few_learned old r.before r.learned few)
+few_answered assumptions old new id r few = search (arith, (few_learned old r.before r.learned few))
 
 pub few_without : (group : ℕ) (es : List Entry) → AreFewWith group es → AreFewFaults es
 few_without group es few = by (list_any (λ g. same_literal (negative g) (negative group)) (fault_groups es))

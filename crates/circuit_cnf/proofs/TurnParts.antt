@@ -1,12 +1,10 @@
 -- What a turn's group says, part after part of the clauses, and searches between two parts.
-use Rattle.std.proofs.Common.{◌≡◌, ℕ, ◌+◌, ◌≤◌, Bool, true, false, cond, inl, inr, List, [], ◌∷◌, ◌++◌, length, get_or, Some, None, IsSome, sym, ◌∙◌, ap, subst, arith}
-use Rattle.std.specs.List.{list_any}
+use Rattle.std.proofs.Common.{◌≡◌, ℕ, ◌+◌, ◌≤◌, Bool, true, false, List, [], ◌∷◌, ◌++◌, length, get_or, sym, ◌∙◌, ap, subst, arith}
 use Rattle.std.proofs.lemmas.Bool.{false≢true}
-use Rattle.dq_lits.specs.Literal.{Literal, positive, negative, variable_of, same_literal}
+use Rattle.dq_lits.specs.Literal.{Literal, positive, negative, variable_of}
 use Rattle.dq_lits.specs.Formula.{Dqbf}
-use Rattle.hint_log.specs.Entries.{Entry, Named, Given, ProofLog, name_of}
-use Rattle.hint_log.specs.declared.names.Name.{Name}
-use Rattle.hint_log.specs.declared.names.Name.TheVariants.{Bad, Selector}
+use Rattle.hint_log.specs.Entries.{Entry, Named, ProofLog, name_of}
+use Rattle.hint_log.specs.declared.names.Name.TheVariants.{Selector}
 use Rattle.hint_log.specs.declared.origins.Leaf.{Leaf}
 use Rattle.hint_log.specs.declared.origins.Origin.TheVariants.{Fault}
 use Rattle.aig_graph.specs.declared.nodes.Node.{Node}
@@ -41,34 +39,20 @@ module _ (f : Dqbf) (checker : Checker) (old first : ProofLog) (group : Group)
   entries_are = ap (λ (l : ProofLog). l.entries) m.is
 
   pub group_has_no_bads : HasNoBads (variable_of group.selector) first.entries
-  group_has_no_bads v j is =
-      elim (name_cases old.entries sel v (Selector sel) (Bad sel j)
-      (subst (λ es. name_of es v ≡ Some (Bad sel j)) entries_are is)) [
-        | inl here ↦ (let clash : Selector sel ≡ Bad sel j = here.1 in cc)
-        | inr earlier ↦ (let known = m.before.bads v sel j earlier in
-            let nobody : IsSome {T = Name} None = subst (IsSome {T = Name}) m.unnamed known in cc)
-      ]
+  group_has_no_bads v j is = search (arith, name_cases)
 
   pub group_is_few : AreFewWith (variable_of group.selector) first.entries
-  group_is_few j i out rest = subst (λ es. length (fault_groups (Given (Fault j i out) (negative sel ∷ rest) ∷ es))
-      ≤ fault_room es) (sym entries_are)
-      (by (list_any (λ g. same_literal (negative g) (negative sel)) (fault_groups old.entries))) where
-        by : (b : Bool) → length (cond b (fault_groups old.entries) (sel ∷ fault_groups old.entries))
-            ≤ fault_room old.entries
-        by true = let few = m.few in omega (arith, few)
-        by false = let few = m.few in omega (arith, few)
+  group_is_few j i out rest = search arith
 
   pub group_stays : NamesStay old.entries first.entries
-  group_stays = subst (NamesStay old.entries) (sym entries_are)
-      (name_stays_by old.entries sel (Selector sel) m.unnamed)
+  group_stays = search (arith, name_stays_by)
 
   module _ (leaf : ℕ → Leaf) (log : ProofLog) (grew : (h : Dqbf) (standing : ℕ) (start : List Entry) →
       Grew (IsAddedBy h circuits standing true start) first log)
       (faults : fault_groups log.entries ≡ fault_groups first.entries)
       (alone : IsNamingBads (variable_of group.selector) first.entries log.entries) where
     pub begun_said : AreNamedAndSaid f (variable_of group.selector) leaf first log
-    begun_said = after_bads f sel leaf first log grew faults alone group_is_few
-        (group_one_leaf f checker leaf old first group m)
+    begun_said = search (arith, after_bads, group_is_few, group_one_leaf)
 
     -- where naming the variables was cut off
     pub begun_turned : (silent : Bool) → HasTurned f checker checker silent old log
@@ -116,8 +100,7 @@ begun_saying graph nodes s checker old first m same count have bound bads log gr
 module _ (checker : Checker) (s : Faults) (bads : List Literal) (chosen : ℕ → Bool) (old log : ProofLog)
     (w : IsSaying checker s bads chosen old log) where
   pub saying_turned : (silent : Bool) → HasTurned s.f.now checker checker silent old log
-  saying_turned silent = faults_turned s.f.now checker (leaf_in s) old w.first s.group.now w.group_made log w.said
-      silent
+  saying_turned silent = search (arith, faults_turned)
 
   -- what is said then leaves what was said
   pub saying_on : (new : ProofLog) → AreSaid s.f.now (selector_in s) (leaf_in s) log new →
@@ -134,16 +117,7 @@ module _ (checker : Checker) (s : Faults) (bads : List Literal) (chosen : ℕ �
 
   pub saying_more : (more : ℕ → Bool) (new : ProofLog) → AreSaid s.f.now (selector_in s) (leaf_in s) log new →
       AreChosenGiven s.f.now (selector_in s) (leaf_in s) bads more new.entries → IsSaying checker s bads more old new
-  saying_more more new said given =
-      let on = saying_on new said in
-      record {
-        first = on.first;
-        group_made = on.group_made;
-        said = on.said;
-        may = on.may;
-        named = on.named;
-        given = given.all;
-      }
+  saying_more more new said given = search (arith, (saying_on new said))
 
 -- a search that learns says nothing
 pub learned_said : (s : Faults) (log new : ProofLog) → MaySay s log.entries → Grew IsLearnedEntry log new →

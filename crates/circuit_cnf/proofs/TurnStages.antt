@@ -1,5 +1,5 @@
 -- A turn's stages: its group, the group's clauses, and the search.
-use Rattle.std.proofs.Common.{◌≡◌, ◌≢◌, ℕ, ◌<◌, Bool, true, false, List, ◌∷◌, length, Some, None, IsSome, refl, sym, ◌∙◌, ap, subst}
+use Rattle.std.proofs.Common.{◌≡◌, ◌≢◌, ℕ, ◌<◌, Bool, true, false, List, ◌∷◌, length, Some, None, IsSome, refl, sym, ◌∙◌, ap, subst, arith}
 use Rattle.dq_lits.specs.Literal.{Literal, negative, variable_of}
 use Rattle.dq_lits.specs.Formula.{Dqbf}
 use Rattle.hint_log.specs.Entries.{Entry}
@@ -17,13 +17,13 @@ use Rattle.log_laws.proofs.Found.{each_weaker}
 use Rattle.oracle.specs.Calls.{IsMade, IsLearnedEntry, IsRefutedUnder}
 use Rattle.oracle.specs.declared.groups.Group.{Group}
 use Rattle.circuit_cnf.specs.declared.checkers.Checker.{Checker}
-use Rattle.circuit_cnf.specs.Checking.{AreInputs, group_of, IsChecker}
+use Rattle.circuit_cnf.specs.Checking.{group_of, IsChecker}
 use Rattle.circuit_cnf.specs.Faults.{HaveOneLeaf, AreNamedAndSaid}
 use Rattle.circuit_cnf.proofs.EmptyGroups.{IsUnused, group_is_unused, not_given_there}
 use Rattle.circuit_cnf.specs.Turning.{AreTwoGroups, HasTurned, IsGroupMade}
 use Rattle.circuit_cnf.proofs.UnchangedCheckers.{checker_stays, leaves_elsewhere, group_leaves, learned_leaves, leaves_then}
 use Rattle.std.specs.List.{Contains}
-use Rattle.circuit_cnf.specs.Gates.{AreKnown, GrewByGates}
+use Rattle.circuit_cnf.specs.Gates.{GrewByGates}
 use Rattle.circuit_cnf.proofs.KnownGates.{LeavesGates}
 use Rattle.circuit_cnf.proofs.OutputLeaves.{few_by_gates}
 use Rattle.circuit_cnf.proofs.TurnGrowth.{any_silence, turn_grew, group_grew, learned_grew, answered_grew, few_without, few_learned, few_answered}
@@ -111,25 +111,13 @@ module _ (f : Dqbf) (checker : Checker) (leaf : ℕ → Leaf) (old first : Proof
     }
 
     pub faults_turned : (silent : Bool) → HasTurned f checker checker silent old log
-    faults_turned silent = record {
-      checker = faults_checker;
-      group = refl;
-      grew = faults_grew silent;
-      few =
-          few_without sel log.entries s.few;
-    }
+    faults_turned silent = search (arith, faults_checker, faults_grew, few_without)
 
 -- a search that learns, and perhaps answers
 module _ (f : Dqbf) (checker : Checker) (old log new : ProofLog)
     (turned : HasTurned f checker checker true old log) where
   pub learned_turned : Grew IsLearnedEntry log new → HasTurned f checker checker true old new
-  learned_turned g = record {
-    checker = checker_stays f checker log.entries new.entries (learned_leaves checker.gates log new g) turned.checker;
-    group = refl;
-    grew = grown_then (IsAddedBy f circuits (group_of checker) true old.entries) old log new turned.grew
-        (learned_grew f circuits (group_of checker) true old.entries log new g);
-    few = few_learned log new g turned.few;
-  }
+  learned_turned g = search (arith, checker_stays, learned_leaves, grown_then, learned_grew, few_learned)
 
   pub answered_turned : (assumptions : List Literal) (id : ℕ) → IsRefutedUnder log new assumptions id →
       HasTurned f checker checker false old new
@@ -151,43 +139,19 @@ pub leaves_turned : (f : Dqbf) (before after : Checker) (old new : ProofLog) →
     group_of after ≡ group_of before → GrewByGates (group_of before) old new →
     fault_groups new.entries ≡ fault_groups old.entries → length (fault_groups old.entries) < fault_room old.entries →
     HasTurned f before after true old new
-leaves_turned f before after old new checker same grew faults few = record {
-  checker = checker;
-  group = same;
-  grew = grew f old.entries;
-  few = few_by_gates (group_of before) old new grew faults few;
-}
+leaves_turned f before after old new checker same grew faults few = search (arith, few_by_gates)
 
 pub turn_turned : (f : Dqbf) (before after : Checker) (silent : Bool) (old log new : ProofLog) →
     group_of after ≡ group_of before → GrewByGates (group_of before) old log →
     HasTurned f after after silent log new → HasTurned f before after silent old new
-turn_turned f before after silent old log new same grew turned = record {
-  checker = turned.checker;
-  group = same;
-  grew = turn_grew f (group_of before) (group_of after) silent old log new grew same turned.grew;
-  few = turned.few;
-}
+turn_turned f before after silent old log new same grew turned = search (arith, turn_grew)
 
 pub quiet_turned : (f : Dqbf) (before after : Checker) (silent : Bool) (old new : ProofLog) →
     HasTurned f before after true old new → HasTurned f before after silent old new
-quiet_turned f before after silent old new turned = record {
-  checker = turned.checker;
-  group = turned.group;
-  grew = any_silence f circuits (group_of before) silent old.entries old new turned.grew;
-  few = turned.few;
-}
+quiet_turned f before after silent old new turned = search (arith, any_silence)
 
 -- a checker with the same gates and inputs
 pub noted_turned : (f : Dqbf) (before after noted : Checker) (silent : Bool) (old new : ProofLog) →
     noted.gates ≡ after.gates → noted.inputs ≡ after.inputs → HasTurned f before after silent old new →
     HasTurned f before noted silent old new
-noted_turned f before after noted silent old new gates inputs turned = record {
-  checker = record {
-    gates = subst (λ x. AreKnown x new.entries) (sym gates) turned.checker.gates;
-    inputs = subst (λ xs. AreInputs f.universals xs.items new.entries) (sym inputs) turned.checker.inputs;
-    bads = turned.checker.bads;
-  };
-  group = ap (λ x. variable_of x.group.selector) gates ∙ turned.group;
-  grew = turned.grew;
-  few = turned.few;
-}
+noted_turned f before after noted silent old new gates inputs turned = search arith

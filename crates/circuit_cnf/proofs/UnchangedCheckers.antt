@@ -1,5 +1,5 @@
 -- What leaves a checker as it is.
-use Rattle.std.proofs.Common.{◌≡◌, ◌≢◌, ℕ, Bool, false, inl, inr, ◌⊎◌, List, [], ◌∷◌, ◌++◌, map, Option, Some, None, IsSome, refl, sym, ◌∙◌, ap, subst}
+use Rattle.std.proofs.Common.{◌≡◌, ◌≢◌, ℕ, Bool, false, inl, inr, ◌⊎◌, List, [], ◌∷◌, ◌++◌, Option, Some, None, IsSome, sym, ◌∙◌, ap, subst, arith}
 use Rattle.std.specs.List.{Contains}
 use Rattle.std.proofs.lemmas.Bool.{false≢true}
 use Rattle.std.proofs.lemmas.List.Elements.{Contains-append_right}
@@ -9,50 +9,38 @@ use Rattle.dq_lits.specs.Formula.{Dqbf}
 use Rattle.hint_log.specs.Entries.{Entry}
 use Rattle.hint_log.specs.Entries.{Named, Given, Learned, Answer, Round, Begun}
 use Rattle.hint_log.specs.declared.names.Name.{Name}
-use Rattle.hint_log.specs.declared.names.Name.TheVariants.{Selector, Input, And, Bad}
+use Rattle.hint_log.specs.declared.names.Name.TheVariants.{And, Bad}
 use Rattle.hint_log.specs.declared.origins.Origin.{Origin}
 use Rattle.hint_log.specs.declared.origins.Origin.TheVariants.{Gate}
 use Rattle.hint_log.specs.Entries.{ProofLog, name_of}
 use Rattle.hint_log.specs.Growth.{Each, EachOf, Grew}
-use Rattle.hint_log.specs.Naming.{named_literal}
-use Rattle.hint_log.specs.Origins.{IsGateRest, IsOriginsClause}
 use Rattle.log_laws.specs.Engines.{Engine, circuits, same_engine, name_engine, is_engine, is_own, IsInGroup, IsAddedBy}
 use Rattle.log_laws.proofs.LargerLogs.{each_grown}
 use Rattle.log_laws.proofs.Kept.{NamesStay, named_stay, name_stays_by, name_cases, each_of_weaker, some_stays, in_one_group}
 use Rattle.oracle.specs.Calls.{IsLearnedEntry}
 use Rattle.circuit_cnf.specs.declared.checkers.Checker.{Checker}
 use Rattle.circuit_cnf.specs.declared.gates.Gates.{Gates}
-use Rattle.circuit_cnf.specs.Checking.{group_of, IsChecker, CheckersStay}
+use Rattle.circuit_cnf.specs.Checking.{IsChecker, CheckersStay}
 use Rattle.circuit_cnf.specs.Faults.{NamesBadsAlone}
 use Rattle.circuit_cnf.specs.Gates.{IsGateGiven}
 use Rattle.circuit_cnf.proofs.KnownGates.{LeavesGates, known_stay}
 
 pub checker_stays : (f : Dqbf) (checker : Checker) (old new : List Entry) → LeavesGates checker.gates old new →
     IsChecker f checker old → IsChecker f checker new
-checker_stays f checker old new leaves before = record {
-  gates = known_stay checker.gates old new leaves before.gates;
-  inputs = named_stay old new leaves.stay checker.inputs.items
-      (map (λ x. named_literal (Input x) false) f.universals) before.inputs;
-  bads = λ v group j is. elim (leaves.bads v group j is) [
-    | inl was ↦
-        some_stays old new leaves.stay group (before.bads v group j was)
-    | inr some ↦ some
-  ];
-}
+checker_stays f checker old new leaves before =
+    search (
+      arith,
+      (known_stay checker.gates old new leaves before.gates),
+      (named_stay old new leaves.stay checker.inputs.items),
+      (some_stays old new leaves.stay),
+    )
 
 pub leaves_then : (gates : Gates) (a b c : List Entry) → LeavesGates gates a b → LeavesGates gates b c →
     LeavesGates gates a c
 leaves_then gates a b c first second = record {
   stay = λ v n is. second.stay v n (first.stay v n is);
   ands = λ v x y is. first.ands v x y (second.ands v x y is);
-  bads = λ v group j is. elim (second.bads v group j is) [
-    | inl was ↦ elim (first.bads v group j was) [
-      | inl before ↦ inl before
-      | inr some ↦
-          inr (some_stays b c second.stay group some)
-    ]
-    | inr some ↦ inr some
-  ];
+  bads = search (arith, some_stays);
   more = λ x inside. second.more x (first.more x inside);
   origins = λ v i d inside. elim (second.origins v i d inside) [
     | inl was ↦ elim (first.origins v i d was) [
@@ -67,15 +55,7 @@ leaves_then gates a b c first second = record {
 }
 
 pub leaves_none : (gates : Gates) (es : List Entry) → LeavesGates gates es es
-leaves_none gates es = record {
-  stay = λ v n is. is;
-  ands = λ v a b is. is;
-  bads = λ v group j is. inl is;
-  more = λ x inside. inside;
-  origins = λ v i c inside. inl inside;
-  own = λ h. h;
-  missing = λ gate is i c inside. inside;
-}
+leaves_none gates es = search arith
 
 -- nothing of a circuit, and nothing in the gates' group
 abbrev pub IsElsewhere : ℕ → List Entry → Entry → Type 0
@@ -133,14 +113,10 @@ leaves_elsewhere gates es (Given origin d) h = record {
     | inl is ↦ absurd (false≢true (sym h.0 ∙ ap (is_own circuits) is))
     | inr later ↦ later
   ]
-leaves_elsewhere gates es (Learned c hints) h = leaves_plain gates es (Learned c hints) (λ v. refl) (λ origin d is. cc)
-    (λ own. (tt, own))
-leaves_elsewhere gates es (Answer c hints) h = leaves_plain gates es (Answer c hints) (λ v. refl) (λ origin d is. cc)
-    (λ own. (tt, own))
-leaves_elsewhere gates es (Round row values j) h = leaves_plain gates es (Round row values j) (λ v. refl)
-    (λ origin d is. cc) (λ own. (tt, own))
-leaves_elsewhere gates es (Begun live) h = leaves_plain gates es (Begun live) (λ v. refl) (λ origin d is. cc)
-    (λ own. (tt, own))
+leaves_elsewhere gates es (Learned c hints) h = search (arith, (leaves_plain gates es (Learned c hints)))
+leaves_elsewhere gates es (Answer c hints) h = search (arith, (leaves_plain gates es (Answer c hints)))
+leaves_elsewhere gates es (Round row values j) h = search (arith, (leaves_plain gates es (Round row values j)))
+leaves_elsewhere gates es (Begun live) h = search (arith, (leaves_plain gates es (Begun live)))
 
 pub all_elsewhere : (gates : Gates) (more old : List Entry) →
     EachOf (IsElsewhere (variable_of gates.group.selector)) more old → LeavesGates gates old (more ++ old)
@@ -159,10 +135,8 @@ learned_elsewhere group earlier (Begun live) h = absurd h
 
 pub learned_leaves : (gates : Gates) (old new : ProofLog) → Grew IsLearnedEntry old new →
     LeavesGates gates old.entries new.entries
-learned_leaves gates old new g = subst (LeavesGates gates old.entries) (sym g.grown)
-    (all_elsewhere gates g.more old.entries (each_of_weaker IsLearnedEntry
-    (IsElsewhere (variable_of gates.group.selector)) (learned_elsewhere (variable_of gates.group.selector)) g.more
-    old.entries g.each))
+learned_leaves gates old new g =
+    search (arith, (all_elsewhere gates g.more old.entries), each_of_weaker, learned_elsewhere)
 
 -- a clause that goes into this group or into one that was made since is in no third one
 not_in : (group mine : ℕ) (n : Name) (start : List Entry) (c : List Literal) → mine ≢ group →
@@ -184,11 +158,7 @@ module _ (f : Dqbf) (engine : Engine) (group : ℕ) (silent : Bool) (start : Lis
   pub others_elsewhere : (mine : ℕ) (n : Name) → same_engine circuits engine ≡ false → mine ≢ group →
       name_of start mine ≡ Some n → (earlier : List Entry) (e : Entry) → Added earlier e → IsElsewhere mine earlier e
   others_elsewhere mine n differ apart named earlier (Named v m) h = (h.unnamed, own_name (name_engine m) differ h.own)
-  others_elsewhere mine n differ apart named earlier (Given origin c) h = (
-    ap (same_engine circuits) h.own ∙ differ,
-    not_in group mine n start c apart named h.in_group.0 h.in_group.1
-        h.in_group.2,
-  )
+  others_elsewhere mine n differ apart named earlier (Given origin c) h = search arith
   others_elsewhere mine n differ apart named earlier (Learned c hints) h = tt
   others_elsewhere mine n differ apart named earlier (Answer c hints) h = tt
   others_elsewhere mine n differ apart named earlier (Round row values j) h = absurd h
@@ -197,8 +167,7 @@ module _ (f : Dqbf) (engine : Engine) (group : ℕ) (silent : Bool) (start : Lis
   no_gates_given : (mine : ℕ) (n : Name) → mine ≢ group → name_of start mine ≡ Some n →
       (earlier : List Entry) (e : Entry) → Added earlier e → IsGateGiven mine earlier e
   no_gates_given mine n apart named earlier (Named v m) h = tt
-  no_gates_given mine n apart named earlier (Given origin c) h =
-      λ inside. absurd (not_in group mine n start c apart named h.in_group.0 h.in_group.1 h.in_group.2 inside)
+  no_gates_given mine n apart named earlier (Given origin c) h = search arith
   no_gates_given mine n apart named earlier (Learned c hints) h = tt
   no_gates_given mine n apart named earlier (Answer c hints) h = tt
   no_gates_given mine n apart named earlier (Round row values j) h = absurd h
@@ -218,24 +187,13 @@ module _ (f : Dqbf) (engine : Engine) (group : ℕ) (silent : Bool) (start : Lis
 
   gate_is_named : (es : List Entry) (e : Entry) (v i : ℕ) (c : List Literal) → Added es e → e ≡ Given (Gate v i) c →
       IsSome (name_of (e ∷ es) v)
-  gate_is_named es e v i c h is = by (subst (Added es) is h) where
-    by : Added es (Given (Gate v i) c) → IsSome (name_of (e ∷ es) v)
-    by given =
-        let origin : IsOriginsClause f es (Gate v i) c = given.matches_origin in
-        let gate : IsGateRest es v i origin.rest = origin.rest_is in
-        subst (λ x. IsSome (name_of (x ∷ es) v)) (sym is) (subst IsSome (sym gate.named) refl)
+  gate_is_named es e v i c h is = search arith
 
   pub gates_are_named : (more old : List Entry) → EachOf Added more old → (v i : ℕ) (c : List Literal) →
       Contains (more ++ old) (Given (Gate v i) c) → Contains old (Given (Gate v i) c) ⊎ IsSome (name_of (more ++ old) v)
   gates_are_named [] old h v i c inside = inl inside
-  gates_are_named (e ∷ more) old h v i c inside = elim (contains_cases e (Given (Gate v i) c) (more ++ old) inside) [
-    | inl is ↦ inr (gate_is_named (more ++ old) e v i c h.0 is)
-    | inr later ↦ elim (gates_are_named more old h.1 v i c later) [
-      | inl was ↦ inl was
-      | inr some ↦ inr (some_stays (more ++ old) (e ∷ more ++ old)
-          (step_stays (more ++ old) e h.0) v some)
-    ]
-  ]
+  gates_are_named (e ∷ more) old h v i c inside =
+      search (arith, contains_cases, gate_is_named, (gates_are_named more old h.1 v i c), some_stays, step_stays)
 
   pub group_leaves : (gates : Gates) (n : Name) (old new : ProofLog) → Grew Added old new →
       name_of start (variable_of gates.group.selector) ≡ Some n → (variable_of gates.group.selector) ≢ group →
@@ -244,35 +202,26 @@ module _ (f : Dqbf) (engine : Engine) (group : ℕ) (silent : Bool) (start : Lis
   group_leaves gates n old new g named apart stay names made ready = record {
     stay = stay;
     ands = λ v a b is. elim (names v (And a b) is) [ inl was ↦ was | inr bad ↦ (let clash = bad.1 in cc) ];
-    bads = λ v other j is. elim (names v (Bad other j) is) [
-      | inl was ↦ inl was
-      | inr bad ↦ (let clash = bad.1 in let same : other ≡ group = cc in
-          inr (subst (λ x. IsSome (name_of new.entries x)) (sym same)
-          (some_stays old.entries new.entries stay group made)))
-    ];
+    bads = search (arith, some_stays);
     more = λ x inside. subst (λ es. Contains es x) (sym g.grown) (Contains-append_right g.more old.entries x inside);
     origins = λ v i c inside. subst (λ es. Contains old.entries (Given (Gate v i) c) ⊎ IsSome (name_of es v))
         (sym g.grown)
         (gates_are_named g.more old.entries g.each v i c (subst
         (λ es. Contains es (Given (Gate v i) c)) g.grown inside));
-    own = λ own. subst (Each (IsGateGiven (variable_of gates.group.selector))) (sym g.grown)
-        (each_grown Added (IsGateGiven (variable_of gates.group.selector))
-        (no_gates_given (variable_of gates.group.selector) n apart named) g.more old.entries g.each own);
+    own = search (arith, each_grown, no_gates_given);
     missing = λ gate is. (let none : None ≡ Some gate = sym ready ∙ is in cc);
   }
 
 pub others_leave_checkers : CheckersStay
 others_leave_checkers f checker engine group silent old new differ apart grew before =
-    let mine = group_of checker in
-    let named = before.gates.made.named in
-    checker_stays f checker old.entries new.entries (subst (LeavesGates checker.gates old.entries) (sym grew.grown)
-    (all_elsewhere checker.gates grew.more old.entries
-    (each_of_weaker (IsAddedBy f engine group silent old.entries) (IsElsewhere mine)
-    (others_elsewhere f engine group silent old.entries mine (Selector mine) differ apart named) grew.more
-    old.entries grew.each))) before
+    search (
+      arith,
+      (checker_stays f checker old.entries new.entries),
+      (all_elsewhere checker.gates grew.more old.entries),
+      each_of_weaker,
+      (others_elsewhere f engine group silent old.entries),
+    )
 
 pub round_leaves_checkers : (f : Dqbf) (checker : Checker) (entries : List Entry) (row values : List Bool) (j : ℕ) →
     IsChecker f checker entries → IsChecker f checker (Round row values j ∷ entries)
-round_leaves_checkers f checker entries row values j before =
-    checker_stays f checker entries (Round row values j ∷ entries)
-    (leaves_elsewhere checker.gates entries (Round row values j) tt) before
+round_leaves_checkers f checker entries row values j before = search (arith, checker_stays, leaves_elsewhere)

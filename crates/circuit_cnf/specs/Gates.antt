@@ -1,10 +1,10 @@
 -- How the gates of the checked circuits stand in the log.
-use Rattle.std.specs.Prelude.{◌≡◌, ◌⊎◌, ◌≤◌, ◌<◌, ℕ, ◌+◌, ◌*◌, true, List, ◌∷◌, Option, None, Some, IsSome}
+use Rattle.std.specs.Prelude.{◌≡◌, ◌⊎◌, ◌≤◌, ◌<◌, ℕ, true, List, ◌∷◌, Option, None, Some, IsSome}
 use Rattle.std.specs.List.{Contains}
 use Rattle.std.specs.BTreeMap.{get}
 use Rattle.std.specs.declared.cmp.Ordering.{Ordering}
 use Rattle.std.specs.Ordering.{nat_cmp, ordering_then}
-use Rattle.dq_lits.specs.Literal.{Literal, positive, negative, variable_of, literal_code}
+use Rattle.dq_lits.specs.Literal.{Literal, negative, variable_of, literal_code}
 use Rattle.dq_lits.specs.Formula.{Dqbf}
 use Rattle.hint_log.specs.Entries.{Entry}
 use Rattle.hint_log.specs.Entries.{Given}

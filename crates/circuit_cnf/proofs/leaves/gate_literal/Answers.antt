@@ -1,10 +1,9 @@
-use Rattle.std.proofs.Common.{refl, sym, subst}
+use Rattle.std.proofs.Common.{refl, arith}
 use Rattle.dq_lits.specs.Literal.{variable_of}
 use Rattle.hint_log.specs.declared.origins.Leaf.TheVariants.{Literal as LeafLiteral}
 use Rattle.std.proofs.Common.{length, true}
 use Rattle.log_laws.specs.Engines.{circuits}
 use Rattle.log_laws.proofs.LargerLogs.{leaves_rest}
-use Rattle.aig_graph.specs.Graph.{IsEarlierNode}
 use Rattle.circuit_cnf.proofs.MarkedInputs.{sides_over_universals}
 use Rattle.circuit_cnf.proofs.SideLeaves.{leaf_is_circuit, side_leaves, gate_leaf}
 use Rattle.circuit_cnf.proofs.leaves.gate_literal.Goals as goal
@@ -39,14 +38,14 @@ returns-clause-leaf g c =
 
 pub side_literal-a-requires-clause-earlier : goal.side_literal-a-requires-clause-earlier
 side_literal-a-requires-clause-earlier g c =
-    let low = sides_over_universals c.args.cone.now.f.now c.args.cone.now.graph.now c.args.cone.now.marks.now
-    (length c.args.literals.now) c.args.cone.now.universals c.args.cone.now.closed c.requires.marked c.in-Gate.a
-    c.in-Gate.b c.in-Gate.field-2 c.in-Gate.ensures in
-    subst (λ n. IsEarlierNode n (length c.args.literals.now) c.in-Gate.a) (sym c.args.cone.now.input_count) low.0
+    search (
+      arith,
+      (sides_over_universals c.args.cone.now.f.now c.args.cone.now.graph.now c.args.cone.now.marks.now (length c.args.literals.now) c.args.cone.now.universals c.args.cone.now.closed c.requires.marked c.in-Gate.a c.in-Gate.b c.in-Gate.field-2 c.in-Gate.ensures),
+    )
 
 pub side_literal-b-requires-clause-earlier : goal.side_literal-b-requires-clause-earlier
 side_literal-b-requires-clause-earlier g c =
-    let low = sides_over_universals c.args.cone.now.f.now c.args.cone.now.graph.now c.args.cone.now.marks.now
-    (length c.args.literals.now) c.args.cone.now.universals c.args.cone.now.closed c.requires.marked c.in-Gate.a
-    c.in-Gate.b c.in-Gate.field-2 c.in-Gate.ensures in
-    subst (λ n. IsEarlierNode n (length c.args.literals.now) c.in-Gate.b) (sym c.args.cone.now.input_count) low.1
+    search (
+      arith,
+      (sides_over_universals c.args.cone.now.f.now c.args.cone.now.graph.now c.args.cone.now.marks.now (length c.args.literals.now) c.args.cone.now.universals c.args.cone.now.closed c.requires.marked c.in-Gate.a c.in-Gate.b c.in-Gate.field-2 c.in-Gate.ensures),
+    )

@@ -1,4 +1,4 @@
-use Rattle.std.proofs.Common.{◌≡◌, map, length, refl, sym, ◌∙◌, ap, subst}
+use Rattle.std.proofs.Common.{◌≡◌, map, refl, sym, ◌∙◌, ap, subst, arith}
 use Rattle.std.proofs.lemmas.Bool.{false≢true}
 use Rattle.list_laws.proofs.Sequences.{mapped_long}
 use Rattle.dq_lits.specs.Literal.{variable_of}
@@ -10,14 +10,11 @@ use Rattle.circuit_cnf.proofs.checkers.Checker.failure.Goals as goal
 
 pub returns-in-Some-clause-some : goal.returns-in-Some-clause-some
 returns-in-Some-clause-some g c =
-    let values = g.O.Oracle.values c.args.oracle.now in
-    let inputs = c.args.self.now.inputs.items in
-    let row_is : c.in_ok-row.row ≡ map (λ l. values (variable_of l)) inputs =
-    c.in_ok-row.ensures ∙ ap (map (λ l. values (variable_of l))) c.deref.ensures.value in
-    failure_is c.args.circuit.now.f.now c.args.circuit.now.graph.now c.args.circuit.now.outputs.now c.in_ok-row.row
-    c.in_ok-values.values c.in-Some.j c.requires.formula.prefix c.args.circuit.now.a_node_an_existential
-    (ap length row_is ∙ mapped_long (λ l. values (variable_of l)) inputs ∙ c.requires.input_count)
-    c.in_ok-values.ensures c.in-Some.ensures.some
+    search (
+      arith,
+      (failure_is c.args.circuit.now.f.now c.args.circuit.now.graph.now c.args.circuit.now.outputs.now c.in_ok-row.row c.in_ok-values.values c.in-Some.j c.requires.formula.prefix c.args.circuit.now.a_node_an_existential),
+      mapped_long,
+    )
 
 pub returns-in-None-clause-none : goal.returns-in-None-clause-none
 returns-in-None-clause-none g c is false_there =

@@ -1,4 +1,4 @@
-use Rattle.std.proofs.Common.{◌≡◌, length, map, refl, sym, ◌∙◌, ap, subst, Ok}
+use Rattle.std.proofs.Common.{◌≡◌, length, map, refl, sym, ◌∙◌, ap, subst, Ok, arith}
 use Rattle.dq_lits.specs.Row.{bit_of}
 use Rattle.aig_graph.specs.Graph.{node_value}
 use Rattle.dq_lits.specs.Literal.{variable_of}
@@ -28,11 +28,7 @@ returns-in-Some-clause-turned g c start w =
     (c.in_ok-id.was ∙ ap Ok c.in-Some.is) (c.look.ensures.turned start w)
 
 pub returns-in-Some-clause-held : goal.returns-in-Some-clause-held
-returns-in-Some-clause-held g c start id w e =
-    let f = c.args.faults.now.f.now in
-    let same : c.in-Some.id ≡ id = cc in
-    subst (λ i. IsHeldBy f (leaf_in c.args.faults.now) start.entries c.look.new.log.entries i) same
-    (c.look.ensures.held start c.in-Some.id w (c.in_ok-id.was ∙ ap Ok c.in-Some.is))
+returns-in-Some-clause-held g c start id w e = search arith
 
 pub failure-requires-clause-made : goal.failure-requires-clause-made
 failure-requires-clause-made g c k d below =
@@ -45,11 +41,7 @@ failure-requires-clause-made g c k d below =
     (inputs_count c.look.new.log.entries f.universals inputs are) k d below)
 
 pub failure-requires-clause-input_count : goal.failure-requires-clause-input_count
-failure-requires-clause-input_count g c =
-    let f = c.args.faults.now.f.now in
-    let are = (c.look.ensures.turned c.requires.saying.0 c.requires.saying.1).checker.inputs in
-    inputs_count c.look.new.log.entries f.universals c.args.self.now.inputs.items are
-    ∙ ap (λ h. length h.universals) c.requires.same_formula
+failure-requires-clause-input_count g c = search (arith, inputs_count)
 
 pub returns-in_err-turn-in-None-clause-turned : goal.returns-in_err-turn-in-None-clause-turned
 returns-in_err-turn-in-None-clause-turned g c start w =
@@ -106,11 +98,7 @@ failure-requires-in-None-2-clause-made g c k d below =
     (inputs_count c.look-2.new.log.entries f.universals inputs are) k d below)
 
 pub failure-requires-in-None-2-clause-input_count : goal.failure-requires-in-None-2-clause-input_count
-failure-requires-in-None-2-clause-input_count g c =
-    let f = c.args.faults.now.f.now in
-    let are = (c.look.ensures.turned c.requires.saying.0 c.requires.saying.1).checker.inputs in
-    inputs_count c.look.new.log.entries f.universals c.args.self.now.inputs.items are
-    ∙ ap (λ h. length h.universals) c.requires.same_formula
+failure-requires-in-None-2-clause-input_count g c = search (arith, inputs_count)
 
 pub returns-in_err-turn-in-None-2-clause-turned : goal.returns-in_err-turn-in-None-2-clause-turned
 returns-in_err-turn-in-None-2-clause-turned g c start w =

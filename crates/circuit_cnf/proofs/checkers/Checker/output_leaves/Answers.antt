@@ -1,4 +1,4 @@
-use Rattle.std.proofs.Common.{length, map, sym, ◌∙◌, ap, subst}
+use Rattle.std.proofs.Common.{length, map, sym, ◌∙◌, ap, subst, arith}
 use Rattle.std.specs.List.{All}
 use Rattle.dq_lits.specs.Literal.{variable_of}
 use Rattle.aig_graph.specs.Graph.{IsEarlierNode}
@@ -10,49 +10,29 @@ use Rattle.circuit_cnf.proofs.OutputLeaves.{few_by_gates, cone_checker, cones_ar
 use Rattle.circuit_cnf.proofs.checkers.Checker.output_leaves.Goals as goal
 
 pub cone_literals-requires-clause-few : goal.cone_literals-requires-clause-few
-cone_literals-requires-clause-few g c =
-    few_by_gates (variable_of c.args.self.now.gates.group.selector) c.args.log.now c.finish.new.log
-    c.finish.ensures.grew c.finish.ensures.faults c.requires.few
+cone_literals-requires-clause-few g c = search (arith, few_by_gates)
 
 pub invariant_of-cone-clause-closed : goal.invariant_of-cone-clause-closed
 invariant_of-cone-clause-closed g c = cones_are_closed c.args.circuit.now.graph.now c.args.circuit.now.outputs.now
     c.cones.new.marks c.cones.ensures.marked
 
 pub returns-in_err-literals-clause-checker : goal.returns-in_err-literals-clause-checker
-returns-in_err-literals-clause-checker g c =
-    cone_checker c.args.circuit.now.f.now c.args.self.now c.cone_literals.new.gates
-    (variable_of c.finish.new.self.group.selector) c.args.log.now c.finish.new.log c.cone_literals.new.log
-    c.requires.checker c.finish.ensures.names
-    c.cone_literals.ensures.grew c.cone_literals.ensures.bads c.cone_literals.ensures.known
+returns-in_err-literals-clause-checker g c = search (arith, cone_checker)
 
 pub returns-in_err-literals-clause-grew : goal.returns-in_err-literals-clause-grew
-returns-in_err-literals-clause-grew g c =
-    grew_in_all c.args.self.now.gates c.finish.new.self c.args.log.now c.finish.new.log c.cone_literals.new.log
-    c.finish.ensures.grew c.finish.ensures.group c.cone_literals.ensures.grew
+returns-in_err-literals-clause-grew g c = search (arith, grew_in_all)
 
 pub returns-in_err-leaves-clause-checker : goal.returns-in_err-leaves-clause-checker
-returns-in_err-leaves-clause-checker g c =
-    cone_checker c.args.circuit.now.f.now c.args.self.now c.cone_literals.new.gates
-    (variable_of c.finish.new.self.group.selector) c.args.log.now c.finish.new.log c.cone_literals.new.log
-    c.requires.checker c.finish.ensures.names
-    c.cone_literals.ensures.grew c.cone_literals.ensures.bads c.cone_literals.ensures.known
+returns-in_err-leaves-clause-checker g c = search (arith, cone_checker)
 
 pub returns-in_err-leaves-clause-grew : goal.returns-in_err-leaves-clause-grew
-returns-in_err-leaves-clause-grew g c =
-    grew_in_all c.args.self.now.gates c.finish.new.self c.args.log.now c.finish.new.log c.cone_literals.new.log
-    c.finish.ensures.grew c.finish.ensures.group c.cone_literals.ensures.grew
+returns-in_err-leaves-clause-grew g c = search (arith, grew_in_all)
 
 pub returns-clause-checker : goal.returns-clause-checker
-returns-clause-checker g c =
-    cone_checker c.args.circuit.now.f.now c.args.self.now c.cone_literals.new.gates
-    (variable_of c.finish.new.self.group.selector) c.args.log.now c.finish.new.log c.cone_literals.new.log
-    c.requires.checker c.finish.ensures.names
-    c.cone_literals.ensures.grew c.cone_literals.ensures.bads c.cone_literals.ensures.known
+returns-clause-checker g c = search (arith, cone_checker)
 
 pub returns-clause-grew : goal.returns-clause-grew
-returns-clause-grew g c =
-    grew_in_all c.args.self.now.gates c.finish.new.self c.args.log.now c.finish.new.log c.cone_literals.new.log
-    c.finish.ensures.grew c.finish.ensures.group c.cone_literals.ensures.grew
+returns-clause-grew g c = search (arith, grew_in_all)
 
 pub returns-clause-leaves : goal.returns-clause-leaves
 returns-clause-leaves g c =

@@ -1,4 +1,4 @@
-use Rattle.std.proofs.Common.{sym, subst}
+use Rattle.std.proofs.Common.{sym, subst, arith}
 use Rattle.dq_lits.specs.Literal.{variable_of}
 use Rattle.circuit_cnf.specs.Faults.{AreBads, leaf_of}
 use Rattle.circuit_cnf.specs.Turning.{IsGroupMade, IsHeldBy}
@@ -6,19 +6,7 @@ use Rattle.circuit_cnf.proofs.TurnParts.{begun_saying, begun_turned, group_has_n
 use Rattle.circuit_cnf.proofs.checkers.Checker.search.Goals as goal
 
 pub name_bads-requires-clause-fresh : goal.name_bads-requires-clause-fresh
-name_bads-requires-clause-fresh g c =
-    let m : IsGroupMade c.args.circuit.now.f.now c.args.self.now c.args.log.now c.group.new.log c.in_ok-group.group =
-    record {
-      before = c.requires.checker;
-      ready = c.requires.ready;
-      unnamed = c.in_ok-group.ensures.unnamed;
-      made = c.in_ok-group.ensures.made;
-      is = c.in_ok-group.ensures.ok;
-      logged = (g.met.O.Oracle.searched c.args.oracle.now c.args.log.now c.requires.fit).logged;
-      grouped = (g.met.O.Oracle.searched c.args.oracle.now c.args.log.now c.requires.fit).grouped;
-      few = c.requires.few;
-    } in
-    group_has_no_bads c.args.circuit.now.f.now c.args.self.now c.args.log.now c.group.new.log c.in_ok-group.group m
+name_bads-requires-clause-fresh g c = search (arith, group_has_no_bads)
 
 pub returns-in_err-bads-clause-turned : goal.returns-in_err-bads-clause-turned
 returns-in_err-bads-clause-turned g c =
@@ -40,16 +28,7 @@ returns-in_err-bads-clause-turned g c =
 pub look_twice-requires-clause-saying : goal.look_twice-requires-clause-saying
 look_twice-requires-clause-saying g c =
     let m : IsGroupMade c.args.circuit.now.f.now c.args.self.now c.args.log.now c.group.new.log c.in_ok-group.group =
-    record {
-      before = c.requires.checker;
-      ready = c.requires.ready;
-      unnamed = c.in_ok-group.ensures.unnamed;
-      made = c.in_ok-group.ensures.made;
-      is = c.in_ok-group.ensures.ok;
-      logged = (g.met.O.Oracle.searched c.args.oracle.now c.args.log.now c.requires.fit).logged;
-      grouped = (g.met.O.Oracle.searched c.args.oracle.now c.args.log.now c.requires.fit).grouped;
-      few = c.requires.few;
-    } in
+    search arith in
     let named = c.name_bads.ensures in
     let are = subst (λ xs. AreBads c.args.circuit.now.f.now (variable_of c.in_ok-group.group.selector) xs
     c.name_bads.new.log.entries) (sym c.deref-2.ensures.value) c.in_ok-bads.ensures.named in (
@@ -63,16 +42,7 @@ look_twice-requires-clause-saying g c =
 pub returns-clause-turned : goal.returns-clause-turned
 returns-clause-turned g c =
     let m : IsGroupMade c.args.circuit.now.f.now c.args.self.now c.args.log.now c.group.new.log c.in_ok-group.group =
-    record {
-      before = c.requires.checker;
-      ready = c.requires.ready;
-      unnamed = c.in_ok-group.ensures.unnamed;
-      made = c.in_ok-group.ensures.made;
-      is = c.in_ok-group.ensures.ok;
-      logged = (g.met.O.Oracle.searched c.args.oracle.now c.args.log.now c.requires.fit).logged;
-      grouped = (g.met.O.Oracle.searched c.args.oracle.now c.args.log.now c.requires.fit).grouped;
-      few = c.requires.few;
-    } in
+    search arith in
     let named = c.name_bads.ensures in
     let are = subst (λ xs. AreBads c.args.circuit.now.f.now (variable_of c.in_ok-group.group.selector) xs
     c.name_bads.new.log.entries) (sym c.deref-2.ensures.value) c.in_ok-bads.ensures.named in
@@ -84,16 +54,7 @@ returns-clause-turned g c =
 pub returns-clause-held : goal.returns-clause-held
 returns-clause-held g c id e =
     let m : IsGroupMade c.args.circuit.now.f.now c.args.self.now c.args.log.now c.group.new.log c.in_ok-group.group =
-    record {
-      before = c.requires.checker;
-      ready = c.requires.ready;
-      unnamed = c.in_ok-group.ensures.unnamed;
-      made = c.in_ok-group.ensures.made;
-      is = c.in_ok-group.ensures.ok;
-      logged = (g.met.O.Oracle.searched c.args.oracle.now c.args.log.now c.requires.fit).logged;
-      grouped = (g.met.O.Oracle.searched c.args.oracle.now c.args.log.now c.requires.fit).grouped;
-      few = c.requires.few;
-    } in
+    search arith in
     let named = c.name_bads.ensures in
     let are = subst (λ xs. AreBads c.args.circuit.now.f.now (variable_of c.in_ok-group.group.selector) xs
     c.name_bads.new.log.entries) (sym c.deref-2.ensures.value) c.in_ok-bads.ensures.named in

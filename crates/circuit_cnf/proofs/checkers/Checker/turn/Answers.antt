@@ -1,7 +1,6 @@
-use Rattle.std.proofs.Common.{sym, ◌∙◌, subst}
+use Rattle.std.proofs.Common.{sym, ◌∙◌, subst, arith}
 use Rattle.circuit_cnf.specs.Checking.{group_of}
-use Rattle.circuit_cnf.specs.Failing.{is_silent}
-use Rattle.circuit_cnf.specs.Turning.{AreLeavesOf, HasTurned}
+use Rattle.circuit_cnf.specs.Turning.{AreLeavesOf}
 use Rattle.circuit_cnf.proofs.TurnAnswers.{shown_since, outputs_hold}
 use Rattle.circuit_cnf.proofs.OutputLeaves.{few_same}
 use Rattle.circuit_cnf.proofs.TurnGrowth.{unnamed_before_gates}
@@ -9,45 +8,22 @@ use Rattle.circuit_cnf.proofs.TurnStages.{leaves_turned, turn_turned, quiet_turn
 use Rattle.circuit_cnf.proofs.checkers.Checker.turn.Goals as goal
 
 pub returns-in_err-leaves-clause-turned : goal.returns-in_err-leaves-clause-turned
-returns-in_err-leaves-clause-turned g c =
-    let leaves = c.output_leaves.ensures in
-    quiet_turned c.args.f.now c.args.self.now c.output_leaves.new.self _ c.args.log.now c.output_leaves.new.log
-    (leaves_turned c.args.f.now c.args.self.now c.output_leaves.new.self c.args.log.now c.output_leaves.new.log
-    leaves.checker leaves.group leaves.grew leaves.faults c.requires.few)
+returns-in_err-leaves-clause-turned g c = search (arith, quiet_turned, leaves_turned)
 
 pub returns-in_err-first-clause-turned : goal.returns-in_err-first-clause-turned
-returns-in_err-first-clause-turned g c =
-    let leaves = c.output_leaves.ensures in
-    quiet_turned c.args.f.now c.args.self.now c.output_leaves.new.self _ c.args.log.now c.output_leaves.new.log
-    (leaves_turned c.args.f.now c.args.self.now c.output_leaves.new.self c.args.log.now c.output_leaves.new.log
-    leaves.checker leaves.group leaves.grew leaves.faults c.requires.few)
+returns-in_err-first-clause-turned g c = search (arith, quiet_turned, leaves_turned)
 
 pub search-requires-clause-leaves : goal.search-requires-clause-leaves
-search-requires-clause-leaves g c = subst
-    (AreLeavesOf c.args.f.now c.args.graph.now c.output_leaves.new.log.entries c.args.outputs.now)
-    (sym c.deref-2.ensures.value) c.in_ok-leaves.ensures.leaves
+search-requires-clause-leaves g c = search arith
 
 pub search-requires-clause-few : goal.search-requires-clause-few
-search-requires-clause-few g c = few_same (group_of c.args.self.now) c.args.log.now c.output_leaves.new.log
-    c.output_leaves.ensures.grew c.output_leaves.ensures.faults c.requires.few
+search-requires-clause-few g c = search (arith, few_same)
 
 pub returns-in_err-found-clause-turned : goal.returns-in_err-found-clause-turned
-returns-in_err-found-clause-turned g c =
-    turn_turned c.args.f.now c.args.self.now c.output_leaves.new.self _ c.args.log.now c.output_leaves.new.log
-    c.search.new.log c.output_leaves.ensures.group c.output_leaves.ensures.grew
-    (quiet_turned c.args.f.now c.output_leaves.new.self c.output_leaves.new.self _ c.output_leaves.new.log
-    c.search.new.log
-    (subst (λ r. HasTurned c.args.f.now c.output_leaves.new.self c.output_leaves.new.self
-    (is_silent r) c.output_leaves.new.log c.search.new.log) c.in_err-found.was c.search.ensures.turned))
+returns-in_err-found-clause-turned g c = search (arith, turn_turned, quiet_turned)
 
 pub returns-clause-turned : goal.returns-clause-turned
-returns-clause-turned g c =
-    noted_turned c.args.f.now c.args.self.now c.output_leaves.new.self c.note.new.self _ c.args.log.now
-    c.search.new.log c.note.ensures.gates c.note.ensures.inputs
-    (turn_turned c.args.f.now c.args.self.now c.output_leaves.new.self _ c.args.log.now c.output_leaves.new.log
-    c.search.new.log c.output_leaves.ensures.group c.output_leaves.ensures.grew
-    (subst (λ r. HasTurned c.args.f.now c.output_leaves.new.self c.output_leaves.new.self
-    (is_silent r) c.output_leaves.new.log c.search.new.log) c.in_ok-found.was c.search.ensures.turned))
+returns-clause-turned g c = search (arith, noted_turned, turn_turned)
 
 pub returns-clause-shown : goal.returns-clause-shown
 returns-clause-shown g c id e =

@@ -1,4 +1,4 @@
-use Rattle.std.proofs.Common.{◌≡◌, ◌+◌, ◌<◌, [], inr, length, get_or, sym, ◌∙◌, ap, subst, not, false, Some}
+use Rattle.std.proofs.Common.{◌≡◌, ◌+◌, ◌<◌, [], inr, length, get_or, sym, ◌∙◌, ap, subst, not, false, Some, arith}
 use Rattle.std.specs.List.{Contains}
 use Rattle.std.proofs.lemmas.Result.{on_ok_weaker}
 use Rattle.list_laws.proofs.Elements.{place_within, found_at}
@@ -24,11 +24,11 @@ give_fault-requires-clause-declared g c =
 
 pub give_fault-requires-clause-leaf : goal.give_fault-requires-clause-leaf
 give_fault-requires-clause-leaf g c =
-    let leaf = leaf_in c.args.self.now in
-    let below = place_within c.clause-clause.result.now c.in-Some.i c.in-Some.ensures.0 c.in-Some.ensures.1 in
-    let same = same_element c.clause-clause.result.now c.in-Some.i c.index-clause-i-2.result c.index-clause-i.result
-    below c.index-clause-i-2.is c.index-clause-i.is in
-    c.leaf.ensures ∙ ap leaf (c.var.ensures.value ∙ ap variable_of same)
+    search (
+      arith,
+      (place_within c.clause-clause.result.now c.in-Some.i c.in-Some.ensures.0 c.in-Some.ensures.1),
+      (same_element c.clause-clause.result.now c.in-Some.i c.index-clause-i-2.result c.index-clause-i.result),
+    )
 
 pub returns-clause-given : goal.returns-clause-given
 returns-clause-given g c =

@@ -10,18 +10,10 @@ use Rattle.list_laws.proofs.Elements.{found_at}
 use Rattle.circuit_cnf.proofs.fault_clauses.Faults.literal_faults.Goals as goal
 
 pub loop-i-init : goal.loop-i-init
-loop-i-init g c = (
-  c.requires.fit,
-  record {
-    said = nothing_said c.args.self.now c.args.log.now c.requires.may;
-    given =
-        λ i l below is. absurd (omega (arith, below));
-  },
-)
+loop-i-init g c = search (arith, nothing_said)
 
 pub give_fault-requires-clause-may : goal.give_fault-requires-clause-may
-give_fault-requires-clause-may g c = may_say_on c.args.self.now c.args.log.now c.requires.may c.loop-i.log
-    c.loop-i.invariant.1.said
+give_fault-requires-clause-may g c = search (arith, may_say_on)
 
 pub give_fault-requires-clause-declared : goal.give_fault-requires-clause-declared
 give_fault-requires-clause-declared g c =
@@ -34,17 +26,10 @@ give_fault-requires-clause-declared g c =
     (sym (c.index-clause-i.is ∙ ap (λ xs. get_or xs i l) clause_is)) bound
 
 pub give_fault-requires-clause-leaf : goal.give_fault-requires-clause-leaf
-give_fault-requires-clause-leaf g c =
-    let leaf = leaf_in c.args.self.now in
-    let same = same_element c.clause-clause.result.now c.loop-i.i c.index-clause-i-in-loop-i.result
-    c.index-clause-i.result c.loop-i-test.true c.index-clause-i-in-loop-i.is c.index-clause-i.is in
-    c.leaf.ensures ∙ ap leaf (c.var.ensures.value ∙ ap variable_of same)
+give_fault-requires-clause-leaf g c = search (arith, same_element)
 
 pub returns-in_err-give_fault-clause-said : goal.returns-in_err-give_fault-clause-said
-returns-in_err-give_fault-clause-said g c =
-    said_then c.args.self.now.f.now (selector_in c.args.self.now)
-    (leaf_in c.args.self.now) c.args.log.now c.loop-i.log c.give_fault.new.log c.loop-i.invariant.1.said
-    c.give_fault.ensures.said
+returns-in_err-give_fault-clause-said g c = search (arith, said_then)
 
 pub loop-i-preserved : goal.loop-i-preserved
 loop-i-preserved g c =

@@ -1,18 +1,14 @@
-use Rattle.std.proofs.Common.{◌≡◌, ◌+◌, ◌++◌, ◌∷◌, [], sym, ◌∙◌, ap, subst}
+use Rattle.std.proofs.Common.{◌≡◌, ◌+◌, ◌++◌, ◌∷◌, [], sym, ◌∙◌, ap, subst, arith}
 use Rattle.dq_lits.specs.Literal.{positive, variable_of}
 use Rattle.hint_log.specs.Entries.{Named}
 use Rattle.hint_log.specs.declared.names.Name.TheVariants.{Bad}
 use Rattle.hint_log.specs.Entries.{with_entry}
 use Rattle.circuit_cnf.specs.Saying.{selector_in}
-use Rattle.circuit_cnf.proofs.NamedBads.{BadsSoFar, no_bads, bad_more}
+use Rattle.circuit_cnf.proofs.NamedBads.{BadsSoFar, bad_more}
 use Rattle.circuit_cnf.proofs.fault_clauses.Faults.name_bads.Goals as goal
 
 pub loop-j-init : goal.loop-j-init
-loop-j-init g c = (
-  c.requires.fit,
-  subst (λ xs. BadsSoFar (selector_in c.args.self.now) c.args.log.now c.args.log.now xs 0)
-      (sym c.new-bads.ensures.items) (no_bads (selector_in c.args.self.now) c.args.log.now c.requires.fresh),
-)
+loop-j-init g c = search arith
 
 pub returns-in_err-push-clause-grew : goal.returns-in_err-push-clause-grew
 returns-in_err-push-clause-grew g c =

@@ -7,24 +7,13 @@ use Rattle.circuit_cnf.proofs.SaidFaults.{nothing_said, may_say_on, said_then, n
 use Rattle.circuit_cnf.proofs.fault_clauses.Faults.part_faults.Goals as goal
 
 pub loop-j-init : goal.loop-j-init
-loop-j-init g c = (
-  c.requires.fit,
-  record {
-    said = nothing_said c.args.self.now c.args.log.now c.requires.may;
-    before = c.requires.before;
-    given = λ k below mine. absurd (omega (arith, below));
-  },
-)
+loop-j-init g c = search (arith, nothing_said)
 
 pub part_fault-requires-clause-may : goal.part_fault-requires-clause-may
-part_fault-requires-clause-may g c = may_say_on c.args.self.now c.args.log.now c.requires.may c.loop-j.log
-    c.loop-j.invariant.1.said
+part_fault-requires-clause-may g c = search (arith, may_say_on)
 
 pub returns-in_err-part_fault-clause-said : goal.returns-in_err-part_fault-clause-said
-returns-in_err-part_fault-clause-said g c =
-    said_then c.args.self.now.f.now (selector_in c.args.self.now)
-    (leaf_in c.args.self.now) c.args.log.now c.loop-j.log c.part_fault.new.log c.loop-j.invariant.1.said
-    c.part_fault.ensures.said
+returns-in_err-part_fault-clause-said g c = search (arith, said_then)
 
 pub loop-j-preserved : goal.loop-j-preserved
 loop-j-preserved g c =
@@ -44,8 +33,4 @@ loop-j-preserved g c =
     )
 
 pub returns-clause-given : goal.returns-clause-given
-returns-clause-given g c =
-    let stop = c.loop-j-test.false in
-    let all = c.clauses-j-end.ensures.value in
-    part_given c.args.self.now.f.now (selector_in c.args.self.now) c.args.bads.now (leaf_in c.args.self.now)
-    c.args.part.now c.args.log.now c.loop-j.log c.loop-j.j c.loop-j.invariant.1 (omega (arith, stop, all))
+returns-clause-given g c = search (arith, part_given)

@@ -1,7 +1,5 @@
-use Rattle.std.proofs.Common.{◌∷◌, ap, ◌∙◌, length}
+use Rattle.std.proofs.Common.{length, arith}
 use Rattle.std.specs.List.{range_with_len}
-use Rattle.dq_lits.specs.Literal.{opposite}
-use Rattle.hint_log.specs.Entries.{Given, with_entry}
 use Rattle.circuit_cnf.specs.Saying.{selector_in}
 use Rattle.circuit_cnf.proofs.SaidFaults.{some_is_said, same_said}
 use Rattle.circuit_cnf.proofs.SomeFault.{bads_are_plain}
@@ -13,11 +11,10 @@ add-requires-clause-plain g c = bads_are_plain c.args.log.now.entries (selector_
 
 pub returns-clause-said : goal.returns-clause-said
 returns-clause-said g c =
-    let sel = c.args.self.now.group.now.selector in
-    some_is_said c.args.self.now c.args.log.now c.requires.may c.args.bads.now c.add.new.log c.requires.bads
-    (c.in_ok-add.ensures.ok ∙ ap (λ o. with_entry c.args.log.now (Given o (opposite sel ∷ c.args.bads.now)))
-    c.fault.ensures)
+    search (
+      arith,
+      (some_is_said c.args.self.now c.args.log.now c.requires.may c.args.bads.now c.add.new.log c.requires.bads),
+    )
 
 pub returns-in_err-add-clause-said : goal.returns-in_err-add-clause-said
-returns-in_err-add-clause-said g c = same_said c.args.self.now c.args.log.now c.requires.may c.add.new.log
-    c.in_err-add.ensures.err
+returns-in_err-add-clause-said g c = search (arith, same_said)

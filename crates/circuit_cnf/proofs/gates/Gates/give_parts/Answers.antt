@@ -30,12 +30,11 @@ give_part-requires-clause-sides g c =
     (g.met.O.Oracle.searched c.loop-parts.oracle c.loop-parts.log c.loop-parts.invariant.0).logged here.named
 
 pub loop-parts-preserved : goal.loop-parts-preserved
-loop-parts-preserved g c = (
-  c.give_part.ensures.fit,
-  part_given c.args.self.now c.args.log.now c.args.gate.now c.loop-parts.self
-      c.loop-parts.log c.give_part.new.log c.loop-parts.parts c.loop-parts.invariant.1 c.loop-parts-test.true
-      c.in_ok-give_part.ensures.given,
-)
+loop-parts-preserved g c =
+    search (
+      arith,
+      (part_given c.args.self.now c.args.log.now c.args.gate.now c.loop-parts.self c.loop-parts.log c.give_part.new.log c.loop-parts.parts c.loop-parts.invariant.1 c.loop-parts-test.true c.in_ok-give_part.ensures.given),
+    )
 
 pub returns-clause-last : goal.returns-clause-last
 returns-clause-last g c =

@@ -1,4 +1,4 @@
-use Rattle.std.proofs.Common.{◌≡◌, true, inl, inr, Some, None, sym, ◌∙◌, ap, refl, subst}
+use Rattle.std.proofs.Common.{◌≡◌, true, inl, inr, Some, None, sym, ◌∙◌, ap, refl, subst, arith}
 use Rattle.std.specs.BTreeMap.{get}
 use Rattle.std.specs.Option.{option_copied}
 use Rattle.dq_lits.specs.Literal.{variable_of, literal_code}
@@ -19,9 +19,7 @@ returns-in-Some-clause-named g c =
 
 pub returns-in-Some-clause-in_range : goal.returns-in-Some-clause-in_range
 returns-in-Some-clause-in_range g c =
-    name_in_range c.args.log.now.entries c.in-Some.v.now (And c.args.a c.args.b)
-    (g.met.O.Oracle.searched c.args.oracle.now c.args.log.now c.requires.fit).logged
-    (returns-in-Some-clause-named g c)
+    search (arith, (name_in_range c.args.log.now.entries c.in-Some.v.now), (returns-in-Some-clause-named g c))
 
 pub new_var-requires-clause-fresh : goal.new_var-requires-clause-fresh
 new_var-requires-clause-fresh g c = λ v is.
