@@ -1,7 +1,6 @@
 -- The checker accepts circuits with their proofs as they are written.
-use Rattle.std.proofs.Common.{◌≡◌, ◌∙◌, ◌≤◌, inr, ℕ, Bool, cond, true, false, sym, ap, subst, arith, List, [], ◌∷◌, ◌++◌, length, refl, Option, None, Some, Result, Ok, codes}
-use Rattle.std.specs.Prelude.{slice_index}
-use Rattle.std.specs.List.{All, Contains, flat_map}
+use Rattle.std.proofs.Common.{◌≡◌, ◌≤◌, inr, ℕ, Bool, cond, true, false, sym, ap, subst, arith, List, [], ◌∷◌, ◌++◌, length, refl, Option, None, Some, Result, Ok, codes}
+use Rattle.std.specs.List.{All, Contains}
 use Rattle.std.proofs.lemmas.List.{length-map}
 use Rattle.std.proofs.lemmas.List.Elements.{All-get_or}
 use Rattle.dq_lits.specs.Formula.{Dqbf}
@@ -16,7 +15,7 @@ use Rattle.aiger_text.specs.declared.files.ReadCircuit.{ReadCircuit}
 use Rattle.aig_binary.specs.Grammar.{EndsOn, SpellsBinary}
 use Rattle.aig_binary.specs.Scan.{scan_binary}
 use Rattle.aig_binary.specs.Written.{binary_text, IsBinaryFile}
-use Rattle.cert_text.specs.Canonical.{canonical_proof, item_text, version_for}
+use Rattle.cert_text.specs.Canonical.{canonical_proof}
 use Rattle.cert_text.specs.CircuitProof.{circuit_proof_of}
 use Rattle.cert_text.specs.Header.{max_count}
 use Rattle.cert_text.specs.ProofGrammar.{IsDqpOf}
@@ -28,7 +27,7 @@ use Rattle.skolem_checker.specs.Checks.{Candidate, candidate_of, with_mapping, R
 use Rattle.skolem_checker.specs.SkolemCircuit.{MappedCircuit, ReadsUniversal}
 use Rattle.skolem_checker.specs.declared.mapping.MapPlace.{MapPlace}
 use Rattle.cert_export.specs.ExportedCircuit.{IsWritable}
-use Rattle.cert_judge.specs.Judgement.{line_ends, comment_line, mapping_line, binary_mapping_line, as_proof, proof_in, proof_on, answer_of_derivation, BehindProof, BehindMapping, IsTested, IsCircuitAnswer, IsBinaryJudgement, IsJudgement, IsJudgementOf}
+use Rattle.cert_judge.specs.Judgement.{line_ends, mapping_line, binary_mapping_line, proof_in, proof_on, answer_of_derivation, BehindProof, BehindMapping, IsTested, IsCircuitAnswer, IsBinaryJudgement, IsJudgement, IsJudgementOf}
 use Rattle.dq_runs.specs.Printed.{line}
 use Rattle.cert_judge.specs.declared.answers.Judgement.TheVariants.{ValidTrue}
 use Rattle.ordered_gates.specs.Circuits.{is_sorted, ordered_file, ordered_item, ordered_proof}
@@ -61,26 +60,17 @@ ReadsProofBack = (f : Dqbf) (net : Netlist) (d : Dqp) (first : ℕ) → IsDqpOf 
 reads_all : (f : Dqbf) (c : MappedCircuit) → All (λ y. (x : ℕ) → ReadsUniversal c y.variable x → Contains y.sees x)
     f.existentials
     → ReadsDeclared (ReadsUniversal c) f
-reads_all f c declared p below q under reads =
-    All-get_or (λ y. (x : ℕ) → ReadsUniversal c y.variable x → Contains y.sees x) f.existentials p _ below declared
-    (slice_index f.universals q) reads
+reads_all f c declared p below q under reads = search (arith, All-get_or)
 
 proof_found : (f : Dqbf) (h ends : ℕ) (net : Netlist) (d : Dqp) →
     ((first : ℕ) → circuit_proof_of f net (canonical_proof d) first ≡ Ok d)
     → proof_in f h ends net (Some (canonical_proof d)) ≡ Ok (Some d)
-proof_found f h ends net d back =
-    let comment = canonical_proof d in
-    ap (λ b. cond b (as_proof (circuit_proof_of f net comment (comment_line h ends comment))) (Ok None))
-    (proof_begins (version_for d.items) (length d.items) (flat_map item_text d.items))
-    ∙ ap as_proof (back (comment_line h ends comment))
+proof_found f h ends net d back = search (arith, proof_begins)
 
 proof_found_on : (f : Dqbf) (net : Netlist) (d : Dqp) (number : ℕ) →
     ((first : ℕ) → circuit_proof_of f net (canonical_proof d) first ≡ Ok d)
     → proof_on f net (Some (canonical_proof d)) (Some number) ≡ Ok (Some d)
-proof_found_on f net d number back =
-    ap (λ b. cond b (as_proof (circuit_proof_of f net (canonical_proof d) number)) (Ok None))
-    (proof_begins (version_for d.items) (length d.items) (flat_map item_text d.items))
-    ∙ ap as_proof (back number)
+proof_found_on f net d number back = search (arith, proof_begins)
 
 tested : (f : Dqbf) (line_of : MapPlace → ℕ) (read : Result (Option Dqp) CertRefusal) (file : AagFile) (d : Dqp)
     (p : IsProvedCircuit f file d) → read ≡ Ok (Some d) →
@@ -141,9 +131,7 @@ read_so : (f : Dqbf) (h : ℕ) (file : AagFile) (d : Dqp) (number : Option ℕ) 
     BehindProof (binary_mapping_line h) (proof_on f file.circuit (Some (canonical_proof d)) number)
     (candidate_of f file.circuit file.symbols) ValidTrue
 read_so f h file d None lines ends proved allowed back = absurd (no_line lines (canonical_proof d) ends)
-read_so f h file d (Some number) lines ends proved allowed back =
-    tested f (binary_mapping_line h) _ file d proved
-    (proof_found_on f file.circuit d number (λ first. back f file.circuit d first allowed))
+read_so f h file d (Some number) lines ends proved allowed back = search (arith, proof_found_on)
 
 binary_accepted : BinarySpells → SpelledIsScanned → ReadsProofBack → (f : Dqbf) (file : AagFile) (d : Dqp)
     (bare : Bool) → IsProvedCircuit f file d → IsBinaryFile (with_proof file d) → IsDqpOf f file.circuit d →

@@ -1,5 +1,5 @@
 -- How the texts begin that are written, and what kind the checker takes them for.
-use Rattle.std.proofs.Common.{◌≡◌, ◌⊎◌, inl, inr, ◌∙◌, ◌+◌, ◌-◌, ◌==◌, ◌||◌, ℕ, suc, Bool, cond, true, false, refl, sym, ap, subst, arith, List, [], ◌∷◌, ◌++◌, length, take, Option, Some, None, Result, Ok, codes}
+use Rattle.std.proofs.Common.{◌≡◌, ◌⊎◌, inl, inr, ◌+◌, ◌-◌, ◌==◌, ◌||◌, ℕ, suc, Bool, cond, true, false, refl, sym, ap, subst, arith, List, [], ◌∷◌, ◌++◌, length, take, Option, Some, None, Result, Ok, codes}
 use Rattle.std.specs.Prelude.{nat_lt}
 use Rattle.std.specs.List.{position, position_or_len}
 use Rattle.std.proofs.lemmas.List.{length-append}
@@ -7,7 +7,7 @@ use Rattle.dq_text.specs.Line.{TextLine, extend_line, line_tokens, lines_from}
 use Rattle.dq_text.specs.Written.{number_line}
 use Rattle.cert_text.specs.Canonical.{proof_header_text}
 use Rattle.cert_text.specs.Header.{refutation_word}
-use Rattle.cert_text.specs.Kind.{certificate_kind, kind_of_lines, kind_at, kind_behind, agreeing, stated_verdict}
+use Rattle.cert_text.specs.Kind.{certificate_kind, kind_of_lines, kind_at, agreeing, stated_verdict}
 use Rattle.cert_text.specs.declared.faults.CertRefusal.{CertRefusal}
 use Rattle.cert_text.specs.declared.kinds.Kind.{Kind}
 use Rattle.cert_text.specs.declared.kinds.Kind.TheVariants.{Circuit, BinaryCircuit, Refutation}
@@ -46,23 +46,17 @@ kind_of_first bytes lines = kind_of_lines bytes lines
 
 circuit_alone : (bytes : ℕ) (lines : List TextLine) → kind_of_first bytes (circuit_lines 1 lines) ≡ Ok (Circuit 0 1)
 circuit_alone bytes [] = refl
-circuit_alone bytes (l ∷ ls) =
-    ap (kind_behind bytes (record { text = 97 ∷ 97 ∷ 103 ∷ 32 ∷ l.text; number = 1; behind = l.behind }) ls)
-    (circuit_verdict (line_tokens (32 ∷ l.text)))
+circuit_alone bytes (l ∷ ls) = search (arith, circuit_verdict)
 
 circuit_behind : (bytes : ℕ) (text : List ℕ) (lines : List TextLine) → bytes ≡ 7 + length text →
     agreeing True (kind_at (bytes - length text) (circuit_lines 2 lines)) ≡ Ok (Circuit 7 2)
-circuit_behind bytes text lines whole =
-    ap (λ at. agreeing True (kind_at at (circuit_lines 2 lines))) (less bytes 7 (length text) whole) ∙ ap
-    (agreeing True) (circuit_header 7 2 lines)
+circuit_behind bytes text lines whole = search (arith, circuit_header)
 
 pub circuit_kind : (bare : Bool) (rest : List ℕ) → certificate_kind
     ((cond bare [] (line (codes "s TRUE"))) ++ (codes "aag " ++ rest)) ≡ Ok
     (Circuit (header_at bare 7) (header_number bare))
 circuit_kind true rest = circuit_alone (length (codes "aag " ++ rest)) (lines_from 1 rest)
-circuit_kind false rest = circuit_behind (length (line (codes "s TRUE") ++ (codes "aag " ++ rest)))
-    (codes "aag " ++ rest) (lines_from 2 rest)
-    (length-append (line (codes "s TRUE")) (codes "aag " ++ rest))
+circuit_kind false rest = search (arith, circuit_behind, codes, length-append)
 
 -- ---- circuits in the binary form
 
@@ -81,23 +75,17 @@ binary_header at n (l ∷ ls) = refl
 binary_alone : (bytes : ℕ) (lines : List TextLine) →
     kind_of_first bytes (binary_lines 1 lines) ≡ Ok (BinaryCircuit 0 1)
 binary_alone bytes [] = refl
-binary_alone bytes (l ∷ ls) =
-    ap (kind_behind bytes (record { text = 97 ∷ 105 ∷ 103 ∷ 32 ∷ l.text; number = 1; behind = l.behind }) ls)
-    (binary_verdict (line_tokens (32 ∷ l.text)))
+binary_alone bytes (l ∷ ls) = search (arith, binary_verdict)
 
 binary_behind : (bytes : ℕ) (text : List ℕ) (lines : List TextLine) → bytes ≡ 7 + length text →
     agreeing True (kind_at (bytes - length text) (binary_lines 2 lines)) ≡ Ok (BinaryCircuit 7 2)
-binary_behind bytes text lines whole =
-    ap (λ at. agreeing True (kind_at at (binary_lines 2 lines))) (less bytes 7 (length text) whole) ∙ ap
-    (agreeing True) (binary_header 7 2 lines)
+binary_behind bytes text lines whole = search arith
 
 pub binary_kind : (bare : Bool) (rest : List ℕ) → certificate_kind
     ((cond bare [] (line (codes "s TRUE"))) ++ (codes "aig " ++ rest)) ≡ Ok
     (BinaryCircuit (header_at bare 7) (header_number bare))
 binary_kind true rest = binary_alone (length (codes "aig " ++ rest)) (lines_from 1 rest)
-binary_kind false rest = binary_behind (length (line (codes "s TRUE") ++ (codes "aig " ++ rest)))
-    (codes "aig " ++ rest) (lines_from 2 rest)
-    (length-append (line (codes "s TRUE")) (codes "aig " ++ rest))
+binary_kind false rest = search (arith, binary_behind, codes, length-append)
 
 -- ---- refutations
 
@@ -125,20 +113,14 @@ refutation_header Two at n (l ∷ ls) = refl
 refutation_alone : (version : Version) (bytes : ℕ) (lines : List TextLine) →
     kind_of_first bytes (refutation_lines version 1 lines) ≡ Ok (Refutation 0 1)
 refutation_alone One bytes [] = refl
-refutation_alone One bytes (l ∷ ls) =
-    ap (kind_behind bytes (record { text = codes "p dqr " ++ l.text; number = 1; behind = l.behind }) ls)
-    (refutation_verdict (codes "dqr" ∷ line_tokens l.text))
+refutation_alone One bytes (l ∷ ls) = search (arith, codes, refutation_verdict)
 refutation_alone Two bytes [] = refl
-refutation_alone Two bytes (l ∷ ls) =
-    ap (kind_behind bytes (record { text = codes "p dqr2 " ++ l.text; number = 1; behind = l.behind }) ls)
-    (refutation_verdict (codes "dqr2" ∷ line_tokens l.text))
+refutation_alone Two bytes (l ∷ ls) = search (arith, codes, refutation_verdict)
 
 refutation_behind : (version : Version) (bytes : ℕ) (text : List ℕ) (lines : List TextLine) →
     bytes ≡ 8 + length text →
     agreeing False (kind_at (bytes - length text) (refutation_lines version 2 lines)) ≡ Ok (Refutation 8 2)
-refutation_behind version bytes text lines whole =
-    ap (λ at. agreeing False (kind_at at (refutation_lines version 2 lines))) (less bytes 8 (length text) whole) ∙ ap
-    (agreeing False) (refutation_header version 8 2 lines)
+refutation_behind version bytes text lines whole = search (arith, refutation_header)
 
 -- behind the header's word stand its counts, and then the other lines
 abbrev pub refutation_begun : Version → List ℕ → List ℕ → List ℕ
@@ -148,18 +130,10 @@ refutation_begun version counts rest =
 pub refutation_kind : (version : Version) (bare : Bool) (counts rest : List ℕ) → certificate_kind
     ((cond bare [] (line (codes "s FALSE"))) ++ refutation_begun version counts rest) ≡ Ok
     (Refutation (header_at bare 8) (header_number bare))
-refutation_kind One true counts rest =
-    refutation_alone One (length (refutation_begun One counts rest)) (lines_from 1 (counts ++ rest))
-refutation_kind Two true counts rest =
-    refutation_alone Two (length (refutation_begun Two counts rest)) (lines_from 1 (counts ++ rest))
-refutation_kind One false counts rest =
-    refutation_behind One (length (line (codes "s FALSE") ++ refutation_begun One counts rest))
-    (refutation_begun One counts rest) (lines_from 2 (counts ++ rest))
-    (length-append (line (codes "s FALSE")) (refutation_begun One counts rest))
-refutation_kind Two false counts rest =
-    refutation_behind Two (length (line (codes "s FALSE") ++ refutation_begun Two counts rest))
-    (refutation_begun Two counts rest) (lines_from 2 (counts ++ rest))
-    (length-append (line (codes "s FALSE")) (refutation_begun Two counts rest))
+refutation_kind One true counts rest = search (arith, refutation_alone)
+refutation_kind Two true counts rest = search (arith, refutation_alone)
+refutation_kind One false counts rest = search (arith, refutation_behind, codes, length-append)
+refutation_kind Two false counts rest = search (arith, refutation_behind, codes, length-append)
 
 -- ---- proofs in comments
 
@@ -176,10 +150,8 @@ IsLaterCut o = (o ≡ None) ⊎ ((end : ℕ) × (o ≡ Some (suc (suc (suc (suc 
 
 begins_cut : (rest : List ℕ) (o : Option ℕ) → IsLaterCut o →
     begins_with (codes "dqp") (line_tokens (cut_at o (codes "dqp " ++ rest))) ≡ true
-begins_cut rest o (inl none) = subst (λ c. begins_with (codes "dqp") (line_tokens (cut_at c (codes "dqp " ++ rest)))
-    ≡ true) (sym none) refl
-begins_cut rest o (inr (end, some)) = subst (λ c. begins_with (codes "dqp")
-    (line_tokens (cut_at c (codes "dqp " ++ rest))) ≡ true) (sym some) refl
+begins_cut rest o (inl none) = search (arith, codes)
+begins_cut rest o (inr (end, some)) = search (arith, codes)
 
 later_cut : (found : Bool) (place end : ℕ) → place ≡ suc (suc (suc (suc end))) →
     IsLaterCut (cond found (Some place) None)
@@ -223,7 +195,5 @@ two_begins rest = two_cut rest (position is_feed (codes "dqp2 " ++ rest))
 -- a proof's canonical text begins as one
 pub proof_begins : (version : Version) (items : ℕ) (rest : List ℕ) →
     begins_proof (proof_header_text version items ++ rest) ≡ true
-proof_begins One items rest =
-    ap (λ b. b || begins_with (codes "dqp2") (line_tokens (first_line (codes "dqp " ++ (number_line items ++ rest)))))
-    (one_begins (number_line items ++ rest))
+proof_begins One items rest = search (arith, codes, one_begins)
 proof_begins Two items rest = two_begins (number_line items ++ rest)

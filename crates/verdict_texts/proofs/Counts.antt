@@ -1,7 +1,7 @@
 -- What small logs give is within the formats' limits.
-use Rattle.std.proofs.Common.{◌≡◌, ◌+◌, ◌≤◌, ℕ, Bool, cond, true, false, refl, arith, List, [], ◌∷◌, map, length}
+use Rattle.std.proofs.Common.{◌≡◌, ◌+◌, ◌≤◌, ℕ, Bool, cond, true, false, refl, arith, List, [], ◌∷◌, length}
 use Rattle.std.proofs.lemmas.List.{length-append, length-map}
-use Rattle.dq_lits.specs.Formula.{Dqbf, Existential, HasLawfulPrefix}
+use Rattle.dq_lits.specs.Formula.{Dqbf, HasLawfulPrefix}
 use Rattle.dq_lits.proofs.FormulaVariables.{few_declared}
 use Rattle.hint_log.specs.Entries.{Entry, count}
 use Rattle.cert_export.specs.ExportedCircuit.{is_gate_name}
@@ -21,15 +21,10 @@ one_more few all false less = omega (arith, less)
 -- some of the entries are no more than all
 pub count_few : (test : Entry → Bool) (entries : List Entry) → count test entries ≤ length entries
 count_few test [] = omega arith
-count_few test (e ∷ earlier) =
-    let more = one_more (count test earlier) (length earlier) (test e) (count_few test earlier) in
-    omega (arith, more)
+count_few test (e ∷ earlier) = search (arith, (count_few test earlier))
 
 pub universals_few : (f : Dqbf) → HasLawfulPrefix f → length f.universals ≤ f.variables + 1
-universals_few f prefix =
-    let all = few_declared f prefix in
-    let both = length-append f.universals (map (λ (y : Existential). y.variable) f.existentials) in
-    omega (arith, all, both)
+universals_few f prefix = search (arith, few_declared, length-append)
 
 -- ordered lines are as many
 ordered_many : (b : Bool) (file : AagFile) (proof : Dqp) →

@@ -1,5 +1,5 @@
 -- A circuit that is exported has its gates sorted.
-use Rattle.std.proofs.Common.{◌≡◌, ℕ, suc, zero, ◌+◌, ◌*◌, ◌<◌, ◌==◌, ◌&&◌, nat_lt, true, List, [], ◌∷◌, map, length, refl, sym, ◌∙◌, ap, arith}
+use Rattle.std.proofs.Common.{◌≡◌, ℕ, suc, zero, ◌+◌, ◌==◌, ◌&&◌, nat_lt, true, List, [], ◌∷◌, map, length, refl, sym, ◌∙◌, ap, arith}
 use Rattle.std.specs.List.{All, range_with_len}
 use Rattle.std.proofs.lemmas.Bool.{and_from, eq-eqb, lt-ltb}
 use Rattle.std.proofs.lemmas.List.Elements.{All-head, All-tail}
@@ -13,18 +13,10 @@ use Rattle.ordered_gates.specs.Circuits.{are_from, is_sorted_gate, are_sorted as
 
 range_from : (a n : ℕ) → are_from a (range_with_len a n) ≡ true
 range_from a zero = refl
-range_from a (suc n) = and_from (a == a) (are_from (a + 1) (range_with_len (a + 1) n)) (eq-eqb a a refl)
-    (range_from (a + 1) n)
+range_from a (suc n) = search (arith, and_from, eq-eqb, (range_from (a + 1) n))
 
 sorted_gate : (v : ℕ) (g : Gate) → g.variable ≡ v → HasSmallerSides g → is_sorted_gate v g ≡ true
-sorted_gate v g is s =
-    let a = s.left in
-    let b = s.right in
-    let left' : g.left < 2 * v = omega (arith, a, is) in
-    let right' : g.right < 2 * v = omega (arith, b, is) in
-    and_from (g.variable == v) (nat_lt g.left (2 * v) && nat_lt g.right (2 * v)) (eq-eqb g.variable v is)
-    (and_from (nat_lt g.left (2 * v)) (nat_lt g.right (2 * v)) (lt-ltb g.left (2 * v) left')
-    (lt-ltb g.right (2 * v) right'))
+sorted_gate v g is s = search (arith, and_from, nat_lt, eq-eqb, lt-ltb)
 
 gates_sorted : (v : ℕ) (gs : List Gate) → map variable_of_gate gs ≡ range_with_len v (length gs) →
     All HasSmallerSides gs → are_sorted_from v gs ≡ true

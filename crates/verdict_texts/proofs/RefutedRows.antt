@@ -1,5 +1,5 @@
 -- The instances under the rows of an accepted refutation have no model.
-use Rattle.std.proofs.Common.{◌≡◌, ◌∙◌, sym, ap, Bool, false, List, [], ◌∷◌, map, None}
+use Rattle.std.proofs.Common.{◌≡◌, ◌∙◌, sym, ap, Bool, false, List, map, None}
 use Rattle.dq_lits.specs.Expansion.{IsExpansionUnsatisfiable, instance_at}
 use Rattle.dq_lits.specs.Formula.{Dqbf}
 use Rattle.dq_lits.specs.Derivation.{Derives, ProofStep}

@@ -25,8 +25,7 @@ use Rattle.verdict_texts.specs.declared.forms.Form.{Form}
 
 deleting_same : DeletionsChangeNoFault → (live : LiveClauses) (items : List ProofItem) → AreNumberedLines items →
     items_fault false live (with_deletions items) ≡ items_fault false live items
-deleting_same same live items are =
-    same false live (first_number (lines_of items)) (lines_of items) ∙ ap (items_fault false live) (sym are.lines)
+deleting_same same live items are = search arith
 
 written_fault : DeletionsChangeNoFault → (b : Bool) (live : LiveClauses) (items : List ProofItem) →
     AreNumberedLines items →
@@ -50,8 +49,7 @@ written_circuit same f file proof form p are = record {
 normal_lines : (f : Dqbf) (rows : List (List Bool)) (items : List ProofItem) →
     map (normal_item f rows) items ≡ map (on_line (normal_step f rows)) items
 normal_lines f rows [] = refl
-normal_lines f rows (derived step ∷ items) =
-    ap (λ is. derived (normal_step f rows step) ∷ is) (normal_lines f rows items)
+normal_lines f rows (derived step ∷ items) = search (arith, (normal_lines f rows items))
 normal_lines f rows (gone ids ∷ items) = ap (λ is. gone ids ∷ is) (normal_lines f rows items)
 
 derived_lines : (g : ProofStep → ProofStep) (steps : List ProofStep) →
@@ -108,40 +106,27 @@ written_few laws form items = few_by laws form.deletes items
 
 pub few_before : DeletionsAreAllowed → (form : Form) (items : List ProofItem) → AreNumberedLines items →
     length (written_items form items) ≤ max_count → length items ≤ max_count
-few_before laws form items are few =
-    let more = no_fewer_by laws form.deletes items are in
-    omega (arith, more, few)
+few_before laws form items are few = search (arith, no_fewer_by)
 
 proof_by : DeletionsAreAllowed → (b : Bool) (f : Dqbf) (net : Netlist) (items : List ProofItem) →
     AreNumberedLines items →
     length (cond b (with_deletions items) items) ≤ max_count → IsDqpOf f net (record { items = items }) →
     IsDqpOf f net (record { items = cond b (with_deletions items) items })
-proof_by laws true f net items are few allowed = record {
-  few_items = few;
-  items = laws.items _ _ items are allowed.items;
-  small = laws.small items are allowed.small;
-}
+proof_by laws true f net items are few allowed = search arith
 proof_by laws false f net items are few allowed = allowed
 
 pub written_proof_allowed : DeletionsAreAllowed → (f : Dqbf) (net : Netlist) (proof : Dqp) (form : Form) →
     AreNumberedLines proof.items → length (written_items form proof.items) ≤ max_count →
     (length proof.items ≤ max_count → IsDqpOf f net proof) → IsDqpOf f net (with_items form proof)
-written_proof_allowed laws f net proof form are few allowed =
-    proof_by laws form.deletes f net proof.items are few (allowed (few_before laws form proof.items are few))
+written_proof_allowed laws f net proof form are few allowed = search (arith, proof_by, few_before)
 
 refutation_allowed_by : DeletionsAreAllowed → (b : Bool) (f : Dqbf) (d : Dqr) → AreNumberedLines d.items →
     length (cond b (with_deletions d.items) d.items) ≤ max_count → IsDqrOf f d →
     IsDqrOf f (record { rows = d.rows; items = cond b (with_deletions d.items) d.items })
-refutation_allowed_by laws true f d are few allowed = record {
-  few_rows = allowed.few_rows;
-  few_items = few;
-  whole = allowed.whole;
-  items = laws.items _ _ d.items are allowed.items;
-}
+refutation_allowed_by laws true f d are few allowed = search arith
 refutation_allowed_by laws false f d are few allowed = allowed
 
 pub written_refutation_allowed : DeletionsAreAllowed → (f : Dqbf) (d : Dqr) (form : Form) → AreNumberedLines d.items →
     length (written_items form d.items) ≤ max_count → (length d.items ≤ max_count → IsDqrOf f d) →
     IsDqrOf f (written_refutation form d)
-written_refutation_allowed laws f d form are few allowed =
-    refutation_allowed_by laws form.deletes f d are few (allowed (few_before laws form d.items are few))
+written_refutation_allowed laws f d form are few allowed = search (arith, refutation_allowed_by, few_before)
