@@ -1,5 +1,5 @@
 -- A table to which a row is added: how it begins, and what stands at its end.
-use Rattle.std.proofs.Common.{◌≡◌, ℕ, ◌+◌, ◌≤◌, ◌⊎◌, inl, inr, Bool, false, List, [], ◌∷◌, ◌++◌, length, get_or, slice_get, Some, Result, Ok, Err, OnOk, refl, sym, ◌∙◌, ap, subst, arith}
+use Rattle.std.proofs.Common.{◌≡◌, ℕ, ◌+◌, ◌≤◌, ◌⊎◌, inl, inr, Bool, false, List, [], ◌∷◌, ◌++◌, length, get_or, slice_get, Some, sym, ◌∙◌, ap, subst, arith}
 use Rattle.std.specs.List.{list_any}
 use Rattle.std.proofs.lemmas.List.{length-append}
 use Rattle.std.proofs.lemmas.List.Elements.{All-append, All-cons, All-nil}
@@ -16,7 +16,7 @@ use Rattle.hint_log.specs.ProductiveLog.{fault_groups, fault_room}
 use Rattle.hint_log.specs.declared.names.Name.TheVariants.{Pair}
 use Rattle.log_laws.specs.Engines.{instances, part, IsAddedBy}
 use Rattle.log_laws.proofs.Kept.{each_of_weaker}
-use Rattle.expansion.specs.FirstRows.{RowIndex, IsRowIndex}
+use Rattle.expansion.specs.FirstRows.{IsRowIndex}
 use Rattle.expansion.specs.Table.{TableState, AreArbiters, HasInstance, IsOfPairs, IsTable, IsFullTable}
 use Rattle.expansion.specs.Adding.{with_row, IsNewPair, IsAdding, AreNewArbiters, IsRowEntry}
 use Rattle.expansion.proofs.NamedArbiters.{as_many, named_at}
@@ -113,23 +113,15 @@ module _ (f : Dqbf) (t : TableState) (row : List Bool) (vs : List ℕ) (es : Lis
       ((k ≡ length t.rows) × (row ≡ r)) → (slice_get t.pairs k ≡ Some us) ⊎ ((k ≡ length t.pairs) × (vs ≡ us))
       → AreArbiters f own (with_row t row) r us
   arbiters_at k r us (inl row_is) (inl us_are) = adding.own.arbiters k r us row_is us_are
-  arbiters_at k r us (inl row_is) (inr (place, same)) = let below = slice_get_within t.rows k r row_is in
-      absurd (omega (arith, below, place, adding.own.pairs_long))
-  arbiters_at k r us (inr (place, same)) (inl us_are) = let below = slice_get_within t.pairs k us us_are in
-      absurd (omega (arith, below, place, adding.own.pairs_long))
-  arbiters_at k r us (inr (place, row_same)) (inr (place', same)) =
-      subst (λ ws. AreArbiters f own (with_row t row) r ws) same
-      (subst (λ x. AreArbiters f own (with_row t row) x vs) row_same variables)
+  arbiters_at k r us (inl row_is) (inr (place, same)) = search (arith, slice_get_within)
+  arbiters_at k r us (inr (place, same)) (inl us_are) = search (arith, slice_get_within)
+  arbiters_at k r us (inr (place, row_same)) (inr (place', same)) = search arith
 
   instance_there : (k j : ℕ) (r : List Bool) (clause : List Literal) →
       (slice_get t.rows k ≡ Some r) ⊎ ((k ≡ length t.rows) × (row ≡ r)) → slice_get f.matrix j ≡ Some clause
       → list_any (universal_literal_true f r) clause ≡ false → HasInstance f t.group (with_row t row) own k j r clause
   instance_there k j r clause (inl row_is) clause_is live = adding.own.complete k j r clause row_is clause_is live
-  instance_there k j r clause (inr (place, same)) clause_is live =
-      subst (λ i. HasInstance f t.group (with_row t row) own i j r clause) (sym place)
-      (subst (λ x. HasInstance f t.group (with_row t row) own (length t.rows) j x clause) same
-      (adding.own.complete_so_far j clause (slice_get_within f.matrix j clause clause_is) clause_is
-      (ap (λ x. list_any (universal_literal_true f x) clause) same ∙ live)))
+  instance_there k j r clause (inr (place, same)) clause_is live = search (arith, slice_get_within)
 
   pub finish : IsTable f more es
   finish = record {
@@ -156,15 +148,7 @@ module _ (f : Dqbf) (t : TableState) (row : List Bool) (vs : List ℕ) (es : Lis
   -- the same of a table that has these parts
   pub finish_as : (new : TableState) → IsWellFormed f → new.group ≡ t.group → new.existentials ≡ t.existentials →
       new.rows ≡ with_row t row → new.pairs ≡ t.pairs ++ vs ∷ [] → new.first_rows ≡ t.first_rows → IsFullTable f new es
-  finish_as new formula group existentials rows pairs index =
-      let build : ℕ → List ℕ → List (List Bool) → List (List ℕ) → RowIndex → TableState =
-      λ g ys rs ps is. record { group = g; existentials = ys; rows = rs; pairs = ps; first_rows = is } in
-      subst (λ g. IsFullTable f (build g new.existentials new.rows new.pairs new.first_rows) es) (sym group)
-      (subst (λ ys. IsFullTable f (build t.group ys new.rows new.pairs new.first_rows) es) (sym existentials)
-      (subst (λ rs. IsFullTable f (build t.group t.existentials rs new.pairs new.first_rows) es) (sym rows)
-      (subst (λ ps. IsFullTable f (build t.group t.existentials (with_row t row) ps new.first_rows) es) (sym pairs)
-      (subst (λ is. IsFullTable f (build t.group t.existentials (with_row t row) (t.pairs ++ vs ∷ []) is) es)
-      (sym index) (finish_full formula)))))
+  finish_as new formula group existentials rows pairs index = search (arith, finish_full)
 
 -- a table that looked at more of its rows
 pub looked : (f : Dqbf) (t new : TableState) (es : List Entry) → new ≡ record t { first_rows = new.first_rows } →
@@ -191,12 +175,7 @@ module _ (f : Dqbf) (group : ℕ) (silent : Bool) (first : List Entry) where
   row_is_added : (earlier : List Entry) (e : Entry) → IsRowEntry f group earlier e →
       IsAddedBy f instances group silent first earlier e
   row_is_added earlier (Named v n) h = h
-  row_is_added earlier (Given origin c) h = record {
-    own = h.own;
-    in_group = (group, h.in_group, inl refl);
-    matches_origin = h.matches_origin;
-    not_repeated = h.not_repeated;
-  }
+  row_is_added earlier (Given origin c) h = search arith
   row_is_added earlier (Learned c hints) h = absurd h
   row_is_added earlier (Answer c hints) h = absurd h
   row_is_added earlier (Round r values j) h = absurd h
@@ -204,10 +183,4 @@ module _ (f : Dqbf) (group : ℕ) (silent : Bool) (first : List Entry) where
 
   pub row_grew : (old new : ProofLog) → Grew (IsRowEntry f group) old new →
       Grew (IsAddedBy f instances group silent first) old new
-  row_grew old new g = record {
-    more = g.more;
-    grown = g.grown;
-    each = each_of_weaker (IsRowEntry f group) (IsAddedBy f instances group silent first) row_is_added g.more
-        old.entries g.each;
-    limit = g.limit;
-  }
+  row_grew old new g = search (arith, each_of_weaker, row_is_added)

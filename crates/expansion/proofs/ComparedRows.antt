@@ -1,6 +1,6 @@
 -- Rows that are compared by the bits that an existential sees.
 use Rattle.std.proofs.Common.{◌≡◌, ◌≢◌, ℕ, zero, suc, eqb, ◌<◌, ◌==◌, Bool, true, false, List, [], ◌∷◌, ◌++◌, length, get_or, position, Option, Some, None, IsSome, refl, sym, ◌∙◌, ap, arith}
-use Rattle.std.specs.List.{AllPairs, IsDistinct, position_or_len}
+use Rattle.std.specs.List.{AllPairs, IsDistinct}
 use Rattle.std.specs.Option.{IfSome}
 use Rattle.std.specs.Cmp.{IsTotalOrder, bool_cmp_total}
 use Rattle.std.specs.Cmp.Lexicographic.{lists_total}
@@ -27,9 +27,7 @@ bit_there f row x at bit whole found is = is ∙ ap (λ k. get_or row k false)
 pub bit_nowhere : (f : Dqbf) (row : List Bool) (x : ℕ) → length row ≡ length f.universals →
     position (λ u. u == x) f.universals ≡ None → false ≡ row_assignment f row x
 bit_nowhere f row x whole none =
-    let end = place-absent (λ u. u == x) f.universals none in
-    sym (get_or_past row (position_or_len (λ u. u == x) f.universals) false (omega (arith, end, whole)))
-    ∙ assignment_of-place f.universals row x whole
+    search (arith, place-absent, (get_or_past row), (assignment_of-place f.universals row x whole))
 
 pub distinct_universals : (us vs : List ℕ) → AllPairs (λ v w. v ≢ w) (us ++ vs) → IsDistinct eqb us
 distinct_universals us vs once = IsDistinct-from_AllPairs Decides-eqb us (left-distinct us vs once)
@@ -69,13 +67,7 @@ pub cmp_from_difference : (xs ys : List Bool) (i : ℕ) → i < length xs → i 
     → (get_or xs i false ≡ get_or ys i false → ⊥) → bool_cmp (get_or xs i false) (get_or ys i false) ≡ bits_cmp xs ys
 cmp_from_difference [] ys i low low' same other = absurd (omega (arith, low))
 cmp_from_difference (x ∷ xs) [] i low low' same other = absurd (omega (arith, low'))
-cmp_from_difference (x ∷ xs) (y ∷ ys) zero low low' same other = by x y other
-  where
-    by : (a b : Bool) → (a ≡ b → ⊥) → bool_cmp a b ≡ ordering_then (bool_cmp a b) (bits_cmp xs ys)
-    by true true e = absurd (e refl)
-    by true false e = refl
-    by false true e = refl
-    by false false e = absurd (e refl)
+cmp_from_difference (x ∷ xs) (y ∷ ys) zero low low' same other = search arith
 cmp_from_difference (x ∷ xs) (y ∷ ys) (suc i) low low' same other =
     cmp_from_difference xs ys i (omega (arith, low)) (omega (arith, low'))
     (λ k lt. same (suc k) (omega (arith, lt))) other ∙ by x y (same zero (omega arith))

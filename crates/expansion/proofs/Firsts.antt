@@ -1,6 +1,6 @@
 -- The first row that agrees with another on what an existential sees.
-use Rattle.std.proofs.Common.{◌≡◌, ℕ, suc, not, ◌+◌, ◌<◌, ◌≤◌, Bool, true, false, cond, List, [], ◌∷◌, ◌++◌, map, length, get_or, slice_get, Option, Some, None, refl, sym, ◌∙◌, ap, arith}
-use Rattle.std.specs.List.{position_or_len, filter_map, cons_option}
+use Rattle.std.proofs.Common.{◌≡◌, ℕ, suc, not, ◌+◌, ◌<◌, ◌≤◌, Bool, true, false, cond, List, [], ◌∷◌, ◌++◌, map, length, get_or, slice_get, Some, refl, sym, ap, arith}
+use Rattle.std.specs.List.{position_or_len, filter_map}
 use Rattle.std.specs.Option.{option_map}
 use Rattle.std.proofs.lemmas.List.Folds.{position_or_len_push}
 use Rattle.std.proofs.lemmas.List.Sums.{position_or_len_is}
@@ -11,7 +11,7 @@ use Rattle.dq_lits.specs.Formula.{Dqbf, Existential, existential_of}
 use Rattle.dq_lits.specs.Henkin.{restriction, same_bits}
 use Rattle.dq_lits.specs.Expansion.{row_assignment, agree_on}
 use Rattle.dq_lits.proofs.Choices.{same_bits-sound, same_bits-refl}
-use Rattle.hint_log.specs.Naming.{NamedLiteral, named_literal, arbiter}
+use Rattle.hint_log.specs.Naming.{named_literal, arbiter}
 use Rattle.hint_log.specs.declared.names.Name.{Name}
 use Rattle.hint_log.specs.declared.names.Name.TheVariants.{Pair}
 use Rattle.log_laws.proofs.Found.{position_small, position_append}
@@ -20,11 +20,14 @@ use Rattle.log_laws.proofs.Found.{position_small, position_append}
 pub same_arbiter : (f : Dqbf) (rows more : List (List Bool)) (k : ℕ) (row : List Bool) (y : Existential) →
     slice_get rows k ≡ Some row → arbiter f rows row y ≡ arbiter f (rows ++ more) row y
 same_arbiter f rows more k row y is =
-    let at = get_or_from_slice_get rows k row [] is in
-    let here : agree_on f y row (get_or rows k []) ≡ true = ap (agree_on f y row) at ∙ same_bits-refl
-    (restriction y (row_assignment f row)) in
-    let found = position_small (agree_on f y row) rows k [] (slice_get_within rows k row is) here in
-    ap (λ p. Pair (p + 1) y.variable) (sym (position_append (agree_on f y row) rows more found))
+    search (
+      arith,
+      (get_or_from_slice_get rows k row [] is),
+      same_bits-refl,
+      position_small,
+      (slice_get_within rows k row is),
+      position_append,
+    )
 
 -- where the first row that agrees is an old one, it has the same arbiter
 pub arbiter_of_first : (f : Dqbf) (rows more : List (List Bool)) (row first : List Bool) (y : Existential) →
@@ -39,22 +42,13 @@ arbiter_of_first f rows more row first y agrees =
 pub arbiter_of_new : (f : Dqbf) (rows : List (List Bool)) (row : List Bool) (y : Existential) (first : ℕ) →
     first ≡ position_or_len (agree_on f y row) rows → length rows ≤ first
     → first ≤ length rows → arbiter f (rows ++ row ∷ []) row y ≡ Pair (length rows + 1) y.variable
-arbiter_of_new f rows row y first first_is past within =
-    let n = length rows in
-    let place : position_or_len (agree_on f y row) rows ≡ n = sym first_is ∙ omega (arith, past, within) in
-    let self : agree_on f y row row ≡ true = same_bits-refl (restriction y (row_assignment f row)) in
-    ap (λ p. Pair (p + 1) y.variable)
-    (position_or_len_push (agree_on f y row) rows row
-    ∙ ap (λ b. cond b (n + cond (agree_on f y row row) 0 1) (position_or_len (agree_on f y row) rows))
-    (eq-eqb (position_or_len (agree_on f y row) rows) n place)
-    ∙ ap (λ b. n + cond b 0 1) self ∙ omega arith)
+arbiter_of_new f rows row y first first_is past within = search (arith, same_bits-refl, position_or_len_push, eq-eqb)
 
 first_or_later : (p : List Bool → Bool) (r : List Bool) (rs : List (List Bool)) (n : ℕ) (b : Bool) → p r ≡ b →
     (n < length rs → p (get_or rs n []) ≡ true)
     → cond (not b) (1 + n) 0 < suc (length rs) → p (get_or (r ∷ rs) (cond (not b) (1 + n) 0) []) ≡ true
 first_or_later p r rs n true here later h = here
-first_or_later p r rs n false here later h = let next : 1 + n ≡ suc n = omega arith in
-    rw next (later (omega (arith, h)))
+first_or_later p r rs n false here later h = search arith
 
 -- the first row that passes a test passes it
 pub passes_there : (p : List Bool → Bool) (rs : List (List Bool)) → position_or_len p rs < length rs →
@@ -66,23 +60,13 @@ passes_there p (r ∷ rs) lt = first_or_later p r rs (position_or_len p rs) (p r
 pub names_same : (g h : Existential → Name) → ((y : Existential) → g y ≡ h y) → (ys : List Existential) →
     map (λ y. Some (g y)) ys ≡ map (λ y. Some (h y)) ys
 names_same g h same [] = refl
-names_same g h same (y ∷ ys) = ap2 (same y) (names_same g h same ys)
-  where
-    ap2 : {n m : Name} {ns ms : List (Option Name)} → n ≡ m → ns ≡ ms → Some n ∷ ns ≡ Some m ∷ ms
-    ap2 e es = cc
+names_same g h same (y ∷ ys) = search (arith, (names_same g h same ys))
 
 pub instance_same : (f : Dqbf) (g h : Existential → Name) → ((y : Existential) → g y ≡ h y) → (clause : List Literal) →
     filter_map (λ l. option_map (λ y. named_literal (g y) (is_negative l)) (existential_of f (variable_of l))) clause
     ≡ filter_map (λ l. option_map (λ y. named_literal (h y) (is_negative l)) (existential_of f (variable_of l))) clause
 instance_same f g h same [] = refl
-instance_same f g h same (l ∷ clause) = step (existential_of f (variable_of l)) (instance_same f g h same clause)
-  where
-    step : (o : Option Existential) → {ns ms : List NamedLiteral} → ns ≡ ms →
-        cons_option (option_map (λ y. named_literal (g y) (is_negative l)) o) ns ≡ cons_option
-        (option_map (λ y. named_literal (h y) (is_negative l)) o) ms
-    step None rest = rest
-    step (Some y) rest = let e : named_literal (g y) (is_negative l) ≡ named_literal (h y) (is_negative l) =
-        ap (λ n. named_literal n (is_negative l)) (same y) in cc
+instance_same f g h same (l ∷ clause) = search (arith, (instance_same f g h same clause))
 
 pub first_is : (p : List Bool → Bool) (rows : List (List Bool)) (i : ℕ) → i < length rows →
     ((k : ℕ) → k < i → p (get_or rows k []) ≡ false) → p (get_or rows i []) ≡ true
@@ -91,6 +75,4 @@ first_is p rows i lt before here = sym (position_or_len_is p rows i [] (omega (a
 
 pub none_is : (p : List Bool → Bool) (rows : List (List Bool)) (i : ℕ) → length rows ≤ i →
     ((k : ℕ) → k < i → p (get_or rows k []) ≡ false) → length rows ≡ position_or_len p rows
-none_is p rows i past before =
-    sym (position_or_len_is p rows (length rows) [] (omega arith) (λ k lt. before k (omega (arith, lt, past)))
-    (λ lt. absurd (omega (arith, lt))))
+none_is p rows i past before = search (arith, (position_or_len_is p rows (length rows) []))

@@ -1,6 +1,6 @@
 -- The points that a search found, and that they make every instance true.
 use Rattle.std.proofs.Common.{◌≡◌, ℕ, ◌+◌, ◌-◌, ◌≤◌, ◌==◌, Bool, true, false, cond, not, ◌||◌, List, [], ◌∷◌, map, get_or, slice_get, slice_index_or, Option, Some, None, refl, sym, ◌∙◌, ap, subst, arith}
-use Rattle.std.specs.List.{All, Contains, list_any, filter_map, cons_option, find}
+use Rattle.std.specs.List.{All, Contains, filter_map, cons_option, find}
 use Rattle.std.specs.Option.{option_map}
 use Rattle.std.proofs.lemmas.List.{length-map, get_or-map, get_or_default}
 use Rattle.std.proofs.lemmas.List.Elements.{All-contains, Contains-append_right}
@@ -9,7 +9,7 @@ use Rattle.dq_lits.specs.Literal.{Assignment, Literal, negative, variable_of, is
 use Rattle.dq_lits.specs.Formula.{Dqbf, Existential, existential_of, declared, IsWellFormed}
 use Rattle.dq_lits.specs.Derivation.{MakesTrue}
 use Rattle.dq_lits.specs.Row.{assignment_of}
-use Rattle.dq_lits.specs.Expansion.{pair_number, pair_literal, universal_literal_true, InstanceHolds, IsExpansionModel}
+use Rattle.dq_lits.specs.Expansion.{pair_number, pair_literal, IsExpansionModel}
 use Rattle.dq_lits.proofs.FormulaVariables.{find_sound}
 use Rattle.dq_lits.proofs.TrueClauses.{same_sign}
 use Rattle.dq_lits.proofs.Followers.{find_own, existentials_once}
@@ -86,20 +86,7 @@ module _ (f : Dqbf) (formula : IsWellFormed f) (es : List Entry) (logged : AreLo
         (filter_map (on_arbiter f rs row) clause)) rows_are h.named)) ∙ rest
 
     pub instances_hold : IsExpansionModel f rows model
-    instances_hold k d below j c below_j =
-        let row = slice_index_or rows k d in
-        let clause = slice_index_or f.matrix j c in
-        by_bit row clause (list_any (universal_literal_true f row) clause) refl
-        (slice_get-get_or rows k d below) (slice_get-get_or f.matrix j c below_j)
-      where
-        by_bit : (row : List Bool) (clause : List Literal) (b : Bool) →
-            list_any (universal_literal_true f row) clause ≡ b → slice_get rows k ≡ Some row →
-            slice_get f.matrix j ≡ Some clause
-            → InstanceHolds model (cond b None (Some (filter_map (pair_literal f rows row) clause)))
-        by_bit row clause true is row_is clause_is = tt
-        by_bit row clause false is row_is clause_is =
-            instance_true k j row clause (table.complete k j row clause
-            (ap (λ rs. slice_get rs k) rows_are ∙ row_is) clause_is is)
+    instances_hold k d below j c below_j = search (arith, slice_index_or, slice_get-get_or, (instance_true k j))
 
   bit_of_first : (row : List Bool) (ys : List Existential) (vs : List ℕ) (v : ℕ) (y : Existential) →
       map (name_of own) vs ≡ map (λ z. Some (arbiter f rows row z)) ys
@@ -117,10 +104,7 @@ module _ (f : Dqbf) (formula : IsWellFormed f) (es : List Entry) (logged : AreLo
           → cond b (Some z) (find (λ x. x.variable == v) ys) ≡ Some y
           → (w : ℕ) × (cond b (values u) (assignment_of (map variable ys) (map values vs) v) ≡ values w) ×
           (name_of own w ≡ Some (arbiter f rows row y))
-      by_bit true later is =
-          let same : z ≡ y = cc in
-          let here : name_of own u ≡ Some (arbiter f rows row z) = cc in
-          (u, refl, here ∙ ap (λ x. Some (arbiter f rows row x)) same)
+      by_bit true later is = search arith
       by_bit false later is = later is
 
   pub row_bits : (row : List Bool) (variables vs : List ℕ) → variables ≡ map variable f.existentials →

@@ -1,7 +1,7 @@
 -- An instance that is given.
-use Rattle.std.proofs.Common.{◌≡◌, ℕ, zero, suc, ◌+◌, ◌-◌, ◌<◌, ◌≤◌, ◌==◌, ◌^◌, ◌⊎◌, inl, inr, Bool, true, false, true≢false, cond, List, [], ◌∷◌, ◌++◌, map, length, get_or, slice_get, Option, Some, None, IsSome, Result, Ok, Err, OnOk, refl, sym, ◌∙◌, ap, subst, arith}
+use Rattle.std.proofs.Common.{◌≡◌, ℕ, zero, suc, ◌+◌, ◌-◌, ◌<◌, ◌≤◌, ◌^◌, ◌⊎◌, inl, inr, Bool, true, false, true≢false, cond, List, [], ◌∷◌, ◌++◌, map, length, get_or, slice_get, Option, Some, None, IsSome, refl, sym, ◌∙◌, ap, subst, arith}
 use Rattle.std.specs.List.{All, Contains, list_any, filter_map, cons_option}
-use Rattle.std.specs.Option.{option_map, option_and_then}
+use Rattle.std.specs.Option.{option_map}
 use Rattle.std.proofs.lemmas.Bool.{eqb-true, eq-eqb}
 use Rattle.std.proofs.lemmas.List.{length-append, length-map, get_or_default}
 use Rattle.std.proofs.lemmas.List.Elements.{All-cons}
@@ -11,7 +11,7 @@ use Rattle.dq_lits.specs.Literal.{Literal, positive, negative, variable_of, is_n
 use Rattle.dq_lits.specs.Formula.{Dqbf, Existential, existential_of}
 use Rattle.dq_lits.specs.Expansion.{universal_literal_true}
 use Rattle.hint_log.specs.Conditions.{AreLogged}
-use Rattle.hint_log.specs.Entries.{Entry, Named, Given, Learned, Answer, Round, Begun, ProofLog, with_entry, is_round, rounds_of, numbered, row_of, row_at, name_of}
+use Rattle.hint_log.specs.Entries.{Entry, Named, Given, Learned, Answer, Round, Begun, ProofLog, with_entry, rounds_of, row_at, name_of}
 use Rattle.hint_log.specs.Growth.{Grew}
 use Rattle.hint_log.specs.Naming.{numbered_from_one, named_literal, name_literal, AreNamedAs, arbiter, on_arbiter, rows_of, is_selector_name}
 use Rattle.hint_log.specs.Origins.{IsOriginsClause}
@@ -38,38 +38,23 @@ rounds_are_rows (Named v n ∷ es) = rounds_are_rows es
 rounds_are_rows (Given o c ∷ es) = rounds_are_rows es
 rounds_are_rows (Learned c hs ∷ es) = rounds_are_rows es
 rounds_are_rows (Answer c hs ∷ es) = rounds_are_rows es
-rounds_are_rows (Round r b j ∷ es) = let before = rounds_are_rows es in let many =
-    length-append (rows_of es) (r ∷ []) in omega (arith, before, many)
+rounds_are_rows (Round r b j ∷ es) = search (arith, (rounds_are_rows es), length-append)
 rounds_are_rows (Begun live ∷ es) = rounds_are_rows es
 
 last_same : {X : Type 0} (xs ys : List X) (x y : X) → xs ++ x ∷ [] ≡ ys ++ y ∷ [] → (xs ≡ ys) × (x ≡ y)
 last_same [] [] x y e = (refl, cc)
-last_same [] (z ∷ ys) x y e =
-    let tail : [] ≡ ys ++ y ∷ [] = cc in
-    let many = length-append ys (y ∷ []) in let none = ap length tail in absurd (omega (arith, many, none))
-last_same (z ∷ xs) [] x y e =
-    let tail : xs ++ x ∷ [] ≡ [] = cc in
-    let many = length-append xs (x ∷ []) in let none = ap length tail in absurd (omega (arith, many, none))
-last_same (z ∷ xs) (w ∷ ys) x y e =
-    let tail : xs ++ x ∷ [] ≡ ys ++ y ∷ [] = cc in
-    let head : z ≡ w = cc in
-    let behind = last_same xs ys x y tail in
-    (ap (λ v. v ∷ xs) head ∙ ap (λ vs. w ∷ vs) behind.0, behind.1)
+last_same [] (z ∷ ys) x y e = search (arith, (length-append ys (y ∷ [])))
+last_same (z ∷ xs) [] x y e = search (arith, (length-append xs (x ∷ [])))
+last_same (z ∷ xs) (w ∷ ys) x y e = search (arith, (last_same xs ys x y))
 
 newest_row : (es : List Entry) (rows : List (List Bool)) (row : List Bool) → rows_of es ≡ rows ++ row ∷ [] →
     row_at es (length rows + 1) ≡ Some row
-newest_row [] rows row is = let many = length-append rows (row ∷ []) in let none = ap length is in
-    absurd (omega (arith, many, none))
+newest_row [] rows row is = search (arith, (length-append rows (row ∷ [])))
 newest_row (Named v n ∷ es) rows row is = newest_row es rows row is
 newest_row (Given o c ∷ es) rows row is = newest_row es rows row is
 newest_row (Learned c hs ∷ es) rows row is = newest_row es rows row is
 newest_row (Answer c hs ∷ es) rows row is = newest_row es rows row is
-newest_row (Round r b j ∷ es) rows row is =
-    let same = last_same (rows_of es) rows r row is in
-    let counted : length rows + 1 ≡ rounds_of es + 1 = let before = rounds_are_rows es in let many = ap length same.0 in
-    omega (arith, before, many) in
-    ap (λ t. option_and_then row_of (cond t (Some (Round r b j)) (numbered is_round es (length rows + 1))))
-    (eq-eqb (length rows + 1) (rounds_of es + 1) counted) ∙ ap Some same.1
+newest_row (Round r b j ∷ es) rows row is = search (arith, last_same, rounds_are_rows, eq-eqb)
 newest_row (Begun live ∷ es) rows row is = newest_row es rows row is
 
 -- what is the table's is in its part
@@ -90,13 +75,7 @@ own_contains (x ∷ es) e mine has =
 -- variables that have names are in range
 pub named_range : (es : List Entry) (v : ℕ) (n : Name) → AreLogged es → name_of es v ≡ Some n → (1 ≤ v) × (v < 2 ^ 62)
 named_range [] v n logged is = cc
-named_range (Named w m ∷ es) v n logged is = by (v == w) refl (named_range es v n logged.1) is
-  where
-    by : (b : Bool) → (v == w) ≡ b → (name_of es v ≡ Some n → (1 ≤ v) × (v < 2 ^ 62)) →
-        cond b (Some m) (name_of es v) ≡ Some n → (1 ≤ v) × (v < 2 ^ 62)
-    by true same before h = subst (λ u. (1 ≤ u) × (u < 2 ^ 62)) (sym (eqb-true v w same))
-        (logged.0.from_one, logged.0.in_range)
-    by false other before h = before h
+named_range (Named w m ∷ es) v n logged is = search (arith, (named_range es v n logged.1), eqb-true)
 named_range (Given o c ∷ es) v n logged is = named_range es v n logged.1 is
 named_range (Learned c hs ∷ es) v n logged is = named_range es v n logged.1 is
 named_range (Answer c hs ∷ es) v n logged is = named_range es v n logged.1 is
@@ -111,8 +90,7 @@ arbiters_in_range es g (v ∷ vs) (y ∷ ys) logged are zero d below =
     let here : name_of (part instances es) v ≡ Some (g y) = cc in
     named_range es v (g y) logged (own_name instances es v (g y) logged here)
 arbiters_in_range es g (v ∷ vs) (y ∷ ys) logged are (suc k) d below =
-    let behind : map (name_of (part instances es)) vs ≡ map (λ x. Some (g x)) ys = cc in
-    arbiters_in_range es g vs ys logged behind k d (omega (arith, below))
+    search (arith, (arbiters_in_range es g vs ys logged))
 
 -- literals of pairs are no selectors
 module _ (f : Dqbf) (es : List Entry) (logged : AreLogged es) (rows : List (List Bool)) (row : List Bool) where
@@ -151,11 +129,7 @@ module _ (f : Dqbf) (es : List Entry) (logged : AreLogged es) (rows : List (List
 pub table_arbiters : (f : Dqbf) (t : TableState) (es : List Entry) → IsTable f t es → (k : ℕ) (row : List Bool)
     (vs : List ℕ) → 1 ≤ k → k ≤ length t.rows → row ≡ get_or t.rows (k - 1) row → vs ≡ get_or t.pairs (k - 1) []
     → AreArbiters f (part instances es) t.rows row vs
-table_arbiters f t es table k row vs low high row_is vs_is =
-    let many = table.own.pairs_long in
-    table.own.arbiters (k - 1) row vs
-    (slice_get-get_or t.rows (k - 1) row (omega (arith, low, high)) ∙ ap Some (sym row_is))
-    (slice_get-get_or t.pairs (k - 1) [] (omega (arith, low, high, many)) ∙ ap Some (sym vs_is))
+table_arbiters f t es table k row vs low high row_is vs_is = search (arith, slice_get-get_or)
 
 pub row_pairs_many : (f : Dqbf) (t : TableState) (es : List Entry) → IsTable f t es → (k : ℕ) → 1 ≤ k →
     k ≤ length t.rows → length (get_or t.pairs (k - 1) []) ≡ length t.existentials
@@ -171,10 +145,7 @@ module _ (f : Dqbf) (group : ℕ) (rows : List (List Bool)) (row : List Bool) (k
     (log : ProofLog) where
   pub instance_passed : list_any (universal_literal_true f row) clause ≡ true →
       IsGivenInstance f group rows row k j clause log log
-  instance_passed done = record {
-    passed = λ is. refl;
-    given = λ live. absurd (true≢false (sym done ∙ live));
-  }
+  instance_passed done = search (arith, true≢false)
 
 pub instance_added : (f : Dqbf) (rows : List (List Bool)) (row : List Bool) (k j : ℕ) (clause : List Literal)
     (log : ProofLog) (sel : Literal) (lits : List Literal) (new : ProofLog) → is_negative sel ≡ false
@@ -182,15 +153,7 @@ pub instance_added : (f : Dqbf) (rows : List (List Bool)) (row : List Bool) (k j
     → AreNamedAs (part instances log.entries) lits (filter_map (on_arbiter f rows row) clause)
     → new ≡ with_entry log (Given (Instance k j) (opposite sel ∷ lits))
     → IsGivenInstance f (variable_of sel) rows row k j clause log new
-instance_added f rows row k j clause log sel lits new plain live named added = record {
-  passed = λ done. absurd (true≢false (sym done ∙ live));
-  given = λ is. record {
-    rest = lits;
-    added = added ∙ ap (λ s. with_entry log (Given (Instance k j) (opposite s ∷ lits)))
-        (switch_is sel (variable_of sel) plain refl);
-    named = named;
-  };
-}
+instance_added f rows row k j clause log sel lits new plain live named added = search (arith, true≢false, switch_is)
 
 -- the instance of the next clause
 given_more : (f : Dqbf) (t : TableState) (row : List Bool) (named given : ℕ) (c : List Literal) (own : List Entry)
@@ -222,10 +185,7 @@ given_more f t row named given c own here p = record {
 
     by_entry : (k j : ℕ) {d : List Literal} → (e ≡ Given (Instance k j) d) ⊎ Contains own (Given (Instance k j) d) →
         (k ≤ length t.rows) ⊎ ((k ≡ length t.rows + 1) × (j ≤ given + 1))
-    by_entry k j (inl is) =
-        let number : length t.rows + 1 ≡ k = cc in
-        let place : given + 1 ≡ j = cc in
-        inr (sym number, omega (arith, place))
+    by_entry k j (inl is) = search arith
     by_entry k j (inr behind) = weaker (p.given_before k j _ behind)
       where
         weaker : (k ≤ length t.rows) ⊎ ((k ≡ length t.rows + 1) × (j ≤ given)) →
@@ -356,8 +316,4 @@ pub record AreGivenSoFar (f : Dqbf) (t : TableState) (row : List Bool) (vs : Lis
 pub given_so_far : (f : Dqbf) (t : TableState) (row : List Bool) (vs : List ℕ) (j : ℕ) (old log new : ProofLog) →
     AreGivenSoFar f t row vs j old log → IsGivenNext f t row j log new
     → AreGivenSoFar f t row vs (j + 1) old new
-given_so_far f t row vs j old log new before next = record {
-  grew = grown_then (IsRowEntry f t.group) old log new before.grew next.grew;
-  adding = next.adding;
-  variables = next.variables vs before.variables;
-}
+given_so_far f t row vs j old log new before next = search (arith, grown_then)

@@ -1,5 +1,5 @@
 -- A clause's existential literals on the variables of their pairs.
-use Rattle.std.proofs.Common.{◌≡◌, ℕ, zero, suc, not, ◌+◌, ◌<◌, ◌≤◌, ◌==◌, Bool, true, false, cond, List, [], ◌∷◌, ◌++◌, map, take, length, get_or, position, Option, Some, None, refl, sym, ◌∙◌, ap, arith}
+use Rattle.std.proofs.Common.{◌≡◌, ℕ, zero, suc, ◌+◌, ◌<◌, ◌≤◌, ◌==◌, Bool, true, false, cond, List, [], ◌∷◌, ◌++◌, map, take, length, get_or, position, Option, Some, None, refl, sym, ◌∙◌, ap, arith}
 use Rattle.std.specs.List.{find, position_or_len, filter_map, cons_option}
 use Rattle.std.specs.Option.{option_map}
 use Rattle.std.proofs.lemmas.List.{length-map, get_or-map, map-append, append-nil, take_all, take_more}
@@ -28,16 +28,7 @@ find_at (y ∷ ys) w (suc i) d below before here =
 find_none : (ys : List Existential) (w : ℕ) → position_or_len (λ v. v == w) (map variable ys) ≡ length (map variable ys)
     → find (λ y. y.variable == w) ys ≡ None
 find_none [] w past = refl
-find_none (y ∷ ys) w past = by (y.variable == w) past (find_none ys w)
-  where
-    P : ℕ
-    P = position_or_len (λ v. v == w) (map variable ys)
-
-    by : (b : Bool) → cond (not b) (1 + P) 0 ≡ suc (length (map variable ys)) →
-        (P ≡ length (map variable ys) → find (λ z. z.variable == w) ys ≡ None) →
-        cond b (Some y) (find (λ z. z.variable == w) ys) ≡ None
-    by true e behind = absurd (omega (arith, e))
-    by false e behind = behind (omega (arith, e))
+find_none (y ∷ ys) w past = search (arith, (find_none ys w))
 
 -- the existential at the place that was found
 pub found_existential : (f : Dqbf) (w i : ℕ) → position (λ v. v == w) (map variable f.existentials) ≡ Some i
@@ -64,11 +55,7 @@ signed_parts false v = (refl, refl)
 named_signed : (own : List Entry) (b : Bool) (v : ℕ) (f : Dqbf) (rows : List (List Bool)) (row : List Bool)
     (y : Existential) → name_of own v ≡ Some (arbiter f rows row y)
     → name_literal own (signed b v) ≡ Some (named_literal (arbiter f rows row y) b)
-named_signed own b v f rows row y named =
-    let parts = signed_parts b v in
-    ap (λ w. option_map (λ n. named_literal n (is_negative (signed b v))) (name_of own w)) parts.0
-    ∙ ap (option_map (λ n. named_literal n (is_negative (signed b v)))) named
-    ∙ ap (λ c. Some (named_literal (arbiter f rows row y) c)) parts.1
+named_signed own b v f rows row y named = search (arith, signed_parts)
 
 module _ (f : Dqbf) (own : List Entry) (rows : List (List Bool)) (row : List Bool) (clause : List Literal) (i : ℕ)
     (l : Literal) (lits : List Literal)
@@ -112,5 +99,4 @@ pub all_literals : (f : Dqbf) (own : List Entry) (rows : List (List Bool)) (row 
     (i : ℕ) (lits : List Literal) → length clause ≤ i
     → AreNamedAs own lits (filter_map (on_arbiter f rows row) (take i clause)) →
     AreNamedAs own lits (filter_map (on_arbiter f rows row) clause)
-all_literals f own rows row clause i lits past so_far = so_far ∙ ap
-    (λ ls. map Some (filter_map (on_arbiter f rows row) ls)) (take_all i clause past)
+all_literals f own rows row clause i lits past so_far = search (arith, take_all)

@@ -1,5 +1,5 @@
 -- The values that a search found, as a model of the instances.
-use Rattle.std.proofs.Common.{◌≡◌, ℕ, suc, ◌+◌, ◌-◌, ◌/◌, ◌%◌, ◌≤◌, ◌==◌, Bool, true, false, true≢false, cond, ◌&&◌, ◌⊎◌, inl, inr, List, [], ◌∷◌, None, Some, refl, sym, ◌∙◌, ap, arith}
+use Rattle.std.proofs.Common.{◌≡◌, ℕ, ◌+◌, ◌-◌, ◌/◌, ◌%◌, ◌≤◌, ◌==◌, Bool, true, false, true≢false, cond, ◌&&◌, List, [], ◌∷◌, Some, refl, sym, ◌∙◌, ap, arith}
 use Rattle.std.specs.List.{Contains, position_or_len}
 use Rattle.std.proofs.lemmas.Bool.{eqb-true, eq-eqb, and_parts}
 use Rattle.list_laws.proofs.Numbers.{pair_variable, pair_row}
@@ -11,37 +11,15 @@ use Rattle.hint_log.specs.Entries.{Entry, Named, Given, Learned, Answer, Round, 
 use Rattle.hint_log.specs.declared.names.Name.{Name}
 use Rattle.hint_log.specs.declared.names.Name.TheVariants.{Selector, Pair, Input, And, Bad, Copy, Term}
 use Rattle.hint_log.specs.Naming.{arbiter}
-use Rattle.log_laws.specs.Engines.{Engine, is_own, part}
+use Rattle.log_laws.specs.Engines.{Engine, part}
 use Rattle.list_laws.proofs.Members.{contains_cases, contains_later}
 
 -- a name in an engine's part is a name in the log
 pub own_name : (engine : Engine) (es : List Entry) (v : ℕ) (n : Name) → AreLogged es →
     name_of (part engine es) v ≡ Some n → name_of es v ≡ Some n
 own_name engine [] v n logged h = h
-own_name engine (Named w m ∷ es) v n logged h =
-    by_own (is_own engine (Named w m)) (own_name engine es v n logged.1) h
-  where
-    with_name : (b : Bool) → (v == w) ≡ b → (name_of (part engine es) v ≡ Some n → name_of es v ≡ Some n) →
-        cond b (Some m) (name_of (part engine es) v) ≡ Some n
-        → cond b (Some m) (name_of es v) ≡ Some n
-    with_name true same before is = is
-    with_name false other before is = before is
-
-    without : (b : Bool) → (v == w) ≡ b → name_of es v ≡ Some n → cond b (Some m) (name_of es v) ≡ Some n
-    without true same is = let none : name_of es v ≡ None = ap (name_of es) (eqb-true v w same) ∙ logged.0.unnamed in cc
-    without false other is = is
-
-    by_own : (b : Bool) → (name_of (part engine es) v ≡ Some n → name_of es v ≡ Some n) →
-        name_of (cond b (Named w m ∷ part engine es) (part engine es)) v ≡ Some n
-        → cond (v == w) (Some m) (name_of es v) ≡ Some n
-    by_own true before is = with_name (v == w) refl before is
-    by_own false before is = without (v == w) refl (before is)
-own_name engine (Given o c ∷ es) v n logged h = own_name engine es v n logged.1 (past (is_own engine (Given o c)) h)
-  where
-    past : (b : Bool) → name_of (cond b (Given o c ∷ part engine es) (part engine es)) v ≡ Some n →
-        name_of (part engine es) v ≡ Some n
-    past true is = is
-    past false is = is
+own_name engine (Named w m ∷ es) v n logged h = search (arith, (own_name engine es v n logged.1), eqb-true)
+own_name engine (Given o c ∷ es) v n logged h = search (arith, (own_name engine es v n logged.1))
 own_name engine (Learned c hs ∷ es) v n logged h = own_name engine es v n logged.1 h
 own_name engine (Answer c hs ∷ es) v n logged h = own_name engine es v n logged.1 h
 own_name engine (Round r b j ∷ es) v n logged h = own_name engine es v n logged.1 h
@@ -50,13 +28,7 @@ own_name engine (Begun live ∷ es) v n logged h = own_name engine es v n logged
 -- an entry of an engine's part is one of the log
 pub own_entry : (engine : Engine) (es : List Entry) (e : Entry) → Contains (part engine es) e → Contains es e
 own_entry engine [] e h = h
-own_entry engine (x ∷ es) e h = by_own (is_own engine x) (own_entry engine es e) h
-  where
-    by_own : (b : Bool) → (Contains (part engine es) e → Contains es e) →
-        Contains (cond b (x ∷ part engine es) (part engine es)) e → Contains (x ∷ es) e
-    by_own true before has = elim (contains_cases x e (part engine es) has)
-        [ inl here ↦ (0, omega arith, here) | inr behind ↦ contains_later x e es (before behind) ]
-    by_own false before has = contains_later x e es (before has)
+own_entry engine (x ∷ es) e h = search (arith, (own_entry engine es e), contains_cases, contains_later)
 
 -- the variable that is named as a pair's arbiter
 abbrev pub is_pair : Name → ℕ → ℕ → Bool
@@ -69,9 +41,7 @@ variable_for (Named v n ∷ es) k y = cond (is_pair n k y) v (variable_for es k 
 variable_for (_ ∷ es) k y = variable_for es k y
 
 is_pair_sound : (n : Name) (k y : ℕ) → is_pair n k y ≡ true → n ≡ Pair k y
-is_pair_sound (Pair l z) k y h =
-    let parts = and_parts (l == k) (z == y) h in
-    ap (λ a. Pair a z) (eqb-true l k parts.0) ∙ ap (λ b. Pair k b) (eqb-true z y parts.1)
+is_pair_sound (Pair l z) k y h = search (arith, and_parts, eqb-true)
 is_pair_sound (Selector g) k y h = absurd (true≢false (sym h))
 is_pair_sound (Input x) k y h = absurd (true≢false (sym h))
 is_pair_sound (And a b) k y h = absurd (true≢false (sym h))
@@ -85,20 +55,8 @@ is_pair_itself k y = ap (λ b. b && (y == y)) (eq-eqb k k refl) ∙ eq-eqb y y r
 pub found_variable : (es : List Entry) (v k y : ℕ) → AreLogged es → name_of es v ≡ Some (Pair k y) →
     variable_for es k y ≡ v
 found_variable [] v k y logged h = cc
-found_variable (Named w n ∷ es) v k y logged h = by (is_pair n k y) refl (v == w) refl
-    (found_variable es v k y logged.1) h
-  where
-    by : (a : Bool) → is_pair n k y ≡ a → (b : Bool) → (v == w) ≡ b →
-        (name_of es v ≡ Some (Pair k y) → variable_for es k y ≡ v)
-        → cond b (Some n) (name_of es v) ≡ Some (Pair k y) → cond a w (variable_for es k y) ≡ v
-    by true pair true same before is = sym (eqb-true v w same)
-    by true pair false other before is =
-        let n_is = is_pair_sound n k y pair in
-        absurd (logged.0.fresh v (is ∙ ap Some (sym n_is)))
-    by false pair true same before is =
-        let n_is : n ≡ Pair k y = cc in
-        absurd (true≢false (sym (is_pair_itself k y) ∙ ap (λ m. is_pair m k y) (sym n_is) ∙ pair))
-    by false pair false other before is = before is
+found_variable (Named w n ∷ es) v k y logged h =
+    search (arith, (found_variable es v k y logged.1), eqb-true, is_pair_sound, true≢false, is_pair_itself)
 found_variable (Given _ _ ∷ es) v k y logged h = found_variable es v k y logged.1 h
 found_variable (Learned _ _ ∷ es) v k y logged h = found_variable es v k y logged.1 h
 found_variable (Answer _ _ ∷ es) v k y logged h = found_variable es v k y logged.1 h

@@ -1,5 +1,5 @@
 -- The variables of a new row's pairs, one by one.
-use Rattle.std.proofs.Common.{◌≡◌, ◌≢◌, ℕ, zero, suc, ◌+◌, ◌<◌, ◌≤◌, ◌⊎◌, inl, inr, Bool, true, cond, List, [], ◌∷◌, ◌++◌, map, take, length, get_or, slice_get, Option, Some, None, Result, Ok, Err, IfOk, refl, sym, ◌∙◌, ap, subst, arith}
+use Rattle.std.proofs.Common.{◌≡◌, ◌≢◌, ℕ, zero, suc, ◌+◌, ◌<◌, ◌≤◌, ◌⊎◌, inl, inr, Bool, true, cond, List, [], ◌∷◌, ◌++◌, map, take, length, get_or, slice_get, Some, None, Result, Ok, Err, IfOk, refl, sym, ◌∙◌, ap, subst, arith}
 use Rattle.std.specs.List.{AllPairs, position_or_len}
 use Rattle.std.proofs.lemmas.Bool.{eq-eqb}
 use Rattle.std.proofs.lemmas.List.{length-map, get_or-map, get_or_default, map-append, take_more}
@@ -13,7 +13,7 @@ use Rattle.hint_log.specs.Entries.{Entry, Named, ProofLog, with_entry, name_of}
 use Rattle.hint_log.specs.Growth.{Grew}
 use Rattle.hint_log.specs.Naming.{arbiter}
 use Rattle.hint_log.specs.declared.names.Name.{Name}
-use Rattle.hint_log.specs.declared.names.Name.TheVariants.{Selector, Pair}
+use Rattle.hint_log.specs.declared.names.Name.TheVariants.{Pair}
 use Rattle.log_laws.specs.Engines.{instances, part}
 use Rattle.log_laws.proofs.LargerLogs.{grown_by, grown_by_none, grown_then}
 use Rattle.log_laws.proofs.Kept.{name_stays_by}
@@ -47,13 +47,8 @@ pub named_at : (own : List Entry) (g : Existential → Name) (vs : List ℕ) (ys
 named_at own g [] [] p d y names is = cc
 named_at own g [] (z ∷ ys) p d y names is = cc
 named_at own g (v ∷ vs) [] p d y names is = cc
-named_at own g (v ∷ vs) (z ∷ ys) zero d y names is =
-    let here : name_of own v ≡ Some (g z) = cc in
-    let same : z ≡ y = cc in
-    here ∙ ap (λ x. Some (g x)) same
-named_at own g (v ∷ vs) (z ∷ ys) (suc p) d y names is =
-    let behind : map (name_of own) vs ≡ map (λ x. Some (g x)) ys = cc in
-    named_at own g vs ys p d y behind is
+named_at own g (v ∷ vs) (z ∷ ys) zero d y names is = search arith
+named_at own g (v ∷ vs) (z ∷ ys) (suc p) d y names is = search (arith, (named_at own g vs ys p d y))
 
 module _ (f : Dqbf) (t : TableState) (row : List Bool) (place : ℕ) (es : List Entry)
     (adding : IsAdding f t row place 0 es) where
@@ -66,10 +61,7 @@ module _ (f : Dqbf) (t : TableState) (row : List Bool) (place : ℕ) (es : List 
   -- an old row's pairs
   pub old_pairs : (k : ℕ) → k < length t.pairs → AreArbiters f own (with_row t row) (get_or t.rows k [])
       (get_or t.pairs k [])
-  old_pairs k below =
-      adding.own.arbiters k (get_or t.rows k []) (get_or t.pairs k [])
-      (slice_get-get_or t.rows k [] (omega (arith, below, adding.own.pairs_long)))
-      (slice_get-get_or t.pairs k [] below)
+  old_pairs k below = search (arith, slice_get-get_or)
 
   pub old_pairs_many : (k : ℕ) → k < length t.pairs → length (get_or t.pairs k []) ≡ length t.existentials
   old_pairs_many k below =
@@ -104,13 +96,13 @@ more_variables : (f : Dqbf) (t : TableState) (row : List Bool) (own : List Entry
     → name_of own v ≡ Some (arbiter f (with_row t row) row y) → AreFirstArbiters f t row own place vs →
     AreFirstArbiters f t row own (place + 1) (vs ++ v ∷ [])
 more_variables f t row own place y v vs y_is named are =
-    let g : Existential → Option Name = λ z. Some (arbiter f (with_row t row) row z) in
-    let last : get_or f.existentials place y ≡ y = get_or_from_slice_get f.existentials place y y y_is in
-    map-append (name_of own) vs (v ∷ [])
-    ∙ ap (λ ns. ns ++ name_of own v ∷ []) are
-    ∙ ap (λ n. map g (take place f.existentials) ++ n ∷ []) (named ∙ ap g (sym last))
-    ∙ sym (map-append g (take place f.existentials) (get_or f.existentials place y ∷ []))
-    ∙ sym (ap (map g) (take_more f.existentials place y (slice_get_within f.existentials place y y_is)))
+    search (
+      arith,
+      (get_or_from_slice_get f.existentials place y y y_is),
+      map-append,
+      (take_more f.existentials place y (slice_get_within f.existentials place y y_is)),
+      (slice_get_within f.existentials place y y_is),
+    )
 
 module _ (f : Dqbf) (t : TableState) (row : List Bool) (place first : ℕ) (log : ProofLog) (formula : IsWellFormed f)
     (adding : IsAdding f t row place 0 log.entries)
@@ -184,14 +176,7 @@ module _ (f : Dqbf) (t : TableState) (row : List Bool) (place first : ℕ) (log 
       subst (IsNamedNext f t row place v log) (sym entry) (record {
         grew = grown_by (IsRowEntry f t.group) log (with_entry log (Named v n))
             (Named v n) refl (record { unnamed = unnamed; own = inr refl; rightly = tt });
-        adding = record {
-          group = name_stays_by log.entries v n unnamed t.group (Selector t.group) adding.group;
-          existentials = adding.existentials;
-          own_group = (tt, adding.own_group);
-          rows = adding.rows;
-          faults = adding.faults;
-          own = new_named f t row place 0 mine v here.variable here unnamed_there here_is arbiter_is adding.own;
-        };
+        adding = search (arith, name_stays_by, new_named, here_is);
         variables = λ vs are.
             more_variables f t row (Named v n ∷ mine) place here v vs here_is named
             (names_kept mine (Named v n ∷ mine) (λ y. arbiter f (with_row t row) row y) keeps vs
@@ -208,8 +193,4 @@ pub record ArePairsSoFar (f : Dqbf) (t : TableState) (row : List Bool) (place : 
 pub pair_more : (f : Dqbf) (t : TableState) (row : List Bool) (place v : ℕ) (vs : List ℕ) (old log new : ProofLog) →
     ArePairsSoFar f t row place vs old log → IsNamedNext f t row place v log new
     → ArePairsSoFar f t row (place + 1) (vs ++ v ∷ []) old new
-pair_more f t row place v vs old log new before next = record {
-  grew = grown_then (IsRowEntry f t.group) old log new before.grew next.grew;
-  adding = next.adding;
-  variables = next.variables vs before.variables;
-}
+pair_more f t row place v vs old log new before next = search (arith, grown_then)

@@ -40,22 +40,14 @@ old_inserted xs i y x has = Contains-permutation (y ∷ xs) (insert xs i y) x (I
     (contains_later y x xs has)
 
 new_inserted : (xs : List ℕ) (i y : ℕ) → Contains (insert xs i y) y
-new_inserted xs i y = Contains-permutation (y ∷ xs) (insert xs i y) y (IsPermutation-insert xs i y)
-    (0, omega arith, refl)
+new_inserted xs i y = search (arith, (Contains-permutation (y ∷ xs)), (IsPermutation-insert xs i y))
 
 three_ways : (j at : ℕ) → (j + 1 < at) ⊎ ((j + 1 ≡ at) ⊎ ((j ≡ at) ⊎ (at < j)))
 three_ways zero zero = inr (inr (inl refl))
 three_ways zero (suc zero) = inr (inl refl)
 three_ways zero (suc (suc at)) = inl (omega arith)
 three_ways (suc j) zero = inr (inr (inr (omega arith)))
-three_ways (suc j) (suc at) = by (three_ways j at)
-  where
-    by : (j + 1 < at) ⊎ ((j + 1 ≡ at) ⊎ ((j ≡ at) ⊎ (at < j))) →
-        (suc j + 1 < suc at) ⊎ ((suc j + 1 ≡ suc at) ⊎ ((suc j ≡ suc at) ⊎ (suc at < suc j)))
-    by (inl far) = inl (omega (arith, far))
-    by (inr (inl near)) = inr (inl (omega (arith, near)))
-    by (inr (inr (inl here))) = inr (inr (inl (ap suc here)))
-    by (inr (inr (inr past))) = inr (inr (inr (omega (arith, past))))
+three_ways (suc j) (suc at) = search (arith, (three_ways j at))
 
 module _ (f : Dqbf) (sees : List ℕ) (rows : List (List Bool)) (o : RowOrder) (order : IsRowOrder f sees rows o) where
   abbrev key : ℕ → List Bool
@@ -129,11 +121,7 @@ module _ (f : Dqbf) (sees : List ℕ) (rows : List (List Bool)) (o : RowOrder) (
             below_or_not : (a b : ℕ) → (a < b) ⊎ (b ≤ a)
             below_or_not a zero = inr (omega arith)
             below_or_not zero (suc b) = inl (omega arith)
-            below_or_not (suc a) (suc b) = further (below_or_not a b)
-              where
-                further : (a < b) ⊎ (b ≤ a) → (suc a < suc b) ⊎ (suc b ≤ suc a)
-                further (inl low) = inl (omega (arith, low))
-                further (inr high) = inr (omega (arith, high))
+            below_or_not (suc a) (suc b) = search (arith, (below_or_not a b))
 
             by_side : (there.0 < at) ⊎ (at ≤ there.0) → ⊥
             by_side (inl low) = no_less (sym ((parted rises).0 there.0 p (omega arith) low) ∙ at_place)
@@ -291,15 +279,12 @@ module _ (f : Dqbf) (sees : List ℕ) (rows : List (List Bool)) (o : RowOrder) (
         pair_kept : (a b : ℕ) → Contains o.places a → Contains o.places b → lt b a ≡ false
             → is_lt (bits_cmp (seen_by f sees (row_at (rows ++ further) b))
             (seen_by f sees (row_at (rows ++ further) a))) ≡ false
-        pair_kept a b has_a has_b h =
-            ap (λ x. is_lt (bits_cmp x (seen_by f sees (row_at (rows ++ further) a)))) (key_kept b (in_rows b has_b))
-            ∙ ap (λ x. is_lt (bits_cmp (key b) x)) (key_kept a (in_rows a has_a)) ∙ h
+        pair_kept a b has_a has_b h = search (arith, key_kept, in_rows)
 
         agree_kept : (a b : ℕ) → a < length rows → b < length rows → same_bits (key a) (key b) ≡ true
             → same_bits (seen_by f sees (row_at (rows ++ further) a))
             (seen_by f sees (row_at (rows ++ further) b)) ≡ true
-        agree_kept a b low_a low_b h = ap (λ x. same_bits x (seen_by f sees (row_at (rows ++ further) b)))
-            (key_kept a low_a) ∙ ap (same_bits (key a)) (key_kept b low_b) ∙ h
+        agree_kept a b low_a low_b h = search (arith, key_kept)
 
 -- the same of places and rows as a search had them
 module _ (f : Dqbf) (sees : List ℕ) (rows : List (List Bool)) (o : RowOrder) (order : IsRowOrder f sees rows o)

@@ -1,6 +1,6 @@
 -- Existentials that stand for others with the same dependency set.
 use Rattle.std.proofs.Common.{◌≡◌, ◌==◌, ℕ, zero, suc, Bool, true, false, set, replicate, [], ◌<◌, ◌⊎◌, inl, inr, List, map, length, get_or, slice_get, Some, IsSome, refl, sym, ◌∙◌, ap, subst, arith}
-use Rattle.std.specs.List.{All, Contains, position_or_len}
+use Rattle.std.specs.List.{All, position_or_len}
 use Rattle.std.proofs.lemmas.Bool.{cases_Bool, eqb-true, eqb-false}
 use Rattle.std.proofs.lemmas.List.{length-map, length-set, length-replicate, get_or-map, get_or-set_same, get_or-set_other}
 use Rattle.std.proofs.lemmas.Option.{slice_get-get_or, slice_get_within, get_or_from_slice_get}
@@ -16,9 +16,7 @@ pub found_by_variable : (f : Dqbf) (ys : List ℕ) (p : ℕ) → All
     (λ y. existential_of f y.variable ≡ Some y) f.existentials → ys ≡ map variable f.existentials →
     p < length f.existentials
     → existential_of f (get_or ys p 0) ≡ Some (get_or f.existentials p nobody)
-found_by_variable f ys p named same below =
-    ap (λ xs. existential_of f (get_or xs p 0)) same ∙ ap (existential_of f)
-    (get_or-map variable f.existentials p nobody 0 below) ∙ named p nobody below
+found_by_variable f ys p named same below = search (arith, get_or-map)
 
 pub some_by_variable : (f : Dqbf) (ys : List ℕ) (p : ℕ) → All (λ y. existential_of f y.variable ≡ Some y) f.existentials
     → ys ≡ map variable f.existentials → p < length f.existentials
@@ -37,9 +35,7 @@ pub sees_by_variable : (f : Dqbf) (ys : List ℕ) (p : ℕ) (y : Existential) �
     All (λ z. existential_of f z.variable ≡ Some z) f.existentials → ys ≡ map variable f.existentials →
     slice_get f.existentials p ≡ Some y
     → sees_of (existential_of f (get_or ys p 0)) ≡ y.sees
-sees_by_variable f ys p y named same y_is =
-    ap sees_of (found_by_variable f ys p named same (slice_get_within f.existentials p y y_is)) ∙ ap
-    (λ (e : Existential). e.sees) (get_or_from_slice_get f.existentials p y nobody y_is)
+sees_by_variable f ys p y named same y_is = search (arith, found_by_variable, slice_get_within, get_or_from_slice_get)
 
 module _ (f : Dqbf) (rows : List (List Bool)) (index : RowIndex) (is_index : IsRowIndex f rows index) (place : ℕ)
     (below : place < length f.existentials) where
@@ -83,21 +79,11 @@ pub first_by_variable : (f : Dqbf) (rows : List (List Bool)) (row : List Bool) (
     All (λ z. existential_of f z.variable ≡ Some z) f.existentials → ys ≡ map variable f.existentials
     → k ≡ position_or_len (λ r. same_bits (seen_by f (sees_of (existential_of f (get_or ys place 0))) row)
     (seen_by f (sees_of (existential_of f (get_or ys place 0))) r)) rows → IsFirstRow f rows row place k
-first_by_variable f rows row ys place k named same is y y_is =
-    is ∙ ap (λ sees. position_or_len (λ r. same_bits (seen_by f sees row) (seen_by f sees r)) rows)
-    (sees_by_variable f ys place y named same y_is)
+first_by_variable f rows row ys place k named same is y y_is = search (arith, sees_by_variable)
 
 -- where no row was looked at
 no_order_yet : (f : Dqbf) (sees : List ℕ) → IsRowOrder f sees [] no_order
-no_order_yet f sees = record {
-  within = omega arith;
-  sorted = λ k d low below. absurd (omega (arith, below));
-  firsts = λ k has. absurd (nothing has);
-  whole = λ k below. absurd (omega (arith, below));
-}
-  where
-    nothing : {k : ℕ} → Contains {X = ℕ} [] k → ⊥
-    nothing (i, lt, at) = omega (arith, lt)
+no_order_yet f sees = search arith
 
 all_empty : (n p : ℕ) → get_or (replicate n no_order) p no_order ≡ no_order
 all_empty zero p = refl
@@ -107,9 +93,4 @@ all_empty (suc n) (suc p) = all_empty n p
 pub empty_index : (f : Dqbf) (leaders : List ℕ) (orders : List RowOrder) (ys : List ℕ) → AreLeaders f leaders →
     ys ≡ map variable f.existentials → orders ≡ replicate (length ys) no_order
     → IsRowIndex f [] (record { leaders = leaders; orders = orders })
-empty_index f leaders orders ys lead same is = subst (λ os. IsRowIndex f [] (record { leaders = leaders; orders = os }))
-    (sym is) (record {
-      leaders = lead;
-      many = length-replicate (length ys) no_order ∙ ap length same ∙ length-map f.existentials variable;
-      orders = λ p y y_is. subst (IsRowOrder f y.sees []) (sym (all_empty (length ys) p)) (no_order_yet f y.sees);
-    })
+empty_index f leaders orders ys lead same is = search (arith, length-replicate, length-map, all_empty, no_order_yet)

@@ -44,12 +44,7 @@ learned_is_found silent earlier (Begun live) h = absurd h
 
 pub learned_grew : (silent : Bool) (old new : ProofLog) → Grew IsLearnedEntry old new →
     Grew (IsSearchEntry silent) old new
-learned_grew silent old new g = record {
-  more = g.more;
-  grown = g.grown;
-  each = each_of_weaker IsLearnedEntry (IsSearchEntry silent) (learned_is_found silent) g.more old.entries g.each;
-  limit = g.limit;
-}
+learned_grew silent old new g = search (arith, each_of_weaker, learned_is_found)
 
 -- a search that ends with an answer
 pub refuted_grew : (silent : Bool) → silent ≡ false → (assumptions : List Literal) (old new : ProofLog) (id : ℕ) →
@@ -75,13 +70,7 @@ module _ (f : Dqbf) (engine : Engine) (group : ℕ) (silent : Bool) (old : List 
 
 pub searched_grew : (f : Dqbf) (engine : Engine) (group : ℕ) (silent : Bool) (old new : ProofLog) →
     Grew (IsSearchEntry silent) old new → Grew (IsAddedBy f engine group silent old.entries) old new
-searched_grew f engine group silent old new g = record {
-  more = g.more;
-  grown = g.grown;
-  each = each_of_weaker (IsSearchEntry silent) (IsAddedBy f engine group silent old.entries)
-      (found_is_added f engine group silent old.entries) g.more old.entries g.each;
-  limit = g.limit;
-}
+searched_grew f engine group silent old new g = search (arith, each_of_weaker, found_is_added)
 
 found_not_own : (silent : Bool) (engine : Engine) (earlier : List Entry) (e : Entry) → IsSearchEntry silent earlier e →
     is_own engine e ≡ false
@@ -126,48 +115,28 @@ pub found_givens : (silent : Bool) (more old : List Entry) (origin : Origin) (c 
     EachOf (IsSearchEntry silent) more old → Contains (more ++ old) (Given origin c) → Contains old (Given origin c)
 found_givens silent [] old origin c h has = has
 found_givens silent (e ∷ more) old origin c h has =
-    elim (contains_cases e (Given origin c) (more ++ old) has) [
-      | inl here ↦ absurd (subst (IsSearchEntry silent (more ++ old)) here h.0)
-      | inr behind ↦ found_givens silent more old origin c h.1 behind
-    ]
+    search (arith, contains_cases, (found_givens silent more old origin c h.1))
 
 pub table_searched : (silent : Bool) (f : Dqbf) (t : TableState) (old new : ProofLog) →
     Grew (IsSearchEntry silent) old new → IsTable f t old.entries → IsTable f t new.entries
-table_searched silent f t old new g table = subst (IsTable f t) (sym g.grown) (record {
-  group = found_names silent g.more old.entries t.group g.each ∙ table.group;
-  existentials = table.existentials;
-  own_group = each_grown (IsSearchEntry silent) (IsOwnGiven f instances t.group)
-      (found_own_given silent f instances t.group) g.more old.entries g.each table.own_group;
-  own = rw (filter_grown (IsSearchEntry silent) (is_own instances) (found_not_own silent instances) g.more old.entries
-      g.each) table.own;
-  first_rows = table.first_rows;
-})
+table_searched silent f t old new g table =
+    search (arith, found_names, each_grown, found_own_given, filter_grown, found_not_own)
 
 -- the rounds stay
 pub full_searched : (silent : Bool) (f : Dqbf) (t : TableState) (old new : ProofLog) →
     Grew (IsSearchEntry silent) old new → IsFullTable f t old.entries → IsFullTable f t new.entries
-full_searched silent f t old new g full = record {
-  formula = full.formula;
-  table = table_searched silent f t old new g full.table;
-  rows = ap rows_of g.grown ∙ found_rows silent g.more old.entries g.each ∙ full.rows;
-}
+full_searched silent f t old new g full =
+    search (arith, (table_searched silent f t old new g full.table), (found_rows silent g.more old.entries g.each))
 
 -- a literal among the negated selectors of some groups
 only_selector : (g : ℕ) (l : Literal) → same_literal (opposite l) (positive g) ≡ true → l ≡ negative g
 only_selector g (positive v) h = cc
-only_selector g (negative v) h =
-    let same : positive v ≡ positive g = same_literal-sound (positive v) (positive g) h in
-    let is : v ≡ g = cc in
-    ap negative is
+only_selector g (negative v) h = search (arith, same_literal-sound)
 
 one_of_groups : (gs : List ℕ) (l : Literal) → holds (map positive gs) (opposite l) ≡ true →
     (g : ℕ) × Contains gs g × (l ≡ negative g)
 one_of_groups [] l h = cc
-one_of_groups (g ∷ gs) l h =
-    elim (or_cases (same_literal (opposite l) (positive g)) (holds (map positive gs) (opposite l)) h) [
-      | inl here ↦ (g, (0, omega arith, refl), only_selector g l here)
-      | inr behind ↦ (let r = one_of_groups gs l behind in (r.0, contains_later g r.0 gs r.1, r.2))
-    ]
+one_of_groups (g ∷ gs) l h = search (arith, or_cases, only_selector, (one_of_groups gs l), contains_later)
 
 instance_of : (origin : Origin) → origin_engine origin ≡ instances → IsInstance origin
 instance_of (Instance k j) h = tt
@@ -341,5 +310,4 @@ table_refuted law f t old new id full searched_new r =
 -- what is assumed where the table's group and further ones are active
 pub assumed_are : (t : TableState) (active groups more : List Group) → active ≡ groups →
     map (λ g. g.selector) groups ≡ switches t more → assumed active [] ≡ switches t more
-assumed_are t active groups more same are =
-    append-nil (map (λ g. g.selector) active) ∙ ap (map (λ g. g.selector)) same ∙ are
+assumed_are t active groups more same are = search (arith, append-nil)

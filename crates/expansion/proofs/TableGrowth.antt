@@ -1,17 +1,17 @@
 -- How a table's part of the log grows by an arbiter's name or by an instance.
 use Rattle.std.proofs.Common.{◌≡◌, ℕ, zero, suc, ◌+◌, ◌<◌, ◌≤◌, ◌==◌, ◌⊎◌, inl, inr, Bool, true, false, cond, List, [], ◌∷◌, map, length, slice_get, Option, Some, None, refl, sym, ◌∙◌, ap, subst, arith}
-use Rattle.std.specs.List.{Contains, list_any, filter_map}
+use Rattle.std.specs.List.{Contains, list_any}
 use Rattle.list_laws.proofs.Numbers.{below_or_here}
-use Rattle.dq_lits.specs.Literal.{Literal, negative}
+use Rattle.dq_lits.specs.Literal.{Literal}
 use Rattle.dq_lits.specs.Formula.{Dqbf, Existential}
 use Rattle.dq_lits.specs.Expansion.{universal_literal_true}
 use Rattle.hint_log.specs.Conditions.{AreLogged}
 use Rattle.hint_log.specs.Entries.{Entry, Named, Given, Learned, Answer, Round, Begun, name_of}
-use Rattle.hint_log.specs.Naming.{arbiter, on_arbiter}
+use Rattle.hint_log.specs.Naming.{arbiter}
 use Rattle.hint_log.specs.declared.names.Name.{Name}
 use Rattle.hint_log.specs.declared.names.Name.TheVariants.{Pair}
 use Rattle.hint_log.specs.declared.origins.Origin.TheVariants.{Instance}
-use Rattle.log_laws.specs.Engines.{instances, is_own, is_engine, name_engine, part}
+use Rattle.log_laws.specs.Engines.{instances, part}
 use Rattle.log_laws.proofs.Kept.{named_stay, name_stays_by}
 use Rattle.expansion.specs.Table.{TableState, HasInstance, IsOfPairs}
 use Rattle.expansion.specs.Adding.{with_row, IsNewPair, IsAddingPart}
@@ -21,35 +21,8 @@ use Rattle.expansion.proofs.InstanceModels.{own_name}
 pub pair_own : (es : List Entry) (v k y : ℕ) → name_of es v ≡ Some (Pair k y) →
     name_of (part instances es) v ≡ Some (Pair k y)
 pair_own [] v k y h = h
-pair_own (Named w m ∷ es) v k y h = by_bit (v == w) refl (pair_own es v k y) h
-  where
-    P : Name
-    P = Pair k y
-
-    own : List Entry
-    own = part instances es
-
-    after : Bool → List Entry
-    after b = cond b (Named w m ∷ own) own
-
-    past : (b : Bool) → (v == w) ≡ false → name_of own v ≡ Some P → name_of (after b) v ≡ Some P
-    past true other is = ap (λ c. cond c (Some m) (name_of own v)) other ∙ is
-    past false other is = is
-
-    by_bit : (b : Bool) → (v == w) ≡ b → (name_of es v ≡ Some P → name_of own v ≡ Some P) →
-        cond b (Some m) (name_of es v) ≡ Some P
-        → name_of (after (is_engine instances (name_engine m))) v ≡ Some P
-    by_bit true e before is =
-        let m_is : m ≡ P = cc in
-        let mine : is_engine instances (name_engine m) ≡ true = ap (λ n. is_engine instances (name_engine n)) m_is in
-        ap (λ b. name_of (after b) v) mine ∙ ap (λ c. cond c (Some m) (name_of own v)) e ∙ ap Some m_is
-    by_bit false e before is = past (is_engine instances (name_engine m)) e (before is)
-pair_own (Given o c ∷ es) v k y h = past (is_own instances (Given o c)) (pair_own es v k y h)
-  where
-    past : (b : Bool) → name_of (part instances es) v ≡ Some (Pair k y) →
-        name_of (cond b (Given o c ∷ part instances es) (part instances es)) v ≡ Some (Pair k y)
-    past true is = is
-    past false is = is
+pair_own (Named w m ∷ es) v k y h = search (arith, (pair_own es v k y))
+pair_own (Given o c ∷ es) v k y h = search (arith, (pair_own es v k y h))
 pair_own (Learned c hs ∷ es) v k y h = pair_own es v k y h
 pair_own (Answer c hs ∷ es) v k y h = pair_own es v k y h
 pair_own (Round r b j ∷ es) v k y h = pair_own es v k y h
@@ -77,39 +50,17 @@ pub names_kept : (own after : List Entry) (g : Existential → Name) → KeepsNa
     map (name_of own) vs ≡ map (λ y. Some (g y)) ys → map (name_of after) vs ≡ map (λ y. Some (g y)) ys
 names_kept own after g keeps [] ys is = is
 names_kept own after g keeps (v ∷ vs) [] is = cc
-names_kept own after g keeps (v ∷ vs) (y ∷ ys) is =
-    let head : name_of own v ≡ Some (g y) = cc in
-    let tail : map (name_of own) vs ≡ map (λ z. Some (g z)) ys = cc in
-    let first = keeps v (g y) head in
-    let rest = names_kept own after g keeps vs ys tail in cc
+names_kept own after g keeps (v ∷ vs) (y ∷ ys) is = search (arith, (names_kept own after g keeps vs ys))
 
 pub instance_kept : (f : Dqbf) (group : ℕ) (rows : List (List Bool)) (own after : List Entry) → KeepsNames own after →
     KeepsEntries own after → (k j : ℕ) (row : List Bool) (clause : List Literal)
     → HasInstance f group rows own k j row clause → HasInstance f group rows after k j row clause
-instance_kept f group rows own after names entries k j row clause h = record {
-  rest = h.rest;
-  given = entries (Given (Instance (k + 1) (j + 1)) (negative group ∷ h.rest)) h.given;
-  named = named_stay own after names h.rest (filter_map (on_arbiter f rows row) clause) h.named;
-}
+instance_kept f group rows own after names entries k j row clause h = search (arith, named_stay)
 
 -- an existential more has its arbiter's name, which may be an old one
 pub one_more_named : (f : Dqbf) (t : TableState) (row : List Bool) (named given : ℕ) (own : List Entry) →
     IsAddingPart f t row named given own → IsAddingPart f t row (named + 1) given own
-one_more_named f t row named given own p = record {
-  whole = p.whole;
-  pairs_long = p.pairs_long;
-  names = λ v k y is. weaker (p.names v k y is);
-  given_before = p.given_before;
-  arbiters = p.arbiters;
-  complete = p.complete;
-  complete_so_far = p.complete_so_far;
-}
-  where
-    weaker : {v k y : ℕ} → ((k ≤ length t.rows) × IsOfPairs t.pairs v) ⊎
-        ((k ≡ length t.rows + 1) × IsNewPair f t row named y)
-        → ((k ≤ length t.rows) × IsOfPairs t.pairs v) ⊎ ((k ≡ length t.rows + 1) × IsNewPair f t row (named + 1) y)
-    weaker (inl old) = inl old
-    weaker (inr (new, (q, e, lt, at, is))) = inr (new, (q, e, omega (arith, lt), at, is))
+one_more_named f t row named given own p = search arith
 
 pub new_named : (f : Dqbf) (t : TableState) (row : List Bool) (named given : ℕ) (own : List Entry) (v y : ℕ)
     (e : Existential) → name_of own v ≡ None → slice_get f.existentials named ≡ Some e
@@ -144,10 +95,7 @@ new_named f t row named given own v y e none e_is first p = record {
 
     by_bit : (u k z : ℕ) (b : Bool) → cond b (Some P) (name_of own u) ≡ Some (Pair k z) →
         ((k ≤ length t.rows) × IsOfPairs t.pairs u) ⊎ ((k ≡ length t.rows + 1) × IsNewPair f t row (named + 1) z)
-    by_bit u k z true is =
-        let number : k ≡ length t.rows + 1 = cc in
-        let same : y ≡ z = cc in
-        inr (number, (named, e, omega arith, e_is, first ∙ ap (Pair (length t.rows + 1)) same))
+    by_bit u k z true is = search arith
     by_bit u k z false is = (one_more_named f t row named given own p).names u k z is
 
 -- a clause more is done: a universal makes it true, or its instance stands

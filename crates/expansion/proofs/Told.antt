@@ -23,17 +23,17 @@ names_made f es rows row (y ∷ ys) (v ∷ vs) logged names zero d below =
     let own : name_of (part instances es) v ≡ Some (arbiter f rows row y) = cc in
     subst IsSome (sym (own_name instances es v (arbiter f rows row y) logged own)) refl
 names_made f es rows row (y ∷ ys) (v ∷ vs) logged names (suc k) d below =
-    let behind : map (name_of (part instances es)) vs ≡ map (λ y. Some (arbiter f rows row y)) ys = cc in
-    names_made f es rows row ys vs logged behind k d (omega (arith, below))
+    search (arith, (names_made f es rows row ys vs logged))
 
 pub table_told : (f : Dqbf) (t : TableState) (es : List Entry) → AreLogged es → IsTable f t es → (P : ℕ → Type 0) →
     ((v : ℕ) → IsSome (name_of es v) → P v) → All (All P) t.pairs
 table_told f t es logged table P made k d below j e lt =
-    let row_is = slice_get-get_or t.rows k [] (omega (arith, below, table.own.pairs_long)) in
-    let names = table.own.arbiters k (get_or t.rows k []) (get_or t.pairs k d) row_is
-    (slice_get-get_or t.pairs k d below) in
-    made (get_or (get_or t.pairs k d) j e) (names_made f es t.rows (get_or t.rows k []) f.existentials
-    (get_or t.pairs k d) logged names j e lt)
+    search (
+      arith,
+      (slice_get-get_or t.rows k []),
+      (slice_get-get_or t.pairs k d below),
+      (names_made f es t.rows (get_or t.rows k []) f.existentials (get_or t.pairs k d) logged),
+    )
 
 -- the literal that switches a table's group on
 pub switch_is : (l : Literal) (g : ℕ) → is_negative l ≡ false → variable_of l ≡ g → l ≡ positive g

@@ -37,8 +37,7 @@ pub looked_here : (xs : List ℕ) (row : List Bool) (y i : ℕ) (x : ℕ) → i 
     → assignment_of (drop i xs) (drop i row) y ≡ bit_of row i
 looked_here [] row y i x lt is here = absurd (omega (arith, lt))
 looked_here (z ∷ xs) [] y zero x lt is here = refl
-looked_here (z ∷ xs) (b ∷ row) y zero x lt is here = ap (λ w. cond (w == y) b (assignment_of xs row y)) is ∙ ap
-    (λ t. cond t b (assignment_of xs row y)) here
+looked_here (z ∷ xs) (b ∷ row) y zero x lt is here = search arith
 looked_here (z ∷ xs) [] y (suc i) x lt is here = no_bits (drop i xs)
   where
     no_bits : (ys : List ℕ) → assignment_of ys [] y ≡ false
@@ -64,16 +63,10 @@ bit_at_place (x ∷ xs) (b ∷ row) y (suc p) once below is =
 -- the place of a variable
 pub place_of_variable : (xs : List ℕ) (y p : ℕ) → AllPairs (λ v w. v ≢ w) xs → p < length xs → get_or xs p 0 ≡ y →
     p ≡ position_or_len (λ v. v == y) xs
-place_of_variable xs y p once below is =
-    sym (position_or_len_is (λ v. v == y) xs p 0 (omega (arith, below))
-    (λ k less. differs (get_or xs k 0) y (λ e. once k p 0 less below (e ∙ sym is)))
-    (λ b. eq-eqb (get_or xs p 0) y is))
+place_of_variable xs y p once below is = search (arith, position_or_len_is)
 
 pub place_found : (xs : List ℕ) (y p : ℕ) → position (λ v. v == y) xs ≡ Some p → p ≡ position_or_len (λ v. v == y) xs
-place_found xs y p found =
-    let h = position-Some (λ v. v == y) xs p 0 found in
-    let below = h.0 in
-    sym (position_or_len_is (λ v. v == y) xs p 0 (omega (arith, below)) h.2 (λ b. h.1))
+place_found xs y p found = search (arith, position-Some, position_or_len_is)
 
 pub place_missing : (xs : List ℕ) (y n : ℕ) → n ≡ length xs → position (λ v. v == y) xs ≡ None →
     n ≡ position_or_len (λ v. v == y) xs
@@ -82,9 +75,4 @@ place_missing xs y n many none = many ∙ sym (place-absent (λ v. v == y) xs no
 pub place_within : (xs : List ℕ) (y : ℕ) → Contains xs y → position_or_len (λ v. v == y) xs < length xs
 place_within [] y (k, below, is) = absurd (omega (arith, below))
 place_within (x ∷ xs) y (zero, below, is) = rw (eq-eqb x y is) (omega arith)
-place_within (x ∷ xs) y (suc k, below, is) = by (x == y) (place_within xs y (k, omega (arith, below), is))
-  where
-    by : (b : Bool) → position_or_len (λ v. v == y) xs < length xs →
-        cond (not b) (1 + position_or_len (λ v. v == y) xs) 0 < suc (length xs)
-    by true less = omega arith
-    by false less = omega arith
+place_within (x ∷ xs) y (suc k, below, is) = search (arith, (place_within xs y))

@@ -21,18 +21,14 @@ written_more f xs i row next lt is next_is =
 
 pub written_all : (f : ℕ → Bool) (xs : List ℕ) (i : ℕ) (row : List Bool) → length xs ≤ i →
     row ≡ map f (take i xs) ++ replicate (length xs - i) false → row ≡ map f xs
-written_all f xs i row past is =
-    let none : length xs - i ≡ 0 = omega (arith, past) in
-    is ∙ ap (λ k. map f (take i xs) ++ replicate k false) none ∙ append-nil (map f (take i xs)) ∙ ap (map f)
-    (take_all i xs past)
+written_all f xs i row past is = search (arith, replicate, append-nil, take_all)
 
 -- a further list's values behind those of the lists before it
 pub lists_more : (f : ℕ → Bool) (xs : List (List ℕ)) (i : ℕ) (bits next : List (List Bool)) (row : List Bool) →
     i < length xs → bits ≡ map (map f) (take i xs)
     → next ≡ bits ++ row ∷ [] → row ≡ map f (get_or xs i []) → next ≡ map (map f) (take (i + 1) xs)
 lists_more f xs i bits next row lt is next_is row_is =
-    next_is ∙ ap (λ b. b ++ row ∷ []) is ∙ ap (λ r. map (map f) (take i xs) ++ r ∷ []) row_is
-    ∙ sym (ap (map (map f)) (take_more xs i [] lt) ∙ map-append (map f) (take i xs) (get_or xs i [] ∷ []))
+    search (arith, (take_more xs i [] lt), (map-append (map f) (take i xs) (get_or xs i [] ∷ [])))
 
 pub lists_all : (f : ℕ → Bool) (xs : List (List ℕ)) (i : ℕ) (bits : List (List Bool)) → length xs ≤ i →
     bits ≡ map (map f) (take i xs) → bits ≡ map (map f) xs

@@ -1,4 +1,4 @@
-use Rattle.std.proofs.Common.{◌≡◌, ◌++◌, ◌∷◌, [], ◌+◌, ◌==◌, List, map, take, get_or, position, refl, sym, ◌∙◌, ap, subst}
+use Rattle.std.proofs.Common.{◌≡◌, ◌++◌, ◌∷◌, [], ◌+◌, ◌==◌, List, map, take, get_or, position, refl, sym, ◌∙◌, ap, subst, arith}
 use Rattle.std.specs.List.{filter_map}
 use Rattle.dq_lits.specs.Literal.{Literal, variable_of, is_negative}
 use Rattle.hint_log.specs.Naming.{AreNamedAs, on_arbiter}
@@ -33,10 +33,7 @@ loop-l-preserved c own rows row are =
           ap (λ v. v.items) w.literals-is ∙ w.in_ok-push.ensures.items ∙ ap (λ k. c.loop-l.literals.items ++ k ∷ [])
           (w.with_sign.ensures ∙ ap (λ b. signed b (get_or c.args.variables.now w.in-Some.place 0)) w.is_neg.ensures) in
           subst now (sym items) more)
-      | in_default w ↦
-          subst now (sym (ap (λ v. v.items) w.literals-is))
-          (literal_passed c.args.f.now own rows row clause i l c.loop-l.literals.items c.loop-l-test.true c.l-item.is
-          so_far (place_is ∙ w.in_default.is))
+      | in_default w ↦ search (arith, literal_passed)
     ]
 
 pub returns : goal.returns

@@ -1,4 +1,4 @@
-use Rattle.std.proofs.Common.{◌∙◌, length, sym, refl}
+use Rattle.std.proofs.Common.{length, arith}
 use Rattle.expansion.proofs.VariableBits.{place_of_variable, place_found, place_missing}
 use Rattle.expansion.proofs.points.place_by_order.Goals as goal
 
@@ -8,9 +8,7 @@ returns-then-variables-place c =
     c.if-place-variables.true c.if-variables-place.true
 
 pub returns-in-Some : goal.returns-in-Some
-returns-in-Some c =
-    place_found c.args.variables.now c.args.y c.in-Some.place (sym c.first_place.ensures ∙ c.in-Some.is)
+returns-in-Some c = search (arith, place_found)
 
 pub returns-in-None : goal.returns-in-None
-returns-in-None c =
-    place_missing c.args.variables.now c.args.y (length c.args.variables.now) refl (sym c.first_place.ensures ∙ c.in-None.is)
+returns-in-None c = search (arith, (place_missing c.args.variables.now c.args.y (length c.args.variables.now)))

@@ -1,12 +1,9 @@
-use Rattle.std.proofs.Common.{◌∙◌, set, ap}
+use Rattle.std.proofs.Common.{arith}
 use Rattle.expansion.proofs.WrittenBits.{written_more, written_all}
 use Rattle.expansion.proofs.tables.row_of_values.Goals as goal
 
 pub loop-place-preserved : goal.loop-place-preserved
-loop-place-preserved g c =
-    written_more (g.O.Oracle.values c.args.oracle.now) c.args.variables.now c.loop-place.place c.loop-place.row
-    c.set.new.self c.loop-place-test.true c.loop-place.invariant
-    (c.set.ensures ∙ ap (set c.loop-place.row c.loop-place.place) c.value.ensures)
+loop-place-preserved g c = search (arith, written_more)
 
 pub returns : goal.returns
 returns g c =

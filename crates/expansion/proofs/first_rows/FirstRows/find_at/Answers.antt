@@ -1,10 +1,10 @@
-use Rattle.std.proofs.Common.{◌≡◌, ◌<◌, length, set, get_or, sym, ap, ◌∙◌, subst}
+use Rattle.std.proofs.Common.{◌≡◌, ◌<◌, length, set, get_or, sym, ap, subst, arith}
 use Rattle.std.specs.List.{position_or_len}
 use Rattle.std.proofs.lemmas.List.{get_or_default}
 use Rattle.std.proofs.lemmas.Result.{IfOk-weaker}
 use Rattle.dq_lits.specs.Formula.{existential_of}
 use Rattle.dq_lits.specs.Henkin.{same_bits}
-use Rattle.expansion.specs.FirstRows.{RowIndex, no_order, sees_of, seen_by, IsRowIndex, IsFirstRow}
+use Rattle.expansion.specs.FirstRows.{RowIndex, sees_of, seen_by, IsRowIndex, IsFirstRow}
 use Rattle.dq_formula.specs.Sets.{IsLeader}
 use Rattle.expansion.proofs.NamedArbiters.{found_at}
 use Rattle.expansion.proofs.SharedSets.{some_by_variable, leader_first, order_at, order_set, first_by_variable}
@@ -25,21 +25,15 @@ returns-then-leader-place-clause-first c =
     (c.requires.firsts.1 leader c.if-leader-place.true)
 
 pub find-requires-clause-declared : goal.find-requires-clause-declared
-find-requires-clause-declared c = some_by_variable c.args.new.now.f.now c.existentials.result.now c.args.place
-    c.every_formula_is_lawful.ensures.named c.existentials.ensures c.requires.place
+find-requires-clause-declared c = search (arith, some_by_variable)
 
 pub find-requires-clause-order : goal.find-requires-clause-order
 find-requires-clause-order c =
-    let orders = c.args.self.now.orders in
-    let same : c.self.inside.orders.items ≡ orders = ap (λ (i : RowIndex). i.orders) c.self.view_is in
-    let below : c.args.place < length orders = subst (λ n. c.args.place < n)
-    (sym c.requires.index.many) c.requires.place in
-    let o_is : c.index_mut.result.now ≡ get_or orders c.args.place no_order =
-    c.index_mut.ensures.value ∙ ap (λ os. get_or os c.args.place c.index_mut.result.now) same
-    ∙ get_or_default orders c.args.place c.index_mut.result.now no_order below in
-    order_at c.args.new.now.f.now c.args.rows.now c.args.self.now c.requires.index c.args.place c.requires.place
-    c.existentials.result.now c.index_mut.result.now c.every_formula_is_lawful.ensures.named
-    c.existentials.ensures o_is
+    search (
+      arith,
+      get_or_default,
+      (order_at c.args.new.now.f.now c.args.rows.now c.args.self.now c.requires.index c.args.place c.requires.place c.existentials.result.now c.index_mut.result.now c.every_formula_is_lawful.ensures.named c.existentials.ensures),
+    )
 
 pub returns-clause-index : goal.returns-clause-index
 returns-clause-index c =

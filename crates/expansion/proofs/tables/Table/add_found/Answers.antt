@@ -1,7 +1,6 @@
-use Rattle.std.proofs.Common.{◌≡◌, ◌++◌, ◌∷◌, [], ◌∙◌, ap, subst}
+use Rattle.std.proofs.Common.{◌++◌, ◌∷◌, [], ◌∙◌, ap, subst, arith}
 use Rattle.log_laws.proofs.LargerLogs.{grown_then}
-use Rattle.expansion.specs.Table.{IsFullTable}
-use Rattle.expansion.specs.Adding.{IsRowEntry, AreNewArbiters}
+use Rattle.expansion.specs.Adding.{AreNewArbiters}
 use Rattle.expansion.proofs.AddedRows.{begin, finish_as}
 use Rattle.list_laws.proofs.Results.{on_both}
 use Rattle.expansion.proofs.tables.Table.add_found.Goals as goal
@@ -11,14 +10,10 @@ row_pairs-requires-clause-adding g c = begin c.args.new.now.f.now c.args.self.no
     c.args.log.now.entries c.requires.table c.requires.rows c.args.new.now.long c.requires.few
 
 pub returns-in_err-give_instances-clause-added : goal.returns-in_err-give_instances-clause-added
-returns-in_err-give_instances-clause-added g c =
-    grown_then (IsRowEntry c.args.new.now.f.now c.args.self.now.group) c.args.log.now c.row_pairs.new.log
-    c.give_instances.new.log c.row_pairs.ensures.grew c.give_instances.ensures.grew
+returns-in_err-give_instances-clause-added g c = search (arith, grown_then)
 
 pub returns-clause-added : goal.returns-clause-added
-returns-clause-added g c =
-    grown_then (IsRowEntry c.args.new.now.f.now c.args.self.now.group) c.args.log.now c.row_pairs.new.log
-    c.give_instances.new.log c.row_pairs.ensures.grew c.give_instances.ensures.grew
+returns-clause-added g c = search (arith, grown_then)
 
 pub returns-clause-table : goal.returns-clause-table
 returns-clause-table g c =

@@ -1,4 +1,4 @@
-use Rattle.std.proofs.Common.{rules, refl, ◌≡◌, ◌+◌, ◌<◌, ◌≤◌, Some, None, [], length, get_or, ◌∙◌, ap, subst, arith}
+use Rattle.std.proofs.Common.{rules, refl, ◌≡◌, ◌+◌, ◌<◌, ◌≤◌, None, [], length, get_or, ◌∙◌, ap, subst, arith}
 use Rattle.std.proofs.lemmas.Option.{slice_get-get_or}
 use Rattle.hint_log.specs.Entries.{Named, with_entry, name_of}
 use Rattle.hint_log.specs.declared.names.Name.TheVariants.{Pair}
@@ -50,17 +50,7 @@ returns-then-first-len-clause-named g c f row formula adding first_is =
     (ap (λ vs. get_or vs c.args.place 0) pairs) refl
 
 pub new_var-requires-clause-fresh : goal.new_var-requires-clause-fresh
-new_var-requires-clause-fresh g c v named =
-    let t = c.args.self.now in
-    let f = c.requires.adding.0 in
-    let y_is : c.index.result.now ≡ get_or t.existentials c.args.place 0 =
-    found_at c.self.inside.existentials.items t.existentials c.args.place c.index.result.now
-    (ap (λ (s : TableState). s.existentials) c.self.view_is) c.requires.place c.index.ensures in
-    no_pair_yet f t c.requires.adding.1 c.args.place c.args.log.now.entries c.requires.adding.3 c.requires.adding.2
-    (get_or t.existentials c.args.place 0)
-    (slice_get-get_or t.existentials c.args.place 0 c.requires.place) v
-    (named ∙ ap (λ k. Some (Pair k c.index.result.now)) c.next_round.ensures ∙ ap
-    (λ y. Some (Pair (length t.rows + 1) y)) y_is)
+new_var-requires-clause-fresh g c v named = search (arith, found_at, no_pair_yet, slice_get-get_or)
 
 pub returns-clause-named : goal.returns-clause-named
 returns-clause-named g c f row formula adding first_is =

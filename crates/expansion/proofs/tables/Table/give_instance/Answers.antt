@@ -1,6 +1,5 @@
 use Rattle.std.proofs.Common.{ℕ, ◌+◌, ap, subst}
-use Rattle.dq_lits.specs.Literal.{variable_of}
-use Rattle.expansion.specs.Adding.{with_row, IsGivenNext}
+use Rattle.expansion.specs.Adding.{with_row}
 use Rattle.expansion.specs.Giving.{IsGivenInstance}
 use Rattle.expansion.specs.Table.{TableState}
 use Rattle.expansion.proofs.GivenInstances.{next_instance}

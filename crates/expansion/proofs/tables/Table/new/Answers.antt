@@ -1,13 +1,10 @@
-use Rattle.std.proofs.Common.{◌∙◌}
+use Rattle.std.proofs.Common.{◌∙◌, arith}
 use Rattle.dq_lits.specs.Literal.{variable_of}
-use Rattle.log_laws.specs.Engines.{instances}
 use Rattle.expansion.proofs.EmptyTables.{group_grew, no_rows}
 use Rattle.expansion.proofs.tables.Table.new.Goals as goal
 
 pub returns-clause-grew : goal.returns-clause-grew
-returns-clause-grew g c group =
-    group_grew c.args.f.now instances group (variable_of c.in_ok-group.group.selector) c.args.log.now c.group.new.log
-    c.in_ok-group.ensures.unnamed c.in_ok-group.ensures.ok
+returns-clause-grew g c group = search (arith, group_grew)
 
 pub returns-clause-made : goal.returns-clause-made
 returns-clause-made g c =

@@ -1,4 +1,4 @@
-use Rattle.std.proofs.Common.{◌≡◌, ◌∙◌, ◌<◌, ◌≤◌, map, ap, subst, length, get_or, []}
+use Rattle.std.proofs.Common.{◌≡◌, ◌∙◌, ◌<◌, map, ap, subst, length, get_or, [], arith}
 use Rattle.expansion.specs.Table.{TableState}
 use Rattle.expansion.proofs.WrittenBits.{lists_more, lists_all}
 use Rattle.expansion.proofs.tables.Table.points.Goals as goal
@@ -16,7 +16,7 @@ loop-place-preserved g c =
 
 pub returns-clause-bits : goal.returns-clause-bits
 returns-clause-bits g c =
-    let same : c.self.inside.pairs ≡ c.args.self.now.pairs = ap (λ (t : TableState). t.pairs) c.self.view_is in
-    lists_all (g.O.Oracle.values c.args.oracle.now) c.args.self.now.pairs c.loop-place.place c.loop-place.bits
-    (subst (λ n. n ≤ c.loop-place.place) (c.len-place-end.ensures ∙ ap length same) c.loop-place-test.false)
-    c.loop-place.invariant
+    search (
+      arith,
+      (lists_all (g.O.Oracle.values c.args.oracle.now) c.args.self.now.pairs c.loop-place.place c.loop-place.bits),
+    )

@@ -1,7 +1,6 @@
-use Rattle.std.proofs.Common.{◌≡◌, ◌+◌, ◌<◌, length, sym, ◌∙◌, ap, subst, arith}
+use Rattle.std.proofs.Common.{◌+◌, ◌<◌, length, sym, ◌∙◌, ap, subst, arith}
 use Rattle.std.proofs.lemmas.List.{length-map}
 use Rattle.log_laws.proofs.Found.{variable}
-use Rattle.expansion.specs.Adding.{IsAdding}
 use Rattle.expansion.proofs.NamedArbiters.{ArePairsSoFar, pair_more}
 use Rattle.expansion.proofs.tables.Table.row_pairs.Goals as goal
 
@@ -35,11 +34,4 @@ loop-place-preserved g c =
     )
 
 pub returns-clause-adding : goal.returns-clause-adding
-returns-clause-adding g c =
-    let f = c.args.new.now.f.now in
-    let many = ap length c.existentials-place-end.ensures ∙ length-map f.existentials variable in
-    let test = c.loop-place-test.false in
-    let within = c.loop-place.invariant.1 in
-    let all : c.loop-place.place ≡ length f.existentials = omega (arith, many, test, within) in
-    subst (λ n. IsAdding f c.args.self.now c.args.new.now.row.now n 0 c.loop-place.log.entries) all
-    c.loop-place.invariant.2.adding
+returns-clause-adding g c = search (arith, length-map)

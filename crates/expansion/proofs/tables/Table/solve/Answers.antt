@@ -1,9 +1,7 @@
-use Rattle.std.proofs.Common.{◌∙◌, ap, subst, refl, map, length}
+use Rattle.std.proofs.Common.{◌∙◌, ap, subst, refl, map, length, arith}
 use Rattle.std.proofs.lemmas.List.{length-map}
 use Rattle.dq_lits.specs.Literal.{positive}
 use Rattle.hint_log.specs.Entries.{clause_at}
-use Rattle.log_laws.specs.Engines.{instances}
-use Rattle.expansion.specs.Silence.{is_silent}
 use Rattle.expansion.specs.Table.{IsFullTable}
 use Rattle.expansion.proofs.TableAnswers.{searched_grew, table_refuted}
 use Rattle.expansion.proofs.FoundPoints.{are_points}
@@ -11,9 +9,7 @@ use Rattle.expansion.proofs.Told.{switched_on}
 use Rattle.expansion.proofs.tables.Table.solve.Goals as goal
 
 pub returns-clause-grew : goal.returns-clause-grew
-returns-clause-grew g c f full =
-    searched_grew f instances c.args.self.now.group (is_silent c.solve_with.result) c.args.log.now c.solve_with.new.log
-    c.solve_with.ensures.grew
+returns-clause-grew g c f full = search (arith, searched_grew)
 
 pub returns-clause-point_variables : goal.returns-clause-point_variables
 returns-clause-point_variables g c points e = (c.solve_with.ensures.model points e).variables
@@ -37,6 +33,7 @@ returns-clause-model g c f points full e =
 
 pub returns-clause-refuted : goal.returns-clause-refuted
 returns-clause-refuted g c f id full e =
-    table_refuted c.instances_have_no_model.ensures f c.args.self.now c.args.log.now c.solve_with.new.log id full
-    (g.met.O.Oracle.searched c.solve_with.new.oracle c.solve_with.new.log c.solve_with.ensures.fit)
-    (c.solve_with.ensures.refuted id e)
+    search (
+      arith,
+      (table_refuted c.instances_have_no_model.ensures f c.args.self.now c.args.log.now c.solve_with.new.log id full (g.met.O.Oracle.searched c.solve_with.new.oracle c.solve_with.new.log c.solve_with.ensures.fit) (c.solve_with.ensures.refuted id e)),
+    )

@@ -1,9 +1,6 @@
-use Rattle.std.proofs.Common.{◌≡◌, ◌∙◌, ap, subst, Ok, refl, false, ◌≢◌, sym}
+use Rattle.std.proofs.Common.{◌∙◌, ap, subst, Ok, refl, false, ◌≢◌, sym, arith}
 use Rattle.std.specs.List.{AllPairs}
 use Rattle.dq_lits.proofs.Followers.{existentials_once}
-use Rattle.oracle.specs.Calls.{IsRefutedUnder}
-use Rattle.expansion.specs.Searches.{switches}
-use Rattle.expansion.specs.Silence.{is_silent}
 use Rattle.expansion.proofs.TableAnswers.{learned_grew, refuted_grew, table_searched, full_searched, table_shown, assumed_are}
 use Rattle.expansion.proofs.Told.{table_told}
 use Rattle.expansion.proofs.tables.Table.solve_with.Goals as goal
@@ -27,8 +24,7 @@ points-requires-clause-made g c =
     c.solve.ensures.fit named)
 
 pub returns-in_err-id-clause-grew : goal.returns-in_err-id-clause-grew
-returns-in_err-id-clause-grew g c =
-    learned_grew (is_silent c.from_residual-in_err-id.result) c.args.log.now c.solve.new.log c.in_err-id.ensures.stop
+returns-in_err-id-clause-grew g c = search (arith, learned_grew)
 
 pub returns-in_err-id-clause-table : goal.returns-in_err-id-clause-table
 returns-in_err-id-clause-table g c f full =
@@ -36,14 +32,15 @@ returns-in_err-id-clause-table g c f full =
     (learned_grew false c.args.log.now c.solve.new.log c.in_err-id.ensures.stop) full
 
 pub returns-in_err-points-in-Sat-clause-grew : goal.returns-in_err-points-in-Sat-clause-grew
-returns-in_err-points-in-Sat-clause-grew g c =
-    learned_grew _ c.args.log.now c.solve.new.log (c.solve.ensures.sat (c.in_ok-id.was ∙ ap Ok c.in-Sat.is)).0
+returns-in_err-points-in-Sat-clause-grew g c = search (arith, learned_grew)
 
 pub returns-in_err-points-in-Sat-clause-table : goal.returns-in_err-points-in-Sat-clause-table
 returns-in_err-points-in-Sat-clause-table g c f full =
-    full_searched false f c.args.self.now c.args.log.now c.solve.new.log
-    (learned_grew false c.args.log.now c.solve.new.log (c.solve.ensures.sat (c.in_ok-id.was ∙ ap Ok c.in-Sat.is)).0)
-    full
+    search (
+      arith,
+      (full_searched false f c.args.self.now c.args.log.now c.solve.new.log),
+      (learned_grew false c.args.log.now c.solve.new.log),
+    )
 
 pub returns-in-Unsat-clause-grew : goal.returns-in-Unsat-clause-grew
 returns-in-Unsat-clause-grew g c =
@@ -58,22 +55,19 @@ returns-in-Unsat-clause-table g c f full =
 
 pub returns-in-Unsat-clause-shown : goal.returns-in-Unsat-clause-shown
 returns-in-Unsat-clause-shown g c id e =
-    let r = c.solve.ensures.unsat c.in-Unsat.id (c.in_ok-id.was ∙ ap Ok c.in-Unsat.is) in
-    let same : c.in-Unsat.id ≡ id = cc in
-    let are = assumed_are c.args.self.now c.deref-2.result.now c.in_ok-active.active.items c.args.more.now
-    c.deref-2.ensures.value c.in_ok-active.ensures.switches in
-    let mine = subst (λ i. IsRefutedUnder c.args.log.now c.solve.new.log (switches c.args.self.now c.args.more.now) i)
-    same (subst (λ ls. IsRefutedUnder c.args.log.now c.solve.new.log ls c.in-Unsat.id) are r) in
-    table_shown c.requires.table.0 c.args.self.now c.args.more.now c.args.log.now c.solve.new.log id
-    c.requires.table.1 c.requires.made
-    (g.met.O.Oracle.searched c.solve.new.self c.solve.new.log c.solve.ensures.fit) mine c.requires.instances
+    search (
+      arith,
+      (assumed_are c.args.self.now c.deref-2.result.now c.in_ok-active.active.items c.args.more.now c.deref-2.ensures.value c.in_ok-active.ensures.switches),
+      (table_shown c.requires.table.0 c.args.self.now c.args.more.now c.args.log.now c.solve.new.log id c.requires.table.1 c.requires.made (g.met.O.Oracle.searched c.solve.new.self c.solve.new.log c.solve.ensures.fit)),
+    )
 
 pub returns-clause-grew : goal.returns-clause-grew
-returns-clause-grew g c =
-    learned_grew _ c.args.log.now c.solve.new.log (c.solve.ensures.sat (c.in_ok-id.was ∙ ap Ok c.in-Sat.is)).0
+returns-clause-grew g c = search (arith, learned_grew)
 
 pub returns-clause-table : goal.returns-clause-table
 returns-clause-table g c f full =
-    full_searched false f c.args.self.now c.args.log.now c.solve.new.log
-    (learned_grew false c.args.log.now c.solve.new.log (c.solve.ensures.sat (c.in_ok-id.was ∙ ap Ok c.in-Sat.is)).0)
-    full
+    search (
+      arith,
+      (full_searched false f c.args.self.now c.args.log.now c.solve.new.log),
+      (learned_grew false c.args.log.now c.solve.new.log),
+    )
